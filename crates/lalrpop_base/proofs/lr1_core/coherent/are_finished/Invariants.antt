@@ -1,0 +1,8 @@
+use Rattle.std.proofs.Common.{Bor, length}
+use Rattle.lalrpop_base.specs.declared.repr.Production.{Production}
+use Rattle.lalrpop_base.specs.Coherent.{HasItem}
+use Rattle.lalrpop_base.specs.Each.{EachBelow}
+use Rattle.lalrpop_base.proofs.lr1_core.coherent.are_finished.Given as goal
+
+abbrev pub invariant-loop-reduction : goal.invariant-loop-reduction
+invariant-loop-reduction g l = EachBelow (λ (r : g.row.L.Denot × Bor Production). HasItem l.items r.1.now (length r.1.now.symbols)) l.reductions l.reduction-index

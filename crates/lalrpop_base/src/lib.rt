@@ -1,0 +1,11 @@
+//! Grammars, sets of tokens, items and states: what the construction of LR(1) tables and the parser share.
+#![tactic(auto)]
+
+pub mod exact;
+pub mod first;
+pub mod lookahead;
+pub mod lr1_core;
+pub mod memory;
+pub mod repr;
+pub mod sequence;
+pub mod text;

@@ -1,0 +1,4 @@
+//! Tokens, and the sets of them that may follow an item.
+pub mod members;
+pub mod token;
+pub mod token_set;

@@ -1,0 +1,136 @@
+//! The tokens of a set.
+ghost use Rattle.std.specs.Prelude.{◌≡◌, ◌≢◌, ◌+◌, ◌<◌, ◌≤◌, ◌↔◌, ℕ, List, length, map, IsTrue, IfOk, OnOk, OnErr, not, MatchBool, IfSome, IsSome, Some, nat_le, IsFalse};
+ghost use Rattle.lalrpop_base.specs.Bits.{Bits, no_bits, has, rising, with_bit, join};
+ghost use Rattle.lalrpop_base.specs.Tokens.{IsBitOf, HasToken, IsKnown, FitsTokens, token_of};
+
+use super::token::{Token, TokenRef, TokenSetIter};
+use super::token_set::TokenSet;
+use crate::memory::OutOfMemory;
+use crate::repr::terminals::TerminalSet;
+use std::alloc::Global;
+
+// The bit of a token, if it has one.
+fn bit_of(token: &Token, terminals: &TerminalSet) -> Option<usize>
+    ensures found { IfSome result (IsBitOf terminals.now token.now) }
+    ensures only { (bit : ℕ) → IsBitOf terminals.now token.now bit → result ≡ Some bit }
+    ensures known { IsKnown terminals.now token.now → IsSome result }
+{
+    let count = terminals.all().len();
+    match token {
+        Token::Eof => Some(count),
+        Token::Error => Some(count + 1),
+        Token::Terminal(terminal) => terminals.bit(terminal),
+    }
+}
+
+impl TokenSet {
+    pub fn new(alloc: Global, _terminals: &TerminalSet) -> TokenSet
+        ensures { result ≡ no_bits }
+    {
+        TokenSet::empty_set(alloc)
+    }
+
+    /// All terminals and the end.
+    #[tactic(auto, using(crate::specs::Bits::bit_laws))]
+    pub fn all(alloc: Global, terminals: &TerminalSet) -> Result<TokenSet, OutOfMemory>
+        ensures { IfOk result (λ set. (bit : ℕ) → has set bit ≡ nat_le bit (length terminals.now)) }
+    {
+        let mut set = TokenSet::empty_set(alloc);
+        for bit in 0..terminals.all().len() {
+            set.insert_bit(bit)?;
+        }
+        set.insert_bit(terminals.all().len())?;
+        Ok(set)
+    }
+
+    /// Adds a token, and tells whether the set grew.
+    pub fn insert(&mut self, token: Token, terminals: &TerminalSet) -> Result<bool, OutOfMemory>
+        requires { IsKnown terminals.now token }
+        ensures inserted { OnOk result ((bit : ℕ) → IsBitOf terminals.now token bit → self.new ≡ with_bit self.old bit) }
+        ensures told { IfOk result (λ grew. MatchBool grew (self.new ≢ self.old) (self.new ≡ self.old)) }
+        ensures err { OnErr result (self.new ≡ self.old) }
+    {
+        let bit = bit_of(&token, terminals).unwrap();
+        self.insert_bit(bit)
+    }
+
+    /// Whether a token is in the set; an unknown terminal is not.
+    pub fn contains(&self, token: &Token, terminals: &TerminalSet) -> bool
+        ensures { IsTrue result ↔ HasToken terminals.now self.now token.now }
+    {
+        match bit_of(token, terminals) {
+            Some(bit) => self.contains_bit(bit),
+            None => false,
+        }
+    }
+
+    /// Whether each bit is that of a token.
+    pub fn fits(&self, terminals: &TerminalSet) -> bool
+        ensures { IsTrue result ↔ FitsTokens terminals.now self.now }
+    {
+        let most = terminals.all().len() + 1;
+        for bit in self.bits() {
+            if *bit > most {
+                return false;
+            }
+        }
+        true
+    }
+
+    /// The tokens by rising bit.
+    pub fn iter<'a>(&'a self, terminals: &'a TerminalSet) -> TokenSetIter<'a>
+        ensures { map (token_of result.terminals.now) result.bits.now ≡ map (token_of terminals.now) (rising self.now) }
+    {
+        TokenSetIter {
+            bits: self.bits(),
+            terminals: terminals.all(),
+        }
+    }
+
+    pub fn len(&self) -> usize
+        ensures { result ≡ length (rising self.now) }
+    {
+        self.bits().len()
+    }
+}
+
+impl TokenSet {
+    /// Whether no bit is in both sets.
+    pub fn is_disjoint(&self, other: &TokenSet) -> bool
+        ensures yes { IsTrue result → (bit : ℕ) → IsTrue (has self.now bit) → IsTrue (has other.now bit) → ⊥ }
+        ensures no { IsFalse result → (bit : ℕ) × IsTrue (has self.now bit) × IsTrue (has other.now bit) }
+    {
+        for bit in self.bits() {
+            if other.contains_bit(*bit) {
+                return false;
+            }
+        }
+        true
+    }
+}
+
+impl TokenSet {
+    /// A set of one token.
+    pub fn of(alloc: Global, token: Token, terminals: &TerminalSet) -> Result<TokenSet, OutOfMemory>
+        requires { IsKnown terminals.now token }
+        ensures { IfOk result (λ set. (bit : ℕ) → IsBitOf terminals.now token bit → set ≡ with_bit no_bits bit) }
+    {
+        let mut set = TokenSet::empty_set(alloc);
+        set.insert(token, terminals)?;
+        Ok(set)
+    }
+
+    /// Whether the end is in the set.
+    pub fn contains_eof(&self, terminals: &TerminalSet) -> bool
+        ensures { result ≡ has self.now (length terminals.now) }
+    {
+        self.contains_bit(terminals.all().len())
+    }
+
+    /// Keeps a set as it is: room is taken when it is needed.
+    pub fn reserve(&mut self, _len: usize) -> Result<(), OutOfMemory>
+        ensures { self.new ≡ self.old }
+    {
+        Ok(())
+    }
+}

@@ -1,0 +1,121 @@
+//! States, actions, conflicts and errors.
+ghost use Rattle.std.specs.Prelude.{◌≡◌, option_copied};
+ghost use Rattle.lalrpop_base.specs.Views.{popped, shorter_of};
+
+use super::item::Item;
+use crate::lookahead::token_set::TokenSet;
+use crate::repr::{NonterminalString, Production, Symbol, TerminalString};
+use std::collections::BTreeMap;
+use std::fmt;
+use thiserror::Error;
+
+/// The number of a state.
+#[derive(Clone, Copy, PartialEq, Eq, PartialOrd, Ord, Hash)]
+pub struct StateIndex(pub usize);
+
+impl fmt::Debug for StateIndex {
+    fn fmt<W: fmt::Write>(&self, f: &mut fmt::Formatter<W>) -> fmt::Result {
+        write!(f, "S{}", self.0)
+    }
+}
+
+impl fmt::Display for StateIndex {
+    fn fmt<W: fmt::Write>(&self, f: &mut fmt::Formatter<W>) -> fmt::Result {
+        write!(f, "{}", self.0)
+    }
+}
+
+/// The items of a state.
+#[derive(Drop)]
+#[derive_where(Debug; L: fmt::Debug)]
+pub struct Items<'grammar, L> {
+    pub vec: Vec<Item<'grammar, L>>,
+}
+
+/// A state of a table.
+#[derive(Drop)]
+#[derive_where(Debug; L: fmt::Debug)]
+pub struct State<'grammar, L> {
+    pub index: StateIndex,
+    pub items: Items<'grammar, L>,
+    pub shifts: BTreeMap<TerminalString, StateIndex>,
+    pub reductions: Vec<(L, &'grammar Production)>,
+    pub gotos: BTreeMap<NonterminalString, StateIndex>,
+}
+
+pub type Lr1State<'grammar> = State<'grammar, TokenSet>;
+
+/// What a state does on a token.
+#[derive(Debug, Drop, PartialEq, Eq, PartialOrd, Ord)]
+pub enum Action<'grammar> {
+    Shift(TerminalString, StateIndex),
+    Reduce(&'grammar Production),
+}
+
+/// Two actions on one lookahead.
+#[derive(Debug, Drop, PartialEq, Eq)]
+pub struct Conflict<'grammar, L> {
+    pub state: StateIndex,
+    pub lookahead: L,
+    pub production: &'grammar Production,
+    pub action: Action<'grammar>,
+}
+
+pub type Lr1Conflict<'grammar> = Conflict<'grammar, TokenSet>;
+
+/// The states of a table that has conflicts, and these.
+#[derive(Drop)]
+#[derive_where(Debug; L: fmt::Debug)]
+pub struct TableConstructionError<'grammar, L> {
+    pub states: Vec<State<'grammar, L>>,
+    pub conflicts: Vec<Conflict<'grammar, L>>,
+}
+
+/// Why there is no table.
+#[derive(Drop, Error)]
+#[derive_where(Debug; L: fmt::Debug)]
+#[error_bound(L: fmt::Debug)]
+pub enum BuildError<'grammar, L> {
+    #[error("conflicts")]
+    Conflicts(TableConstructionError<'grammar, L>),
+    #[error("out of memory")]
+    Memory,
+}
+
+pub type LrResult<'grammar, L> = Result<Vec<State<'grammar, L>>, BuildError<'grammar, L>>;
+
+pub type Lr1Result<'grammar> = LrResult<'grammar, TokenSet>;
+
+impl<'grammar, L> State<'grammar, L> {
+    /// The first shortest prefix of the items whose dot moved, else nothing.
+    pub fn will_pop(&self) -> &'grammar [Symbol]
+        ensures { result.now ≡ popped self.now.items.vec.items }
+    {
+        let mut best: Option<&'grammar [Symbol]> = None;
+        for item in self.items.vec.iter() {
+            if item.index > 0 {
+                best = shorter(best, item.prefix());
+            }
+        }
+        match best {
+            Some(prefix) => prefix,
+            None => &[],
+        }
+    }
+}
+
+// The shorter of two lists, the first where they are as long.
+fn shorter<'a>(best: Option<&'a [Symbol]>, next: &'a [Symbol]) -> Option<&'a [Symbol]>
+    ensures { option_copied result ≡ shorter_of (option_copied best.entry) next.now }
+{
+    match best {
+        Some(list) => {
+            if next.len() < list.len() {
+                Some(next)
+            } else {
+                Some(list)
+            }
+        }
+        None => Some(next),
+    }
+}
