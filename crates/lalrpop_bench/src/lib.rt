@@ -1,0 +1,2 @@
+//! Tests of the public calls of the libraries with ample memory, each beside what is owed.
+#![tactic(auto)]
