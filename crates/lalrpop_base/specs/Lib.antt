@@ -15,6 +15,7 @@ pub mod Places
 pub mod Refusals
 pub mod Renumbering
 pub mod Runs
+pub mod SameGrammars
 pub mod States
 pub mod TerminalPlaces
 pub mod Ties

@@ -2,11 +2,14 @@
 ghost use Rattle.std.specs.Prelude.{◌≡◌, ◌<◌, ◌↔◌, List, length, IsTrue, IfOk, Contains, vec_len};
 ghost use Rattle.std.specs.BTreeMap.{get};
 ghost use Rattle.lalrpop_base.specs.WellFormed.{IsWellFormed, IsWellFormedEntry, IsWellFormedProduction, productions_of, HasKnownTerminals};
+ghost use Rattle.lalrpop_base.specs.SameGrammars.{IsSameEntry, IsSameGrammar};
 
 use super::terminals::TerminalSet;
 use super::{NonterminalString, Production, Span, Symbol};
 use crate::exact::{equal, place_of};
+use crate::memory::OutOfMemory;
 use crate::text::Text;
+use std::alloc::{AllocError, Global};
 use std::collections::BTreeMap;
 
 /// A mark of a nonterminal.
@@ -52,7 +55,125 @@ pub struct Grammar {
     pub algorithm: Algorithm,
 }
 
+impl Attribute {
+    /// A copy of its own.
+    pub fn clone(&self, alloc: Global) -> Result<Self, OutOfMemory>
+        ensures copy { IfOk result (λ copy. copy ≡ self.now) }
+    {
+        Ok(Attribute {
+            id: self.id.clone(alloc)?,
+        })
+    }
+}
+
+impl NonterminalData {
+    /// A copy of its own.
+    pub fn clone(&self, alloc: Global) -> Result<Self, OutOfMemory>
+        ensures copy { IfOk result (IsSameEntry self.now) }
+    {
+        Ok(NonterminalData {
+            productions: clone_productions(alloc, &self.productions)?,
+            attributes: clone_attributes(alloc, &self.attributes)?,
+            span: self.span,
+        })
+    }
+}
+
+fn clone_productions(
+    alloc: Global,
+    productions: &[Production],
+) -> Result<Vec<Production>, OutOfMemory>
+    ensures { IfOk result (λ copy. copy.items ≡ productions.now) }
+{
+    let mut copy = Vec::new(alloc);
+    for production in productions {
+        copy.push(production.clone(alloc)?)?;
+    }
+    Ok(copy)
+}
+
+fn clone_attributes(alloc: Global, attributes: &[Attribute]) -> Result<Vec<Attribute>, OutOfMemory>
+    ensures { IfOk result (λ copy. copy.items ≡ attributes.now) }
+{
+    let mut copy = Vec::new(alloc);
+    for attribute in attributes {
+        copy.push(attribute.clone(alloc)?)?;
+    }
+    Ok(copy)
+}
+
+impl ActionFnDefnKind {
+    /// A copy of its own.
+    pub fn clone(&self, _alloc: Global) -> Result<Self, OutOfMemory>
+        ensures copy { IfOk result (λ copy. copy ≡ self.now) }
+    {
+        match self {
+            ActionFnDefnKind::User => Ok(ActionFnDefnKind::User),
+        }
+    }
+}
+
+impl ActionFnDefn {
+    /// A copy of its own.
+    pub fn clone(&self, alloc: Global) -> Result<Self, OutOfMemory>
+        ensures copy { IfOk result (λ copy. copy ≡ self.now) }
+    {
+        Ok(ActionFnDefn {
+            fallible: self.fallible,
+            ret_type: self.ret_type.clone(alloc)?,
+            kind: self.kind.clone(alloc)?,
+        })
+    }
+}
+
+fn clone_action_fn_defns(
+    alloc: Global,
+    defns: &[ActionFnDefn],
+) -> Result<Vec<ActionFnDefn>, OutOfMemory>
+    ensures { IfOk result (λ copy. copy.items ≡ defns.now) }
+{
+    let mut copy = Vec::new(alloc);
+    for defn in defns {
+        copy.push(defn.clone(alloc)?)?;
+    }
+    Ok(copy)
+}
+
+impl Clone for NonterminalString {
+    ghost is_clone = { λ name copy. copy ≡ name };
+
+    fn clone(&self) -> Result<NonterminalString, AllocError> {
+        match self.clone(self.text.allocator()) {
+            Ok(copy) => Ok(copy),
+            Err(OutOfMemory) => Err(AllocError),
+        }
+    }
+}
+
+impl Clone for NonterminalData {
+    ghost is_clone = { IsSameEntry };
+
+    fn clone(&self) -> Result<NonterminalData, AllocError> {
+        match self.clone(*self.productions.allocator()) {
+            Ok(copy) => Ok(copy),
+            Err(OutOfMemory) => Err(AllocError),
+        }
+    }
+}
+
 impl Grammar {
+    /// A copy of its own.
+    pub fn clone(&self, alloc: Global) -> Result<Self, OutOfMemory>
+        ensures copy { IfOk result (IsSameGrammar self.now) }
+    {
+        Ok(Grammar {
+            nonterminals: Clone::clone(&self.nonterminals)?,
+            terminals: self.terminals.clone(alloc)?,
+            action_fn_defns: clone_action_fn_defns(alloc, &self.action_fn_defns)?,
+            algorithm: self.algorithm,
+        })
+    }
+
     /// The productions of a name, none where it has no entry.
     pub fn productions_for(&self, nonterminal: &NonterminalString) -> &[Production]
         ensures { result.now ≡ productions_of self.now nonterminal.now }
