@@ -1,3 +1,4 @@
 pub mod Entries
 pub mod BitLemmas
 pub mod EachLemmas
+pub mod theory

@@ -3,6 +3,7 @@
 
 pub mod exact;
 pub mod first;
+pub mod laws;
 pub mod lookahead;
 pub mod lr1_core;
 pub mod memory;

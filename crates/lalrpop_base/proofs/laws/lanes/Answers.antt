@@ -1,0 +1,8 @@
+use Rattle.lalrpop_base.proofs.theory.Lanes.{lane_tokens, lanes_faithful}
+use Rattle.lalrpop_base.proofs.laws.lanes.Goals as goal
+
+pub returns-clause-tokens : goal.returns-clause-tokens
+returns-clause-tokens c = lane_tokens
+
+pub returns-clause-faithful : goal.returns-clause-faithful
+returns-clause-faithful c = lanes_faithful

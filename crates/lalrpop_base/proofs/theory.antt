@@ -1,0 +1,24 @@
+-- The theory of LR(1) parsing, over the definitions of specs alone.
+pub mod Augmented
+pub mod Beginnings
+pub mod Canonical
+pub mod Closures
+pub mod Collapsed
+pub mod Conflicts
+pub mod Derivations
+pub mod FirstSets
+pub mod Forests
+pub mod Lanes
+pub mod Lists
+pub mod Lr0
+pub mod Outcomes
+pub mod Parses
+pub mod Prompt
+pub mod Reading
+pub mod Refusals
+pub mod Renumbering
+pub mod Runs
+pub mod Sentences
+pub mod Stacks
+pub mod Steps
+pub mod Valid

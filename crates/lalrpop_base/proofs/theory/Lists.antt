@@ -1,0 +1,136 @@
+-- Lists, as the theory takes them apart.
+use Rattle.std.proofs.Common.{◌≡◌, ℕ, zero, suc, List, [], ◌∷◌, ◌++◌, take, drop, length, sym, subst, refl, ap, ap₂}
+use mathlib.Core.List.{head-eq_of_cons-eq, tail-eq_of_cons-eq, nil≢cons, cons≢nil}
+use Rattle.lalrpop_base.specs.declared.repr.Symbol.{Symbol}
+use Rattle.lalrpop_base.specs.declared.repr.Symbol.TheVariants.{Nonterminal, Terminal}
+use Rattle.lalrpop_base.specs.declared.repr.TerminalString.{TerminalString}
+use Rattle.lalrpop_base.specs.declared.repr.NonterminalString.{NonterminalString}
+use Rattle.lalrpop_base.specs.Grammar.{symbols_of}
+
+-- behind x stands what is left after one more
+pub drop_past : {A : Type 0} (n : ℕ) (xs : List A) {x : A} {after : List A} → drop n xs ≡ x ∷ after → drop (suc n) xs ≡ after
+drop_past zero [] e = absurd (nil≢cons e)
+drop_past zero (y ∷ xs) e = tail-eq_of_cons-eq e
+drop_past (suc n) [] e = absurd (nil≢cons e)
+drop_past (suc n) (y ∷ xs) e = drop_past n xs e
+
+-- and what stands before it grows by x
+pub take_past : {A : Type 0} (n : ℕ) (xs : List A) {x : A} {after : List A} → drop n xs ≡ x ∷ after → take (suc n) xs ≡ take n xs ++ x ∷ []
+take_past zero [] e = absurd (nil≢cons e)
+take_past zero (y ∷ xs) e = ap (λ z. z ∷ []) (head-eq_of_cons-eq e)
+take_past (suc n) [] e = absurd (nil≢cons e)
+take_past (suc n) (y ∷ xs) e = ap (λ zs. y ∷ zs) (take_past n xs e)
+
+pub drop_all : {A : Type 0} (xs : List A) → drop (length xs) xs ≡ []
+drop_all [] = refl
+drop_all (x ∷ xs) = drop_all xs
+
+pub take_all : {A : Type 0} (xs : List A) → take (length xs) xs ≡ xs
+take_all [] = refl
+take_all (x ∷ xs) = ap (λ ys. x ∷ ys) (take_all xs)
+
+-- a symbol is a terminal or a nonterminal, and shows which one
+abbrev pub terminal_of : TerminalString → Symbol → TerminalString
+terminal_of t (Nonterminal a) = t
+terminal_of t (Terminal u) = u
+
+pub same_terminal : {t u : TerminalString} → Terminal t ≡ Terminal u → t ≡ u
+same_terminal {t} e = ap (terminal_of t) e
+
+abbrev pub nonterminal_of : NonterminalString → Symbol → NonterminalString
+nonterminal_of a (Nonterminal b) = b
+nonterminal_of a (Terminal u) = a
+
+pub same_nonterminal : {a b : NonterminalString} → Nonterminal a ≡ Nonterminal b → a ≡ b
+same_nonterminal {a} e = ap (nonterminal_of a) e
+
+abbrev pub IsTerminal : Symbol → Type 0
+IsTerminal (Nonterminal a) = ⊥
+IsTerminal (Terminal t) = Unit {0}
+
+pub not_both : {a : NonterminalString} {t : TerminalString} → Nonterminal a ≡ Terminal t → ⊥
+not_both e = subst IsTerminal (sym e) tt
+
+-- where a joined list is one of terminals, both parts are
+pub record TerminalParts (m n : List Symbol) (w : List TerminalString) : Type 0 where
+  pub first : List TerminalString
+  pub second : List TerminalString
+  pub joined : w ≡ first ++ second
+  pub left : m ≡ symbols_of first
+  pub right : n ≡ symbols_of second
+
+pub terminal_parts : (m n : List Symbol) (w : List TerminalString) → m ++ n ≡ symbols_of w → TerminalParts m n w
+terminal_parts [] n w e = record { first = []; second = w; joined = refl; left = refl; right = e }
+terminal_parts (x ∷ m) n [] e = absurd (cons≢nil e)
+terminal_parts (x ∷ m) n (t ∷ w) e =
+    let r = terminal_parts m n w (tail-eq_of_cons-eq e) in
+    record {
+      first = t ∷ r.first;
+      second = r.second;
+      joined = ap (λ v. t ∷ v) r.joined;
+      left = ap₂ (λ y v. y ∷ v) (head-eq_of_cons-eq e) r.left;
+      right = r.right;
+    }
+
+pub symbols_of-append : (v w : List TerminalString) → symbols_of (v ++ w) ≡ symbols_of v ++ symbols_of w
+symbols_of-append [] w = refl
+symbols_of-append (t ∷ v) w = ap (λ l. Terminal t ∷ l) (symbols_of-append v w)
+
+-- a list is empty, or has a last element
+pub data Ended {A : Type 0} : List A → Type 0 where
+  nothing : Ended []
+  last : (l : List A) (x : A) → Ended (l ++ x ∷ [])
+
+pub ended : {A : Type 0} (l : List A) → Ended l
+ended [] = nothing
+ended {A} (x ∷ l) = go (ended l)
+  where
+    go : {k : List A} → Ended k → Ended (x ∷ k)
+    go nothing = last [] x
+    go (last k y) = last (x ∷ k) y
+
+pub same_last : {A : Type 0} (xs ys : List A) {x y : A} → xs ++ x ∷ [] ≡ ys ++ y ∷ [] → (xs ≡ ys) × (x ≡ y)
+same_last [] [] e = (refl, head-eq_of_cons-eq e)
+same_last [] (z ∷ []) e = absurd (nil≢cons (tail-eq_of_cons-eq e))
+same_last [] (z ∷ w ∷ ys) e = absurd (nil≢cons (tail-eq_of_cons-eq e))
+same_last (z ∷ []) [] e = absurd (cons≢nil (tail-eq_of_cons-eq e))
+same_last (z ∷ w ∷ xs) [] e = absurd (cons≢nil (tail-eq_of_cons-eq e))
+same_last (z ∷ xs) (w ∷ ys) e =
+    let r = same_last xs ys (tail-eq_of_cons-eq e) in
+    (ap₂ (λ a l. a ∷ l) (head-eq_of_cons-eq e) r.0, r.1)
+
+pub nil≢more : {A : Type 0} (v l : List A) (x : A) → [] ≡ v ++ (l ++ x ∷ []) → ⊥
+nil≢more [] [] x e = nil≢cons e
+nil≢more [] (y ∷ l) x e = nil≢cons e
+nil≢more (y ∷ v) l x e = nil≢cons e
+
+pub length-more : {A : Type 0} (l : List A) (x : A) → length (l ++ x ∷ []) ≡ suc (length l)
+length-more [] x = refl
+length-more (y ∷ l) x = ap suc (length-more l x)
+
+-- where a terminal stands behind others in a joined list: inside the first part, or behind it
+pub data Place (m n : List Symbol) (v : List TerminalString) (t : TerminalString) (after : List Symbol) : Type 0 where
+  inside : (k : List Symbol) → m ≡ symbols_of v ++ Terminal t ∷ k → Place m n v t after
+  behind : (first second : List TerminalString) → v ≡ first ++ second → m ≡ symbols_of first → n ≡ symbols_of second ++ Terminal t ∷ after → Place m n v t after
+
+pub place : (m n : List Symbol) (v : List TerminalString) (t : TerminalString) (after : List Symbol) → m ++ n ≡ symbols_of v ++ Terminal t ∷ after → Place m n v t after
+place [] n v t after e = behind [] v refl refl e
+place (x ∷ m) n [] t after e = inside m (ap (λ y. y ∷ m) (head-eq_of_cons-eq e))
+place (x ∷ m) n (u ∷ v) t after e = go (place m n v t after (tail-eq_of_cons-eq e))
+  where
+    go : Place m n v t after → Place (x ∷ m) n (u ∷ v) t after
+    go (inside k h) = inside k (ap₂ (λ y l. y ∷ l) (head-eq_of_cons-eq e) h)
+    go (behind first second h k l) = behind (u ∷ first) second (ap (λ w. u ∷ w) h) (ap₂ (λ y w. y ∷ w) (head-eq_of_cons-eq e) k) l
+
+-- a list grows by its last elements
+pub data Grown {A : Type 0} : List A → Type 0 where
+  from_nothing : Grown []
+  more : {l : List A} (x : A) → Grown l → Grown (l ++ x ∷ [])
+
+pub grown-cons : {A : Type 0} (x : A) {l : List A} → Grown l → Grown (x ∷ l)
+grown-cons x from_nothing = more x from_nothing
+grown-cons x (more y k) = more y (grown-cons x k)
+
+pub grown : {A : Type 0} (l : List A) → Grown l
+grown [] = from_nothing
+grown (x ∷ l) = grown-cons x (grown l)
