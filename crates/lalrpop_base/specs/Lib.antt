@@ -14,6 +14,7 @@ pub mod Laws
 pub mod Places
 pub mod Refusals
 pub mod Renumbering
+pub mod Rising
 pub mod Runs
 pub mod SameGrammars
 pub mod States

@@ -1,5 +1,5 @@
 //! The tokens of a set.
-ghost use Rattle.std.specs.Prelude.{◌≡◌, ◌≢◌, ◌+◌, ◌<◌, ◌≤◌, ◌↔◌, ℕ, List, length, map, IsTrue, IfOk, OnOk, OnErr, not, MatchBool, IfSome, IsSome, Some, nat_le, IsFalse};
+ghost use Rattle.std.specs.Prelude.{◌≡◌, ◌≢◌, ◌+◌, ◌<◌, ◌≤◌, ◌↔◌, ℕ, List, length, map, IsTrue, IfOk, OnOk, OnErr, not, MatchBool, IfSome, IsSome, Some, nat_le, IsFalse, ◌==◌, ◌&&◌};
 ghost use Rattle.lalrpop_base.specs.Bits.{Bits, no_bits, has, rising, with_bit, join};
 ghost use Rattle.lalrpop_base.specs.Tokens.{IsBitOf, HasToken, IsKnown, FitsTokens, token_of};
 
@@ -31,16 +31,10 @@ impl TokenSet {
     }
 
     /// All terminals and the end.
-    #[tactic(auto, using(crate::specs::Bits::bit_laws))]
     pub fn all(alloc: Global, terminals: &TerminalSet) -> Result<TokenSet, OutOfMemory>
         ensures { IfOk result (λ set. (bit : ℕ) → has set bit ≡ nat_le bit (length terminals.now)) }
     {
-        let mut set = TokenSet::empty_set(alloc);
-        for bit in 0..terminals.all().len() {
-            set.insert_bit(bit)?;
-        }
-        set.insert_bit(terminals.all().len())?;
-        Ok(set)
+        TokenSet::below(alloc, terminals.all().len() + 1)
     }
 
     /// Adds a token, and tells whether the set grew.
@@ -95,21 +89,6 @@ impl TokenSet {
 }
 
 impl TokenSet {
-    /// Whether no bit is in both sets.
-    pub fn is_disjoint(&self, other: &TokenSet) -> bool
-        ensures yes { IsTrue result → (bit : ℕ) → IsTrue (has self.now bit) → IsTrue (has other.now bit) → ⊥ }
-        ensures no { IsFalse result → (bit : ℕ) × IsTrue (has self.now bit) × IsTrue (has other.now bit) }
-    {
-        for bit in self.bits() {
-            if other.contains_bit(*bit) {
-                return false;
-            }
-        }
-        true
-    }
-}
-
-impl TokenSet {
     /// A set of one token.
     pub fn of(alloc: Global, token: Token, terminals: &TerminalSet) -> Result<TokenSet, OutOfMemory>
         requires { IsKnown terminals.now token }
@@ -127,10 +106,41 @@ impl TokenSet {
         self.contains_bit(terminals.all().len())
     }
 
-    /// Keeps a set as it is: room is taken when it is needed.
-    pub fn reserve(&mut self, _len: usize) -> Result<(), OutOfMemory>
-        ensures { self.new ≡ self.old }
+    /// Takes the end out of the set, and tells whether it was there.
+    pub fn take_eof(&mut self, terminals: &TerminalSet) -> bool
+        ensures was { result ≡ has self.old (length terminals.now) }
+        ensures left { (bit : ℕ) → has self.new bit ≡ (has self.old bit && not (bit == length terminals.now)) }
     {
-        Ok(())
+        self.take_bit(terminals.all().len())
+    }
+
+    /// A set of the end alone.
+    pub fn eof(alloc: Global, terminals: &TerminalSet) -> Result<TokenSet, OutOfMemory>
+        ensures { IfOk result (λ set. set ≡ with_bit no_bits (length terminals.now)) }
+    {
+        TokenSet::of(alloc, Token::Eof, terminals)
+    }
+
+    /// Adds the end, and tells whether the set grew.
+    pub fn insert_eof(&mut self, terminals: &TerminalSet) -> Result<bool, OutOfMemory>
+        ensures inserted { OnOk result (self.new ≡ with_bit self.old (length terminals.now)) }
+        ensures told { IfOk result (λ grew. MatchBool grew (self.new ≢ self.old) (self.new ≡ self.old)) }
+        ensures err { OnErr result (self.new ≡ self.old) }
+    {
+        self.insert_bit(terminals.all().len())
+    }
+
+    /// As `insert`.
+    pub fn insert_with(
+        &mut self,
+        token: Token,
+        terminals: &TerminalSet,
+    ) -> Result<bool, OutOfMemory>
+        requires { IsKnown terminals.now token }
+        ensures inserted { OnOk result ((bit : ℕ) → IsBitOf terminals.now token bit → self.new ≡ with_bit self.old bit) }
+        ensures told { IfOk result (λ grew. MatchBool grew (self.new ≢ self.old) (self.new ≡ self.old)) }
+        ensures err { OnErr result (self.new ≡ self.old) }
+    {
+        self.insert(token, terminals)
     }
 }

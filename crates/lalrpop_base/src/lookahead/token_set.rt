@@ -1,5 +1,5 @@
 //! Sets of tokens.
-ghost use Rattle.std.specs.Prelude.{◌≡◌, ◌+◌, ◌<◌, ◌≤◌, ◌==◌, ◌↔◌, ℕ, List, length, slice_index, IsTrue, IfOk, OnOk, OnErr, not, MatchBool, ◌≢◌, ⊤, refl};
+ghost use Rattle.std.specs.Prelude.{◌≡◌, ◌+◌, ◌<◌, ◌≤◌, ◌==◌, ◌↔◌, ℕ, List, length, slice_index, IsTrue, IfOk, OnOk, OnErr, not, MatchBool, ◌≢◌, ◌&&◌, IsFalse, nat_lt, ⊤, refl};
 ghost use Rattle.std.specs.Ordering.{nat_cmp, on, as_partial_cmp};
 ghost use Rattle.std.specs.Cmp.{partial_order_from_own_ties};
 ghost use Rattle.std.specs.Cmp.Rules.{comparing, hashing};
@@ -9,7 +9,8 @@ ghost use Rattle.std.proofs.Common.{rules};
 ghost use lib.Pointwise.{pointwise};
 ghost use Rattle.lalrpop_base.specs.Bits.{IsRising, no_bits, has, rising, with_bit, join, bits_exact};
 
-use crate::exact::{Exact, equal};
+use super::rising::{common, has_all, have_common, merged, numbers_below, search};
+use crate::exact::Exact;
 use crate::memory::OutOfMemory;
 use std::alloc::Global;
 use std::cmp::Ordering;
@@ -58,21 +59,37 @@ impl TokenSet {
     pub(crate) fn contains_bit(&self, bit: usize) -> bool
         ensures { result ≡ has self.now bit }
     {
-        self.bits.contains(&bit)
+        search(&self.bits, bit).is_ok()
     }
 
+    // Adds a bit where it belongs, and tells whether the set grew.
     pub(crate) fn insert_bit(&mut self, bit: usize) -> Result<bool, OutOfMemory>
         ensures inserted { OnOk result (self.new ≡ with_bit self.old bit) }
         ensures grew { IfOk result (λ grew. grew ≡ not (has self.old bit)) }
         ensures told { IfOk result (λ grew. MatchBool grew (self.new ≢ self.old) (self.new ≡ self.old)) }
         ensures err { OnErr result (self.new ≡ self.old) }
     {
-        if self.contains_bit(bit) {
-            return Ok(false);
+        match search(&self.bits, bit) {
+            Ok(_) => Ok(false),
+            Err(place) => {
+                self.bits.insert(place, bit)?;
+                Ok(true)
+            }
         }
-        let place = place_for(&self.bits, bit);
-        self.bits.insert(place, bit)?;
-        Ok(true)
+    }
+
+    // Takes a bit out, and tells whether it was there.
+    pub(crate) fn take_bit(&mut self, bit: usize) -> bool
+        ensures was { result ≡ has self.old bit }
+        ensures left { (q : ℕ) → has self.new q ≡ (has self.old q && not (q == bit)) }
+    {
+        match search(&self.bits, bit) {
+            Ok(place) => {
+                self.bits.remove(place);
+                true
+            }
+            Err(_) => false,
+        }
     }
 
     /// Adds the bits of another set, and tells whether this one grew.
@@ -81,14 +98,45 @@ impl TokenSet {
         ensures told { IfOk result (λ grew. MatchBool grew (self.new ≢ self.old) (self.new ≡ self.old)) }
         ensures err { OnErr result (self.new ≡ self.old) }
     {
-        let alloc = *self.bits.allocator();
-        let mut grown = self.clone(alloc)?;
-        for bit in other.bits() {
-            grown.insert_bit(*bit)?;
+        if has_all(self.bits(), other.bits()) {
+            return Ok(false);
         }
-        let same = equal(&grown, self);
-        *self = grown;
-        Ok(!same)
+        let alloc = *self.bits.allocator();
+        self.bits = merged(alloc, self.bits(), other.bits())?;
+        Ok(true)
+    }
+
+    /// The bits that are in both sets.
+    pub fn intersection(&self, alloc: Global, other: &TokenSet) -> Result<TokenSet, OutOfMemory>
+        ensures { IfOk result (λ both. (q : ℕ) → has both q ≡ (has self.now q && has other.now q)) }
+    {
+        Ok(TokenSet {
+            bits: common(alloc, self.bits(), other.bits())?,
+        })
+    }
+
+    /// Whether no bit is in both sets.
+    pub fn is_disjoint(&self, other: &TokenSet) -> bool
+        ensures yes { IsTrue result → (bit : ℕ) → IsTrue (has self.now bit) → IsTrue (has other.now bit) → ⊥ }
+        ensures no { IsFalse result → (bit : ℕ) × IsTrue (has self.now bit) × IsTrue (has other.now bit) }
+    {
+        !have_common(self.bits(), other.bits())
+    }
+
+    /// Whether a bit is in both sets.
+    pub fn is_intersecting(&self, other: &TokenSet) -> bool
+        ensures yes { IsTrue result → (bit : ℕ) × IsTrue (has self.now bit) × IsTrue (has other.now bit) }
+        ensures no { IsFalse result → (bit : ℕ) → IsTrue (has self.now bit) → IsTrue (has other.now bit) → ⊥ }
+    {
+        have_common(self.bits(), other.bits())
+    }
+
+    /// Makes room for more bits.
+    pub fn reserve(&mut self, len: usize) -> Result<(), OutOfMemory>
+        ensures { self.new ≡ self.old }
+    {
+        self.bits.reserve(len)?;
+        Ok(())
     }
 
     pub fn clone(&self, alloc: Global) -> Result<TokenSet, OutOfMemory>
@@ -98,21 +146,15 @@ impl TokenSet {
             bits: Vec::from_slice(alloc, &self.bits)?,
         })
     }
-}
 
-// Where a bit is, or would go.
-fn place_for(bits: &[usize], bit: usize) -> usize
-    requires { IsRising bits.now }
-    ensures within { result ≤ length bits.now }
-    ensures below { (k : ℕ) → k < result → slice_index bits.now k < bit }
-    ensures above { (k : ℕ) → result ≤ k → k < length bits.now → bit ≤ slice_index bits.now k }
-{
-    for (place, b) in bits.iter().enumerate() {
-        if *b >= bit {
-            return place;
-        }
+    // The set of the numbers below a count.
+    pub(crate) fn below(alloc: Global, count: usize) -> Result<TokenSet, OutOfMemory>
+        ensures { IfOk result (λ set. (bit : ℕ) → has set bit ≡ nat_lt bit count) }
+    {
+        Ok(TokenSet {
+            bits: numbers_below(alloc, count)?,
+        })
     }
-    bits.len()
 }
 
 impl PartialEq for TokenSet {
