@@ -11,6 +11,7 @@ pub mod Grammar
 pub mod Items
 pub mod Lanes
 pub mod Laws
+pub mod Names
 pub mod Places
 pub mod Refusals
 pub mod Renumbering

@@ -2,16 +2,18 @@
 pub mod grammar;
 pub mod terminals;
 
-ghost use Rattle.std.specs.Prelude.{◌≡◌, ◌<◌, ◌↔◌, IsTrue, IfOk, List};
+ghost use Rattle.std.specs.Prelude.{◌≡◌, ◌<◌, ◌↔◌, IsTrue, IfOk, List, Some, length};
 ghost use Rattle.std.specs.Coded.{coded_ℕ};
+ghost use Rattle.lalrpop_base.specs.Names.{nonterminal_text, terminal_text, symbol_text};
 
 use crate::memory::OutOfMemory;
 use crate::sequence::Sequence;
 use crate::text::Text;
 use std::alloc::Global;
+use std::fmt;
 
 /// The name of a nonterminal.
-#[derive(Debug, Drop, PartialEq, Eq, PartialOrd, Ord, Hash)]
+#[derive(Drop, PartialEq, Eq, PartialOrd, Ord, Hash)]
 pub struct NonterminalString {
     pub text: Text,
 }
@@ -24,10 +26,33 @@ impl NonterminalString {
             text: self.text.clone(alloc)?,
         })
     }
+
+    /// How many bytes are printed.
+    pub fn display_len(&self) -> usize
+        ensures { result ≡ length (nonterminal_text self.now) }
+    {
+        self.text.as_str().len()
+    }
+}
+
+impl fmt::Display for NonterminalString {
+    ghost output = { λ x. Some (nonterminal_text x) };
+
+    fn fmt<W: fmt::Write>(&self, f: &mut fmt::Formatter<W>) -> fmt::Result {
+        f.write_str(self.text.as_str())
+    }
+}
+
+impl fmt::Debug for NonterminalString {
+    ghost debug_output = { λ x. Some (nonterminal_text x) };
+
+    fn fmt<W: fmt::Write>(&self, f: &mut fmt::Formatter<W>) -> fmt::Result {
+        fmt::Display::fmt(self, f)
+    }
 }
 
 /// A terminal, ordered by its kind and then by its text.
-#[derive(Debug, Drop, PartialEq, Eq, PartialOrd, Ord, Hash)]
+#[derive(Drop, PartialEq, Eq, PartialOrd, Ord, Hash)]
 pub enum TerminalString {
     Literal(Text),
     Bare(Text),
@@ -44,10 +69,44 @@ impl TerminalString {
             TerminalString::Error => Ok(TerminalString::Error),
         }
     }
+
+    /// How many bytes are printed.
+    pub fn display_len(&self) -> usize
+        ensures { result ≡ length (terminal_text self.now) }
+    {
+        match self {
+            TerminalString::Literal(text) => text.as_str().len() + 2,
+            TerminalString::Bare(text) => text.as_str().len(),
+            TerminalString::Error => 5,
+        }
+    }
+}
+
+impl fmt::Display for TerminalString {
+    ghost output = { λ x. Some (terminal_text x) };
+
+    fn fmt<W: fmt::Write>(&self, f: &mut fmt::Formatter<W>) -> fmt::Result {
+        match self {
+            TerminalString::Literal(text) => {
+                let text = text.as_str();
+                write!(f, "\"{text}\"")
+            }
+            TerminalString::Bare(text) => f.write_str(text.as_str()),
+            TerminalString::Error => f.write_str("error"),
+        }
+    }
+}
+
+impl fmt::Debug for TerminalString {
+    ghost debug_output = { λ x. Some (terminal_text x) };
+
+    fn fmt<W: fmt::Write>(&self, f: &mut fmt::Formatter<W>) -> fmt::Result {
+        fmt::Display::fmt(self, f)
+    }
 }
 
 /// A symbol of a right side.
-#[derive(Debug, Drop, PartialEq, Eq, PartialOrd, Ord, Hash)]
+#[derive(Drop, PartialEq, Eq, PartialOrd, Ord, Hash)]
 pub enum Symbol {
     Nonterminal(NonterminalString),
     Terminal(TerminalString),
@@ -61,6 +120,35 @@ impl Symbol {
             Symbol::Nonterminal(name) => Ok(Symbol::Nonterminal(name.clone(alloc)?)),
             Symbol::Terminal(terminal) => Ok(Symbol::Terminal(terminal.clone(alloc)?)),
         }
+    }
+
+    /// How many bytes are printed.
+    pub fn display_len(&self) -> usize
+        ensures { result ≡ length (symbol_text self.now) }
+    {
+        match self {
+            Symbol::Nonterminal(name) => name.display_len(),
+            Symbol::Terminal(terminal) => terminal.display_len(),
+        }
+    }
+}
+
+impl fmt::Display for Symbol {
+    ghost output = { λ x. Some (symbol_text x) };
+
+    fn fmt<W: fmt::Write>(&self, f: &mut fmt::Formatter<W>) -> fmt::Result {
+        match self {
+            Symbol::Nonterminal(name) => fmt::Display::fmt(name, f),
+            Symbol::Terminal(terminal) => fmt::Display::fmt(terminal, f),
+        }
+    }
+}
+
+impl fmt::Debug for Symbol {
+    ghost debug_output = { λ x. Some (symbol_text x) };
+
+    fn fmt<W: fmt::Write>(&self, f: &mut fmt::Formatter<W>) -> fmt::Result {
+        fmt::Display::fmt(self, f)
     }
 }
 
