@@ -1,5 +1,7 @@
-//! Tests of the public calls of the libraries with ample memory, each beside what is owed.
+//! Tests of the public calls of the libraries with ample memory, each beside what is owed, and a plain
+//! slow program that computes the definitions on small inputs.
 #![tactic(auto)]
 
+pub mod plain;
 #[cfg(test)]
 mod repr;

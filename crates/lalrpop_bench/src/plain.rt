@@ -1,0 +1,18 @@
+//! The definitions of LR(1) parsing, computed slowly and without tables on small inputs, for tests that compare.
+pub mod actions;
+pub mod derivations;
+pub mod grammars;
+pub mod spans;
+pub mod trees;
+pub mod validity;
+
+use lalrpop_base::memory::OutOfMemory;
+
+/// Adds a value to a list that does not hold it, and tells whether the list grew.
+pub(crate) fn add<T: PartialEq + Drop>(list: &mut Vec<T>, value: T) -> Result<bool, OutOfMemory> {
+    if list.contains(&value) {
+        return Ok(false);
+    }
+    list.push(value)?;
+    Ok(true)
+}
