@@ -1,10 +1,18 @@
 //! The definitions of LR(1) parsing, computed slowly and without tables on small inputs, for tests that compare.
 pub mod actions;
+#[cfg(test)]
+mod against_first;
 pub mod derivations;
 pub mod grammars;
+#[cfg(test)]
+mod known;
+#[cfg(test)]
+mod samples;
 pub mod spans;
 pub mod trees;
 pub mod validity;
+#[cfg(test)]
+mod worked;
 
 use lalrpop_base::memory::OutOfMemory;
 
