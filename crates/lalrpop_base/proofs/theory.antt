@@ -1,4 +1,5 @@
 -- The theory of LR(1) parsing, over the definitions of specs alone.
+pub mod Ascending
 pub mod Augmented
 pub mod Beginnings
 pub mod Canonical
@@ -17,6 +18,7 @@ pub mod Prompt
 pub mod Reading
 pub mod Refusals
 pub mod Renumbering
+pub mod RightStates
 pub mod Runs
 pub mod Sentences
 pub mod Stacks

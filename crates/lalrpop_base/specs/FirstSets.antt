@@ -1,4 +1,4 @@
--- FIRST of a list, by sets for the nonterminals.
+-- FIRST of a list, by sets for the nonterminals: Aho, Sethi and Ullman, section 4.4.
 use Rattle.std.specs.Prelude.{◌≡◌, ◌⊎◌, List, [], ◌∷◌, Contains}
 use Rattle.lalrpop_base.specs.declared.repr.NonterminalString.{NonterminalString}
 use Rattle.lalrpop_base.specs.declared.repr.TerminalString.{TerminalString}

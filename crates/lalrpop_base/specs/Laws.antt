@@ -1,23 +1,22 @@
 -- Laws over the definitions, which public functions state.
 use Rattle.std.specs.Prelude.{◌≡◌, ◌↔◌, ◌⊎◌, ℕ, suc, Bool, true, ◌≤◌, List, [], ◌∷◌, ◌++◌, Some}
+use Rattle.std.specs.declared.cmp.Ordering.{Ordering}
 use Rattle.lalrpop_base.specs.declared.repr.NonterminalString.{NonterminalString}
 use Rattle.lalrpop_base.specs.declared.repr.Production.{Production}
 use Rattle.lalrpop_base.specs.declared.repr.Symbol.{Symbol}
 use Rattle.lalrpop_base.specs.declared.repr.TerminalString.{TerminalString}
 use Rattle.lalrpop_base.specs.declared.lookahead.token.Token.{Token}
 use Rattle.lalrpop_base.specs.Grammar.{IsFirst, IsNullable, IsSentence, IsBeginning, IsOnNoRightSide}
-use Rattle.lalrpop_base.specs.Validity.{Valid, ValidToken, IsLive, IsLR1, IsLALR1, IsLalrToken}
-use Rattle.lalrpop_base.specs.States.{Contents, Reduction, state_after, AreFaithful}
+use Rattle.lalrpop_base.specs.Validity.{Valid, ValidToken, IsLive, IsLR1, IsLALR1, IsLalrToken, HaveSameItems, HaveSameTokens}
+use Rattle.lalrpop_base.specs.States.{Contents, leads, state_after, ReducesFinished, HaveRightItems, AreFaithful}
 use Rattle.lalrpop_base.specs.Trees.{Tree, Node, no_trees, beside, nodes, IsParseTree}
-use Rattle.lalrpop_base.specs.Runs.{Configuration, move, Stands, Ends, Reaches, begin, Outcome, HasOutcome, Parsed, Refused, Limit, IsFirstWrong, IsRightNext}
-use Rattle.lalrpop_base.specs.Lanes.{AreLr0, IsLaneToken, HoldLaneTokens}
-use Rattle.std.specs.Prelude.{Contains, length}
-use Rattle.std.proofs.Common.{Ordering}
-use Rattle.lalrpop_base.specs.Conflicts.{IsOrder, HasNoConflict}
+use Rattle.lalrpop_base.specs.Runs.{Configuration, move, Stands, Ends, Reaches, begin, Outcome, HasOutcome, Parsed, Refused, Limit, IsFirstWrong, IsRightNext, IsPromptRefusal}
+use Rattle.lalrpop_base.specs.Lanes.{AreLr0, IsLaneToken, HoldLaneTokens, HoldLalrTokens}
+use Rattle.lalrpop_base.specs.Conflicts.{IsOrder, ConflictContents, AreConflictsOf, AreCanonicalConflicts, ReducesInOrder, HasNoCanonicalConflict}
 use Rattle.lalrpop_base.specs.Renumbering.{IsRenumbering}
-use Rattle.lalrpop_base.specs.FirstSets.{FirstBy, AreFirstSets}
+use Rattle.lalrpop_base.specs.FirstSets.{NullableBy, FirstBy, AreFirstSets}
 use Rattle.lalrpop_base.specs.Augmented.{IsAugmented}
-use Rattle.lalrpop_base.specs.Closures.{AreChecked, AreCanonical}
+use Rattle.lalrpop_base.specs.Closures.{AreClosed, IsReached, AreChecked, AreCanonical, KernelsDiffer, TokenKernelsDiffer}
 
 -- FIRST of a list is FIRST of its first symbol and, where that is nullable, of the rest
 abbrev pub FirstByCases : Type 0
@@ -26,6 +25,14 @@ FirstByCases = (g : List Production) (x : Symbol) (s : List Symbol) (t : Termina
 -- the sentences are the lists with a parse tree
 abbrev pub SentencesHaveTrees : Type 0
 SentencesHaveTrees = (g : List Production) (start : NonterminalString) (w : List TerminalString) → IsSentence g start w ↔ ((t : Tree) × IsParseTree g start w t)
+
+-- first sets, as the code keeps them, say FIRST of each list
+abbrev pub FirstSetsAreFirst : Type 0
+FirstSetsAreFirst = (g : List Production) (null : NonterminalString → Bool) (first : NonterminalString → TerminalString → Bool) → AreFirstSets g (λ a. null a ≡ true) (λ a t. first a t ≡ true) → (l : List Symbol) (t : TerminalString) → FirstBy (λ a. null a ≡ true) (λ a t. first a t ≡ true) l t ↔ IsFirst g l t
+
+-- and whether it is nullable
+abbrev pub FirstSetsAreNullable : Type 0
+FirstSetsAreNullable = (g : List Production) (null : NonterminalString → Bool) (first : NonterminalString → TerminalString → Bool) → AreFirstSets g (λ a. null a ≡ true) (λ a t. first a t ≡ true) → (l : List Symbol) → NullableBy (λ a. null a ≡ true) l ↔ IsNullable g l
 
 -- a run has an outcome
 abbrev pub RunsHaveOutcomes : Type 0
@@ -59,6 +66,18 @@ ShiftsBegin = (g : List Production) (start : NonterminalString) (states : ℕ �
 abbrev pub BeginningsAreShifted : Type 0
 BeginningsAreShifted = (g : List Production) (start : NonterminalString) (states : ℕ → Contents) → AreFaithful g start states → (v : List TerminalString) (t : TerminalString) (rest : List TerminalString) → IsBeginning g start (v ++ t ∷ []) → (n : ℕ) × (c : Configuration) × (m : ℕ) × Reaches states n (begin (v ++ t ∷ rest)) c × (c.rest ≡ t ∷ rest) × ((states c.state).shift t ≡ Some m)
 
+-- the states that are reached are those after live prefixes
+abbrev pub ReachedAreLive : Type 0
+ReachedAreLive = (g : List Production) (start : NonterminalString) (states : ℕ → Contents) → AreClosed g start states → (n : ℕ) → IsReached states n ↔ ((u : List Symbol) × IsLive g start u × (state_after states u ≡ Some n))
+
+-- states built by closures have the right dotted productions
+abbrev pub ClosedHaveRightItems : Type 0
+ClosedHaveRightItems = (g : List Production) (start : NonterminalString) (states : ℕ → Contents) → AreClosed g start states → ((n : ℕ) → ReducesFinished (states n)) → HaveRightItems g start states
+
+-- and where each is reached that has an edge, and kernels do not repeat, they are LR(0) states
+abbrev pub ClosedAreLr0 : Type 0
+ClosedAreLr0 = (g : List Production) (start : NonterminalString) (states : ℕ → Contents) → AreClosed g start states → ((n : ℕ) → ReducesFinished (states n)) → KernelsDiffer states → ((n m : ℕ) (x : Symbol) → leads (states n) x ≡ Some m → IsReached states n) → AreLr0 g start states
+
 -- tracing backwards over LR(0) states finds exactly the LALR tokens
 abbrev pub LaneTokensAreLalr : Type 0
 LaneTokensAreLalr = (g : List Production) (start : NonterminalString) (states : ℕ → Contents) → AreLr0 g start states → IsOnNoRightSide g start → (u : List Symbol) (s : ℕ) (p : Production) (dot : ℕ) (t : Token) → state_after states u ≡ Some s → Valid g start u p dot → IsLaneToken g start states s p dot t ↔ IsLalrToken g start u p dot t
@@ -66,6 +85,10 @@ LaneTokensAreLalr = (g : List Production) (start : NonterminalString) (states : 
 -- so where the grammar is LALR(1), the LR(0) states with these tokens are faithful
 abbrev pub LanesAreFaithful : Type 0
 LanesAreFaithful = (g : List Production) (start : NonterminalString) (states : ℕ → Contents) → AreLr0 g start states → IsOnNoRightSide g start → IsLALR1 g start → HoldLaneTokens g start states → AreFaithful g start states
+
+-- where LR(0) states hold their LALR tokens, they are faithful exactly where the grammar is LALR(1)
+abbrev pub LalrAreFaithful : Type 0
+LalrAreFaithful = (g : List Production) (start : NonterminalString) (states : ℕ → Contents) → AreLr0 g start states → HoldLalrTokens g start states → AreFaithful g start states ↔ IsLALR1 g start
 
 -- checked tables are faithful
 abbrev pub CheckedAreFaithful : Type 0
@@ -83,33 +106,58 @@ CanonicalTokensAreValid = (g : List Production) (start : NonterminalString) (sta
 abbrev pub CanonicalAreFaithful : Type 0
 CanonicalAreFaithful = (g : List Production) (start : NonterminalString) (states : ℕ → Contents) (tokens : ℕ → Production → ℕ → Token → Bool) → AreCanonicalWith g start states tokens → AreFaithful g start states ↔ IsLR1 g start
 
--- over them each list has a limit from which on Limit is never the outcome
+-- where their kernels do not repeat, two prefixes lead to one state exactly where they have the same valid dotted productions with the same valid tokens
+abbrev pub CanonicalStatesAreOne : Type 0
+CanonicalStatesAreOne = (g : List Production) (start : NonterminalString) (states : ℕ → Contents) (tokens : ℕ → Production → ℕ → Token → Bool) → AreCanonicalWith g start states tokens → TokenKernelsDiffer states (λ n p dot t. tokens n p dot t ≡ true) → (u v : List Symbol) (n m : ℕ) → state_after states u ≡ Some n → state_after states v ≡ Some m → (n ≡ m) ↔ (HaveSameItems g start u v × HaveSameTokens g start u v)
+
+-- over canonical states each list has a limit from which on Limit is never the outcome
 abbrev pub CanonicalRunsEnd : Type 0
 CanonicalRunsEnd = (g : List Production) (start : NonterminalString) (states : ℕ → Contents) (tokens : ℕ → Production → ℕ → Token → Bool) → AreCanonicalWith g start states tokens → IsLR1 g start → IsOnNoRightSide g start → (w : List TerminalString) → (enough : ℕ) × ((limit : ℕ) → enough ≤ limit → HasOutcome states w limit Limit → ⊥)
 
--- and a step is made only on a token with which the input is a beginning, or on Eof behind a sentence
+-- a step is made only on a token with which the input is a beginning, or on Eof behind a sentence
 abbrev pub CanonicalStepsAreRight : Type 0
 CanonicalStepsAreRight = (g : List Production) (start : NonterminalString) (states : ℕ → Contents) (tokens : ℕ → Production → ℕ → Token → Bool) → AreCanonicalWith g start states tokens → IsLR1 g start → (v rest : List TerminalString) (n : ℕ) (c : Configuration) → Reaches states n (begin (v ++ rest)) c → c.rest ≡ rest → (move states c ≡ Stands) ⊎ IsRightNext g start v rest
 
--- where LR(0) states hold their LALR tokens, they are faithful exactly where the grammar is LALR(1)
-abbrev pub HoldLalrTokens : List Production → NonterminalString → (ℕ → Contents) → Type 0
-HoldLalrTokens g start states = (u : List Symbol) (n : ℕ) → IsLive g start u → state_after states u ≡ Some n → (r : Reduction) → Contains (states n).reductions r → (t : Token) → (r.holds t ≡ true) ↔ IsLalrToken g start u r.production (length (r.production).symbols) t
+-- so the refusing state is the one that the shift of the last right token led to, or state 0
+abbrev pub CanonicalRefusalsArePrompt : Type 0
+CanonicalRefusalsArePrompt = (g : List Production) (start : NonterminalString) (states : ℕ → Contents) (tokens : ℕ → Production → ℕ → Token → Bool) → AreCanonicalWith g start states tokens → IsLR1 g start → IsOnNoRightSide g start → (w : List TerminalString) (limit s : ℕ) (t : Token) → HasOutcome states w limit (Refused s t) → IsPromptRefusal g start states w s t
 
-abbrev pub LalrAreFaithful : Type 0
-LalrAreFaithful = (g : List Production) (start : NonterminalString) (states : ℕ → Contents) → AreLr0 g start states → HoldLalrTokens g start states → AreFaithful g start states ↔ IsLALR1 g start
-
--- a grammar without a conflict is LR(1)
+-- a grammar is LR(1) exactly where no live prefix has a canonical conflict
 abbrev pub NoConflictIsLr1 : Type 0
-NoConflictIsLr1 = (order : Production → Production → Ordering) → IsOrder order → (g : List Production) (start : NonterminalString) → HasNoConflict order g start → IsLR1 g start
+NoConflictIsLr1 = (productions : Production → Production → Ordering) → IsOrder productions → (g : List Production) (start : NonterminalString) → HasNoCanonicalConflict productions g start ↔ IsLR1 g start
+
+-- a prefix has one list of canonical conflicts
+abbrev pub OneListOfConflicts : Type 0
+OneListOfConflicts = (terminals : TerminalString → TerminalString → Ordering) (productions : Production → Production → Ordering) → IsOrder terminals → IsOrder productions → (g : List Production) (start : NonterminalString) (u : List Symbol) (cs ds : List ConflictContents) → AreCanonicalConflicts terminals productions g start u cs → AreCanonicalConflicts terminals productions g start u ds → cs ≡ ds
+
+-- and that is the list of the canonical state after it
+abbrev pub StateConflictsAreCanonical : Type 0
+StateConflictsAreCanonical = (terminals : TerminalString → TerminalString → Ordering) (productions : Production → Production → Ordering) → IsOrder productions → (g : List Production) (start : NonterminalString) (states : ℕ → Contents) (tokens : ℕ → Production → ℕ → Token → Bool) → AreCanonicalWith g start states tokens → (u : List Symbol) (n : ℕ) → state_after states u ≡ Some n → ReducesInOrder productions (states n) → (cs : List ConflictContents) → AreConflictsOf terminals (states n) cs ↔ AreCanonicalConflicts terminals productions g start u cs
 
 -- faithful states stay faithful under other numbers
 abbrev pub RenumberedAreFaithful : Type 0
 RenumberedAreFaithful = (g : List Production) (start : NonterminalString) (new old : ℕ → ℕ) (before after : ℕ → Contents) → IsRenumbering new old before after → AreFaithful g start before → AreFaithful g start after
 
--- first sets, as the code keeps them, say FIRST of each list, and whether it is nullable
-abbrev pub FirstSetsAreFirst : Type 0
-FirstSetsAreFirst = (g : List Production) (null : NonterminalString → Bool) (first : NonterminalString → TerminalString → Bool) → AreFirstSets g (λ a. null a ≡ true) (λ a t. first a t ≡ true) → (l : List Symbol) (t : TerminalString) → FirstBy (λ a. null a ≡ true) (λ a t. first a t ≡ true) l t ↔ IsFirst g l t
+-- a new start symbol stands on no right side
+abbrev pub AugmentedStandsAlone : Type 0
+AugmentedStandsAlone = (g h : List Production) (start f : NonterminalString) → IsAugmented g h start f → IsOnNoRightSide h f
 
--- the parse trees from a new start symbol are a node over one from the old, with one node more, and it stands on no right side
+-- its parse trees are a node over one from the old, with one node more
 abbrev pub AugmentedTrees : Type 0
-AugmentedTrees = (g h : List Production) (start f : NonterminalString) → IsAugmented g h start f → IsOnNoRightSide h f × ((w : List TerminalString) (t : Tree) → IsParseTree h f w t ↔ ((s : Tree) × (t ≡ Node f (beside s no_trees)) × (nodes (beside t no_trees) ≡ suc (nodes (beside s no_trees))) × IsParseTree g start w s))
+AugmentedTrees = (g h : List Production) (start f : NonterminalString) → IsAugmented g h start f → (w : List TerminalString) (t : Tree) → IsParseTree h f w t ↔ ((s : Tree) × (t ≡ Node f (beside s no_trees)) × (nodes (beside t no_trees) ≡ suc (nodes (beside s no_trees))) × IsParseTree g start w s)
+
+-- its sentences are those of the old
+abbrev pub AugmentedSentences : Type 0
+AugmentedSentences = (g h : List Production) (start f : NonterminalString) → IsAugmented g h start f → (w : List TerminalString) → IsSentence h f w ↔ IsSentence g start w
+
+-- and its beginnings
+abbrev pub AugmentedBeginnings : Type 0
+AugmentedBeginnings = (g h : List Production) (start f : NonterminalString) → IsAugmented g h start f → (w : List TerminalString) → IsBeginning h f w ↔ IsBeginning g start w
+
+-- so over faithful states for a new start symbol, wherever the old one stands, a tree is answered exactly when it is a node over a parse tree from the old one, within the limit
+abbrev pub AugmentedAnswers : Type 0
+AugmentedAnswers = (g h : List Production) (start f : NonterminalString) (states : ℕ → Contents) → IsAugmented g h start f → AreFaithful h f states → (w : List TerminalString) (t : Tree) (limit : ℕ) → HasOutcome states w limit (Parsed t) ↔ ((s : Tree) × (t ≡ Node f (beside s no_trees)) × IsParseTree g start w s × (suc (nodes (beside s no_trees)) ≤ limit))
+
+-- and a refusal names the first wrong token of the old
+abbrev pub AugmentedRefusals : Type 0
+AugmentedRefusals = (g h : List Production) (start f : NonterminalString) (states : ℕ → Contents) → IsAugmented g h start f → AreFaithful h f states → (w : List TerminalString) (limit s : ℕ) (t : Token) → HasOutcome states w limit (Refused s t) → IsFirstWrong g start w t

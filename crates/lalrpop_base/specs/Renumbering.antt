@@ -1,5 +1,6 @@
 -- States under other numbers.
-use Rattle.std.specs.Prelude.{◌≡◌, ℕ, Option, Some, None}
+use Rattle.std.specs.Prelude.{◌≡◌, ◌<◌, ℕ, Option, Some, None}
+use Rattle.lalrpop_base.specs.declared.repr.NonterminalString.{NonterminalString}
 use Rattle.lalrpop_base.specs.declared.repr.Symbol.{Symbol}
 use Rattle.lalrpop_base.specs.States.{Contents, leads}
 
@@ -16,3 +17,11 @@ pub record IsRenumbering (new old : ℕ → ℕ) (before after : ℕ → Content
   pub commutes : (n : ℕ) (x : Symbol) → leads (after (new n)) x ≡ renumbered new (leads (before n) x)
   pub items : (n : ℕ) → (after (new n)).items ≡ (before n).items
   pub reductions : (n : ℕ) → (after (new n)).reductions ≡ (before n).reductions
+
+-- a state with a goto
+abbrev pub HasGoto : Contents → Type 0
+HasGoto s = (a : NonterminalString) × (n : ℕ) × (s.goto a ≡ Some n)
+
+-- behind state 0 the states below a number that have a goto stand before those without
+abbrev pub PutsGotosFirst : ℕ → (ℕ → Contents) → Type 0
+PutsGotosFirst count states = (n m : ℕ) → 0 < n → n < m → m < count → HasGoto (states m) → HasGoto (states n)

@@ -1,4 +1,4 @@
--- Which dotted productions, tokens and actions are valid for a prefix.
+-- Which dotted productions, tokens and actions are valid for a prefix. The notions are the textbook's (Knuth 1965, section II; Aho, Sethi and Ullman, section 4.7); that they go by three rules and not by rightmost derivations is this project's form, so that symbols that derive no list of terminals count too.
 -- A dotted production is a production and the number of its symbols before the dot: drop dot p.symbols is what stands behind it.
 use Rattle.std.specs.Prelude.{◌≡◌, ℕ, suc, ◌⊎◌, ◌↔◌, List, [], ◌∷◌, ◌++◌, drop, length, Contains}
 use Rattle.lalrpop_base.specs.declared.repr.NonterminalString.{NonterminalString}
@@ -23,7 +23,7 @@ pub data ValidToken (g : List Production) (start : NonterminalString) : List Sym
   begins_behind : {u : List Symbol} {p : Production} {dot : ℕ} {t : TerminalString} (q : Production) (after : List Symbol) → Valid g start u p dot → drop dot p.symbols ≡ Nonterminal q.nonterminal ∷ after → Contains g q → IsFirst g after t → ValidToken g start u q 0 (TokenOf t)
   passed_on : {u : List Symbol} {p : Production} {dot : ℕ} {t : Token} (q : Production) (after : List Symbol) → ValidToken g start u p dot t → drop dot p.symbols ≡ Nonterminal q.nonterminal ∷ after → Contains g q → IsNullable g after → ValidToken g start u q 0 t
 
--- a live prefix: the empty one, and each with a valid dotted production
+-- a live prefix: the empty one, and each with a valid dotted production. It is this project's form of a viable prefix
 abbrev pub IsLive : List Production → NonterminalString → List Symbol → Type 0
 IsLive g start u = (u ≡ []) ⊎ ((p : Production) × (dot : ℕ) × Valid g start u p dot)
 
@@ -45,7 +45,7 @@ abbrev pub IsValidAction : List Production → NonterminalString → List Symbol
 IsValidAction g start u t (Shift x) = (t ≡ TokenOf x) × IsAwaited g start u (Terminal x)
 IsValidAction g start u t (Reduce p) = ValidToken g start u p (length p.symbols) t
 
--- LR(1): no prefix and token have two different valid actions
+-- LR(1), as Knuth 1965 has it but for the rules above: no prefix and token have two different valid actions
 abbrev pub IsLR1 : List Production → NonterminalString → Type 0
 IsLR1 g start = (u : List Symbol) (t : Token) (a b : Action) → IsValidAction g start u t a → IsValidAction g start u t b → a ≡ b
 
@@ -53,7 +53,11 @@ IsLR1 g start = (u : List Symbol) (t : Token) (a b : Action) → IsValidAction g
 abbrev pub HaveSameItems : List Production → NonterminalString → List Symbol → List Symbol → Type 0
 HaveSameItems g start u v = (p : Production) (dot : ℕ) → Valid g start u p dot ↔ Valid g start v p dot
 
--- an LALR token of a dotted production at u: valid for a live prefix with the same dotted productions
+-- and they have the same valid tokens
+abbrev pub HaveSameTokens : List Production → NonterminalString → List Symbol → List Symbol → Type 0
+HaveSameTokens g start u v = (p : Production) (dot : ℕ) (t : Token) → ValidToken g start u p dot t ↔ ValidToken g start v p dot t
+
+-- an LALR token of a dotted production at u: valid for a live prefix with the same dotted productions. It is what DeRemer and Pennello 1982 compute, over the prefixes and not the states
 pub record IsLalrToken (g : List Production) (start : NonterminalString) (u : List Symbol) (p : Production) (dot : ℕ) (t : Token) : Type 0 where
   pub prefix : List Symbol
   pub live : IsLive g start prefix

@@ -1,4 +1,4 @@
--- A valid token is one with which what was read can go on.
+-- Canonical states hold exactly the valid tokens, so that they are faithful exactly where the grammar is LR(1); and a valid token is one with which what was read can go on: by induction on the prefix and on what is valid.
 use Rattle.std.proofs.Common.{◌↔◌, inr, Some, ◌≡◌, ℕ, suc, List, [], ◌∷◌, ◌++◌, drop, length, append_assoc, append-nil, sym, subst, refl, ap, ◌∙◌}
 use Rattle.lalrpop_base.specs.declared.repr.Production.{Production}
 use Rattle.lalrpop_base.specs.declared.repr.NonterminalString.{NonterminalString}
@@ -9,13 +9,13 @@ use Rattle.lalrpop_base.specs.declared.lookahead.token.Token.{Token}
 use Rattle.lalrpop_base.specs.declared.lookahead.token.Token.TheVariants.{Eof, Terminal as TokenOf}
 use Rattle.lalrpop_base.specs.Grammar.{Derives, replace}
 use Rattle.lalrpop_base.specs.Validity.{IsLive, IsLR1, Action, Shift, Reduce, IsValidAction, Valid, ValidToken, at_start, kept, begins_behind, passed_on}
-use Rattle.lalrpop_base.specs.States.{Contents, state_after, Allows, AreFaithful}
-use Rattle.lalrpop_base.specs.Closures.{InTokenClosure, with_token, begins_rest, inherits, IsAtStart, IsMovedWith, items_of, AreCanonical}
-use Rattle.lalrpop_base.proofs.theory.Lists.{drop_past, Grown, from_nothing, more, grown}
-use Rattle.lalrpop_base.proofs.theory.Closures.{state_from-last, items_valid, edges_awaited, live_state}
-use Rattle.lalrpop_base.proofs.theory.Steps.{same_some}
+use Rattle.lalrpop_base.specs.States.{Contents, state_after, Allows, HasRightItems, AreFaithful}
+use Rattle.lalrpop_base.specs.Closures.{InTokenClosure, with_token, begins_rest, inherits, IsAtStartWith, IsMovedWith, items_of, AreCanonical}
+use Rattle.lalrpop_base.proofs.theory.Lists.{drop_past, Grown, from_nothing, more, grown, same_some}
+use Rattle.lalrpop_base.proofs.theory.Closures.{state_from-last, items_valid, right_items, live_state}
+use Rattle.lalrpop_base.proofs.theory.RightStates.{edges_awaited, reductions_valid, action_stands}
 use Rattle.lalrpop_base.proofs.theory.Derivations.{Derives-from, Derives-to, Derives-trans, Derives-left, Derives-right, Derives-production}
-use Rattle.lalrpop_base.proofs.theory.Valid.{extends, valid}
+use Rattle.lalrpop_base.proofs.theory.Valid.{extends, valid, action_live}
 
 -- a list that begins with a token: with its terminal, or, for Eof, the empty one
 pub data BeginsWith : Token → List Symbol → Type 0 where
@@ -45,13 +45,13 @@ token_follows (passed_on {u} {p} {dot} q after v e h n) =
 
 module _ (g : List Production) (start : NonterminalString) (states : ℕ → Contents) (tokens : ℕ → Production → ℕ → Token → Type 0) (canonical : AreCanonical g start states tokens) where
   items_at : (u : List Symbol) (n : ℕ) → state_after states u ≡ Some n → (p : Production) (dot : ℕ) → items_of states n p dot ↔ Valid g start u p dot
-  items_at = items_valid g start states (items_of states) canonical.closed
+  items_at = items_valid g start states canonical.closed
 
   -- the tokens of a state are valid for each prefix that leads to it
   pub tokens_valid : {u : List Symbol} → Grown u → (n : ℕ) → state_after states u ≡ Some n → (p : Production) (dot : ℕ) (t : Token) → tokens n p dot t → ValidToken g start u p dot t
   tokens_valid from_nothing n e p dot t h = go ((canonical.first p dot t).0 (subst (λ k. tokens k p dot t) (sym (same_some e)) h))
     where
-      go : {q : Production} {d : ℕ} {s : Token} → InTokenClosure g (items_of states 0) (λ q d s. IsAtStart g start q d × (s ≡ Eof)) q d s → ValidToken g start [] q d s
+      go : {q : Production} {d : ℕ} {s : Token} → InTokenClosure g (items_of states 0) (IsAtStartWith g start) q d s → ValidToken g start [] q d s
       go {q} {d} (with_token k) = subst (λ s. ValidToken g start [] q d s) (sym k.1) (subst (λ i. ValidToken g start [] q i Eof) (sym k.0.0) (at_start q k.0.1 k.0.2))
       go (begins_rest {p = r} {dot = d} q after i b h' f) = begins_behind q after ((items_at [] 0 refl r d).0 i) b h' f
       go (inherits q after c b h' k) = passed_on q after (go c) b h' k
@@ -70,7 +70,7 @@ module _ (g : List Production) (start : NonterminalString) (states : ℕ → Con
     pub closure : (p : Production) (dot : ℕ) (t : Token) → tokens n p dot t ↔ InTokenClosure g (items_of states n) kernel p dot t
 
   pub token_closed : {u : List Symbol} → Grown u → (n : ℕ) → state_after states u ≡ Some n → IsTokenClosed n
-  token_closed from_nothing n at = subst IsTokenClosed (same_some at) (record { kernel = λ q d s. IsAtStart g start q d × (s ≡ Eof); closure = canonical.first })
+  token_closed from_nothing n at = subst IsTokenClosed (same_some at) (record { kernel = IsAtStartWith g start; closure = canonical.first })
   token_closed (more {l = u} x k) n at =
       let m = state_from-last states 0 u x n at in
       record { kernel = IsMovedWith (tokens m.0) x; closure = canonical.next m.0 n x m.2 }
@@ -91,46 +91,41 @@ module _ (g : List Production) (start : NonterminalString) (states : ℕ → Con
   pub tokens_exact : (u : List Symbol) (n : ℕ) → state_after states u ≡ Some n → (p : Production) (dot : ℕ) (t : Token) → tokens n p dot t ↔ ValidToken g start u p dot t
   tokens_exact u n at p dot t = (tokens_valid (grown u) n at p dot t, λ v. valid_token_held v n at)
 
+  -- the state after a prefix is right for it but for tokens
+  pub right_at : (u : List Symbol) (n : ℕ) → state_after states u ≡ Some n → HasRightItems g start u (states n)
+  right_at = right_items g start states canonical.closed canonical.reductions
+
   -- what a state allows is exactly what is valid
   pub allows_valid : (u : List Symbol) (n : ℕ) → state_after states u ≡ Some n → (t : Token) (a : Action) → Allows (states n) t a ↔ IsValidAction g start u t a
   allows_valid u n at t (Shift x) = (
-    λ h. (h.0, (edges_awaited g start states (items_of states) canonical.closed u n at (Terminal x)).0 h.1),
-    λ h. (h.0, (edges_awaited g start states (items_of states) canonical.closed u n at (Terminal x)).1 h.1),
+    λ h. (h.0, (edges_awaited (right_at u n at) (Terminal x)).0 h.1),
+    λ h. (h.0, (edges_awaited (right_at u n at) (Terminal x)).1 h.1),
   )
   allows_valid u n at t (Reduce p) = (
     λ h.
         let k : tokens n p (length p.symbols) t = subst (λ (q : Production). tokens n q (length q.symbols) t) h.2 ((canonical.holds n h.0 t h.1).0 h.3) in
         (tokens_exact u n at p (length p.symbols) t).0 k,
     λ v.
-        let f = (canonical.finished n p).1 ((items_at u n at p (length p.symbols)).1 (valid v)) in
+        let f = (reductions_valid (right_at u n at) p).1 (valid v) in
         (f.0, f.1, f.2, (canonical.holds n f.0 t f.1).1 (subst (λ (q : Production). tokens n q (length q.symbols) t) (sym f.2) ((tokens_exact u n at p (length p.symbols) t).1 v))),
   )
 
-  -- canonical states are faithful exactly where the grammar is LR(1)
+  -- where the grammar is LR(1), canonical states are faithful
   pub canonical_faithful : IsLR1 g start → AreFaithful g start states
   canonical_faithful lr u live =
-      let s = live_state g start states (items_of states) canonical.closed u live in
+      let s = live_state g start states canonical.closed u live in
       record {
         number = s.0;
         after = s.1;
         right = record {
-          items = items_at u s.0 s.1;
-          edges = edges_awaited g start states (items_of states) canonical.closed u s.0 s.1;
-          finished = λ p. (
-            λ h. (items_at u s.0 s.1 p (length p.symbols)).0 ((canonical.finished s.0 p).0 h),
-            λ v. (canonical.finished s.0 p).1 ((items_at u s.0 s.1 p (length p.symbols)).1 v),
-          );
-          once = canonical.once s.0;
+          contents = right_at u s.0 s.1;
           every = λ t a v. (allows_valid u s.0 s.1 t a).1 v;
-          one = λ t a b h k. lr u t a b ((allows_valid u s.0 s.1 t a).0 h) ((allows_valid u s.0 s.1 t b).0 k);
+          one = λ t stands a b h k. lr u t a b ((allows_valid u s.0 s.1 t a).0 h) ((allows_valid u s.0 s.1 t b).0 k);
         };
       }
 
+  -- and only there
   pub faithful_lr1 : AreFaithful g start states → IsLR1 g start
   faithful_lr1 f u t a b v w =
-      let s = f u (action_live a v) in
-      s.right.one t a b ((allows_valid u s.number s.after t a).1 v) ((allows_valid u s.number s.after t b).1 w)
-    where
-      action_live : (a : Action) → IsValidAction g start u t a → IsLive g start u
-      action_live (Shift x) h = inr ((h.1).production, (h.1).dot, (h.1).valid)
-      action_live (Reduce p) h = inr (p, length p.symbols, valid h)
+      let s = f u (action_live t a v) in
+      s.right.one t (action_stands g start u t a v) a b ((allows_valid u s.number s.after t a).1 v) ((allows_valid u s.number s.after t b).1 w)

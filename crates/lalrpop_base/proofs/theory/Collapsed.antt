@@ -1,4 +1,4 @@
--- LR(0) states whose reductions hold their LALR tokens are faithful exactly where the grammar is LALR(1).
+-- LR(0) states whose reductions hold their LALR tokens are faithful exactly where the grammar is LALR(1): from what such a state allows.
 use Rattle.std.proofs.Common.{◌≡◌, ◌↔◌, true, ℕ, List, sym, subst, ◌∙◌, length, Some}
 use Rattle.std.specs.Prelude.{Contains}
 use Rattle.lalrpop_base.specs.declared.repr.NonterminalString.{NonterminalString}
@@ -7,22 +7,20 @@ use Rattle.lalrpop_base.specs.declared.repr.Symbol.{Symbol}
 use Rattle.lalrpop_base.specs.declared.repr.Symbol.TheVariants.{Terminal}
 use Rattle.lalrpop_base.specs.declared.lookahead.token.Token.{Token}
 use Rattle.lalrpop_base.specs.Validity.{IsLive, Action, Shift, Reduce, IsValidAction, IsLalrToken, IsLalrAction, IsLALR1}
-use Rattle.lalrpop_base.specs.States.{Contents, Reduction, state_after, Allows, AreFaithful}
-use Rattle.lalrpop_base.specs.Lanes.{HasRightItems, AreLr0}
+use Rattle.lalrpop_base.specs.States.{Contents, state_after, Allows, HasRightItems, CanStandNext, AreFaithful}
+use Rattle.lalrpop_base.specs.Lanes.{AreLr0, HoldLalrTokens}
 use Rattle.lalrpop_base.proofs.theory.Valid.{valid}
-use Rattle.lalrpop_base.proofs.theory.Steps.{same_some}
+use Rattle.lalrpop_base.proofs.theory.RightStates.{edges_awaited, reductions_valid, token_stands}
+use Rattle.lalrpop_base.proofs.theory.Lists.{same_some}
 
 module _ (g : List Production) (start : NonterminalString) (states : ℕ → Contents) (lr0 : AreLr0 g start states) where
-  -- each reduction holds its LALR tokens
-  abbrev pub HoldLalrTokens : Type 0
-  HoldLalrTokens = (u : List Symbol) (n : ℕ) → IsLive g start u → state_after states u ≡ Some n → (r : Reduction) → Contains (states n).reductions r → (t : Token) → (r.holds t ≡ true) ↔ IsLalrToken g start u r.production (length (r.production).symbols) t
-
-  pub allows_lalr : HoldLalrTokens → (u : List Symbol) (n : ℕ) → IsLive g start u → state_after states u ≡ Some n → HasRightItems g start u (states n) → (t : Token) (a : Action) → Allows (states n) t a ↔ IsLalrAction g start u t a
-  allows_lalr holds u n live at h t (Shift x) = (λ v. (v.0, (h.edges (Terminal x)).0 v.1), λ v. (v.0, (h.edges (Terminal x)).1 v.1))
+  -- what a state then allows are exactly the LALR actions
+  pub allows_lalr : HoldLalrTokens g start states → (u : List Symbol) (n : ℕ) → IsLive g start u → state_after states u ≡ Some n → HasRightItems g start u (states n) → (t : Token) (a : Action) → Allows (states n) t a ↔ IsLalrAction g start u t a
+  allows_lalr holds u n live at h t (Shift x) = (λ v. (v.0, (edges_awaited h (Terminal x)).0 v.1), λ v. (v.0, (edges_awaited h (Terminal x)).1 v.1))
   allows_lalr holds u n live at h t (Reduce p) = (
     λ v. subst (λ (q : Production). IsLalrToken g start u q (length q.symbols) t) v.2 ((holds u n live at v.0 v.1 t).0 v.3),
     λ l.
-        let f = (h.finished p).1 ((l.same p (length p.symbols)).1 (valid l.valid)) in
+        let f = (reductions_valid h p).1 ((l.same p (length p.symbols)).1 (valid l.valid)) in
         (f.0, f.1, f.2, (holds u n live at f.0 f.1 t).1 (subst (λ (q : Production). IsLalrToken g start u q (length q.symbols) t) (sym f.2) l)),
   )
 
@@ -31,7 +29,8 @@ module _ (g : List Production) (start : NonterminalString) (states : ℕ → Con
   action_lalr u live t (Shift x) v = v
   action_lalr u live t (Reduce p) v = record { prefix = u; live = live; same = λ q d. (λ h. h, λ h. h); valid = v }
 
-  pub lalr_faithful : HoldLalrTokens → IsLALR1 g start → AreFaithful g start states
+  -- so they are faithful where the grammar is LALR(1)
+  pub lalr_faithful : HoldLalrTokens g start states → IsLALR1 g start → AreFaithful g start states
   lalr_faithful holds lalr u live =
       let s = lr0.each u live in
       let h = s.right in
@@ -39,20 +38,23 @@ module _ (g : List Production) (start : NonterminalString) (states : ℕ → Con
         number = s.number;
         after = s.after;
         right = record {
-          items = h.items;
-          edges = h.edges;
-          finished = h.finished;
-          once = h.once;
+          contents = h;
           every = λ t a v. (allows_lalr holds u s.number live s.after h t a).1 (action_lalr u live t a v);
-          one = λ t a b j k. lalr u live t a b ((allows_lalr holds u s.number live s.after h t a).0 j) ((allows_lalr holds u s.number live s.after h t b).0 k);
+          one = λ t stands a b j k. lalr u live t a b ((allows_lalr holds u s.number live s.after h t a).0 j) ((allows_lalr holds u s.number live s.after h t b).0 k);
         };
       }
 
-  pub faithful_lalr : HoldLalrTokens → AreFaithful g start states → IsLALR1 g start
+  -- the token of an LALR action can stand next
+  lalr_stands : (u : List Symbol) (t : Token) (a : Action) → IsLalrAction g start u t a → CanStandNext t
+  lalr_stands u t (Shift x) h = subst CanStandNext (sym h.0) tt
+  lalr_stands u t (Reduce p) h = token_stands h.valid
+
+  -- and faithful only there
+  pub faithful_lalr : HoldLalrTokens g start states → AreFaithful g start states → IsLALR1 g start
   faithful_lalr holds f u live t a b j k =
       let s = lr0.each u live in
       let r = f u live in
       let e : r.number ≡ s.number = same_some (sym r.after ∙ s.after) in
-      (r.right).one t a b
+      (r.right).one t (lalr_stands u t a j) a b
       (subst (λ n. Allows (states n) t a) (sym e) ((allows_lalr holds u s.number live s.after s.right t a).1 j))
       (subst (λ n. Allows (states n) t b) (sym e) ((allows_lalr holds u s.number live s.after s.right t b).1 k))

@@ -1,4 +1,4 @@
--- Tracing backwards over LR(0) states finds exactly the LALR tokens.
+-- Tracing backwards over LR(0) states finds exactly the LALR tokens, with the start symbol on no right side: by induction on what is valid one way, and on the steps back the other.
 use Rattle.std.proofs.Common.{◌≡◌, ℕ, suc, inl, inr, ◌↔◌, List, [], ◌∷◌, ◌++◌, drop, length, sym, subst, refl, ap, ◌∙◌, Some}
 use Rattle.lalrpop_base.specs.declared.repr.Production.{Production}
 use Rattle.lalrpop_base.specs.declared.repr.NonterminalString.{NonterminalString}
@@ -7,11 +7,12 @@ use Rattle.lalrpop_base.specs.declared.repr.Symbol.TheVariants.{Nonterminal, Ter
 use Rattle.lalrpop_base.specs.declared.lookahead.token.Token.{Token}
 use Rattle.lalrpop_base.specs.Grammar.{IsOnNoRightSide}
 use Rattle.lalrpop_base.specs.Validity.{IsLALR1, IsLalrAction, Action, Shift, Reduce, IsValidAction, Valid, shifts, ValidToken, at_start, kept, begins_behind, passed_on, IsLive, IsLalrToken}
-use Rattle.lalrpop_base.specs.States.{Contents, state_after, Allows, AreFaithful}
-use Rattle.lalrpop_base.specs.Lanes.{HasRightItems, AreLr0, over_edge, to_parent, behind_parent, of_start, IsLaneToken, given, back, HoldLaneTokens}
-use Rattle.lalrpop_base.proofs.theory.Lists.{same_last}
+use Rattle.lalrpop_base.specs.States.{Contents, state_after, Allows, HasRightItems, AreFaithful}
+use Rattle.lalrpop_base.specs.Lanes.{AreLr0, LeadsBack, over_edge, to_parent, Gives, behind_parent, of_start, IsTracedTo, itself, back, IsLaneTokenAt, IsLaneToken, HoldLaneTokens}
+use Rattle.lalrpop_base.proofs.theory.Lists.{same_last, same_some}
 use Rattle.lalrpop_base.proofs.theory.Valid.{valid, of_grammar, at_the_start, awaited_live}
-use Rattle.lalrpop_base.proofs.theory.Steps.{same_some, state_from-more}
+use Rattle.lalrpop_base.proofs.theory.RightStates.{edges_awaited, reductions_valid}
+use Rattle.lalrpop_base.proofs.theory.Steps.{state_from-more}
 use Rattle.lalrpop_base.proofs.theory.Sentences.{contains_behind}
 
 -- a moved dot comes of a shift over the prefix's last symbol
@@ -34,19 +35,27 @@ module _ (g : List Production) (start : NonterminalString) (states : ℕ → Con
   pub valid_live : {u : List Symbol} {p : Production} {dot : ℕ} → Valid g start u p dot → IsLive g start u
   valid_live {p = p} {dot = dot} v = inr (p, dot, v)
 
+  -- what a step back leads to, the pair leads to
+  traced_back : {s r : ℕ} {p q : Production} {dot e : ℕ} {t : Token} → LeadsBack g states s p dot r q e → IsLaneToken g start states r q e t → IsLaneToken g start states s p dot t
+  traced_back b k = (k.0, record { production = (k.1).production; index = (k.1).index; traced = back b (k.1).traced; gives = (k.1).gives })
+
+  -- and what a pair gives is found there
+  given_there : {s : ℕ} {p : Production} {dot : ℕ} {t : Token} → Gives g start states s p dot t → IsLaneToken g start states s p dot t
+  given_there {s} {p} {dot} h = (s, record { production = p; index = dot; traced = itself; gives = h })
+
   -- each valid token is found
   pub token_traced : {u : List Symbol} {p : Production} {dot : ℕ} {t : Token} → ValidToken g start u p dot t → (s : ℕ) → state_after states u ≡ Some s → IsLaneToken g start states s p dot t
-  token_traced (at_start p h e) s at = given (of_start s p e)
+  token_traced (at_start p h e) s at = given_there (of_start s p e)
   token_traced (kept {u} {p} {dot} x after v e) s at =
       let l = valid_live (valid v) in
       let r = lr0.each u l in
-      let m = (r.right.edges x).1 (record { production = p; dot = dot; after = after; valid = valid v; behind = e }) in
+      let m = (edges_awaited r.right x).1 (record { production = p; dot = dot; after = after; valid = valid v; behind = e }) in
       let to : m.0 ≡ s = same_some (sym (state_from-more states 0 u x r.after m.1) ∙ at) in
-      back (over_edge r.number s p dot x after (m.1 ∙ ap (λ k. Some k) to) e) (token_traced v r.number r.after)
+      traced_back (over_edge r.number s p dot x after (m.1 ∙ ap (λ k. Some k) to) e) (token_traced v r.number r.after)
   token_traced (begins_behind {u} {p} {dot} {t} q after v e h f) s at =
-      given (behind_parent s q p dot after t (((items_at u s (valid_live v) at).items p dot).1 v) e f)
+      given_there (behind_parent s q p dot after t (((items_at u s (valid_live v) at).items p dot).1 v) e f)
   token_traced (passed_on {u} {p} {dot} q after v e h n) s at =
-      back (to_parent s q p dot after (((items_at u s (valid_live (valid v)) at).items p dot).1 (valid v)) e n) (token_traced v s at)
+      traced_back (to_parent s q p dot after (((items_at u s (valid_live (valid v)) at).items p dot).1 (valid v)) e n) (token_traced v s at)
 
   -- a token found is valid for some prefix of the state
   pub record IsSomewhere (s : ℕ) (p : Production) (dot : ℕ) (t : Token) : Type 0 where
@@ -54,33 +63,38 @@ module _ (g : List Production) (start : NonterminalString) (states : ℕ → Con
     pub after : state_after states prefix ≡ Some s
     pub token : ValidToken g start prefix p dot t
 
-  pub traced_token : IsOnNoRightSide g start → {s : ℕ} {p : Production} {dot : ℕ} {t : Token} → IsLaneToken g start states s p dot t → (u : List Symbol) → state_after states u ≡ Some s → Valid g start u p dot → IsSomewhere s p dot t
-  traced_token alone (given (behind_parent s p q dot after t h e f)) u at v =
+  -- what a pair gives is valid there: Eof is given in state 0 alone, after the empty prefix
+  given_token : IsOnNoRightSide g start → {s : ℕ} {p : Production} {dot : ℕ} {t : Token} → Gives g start states s p dot t → (u : List Symbol) → state_after states u ≡ Some s → Valid g start u p dot → IsSomewhere s p dot t
+  given_token alone (behind_parent s p q dot after t h e f) u at v =
       let r = items_at u s (valid_live v) at in
       record { prefix = u; after = at; token = begins_behind p after ((r.items q dot).0 h) e (of_grammar v) f }
-  traced_token alone (given (of_start s p e)) u at v = elim (at_the_start v) [
+  given_token alone (of_start s p e) u at v = elim (at_the_start v) [
     | inl z ↦ record { prefix = []; after = ap (state_after states) (sym z.0) ∙ at; token = at_start p (of_grammar v) e }
     | inr a ↦ absurd (alone a.production (of_grammar a.valid) (contains_behind a.dot a.production.symbols (Nonterminal start) a.after (a.behind ∙ ap (λ b. Nonterminal b ∷ a.after) e)))
   ]
-  traced_token alone (back (to_parent s p q dot after h e n) k) u at v =
+
+  -- and so is what it leads back to
+  pub traced_token : IsOnNoRightSide g start → {s n : ℕ} {p k : Production} {dot d : ℕ} {t : Token} → IsTracedTo g states s p dot n k d → Gives g start states n k d t → (u : List Symbol) → state_after states u ≡ Some s → Valid g start u p dot → IsSomewhere s p dot t
+  traced_token alone itself given u at v = given_token alone given u at v
+  traced_token alone (back (to_parent s p q dot after h e n) k) given u at v =
       let r = items_at u s (valid_live v) at in
-      let x = traced_token alone k u at ((r.items q dot).0 h) in
+      let x = traced_token alone k given u at ((r.items q dot).0 h) in
       record { prefix = x.prefix; after = x.after; token = passed_on p after x.token e (of_grammar v) n }
-  traced_token alone (back (over_edge r s p dot x after h e) k) u at v =
+  traced_token alone (back (over_edge r s p dot x after h e) k) given u at v =
       let o = lr0.only r s x h in
       let rr = items_at o.0 r o.1 o.2 in
       let more : state_after states (o.0 ++ x ∷ []) ≡ Some s = state_from-more states 0 o.0 x o.2 h in
-      let live : IsLive g start (o.0 ++ x ∷ []) = awaited_live ((rr.edges x).0 (s, h)) in
+      let live : IsLive g start (o.0 ++ x ∷ []) = awaited_live ((edges_awaited rr x).0 (s, h)) in
       let there : Valid g start (o.0 ++ x ∷ []) p (suc dot) = ((items_at (o.0 ++ x ∷ []) s live more).items p (suc dot)).0 (((items_at u s (valid_live v) at).items p (suc dot)).1 v) in
       let z = unshift o.0 x refl there in
-      let y = traced_token alone k o.0 o.2 z.valid in
+      let y = traced_token alone k given o.0 o.2 z.valid in
       record { prefix = y.prefix ++ x ∷ []; after = state_from-more states 0 y.prefix x y.after h; token = kept x after y.token e }
 
   -- so it finds exactly the LALR tokens
   pub lane_tokens : IsOnNoRightSide g start → (u : List Symbol) (s : ℕ) (p : Production) (dot : ℕ) (t : Token) → state_after states u ≡ Some s → Valid g start u p dot → IsLaneToken g start states s p dot t ↔ IsLalrToken g start u p dot t
   lane_tokens alone u s p dot t at v = (
     λ k.
-        let y = traced_token alone k u at v in
+        let y = traced_token alone (k.1).traced (k.1).gives u at v in
         let live : IsLive g start y.prefix = valid_live (valid y.token) in
         record {
           prefix = y.prefix;
@@ -105,24 +119,21 @@ module _ (g : List Production) (start : NonterminalString) (states : ℕ → Con
         number = s.number;
         after = s.after;
         right = record {
-          items = h.items;
-          edges = h.edges;
-          finished = h.finished;
-          once = h.once;
+          contents = h;
           every = every s.number h s.after;
-          one = λ t a b j k. lalr u live t a b (is_lalr s.number h s.after t a j) (is_lalr s.number h s.after t b k);
+          one = λ t stands a b j k. lalr u live t a b (is_lalr s.number h s.after t a j) (is_lalr s.number h s.after t b k);
         };
       }
     where
       every : (n : ℕ) → HasRightItems g start u (states n) → state_after states u ≡ Some n → (t : Token) (a : Action) → IsValidAction g start u t a → Allows (states n) t a
-      every n h at t (Shift x) v = (v.0, (h.edges (Terminal x)).1 v.1)
+      every n h at t (Shift x) v = (v.0, (edges_awaited h (Terminal x)).1 v.1)
       every n h at t (Reduce p) v =
-          let f = (h.finished p).1 (valid v) in
+          let f = (reductions_valid h p).1 (valid v) in
           let k : IsLaneToken g start states n p (length p.symbols) t = token_traced v n at in
           (f.0, f.1, f.2, (holds n f.0 f.1 t).1 (subst (λ (q : Production). IsLaneToken g start states n q (length q.symbols) t) (sym f.2) k))
 
       is_lalr : (n : ℕ) → HasRightItems g start u (states n) → state_after states u ≡ Some n → (t : Token) (a : Action) → Allows (states n) t a → IsLalrAction g start u t a
-      is_lalr n h at t (Shift x) v = (v.0, (h.edges (Terminal x)).0 v.1)
+      is_lalr n h at t (Shift x) v = (v.0, (edges_awaited h (Terminal x)).0 v.1)
       is_lalr n h at t (Reduce p) v =
           let k : IsLaneToken g start states n p (length p.symbols) t = subst (λ (q : Production). IsLaneToken g start states n q (length q.symbols) t) v.2 ((holds n v.0 v.1 t).0 v.3) in
-          (lane_tokens alone u n p (length p.symbols) t at ((h.finished p).0 (v.0, v.1, v.2))).0 k
+          (lane_tokens alone u n p (length p.symbols) t at ((reductions_valid h p).0 (v.0, v.1, v.2))).0 k

@@ -1,5 +1,6 @@
--- Lists, as the theory takes them apart.
-use Rattle.std.proofs.Common.{◌≡◌, ℕ, zero, suc, List, [], ◌∷◌, ◌++◌, take, drop, length, sym, subst, refl, ap, ap₂}
+-- Lists, as the theory takes them apart: where a dot stands, how joined lists of terminals part, what stands where.
+use Rattle.std.proofs.Common.{◌≡◌, ℕ, zero, suc, ◌<◌, ◌⊎◌, inl, inr, List, [], ◌∷◌, ◌++◌, take, drop, length, sym, subst, refl, ap, ap₂, Option, Some, None, unwrap_or, arith}
+use Rattle.std.specs.Prelude.{Contains, slice_index_or, slice_get}
 use mathlib.Core.List.{head-eq_of_cons-eq, tail-eq_of_cons-eq, nil≢cons, cons≢nil}
 use Rattle.lalrpop_base.specs.declared.repr.Symbol.{Symbol}
 use Rattle.lalrpop_base.specs.declared.repr.Symbol.TheVariants.{Nonterminal, Terminal}
@@ -134,3 +135,50 @@ grown-cons x (more y k) = more y (grown-cons x k)
 pub grown : {A : Type 0} (l : List A) → Grown l
 grown [] = from_nothing
 grown (x ∷ l) = grown-cons x (grown l)
+
+-- what an option holds is one value
+pub same_some : {A : Type 0} {a b : A} → Some a ≡ Some b → a ≡ b
+same_some {a = a} e = ap (λ o. unwrap_or o a) e
+
+-- an option that holds a value
+abbrev pub IsSome' : {A : Type 0} → Option A → Type 0
+IsSome' None = ⊥
+IsSome' (Some a) = Unit {0}
+
+-- an option does not both hold a value and hold none
+pub some≢none : {A : Type 0} {a : A} → Some a ≡ None → ⊥
+some≢none e = subst IsSome' e tt
+
+-- an element of a longer list is its head or an element of its tail
+pub contains-cons : {A : Type 0} (y : A) (ys : List A) (x : A) → Contains (y ∷ ys) x → (y ≡ x) ⊎ Contains ys x
+contains-cons {A} y ys x h = go h.0 h.1 h.2
+  where
+    go : (k : ℕ) → k < length (y ∷ ys) → slice_index_or (y ∷ ys) k x ≡ x → (y ≡ x) ⊎ Contains ys x
+    go zero l e = inl e
+    go (suc k) l e = inr (k, omega arith, e)
+
+-- an empty list has no element
+pub contains-nil : {A : Type 0} {x : A} → Contains [] x → ⊥
+contains-nil h = let l : h.0 < 0 = h.1 in omega arith
+
+-- the head is an element
+pub contains_head : {A : Type 0} (x : A) (xs : List A) → Contains (x ∷ xs) x
+contains_head x xs = (zero, omega arith, refl)
+
+-- and so is each element of the tail
+pub contains_tail : {A : Type 0} (y : A) (ys : List A) (x : A) → Contains ys x → Contains (y ∷ ys) x
+contains_tail y ys x h = (suc h.0, omega (arith, h.1), h.2)
+
+-- an element stands at a place
+pub contains_place : {A : Type 0} (xs : List A) (x : A) → Contains xs x → (k : ℕ) × (slice_get xs k ≡ Some x)
+contains_place [] x h = absurd (contains-nil h)
+contains_place (y ∷ ys) x h = elim (contains-cons y ys x h) [
+  | inl e ↦ (zero, ap (λ z. Some z) e)
+  | inr k ↦ let r = contains_place ys x k in (suc r.0, r.1)
+]
+
+-- and what stands at a place is an element
+pub place_contains : {A : Type 0} (xs : List A) (k : ℕ) (x : A) → slice_get xs k ≡ Some x → Contains xs x
+place_contains [] k x e = absurd (some≢none (sym e))
+place_contains (y ∷ ys) zero x e = (zero, omega arith, same_some e)
+place_contains (y ∷ ys) (suc k) x e = let r = place_contains ys k x e in (suc r.0, omega (arith, r.1), r.2)

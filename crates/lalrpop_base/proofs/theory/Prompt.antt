@@ -1,5 +1,6 @@
--- Over canonical states a wrong token is refused at once, and each run ends.
-use Rattle.std.proofs.Common.{◌≡◌, ℕ, suc, ◌+◌, ◌≤◌, ◌⊎◌, inl, inr, List, [], ◌∷◌, ◌++◌, length, append_assoc, append-nil, sym, subst, refl, ap, ◌∙◌, arith}
+-- Over canonical states of an LR(1) grammar each step is made on a right token, so that a wrong one is refused right behind the last right one, and each run ends: from their tokens being exactly the valid ones.
+use Rattle.std.proofs.Common.{◌≡◌, ℕ, suc, ◌+◌, ◌≤◌, ◌⊎◌, inl, inr, Option, Some, None, List, [], ◌∷◌, ◌++◌, drop, length, append_assoc, append-nil, sym, subst, refl, ap, ◌∙◌, arith}
+use Rattle.std.proofs.lemmas.List.{append_cancel_right}
 use Rattle.lalrpop_base.specs.declared.repr.Production.{Production}
 use Rattle.lalrpop_base.specs.declared.repr.NonterminalString.{NonterminalString}
 use Rattle.lalrpop_base.specs.declared.repr.Symbol.{Symbol}
@@ -10,14 +11,15 @@ use Rattle.lalrpop_base.specs.Grammar.{Derives, symbols_of, IsSentence, IsOnNoRi
 use Rattle.lalrpop_base.specs.Validity.{ValidToken, IsLR1, Reduce}
 use Rattle.lalrpop_base.specs.States.{Contents, AreFaithful}
 use Rattle.lalrpop_base.specs.Closures.{AreCanonical}
-use Rattle.lalrpop_base.specs.Trees.{Leaf}
-use Rattle.lalrpop_base.specs.Runs.{Configuration, next_token, Move, Stands, Goes, moves_on, shifts_or, move, Reaches, here, further, begin, Limit, IsRightNext, HasOutcome, cut_off}
+use Rattle.lalrpop_base.specs.Trees.{Tree, Leaf}
+use Rattle.lalrpop_base.specs.Runs.{Configuration, next_token, Move, Stands, Goes, goes_on, received, moves_on, shifts_or, move, Reaches, here, further, begin, Refused, Limit, IsRightNext, HasOutcome, stuck, other_end, cut_off, IsPromptRefusal, before_all, behind_shift}
 use Rattle.lalrpop_base.proofs.theory.Lists.{symbols_of-append, drop_all}
 use Rattle.lalrpop_base.proofs.theory.Derivations.{Derives-to, Derives-trans, Derives-right}
 use Rattle.lalrpop_base.proofs.theory.Parses.{sentence_tree}
-use Rattle.lalrpop_base.proofs.theory.Steps.{no_longer, Halts, ends_halts, stands_halts, Reaches-append}
+use Rattle.lalrpop_base.proofs.theory.Steps.{IsGoing, IsEnding, same_goes, same_ends, no_longer, Halts, ends_halts, stands_halts, Reaches-append, LastStep, no_step, step_from, last_step}
 use Rattle.lalrpop_base.proofs.theory.Stacks.{spelled, stacked_derives, stacked_after}
-use Rattle.lalrpop_base.proofs.theory.Runs.{Did, shifted, reduced_by, stood, did, Tracks, run_tracks, begin_tracks, shift_begins, reduction_holds}
+use Rattle.lalrpop_base.proofs.theory.Runs.{Did, shifted, reduced_by, stood, did, Tracks, run_tracks, step_tracks, begin_tracks, shift_begins, reduction_holds}
+use Rattle.lalrpop_base.proofs.theory.Refusals.{halts_not_right}
 use Rattle.lalrpop_base.proofs.theory.Sentences.{tree_run}
 use Rattle.lalrpop_base.proofs.theory.Beginnings.{beginning_shifted}
 use Rattle.lalrpop_base.proofs.theory.Canonical.{BeginsWith, ends_here, goes_on_with, token_follows, allows_valid, canonical_faithful}
@@ -89,3 +91,62 @@ module _ (g : List Production) (start : NonterminalString) (states : ℕ → Con
 
       cut : (limit : ℕ) → suc f.steps ≤ limit → HasOutcome states w limit Limit → ⊥
       cut limit l (cut_off c r h) = let k = no_longer f.run f.halts r in omega arith
+
+  -- each step of a run is made on a right token
+  pub steps_on_right : (v rest : List TerminalString) (n : ℕ) (c : Configuration) → Reaches states n (begin (v ++ rest)) c → c.rest ≡ rest → (move states c ≡ Stands) ⊎ IsRightNext g start v rest
+  steps_on_right v rest n c r e =
+      let tr : Tracks g states (v ++ rest) c = run_tracks g start states faithful (v ++ rest) r (begin_tracks g start states faithful (v ++ rest)) in
+      let same : spelled c.trees ≡ v = append_cancel_right (spelled c.trees) v rest (ap (λ l. spelled c.trees ++ l) (sym e) ∙ tr.input) in
+      elim (steps_right (v ++ rest) c tr) [
+        | inl s ↦ inl s
+        | inr k ↦ inr (subst (λ l. IsRightNext g start l rest) same (subst (IsRightNext g start (spelled c.trees)) e k))
+      ]
+
+  -- a step that leads to a configuration before a token that is not right is a shift
+  pub prompt_after : (w : List TerminalString) (n : ℕ) (d c : Configuration) → Reaches states n (begin w) d → Tracks g states w d → Tracks g states w c → move states d ≡ Goes c → (IsRightNext g start (spelled c.trees) c.rest → ⊥) → IsPromptRefusal g start states w c.state (next_token c.rest)
+  prompt_after w n d c r trd trc e wrong = go (move states d) (did states d) e
+    where
+      by_reduction : c.rest ≡ d.rest → IsPromptRefusal g start states w c.state (next_token c.rest)
+      by_reduction same =
+          let spelled_same : spelled d.trees ≡ spelled c.trees = append_cancel_right (spelled d.trees) (spelled c.trees) c.rest (ap (λ l. spelled d.trees ++ l) same ∙ trd.input ∙ sym trc.input) in
+          elim (steps_right w d trd) [
+            | inl s ↦ absurd (subst IsGoing (sym e ∙ s) tt)
+            | inr k ↦ absurd (wrong (subst (λ l. IsRightNext g start l c.rest) spelled_same (subst (IsRightNext g start (spelled d.trees)) (sym same) k)))
+          ]
+
+      after_goto : (o : Option ℕ) (s : ℕ) (below : List ℕ) (trees : List Tree) → goes_on o s below trees d.rest ≡ Goes c → c.rest ≡ d.rest
+      after_goto None s below trees k = absurd (subst IsGoing (sym k) tt)
+      after_goto (Some m) s below trees k = ap (λ (x : Configuration). x.rest) (same_goes (sym k))
+
+      after_reduction : (p : Production) (stack : List ℕ) (trees : List Tree) → received states p stack trees d.rest ≡ Goes c → c.rest ≡ d.rest
+      after_reduction p [] trees k = absurd (subst IsGoing (sym k) tt)
+      after_reduction p (s ∷ below) trees k = after_goto ((states s).goto p.nonterminal) s below trees k
+
+      go : (m : Move) → Did states d m → m ≡ Goes c → IsPromptRefusal g start states w c.state (next_token c.rest)
+      go _ (shifted t rest s h k) x =
+          let to : Configuration = record { state = s; below = d.state ∷ d.below; trees = Leaf t ∷ d.trees; rest = rest } in
+          let same : to ≡ c = same_goes x in
+          subst (λ (y : Configuration). IsPromptRefusal g start states w y.state (next_token y.rest)) same
+          (behind_shift (spelled d.trees) t rest n d s (sym trd.input ∙ ap (λ l. spelled d.trees ++ l) h) r h k
+          (λ b. wrong (subst (λ (y : Configuration). IsRightNext g start (spelled y.trees) y.rest) same b)))
+      go _ (reduced_by p h) x = by_reduction (after_reduction p (drop (length p.symbols) (d.state ∷ d.below)) _ x)
+      go _ (stood h k) x = absurd (subst IsGoing (sym x) tt)
+
+  -- a run that halts before a token that is not right stands right behind the last right one
+  pub halts_promptly : (w : List TerminalString) (n : ℕ) (c : Configuration) → Reaches states n (begin w) c → (IsRightNext g start (spelled c.trees) c.rest → ⊥) → IsPromptRefusal g start states w c.state (next_token c.rest)
+  halts_promptly w n c r wrong = go (last_step r) wrong
+    where
+      go : LastStep states n (begin w) c → (IsRightNext g start (spelled c.trees) c.rest → ⊥) → IsPromptRefusal g start states w c.state (next_token c.rest)
+      go (no_step e) k =
+          subst (λ (y : Configuration). IsPromptRefusal g start states w y.state (next_token y.rest)) e
+          (before_all (λ b. k (subst (λ (y : Configuration). IsRightNext g start (spelled y.trees) y.rest) e b)))
+      go (step_from m d s e) k =
+          let at_d : Tracks g states w d = run_tracks g start states faithful w s (begin_tracks g start states faithful w) in
+          prompt_after w m d c s at_d (step_tracks g start states faithful w d c at_d e) e k
+
+  -- so does a refusal
+  pub refused_promptly : IsOnNoRightSide g start → (w : List TerminalString) (limit s : ℕ) (t : Token) → HasOutcome states w limit (Refused s t) → IsPromptRefusal g start states w s t
+  refused_promptly alone w limit _ _ (stuck n c l r e) =
+      halts_promptly w n c r (halts_not_right g start states faithful alone w n c r (stands_halts states c e) (λ t h k. subst IsEnding (sym k ∙ e) tt))
+  refused_promptly alone w limit _ _ (other_end n c trees l r e not_parsed) =
+      halts_promptly w n c r (halts_not_right g start states faithful alone w n c r (ends_halts states c e) (λ t h k. not_parsed t (same_ends (sym e ∙ k), h)))

@@ -1,4 +1,4 @@
--- Over faithful states a tree is read from the left, in as many steps as it has nodes.
+-- Over faithful states a tree is read from the left, in as many steps as it has nodes: by induction on the tree, from what a state right for its prefix allows.
 use Rattle.std.proofs.Common.{◌≡◌, ℕ, suc, ◌+◌, inr, List, [], ◌∷◌, ◌++◌, drop, length, append_assoc, append-nil, sym, subst, refl, ap, ◌∙◌, Option, Some, None, arith}
 use Rattle.std.specs.Prelude.{Contains}
 use Rattle.lalrpop_base.specs.declared.repr.Production.{Production}
@@ -13,10 +13,11 @@ use Rattle.lalrpop_base.specs.Validity.{ValidToken, kept, begins_behind, passed_
 use Rattle.lalrpop_base.specs.States.{Contents, leads, state_after, IsRightFor, AreFaithful}
 use Rattle.lalrpop_base.specs.Trees.{Tree, Leaf, Node, Trees, no_trees, beside, roots, leaves, nodes, IsNode, AreOfGrammar}
 use Rattle.lalrpop_base.specs.Runs.{Configuration, next_token, reduction_on, Goes, reduced, goes_on, received, reduces, shifts_or, moves_on, move, Reaches, here, further}
-use Rattle.lalrpop_base.proofs.theory.Lists.{drop_past, symbols_of-append}
+use Rattle.lalrpop_base.proofs.theory.Lists.{drop_past, symbols_of-append, same_some}
 use Rattle.lalrpop_base.proofs.theory.Derivations.{Derives-from, Derives-to, Derives-append}
 use Rattle.lalrpop_base.proofs.theory.Valid.{valid, shifted_whole}
-use Rattle.lalrpop_base.proofs.theory.Steps.{same_some, state_from-more, Reaches-append, Reaches-from, reduction_is, onto, reduced_is}
+use Rattle.lalrpop_base.proofs.theory.Steps.{state_from-more, Reaches-append, Reaches-from, reduction_is, onto, reduced_is}
+use Rattle.lalrpop_base.proofs.theory.RightStates.{edges_awaited, token_stands}
 
 -- the roots of trees of a grammar derive their leaves
 pub roots_derive : {g : List Production} (ts : Trees) → AreOfGrammar g ts → Derives g (roots ts) (symbols_of (leaves ts))
@@ -48,7 +49,7 @@ module _ (g : List Production) (start : NonterminalString) (states : ℕ → Con
   pub leads_on : (u : List Symbol) (n : ℕ) (x : Symbol) → IsAwaited g start u x → state_after states u ≡ Some n → (m : ℕ) × (leads (states n) x ≡ Some m) × (state_after states (u ++ x ∷ []) ≡ Some m)
   leads_on u n x a e =
       let r = right_at u n (inr (a.production, a.dot, a.valid)) e in
-      let m = (r.edges x).1 a in
+      let m = (edges_awaited r.contents x).1 a in
       (m.0, m.1, state_from-more states 0 u x e m.1)
 
   -- where a production can be reduced by, the state does so
@@ -66,7 +67,7 @@ module _ (g : List Production) (start : NonterminalString) (states : ℕ → Con
           production_of (Shift t) = p
 
       first : (t : Token) → ValidToken g start u p (length p.symbols) t → reduction_on (states c.state).reductions t ≡ Some p
-      first t k = reduction_is (states c.state).reductions t p (λ q h. is_p q (r.one t (Reduce q) (Reduce p) h (r.every t (Reduce p) k))) (r.every t (Reduce p) k)
+      first t k = reduction_is (states c.state).reductions t p (λ q h. is_p q (r.one t (token_stands k) (Reduce q) (Reduce p) h (r.every t (Reduce p) k))) (r.every t (Reduce p) k)
 
       go : (rest : List TerminalString) → ValidToken g start u p (length p.symbols) (next_token rest) → moves_on states c rest ≡ received states p (drop (length p.symbols) (c.state ∷ c.below)) (reduced p c.trees) c.rest
       go [] k = ap (reduces states c) (first Eof k)
@@ -78,7 +79,7 @@ module _ (g : List Production) (start : NonterminalString) (states : ℕ → Con
 
           no_shift : (o : Option ℕ) → (states c.state).shift t ≡ o → shifts_or states c t rest o ≡ received states p (drop (length p.symbols) (c.state ∷ c.below)) (reduced p c.trees) c.rest
           no_shift None e' = ap (reduces states c) (first (TokenOf t) k)
-          no_shift (Some n) e' = absurd (subst IsReduce (r.one (TokenOf t) (Reduce p) (Shift t) (r.every (TokenOf t) (Reduce p) k) (refl, (n, e'))) tt)
+          no_shift (Some n) e' = absurd (subst IsReduce (r.one (TokenOf t) tt (Reduce p) (Shift t) (r.every (TokenOf t) (Reduce p) k) (refl, (n, e'))) tt)
 
   -- trees are read: from a state after u, with their leaves in the input, to the state after u and their roots, with them on the stack
   pub record IsRead (u : List Symbol) (ts : Trees) (s : ℕ) (below : List ℕ) (trees : List Tree) (rest : List TerminalString) : Type 0 where

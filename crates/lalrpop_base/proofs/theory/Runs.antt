@@ -1,4 +1,4 @@
--- Over faithful states a run keeps to what its trees say, and what it answers is a parse tree.
+-- Over faithful states each configuration of a run stands at a live prefix that derives what was read, so that what it answers is a parse tree and what it shifts continues a beginning: by induction on the run.
 use Rattle.std.proofs.Common.{◌≡◌, ℕ, suc, ◌≤◌, inl, inr, Bool, true, false, cond, List, [], ◌∷◌, ◌++◌, drop, length, append_assoc, append-nil, sym, subst, refl, ap, ◌∙◌, Option, Some, None, arith}
 use mathlib.Core.List.{head-eq_of_cons-eq}
 use Rattle.lalrpop_base.specs.declared.repr.Production.{Production}
@@ -13,13 +13,14 @@ use Rattle.lalrpop_base.specs.Validity.{Valid, IsAwaited}
 use Rattle.lalrpop_base.specs.States.{Contents, Reduction, IsRightFor, AreFaithful}
 use Rattle.lalrpop_base.specs.Trees.{Tree, Leaf, Node, no_trees, beside, root, leaves, nodes, AreOfGrammar, IsParseTree}
 use Rattle.lalrpop_base.specs.Runs.{Configuration, next_token, reduction_on, Move, Stands, Goes, Ends, reduced, goes_on, received, reduces, shifts_or, moves_on, move, Reaches, here, further, begin, Parsed, HasOutcome, parsed}
-use Rattle.lalrpop_base.proofs.theory.Lists.{symbols_of-append, take_all}
+use Rattle.lalrpop_base.proofs.theory.Lists.{symbols_of-append, take_all, same_some, some≢none}
 use Rattle.lalrpop_base.proofs.theory.Derivations.{Derives-to, Derives-trans, Derives-right}
 use Rattle.lalrpop_base.proofs.theory.Valid.{Unshifted, unshifted, of_grammar, at_the_start, extends}
-use Rattle.lalrpop_base.proofs.theory.Steps.{same_some, some≢none, HoldsBy, reduced_is, IsGoing, IsEnding, same_goes, same_ends, together, ends_halts}
+use Rattle.lalrpop_base.proofs.theory.Steps.{HoldsBy, reduced_is, IsGoing, IsEnding, same_goes, same_ends, together, ends_halts}
 use Rattle.lalrpop_base.proofs.theory.Reading.{right_at}
 use Rattle.lalrpop_base.proofs.theory.Stacks.{spelled, Stacked, bottom, above, stacked_after, stacked_derives, stacked_empty, stacked_live, Popped, pop}
 use Rattle.lalrpop_base.proofs.theory.Sentences.{tree_run}
+use Rattle.lalrpop_base.proofs.theory.RightStates.{edges_awaited, reductions_valid}
 
 -- the first reduction that holds a token is one that does
 pub reduction_holds : (rs : List Reduction) (t : Token) (p : Production) → reduction_on rs t ≡ Some p → HoldsBy rs t p
@@ -83,7 +84,7 @@ module _ (g : List Production) (start : NonterminalString) (states : ℕ → Con
   found w c p tr e =
       let h = reduction_holds (states c.state).reductions (next_token c.rest) p e in
       let r : IsRightFor g start tr.prefix (states c.state) = right_at g start states faithful tr.prefix c.state (stacked_live g start states faithful tr.stack) (stacked_after tr.stack) in
-      let v : Unshifted g start tr.prefix p (length p.symbols) = unshifted ((r.finished p).0 (h.0, h.1, h.2)) in
+      let v : Unshifted g start tr.prefix p (length p.symbols) = unshifted ((reductions_valid r.contents p).0 (h.0, h.1, h.2)) in
       let k : Popped g states v.prefix p.symbols c.state c.below c.trees = pop tr.stack v.prefix p.symbols (v.ends ∙ ap (λ l. v.prefix ++ l) (take_all p.symbols)) in
       record {
         prefix = v.prefix;
@@ -157,7 +158,7 @@ module _ (g : List Production) (start : NonterminalString) (states : ℕ → Con
             }
         | inr a ↦
             let r : IsRightFor g start f.prefix (states f.popped.state) = right_at g start states faithful f.prefix f.popped.state (stacked_live g start states faithful f.popped.stack) (stacked_after f.popped.stack) in
-            let n = (r.edges (Nonterminal p.nonterminal)).1 a in
+            let n = (edges_awaited r.contents (Nonterminal p.nonterminal)).1 a in
             absurd (some≢none (sym n.1 ∙ h))
       ]
 
@@ -193,7 +194,7 @@ module _ (g : List Production) (start : NonterminalString) (states : ℕ → Con
   pub shift_begins : (w : List TerminalString) (c : Configuration) (t : TerminalString) (n : ℕ) → Tracks g states w c → (states c.state).shift t ≡ Some n → IsBeginning g start (spelled c.trees ++ t ∷ [])
   shift_begins w c t n tr h =
       let r : IsRightFor g start tr.prefix (states c.state) = right_at g start states faithful tr.prefix c.state (stacked_live g start states faithful tr.stack) (stacked_after tr.stack) in
-      let a : IsAwaited g start tr.prefix (Terminal t) = (r.edges (Terminal t)).0 (n, h) in
+      let a : IsAwaited g start tr.prefix (Terminal t) = (edges_awaited r.contents (Terminal t)).0 (n, h) in
       let x = extends a.valid in (
         a.after ++ x.0,
         Derives-to (ap (λ l. symbols_of (spelled c.trees) ++ (l ++ x.0)) a.behind ∙ sym (append_assoc (symbols_of (spelled c.trees)) (Terminal t ∷ []) (a.after ++ x.0)) ∙ ap (λ l. l ++ (a.after ++ x.0)) (sym (symbols_of-append (spelled c.trees) (t ∷ []))))

@@ -1,4 +1,4 @@
--- Over faithful states the run of a sentence ends with its tree, in as many steps as that has nodes. So a list has at most one parse tree.
+-- Over faithful states, with the start symbol on no right side, the run of a sentence ends with its tree, in as many steps as that has nodes; so a list has at most one parse tree: from how trees are read.
 use Rattle.std.proofs.Common.{◌≡◌, ℕ, zero, suc, ◌≤◌, inl, List, [], ◌∷◌, drop, length, sym, refl, ap, ◌∙◌, Option, Some, None, arith}
 use Rattle.std.specs.Prelude.{Contains}
 use mathlib.Core.List.{head-eq_of_cons-eq, nil≢cons}
@@ -16,6 +16,7 @@ use Rattle.lalrpop_base.proofs.theory.Lists.{same_nonterminal, not_both}
 use Rattle.lalrpop_base.proofs.theory.Valid.{shifted_whole, of_grammar}
 use Rattle.lalrpop_base.proofs.theory.Steps.{onto, reduced_is, Reaches-from, together, ends_halts, same_ends}
 use Rattle.lalrpop_base.proofs.theory.Reading.{right_at, reduces_by, IsRead, reads}
+use Rattle.lalrpop_base.proofs.theory.RightStates.{edges_awaited}
 
 -- what stands behind a dot is one of the symbols
 pub contains_behind : {A : Type 0} (n : ℕ) (xs : List A) (x : A) (after : List A) → drop n xs ≡ x ∷ after → Contains xs x
@@ -42,7 +43,7 @@ module _ (g : List Production) (start : NonterminalString) (states : ℕ → Con
       go : (o : Option ℕ) → (states 0).goto start ≡ o → o ≡ None
       go None e = refl
       go (Some n) e =
-          let a = (r.edges (Nonterminal start)).0 (n, e) in
+          let a = (edges_awaited r.contents (Nonterminal start)).0 (n, e) in
           absurd (alone a.production (of_grammar a.valid) (contains_behind a.dot a.production.symbols (Nonterminal start) a.after a.behind))
 
   -- the run of a list with a parse tree ends with it, and counts a step for each node

@@ -1,4 +1,4 @@
--- What stands on the stack of a run: the states after the prefixes of a live prefix, whose symbols are the roots of the trees.
+-- What stands on the stack of a run: the states after the prefixes of a live prefix, whose symbols are the roots of the trees. From it the trees of a reduction are taken off.
 use Rattle.std.proofs.Common.{◌≡◌, ℕ, inl, List, [], ◌∷◌, ◌++◌, drop, length, append_assoc, append-nil, sym, subst, refl, ap, ap₂, ◌∙◌, Some}
 use Rattle.lalrpop_base.specs.declared.repr.Production.{Production}
 use Rattle.lalrpop_base.specs.declared.repr.NonterminalString.{NonterminalString}
@@ -13,6 +13,7 @@ use Rattle.lalrpop_base.proofs.theory.Derivations.{Derives-to, Derives-append}
 use Rattle.lalrpop_base.proofs.theory.Valid.{awaited_live}
 use Rattle.lalrpop_base.proofs.theory.Steps.{onto, state_from-more}
 use Rattle.lalrpop_base.proofs.theory.Reading.{right_at, roots_derive}
+use Rattle.lalrpop_base.proofs.theory.RightStates.{edges_awaited}
 
 -- trees, and then more trees
 abbrev pub add_last : Trees → Tree → Trees
@@ -112,4 +113,4 @@ module _ (g : List Production) (start : NonterminalString) (states : ℕ → Con
   -- the prefix of a stack is live
   pub stacked_live : {u : List Symbol} {s : ℕ} {below : List ℕ} {trees : List Tree} → Stacked g states u s below trees → IsLive g start u
   stacked_live bottom = inl refl
-  stacked_live (above {u} {s} t n st h of) = awaited_live (((right_at g start states faithful u s (stacked_live st) (stacked_after st)).edges (root t)).0 (n, h))
+  stacked_live (above {u} {s} t n st h of) = awaited_live ((edges_awaited (right_at g start states faithful u s (stacked_live st) (stacked_after st)).contents (root t)).0 (n, h))

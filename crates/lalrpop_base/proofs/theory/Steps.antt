@@ -1,4 +1,4 @@
--- Single steps, and runs put together.
+-- Single steps of a run, and runs put together: from the definition of a run alone.
 use Rattle.std.proofs.Common.{◌≡◌, ℕ, zero, suc, ◌+◌, ◌<◌, ◌≤◌, ◌⊎◌, inl, inr, Bool, true, false, cond, true≢false, List, [], ◌∷◌, ◌++◌, take, drop, length, reverse, sym, subst, refl, ap, ◌∙◌, Option, Some, None, unwrap_or, arith}
 use Rattle.std.specs.Prelude.{Contains, slice_index_or}
 use Rattle.std.proofs.lemmas.List.{reverse-reverse, length-reverse}
@@ -10,16 +10,7 @@ use Rattle.lalrpop_base.specs.declared.lookahead.token.Token.{Token}
 use Rattle.lalrpop_base.specs.States.{Contents, Reduction, leads, onward, state_from}
 use Rattle.lalrpop_base.specs.Trees.{Tree, Node, Trees, no_trees, beside, trees_of, roots}
 use Rattle.lalrpop_base.specs.Runs.{Configuration, reduction_on, Move, Stands, Goes, Ends, reduced, move, Reaches, here, further}
-
-pub same_some : {A : Type 0} {a b : A} → Some a ≡ Some b → a ≡ b
-same_some {a = a} e = ap (λ o. unwrap_or o a) e
-
-abbrev pub IsSome' : {A : Type 0} → Option A → Type 0
-IsSome' None = ⊥
-IsSome' (Some a) = Unit {0}
-
-pub some≢none : {A : Type 0} {a : A} → Some a ≡ None → ⊥
-some≢none e = subst IsSome' e tt
+use Rattle.lalrpop_base.proofs.theory.Lists.{same_some, some≢none, contains-cons, contains-nil}
 
 -- the state after one symbol more
 pub state_from-more : (states : ℕ → Contents) (start : ℕ) (u : List Symbol) (x : Symbol) {n m : ℕ} → state_from states start u ≡ Some n → leads (states n) x ≡ Some m → state_from states start (u ++ x ∷ []) ≡ Some m
@@ -38,17 +29,6 @@ Reaches-append {states} {m = m} {e = e} (further {n} {c} h r) s = subst (λ k. R
 
 pub Reaches-from : {states : ℕ → Contents} (n m : ℕ) (c d e : Configuration) → n ≡ m → c ≡ d → Reaches states n c e → Reaches states m d e
 Reaches-from {states} n m c d e h k r = subst (λ i. Reaches states i d e) h (subst (λ i. Reaches states n i e) k r)
-
--- an element of a longer list is its head or an element of its tail
-pub contains-cons : {A : Type 0} (y : A) (ys : List A) (x : A) → Contains (y ∷ ys) x → (y ≡ x) ⊎ Contains ys x
-contains-cons {A} y ys x h = go h.0 h.1 h.2
-  where
-    go : (k : ℕ) → k < length (y ∷ ys) → slice_index_or (y ∷ ys) k x ≡ x → (y ≡ x) ⊎ Contains ys x
-    go zero l e = inl e
-    go (suc k) l e = inr (k, omega arith, e)
-
-pub contains-nil : {A : Type 0} {x : A} → Contains [] x → ⊥
-contains-nil h = let l : h.0 < 0 = h.1 in omega arith
 
 -- a reduction of s that holds t, by p
 abbrev pub HoldsBy : List Reduction → Token → Production → Type 0
@@ -168,3 +148,16 @@ same_length {states} (further {n} {d = c} {e = z} e r) (further f s) = same_leng
 -- a run goes on by one step
 pub Reaches-more : {states : ℕ → Contents} {n : ℕ} {b c d : Configuration} → Reaches states n b c → move states c ≡ Goes d → Reaches states (n + 1) b d
 Reaches-more r e = Reaches-append r (further e here)
+
+-- how a run came where it is: it stands where it began, or made a last step
+pub data LastStep (states : ℕ → Contents) (n : ℕ) (b c : Configuration) : Type 0 where
+  no_step : b ≡ c → LastStep states n b c
+  step_from : (m : ℕ) (d : Configuration) → Reaches states m b d → move states d ≡ Goes c → LastStep states n b c
+
+pub last_step : {states : ℕ → Contents} {n : ℕ} {b c : Configuration} → Reaches states n b c → LastStep states n b c
+last_step here = no_step refl
+last_step {states} (further {n} {c = b} {d} {e = c} e r) = go (last_step r)
+  where
+    go : LastStep states n d c → LastStep states (suc n) b c
+    go (no_step i) = step_from 0 b here (e ∙ ap Goes i)
+    go (step_from m x s f) = step_from (suc m) x (further e s) f

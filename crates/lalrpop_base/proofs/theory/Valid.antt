@@ -1,4 +1,4 @@
--- Dotted productions and tokens that are valid for a prefix.
+-- What follows from a dotted production or a token being valid for a prefix: how the prefix ends, and what the start symbol derives: by induction on what is valid.
 use Rattle.std.proofs.Common.{◌≡◌, ℕ, suc, ◌⊎◌, inl, inr, List, [], ◌∷◌, ◌++◌, take, drop, length, append_assoc, append-nil, sym, subst, refl, ap, ◌∙◌, ◌+◌, arith}
 use Rattle.std.specs.Prelude.{Contains}
 use Rattle.lalrpop_base.specs.declared.repr.Production.{Production}
@@ -7,7 +7,7 @@ use Rattle.lalrpop_base.specs.declared.repr.Symbol.{Symbol}
 use Rattle.lalrpop_base.specs.declared.repr.Symbol.TheVariants.{Nonterminal}
 use Rattle.lalrpop_base.specs.declared.lookahead.token.Token.{Token}
 use Rattle.lalrpop_base.specs.Grammar.{Derives, as_it_is, replace}
-use Rattle.lalrpop_base.specs.Validity.{Valid, starts, shifts, expands, ValidToken, at_start, kept, begins_behind, passed_on, IsAwaited, IsLive}
+use Rattle.lalrpop_base.specs.Validity.{Valid, starts, shifts, expands, ValidToken, at_start, kept, begins_behind, passed_on, IsAwaited, IsLive, Action, Shift, Reduce, IsValidAction}
 use Rattle.lalrpop_base.proofs.theory.Lists.{drop_past, take_past}
 use Rattle.lalrpop_base.proofs.theory.Derivations.{Derives-from, Derives-to, Derives-trans, Derives-production}
 
@@ -98,3 +98,8 @@ extends (shifts {u} {p} {dot} x after v e) =
 extends (expands {u} {p} {dot} q after v e h) =
     let r = extends v in
     (after ++ r.0, Derives-trans (Derives-to (ap (λ l. u ++ (l ++ r.0)) e) r.1) (replace u (after ++ r.0) q h as_it_is))
+
+-- a prefix with a valid action is live
+pub action_live : {g : List Production} {start : NonterminalString} {u : List Symbol} (t : Token) (a : Action) → IsValidAction g start u t a → IsLive g start u
+action_live t (Shift x) h = inr ((h.1).production, (h.1).dot, (h.1).valid)
+action_live t (Reduce p) h = inr (p, length p.symbols, valid h)

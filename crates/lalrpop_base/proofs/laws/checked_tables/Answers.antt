@@ -2,4 +2,4 @@ use Rattle.lalrpop_base.proofs.theory.Closures.{checked_faithful}
 use Rattle.lalrpop_base.proofs.laws.checked_tables.Goals as goal
 
 pub returns : goal.returns
-returns c = record { faithful = checked_faithful }
+returns c = checked_faithful

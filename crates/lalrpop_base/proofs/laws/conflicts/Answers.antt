@@ -1,5 +1,12 @@
-use Rattle.lalrpop_base.proofs.theory.Conflicts.{no_conflict_lr1}
+use Rattle.std.proofs.Common.{◌≡◌, true}
+use Rattle.lalrpop_base.proofs.theory.Conflicts.{no_conflict_lr1, lr1_no_conflict, one_list_of_conflicts, state_conflicts}
 use Rattle.lalrpop_base.proofs.laws.conflicts.Goals as goal
 
-pub returns : goal.returns
-returns c = no_conflict_lr1
+pub returns-clause-none : goal.returns-clause-none
+returns-clause-none c order o g start = (no_conflict_lr1 order o g start, lr1_no_conflict order o g start)
+
+pub returns-clause-one_list : goal.returns-clause-one_list
+returns-clause-one_list c = one_list_of_conflicts
+
+pub returns-clause-of_states : goal.returns-clause-of_states
+returns-clause-of_states c terminals productions o g start states tokens h = state_conflicts terminals productions o g start states (λ n p dot t. tokens n p dot t ≡ true) h

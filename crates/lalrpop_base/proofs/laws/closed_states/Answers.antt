@@ -1,0 +1,12 @@
+use Rattle.lalrpop_base.proofs.theory.Closures.{reached_states, have_right_items}
+use Rattle.lalrpop_base.proofs.theory.Lr0.{closed_lr0}
+use Rattle.lalrpop_base.proofs.laws.closed_states.Goals as goal
+
+pub returns-clause-reached : goal.returns-clause-reached
+returns-clause-reached c = reached_states
+
+pub returns-clause-right : goal.returns-clause-right
+returns-clause-right c = have_right_items
+
+pub returns-clause-lr0 : goal.returns-clause-lr0
+returns-clause-lr0 c = closed_lr0
