@@ -3,3 +3,9 @@ pub mod BitLemmas
 pub mod EachLemmas
 pub mod theory
 pub mod RisingLemmas
+pub mod BitCounts
+pub mod FirstNames
+pub mod FirstTables
+pub mod FirstMeaning
+pub mod FirstPasses
+pub mod FirstFixpoint

@@ -7,6 +7,7 @@ pub mod Each
 pub mod Exact
 pub mod First
 pub mod FirstSets
+pub mod FirstTables
 pub mod Grammar
 pub mod Items
 pub mod Lanes

@@ -1,21 +1,26 @@
 //! FIRST: the terminals with which what a list of symbols derives can begin.
+mod fixpoint;
+mod table;
+
 ghost use Rattle.std.specs.Prelude.{◌≡◌, IfOk};
 ghost use Rattle.lalrpop_base.specs.WellFormed.{IsWellFormed, HasKnownTerminals, rules_of};
 ghost use Rattle.lalrpop_base.specs.First.{IsFirstSet, IsFirstSetBefore};
+ghost use Rattle.lalrpop_base.specs.Tokens.{FitsTokens};
 
+use self::fixpoint::first_table;
+use self::table::{Table, clone_table, first_by};
 use crate::lookahead::token_set::TokenSet;
 use crate::memory::OutOfMemory;
+use crate::repr::Symbol;
 use crate::repr::grammar::Grammar;
-use crate::repr::{NonterminalString, Symbol};
 use std::alloc::Global;
-use std::collections::BTreeMap;
 use std::marker::Model;
 
 /// The first sets of the nonterminals of a grammar. Clauses see them as the rules of the grammar.
 #[derive(Drop)]
 pub struct FirstSets<'grammar> {
     grammar: &'grammar Grammar,
-    sets: BTreeMap<NonterminalString, TokenSet>,
+    sets: Table,
 }
 
 impl<'grammar> Model for FirstSets<'grammar> {
@@ -24,6 +29,10 @@ impl<'grammar> Model for FirstSets<'grammar> {
     ghost Value = { Rules };
 
     ghost view = { λ s. rules_of s.grammar.now };
+
+    ghost use Rattle.lalrpop_base.specs.First.{AreFirstSetsOf};
+
+    ghost invariant = { λ s. AreFirstSetsOf (rules_of s.grammar.now) s.sets.entries };
 }
 
 impl<'grammar> FirstSets<'grammar> {
@@ -32,20 +41,16 @@ impl<'grammar> FirstSets<'grammar> {
         requires { IsWellFormed grammar.now }
         ensures made { IfOk result (λ sets. sets ≡ rules_of grammar.now) }
     {
-        let _ = alloc;
-        let _ = grammar;
-        Err(OutOfMemory)
+        let sets = first_table(alloc, grammar)?;
+        Ok(FirstSets { grammar, sets })
     }
 
-    /// FIRST of the symbols, with `Eof` where they are nullable.
+    /// FIRST of the symbols, with `Eof` where they are nullable. A name without an entry has the empty set.
     pub fn first0(&self, alloc: Global, symbols: &[Symbol]) -> Result<TokenSet, OutOfMemory>
         requires known { HasKnownTerminals self.now.terminals symbols.now }
         ensures first { IfOk result (λ set. IsFirstSet self.now symbols.now set) }
     {
-        let _ = alloc;
-        let _ = symbols;
-        let _ = &self.sets;
-        Err(OutOfMemory)
+        first_by(alloc, &self.sets, &self.grammar.terminals, symbols)
     }
 
     /// FIRST of the symbols, with `follow` in the place of `Eof` where they are nullable.
@@ -57,10 +62,21 @@ impl<'grammar> FirstSets<'grammar> {
     ) -> Result<TokenSet, OutOfMemory>
         requires known { HasKnownTerminals self.now.terminals symbols.now }
         ensures first { IfOk result (λ set. IsFirstSetBefore self.now symbols.now follow.now set) }
+        ensures fits { IfOk result (λ set. FitsTokens self.now.terminals follow.now → FitsTokens self.now.terminals set) }
     {
-        let _ = alloc;
-        let _ = symbols;
-        let _ = follow;
-        Err(OutOfMemory)
+        let mut set = self.first0(alloc, symbols)?;
+        if set.take_eof(&self.grammar.terminals) {
+            set.union_with(follow)?;
+        }
+        Ok(set)
+    }
+
+    pub fn clone(&self, alloc: Global) -> Result<Self, OutOfMemory>
+        ensures made { IfOk result (λ copy. copy ≡ self.now) }
+    {
+        Ok(FirstSets {
+            grammar: self.grammar,
+            sets: clone_table(alloc, &self.sets)?,
+        })
     }
 }

@@ -1,0 +1,8 @@
+use Rattle.std.proofs.lemmas.Result.{IfOk-weaker}
+use Rattle.std.specs.Prelude.{IfOk}
+use Rattle.lalrpop_base.specs.First.{IsFirstSet}
+use Rattle.lalrpop_base.proofs.FirstMeaning.{First-set}
+use Rattle.lalrpop_base.proofs.first.FirstSets.first0.Goals as goal
+
+pub returns : goal.returns
+returns c = record { first = rw (← c.self.view_is) (IfOk-weaker c.first_by.result _ _ (λ set given. First-set _ c.self.inside.sets.entries _ set c.self.invariant given) c.first_by.ensures) }

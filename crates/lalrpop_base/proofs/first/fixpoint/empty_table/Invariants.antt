@@ -1,0 +1,8 @@
+use Rattle.std.proofs.Common.{◌≡◌, ◌++◌}
+use Rattle.std.specs.BTreeMap.{IsOrdered}
+use Rattle.lalrpop_base.specs.WellFormed.{name_cmp}
+use Rattle.lalrpop_base.specs.FirstTables.{empty_sets}
+use Rattle.lalrpop_base.proofs.first.fixpoint.empty_table.Given as goal
+
+abbrev pub invariant-loop-name : goal.invariant-loop-name
+invariant-loop-name l = (l.table.entries ++ empty_sets l.name-iterator ≡ empty_sets l.grammar.nonterminals.entries) × IsOrdered name_cmp l.table

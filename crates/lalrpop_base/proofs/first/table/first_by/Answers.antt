@@ -1,0 +1,29 @@
+use Rattle.std.proofs.Common.{◌≡◌, ℕ, IsSome, Some, None, Option, sym, ◌∙◌, ap, refl, length}
+use Rattle.std.specs.Prelude.{Contains, slice_get, IsNone, IfSome}
+use Rattle.std.proofs.lemmas.Option.{slice_get_read}
+use Rattle.lalrpop_base.specs.declared.repr.TerminalString.{TerminalString}
+use Rattle.lalrpop_base.proofs.FirstTables.{First-init, First-one, First-terminal, First-end, First-last, First-more}
+use Rattle.lalrpop_base.proofs.first.table.first_by.Goals as goal
+
+pub loop-symbol-init : goal.loop-symbol-init
+loop-symbol-init c = First-init _ _ _ _ c.new-set.ensures
+
+is_known : (place : Option ℕ) (P : Type 0) → (IsNone place → P → ⊥) → P → IsSome place
+is_known None P absent known = absurd (absent refl known)
+is_known (Some k) P absent known = refl
+
+pub unwrap-bit-requires : goal.unwrap-bit-requires
+unwrap-bit-requires c =
+    let at = slice_get_read c.args.symbols.now (length c.args.symbols.now) c.loop-symbol.symbol-index c.symbol-item.result refl c.loop-symbol-test.true c.symbol-item.is ∙ ap Some c.in-Terminal.is in
+    is_known c.bit.result _ c.bit.ensures.absent (c.requires _ _ at)
+
+same_place : {place : Option ℕ} {a b : ℕ} → place ≡ Some a → place ≡ Some b → a ≡ b
+same_place e f = cc
+
+pub returns-in-Terminal : goal.returns-in-Terminal
+returns-in-Terminal c =
+    let is = c.unwrap-bit.ensures in
+    First-one _ _ _ _ _ _ _ c.loop-symbol.invariant (First-terminal _ _ _ _ _ _ _ c.loop-symbol-test.true c.symbol-item.is c.in-Terminal.is (rw is at c.bit.ensures.found) (λ bit at. same_place is (c.bit.ensures.only bit at))) c.in_ok-insert_bit-in-Terminal.ensures.inserted
+
+pub returns : goal.returns
+returns c = First-one _ _ _ _ _ _ _ c.loop-symbol.invariant (First-end _ _ _ _ c.loop-symbol-test.false) c.in_ok-insert_eof.ensures.inserted
