@@ -9,3 +9,4 @@ pub mod FirstTables
 pub mod FirstMeaning
 pub mod FirstPasses
 pub mod FirstFixpoint
+pub mod PlaceLemmas
