@@ -82,7 +82,7 @@ impl PlainGrammar {
         match filled {
             Ok(()) => Ok(Grammar {
                 nonterminals,
-                terminals: TerminalSet::new(literals)?,
+                terminals: TerminalSet::new(alloc, literals)?,
                 action_fn_defns,
                 algorithm: Algorithm { lalr: false },
             }),
