@@ -9,6 +9,9 @@ pub mod Conflicts
 pub mod Derivations
 pub mod FirstSets
 pub mod Forests
+pub mod Instance
+pub mod InstanceRuns
+pub mod InstanceTokens
 pub mod Lanes
 pub mod Lists
 pub mod Lr0
@@ -21,6 +24,7 @@ pub mod Renumbering
 pub mod RightStates
 pub mod Runs
 pub mod Sentences
+pub mod Spoilt
 pub mod Stacks
 pub mod Steps
 pub mod Valid

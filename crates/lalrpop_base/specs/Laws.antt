@@ -161,3 +161,15 @@ AugmentedAnswers = (g h : List Production) (start f : NonterminalString) (states
 -- and a refusal names the first wrong token of the old
 abbrev pub AugmentedRefusals : Type 0
 AugmentedRefusals = (g h : List Production) (start f : NonterminalString) (states : ℕ → Contents) → IsAugmented g h start f → AreFaithful h f states → (w : List TerminalString) (limit s : ℕ) (t : Token) → HasOutcome states w limit (Refused s t) → IsFirstWrong g start w t
+
+-- no law is empty: some states of some grammar with a start symbol on no right side pass the check, are canonical, and are LR(0) states that hold their lane tokens; so the grammar is LR(1) and LALR(1); and a list has a tree
+abbrev pub DefinitionsAreMet : Type 0
+DefinitionsAreMet = (g : List Production) × (start : NonterminalString) × (states : ℕ → Contents) × (tokens : ℕ → Production → ℕ → Token → Bool) × IsOnNoRightSide g start × AreChecked g start states × AreFaithful g start states × AreCanonicalWith g start states tokens × TokenKernelsDiffer states (λ n p dot t. tokens n p dot t ≡ true) × AreLr0 g start states × HoldLaneTokens g start states × HoldLalrTokens g start states × IsLR1 g start × IsLALR1 g start × ((w : List TerminalString) × (t : Tree) × (limit : ℕ) × HasOutcome states w limit (Parsed t))
+
+-- states with the same dotted productions and edges, whatever the reductions
+abbrev pub DifferInReductions : (ℕ → Contents) → (ℕ → Contents) → Type 0
+DifferInReductions states others = (n : ℕ) → ((others n).items ≡ (states n).items) × ((others n).shift ≡ (states n).shift) × ((others n).goto ≡ (states n).goto)
+
+-- and spoilt states are refused: of some faithful states a reduction is dropped, stands twice, or lacks its token
+abbrev pub SpoiltAreRefused : Type 0
+SpoiltAreRefused = (g : List Production) × (start : NonterminalString) × (states dropped repeated idle : ℕ → Contents) × AreFaithful g start states × DifferInReductions states dropped × DifferInReductions states repeated × DifferInReductions states idle × (AreFaithful g start dropped → ⊥) × (AreFaithful g start repeated → ⊥) × (AreFaithful g start idle → ⊥)

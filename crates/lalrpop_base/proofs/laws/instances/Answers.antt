@@ -1,0 +1,19 @@
+use Rattle.std.proofs.Common.{ℕ, zero, suc, List, [], ◌∷◌, ◌≡◌, refl}
+use Rattle.lalrpop_base.specs.Laws.{DifferInReductions}
+use Rattle.lalrpop_base.specs.States.{Reduction}
+use Rattle.lalrpop_base.proofs.theory.Instance.{S, x, g, states, alone, checked, faithful, reduction}
+use Rattle.lalrpop_base.proofs.theory.InstanceTokens.{tokens, canonical, token_kernels, lr0, lane_tokens_held, lalr_tokens_held, lr1, lalr1}
+use Rattle.lalrpop_base.proofs.theory.InstanceRuns.{tree, at_two}
+use Rattle.lalrpop_base.proofs.theory.Spoilt.{with_reductions, idle, dropped_refused, repeated_refused, idle_refused}
+use Rattle.lalrpop_base.proofs.laws.instances.Goals as goal
+
+pub returns-clause-met : goal.returns-clause-met
+returns-clause-met c = (g, S, states, tokens, alone, checked, faithful, canonical, token_kernels, lr0, lane_tokens_held, lalr_tokens_held, lr1, lalr1, (x ∷ [], tree, 2, at_two))
+
+pub returns-clause-refused : goal.returns-clause-refused
+returns-clause-refused c = (g, S, states, with_reductions [], with_reductions (reduction ∷ reduction ∷ []), with_reductions (idle ∷ []), faithful, alike [], alike (reduction ∷ reduction ∷ []), alike (idle ∷ []), dropped_refused, repeated_refused, idle_refused)
+  where
+    alike : (rs : List Reduction) → DifferInReductions states (with_reductions rs)
+    alike rs zero = (refl, refl, refl)
+    alike rs (suc zero) = (refl, refl, refl)
+    alike rs (suc (suc n)) = (refl, refl, refl)
