@@ -12,6 +12,7 @@ pub mod Forests
 pub mod Instance
 pub mod InstanceRuns
 pub mod InstanceTokens
+pub mod LaneTables
 pub mod Lanes
 pub mod Lists
 pub mod Lr0

@@ -1,5 +1,5 @@
 -- Laws over the definitions, which public functions state.
-use Rattle.std.specs.Prelude.{◌≡◌, ◌↔◌, ◌⊎◌, ℕ, suc, Bool, true, ◌≤◌, List, [], ◌∷◌, ◌++◌, Some}
+use Rattle.std.specs.Prelude.{◌≡◌, ◌↔◌, ◌⊎◌, ℕ, suc, Bool, true, ◌≤◌, List, [], ◌∷◌, ◌++◌, Some, Contains}
 use Rattle.std.specs.declared.cmp.Ordering.{Ordering}
 use Rattle.lalrpop_base.specs.declared.repr.NonterminalString.{NonterminalString}
 use Rattle.lalrpop_base.specs.declared.repr.Production.{Production}
@@ -8,11 +8,11 @@ use Rattle.lalrpop_base.specs.declared.repr.TerminalString.{TerminalString}
 use Rattle.lalrpop_base.specs.declared.lookahead.token.Token.{Token}
 use Rattle.lalrpop_base.specs.Grammar.{IsFirst, IsNullable, IsSentence, IsBeginning, IsOnNoRightSide}
 use Rattle.lalrpop_base.specs.Validity.{Valid, ValidToken, IsLive, IsLR1, IsLALR1, IsLalrToken, HaveSameItems, HaveSameTokens}
-use Rattle.lalrpop_base.specs.States.{Contents, leads, state_after, ReducesFinished, HaveRightItems, AreFaithful}
+use Rattle.lalrpop_base.specs.States.{Contents, Reduction, leads, state_after, HasNoRepeat, ReducesFinished, HaveRightItems, AreFaithful}
 use Rattle.lalrpop_base.specs.Trees.{Tree, Node, no_trees, beside, nodes, IsParseTree}
 use Rattle.lalrpop_base.specs.Runs.{Configuration, move, Stands, Ends, Reaches, begin, Outcome, HasOutcome, Parsed, Refused, Limit, IsFirstWrong, IsRightNext, IsPromptRefusal}
 use Rattle.lalrpop_base.specs.Lanes.{AreLr0, IsLaneToken, HoldLaneTokens, HoldLalrTokens}
-use Rattle.lalrpop_base.specs.Conflicts.{IsOrder, ConflictContents, AreConflictsOf, AreCanonicalConflicts, ReducesInOrder, HasNoCanonicalConflict}
+use Rattle.lalrpop_base.specs.Conflicts.{IsOrder, ConflictContents, HasNoConflict, AreConflictsOf, AreCanonicalConflicts, ReducesInOrder, HasNoCanonicalConflict}
 use Rattle.lalrpop_base.specs.Renumbering.{IsRenumbering}
 use Rattle.lalrpop_base.specs.FirstSets.{NullableBy, FirstBy, AreFirstSets}
 use Rattle.lalrpop_base.specs.Augmented.{IsAugmented}
@@ -86,6 +86,10 @@ LaneTokensAreLalr = (g : List Production) (start : NonterminalString) (states : 
 abbrev pub LanesAreFaithful : Type 0
 LanesAreFaithful = (g : List Production) (start : NonterminalString) (states : ℕ → Contents) → AreLr0 g start states → IsOnNoRightSide g start → IsLALR1 g start → HoldLaneTokens g start states → AreFaithful g start states
 
+-- and such states built by closures pass the check of tables, where each that reduces is reached
+abbrev pub LanesAreChecked : Type 0
+LanesAreChecked = (g : List Production) (start : NonterminalString) (states : ℕ → Contents) → AreClosed g start states → AreLr0 g start states → ((n : ℕ) → ReducesFinished (states n)) → ((n : ℕ) (r : Reduction) → Contains (states n).reductions r → IsReached states n) → IsOnNoRightSide g start → IsLALR1 g start → HoldLaneTokens g start states → AreChecked g start states
+
 -- where LR(0) states hold their LALR tokens, they are faithful exactly where the grammar is LALR(1)
 abbrev pub LalrAreFaithful : Type 0
 LalrAreFaithful = (g : List Production) (start : NonterminalString) (states : ℕ → Contents) → AreLr0 g start states → HoldLalrTokens g start states → AreFaithful g start states ↔ IsLALR1 g start
@@ -125,6 +129,10 @@ CanonicalRefusalsArePrompt = (g : List Production) (start : NonterminalString) (
 -- a grammar is LR(1) exactly where no live prefix has a canonical conflict
 abbrev pub NoConflictIsLr1 : Type 0
 NoConflictIsLr1 = (productions : Production → Production → Ordering) → IsOrder productions → (g : List Production) (start : NonterminalString) → HasNoCanonicalConflict productions g start ↔ IsLR1 g start
+
+-- a state whose reductions do not repeat has no conflict exactly where its list is empty
+abbrev pub NoConflictIsEmptyList : Type 0
+NoConflictIsEmptyList = (terminals : TerminalString → TerminalString → Ordering) (s : Contents) → HasNoRepeat s.reductions → AreConflictsOf terminals s [] ↔ HasNoConflict s
 
 -- a prefix has one list of canonical conflicts
 abbrev pub OneListOfConflicts : Type 0

@@ -1,5 +1,5 @@
 -- A grammar is LR(1) exactly where no live prefix has a canonical conflict; a prefix has one list of them; and that is the list of the canonical state after it: from the orders of terminals and productions.
-use Rattle.std.proofs.Common.{◌≡◌, ◌↔◌, ◌⊎◌, inl, inr, ℕ, Bool, true, false, List, sym, subst, refl, ap, ◌∙◌, length, Some}
+use Rattle.std.proofs.Common.{◌≡◌, ◌↔◌, ◌⊎◌, ◌<◌, inl, inr, ℕ, Bool, true, false, List, [], sym, subst, refl, ap, ◌∙◌, length, Some}
 use Rattle.std.specs.Prelude.{Contains, slice_get}
 use Rattle.std.specs.declared.cmp.Ordering.{Ordering}
 use Rattle.std.specs.declared.cmp.Ordering.TheVariants.{Less, Equal, Greater}
@@ -9,11 +9,12 @@ use Rattle.lalrpop_base.specs.declared.repr.Production.{Production}
 use Rattle.lalrpop_base.specs.declared.repr.Symbol.{Symbol}
 use Rattle.lalrpop_base.specs.declared.repr.TerminalString.{TerminalString}
 use Rattle.lalrpop_base.specs.declared.lookahead.token.Token.{Token}
+use Rattle.lalrpop_base.specs.declared.lookahead.token.Token.TheVariants.{Terminal as TokenOf}
 use Rattle.lalrpop_base.specs.Validity.{IsLive, Action, Shift, Reduce, IsValidAction, IsLR1}
-use Rattle.lalrpop_base.specs.States.{Contents, Reduction, state_after, Allows}
+use Rattle.lalrpop_base.specs.States.{Contents, Reduction, HasNoRepeat, state_after, Allows}
 use Rattle.lalrpop_base.specs.Closures.{AreCanonical}
-use Rattle.lalrpop_base.specs.Conflicts.{IsInConflict, ConflictContents, IsConflict, ActionPrecedes, AreConflicts, IsLess, IsOrder, StandsBefore, AreConflictsOf, AreCanonicalConflicts, ReducesInOrder, HasNoCanonicalConflict}
-use Rattle.lalrpop_base.proofs.theory.Lists.{same_some, contains_place, place_contains}
+use Rattle.lalrpop_base.specs.Conflicts.{IsInConflict, ConflictContents, IsConflict, ActionPrecedes, AreConflicts, IsLess, IsOrder, StandsBefore, AreConflictsOf, AreCanonicalConflicts, ReducesInOrder, HasNoConflict, HasNoCanonicalConflict}
+use Rattle.lalrpop_base.proofs.theory.Lists.{same_some, some≢none, contains-nil, contains_place, place_contains}
 use Rattle.lalrpop_base.proofs.theory.Valid.{action_live}
 use Rattle.lalrpop_base.proofs.theory.RightStates.{terminal_in}
 use Rattle.lalrpop_base.proofs.theory.Ascending.{ascending_same}
@@ -202,3 +203,41 @@ state_conflicts terminals productions o g start states tokens canonical u n at a
   where
     alike : (t : Token) (a : Action) → Allows (states n) t a ↔ IsValidAction g start u t a
     alike = allows_valid g start states tokens canonical u n at
+
+-- no conflict is listed of a state exactly where it has none
+pub empty_list : (terminals : TerminalString → TerminalString → Ordering) (s : Contents) → HasNoRepeat s.reductions → AreConflictsOf terminals s [] ↔ HasNoConflict s
+empty_list terminals s once = (to, from)
+  where
+    to : AreConflictsOf terminals s [] → HasNoConflict s
+    to h = record {
+      shifts = λ x n r e c k. contains-nil ((h.all r.production (Shift x) (TokenOf x) (refl, (refl, (n, e)), (r, c, refl, k))).1);
+      reductions = λ i j r q t l e f k m.
+          contains-nil ((h.all r.production (Reduce q.production) t (
+            record { i = i; j = j; r = r; s = q; before = l; first = e; second = f; by_p = refl; by_q = refl },
+            (r, place_contains s.reductions i r e, refl, k),
+            (q, place_contains s.reductions j q f, refl, m),
+          )).1);
+    }
+
+    -- the reduction by a production stands at one place
+    same_place : (i j : ℕ) (r q : Reduction) → slice_get s.reductions i ≡ Some r → slice_get s.reductions j ≡ Some q → r.production ≡ q.production → r ≡ q
+    same_place i j r q e f k = elim (cases_order i j) [
+      | inl same ↦ same_some (sym e ∙ ap (slice_get s.reductions) same ∙ f)
+      | inr l ↦ elim l [
+        | inl less ↦ absurd (once i j r q less e f k)
+        | inr more ↦ absurd (once j i q r more f e (sym k))
+      ]
+    ]
+
+    -- a reduction at a place that is allowed on a token holds it
+    holds_at : (i : ℕ) (r : Reduction) (p : Production) (t : Token) → slice_get s.reductions i ≡ Some r → r.production ≡ p → Allows s t (Reduce p) → r.holds t ≡ true
+    holds_at i r p t e k a =
+        let place = contains_place s.reductions a.0 a.1 in
+        ap (λ (q : Reduction). q.holds t) (same_place i place.0 r a.0 e place.1 (k ∙ sym a.2)) ∙ a.3
+
+    nothing : HasNoConflict s → (p : Production) (a : Action) (t : Token) → IsInConflict (StandsBefore s.reductions) (Allows s) p a t → ⊥
+    nothing none p (Shift x) t h = none.shifts x h.1.1.0 h.2.0 h.1.1.1 h.2.1 (ap (h.2.0).holds (sym h.0) ∙ h.2.3)
+    nothing none p (Reduce q) t h = none.reductions (h.0).i (h.0).j (h.0).r (h.0).s t (h.0).before (h.0).first (h.0).second (holds_at (h.0).i (h.0).r p t (h.0).first (h.0).by_p h.1) (holds_at (h.0).j (h.0).s q t (h.0).second (h.0).by_q h.2)
+
+    from : HasNoConflict s → AreConflictsOf terminals s []
+    from none = record { each = λ c i. absurd (contains-nil i); all = λ p a t h. absurd (nothing none p a t h); ascending = λ i j c d l e f. absurd (some≢none (sym e)) }

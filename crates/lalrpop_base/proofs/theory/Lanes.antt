@@ -26,6 +26,14 @@ unshift {g} {start} {dot = dot} u x e (shifts {u = v} {p = p} y after h k) =
     let same = same_last v u e in
     record { after = after; valid = subst (λ l. Valid g start l p dot) same.0 h; behind = k ∙ ap (λ z. z ∷ after) same.1 }
 
+-- what a step back leads to, the pair leads to
+pub traced_back : (g : List Production) (start : NonterminalString) (states : ℕ → Contents) {s r : ℕ} {p q : Production} {dot e : ℕ} {t : Token} → LeadsBack g states s p dot r q e → IsLaneToken g start states r q e t → IsLaneToken g start states s p dot t
+traced_back g start states b k = (k.0, record { production = (k.1).production; index = (k.1).index; traced = back b (k.1).traced; gives = (k.1).gives })
+
+-- and what a pair gives is found there
+pub given_there : (g : List Production) (start : NonterminalString) (states : ℕ → Contents) {s : ℕ} {p : Production} {dot : ℕ} {t : Token} → Gives g start states s p dot t → IsLaneToken g start states s p dot t
+given_there g start states {s} {p} {dot} h = (s, record { production = p; index = dot; traced = itself; gives = h })
+
 module _ (g : List Production) (start : NonterminalString) (states : ℕ → Contents) (lr0 : AreLr0 g start states) where
   pub items_at : (u : List Symbol) (n : ℕ) → IsLive g start u → state_after states u ≡ Some n → HasRightItems g start u (states n)
   items_at u n l e =
@@ -35,27 +43,19 @@ module _ (g : List Production) (start : NonterminalString) (states : ℕ → Con
   pub valid_live : {u : List Symbol} {p : Production} {dot : ℕ} → Valid g start u p dot → IsLive g start u
   valid_live {p = p} {dot = dot} v = inr (p, dot, v)
 
-  -- what a step back leads to, the pair leads to
-  traced_back : {s r : ℕ} {p q : Production} {dot e : ℕ} {t : Token} → LeadsBack g states s p dot r q e → IsLaneToken g start states r q e t → IsLaneToken g start states s p dot t
-  traced_back b k = (k.0, record { production = (k.1).production; index = (k.1).index; traced = back b (k.1).traced; gives = (k.1).gives })
-
-  -- and what a pair gives is found there
-  given_there : {s : ℕ} {p : Production} {dot : ℕ} {t : Token} → Gives g start states s p dot t → IsLaneToken g start states s p dot t
-  given_there {s} {p} {dot} h = (s, record { production = p; index = dot; traced = itself; gives = h })
-
   -- each valid token is found
   pub token_traced : {u : List Symbol} {p : Production} {dot : ℕ} {t : Token} → ValidToken g start u p dot t → (s : ℕ) → state_after states u ≡ Some s → IsLaneToken g start states s p dot t
-  token_traced (at_start p h e) s at = given_there (of_start s p e)
+  token_traced (at_start p h e) s at = given_there g start states (of_start s p e)
   token_traced (kept {u} {p} {dot} x after v e) s at =
       let l = valid_live (valid v) in
       let r = lr0.each u l in
       let m = (edges_awaited r.right x).1 (record { production = p; dot = dot; after = after; valid = valid v; behind = e }) in
       let to : m.0 ≡ s = same_some (sym (state_from-more states 0 u x r.after m.1) ∙ at) in
-      traced_back (over_edge r.number s p dot x after (m.1 ∙ ap (λ k. Some k) to) e) (token_traced v r.number r.after)
+      traced_back g start states (over_edge r.number s p dot x after (m.1 ∙ ap (λ k. Some k) to) e) (token_traced v r.number r.after)
   token_traced (begins_behind {u} {p} {dot} {t} q after v e h f) s at =
-      given_there (behind_parent s q p dot after t (((items_at u s (valid_live v) at).items p dot).1 v) e f)
+      given_there g start states (behind_parent s q p dot after t (((items_at u s (valid_live v) at).items p dot).1 v) e f)
   token_traced (passed_on {u} {p} {dot} q after v e h n) s at =
-      traced_back (to_parent s q p dot after (((items_at u s (valid_live (valid v)) at).items p dot).1 (valid v)) e n) (token_traced v s at)
+      traced_back g start states (to_parent s q p dot after (((items_at u s (valid_live (valid v)) at).items p dot).1 (valid v)) e n) (token_traced v s at)
 
   -- a token found is valid for some prefix of the state
   pub record IsSomewhere (s : ℕ) (p : Production) (dot : ℕ) (t : Token) : Type 0 where

@@ -1,5 +1,5 @@
 use Rattle.std.proofs.Common.{◌≡◌, true}
-use Rattle.lalrpop_base.proofs.theory.Conflicts.{no_conflict_lr1, lr1_no_conflict, one_list_of_conflicts, state_conflicts}
+use Rattle.lalrpop_base.proofs.theory.Conflicts.{no_conflict_lr1, lr1_no_conflict, empty_list, one_list_of_conflicts, state_conflicts}
 use Rattle.lalrpop_base.proofs.laws.conflicts.Goals as goal
 
 pub returns-clause-none : goal.returns-clause-none
@@ -10,3 +10,6 @@ returns-clause-one_list c = one_list_of_conflicts
 
 pub returns-clause-of_states : goal.returns-clause-of_states
 returns-clause-of_states c terminals productions o g start states tokens h = state_conflicts terminals productions o g start states (λ n p dot t. tokens n p dot t ≡ true) h
+
+pub returns-clause-empty : goal.returns-clause-empty
+returns-clause-empty c = empty_list

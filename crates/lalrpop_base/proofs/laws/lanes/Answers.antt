@@ -1,4 +1,5 @@
 use Rattle.lalrpop_base.proofs.theory.Lanes.{lane_tokens, lanes_faithful}
+use Rattle.lalrpop_base.proofs.theory.LaneTables.{lanes_checked}
 use Rattle.lalrpop_base.proofs.laws.lanes.Goals as goal
 
 pub returns-clause-tokens : goal.returns-clause-tokens
@@ -6,3 +7,6 @@ returns-clause-tokens c = lane_tokens
 
 pub returns-clause-faithful : goal.returns-clause-faithful
 returns-clause-faithful c = lanes_faithful
+
+pub returns-clause-checked : goal.returns-clause-checked
+returns-clause-checked c g start states closed lr0 reductions reached alone lalr holds = lanes_checked g start states closed lr0 reductions reached alone lalr holds
