@@ -4,7 +4,7 @@ pub mod Augmented
 pub mod Beginnings
 pub mod Canonical
 pub mod Closures
-pub mod Collapsed
+pub mod Collapse
 pub mod Conflicts
 pub mod Derivations
 pub mod FirstSets
@@ -12,6 +12,7 @@ pub mod Forests
 pub mod Instance
 pub mod InstanceRuns
 pub mod InstanceTokens
+pub mod LalrStates
 pub mod LaneTables
 pub mod Lanes
 pub mod Lists

@@ -13,6 +13,7 @@ use Rattle.lalrpop_base.specs.Trees.{Tree, Node, no_trees, beside, nodes, IsPars
 use Rattle.lalrpop_base.specs.Runs.{Configuration, move, Stands, Ends, Reaches, begin, Outcome, HasOutcome, Parsed, Refused, Limit, IsFirstWrong, IsRightNext, IsPromptRefusal}
 use Rattle.lalrpop_base.specs.Lanes.{AreLr0, IsLaneToken, HoldLaneTokens, HoldLalrTokens}
 use Rattle.lalrpop_base.specs.Conflicts.{IsOrder, ConflictContents, HasNoConflict, AreConflictsOf, AreCanonicalConflicts, ReducesInOrder, HasNoCanonicalConflict}
+use Rattle.lalrpop_base.specs.Collapse.{IsCollapse}
 use Rattle.lalrpop_base.specs.Renumbering.{IsRenumbering}
 use Rattle.lalrpop_base.specs.FirstSets.{NullableBy, FirstBy, AreFirstSets}
 use Rattle.lalrpop_base.specs.Augmented.{IsAugmented}
@@ -94,15 +95,19 @@ LanesAreChecked = (g : List Production) (start : NonterminalString) (states : �
 abbrev pub LalrAreFaithful : Type 0
 LalrAreFaithful = (g : List Production) (start : NonterminalString) (states : ℕ → Contents) → AreLr0 g start states → HoldLalrTokens g start states → AreFaithful g start states ↔ IsLALR1 g start
 
--- checked tables are faithful
-abbrev pub CheckedAreFaithful : Type 0
-CheckedAreFaithful = (g : List Production) (start : NonterminalString) (states : ℕ → Contents) → AreChecked g start states → AreFaithful g start states
-
 -- canonical states, with the tokens that they hold
 abbrev pub AreCanonicalWith : List Production → NonterminalString → (ℕ → Contents) → (ℕ → Production → ℕ → Token → Bool) → Type 0
 AreCanonicalWith g start states tokens = AreCanonical g start states (λ n p dot t. tokens n p dot t ≡ true)
 
--- they hold exactly the valid tokens
+-- canonical states that are merged where they have the same dotted productions are LR(0) states that hold their LALR tokens
+abbrev pub CollapsedHoldLalrTokens : Type 0
+CollapsedHoldLalrTokens = (g : List Production) (start : NonterminalString) (before after : ℕ → Contents) (tokens : ℕ → Production → ℕ → Token → Bool) (group : ℕ → ℕ) → AreCanonicalWith g start before tokens → IsCollapse group before after → AreLr0 g start after × HoldLalrTokens g start after
+
+-- checked tables are faithful
+abbrev pub CheckedAreFaithful : Type 0
+CheckedAreFaithful = (g : List Production) (start : NonterminalString) (states : ℕ → Contents) → AreChecked g start states → AreFaithful g start states
+
+-- canonical states hold exactly the valid tokens
 abbrev pub CanonicalTokensAreValid : Type 0
 CanonicalTokensAreValid = (g : List Production) (start : NonterminalString) (states : ℕ → Contents) (tokens : ℕ → Production → ℕ → Token → Bool) → AreCanonicalWith g start states tokens → (u : List Symbol) (n : ℕ) → state_after states u ≡ Some n → (p : Production) (dot : ℕ) (t : Token) → (tokens n p dot t ≡ true) ↔ ValidToken g start u p dot t
 

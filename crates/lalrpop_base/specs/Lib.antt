@@ -1,6 +1,7 @@
 pub mod Augmented
 pub mod Bits
 pub mod Closures
+pub mod Collapse
 pub mod Coherent
 pub mod Conflicts
 pub mod Each

@@ -25,6 +25,7 @@ module _ (g h : List Production) (start f : NonterminalString) (aug : IsAugmente
   kept : (p : Production) → Contains g p → Contains h p
   kept p c = (aug.more p).1 (inl c)
 
+  -- and the added one is there
   added_there : Contains h aug.added
   added_there = (aug.more aug.added).1 (inr refl)
 
@@ -68,6 +69,7 @@ module _ (g h : List Production) (start f : NonterminalString) (aug : IsAugmente
     of_list = append-nil (leaves (beside t no_trees)) ∙ p.of_list;
   }
 
+  -- and each of its parse trees is such a node
   pub to_old : (w : List TerminalString) (t : Tree) → IsParseTree h f w t → (s : Tree) × (t ≡ Node f (beside s no_trees)) × IsParseTree g start w s
   to_old w (Leaf x) p = absurd (not_both (sym p.from_start))
   to_old w (Node a children) p = go children (of.0).symbols (of.1) p.of_list

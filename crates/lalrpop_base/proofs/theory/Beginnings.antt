@@ -1,4 +1,4 @@
--- Over faithful states each terminal is shifted with which the input is a beginning, and a run that halts elsewhere stands where it is none.
+-- Over faithful states each terminal with which the input so far is a beginning is shifted: by reading a forest of a derivation from the left up to that terminal.
 use Rattle.std.proofs.Common.{◌≡◌, ℕ, suc, ◌+◌, List, [], ◌∷◌, ◌++◌, drop, append_assoc, append-nil, sym, refl, ap, ◌∙◌, Some}
 use Rattle.std.specs.Prelude.{Contains}
 use mathlib.Core.List.{head-eq_of_cons-eq, tail-eq_of_cons-eq, nil≢cons}
@@ -34,6 +34,7 @@ module _ (g : List Production) (start : NonterminalString) (states : ℕ → Con
     pub target : ℕ
     pub shift : (states at.state).shift t ≡ Some target
 
+  -- also from where a run leads there
   pub comes_from : {n : ℕ} {c d : Configuration} {t : TerminalString} {rest : List TerminalString} → Reaches states n c d → ComesTo d t rest → ComesTo c t rest
   comes_from {n} r k = record { steps = n + k.steps; at = k.at; run = Reaches-append r k.run; next = k.next; target = k.target; shift = k.shift }
 

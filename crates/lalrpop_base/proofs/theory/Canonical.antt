@@ -44,6 +44,8 @@ token_follows (passed_on {u} {p} {dot} q after v e h n) =
     )
 
 module _ (g : List Production) (start : NonterminalString) (states : ℕ → Contents) (tokens : ℕ → Production → ℕ → Token → Type 0) (canonical : AreCanonical g start states tokens) where
+
+  -- the dotted productions of a state are those valid for each prefix that leads to it
   items_at : (u : List Symbol) (n : ℕ) → state_after states u ≡ Some n → (p : Production) (dot : ℕ) → items_of states n p dot ↔ Valid g start u p dot
   items_at = items_valid g start states canonical.closed
 
@@ -69,6 +71,7 @@ module _ (g : List Production) (start : NonterminalString) (states : ℕ → Con
     pub kernel : Production → ℕ → Token → Type 0
     pub closure : (p : Production) (dot : ℕ) (t : Token) → tokens n p dot t ↔ InTokenClosure g (items_of states n) kernel p dot t
 
+  -- so it is for each of them
   pub token_closed : {u : List Symbol} → Grown u → (n : ℕ) → state_after states u ≡ Some n → IsTokenClosed n
   token_closed from_nothing n at = subst IsTokenClosed (same_some at) (record { kernel = IsAtStartWith g start; closure = canonical.first })
   token_closed (more {l = u} x k) n at =

@@ -1,4 +1,4 @@
--- Derivations compose, and split where their list does.
+-- Derivations compose, and may stand in longer lists: by induction on the derivation.
 use Rattle.std.proofs.Common.{◌≡◌, List, [], ◌∷◌, ◌++◌, append_assoc, append-nil, sym, subst, ap, ◌∙◌}
 use Rattle.std.specs.Prelude.{Contains}
 use Rattle.lalrpop_base.specs.declared.repr.Production.{Production}
@@ -10,6 +10,7 @@ use Rattle.lalrpop_base.specs.Grammar.{Derives, as_it_is, replace}
 pub Derives-from : {g : List Production} {l k m : List Symbol} → l ≡ k → Derives g l m → Derives g k m
 Derives-from {g} {m = m} e d = subst (λ x. Derives g x m) e d
 
+-- and to an equal list
 pub Derives-to : {g : List Production} {l m n : List Symbol} → m ≡ n → Derives g l m → Derives g l n
 Derives-to {g} {l} e d = subst (λ x. Derives g l x) e d
 

@@ -1,4 +1,4 @@
--- Sets to which no production adds anything are FIRST.
+-- Sets that each production keeps, and that hold only what they should, say FIRST of each list and whether it is nullable: by induction on forests.
 use Rattle.std.proofs.Common.{◌≡◌, ◌↔◌, inl, inr, List, [], ◌∷◌, sym, subst, refl, ap}
 use mathlib.Core.List.{head-eq_of_cons-eq, nil≢cons, cons≢nil}
 use Rattle.lalrpop_base.specs.declared.repr.NonterminalString.{NonterminalString}
@@ -12,6 +12,8 @@ use Rattle.lalrpop_base.proofs.theory.Lists.{same_terminal, not_both}
 use Rattle.lalrpop_base.proofs.theory.Forests.{Forest, empty, leaf, node, derives_forest, nil_parts, nullable-cons, first-cons}
 
 module _ (g : List Production) (null : NonterminalString → Type 0) (first : NonterminalString → TerminalString → Type 0) (sets : AreFirstSets g null first) where
+
+  -- what derives the empty list is nullable by the sets
   forest_null : {l m : List Symbol} → Forest g l m → m ≡ [] → NullableBy null l
   forest_null empty e = tt
   forest_null (leaf x f) e = absurd (cons≢nil e)
@@ -19,6 +21,7 @@ module _ (g : List Production) (null : NonterminalString → Type 0) (first : No
       let parts = nil_parts m n (sym e) in
       (sets.null_closed p h (forest_null d parts.0), forest_null f parts.1)
 
+  -- what derives a list that begins with t has it in FIRST by the sets
   forest_first : {l m : List Symbol} → Forest g l m → (t : TerminalString) (rest : List Symbol) → m ≡ Terminal t ∷ rest → FirstBy null first l t
   forest_first empty t rest e = nil≢cons e
   forest_first (leaf (Terminal x) f) t rest e = same_terminal (sym (head-eq_of_cons-eq e))
@@ -35,6 +38,7 @@ module _ (g : List Production) (null : NonterminalString → Type 0) (first : No
       to (Terminal t ∷ l) h = absurd h
       to (Nonterminal a ∷ l) h = (nullable-cons (Nonterminal a) l).1 (sets.null_right a h.0, to l h.1)
 
+  -- and so is what they say of FIRST
   pub first_by : (l : List Symbol) (t : TerminalString) → FirstBy null first l t ↔ IsFirst g l t
   first_by l t = (to l, λ h. forest_first (derives_forest h.1) t h.0 refl)
     where

@@ -1,4 +1,4 @@
--- Derivations are forests.
+-- Derivations are forests, so that they split where their list does, and FIRST and nullable go by cases on a list: by induction on derivations and on forests.
 use Rattle.std.proofs.Common.{◌≡◌, ◌↔◌, ◌⊎◌, inl, inr, List, [], ◌∷◌, ◌++◌, append_assoc, sym, subst, refl, ap, ◌∙◌}
 use Rattle.std.specs.Prelude.{Contains}
 use mathlib.Core.List.{head-eq_of_cons-eq, nil≢cons, cons≢nil}
@@ -15,9 +15,11 @@ pub data Forest (g : List Production) : List Symbol → List Symbol → Type 0 w
   leaf : (x : Symbol) {l n : List Symbol} → Forest g l n → Forest g (x ∷ l) (x ∷ n)
   node : (p : Production) {l m n : List Symbol} → Contains g p → Forest g p.symbols m → Forest g l n → Forest g (Nonterminal p.nonterminal ∷ l) (m ++ n)
 
+-- over equal leaves
 pub Forest-to : {g : List Production} {l m n : List Symbol} → m ≡ n → Forest g l m → Forest g l n
 Forest-to {g} {l} e f = subst (λ x. Forest g l x) e f
 
+-- over equal roots
 pub Forest-from : {g : List Production} {l k m : List Symbol} → l ≡ k → Forest g l m → Forest g k m
 Forest-from {g} {m = m} e f = subst (λ x. Forest g x m) e f
 
@@ -26,6 +28,7 @@ pub leaves_only : (g : List Production) (l : List Symbol) → Forest g l l
 leaves_only g [] = empty
 leaves_only g (x ∷ l) = leaf x (leaves_only g l)
 
+-- forests beside one another
 pub Forest-append : {g : List Production} {a l m n : List Symbol} → Forest g a m → Forest g l n → Forest g (a ++ l) (m ++ n)
 Forest-append empty f = f
 Forest-append (leaf x e) f = leaf x (Forest-append e f)
@@ -39,6 +42,7 @@ pub record Split (g : List Production) (a l m : List Symbol) : Type 0 where
   pub left : Forest g a first
   pub right : Forest g l second
 
+-- it can be taken apart
 pub split : {g : List Production} (a : List Symbol) {l m : List Symbol} → Forest g (a ++ l) m → Split g a l m
 split [] {l} {m} f = record { first = []; second = m; joined = refl; left = empty; right = f }
 split (x ∷ a) (leaf y f) =
@@ -71,11 +75,13 @@ pub record DerivesParts (g : List Production) (l m n : List Symbol) : Type 0 whe
   pub left : Derives g l first
   pub right : Derives g m second
 
+-- it does fall into them
 pub Derives-parts : {g : List Production} (l m n : List Symbol) → Derives g (l ++ m) n → DerivesParts g l m n
 Derives-parts l m n d =
     let r = split l (derives_forest d) in
     record { first = r.first; second = r.second; joined = r.joined; left = forest_derives r.left; right = forest_derives r.right }
 
+-- and they can be joined
 pub Derives-join : {g : List Production} (l m n : List Symbol) → DerivesParts g l m n → Derives g (l ++ m) n
 Derives-join l m n r = Derives-to (sym r.joined) (Derives-append r.left r.right)
 
@@ -83,10 +89,12 @@ Derives-join l m n r = Derives-to (sym r.joined) (Derives-append r.left r.right)
 pub nullable-nil : {g : List Production} → IsNullable g []
 nullable-nil = as_it_is
 
+-- parts of the empty list are empty
 pub nil_parts : {A : Type 0} (xs ys : List A) → [] ≡ xs ++ ys → (xs ≡ []) × (ys ≡ [])
 nil_parts [] ys e = (refl, sym e)
 nil_parts (x ∷ xs) ys e = absurd (nil≢cons e)
 
+-- a list is nullable where its head and its tail are
 pub nullable-cons : {g : List Production} (x : Symbol) (s : List Symbol) → IsNullable g (x ∷ s) ↔ IsNullable g (x ∷ []) × IsNullable g s
 nullable-cons x s = (
   λ d. let r = Derives-parts (x ∷ []) s [] d in let e = nil_parts r.first r.second r.joined in (Derives-to e.0 r.left, Derives-to e.1 r.right),
@@ -97,9 +105,11 @@ nullable-cons x s = (
 pub forest-nil : {g : List Production} {m : List Symbol} → Forest g [] m → m ≡ []
 forest-nil empty = refl
 
+-- nothing is in FIRST of the empty list
 pub first-nil : {g : List Production} (t : TerminalString) → IsFirst g [] t → ⊥
 first-nil t h = cons≢nil (forest-nil (derives_forest h.1))
 
+-- FIRST of a list by its head and its tail
 pub first-cons : {g : List Production} (x : Symbol) (s : List Symbol) (t : TerminalString) → IsFirst g (x ∷ s) t ↔ (IsFirst g (x ∷ []) t ⊎ (IsNullable g (x ∷ []) × IsFirst g s t))
 first-cons {g} x s t = (
   λ h. let r = Derives-parts (x ∷ []) s (Terminal t ∷ h.0) h.1 in go h.0 r.first r.second r.joined r.left r.right,

@@ -11,6 +11,7 @@ use Rattle.lalrpop_base.proofs.theory.Instance.{S, x, P, g, states}
 abbrev pub tree : Tree
 tree = Node S (beside (Leaf x) no_trees)
 
+-- they are two
 pub two_nodes : nodes (beside tree no_trees) ≡ 2
 two_nodes = refl
 
@@ -30,6 +31,7 @@ at_two = parsed 1 behind (tree ∷ []) tree (omega arith) (further refl here) re
 pub at_one : HasOutcome states (x ∷ []) 1 Limit
 at_one = cut_off behind (further refl here) (λ e. subst IsEnding e tt)
 
+-- and with limit 0
 pub at_zero : HasOutcome states (x ∷ []) 0 Limit
 at_zero = cut_off (begin (x ∷ [])) here (λ e. subst IsGoing e tt)
 

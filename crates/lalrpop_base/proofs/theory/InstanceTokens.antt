@@ -19,7 +19,7 @@ use Rattle.lalrpop_base.proofs.theory.Canonical.{faithful_lr1}
 use Rattle.lalrpop_base.proofs.theory.Closures.{items_valid}
 use Rattle.lalrpop_base.proofs.theory.Lr0.{closed_lr0}
 use Rattle.lalrpop_base.proofs.theory.Lanes.{lane_tokens}
-use Rattle.lalrpop_base.proofs.theory.Collapsed.{faithful_lalr}
+use Rattle.lalrpop_base.proofs.theory.LalrStates.{faithful_lalr}
 use Rattle.lalrpop_base.proofs.theory.Instance.{S, x, P, g, is_x, at_eof, reduction, states, one_of, leads_is, closed, alone, reductions, no_nonterminal, faithful}
 
 -- both of two tests

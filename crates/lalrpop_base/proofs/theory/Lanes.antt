@@ -21,6 +21,7 @@ pub record Shifted (g : List Production) (start : NonterminalString) (u : List S
   pub valid : Valid g start u p dot
   pub behind : drop dot p.symbols ≡ x ∷ after
 
+-- each moved dot does
 pub unshift : {g : List Production} {start : NonterminalString} {w : List Symbol} {p : Production} {dot : ℕ} (u : List Symbol) (x : Symbol) → w ≡ u ++ x ∷ [] → Valid g start w p (suc dot) → Shifted g start u x p dot
 unshift {g} {start} {dot = dot} u x e (shifts {u = v} {p = p} y after h k) =
     let same = same_last v u e in
@@ -35,11 +36,14 @@ pub given_there : (g : List Production) (start : NonterminalString) (states : �
 given_there g start states {s} {p} {dot} h = (s, record { production = p; index = dot; traced = itself; gives = h })
 
 module _ (g : List Production) (start : NonterminalString) (states : ℕ → Contents) (lr0 : AreLr0 g start states) where
+
+  -- the state after a live prefix is right for it but for tokens
   pub items_at : (u : List Symbol) (n : ℕ) → IsLive g start u → state_after states u ≡ Some n → HasRightItems g start u (states n)
   items_at u n l e =
       let r = lr0.each u l in
       subst (λ k. HasRightItems g start u (states k)) (same_some (sym r.after ∙ e)) r.right
 
+  -- a prefix for which something is valid is live
   pub valid_live : {u : List Symbol} {p : Production} {dot : ℕ} → Valid g start u p dot → IsLive g start u
   valid_live {p = p} {dot = dot} v = inr (p, dot, v)
 

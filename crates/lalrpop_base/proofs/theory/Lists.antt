@@ -22,10 +22,12 @@ take_past zero (y ∷ xs) e = ap (λ z. z ∷ []) (head-eq_of_cons-eq e)
 take_past (suc n) [] e = absurd (nil≢cons e)
 take_past (suc n) (y ∷ xs) e = ap (λ zs. y ∷ zs) (take_past n xs e)
 
+-- nothing stands behind all symbols
 pub drop_all : {A : Type 0} (xs : List A) → drop (length xs) xs ≡ []
 drop_all [] = refl
 drop_all (x ∷ xs) = drop_all xs
 
+-- and all stand before
 pub take_all : {A : Type 0} (xs : List A) → take (length xs) xs ≡ xs
 take_all [] = refl
 take_all (x ∷ xs) = ap (λ ys. x ∷ ys) (take_all xs)
@@ -35,6 +37,7 @@ abbrev pub terminal_of : TerminalString → Symbol → TerminalString
 terminal_of t (Nonterminal a) = t
 terminal_of t (Terminal u) = u
 
+-- equal symbols show equal terminals
 pub same_terminal : {t u : TerminalString} → Terminal t ≡ Terminal u → t ≡ u
 same_terminal {t} e = ap (terminal_of t) e
 
@@ -42,6 +45,7 @@ abbrev pub nonterminal_of : NonterminalString → Symbol → NonterminalString
 nonterminal_of a (Nonterminal b) = b
 nonterminal_of a (Terminal u) = a
 
+-- and equal nonterminals
 pub same_nonterminal : {a b : NonterminalString} → Nonterminal a ≡ Nonterminal b → a ≡ b
 same_nonterminal {a} e = ap (nonterminal_of a) e
 
@@ -49,6 +53,7 @@ abbrev pub IsTerminal : Symbol → Type 0
 IsTerminal (Nonterminal a) = ⊥
 IsTerminal (Terminal t) = Unit {0}
 
+-- no symbol is both
 pub not_both : {a : NonterminalString} {t : TerminalString} → Nonterminal a ≡ Terminal t → ⊥
 not_both e = subst IsTerminal (sym e) tt
 
@@ -60,6 +65,7 @@ pub record TerminalParts (m n : List Symbol) (w : List TerminalString) : Type 0 
   pub left : m ≡ symbols_of first
   pub right : n ≡ symbols_of second
 
+-- they are
 pub terminal_parts : (m n : List Symbol) (w : List TerminalString) → m ++ n ≡ symbols_of w → TerminalParts m n w
 terminal_parts [] n w e = record { first = []; second = w; joined = refl; left = refl; right = e }
 terminal_parts (x ∷ m) n [] e = absurd (cons≢nil e)
@@ -73,6 +79,7 @@ terminal_parts (x ∷ m) n (t ∷ w) e =
       right = r.right;
     }
 
+-- the symbols of joined lists are joined
 pub symbols_of-append : (v w : List TerminalString) → symbols_of (v ++ w) ≡ symbols_of v ++ symbols_of w
 symbols_of-append [] w = refl
 symbols_of-append (t ∷ v) w = ap (λ l. Terminal t ∷ l) (symbols_of-append v w)
@@ -82,6 +89,7 @@ pub data Ended {A : Type 0} : List A → Type 0 where
   nothing : Ended []
   last : (l : List A) (x : A) → Ended (l ++ x ∷ [])
 
+-- each list is empty or ended
 pub ended : {A : Type 0} (l : List A) → Ended l
 ended [] = nothing
 ended {A} (x ∷ l) = go (ended l)
@@ -90,6 +98,7 @@ ended {A} (x ∷ l) = go (ended l)
     go nothing = last [] x
     go (last k y) = last (x ∷ k) y
 
+-- equal ended lists have equal beginnings and ends
 pub same_last : {A : Type 0} (xs ys : List A) {x y : A} → xs ++ x ∷ [] ≡ ys ++ y ∷ [] → (xs ≡ ys) × (x ≡ y)
 same_last [] [] e = (refl, head-eq_of_cons-eq e)
 same_last [] (z ∷ []) e = absurd (nil≢cons (tail-eq_of_cons-eq e))
@@ -100,11 +109,13 @@ same_last (z ∷ xs) (w ∷ ys) e =
     let r = same_last xs ys (tail-eq_of_cons-eq e) in
     (ap₂ (λ a l. a ∷ l) (head-eq_of_cons-eq e) r.0, r.1)
 
+-- an ended list is not empty
 pub nil≢more : {A : Type 0} (v l : List A) (x : A) → [] ≡ v ++ (l ++ x ∷ []) → ⊥
 nil≢more [] [] x e = nil≢cons e
 nil≢more [] (y ∷ l) x e = nil≢cons e
 nil≢more (y ∷ v) l x e = nil≢cons e
 
+-- one element more is one more in length
 pub length-more : {A : Type 0} (l : List A) (x : A) → length (l ++ x ∷ []) ≡ suc (length l)
 length-more [] x = refl
 length-more (y ∷ l) x = ap suc (length-more l x)
@@ -114,6 +125,7 @@ pub data Place (m n : List Symbol) (v : List TerminalString) (t : TerminalString
   inside : (k : List Symbol) → m ≡ symbols_of v ++ Terminal t ∷ k → Place m n v t after
   behind : (first second : List TerminalString) → v ≡ first ++ second → m ≡ symbols_of first → n ≡ symbols_of second ++ Terminal t ∷ after → Place m n v t after
 
+-- it stands in one of the two places
 pub place : (m n : List Symbol) (v : List TerminalString) (t : TerminalString) (after : List Symbol) → m ++ n ≡ symbols_of v ++ Terminal t ∷ after → Place m n v t after
 place [] n v t after e = behind [] v refl refl e
 place (x ∷ m) n [] t after e = inside m (ap (λ y. y ∷ m) (head-eq_of_cons-eq e))
@@ -128,10 +140,12 @@ pub data Grown {A : Type 0} : List A → Type 0 where
   from_nothing : Grown []
   more : {l : List A} (x : A) → Grown l → Grown (l ++ x ∷ [])
 
+-- also where a head is put before it
 pub grown-cons : {A : Type 0} (x : A) {l : List A} → Grown l → Grown (x ∷ l)
 grown-cons x from_nothing = more x from_nothing
 grown-cons x (more y k) = more y (grown-cons x k)
 
+-- each list is grown so
 pub grown : {A : Type 0} (l : List A) → Grown l
 grown [] = from_nothing
 grown (x ∷ l) = grown-cons x (grown l)

@@ -34,6 +34,7 @@ module _ (g : List Production) (start : NonterminalString) (states : ℕ → Con
     at_first : n ≡ 0 → IsEntered n
     as_target : (m : ℕ) (x : Symbol) → leads (states m) x ≡ Some n → IsEntered n
 
+  -- each is entered in one of these ways
   pub entered : (u : List Symbol) (n : ℕ) → state_after states u ≡ Some n → IsEntered n
   entered u n at = go (grown u) at
     where

@@ -47,6 +47,7 @@ abbrev pub token_terminal : TerminalString → Token → TerminalString
 token_terminal t (TokenOf u) = u
 token_terminal t _ = t
 
+-- each move came of one of these
 pub did : (states : ℕ → Contents) (c : Configuration) → Did states c (move states c)
 did states c = at_rest c.rest refl
   where
@@ -80,6 +81,7 @@ module _ (g : List Production) (start : NonterminalString) (states : ℕ → Con
     pub popped : Popped g states prefix p.symbols c.state c.below c.trees
     pub move_is : received states p (drop (length p.symbols) (c.state ∷ c.below)) (reduced p c.trees) c.rest ≡ goes_on ((states popped.state).goto p.nonterminal) popped.state popped.under (Node p.nonterminal popped.taken ∷ popped.kept) c.rest
 
+  -- each reduction finds them
   pub found : (w : List TerminalString) (c : Configuration) (p : Production) → Tracks g states w c → reduction_on (states c.state).reductions (next_token c.rest) ≡ Some p → Found c p
   found w c p tr e =
       let h = reduction_holds (states c.state).reductions (next_token c.rest) p e in
@@ -125,10 +127,12 @@ module _ (g : List Production) (start : NonterminalString) (states : ℕ → Con
           after_reduction p f ((states f.popped.state).goto p.nonterminal) refl (sym f.move_is ∙ x)
       go _ (stood h k) x = absurd (subst IsGoing (sym x) tt)
 
+  -- so does a run
   pub run_tracks : (w : List TerminalString) {n : ℕ} {c d : Configuration} → Reaches states n c d → Tracks g states w c → Tracks g states w d
   run_tracks w here tr = tr
   run_tracks w (further {c = c} {d} e r) tr = run_tracks w r (step_tracks w c d tr e)
 
+  -- and where a run begins, it holds
   pub begin_tracks : (w : List TerminalString) → Tracks g states w (begin w)
   begin_tracks w = record { prefix = []; stack = bottom; input = refl }
 
@@ -140,6 +144,7 @@ module _ (g : List Production) (start : NonterminalString) (states : ℕ → Con
     pub of_grammar : AreOfGrammar g (beside tree no_trees)
     pub input : leaves (beside tree no_trees) ++ c.rest ≡ w
 
+  -- each final step does
   pub ends_last : (w : List TerminalString) (c : Configuration) (trees : List Tree) → Tracks g states w c → move states c ≡ Ends trees → IsLast w c trees
   ends_last w c trees tr e = go (move states c) (did states c) e
     where

@@ -27,6 +27,7 @@ with_reductions rs = with_state (record { items = (P, 1) ∷ []; shift = λ t. N
 x_live : IsLive g S (Terminal x ∷ [])
 x_live = inr (P, 1, shifts (Terminal x) [] (starts P (contains_head P []) refl) refl)
 
+-- behind it the production can be reduced by on Eof
 x_ends : ValidToken g S (Terminal x ∷ []) P 1 Eof
 x_ends = kept (Terminal x) [] (at_start P (contains_head P []) refl) refl
 

@@ -20,19 +20,23 @@ abbrev pub add_last : Trees → Tree → Trees
 add_last no_trees t = beside t no_trees
 add_last (beside u ts) t = beside u (add_last ts t)
 
+-- on the stack the last tree comes on top
 pub onto-add_last : (ts : Trees) (t : Tree) (trees : List Tree) → onto (add_last ts t) trees ≡ t ∷ onto ts trees
 onto-add_last no_trees t trees = refl
 onto-add_last (beside u ts) t trees = onto-add_last ts t (u ∷ trees)
 
+-- its root comes last
 pub roots-add_last : (ts : Trees) (t : Tree) → roots (add_last ts t) ≡ roots ts ++ root t ∷ []
 roots-add_last no_trees t = refl
 roots-add_last (beside u ts) t = ap (λ l. root u ∷ l) (roots-add_last ts t)
 
+-- and so do its leaves
 pub leaves-add_last : (ts : Trees) (t : Tree) → leaves (add_last ts t) ≡ leaves ts ++ leaves (beside t no_trees)
 leaves-add_last no_trees t = refl
 leaves-add_last (beside (Leaf x) ts) t = ap (λ l. x ∷ l) (leaves-add_last ts t)
 leaves-add_last (beside (Node a children) ts) t = ap (λ l. leaves children ++ l) (leaves-add_last ts t) ∙ sym (append_assoc (leaves children) (leaves ts) (leaves (beside t no_trees)))
 
+-- trees of the grammar stay so
 pub of_grammar-add_last : (g : List Production) (ts : Trees) (t : Tree) → AreOfGrammar g ts → AreOfGrammar g (beside t no_trees) → AreOfGrammar g (add_last ts t)
 of_grammar-add_last g no_trees t h k = k
 of_grammar-add_last g (beside (Leaf x) ts) t h k = of_grammar-add_last g ts t h k
@@ -48,6 +52,7 @@ pub data Stacked (g : List Production) (states : ℕ → Contents) : List Symbol
   bottom : Stacked g states [] 0 [] []
   above : {u : List Symbol} {s : ℕ} {below : List ℕ} {trees : List Tree} (t : Tree) (n : ℕ) → Stacked g states u s below trees → leads (states s) (root t) ≡ Some n → AreOfGrammar g (beside t no_trees) → Stacked g states (u ++ root t ∷ []) n (s ∷ below) (t ∷ trees)
 
+-- the top state is the one after the prefix
 pub stacked_after : {g : List Production} {states : ℕ → Contents} {u : List Symbol} {s : ℕ} {below : List ℕ} {trees : List Tree} → Stacked g states u s below trees → state_after states u ≡ Some s
 stacked_after bottom = refl
 stacked_after {states = states} (above {u} t n st h of) = state_from-more states 0 u (root t) (stacked_after st) h
@@ -58,6 +63,7 @@ stacked_derives bottom = as_it_is
 stacked_derives (above {trees = trees} t n st h of) =
     Derives-to (sym (symbols_of-append (spelled trees) (leaves (beside t no_trees)))) (Derives-append (stacked_derives st) (roots_derive (beside t no_trees) of))
 
+-- for the empty prefix there are no trees
 pub stacked_empty : {g : List Production} {states : ℕ → Contents} {u : List Symbol} {s : ℕ} {below : List ℕ} {trees : List Tree} → Stacked g states u s below trees → u ≡ [] → trees ≡ []
 stacked_empty bottom e = refl
 stacked_empty (above {u} t n st h of) e = absurd (nil≢more [] u (root t) (sym e))
@@ -75,6 +81,7 @@ pub record Popped (g : List Production) (states : ℕ → Contents) (v l : List 
   pub of_grammar : AreOfGrammar g taken
   pub spells : spelled trees ≡ spelled kept ++ leaves taken
 
+-- by cases on the symbols taken off
 pub pop_ended : {g : List Production} {states : ℕ → Contents} {u : List Symbol} {s : ℕ} {below : List ℕ} {trees : List Tree} → Stacked g states u s below trees → (v l : List Symbol) → Ended l → u ≡ v ++ l → Popped g states v l s below trees
 pop_ended {g} {states} {s = s} {below} {trees} st v l nothing e =
     record {
@@ -106,6 +113,7 @@ pop_ended {g} (above {u} {s} {below} {trees} t n st h of) v l (last l' x) e =
       spells = ap (λ w. w ++ leaves (beside t no_trees)) r.spells ∙ append_assoc (spelled r.kept) (leaves r.taken) (leaves (beside t no_trees)) ∙ ap (λ w. spelled r.kept ++ w) (sym (leaves-add_last r.taken t));
     }
 
+-- a stack for a joined prefix has trees for its last part
 pub pop : {g : List Production} {states : ℕ → Contents} {u : List Symbol} {s : ℕ} {below : List ℕ} {trees : List Tree} → Stacked g states u s below trees → (v l : List Symbol) → u ≡ v ++ l → Popped g states v l s below trees
 pop st v l e = pop_ended st v l (ended l) e
 

@@ -27,6 +27,7 @@ pub Reaches-append : {states : ℕ → Contents} {n m : ℕ} {c d e : Configurat
 Reaches-append {states} {m = m} {e = e} (here {c}) s = subst (λ k. Reaches states k c e) (omega arith) s
 Reaches-append {states} {m = m} {e = e} (further {n} {c} h r) s = subst (λ k. Reaches states k c e) (omega arith) (further h (Reaches-append r s))
 
+-- from an equal configuration in as many steps
 pub Reaches-from : {states : ℕ → Contents} (n m : ℕ) (c d e : Configuration) → n ≡ m → c ≡ d → Reaches states n c e → Reaches states m d e
 Reaches-from {states} n m c d e h k r = subst (λ i. Reaches states i d e) h (subst (λ i. Reaches states n i e) k r)
 
@@ -54,6 +55,7 @@ abbrev pub list_of : Trees → List Tree
 list_of no_trees = []
 list_of (beside t ts) = t ∷ list_of ts
 
+-- they are as they were
 pub trees-list : (ts : Trees) → trees_of (list_of ts) ≡ ts
 trees-list no_trees = refl
 trees-list (beside t ts) = ap (λ us. beside t us) (trees-list ts)
@@ -62,10 +64,12 @@ abbrev pub onto : Trees → List Tree → List Tree
 onto no_trees trees = trees
 onto (beside t ts) trees = onto ts (t ∷ trees)
 
+-- they stand there in reverse
 pub onto_is : (ts : Trees) (trees : List Tree) → onto ts trees ≡ reverse_aux (list_of ts) trees
 onto_is no_trees trees = refl
 onto_is (beside t ts) trees = onto_is ts (t ∷ trees)
 
+-- there are as many roots as trees
 pub length-roots : (ts : Trees) → length (roots ts) ≡ length (list_of ts)
 length-roots no_trees = refl
 length-roots (beside t ts) = ap suc (length-roots ts)
@@ -104,9 +108,11 @@ ending_with trees Stands = trees
 ending_with trees (Goes d) = trees
 ending_with trees (Ends us) = us
 
+-- equal steps lead to equal configurations
 pub same_goes : {c d : Configuration} → Goes c ≡ Goes d → c ≡ d
 same_goes {c} e = ap (going_to c) e
 
+-- equal final steps leave equal trees
 pub same_ends : {ts us : List Tree} → Ends ts ≡ Ends us → ts ≡ us
 same_ends {ts} e = ap (ending_with ts) e
 
@@ -114,12 +120,15 @@ same_ends {ts} e = ap (ending_with ts) e
 abbrev pub Halts : (ℕ → Contents) → Configuration → Type 0
 Halts states c = IsGoing (move states c) → ⊥
 
+-- behind a final step none leads on
 pub ends_halts : (states : ℕ → Contents) (c : Configuration) {trees : List Tree} → move states c ≡ Ends trees → Halts states c
 ends_halts states c e h = subst IsGoing e h
 
+-- and where there is no step
 pub stands_halts : (states : ℕ → Contents) (c : Configuration) → move states c ≡ Stands → Halts states c
 stands_halts states c e h = subst IsGoing e h
 
+-- a step leads on
 pub goes_on_from : (states : ℕ → Contents) (c d : Configuration) → move states c ≡ Goes d → Halts states c → ⊥
 goes_on_from states c d e h = h (subst IsGoing (sym e) tt)
 
@@ -154,6 +163,7 @@ pub data LastStep (states : ℕ → Contents) (n : ℕ) (b c : Configuration) : 
   no_step : b ≡ c → LastStep states n b c
   step_from : (m : ℕ) (d : Configuration) → Reaches states m b d → move states d ≡ Goes c → LastStep states n b c
 
+-- each run came in one of these ways
 pub last_step : {states : ℕ → Contents} {n : ℕ} {b c : Configuration} → Reaches states n b c → LastStep states n b c
 last_step here = no_step refl
 last_step {states} (further {n} {c = b} {d} {e = c} e r) = go (last_step r)

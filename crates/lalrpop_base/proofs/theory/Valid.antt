@@ -28,6 +28,7 @@ of_grammar (expands q after v e h) = h
 pub Valid-at : {g : List Production} {start : NonterminalString} {u v : List Symbol} {p : Production} {dot : ℕ} → u ≡ v → Valid g start u p dot → Valid g start v p dot
 Valid-at {g} {start} {p = p} {dot = dot} e h = subst (λ u. Valid g start u p dot) e h
 
+-- also with its tokens
 pub ValidToken-at : {g : List Production} {start : NonterminalString} {u v : List Symbol} {p : Production} {dot : ℕ} {t : Token} → u ≡ v → ValidToken g start u p dot t → ValidToken g start v p dot t
 ValidToken-at {g} {start} {p = p} {dot = dot} {t = t} e h = subst (λ u. ValidToken g start u p dot t) e h
 
@@ -37,6 +38,7 @@ pub record Unshifted (g : List Production) (start : NonterminalString) (u : List
   pub ends : u ≡ prefix ++ take dot p.symbols
   pub valid : Valid g start prefix p 0
 
+-- each can be taken back
 pub unshifted : {g : List Production} {start : NonterminalString} {u : List Symbol} {p : Production} {dot : ℕ} → Valid g start u p dot → Unshifted g start u p dot
 unshifted (starts p h e) = record { prefix = []; ends = refl; valid = starts p h e }
 unshifted (expands {u} q after v e h) = record { prefix = u; ends = sym (append-nil u); valid = expands q after v e h }
@@ -54,6 +56,7 @@ pub record UnshiftedToken (g : List Production) (start : NonterminalString) (u :
   pub ends : u ≡ prefix ++ take dot p.symbols
   pub valid : ValidToken g start prefix p 0 t
 
+-- and so can each with its token
 pub unshifted_token : {g : List Production} {start : NonterminalString} {u : List Symbol} {p : Production} {dot : ℕ} {t : Token} → ValidToken g start u p dot t → UnshiftedToken g start u p dot t
 unshifted_token (at_start p h e) = record { prefix = []; ends = refl; valid = at_start p h e }
 unshifted_token (begins_behind {u} q after v e h f) = record { prefix = u; ends = sym (append-nil u); valid = begins_behind q after v e h f }

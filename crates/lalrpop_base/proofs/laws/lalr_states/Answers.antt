@@ -1,5 +1,13 @@
-use Rattle.lalrpop_base.proofs.theory.Collapsed.{lalr_faithful, faithful_lalr}
+use Rattle.std.proofs.Common.{◌≡◌, true}
+use Rattle.lalrpop_base.proofs.theory.LalrStates.{lalr_faithful, faithful_lalr}
+use Rattle.lalrpop_base.proofs.theory.Collapse.{collapsed_lr0, collapsed_tokens}
 use Rattle.lalrpop_base.proofs.laws.lalr_states.Goals as goal
 
-pub returns : goal.returns
-returns c g start states lr0 holds = (faithful_lalr g start states lr0 holds, lalr_faithful g start states lr0 holds)
+pub returns-clause-faithful : goal.returns-clause-faithful
+returns-clause-faithful c g start states lr0 holds = (faithful_lalr g start states lr0 holds, lalr_faithful g start states lr0 holds)
+
+pub returns-clause-collapsed : goal.returns-clause-collapsed
+returns-clause-collapsed c g start before after tokens group canonical collapse = (
+  collapsed_lr0 g start before (λ n p dot t. tokens n p dot t ≡ true) canonical group after collapse,
+  collapsed_tokens g start before (λ n p dot t. tokens n p dot t ≡ true) canonical group after collapse,
+)
