@@ -6,6 +6,7 @@ pub mod Canonical
 pub mod Closures
 pub mod Collapse
 pub mod Conflicts
+pub mod Copies
 pub mod Derivations
 pub mod FirstSets
 pub mod Forests

@@ -1,5 +1,5 @@
 -- States merged where they have the same dotted productions: the LALR tables that Aho, Sethi and Ullman, section 4.7, make of canonical states.
-use Rattle.std.specs.Prelude.{◌≡◌, true, ◌↔◌, ℕ, List, Contains, Some}
+use Rattle.std.specs.Prelude.{◌≡◌, true, ◌↔◌, ℕ, Contains, Some}
 use Rattle.lalrpop_base.specs.declared.repr.Production.{Production}
 use Rattle.lalrpop_base.specs.declared.repr.Symbol.{Symbol}
 use Rattle.lalrpop_base.specs.declared.lookahead.token.Token.{Token}

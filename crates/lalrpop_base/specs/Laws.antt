@@ -18,6 +18,7 @@ use Rattle.lalrpop_base.specs.Renumbering.{IsRenumbering}
 use Rattle.lalrpop_base.specs.FirstSets.{NullableBy, FirstBy, AreFirstSets}
 use Rattle.lalrpop_base.specs.Augmented.{IsAugmented}
 use Rattle.lalrpop_base.specs.Closures.{AreClosed, IsReached, AreChecked, AreCanonical, KernelsDiffer, TokenKernelsDiffer}
+use Rattle.lalrpop_base.specs.Copies.{IsCopying}
 
 -- FIRST of a list is FIRST of its first symbol and, where that is nullable, of the rest
 abbrev pub FirstByCases : Type 0
@@ -67,6 +68,10 @@ ShiftsBegin = (g : List Production) (start : NonterminalString) (states : ℕ �
 abbrev pub BeginningsAreShifted : Type 0
 BeginningsAreShifted = (g : List Production) (start : NonterminalString) (states : ℕ → Contents) → AreFaithful g start states → (v : List TerminalString) (t : TerminalString) (rest : List TerminalString) → IsBeginning g start (v ++ t ∷ []) → (n : ℕ) × (c : Configuration) × (m : ℕ) × Reaches states n (begin (v ++ t ∷ rest)) c × (c.rest ≡ t ∷ rest) × ((states c.state).shift t ≡ Some m)
 
+-- a grammar with faithful states is LR(1)
+abbrev pub FaithfulAreLr1 : Type 0
+FaithfulAreLr1 = (g : List Production) (start : NonterminalString) (states : ℕ → Contents) → AreFaithful g start states → IsLR1 g start
+
 -- the states that are reached are those after live prefixes
 abbrev pub ReachedAreLive : Type 0
 ReachedAreLive = (g : List Production) (start : NonterminalString) (states : ℕ → Contents) → AreClosed g start states → (n : ℕ) → IsReached states n ↔ ((u : List Symbol) × IsLive g start u × (state_after states u ≡ Some n))
@@ -78,6 +83,10 @@ ClosedHaveRightItems = (g : List Production) (start : NonterminalString) (states
 -- and where each is reached that has an edge, and kernels do not repeat, they are LR(0) states
 abbrev pub ClosedAreLr0 : Type 0
 ClosedAreLr0 = (g : List Production) (start : NonterminalString) (states : ℕ → Contents) → AreClosed g start states → ((n : ℕ) → ReducesFinished (states n)) → KernelsDiffer states → ((n m : ℕ) (x : Symbol) → leads (states n) x ≡ Some m → IsReached states n) → AreLr0 g start states
+
+-- copies of closed states are closed
+abbrev pub CopiesAreClosed : Type 0
+CopiesAreClosed = (g : List Production) (start : NonterminalString) (original : ℕ → ℕ) (states copies : ℕ → Contents) → IsCopying original states copies → AreClosed g start states → AreClosed g start copies
 
 -- tracing backwards over LR(0) states finds exactly the LALR tokens
 abbrev pub LaneTokensAreLalr : Type 0
@@ -91,6 +100,10 @@ LanesAreFaithful = (g : List Production) (start : NonterminalString) (states : �
 abbrev pub LanesAreChecked : Type 0
 LanesAreChecked = (g : List Production) (start : NonterminalString) (states : ℕ → Contents) → AreClosed g start states → AreLr0 g start states → ((n : ℕ) → ReducesFinished (states n)) → ((n : ℕ) (r : Reduction) → Contains (states n).reductions r → IsReached states n) → IsOnNoRightSide g start → IsLALR1 g start → HoldLaneTokens g start states → AreChecked g start states
 
+-- no state after a live prefix has a conflict
+abbrev pub HaveNoConflict : List Production → NonterminalString → (ℕ → Contents) → Type 0
+HaveNoConflict g start states = (u : List Symbol) (n : ℕ) → IsLive g start u → state_after states u ≡ Some n → HasNoConflict (states n)
+
 -- where LR(0) states hold their LALR tokens, they are faithful exactly where the grammar is LALR(1)
 abbrev pub LalrAreFaithful : Type 0
 LalrAreFaithful = (g : List Production) (start : NonterminalString) (states : ℕ → Contents) → AreLr0 g start states → HoldLalrTokens g start states → AreFaithful g start states ↔ IsLALR1 g start
@@ -98,6 +111,10 @@ LalrAreFaithful = (g : List Production) (start : NonterminalString) (states : �
 -- canonical states, with the tokens that they hold
 abbrev pub AreCanonicalWith : List Production → NonterminalString → (ℕ → Contents) → (ℕ → Production → ℕ → Token → Bool) → Type 0
 AreCanonicalWith g start states tokens = AreCanonical g start states (λ n p dot t. tokens n p dot t ≡ true)
+
+-- and the state after a live prefix has no conflict exactly where the grammar is LALR(1)
+abbrev pub LalrStatesHaveNoConflict : Type 0
+LalrStatesHaveNoConflict = (g : List Production) (start : NonterminalString) (states : ℕ → Contents) → AreLr0 g start states → HoldLalrTokens g start states → HaveNoConflict g start states ↔ IsLALR1 g start
 
 -- canonical states that are merged where they have the same dotted productions are LR(0) states that hold their LALR tokens
 abbrev pub CollapsedHoldLalrTokens : Type 0
@@ -114,6 +131,10 @@ CanonicalTokensAreValid = (g : List Production) (start : NonterminalString) (sta
 -- and are faithful exactly where the grammar is LR(1)
 abbrev pub CanonicalAreFaithful : Type 0
 CanonicalAreFaithful = (g : List Production) (start : NonterminalString) (states : ℕ → Contents) (tokens : ℕ → Production → ℕ → Token → Bool) → AreCanonicalWith g start states tokens → AreFaithful g start states ↔ IsLR1 g start
+
+-- the state after a live prefix has no conflict exactly there too
+abbrev pub CanonicalStatesHaveNoConflict : Type 0
+CanonicalStatesHaveNoConflict = (g : List Production) (start : NonterminalString) (states : ℕ → Contents) (tokens : ℕ → Production → ℕ → Token → Bool) → AreCanonicalWith g start states tokens → HaveNoConflict g start states ↔ IsLR1 g start
 
 -- where their kernels do not repeat, two prefixes lead to one state exactly where they have the same valid dotted productions with the same valid tokens
 abbrev pub CanonicalStatesAreOne : Type 0

@@ -1,9 +1,10 @@
 pub mod Augmented
 pub mod Bits
 pub mod Closures
-pub mod Collapse
 pub mod Coherent
+pub mod Collapse
 pub mod Conflicts
+pub mod Copies
 pub mod Each
 pub mod Exact
 pub mod First

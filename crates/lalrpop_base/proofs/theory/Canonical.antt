@@ -1,5 +1,5 @@
 -- Canonical states hold exactly the valid tokens, so that they are faithful exactly where the grammar is LR(1); and a valid token is one with which what was read can go on: by induction on the prefix and on what is valid.
-use Rattle.std.proofs.Common.{◌↔◌, inr, Some, ◌≡◌, ℕ, suc, List, [], ◌∷◌, ◌++◌, drop, length, append_assoc, append-nil, sym, subst, refl, ap, ◌∙◌}
+use Rattle.std.proofs.Common.{◌↔◌, Some, ◌≡◌, ℕ, suc, List, [], ◌∷◌, ◌++◌, drop, length, append_assoc, append-nil, sym, subst, refl, ap, ◌∙◌}
 use Rattle.lalrpop_base.specs.declared.repr.Production.{Production}
 use Rattle.lalrpop_base.specs.declared.repr.NonterminalString.{NonterminalString}
 use Rattle.lalrpop_base.specs.declared.repr.Symbol.{Symbol}
@@ -8,14 +8,15 @@ use Rattle.lalrpop_base.specs.declared.repr.TerminalString.{TerminalString}
 use Rattle.lalrpop_base.specs.declared.lookahead.token.Token.{Token}
 use Rattle.lalrpop_base.specs.declared.lookahead.token.Token.TheVariants.{Eof, Terminal as TokenOf}
 use Rattle.lalrpop_base.specs.Grammar.{Derives, replace}
-use Rattle.lalrpop_base.specs.Validity.{IsLive, IsLR1, Action, Shift, Reduce, IsValidAction, Valid, ValidToken, at_start, kept, begins_behind, passed_on}
+use Rattle.lalrpop_base.specs.Validity.{IsLR1, Action, Shift, Reduce, IsValidAction, Valid, ValidToken, at_start, kept, begins_behind, passed_on, IsLive}
 use Rattle.lalrpop_base.specs.States.{Contents, state_after, Allows, HasRightItems, AreFaithful}
 use Rattle.lalrpop_base.specs.Closures.{InTokenClosure, with_token, begins_rest, inherits, IsAtStartWith, IsMovedWith, items_of, AreCanonical}
 use Rattle.lalrpop_base.proofs.theory.Lists.{drop_past, Grown, from_nothing, more, grown, same_some}
 use Rattle.lalrpop_base.proofs.theory.Closures.{state_from-last, items_valid, right_items, live_state}
-use Rattle.lalrpop_base.proofs.theory.RightStates.{edges_awaited, reductions_valid, action_stands}
+use Rattle.lalrpop_base.proofs.theory.RightStates.{edges_awaited, reductions_valid, action_stands, no_conflict_one, one_no_conflict}
 use Rattle.lalrpop_base.proofs.theory.Derivations.{Derives-from, Derives-to, Derives-trans, Derives-left, Derives-right, Derives-production}
 use Rattle.lalrpop_base.proofs.theory.Valid.{extends, valid, action_live}
+use Rattle.lalrpop_base.specs.Conflicts.{HasNoConflict}
 
 -- a list that begins with a token: with its terminal, or, for Eof, the empty one
 pub data BeginsWith : Token → List Symbol → Type 0 where
@@ -127,8 +128,20 @@ module _ (g : List Production) (start : NonterminalString) (states : ℕ → Con
         };
       }
 
-  -- and only there
-  pub faithful_lr1 : AreFaithful g start states → IsLR1 g start
-  faithful_lr1 f u t a b v w =
-      let s = f u (action_live t a v) in
-      s.right.one t (action_stands g start u t a v) a b ((allows_valid u s.number s.after t a).1 v) ((allows_valid u s.number s.after t b).1 w)
+  -- without a conflict in the state after a live prefix they are faithful
+  pub no_conflict_faithful : ((u : List Symbol) (n : ℕ) → IsLive g start u → state_after states u ≡ Some n → HasNoConflict (states n)) → AreFaithful g start states
+  no_conflict_faithful none u live =
+      let s = live_state g start states canonical.closed u live in
+      record {
+        number = s.0;
+        after = s.1;
+        right = record {
+          contents = right_at u s.0 s.1;
+          every = λ t a v. (allows_valid u s.0 s.1 t a).1 v;
+          one = λ t stands a b h k. no_conflict_one (states s.0) (none u s.0 live s.1) t a b h k;
+        };
+      }
+
+  -- and where the grammar is LR(1) there is none
+  pub lr1_no_state_conflict : IsLR1 g start → (u : List Symbol) (n : ℕ) → IsLive g start u → state_after states u ≡ Some n → HasNoConflict (states n)
+  lr1_no_state_conflict lr u n live at = one_no_conflict (states n) (canonical.reductions n).once (λ t a b h k. lr u t a b ((allows_valid u n at t a).0 h) ((allows_valid u n at t b).0 k))

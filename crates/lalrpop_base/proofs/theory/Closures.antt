@@ -6,7 +6,7 @@ use Rattle.lalrpop_base.specs.declared.repr.NonterminalString.{NonterminalString
 use Rattle.lalrpop_base.specs.declared.repr.Symbol.{Symbol}
 use Rattle.lalrpop_base.specs.declared.repr.Symbol.TheVariants.{Nonterminal, Terminal}
 use Rattle.lalrpop_base.specs.declared.lookahead.token.Token.{Token}
-use Rattle.lalrpop_base.specs.Validity.{Valid, starts, shifts, expands, ValidToken, at_start, kept, begins_behind, passed_on, IsLive, IsAwaited, Action, Shift, Reduce, IsValidAction}
+use Rattle.lalrpop_base.specs.Validity.{Valid, starts, shifts, expands, ValidToken, at_start, kept, begins_behind, passed_on, IsLive, Action, Shift, Reduce, IsValidAction}
 use Rattle.lalrpop_base.specs.States.{Contents, leads, onward, state_from, state_after, Allows, ReducesFinished, HasRightItems, HaveRightItems, AreFaithful}
 use Rattle.lalrpop_base.specs.Closures.{InClosure, in_kernel, expanded, IsAtStart, IsMoved, AreClosed, IsReached, at_zero, over_edge, IsCarried, eof_at_start, over, first_of_rest, through_rest, items_of, AreChecked}
 use Rattle.lalrpop_base.proofs.theory.Lists.{Grown, from_nothing, more, grown, same_some, some≢none}

@@ -1,12 +1,11 @@
 -- Canonical states merged where they have the same dotted productions are LR(0) states that hold their LALR tokens: each is after the prefixes of those merged into it.
-use Rattle.std.proofs.Common.{◌≡◌, ◌↔◌, true, ℕ, suc, List, [], ◌∷◌, ◌++◌, length, sym, subst, refl, ap, ◌∙◌, Some}
-use Rattle.std.specs.Prelude.{Contains}
+use Rattle.std.proofs.Common.{◌≡◌, ℕ, List, length, sym, subst, ap, ◌∙◌, Some}
 use Rattle.lalrpop_base.specs.declared.repr.NonterminalString.{NonterminalString}
 use Rattle.lalrpop_base.specs.declared.repr.Production.{Production}
 use Rattle.lalrpop_base.specs.declared.repr.Symbol.{Symbol}
 use Rattle.lalrpop_base.specs.declared.lookahead.token.Token.{Token}
-use Rattle.lalrpop_base.specs.Validity.{Valid, ValidToken, IsLive, HaveSameItems, IsLalrToken}
-use Rattle.lalrpop_base.specs.States.{Contents, Reduction, leads, state_after, IsBehindDot, LeadsOverDots, HasRightItems}
+use Rattle.lalrpop_base.specs.Validity.{HaveSameItems, IsLalrToken}
+use Rattle.lalrpop_base.specs.States.{Contents, state_after, IsBehindDot, LeadsOverDots, HasRightItems}
 use Rattle.lalrpop_base.specs.Closures.{items_of, IsReached, AreCanonical}
 use Rattle.lalrpop_base.specs.Collapse.{HoldsInGroup, LeadsInGroup, IsCollapse}
 use Rattle.lalrpop_base.specs.Lanes.{AreLr0, HoldLalrTokens}

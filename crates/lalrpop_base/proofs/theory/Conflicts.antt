@@ -1,5 +1,5 @@
 -- A grammar is LR(1) exactly where no live prefix has a canonical conflict; a prefix has one list of them; and that is the list of the canonical state after it: from the orders of terminals and productions.
-use Rattle.std.proofs.Common.{◌≡◌, ◌↔◌, ◌⊎◌, ◌<◌, inl, inr, ℕ, Bool, true, false, List, [], sym, subst, refl, ap, ◌∙◌, length, Some}
+use Rattle.std.proofs.Common.{◌≡◌, ◌↔◌, inl, inr, ℕ, Bool, true, false, List, [], sym, subst, refl, ap, ◌∙◌, Some}
 use Rattle.std.specs.Prelude.{Contains, slice_get}
 use Rattle.std.specs.declared.cmp.Ordering.{Ordering}
 use Rattle.std.specs.declared.cmp.Ordering.TheVariants.{Less, Equal, Greater}
@@ -10,7 +10,7 @@ use Rattle.lalrpop_base.specs.declared.repr.Symbol.{Symbol}
 use Rattle.lalrpop_base.specs.declared.repr.TerminalString.{TerminalString}
 use Rattle.lalrpop_base.specs.declared.lookahead.token.Token.{Token}
 use Rattle.lalrpop_base.specs.declared.lookahead.token.Token.TheVariants.{Terminal as TokenOf}
-use Rattle.lalrpop_base.specs.Validity.{IsLive, Action, Shift, Reduce, IsValidAction, IsLR1}
+use Rattle.lalrpop_base.specs.Validity.{Action, Shift, Reduce, IsValidAction, IsLR1}
 use Rattle.lalrpop_base.specs.States.{Contents, Reduction, HasNoRepeat, state_after, Allows}
 use Rattle.lalrpop_base.specs.Closures.{AreCanonical}
 use Rattle.lalrpop_base.specs.Conflicts.{IsInConflict, ConflictContents, IsConflict, ActionPrecedes, AreConflicts, IsLess, IsOrder, StandsBefore, AreConflictsOf, AreCanonicalConflicts, ReducesInOrder, HasNoConflict, HasNoCanonicalConflict}

@@ -1,5 +1,5 @@
 -- The grammar S = "x" and its two states meet the definitions: they pass the check, so they are faithful: by cases on what is listed.
-use Rattle.std.proofs.Common.{◌≡◌, ◌↔◌, ◌⊎◌, ℕ, zero, suc, Bool, true, false, cond, true≢false, List, [], ◌∷◌, ◌++◌, drop, sym, subst, refl, ap, ◌∙◌, length, Option, Some, None, arith, inl, inr, ◌<◌}
+use Rattle.std.proofs.Common.{◌≡◌, ◌↔◌, ℕ, zero, suc, Bool, true, false, cond, List, [], ◌∷◌, drop, sym, subst, refl, ap, ◌∙◌, length, Option, Some, None, arith, inl, inr, ◌<◌}
 use Rattle.std.specs.Prelude.{Contains, slice_get, eqb}
 use Rattle.std.proofs.lemmas.Bool.{eqb-true}
 use mathlib.Core.List.{head-eq_of_cons-eq, nil≢cons}

@@ -1,5 +1,5 @@
 -- The runs of S = "x" on the list x: its tree at limit 2, and Limit at 1 and 0; and on the empty list a refusal: by computing the steps.
-use Rattle.std.proofs.Common.{◌≡◌, ℕ, List, [], ◌∷◌, subst, refl, arith}
+use Rattle.std.proofs.Common.{◌≡◌, [], ◌∷◌, subst, refl, arith}
 use Rattle.lalrpop_base.specs.declared.lookahead.token.Token.TheVariants.{Eof, Terminal}
 use Rattle.lalrpop_base.specs.Trees.{Tree, Leaf, Node, no_trees, beside, nodes, IsParseTree}
 use Rattle.lalrpop_base.specs.Runs.{Configuration, here, further, begin, HasOutcome, Parsed, Refused, Limit, parsed, stuck, cut_off}

@@ -1,21 +1,20 @@
 -- The states of S = "x" are canonical and LR(0) states that hold their lane tokens, so that the grammar is LR(1) and LALR(1): by cases on what is listed, and by the theory.
-use Rattle.std.proofs.Common.{◌≡◌, ◌↔◌, ℕ, zero, suc, Bool, true, false, cond, true≢false, List, [], ◌∷◌, ◌++◌, drop, sym, subst, refl, ap, ◌∙◌, length, Some, inl, inr}
+use Rattle.std.proofs.Common.{◌≡◌, ◌↔◌, ℕ, zero, suc, Bool, true, false, cond, true≢false, List, [], ◌∷◌, sym, subst, refl, ap, ◌∙◌, length, inr}
 use Rattle.std.specs.Prelude.{Contains, eqb}
 use Rattle.std.proofs.lemmas.Bool.{eqb-true}
-use Rattle.lalrpop_base.specs.declared.repr.NonterminalString.{NonterminalString}
 use Rattle.lalrpop_base.specs.declared.repr.Production.{Production}
 use Rattle.lalrpop_base.specs.declared.repr.Symbol.{Symbol}
 use Rattle.lalrpop_base.specs.declared.repr.Symbol.TheVariants.{Nonterminal, Terminal}
 use Rattle.lalrpop_base.specs.declared.repr.TerminalString.TheVariants.{Literal, Bare, Error}
 use Rattle.lalrpop_base.specs.declared.lookahead.token.Token.{Token}
 use Rattle.lalrpop_base.specs.declared.lookahead.token.Token.TheVariants.{Eof, Terminal as TokenOf, Error as ErrorToken}
-use Rattle.lalrpop_base.specs.Validity.{Valid, starts, shifts, expands, ValidToken, at_start, kept, begins_behind, passed_on, IsLive, IsLR1, IsLALR1, IsLalrToken}
-use Rattle.lalrpop_base.specs.States.{Contents, Reduction, leads, state_after}
+use Rattle.lalrpop_base.specs.Validity.{Valid, starts, shifts, expands, ValidToken, at_start, kept, begins_behind, passed_on, IsLR1, IsLALR1, IsLalrToken}
+use Rattle.lalrpop_base.specs.States.{Reduction}
 use Rattle.lalrpop_base.specs.Closures.{InTokenClosure, with_token, begins_rest, inherits, IsAtStartWith, IsMovedWith, items_of, IsReached, at_zero, AreCanonical, KernelsDiffer, TokenKernelsDiffer}
 use Rattle.lalrpop_base.specs.Lanes.{AreLr0, IsLaneToken, HoldLaneTokens, HoldLalrTokens}
 use Rattle.lalrpop_base.proofs.theory.Lists.{contains-nil, contains_head}
 use Rattle.lalrpop_base.proofs.theory.Valid.{of_grammar}
-use Rattle.lalrpop_base.proofs.theory.Canonical.{faithful_lr1}
+use Rattle.lalrpop_base.proofs.theory.RightStates.{faithful_lr1}
 use Rattle.lalrpop_base.proofs.theory.Closures.{items_valid}
 use Rattle.lalrpop_base.proofs.theory.Lr0.{closed_lr0}
 use Rattle.lalrpop_base.proofs.theory.Lanes.{lane_tokens}
@@ -150,9 +149,9 @@ canonical = record {
     holds (suc zero) r t h = subst (λ (q : Reduction). (q.holds t ≡ true) ↔ (tokens 1 q.production (length (q.production).symbols) t ≡ true)) (one_of reduction r h) (λ k. k, λ k. k)
     holds (suc (suc n)) r t h = absurd (contains-nil h)
 
--- so the grammar is LR(1)
+-- the grammar is LR(1)
 pub lr1 : IsLR1 g S
-lr1 = faithful_lr1 g S states (λ n p dot t. tokens n p dot t ≡ true) canonical faithful
+lr1 = faithful_lr1 g S states faithful
 
 -- there is one target, so kernels do not repeat
 pub kernels : KernelsDiffer states

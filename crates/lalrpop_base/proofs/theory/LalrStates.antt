@@ -1,6 +1,5 @@
 -- LR(0) states whose reductions hold their LALR tokens are faithful exactly where the grammar is LALR(1): from what such a state allows.
-use Rattle.std.proofs.Common.{◌≡◌, ◌↔◌, true, ℕ, List, sym, subst, ◌∙◌, length, Some}
-use Rattle.std.specs.Prelude.{Contains}
+use Rattle.std.proofs.Common.{◌≡◌, ◌↔◌, ℕ, List, sym, subst, ◌∙◌, length, Some}
 use Rattle.lalrpop_base.specs.declared.repr.NonterminalString.{NonterminalString}
 use Rattle.lalrpop_base.specs.declared.repr.Production.{Production}
 use Rattle.lalrpop_base.specs.declared.repr.Symbol.{Symbol}
@@ -10,8 +9,9 @@ use Rattle.lalrpop_base.specs.Validity.{IsLive, Action, Shift, Reduce, IsValidAc
 use Rattle.lalrpop_base.specs.States.{Contents, state_after, Allows, HasRightItems, CanStandNext, AreFaithful}
 use Rattle.lalrpop_base.specs.Lanes.{AreLr0, HoldLalrTokens}
 use Rattle.lalrpop_base.proofs.theory.Valid.{valid}
-use Rattle.lalrpop_base.proofs.theory.RightStates.{edges_awaited, reductions_valid, token_stands}
+use Rattle.lalrpop_base.proofs.theory.RightStates.{edges_awaited, reductions_valid, token_stands, no_conflict_one, one_no_conflict}
 use Rattle.lalrpop_base.proofs.theory.Lists.{same_some}
+use Rattle.lalrpop_base.specs.Conflicts.{HasNoConflict}
 
 module _ (g : List Production) (start : NonterminalString) (states : ℕ → Contents) (lr0 : AreLr0 g start states) where
   -- what a state then allows are exactly the LALR actions
@@ -58,3 +58,16 @@ module _ (g : List Production) (start : NonterminalString) (states : ℕ → Con
       (r.right).one t (lalr_stands u t a j) a b
       (subst (λ n. Allows (states n) t a) (sym e) ((allows_lalr holds u s.number live s.after s.right t a).1 j))
       (subst (λ n. Allows (states n) t b) (sym e) ((allows_lalr holds u s.number live s.after s.right t b).1 k))
+
+  -- without a conflict in the state after a live prefix the grammar is LALR(1)
+  pub no_conflict_lalr : HoldLalrTokens g start states → ((u : List Symbol) (n : ℕ) → IsLive g start u → state_after states u ≡ Some n → HasNoConflict (states n)) → IsLALR1 g start
+  no_conflict_lalr holds none u live t a b j k =
+      let s = lr0.each u live in
+      no_conflict_one (states s.number) (none u s.number live s.after) t a b ((allows_lalr holds u s.number live s.after s.right t a).1 j) ((allows_lalr holds u s.number live s.after s.right t b).1 k)
+
+  -- and where it is there is none
+  pub lalr_no_conflict : HoldLalrTokens g start states → IsLALR1 g start → (u : List Symbol) (n : ℕ) → IsLive g start u → state_after states u ≡ Some n → HasNoConflict (states n)
+  lalr_no_conflict holds lalr u n live at =
+      let s = lr0.each u live in
+      let right : HasRightItems g start u (states n) = subst (λ k. HasRightItems g start u (states k)) (same_some (sym s.after ∙ at)) s.right in
+      one_no_conflict (states n) (right.reductions).once (λ t a b h k. lalr u live t a b ((allows_lalr holds u n live at right t a).0 h) ((allows_lalr holds u n live at right t b).0 k))

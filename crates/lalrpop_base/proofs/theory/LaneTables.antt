@@ -1,6 +1,6 @@
 -- LR(0) states that are closed and hold their lane tokens pass the check of tables where the grammar is LALR(1): what is carried over edges is found by tracing back over them.
-use Rattle.std.proofs.Common.{◌≡◌, ◌<◌, true, ℕ, suc, List, [], ◌∷◌, drop, length, sym, subst, refl, ap, ◌∙◌, Some}
-use Rattle.std.specs.Prelude.{Contains, slice_get}
+use Rattle.std.proofs.Common.{◌≡◌, true, ℕ, suc, List, ◌∷◌, drop, length, subst, refl, ap, Some}
+use Rattle.std.specs.Prelude.{Contains}
 use Rattle.lalrpop_base.specs.declared.repr.NonterminalString.{NonterminalString}
 use Rattle.lalrpop_base.specs.declared.repr.Production.{Production}
 use Rattle.lalrpop_base.specs.declared.repr.Symbol.{Symbol}
@@ -9,13 +9,13 @@ use Rattle.lalrpop_base.specs.declared.repr.TerminalString.{TerminalString}
 use Rattle.lalrpop_base.specs.declared.lookahead.token.Token.{Token}
 use Rattle.lalrpop_base.specs.declared.lookahead.token.Token.TheVariants.{Terminal as TokenOf}
 use Rattle.lalrpop_base.specs.Grammar.{IsOnNoRightSide}
-use Rattle.lalrpop_base.specs.Validity.{IsLive, Action, Shift, Reduce, IsLALR1, IsLalrAction, IsLalrToken}
-use Rattle.lalrpop_base.specs.States.{Contents, Reduction, leads, state_after, ReducesFinished, HasRightItems, Allows}
+use Rattle.lalrpop_base.specs.Validity.{Action, Shift, Reduce, IsLALR1, IsLalrAction}
+use Rattle.lalrpop_base.specs.States.{Contents, Reduction, state_after, ReducesFinished, HasRightItems, Allows}
 use Rattle.lalrpop_base.specs.Conflicts.{HasNoConflict}
 use Rattle.lalrpop_base.specs.Closures.{in_kernel, items_of, AreClosed, IsReached, at_zero, over_edge, IsCarried, eof_at_start, over, first_of_rest, through_rest, AreChecked}
 use Rattle.lalrpop_base.specs.Lanes.{AreLr0, over_edge as back_over_edge, to_parent, behind_parent, of_start, IsLaneToken, HoldLaneTokens}
 use Rattle.lalrpop_base.proofs.theory.Lists.{grown, place_contains}
-use Rattle.lalrpop_base.proofs.theory.RightStates.{edges_awaited, reductions_valid}
+use Rattle.lalrpop_base.proofs.theory.RightStates.{edges_awaited, reductions_valid, one_no_conflict}
 use Rattle.lalrpop_base.proofs.theory.Closures.{holds_expanded, right_items, reached_live}
 use Rattle.lalrpop_base.proofs.theory.Lanes.{traced_back, given_there, lane_tokens}
 
@@ -56,37 +56,22 @@ module _ (g : List Production) (start : NonterminalString) (states : ℕ → Con
     no_conflict = none;
   }
     where
-      -- what a state allows by a reduction is an LALR action of its prefix
-      reduces : (n : ℕ) (r : Reduction) (t : Token) (u : List Symbol) → Contains (states n).reductions r → r.holds t ≡ true → state_after states u ≡ Some n → IsLalrAction g start u t (Reduce r.production)
-      reduces n r t u c h at =
+      -- what a state allows on a token is an LALR action of its prefix
+      allowed : (n : ℕ) (u : List Symbol) → state_after states u ≡ Some n → (t : Token) (a : Action) → Allows (states n) t a → IsLalrAction g start u t a
+      allowed n u at t (Shift x) h = (h.0, (edges_awaited (right_items g start states closed reductions u n at) (Terminal x)).0 h.1)
+      allowed n u at t (Reduce p) h =
           let right : HasRightItems g start u (states n) = right_items g start states closed reductions u n at in
-          (lane_tokens g start states lr0 alone u n r.production (length (r.production).symbols) t at ((reductions_valid right r.production).0 (r, c, refl))).0 ((holds n r c t).0 h)
+          let k : IsLaneToken g start states n p (length p.symbols) t = subst (λ (q : Production). IsLaneToken g start states n q (length q.symbols) t) h.2 ((holds n h.0 h.1 t).0 h.3) in
+          (lane_tokens g start states lr0 alone u n p (length p.symbols) t at ((reductions_valid right p).0 (h.0, h.1, h.2))).0 k
 
-      -- a shift and a reduction are two actions
-      not_both : (x : TerminalString) (p : Production) → Shift x ≡ Reduce p → ⊥
-      not_both x p e = subst IsShift e tt
-        where
-          IsShift : Action → Type 0
-          IsShift (Shift y) = Unit {0}
-          IsShift (Reduce q) = ⊥
-
-      -- reductions that are one action are by one production
-      same_production : (p q : Production) → Reduce p ≡ Reduce q → p ≡ q
-      same_production p q e = ap production_of e
-        where
-          production_of : Action → Production
-          production_of (Reduce k) = k
-          production_of (Shift y) = p
-
+      -- so a state without a reduction, and one with, has no conflict
       none : (n : ℕ) → HasNoConflict (states n)
       none n = record {
-        shifts = λ x m r e c h.
-            let v = reached_live g start states closed (reached n r c) in
-            let right : HasRightItems g start v.0 (states n) = right_items g start states closed reductions v.0 n v.2 in
-            not_both x r.production (lalr v.0 v.1 (TokenOf x) (Shift x) (Reduce r.production) (refl, (edges_awaited right (Terminal x)).0 (m, e)) (reduces n r (TokenOf x) v.0 c h v.2));
-        reductions = λ i j r q t l e f h k.
-            let c : Contains (states n).reductions r = place_contains (states n).reductions i r e in
-            let d : Contains (states n).reductions q = place_contains (states n).reductions j q f in
-            let v = reached_live g start states closed (reached n r c) in
-            (reductions n).once i j r q l e f (same_production r.production q.production (lalr v.0 v.1 t (Reduce r.production) (Reduce q.production) (reduces n r t v.0 c h v.2) (reduces n q t v.0 d k v.2)));
+        shifts = λ x m r e c h. (with_reduction n r c).shifts x m r e c h;
+        reductions = λ i j r q t l e f h k. (with_reduction n r (place_contains (states n).reductions i r e)).reductions i j r q t l e f h k;
       }
+        where
+          with_reduction : (n : ℕ) (r : Reduction) → Contains (states n).reductions r → HasNoConflict (states n)
+          with_reduction n r c =
+              let v = reached_live g start states closed (reached n r c) in
+              one_no_conflict (states n) (reductions n).once (λ t a b h k. lalr v.0 v.1 t a b (allowed n v.0 v.2 t a h) (allowed n v.0 v.2 t b k))

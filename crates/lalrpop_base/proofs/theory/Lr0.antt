@@ -1,14 +1,13 @@
 -- States built by closures whose kernels do not repeat are LR(0) states, since the dotted productions of a state give its kernel back: from what closures add, which are dots at the start alone.
-use Rattle.std.proofs.Common.{◌≡◌, ◌↔◌, ◌⊎◌, inl, inr, ℕ, zero, suc, List, [], ◌∷◌, ◌++◌, drop, length, sym, subst, refl, ap, ◌∙◌, Some, arith}
-use Rattle.std.specs.Prelude.{Contains}
+use Rattle.std.proofs.Common.{◌≡◌, ◌↔◌, ℕ, suc, List, sym, subst, refl, ◌∙◌, Some, arith}
 use Rattle.lalrpop_base.specs.declared.repr.NonterminalString.{NonterminalString}
 use Rattle.lalrpop_base.specs.declared.repr.Production.{Production}
 use Rattle.lalrpop_base.specs.declared.repr.Symbol.{Symbol}
 use Rattle.lalrpop_base.specs.declared.lookahead.token.Token.{Token}
-use Rattle.lalrpop_base.specs.Validity.{Valid, ValidToken, IsLive, HaveSameItems, HaveSameTokens}
+use Rattle.lalrpop_base.specs.Validity.{Valid, ValidToken, HaveSameItems, HaveSameTokens}
 use Rattle.lalrpop_base.specs.States.{Contents, leads, state_after, ReducesFinished}
 use Rattle.lalrpop_base.specs.Lanes.{AreLr0}
-use Rattle.lalrpop_base.specs.Closures.{InClosure, in_kernel, expanded, IsAtStart, IsMoved, items_of, AreClosed, IsReached, AreCanonical, KernelsDiffer, TokenKernelsDiffer}
+use Rattle.lalrpop_base.specs.Closures.{InClosure, in_kernel, expanded, IsAtStart, items_of, AreClosed, IsReached, AreCanonical, KernelsDiffer, TokenKernelsDiffer}
 use Rattle.lalrpop_base.proofs.theory.Lists.{Grown, from_nothing, more, grown, same_some}
 use Rattle.lalrpop_base.proofs.theory.Closures.{state_from-last, items_valid, have_right_items, reached_live}
 use Rattle.lalrpop_base.proofs.theory.Canonical.{tokens_exact}

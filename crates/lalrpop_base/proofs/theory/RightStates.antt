@@ -1,5 +1,5 @@
 -- What a state with the right dotted productions leads over and reduces by, and which tokens can stand next: from the definitions of valid and of states.
-use Rattle.std.proofs.Common.{◌≡◌, ◌↔◌, ℕ, zero, suc, ◌<◌, ◌⊎◌, inl, inr, true, List, [], ◌∷◌, length, sym, subst, refl, ap, ◌∙◌, Option, Some, None, arith}
+use Rattle.std.proofs.Common.{◌≡◌, ◌↔◌, ℕ, inl, inr, List, [], ◌∷◌, length, sym, subst, ap, ◌∙◌, Some, refl}
 use Rattle.std.specs.Prelude.{Contains, slice_get}
 use Rattle.std.proofs.lemmas.Bool.{cases_order}
 use Rattle.lalrpop_base.specs.declared.repr.NonterminalString.{NonterminalString}
@@ -7,12 +7,13 @@ use Rattle.lalrpop_base.specs.declared.repr.Production.{Production}
 use Rattle.lalrpop_base.specs.declared.repr.Symbol.{Symbol}
 use Rattle.lalrpop_base.specs.declared.repr.TerminalString.{TerminalString}
 use Rattle.lalrpop_base.specs.declared.lookahead.token.Token.{Token}
-use Rattle.lalrpop_base.specs.declared.lookahead.token.Token.TheVariants.{Eof, Terminal as TokenOf}
-use Rattle.lalrpop_base.specs.Validity.{Valid, ValidToken, at_start, kept, begins_behind, passed_on, IsAwaited, Action, Shift, Reduce, IsValidAction}
-use Rattle.lalrpop_base.specs.States.{Contents, Reduction, leads, Allows, LeadsOverDots, HasRightItems, CanStandNext}
+use Rattle.lalrpop_base.specs.declared.lookahead.token.Token.TheVariants.{Terminal as TokenOf}
+use Rattle.lalrpop_base.specs.Validity.{Valid, ValidToken, at_start, kept, begins_behind, passed_on, IsAwaited, Action, Shift, Reduce, IsValidAction, IsLR1}
+use Rattle.lalrpop_base.specs.States.{Contents, Reduction, leads, Allows, LeadsOverDots, HasRightItems, CanStandNext, HasNoRepeat, AreFaithful}
 use Rattle.lalrpop_base.specs.Conflicts.{HasNoConflict}
 use Rattle.lalrpop_base.specs.Runs.{next_token}
-use Rattle.lalrpop_base.proofs.theory.Lists.{same_some, contains_place}
+use Rattle.lalrpop_base.proofs.theory.Lists.{same_some, contains_place, place_contains}
+use Rattle.lalrpop_base.proofs.theory.Valid.{action_live}
 
 -- where the dotted productions are those valid for a prefix, the symbols behind the dots are those awaited
 pub awaited_edges : {g : List Production} {start : NonterminalString} {u : List Symbol} {s : Contents} → ((p : Production) (dot : ℕ) → Contains s.items (p, dot) ↔ Valid g start u p dot) → LeadsOverDots s → (x : Symbol) → ((n : ℕ) × (leads s x ≡ Some n)) ↔ IsAwaited g start u x
@@ -69,3 +70,33 @@ no_conflict_one s none t (Reduce p) (Reduce q) h k =
         | inr more ↦ absurd (none.reductions j.0 i.0 k.0 h.0 t more j.1 i.1 k.3 h.3)
       ]
     ]
+
+-- a shift is no reduction
+pub shift≢reduce : (x : TerminalString) (p : Production) → Shift x ≡ Reduce p → ⊥
+shift≢reduce x p e = subst IsShift e tt
+  where
+    IsShift : Action → Type 0
+    IsShift (Shift y) = Unit {0}
+    IsShift (Reduce q) = ⊥
+
+-- equal reductions are by one production
+pub same_reduce : (p q : Production) → Reduce p ≡ Reduce q → p ≡ q
+same_reduce p q e = ap production_of e
+  where
+    production_of : Action → Production
+    production_of (Reduce k) = k
+    production_of (Shift y) = p
+
+-- where no two actions are allowed on one token, and reductions do not repeat, there is no conflict
+pub one_no_conflict : (s : Contents) → HasNoRepeat s.reductions → ((t : Token) (a b : Action) → Allows s t a → Allows s t b → a ≡ b) → HasNoConflict s
+one_no_conflict s once one = record {
+  shifts = λ x n r e c h. shift≢reduce x r.production (one (TokenOf x) (Shift x) (Reduce r.production) (refl, (n, e)) (r, c, refl, h));
+  reductions = λ i j r q t l e f h k.
+      once i j r q l e f (same_reduce r.production q.production (one t (Reduce r.production) (Reduce q.production) (r, place_contains s.reductions i r e, refl, h) (q, place_contains s.reductions j q f, refl, k)));
+}
+
+-- a grammar with faithful states is LR(1)
+pub faithful_lr1 : (g : List Production) (start : NonterminalString) (states : ℕ → Contents) → AreFaithful g start states → IsLR1 g start
+faithful_lr1 g start states f u t a b v w =
+    let s = f u (action_live t a v) in
+    s.right.one t (action_stands g start u t a v) a b (s.right.every t a v) (s.right.every t b w)

@@ -1,15 +1,11 @@
 -- Spoilt states of S = "x" are not faithful: the reduction is dropped, stands twice, or lacks its token, or an edge is too many: each by the sentence of the definition that it breaks.
-use Rattle.std.proofs.Common.{◌≡◌, ◌<◌, ℕ, zero, suc, Bool, true, false, true≢false, List, [], ◌∷◌, drop, sym, subst, refl, ap, ◌∙◌, Option, Some, None, arith, inr}
-use Rattle.std.specs.Prelude.{Contains}
-use mathlib.Core.List.{head-eq_of_cons-eq, nil≢cons}
+use Rattle.std.proofs.Common.{◌≡◌, ℕ, zero, suc, true, false, true≢false, List, [], ◌∷◌, drop, sym, subst, refl, ap, ◌∙◌, None, arith, inr}
+use mathlib.Core.List.{nil≢cons}
 use Rattle.lalrpop_base.specs.declared.repr.Production.{Production}
-use Rattle.lalrpop_base.specs.declared.repr.Symbol.{Symbol}
 use Rattle.lalrpop_base.specs.declared.repr.Symbol.TheVariants.{Terminal}
-use Rattle.lalrpop_base.specs.declared.repr.TerminalString.{TerminalString}
-use Rattle.lalrpop_base.specs.declared.lookahead.token.Token.{Token}
 use Rattle.lalrpop_base.specs.declared.lookahead.token.Token.TheVariants.{Eof}
-use Rattle.lalrpop_base.specs.Validity.{Valid, starts, shifts, ValidToken, at_start, kept, IsLive, Reduce}
-use Rattle.lalrpop_base.specs.States.{Contents, Reduction, AreFaithful, IsRightFor, state_after}
+use Rattle.lalrpop_base.specs.Validity.{starts, shifts, ValidToken, at_start, kept, IsLive, Reduce}
+use Rattle.lalrpop_base.specs.States.{Contents, Reduction, AreFaithful, IsRightFor}
 use Rattle.lalrpop_base.proofs.theory.Lists.{contains-nil, contains_head, same_some}
 use Rattle.lalrpop_base.proofs.theory.Instance.{S, x, P, g, only, reduction, states, one_of}
 

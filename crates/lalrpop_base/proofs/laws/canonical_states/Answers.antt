@@ -1,5 +1,6 @@
 use Rattle.std.proofs.Common.{◌≡◌, true}
-use Rattle.lalrpop_base.proofs.theory.Canonical.{tokens_exact, canonical_faithful, faithful_lr1}
+use Rattle.lalrpop_base.proofs.theory.Canonical.{tokens_exact, canonical_faithful, no_conflict_faithful, lr1_no_state_conflict}
+use Rattle.lalrpop_base.proofs.theory.RightStates.{faithful_lr1}
 use Rattle.lalrpop_base.proofs.theory.Lr0.{canonical_one}
 use Rattle.lalrpop_base.proofs.laws.canonical_states.Goals as goal
 
@@ -8,9 +9,15 @@ returns-clause-tokens c g start states tokens h = tokens_exact g start states (�
 
 pub returns-clause-faithful : goal.returns-clause-faithful
 returns-clause-faithful c g start states tokens h = (
-  faithful_lr1 g start states (λ n p dot t. tokens n p dot t ≡ true) h,
+  faithful_lr1 g start states,
   canonical_faithful g start states (λ n p dot t. tokens n p dot t ≡ true) h,
 )
 
 pub returns-clause-one : goal.returns-clause-one
 returns-clause-one c g start states tokens = canonical_one g start states (λ n p dot t. tokens n p dot t ≡ true)
+
+pub returns-clause-conflicts : goal.returns-clause-conflicts
+returns-clause-conflicts c g start states tokens h = (
+  λ none. faithful_lr1 g start states (no_conflict_faithful g start states (λ n p dot t. tokens n p dot t ≡ true) h none),
+  lr1_no_state_conflict g start states (λ n p dot t. tokens n p dot t ≡ true) h,
+)

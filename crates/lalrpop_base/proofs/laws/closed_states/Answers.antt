@@ -1,5 +1,6 @@
 use Rattle.lalrpop_base.proofs.theory.Closures.{reached_states, have_right_items}
 use Rattle.lalrpop_base.proofs.theory.Lr0.{closed_lr0}
+use Rattle.lalrpop_base.proofs.theory.Copies.{copies_closed}
 use Rattle.lalrpop_base.proofs.laws.closed_states.Goals as goal
 
 pub returns-clause-reached : goal.returns-clause-reached
@@ -10,3 +11,6 @@ returns-clause-right c = have_right_items
 
 pub returns-clause-lr0 : goal.returns-clause-lr0
 returns-clause-lr0 c = closed_lr0
+
+pub returns-clause-copies : goal.returns-clause-copies
+returns-clause-copies c = copies_closed

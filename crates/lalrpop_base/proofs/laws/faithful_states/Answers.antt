@@ -6,6 +6,7 @@ use Rattle.lalrpop_base.proofs.theory.Runs.{answered_is_tree, answered_within, r
 use Rattle.lalrpop_base.proofs.theory.Refusals.{refused_wrong}
 use Rattle.lalrpop_base.proofs.theory.Stacks.{spelled}
 use Rattle.lalrpop_base.proofs.theory.Beginnings.{beginning_shifted}
+use Rattle.lalrpop_base.proofs.theory.RightStates.{faithful_lr1}
 use Rattle.lalrpop_base.proofs.laws.faithful_states.Goals as goal
 
 pub returns-clause-one_tree : goal.returns-clause-one_tree
@@ -34,3 +35,6 @@ pub returns-clause-beginnings : goal.returns-clause-beginnings
 returns-clause-beginnings c g start states faithful v t rest h =
     let k = beginning_shifted g start states faithful v t rest h in
     (k.steps, k.at, k.target, k.run, k.next, k.shift)
+
+pub returns-clause-lr1 : goal.returns-clause-lr1
+returns-clause-lr1 c = faithful_lr1

@@ -1,4 +1,4 @@
-use Rattle.std.proofs.Common.{ℕ, zero, suc, List, [], ◌∷◌, ◌≡◌, refl}
+use Rattle.std.proofs.Common.{zero, suc, List, [], ◌∷◌, refl}
 use Rattle.lalrpop_base.specs.Laws.{DifferInReductions}
 use Rattle.lalrpop_base.specs.States.{Reduction}
 use Rattle.lalrpop_base.proofs.theory.Instance.{S, x, g, states, alone, checked, faithful, reduction}

@@ -1,5 +1,5 @@
 use Rattle.std.proofs.Common.{◌≡◌, true}
-use Rattle.lalrpop_base.proofs.theory.LalrStates.{lalr_faithful, faithful_lalr}
+use Rattle.lalrpop_base.proofs.theory.LalrStates.{lalr_faithful, faithful_lalr, no_conflict_lalr, lalr_no_conflict}
 use Rattle.lalrpop_base.proofs.theory.Collapse.{collapsed_lr0, collapsed_tokens}
 use Rattle.lalrpop_base.proofs.laws.lalr_states.Goals as goal
 
@@ -11,3 +11,6 @@ returns-clause-collapsed c g start before after tokens group canonical collapse 
   collapsed_lr0 g start before (λ n p dot t. tokens n p dot t ≡ true) canonical group after collapse,
   collapsed_tokens g start before (λ n p dot t. tokens n p dot t ≡ true) canonical group after collapse,
 )
+
+pub returns-clause-conflicts : goal.returns-clause-conflicts
+returns-clause-conflicts c g start states lr0 holds = (no_conflict_lalr g start states lr0 holds, lalr_no_conflict g start states lr0 holds)
