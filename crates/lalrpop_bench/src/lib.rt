@@ -2,6 +2,8 @@
 //! slow program that computes the definitions on small inputs.
 #![tactic(auto)]
 
+#[cfg(test)]
+mod first;
 pub mod plain;
 #[cfg(test)]
 mod repr;

@@ -5,7 +5,7 @@ mod against_first;
 pub mod derivations;
 pub mod grammars;
 #[cfg(test)]
-mod known;
+pub(crate) mod known;
 #[cfg(test)]
 mod samples;
 pub mod spans;
