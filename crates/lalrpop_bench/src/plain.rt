@@ -3,6 +3,8 @@ pub mod actions;
 #[cfg(test)]
 mod against_first;
 pub mod derivations;
+#[cfg(test)]
+mod generated;
 pub mod grammars;
 #[cfg(test)]
 pub(crate) mod known;
@@ -11,6 +13,8 @@ mod samples;
 pub mod spans;
 pub mod trees;
 pub mod validity;
+#[cfg(test)]
+mod views;
 #[cfg(test)]
 mod worked;
 

@@ -1,35 +1,16 @@
 //! The first sets of the library against the plain ones.
 use super::derivations::PlainFirst;
+use super::generated::{Numbers, lines};
 use super::grammars::{PlainGrammar, PlainSymbol};
-use super::known::are_known;
+use super::known::{are_known, well_formed};
 use super::samples::samples;
+use super::views::token_numbers;
 use lalrpop_base::first::FirstSets;
-use lalrpop_base::lookahead::token::Token;
-use lalrpop_base::lookahead::token_set::TokenSet;
 use lalrpop_base::memory::OutOfMemory;
 use lalrpop_base::repr::Symbol;
-use lalrpop_base::repr::grammar::is_well_formed;
-use lalrpop_base::repr::terminals::TerminalSet;
 use std::alloc::Global;
+use std::process::Abort;
 use std::test::Fail;
-
-// The numbers of the tokens of a set, the end of the input last.
-pub fn numbers(
-    alloc: Global,
-    set: &TokenSet,
-    terminals: &TerminalSet,
-) -> Result<Vec<usize>, OutOfMemory> {
-    let mut found = Vec::new(alloc);
-    for (number, terminal) in terminals.all().iter().enumerate() {
-        if set.contains(&Token::Terminal(terminal.clone(alloc)?), terminals) {
-            found.push(number)?;
-        }
-    }
-    if set.contains(&Token::Eof, terminals) {
-        found.push(terminals.all().len())?;
-    }
-    Ok(found)
-}
 
 // The numbers of the plain FIRST of a list, the end of the input last where it is nullable.
 fn plain_numbers(
@@ -59,8 +40,8 @@ fn library_symbols(
     Ok(symbols)
 }
 
-// All lists of at most two symbols, over those of the grammar and a name without an entry, and the ends of
-// right sides.
+// All lists of at most two symbols, over those of the grammar and a name that it does not have, and the right
+// sides.
 fn lists(alloc: Global, grammar: &PlainGrammar) -> Result<Vec<Vec<PlainSymbol>>, OutOfMemory> {
     let mut symbols = super::validity::all_symbols(alloc, grammar)?;
     symbols.push(PlainSymbol::Name(grammar.names.len()))?;
@@ -78,28 +59,40 @@ fn lists(alloc: Global, grammar: &PlainGrammar) -> Result<Vec<Vec<PlainSymbol>>,
     Ok(found)
 }
 
+// Compares the first sets of a grammar at each list.
+fn compare(rt: &impl Abort, alloc: Global, lines: &str) -> Result<(), OutOfMemory> {
+    let plain = PlainGrammar::new(alloc, lines)?;
+    let first = PlainFirst::new(alloc, &plain)?;
+    let Some(grammar) = well_formed(alloc, &plain)? else {
+        panic!(rt; "not well-formed: {lines}");
+    };
+    let sets = FirstSets::new(alloc, &grammar)?;
+    for list in lists(alloc, &plain)? {
+        let symbols = library_symbols(alloc, &plain, &list)?;
+        assert!(rt; are_known(&grammar.terminals, &symbols));
+        let set = sets.first0(alloc, &symbols)?;
+        let found = token_numbers(alloc, &set, &grammar.terminals)?;
+        let want = plain_numbers(alloc, &plain, &first, &list)?;
+        assert_eq!(rt; found.as_slice(), want.as_slice(), "{lines} {list:?}");
+    }
+    Ok(())
+}
+
 #[test]
-fn first0(rt: HostRuntime) -> Result<(), Fail> {
-    let alloc = rt.alloc();
+fn first_sets_of_samples(rt: HostRuntime) -> Result<(), Fail> {
     for sample in samples() {
-        let plain = PlainGrammar::new(alloc, sample.lines)?;
-        let first = PlainFirst::new(alloc, &plain)?;
-        let grammar = plain.to_grammar(alloc)?;
-        assert!(rt; is_well_formed(&grammar));
-        let sets = FirstSets::new(alloc, &grammar)?;
-        for list in lists(alloc, &plain)? {
-            let symbols = library_symbols(alloc, &plain, &list)?;
-            assert!(rt; are_known(&grammar.terminals, &symbols));
-            let set = sets.first0(alloc, &symbols)?;
-            let found = numbers(alloc, &set, &grammar.terminals)?;
-            let want = plain_numbers(alloc, &plain, &first, &list)?;
-            assert_eq!(rt;
-                found.as_slice(),
-                want.as_slice(),
-                "{} {list:?}",
-                sample.lines
-            );
-        }
+        compare(&rt, rt.alloc(), sample.lines)?;
+    }
+    Ok(())
+}
+
+#[test]
+fn first_sets_of_generated_grammars(rt: HostRuntime) -> Result<(), Fail> {
+    let alloc = rt.alloc();
+    let mut numbers = Numbers::new(30);
+    for _ in 0..300 {
+        let lines = lines(alloc, &mut numbers)?;
+        compare(&rt, alloc, lines.as_str())?;
     }
     Ok(())
 }

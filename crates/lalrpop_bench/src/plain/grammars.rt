@@ -4,7 +4,7 @@ use lalrpop_base::memory::OutOfMemory;
 use lalrpop_base::repr::grammar::{
     ActionFnDefn, ActionFnDefnKind, Algorithm, Grammar, NonterminalData,
 };
-use lalrpop_base::repr::terminals::{TerminalSet, TerminalSetError};
+use lalrpop_base::repr::terminals::TerminalSet;
 use lalrpop_base::repr::{ActionFn, NonterminalString, Production, Span, Symbol, TerminalString};
 use lalrpop_base::sequence::Sequence;
 use lalrpop_base::text::Text;
@@ -69,35 +69,8 @@ impl PlainGrammar {
     }
 
     /// The grammar as the libraries have it. The action of a production is its number.
-    pub fn to_grammar(&self, alloc: Global) -> Result<Grammar, TerminalSetError> {
+    pub fn to_grammar(&self, alloc: Global) -> Result<Grammar, OutOfMemory> {
         let mut nonterminals = BTreeMap::new(alloc);
-        let mut action_fn_defns = Vec::new(alloc);
-        let mut literals = Vec::new(alloc);
-        let filled = self.fill(
-            alloc,
-            &mut nonterminals,
-            &mut action_fn_defns,
-            &mut literals,
-        );
-        match filled {
-            Ok(()) => Ok(Grammar {
-                nonterminals,
-                terminals: TerminalSet::new(alloc, literals)?,
-                action_fn_defns,
-                algorithm: Algorithm { lalr: false },
-            }),
-            Err(_) => Err(TerminalSetError::Memory),
-        }
-    }
-
-    // The entries, the actions and the terminals.
-    fn fill(
-        &self,
-        alloc: Global,
-        nonterminals: &mut BTreeMap<NonterminalString, NonterminalData>,
-        action_fn_defns: &mut Vec<ActionFnDefn>,
-        literals: &mut Vec<TerminalString>,
-    ) -> Result<(), OutOfMemory> {
         for (number, name) in self.names.iter().enumerate() {
             let productions = self.productions_of(alloc, number)?;
             if !productions.is_empty() {
@@ -105,17 +78,37 @@ impl PlainGrammar {
                 nonterminals.insert(NonterminalString { text }, entry(alloc, productions))?;
             }
         }
+        Ok(Grammar {
+            nonterminals,
+            terminals: self.terminal_set(alloc)?,
+            action_fn_defns: self.actions(alloc)?,
+            algorithm: Algorithm { lalr: false },
+        })
+    }
+
+    // One action for each production.
+    fn actions(&self, alloc: Global) -> Result<Vec<ActionFnDefn>, OutOfMemory> {
+        let mut actions = Vec::new(alloc);
         for _ in self.productions.iter() {
-            action_fn_defns.push(ActionFnDefn {
+            actions.push(ActionFnDefn {
                 fallible: false,
                 ret_type: Text::new(alloc, "()")?,
                 kind: ActionFnDefnKind::User,
             })?;
         }
+        Ok(actions)
+    }
+
+    // The terminals, which differ, so that memory alone can be wanting.
+    fn terminal_set(&self, alloc: Global) -> Result<TerminalSet, OutOfMemory> {
+        let mut literals = Vec::new(alloc);
         for terminal in self.terminals.iter() {
             literals.push(TerminalString::Literal(terminal.clone(alloc)?))?;
         }
-        Ok(())
+        match TerminalSet::new(alloc, literals) {
+            Ok(terminals) => Ok(terminals),
+            Err(_) => Err(OutOfMemory),
+        }
     }
 
     // The productions of a name, as the libraries have them.
