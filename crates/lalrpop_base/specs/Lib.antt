@@ -5,6 +5,7 @@ pub mod Coherent
 pub mod Collapse
 pub mod Conflicts
 pub mod Copies
+pub mod Contents
 pub mod Each
 pub mod Exact
 pub mod First
