@@ -10,3 +10,4 @@ pub mod FirstMeaning
 pub mod FirstPasses
 pub mod FirstFixpoint
 pub mod PlaceLemmas
+pub mod ContentsViews

@@ -51,7 +51,8 @@ module _ {L : Type 0} (holds : L → Token → Bool) where
     reductions = map reduction_of state.reductions.items;
   }
 
-  abbrev contents_at : Option (State L) → Contents
+  -- the same of a place that may have no state
+  abbrev pub contents_at : Option (State L) → Contents
   contents_at None = no_contents
   contents_at (Some state) = contents_of state
 
