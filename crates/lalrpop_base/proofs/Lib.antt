@@ -11,3 +11,4 @@ pub mod FirstPasses
 pub mod FirstFixpoint
 pub mod PlaceLemmas
 pub mod ContentsViews
+pub mod HeldTokens

@@ -1,0 +1,2 @@
+//! Parses by the states of a table.
+pub mod tree;

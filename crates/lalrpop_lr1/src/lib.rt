@@ -1,0 +1,4 @@
+//! What stands on tables: the parser, whose trees are printed and counted.
+#![tactic(auto)]
+
+pub mod interpret;
