@@ -1,0 +1,30 @@
+-- Trees of the code, and the trees that they are.
+use Rattle.std.proofs.Common.{◌≡◌, ℕ, List, [], ◌∷◌, ◌++◌, map, drop, refl, ap, sym, ◌∙◌, append_assoc, append-nil}
+use Rattle.lalrpop_base.specs.declared.repr.TerminalString.{TerminalString}
+use Rattle.lalrpop_base.specs.Trees.{Tree, Leaf, Node, Trees, no_trees, beside, trees_of, leaves}
+use Rattle.lalrpop_lr1.specs.ParseTrees.{tree_of, tree_step}
+use Rattle.lalrpop_lr1.specs.declared.interpret.tree.ParseTree.{ParseTree}
+use Rattle.lalrpop_lr1.specs.declared.interpret.tree.ParseTree.TheOpen as Open
+use Rattle.lalrpop_lr1.specs.declared.interpret.tree.ParseTree.TheViews.{out-ParseTree, roll-ParseTree}
+use Rattle.lalrpop_lr1.specs.declared.interpret.tree.ParseTree.TheFolds.{map-ParseTree, fold-roll-ParseTree, fold_out-ParseTree}
+
+-- one node, with the trees of its children
+abbrev pub tree_from : Open.ParseTree-F ParseTree → Tree
+tree_from (Open.Nonterminal name children) = Node name (trees_of (map tree_of children.items))
+tree_from (Open.Terminal t) = Leaf t
+
+pub tree_of_roll : (x : Open.ParseTree-F ParseTree) → tree_of (roll-ParseTree x) ≡ tree_from x
+tree_of_roll (Open.Nonterminal name children) = fold-roll-ParseTree Tree tree_step (Open.Nonterminal name children)
+tree_of_roll (Open.Terminal t) = fold-roll-ParseTree Tree tree_step (Open.Terminal t)
+
+pub tree_of_out : (t : ParseTree) → tree_of t ≡ tree_from (out-ParseTree t)
+tree_of_out t = fold_out-ParseTree Tree tree_step t ∙ go (out-ParseTree t)
+  where
+    go : (x : Open.ParseTree-F ParseTree) → tree_step (map-ParseTree ParseTree Tree tree_of x) ≡ tree_from x
+    go (Open.Nonterminal name children) = refl
+    go (Open.Terminal u) = refl
+
+-- the leaves of trees are those of the first and those of the others
+pub leaves_cons : (t : Tree) (ts : Trees) → leaves (beside t ts) ≡ leaves (beside t no_trees) ++ leaves ts
+leaves_cons (Leaf x) ts = refl
+leaves_cons (Node a children) ts = ap (λ l. l ++ leaves ts) (sym (append-nil (leaves children)))
