@@ -2,6 +2,7 @@
 use Rattle.std.specs.Prelude.{ℕ, ◌+◌, Bool, false, List, [], length, slice_get, map, Option, Some, None, option_map}
 use Rattle.std.specs.Borrow.{Bor}
 use Rattle.std.specs.BTreeMap.{get}
+use Rattle.std.specs.List.{flat_map}
 use Rattle.lalrpop_base.specs.Bits.{Bits, has}
 use Rattle.lalrpop_base.specs.Items.{Dotted}
 use Rattle.lalrpop_base.specs.States.{Reduction, Contents}
@@ -63,3 +64,7 @@ module _ {L : Type 0} (holds : L → Token → Bool) where
 -- the states of a table over sets of tokens, whose bits the terminals number
 abbrev pub contents : List TerminalString → List (State Bits) → ℕ → Contents
 contents terminals states = contents_in (holds_token terminals) states
+
+-- the productions by which some state reduces
+abbrev pub reduced_productions : {L : Type 0} → List (State L) → List Production
+reduced_productions {L} states = flat_map (λ (s : State L). map (λ (r : L × Bor Production). r.1.now) s.reductions.items) states

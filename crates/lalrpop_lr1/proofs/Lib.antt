@@ -1,1 +1,2 @@
 pub mod TreeViews
+pub mod Popping

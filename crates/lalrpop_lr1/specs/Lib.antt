@@ -1,1 +1,5 @@
+pub mod Answers
+pub mod Machines
 pub mod ParseTrees
+pub mod Reading
+pub mod Steps

@@ -1,2 +1,87 @@
 //! Parses by the states of a table.
+pub mod error;
+mod machine;
 pub mod tree;
+
+ghost use Rattle.std.specs.Prelude.{◌≡◌, ◌<◌, ◌≤◌, length, IfOk, option_copied};
+ghost use Rattle.lalrpop_base.specs.Coherent.{AreCoherent};
+ghost use Rattle.lalrpop_base.specs.Contents.{holds_token, contents_of, contents, reduced_productions};
+ghost use Rattle.lalrpop_base.specs.Runs.{begin, reduction_on, HasOutcome};
+ghost use Rattle.lalrpop_base.specs.Trees.{beside, no_trees, leaves, nodes, AreOfGrammar};
+ghost use Rattle.lalrpop_lr1.specs.Answers.{IsAnswer, IsPartialAnswer};
+ghost use Rattle.lalrpop_lr1.specs.ParseTrees.{tree_of};
+ghost use Rattle.lalrpop_lr1.specs.Reading.{HasPartialOutcome};
+ghost use Rattle.lalrpop_lr1.specs.Steps.{IsParsedIn};
+
+pub use error::InterpretError;
+pub use tree::ParseTree;
+
+use lalrpop_base::lookahead::token::Token;
+use lalrpop_base::lookahead::token_set::TokenSet;
+use lalrpop_base::lr1_core::state::{Lr1State, StateIndex};
+use lalrpop_base::repr::terminals::TerminalSet;
+use lalrpop_base::repr::{Production, TerminalString};
+use machine::Machine;
+use std::alloc::Global;
+
+/// The tree of a list of terminals, by at most so many steps.
+pub fn interpret<'a, 'grammar>(
+    alloc: Global,
+    states: &'a [Lr1State<'grammar>],
+    terminals: &TerminalSet,
+    tokens: Vec<TerminalString>,
+    limit: usize,
+) -> Result<ParseTree, InterpretError<'a, 'grammar>>
+    requires coherent { AreCoherent states.now }
+    requires some { 0 < length states.now }
+    ensures outcome { IsAnswer (HasOutcome (contents terminals.now states.now) tokens.items limit) states.now result }
+    ensures of_productions { IfOk result (λ tree. AreOfGrammar (reduced_productions states.now) (beside (tree_of tree) no_trees)) }
+    ensures of_list { IfOk result (λ tree. leaves (beside (tree_of tree) no_trees) ≡ tokens.items) }
+    ensures steps { IfOk result (λ tree. IsParsedIn (contents terminals.now states.now) tokens.items (nodes (beside (tree_of tree) no_trees)) (tree_of tree)) }
+    ensures within { IfOk result (λ tree. nodes (beside (tree_of tree) no_trees) ≤ limit) }
+{
+    let mut machine = Machine::new(alloc, limit);
+    machine.shift_all(alloc, states, terminals, tokens)?;
+    machine.finish(alloc, states, terminals)
+}
+
+/// The stack of states once all terminals are shifted, the newest last. The end of the input is not fed.
+pub fn interpret_partial<'a, 'grammar>(
+    alloc: Global,
+    states: &'a [Lr1State<'grammar>],
+    terminals: &TerminalSet,
+    tokens: Vec<TerminalString>,
+    limit: usize,
+) -> Result<Vec<StateIndex>, InterpretError<'a, 'grammar>>
+    requires coherent { AreCoherent states.now }
+    requires some { 0 < length states.now }
+    ensures { IsPartialAnswer (HasPartialOutcome (contents terminals.now states.now) (begin tokens.items) limit) states.now result }
+{
+    let mut machine = Machine::new(alloc, limit);
+    machine.shift_all(alloc, states, terminals, tokens)?;
+    Ok(machine.into_stack()?)
+}
+
+/// The production of the first reduction of a state whose tokens hold a token.
+pub fn reduction<'grammar>(
+    state: &Lr1State<'grammar>,
+    token: &Token,
+    terminals: &TerminalSet,
+) -> Option<&'grammar Production>
+    ensures { option_copied result ≡ reduction_on (contents_of (holds_token terminals.now) state.now).reductions token.now }
+{
+    for reduction in state.reductions.iter() {
+        if holds(&reduction.0, token, terminals) {
+            return Some(reduction.1);
+        }
+    }
+    None
+}
+
+// Whether a token is in a set, as a function of both.
+fn holds(tokens: &TokenSet, token: &Token, terminals: &TerminalSet) -> bool
+    ensures { result ≡ holds_token terminals.now tokens.now token.now }
+{
+    let _distinct = terminals.all();
+    tokens.contains(token, terminals)
+}
