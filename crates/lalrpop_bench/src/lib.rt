@@ -7,3 +7,4 @@ mod first;
 pub mod plain;
 #[cfg(test)]
 mod repr;
+mod interpret;

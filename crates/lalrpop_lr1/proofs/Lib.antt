@@ -1,2 +1,7 @@
 pub mod TreeViews
 pub mod Popping
+pub mod Stacks
+pub mod Outcomes
+pub mod MachineRuns
+pub mod Parses
+pub mod Interpreted

@@ -9,6 +9,7 @@ use Rattle.lalrpop_base.specs.declared.repr.TerminalString.{TerminalString}
 use Rattle.lalrpop_base.specs.declared.lookahead.token.Token.{Token}
 use Rattle.lalrpop_base.specs.declared.lr1_core.state.StateIndex.{StateIndex}
 use Rattle.lalrpop_lr1.specs.ParseTrees.{tree_of}
+use Rattle.lalrpop_lr1.specs.Reading.{Reads}
 use Rattle.lalrpop_lr1.specs.declared.interpret.error.InterpretError.{InterpretError}
 use Rattle.lalrpop_lr1.specs.declared.interpret.error.InterpretError.TheVariants.{Refused, Limit, Memory}
 use Rattle.lalrpop_lr1.specs.declared.interpret.machine.Machine.{Machine}
@@ -71,3 +72,9 @@ pub record IsShifted (old : Machine) (target : ℕ) (t : TerminalString) (new : 
   pub below : numbers new.below.items ≡ old.state.0 ∷ numbers old.below.items
   pub trees : trees_on new.trees.items ≡ Leaf t ∷ trees_on old.trees.items
   pub counted : suc new.left ≡ old.left
+
+-- a machine to which steps before terminals led from a configuration, and what is left of the steps
+pub record HasRead (states : ℕ → Contents) (b : Configuration) (left : ℕ) (m : Machine) (rest : List TerminalString) : Type 0 where
+  pub steps : ℕ
+  pub reads : Reads states steps b (configuration m rest)
+  pub counted : steps + m.left ≡ left

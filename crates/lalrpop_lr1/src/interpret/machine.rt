@@ -8,9 +8,9 @@ ghost use Rattle.lalrpop_base.specs.Trees.{Tree, Leaf};
 ghost use Rattle.lalrpop_base.specs.declared.repr.TerminalString.{TerminalString};
 ghost use Rattle.lalrpop_base.specs.declared.lookahead.token.Token.{Token};
 ghost use Rattle.lalrpop_lr1.specs.Answers.{IsAnswer, IsFailure};
-ghost use Rattle.lalrpop_lr1.specs.Machines.{numbers, trees_on, configuration, CanPop, IsStacked, IsProgress, IsHalted, IsSpent, IsShifted};
+ghost use Rattle.lalrpop_lr1.specs.Machines.{numbers, trees_on, configuration, CanPop, IsStacked, IsProgress, IsHalted, IsSpent, IsShifted, HasRead};
 ghost use Rattle.lalrpop_lr1.specs.ParseTrees.{tree_of};
-ghost use Rattle.lalrpop_lr1.specs.Reading.{Reads, StopsReading};
+ghost use Rattle.lalrpop_lr1.specs.Reading.{StopsReading};
 ghost use Rattle.lalrpop_lr1.specs.Steps.{HasOutcomeFrom};
 
 use super::error::InterpretError;
@@ -60,6 +60,14 @@ impl Machine {
         let mut stack = self.below;
         stack.push(self.state)?;
         Ok(stack)
+    }
+
+    // The state on top.
+    fn top<'a, 'grammar>(&self, states: &'a [Lr1State<'grammar>]) -> &'a Lr1State<'grammar>
+        requires { self.now.state.0 < length states.now }
+        ensures { slice_get states.now self.now.state.0 ≡ Some result.now }
+    {
+        &states[self.state.0]
     }
 
     // Gathers the newest trees under a nonterminal, pops their states, and tells the state that is then on top.
@@ -116,7 +124,7 @@ impl Machine {
         ensures made { IfOk result (λ progress. (rest : List TerminalString) → IsProgress (contents terminals.now states.now) self.old token.now rest self.new progress) }
         ensures halted { IfErr result (λ e. (rest : List TerminalString) → IsHalted (contents terminals.now states.now) self.old token.now rest e) }
     {
-        match reduction(&states[self.state.0], token, terminals) {
+        match reduction(self.top(states), token, terminals) {
             Some(production) => {
                 if self.left == 0 {
                     return Err(InterpretError::Limit);
@@ -162,12 +170,12 @@ impl Machine {
         requires coherent { AreCoherent states.now }
         requires some { 0 < length states.now }
         requires stacked { IsStacked (contents terminals.now states.now) self.old }
-        ensures shifted { OnOk result ((rest : List TerminalString) → (n : ℕ) × Reads (contents terminals.now states.now) n (configuration self.old (terminal ∷ rest)) (configuration self.new rest) × (n + self.new.left ≡ self.old.left)) }
+        ensures shifted { OnOk result ((rest : List TerminalString) → HasRead (contents terminals.now states.now) (configuration self.old (terminal ∷ rest)) self.old.left self.new rest) }
         ensures stopped { IfErr result (λ e. (rest : List TerminalString) → IsFailure (StopsReading (contents terminals.now states.now) (configuration self.old (terminal ∷ rest)) self.old.left) states.now e) }
     {
         let token = Token::Terminal(terminal);
-        loop {
-            let state = &states[self.state.0];
+        'reducing: loop {
+            let state = self.top(states);
             if let Some(target) = state.shifts.get(token.unwrap_terminal()) {
                 return self.push(*target, into_terminal(token));
             }
@@ -191,7 +199,7 @@ impl Machine {
         requires coherent { AreCoherent states.now }
         requires some { 0 < length states.now }
         requires stacked { IsStacked (contents terminals.now states.now) self.old }
-        ensures shifted { OnOk result ((n : ℕ) × Reads (contents terminals.now states.now) n (configuration self.old tokens.items) (configuration self.new []) × (n + self.new.left ≡ self.old.left)) }
+        ensures shifted { OnOk result (HasRead (contents terminals.now states.now) (configuration self.old tokens.items) self.old.left self.new []) }
         ensures stopped { IfErr result (λ e. IsFailure (StopsReading (contents terminals.now states.now) (configuration self.old tokens.items) self.old.left) states.now e) }
     {
         for terminal in tokens {
@@ -212,8 +220,8 @@ impl Machine {
         requires stacked { IsStacked (contents terminals.now states.now) self }
         ensures { IsAnswer (HasOutcomeFrom (contents terminals.now states.now) (configuration self []) self.left) states.now result }
     {
-        loop {
-            let state = &states[self.state.0];
+        'reducing: loop {
+            let state = self.top(states);
             match self.reduce_on(alloc, states, terminals, &Token::Eof)? {
                 Progress::GoesOn => {}
                 Progress::Stuck => return Err(InterpretError::Refused(state, Token::Eof)),

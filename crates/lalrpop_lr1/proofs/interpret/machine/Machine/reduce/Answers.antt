@@ -2,6 +2,10 @@ use Rattle.std.proofs.Common.{◌≡◌, ◌<◌, length, refl, sym, ap, ap₂, 
 use Rattle.std.proofs.lemmas.Option.{slice_get_read}
 use Rattle.std.specs.Prelude.{slice_get, Some}
 use Rattle.lalrpop_base.specs.Contents.{contents, holds_token}
+use Rattle.std.specs.BTreeMap.{get}
+use Rattle.lalrpop_base.specs.Bits.{Bits}
+use Rattle.lalrpop_base.specs.WellFormed.{name_cmp}
+use Rattle.lalrpop_base.specs.declared.lr1_core.state.State.{State}
 use Rattle.lalrpop_base.specs.Runs.{received}
 use Rattle.lalrpop_lr1.specs.Machines.{numbers, trees_on}
 use Rattle.lalrpop_lr1.proofs.Popping.{goes_to, ends_at}
@@ -15,7 +19,7 @@ returns-in-Some-clause-made c = λ terminals rest.
     let within : top.0 < length states = c.requires.within facts.from.0 top facts.from.1 in
     let there : slice_get states top.0 ≡ Some c.index-states-receiving.result = slice_get_read states (length states) top.0 c.index-states-receiving.result refl within c.index-states-receiving.is in
     ap₂ (λ l ts. received (contents terminals states) c.args.production.now l ts rest) (sym facts.popped) (sym facts.gathered)
-    ∙ goes_to (holds_token terminals) states c.args.production.now top.0 facts.top.0 c.index-states-receiving.result (numbers c.gather.new.self.below.items) (trees_on c.gather.new.self.trees.items) rest c.in-Some.target.now facts.top.1 there (sym c.in-Some.ensures.value)
+    ∙ goes_to (holds_token terminals) states c.args.production.now top.0 facts.top.0 c.index-states-receiving.result (numbers c.gather.new.self.below.items) (trees_on c.gather.new.self.trees.items) rest c.in-Some.target.now facts.top.1 there (ap (λ (s : State Bits). get name_cmp s.gotos c.args.production.now.nonterminal) c.index-states-receiving.is ∙ sym c.in-Some.ensures.value)
 
 pub returns-in-None-clause-made : goal.returns-in-None-clause-made
 returns-in-None-clause-made c = λ terminals rest.
@@ -25,4 +29,4 @@ returns-in-None-clause-made c = λ terminals rest.
     let within : top.0 < length states = c.requires.within facts.from.0 top facts.from.1 in
     let there : slice_get states top.0 ≡ Some c.index-states-receiving.result = slice_get_read states (length states) top.0 c.index-states-receiving.result refl within c.index-states-receiving.is in
     ap₂ (λ l ts. received (contents terminals states) c.args.production.now l ts rest) (sym facts.popped) (sym facts.gathered)
-    ∙ ends_at (holds_token terminals) states c.args.production.now top.0 facts.top.0 c.index-states-receiving.result (numbers c.gather.new.self.below.items) (trees_on c.gather.new.self.trees.items) rest facts.top.1 there (sym c.in-None.ensures.value)
+    ∙ ends_at (holds_token terminals) states c.args.production.now top.0 facts.top.0 c.index-states-receiving.result (numbers c.gather.new.self.below.items) (trees_on c.gather.new.self.trees.items) rest facts.top.1 there (ap (λ (s : State Bits). get name_cmp s.gotos c.args.production.now.nonterminal) c.index-states-receiving.is ∙ sym c.in-None.ensures.value)

@@ -1,0 +1,90 @@
+-- What the parts of a run say of the whole of it.
+use Rattle.std.proofs.Common.{◌≡◌, ℕ, ◌+◌, ◌<◌, ◌≤◌, List, [], ◌∷◌, ◌++◌, length, map, reverse, refl, sym, ap, subst, ◌∙◌, arith}
+use Rattle.std.specs.Prelude.{Result, Ok, Err, IfOk}
+use Rattle.std.proofs.lemmas.List.{reverse-reverse}
+use Rattle.lalrpop_base.specs.Bits.{Bits}
+use Rattle.lalrpop_base.specs.Coherent.{AreCoherent}
+use Rattle.lalrpop_base.specs.Contents.{number_of, contents, reduced_productions}
+use Rattle.lalrpop_base.specs.States.{Contents}
+use Rattle.lalrpop_base.specs.Trees.{beside, no_trees, leaves, nodes, AreOfGrammar}
+use Rattle.lalrpop_base.specs.Runs.{here, begin, Outcome, Parsed, HasOutcome}
+use Rattle.lalrpop_base.specs.declared.repr.TerminalString.{TerminalString}
+use Rattle.lalrpop_base.specs.declared.lr1_core.state.State.{State}
+use Rattle.lalrpop_base.specs.declared.lr1_core.state.StateIndex.{StateIndex}
+use Rattle.lalrpop_lr1.specs.Answers.{IsFailure, IsAnswer}
+use Rattle.lalrpop_lr1.specs.Machines.{numbers, trees_on, configuration, IsStack, bottom, IsStacked, HasRead}
+use Rattle.lalrpop_lr1.specs.ParseTrees.{tree_of}
+use Rattle.lalrpop_lr1.specs.Reading.{StopsReading, HasPartialOutcome, Stack, Stop, all_read, stopped}
+use Rattle.lalrpop_lr1.specs.Steps.{HasOutcomeFrom, IsParsedIn}
+use Rattle.lalrpop_lr1.specs.declared.interpret.error.InterpretError.{InterpretError}
+use Rattle.lalrpop_lr1.specs.declared.interpret.machine.Machine.{Machine}
+use Rattle.lalrpop_lr1.specs.declared.interpret.tree.ParseTree.{ParseTree}
+use Rattle.lalrpop_lr1.proofs.MachineRuns.{lead}
+use Rattle.lalrpop_lr1.proofs.Outcomes.{reads_reaches, stop_outcome, whole_outcome, failure_follows}
+use Rattle.lalrpop_lr1.proofs.Parses.{IsBuilt, parsed_built, reduces_by}
+use Rattle.lalrpop_lr1.proofs.Popping.{numbers_more}
+use Rattle.lalrpop_lr1.proofs.Stacks.{IsStackOf, run_keeps}
+
+-- a machine at its start
+abbrev pub IsAtStart : Machine → Type 0
+IsAtStart m = (m.state.0 ≡ 0) × (m.below.items ≡ []) × (m.trees.items ≡ [])
+
+pub begins : (m : Machine) (w : List TerminalString) → IsAtStart m → configuration m w ≡ begin w
+begins m w start =
+    ap (λ n. record { state = n; below = numbers m.below.items; trees = trees_on m.trees.items; rest = w }) start.0
+    ∙ ap (λ l. record { state = 0; below = numbers l; trees = trees_on m.trees.items; rest = w }) start.1
+    ∙ ap (λ ts. record { state = 0; below = []; trees = trees_on ts; rest = w }) start.2
+
+pub start_stacked : (states : ℕ → Contents) (m : Machine) → IsAtStart m → IsStacked states m
+start_stacked states m start = subst (IsStackOf states) (sym (begins m [] start)) bottom
+
+-- what was read from the start was read from the beginning of a run
+pub read_from_start : {states : ℕ → Contents} (m new : Machine) (w rest : List TerminalString) (limit left : ℕ) → IsAtStart m → left ≡ limit → HasRead states (configuration m w) left new rest → HasRead states (begin w) limit new rest
+read_from_start {states} m new w rest limit left start e r =
+    subst (λ c. HasRead states c limit new rest) (begins m w start) (subst (λ n. HasRead states (configuration m w) n new rest) e r)
+
+module _ (terminals : List TerminalString) (states : List (State Bits)) (coherent : AreCoherent states) where
+  -- the stack stays one
+  pub read_stacked : (m new : Machine) (w rest : List TerminalString) (left : ℕ) → IsStacked (contents terminals states) m → HasRead (contents terminals states) (configuration m w) left new rest → IsStacked (contents terminals states) new
+  read_stacked m new w rest left st r = run_keeps (contents terminals states) (length states) (lead terminals states coherent) (reads_reaches r.reads) st
+
+  -- a stop while terminals are left tells the outcome
+  pub stop_answer : (m : Machine) (w : List TerminalString) (limit : ℕ) → IsAtStart m → m.left ≡ limit → (e : InterpretError) → IsFailure (StopsReading (contents terminals states) (configuration m w) m.left) states e → IsFailure (HasOutcome (contents terminals states) w limit) states e
+  stop_answer m w limit start size e h =
+      failure_follows (StopsReading (contents terminals states) (configuration m w) m.left) (HasOutcome (contents terminals states) w limit) states
+      (λ o k. whole_outcome here (let whole : 0 + m.left ≡ limit = omega (arith, size) in whole) (subst (λ c. HasOutcomeFrom (contents terminals states) c m.left o) (begins m w start) (stop_outcome k)))
+      e h
+
+  -- and the partial one
+  pub stop_partial : (m : Machine) (w : List TerminalString) (limit : ℕ) → IsAtStart m → m.left ≡ limit → (e : InterpretError) → IsFailure (StopsReading (contents terminals states) (configuration m w) m.left) states e → IsFailure (λ o. HasPartialOutcome (contents terminals states) (begin w) limit (Stop o)) states e
+  stop_partial m w limit start size e h =
+      failure_follows (StopsReading (contents terminals states) (configuration m w) m.left) (λ o. HasPartialOutcome (contents terminals states) (begin w) limit (Stop o)) states
+      (λ o k. stopped o (subst (λ c. StopsReading (contents terminals states) c limit o) (begins m w start) (subst (λ n. StopsReading (contents terminals states) (configuration m w) n o) size k)))
+      e h
+
+  -- the end of a run tells the outcome of the whole
+  pub last_answer : (m : Machine) (w : List TerminalString) (limit : ℕ) → HasRead (contents terminals states) (begin w) limit m [] → (answer : Result ParseTree InterpretError) → IsAnswer (HasOutcomeFrom (contents terminals states) (configuration m []) m.left) states answer → IsAnswer (HasOutcome (contents terminals states) w limit) states answer
+  last_answer m w limit r (Ok tree) h = whole_outcome (reads_reaches r.reads) r.counted h
+  last_answer m w limit r (Err e) h =
+      failure_follows (HasOutcomeFrom (contents terminals states) (configuration m []) m.left) (HasOutcome (contents terminals states) w limit) states
+      (λ o k. whole_outcome (reads_reaches r.reads) r.counted k) e h
+
+  -- a tree that is answered is a parse
+  pub answer_built : (w : List TerminalString) (limit : ℕ) (answer : Result ParseTree InterpretError) → IsAnswer (HasOutcome (contents terminals states) w limit) states answer → IfOk answer (λ tree. IsBuilt (reduced_productions states) (contents terminals states) w limit (tree_of tree))
+  answer_built w limit (Ok tree) h =
+      parsed_built (reduced_productions states) (contents terminals states) (length states) (lead terminals states coherent) (reduces_by terminals states) w limit h
+  answer_built w limit (Err e) h = tt
+
+-- what is told of each tree
+pub if_ok : {E : Type 0} (P Q : ParseTree → Type 0) → ((t : ParseTree) → P t → Q t) → (answer : Result ParseTree E) → IfOk answer P → IfOk answer Q
+if_ok P Q f (Ok tree) h = f tree h
+if_ok P Q f (Err e) h = tt
+
+-- the stack as it is handed out
+pub stack_is : (below : List StateIndex) (s : StateIndex) → reverse (s.0 ∷ numbers below) ≡ map number_of (below ++ s ∷ [])
+stack_is below s = ap reverse (sym (numbers_more below s)) ∙ reverse-reverse (map number_of (below ++ s ∷ []))
+
+pub stack_answer : {states : ℕ → Contents} (m : Machine) (w : List TerminalString) (limit : ℕ) (stack : List StateIndex) → HasRead states (begin w) limit m [] → stack ≡ m.below.items ++ m.state ∷ [] → HasPartialOutcome states (begin w) limit (Stack (map number_of stack))
+stack_answer {states} m w limit stack r e =
+    subst (λ l. HasPartialOutcome states (begin w) limit (Stack l)) (stack_is m.below.items m.state ∙ ap (map number_of) (sym e))
+    (all_read r.steps (configuration m []) (let k : r.steps + m.left ≡ limit = r.counted in omega (arith, k)) r.reads refl)

@@ -1,0 +1,171 @@
+-- A machine over coherent states makes the steps of a run.
+use Rattle.std.proofs.Common.{◌≡◌, ◌≢◌, ℕ, suc, ◌+◌, ◌-◌, ◌<◌, ◌≤◌, List, [], ◌∷◌, ◌++◌, length, drop, map, reverse, get_or, Option, Some, None, refl, sym, ap, ap₂, subst, ◌∙◌, arith}
+use Rattle.std.specs.Prelude.{slice_get, option_map, Contains}
+use Rattle.std.specs.BTreeMap.{get}
+use Rattle.std.proofs.lemmas.List.{get_or-reverse, length-map, length-reverse}
+use Rattle.std.proofs.lemmas.Option.{slice_get_read, slice_get_within, get_or_from_slice_get, slice_get-map}
+use Rattle.lalrpop_base.specs.Bits.{Bits}
+use Rattle.lalrpop_base.specs.Coherent.{AreCoherent}
+use Rattle.lalrpop_base.specs.Contents.{number_of, holds_token, contents_of, contents_at, contents}
+use Rattle.lalrpop_base.specs.States.{Contents, Reduction}
+use Rattle.lalrpop_base.specs.Trees.{Tree, Leaf}
+use Rattle.lalrpop_base.specs.Runs.{Configuration, reduction_on, reduces, received, reduced, Stands, Goes, Ends, shifts_or, move, Reaches, here, further, Outcome, Parsed, Refused, Limit}
+use Rattle.lalrpop_base.specs.contracts.repr.TerminalStringOrd.TheImpl as terminal_ord
+use Rattle.lalrpop_base.specs.declared.repr.Production.{Production}
+use Rattle.lalrpop_base.specs.declared.repr.TerminalString.{TerminalString}
+use Rattle.lalrpop_base.specs.declared.lookahead.token.Token.{Token}
+use Rattle.lalrpop_base.specs.declared.lookahead.token.Token.TheVariants.{Eof, Terminal as TokenOf}
+use Rattle.lalrpop_base.specs.declared.lr1_core.state.State.{State}
+use Rattle.lalrpop_base.specs.declared.lr1_core.state.StateIndex.{StateIndex}
+use Rattle.lalrpop_base.proofs.ContentsViews.{LeadAsItemsSay, lead_as_items_say}
+use Rattle.lalrpop_lr1.specs.Machines.{numbers, trees_on, configuration, IsStacked, CanPop, reduction_move, IsSpent, IsShifted, HasRead}
+use Rattle.lalrpop_lr1.specs.Reading.{Reads, read, before, StopsReading, stuck, early_end, cut_off}
+use Rattle.lalrpop_lr1.specs.Steps.{HasOutcomeFrom, parsed_from, stuck_from, other_end_from, cut_off_from}
+use Rattle.lalrpop_lr1.specs.Answers.{IsFailure}
+use Rattle.lalrpop_lr1.specs.declared.interpret.error.InterpretError.{InterpretError}
+use Rattle.lalrpop_lr1.specs.declared.interpret.error.InterpretError.TheVariants.{Refused as RefusedBy, Limit as LimitPassed, Memory}
+use Rattle.lalrpop_lr1.specs.declared.interpret.machine.Machine.{Machine}
+use Rattle.lalrpop_lr1.proofs.Outcomes.{Reads-append, Reaches-append}
+use Rattle.lalrpop_lr1.proofs.Popping.{numbers_more}
+use Rattle.lalrpop_lr1.proofs.Stacks.{Found, found, on_stack, stack_length, received_moves}
+
+-- a state that lies newest last has its number among those that lie newest first
+number_there : (xs : List StateIndex) (k : ℕ) (x : StateIndex) → slice_get xs k ≡ Some x → (j : ℕ) × (slice_get (numbers xs) j ≡ Some x.0)
+number_there xs k x e =
+    let all = map number_of xs in
+    let within : k < length xs = slice_get_within xs k x e in
+    let size : length all ≡ length xs = length-map xs number_of in
+    let turned : length (reverse all) ≡ length all = length-reverse all in
+    let j = length all - 1 - k in
+    let back : length all - 1 - j ≡ k = omega arith in
+    let there : get_or all k x.0 ≡ x.0 = get_or_from_slice_get all k x.0 x.0 (slice_get-map number_of xs k ∙ ap (option_map number_of) e) in
+    (j, slice_get_read (reverse all) (length (reverse all)) j x.0 refl (omega arith) (sym (get_or-reverse all j x.0 (omega arith) ∙ ap (λ i. get_or all i x.0) back ∙ there)))
+
+module _ (terminals : List TerminalString) (states : List (State Bits)) where
+  -- what the top state holds
+  pub top_is : (m : Machine) (top : State Bits) → slice_get states m.state.0 ≡ Some top → contents terminals states m.state.0 ≡ contents_of (holds_token terminals) top
+  top_is m top there = ap (contents_at (holds_token terminals)) there
+
+  pub by_production : (m : Machine) (top : State Bits) (token : Token) (p : Production) (rest : List TerminalString) → slice_get states m.state.0 ≡ Some top → Some p ≡ reduction_on (contents_of (holds_token terminals) top).reductions token →
+      reduction_move (contents terminals states) (configuration m rest) token ≡ received (contents terminals states) p (drop (length p.symbols) (m.state.0 ∷ numbers m.below.items)) (reduced p (trees_on m.trees.items)) rest
+  by_production m top token p rest there e =
+      ap (reduces (contents terminals states) (configuration m rest)) (ap (λ (s : Contents). reduction_on s.reductions token) (top_is m top there) ∙ sym e)
+
+  pub by_nothing : (m : Machine) (top : State Bits) (token : Token) (rest : List TerminalString) → slice_get states m.state.0 ≡ Some top → None ≡ reduction_on (contents_of (holds_token terminals) top).reductions token →
+      reduction_move (contents terminals states) (configuration m rest) token ≡ Stands
+  by_nothing m top token rest there e =
+      ap (reduces (contents terminals states) (configuration m rest)) (ap (λ (s : Contents). reduction_on s.reductions token) (top_is m top there) ∙ sym e)
+
+  -- a reduction is a step
+  pub is_a_step : (m : Machine) (top : State Bits) (token : Token) (p : Production) (rest : List TerminalString) → slice_get states m.state.0 ≡ Some top → Some p ≡ reduction_on (contents_of (holds_token terminals) top).reductions token →
+      reduction_move (contents terminals states) (configuration m rest) token ≢ Stands
+  is_a_step m top token p rest there e h =
+      received_moves (contents terminals states) p (drop (length p.symbols) (m.state.0 ∷ numbers m.below.items)) (reduced p (trees_on m.trees.items)) rest (sym (by_production m top token p rest there e) ∙ h)
+
+  module _ (coherent : AreCoherent states) (some : 0 < length states) where
+    pub lead : LeadAsItemsSay (contents terminals states) (length states)
+    lead = lead_as_items_say (holds_token terminals) states coherent
+
+    pub top_within : (m : Machine) → IsStacked (contents terminals states) m → m.state.0 < length states
+    top_within m st = on_stack (contents terminals states) (length states) lead some st 0 m.state.0 refl
+
+    -- a reduction can be made
+    pub can_pop : (m : Machine) (top : State Bits) (token : Token) (p : Production) → IsStacked (contents terminals states) m → slice_get states m.state.0 ≡ Some top → Some p ≡ reduction_on (contents_of (holds_token terminals) top).reductions token → CanPop (length states) m (length p.symbols)
+    can_pop m top token p st there e =
+        let c = configuration m [] in
+        let f : Found (contents terminals states) c p = found (contents terminals states) (length states) lead c token p st (ap (λ (s : Contents). reduction_on s.reductions token) (top_is m top there) ∙ sym e) in
+        let fits : length p.symbols ≤ length (numbers m.below.items) = f.popped.fits in
+        let below : length (numbers m.below.items) ≡ length m.below.items = length-reverse (map number_of m.below.items) ∙ length-map m.below.items number_of in
+        let trees : length (trees_on m.trees.items) ≡ length m.trees.items = length-reverse (map _ m.trees.items) ∙ length-map m.trees.items _ in
+        let same : length (trees_on m.trees.items) ≡ length (numbers m.below.items) = stack_length st in
+        record {
+          trees = omega arith;
+          states = omega arith;
+          within = λ k x h.
+              let (j, at) = number_there (m.below.items ++ m.state ∷ []) k x h in
+              on_stack (contents terminals states) (length states) lead some st j x.0 (subst (λ l. slice_get l j ≡ Some x.0) (numbers_more m.below.items m.state) at);
+        }
+
+  -- a shift is the step that the top state has before a terminal
+  pub shift_goes : (m new : Machine) (top : State Bits) (t : TerminalString) (target : StateIndex) (rest : List TerminalString) → slice_get states m.state.0 ≡ Some top → get terminal_ord.ghosts.cmp top.shifts t ≡ Some target → IsShifted m target.0 t new →
+      move (contents terminals states) (configuration m (t ∷ rest)) ≡ Goes (configuration new rest)
+  shift_goes m new top t target rest there e s =
+      let first : move (contents terminals states) (configuration m (t ∷ rest)) ≡ shifts_or (contents terminals states) (configuration m (t ∷ rest)) t rest (Some target.0) =
+          ap (λ (k : Contents). shifts_or (contents terminals states) (configuration m (t ∷ rest)) t rest (k.shift t)) (top_is m top there)
+          ∙ ap (λ o. shifts_or (contents terminals states) (configuration m (t ∷ rest)) t rest (option_map number_of o)) e in
+      first
+      ∙ ap (λ n. Goes (record { state = n; below = m.state.0 ∷ numbers m.below.items; trees = Leaf t ∷ trees_on m.trees.items; rest = rest })) (sym s.state)
+      ∙ ap₂ (λ l ts. Goes (record { state = new.state.0; below = l; trees = ts; rest = rest })) (sym s.below) (sym s.trees)
+
+  pub shift_is_a_step : (m : Machine) (top : State Bits) (t : TerminalString) (target : StateIndex) (rest : List TerminalString) → slice_get states m.state.0 ≡ Some top → get terminal_ord.ghosts.cmp top.shifts t ≡ Some target →
+      move (contents terminals states) (configuration m (t ∷ rest)) ≢ Stands
+  shift_is_a_step m top t target rest there e h =
+      let first : move (contents terminals states) (configuration m (t ∷ rest)) ≡ shifts_or (contents terminals states) (configuration m (t ∷ rest)) t rest (Some target.0) =
+          ap (λ (k : Contents). shifts_or (contents terminals states) (configuration m (t ∷ rest)) t rest (k.shift t)) (top_is m top there)
+          ∙ ap (λ o. shifts_or (contents terminals states) (configuration m (t ∷ rest)) t rest (option_map number_of o)) e in
+      let k : shifts_or (contents terminals states) (configuration m (t ∷ rest)) t rest (Some target.0) ≡ Stands = sym first ∙ h in
+      cc
+
+  -- without a shift the step is the reduction
+  pub no_shift : (m : Machine) (top : State Bits) (t : TerminalString) (rest : List TerminalString) → slice_get states m.state.0 ≡ Some top → get terminal_ord.ghosts.cmp top.shifts t ≡ None →
+      move (contents terminals states) (configuration m (t ∷ rest)) ≡ reduction_move (contents terminals states) (configuration m (t ∷ rest)) (TokenOf t)
+  no_shift m top t rest there e =
+      ap (λ (k : Contents). shifts_or (contents terminals states) (configuration m (t ∷ rest)) t rest (k.shift t)) (top_is m top there)
+      ∙ ap (λ o. shifts_or (contents terminals states) (configuration m (t ∷ rest)) t rest (option_map number_of o)) e
+
+-- a machine before the end of the input to which steps led from a configuration, and what is left of the steps
+pub record HasReached (states : ℕ → Contents) (b : Configuration) (left : ℕ) (m : Machine) : Type 0 where
+  pub steps : ℕ
+  pub reached : Reaches states steps b (configuration m [])
+  pub counted : steps + m.left ≡ left
+
+-- one more step before the end
+pub reaches_on : {states : ℕ → Contents} {b : Configuration} {left : ℕ} (m new : Machine) → HasReached states b left m → move states (configuration m []) ≡ Goes (configuration new []) → suc new.left ≡ m.left → HasReached states b left new
+reaches_on m new r e counted = record {
+  steps = r.steps + 1;
+  reached = Reaches-append r.reached (further e here);
+  counted = let k : r.steps + m.left ≡ _ = r.counted in omega (arith, k);
+}
+
+-- how a run ends before the end of the input
+module _ {states : ℕ → Contents} {b : Configuration} {left : ℕ} (m : Machine) (r : HasReached states b left m) where
+  pub ends_stuck : move states (configuration m []) ≡ Stands → HasOutcomeFrom states b left (Refused m.state.0 Eof)
+  ends_stuck e = stuck_from r.steps (configuration m []) (let k : r.steps + m.left ≡ left = r.counted in omega (arith, k)) r.reached e
+
+  pub ends_parsed : (trees : List Tree) (t : Tree) → move states (configuration m []) ≡ Ends trees → 0 < m.left → trees ≡ t ∷ [] → HasOutcomeFrom states b left (Parsed t)
+  ends_parsed trees t e some one = parsed_from r.steps (configuration m []) trees t (let k : r.steps + m.left ≡ left = r.counted in omega (arith, k)) r.reached e (one, refl)
+
+  pub ends_otherwise : (trees : List Tree) → move states (configuration m []) ≡ Ends trees → 0 < m.left → ((t : Tree) → trees ≡ t ∷ [] → ⊥) → HasOutcomeFrom states b left (Refused m.state.0 Eof)
+  ends_otherwise trees e some other = other_end_from r.steps (configuration m []) trees (let k : r.steps + m.left ≡ left = r.counted in omega (arith, k)) r.reached e (λ t p. other t p.0)
+
+  pub ends_cut_off : move states (configuration m []) ≢ Stands → m.left ≡ 0 → HasOutcomeFrom states b left Limit
+  ends_cut_off e none =
+      let all : r.steps ≡ left = let k : r.steps + m.left ≡ left = r.counted in omega (arith, k) in
+      cut_off_from (configuration m []) (subst (λ n. Reaches states n b (configuration m [])) all r.reached) e
+
+-- one more step before a terminal
+pub reads_on : {states : ℕ → Contents} {b : Configuration} {left : ℕ} (m new : Machine) (t : TerminalString) (rest after : List TerminalString) →
+    HasRead states b left m (t ∷ rest) → move states (configuration m (t ∷ rest)) ≡ Goes (configuration new after) → suc new.left ≡ m.left → HasRead states b left new after
+reads_on m new t rest after r e counted = record {
+  steps = r.steps + 1;
+  reads = Reads-append r.reads (before t rest refl e read);
+  counted = let k : r.steps + m.left ≡ _ = r.counted in omega (arith, k);
+}
+
+-- how a run stops while terminals are left
+module _ {states : ℕ → Contents} {b : Configuration} {left : ℕ} (m : Machine) (t : TerminalString) (rest : List TerminalString) (r : HasRead states b left m (t ∷ rest)) where
+  pub stops_stuck : move states (configuration m (t ∷ rest)) ≡ Stands → StopsReading states b left (Refused m.state.0 (TokenOf t))
+  stops_stuck e = stuck r.steps (configuration m (t ∷ rest)) t rest (let k : r.steps + m.left ≡ left = r.counted in omega (arith, k)) r.reads refl e
+
+  pub stops_early : (trees : List Tree) → move states (configuration m (t ∷ rest)) ≡ Ends trees → 0 < m.left → StopsReading states b left (Refused m.state.0 (TokenOf t))
+  stops_early trees e some = early_end r.steps (configuration m (t ∷ rest)) trees t rest (let k : r.steps + m.left ≡ left = r.counted in omega (arith, k)) r.reads refl e
+
+  pub stops_cut_off : move states (configuration m (t ∷ rest)) ≢ Stands → m.left ≡ 0 → StopsReading states b left Limit
+  stops_cut_off e none =
+      let all : r.steps ≡ left = let k : r.steps + m.left ≡ left = r.counted in omega (arith, k) in
+      cut_off (configuration m (t ∷ rest)) t rest (subst (λ n. Reads states n b (configuration m (t ∷ rest))) all r.reads) refl e
+
+  pub stops_spent : (list : List (State Bits)) → move states (configuration m (t ∷ rest)) ≢ Stands → (e : InterpretError) → IsSpent m e → IsFailure (StopsReading states b left) list e
+  stops_spent list h (RefusedBy state token) s = absurd s
+  stops_spent list h LimitPassed s = stops_cut_off h s
+  stops_spent list h Memory s = tt
