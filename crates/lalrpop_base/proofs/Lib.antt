@@ -12,3 +12,5 @@ pub mod FirstFixpoint
 pub mod PlaceLemmas
 pub mod ContentsViews
 pub mod HeldTokens
+pub mod ViewLemmas
+pub mod ConflictLemmas

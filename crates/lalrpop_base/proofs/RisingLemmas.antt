@@ -9,7 +9,7 @@ use Rattle.std.specs.List.{list_any, filter}
 use Rattle.std.proofs.lemmas.List.{drop_all, append-nil}
 use Rattle.std.proofs.lemmas.List.Folds.{list_any_at}
 use Rattle.std.proofs.lemmas.Bool.{cases_Bool, cases_order, cases_lt, or_cases, lt-ltb, le-ltb}
-use Rattle.lalrpop_base.specs.Bits.{Bits, has, rising, bits_of, join, IsRising, has-bits_of, has-join, same_bits, bits_of-rising}
+use Rattle.lalrpop_base.specs.Bits.{Bits, has, rising, bits_of, join, IsRising, has-bits_of, has-rising, has-join, same_bits, bits_of-rising}
 use Rattle.lalrpop_base.specs.Rising.{merge, merge_head, lesser_first, IsFoundAt, IsGapAt}
 
 -- the list rises, from a number on
@@ -245,6 +245,9 @@ never_falls xs up i j l w = ⊎_elim (λ less. omega (arith, up i j less w)) (λ
 -- the bits of a set, as a list, have what the set has
 pub has_of_rising : (xs : List ℕ) (s : Bits) (q : ℕ) → xs ≡ rising s → has (bits_of xs) q ≡ has s q
 has_of_rising xs s q e = ap (λ ys. has (bits_of ys) q) e ∙ ap (λ t. has t q) (bits_of-rising s)
+
+pub filter_bits : (p : ℕ → Bool) (s : Bits) (q : ℕ) → has (bits_of (filter p (rising s))) q ≡ (has s q && p q)
+filter_bits p s q = has-bits_of (filter p (rising s)) q ∙ filter_any q p (rising s) ∙ ap (λ b. b && p q) (sym (has-rising s q))
 
 pub filter_has : (xs ys : List ℕ) (s t : Bits) → xs ≡ rising s → ys ≡ rising t → (q : ℕ) → has (bits_of (filter (λ b. has (bits_of ys) b) xs)) q ≡ (has s q && has t q)
 filter_has xs ys s t e f q =

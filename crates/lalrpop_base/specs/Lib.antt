@@ -4,8 +4,8 @@ pub mod Closures
 pub mod Coherent
 pub mod Collapse
 pub mod Conflicts
-pub mod Copies
 pub mod Contents
+pub mod Copies
 pub mod Each
 pub mod Exact
 pub mod First
@@ -22,11 +22,14 @@ pub mod Renumbering
 pub mod Rising
 pub mod Runs
 pub mod SameGrammars
+pub mod StateConflicts
+pub mod StateCopies
 pub mod States
 pub mod TerminalPlaces
 pub mod Ties
 pub mod Tokens
 pub mod Trees
 pub mod Validity
+pub mod ViewFolds
 pub mod Views
 pub mod WellFormed

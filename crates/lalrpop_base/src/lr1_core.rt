@@ -1,5 +1,9 @@
 //! Items, states and what goes wrong with them.
+mod clones;
 pub mod coherent;
 pub mod compared;
+pub mod conflict;
 pub mod item;
 pub mod state;
+pub mod symbol_sets;
+mod views;

@@ -4,6 +4,10 @@
 
 #[cfg(test)]
 mod first;
+#[cfg(test)]
+mod lookahead;
+#[cfg(test)]
+mod lr1_core;
 pub mod plain;
 #[cfg(test)]
 mod repr;

@@ -94,7 +94,7 @@ impl TokenSet {
         requires { IsKnown terminals.now token }
         ensures { IfOk result (λ set. (bit : ℕ) → IsBitOf terminals.now token bit → set ≡ with_bit no_bits bit) }
     {
-        let mut set = TokenSet::empty_set(alloc);
+        let mut set = TokenSet::new(alloc, terminals);
         set.insert(token, terminals)?;
         Ok(set)
     }

@@ -128,7 +128,7 @@ impl TokenSet {
         ensures yes { IsTrue result → (bit : ℕ) × IsTrue (has self.now bit) × IsTrue (has other.now bit) }
         ensures no { IsFalse result → (bit : ℕ) → IsTrue (has self.now bit) → IsTrue (has other.now bit) → ⊥ }
     {
-        have_common(self.bits(), other.bits())
+        !self.is_disjoint(other)
     }
 
     /// Makes room for more bits.
@@ -145,6 +145,15 @@ impl TokenSet {
         Ok(TokenSet {
             bits: Vec::from_slice(alloc, &self.bits)?,
         })
+    }
+
+    // The set of one bit.
+    pub(crate) fn single(alloc: Global, bit: usize) -> Result<TokenSet, OutOfMemory>
+        ensures { IfOk result (λ set. set ≡ with_bit no_bits bit) }
+    {
+        let mut set = TokenSet::empty_set(alloc);
+        set.insert_bit(bit)?;
+        Ok(set)
     }
 
     // The set of the numbers below a count.

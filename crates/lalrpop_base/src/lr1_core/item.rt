@@ -2,10 +2,10 @@
 ghost use Rattle.std.specs.Prelude.{◌≡◌, ◌+◌, ◌-◌, ◌<◌, ◌≤◌, ◌==◌, ◌↔◌, ℕ, List, length, take, drop, IsTrue, IfOk, IfSome, IsNone, Some, None, slice_get, option_copied};
 ghost use Rattle.lalrpop_base.specs.Items.{Dotted};
 
+use super::symbol_sets::SymbolSets;
+use crate::exact::equal;
 use crate::lookahead::token_set::TokenSet;
-use crate::memory::OutOfMemory;
 use crate::repr::{NonterminalString, Production, Symbol};
-use std::alloc::Global;
 use std::fmt;
 use std::marker::Model;
 
@@ -37,6 +37,57 @@ impl<'grammar, L> Item<'grammar, L> {
     {
         let production = self.production;
         &production.symbols.as_slice()[..self.index]
+    }
+
+    /// The symbols behind the dot.
+    pub fn rest(&self) -> &'grammar [Symbol]
+        ensures { result.now ≡ drop self.now.index self.now.production.symbols }
+    {
+        let production = self.production;
+        &production.symbols.as_slice()[self.index..]
+    }
+
+    /// The symbols before the dot, the one behind it and those that follow.
+    pub fn symbol_sets(&self) -> SymbolSets<'grammar>
+        ensures prefix { result.prefix.now ≡ take self.now.index self.now.production.symbols }
+        ensures cursor { option_copied result.cursor ≡ slice_get self.now.production.symbols self.now.index }
+        ensures suffix { result.suffix.now ≡ drop (self.now.index + 1) self.now.production.symbols }
+    {
+        match self.shift_symbol() {
+            Some((symbol, rest)) => SymbolSets {
+                prefix: self.prefix(),
+                cursor: Some(symbol),
+                suffix: rest,
+            },
+            None => SymbolSets {
+                prefix: self.prefix(),
+                cursor: None,
+                suffix: &[],
+            },
+        }
+    }
+
+    /// The same production and dot with another lookahead.
+    pub fn with_lookahead<M>(&self, lookahead: M) -> Item<'grammar, M>
+        ensures production { result.production ≡ self.now.production }
+        ensures index { result.index ≡ self.now.index }
+        ensures lookahead { result.lookahead ≡ lookahead }
+    {
+        Item {
+            production: self.production,
+            index: self.index,
+            lookahead,
+        }
+    }
+
+    /// Whether the nonterminal stands behind the dot.
+    pub fn can_shift_nonterminal(&self, nonterminal: &NonterminalString) -> bool
+        ensures { IsTrue result ↔ (slice_get self.now.production.symbols self.now.index ≡ Some (Symbol.Nonterminal nonterminal.now)) }
+    {
+        match self.shift_symbol() {
+            Some((symbol, _)) => is_nonterminal(symbol, nonterminal),
+            None => false,
+        }
     }
 
     /// The symbol before the dot of an item whose dot moved.
@@ -72,6 +123,16 @@ impl<'grammar, L> Item<'grammar, L> {
         } else {
             None
         }
+    }
+}
+
+// Whether a symbol is the nonterminal.
+fn is_nonterminal(symbol: &Symbol, nonterminal: &NonterminalString) -> bool
+    ensures { IsTrue result ↔ (symbol.now ≡ Symbol.Nonterminal nonterminal.now) }
+{
+    match symbol {
+        Symbol::Nonterminal(name) => equal(name, nonterminal),
+        Symbol::Terminal(_) => false,
     }
 }
 

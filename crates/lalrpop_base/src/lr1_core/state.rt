@@ -1,10 +1,11 @@
 //! States, actions, conflicts and errors.
-ghost use Rattle.std.specs.Prelude.{◌≡◌, option_copied};
-ghost use Rattle.lalrpop_base.specs.Views.{popped, shorter_of};
+ghost use Rattle.std.specs.Prelude.{◌≡◌, ◌++◌, Some, codes, decimal};
+ghost use Rattle.lalrpop_base.specs.declared.lr1_core.state.BuildError.TheVariants.{Conflicts, Memory};
 
 use super::item::Item;
 use crate::lookahead::token_set::TokenSet;
-use crate::repr::{NonterminalString, Production, Symbol, TerminalString};
+use crate::memory::OutOfMemory;
+use crate::repr::{NonterminalString, Production, TerminalString};
 use std::collections::BTreeMap;
 use std::fmt;
 use thiserror::Error;
@@ -14,12 +15,16 @@ use thiserror::Error;
 pub struct StateIndex(pub usize);
 
 impl fmt::Debug for StateIndex {
+    ghost debug_output = { λ index. Some (codes "S" ++ decimal index.0) };
+
     fn fmt<W: fmt::Write>(&self, f: &mut fmt::Formatter<W>) -> fmt::Result {
         write!(f, "S{}", self.0)
     }
 }
 
 impl fmt::Display for StateIndex {
+    ghost output = { λ index. Some (decimal index.0) };
+
     fn fmt<W: fmt::Write>(&self, f: &mut fmt::Formatter<W>) -> fmt::Result {
         write!(f, "{}", self.0)
     }
@@ -42,6 +47,8 @@ pub struct State<'grammar, L> {
     pub reductions: Vec<(L, &'grammar Production)>,
     pub gotos: BTreeMap<NonterminalString, StateIndex>,
 }
+
+pub type Lr1Items<'grammar> = Items<'grammar, TokenSet>;
 
 pub type Lr1State<'grammar> = State<'grammar, TokenSet>;
 
@@ -71,6 +78,8 @@ pub struct TableConstructionError<'grammar, L> {
     pub conflicts: Vec<Conflict<'grammar, L>>,
 }
 
+pub type Lr1TableConstructionError<'grammar> = TableConstructionError<'grammar, TokenSet>;
+
 /// Why there is no table.
 #[derive(Drop, Error)]
 #[derive_where(Debug; L: fmt::Debug)]
@@ -86,36 +95,18 @@ pub type LrResult<'grammar, L> = Result<Vec<State<'grammar, L>>, BuildError<'gra
 
 pub type Lr1Result<'grammar> = LrResult<'grammar, TokenSet>;
 
-impl<'grammar, L> State<'grammar, L> {
-    /// The first shortest prefix of the items whose dot moved, else nothing.
-    pub fn will_pop(&self) -> &'grammar [Symbol]
-        ensures { result.now ≡ popped self.now.items.vec.items }
-    {
-        let mut best: Option<&'grammar [Symbol]> = None;
-        for item in self.items.vec.iter() {
-            if item.index > 0 {
-                best = shorter(best, item.prefix());
-            }
-        }
-        match best {
-            Some(prefix) => prefix,
-            None => &[],
-        }
+impl<'grammar, L> From<OutOfMemory> for BuildError<'grammar, L> {
+    ghost from_gives = { λ _ e. e ≡ Memory };
+
+    fn from(_error: OutOfMemory) -> BuildError<'grammar, L> {
+        BuildError::Memory
     }
 }
 
-// The shorter of two lists, the first where they are as long.
-fn shorter<'a>(best: Option<&'a [Symbol]>, next: &'a [Symbol]) -> Option<&'a [Symbol]>
-    ensures { option_copied result ≡ shorter_of (option_copied best.entry) next.now }
-{
-    match best {
-        Some(list) => {
-            if next.len() < list.len() {
-                Some(next)
-            } else {
-                Some(list)
-            }
-        }
-        None => Some(next),
+impl<'grammar, L> From<TableConstructionError<'grammar, L>> for BuildError<'grammar, L> {
+    ghost from_gives = { λ error e. e ≡ Conflicts error };
+
+    fn from(error: TableConstructionError<'grammar, L>) -> BuildError<'grammar, L> {
+        BuildError::Conflicts(error)
     }
 }

@@ -1,0 +1,206 @@
+-- The conflicts of a state, one shift or reduction at a time.
+use Rattle.std.proofs.Common.{◌≡◌, ◌≢◌, ℕ, zero, suc, ◌+◌, ◌<◌, ◌≤◌, ◌==◌, ⊎_elim, Bool, true, false, ◌&&◌, List, [], ◌∷◌, ◌++◌, map, length, take, drop, get_or, refl, sym, ◌∙◌, ap, subst, arith, append_assoc}
+use Rattle.std.specs.Prelude.{cond, slice_get, Option, Some, None, unwrap_or, IfSome, IsNone, Contains, IsTrue, IsFalse, ◌↔◌}
+use Rattle.std.specs.List.{filter, flat_map, list_any}
+use Rattle.std.specs.Borrow.{Bor}
+use Rattle.std.proofs.lemmas.List.{append-nil, take_more, take_all, drop_more, drop_all}
+use Rattle.std.proofs.lemmas.List.Folds.{list_any_at}
+use Rattle.std.proofs.lemmas.Bool.{cases_Bool, cases_lt, or_cases}
+use mathlib.Core.Bool.{true≢false}
+use Rattle.lalrpop_base.specs.declared.repr.TerminalString.{TerminalString}
+use Rattle.lalrpop_base.specs.declared.lr1_core.state.StateIndex.{StateIndex}
+use Rattle.lalrpop_base.specs.declared.lr1_core.state.State.{State}
+use Rattle.lalrpop_base.specs.declared.lr1_core.state.Conflict.{Conflict}
+use Rattle.lalrpop_base.specs.declared.lr1_core.state.Action.TheVariants.{Reduce}
+use Rattle.lalrpop_base.specs.contracts.repr.TerminalStringPartialEq.TheImpl as terminal
+use Rattle.lalrpop_base.specs.contracts.repr.TerminalStringEq.TheImpl.Laws as equality
+use Rattle.lalrpop_base.specs.contracts.exact.TerminalStringExact.TheImpl.Laws.{exact-law}
+use Rattle.lalrpop_base.specs.Bits.{Bits, has, rising, bits_of, has-at, has-place, same_bits}
+use Rattle.lalrpop_base.specs.StateConflicts.{Reduction, place_from, place_of, meet, share, conflicts_on_bit, conflicts_on_place, shift_conflicts, reduce_conflicts, later_conflicts, reduce_conflict, shift_conflict, state_conflicts, HasNoConflict}
+use Rattle.lalrpop_base.proofs.RisingLemmas.{filter_bits}
+
+-- the bit that a set of terminals answers is the place
+same_terminal : (x y : TerminalString) → terminal.ghosts.eq x y ≡ true → x ≡ y
+same_terminal x y e = exact-law x y e
+
+place_from_first : (n : ℕ) (xs : List TerminalString) (t : TerminalString) (bit : ℕ) → slice_get xs bit ≡ Some t → ((j : ℕ) → slice_get xs j ≡ Some t → j ≡ bit) → place_from n xs t ≡ Some (n + bit)
+place_from_first n [] t bit at one = cc
+place_from_first n (x ∷ xs) t zero at one =
+    let same : x ≡ t = ap (λ o. unwrap_or o x) at in
+    ap (λ y. cond (terminal.ghosts.eq y t) (Some n) (place_from (n + 1) xs t)) same ∙ ap (λ b. cond b (Some n) (place_from (n + 1) xs t)) (equality.laws-law.refl t) ∙ ap (λ k. Some k) (omega arith)
+place_from_first n (x ∷ xs) t (suc bit) at one =
+    ⊎_elim
+    (λ here. absurd (never bit (one 0 (ap (λ y. Some y) (same_terminal x t here)))))
+    (λ other. ap (λ b. cond b (Some n) (place_from (n + 1) xs t)) other ∙ place_from_first (n + 1) xs t bit at (λ j there. pred j bit (one (suc j) there)) ∙ ap (λ k. Some k) (omega arith))
+    (cases_Bool (terminal.ghosts.eq x t))
+  where
+    never : (k : ℕ) → zero ≡ suc k → ⊥
+    never k e = omega arith
+
+    pred : (j k : ℕ) → suc j ≡ suc k → j ≡ k
+    pred j k e = omega arith
+
+place_from_none : (n : ℕ) (xs : List TerminalString) (t : TerminalString) → ((j : ℕ) → slice_get xs j ≡ Some t → ⊥) → place_from n xs t ≡ None
+place_from_none n [] t out = refl
+place_from_none n (x ∷ xs) t out =
+    ⊎_elim
+    (λ here. absurd (out 0 (ap (λ y. Some y) (same_terminal x t here))))
+    (λ other. ap (λ b. cond b (Some n) (place_from (n + 1) xs t)) other ∙ place_from_none (n + 1) xs t (λ j there. out (suc j) there))
+    (cases_Bool (terminal.ghosts.eq x t))
+
+some_place : (j bit : ℕ) (o : Option ℕ) → o ≡ Some bit → o ≡ Some j → j ≡ bit
+some_place j bit o e f = ap (λ z. unwrap_or z bit) (sym f ∙ e)
+
+pub bit_is_place : (xs : List TerminalString) (t : TerminalString) (o : Option ℕ) → IfSome o (λ bit. slice_get xs bit ≡ Some t) → ((bit : ℕ) → slice_get xs bit ≡ Some t → o ≡ Some bit) → place_of xs t ≡ o
+bit_is_place xs t (Some bit) found only = place_from_first 0 xs t bit found (λ j at. some_place j bit (Some bit) refl (only j at)) ∙ ap (λ k. Some k) (omega arith)
+bit_is_place xs t None found only = place_from_none 0 xs t (λ j at. none_some j (only j at))
+  where
+    none_some : (j : ℕ) → None ≡ Some j → ⊥
+    none_some j e = cc
+
+module _ {X Y : Type 0} (f : X → Y) (p : X → Bool) where
+  kept-append : (xs ys : List X) → map f (filter p (xs ++ ys)) ≡ map f (filter p xs) ++ map f (filter p ys)
+  kept-append [] ys = refl
+  kept-append (x ∷ xs) ys =
+      elim (p x) as (λ t. map f (cond t (x ∷ filter p (xs ++ ys)) (filter p (xs ++ ys))) ≡ map f (cond t (x ∷ filter p xs) (filter p xs)) ++ map f (filter p ys)) [
+        | true ↦ ap (λ zs. f x ∷ zs) (kept-append xs ys)
+        | false ↦ kept-append xs ys
+      ]
+
+  -- a list that has grown by what is kept of one more
+  pub kept_more : (list new start : List Y) (xs : List X) (i : ℕ) (x : X) → i < length xs → x ≡ get_or xs i x → list ≡ start ++ map f (filter p (take i xs)) → new ≡ list ++ map f (filter p (x ∷ [])) →
+      new ≡ start ++ map f (filter p (take (i + 1) xs))
+  kept_more list new start xs i x l is so_far grown =
+      let longer : take (i + 1) xs ≡ take i xs ++ x ∷ [] = take_more xs i x l ∙ ap (λ y. take i xs ++ y ∷ []) (sym is) in
+      grown ∙ ap (λ ys. ys ++ map f (filter p (x ∷ []))) so_far ∙ append_assoc start (map f (filter p (take i xs))) (map f (filter p (x ∷ [])))
+      ∙ ap (λ ys. start ++ ys) (sym (ap (λ ys. map f (filter p ys)) longer ∙ kept-append (take i xs) (x ∷ [])))
+
+  pub kept_end : (list start : List Y) (xs : List X) (i : ℕ) → length xs ≤ i → list ≡ start ++ map f (filter p (take i xs)) → list ≡ start ++ map f (filter p xs)
+  kept_end list start xs i l so_far = so_far ∙ ap (λ ys. start ++ map f (filter p ys)) (take_all i xs l)
+
+  kept_none : (xs : List X) → ((k : ℕ) (x : X) → slice_get xs k ≡ Some x → p x ≡ false) → map f (filter p xs) ≡ []
+  kept_none [] out = refl
+  kept_none (x ∷ xs) out = ap (λ t. map f (cond t (x ∷ filter p xs) (filter p xs))) (out 0 x refl) ∙ kept_none xs (λ k y at. out (suc k) y at)
+
+  none_kept : (xs : List X) → map f (filter p xs) ≡ [] → (k : ℕ) (x : X) → slice_get xs k ≡ Some x → p x ≡ true → ⊥
+  none_kept [] e k x at holds = cc
+  none_kept (y ∷ xs) e zero x at holds =
+      let same : y ≡ x = ap (λ o. unwrap_or o y) at in
+      cons_nil (f y) (map f (filter p xs)) (ap (λ t. map f (cond t (y ∷ filter p xs) (filter p xs))) (sym (ap p same ∙ holds)) ∙ e)
+    where
+      cons_nil : (z : Y) (zs : List Y) → z ∷ zs ≡ [] → ⊥
+      cons_nil z zs e = cc
+  none_kept (y ∷ xs) e (suc k) x at holds = none_kept xs (rest (p y) e) k x at holds
+    where
+      rest : (t : Bool) → map f (cond t (y ∷ filter p xs) (filter p xs)) ≡ [] → map f (filter p xs) ≡ []
+      rest true e = cc
+      rest false e = e
+
+-- sets that have a bit in common share it
+pub shared : (s t : Bits) (b : ℕ) → has s b ≡ true → has t b ≡ true → share s t ≡ true
+shared s t b here there = let place = has-place s b here in list_any_at (λ q. has t q) (rising s) place.0 0 place.1 (ap (λ q. has t q) place.2 ∙ there)
+
+share_place : (t : Bits) (xs : List ℕ) → list_any (λ q. has t q) xs ≡ true → (k : ℕ) × (k < length xs) × (has t (get_or xs k 0) ≡ true)
+share_place t [] h = cc
+share_place t (x ∷ xs) h = ⊎_elim (λ here. (0, omega arith, here)) (λ later. let rest = share_place t xs later in (suc rest.0, omega (arith, rest.1), rest.2)) (or_cases (has t x) (list_any (λ q. has t q) xs) h)
+
+pub share_some : (s t : Bits) → share s t ≡ true → (b : ℕ) × (has s b ≡ true) × (has t b ≡ true)
+share_some s t h = let place = share_place t (rising s) h in (get_or (rising s) place.0 0, has-at s place.0 place.1, place.2)
+
+pub share_none : (s t : Bits) → ((b : ℕ) → has s b ≡ true → has t b ≡ true → ⊥) → share s t ≡ false
+share_none s t out = ⊎_elim (λ h. let some = share_some s t h in absurd (out some.0 some.1 some.2)) (λ f. f) (cases_Bool (share s t))
+
+pub meet_is : (s t both : Bits) → ((q : ℕ) → has both q ≡ (has s q && has t q)) → both ≡ meet s t
+meet_is s t both h = same_bits both (meet s t) (λ q. h q ∙ sym (filter_bits (λ b. has t b) s q))
+
+-- two reductions share a token, or they do not
+pub later_none : (state : StateIndex) (r s : Reduction) (list : List (Conflict Bits)) → ((b : ℕ) → has r.0 b ≡ true → has s.0 b ≡ true → ⊥) → list ≡ list ++ later_conflicts state r (s ∷ [])
+later_none state r s list out = sym (ap (λ t. list ++ map (reduce_conflict state r) (cond t (s ∷ []) [])) (share_none r.0 s.0 out) ∙ append-nil list)
+
+pub later_one : (state : StateIndex) (r s : Reduction) (list new : List (Conflict Bits)) (both : Bits) → (b : ℕ) × (has r.0 b ≡ true) × (has s.0 b ≡ true) → ((q : ℕ) → has both q ≡ (has r.0 q && has s.0 q)) →
+    new ≡ list ++ record { state = state; lookahead = both; production = r.1; action = Reduce s.1 } ∷ [] → new ≡ list ++ later_conflicts state r (s ∷ [])
+later_one state r s list new both some meets grown =
+    let one : Bits → Conflict Bits = λ l. record { state = state; lookahead = l; production = r.1; action = Reduce s.1 } in
+    grown ∙ ap (λ l. list ++ one l ∷ []) (meet_is r.0 s.0 both meets)
+    ∙ sym (ap (λ t. list ++ map (reduce_conflict state r) (cond t (s ∷ []) [])) (shared r.0 s.0 some.0 some.1 some.2))
+
+-- one reduction with each later one, then the rest
+pub reduce_more : (state : StateIndex) (list new start : List (Conflict Bits)) (rs : List Reduction) (i : ℕ) (r : Reduction) → i < length rs → r ≡ get_or rs i r →
+    list ++ reduce_conflicts state (drop i rs) ≡ start ++ reduce_conflicts state rs → new ≡ list ++ later_conflicts state r (drop (i + 1) rs) →
+    new ++ reduce_conflicts state (drop (i + 1) rs) ≡ start ++ reduce_conflicts state rs
+reduce_more state list new start rs i r l is so_far grown =
+    let rest : drop i rs ≡ r ∷ drop (i + 1) rs = drop_more rs i r l ∙ ap (λ x. x ∷ drop (i + 1) rs) (sym is) in
+    ap (λ ys. ys ++ reduce_conflicts state (drop (i + 1) rs)) grown ∙ append_assoc list (later_conflicts state r (drop (i + 1) rs)) (reduce_conflicts state (drop (i + 1) rs))
+    ∙ ap (λ ys. list ++ ys) (sym (ap (λ ys. reduce_conflicts state ys) rest)) ∙ so_far
+
+pub reduce_end : (state : StateIndex) (list start : List (Conflict Bits)) (rs : List Reduction) (i : ℕ) → length rs ≤ i → list ++ reduce_conflicts state (drop i rs) ≡ start ++ reduce_conflicts state rs →
+    list ≡ start ++ reduce_conflicts state rs
+reduce_end state list start rs i l so_far = sym (ap (λ ys. list ++ reduce_conflicts state ys) (drop_all i rs l) ∙ append-nil list) ∙ so_far
+
+-- one shift, then the rest
+pub shift_more : (terminals : List TerminalString) (state : StateIndex) (rs : List Reduction) (list new start : List (Conflict Bits)) (whole before rest : List (TerminalString × StateIndex)) (e : TerminalString × StateIndex) →
+    before ≡ e ∷ rest → list ++ flat_map (shift_conflicts terminals state rs) before ≡ start ++ flat_map (shift_conflicts terminals state rs) whole → new ≡ list ++ shift_conflicts terminals state rs e →
+    new ++ flat_map (shift_conflicts terminals state rs) rest ≡ start ++ flat_map (shift_conflicts terminals state rs) whole
+shift_more terminals state rs list new start whole before rest e is so_far grown =
+    ap (λ ys. ys ++ flat_map (shift_conflicts terminals state rs) rest) grown ∙ append_assoc list (shift_conflicts terminals state rs e) (flat_map (shift_conflicts terminals state rs) rest)
+    ∙ ap (λ ys. list ++ ys) (sym (ap (λ ys. flat_map (shift_conflicts terminals state rs) ys) is)) ∙ so_far
+
+both_empty : {X : Type 0} (xs ys : List X) → xs ++ ys ≡ [] → (xs ≡ []) × (ys ≡ [])
+both_empty [] ys e = (refl, e)
+both_empty (x ∷ xs) ys e = cc
+
+module _ (terminals : List TerminalString) (state : StateIndex) (rs : List Reduction) where
+  none_shifted : (entries : List (TerminalString × StateIndex)) → flat_map (shift_conflicts terminals state rs) entries ≡ [] →
+      (k j bit : ℕ) (t : TerminalString) (target : StateIndex) (r : Reduction) → slice_get entries k ≡ Some (t, target) → place_of terminals t ≡ Some bit → slice_get rs j ≡ Some r → has r.0 bit ≡ true → ⊥
+  none_shifted [] e k j bit t target r at place there holds = cc
+  none_shifted (x ∷ entries) e zero j bit t target r at place there holds =
+      let first = (both_empty (shift_conflicts terminals state rs x) (flat_map (shift_conflicts terminals state rs) entries) e).0 in
+      let same : x ≡ (t, target) = ap (λ o. unwrap_or o x) at in
+      none_kept (shift_conflict state t target bit) (λ s. has s.0 bit) rs
+      (sym (ap (λ o. conflicts_on_place state t target rs o) place) ∙ sym (ap (λ y. shift_conflicts terminals state rs y) same) ∙ first) j r there holds
+  none_shifted (x ∷ entries) e (suc k) j bit t target r at place there holds =
+      none_shifted entries (both_empty (shift_conflicts terminals state rs x) (flat_map (shift_conflicts terminals state rs) entries) e).1 k j bit t target r at place there holds
+
+  no_shifted : (entries : List (TerminalString × StateIndex)) →
+      ((k j bit : ℕ) (t : TerminalString) (target : StateIndex) (r : Reduction) → slice_get entries k ≡ Some (t, target) → place_of terminals t ≡ Some bit → slice_get rs j ≡ Some r → has r.0 bit ≡ true → ⊥) →
+      flat_map (shift_conflicts terminals state rs) entries ≡ []
+  no_shifted [] out = refl
+  no_shifted ((t, target) ∷ entries) out =
+      ap (λ ys. ys ++ flat_map (shift_conflicts terminals state rs) entries) (at_place (place_of terminals t) refl) ∙ no_shifted entries (λ k j bit u to r at. out (suc k) j bit u to r at)
+    where
+      at_place : (o : Option ℕ) → place_of terminals t ≡ o → conflicts_on_place state t target rs (place_of terminals t) ≡ []
+      at_place None e = ap (λ o. conflicts_on_place state t target rs o) e
+      at_place (Some bit) e =
+          ap (λ o. conflicts_on_place state t target rs o) e
+          ∙ kept_none (shift_conflict state t target bit) (λ s. has s.0 bit) rs (λ j r at. ⊎_elim (λ h. absurd (out 0 j bit t target r refl e at h)) (λ f. f) (cases_Bool (has r.0 bit)))
+
+module _ (state : StateIndex) where
+  none_reduced : (rs : List Reduction) → reduce_conflicts state rs ≡ [] →
+      (i j bit : ℕ) (r s : Reduction) → i < j → slice_get rs i ≡ Some r → slice_get rs j ≡ Some s → has r.0 bit ≡ true → has s.0 bit ≡ true → ⊥
+  none_reduced [] e i j bit r s l at there here holds = cc
+  none_reduced (x ∷ rs) e i zero bit r s l at there here holds = omega arith
+  none_reduced (x ∷ rs) e zero (suc j) bit r s l at there here holds =
+      let same : x ≡ r = ap (λ o. unwrap_or o x) at in
+      none_kept (reduce_conflict state x) (λ t. share x.0 t.0) rs (both_empty (later_conflicts state x rs) (reduce_conflicts state rs) e).0 j s there
+      (shared x.0 s.0 bit (ap (λ y. has y.0 bit) same ∙ here) holds)
+  none_reduced (x ∷ rs) e (suc i) (suc j) bit r s l at there here holds =
+      none_reduced rs (both_empty (later_conflicts state x rs) (reduce_conflicts state rs) e).1 i j bit r s (omega arith) at there here holds
+
+  no_reduced : (rs : List Reduction) → ((i j bit : ℕ) (r s : Reduction) → i < j → slice_get rs i ≡ Some r → slice_get rs j ≡ Some s → has r.0 bit ≡ true → has s.0 bit ≡ true → ⊥) →
+      reduce_conflicts state rs ≡ []
+  no_reduced [] out = refl
+  no_reduced (x ∷ rs) out =
+      ap (λ ys. ys ++ reduce_conflicts state rs)
+      (kept_none (reduce_conflict state x) (λ t. share x.0 t.0) rs (λ j s at. share_none x.0 s.0 (λ b here holds. out 0 (suc j) b x s (omega arith) refl at here holds)))
+      ∙ no_reduced rs (λ i j bit r s l at there here holds. out (suc i) (suc j) bit r s (omega arith) at there here holds)
+
+-- the list is empty exactly where the state has no conflict
+pub none_exactly : (terminals : List TerminalString) (state : State Bits) → (state_conflicts terminals state ≡ []) ↔ HasNoConflict terminals state
+none_exactly terminals state = (
+  λ e. let parts = both_empty (flat_map (shift_conflicts terminals state.index state.reductions.items) state.shifts.entries) (reduce_conflicts state.index state.reductions.items) e in record {
+    shifts = none_shifted terminals state.index state.reductions.items state.shifts.entries parts.0;
+    reductions = none_reduced state.index state.reductions.items parts.1;
+  },
+  λ h.
+      ap (λ ys. ys ++ reduce_conflicts state.index state.reductions.items) (no_shifted terminals state.index state.reductions.items state.shifts.entries h.shifts) ∙ no_reduced state.index state.reductions.items h.reductions,
+)

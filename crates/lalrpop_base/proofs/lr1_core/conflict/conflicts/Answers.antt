@@ -1,0 +1,12 @@
+use Rattle.std.proofs.Common.{◌≡◌, [], List, sym, subst}
+use Rattle.std.specs.Prelude.{◌↔◌}
+use Rattle.lalrpop_base.specs.Bits.{Bits}
+use Rattle.lalrpop_base.specs.declared.lr1_core.state.Conflict.{Conflict}
+use Rattle.lalrpop_base.specs.StateConflicts.{HasNoConflict}
+use Rattle.lalrpop_base.proofs.ConflictLemmas.{none_exactly}
+use Rattle.lalrpop_base.proofs.lr1_core.conflict.conflicts.Goals as goal
+
+pub returns-clause-none : goal.returns-clause-none
+returns-clause-none c =
+    subst (λ (list : List (Conflict Bits)). (list ≡ []) ↔ HasNoConflict c.args.terminals.now c.args.state.now) (sym c.in_ok-list.ensures)
+    (none_exactly c.args.terminals.now c.args.state.now)

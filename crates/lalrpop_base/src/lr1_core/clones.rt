@@ -1,0 +1,122 @@
+//! Copies of items, states, actions and conflicts.
+ghost use Rattle.std.specs.Prelude.{◌≡◌, ◌+◌, ◌<◌, IfOk, IsSome, IsNone, IfSome, Some, length, slice_get};
+ghost use Rattle.lalrpop_base.specs.StateCopies.{IsSameState, IsShiftedItem};
+
+use super::item::Item;
+use super::state::{Action, Conflict, Items, State};
+use crate::lookahead::token_set::TokenSet;
+use crate::memory::OutOfMemory;
+use crate::repr::{Production, Symbol, TerminalString};
+use std::alloc::{AllocError, Global};
+
+impl Clone for TerminalString {
+    ghost is_clone = { λ terminal copy. copy ≡ terminal };
+
+    fn clone(&self) -> Result<TerminalString, AllocError> {
+        let alloc = match self {
+            TerminalString::Literal(text) => text.allocator(),
+            TerminalString::Bare(text) => text.allocator(),
+            TerminalString::Error => return Ok(TerminalString::Error),
+        };
+        match self.clone(alloc) {
+            Ok(copy) => Ok(copy),
+            Err(OutOfMemory) => Err(AllocError),
+        }
+    }
+}
+
+impl<'grammar> Item<'grammar, TokenSet> {
+    /// A copy of its own.
+    pub fn clone(&self, alloc: Global) -> Result<Self, OutOfMemory>
+        ensures copy { IfOk result (λ copy. copy ≡ self.now) }
+    {
+        Ok(self.with_lookahead(self.lookahead.clone(alloc)?))
+    }
+
+    /// The symbol behind the dot, and the item with the dot behind it.
+    pub fn shifted_item(
+        &self,
+        alloc: Global,
+    ) -> Result<Option<(&'grammar Symbol, Item<'grammar, TokenSet>)>, OutOfMemory>
+        ensures shifted { IfOk result (IsShiftedItem self.now) }
+    {
+        let symbols = self.production.symbols.as_slice();
+        if self.index < symbols.len() {
+            let item = Item {
+                production: self.production,
+                index: self.index + 1,
+                lookahead: self.lookahead.clone(alloc)?,
+            };
+            Ok(Some((&symbols[self.index], item)))
+        } else {
+            Ok(None)
+        }
+    }
+}
+
+impl<'grammar> Items<'grammar, TokenSet> {
+    /// A copy of its own.
+    pub fn clone(&self, alloc: Global) -> Result<Self, OutOfMemory>
+        ensures copy { IfOk result (λ copy. copy.vec.items ≡ self.now.vec.items) }
+    {
+        let mut vec = Vec::new(alloc);
+        for item in self.vec.iter() {
+            vec.push(item.clone(alloc)?)?;
+        }
+        Ok(Items { vec })
+    }
+}
+
+impl<'grammar> State<'grammar, TokenSet> {
+    /// A copy of its own.
+    pub fn clone(&self, alloc: Global) -> Result<Self, OutOfMemory>
+        ensures copy { IfOk result (IsSameState self.now) }
+    {
+        Ok(State {
+            index: self.index,
+            items: self.items.clone(alloc)?,
+            shifts: Clone::clone(&self.shifts)?,
+            reductions: clone_reductions(alloc, &self.reductions)?,
+            gotos: Clone::clone(&self.gotos)?,
+        })
+    }
+}
+
+fn clone_reductions<'grammar>(
+    alloc: Global,
+    reductions: &[(TokenSet, &'grammar Production)],
+) -> Result<Vec<(TokenSet, &'grammar Production)>, OutOfMemory>
+    ensures { IfOk result (λ copy. copy.items ≡ reductions.now) }
+{
+    let mut copy = Vec::new(alloc);
+    for (tokens, production) in reductions {
+        copy.push((tokens.clone(alloc)?, *production))?;
+    }
+    Ok(copy)
+}
+
+impl<'grammar> Action<'grammar> {
+    /// A copy of its own.
+    pub fn clone(&self, alloc: Global) -> Result<Self, OutOfMemory>
+        ensures copy { IfOk result (λ copy. copy ≡ self.now) }
+    {
+        match self {
+            Action::Shift(terminal, target) => Ok(Action::Shift(terminal.clone(alloc)?, *target)),
+            Action::Reduce(production) => Ok(Action::Reduce(*production)),
+        }
+    }
+}
+
+impl<'grammar> Conflict<'grammar, TokenSet> {
+    /// A copy of its own.
+    pub fn clone(&self, alloc: Global) -> Result<Self, OutOfMemory>
+        ensures copy { IfOk result (λ copy. copy ≡ self.now) }
+    {
+        Ok(Conflict {
+            state: self.state,
+            lookahead: self.lookahead.clone(alloc)?,
+            production: self.production,
+            action: self.action.clone(alloc)?,
+        })
+    }
+}
