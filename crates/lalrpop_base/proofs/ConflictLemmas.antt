@@ -1,11 +1,16 @@
 -- The conflicts of a state, one shift or reduction at a time.
 use Rattle.std.proofs.Common.{◌≡◌, ◌≢◌, ℕ, zero, suc, ◌+◌, ◌<◌, ◌≤◌, ◌==◌, ⊎_elim, Bool, true, false, ◌&&◌, List, [], ◌∷◌, ◌++◌, map, length, take, drop, get_or, refl, sym, ◌∙◌, ap, subst, arith, append_assoc}
-use Rattle.std.specs.Prelude.{cond, slice_get, Option, Some, None, unwrap_or, IfSome, IsNone, Contains, IsTrue, IsFalse, ◌↔◌}
+use Rattle.std.specs.Prelude.{cond, slice_get, Option, Some, None, unwrap_or, is_some, nat_lt, IfSome, IsNone, Contains, IsTrue, IsFalse, ◌↔◌}
 use Rattle.std.specs.List.{filter, flat_map, list_any}
 use Rattle.std.specs.Borrow.{Bor}
 use Rattle.std.proofs.lemmas.List.{append-nil, take_more, take_all, drop_more, drop_all}
 use Rattle.std.proofs.lemmas.List.Folds.{list_any_at}
-use Rattle.std.proofs.lemmas.Bool.{cases_Bool, cases_lt, or_cases}
+use Rattle.std.proofs.lemmas.Bool.{cases_Bool, or_cases, lt-ltb}
+use Rattle.std.proofs.lemmas.Option.{slice_get_read, slice_get_within, get_or_from_slice_get}
+use Rattle.std.proofs.lemmas.List.Sums.{position_or_len_is}
+use Rattle.std.specs.List.{position_or_len}
+use Rattle.lalrpop_base.specs.TerminalPlaces.{place_in}
+use Rattle.lalrpop_base.proofs.HeldTokens.{place_there}
 use mathlib.Core.Bool.{true≢false}
 use Rattle.lalrpop_base.specs.declared.repr.TerminalString.{TerminalString}
 use Rattle.lalrpop_base.specs.declared.lr1_core.state.StateIndex.{StateIndex}
@@ -16,47 +21,37 @@ use Rattle.lalrpop_base.specs.contracts.repr.TerminalStringPartialEq.TheImpl as 
 use Rattle.lalrpop_base.specs.contracts.repr.TerminalStringEq.TheImpl.Laws as equality
 use Rattle.lalrpop_base.specs.contracts.exact.TerminalStringExact.TheImpl.Laws.{exact-law}
 use Rattle.lalrpop_base.specs.Bits.{Bits, has, rising, bits_of, has-at, has-place, same_bits}
-use Rattle.lalrpop_base.specs.StateConflicts.{Reduction, place_from, place_of, meet, share, conflicts_on_bit, conflicts_on_place, shift_conflicts, reduce_conflicts, later_conflicts, reduce_conflict, shift_conflict, state_conflicts, HasNoConflict}
+use Rattle.lalrpop_base.specs.StateConflicts.{Reduction, meet, share, conflicts_on_bit, conflicts_on_place, shift_conflicts, reduce_conflicts, later_conflicts, reduce_conflict, shift_conflict, state_conflicts, HasNoConflict}
 use Rattle.lalrpop_base.proofs.RisingLemmas.{filter_bits}
 
 -- the bit that a set of terminals answers is the place
 same_terminal : (x y : TerminalString) → terminal.ghosts.eq x y ≡ true → x ≡ y
 same_terminal x y e = exact-law x y e
 
-place_from_first : (n : ℕ) (xs : List TerminalString) (t : TerminalString) (bit : ℕ) → slice_get xs bit ≡ Some t → ((j : ℕ) → slice_get xs j ≡ Some t → j ≡ bit) → place_from n xs t ≡ Some (n + bit)
-place_from_first n [] t bit at one = cc
-place_from_first n (x ∷ xs) t zero at one =
-    let same : x ≡ t = ap (λ o. unwrap_or o x) at in
-    ap (λ y. cond (terminal.ghosts.eq y t) (Some n) (place_from (n + 1) xs t)) same ∙ ap (λ b. cond b (Some n) (place_from (n + 1) xs t)) (equality.laws-law.refl t) ∙ ap (λ k. Some k) (omega arith)
-place_from_first n (x ∷ xs) t (suc bit) at one =
-    ⊎_elim
-    (λ here. absurd (never bit (one 0 (ap (λ y. Some y) (same_terminal x t here)))))
-    (λ other. ap (λ b. cond b (Some n) (place_from (n + 1) xs t)) other ∙ place_from_first (n + 1) xs t bit at (λ j there. pred j bit (one (suc j) there)) ∙ ap (λ k. Some k) (omega arith))
-    (cases_Bool (terminal.ghosts.eq x t))
-  where
-    never : (k : ℕ) → zero ≡ suc k → ⊥
-    never k e = omega arith
+first_place : (xs : List TerminalString) (t : TerminalString) (bit : ℕ) → slice_get xs bit ≡ Some t → ((j : ℕ) → slice_get xs j ≡ Some t → j ≡ bit) → place_in xs t ≡ Some bit
+first_place xs t bit at one =
+    let within : bit < length xs = slice_get_within xs bit t at in
+    let first : position_or_len (λ x. terminal.ghosts.eq x t) xs ≡ bit =
+    position_or_len_is (λ x. terminal.ghosts.eq x t) xs bit t (omega arith)
+    (λ j less. ⊎_elim
+    (λ same. absurd (omega (arith, less, one j (slice_get_read xs (length xs) j t refl (omega arith) (sym (same_terminal (get_or xs j t) t same))))))
+    (λ other. other) (cases_Bool (terminal.ghosts.eq (get_or xs j t) t)))
+    (λ _. ap (λ x. terminal.ghosts.eq x t) (get_or_from_slice_get xs bit t t at) ∙ equality.laws-law.refl t) in
+    ap (λ i. cond (nat_lt i (length xs)) (Some i) None) first ∙ ap (λ b. cond b (Some bit) None) (lt-ltb bit (length xs) within)
 
-    pred : (j k : ℕ) → suc j ≡ suc k → j ≡ k
-    pred j k e = omega arith
-
-place_from_none : (n : ℕ) (xs : List TerminalString) (t : TerminalString) → ((j : ℕ) → slice_get xs j ≡ Some t → ⊥) → place_from n xs t ≡ None
-place_from_none n [] t out = refl
-place_from_none n (x ∷ xs) t out =
-    ⊎_elim
-    (λ here. absurd (out 0 (ap (λ y. Some y) (same_terminal x t here))))
-    (λ other. ap (λ b. cond b (Some n) (place_from (n + 1) xs t)) other ∙ place_from_none (n + 1) xs t (λ j there. out (suc j) there))
-    (cases_Bool (terminal.ghosts.eq x t))
+no_place : (xs : List TerminalString) (t : TerminalString) → ((j : ℕ) → slice_get xs j ≡ Some t → ⊥) → (o : Option ℕ) → place_in xs t ≡ o → place_in xs t ≡ None
+no_place xs t out None e = e
+no_place xs t out (Some k) e = absurd (out k (place_there xs t k e))
 
 some_place : (j bit : ℕ) (o : Option ℕ) → o ≡ Some bit → o ≡ Some j → j ≡ bit
 some_place j bit o e f = ap (λ z. unwrap_or z bit) (sym f ∙ e)
 
-pub bit_is_place : (xs : List TerminalString) (t : TerminalString) (o : Option ℕ) → IfSome o (λ bit. slice_get xs bit ≡ Some t) → ((bit : ℕ) → slice_get xs bit ≡ Some t → o ≡ Some bit) → place_of xs t ≡ o
-bit_is_place xs t (Some bit) found only = place_from_first 0 xs t bit found (λ j at. some_place j bit (Some bit) refl (only j at)) ∙ ap (λ k. Some k) (omega arith)
-bit_is_place xs t None found only = place_from_none 0 xs t (λ j at. none_some j (only j at))
-  where
-    none_some : (j : ℕ) → None ≡ Some j → ⊥
-    none_some j e = cc
+none_some : (j : ℕ) (o : Option ℕ) → o ≡ None → o ≡ Some j → ⊥
+none_some j o e f = true≢false (ap is_some (sym f) ∙ ap is_some e)
+
+pub bit_is_place : (xs : List TerminalString) (t : TerminalString) (o : Option ℕ) → IfSome o (λ bit. slice_get xs bit ≡ Some t) → ((bit : ℕ) → slice_get xs bit ≡ Some t → o ≡ Some bit) → place_in xs t ≡ o
+bit_is_place xs t (Some bit) found only = first_place xs t bit found (λ j at. some_place j bit (Some bit) refl (only j at))
+bit_is_place xs t None found only = no_place xs t (λ j at. none_some j None refl (only j at)) (place_in xs t) refl
 
 module _ {X Y : Type 0} (f : X → Y) (p : X → Bool) where
   kept-append : (xs ys : List X) → map f (filter p (xs ++ ys)) ≡ map f (filter p xs) ++ map f (filter p ys)
@@ -151,7 +146,7 @@ both_empty (x ∷ xs) ys e = cc
 
 module _ (terminals : List TerminalString) (state : StateIndex) (rs : List Reduction) where
   none_shifted : (entries : List (TerminalString × StateIndex)) → flat_map (shift_conflicts terminals state rs) entries ≡ [] →
-      (k j bit : ℕ) (t : TerminalString) (target : StateIndex) (r : Reduction) → slice_get entries k ≡ Some (t, target) → place_of terminals t ≡ Some bit → slice_get rs j ≡ Some r → has r.0 bit ≡ true → ⊥
+      (k j bit : ℕ) (t : TerminalString) (target : StateIndex) (r : Reduction) → slice_get entries k ≡ Some (t, target) → place_in terminals t ≡ Some bit → slice_get rs j ≡ Some r → has r.0 bit ≡ true → ⊥
   none_shifted [] e k j bit t target r at place there holds = cc
   none_shifted (x ∷ entries) e zero j bit t target r at place there holds =
       let first = (both_empty (shift_conflicts terminals state rs x) (flat_map (shift_conflicts terminals state rs) entries) e).0 in
@@ -162,13 +157,13 @@ module _ (terminals : List TerminalString) (state : StateIndex) (rs : List Reduc
       none_shifted entries (both_empty (shift_conflicts terminals state rs x) (flat_map (shift_conflicts terminals state rs) entries) e).1 k j bit t target r at place there holds
 
   no_shifted : (entries : List (TerminalString × StateIndex)) →
-      ((k j bit : ℕ) (t : TerminalString) (target : StateIndex) (r : Reduction) → slice_get entries k ≡ Some (t, target) → place_of terminals t ≡ Some bit → slice_get rs j ≡ Some r → has r.0 bit ≡ true → ⊥) →
+      ((k j bit : ℕ) (t : TerminalString) (target : StateIndex) (r : Reduction) → slice_get entries k ≡ Some (t, target) → place_in terminals t ≡ Some bit → slice_get rs j ≡ Some r → has r.0 bit ≡ true → ⊥) →
       flat_map (shift_conflicts terminals state rs) entries ≡ []
   no_shifted [] out = refl
   no_shifted ((t, target) ∷ entries) out =
-      ap (λ ys. ys ++ flat_map (shift_conflicts terminals state rs) entries) (at_place (place_of terminals t) refl) ∙ no_shifted entries (λ k j bit u to r at. out (suc k) j bit u to r at)
+      ap (λ ys. ys ++ flat_map (shift_conflicts terminals state rs) entries) (at_place (place_in terminals t) refl) ∙ no_shifted entries (λ k j bit u to r at. out (suc k) j bit u to r at)
     where
-      at_place : (o : Option ℕ) → place_of terminals t ≡ o → conflicts_on_place state t target rs (place_of terminals t) ≡ []
+      at_place : (o : Option ℕ) → place_in terminals t ≡ o → conflicts_on_place state t target rs (place_in terminals t) ≡ []
       at_place None e = ap (λ o. conflicts_on_place state t target rs o) e
       at_place (Some bit) e =
           ap (λ o. conflicts_on_place state t target rs o) e

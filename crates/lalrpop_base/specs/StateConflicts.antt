@@ -1,28 +1,19 @@
 -- The conflicts of a state, in the order in which they are listed.
-use Rattle.std.specs.Prelude.{◌≡◌, ◌++◌, ◌<◌, ℕ, Bool, true, List, [], ◌∷◌, map, slice_get, Option, Some, None, cond, ◌+◌}
+use Rattle.std.specs.Prelude.{◌≡◌, ◌++◌, ◌<◌, ℕ, Bool, true, List, [], ◌∷◌, map, slice_get, Option, Some, None}
 use Rattle.std.specs.List.{filter, flat_map, list_any}
 use Rattle.std.specs.Borrow.{Bor}
 use Rattle.lalrpop_base.specs.Bits.{Bits, has, rising, bits_of, no_bits, with_bit}
+use Rattle.lalrpop_base.specs.TerminalPlaces.{place_in}
 use Rattle.lalrpop_base.specs.declared.repr.Production.{Production}
 use Rattle.lalrpop_base.specs.declared.repr.TerminalString.{TerminalString}
 use Rattle.lalrpop_base.specs.declared.lr1_core.state.StateIndex.{StateIndex}
 use Rattle.lalrpop_base.specs.declared.lr1_core.state.State.{State}
 use Rattle.lalrpop_base.specs.declared.lr1_core.state.Conflict.{Conflict}
 use Rattle.lalrpop_base.specs.declared.lr1_core.state.Action.TheVariants.{Shift, Reduce}
-use Rattle.lalrpop_base.specs.contracts.repr.TerminalStringPartialEq.TheImpl as terminal
 
 -- a reduction: its tokens and its production
 abbrev pub Reduction : Type 0
 Reduction = Bits × Bor Production
-
--- the first place of the terminal, where the list begins with the number
-abbrev pub place_from : ℕ → List TerminalString → TerminalString → Option ℕ
-place_from n [] t = None
-place_from n (x ∷ xs) t = cond (terminal.ghosts.eq x t) (Some n) (place_from (n + 1) xs t)
-
--- the bit of the terminal: its place in the list
-abbrev pub place_of : List TerminalString → TerminalString → Option ℕ
-place_of terminals t = place_from 0 terminals t
 
 -- the bits that are in both sets
 abbrev pub meet : Bits → Bits → Bits
@@ -47,7 +38,7 @@ conflicts_on_place state t target reductions (Some bit) = conflicts_on_bit state
 
 -- one shift and each reduction that holds its terminal
 abbrev pub shift_conflicts : List TerminalString → StateIndex → List Reduction → TerminalString × StateIndex → List (Conflict Bits)
-shift_conflicts terminals state reductions (t, target) = conflicts_on_place state t target reductions (place_of terminals t)
+shift_conflicts terminals state reductions (t, target) = conflicts_on_place state t target reductions (place_in terminals t)
 
 -- two reductions, on all tokens that they share
 abbrev pub reduce_conflict : StateIndex → Reduction → Reduction → Conflict Bits
@@ -68,6 +59,6 @@ state_conflicts terminals state = flat_map (shift_conflicts terminals state.inde
 
 -- no reduction holds the bit of a terminal that is shifted, and no two reductions share a token
 pub record HasNoConflict (terminals : List TerminalString) (state : State Bits) : Type 0 where
-  pub shifts : (k j bit : ℕ) (t : TerminalString) (target : StateIndex) (r : Reduction) → slice_get state.shifts.entries k ≡ Some (t, target) → place_of terminals t ≡ Some bit →
+  pub shifts : (k j bit : ℕ) (t : TerminalString) (target : StateIndex) (r : Reduction) → slice_get state.shifts.entries k ≡ Some (t, target) → place_in terminals t ≡ Some bit →
       slice_get state.reductions.items j ≡ Some r → has r.0 bit ≡ true → ⊥
   pub reductions : (i j bit : ℕ) (r s : Reduction) → i < j → slice_get state.reductions.items i ≡ Some r → slice_get state.reductions.items j ≡ Some s → has r.0 bit ≡ true → has s.0 bit ≡ true → ⊥

@@ -129,7 +129,7 @@ fn stack_told(
 #[test]
 fn one_terminal(rt: HostRuntime) -> Result<(), Fail> {
     let alloc = rt.alloc();
-    let terminals = TerminalSet::new(list(alloc, &["x"])?)?;
+    let terminals = TerminalSet::new(alloc, list(alloc, &["x"])?)?;
     let s = production(alloc, &["x"])?;
     let mut first = state(alloc, 0);
     first.items.vec.push(item(&rt, alloc, &terminals, &s, 0)?)?;
@@ -168,7 +168,7 @@ fn one_terminal(rt: HostRuntime) -> Result<(), Fail> {
 #[test]
 fn no_terminal(rt: HostRuntime) -> Result<(), Fail> {
     let alloc = rt.alloc();
-    let terminals = TerminalSet::new(list(alloc, &[])?)?;
+    let terminals = TerminalSet::new(alloc, list(alloc, &[])?)?;
     let s = production(alloc, &[])?;
     let mut only = state(alloc, 0);
     only.items.vec.push(item(&rt, alloc, &terminals, &s, 0)?)?;

@@ -1,5 +1,4 @@
 use Rattle.std.proofs.Common.{◌≡◌, drop}
-use Rattle.lalrpop_base.specs.Views.{IsLastLongest, prefix_of}
 use Rattle.lalrpop_base.specs.ViewFolds.{longest_from}
 use Rattle.lalrpop_base.proofs.lr1_core.state.State.max_prefix.Given as goal
 

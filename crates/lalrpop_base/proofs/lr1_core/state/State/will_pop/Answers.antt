@@ -1,4 +1,4 @@
-use Rattle.std.proofs.Common.{◌≡◌, ◌≤◌, [], List, arith, ap, subst, length, Bor}
+use Rattle.std.proofs.Common.{[], List, arith, ap, subst, length, Bor}
 use Rattle.std.specs.Prelude.{map, unwrap_or, Option, option_copied}
 use Rattle.lalrpop_base.specs.declared.repr.Symbol.{Symbol}
 use Rattle.lalrpop_base.specs.Views.{prefix_of, moved, IsFirstShortestOrEmpty}

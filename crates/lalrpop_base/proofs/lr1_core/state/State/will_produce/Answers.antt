@@ -1,4 +1,4 @@
-use Rattle.std.proofs.Common.{◌≡◌, List, refl, sym, ◌∙◌, ap, subst}
+use Rattle.std.proofs.Common.{◌≡◌, List, refl, sym, ap, subst}
 use Rattle.std.specs.Prelude.{map}
 use mathlib.Core.Bool.{true≢false}
 use Rattle.lalrpop_base.specs.Items.{Dotted}
