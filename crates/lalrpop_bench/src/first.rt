@@ -13,13 +13,14 @@ use std::alloc::Global;
 use std::test::Fail;
 
 // A list, a word in quotes for a literal, the literals of its set, and whether `Eof` is in it.
+#[derive(Clone, Copy)]
 struct Row {
     list: &'static str,
     literals: &'static str,
     eof: bool,
 }
 
-const fn row(list: &'static str, literals: &'static str, eof: bool) -> Row {
+const fn make_row(list: &'static str, literals: &'static str, eof: bool) -> Row {
     Row {
         list,
         literals,
@@ -80,11 +81,11 @@ const FROM_THE_LEFT: &str = "A = B A\nA =\nB = A";
 fn first0(rt: HostRuntime) -> Result<(), Fail> {
     let alloc = rt.alloc();
     let cases = [
-        (NULLABLE_SECOND, row("A", "C D", false)),
-        (NULLABLE_SECOND, row("B", "D", true)),
-        (NULLABLE_SECOND, row("B X", "D E", false)),
-        (FROM_THE_LEFT, row("A", "", true)),
-        (FROM_THE_LEFT, row("Z", "", false)),
+        (NULLABLE_SECOND, make_row("A", "C D", false)),
+        (NULLABLE_SECOND, make_row("B", "D", true)),
+        (NULLABLE_SECOND, make_row("B X", "D E", false)),
+        (FROM_THE_LEFT, make_row("A", "", true)),
+        (FROM_THE_LEFT, make_row("Z", "", false)),
     ];
     for (lines, row) in cases {
         let grammar = grammar(alloc, lines)?;
@@ -105,7 +106,7 @@ fn first1(rt: HostRuntime) -> Result<(), Fail> {
     assert!(rt; is_well_formed(&grammar));
     let sets = FirstSets::new(alloc, &grammar)?;
     let follow = TokenSet::eof(alloc, &grammar.terminals)?;
-    for row in [row("B", "D", true), row("B \"E\"", "D E", false)] {
+    for row in [make_row("B", "D", true), make_row("B \"E\"", "D E", false)] {
         let list = symbols(alloc, row.list)?;
         assert!(rt; are_known(&grammar.terminals, &list));
         let set = sets.first1(alloc, &list, &follow)?;

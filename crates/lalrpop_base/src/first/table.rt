@@ -59,7 +59,7 @@ fn join_name(
             set.union_with(found)?;
             Ok(set.take_eof(terminals))
         }
-        None => Ok(false),
+        None => Ok(false), // it derives nothing
     }
 }
 
