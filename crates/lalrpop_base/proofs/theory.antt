@@ -25,6 +25,9 @@ pub mod Reading
 pub mod Refusals
 pub mod Renumbering
 pub mod RightStates
+pub mod Rows
+pub mod RowsInstance
+pub mod RowsTokens
 pub mod Runs
 pub mod Sentences
 pub mod Spoilt

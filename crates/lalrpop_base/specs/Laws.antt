@@ -207,3 +207,7 @@ DifferInReductions states others = (n : ℕ) → ((others n).items ≡ (states n
 -- and spoilt states are refused: of some faithful states a reduction is dropped, stands twice, or lacks its token
 abbrev pub SpoiltAreRefused : Type 0
 SpoiltAreRefused = (g : List Production) × (start : NonterminalString) × (states dropped repeated idle : ℕ → Contents) × AreFaithful g start states × DifferInReductions states dropped × DifferInReductions states repeated × DifferInReductions states idle × (AreFaithful g start dropped → ⊥) × (AreFaithful g start repeated → ⊥) × (AreFaithful g start idle → ⊥)
+
+-- some states that pass the check, with a start symbol on no right side, answer trees of different lists
+abbrev pub SeveralListsParse : Type 0
+SeveralListsParse = (g : List Production) × (start : NonterminalString) × (states : ℕ → Contents) × AreChecked g start states × AreFaithful g start states × IsOnNoRightSide g start × ((v w : List TerminalString) × (t u : Tree) × HasOutcome states v 4 (Parsed t) × HasOutcome states w 5 (Parsed u) × (v ≡ w → ⊥))

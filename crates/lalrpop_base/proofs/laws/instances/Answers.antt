@@ -5,6 +5,9 @@ use Rattle.lalrpop_base.proofs.theory.Instance.{S, x, g, states, alone, checked,
 use Rattle.lalrpop_base.proofs.theory.InstanceTokens.{tokens, canonical, token_kernels, lr0, lane_tokens_held, lalr_tokens_held, lr1, lalr1}
 use Rattle.lalrpop_base.proofs.theory.InstanceRuns.{tree, at_two}
 use Rattle.lalrpop_base.proofs.theory.Spoilt.{with_reductions, idle, dropped_refused, repeated_refused, idle_refused}
+use Rattle.lalrpop_base.proofs.theory.RowsTokens as five
+use Rattle.lalrpop_base.proofs.theory.RowsInstance as rows
+use mathlib.Core.List.{tail-eq_of_cons-eq, nil≢cons}
 use Rattle.lalrpop_base.proofs.laws.instances.Goals as goal
 
 pub returns-clause-met : goal.returns-clause-met
@@ -17,3 +20,6 @@ returns-clause-refused c = (g, S, states, with_reductions [], with_reductions (r
     alike rs zero = (refl, refl, refl)
     alike rs (suc zero) = (refl, refl, refl)
     alike rs (suc (suc n)) = (refl, refl, refl)
+
+pub returns-clause-parsed : goal.returns-clause-parsed
+returns-clause-parsed c = (rows.g, rows.S, rows.states, five.checked, five.faithful, five.alone, (rows.x ∷ [], rows.x ∷ rows.y ∷ [], five.short, five.long, five.short_parsed, five.long_parsed, λ e. nil≢cons (tail-eq_of_cons-eq e)))
