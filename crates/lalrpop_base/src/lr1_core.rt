@@ -4,6 +4,7 @@ pub mod coherent;
 pub mod compared;
 pub mod conflict;
 pub mod item;
+pub mod kernel_items;
 pub mod state;
 pub mod symbol_sets;
 mod views;

@@ -4,6 +4,7 @@ ghost use Rattle.lalrpop_base.specs.Items.{Dotted};
 
 use super::symbol_sets::SymbolSets;
 use crate::exact::equal;
+use crate::lookahead::nil::Nil;
 use crate::lookahead::token_set::TokenSet;
 use crate::repr::{NonterminalString, Production, Symbol};
 use std::fmt;
@@ -27,6 +28,8 @@ impl<'grammar, L> Model for Item<'grammar, L> {
 
     ghost invariant = { λ i. i.index ≤ length i.production.now.symbols };
 }
+
+pub type Lr0Item<'grammar> = Item<'grammar, Nil>;
 
 pub type Lr1Item<'grammar> = Item<'grammar, TokenSet>;
 
