@@ -1,0 +1,6 @@
+pub mod Lists
+pub mod Places
+pub mod Bounded
+pub mod Updates
+pub mod Subsets
+pub mod KernelNumbers

@@ -1,0 +1,44 @@
+-- Lists whose values differ, and a value more.
+use Rattle.std.proofs.Common.{◌≡◌, ◌≢◌, ℕ, zero, suc, ◌+◌, ◌-◌, ◌<◌, ◌≤◌, ◌⊎◌, inl, inr, List, [], ◌∷◌, ◌++◌, length, get_or, refl, sym, ◌∙◌, ap, subst, arith, ⊎_elim, length-append, map}
+use Rattle.std.specs.Prelude.{slice_get, Some, None, Option, Contains, unwrap_or, AllPairs}
+use Rattle.std.proofs.lemmas.Option.{slice_get_within, get_or_from_slice_get, slice_get-get_or}
+use Rattle.std.proofs.lemmas.Bool.{cases_lt}
+use Rattle.lalrpop_base.specs.Places.{AllDiffer}
+
+pub slice_get-append_before : {X : Type 0} (xs ys : List X) (k : ℕ) → k < length xs → slice_get (xs ++ ys) k ≡ slice_get xs k
+slice_get-append_before [] ys k l = absurd (omega arith)
+slice_get-append_before (y ∷ xs) ys zero l = refl
+slice_get-append_before (y ∷ xs) ys (suc k) l = slice_get-append_before xs ys k (omega arith)
+
+pub slice_get-push_at : {X : Type 0} (xs : List X) (x : X) → slice_get (xs ++ x ∷ []) (length xs) ≡ Some x
+slice_get-push_at [] x = refl
+slice_get-push_at (y ∷ xs) x = slice_get-push_at xs x
+
+-- what stands in a list stands there in a longer one
+pub slice_get-longer : {X : Type 0} (xs ys : List X) (k : ℕ) (x : X) → slice_get xs k ≡ Some x → slice_get (xs ++ ys) k ≡ Some x
+slice_get-longer xs ys k x h = slice_get-append_before xs ys k (slice_get_within xs k x h) ∙ h
+
+pub same_some : {X : Type 0} (x y : X) → Some x ≡ Some y → x ≡ y
+same_some x y e = ap (λ o. unwrap_or o x) e
+
+-- a place in a list with one value more
+pub push_cases : {X : Type 0} (xs : List X) (x : X) (k : ℕ) (y : X) → slice_get (xs ++ x ∷ []) k ≡ Some y → (slice_get xs k ≡ Some y) ⊎ ((k ≡ length xs) × (x ≡ y))
+push_cases xs x k y h =
+    let within : k < length (xs ++ x ∷ []) = slice_get_within (xs ++ x ∷ []) k y h in
+    let longer : length (xs ++ x ∷ []) ≡ length xs + 1 = length-append xs (x ∷ []) in
+    ⊎_elim
+    (λ l. inl (sym (slice_get-append_before xs (x ∷ []) k l) ∙ h))
+    (λ g.
+    let here : k ≡ length xs = omega arith in
+    inr (here, same_some x y (sym (slice_get-push_at xs x) ∙ ap (λ n. slice_get (xs ++ x ∷ []) n) (sym here) ∙ h)))
+    (cases_lt k (length xs))
+
+pub contains_at : {X : Type 0} (xs : List X) (x : X) (k : ℕ) → slice_get xs k ≡ Some x → Contains xs x
+contains_at xs x k h = (k, slice_get_within xs k x h, get_or_from_slice_get xs k x x h)
+
+pub differ_from_apart : {X : Type 0} (xs : List X) → AllPairs (λ a b. a ≢ b) xs → AllDiffer xs
+differ_from_apart xs a i j x l at_i at_j =
+    a i j x l (slice_get_within xs j x at_j) (get_or_from_slice_get xs i x x at_i ∙ sym (get_or_from_slice_get xs j x x at_j))
+
+pub apart_from_differ : {X : Type 0} (xs : List X) → AllDiffer xs → AllPairs (λ a b. a ≢ b) xs
+apart_from_differ xs h i j d l m e = h i j (get_or xs i d) l (slice_get-get_or xs i d (omega arith)) (slice_get-get_or xs j d m ∙ ap Some (sym e))

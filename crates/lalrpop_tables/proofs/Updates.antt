@@ -1,0 +1,108 @@
+-- An insert into the entries of a map, as a list with the key in its midst.
+use Rattle.std.proofs.Common.{◌≡◌, List, [], ◌∷◌, ◌++◌, refl, sym, ap, ◌∙◌, Option, Some, None, Bool, true, false, cond}
+use Rattle.std.specs.declared.cmp.Ordering.{Ordering}
+use Rattle.std.specs.declared.cmp.Ordering.TheVariants.{Less, Equal, Greater}
+use Rattle.std.specs.Ordering.{is_eq, match_ordering}
+use Rattle.std.specs.BTreeMap.{insert_entry, is_at}
+use Rattle.std.specs.Map.{keys_of, lookup, set_value}
+use Rattle.std.specs.Cmp.{IsTotalOrder}
+use Rattle.std.specs.List.Sorted.{IsStrictlySortedBy}
+use Rattle.std.proofs.lemmas.Map.{lookup-none}
+use Rattle.std.proofs.lemmas.Map.Entries.{none_below_head}
+use Rattle.std.proofs.lemmas.Map.Keys.{sorted_tail}
+use Rattle.std.proofs.lemmas.Map.Lookups.{CmpEqualImpliesEq}
+use Rattle.std.specs.Prelude.{MatchBool, ◌≢◌}
+use Rattle.lalrpop_base.specs.Bits.{Bits, join}
+use Rattle.lalrpop_base.specs.Places.{AllDiffer}
+use Rattle.lalrpop_tables.proofs.Lists.{apart-from_sorted}
+use Rattle.lalrpop_tables.proofs.Places.{differ_from_apart}
+use Rattle.lalrpop_tables.specs.Entries.{IsJoinedAt}
+use Rattle.lalrpop_tables.specs.Entries.IsJoinedAt.{fresh as join_fresh, known as join_known}
+
+module _ {K V : Type 0} where
+  -- the list is others with an entry in their midst
+  pub record HasInMidst (k : K) (v : V) (es : List (K × V)) (front back : List (K × V)) : Type 0 where
+    pub is : es ≡ front ++ (k, v) ∷ back
+
+  pub record IsInserted (k : K) (v : V) (old new : List (K × V)) : Type 0 where
+    pub front : List (K × V)
+    pub back : List (K × V)
+    pub before : old ≡ front ++ back
+    pub after : new ≡ front ++ (k, v) ∷ back
+
+  pub record IsReplaced (k : K) (w v : V) (old new : List (K × V)) : Type 0 where
+    pub front : List (K × V)
+    pub back : List (K × V)
+    pub before : old ≡ front ++ (k, w) ∷ back
+    pub after : new ≡ front ++ (k, v) ∷ back
+
+  inserted_later : (e : K × V) (k : K) (v : V) (old new : List (K × V)) → IsInserted k v old new → IsInserted k v (e ∷ old) (e ∷ new)
+  inserted_later e k v old new i = record { front = e ∷ i.front; back = i.back; before = ap (λ xs. e ∷ xs) i.before; after = ap (λ xs. e ∷ xs) i.after }
+
+  replaced_later : (e : K × V) (k : K) (w v : V) (old new : List (K × V)) → IsReplaced k w v old new → IsReplaced k w v (e ∷ old) (e ∷ new)
+  replaced_later e k w v old new i = record { front = e ∷ i.front; back = i.back; before = ap (λ xs. e ∷ xs) i.before; after = ap (λ xs. e ∷ xs) i.after }
+
+  module _ (cmp : K → K → Ordering) (exact : CmpEqualImpliesEq cmp) (total : IsTotalOrder cmp) where
+    inserted_at : (k : K) (v : V) (e : K × V) (es : List (K × V)) (o : Ordering) → cond (is_eq o) (Some e.1) (lookup (is_at (cmp k)) es) ≡ None → (lookup (is_at (cmp k)) es ≡ None → IsInserted k v es (insert_entry cmp es k v)) →
+        IsInserted k v (e ∷ es) (match_ordering o ((k, v) ∷ e ∷ es) ((e.0, v) ∷ es) (e ∷ insert_entry cmp es k v))
+    inserted_at k v e es Less h later = record { front = []; back = e ∷ es; before = refl; after = refl }
+    inserted_at k v e es Equal h later = cc
+    inserted_at k v e es Greater h later = inserted_later e k v es (insert_entry cmp es k v) (later h)
+
+    pub inserted : (k : K) (v : V) (es : List (K × V)) → lookup (is_at (cmp k)) es ≡ None → IsInserted k v es (insert_entry cmp es k v)
+    inserted k v [] h = record { front = []; back = []; before = refl; after = refl }
+    inserted k v (e ∷ es) h = inserted_at k v e es (cmp k e.0) h (inserted k v es)
+
+    same_entry : (k : K) (e : K × V) (w : V) → cmp k e.0 ≡ Equal → Some e.1 ≡ Some w → e ≡ (k, w)
+    same_entry k e w h s =
+        let key : k ≡ e.0 = exact k e.0 h in
+        let value : e.1 ≡ w = cc in
+        ap (λ (x : K). (x, e.1)) (sym key) ∙ ap (λ (y : V). (k, y)) value
+
+    replaced_at : (k : K) (v w : V) (e : K × V) (es : List (K × V)) (o : Ordering) → cmp k e.0 ≡ o → IsStrictlySortedBy cmp (keys_of (e ∷ es)) → cond (is_eq o) (Some e.1) (lookup (is_at (cmp k)) es) ≡ Some w → (lookup (is_at (cmp k)) es ≡ Some w → IsReplaced k w v es (insert_entry cmp es k v)) →
+        IsReplaced k w v (e ∷ es) (match_ordering o ((k, v) ∷ e ∷ es) ((e.0, v) ∷ es) (e ∷ insert_entry cmp es k v))
+    replaced_at k v w e es Less c s h later =
+        let none : lookup (is_at (cmp k)) (e ∷ es) ≡ None = lookup-none (is_at (cmp k)) (e ∷ es) (none_below_head total k e es s c) in
+        let out : lookup (is_at (cmp k)) es ≡ None = ap (λ o. cond (is_eq o) (Some e.1) (lookup (is_at (cmp k)) es)) (sym c) ∙ none in
+        cc
+    replaced_at k v w e es Equal c s h later = record {
+      front = [];
+      back = es;
+      before = ap (λ x. x ∷ es) (same_entry k e w c h);
+      after = ap (λ (x : K). (x, v) ∷ es) (sym (exact k e.0 c));
+    }
+    replaced_at k v w e es Greater c s h later = replaced_later e k w v es (insert_entry cmp es k v) (later h)
+
+    pub replaced : (k : K) (v w : V) (es : List (K × V)) → IsStrictlySortedBy cmp (keys_of es) → lookup (is_at (cmp k)) es ≡ Some w → IsReplaced k w v es (insert_entry cmp es k v)
+    replaced k v w [] s h = cc
+    replaced k v w (e ∷ es) s h = replaced_at k v w e es (cmp k e.0) refl s h (replaced k v w es (sorted_tail cmp e.0 (keys_of es) s))
+
+    set_at : (k : K) (v w : V) (e : K × V) (es : List (K × V)) (o : Ordering) → cmp k e.0 ≡ o → cond (is_eq o) (Some e.1) (lookup (is_at (cmp k)) es) ≡ Some w → (lookup (is_at (cmp k)) es ≡ Some w → IsReplaced k w v es (set_value (is_at (cmp k)) es v)) →
+        IsReplaced k w v (e ∷ es) (cond (is_eq o) ((e.0, v) ∷ es) (e ∷ set_value (is_at (cmp k)) es v))
+    set_at k v w e es Less c h later = replaced_later e k w v es (set_value (is_at (cmp k)) es v) (later h)
+    set_at k v w e es Equal c h later = record {
+      front = [];
+      back = es;
+      before = ap (λ x. x ∷ es) (same_entry k e w c h);
+      after = ap (λ (x : K). (x, v) ∷ es) (sym (exact k e.0 c));
+    }
+    set_at k v w e es Greater c h later = replaced_later e k w v es (set_value (is_at (cmp k)) es v) (later h)
+
+    pub set_replaced : (k : K) (v w : V) (es : List (K × V)) → lookup (is_at (cmp k)) es ≡ Some w → IsReplaced k w v es (set_value (is_at (cmp k)) es v)
+    set_replaced k v w [] h = cc
+    set_replaced k v w (e ∷ es) h = set_at k v w e es (cmp k e.0) refl h (set_replaced k v w es)
+
+-- `==` that is exact, and agrees with the order, makes the order exact
+pub exact_order : {K : Type 0} (E : K → K → Bool) (R : K → K → Ordering) → ((x y : K) → E x y ≡ true → x ≡ y) → ((x y : K) → E x y ≡ is_eq (R x y)) → CmpEqualImpliesEq R
+exact_order E R exact ties x y h = exact x y (ties x y ∙ ap is_eq h)
+
+-- the keys of a map differ
+pub keys_differ : {K V : Type 0} (R : K → K → Ordering) → IsTotalOrder R → (es : List (K × V)) → IsStrictlySortedBy R (keys_of es) → AllDiffer (keys_of es)
+keys_differ R total es s = differ_from_apart (keys_of es) (apart-from_sorted R total (keys_of es) s)
+
+module _ {K : Type 0} (k : K) (tokens : Bits) where
+  pub joined_fresh : (old new : List (K × Bits)) → IsInserted k tokens old new → IsJoinedAt k tokens true old new
+  joined_fresh old new i = join_fresh i.front i.back i.before i.after refl
+
+  pub joined_known : (told : Bool) (s : Bits) (old new : List (K × Bits)) → MatchBool told (join s tokens ≢ s) (join s tokens ≡ s) → IsReplaced k s (join s tokens) old new → IsJoinedAt k tokens told old new
+  joined_known told s old new t i = join_known i.front i.back s i.before i.after t

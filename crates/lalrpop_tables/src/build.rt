@@ -1,0 +1,4 @@
+//! The construction of LR(1) states.
+mod kernels;
+pub mod options;
+mod tokens;

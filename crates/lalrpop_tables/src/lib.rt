@@ -1,0 +1,4 @@
+//! LR(1) tables of a grammar.
+#![tactic(auto)]
+
+pub mod build;
