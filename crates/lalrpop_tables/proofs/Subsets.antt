@@ -7,18 +7,11 @@ use Rattle.std.proofs.Common.{⊎_elim}
 use mathlib.Core.Bool.{true≢false}
 use Rattle.lalrpop_base.specs.Bits.{Bits, has, no_bits, with_bit, join, has-no_bits, has-with_bit, has-join, same_bits}
 use Rattle.lalrpop_tables.proofs.Lists.{Contains-here, Contains-map}
+use Rattle.lalrpop_tables.specs.Counts.{one_if, count}
 
 -- each bit of the set is below the number
 abbrev pub AreBelow : ℕ → Bits → Type 0
 AreBelow m s = (q : ℕ) → has s q ≡ true → q < m
-
-abbrev one_if : Bool → ℕ
-one_if b = cond b 1 0
-
--- how many bits below the number the set has
-pub count : ℕ → Bits → ℕ
-count zero s = 0
-count (suc m) s = one_if (has s m) + count m s
 
 one_few : (b : Bool) → one_if b ≤ 1
 one_few true = omega arith

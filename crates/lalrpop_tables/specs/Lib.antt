@@ -1,2 +1,4 @@
+pub mod Closure
+pub mod Counts
 pub mod Entries
 pub mod Kernels

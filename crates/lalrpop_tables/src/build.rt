@@ -1,4 +1,5 @@
 //! The construction of LR(1) states.
+mod closure;
 mod kernels;
 pub mod options;
 mod tokens;

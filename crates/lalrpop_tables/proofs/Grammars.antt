@@ -1,0 +1,80 @@
+-- The productions of a grammar, their terminals, and the tokens that may follow an item.
+use Rattle.std.proofs.Common.{◌≡◌, ◌≢◌, ℕ, zero, suc, ◌+◌, ◌<◌, ◌≤◌, ◌⊎◌, inl, inr, List, [], ◌∷◌, ◌++◌, length, drop, map, refl, sym, ◌∙◌, ap, subst, arith, ⊎_elim, Bool, true, false, cond, Option, Some, None}
+use Rattle.std.specs.Prelude.{Contains, slice_get}
+use Rattle.std.specs.List.{flat_map}
+use Rattle.std.specs.Map.{lookup}
+use Rattle.std.specs.BTreeMap.{is_at}
+use Rattle.std.proofs.lemmas.List.Elements.{Contains-append_left, Contains-append_right, Contains-append_cases}
+use mathlib.Core.Bool.{true≢false}
+use Rattle.lalrpop_base.specs.Bits.{Bits, has}
+use Rattle.lalrpop_base.specs.Tokens.{FitsTokens}
+use Rattle.lalrpop_base.specs.Grammar.{IsNullable}
+use Rattle.lalrpop_base.specs.First.{IsFirstSet, IsFirstSetBefore}
+use Rattle.lalrpop_base.specs.WellFormed.{Rules, rules_of, IsWellFormed, AreWellFormedEntries, IsWellFormedEntry, HasKnownTerminals, productions, productions_of, listed_productions, name_cmp}
+use Rattle.lalrpop_base.specs.declared.repr.NonterminalString.{NonterminalString}
+use Rattle.lalrpop_base.specs.declared.repr.TerminalString.{TerminalString}
+use Rattle.lalrpop_base.specs.declared.repr.Symbol.{Symbol}
+use Rattle.lalrpop_base.specs.declared.repr.Symbol.TheVariants.{Terminal}
+use Rattle.lalrpop_base.specs.declared.repr.Production.{Production}
+use Rattle.lalrpop_base.specs.declared.repr.grammar.Grammar.{Grammar}
+use Rattle.lalrpop_base.specs.declared.repr.grammar.NonterminalData.{NonterminalData}
+use Rattle.lalrpop_tables.proofs.Lists.{Contains-none, place}
+use Rattle.lalrpop_tables.proofs.Places.{contains_at}
+
+abbrev GrammarEntry : Type 0
+GrammarEntry = NonterminalString × NonterminalData
+
+abbrev listed : GrammarEntry → List Production
+listed e = e.1.productions.items
+
+-- ---- the productions of a name are the grammar's
+among_at : (test : NonterminalString → Bool) (b : Bool) (e : GrammarEntry) (es : List GrammarEntry) (p : Production) →
+    Contains (listed_productions (cond b (Some e.1) (lookup test es))) p → (Contains (listed_productions (lookup test es)) p → Contains (flat_map listed es) p) → Contains (listed e ++ flat_map listed es) p
+among_at test true e es p c later = Contains-append_left (listed e) (flat_map listed es) p c
+among_at test false e es p c later = Contains-append_right (listed e) (flat_map listed es) p (later c)
+
+among : (test : NonterminalString → Bool) (es : List GrammarEntry) (p : Production) → Contains (listed_productions (lookup test es)) p → Contains (flat_map listed es) p
+among test [] p c = absurd (Contains-none p c)
+among test (e ∷ es) p c = among_at test (test e.0) e es p c (among test es p)
+
+pub productions_among : (g : Grammar) (name : NonterminalString) (p : Production) → Contains (productions_of g name) p → Contains (productions g) p
+productions_among g name p c = among (is_at (name_cmp name)) g.nonterminals.entries p c
+
+-- ---- their terminals are known
+entries_head : (terminals : List TerminalString) (actions : ℕ) (e : GrammarEntry) (es : List GrammarEntry) → AreWellFormedEntries terminals actions (e ∷ es) → IsWellFormedEntry terminals actions e.0 (listed e)
+entries_head terminals actions e es w = w 0 e.0 e.1 refl
+
+entries_tail : (terminals : List TerminalString) (actions : ℕ) (e : GrammarEntry) (es : List GrammarEntry) → AreWellFormedEntries terminals actions (e ∷ es) → AreWellFormedEntries terminals actions es
+entries_tail terminals actions e es w k name entry h = w (suc k) name entry h
+
+known_in : (terminals : List TerminalString) (actions : ℕ) (es : List GrammarEntry) (p : Production) → AreWellFormedEntries terminals actions es → Contains (flat_map listed es) p → HasKnownTerminals terminals p.symbols
+known_in terminals actions [] p w c = absurd (Contains-none p c)
+known_in terminals actions (e ∷ es) p w c = elim (Contains-append_cases (listed e) (flat_map listed es) p c) [
+  | inl here ↦ let at = place (listed e) p here in ((entries_head terminals actions e es w).each at.0 p at.2).known
+  | inr later ↦ known_in terminals actions es p (entries_tail terminals actions e es w) later
+]
+
+pub known_symbols : (g : Grammar) (p : Production) → IsWellFormed g → Contains (productions g) p → HasKnownTerminals g.terminals p.symbols
+known_symbols g p w c = known_in g.terminals _ g.nonterminals.entries p w c
+
+slice_get-drop : {X : Type 0} (n : ℕ) (xs : List X) (k : ℕ) → slice_get (drop n xs) k ≡ slice_get xs (n + k)
+slice_get-drop zero xs k = let e : k ≡ 0 + k = omega arith in ap (slice_get xs) e
+slice_get-drop (suc n) [] k = refl
+slice_get-drop (suc n) (x ∷ xs) k = let e : suc (n + k) ≡ suc n + k = omega arith in slice_get-drop n xs k ∙ ap (slice_get (x ∷ xs)) e
+
+pub known_rest : (terminals : List TerminalString) (n : ℕ) (symbols rest : List Symbol) → HasKnownTerminals terminals symbols → rest ≡ drop n symbols → HasKnownTerminals terminals rest
+known_rest terminals n symbols rest h e k t at = h (n + k) t (sym (slice_get-drop n symbols k) ∙ ap (λ (xs : List Symbol). slice_get xs k) (sym e) ∙ at)
+
+-- ---- the tokens before what follows are tokens
+first_fits_at : (g : Rules) (symbols : List Symbol) (follow set : Bits) (f : IsFirstSetBefore g symbols follow set) → FitsTokens g.terminals follow → (b : Bool) → has f.first (length g.terminals) ≡ b → FitsTokens g.terminals set
+first_fits_at g symbols follow set f fits true e bit h = elim ((f.nullable (f.is_first.ends.0 e) bit).0 h) [
+  | inl x ↦ fits bit x
+  | inr x ↦ let l = f.is_first.fits bit x.0 in omega arith
+]
+first_fits_at g symbols follow set f fits false e bit h =
+    let same = f.otherwise (λ n. true≢false (sym (f.is_first.ends.1 n) ∙ e)) in
+    let l = f.is_first.fits bit (subst (λ (s : Bits). has s bit ≡ true) same h) in
+    omega arith
+
+pub first_fits : (g : Rules) (symbols : List Symbol) (follow set : Bits) → IsFirstSetBefore g symbols follow set → FitsTokens g.terminals follow → FitsTokens g.terminals set
+first_fits g symbols follow set f fits = first_fits_at g symbols follow set f fits (has f.first (length g.terminals)) refl

@@ -1,0 +1,27 @@
+use Rattle.std.proofs.Common.{◌≡◌, ap, ◌∙◌, cond, ◌++◌, ◌∷◌, [], true, false, Bool, List, subst, sym, refl}
+use Rattle.lalrpop_base.specs.Bits.{Bits}
+use Rattle.lalrpop_base.specs.Items.{Dotted}
+use Rattle.lalrpop_base.specs.declared.lookahead.nil.Nil.{Nil}
+use Rattle.lalrpop_tables.specs.Entries.{IsJoinedAt}
+use Rattle.lalrpop_tables.proofs.Tables.{same_lr0}
+use Rattle.lalrpop_tables.proofs.build.closure.add_item.Goals as goal
+
+pub returns-in_ok-push : goal.returns-in_ok-push
+returns-in_ok-push c =
+    let same : c.to_lr0-copy.result ≡ c.args.item = same_lr0 _ _ c.to_lr0-copy.ensures.production c.to_lr0-copy.ensures.index in
+    record {
+      told = true;
+      joined = rw (← same, ← c.if-branch.true) c.in_ok-add_tokens.ensures.joined;
+      grown = c.in_ok-push.ensures.items;
+      differ = c.in_ok-add_tokens.ensures.differ;
+    }
+
+pub returns-else-branch : goal.returns-else-branch
+returns-else-branch c =
+    let same : c.to_lr0-copy.result ≡ c.args.item = same_lr0 _ _ c.to_lr0-copy.ensures.production c.to_lr0-copy.ensures.index in
+    record {
+      told = false;
+      joined = rw (← same, ← c.if-branch.false) c.in_ok-add_tokens.ensures.joined;
+      grown = refl;
+      differ = c.in_ok-add_tokens.ensures.differ;
+    }

@@ -1,0 +1,12 @@
+-- How many of the bits below a number a set has.
+use Rattle.std.specs.Prelude.{ℕ, ◌+◌, Bool, cond}
+use Rattle.std.proofs.Common.{zero, suc}
+use Rattle.lalrpop_base.specs.Bits.{Bits, has}
+
+abbrev pub one_if : Bool → ℕ
+one_if b = cond b 1 0
+
+-- how many bits below the number the set has
+unfoldable pub count : ℕ → Bits → ℕ
+count zero s = 0
+count (suc m) s = one_if (has s m) + count m s

@@ -1,0 +1,144 @@
+//! The closure of a kernel.
+ghost use Rattle.std.specs.Prelude.{◌≡◌, ◌≤◌, [], ℕ, IfOk, OnOk, Contains, length, map, slice_get};
+ghost use Rattle.lalrpop_base.specs.WellFormed.{IsWellFormed, rules_of, productions, productions_of, HasKnownTerminals};
+ghost use Rattle.lalrpop_base.specs.Tokens.{FitsTokens};
+ghost use Rattle.lalrpop_tables.specs.Closure.{AreItems, IsClosureOf, IsStacked, IsTable, Spreads, item_of};
+
+use super::tokens::add_tokens;
+use lalrpop_base::first::FirstSets;
+use lalrpop_base::lookahead::nil::Nil;
+use lalrpop_base::lookahead::token_set::TokenSet;
+use lalrpop_base::lr1_core::item::{Item, Lr0Item, Lr1Item};
+use lalrpop_base::memory::OutOfMemory;
+use lalrpop_base::repr::grammar::Grammar;
+use lalrpop_base::repr::{NonterminalString, Symbol};
+use std::alloc::Global;
+use std::collections::BTreeMap;
+
+type Table<'grammar> = BTreeMap<Lr0Item<'grammar>, TokenSet>;
+
+// Joins the tokens to those of an item, which goes on the stack if it is new or has more now.
+fn add_item<'grammar>(
+    alloc: Global,
+    item: Lr0Item<'grammar>,
+    tokens: &TokenSet,
+    table: &mut Table<'grammar>,
+    stack: &mut Vec<Lr0Item<'grammar>>,
+) -> Result<(), OutOfMemory>
+    ensures { OnOk result (IsStacked item.entry tokens.now table.old.entries table.new.entries stack.old.items stack.new.items) }
+{
+    let copy = item.to_lr0();
+    if add_tokens(alloc, table, copy, tokens)? {
+        stack.push(item)?;
+    }
+    Ok(())
+}
+
+// Adds the productions of a nonterminal, dot first, with the tokens.
+fn add_productions<'grammar>(
+    alloc: Global,
+    grammar: &'grammar Grammar,
+    name: &NonterminalString,
+    tokens: &TokenSet,
+    table: &mut Table<'grammar>,
+    stack: &mut Vec<Lr0Item<'grammar>>,
+) -> Result<(), OutOfMemory>
+    ensures { OnOk result (FitsTokens grammar.now.terminals tokens.now → Spreads (rules_of grammar.now) table.old.entries table.new.entries stack.old.items stack.new.items) }
+{
+    for production in grammar.productions_for(name) {
+        let item = Item {
+            production,
+            index: 0,
+            lookahead: Nil,
+        };
+        add_item(alloc, item, tokens, table, stack)?;
+    }
+    Ok(())
+}
+
+// Adds what an item leads to without a symbol, with the tokens that may follow there.
+fn expand<'grammar>(
+    alloc: Global,
+    grammar: &'grammar Grammar,
+    first_sets: &FirstSets<'grammar>,
+    item: Lr0Item<'grammar>,
+    table: &mut Table<'grammar>,
+    stack: &mut Vec<Lr0Item<'grammar>>,
+) -> Result<(), OutOfMemory>
+    requires well_formed { IsWellFormed grammar.now }
+    requires firsts { first_sets.now ≡ rules_of grammar.now }
+    requires known { Contains (productions grammar.now) item.production }
+    ensures { OnOk result (Spreads (rules_of grammar.now) table.old.entries table.new.entries stack.old.items stack.new.items) }
+{
+    let Some((symbol, rest)) = item.shift_symbol() else {
+        return Ok(());
+    };
+    let Symbol::Nonterminal(name) = symbol else {
+        return Ok(());
+    };
+    let Some(tokens) = table.get(&item) else {
+        return Ok(());
+    };
+    let given = first_sets.first1(alloc, rest, tokens)?;
+    add_productions(alloc, grammar, name, &given, table, stack)?;
+    Ok(())
+}
+
+// The items of a table, in its order.
+fn items_of<'grammar>(
+    alloc: Global,
+    table: Table<'grammar>,
+) -> Result<Vec<Lr1Item<'grammar>>, OutOfMemory>
+    ensures { IfOk result (λ items. items.items ≡ map item_of table.entry.entries) }
+{
+    let mut items = Vec::new(alloc);
+    for (item, tokens) in table {
+        items.push(Item {
+            production: item.production,
+            index: item.index,
+            lookahead: tokens,
+        })?;
+    }
+    Ok(items)
+}
+
+// The items of a kernel, as a table and as work to do.
+fn start<'grammar>(
+    alloc: Global,
+    grammar: &'grammar Grammar,
+    kernel: &[Lr1Item<'grammar>],
+    table: &mut Table<'grammar>,
+    stack: &mut Vec<Lr0Item<'grammar>>,
+) -> Result<(), OutOfMemory>
+    requires kernel { AreItems (rules_of grammar.now) kernel.now }
+    requires table { table.old.entries ≡ [] }
+    requires stack { stack.old.items ≡ [] }
+    ensures { OnOk result (IsTable (rules_of grammar.now) kernel.now table.new.entries stack.new.items) }
+{
+    let _ = grammar;
+    for item in kernel {
+        add_item(alloc, item.to_lr0(), &item.lookahead, table, stack)?;
+    }
+    Ok(())
+}
+
+/// The items to which a kernel leads without a symbol, with the tokens that may follow them.
+pub fn closure<'grammar>(
+    alloc: Global,
+    grammar: &'grammar Grammar,
+    first_sets: &FirstSets<'grammar>,
+    kernel: &[Lr1Item<'grammar>],
+) -> Result<Vec<Lr1Item<'grammar>>, OutOfMemory>
+    requires well_formed { IsWellFormed grammar.now }
+    requires firsts { first_sets.now ≡ rules_of grammar.now }
+    requires kernel { AreItems (rules_of grammar.now) kernel.now }
+    ensures { IfOk result (λ items. IsClosureOf (rules_of grammar.now) kernel.now items.items) }
+{
+    let mut table = BTreeMap::new(alloc);
+    let mut stack = Vec::new(alloc);
+    start(alloc, grammar, kernel, &mut table, &mut stack)?;
+    while let Some(item) = stack.pop() {
+        expand(alloc, grammar, first_sets, item, &mut table, &mut stack)?;
+    }
+    items_of(alloc, table)
+}
