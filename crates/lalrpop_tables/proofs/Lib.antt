@@ -5,4 +5,6 @@ pub mod Updates
 pub mod Subsets
 pub mod Grammars
 pub mod Tables
+pub mod Orders
+pub mod Moves
 pub mod KernelNumbers

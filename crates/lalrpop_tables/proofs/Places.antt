@@ -1,9 +1,11 @@
 -- Lists whose values differ, and a value more.
 use Rattle.std.proofs.Common.{◌≡◌, ◌≢◌, ℕ, zero, suc, ◌+◌, ◌-◌, ◌<◌, ◌≤◌, ◌⊎◌, inl, inr, List, [], ◌∷◌, ◌++◌, length, get_or, refl, sym, ◌∙◌, ap, subst, arith, ⊎_elim, length-append, map}
 use Rattle.std.specs.Prelude.{slice_get, Some, None, Option, Contains, unwrap_or, AllPairs}
-use Rattle.std.proofs.lemmas.Option.{slice_get_within, get_or_from_slice_get, slice_get-get_or}
+use Rattle.std.proofs.lemmas.Option.{slice_get_within, get_or_from_slice_get, slice_get-get_or, slice_get_read}
 use Rattle.std.proofs.lemmas.Bool.{cases_lt}
+use Rattle.std.proofs.lemmas.List.Elements.{Contains-append_left, Contains-append_right, Contains-append_cases}
 use Rattle.lalrpop_base.specs.Places.{AllDiffer}
+use Rattle.lalrpop_tables.proofs.Lists.{Contains-here, Contains-there, Contains-cases}
 
 pub slice_get-append_before : {X : Type 0} (xs ys : List X) (k : ℕ) → k < length xs → slice_get (xs ++ ys) k ≡ slice_get xs k
 slice_get-append_before [] ys k l = absurd (omega arith)
@@ -42,3 +44,27 @@ differ_from_apart xs a i j x l at_i at_j =
 
 pub apart_from_differ : {X : Type 0} (xs : List X) → AllDiffer xs → AllPairs (λ a b. a ≢ b) xs
 apart_from_differ xs h i j d l m e = h i j (get_or xs i d) l (slice_get-get_or xs i d (omega arith)) (slice_get-get_or xs j d m ∙ ap Some (sym e))
+
+-- ---- a value in the midst of others
+module _ {X : Type 0} (front back : List X) (x : X) where
+  pub midst : (y : X) → Contains (front ++ x ∷ back) y → (x ≡ y) ⊎ Contains (front ++ back) y
+  midst y c = elim (Contains-append_cases front (x ∷ back) y c) [
+    | inl f ↦ inr (Contains-append_left front back y f)
+    | inr b ↦ elim (Contains-cases x back y b) [ inl e ↦ inl e | inr d ↦ inr (Contains-append_right front back y d) ]
+  ]
+
+  pub around : (y : X) → Contains (front ++ back) y → Contains (front ++ x ∷ back) y
+  around y c = elim (Contains-append_cases front back y c) [
+    | inl f ↦ Contains-append_left front (x ∷ back) y f
+    | inr b ↦ Contains-append_right front (x ∷ back) y (Contains-there x back y b)
+  ]
+
+  pub at_midst : Contains (front ++ x ∷ back) x
+  at_midst = Contains-append_right front (x ∷ back) x (Contains-here x back)
+
+pub differ_front : {X : Type 0} (xs ys : List X) → AllDiffer (xs ++ ys) → AllDiffer xs
+differ_front xs ys d i j x l at_i at_j = d i j x l (slice_get-longer xs ys i x at_i) (slice_get-longer xs ys j x at_j)
+
+-- what is read at a place stands there
+pub slice_get_at : {X : Type 0} (xs : List X) (i : ℕ) (x : X) → i < length xs → x ≡ get_or xs i x → slice_get xs i ≡ Some x
+slice_get_at xs i x l e = slice_get_read xs (length xs) i x refl l e

@@ -20,7 +20,7 @@ use Rattle.lalrpop_tables.specs.Entries.{IsJoinedAt}
 use Rattle.lalrpop_tables.specs.Entries.IsJoinedAt.{fresh, known}
 use Rattle.lalrpop_tables.specs.Closure.{dotted_of, IsItemOf, AreItems, IsClosureOf, Found, item_of, IsStacked, IsTable, weight, Spreads}
 use Rattle.lalrpop_tables.proofs.Lists.{Contains-none, Contains-here, Contains-there, Contains-cases, Contains-map, pigeonhole}
-use Rattle.lalrpop_tables.proofs.Places.{apart_from_differ, same_some, contains_at}
+use Rattle.lalrpop_tables.proofs.Places.{midst, around, at_midst, apart_from_differ, same_some, contains_at}
 use Rattle.lalrpop_tables.proofs.Subsets.{AreBelow, count_few, join_counts, join_below}
 
 abbrev Entry : Type 0
@@ -35,21 +35,6 @@ below_fits g s f q h = let l = f q h in omega arith
 
 pub join_fits : (g : Rules) (s t : Bits) → FitsTokens g.terminals s → FitsTokens g.terminals t → FitsTokens g.terminals (join s t)
 join_fits g s t a b = below_fits g (join s t) (join_below (length g.terminals + 2) s t (fits_below g s a) (fits_below g t b))
-
-midst : (front back : Found) (x y : Entry) → Contains (front ++ x ∷ back) y → (x ≡ y) ⊎ Contains (front ++ back) y
-midst front back x y c = elim (Contains-append_cases front (x ∷ back) y c) [
-  | inl f ↦ inr (Contains-append_left front back y f)
-  | inr b ↦ elim (Contains-cases x back y b) [ inl e ↦ inl e | inr d ↦ inr (Contains-append_right front back y d) ]
-]
-
-around : (front back : Found) (x y : Entry) → Contains (front ++ back) y → Contains (front ++ x ∷ back) y
-around front back x y c = elim (Contains-append_cases front back y c) [
-  | inl f ↦ Contains-append_left front (x ∷ back) y f
-  | inr b ↦ Contains-append_right front (x ∷ back) y (Contains-there x back y b)
-]
-
-at_midst : (front back : Found) (x : Entry) → Contains (front ++ x ∷ back) x
-at_midst front back x = Contains-append_right front (x ∷ back) x (Contains-here x back)
 
 -- a fact of each entry, one entry more
 module _ (P : Dotted Nil → Type 0) (Q : Bits → Type 0) (key : Dotted Nil) (tokens : Bits) (p : P key) (q : Q tokens) (both : (s t : Bits) → Q s → Q t → Q (join s t)) where

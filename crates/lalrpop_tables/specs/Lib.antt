@@ -2,3 +2,4 @@ pub mod Closure
 pub mod Counts
 pub mod Entries
 pub mod Kernels
+pub mod Transitions

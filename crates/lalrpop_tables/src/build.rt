@@ -2,4 +2,6 @@
 mod closure;
 mod kernels;
 pub mod options;
+mod reductions;
 mod tokens;
+mod transitions;

@@ -1,0 +1,88 @@
+-- The transitions and reductions of a state with given items.
+use Rattle.std.specs.Prelude.{◌≡◌, ◌≢◌, ℕ, ◌+◌, ◌⊎◌, ◌==◌, cond, List, [], ◌∷◌, ◌++◌, length, slice_get, Some, Contains}
+use Rattle.std.specs.Borrow.{Bor}
+use Rattle.std.specs.Map.{keys_of}
+use Rattle.lalrpop_base.specs.Bits.{Bits}
+use Rattle.lalrpop_base.specs.Items.{Dotted}
+use Rattle.lalrpop_base.specs.Places.{AllDiffer}
+use Rattle.lalrpop_base.specs.declared.lr1_core.state.StateIndex.{StateIndex}
+use Rattle.lalrpop_base.specs.declared.repr.NonterminalString.{NonterminalString}
+use Rattle.lalrpop_base.specs.declared.repr.Production.{Production}
+use Rattle.lalrpop_base.specs.declared.repr.Symbol.{Symbol}
+use Rattle.lalrpop_base.specs.declared.repr.Symbol.TheVariants.{Nonterminal, Terminal}
+use Rattle.lalrpop_base.specs.declared.repr.TerminalString.{TerminalString}
+use Rattle.lalrpop_tables.specs.Entries.{IsPushedAt}
+use Rattle.lalrpop_tables.specs.Kernels.{Kernels}
+use Rattle.lalrpop_tables.specs.declared.build.transitions.Edges.{Edges}
+
+-- x stands behind the item's dot
+abbrev pub IsBehind : Symbol → Dotted Bits → Type 0
+IsBehind x i = slice_get i.production.symbols i.index ≡ Some x
+
+-- the item with its dot one symbol further
+abbrev pub moved : Dotted Bits → Dotted Bits
+moved i = record { production = i.production; index = i.index + 1; lookahead = i.lookahead }
+
+-- the kernel is the items with x behind the dot, moved over it, in order
+pub data Shifts (x : Symbol) : List (Dotted Bits) → List (Dotted Bits) → Type 0 where
+  none : Shifts x [] []
+  moves : {i : Dotted Bits} {items kernel : List (Dotted Bits)} → IsBehind x i → Shifts x items kernel → Shifts x (i ∷ items) (moved i ∷ kernel)
+  stays : {i : Dotted Bits} {items kernel : List (Dotted Bits)} → ¬ IsBehind x i → Shifts x items kernel → Shifts x (i ∷ items) kernel
+
+-- kernels by the symbols that lead to them
+abbrev pub Groups : Type 0
+Groups = List (Symbol × List (Dotted Bits))
+
+abbrev pub HasNoGroup : Groups → Symbol → Type 0
+HasNoGroup groups x = (kernel : List (Dotted Bits)) → Contains groups (x, kernel) → ⊥
+
+-- each symbol behind a dot has its kernel, and no other symbol has one
+pub record AreMoves (items : List (Dotted Bits)) (groups : Groups) : Type 0 where
+  pub each : (x : Symbol) (kernel : List (Dotted Bits)) → Contains groups (x, kernel) → Shifts x items kernel
+  pub other : (x : Symbol) → HasNoGroup groups x → Shifts x items []
+  pub differ : AllDiffer (keys_of groups)
+
+-- the moved item went to the kernel of the symbol behind its dot; where there is none, nothing changed
+pub data IsMoveAdded (i : Dotted Bits) (old new : Groups) : Type 0 where
+  over : (x : Symbol) → IsBehind x i → IsPushedAt x (moved i) old new → AllDiffer (keys_of new) → IsMoveAdded i old new
+  at_end : i.index ≡ length i.production.symbols → new ≡ old → IsMoveAdded i old new
+
+-- the edges have the entry of a symbol, with its target
+abbrev pub HasEdge : Symbol → StateIndex → Edges → Type 0
+HasEdge (Nonterminal a) target edges = Contains edges.gotos.entries (a, target)
+HasEdge (Terminal t) target edges = Contains edges.shifts.entries (t, target)
+
+-- an edge more, in the place of one with the same symbol if there was one
+pub record IsEdgeAdded (x : Symbol) (target : StateIndex) (old new : Edges) : Type 0 where
+  pub there : HasEdge x target new
+  pub kept : (y : Symbol) (n : StateIndex) → y ≢ x → HasEdge y n old → HasEdge y n new
+  pub from : (y : Symbol) (n : StateIndex) → HasEdge y n new → HasEdge y n old ⊎ ((y ≡ x) × (n ≡ target))
+
+-- the symbol leads to the number of its kernel
+pub record LeadsTo (groups : Groups) (list : List (List (Dotted Bits))) (x : Symbol) (target : StateIndex) : Type 0 where
+  pub kernel : List (Dotted Bits)
+  pub group : Contains groups (x, kernel)
+  pub numbered : slice_get list target.0 ≡ Some kernel
+
+-- the edges lead from each symbol to the number of its kernel
+pub record AreEdges (groups : Groups) (list : List (List (Dotted Bits))) (edges : Edges) : Type 0 where
+  pub leads : (x : Symbol) (target : StateIndex) → HasEdge x target edges → LeadsTo groups list x target
+  pub all : (x : Symbol) (kernel : List (Dotted Bits)) → Contains groups (x, kernel) → (target : StateIndex) × HasEdge x target edges
+
+-- the kernels are those of before and others of the groups
+pub record IsReached (groups : Groups) (old new : Kernels (List (Dotted Bits))) : Type 0 where
+  pub added : List (List (Dotted Bits))
+  pub stay : new.list ≡ old.list ++ added
+  pub of : (kernel : List (Dotted Bits)) → Contains added kernel → (x : Symbol) × Contains groups (x, kernel)
+  pub handed : new.handed ≡ old.handed
+  pub differ : AllDiffer old.list → AllDiffer new.list
+
+-- ---- reductions
+-- a reduction, with its production as a value
+abbrev pub seen : Bits × Bor Production → Bits × Production
+seen r = (r.0, r.1.now)
+
+-- the productions of the finished items, with their tokens, in order
+abbrev pub reductions_of : List (Dotted Bits) → List (Bits × Production)
+reductions_of [] = []
+reductions_of (i ∷ items) = cond (i.index == length i.production.symbols) ((i.lookahead, i.production) ∷ reductions_of items) (reductions_of items)
