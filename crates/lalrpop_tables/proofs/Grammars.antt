@@ -5,11 +5,6 @@ use Rattle.std.specs.List.{flat_map}
 use Rattle.std.specs.Map.{lookup}
 use Rattle.std.specs.BTreeMap.{is_at}
 use Rattle.std.proofs.lemmas.List.Elements.{Contains-append_left, Contains-append_right, Contains-append_cases}
-use mathlib.Core.Bool.{true≢false}
-use Rattle.lalrpop_base.specs.Bits.{Bits, has}
-use Rattle.lalrpop_base.specs.Tokens.{FitsTokens}
-use Rattle.lalrpop_base.specs.Grammar.{IsNullable}
-use Rattle.lalrpop_base.specs.First.{IsFirstSet, IsFirstSetBefore}
 use Rattle.lalrpop_base.specs.WellFormed.{Rules, rules_of, IsWellFormed, AreWellFormedEntries, IsWellFormedEntry, HasKnownTerminals, productions, productions_of, listed_productions, name_cmp}
 use Rattle.lalrpop_base.specs.declared.repr.NonterminalString.{NonterminalString}
 use Rattle.lalrpop_base.specs.declared.repr.TerminalString.{TerminalString}
@@ -64,17 +59,3 @@ slice_get-drop (suc n) (x ∷ xs) k = let e : suc (n + k) ≡ suc n + k = omega 
 
 pub known_rest : (terminals : List TerminalString) (n : ℕ) (symbols rest : List Symbol) → HasKnownTerminals terminals symbols → rest ≡ drop n symbols → HasKnownTerminals terminals rest
 known_rest terminals n symbols rest h e k t at = h (n + k) t (sym (slice_get-drop n symbols k) ∙ ap (λ (xs : List Symbol). slice_get xs k) (sym e) ∙ at)
-
--- ---- the tokens before what follows are tokens
-first_fits_at : (g : Rules) (symbols : List Symbol) (follow set : Bits) (f : IsFirstSetBefore g symbols follow set) → FitsTokens g.terminals follow → (b : Bool) → has f.first (length g.terminals) ≡ b → FitsTokens g.terminals set
-first_fits_at g symbols follow set f fits true e bit h = elim ((f.nullable (f.is_first.ends.0 e) bit).0 h) [
-  | inl x ↦ fits bit x
-  | inr x ↦ let l = f.is_first.fits bit x.0 in omega arith
-]
-first_fits_at g symbols follow set f fits false e bit h =
-    let same = f.otherwise (λ n. true≢false (sym (f.is_first.ends.1 n) ∙ e)) in
-    let l = f.is_first.fits bit (subst (λ (s : Bits). has s bit ≡ true) same h) in
-    omega arith
-
-pub first_fits : (g : Rules) (symbols : List Symbol) (follow set : Bits) → IsFirstSetBefore g symbols follow set → FitsTokens g.terminals follow → FitsTokens g.terminals set
-first_fits g symbols follow set f fits = first_fits_at g symbols follow set f fits (has f.first (length g.terminals)) refl

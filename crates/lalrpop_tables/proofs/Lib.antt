@@ -5,6 +5,8 @@ pub mod Updates
 pub mod Subsets
 pub mod Grammars
 pub mod Tables
+pub mod Universe
+pub mod Building
 pub mod Orders
 pub mod Moves
 pub mod KernelNumbers

@@ -27,7 +27,7 @@ abbrev Entry : Type 0
 Entry = Dotted Nil × Bits
 
 -- a bit of a token is below the number of tokens
-fits_below : (g : Rules) (s : Bits) → FitsTokens g.terminals s → AreBelow (length g.terminals + 2) s
+pub fits_below : (g : Rules) (s : Bits) → FitsTokens g.terminals s → AreBelow (length g.terminals + 2) s
 fits_below g s f q h = let l = f q h in omega arith
 
 below_fits : (g : Rules) (s : Bits) → AreBelow (length g.terminals + 2) s → FitsTokens g.terminals s

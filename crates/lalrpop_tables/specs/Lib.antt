@@ -2,4 +2,5 @@ pub mod Closure
 pub mod Counts
 pub mod Entries
 pub mod Kernels
+pub mod States
 pub mod Transitions

@@ -3,5 +3,6 @@ mod closure;
 mod kernels;
 pub mod options;
 mod reductions;
+mod states;
 mod tokens;
 mod transitions;

@@ -1,9 +1,8 @@
 use Rattle.std.proofs.Common.{◌≡◌, ◌+◌, subst, sym, refl, ap, ◌∙◌}
 use Rattle.std.specs.Prelude.{Contains}
-use Rattle.lalrpop_base.specs.First.{IsFirstSetBefore}
 use Rattle.lalrpop_base.specs.Tokens.{FitsTokens}
 use Rattle.lalrpop_base.specs.WellFormed.{Rules, rules_of, HasKnownTerminals}
-use Rattle.lalrpop_tables.proofs.Grammars.{known_symbols, known_rest, first_fits}
+use Rattle.lalrpop_tables.proofs.Grammars.{known_symbols, known_rest}
 use Rattle.lalrpop_tables.proofs.Tables.{Spreads-none, Spreads-given, found_tokens}
 use Rattle.lalrpop_tables.proofs.build.closure.expand.Goals as goal
 
@@ -14,8 +13,6 @@ first1-requires c =
 
 pub returns : goal.returns
 returns c =
-    let first = subst (λ (g : Rules). IsFirstSetBefore g c.in-Some.rest.now c.in-Some-get.tokens.now c.in_ok-given.given) c.requires.firsts c.in_ok-given.ensures.first in
+    let fits = subst (λ (g : Rules). FitsTokens g.terminals c.in-Some-get.tokens.now → FitsTokens g.terminals c.in_ok-given.given) c.requires.firsts c.in_ok-given.ensures.fits in
     let at = found_tokens _ c.args.table.now.entries c.in-Some-get.tokens.now (sym c.in-Some-get.ensures.value) in
-    Spreads-given (rules_of c.args.grammar.now) _ _ _ _ (FitsTokens c.args.grammar.now.terminals c.in_ok-given.given)
-    (λ kernel t. first_fits (rules_of c.args.grammar.now) c.in-Some.rest.now c.in-Some-get.tokens.now c.in_ok-given.given first (t.each (at.0, c.in-Some-get.tokens.now) at.1).tokens)
-    c.in_ok-add_productions.ensures
+    Spreads-given (rules_of c.args.grammar.now) _ _ _ _ (FitsTokens c.args.grammar.now.terminals c.in_ok-given.given) (λ kernel t. fits (t.each (at.0, c.in-Some-get.tokens.now) at.1).tokens) c.in_ok-add_productions.ensures

@@ -1,0 +1,90 @@
+-- The loop that makes the states.
+use Rattle.std.proofs.Common.{◌≡◌, ◌≢◌, ℕ, zero, suc, ◌+◌, ◌-◌, ◌<◌, ◌≤◌, ◌⊎◌, inl, inr, List, [], ◌∷◌, ◌++◌, length, map, refl, sym, ◌∙◌, ap, subst, arith, ⊎_elim, length-append, Bool, true, false, cond}
+use Rattle.std.specs.Prelude.{Contains, slice_get, Some, None, Option, ◌==◌}
+use Rattle.std.proofs.lemmas.List.Elements.{Contains-append_cases}
+use Rattle.std.proofs.lemmas.Option.{slice_get_within}
+use Rattle.lalrpop_base.specs.Bits.{Bits}
+use Rattle.lalrpop_base.specs.Items.{Dotted}
+use Rattle.lalrpop_base.specs.Places.{AllDiffer}
+use Rattle.lalrpop_base.specs.WellFormed.{Rules}
+use Rattle.lalrpop_base.specs.declared.lr1_core.state.State.{State}
+use Rattle.lalrpop_base.specs.declared.lr1_core.state.StateIndex.{StateIndex}
+use Rattle.lalrpop_base.specs.declared.repr.Symbol.{Symbol}
+use Rattle.lalrpop_tables.specs.Closure.{AreItems}
+use Rattle.lalrpop_tables.specs.Kernels.{Kernels}
+use Rattle.lalrpop_tables.specs.States.{HasTransition, Leads, IsBuilt, IsBuiltOf, Extends, AreBuilt}
+use Rattle.lalrpop_tables.proofs.Lists.{Contains-none, Contains-cases}
+use Rattle.lalrpop_tables.proofs.Places.{slice_get-longer, push_cases}
+pub use Rattle.lalrpop_tables.proofs.Universe.{kernels_limit}
+use Rattle.lalrpop_tables.proofs.Universe.{kernels_bounded}
+
+-- each kernel that was handed out has its state, and all kernels are the grammar's
+pub record Building (g : Rules) (first : List (Dotted Bits)) (kernels : Kernels (List (Dotted Bits))) (states : List (State Bits)) : Type 0 where
+  pub handed : kernels.handed ≡ length states
+  pub fewer : kernels.handed ≤ length kernels.list
+  pub differ : AllDiffer kernels.list
+  pub of : (k : List (Dotted Bits)) → Contains kernels.list k → AreItems g k
+  pub start : slice_get kernels.list 0 ≡ Some first
+  pub each : (n : ℕ) (state : State Bits) → slice_get states n ≡ Some state → IsBuiltOf g kernels.list n state
+
+module _ (g : Rules) (first : List (Dotted Bits)) where
+  pub Building-init : (kernels : Kernels (List (Dotted Bits))) (states : List (State Bits)) → kernels.list ≡ first ∷ [] → kernels.handed ≡ 0 → states ≡ [] → AreItems g first → AllDiffer kernels.list → Building g first kernels states
+  Building-init kernels states l h s of differ =
+      let none : length states ≡ 0 = ap length s in
+      let one : length kernels.list ≡ 1 = ap length l in
+      record {
+        handed = h ∙ sym none;
+        fewer = omega arith;
+        differ = differ;
+        of = λ k c. elim (Contains-cases first [] k (subst (λ (ks : List (List (Dotted Bits))). Contains ks k) l c)) [ inl e ↦ subst (AreItems g) e of | inr n ↦ absurd (Contains-none k n) ];
+        start = ap (λ (ks : List (List (Dotted Bits))). slice_get ks 0) l;
+        each = λ n state at. let w : n < length states = slice_get_within states n state at in absurd (omega arith);
+      }
+
+  built_longer : (old more new : List (List (Dotted Bits))) (n : ℕ) (state : State Bits) → new ≡ old ++ more → IsBuiltOf g old n state → IsBuiltOf g new n state
+  built_longer old more new n state e b = record {
+    kernel = b.kernel;
+    numbered = longer b.kernel n b.numbered;
+    built = record {
+      index = b.built.index;
+      closure = b.built.closure;
+      leads = λ x t h. let l = b.built.leads x t h in record { kernel = l.kernel; shifts = l.shifts; numbered = longer l.kernel t.0 l.numbered };
+      all = b.built.all;
+      finished = b.built.finished;
+    };
+  }
+    where
+      longer : (k : List (Dotted Bits)) (n : ℕ) → slice_get old n ≡ Some k → slice_get new n ≡ Some k
+      longer k n h = subst (λ (ks : List (List (Dotted Bits))). slice_get ks n ≡ Some k) (sym e) (slice_get-longer old more n k h)
+
+  pub Building-step : (old middle new : Kernels (List (Dotted Bits))) (states : List (State Bits)) (state : State Bits) → Building g first old states → old.handed < length old.list → middle.list ≡ old.list → middle.handed ≡ old.handed + 1 →
+      Extends g middle new → IsBuiltOf g new.list old.handed state → Building g first new (states ++ state ∷ [])
+  Building-step old middle new states state b l same handed x built =
+      let grown : new.list ≡ old.list ++ x.added = x.stay ∙ ap (λ ks. ks ++ x.added) same in
+      let number = b.handed in
+      let more : length (states ++ state ∷ []) ≡ length states + 1 = length-append states (state ∷ []) in
+      let longer : length new.list ≡ length old.list + length x.added = ap length grown ∙ length-append old.list x.added in
+      let counted = x.handed in
+      record {
+        handed = omega arith;
+        fewer = omega arith;
+        differ = x.differ (subst AllDiffer (sym same) b.differ);
+        of = λ k c. elim (Contains-append_cases old.list x.added k (subst (λ (ks : List (List (Dotted Bits))). Contains ks k) grown c)) [ inl d ↦ b.of k d | inr d ↦ x.of k d ];
+        start = subst (λ (ks : List (List (Dotted Bits))). slice_get ks 0 ≡ Some first) (sym grown) (slice_get-longer old.list x.added 0 first b.start);
+        each = λ n s at. ⊎_elim
+        (λ had. built_longer old.list x.added new.list n s grown (b.each n s had))
+        (λ is. subst (λ (m : ℕ). IsBuiltOf g new.list m s) (number ∙ sym is.0) (subst (IsBuiltOf g new.list old.handed) is.1 built))
+        (push_cases states state n s at);
+      }
+
+  pub Building-smaller : (old : Kernels (List (Dotted Bits))) (states : List (State Bits)) → Building g first old states → old.handed < length old.list → old.handed < kernels_limit g
+  Building-smaller old states b l = let n = kernels_bounded g old.list b.differ b.of in omega arith
+
+  pub Building-all : (kernels : Kernels (List (Dotted Bits))) (states : List (State Bits)) → Building g first kernels states → kernels.handed ≡ length kernels.list → AreBuilt g first states
+  Building-all kernels states b all = record {
+    kernels = kernels.list;
+    counted = sym all ∙ b.handed;
+    differ = b.differ;
+    start = b.start;
+    each = b.each;
+  }

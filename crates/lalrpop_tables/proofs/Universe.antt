@@ -1,0 +1,56 @@
+-- All kernels that a grammar can have are no more than the sublists of all its items.
+use Rattle.std.proofs.Common.{◌≡◌, ◌≢◌, ℕ, zero, suc, ◌+◌, ◌<◌, ◌≤◌, inl, inr, List, [], ◌∷◌, ◌++◌, length, map, refl, sym, ◌∙◌, ap, subst, arith, option_map}
+use Rattle.std.specs.Prelude.{Contains, AllPairs, slice_get, Some}
+use Rattle.std.specs.List.{flat_map, range_with_len}
+use Rattle.std.proofs.lemmas.List.Elements.{Contains-append_left, Contains-append_right}
+use Rattle.std.proofs.lemmas.Option.{slice_get-map}
+use Rattle.lalrpop_base.specs.Bits.{Bits}
+use Rattle.lalrpop_base.specs.Items.{Dotted}
+use Rattle.lalrpop_base.specs.Places.{AllDiffer}
+use Rattle.lalrpop_base.specs.WellFormed.{Rules}
+use Rattle.lalrpop_base.specs.declared.repr.Production.{Production}
+use Rattle.lalrpop_tables.specs.Closure.{dotted_of, IsItemOf, AreItems}
+use Rattle.lalrpop_tables.proofs.Bounded.{lists, in_flat_map, kernels_few}
+use Rattle.lalrpop_tables.proofs.Lists.{Contains-map, Contains-range}
+use Rattle.lalrpop_tables.proofs.Places.{apart_from_differ}
+use Rattle.lalrpop_tables.proofs.Subsets.{subsets, among_subsets}
+use Rattle.lalrpop_tables.proofs.Tables.{fits_below}
+
+abbrev made : Production → ℕ → Bits → Dotted Bits
+made p n s = record { production = p; index = n; lookahead = s }
+
+abbrev at_dot : List Bits → Production → ℕ → List (Dotted Bits)
+at_dot sets p n = map (λ s. made p n s) sets
+
+abbrev of_production : List Bits → Production → List (Dotted Bits)
+of_production sets p = flat_map (at_dot sets p) (range_with_len 0 (length p.symbols + 1))
+
+-- all items of a grammar
+pub all_items : Rules → List (Dotted Bits)
+all_items g = flat_map (of_production (subsets (length g.terminals + 2))) g.productions
+
+pub among_items : (g : Rules) (i : Dotted Bits) → IsItemOf g i → Contains (all_items g) i
+unfolding all_items
+among_items g i of =
+    let sets = subsets (length g.terminals + 2) in
+    let l = of.dot in
+    let set = among_subsets (length g.terminals + 2) i.lookahead (fits_below g i.lookahead of.tokens) in
+    let dot = Contains-range (length i.production.symbols + 1) i.index (omega arith) in
+    let here = Contains-map (λ s. made i.production i.index s) sets i.lookahead set in
+    in_flat_map (of_production sets) g.productions i.production i of.production
+    (in_flat_map (at_dot sets i.production) (range_with_len 0 (length i.production.symbols + 1)) i.index i dot here)
+
+-- items whose dotted productions differ do so themselves
+items_differ : (items : List (Dotted Bits)) → AllDiffer (map dotted_of items) → AllDiffer items
+items_differ items d i j x l at_i at_j =
+    let f : Dotted Bits → Production × ℕ = dotted_of in
+    d i j (f x) l (slice_get-map f items i ∙ ap (option_map f) at_i) (slice_get-map f items j ∙ ap (option_map f) at_j)
+
+-- more kernels a grammar can't have
+pub kernels_limit : Rules → ℕ
+kernels_limit g = length (lists (all_items g) (length (all_items g)))
+
+pub kernels_bounded : (g : Rules) (known : List (List (Dotted Bits))) → AllDiffer known → ((k : List (Dotted Bits)) → Contains known k → AreItems g k) → length known ≤ kernels_limit g
+unfolding kernels_limit
+kernels_bounded g known d h =
+    kernels_few (all_items g) known (apart_from_differ known d) (λ k c. apart_from_differ k (items_differ k (h k c).differ)) (λ k i c m. among_items g i ((h k c).each i m))
