@@ -10,7 +10,7 @@ pub lists : {X : Type 0} → List X → ℕ → List (List X)
 lists all zero = [] ∷ []
 lists all (suc n) = [] ∷ flat_map (λ x. map (λ xs. x ∷ xs) (lists all n)) all
 
-in_flat_map : {X Y : Type 0} (f : X → List Y) (xs : List X) (x : X) (y : Y) → Contains xs x → Contains (f x) y → Contains (flat_map f xs) y
+pub in_flat_map : {X Y : Type 0} (f : X → List Y) (xs : List X) (x : X) (y : Y) → Contains xs x → Contains (f x) y → Contains (flat_map f xs) y
 in_flat_map f [] x y c d = absurd (Contains-none x c)
 in_flat_map {X} {Y} f (z ∷ xs) x y c d = elim (Contains-cases z xs x c) [
   | inl e ↦ let P : X → Type 0 = λ k. Contains (f k) y in Contains-append_left (f z) (flat_map f xs) y (subst P (sym e) d)

@@ -88,3 +88,13 @@ module _ (g : Rules) (first : List (Dotted Bits)) where
     start = b.start;
     each = b.each;
   }
+
+-- the first kernel of all
+pub first_added : (kernel first : List (Dotted Bits)) (old new : Kernels (List (Dotted Bits))) → kernel ≡ first → old.list ≡ [] → (new.list ≡ old.list) ⊎ (new.list ≡ old.list ++ kernel ∷ []) → (n : ℕ) → slice_get new.list n ≡ Some kernel → new.list ≡ first ∷ []
+first_added kernel first old new e empty either n at = elim either [
+  | inl same ↦
+      let none : length new.list ≡ 0 = ap length (same ∙ empty) in
+      let w = slice_get_within new.list n kernel at in
+      absurd (omega arith)
+  | inr push ↦ push ∙ ap (λ ks. ks ++ kernel ∷ []) empty ∙ ap (λ k. k ∷ []) e
+]

@@ -7,6 +7,8 @@ pub mod Grammars
 pub mod Tables
 pub mod Universe
 pub mod Building
+pub mod Shifting
+pub mod Coherence
 pub mod Orders
 pub mod Moves
 pub mod KernelNumbers

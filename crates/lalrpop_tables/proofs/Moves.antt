@@ -44,10 +44,10 @@ Shifts-other x i items kernel b (stays {items = is} {kernel = ks} c s) = stays c
 abbrev Group : Type 0
 Group = Symbol × List (Dotted Bits)
 
-differ_tail : {X : Type 0} (x : X) (xs : List X) → AllDiffer (x ∷ xs) → AllDiffer xs
+pub differ_tail : {X : Type 0} (x : X) (xs : List X) → AllDiffer (x ∷ xs) → AllDiffer xs
 differ_tail x xs d i j y l at_i at_j = d (suc i) (suc j) y (omega arith) at_i at_j
 
-differ_head : {X : Type 0} (x : X) (xs : List X) → AllDiffer (x ∷ xs) → (y : X) → Contains xs y → x ≡ y → ⊥
+pub differ_head : {X : Type 0} (x : X) (xs : List X) → AllDiffer (x ∷ xs) → (y : X) → Contains xs y → x ≡ y → ⊥
 differ_head x xs d y c e = let at = place xs y c in d 0 (suc at.0) y (omega arith) (ap Some e) at.2
 
 key_in : (groups : Groups) (g : Group) → Contains groups g → Contains (keys_of groups) g.0
@@ -77,18 +77,33 @@ module _ (items : List (Dotted Bits)) (i : Dotted Bits) (y : Symbol) (behind : I
   over_other front back g new after key old x none_new =
       Shifts-other x i items [] (not_behind x (λ e. none_new g.1 (subst (λ (gs : Groups). Contains gs (x, g.1)) (sym after) (subst (λ (s : Symbol). Contains (front ++ g ∷ back) (s, g.1)) (key ∙ e) (at_midst front back g))))) (old x none_new)
 
+  -- each symbol that had a group has one, and so has y
+  over_has : (old new : Groups) → AreMoves items old → ((h : Group) → Contains old h → (ks : List (Dotted Bits)) × Contains new (h.0, ks)) → (ks : List (Dotted Bits)) → Contains new (y, ks) → (x : Symbol) (j : Dotted Bits) → Contains (items ++ i ∷ []) j → IsBehind x j → (ks : List (Dotted Bits)) × Contains new (x, ks)
+  over_has old new m kept ks there x j c b = elim (Contains-append_cases items (i ∷ []) j c) [
+    | inl had ↦ let g = m.has x j had b in kept (x, g.0) g.1
+    | inr last ↦ elim (Contains-cases i [] j last) [
+      | inl same ↦ (ks, subst (λ (s : Symbol). Contains new (s, ks)) (same_some y x (sym behind ∙ subst (λ (k : Dotted Bits). IsBehind x k) (sym same) b)) there)
+      | inr n ↦ absurd (Contains-none j n)
+    ]
+  ]
+
   pub Moves-over : (old new : Groups) → AreMoves items old → IsPushedAt y (moved i) old new → AllDiffer (keys_of new) → AreMoves (items ++ i ∷ []) new
   Moves-over old new m (fresh front back before after) d =
       let differ = subst (λ (gs : Groups). AllDiffer (keys_of gs)) after d in
       let none_y : HasNoGroup old y = λ ks c. midst_differs front back (y, moved i ∷ []) (y, ks) differ (subst (λ (gs : Groups). Contains gs (y, ks)) before c) refl in
       record {
         each = over_each front back [] old new after d (m.other y none_y) (λ h c. m.each h.0 h.1 (subst (λ (gs : Groups). Contains gs h) (sym before) c));
+        has = over_has old new m (λ h c. (h.1, subst (λ (gs : Groups). Contains gs h) (sym after) (around front back (y, moved i ∷ []) h (subst (λ (gs : Groups). Contains gs h) before c)))) (moved i ∷ []) (subst (λ (gs : Groups). Contains gs (y, moved i ∷ [])) (sym after) (at_midst front back (y, moved i ∷ [])));
         other = over_other front back (y, moved i ∷ []) new after refl (λ x none_new. m.other x (λ ks c. none_new ks (subst (λ (gs : Groups). Contains gs (x, ks)) (sym after) (around front back (y, moved i ∷ []) (x, ks) (subst (λ (gs : Groups). Contains gs (x, ks)) before c)))));
         differ = d;
       }
   Moves-over old new m (known front back vs before after) d =
       record {
         each = over_each front back vs old new after d (m.each y vs (subst (λ (gs : Groups). Contains gs (y, vs)) (sym before) (at_midst front back (y, vs)))) (λ h c. m.each h.0 h.1 (subst (λ (gs : Groups). Contains gs h) (sym before) (around front back (y, vs) h c)));
+        has = over_has old new m (λ h c. elim (midst front back (y, vs) h (subst (λ (gs : Groups). Contains gs h) before c)) [
+          | inl same ↦ (vs ++ moved i ∷ [], subst (λ (gs : Groups). Contains gs (h.0, vs ++ moved i ∷ [])) (sym after) (subst (λ (s : Symbol). Contains (front ++ (y, vs ++ moved i ∷ []) ∷ back) (s, vs ++ moved i ∷ [])) (ap (λ (g : Group). g.0) same) (at_midst front back (y, vs ++ moved i ∷ []))))
+          | inr out ↦ (h.1, subst (λ (gs : Groups). Contains gs h) (sym after) (around front back (y, vs ++ moved i ∷ []) h out))
+        ]) (vs ++ moved i ∷ []) (subst (λ (gs : Groups). Contains gs (y, vs ++ moved i ∷ [])) (sym after) (at_midst front back (y, vs ++ moved i ∷ [])));
         other = over_other front back (y, vs ++ moved i ∷ []) new after refl (λ x none_new. m.other x (λ ks c. elim (midst front back (y, vs) (x, ks) (subst (λ (gs : Groups). Contains gs (x, ks)) before c)) [
           | inl same ↦ none_new (vs ++ moved i ∷ []) (subst (λ (gs : Groups). Contains gs (x, vs ++ moved i ∷ [])) (sym after) (subst (λ (s : Symbol). Contains (front ++ (y, vs ++ moved i ∷ []) ∷ back) (s, vs ++ moved i ∷ [])) (ap (λ (g : Group). g.0) same) (at_midst front back (y, vs ++ moved i ∷ []))))
           | inr out ↦ none_new ks (subst (λ (gs : Groups). Contains gs (x, ks)) (sym after) (around front back (y, vs ++ moved i ∷ []) (x, ks) out))
@@ -104,11 +119,15 @@ Moves-more items i old new m (over x b p d) = Moves-over items i x b old new m p
 Moves-more items i old new m (at_end e same) = subst (AreMoves (items ++ i ∷ [])) (sym same) (record {
   each = λ x ks c. Shifts-other x i items ks (past_end i x e) (m.each x ks c);
   other = λ x n. Shifts-other x i items [] (past_end i x e) (m.other x n);
+  has = λ x j c b. elim (Contains-append_cases items (i ∷ []) j c) [
+    | inl had ↦ m.has x j had b
+    | inr last ↦ elim (Contains-cases i [] j last) [ inl same ↦ absurd (past_end i x e (subst (λ (k : Dotted Bits). IsBehind x k) (sym same) b)) | inr n ↦ absurd (Contains-none j n) ]
+  ];
   differ = m.differ;
 })
 
 pub Moves-none : AreMoves [] []
-Moves-none = record { each = λ x ks c. absurd (Contains-none (x, ks) c); other = λ x n. none; differ = λ i j x l at. cc }
+Moves-none = record { each = λ x ks c. absurd (Contains-none (x, ks) c); other = λ x n. none; has = λ x i c b. absurd (Contains-none i c); differ = λ i j x l at. cc }
 
 -- ---- one edge more
 -- the edges to the kernels of the first groups

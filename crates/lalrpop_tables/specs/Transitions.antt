@@ -40,6 +40,7 @@ HasNoGroup groups x = (kernel : List (Dotted Bits)) → Contains groups (x, kern
 pub record AreMoves (items : List (Dotted Bits)) (groups : Groups) : Type 0 where
   pub each : (x : Symbol) (kernel : List (Dotted Bits)) → Contains groups (x, kernel) → Shifts x items kernel
   pub other : (x : Symbol) → HasNoGroup groups x → Shifts x items []
+  pub has : (x : Symbol) (i : Dotted Bits) → Contains items i → IsBehind x i → (kernel : List (Dotted Bits)) × Contains groups (x, kernel)
   pub differ : AllDiffer (keys_of groups)
 
 -- the moved item went to the kernel of the symbol behind its dot; where there is none, nothing changed
