@@ -5,10 +5,11 @@
 #[cfg(test)]
 mod first;
 #[cfg(test)]
+mod interpret;
+#[cfg(test)]
 mod lookahead;
 #[cfg(test)]
 mod lr1_core;
 pub mod plain;
 #[cfg(test)]
 mod repr;
-mod interpret;
