@@ -9,6 +9,8 @@ pub mod Conflicts
 pub mod Copies
 pub mod Derivations
 pub mod FirstSets
+pub mod FiveStates
+pub mod FiveStatesRuns
 pub mod Forests
 pub mod Instance
 pub mod InstanceRuns
@@ -16,6 +18,7 @@ pub mod InstanceTokens
 pub mod LalrStates
 pub mod LaneTables
 pub mod Lanes
+pub mod LeastClosures
 pub mod Lists
 pub mod Lr0
 pub mod Outcomes
@@ -26,8 +29,6 @@ pub mod Refusals
 pub mod Renumbering
 pub mod RightStates
 pub mod Rows
-pub mod RowsInstance
-pub mod RowsTokens
 pub mod Runs
 pub mod Sentences
 pub mod Spoilt

@@ -13,9 +13,9 @@ use Rattle.lalrpop_base.specs.States.{Contents, state_after, Allows, HasRightIte
 use Rattle.lalrpop_base.specs.Closures.{InTokenClosure, with_token, begins_rest, inherits, IsAtStartWith, IsMovedWith, items_of, AreCanonical}
 use Rattle.lalrpop_base.proofs.theory.Lists.{drop_past, Grown, from_nothing, more, grown, same_some}
 use Rattle.lalrpop_base.proofs.theory.Closures.{state_from-last, items_valid, right_items, live_state}
-use Rattle.lalrpop_base.proofs.theory.RightStates.{edges_awaited, reductions_valid, action_stands, no_conflict_one, one_no_conflict}
+use Rattle.lalrpop_base.proofs.theory.RightStates.{edges_awaited, reductions_valid, no_conflict_one, one_no_conflict}
 use Rattle.lalrpop_base.proofs.theory.Derivations.{Derives-from, Derives-to, Derives-trans, Derives-left, Derives-right, Derives-production}
-use Rattle.lalrpop_base.proofs.theory.Valid.{extends, valid, action_live}
+use Rattle.lalrpop_base.proofs.theory.Valid.{extends, valid}
 use Rattle.lalrpop_base.specs.Conflicts.{HasNoConflict}
 
 -- a list that begins with a token: with its terminal, or, for Eof, the empty one
@@ -45,7 +45,6 @@ token_follows (passed_on {u} {p} {dot} q after v e h n) =
     )
 
 module _ (g : List Production) (start : NonterminalString) (states : ℕ → Contents) (tokens : ℕ → Production → ℕ → Token → Type 0) (canonical : AreCanonical g start states tokens) where
-
   -- the dotted productions of a state are those valid for each prefix that leads to it
   items_at : (u : List Symbol) (n : ℕ) → state_after states u ≡ Some n → (p : Production) (dot : ℕ) → items_of states n p dot ↔ Valid g start u p dot
   items_at = items_valid g start states canonical.closed

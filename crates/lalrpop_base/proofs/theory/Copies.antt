@@ -1,17 +1,16 @@
 -- Copies of closed states are closed, so that they have the right dotted productions: since closures and edges go by dotted productions alone.
-use Rattle.std.proofs.Common.{◌≡◌, ◌↔◌, ℕ, List, ◌∷◌, drop, sym, subst, refl, ap, ◌∙◌, Some}
-use Rattle.std.specs.Prelude.{Contains}
+use Rattle.std.proofs.Common.{◌↔◌, ℕ, List, sym, subst}
 use Rattle.lalrpop_base.specs.declared.repr.NonterminalString.{NonterminalString}
 use Rattle.lalrpop_base.specs.declared.repr.Production.{Production}
 use Rattle.lalrpop_base.specs.declared.repr.Symbol.{Symbol}
-use Rattle.lalrpop_base.specs.States.{Contents, leads, IsBehindDot, LeadsOverDots}
+use Rattle.lalrpop_base.specs.States.{Contents, IsBehindDot}
 use Rattle.lalrpop_base.specs.Closures.{InClosure, in_kernel, expanded, IsMoved, items_of, AreClosed}
 use Rattle.lalrpop_base.specs.Copies.{IsCopying}
+use Rattle.lalrpop_base.proofs.theory.LeastClosures.{closure_within}
 
 -- a larger kernel has a larger closure
 pub closure_grows : {g : List Production} {small large : Production → ℕ → Type 0} → ((p : Production) (dot : ℕ) → small p dot → large p dot) → {p : Production} {dot : ℕ} → InClosure g small p dot → InClosure g large p dot
-closure_grows f {p} {dot} (in_kernel k) = in_kernel (f p dot k)
-closure_grows f (expanded q after c e h) = expanded q after (closure_grows f c) e h
+closure_grows {g} {large = large} f c = closure_within (InClosure g large) (λ p dot k. in_kernel (f p dot k)) (λ p q dot after d e h. expanded q after d e h) c
 
 module _ (g : List Production) (start : NonterminalString) (original : ℕ → ℕ) (states copies : ℕ → Contents) (copying : IsCopying original states copies) where
   -- what is moved over a symbol from a copy is what is moved from its original

@@ -12,7 +12,6 @@ use Rattle.lalrpop_base.proofs.theory.Lists.{same_terminal, not_both}
 use Rattle.lalrpop_base.proofs.theory.Forests.{Forest, empty, leaf, node, derives_forest, nil_parts, nullable-cons, first-cons}
 
 module _ (g : List Production) (null : NonterminalString → Type 0) (first : NonterminalString → TerminalString → Type 0) (sets : AreFirstSets g null first) where
-
   -- what derives the empty list is nullable by the sets
   forest_null : {l m : List Symbol} → Forest g l m → m ≡ [] → NullableBy null l
   forest_null empty e = tt

@@ -1,13 +1,11 @@
 -- LR(0) states that are closed and hold their lane tokens pass the check of tables where the grammar is LALR(1): what is carried over edges is found by tracing back over them.
-use Rattle.std.proofs.Common.{◌≡◌, true, ℕ, suc, List, ◌∷◌, drop, length, subst, refl, ap, Some}
+use Rattle.std.proofs.Common.{◌≡◌, ℕ, suc, List, ◌∷◌, drop, length, subst, refl, Some}
 use Rattle.std.specs.Prelude.{Contains}
 use Rattle.lalrpop_base.specs.declared.repr.NonterminalString.{NonterminalString}
 use Rattle.lalrpop_base.specs.declared.repr.Production.{Production}
 use Rattle.lalrpop_base.specs.declared.repr.Symbol.{Symbol}
 use Rattle.lalrpop_base.specs.declared.repr.Symbol.TheVariants.{Nonterminal, Terminal}
-use Rattle.lalrpop_base.specs.declared.repr.TerminalString.{TerminalString}
 use Rattle.lalrpop_base.specs.declared.lookahead.token.Token.{Token}
-use Rattle.lalrpop_base.specs.declared.lookahead.token.Token.TheVariants.{Terminal as TokenOf}
 use Rattle.lalrpop_base.specs.Grammar.{IsOnNoRightSide}
 use Rattle.lalrpop_base.specs.Validity.{Action, Shift, Reduce, IsLALR1, IsLalrAction}
 use Rattle.lalrpop_base.specs.States.{Contents, Reduction, state_after, ReducesFinished, HasRightItems, Allows}

@@ -36,7 +36,6 @@ pub given_there : (g : List Production) (start : NonterminalString) (states : �
 given_there g start states {s} {p} {dot} h = (s, record { production = p; index = dot; traced = itself; gives = h })
 
 module _ (g : List Production) (start : NonterminalString) (states : ℕ → Contents) (lr0 : AreLr0 g start states) where
-
   -- the state after a live prefix is right for it but for tokens
   pub items_at : (u : List Symbol) (n : ℕ) → IsLive g start u → state_after states u ≡ Some n → HasRightItems g start u (states n)
   items_at u n l e =

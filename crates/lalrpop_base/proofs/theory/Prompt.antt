@@ -32,7 +32,6 @@ pub record Finishes (states : ℕ → Contents) (w : List TerminalString) : Type
   pub halts : Halts states at
 
 module _ (g : List Production) (start : NonterminalString) (states : ℕ → Contents) (tokens : ℕ → Production → ℕ → Token → Type 0) (canonical : AreCanonical g start states tokens) (lr1 : IsLR1 g start) where
-
   -- canonical states of an LR(1) grammar are faithful
   faithful : AreFaithful g start states
   faithful = canonical_faithful g start states tokens canonical lr1

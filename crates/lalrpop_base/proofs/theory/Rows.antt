@@ -1,9 +1,7 @@
 -- A table written down as rows meets the definitions where finitely many facts of its rows hold: by going through the lists.
-use Rattle.std.proofs.Common.{◌≡◌, ◌↔◌, ◌<◌, ℕ, zero, suc, Bool, true, false, cond, true≢false, List, [], ◌∷◌, drop, length, sym, subst, refl, ap, ap₂, ◌∙◌, Option, Some, None, inl, inr, arith}
-use Rattle.std.specs.Prelude.{Contains, slice_get, eqb}
+use Rattle.std.proofs.Common.{◌≡◌, ◌↔◌, ℕ, zero, suc, Bool, true, false, cond, true≢false, List, [], ◌∷◌, drop, length, sym, subst, refl, ap₂, Option, Some, None, inl, inr, arith}
+use Rattle.std.specs.Prelude.{Contains, eqb}
 use Rattle.std.proofs.lemmas.Bool.{eqb-true}
-use mathlib.Core.List.{nil≢cons}
-use Rattle.lalrpop_base.specs.declared.repr.NonterminalString.{NonterminalString}
 use Rattle.lalrpop_base.specs.declared.repr.Production.{Production}
 use Rattle.lalrpop_base.specs.declared.repr.Symbol.{Symbol}
 use Rattle.lalrpop_base.specs.declared.repr.Symbol.TheVariants.{Nonterminal, Terminal}
@@ -18,6 +16,7 @@ abbrev pub Each : {A : Type 0} → (A → Type 0) → List A → Type 0
 Each P [] = Unit {0}
 Each P (x ∷ xs) = P x × Each P xs
 
+-- holds of each
 pub each_at : {A : Type 0} (P : A → Type 0) (xs : List A) → Each P xs → (x : A) → Contains xs x → P x
 each_at P [] h x c = absurd (contains-nil c)
 each_at P (y ∷ ys) h x c = elim (contains-cons y ys x c) [ inl e ↦ subst P e h.0 | inr k ↦ each_at P ys h.1 x k ]
@@ -29,6 +28,7 @@ same_text [] (d ∷ w) = false
 same_text (c ∷ v) [] = false
 same_text (c ∷ v) (d ∷ w) = cond (eqb c d) (same_text v w) false
 
+-- texts that are found to be one are
 pub same_text_true : (v w : List ℕ) → same_text v w ≡ true → v ≡ w
 same_text_true [] [] e = refl
 same_text_true [] (d ∷ w) e = absurd (true≢false (sym e))
@@ -76,6 +76,7 @@ state_of r = record { items = r.items; shift = shift_in r.shifts; goto = λ a. f
 abbrev pub EachEdge : Row → (Symbol → ℕ → Type 0) → Type 0
 EachEdge r P = Each (λ (e : List ℕ × ℕ). P (Terminal (Literal e.0)) e.1) r.shifts × Each (λ (e : List ℕ × ℕ). P (Nonterminal (record { text = e.0 })) e.1) r.gotos
 
+-- each edge is one of the listed
 pub edge_at : (r : Row) (P : Symbol → ℕ → Type 0) → EachEdge r P → (x : Symbol) (m : ℕ) → leads (state_of r) x ≡ Some m → P x m
 edge_at r P h (Terminal (Literal w)) m e = each_at (λ (e : List ℕ × ℕ). P (Terminal (Literal e.0)) e.1) r.shifts h.0 (w, m) (find_listed r.shifts w m e)
 edge_at r P h (Terminal (Bare w)) m e = absurd (some≢none (sym e))
@@ -90,6 +91,7 @@ Behind P (x ∷ after) = P x after
 abbrev pub EachBehind : (Production → ℕ → Symbol → List Symbol → Type 0) → List (Production × ℕ) → Type 0
 EachBehind P items = Each (λ (i : Production × ℕ). Behind (P i.0 i.1) (drop i.1 (i.0).symbols)) items
 
+-- what stands behind a dot of a listed item
 pub behind_at : (P : Production → ℕ → Symbol → List Symbol → Type 0) (items : List (Production × ℕ)) → EachBehind P items → (p : Production) (dot : ℕ) (x : Symbol) (after : List Symbol) → Contains items (p, dot) → drop dot p.symbols ≡ x ∷ after → P p dot x after
 behind_at P items h p dot x after c e = subst (Behind (P p dot)) e (each_at (λ (i : Production × ℕ). Behind (P i.0 i.1) (drop i.1 (i.0).symbols)) items h (p, dot) c)
 
@@ -138,6 +140,7 @@ row_reductions r h k once = record {
 pub none_repeats : HasNoRepeat []
 none_repeats i j a b l e f k = some≢none (sym e)
 
+-- and one does not stand twice
 pub one_repeats : (r : Reduction) → HasNoRepeat (r ∷ [])
 one_repeats r i zero a b l e f k = omega (arith, l)
 one_repeats r i (suc j) a b l e f k = some≢none (sym f)

@@ -5,8 +5,8 @@ use Rattle.lalrpop_base.proofs.theory.Instance.{S, x, g, states, alone, checked,
 use Rattle.lalrpop_base.proofs.theory.InstanceTokens.{tokens, canonical, token_kernels, lr0, lane_tokens_held, lalr_tokens_held, lr1, lalr1}
 use Rattle.lalrpop_base.proofs.theory.InstanceRuns.{tree, at_two}
 use Rattle.lalrpop_base.proofs.theory.Spoilt.{with_reductions, idle, dropped_refused, repeated_refused, idle_refused}
-use Rattle.lalrpop_base.proofs.theory.RowsTokens as five
-use Rattle.lalrpop_base.proofs.theory.RowsInstance as rows
+use Rattle.lalrpop_base.proofs.theory.FiveStatesRuns as five
+use Rattle.lalrpop_base.proofs.theory.FiveStates as rows
 use mathlib.Core.List.{tail-eq_of_cons-eq, nil≢cons}
 use Rattle.lalrpop_base.proofs.laws.instances.Goals as goal
 

@@ -1,7 +1,6 @@
 -- The grammar S = A B; A = "x"; B = () | "y" and its five states pass the check, so that they are faithful: by going through the rows.
-use Rattle.std.proofs.Common.{◌≡◌, ◌↔◌, ◌<◌, ℕ, zero, suc, Bool, true, false, true≢false, List, [], ◌∷◌, ◌++◌, append-nil, drop, sym, subst, refl, ap, ◌∙◌, Some, length, arith}
+use Rattle.std.proofs.Common.{◌≡◌, ◌↔◌, ℕ, zero, suc, Bool, true, false, List, [], ◌∷◌, drop, sym, subst, refl, ap, Some, arith}
 use Rattle.std.specs.Prelude.{Contains}
-use mathlib.Core.List.{head-eq_of_cons-eq, tail-eq_of_cons-eq, nil≢cons}
 use Rattle.lalrpop_base.specs.declared.repr.NonterminalString.{NonterminalString}
 use Rattle.lalrpop_base.specs.declared.repr.Production.{Production}
 use Rattle.lalrpop_base.specs.declared.repr.Symbol.{Symbol}
@@ -10,16 +9,10 @@ use Rattle.lalrpop_base.specs.declared.repr.TerminalString.{TerminalString}
 use Rattle.lalrpop_base.specs.declared.repr.TerminalString.TheVariants.{Literal, Bare, Error}
 use Rattle.lalrpop_base.specs.declared.lookahead.token.Token.{Token}
 use Rattle.lalrpop_base.specs.declared.lookahead.token.Token.TheVariants.{Eof, Terminal as TokenOf, Error as ErrorToken}
-use Rattle.lalrpop_base.specs.Grammar.{IsFirst, IsOnNoRightSide}
-use Rattle.lalrpop_base.specs.States.{Contents, Reduction, leads, IsBehindDot, LeadsOverDots, ReducesFinished, AreFaithful}
-use Rattle.lalrpop_base.specs.Conflicts.{HasNoConflict}
-use Rattle.lalrpop_base.specs.Closures.{InClosure, in_kernel, expanded, IsAtStart, IsMoved, items_of, AreClosed, IsCarried, eof_at_start, over, first_of_rest, through_rest, AreChecked}
-use Rattle.lalrpop_base.specs.Trees.{Tree, Leaf, Node, no_trees, beside}
-use Rattle.lalrpop_base.specs.Runs.{here, further, HasOutcome, Parsed, parsed}
-use Rattle.lalrpop_base.proofs.theory.Lists.{not_both, same_terminal, contains-nil, some≢none, same_some}
-use Rattle.lalrpop_base.proofs.theory.Forests.{Forest, empty, leaf, node, Forest-from, derives_forest, forest-nil, first-nil, forest-terminal}
-use Rattle.lalrpop_base.proofs.theory.Closures.{checked_faithful}
-use Rattle.lalrpop_base.proofs.theory.Rows.{Each, each_at, same_text, Row, state_of, EachEdge, edge_at, Behind, EachBehind, behind_at, row_edges, Expands, row_closure, row_moved, row_reductions, none_repeats, one_repeats}
+use Rattle.lalrpop_base.specs.States.{Contents, Reduction, leads, IsBehindDot, LeadsOverDots, ReducesFinished}
+use Rattle.lalrpop_base.specs.Closures.{InClosure, in_kernel, expanded, IsAtStart, IsMoved, items_of, AreClosed}
+use Rattle.lalrpop_base.proofs.theory.Lists.{not_both}
+use Rattle.lalrpop_base.proofs.theory.Rows.{each_at, same_text, Row, state_of, edge_at, row_edges, row_closure, row_moved, row_reductions, none_repeats, one_repeats}
 
 -- the names and the productions
 abbrev pub S : NonterminalString
@@ -84,27 +77,32 @@ rows (suc (suc (suc (suc (suc n))))) = record { items = []; shifts = []; gotos =
 abbrev pub states : ℕ → Contents
 states n = state_of (rows n)
 
--- the first byte of a name tells the three apart
+-- the first byte of a name, which tells the three apart
 abbrev first_byte : List ℕ → ℕ
 first_byte [] = 0
 first_byte (c ∷ w) = c
 
+-- equal names begin alike
 bytes : {a b : NonterminalString} → a ≡ b → first_byte a.text ≡ first_byte b.text
 bytes e = ap (λ (a : NonterminalString). first_byte a.text) e
 
+-- S is not A
 pub S≢A : S ≡ A → ⊥
 S≢A e = let h : 83 ≡ 65 = bytes e in omega (arith, h)
 
+-- S is not B
 pub S≢B : S ≡ B → ⊥
 S≢B e = let h : 83 ≡ 66 = bytes e in omega (arith, h)
 
+-- A is not B
 pub A≢B : A ≡ B → ⊥
 A≢B e = let h : 65 ≡ 66 = bytes e in omega (arith, h)
 
--- 0 is no number above it, and 1 is not 2
+-- 0 is no number above it
 zero≢more : (n : ℕ) → 0 ≡ suc n → ⊥
 zero≢more n e = omega (arith, e)
 
+-- and 1 is not 2
 one≢two : ◌≡◌ {A = ℕ} 1 2 → ⊥
 one≢two e = omega (arith, e)
 

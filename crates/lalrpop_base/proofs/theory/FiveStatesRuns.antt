@@ -1,8 +1,7 @@
 -- The five states of S = A B; A = "x"; B = () | "y" hold the tokens carried to them and have no conflict, so that they are faithful, and their runs answer trees: by going through the rows.
-use Rattle.std.proofs.Common.{◌≡◌, ◌↔◌, ◌<◌, ℕ, zero, suc, Bool, true, false, true≢false, List, [], ◌∷◌, ◌++◌, append-nil, drop, sym, subst, refl, ap, ◌∙◌, Some, length, arith, inl, inr}
+use Rattle.std.proofs.Common.{◌≡◌, ◌<◌, ℕ, zero, suc, true, true≢false, List, [], ◌∷◌, ◌++◌, append-nil, drop, sym, subst, refl, ap, ◌∙◌, Some, length, arith, inl, inr}
 use Rattle.std.specs.Prelude.{Contains, slice_get}
 use mathlib.Core.List.{head-eq_of_cons-eq, tail-eq_of_cons-eq, nil≢cons}
-use Rattle.lalrpop_base.specs.declared.repr.NonterminalString.{NonterminalString}
 use Rattle.lalrpop_base.specs.declared.repr.Production.{Production}
 use Rattle.lalrpop_base.specs.declared.repr.Symbol.{Symbol}
 use Rattle.lalrpop_base.specs.declared.repr.Symbol.TheVariants.{Nonterminal, Terminal}
@@ -11,7 +10,7 @@ use Rattle.lalrpop_base.specs.declared.repr.TerminalString.TheVariants.{Literal,
 use Rattle.lalrpop_base.specs.declared.lookahead.token.Token.{Token}
 use Rattle.lalrpop_base.specs.declared.lookahead.token.Token.TheVariants.{Eof, Terminal as TokenOf}
 use Rattle.lalrpop_base.specs.Grammar.{IsFirst, IsOnNoRightSide}
-use Rattle.lalrpop_base.specs.States.{Contents, Reduction, leads, AreFaithful}
+use Rattle.lalrpop_base.specs.States.{Reduction, leads, AreFaithful}
 use Rattle.lalrpop_base.specs.Conflicts.{HasNoConflict}
 use Rattle.lalrpop_base.specs.Closures.{IsCarried, eof_at_start, over, first_of_rest, through_rest, AreChecked}
 use Rattle.lalrpop_base.specs.Trees.{Tree, Leaf, Node, no_trees, beside}
@@ -20,7 +19,7 @@ use Rattle.lalrpop_base.proofs.theory.Lists.{not_both, same_terminal, same_nonte
 use Rattle.lalrpop_base.proofs.theory.Forests.{Forest, empty, leaf, node, Forest-from, derives_forest, forest-nil, first-nil, forest-terminal}
 use Rattle.lalrpop_base.proofs.theory.Closures.{checked_faithful}
 use Rattle.lalrpop_base.proofs.theory.Rows.{Each, each_at, shift_in, Behind, EachBehind, behind_at}
-use Rattle.lalrpop_base.proofs.theory.RowsInstance.{S, A, B, x, y, PS, PA, PE, PB, g, by, by_A, rows, states, S≢A, S≢B, A≢B, closed, reductions}
+use Rattle.lalrpop_base.proofs.theory.FiveStates.{S, A, B, x, y, PS, PA, PE, PB, g, by, by_A, rows, states, S≢A, S≢B, A≢B, closed, reductions}
 
 -- a dotted production and a token
 abbrev Carried : Type 0
@@ -39,6 +38,7 @@ carried_to (suc (suc (suc (suc (suc n))))) = []
 abbrev EachStep : (Production → ℕ → Token → Symbol → List Symbol → Type 0) → List Carried → Type 0
 EachStep P cs = Each (λ (c : Carried). Behind (P c.0 c.1 c.2) (drop c.1 (c.0).symbols)) cs
 
+-- one of these facts
 step_at : (P : Production → ℕ → Token → Symbol → List Symbol → Type 0) (cs : List Carried) → EachStep P cs → (p : Production) (dot : ℕ) (t : Token) (z : Symbol) (after : List Symbol) → Contains cs (p, dot, t) → drop dot p.symbols ≡ z ∷ after → P p dot t z after
 step_at P cs h p dot t z after c e = subst (Behind (P p dot t)) e (each_at (λ (c : Carried). Behind (P c.0 c.1 c.2) (drop c.1 (c.0).symbols)) cs h (p, dot, t) c)
 
@@ -62,6 +62,7 @@ first_B t h = go (derives_forest h.1) refl refl
 abbrev LeadsOn : ℕ → Production → ℕ → Token → Symbol → List Symbol → Type 0
 LeadsOn n p dot t z after = (m : ℕ) → leads (states n) z ≡ Some m → Contains (carried_to m) (p, suc dot, t)
 
+-- in each row
 leads_on : (n : ℕ) → EachStep (LeadsOn n) (carried_to n)
 leads_on zero = (
   λ m e. subst (λ k. Contains (carried_to k) (PS, 1, Eof)) (same_some e) (0, omega arith, refl),
@@ -81,6 +82,7 @@ abbrev Begins : ℕ → Production → ℕ → Symbol → List Symbol → Type 0
 Begins n p dot (Terminal t) after = Unit {0}
 Begins n p dot (Nonterminal a) after = Each (λ q. q.nonterminal ≡ a → (t : TerminalString) → IsFirst g after t → Contains (carried_to n) (q, 0, TokenOf t)) g
 
+-- in each row
 begins : (n : ℕ) → EachBehind (Begins n) (rows n).items
 begins zero = (
   ((λ e t f. absurd (S≢A e)), ((λ e t f. subst (λ s. Contains (carried_to 0) (PA, 0, TokenOf s)) (first_B t f) (1, omega arith, refl)), ((λ e t f. absurd (A≢B (sym e))), ((λ e t f. absurd (A≢B (sym e))), tt)))),
@@ -97,6 +99,7 @@ abbrev Inherits : ℕ → Production → ℕ → Token → Symbol → List Symbo
 Inherits n p dot t (Terminal s) after = Unit {0}
 Inherits n p dot t (Nonterminal a) after = Each (λ q. q.nonterminal ≡ a → Contains (carried_to n) (q, 0, t)) g
 
+-- in each row
 inherits : (n : ℕ) → EachStep (Inherits n) (carried_to n)
 inherits zero = (((λ e. absurd (S≢A e)), ((λ e. (2, omega arith, refl)), ((λ e. absurd (A≢B (sym e))), ((λ e. absurd (A≢B (sym e))), tt)))), (tt, (tt, tt)))
 inherits (suc zero) = (((λ e. absurd (S≢B e)), ((λ e. absurd (A≢B e)), ((λ e. (1, omega arith, refl)), ((λ e. (2, omega arith, refl)), tt)))), (tt, (tt, tt)))
@@ -191,12 +194,13 @@ short = Node S (beside (Node A (beside (Leaf x) no_trees)) (beside (Node B no_tr
 abbrev pub long : Tree
 long = Node S (beside (Node A (beside (Leaf x) no_trees)) (beside (Node B (beside (Leaf y) no_trees)) no_trees))
 
--- they are answered
+-- they are answered, with as many steps as nodes
 pub short_parsed : HasOutcome states (x ∷ []) 4 (Parsed short)
 short_parsed =
     parsed 3 (record { state = 3; below = 1 ∷ 0 ∷ []; trees = Node B no_trees ∷ Node A (beside (Leaf x) no_trees) ∷ []; rest = [] }) (short ∷ []) short (omega arith)
     (further refl (further refl (further refl here))) refl (refl, refl)
 
+-- and so is the other
 pub long_parsed : HasOutcome states (x ∷ y ∷ []) 5 (Parsed long)
 long_parsed =
     parsed 4 (record { state = 3; below = 1 ∷ 0 ∷ []; trees = Node B (beside (Leaf y) no_trees) ∷ Node A (beside (Leaf x) no_trees) ∷ []; rest = [] }) (long ∷ []) long (omega arith)
