@@ -14,7 +14,7 @@ use Rattle.lalrpop_base.specs.declared.lr1_core.state.StateIndex.{StateIndex}
 use Rattle.lalrpop_lr1.specs.Answers.{IsFailure, IsAnswer}
 use Rattle.lalrpop_lr1.specs.Machines.{numbers, trees_on, configuration, IsStack, bottom, IsStacked, HasRead}
 use Rattle.lalrpop_lr1.specs.ParseTrees.{tree_of}
-use Rattle.lalrpop_lr1.specs.Reading.{StopsReading, HasPartialOutcome, Stack, Stop, all_read, stopped}
+use Rattle.lalrpop_lr1.specs.Reading.{Reads, read, StopsReading, HasPartialOutcome, Stack, Stop, all_read, stopped}
 use Rattle.lalrpop_lr1.specs.Steps.{HasOutcomeFrom, IsParsedIn}
 use Rattle.lalrpop_lr1.specs.declared.interpret.error.InterpretError.{InterpretError}
 use Rattle.lalrpop_lr1.specs.declared.interpret.machine.Machine.{Machine}
@@ -38,6 +38,14 @@ begins m w start =
 pub start_stacked : (states : ℕ → Contents) (m : Machine) → IsAtStart m → IsStacked states m
 start_stacked states m start = subst (IsStackOf states) (sym (begins m [] start)) bottom
 
+-- no step was made yet
+pub nothing_read : {states : ℕ → Contents} (m : Machine) (w rest : List TerminalString) → w ≡ rest → HasRead states (configuration m w) m.left m rest
+nothing_read {states} m w rest e = record {
+  steps = 0;
+  reads = subst (λ l. Reads states 0 (configuration m w) (configuration m l)) e read;
+  counted = omega arith;
+}
+
 -- what was read from the start was read from the beginning of a run
 pub read_from_start : {states : ℕ → Contents} (m new : Machine) (w rest : List TerminalString) (limit left : ℕ) → IsAtStart m → left ≡ limit → HasRead states (configuration m w) left new rest → HasRead states (begin w) limit new rest
 read_from_start {states} m new w rest limit left start e r =
@@ -52,7 +60,7 @@ module _ (terminals : List TerminalString) (states : List (State Bits)) (coheren
   pub stop_answer : (m : Machine) (w : List TerminalString) (limit : ℕ) → IsAtStart m → m.left ≡ limit → (e : InterpretError) → IsFailure (StopsReading (contents terminals states) (configuration m w) m.left) states e → IsFailure (HasOutcome (contents terminals states) w limit) states e
   stop_answer m w limit start size e h =
       failure_follows (StopsReading (contents terminals states) (configuration m w) m.left) (HasOutcome (contents terminals states) w limit) states
-      (λ o k. whole_outcome here (let whole : 0 + m.left ≡ limit = omega (arith, size) in whole) (subst (λ c. HasOutcomeFrom (contents terminals states) c m.left o) (begins m w start) (stop_outcome k)))
+      (λ o k. whole_outcome {k = 0} here (let whole : 0 + m.left ≡ limit = omega (arith, size) in whole) (subst (λ c. HasOutcomeFrom (contents terminals states) c m.left o) (begins m w start) (stop_outcome k)))
       e h
 
   -- and the partial one

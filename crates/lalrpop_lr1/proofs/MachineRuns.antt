@@ -1,6 +1,9 @@
 -- A machine over coherent states makes the steps of a run.
 use Rattle.std.proofs.Common.{◌≡◌, ◌≢◌, ℕ, suc, ◌+◌, ◌-◌, ◌<◌, ◌≤◌, List, [], ◌∷◌, ◌++◌, length, drop, map, reverse, get_or, Option, Some, None, refl, sym, ap, ap₂, subst, ◌∙◌, arith}
-use Rattle.std.specs.Prelude.{slice_get, option_map, Contains}
+use Rattle.std.specs.Prelude.{slice_get, option_map, Result, Ok, Err, OnOk, IfErr, IfSome, IsNone, IsErrAnd, ◌⊎◌, ok_or}
+use Rattle.std.specs.Borrow.{Bor}
+use Rattle.std.specs.declared.vec.Vec.{Vec}
+use Rattle.std.proofs.Common.{⊎_elim}
 use Rattle.std.specs.BTreeMap.{get}
 use Rattle.std.proofs.lemmas.List.{get_or-reverse, length-map, length-reverse}
 use Rattle.std.proofs.lemmas.Option.{slice_get_read, slice_get_within, get_or_from_slice_get, slice_get-map}
@@ -18,16 +21,20 @@ use Rattle.lalrpop_base.specs.declared.lookahead.token.Token.TheVariants.{Eof, T
 use Rattle.lalrpop_base.specs.declared.lr1_core.state.State.{State}
 use Rattle.lalrpop_base.specs.declared.lr1_core.state.StateIndex.{StateIndex}
 use Rattle.lalrpop_base.proofs.ContentsViews.{LeadAsItemsSay, lead_as_items_say}
-use Rattle.lalrpop_lr1.specs.Machines.{numbers, trees_on, configuration, IsStacked, CanPop, reduction_move, IsSpent, IsShifted, HasRead}
-use Rattle.lalrpop_lr1.specs.Reading.{Reads, read, before, StopsReading, stuck, early_end, cut_off}
+use Rattle.lalrpop_lr1.specs.Machines.{numbers, trees_on, configuration, IsStacked, CanPop, reduction_move, IsProgress, IsHalted, IsSpent, IsShifted, HasRead}
+use Rattle.lalrpop_lr1.specs.Reading.{Reads, read, before, StopsReading, stuck, early_end, cut_off, PartialOutcome, Stop}
+use Rattle.lalrpop_lr1.specs.ParseTrees.{tree_of}
+use Rattle.lalrpop_lr1.specs.declared.interpret.tree.ParseTree.{ParseTree}
 use Rattle.lalrpop_lr1.specs.Steps.{HasOutcomeFrom, parsed_from, stuck_from, other_end_from, cut_off_from}
-use Rattle.lalrpop_lr1.specs.Answers.{IsFailure}
+use Rattle.lalrpop_lr1.specs.Answers.{IsFailure, IsAnswer, IsPartialAnswer}
 use Rattle.lalrpop_lr1.specs.declared.interpret.error.InterpretError.{InterpretError}
 use Rattle.lalrpop_lr1.specs.declared.interpret.error.InterpretError.TheVariants.{Refused as RefusedBy, Limit as LimitPassed, Memory}
 use Rattle.lalrpop_lr1.specs.declared.interpret.machine.Machine.{Machine}
-use Rattle.lalrpop_lr1.proofs.Outcomes.{Reads-append, Reaches-append}
+use Rattle.lalrpop_lr1.specs.declared.interpret.machine.Progress.TheVariants.{Stuck, GoesOn, Ended}
+use Rattle.lalrpop_lr1.specs.declared.interpret.machine.Progress.{Progress}
+use Rattle.lalrpop_lr1.proofs.Outcomes.{Reads-append, Reaches-append, stop_later, failure_follows}
 use Rattle.lalrpop_lr1.proofs.Popping.{numbers_more}
-use Rattle.lalrpop_lr1.proofs.Stacks.{Found, found, on_stack, stack_length, received_moves}
+use Rattle.lalrpop_lr1.proofs.Stacks.{Found, found, on_stack, stack_length, received_moves, step_keeps}
 
 -- a state that lies newest last has its number among those that lie newest first
 number_there : (xs : List StateIndex) (k : ℕ) (x : StateIndex) → slice_get xs k ≡ Some x → (j : ℕ) × (slice_get (numbers xs) j ≡ Some x.0)
@@ -62,18 +69,18 @@ module _ (terminals : List TerminalString) (states : List (State Bits)) where
   is_a_step m top token p rest there e h =
       received_moves (contents terminals states) p (drop (length p.symbols) (m.state.0 ∷ numbers m.below.items)) (reduced p (trees_on m.trees.items)) rest (sym (by_production m top token p rest there e) ∙ h)
 
-  module _ (coherent : AreCoherent states) (some : 0 < length states) where
-    pub lead : LeadAsItemsSay (contents terminals states) (length states)
-    lead = lead_as_items_say (holds_token terminals) states coherent
+  pub lead : AreCoherent states → LeadAsItemsSay (contents terminals states) (length states)
+  lead coherent = lead_as_items_say (holds_token terminals) states coherent
 
+  module _ (coherent : AreCoherent states) (some : 0 < length states) where
     pub top_within : (m : Machine) → IsStacked (contents terminals states) m → m.state.0 < length states
-    top_within m st = on_stack (contents terminals states) (length states) lead some st 0 m.state.0 refl
+    top_within m st = on_stack (contents terminals states) (length states) (lead coherent) some st 0 m.state.0 refl
 
     -- a reduction can be made
     pub can_pop : (m : Machine) (top : State Bits) (token : Token) (p : Production) → IsStacked (contents terminals states) m → slice_get states m.state.0 ≡ Some top → Some p ≡ reduction_on (contents_of (holds_token terminals) top).reductions token → CanPop (length states) m (length p.symbols)
     can_pop m top token p st there e =
         let c = configuration m [] in
-        let f : Found (contents terminals states) c p = found (contents terminals states) (length states) lead c token p st (ap (λ (s : Contents). reduction_on s.reductions token) (top_is m top there) ∙ sym e) in
+        let f : Found (contents terminals states) c p = found (contents terminals states) (length states) (lead coherent) c token p st (ap (λ (s : Contents). reduction_on s.reductions token) (top_is m top there) ∙ sym e) in
         let fits : length p.symbols ≤ length (numbers m.below.items) = f.popped.fits in
         let below : length (numbers m.below.items) ≡ length m.below.items = length-reverse (map number_of m.below.items) ∙ length-map m.below.items number_of in
         let trees : length (trees_on m.trees.items) ≡ length m.trees.items = length-reverse (map _ m.trees.items) ∙ length-map m.trees.items _ in
@@ -83,7 +90,7 @@ module _ (terminals : List TerminalString) (states : List (State Bits)) where
           states = omega arith;
           within = λ k x h.
               let (j, at) = number_there (m.below.items ++ m.state ∷ []) k x h in
-              on_stack (contents terminals states) (length states) lead some st j x.0 (subst (λ l. slice_get l j ≡ Some x.0) (numbers_more m.below.items m.state) at);
+              on_stack (contents terminals states) (length states) (lead coherent) some st j x.0 (subst (λ l. slice_get l j ≡ Some x.0) (numbers_more m.below.items m.state) at);
         }
 
   -- a shift is the step that the top state has before a terminal
@@ -169,3 +176,85 @@ module _ {states : ℕ → Contents} {b : Configuration} {left : ℕ} (m : Machi
   stops_spent list h (RefusedBy state token) s = absurd s
   stops_spent list h LimitPassed s = stops_cut_off h s
   stops_spent list h Memory s = tt
+
+-- a reduction for which no step is left stops the run
+pub halted_stops : {states : ℕ → Contents} {b : Configuration} {left : ℕ} (m : Machine) (t : TerminalString) (rest : List TerminalString) (token : Token) (list : List (State Bits)) → HasRead states b left m (t ∷ rest) →
+    token ≡ TokenOf t → move states (configuration m (t ∷ rest)) ≡ reduction_move states (configuration m (t ∷ rest)) (TokenOf t) → (e : InterpretError) → IsHalted states m token (t ∷ rest) e → IsFailure (StopsReading states b left) list e
+halted_stops m t rest token list r same k (RefusedBy state u) h = absurd h
+halted_stops {states} m t rest token list r same k LimitPassed h = stops_cut_off m t rest r (λ e. h.0 (ap (reduction_move states (configuration m (t ∷ rest))) same ∙ sym k ∙ e)) h.1
+halted_stops m t rest token list r same k Memory h = tt
+
+-- before the end
+pub halted_ends : {states : ℕ → Contents} {b : Configuration} {left : ℕ} (m : Machine) (list : List (State Bits)) → HasReached states b left m → (e : InterpretError) → IsHalted states m Eof [] e → IsFailure (HasOutcomeFrom states b left) list e
+halted_ends m list r (RefusedBy state u) h = absurd h
+halted_ends m list r LimitPassed h = ends_cut_off m r h.0 h.1
+halted_ends m list r Memory h = tt
+
+-- a reduction that goes on before a terminal
+pub reduces_on : {states : ℕ → Contents} {b : Configuration} {left : ℕ} (m new : Machine) (t : TerminalString) (rest : List TerminalString) (token : Token) → HasRead states b left m (t ∷ rest) →
+    token ≡ TokenOf t → move states (configuration m (t ∷ rest)) ≡ reduction_move states (configuration m (t ∷ rest)) (TokenOf t) → IsProgress states m token (t ∷ rest) new GoesOn → HasRead states b left new (t ∷ rest)
+reduces_on {states} m new t rest token r same k h =
+    reads_on m new t rest (t ∷ rest) r (k ∙ ap (reduction_move states (configuration m (t ∷ rest))) (sym same) ∙ h.0) h.1
+
+pub on_ok : {T E A B : Type 0} → (A → B) → (r : Result T E) → OnOk r A → OnOk r B
+on_ok f (Ok v) h = f h
+on_ok f (Err e) h = tt
+
+pub if_err : {T E : Type 0} (P Q : E → Type 0) → ((e : E) → P e → Q e) → (r : Result T E) → IfErr r P → IfErr r Q
+if_err P Q f (Ok v) h = tt
+if_err P Q f (Err e) h = f e h
+
+-- a machine holds a stack after a reduction before a terminal
+pub reduces_stacked : (terminals : List TerminalString) (states : List (State Bits)) → AreCoherent states → (m new : Machine) (t : TerminalString) (token : Token) → IsStacked (contents terminals states) m →
+    token ≡ TokenOf t → move (contents terminals states) (configuration m (t ∷ [])) ≡ reduction_move (contents terminals states) (configuration m (t ∷ [])) (TokenOf t) →
+    IsProgress (contents terminals states) m token (t ∷ []) new GoesOn → IsStacked (contents terminals states) new
+reduces_stacked terminals states coherent m new t token st same k h =
+    step_keeps (contents terminals states) (length states) (lead terminals states coherent) (configuration m (t ∷ [])) (configuration new (t ∷ []))
+    (k ∙ ap (reduction_move (contents terminals states) (configuration m (t ∷ []))) (sym same) ∙ h.0) st
+
+-- a reduction that is none or the last one stops the run before a terminal
+pub refused_stops : {states : ℕ → Contents} {b : Configuration} {left : ℕ} (m new : Machine) (t : TerminalString) (rest : List TerminalString) (token : Token) → HasRead states b left m (t ∷ rest) →
+    token ≡ TokenOf t → move states (configuration m (t ∷ rest)) ≡ reduction_move states (configuration m (t ∷ rest)) (TokenOf t) →
+    (p : Progress) → (p ≡ Stuck) ⊎ (p ≡ Ended) → IsProgress states m token (t ∷ rest) new p → StopsReading states b left (Refused m.state.0 token)
+refused_stops {states} {b} {left} m new t rest token r same k Stuck is h =
+    subst (λ u. StopsReading states b left (Refused m.state.0 u)) (sym same) (stops_stuck m t rest r (k ∙ ap (reduction_move states (configuration m (t ∷ rest))) (sym same) ∙ h.0))
+refused_stops m new t rest token r same k GoesOn is h = absurd (⊎_elim (λ e. cc) (λ e. cc) is)
+refused_stops {states} {b} {left} m new t rest token r same k Ended is h =
+    subst (λ u. StopsReading states b left (Refused m.state.0 u)) (sym same) (stops_early m t rest r (trees_on new.trees.items) (k ∙ ap (reduction_move states (configuration m (t ∷ rest))) (sym same) ∙ h.0) h.1)
+
+-- what was read goes on by what is read from there
+pub read_on : {states : ℕ → Contents} {b : Configuration} {left : ℕ} (m new : Machine) (all rest : List TerminalString) (t : TerminalString) →
+    HasRead states b left m all → all ≡ t ∷ rest → HasRead states (configuration m (t ∷ rest)) m.left new rest → HasRead states b left new rest
+read_on {states} {b} {left} m new all rest t r e s = record {
+  steps = r.steps + s.steps;
+  reads = Reads-append (subst (λ l. Reads states r.steps b (configuration m l)) e r.reads) s.reads;
+  counted = let k : r.steps + m.left ≡ left = r.counted in let h : s.steps + new.left ≡ m.left = s.counted in omega (arith, k, h);
+}
+
+-- and stops where that stops
+pub fail_later : {states : ℕ → Contents} {b : Configuration} {left : ℕ} (list : List (State Bits)) (m : Machine) (all rest : List TerminalString) (t : TerminalString) →
+    HasRead states b left m all → all ≡ t ∷ rest → (error : InterpretError) → IsFailure (StopsReading states (configuration m (t ∷ rest)) m.left) list error → IsFailure (StopsReading states b left) list error
+fail_later {states} {b} {left} list m all rest t r e error h =
+    failure_follows (StopsReading states (configuration m (t ∷ rest)) m.left) (StopsReading states b left) list
+    (λ o k. stop_later (subst (λ l. Reads states r.steps b (configuration m l)) e r.reads) r.counted k) error h
+
+-- one tree is a parse, and any others are none
+pub ended_answer : {states : ℕ → Contents} {b : Configuration} {left : ℕ} (list : List (State Bits)) (m : Machine) (state : Bor (State Bits)) (trees : List Tree) → HasReached states b left m →
+    slice_get list m.state.0 ≡ Some state.now → move states (configuration m []) ≡ Ends trees → 0 < m.left →
+    (o : Option ParseTree) → IfSome o (λ tree. trees ≡ tree_of tree ∷ []) → (IsNone o → (t : Tree) → trees ≡ t ∷ [] → ⊥) →
+    IsAnswer (HasOutcomeFrom states b left) list (ok_or o (RefusedBy state Eof))
+ended_answer list m state trees r there e some (Some tree) one other = ends_parsed m r trees (tree_of tree) e some one
+ended_answer list m state trees r there e some None one other = (m.state.0, there, ends_otherwise m r trees e some (other refl))
+
+-- an error that is passed on
+pub raised : {T E : Type 0} (Q : E → Type 0) (error : E) → Q error → (r : Result T E) → IsErrAnd r (λ e. e ≡ error) → IfErr r Q
+raised Q error h (Ok v) k = absurd k
+raised Q error h (Err e) k = subst Q (sym k) h
+
+pub raised_answer : (R : Outcome → Type 0) (list : List (State Bits)) (error : InterpretError) → IsFailure R list error → (r : Result ParseTree InterpretError) → IsErrAnd r (λ e. e ≡ error) → IsAnswer R list r
+raised_answer R list error h (Ok v) k = absurd k
+raised_answer R list error h (Err e) k = subst (IsFailure R list) (sym k) h
+
+pub raised_partial : {A : Type 0} (R : PartialOutcome → Type 0) (list : List (State Bits)) (error : InterpretError) → IsFailure (λ o. R (Stop o)) list error → (r : Result (Vec StateIndex A) InterpretError) → IsErrAnd r (λ e. e ≡ error) → IsPartialAnswer R list r
+raised_partial R list error h (Ok v) k = absurd k
+raised_partial R list error h (Err e) k = subst (IsFailure (λ o. R (Stop o)) list) (sym k) h

@@ -59,7 +59,8 @@ pub fn interpret_partial<'a, 'grammar>(
 {
     let mut machine = Machine::new(alloc, limit);
     machine.shift_all(alloc, states, terminals, tokens)?;
-    Ok(machine.into_stack()?)
+    let stack = machine.into_stack()?;
+    Ok(stack)
 }
 
 /// The production of the first reduction of a state whose tokens hold a token.

@@ -226,8 +226,8 @@ impl Machine {
                 Progress::GoesOn => {}
                 Progress::Stuck => return Err(InterpretError::Refused(state, Token::Eof)),
                 Progress::Ended => {
-                    return only_tree(self.trees)
-                        .ok_or(InterpretError::Refused(state, Token::Eof));
+                    let tree = only_tree(self.trees);
+                    return tree.ok_or(InterpretError::Refused(state, Token::Eof));
                 }
             }
         }

@@ -1,0 +1,103 @@
+use Rattle.std.proofs.Common.{◌≡◌, List, suc, ◌<◌, [], ◌∷◌, length, refl, sym, ap, subst, ◌∙◌, Some, None, arith}
+use Rattle.std.specs.BTreeMap.{get}
+use Rattle.lalrpop_base.specs.Contents.{contents}
+use Rattle.lalrpop_base.specs.contracts.repr.TerminalStringOrd.TheImpl as terminal_ord
+use Rattle.lalrpop_base.specs.declared.repr.TerminalString.{TerminalString}
+use Rattle.lalrpop_lr1.specs.Machines.{configuration, reduction_move, IsStacked, HasRead, IsShifted, IsSpent, IsProgress}
+use Rattle.lalrpop_base.specs.Runs.{move}
+use Rattle.lalrpop_base.specs.declared.lookahead.token.Token.TheVariants.{Terminal}
+use Rattle.lalrpop_lr1.specs.declared.interpret.error.InterpretError.{InterpretError}
+use Rattle.lalrpop_lr1.specs.declared.interpret.machine.Progress.{Progress}
+use Rattle.lalrpop_lr1.specs.declared.interpret.machine.Progress.TheVariants.{GoesOn}
+use Rattle.lalrpop_lr1.specs.Answers.{IsFailure}
+use Rattle.lalrpop_lr1.specs.Reading.{StopsReading, read}
+use Rattle.lalrpop_lr1.proofs.MachineRuns.{top_within, shift_goes, shift_is_a_step, no_shift, reads_on, stops_spent, halted_stops, reduces_on, reduces_stacked, refused_stops, on_ok, if_err, raised}
+use Rattle.lalrpop_lr1.proofs.interpret.machine.Machine.shift.Goals as goal
+
+pub reducing-init : goal.reducing-init
+reducing-init c = record {
+  token = refl;
+  stacked = c.requires.stacked;
+  read = λ rest. record { steps = 0; reads = read; counted = omega arith };
+}
+
+pub top-state-requires : goal.top-state-requires
+top-state-requires c = top_within c.args.terminals.now c.args.states.now c.requires.coherent c.requires.some c.reducing.self c.reducing.invariant.stacked
+
+pub returns-in-Some-clause-shifted : goal.returns-in-Some-clause-shifted
+returns-in-Some-clause-shifted c =
+    let t = c.args.terminal in
+    let same : c.unwrap_terminal.result.now ≡ t = cc in
+    let moved : c.into_terminal.result ≡ t = cc in
+    let there : get terminal_ord.ghosts.cmp c.top-state.result.now.shifts t ≡ Some c.in-Some.target.now =
+        ap (λ (u : TerminalString). get terminal_ord.ghosts.cmp c.top-state.result.now.shifts u) (sym same) ∙ sym c.in-Some.ensures.value in
+    let read : IsShifted c.reducing.self c.in-Some.target.now.0 c.into_terminal.result c.push.new.self → (rest : List TerminalString) → HasRead (contents c.args.terminals.now c.args.states.now) (configuration c.args.self.now (t ∷ rest)) c.args.self.now.left c.push.new.self rest =
+        λ made rest.
+            let shifted : IsShifted c.reducing.self c.in-Some.target.now.0 t c.push.new.self = subst (λ (u : TerminalString). IsShifted c.reducing.self c.in-Some.target.now.0 u c.push.new.self) moved made in
+            reads_on c.reducing.self c.push.new.self t rest rest (c.reducing.invariant.read rest)
+            (shift_goes c.args.terminals.now c.args.states.now c.reducing.self c.push.new.self c.top-state.result.now t c.in-Some.target.now rest c.top-state.ensures there shifted) shifted.counted in
+    on_ok read c.push.result c.push.ensures.made
+
+pub returns-in-Some-clause-stopped : goal.returns-in-Some-clause-stopped
+returns-in-Some-clause-stopped c =
+    let t = c.args.terminal in
+    let same : c.unwrap_terminal.result.now ≡ t = cc in
+    let there : get terminal_ord.ghosts.cmp c.top-state.result.now.shifts t ≡ Some c.in-Some.target.now =
+        ap (λ (u : TerminalString). get terminal_ord.ghosts.cmp c.top-state.result.now.shifts u) (sym same) ∙ sym c.in-Some.ensures.value in
+    if_err (IsSpent c.reducing.self) (λ (e : InterpretError). (rest : List TerminalString) → IsFailure (StopsReading (contents c.args.terminals.now c.args.states.now) (configuration c.args.self.now (t ∷ rest)) c.args.self.now.left) c.args.states.now e)
+    (λ e spent rest. stops_spent c.reducing.self t rest (c.reducing.invariant.read rest) c.args.states.now (shift_is_a_step c.args.terminals.now c.args.states.now c.reducing.self c.top-state.result.now t c.in-Some.target.now rest c.top-state.ensures there) e spent)
+    c.push.result c.push.ensures.spent
+
+pub returns-in_err-reduce_on-clause-stopped : goal.returns-in_err-reduce_on-clause-stopped
+returns-in_err-reduce_on-clause-stopped c =
+    let t = c.args.terminal in
+    let same : c.unwrap_terminal.result.now ≡ t = cc in
+    let none : get terminal_ord.ghosts.cmp c.top-state.result.now.shifts t ≡ None =
+        ap (λ (u : TerminalString). get terminal_ord.ghosts.cmp c.top-state.result.now.shifts u) (sym same) ∙ sym c.in_default.ensures.value in
+    raised (λ (e : InterpretError). (rest : List TerminalString) → IsFailure (StopsReading (contents c.args.terminals.now c.args.states.now) (configuration c.args.self.now (t ∷ rest)) c.args.self.now.left) c.args.states.now e)
+    c.in_err-reduce_on.field-0.0
+    (λ rest. halted_stops c.reducing.self t rest c.reducing.token-1 c.args.states.now (c.reducing.invariant.read rest) c.reducing.invariant.token
+        (no_shift c.args.terminals.now c.args.states.now c.reducing.self c.top-state.result.now t rest c.top-state.ensures none)
+        c.in_err-reduce_on.field-0.0 (c.in_err-reduce_on.ensures.halted (t ∷ rest)))
+    c.from_residual.result c.from_residual.ensures.1
+
+pub reducing-smaller : goal.reducing-smaller
+reducing-smaller c =
+    let went : IsProgress (contents c.args.terminals.now c.args.states.now) c.reducing.self c.reducing.token-1 [] c.reduce_on.new.self GoesOn =
+        subst (λ (p : Progress). IsProgress (contents c.args.terminals.now c.args.states.now) c.reducing.self c.reducing.token-1 [] c.reduce_on.new.self p) c.in-GoesOn.is (c.in_ok-reduce_on.ensures.made []) in
+    let counted : suc c.reduce_on.new.self.left ≡ c.reducing.self.left = went.1 in
+    let less : c.reduce_on.new.self.left < c.reducing.self.left = omega (arith, counted) in
+    less
+
+pub reducing-preserved : goal.reducing-preserved
+reducing-preserved c =
+    let t = c.args.terminal in
+    let same : c.unwrap_terminal.result.now ≡ t = cc in
+    let none : get terminal_ord.ghosts.cmp c.top-state.result.now.shifts t ≡ None =
+        ap (λ (u : TerminalString). get terminal_ord.ghosts.cmp c.top-state.result.now.shifts u) (sym same) ∙ sym c.in_default.ensures.value in
+    let went : (rest : List TerminalString) → IsProgress (contents c.args.terminals.now c.args.states.now) c.reducing.self c.reducing.token-1 rest c.reduce_on.new.self GoesOn =
+        λ rest. subst (λ (p : Progress). IsProgress (contents c.args.terminals.now c.args.states.now) c.reducing.self c.reducing.token-1 rest c.reduce_on.new.self p) c.in-GoesOn.is (c.in_ok-reduce_on.ensures.made rest) in
+    let reduces : (rest : List TerminalString) → move (contents c.args.terminals.now c.args.states.now) (configuration c.reducing.self (t ∷ rest)) ≡ reduction_move (contents c.args.terminals.now c.args.states.now) (configuration c.reducing.self (t ∷ rest)) (Terminal t) =
+        λ rest. no_shift c.args.terminals.now c.args.states.now c.reducing.self c.top-state.result.now t rest c.top-state.ensures none in
+    record {
+      token = c.reducing.invariant.token;
+      stacked = reduces_stacked c.args.terminals.now c.args.states.now c.requires.coherent c.reducing.self c.reduce_on.new.self t c.reducing.token-1 c.reducing.invariant.stacked c.reducing.invariant.token (reduces []) (went (t ∷ []));
+      read = λ rest. reduces_on c.reducing.self c.reduce_on.new.self t rest c.reducing.token-1 (c.reducing.invariant.read rest) c.reducing.invariant.token (reduces rest) (went (t ∷ rest));
+    }
+
+pub returns-in-Stuck : goal.returns-in-Stuck
+returns-in-Stuck c =
+    let t = c.args.terminal in
+    let same : c.unwrap_terminal.result.now ≡ t = cc in
+    let none : get terminal_ord.ghosts.cmp c.top-state.result.now.shifts t ≡ None =
+        ap (λ (u : TerminalString). get terminal_ord.ghosts.cmp c.top-state.result.now.shifts u) (sym same) ∙ sym c.in_default.ensures.value in
+    record {
+      shifted = tt;
+      stopped = λ rest. (
+        c.reducing.self.state.0,
+        c.top-state.ensures,
+        refused_stops c.reducing.self c.reduce_on.new.self t rest c.reducing.token-1 (c.reducing.invariant.read rest) c.reducing.invariant.token
+            (no_shift c.args.terminals.now c.args.states.now c.reducing.self c.top-state.result.now t rest c.top-state.ensures none)
+            c.in_ok-reduce_on.field-0 c.in-Stuck.is (c.in_ok-reduce_on.ensures.made (t ∷ rest)),
+      );
+    }
