@@ -258,3 +258,8 @@ raised_answer R list error h (Err e) k = subst (IsFailure R list) (sym k) h
 pub raised_partial : {A : Type 0} (R : PartialOutcome → Type 0) (list : List (State Bits)) (error : InterpretError) → IsFailure (λ o. R (Stop o)) list error → (r : Result (Vec StateIndex A) InterpretError) → IsErrAnd r (λ e. e ≡ error) → IsPartialAnswer R list r
 raised_partial R list error h (Ok v) k = absurd k
 raised_partial R list error h (Err e) k = subst (IsFailure (λ o. R (Stop o)) list) (sym k) h
+
+-- what became of a reduction, under other names of its token and its outcome
+pub progressed : (states : ℕ → Contents) (old new : Machine) (token u : Token) (rest : List TerminalString) (p q : Progress) → token ≡ u → p ≡ q → IsProgress states old token rest new p → IsProgress states old u rest new q
+progressed states old new token u rest p q same is h =
+    subst (λ (x : Progress). IsProgress states old u rest new x) is (subst (λ (v : Token). IsProgress states old v rest new p) same h)

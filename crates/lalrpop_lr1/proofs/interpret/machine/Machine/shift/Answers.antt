@@ -7,11 +7,10 @@ use Rattle.lalrpop_lr1.specs.Machines.{configuration, reduction_move, IsStacked,
 use Rattle.lalrpop_base.specs.Runs.{move}
 use Rattle.lalrpop_base.specs.declared.lookahead.token.Token.TheVariants.{Terminal}
 use Rattle.lalrpop_lr1.specs.declared.interpret.error.InterpretError.{InterpretError}
-use Rattle.lalrpop_lr1.specs.declared.interpret.machine.Progress.{Progress}
 use Rattle.lalrpop_lr1.specs.declared.interpret.machine.Progress.TheVariants.{GoesOn}
 use Rattle.lalrpop_lr1.specs.Answers.{IsFailure}
 use Rattle.lalrpop_lr1.specs.Reading.{StopsReading, read}
-use Rattle.lalrpop_lr1.proofs.MachineRuns.{top_within, shift_goes, shift_is_a_step, no_shift, reads_on, stops_spent, halted_stops, reduces_on, reduces_stacked, refused_stops, on_ok, if_err, raised}
+use Rattle.lalrpop_lr1.proofs.MachineRuns.{top_within, shift_goes, shift_is_a_step, no_shift, reads_on, stops_spent, halted_stops, reduces_on, reduces_stacked, refused_stops, progressed, on_ok, if_err, raised}
 use Rattle.lalrpop_lr1.proofs.interpret.machine.Machine.shift.Goals as goal
 
 pub reducing-init : goal.reducing-init
@@ -56,15 +55,15 @@ returns-in_err-reduce_on-clause-stopped c =
         ap (λ (u : TerminalString). get terminal_ord.ghosts.cmp c.top-state.result.now.shifts u) (sym same) ∙ sym c.in_default.ensures.value in
     raised (λ (e : InterpretError). (rest : List TerminalString) → IsFailure (StopsReading (contents c.args.terminals.now c.args.states.now) (configuration c.args.self.now (t ∷ rest)) c.args.self.now.left) c.args.states.now e)
     c.in_err-reduce_on.field-0.0
-    (λ rest. halted_stops c.reducing.self t rest c.reducing.token-1 c.args.states.now (c.reducing.invariant.read rest) c.reducing.invariant.token
+    (λ rest. halted_stops c.reducing.self t rest _ c.args.states.now (c.reducing.invariant.read rest) c.reducing.invariant.token
         (no_shift c.args.terminals.now c.args.states.now c.reducing.self c.top-state.result.now t rest c.top-state.ensures none)
         c.in_err-reduce_on.field-0.0 (c.in_err-reduce_on.ensures.halted (t ∷ rest)))
     c.from_residual.result c.from_residual.ensures.1
 
 pub reducing-smaller : goal.reducing-smaller
 reducing-smaller c =
-    let went : IsProgress (contents c.args.terminals.now c.args.states.now) c.reducing.self c.reducing.token-1 [] c.reduce_on.new.self GoesOn =
-        subst (λ (p : Progress). IsProgress (contents c.args.terminals.now c.args.states.now) c.reducing.self c.reducing.token-1 [] c.reduce_on.new.self p) c.in-GoesOn.is (c.in_ok-reduce_on.ensures.made []) in
+    let went : IsProgress (contents c.args.terminals.now c.args.states.now) c.reducing.self (Terminal c.args.terminal) [] c.reduce_on.new.self GoesOn =
+        progressed (contents c.args.terminals.now c.args.states.now) c.reducing.self c.reduce_on.new.self _ (Terminal c.args.terminal) [] c.in_ok-reduce_on.field-0 GoesOn c.reducing.invariant.token c.in-GoesOn.is (c.in_ok-reduce_on.ensures.made []) in
     let counted : suc c.reduce_on.new.self.left ≡ c.reducing.self.left = went.1 in
     let less : c.reduce_on.new.self.left < c.reducing.self.left = omega (arith, counted) in
     less
@@ -75,14 +74,14 @@ reducing-preserved c =
     let same : c.unwrap_terminal.result.now ≡ t = cc in
     let none : get terminal_ord.ghosts.cmp c.top-state.result.now.shifts t ≡ None =
         ap (λ (u : TerminalString). get terminal_ord.ghosts.cmp c.top-state.result.now.shifts u) (sym same) ∙ sym c.in_default.ensures.value in
-    let went : (rest : List TerminalString) → IsProgress (contents c.args.terminals.now c.args.states.now) c.reducing.self c.reducing.token-1 rest c.reduce_on.new.self GoesOn =
-        λ rest. subst (λ (p : Progress). IsProgress (contents c.args.terminals.now c.args.states.now) c.reducing.self c.reducing.token-1 rest c.reduce_on.new.self p) c.in-GoesOn.is (c.in_ok-reduce_on.ensures.made rest) in
+    let went : (rest : List TerminalString) → IsProgress (contents c.args.terminals.now c.args.states.now) c.reducing.self (Terminal t) rest c.reduce_on.new.self GoesOn =
+        λ rest. progressed (contents c.args.terminals.now c.args.states.now) c.reducing.self c.reduce_on.new.self _ (Terminal t) rest c.in_ok-reduce_on.field-0 GoesOn c.reducing.invariant.token c.in-GoesOn.is (c.in_ok-reduce_on.ensures.made rest) in
     let reduces : (rest : List TerminalString) → move (contents c.args.terminals.now c.args.states.now) (configuration c.reducing.self (t ∷ rest)) ≡ reduction_move (contents c.args.terminals.now c.args.states.now) (configuration c.reducing.self (t ∷ rest)) (Terminal t) =
         λ rest. no_shift c.args.terminals.now c.args.states.now c.reducing.self c.top-state.result.now t rest c.top-state.ensures none in
     record {
       token = c.reducing.invariant.token;
-      stacked = reduces_stacked c.args.terminals.now c.args.states.now c.requires.coherent c.reducing.self c.reduce_on.new.self t c.reducing.token-1 c.reducing.invariant.stacked c.reducing.invariant.token (reduces []) (went (t ∷ []));
-      read = λ rest. reduces_on c.reducing.self c.reduce_on.new.self t rest c.reducing.token-1 (c.reducing.invariant.read rest) c.reducing.invariant.token (reduces rest) (went (t ∷ rest));
+      stacked = reduces_stacked c.args.terminals.now c.args.states.now c.requires.coherent c.reducing.self c.reduce_on.new.self t (Terminal t) c.reducing.invariant.stacked refl (reduces []) (went (t ∷ []));
+      read = λ rest. reduces_on c.reducing.self c.reduce_on.new.self t rest (Terminal t) (c.reducing.invariant.read rest) refl (reduces rest) (went (t ∷ rest));
     }
 
 pub returns-in-Stuck : goal.returns-in-Stuck
@@ -96,7 +95,7 @@ returns-in-Stuck c =
       stopped = λ rest. (
         c.reducing.self.state.0,
         c.top-state.ensures,
-        refused_stops c.reducing.self c.reduce_on.new.self t rest c.reducing.token-1 (c.reducing.invariant.read rest) c.reducing.invariant.token
+        refused_stops c.reducing.self c.reduce_on.new.self t rest _ (c.reducing.invariant.read rest) c.reducing.invariant.token
             (no_shift c.args.terminals.now c.args.states.now c.reducing.self c.top-state.result.now t rest c.top-state.ensures none)
             c.in_ok-reduce_on.field-0 c.in-Stuck.is (c.in_ok-reduce_on.ensures.made (t ∷ rest)),
       );
