@@ -98,8 +98,8 @@ module _ (terminals : List TerminalString) (states : List (State Bits)) where
       move (contents terminals states) (configuration m (t ∷ rest)) ≡ Goes (configuration new rest)
   shift_goes m new top t target rest there e s =
       let first : move (contents terminals states) (configuration m (t ∷ rest)) ≡ shifts_or (contents terminals states) (configuration m (t ∷ rest)) t rest (Some target.0) =
-          ap (λ (k : Contents). shifts_or (contents terminals states) (configuration m (t ∷ rest)) t rest (k.shift t)) (top_is m top there)
-          ∙ ap (λ o. shifts_or (contents terminals states) (configuration m (t ∷ rest)) t rest (option_map number_of o)) e in
+      ap (λ (k : Contents). shifts_or (contents terminals states) (configuration m (t ∷ rest)) t rest (k.shift t)) (top_is m top there)
+      ∙ ap (λ o. shifts_or (contents terminals states) (configuration m (t ∷ rest)) t rest (option_map number_of o)) e in
       first
       ∙ ap (λ n. Goes (record { state = n; below = m.state.0 ∷ numbers m.below.items; trees = Leaf t ∷ trees_on m.trees.items; rest = rest })) (sym s.state)
       ∙ ap₂ (λ l ts. Goes (record { state = new.state.0; below = l; trees = ts; rest = rest })) (sym s.below) (sym s.trees)
@@ -108,8 +108,8 @@ module _ (terminals : List TerminalString) (states : List (State Bits)) where
       move (contents terminals states) (configuration m (t ∷ rest)) ≢ Stands
   shift_is_a_step m top t target rest there e h =
       let first : move (contents terminals states) (configuration m (t ∷ rest)) ≡ shifts_or (contents terminals states) (configuration m (t ∷ rest)) t rest (Some target.0) =
-          ap (λ (k : Contents). shifts_or (contents terminals states) (configuration m (t ∷ rest)) t rest (k.shift t)) (top_is m top there)
-          ∙ ap (λ o. shifts_or (contents terminals states) (configuration m (t ∷ rest)) t rest (option_map number_of o)) e in
+      ap (λ (k : Contents). shifts_or (contents terminals states) (configuration m (t ∷ rest)) t rest (k.shift t)) (top_is m top there)
+      ∙ ap (λ o. shifts_or (contents terminals states) (configuration m (t ∷ rest)) t rest (option_map number_of o)) e in
       let k : shifts_or (contents terminals states) (configuration m (t ∷ rest)) t rest (Some target.0) ≡ Stands = sym first ∙ h in
       cc
 

@@ -68,9 +68,9 @@ reduced_trees p trees after made l is e =
     let same : length all ≡ length trees = length-map trees tree_of in
     let fits : n ≤ length all = omega arith in
     let children : reverse (take n (reverse all)) ≡ map tree_of (drop (length trees - n) trees) =
-        newest n all fits ∙ ap (λ k. drop (k - n) all) same ∙ drop-map tree_of (length trees - n) trees in
+    newest n all fits ∙ ap (λ k. drop (k - n) all) same ∙ drop-map tree_of (length trees - n) trees in
     let kept : drop n (reverse all) ≡ trees_on (take (length trees - n) trees) =
-        without n all fits ∙ ap (λ k. reverse (take (k - n) all)) same ∙ ap reverse (take-map tree_of (length trees - n) trees) in
+    without n all fits ∙ ap (λ k. reverse (take (k - n) all)) same ∙ ap reverse (take-map tree_of (length trees - n) trees) in
     ap₂ (λ cs ts. Node p.nonterminal (trees_of cs) ∷ ts) children kept
     ∙ ap (λ t. t ∷ trees_on (take (length trees - n) trees)) (sym is)
     ∙ sym (trees_more (take (length trees - n) trees) made)

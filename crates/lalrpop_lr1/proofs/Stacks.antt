@@ -174,7 +174,7 @@ module _ (states : ℕ → Contents) (count : ℕ) (lead : LeadAsItemsSay states
   found c t p st e =
       let by = first_is (states c.state).reductions t p e in
       let k : Popped states p.symbols (length p.symbols) c.state c.below c.trees =
-          subst (λ (q : Production). Popped states q.symbols (length q.symbols) c.state c.below c.trees) by.2 (pop_whole states count lead st by.0 by.1) in
+      subst (λ (q : Production). Popped states q.symbols (length q.symbols) c.state c.below c.trees) by.2 (pop_whole states count lead st by.0 by.1) in
       record {
         popped = k;
         by = by;

@@ -14,8 +14,6 @@ ghost use Rattle.lalrpop_lr1.specs.Reading.{HasPartialOutcome};
 ghost use Rattle.lalrpop_lr1.specs.Steps.{IsParsedIn};
 
 pub use error::InterpretError;
-pub use tree::ParseTree;
-
 use lalrpop_base::lookahead::token::Token;
 use lalrpop_base::lookahead::token_set::TokenSet;
 use lalrpop_base::lr1_core::state::{Lr1State, StateIndex};
@@ -23,6 +21,7 @@ use lalrpop_base::repr::terminals::TerminalSet;
 use lalrpop_base::repr::{Production, TerminalString};
 use machine::Machine;
 use std::alloc::Global;
+pub use tree::ParseTree;
 
 /// The tree of a list of terminals, by at most so many steps.
 pub fn interpret<'a, 'grammar>(

@@ -34,33 +34,33 @@ returns-clause-of_productions c =
     if_ok (λ tree. IsBuilt (reduced_productions c.args.states.now) (contents c.args.terminals.now c.args.states.now) c.args.tokens.items c.args.limit (tree_of tree)) (λ tree. AreOfGrammar (reduced_productions c.args.states.now) (beside (tree_of tree) no_trees))
     (λ tree built. built.of_grammar) c.finish.result
     (answer_built c.args.terminals.now c.args.states.now c.requires.coherent c.args.tokens.items c.args.limit c.finish.result
-        (last_answer c.args.terminals.now c.args.states.now c.requires.coherent c.shift_all.new.self c.args.tokens.items c.args.limit
-            (read_from_start c.new-machine.result c.shift_all.new.self c.args.tokens.items [] c.args.limit c.new-machine.result.left c.new-machine.ensures.start c.new-machine.ensures.left c.in_ok-shift_all.ensures.shifted)
-            c.finish.result c.finish.ensures))
+    (last_answer c.args.terminals.now c.args.states.now c.requires.coherent c.shift_all.new.self c.args.tokens.items c.args.limit
+    (read_from_start c.new-machine.result c.shift_all.new.self c.args.tokens.items [] c.args.limit c.new-machine.result.left c.new-machine.ensures.start c.new-machine.ensures.left c.in_ok-shift_all.ensures.shifted)
+    c.finish.result c.finish.ensures))
 
 pub returns-clause-of_list : goal.returns-clause-of_list
 returns-clause-of_list c =
     if_ok (λ tree. IsBuilt (reduced_productions c.args.states.now) (contents c.args.terminals.now c.args.states.now) c.args.tokens.items c.args.limit (tree_of tree)) (λ tree. leaves (beside (tree_of tree) no_trees) ≡ c.args.tokens.items)
     (λ tree built. built.of_list) c.finish.result
     (answer_built c.args.terminals.now c.args.states.now c.requires.coherent c.args.tokens.items c.args.limit c.finish.result
-        (last_answer c.args.terminals.now c.args.states.now c.requires.coherent c.shift_all.new.self c.args.tokens.items c.args.limit
-            (read_from_start c.new-machine.result c.shift_all.new.self c.args.tokens.items [] c.args.limit c.new-machine.result.left c.new-machine.ensures.start c.new-machine.ensures.left c.in_ok-shift_all.ensures.shifted)
-            c.finish.result c.finish.ensures))
+    (last_answer c.args.terminals.now c.args.states.now c.requires.coherent c.shift_all.new.self c.args.tokens.items c.args.limit
+    (read_from_start c.new-machine.result c.shift_all.new.self c.args.tokens.items [] c.args.limit c.new-machine.result.left c.new-machine.ensures.start c.new-machine.ensures.left c.in_ok-shift_all.ensures.shifted)
+    c.finish.result c.finish.ensures))
 
 pub returns-clause-steps : goal.returns-clause-steps
 returns-clause-steps c =
     if_ok (λ tree. IsBuilt (reduced_productions c.args.states.now) (contents c.args.terminals.now c.args.states.now) c.args.tokens.items c.args.limit (tree_of tree)) (λ tree. IsParsedIn (contents c.args.terminals.now c.args.states.now) c.args.tokens.items (nodes (beside (tree_of tree) no_trees)) (tree_of tree))
     (λ tree built. built.steps) c.finish.result
     (answer_built c.args.terminals.now c.args.states.now c.requires.coherent c.args.tokens.items c.args.limit c.finish.result
-        (last_answer c.args.terminals.now c.args.states.now c.requires.coherent c.shift_all.new.self c.args.tokens.items c.args.limit
-            (read_from_start c.new-machine.result c.shift_all.new.self c.args.tokens.items [] c.args.limit c.new-machine.result.left c.new-machine.ensures.start c.new-machine.ensures.left c.in_ok-shift_all.ensures.shifted)
-            c.finish.result c.finish.ensures))
+    (last_answer c.args.terminals.now c.args.states.now c.requires.coherent c.shift_all.new.self c.args.tokens.items c.args.limit
+    (read_from_start c.new-machine.result c.shift_all.new.self c.args.tokens.items [] c.args.limit c.new-machine.result.left c.new-machine.ensures.start c.new-machine.ensures.left c.in_ok-shift_all.ensures.shifted)
+    c.finish.result c.finish.ensures))
 
 pub returns-clause-within : goal.returns-clause-within
 returns-clause-within c =
     if_ok (λ tree. IsBuilt (reduced_productions c.args.states.now) (contents c.args.terminals.now c.args.states.now) c.args.tokens.items c.args.limit (tree_of tree)) (λ tree. nodes (beside (tree_of tree) no_trees) ≤ c.args.limit)
     (λ tree built. built.within) c.finish.result
     (answer_built c.args.terminals.now c.args.states.now c.requires.coherent c.args.tokens.items c.args.limit c.finish.result
-        (last_answer c.args.terminals.now c.args.states.now c.requires.coherent c.shift_all.new.self c.args.tokens.items c.args.limit
-            (read_from_start c.new-machine.result c.shift_all.new.self c.args.tokens.items [] c.args.limit c.new-machine.result.left c.new-machine.ensures.start c.new-machine.ensures.left c.in_ok-shift_all.ensures.shifted)
-            c.finish.result c.finish.ensures))
+    (last_answer c.args.terminals.now c.args.states.now c.requires.coherent c.shift_all.new.self c.args.tokens.items c.args.limit
+    (read_from_start c.new-machine.result c.shift_all.new.self c.args.tokens.items [] c.args.limit c.new-machine.result.left c.new-machine.ensures.start c.new-machine.ensures.left c.in_ok-shift_all.ensures.shifted)
+    c.finish.result c.finish.ensures))

@@ -32,7 +32,7 @@ returns-in_err-reduce_on c =
 pub reducing-smaller : goal.reducing-smaller
 reducing-smaller c =
     let went : IsProgress (contents c.args.terminals.now c.args.states.now) c.reducing.self Eof [] c.reduce_on.new.self GoesOn =
-        subst (λ (p : Progress). IsProgress (contents c.args.terminals.now c.args.states.now) c.reducing.self Eof [] c.reduce_on.new.self p) c.in-GoesOn.is (c.in_ok-reduce_on.ensures.made []) in
+    subst (λ (p : Progress). IsProgress (contents c.args.terminals.now c.args.states.now) c.reducing.self Eof [] c.reduce_on.new.self p) c.in-GoesOn.is (c.in_ok-reduce_on.ensures.made []) in
     let counted : suc c.reduce_on.new.self.left ≡ c.reducing.self.left = went.1 in
     let less : c.reduce_on.new.self.left < c.reducing.self.left = omega (arith, counted) in
     less
@@ -40,7 +40,7 @@ reducing-smaller c =
 pub reducing-preserved : goal.reducing-preserved
 reducing-preserved c =
     let went : IsProgress (contents c.args.terminals.now c.args.states.now) c.reducing.self Eof [] c.reduce_on.new.self GoesOn =
-        subst (λ (p : Progress). IsProgress (contents c.args.terminals.now c.args.states.now) c.reducing.self Eof [] c.reduce_on.new.self p) c.in-GoesOn.is (c.in_ok-reduce_on.ensures.made []) in
+    subst (λ (p : Progress). IsProgress (contents c.args.terminals.now c.args.states.now) c.reducing.self Eof [] c.reduce_on.new.self p) c.in-GoesOn.is (c.in_ok-reduce_on.ensures.made []) in
     record {
       stacked = step_keeps (contents c.args.terminals.now c.args.states.now) (length c.args.states.now) (lead c.args.terminals.now c.args.states.now c.requires.coherent) (configuration c.reducing.self []) (configuration c.reduce_on.new.self []) went.0 c.reducing.invariant.stacked;
       reached = reaches_on c.reducing.self c.reduce_on.new.self c.reducing.invariant.reached went.0 went.1;
@@ -49,13 +49,13 @@ reducing-preserved c =
 pub returns-in-Stuck : goal.returns-in-Stuck
 returns-in-Stuck c =
     let stuck : IsProgress (contents c.args.terminals.now c.args.states.now) c.reducing.self Eof [] c.reduce_on.new.self Stuck =
-        subst (λ (p : Progress). IsProgress (contents c.args.terminals.now c.args.states.now) c.reducing.self Eof [] c.reduce_on.new.self p) c.in-Stuck.is (c.in_ok-reduce_on.ensures.made []) in
+    subst (λ (p : Progress). IsProgress (contents c.args.terminals.now c.args.states.now) c.reducing.self Eof [] c.reduce_on.new.self p) c.in-Stuck.is (c.in_ok-reduce_on.ensures.made []) in
     (c.reducing.self.state.0, c.top-state.ensures, ends_stuck c.reducing.self c.reducing.invariant.reached stuck.0)
 
 pub returns-in-Ended : goal.returns-in-Ended
 returns-in-Ended c =
     let ended : IsProgress (contents c.args.terminals.now c.args.states.now) c.reducing.self Eof [] c.reduce_on.new.self Ended =
-        subst (λ (p : Progress). IsProgress (contents c.args.terminals.now c.args.states.now) c.reducing.self Eof [] c.reduce_on.new.self p) c.in-Ended.is (c.in_ok-reduce_on.ensures.made []) in
+    subst (λ (p : Progress). IsProgress (contents c.args.terminals.now c.args.states.now) c.reducing.self Eof [] c.reduce_on.new.self p) c.in-Ended.is (c.in_ok-reduce_on.ensures.made []) in
     subst (λ (r : Result ParseTree InterpretError). IsAnswer (HasOutcomeFrom (contents c.args.terminals.now c.args.states.now) (configuration c.args.self []) c.args.self.left) c.args.states.now r) (sym c.ok_or.ensures.value)
     (ended_answer c.args.states.now c.reducing.self c.top-state.result (trees_on c.reduce_on.new.self.trees.items) c.reducing.invariant.reached c.top-state.ensures ended.0 ended.1
-        c.only_tree-tree.result c.only_tree-tree.ensures.one c.only_tree-tree.ensures.other)
+    c.only_tree-tree.result c.only_tree-tree.ensures.one c.only_tree-tree.ensures.other)

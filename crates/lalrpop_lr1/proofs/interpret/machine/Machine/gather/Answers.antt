@@ -21,7 +21,7 @@ returns-clause-gathered c =
     let kept : c.split_off.new.self.items ≡ take (length trees - n) trees = c.in_ok-children.ensures.items ∙ ap (λ k. take k trees) at in
     let made = roll-ParseTree (Open.Nonterminal c.in_ok-name.name c.in_ok-children.children) in
     let is : tree_of made ≡ Node c.args.production.now.nonterminal (trees_of (map tree_of (drop (length trees - n) trees))) =
-        tree_of_roll (Open.Nonterminal c.in_ok-name.name c.in_ok-children.children) ∙ ap₂ (λ a cs. Node a (trees_of (map tree_of cs))) c.in_ok-name.ensures children in
+    tree_of_roll (Open.Nonterminal c.in_ok-name.name c.in_ok-children.children) ∙ ap₂ (λ a cs. Node a (trees_of (map tree_of cs))) c.in_ok-name.ensures children in
     let gathered : c.push.new.self.items ≡ take (length trees - n) trees ++ made ∷ [] = c.in_ok-push.ensures.items ∙ ap (λ ts. ts ++ made ∷ []) kept in
     sym (reduced_trees c.args.production.now trees c.push.new.self.items made c.requires.trees is gathered)
 
@@ -32,7 +32,7 @@ returns-clause-popped c =
     let pushed : c.push-2.new.self.items ≡ below ++ c.args.self.now.state ∷ [] = c.in_ok-push-2.ensures.items in
     let at : c.len-2.result - c.len-count.result ≡ length below + 1 - n = omega (arith, c.in_ok-push-2.ensures.len) in
     let popped : c.truncate.new.self.items ≡ take (length below + 1 - n) (below ++ c.args.self.now.state ∷ []) =
-        c.truncate.ensures.items ∙ ap₂ (λ k xs. take k xs) at pushed in
+    c.truncate.ensures.items ∙ ap₂ (λ k xs. take k xs) at pushed in
     ap numbers popped ∙ sym (numbers_left n below c.args.self.now.state c.requires.states)
 
 pub returns-clause-top : goal.returns-clause-top

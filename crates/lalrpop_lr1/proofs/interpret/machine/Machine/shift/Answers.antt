@@ -29,12 +29,12 @@ returns-in-Some-clause-shifted c =
     let same : c.unwrap_terminal.result.now ≡ t = cc in
     let moved : c.into_terminal.result ≡ t = cc in
     let there : get terminal_ord.ghosts.cmp c.top-state.result.now.shifts t ≡ Some c.in-Some.target.now =
-        ap (λ (u : TerminalString). get terminal_ord.ghosts.cmp c.top-state.result.now.shifts u) (sym same) ∙ sym c.in-Some.ensures.value in
+    ap (λ (u : TerminalString). get terminal_ord.ghosts.cmp c.top-state.result.now.shifts u) (sym same) ∙ sym c.in-Some.ensures.value in
     let read : IsShifted c.reducing.self c.in-Some.target.now.0 c.into_terminal.result c.push.new.self → (rest : List TerminalString) → HasRead (contents c.args.terminals.now c.args.states.now) (configuration c.args.self.now (t ∷ rest)) c.args.self.now.left c.push.new.self rest =
-        λ made rest.
-            let shifted : IsShifted c.reducing.self c.in-Some.target.now.0 t c.push.new.self = subst (λ (u : TerminalString). IsShifted c.reducing.self c.in-Some.target.now.0 u c.push.new.self) moved made in
-            reads_on c.reducing.self c.push.new.self t rest rest (c.reducing.invariant.read rest)
-            (shift_goes c.args.terminals.now c.args.states.now c.reducing.self c.push.new.self c.top-state.result.now t c.in-Some.target.now rest c.top-state.ensures there shifted) shifted.counted in
+    λ made rest.
+    let shifted : IsShifted c.reducing.self c.in-Some.target.now.0 t c.push.new.self = subst (λ (u : TerminalString). IsShifted c.reducing.self c.in-Some.target.now.0 u c.push.new.self) moved made in
+    reads_on c.reducing.self c.push.new.self t rest rest (c.reducing.invariant.read rest)
+    (shift_goes c.args.terminals.now c.args.states.now c.reducing.self c.push.new.self c.top-state.result.now t c.in-Some.target.now rest c.top-state.ensures there shifted) shifted.counted in
     on_ok read c.push.result c.push.ensures.made
 
 pub returns-in-Some-clause-stopped : goal.returns-in-Some-clause-stopped
@@ -42,7 +42,7 @@ returns-in-Some-clause-stopped c =
     let t = c.args.terminal in
     let same : c.unwrap_terminal.result.now ≡ t = cc in
     let there : get terminal_ord.ghosts.cmp c.top-state.result.now.shifts t ≡ Some c.in-Some.target.now =
-        ap (λ (u : TerminalString). get terminal_ord.ghosts.cmp c.top-state.result.now.shifts u) (sym same) ∙ sym c.in-Some.ensures.value in
+    ap (λ (u : TerminalString). get terminal_ord.ghosts.cmp c.top-state.result.now.shifts u) (sym same) ∙ sym c.in-Some.ensures.value in
     if_err (IsSpent c.reducing.self) (λ (e : InterpretError). (rest : List TerminalString) → IsFailure (StopsReading (contents c.args.terminals.now c.args.states.now) (configuration c.args.self.now (t ∷ rest)) c.args.self.now.left) c.args.states.now e)
     (λ e spent rest. stops_spent c.reducing.self t rest (c.reducing.invariant.read rest) c.args.states.now (shift_is_a_step c.args.terminals.now c.args.states.now c.reducing.self c.top-state.result.now t c.in-Some.target.now rest c.top-state.ensures there) e spent)
     c.push.result c.push.ensures.spent
@@ -52,18 +52,18 @@ returns-in_err-reduce_on-clause-stopped c =
     let t = c.args.terminal in
     let same : c.unwrap_terminal.result.now ≡ t = cc in
     let none : get terminal_ord.ghosts.cmp c.top-state.result.now.shifts t ≡ None =
-        ap (λ (u : TerminalString). get terminal_ord.ghosts.cmp c.top-state.result.now.shifts u) (sym same) ∙ sym c.in_default.ensures.value in
+    ap (λ (u : TerminalString). get terminal_ord.ghosts.cmp c.top-state.result.now.shifts u) (sym same) ∙ sym c.in_default.ensures.value in
     raised (λ (e : InterpretError). (rest : List TerminalString) → IsFailure (StopsReading (contents c.args.terminals.now c.args.states.now) (configuration c.args.self.now (t ∷ rest)) c.args.self.now.left) c.args.states.now e)
     c.in_err-reduce_on.field-0.0
     (λ rest. halted_stops c.reducing.self t rest _ c.args.states.now (c.reducing.invariant.read rest) c.reducing.invariant.token
-        (no_shift c.args.terminals.now c.args.states.now c.reducing.self c.top-state.result.now t rest c.top-state.ensures none)
-        c.in_err-reduce_on.field-0.0 (c.in_err-reduce_on.ensures.halted (t ∷ rest)))
+    (no_shift c.args.terminals.now c.args.states.now c.reducing.self c.top-state.result.now t rest c.top-state.ensures none)
+    c.in_err-reduce_on.field-0.0 (c.in_err-reduce_on.ensures.halted (t ∷ rest)))
     c.from_residual.result c.from_residual.ensures.1
 
 pub reducing-smaller : goal.reducing-smaller
 reducing-smaller c =
     let went : IsProgress (contents c.args.terminals.now c.args.states.now) c.reducing.self (Terminal c.args.terminal) [] c.reduce_on.new.self GoesOn =
-        progressed (contents c.args.terminals.now c.args.states.now) c.reducing.self c.reduce_on.new.self _ (Terminal c.args.terminal) [] c.in_ok-reduce_on.field-0 GoesOn c.reducing.invariant.token c.in-GoesOn.is (c.in_ok-reduce_on.ensures.made []) in
+    progressed (contents c.args.terminals.now c.args.states.now) c.reducing.self c.reduce_on.new.self _ (Terminal c.args.terminal) [] c.in_ok-reduce_on.field-0 GoesOn c.reducing.invariant.token c.in-GoesOn.is (c.in_ok-reduce_on.ensures.made []) in
     let counted : suc c.reduce_on.new.self.left ≡ c.reducing.self.left = went.1 in
     let less : c.reduce_on.new.self.left < c.reducing.self.left = omega (arith, counted) in
     less
@@ -73,11 +73,11 @@ reducing-preserved c =
     let t = c.args.terminal in
     let same : c.unwrap_terminal.result.now ≡ t = cc in
     let none : get terminal_ord.ghosts.cmp c.top-state.result.now.shifts t ≡ None =
-        ap (λ (u : TerminalString). get terminal_ord.ghosts.cmp c.top-state.result.now.shifts u) (sym same) ∙ sym c.in_default.ensures.value in
+    ap (λ (u : TerminalString). get terminal_ord.ghosts.cmp c.top-state.result.now.shifts u) (sym same) ∙ sym c.in_default.ensures.value in
     let went : (rest : List TerminalString) → IsProgress (contents c.args.terminals.now c.args.states.now) c.reducing.self (Terminal t) rest c.reduce_on.new.self GoesOn =
-        λ rest. progressed (contents c.args.terminals.now c.args.states.now) c.reducing.self c.reduce_on.new.self _ (Terminal t) rest c.in_ok-reduce_on.field-0 GoesOn c.reducing.invariant.token c.in-GoesOn.is (c.in_ok-reduce_on.ensures.made rest) in
+    λ rest. progressed (contents c.args.terminals.now c.args.states.now) c.reducing.self c.reduce_on.new.self _ (Terminal t) rest c.in_ok-reduce_on.field-0 GoesOn c.reducing.invariant.token c.in-GoesOn.is (c.in_ok-reduce_on.ensures.made rest) in
     let reduces : (rest : List TerminalString) → move (contents c.args.terminals.now c.args.states.now) (configuration c.reducing.self (t ∷ rest)) ≡ reduction_move (contents c.args.terminals.now c.args.states.now) (configuration c.reducing.self (t ∷ rest)) (Terminal t) =
-        λ rest. no_shift c.args.terminals.now c.args.states.now c.reducing.self c.top-state.result.now t rest c.top-state.ensures none in
+    λ rest. no_shift c.args.terminals.now c.args.states.now c.reducing.self c.top-state.result.now t rest c.top-state.ensures none in
     record {
       token = c.reducing.invariant.token;
       stacked = reduces_stacked c.args.terminals.now c.args.states.now c.requires.coherent c.reducing.self c.reduce_on.new.self t (Terminal t) c.reducing.invariant.stacked refl (reduces []) (went (t ∷ []));
@@ -89,7 +89,7 @@ returns-in-Stuck c =
     let t = c.args.terminal in
     let same : c.unwrap_terminal.result.now ≡ t = cc in
     let none : get terminal_ord.ghosts.cmp c.top-state.result.now.shifts t ≡ None =
-        ap (λ (u : TerminalString). get terminal_ord.ghosts.cmp c.top-state.result.now.shifts u) (sym same) ∙ sym c.in_default.ensures.value in
+    ap (λ (u : TerminalString). get terminal_ord.ghosts.cmp c.top-state.result.now.shifts u) (sym same) ∙ sym c.in_default.ensures.value in
     record {
       shifted = tt;
       stopped = λ rest. (
