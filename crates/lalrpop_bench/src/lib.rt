@@ -10,6 +10,7 @@ mod interpret;
 mod lookahead;
 #[cfg(test)]
 mod lr1_core;
-pub mod plain;
+#[cfg(test)]
+mod plain;
 #[cfg(test)]
 mod repr;
