@@ -1,21 +1,20 @@
 -- What the parts of a run say of the whole of it.
-use Rattle.std.proofs.Common.{◌≡◌, ℕ, ◌+◌, ◌<◌, ◌≤◌, List, [], ◌∷◌, ◌++◌, length, map, reverse, refl, sym, ap, subst, ◌∙◌, arith}
+use Rattle.std.proofs.Common.{◌≡◌, ℕ, ◌+◌, List, [], ◌∷◌, ◌++◌, length, map, reverse, refl, sym, ap, subst, ◌∙◌, arith}
 use Rattle.std.specs.Prelude.{Result, Ok, Err, IfOk}
 use Rattle.std.proofs.lemmas.List.{reverse-reverse}
 use Rattle.lalrpop_base.specs.Bits.{Bits}
 use Rattle.lalrpop_base.specs.Coherent.{AreCoherent}
 use Rattle.lalrpop_base.specs.Contents.{number_of, contents, reduced_productions}
 use Rattle.lalrpop_base.specs.States.{Contents}
-use Rattle.lalrpop_base.specs.Trees.{beside, no_trees, leaves, nodes, AreOfGrammar}
-use Rattle.lalrpop_base.specs.Runs.{here, begin, Outcome, Parsed, HasOutcome}
+use Rattle.lalrpop_base.specs.Runs.{here, begin, HasOutcome}
 use Rattle.lalrpop_base.specs.declared.repr.TerminalString.{TerminalString}
 use Rattle.lalrpop_base.specs.declared.lr1_core.state.State.{State}
 use Rattle.lalrpop_base.specs.declared.lr1_core.state.StateIndex.{StateIndex}
 use Rattle.lalrpop_lr1.specs.Answers.{IsFailure, IsAnswer}
-use Rattle.lalrpop_lr1.specs.Machines.{numbers, trees_on, configuration, IsStack, bottom, IsStacked, HasRead}
+use Rattle.lalrpop_lr1.specs.Machines.{numbers, trees_on, configuration, bottom, IsStacked, HasRead}
 use Rattle.lalrpop_lr1.specs.ParseTrees.{tree_of}
 use Rattle.lalrpop_lr1.specs.Reading.{Reads, read, StopsReading, HasPartialOutcome, Stack, Stop, all_read, stopped}
-use Rattle.lalrpop_lr1.specs.Steps.{HasOutcomeFrom, IsParsedIn}
+use Rattle.lalrpop_lr1.specs.Steps.{HasOutcomeFrom}
 use Rattle.lalrpop_lr1.specs.declared.interpret.error.InterpretError.{InterpretError}
 use Rattle.lalrpop_lr1.specs.declared.interpret.machine.Machine.{Machine}
 use Rattle.lalrpop_lr1.specs.declared.interpret.tree.ParseTree.{ParseTree}

@@ -10,7 +10,7 @@ use Rattle.std.proofs.lemmas.Option.{slice_get_read, slice_get_within, get_or_fr
 use Rattle.lalrpop_base.specs.Bits.{Bits}
 use Rattle.lalrpop_base.specs.Coherent.{AreCoherent}
 use Rattle.lalrpop_base.specs.Contents.{number_of, holds_token, contents_of, contents_at, contents}
-use Rattle.lalrpop_base.specs.States.{Contents, Reduction}
+use Rattle.lalrpop_base.specs.States.{Contents}
 use Rattle.lalrpop_base.specs.Trees.{Tree, Leaf}
 use Rattle.lalrpop_base.specs.Runs.{Configuration, reduction_on, reduces, received, reduced, Stands, Goes, Ends, shifts_or, move, Reaches, here, further, Outcome, Parsed, Refused, Limit}
 use Rattle.lalrpop_base.specs.contracts.repr.TerminalStringOrd.TheImpl as terminal_ord

@@ -1,13 +1,11 @@
 -- Runs put together, and the outcomes of what is left of them.
-use Rattle.std.proofs.Common.{◌≡◌, ℕ, suc, ◌+◌, ◌<◌, ◌≤◌, List, [], ◌∷◌, sym, subst, refl, ap, ◌∙◌, arith}
+use Rattle.std.proofs.Common.{◌≡◌, ℕ, ◌+◌, List, [], ◌∷◌, sym, subst, ap, ◌∙◌, arith}
 use Rattle.lalrpop_base.specs.declared.repr.TerminalString.{TerminalString}
-use Rattle.lalrpop_base.specs.declared.lookahead.token.Token.{Token}
-use Rattle.lalrpop_base.specs.declared.lookahead.token.Token.TheVariants.{Terminal as TokenOf}
 use Rattle.lalrpop_base.specs.declared.lr1_core.state.State.{State}
 use Rattle.lalrpop_base.specs.Bits.{Bits}
 use Rattle.lalrpop_base.specs.States.{Contents}
 use Rattle.lalrpop_base.specs.Trees.{Tree}
-use Rattle.lalrpop_base.specs.Runs.{Configuration, next_token, Stands, Goes, Ends, move, Reaches, here, further, begin, Outcome, Parsed, Refused, Limit, IsParse, HasOutcome, parsed, stuck as stuck_at, other_end, cut_off as cut_off_at}
+use Rattle.lalrpop_base.specs.Runs.{Configuration, next_token, Reaches, here, further, begin, Outcome, Refused, Limit, IsParse, HasOutcome, parsed, stuck as stuck_at, other_end, cut_off as cut_off_at}
 use Rattle.lalrpop_lr1.specs.Reading.{Reads, read, before, StopsReading, stuck, early_end, cut_off}
 use Rattle.lalrpop_lr1.specs.Steps.{HasOutcomeFrom, parsed_from, stuck_from, other_end_from, cut_off_from}
 use Rattle.lalrpop_lr1.specs.Answers.{IsFailure}

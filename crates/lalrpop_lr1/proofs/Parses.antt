@@ -1,21 +1,20 @@
 -- What a run over coherent states answers: trees built of productions, over the input, with a node for each step.
-use Rattle.std.proofs.Common.{◌≡◌, ℕ, zero, suc, ◌+◌, ◌<◌, ◌≤◌, List, [], ◌∷◌, ◌++◌, map, drop, length, append_assoc, append-nil, sym, subst, refl, ap, ap₂, ◌∙◌, Option, Some, None, arith}
-use Rattle.std.specs.Prelude.{Contains, slice_get, slice_index_or}
+use Rattle.std.proofs.Common.{◌≡◌, ℕ, zero, suc, ◌+◌, ◌<◌, ◌≤◌, List, [], ◌∷◌, ◌++◌, map, append_assoc, append-nil, sym, subst, refl, ap, ap₂, ◌∙◌, Option, Some, None, arith}
+use Rattle.std.specs.Prelude.{Contains, slice_get}
 use Rattle.std.specs.List.{flat_map}
 use Rattle.std.specs.Borrow.{Bor}
 use Rattle.lalrpop_base.specs.Bits.{Bits}
 use Rattle.lalrpop_base.specs.Contents.{holds_token, contents, contents_at, reduction_of, reduced_productions}
 use Rattle.lalrpop_base.specs.States.{Contents, Reduction}
 use Rattle.lalrpop_base.specs.Trees.{Tree, Leaf, Node, Trees, no_trees, beside, trees_of, leaves, nodes, IsNode, AreOfGrammar}
-use Rattle.lalrpop_base.specs.Runs.{Configuration, reduction_on, Move, Stands, Goes, Ends, reduced, goes_on, received, reduces, shifts_or, moves_on, move, Reaches, here, further, begin, Parsed, IsParse, HasOutcome, parsed}
+use Rattle.lalrpop_base.specs.Runs.{Configuration, reduction_on, Goes, Ends, goes_on, reduces, shifts_or, moves_on, move, Reaches, here, further, begin, Parsed, HasOutcome, parsed}
 use Rattle.lalrpop_base.specs.declared.repr.Production.{Production}
-use Rattle.lalrpop_base.specs.declared.repr.NonterminalString.{NonterminalString}
 use Rattle.lalrpop_base.specs.declared.repr.TerminalString.{TerminalString}
 use Rattle.lalrpop_base.specs.declared.lookahead.token.Token.{Token}
 use Rattle.lalrpop_base.specs.declared.lookahead.token.Token.TheVariants.{Eof, Terminal as TokenOf}
 use Rattle.lalrpop_base.specs.declared.lr1_core.state.State.{State}
 use Rattle.lalrpop_base.proofs.ContentsViews.{LeadAsItemsSay, contains_at, at_contains, contains_map, contains_of_map}
-use Rattle.lalrpop_lr1.specs.Machines.{bottom, above}
+use Rattle.lalrpop_lr1.specs.Machines.{bottom}
 use Rattle.lalrpop_lr1.specs.Steps.{IsParsedIn}
 use Rattle.lalrpop_lr1.proofs.TreeViews.{leaves_cons}
 use Rattle.lalrpop_lr1.proofs.Stacks.{onto, Found, found, IsStackOf, step_keeps, same_goes, same_ends}

@@ -1,6 +1,6 @@
 use Rattle.std.proofs.Common.{◌≡◌, ◌≤◌, []}
 use Rattle.lalrpop_base.specs.Contents.{contents, reduced_productions}
-use Rattle.lalrpop_base.specs.Runs.{begin, HasOutcome}
+use Rattle.lalrpop_base.specs.Runs.{HasOutcome}
 use Rattle.lalrpop_base.specs.Trees.{beside, no_trees, leaves, nodes, AreOfGrammar}
 use Rattle.lalrpop_lr1.specs.ParseTrees.{tree_of}
 use Rattle.lalrpop_lr1.specs.Steps.{IsParsedIn}

@@ -1,4 +1,4 @@
-use Rattle.std.proofs.Common.{◌≡◌, ◌<◌, suc, [], ◌∷◌, length, refl, sym, ap, subst, ◌∙◌, arith}
+use Rattle.std.proofs.Common.{◌≡◌, ◌<◌, suc, [], length, sym, subst, arith}
 use Rattle.std.specs.Prelude.{Result}
 use Rattle.lalrpop_base.specs.Contents.{contents}
 use Rattle.lalrpop_base.specs.Runs.{here}
@@ -10,7 +10,7 @@ use Rattle.lalrpop_lr1.specs.declared.interpret.error.InterpretError.{InterpretE
 use Rattle.lalrpop_lr1.specs.declared.interpret.machine.Progress.{Progress}
 use Rattle.lalrpop_lr1.specs.declared.interpret.machine.Progress.TheVariants.{Stuck, GoesOn, Ended}
 use Rattle.lalrpop_lr1.specs.declared.interpret.tree.ParseTree.{ParseTree}
-use Rattle.lalrpop_lr1.proofs.MachineRuns.{lead, top_within, HasReached, reaches_on, halted_ends, ends_stuck, ended_answer, raised_answer}
+use Rattle.lalrpop_lr1.proofs.MachineRuns.{lead, top_within, reaches_on, halted_ends, ends_stuck, ended_answer, raised_answer}
 use Rattle.lalrpop_lr1.proofs.Stacks.{step_keeps}
 use Rattle.lalrpop_lr1.proofs.interpret.machine.Machine.finish.Goals as goal
 

@@ -1,9 +1,9 @@
-use Rattle.std.proofs.Common.{◌≡◌, List, suc, ◌<◌, [], ◌∷◌, length, refl, sym, ap, subst, ◌∙◌, Some, None, arith}
+use Rattle.std.proofs.Common.{◌≡◌, List, suc, ◌<◌, [], ◌∷◌, refl, sym, ap, subst, ◌∙◌, Some, None, arith}
 use Rattle.std.specs.BTreeMap.{get}
 use Rattle.lalrpop_base.specs.Contents.{contents}
 use Rattle.lalrpop_base.specs.contracts.repr.TerminalStringOrd.TheImpl as terminal_ord
 use Rattle.lalrpop_base.specs.declared.repr.TerminalString.{TerminalString}
-use Rattle.lalrpop_lr1.specs.Machines.{configuration, reduction_move, IsStacked, HasRead, IsShifted, IsSpent, IsProgress}
+use Rattle.lalrpop_lr1.specs.Machines.{configuration, reduction_move, HasRead, IsShifted, IsSpent, IsProgress}
 use Rattle.lalrpop_base.specs.Runs.{move}
 use Rattle.lalrpop_base.specs.declared.lookahead.token.Token.TheVariants.{Terminal}
 use Rattle.lalrpop_lr1.specs.declared.interpret.error.InterpretError.{InterpretError}

@@ -1,10 +1,9 @@
-use Rattle.std.proofs.Common.{◌≡◌, ◌∷◌, ap, subst, sym, arith}
+use Rattle.std.proofs.Common.{◌≡◌, ◌∷◌, sym}
 use Rattle.std.specs.Vec.Iter.{into_iter_items}
 use Rattle.lalrpop_base.specs.Contents.{contents}
-use Rattle.lalrpop_base.specs.Runs.{Configuration}
 use Rattle.lalrpop_lr1.specs.Answers.{IsFailure}
 use Rattle.lalrpop_lr1.specs.Machines.{configuration, HasRead}
-use Rattle.lalrpop_lr1.specs.Reading.{StopsReading, Reads, read}
+use Rattle.lalrpop_lr1.specs.Reading.{StopsReading}
 use Rattle.lalrpop_lr1.specs.declared.interpret.error.InterpretError.{InterpretError}
 use Rattle.lalrpop_lr1.proofs.Interpreted.{read_stacked, nothing_read}
 use Rattle.lalrpop_lr1.proofs.MachineRuns.{read_on, fail_later, raised}
