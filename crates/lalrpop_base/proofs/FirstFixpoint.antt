@@ -1,11 +1,11 @@
 -- The first sets are the table with which the passes begin to change nothing.
-use Rattle.std.proofs.Common.{◌≡◌, ◌≢◌, ℕ, zero, suc, ◌+◌, ◌-◌, ◌*◌, ◌<◌, ◌≤◌, ◌⊎◌, ◌↔◌, inl, inr, List, [], ◌∷◌, ◌++◌, map, length, refl, sym, ap, subst, ◌∙◌, arith, Option, Some, None, Bool, true, false, cond, unwrap_or, IsSome}
+use Rattle.std.proofs.Common.{◌≡◌, ℕ, suc, ◌+◌, ◌-◌, ◌*◌, ◌<◌, ◌≤◌, inl, inr, List, [], ◌∷◌, length, refl, sym, ap, subst, ◌∙◌, arith, Some, Bool, true, false, cond, unwrap_or, IsSome}
 use Rattle.std.specs.Prelude.{slice_get, Contains}
 use Rattle.std.specs.BTreeMap.{is_at}
 use Rattle.std.specs.Map.{lookup, keys_of}
 use Rattle.std.specs.List.{flat_map}
 use Rattle.std.specs.List.Sorted.{IsStrictlySortedBy}
-use Rattle.std.proofs.lemmas.Bool.{false≢true, cases_Bool}
+use Rattle.std.proofs.lemmas.Bool.{false≢true}
 use Rattle.std.proofs.lemmas.List.Elements.{Contains-append_cases}
 use Rattle.std.proofs.lemmas.Map.Entries.{length-keys_of}
 use Rattle.std.proofs.lemmas.Option.{slice_get_read}
@@ -16,11 +16,11 @@ use Rattle.lalrpop_base.specs.declared.repr.Symbol.TheVariants.{Nonterminal, Ter
 use Rattle.lalrpop_base.specs.declared.repr.Production.{Production}
 use Rattle.lalrpop_base.specs.declared.repr.grammar.NonterminalData.{NonterminalData}
 use Rattle.lalrpop_base.specs.declared.repr.grammar.Grammar.{Grammar}
-use Rattle.lalrpop_base.specs.Bits.{Bits, has, no_bits, has-no_bits}
+use Rattle.lalrpop_base.specs.Bits.{has, no_bits, has-no_bits}
 use Rattle.lalrpop_base.specs.FirstSets.{NullableBy, FirstBy, AreFirstSets}
 use Rattle.lalrpop_base.specs.WellFormed.{name_cmp, productions, HasKnownTerminals, IsWellFormed, rules_of}
-use Rattle.lalrpop_base.specs.First.{IsFirstSet, AreFirstSetsOf}
-use Rattle.lalrpop_base.specs.FirstTables.{Table, set_of, is_in, Gives, IsRight, IsClosed, IsPass, IsReady, AreReady, weight, empty_sets}
+use Rattle.lalrpop_base.specs.First.{AreFirstSetsOf}
+use Rattle.lalrpop_base.specs.FirstTables.{Table, set_of, is_in, Gives, IsRight, IsClosed, IsPass, AreReady, weight, empty_sets}
 use Rattle.lalrpop_base.proofs.theory.FirstSets.{nullable_by, first_by}
 use Rattle.lalrpop_base.proofs.FirstMeaning.{at_end}
 use Rattle.lalrpop_base.proofs.FirstNames.{has_set, has_own}

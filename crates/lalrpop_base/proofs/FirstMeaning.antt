@@ -1,24 +1,19 @@
 -- What a table gives for a list, against what the list derives.
-use Rattle.std.proofs.Common.{◌≡◌, ◌≢◌, ℕ, zero, suc, ◌+◌, ◌-◌, ◌*◌, ◌<◌, ◌≤◌, ◌⊎◌, ◌↔◌, inl, inr, List, [], ◌∷◌, ◌++◌, length, refl, sym, ap, subst, ◌∙◌, arith, Option, Some, None, Bool, true, false, cond, not, ◌&&◌, ◌||◌, ◌==◌, unwrap_or, IsSome}
-use Rattle.std.specs.Prelude.{slice_get, Contains, sum_by}
-use Rattle.std.specs.BTreeMap.{is_at}
-use Rattle.std.specs.Map.{lookup, keys_of, values_of}
-use Rattle.std.proofs.lemmas.Bool.{false≢true, true≢false, or_cases, or_left, or_right, cases_Bool, cases_lt, and_parts, and_from, eqb-false, ne_eqb, not-true, not_from_false}
-use Rattle.std.proofs.lemmas.List.Elements.{Contains-append_left, Contains-append_right, Contains-append_cases}
+use Rattle.std.proofs.Common.{◌≡◌, ◌≢◌, ℕ, zero, suc, ◌<◌, ◌≤◌, ◌⊎◌, ◌↔◌, inl, inr, List, [], ◌∷◌, length, refl, sym, ap, subst, ◌∙◌, arith, Some, true, false, not, ◌&&◌, ◌==◌}
+use Rattle.std.specs.Prelude.{slice_get}
+use Rattle.std.proofs.lemmas.Bool.{false≢true, or_cases, or_left, or_right, cases_lt, and_parts, and_from, eqb-false, ne_eqb, not-true, not_from_false}
 use Rattle.std.proofs.lemmas.Option.{slice_get_within}
 use mathlib.Core.List.{cons≢nil}
-use Rattle.lalrpop_base.specs.declared.repr.NonterminalString.{NonterminalString}
 use Rattle.lalrpop_base.specs.declared.repr.TerminalString.{TerminalString}
 use Rattle.lalrpop_base.specs.declared.repr.Symbol.{Symbol}
 use Rattle.lalrpop_base.specs.declared.repr.Symbol.TheVariants.{Nonterminal, Terminal}
 use Rattle.lalrpop_base.specs.declared.repr.Production.{Production}
-use Rattle.lalrpop_base.specs.Bits.{Bits, has, no_bits, join, has-join, has-no_bits}
-use Rattle.lalrpop_base.specs.Grammar.{Derives, as_it_is, IsFirst, IsNullable}
-use Rattle.lalrpop_base.specs.WellFormed.{Rules, name_cmp}
+use Rattle.lalrpop_base.specs.Bits.{Bits, has, join, has-join}
+use Rattle.lalrpop_base.specs.Grammar.{as_it_is, IsFirst, IsNullable}
+use Rattle.lalrpop_base.specs.WellFormed.{Rules}
 use Rattle.lalrpop_base.specs.Tokens.{FitsTokens}
 use Rattle.lalrpop_base.specs.First.{IsFirstSet, IsFirstSetBefore, AreFirstSetsOf}
-use Rattle.lalrpop_base.specs.FirstTables.{Table, set_of, is_in, Gives, IsRight, IsClosed, IsJoinedAt, IsPass, weight}
-use Rattle.lalrpop_base.proofs.theory.Derivations.{Derives-trans, Derives-production}
+use Rattle.lalrpop_base.specs.FirstTables.{Table, Gives, IsRight}
 use Rattle.lalrpop_base.proofs.theory.Forests.{nullable-cons, first-cons, first-nil, forest-terminal, derives_forest}
 
 -- ---- what a right table gives is right
@@ -26,7 +21,8 @@ use Rattle.lalrpop_base.proofs.theory.Forests.{nullable-cons, first-cons, first-
 pub at_end : (terminals : List TerminalString) (bit : ℕ) (t : TerminalString) → slice_get terminals bit ≡ Some t → bit ≡ length terminals → ⊥
 at_end terminals bit t at e = let within : bit < length terminals = slice_get_within terminals bit t at in omega arith
 
-terminal_at : (terminals : List TerminalString) (bit : ℕ) → bit < length terminals → (t : TerminalString) × (slice_get terminals bit ≡ Some t)
+-- each lower bit is a terminal's
+pub terminal_at : (terminals : List TerminalString) (bit : ℕ) → bit < length terminals → (t : TerminalString) × (slice_get terminals bit ≡ Some t)
 terminal_at [] bit l = absurd (omega arith)
 terminal_at (t ∷ ts) zero l = (t, refl)
 terminal_at (t ∷ ts) (suc bit) l = terminal_at ts bit (omega arith)

@@ -1,11 +1,11 @@
 -- Names as the keys of a table.
-use Rattle.std.proofs.Common.{◌≡◌, ℕ, zero, suc, ◌+◌, ◌<◌, ◌≤◌, List, [], ◌∷◌, ◌++◌, map, length, refl, sym, ap, ◌∙◌, subst, arith, Option, Some, None, Bool, true, false, cond, unwrap_or, IsSome, is_some}
+use Rattle.std.proofs.Common.{◌≡◌, ℕ, zero, suc, List, [], ◌∷◌, ◌++◌, refl, sym, ap, ◌∙◌, Option, Some, Bool, true, false, cond, unwrap_or, IsSome, is_some}
 use Rattle.std.specs.Prelude.{slice_get}
 use Rattle.std.specs.declared.cmp.Ordering.{Ordering}
 use Rattle.std.specs.declared.cmp.Ordering.TheVariants.{Less, Equal, Greater}
-use Rattle.std.specs.Ordering.{nat_cmp, is_eq, ordering_reverse, eq_by_cmp}
+use Rattle.std.specs.Ordering.{is_eq, ordering_reverse}
 use Rattle.std.specs.Cmp.{IsTotalOrder, IsEquivalence, eq_by_cmp_equiv}
-use Rattle.std.specs.Cmp.Lexicographic.{slice_cmp, on_texts}
+use Rattle.std.specs.Cmp.Lexicographic.{on_texts}
 use Rattle.std.specs.List.{AllByRecursion, list_any}
 use Rattle.std.specs.List.Sorted.{IsStrictlySortedBy}
 use Rattle.std.specs.BTreeMap.{is_at, insert_entry}

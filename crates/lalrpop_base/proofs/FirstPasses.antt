@@ -1,26 +1,24 @@
 -- How a table of sets grows, pass by pass.
-use Rattle.std.proofs.Common.{◌≡◌, ◌≢◌, ℕ, zero, suc, ◌+◌, ◌-◌, ◌*◌, ◌<◌, ◌≤◌, ◌⊎◌, ◌↔◌, inl, inr, List, [], ◌∷◌, ◌++◌, length, refl, sym, ap, subst, ◌∙◌, arith, Option, Some, None, Bool, true, false, cond, ◌||◌, unwrap_or, get_or, IsSome}
-use Rattle.std.specs.Prelude.{slice_get, Contains, sum_by, MatchBool, All}
-use Rattle.std.specs.Ordering.{eq_by_cmp}
+use Rattle.std.proofs.Common.{◌≡◌, ◌≢◌, ℕ, zero, suc, ◌+◌, ◌*◌, ◌<◌, ◌≤◌, ◌⊎◌, ◌↔◌, inl, inr, List, [], ◌∷◌, ◌++◌, length, refl, sym, ap, subst, ◌∙◌, arith, Option, Some, Bool, true, false, cond, ◌||◌, unwrap_or, get_or}
+use Rattle.std.specs.Prelude.{slice_get, Contains, MatchBool, All}
 use Rattle.std.specs.Cmp.{eq_by_cmp_equiv}
 use Rattle.std.specs.BTreeMap.{is_at}
 use Rattle.std.specs.Map.{lookup, keys_of, values_of, set_value}
 use Rattle.std.specs.List.Sorted.{IsStrictlySortedBy}
-use Rattle.std.proofs.lemmas.Bool.{false≢true, or_cases, or_left, or_right, cases_Bool}
+use Rattle.std.proofs.lemmas.Bool.{false≢true, or_cases, or_right, cases_Bool}
 use Rattle.std.proofs.lemmas.List.Elements.{Contains-append_left, Contains-append_right, Contains-append_cases}
 use Rattle.std.proofs.lemmas.List.Sums.{sum_by-le}
-use Rattle.std.proofs.lemmas.Map.Entries.{sum_by-set_value, length-keys_of, length-values_of, lookup_from_place}
+use Rattle.std.proofs.lemmas.Map.Entries.{sum_by-set_value, length-values_of, lookup_from_place}
 use Rattle.std.proofs.lemmas.Map.Keys.{IsDistinct-from_sorted}
 use Rattle.std.proofs.lemmas.Map.Steps.{set_value_same}
 use Rattle.lalrpop_base.specs.declared.repr.NonterminalString.{NonterminalString}
 use Rattle.lalrpop_base.specs.declared.repr.TerminalString.{TerminalString}
-use Rattle.lalrpop_base.specs.declared.repr.Symbol.{Symbol}
-use Rattle.lalrpop_base.specs.declared.repr.Symbol.TheVariants.{Nonterminal, Terminal}
+use Rattle.lalrpop_base.specs.declared.repr.Symbol.TheVariants.{Nonterminal}
 use Rattle.lalrpop_base.specs.declared.repr.Production.{Production}
 use Rattle.lalrpop_base.specs.Bits.{Bits, has, rising, no_bits, join, has-join}
 use Rattle.lalrpop_base.specs.Grammar.{IsFirst, IsNullable}
 use Rattle.lalrpop_base.specs.WellFormed.{name_cmp}
-use Rattle.lalrpop_base.specs.FirstTables.{Table, set_of, is_in, Gives, IsRight, IsClosed, IsJoinedAt, IsPass, weight}
+use Rattle.lalrpop_base.specs.FirstTables.{Table, set_of, is_in, Gives, IsRight, IsJoinedAt, IsPass, weight}
 use Rattle.lalrpop_base.proofs.BitCounts.{join_larger, rising_small}
 use Rattle.lalrpop_base.proofs.theory.Derivations.{Derives-trans, Derives-production}
 use Rattle.lalrpop_base.proofs.FirstMeaning.{Gives-first, Gives-nullable, Gives-fits}

@@ -1,9 +1,9 @@
 -- What a table gives for a list, symbol by symbol.
-use Rattle.std.proofs.Common.{◌≡◌, ◌≢◌, ℕ, ◌+◌, ◌<◌, ◌≤◌, ◌⊎◌, ◌↔◌, inl, inr, List, [], ◌∷◌, length, refl, sym, ap, subst, ◌∙◌, arith, Option, Some, None, Bool, true, false, not, ◌&&◌, ◌||◌, ◌==◌, get_or, drop, unwrap_or, eq-eqb, eqb-true}
+use Rattle.std.proofs.Common.{◌≡◌, ◌≢◌, ℕ, ◌+◌, ◌<◌, ◌≤◌, ◌⊎◌, ◌↔◌, inl, inr, List, [], ◌∷◌, length, refl, sym, ap, subst, ◌∙◌, Option, Some, None, Bool, true, false, not, ◌&&◌, ◌||◌, ◌==◌, get_or, drop, unwrap_or, eq-eqb, eqb-true}
 use Rattle.std.specs.Prelude.{slice_get}
 use Rattle.std.specs.BTreeMap.{is_at}
 use Rattle.std.specs.Map.{lookup}
-use Rattle.std.proofs.lemmas.Bool.{false≢true, and_parts, and_from, or_cases, or_left, or_right, or_parts, ne_eqb, not_from_false, not-true, cases_Bool, cases_eq, eqb-false}
+use Rattle.std.proofs.lemmas.Bool.{false≢true, and_parts, and_from, or_cases, or_left, or_right, ne_eqb, not_from_false, not-true, cases_Bool, eqb-false}
 use Rattle.std.proofs.lemmas.List.{drop_more, drop_all}
 use Rattle.lalrpop_base.specs.declared.repr.NonterminalString.{NonterminalString}
 use Rattle.lalrpop_base.specs.declared.repr.TerminalString.{TerminalString}

@@ -14,3 +14,4 @@ pub mod ContentsViews
 pub mod HeldTokens
 pub mod ViewLemmas
 pub mod ConflictLemmas
+pub mod FirstTokens

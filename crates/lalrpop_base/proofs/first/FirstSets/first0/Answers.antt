@@ -1,6 +1,4 @@
 use Rattle.std.proofs.lemmas.Result.{IfOk-weaker}
-use Rattle.std.specs.Prelude.{IfOk}
-use Rattle.lalrpop_base.specs.First.{IsFirstSet}
 use Rattle.lalrpop_base.proofs.FirstMeaning.{First-set}
 use Rattle.lalrpop_base.proofs.first.FirstSets.first0.Goals as goal
 

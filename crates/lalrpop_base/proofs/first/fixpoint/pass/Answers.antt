@@ -1,4 +1,4 @@
-use Rattle.std.proofs.Common.{rules, ◌≡◌, List, ◌∷◌, ◌++◌, ap}
+use Rattle.std.proofs.Common.{rules, ◌≡◌, List, ◌∷◌, ap}
 use Rattle.std.specs.List.{flat_map}
 use Rattle.std.proofs.lemmas.List.Elements.{Contains-append_left, Contains-append_right}
 use Rattle.lalrpop_base.specs.declared.repr.NonterminalString.{NonterminalString}

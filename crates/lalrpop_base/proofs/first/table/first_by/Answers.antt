@@ -1,8 +1,7 @@
-use Rattle.std.proofs.Common.{◌≡◌, ℕ, IsSome, Some, None, Option, sym, ◌∙◌, ap, refl, length}
-use Rattle.std.specs.Prelude.{Contains, slice_get, IsNone, IfSome}
+use Rattle.std.proofs.Common.{◌≡◌, ℕ, IsSome, Some, None, Option, ◌∙◌, ap, refl, length}
+use Rattle.std.specs.Prelude.{IsNone}
 use Rattle.std.proofs.lemmas.Option.{slice_get_read}
-use Rattle.lalrpop_base.specs.declared.repr.TerminalString.{TerminalString}
-use Rattle.lalrpop_base.proofs.FirstTables.{First-init, First-one, First-terminal, First-end, First-last, First-more}
+use Rattle.lalrpop_base.proofs.FirstTables.{First-init, First-one, First-terminal, First-end}
 use Rattle.lalrpop_base.proofs.first.table.first_by.Goals as goal
 
 pub loop-symbol-init : goal.loop-symbol-init

@@ -1,4 +1,4 @@
-use Rattle.std.proofs.Common.{sym, ◌∙◌, ap}
+use Rattle.std.proofs.Common.{sym}
 use Rattle.lalrpop_base.proofs.FirstTables.{Name-joined, Name-absent}
 use Rattle.lalrpop_base.proofs.first.table.join_name.Goals as goal
 
