@@ -69,6 +69,7 @@ pub record IsReady (terminals : List TerminalString) (table : Table) (p : Produc
   pub known : HasKnownTerminals terminals p.symbols
   pub named : IsSome (lookup (is_at (name_cmp p.nonterminal)) table)
 
+-- each of the productions is
 abbrev pub AreReady : List TerminalString → Table → List Production → Type 0
 AreReady terminals table productions = (p : Production) → Contains productions p → IsReady terminals table p
 
