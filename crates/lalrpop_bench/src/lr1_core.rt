@@ -199,24 +199,59 @@ fn numbers_of_states_print(rt: HostRuntime) -> Result<(), Fail> {
     Ok(())
 }
 
+// State 5 with one shift and these reductions.
+fn conflicting<'grammar>(
+    alloc: Global,
+    terminal: &str,
+    target: usize,
+    reductions: Vec<(TokenSet, &'grammar Production)>,
+) -> Result<Lr1State<'grammar>, OutOfMemory> {
+    let mut shifts = BTreeMap::new(alloc);
+    shifts.insert(literal(alloc, terminal)?, StateIndex(target))?;
+    Ok(State {
+        index: StateIndex(5),
+        items: Items {
+            vec: Vec::new(alloc),
+        },
+        shifts,
+        reductions,
+        gotos: BTreeMap::new(alloc),
+    })
+}
+
+// A reduction on all tokens, and a shift of "->".
+fn shift_against<'grammar>(
+    alloc: Global,
+    terminals: &TerminalSet,
+    production: &'grammar Production,
+) -> Result<Lr1State<'grammar>, OutOfMemory> {
+    let mut reductions = Vec::new(alloc);
+    reductions.push((TokenSet::all(alloc, terminals)?, production))?;
+    conflicting(alloc, "->", 4, reductions)
+}
+
+// A reduction on all terminals, one on the end too, and a shift of "c".
+fn one_against_another<'grammar>(
+    alloc: Global,
+    terminals: &TerminalSet,
+    first: &'grammar Production,
+    second: &'grammar Production,
+) -> Result<Lr1State<'grammar>, OutOfMemory> {
+    let mut left = TokenSet::all(alloc, terminals)?;
+    left.take_eof(terminals);
+    let mut reductions = Vec::new(alloc);
+    reductions.push((left, first))?;
+    reductions.push((TokenSet::all(alloc, terminals)?, second))?;
+    conflicting(alloc, "c", 1, reductions)
+}
+
 // State 5 of Ty = "int" | "bool" | Ty "->" Ty: the reduction by the last production on "->" against its shift.
 #[test]
 fn a_shift_against_a_reduction(rt: HostRuntime) -> Result<(), Fail> {
     let alloc = rt.alloc();
     let arrow = production(alloc, "Ty", &["Ty", "->", "Ty"])?;
     let terminals = TerminalSet::new(alloc, vec![in alloc; literal(alloc, "->")?]?)?;
-    let all = TokenSet::all(alloc, &terminals)?;
-    let mut shifts = BTreeMap::new(alloc);
-    shifts.insert(literal(alloc, "->")?, StateIndex(4))?;
-    let five: Lr1State<'_> = State {
-        index: StateIndex(5),
-        items: Items {
-            vec: Vec::new(alloc),
-        },
-        shifts,
-        reductions: vec![in alloc; (all, &arrow)]?,
-        gotos: BTreeMap::new(alloc),
-    };
+    let five = shift_against(alloc, &terminals, &arrow)?;
     let found = conflicts(alloc, &five, &terminals)?;
     assert_eq!(rt; found.len(), 1);
     assert_eq!(rt; found[0].state, StateIndex(5));
@@ -244,20 +279,7 @@ fn two_reductions(rt: HostRuntime) -> Result<(), Fail> {
         alloc,
         vec![in alloc; literal(alloc, "d")?, literal(alloc, "e")?]?,
     )?;
-    let mut left = TokenSet::all(alloc, &terminals)?;
-    assert!(rt; left.take_eof(&terminals));
-    let right = TokenSet::all(alloc, &terminals)?;
-    let mut shifts = BTreeMap::new(alloc);
-    shifts.insert(literal(alloc, "c")?, StateIndex(1))?;
-    let state: Lr1State<'_> = State {
-        index: StateIndex(5),
-        items: Items {
-            vec: Vec::new(alloc),
-        },
-        shifts,
-        reductions: vec![in alloc; (left, &first), (right, &second)]?,
-        gotos: BTreeMap::new(alloc),
-    };
+    let state = one_against_another(alloc, &terminals, &first, &second)?;
     let found = conflicts(alloc, &state, &terminals)?;
     assert_eq!(rt; found.len(), 1);
     assert!(rt; *found[0].production == first);
