@@ -3,6 +3,8 @@
 #![tactic(auto)]
 
 #[cfg(test)]
+mod build;
+#[cfg(test)]
 mod first;
 #[cfg(test)]
 mod interpret;

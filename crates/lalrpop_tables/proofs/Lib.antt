@@ -9,6 +9,8 @@ pub mod Universe
 pub mod Building
 pub mod Shifting
 pub mod Coherence
+pub mod Lookaheads
+pub mod ConflictLists
 pub mod Orders
 pub mod Moves
 pub mod KernelNumbers

@@ -1,8 +1,40 @@
 //! The construction of LR(1) states.
 mod closure;
 mod kernels;
+pub mod lr;
 pub mod options;
 mod reductions;
+mod results;
 mod states;
 mod tokens;
 mod transitions;
+
+ghost use Rattle.std.specs.Prelude.{IfOk, IfErr};
+ghost use Rattle.lalrpop_base.specs.WellFormed.{IsWellFormed};
+ghost use Rattle.lalrpop_tables.specs.Results.{AreTables, FailsBy, canonical_of};
+
+use self::lr::Lr;
+use self::options::Options;
+use lalrpop_base::lookahead::token_set::TokenSet;
+use lalrpop_base::lr1_core::state::Lr1Result;
+use lalrpop_base::repr::NonterminalString;
+use lalrpop_base::repr::grammar::Grammar;
+use std::alloc::Global;
+
+/// The LR(1) states of a grammar by their construction numbers, or their conflicts. Both methods decide by the
+/// canonical construction.
+#[tactic(auto, using(crate::proofs::Lookaheads::eof_fits))]
+pub fn build_lr1_states<'grammar>(
+    alloc: Global,
+    grammar: &'grammar Grammar,
+    start: NonterminalString,
+    _options: &Options,
+) -> Lr1Result<'grammar>
+    requires { IsWellFormed grammar.now }
+    ensures tables { IfOk result (λ tables. AreTables (canonical_of grammar.now start) tables.items) }
+    ensures failure { IfErr result (FailsBy (canonical_of grammar.now start)) }
+{
+    let eof = TokenSet::eof(alloc, &grammar.terminals)?;
+    let lr = Lr::new(alloc, grammar, start, eof)?;
+    lr.build_states(alloc)
+}

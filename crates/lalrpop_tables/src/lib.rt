@@ -2,3 +2,4 @@
 #![tactic(auto)]
 
 pub mod build;
+pub mod lr1;

@@ -1,0 +1,12 @@
+-- What a construction keeps.
+use Rattle.std.specs.Prelude.{◌≡◌}
+use Rattle.lalrpop_base.specs.Bits.{Bits}
+use Rattle.lalrpop_base.specs.Tokens.{FitsTokens}
+use Rattle.lalrpop_base.specs.WellFormed.{Rules, rules_of, IsWellFormed}
+use Rattle.lalrpop_base.specs.declared.repr.grammar.Grammar.{Grammar}
+
+-- the grammar is well-formed, the first sets are its own, and the lookahead holds bits of its tokens
+pub record IsReady (g : Grammar) (first_sets : Rules) (lookahead : Bits) : Type 0 where
+  pub well_formed : IsWellFormed g
+  pub firsts : first_sets ≡ rules_of g
+  pub fits : FitsTokens g.terminals lookahead

@@ -1,0 +1,69 @@
+//! The construction of states for a start symbol and what may follow it.
+ghost use Rattle.std.specs.Prelude.{◌≡◌, IfOk, IfErr};
+ghost use Rattle.lalrpop_base.specs.Tokens.{FitsTokens};
+ghost use Rattle.lalrpop_base.specs.WellFormed.{IsWellFormed};
+ghost use Rattle.lalrpop_tables.specs.Results.{AreTables, FailsBy};
+
+use super::results::tables_or_conflicts;
+use super::states::build_states;
+use lalrpop_base::first::FirstSets;
+use lalrpop_base::lookahead::token_set::TokenSet;
+use lalrpop_base::lr1_core::state::Lr1Result;
+use lalrpop_base::memory::OutOfMemory;
+use lalrpop_base::repr::NonterminalString;
+use lalrpop_base::repr::grammar::Grammar;
+use std::alloc::Global;
+use std::marker::Model;
+
+/// A construction of states.
+#[derive(Drop)]
+pub struct Lr<'grammar> {
+    grammar: &'grammar Grammar,
+    start: NonterminalString,
+    lookahead: TokenSet,
+    first_sets: FirstSets<'grammar>,
+}
+
+impl<'grammar> Model for Lr<'grammar> {
+    ghost use Rattle.lalrpop_tables.specs.Results.{Construction};
+
+    ghost Value = { Construction };
+
+    ghost view = { λ l. record { grammar = l.grammar.now; start = l.start; lookahead = l.lookahead } };
+
+    ghost use Rattle.lalrpop_tables.specs.Ready.{IsReady};
+
+    ghost invariant = { λ l. IsReady l.grammar.now l.first_sets l.lookahead };
+}
+
+impl<'grammar> Lr<'grammar> {
+    /// The start symbol is followed by one of the tokens of `lookahead`.
+    pub fn new(
+        alloc: Global,
+        grammar: &'grammar Grammar,
+        start: NonterminalString,
+        lookahead: TokenSet,
+    ) -> Result<Self, OutOfMemory>
+        requires well_formed { IsWellFormed grammar.now }
+        requires fits { FitsTokens grammar.now.terminals lookahead }
+        ensures { IfOk result (λ lr. lr ≡ record { grammar = grammar.now; start = start; lookahead = lookahead }) }
+    {
+        let first_sets = FirstSets::new(alloc, grammar)?;
+        Ok(Lr {
+            grammar,
+            start,
+            lookahead,
+            first_sets,
+        })
+    }
+
+    /// The states, or their conflicts. A refused growth is answered by `Memory`.
+    pub fn build_states(self, alloc: Global) -> Lr1Result<'grammar>
+        ensures tables { IfOk result (λ tables. AreTables self.entry tables.items) }
+        ensures failure { IfErr result (FailsBy self.entry) }
+    {
+        let grammar = self.grammar;
+        let states = build_states(alloc, grammar, &self.first_sets, &self.start, &self.lookahead)?;
+        tables_or_conflicts(alloc, states, &grammar.terminals)
+    }
+}
