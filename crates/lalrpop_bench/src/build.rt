@@ -5,6 +5,7 @@ use lalrpop_base::lr1_core::coherent::are_coherent;
 use lalrpop_base::lr1_core::state::{Action, BuildError, Lr1Conflict, Lr1Result};
 use lalrpop_base::memory::OutOfMemory;
 use lalrpop_base::repr::grammar::{Grammar, is_well_formed};
+use lalrpop_base::repr::terminals::TerminalSet;
 use lalrpop_base::repr::{NonterminalString, TerminalString};
 use lalrpop_base::text::Text;
 use lalrpop_tables::build::options::{Method, Options};
@@ -131,27 +132,47 @@ fn literal(alloc: Global, text: &str) -> Result<TerminalString, OutOfMemory> {
     Ok(TerminalString::Literal(Text::new(alloc, text)?))
 }
 
-// The arrow may be shifted, or what stands before it reduced.
+// Whether the one conflict is that of an arrow behind an arrow, in state 5, which may go on to state 4.
+fn is_conflict_of_arrows(conflicts: &[Lr1Conflict], arrow: &Token, terminals: &TerminalSet) -> bool {
+    match conflicts {
+        [conflict] => {
+            let to_four = match &conflict.action {
+                Action::Shift(terminal, target) => {
+                    target.0 == 4 && conflict.lookahead.contains(arrow, terminals) && is_token(arrow, terminal)
+                }
+                Action::Reduce(_) => false,
+            };
+            to_four
+                && conflict.state.0 == 5
+                && conflict.lookahead.len() == 1
+                && conflict.production.symbols.len() == 3
+        }
+        _ => false,
+    }
+}
+
+fn is_token(token: &Token, terminal: &TerminalString) -> bool {
+    match token {
+        Token::Terminal(known) => *known == *terminal,
+        Token::Eof => false,
+        Token::Error => false,
+    }
+}
+
 #[test]
 fn conflict_of_arrows(rt: HostRuntime) -> Result<(), Fail> {
     let alloc = rt.alloc();
     let grammar = grammar(alloc, ROWS[4].lines)?;
     assert!(rt; is_well_formed(&grammar));
+    let arrow = Token::Terminal(literal(alloc, "->")?);
     let result = build_states(alloc, &grammar, name(alloc, "Ty")?, &Options::default());
-    let Err(BuildError::Conflicts(error)) = result else {
-        return Err("no conflict")?;
-    };
-    assert_eq!(rt; error.conflicts.len(), 1);
-    let conflict = &error.conflicts[0];
-    let arrow = literal(alloc, "->")?;
-    assert_eq!(rt; conflict.production.symbols.len(), 3);
-    match &conflict.action {
-        Action::Shift(terminal, target) => {
-            assert!(rt; *terminal == arrow && target.0 == 4);
+    let owed = match result {
+        Err(BuildError::Conflicts(error)) => {
+            is_conflict_of_arrows(&error.conflicts, &arrow, &grammar.terminals)
         }
-        Action::Reduce(_) => return Err("a reduction")?,
-    }
-    assert_eq!(rt; conflict.lookahead.len(), 1);
-    assert!(rt; conflict.lookahead.contains(&Token::Terminal(arrow), &grammar.terminals));
+        Err(BuildError::Memory) => false,
+        Ok(_) => false,
+    };
+    assert!(rt; owed);
     Ok(())
 }

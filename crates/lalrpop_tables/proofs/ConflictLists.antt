@@ -64,19 +64,19 @@ module _ (terminals : List TerminalString) where
       (are, λ e k s at. let w = slice_get_within states k s at in a.free k s (omega arith) at (none_at states k s (sym are ∙ e) at))
 
 -- ---- what is made of them
-pub States-of : (c : Construction) (states : List (State Bits)) → AreBuilt (rules_of c.grammar) (map (begun c.lookahead) (productions_of c.grammar c.start)) states → AreStatesOf c states
+pub States-of : (c : Construction) (states : List (State Bits)) → AreBuilt c.rules (map (begun c.lookahead) c.first) states → AreStatesOf c states
 States-of c states b =
-    let g = rules_of c.grammar in
-    let first = map (begun c.lookahead) (productions_of c.grammar c.start) in
+    let g = c.rules in
+    let first = map (begun c.lookahead) c.first in
     record {
       built = b;
       some = Built-some g first states b;
-      coherent = Built-coherent g first states b (begun_zeros c.lookahead (productions_of c.grammar c.start));
+      coherent = Built-coherent g first states b (begun_zeros c.lookahead c.first);
     }
 
-pub Fails : (c : Construction) (states : List (State Bits)) (error : BuildError Bits) → AreStatesOf c states → FailWithConflicts c.grammar.terminals states error → FailsBy c error
-Fails c states (Conflicts error) s f = (subst (AreStatesOf c) (sym f.0) s, subst (λ (xs : List (State Bits)). AreAllConflicts c.grammar.terminals xs error.conflicts.items) (sym f.0) f.1)
+pub Fails : (c : Construction) (states : List (State Bits)) (error : BuildError Bits) → AreStatesOf c states → FailWithConflicts c.rules.terminals states error → FailsBy c error
+Fails c states (Conflicts error) s f = (subst (AreStatesOf c) (sym f.0) s, subst (λ (xs : List (State Bits)). AreAllConflicts c.rules.terminals xs error.conflicts.items) (sym f.0) f.1)
 Fails c states Memory s f = tt
 
-pub Tables : (c : Construction) (states tables : List (State Bits)) → AreStatesOf c states → tables ≡ states → HaveNoConflict c.grammar.terminals states → AreTables c tables
+pub Tables : (c : Construction) (states tables : List (State Bits)) → AreStatesOf c states → tables ≡ states → HaveNoConflict c.rules.terminals states → AreTables c tables
 Tables c states tables s e free = subst (AreTables c) (sym e) (record { made = s; free = free })

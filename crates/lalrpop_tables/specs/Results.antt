@@ -11,6 +11,7 @@ use Rattle.lalrpop_base.specs.declared.lr1_core.state.BuildError.TheVariants.{Co
 use Rattle.lalrpop_base.specs.declared.lr1_core.state.Conflict.{Conflict}
 use Rattle.lalrpop_base.specs.declared.lr1_core.state.State.{State}
 use Rattle.lalrpop_base.specs.declared.repr.NonterminalString.{NonterminalString}
+use Rattle.lalrpop_base.specs.declared.repr.Production.{Production}
 use Rattle.lalrpop_base.specs.declared.repr.TerminalString.{TerminalString}
 use Rattle.lalrpop_base.specs.declared.repr.grammar.Grammar.{Grammar}
 use Rattle.lalrpop_tables.specs.States.{begun, AreBuilt}
@@ -29,28 +30,28 @@ abbrev pub FailWithConflicts : List TerminalString → List (State Bits) → Bui
 FailWithConflicts terminals states (Conflicts error) = (error.states.items ≡ states) × AreAllConflicts terminals states error.conflicts.items
 FailWithConflicts terminals states Memory = Unit {0}
 
--- what tables are made of: a grammar, a start symbol, and what may follow it
+-- what states are made of: the rules of a grammar, the productions of its start symbol, and what may follow it
 pub record Construction : Type 0 where
-  pub grammar : Grammar
-  pub start : NonterminalString
+  pub rules : Rules
+  pub first : List Production
   pub lookahead : Bits
 
 -- states built of the kernels, at least one, which lead to one another as their items say
 pub record AreStatesOf (c : Construction) (states : List (State Bits)) : Type 0 where
-  pub built : AreBuilt (rules_of c.grammar) (map (begun c.lookahead) (productions_of c.grammar c.start)) states
+  pub built : AreBuilt c.rules (map (begun c.lookahead) c.first) states
   pub some : 0 < length states
   pub coherent : AreCoherent states
 
 -- states without a conflict
 pub record AreTables (c : Construction) (states : List (State Bits)) : Type 0 where
   pub made : AreStatesOf c states
-  pub free : HaveNoConflict c.grammar.terminals states
+  pub free : HaveNoConflict c.rules.terminals states
 
 -- an error has such states and all their conflicts, of which there are some
 abbrev pub FailsBy : Construction → BuildError Bits → Type 0
-FailsBy c (Conflicts error) = AreStatesOf c error.states.items × AreAllConflicts c.grammar.terminals error.states.items error.conflicts.items
+FailsBy c (Conflicts error) = AreStatesOf c error.states.items × AreAllConflicts c.rules.terminals error.states.items error.conflicts.items
 FailsBy c Memory = Unit {0}
 
 -- the canonical construction for a start symbol, which Eof follows
 abbrev pub canonical_of : Grammar → NonterminalString → Construction
-canonical_of g start = record { grammar = g; start = start; lookahead = with_bit no_bits (length g.terminals) }
+canonical_of g start = record { rules = rules_of g; first = productions_of g start; lookahead = with_bit no_bits (length g.terminals) }

@@ -1,7 +1,7 @@
 //! The construction of states for a start symbol and what may follow it.
 ghost use Rattle.std.specs.Prelude.{◌≡◌, IfOk, IfErr};
 ghost use Rattle.lalrpop_base.specs.Tokens.{FitsTokens};
-ghost use Rattle.lalrpop_base.specs.WellFormed.{IsWellFormed};
+ghost use Rattle.lalrpop_base.specs.WellFormed.{IsWellFormed, rules_of, productions_of};
 ghost use Rattle.lalrpop_tables.specs.Results.{AreTables, FailsBy};
 
 use super::results::tables_or_conflicts;
@@ -25,11 +25,17 @@ pub struct Lr<'grammar> {
 }
 
 impl<'grammar> Model for Lr<'grammar> {
+    ghost use Rattle.std.specs.Coded.{coded_ℕ, codes};
+    ghost use base.Stored.{coded_unit};
+    ghost use Rattle.std.specs.FinMap as finite;
+    ghost use Rattle.lalrpop_base.specs.WellFormed.{rules_of, productions_of};
     ghost use Rattle.lalrpop_tables.specs.Results.{Construction};
 
     ghost Value = { Construction };
 
-    ghost view = { λ l. record { grammar = l.grammar.now; start = l.start; lookahead = l.lookahead } };
+    ghost coded = { Prim.hlevel (codes, finite.code coded_ℕ coded_unit) };
+
+    ghost view = { λ l. record { rules = rules_of l.grammar.now; first = productions_of l.grammar.now l.start; lookahead = l.lookahead } };
 
     ghost use Rattle.lalrpop_tables.specs.Ready.{IsReady};
 
@@ -46,7 +52,7 @@ impl<'grammar> Lr<'grammar> {
     ) -> Result<Self, OutOfMemory>
         requires well_formed { IsWellFormed grammar.now }
         requires fits { FitsTokens grammar.now.terminals lookahead }
-        ensures { IfOk result (λ lr. lr ≡ record { grammar = grammar.now; start = start; lookahead = lookahead }) }
+        ensures { IfOk result (λ lr. lr ≡ record { rules = rules_of grammar.now; first = productions_of grammar.now start; lookahead = lookahead }) }
     {
         let first_sets = FirstSets::new(alloc, grammar)?;
         Ok(Lr {
