@@ -1,0 +1,7 @@
+pub mod Texts
+pub mod Growth
+pub mod Numbered
+pub mod WellFormed
+pub mod TooLong
+pub mod Written
+pub mod Known

@@ -1,0 +1,99 @@
+-- What the program tells, and what is told.
+use Rattle.std.specs.Prelude.{◌≡◌, ℕ, ◌+◌, ◌≤◌, List, [], ◌∷◌, ◌++◌, map, Option, None, Some, IfSome, codes, position, string_bytes, length}
+use Rattle.std.proofs.Common.{◌⊎◌}
+use Rattle.std.specs.Fmt.{decimal}
+use Rattle.std.specs.Str.{IsUtf8}
+use Rattle.std.specs.Io.KnownBytes.{Keeps, Appends}
+use Rattle.lalrpop_base.specs.Names.{token_text}
+use Rattle.lalrpop_base.specs.Trees.{beside, no_trees, leaves, nodes}
+use Rattle.lalrpop_base.specs.declared.repr.TerminalString.{TerminalString}
+use Rattle.lalrpop_base.specs.declared.repr.TerminalString.TheVariants.{Literal}
+use Rattle.lalrpop_base.specs.declared.lookahead.token.Token.{Token}
+use Rattle.lalrpop_lr1.specs.ParseTrees.{tree_of, tree_text}
+use Rattle.lalrpop_lr1.specs.declared.interpret.tree.ParseTree.{ParseTree}
+use Rattle.lrtab.specs.declared.answer.Answer.{Answer}
+use Rattle.lrtab.specs.declared.answer.Answer.TheVariants.{Output, Fault, Usage, TooManyActions, Memory}
+use Rattle.lrtab.specs.declared.read_error.ReadError.TheVariants.{Line as LineFault, TooManyActions as TooMany}
+use Rattle.lrtab.specs.Lines.{lines_of, is_fault}
+use Rattle.lrtab.specs.Faults.{IsFaultOf}
+use Rattle.lrtab.specs.Words.{Parse}
+use Rattle.lrtab.specs.Output.{AppendsBeginning}
+
+-- a text and a line end
+abbrev pub line : List ℕ → List ℕ
+line text = text ++ 10 ∷ []
+
+-- a fact of the bytes of a file that is there, where they are known
+abbrev pub OfFile : (List ℕ → Type 0) → Option (Option (List ℕ)) → Type 0
+OfFile P None = ⊥
+OfFile P (Some bytes) = IfSome bytes P
+
+-- the first word
+abbrev pub file_name : List (List ℕ) → List ℕ
+file_name [] = []
+file_name (name ∷ words) = name
+
+-- the text of a tree of the tokens, of at most as many nodes as the limit
+pub record IsTreeText (request : Parse) (text : List ℕ) : Type 0 where
+  pub tree : ParseTree
+  pub shown : text ≡ line (tree_text tree)
+  pub of_tokens : leaves (beside (tree_of tree) no_trees) ≡ map Literal request.tokens
+  pub within : nodes (beside (tree_of tree) no_trees) ≤ request.limit
+
+-- a refusal, the limit or a number of conflicts
+abbrev pub IsFailureText : List ℕ → Type 0
+IsFailureText text =
+    (text ≡ line (codes "limit"))
+    ⊎ ((token : Token) × (text ≡ line (codes "refused at " ++ token_text token)))
+    ⊎ ((count : ℕ) × (text ≡ line (codes "conflicts: " ++ decimal count)))
+
+-- status 0 comes with a tree, and status 1 with a failure
+abbrev pub IsShown : Parse → ℕ → List ℕ → Type 0
+IsShown request status text = ((status ≡ 0) × IsTreeText request text) ⊎ ((status ≡ 1) × IsFailureText text)
+
+-- a text for standard output; the text of the file is UTF-8 and has no faulty line
+pub record IsOutput (request : Parse) (file : Option (Option (List ℕ))) (status : ℕ) (text : List ℕ) : Type 0 where
+  pub readable : OfFile (λ bytes. IsUtf8 bytes × (position is_fault (lines_of bytes) ≡ None)) file
+  pub shown : IsShown request status text
+
+-- the file is not there, could not be read or is no UTF-8; or its text has a faulty line, and the first is named
+abbrev pub IsFaultText : List ℕ → Option (Option (List ℕ)) → List ℕ → Type 0
+IsFaultText name file text =
+    (text ≡ line (codes "cannot read " ++ name))
+    ⊎ ((n : ℕ) × OfFile (λ bytes. IsUtf8 bytes × IsFaultOf (lines_of bytes) (LineFault n)) file × (text ≡ line (codes "line " ++ decimal n ++ codes ": not a grammar line")))
+
+-- what the program tells of a request
+abbrev pub IsAnswerTo : Parse → List ℕ → Option (Option (List ℕ)) → Answer → Type 0
+IsAnswerTo request name file (Output status text) = IsOutput request file status (string_bytes text)
+IsAnswerTo request name file (Fault text) = IsFaultText name file (string_bytes text)
+IsAnswerTo request name file Usage = ⊥
+IsAnswerTo request name file TooManyActions = OfFile (λ bytes. IsUtf8 bytes × IsFaultOf (lines_of bytes) TooMany) file
+IsAnswerTo request name file Memory = Unit {0}
+
+-- what the program tells on words: the usage text where they are no request, and nothing else then
+abbrev pub IsAnswer : Option Parse → List ℕ → Option (Option (List ℕ)) → Answer → Type 0
+IsAnswer None name file answer = answer ≡ Usage
+IsAnswer (Some request) name file answer = IsAnswerTo request name file answer
+
+-- a text on standard error, or a beginning of it where that fails, and nothing on standard output
+pub record IsComplaint (text : List ℕ) (out_old out_new err_old err_new : Option (List ℕ)) : Type 0 where
+  pub kept : Keeps out_old out_new
+  pub told : AppendsBeginning err_old err_new text
+
+-- a text on standard output
+pub record IsWritten (text : List ℕ) (out_old out_new err_old err_new : Option (List ℕ)) : Type 0 where
+  pub written : Appends out_old out_new text
+  pub kept : Keeps err_old err_new
+
+-- standard output failed: a beginning of the text, and the message on standard error
+pub record IsCutOff (text : List ℕ) (out_old out_new err_old err_new : Option (List ℕ)) : Type 0 where
+  pub written : AppendsBeginning out_old out_new text
+  pub told : AppendsBeginning err_old err_new (line (codes "cannot write"))
+
+-- the status, and what went to the two streams
+abbrev pub IsTold : Answer → ℕ → Option (List ℕ) → Option (List ℕ) → Option (List ℕ) → Option (List ℕ) → Type 0
+IsTold (Output status text) result o p e f = ((result ≡ status) × IsWritten (string_bytes text) o p e f) ⊎ ((result ≡ 2) × IsCutOff (string_bytes text) o p e f)
+IsTold (Fault text) result o p e f = (result ≡ 2) × IsComplaint (string_bytes text) o p e f
+IsTold Usage result o p e f = (result ≡ 2) × IsComplaint (line (codes "usage: lrtab FILE START (parse LIMIT TOKEN.. | report | explain)")) o p e f
+IsTold TooManyActions result o p e f = (result ≡ 2) × IsComplaint (line (codes "too many actions")) o p e f
+IsTold Memory result o p e f = (result ≡ 3) × IsComplaint (line (codes "out of memory")) o p e f

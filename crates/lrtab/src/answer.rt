@@ -1,0 +1,190 @@
+//! What the program has to tell.
+ghost use Rattle.std.specs.Prelude.{◌≡◌, ◌++◌, ◌∷◌, [], IfOk, IfSome, Some, Option, map, option_map, string_bytes, codes, List, ℕ, ◌<◌, length};
+ghost use Rattle.std.specs.Fmt.{decimal};
+ghost use Rattle.lalrpop_base.specs.Coherent.{AreCoherent};
+ghost use Rattle.lalrpop_base.specs.WellFormed.{IsWellFormed};
+ghost use Rattle.lalrpop_base.specs.declared.repr.TerminalString.TheVariants.{Literal};
+ghost use Rattle.lrtab.specs.Words.{request_of, request_view};
+ghost use Rattle.lrtab.specs.Answers.{line, file_name, IsShown, IsAnswer, IsAnswerTo};
+
+use crate::grammar::read;
+use crate::read_error::ReadError;
+use crate::symbols::name_of;
+use crate::words::{Request, request_of};
+use lalrpop_base::lr1_core::state::{BuildError, Lr1State};
+use lalrpop_base::memory::OutOfMemory;
+use lalrpop_base::repr::TerminalString;
+use lalrpop_base::repr::grammar::Grammar;
+use lalrpop_base::repr::terminals::TerminalSet;
+use lalrpop_base::text::Text;
+use lalrpop_lr1::interpret::{InterpretError, interpret};
+use lalrpop_tables::build::{Method, Options};
+use lalrpop_tables::lr1::build_states;
+use std::alloc::Global;
+use std::io::{ErrorKind, Read};
+
+/// What the program has to tell.
+#[derive(Drop)]
+pub enum Answer {
+    /// A status, and a text for standard output.
+    Output(u8, String),
+    /// A text for standard error.
+    Fault(String),
+    Usage,
+    TooManyActions,
+    Memory,
+}
+
+/// What the program has to tell on its words.
+pub fn answer_of<R: Read + Drop>(
+    alloc: Global,
+    words: &[String],
+    method: Method,
+    file: Option<R>,
+) -> Answer
+    ensures { IsAnswer (request_of (map string_bytes words.now)) (file_name (map string_bytes words.now)) (option_map R.remaining file) result }
+{
+    let Some(request) = request_of(words) else {
+        return Answer::Usage;
+    };
+    match answer_to(alloc, &request, first_word(words), method, file) {
+        Ok(answer) => answer,
+        Err(_) => Answer::Memory,
+    }
+}
+
+// The first word.
+fn first_word(words: &[String]) -> &str
+    ensures { result.now ≡ file_name (map string_bytes words.now) }
+{
+    match words.first() {
+        Some(word) => word.as_str(),
+        None => "",
+    }
+}
+
+// What the program has to tell of a request.
+fn answer_to<R: Read + Drop>(
+    alloc: Global,
+    request: &Request<'_>,
+    name: &str,
+    method: Method,
+    file: Option<R>,
+) -> Result<Answer, OutOfMemory>
+    ensures { IfOk result (IsAnswerTo (request_view request.now) name.now (option_map R.remaining file)) }
+{
+    let Some(reader) = file else {
+        return Ok(Answer::Fault(cannot_read(alloc, name)?));
+    };
+    match text_of(alloc, reader)? {
+        None => Ok(Answer::Fault(cannot_read(alloc, name)?)),
+        Some(text) => answer_to_text(alloc, request, method, text.as_str()),
+    }
+}
+
+// The message of a file that can't be read.
+fn cannot_read(alloc: Global, name: &str) -> Result<String, OutOfMemory>
+    ensures { IfOk result (λ text. string_bytes text ≡ line (codes "cannot read " ++ name.now)) }
+{
+    Ok(format!(in alloc; "cannot read {name}\n")?)
+}
+
+// The message of a faulty line.
+fn faulty_line(alloc: Global, number: usize) -> Result<String, OutOfMemory>
+    ensures { IfOk result (λ text. string_bytes text ≡ line (codes "line " ++ decimal number ++ codes ": not a grammar line")) }
+{
+    Ok(format!(in alloc; "line {number}: not a grammar line\n")?)
+}
+
+// The text of a file, where it can be read and is UTF-8.
+fn text_of<R: Read + Drop>(alloc: Global, mut reader: R) -> Result<Option<String>, OutOfMemory>
+    ensures { IfOk result (λ text. IfSome text (λ t. IfSome (R.remaining reader) (λ bytes. string_bytes t ≡ bytes))) }
+{
+    let mut bytes = Vec::new(alloc);
+    if let Err(e) = reader.read_to_end(&mut bytes) {
+        if e.kind() == ErrorKind::OutOfMemory {
+            return Err(OutOfMemory);
+        }
+        return Ok(None);
+    }
+    match String::from_utf8(bytes) {
+        Ok(text) => Ok(Some(text)),
+        Err(_) => Ok(None),
+    }
+}
+
+// What the program has to tell of a request and the text of its file.
+fn answer_to_text(
+    alloc: Global,
+    request: &Request<'_>,
+    method: Method,
+    text: &str,
+) -> Result<Answer, OutOfMemory>
+    ensures { (name : List ℕ) → IfOk result (IsAnswerTo (request_view request.now) name (Some (Some text.now))) }
+{
+    match read(alloc, text) {
+        Ok(grammar) => {
+            let (status, shown) = parse(alloc, request, method, &grammar)?;
+            Ok(Answer::Output(status, shown))
+        }
+        Err(ReadError::Line(number)) => Ok(Answer::Fault(faulty_line(alloc, number)?)),
+        Err(ReadError::TooManyActions) => Ok(Answer::TooManyActions),
+        Err(ReadError::Memory) => Err(OutOfMemory),
+    }
+}
+
+// A status, and what a parse by the tables of a grammar shows.
+fn parse(
+    alloc: Global,
+    request: &Request<'_>,
+    method: Method,
+    grammar: &Grammar,
+) -> Result<(u8, String), OutOfMemory>
+    requires { IsWellFormed grammar.now }
+    ensures { IfOk result (λ o. IsShown (request_view request.now) o.0 (string_bytes o.1)) }
+{
+    let start = name_of(alloc, request.start)?;
+    let options = Options {
+        method,
+        ..Options::default()
+    };
+    match build_states(alloc, grammar, start, &options) {
+        Ok(states) => parse_by(alloc, request, &states, &grammar.terminals),
+        Err(BuildError::Conflicts(error)) => {
+            let count = error.conflicts.len();
+            Ok((1, format!(in alloc; "conflicts: {count}\n")?))
+        }
+        Err(BuildError::Memory) => Err(OutOfMemory),
+    }
+}
+
+// A status, and what a parse by states shows.
+fn parse_by<'grammar>(
+    alloc: Global,
+    request: &Request<'_>,
+    states: &[Lr1State<'grammar>],
+    terminals: &TerminalSet,
+) -> Result<(u8, String), OutOfMemory>
+    requires coherent { AreCoherent states.now }
+    requires some { 0 < length states.now }
+    ensures { IfOk result (λ o. IsShown (request_view request.now) o.0 (string_bytes o.1)) }
+{
+    let tokens = tokens_of(alloc, request.tokens)?;
+    match interpret(alloc, states, terminals, tokens, request.limit) {
+        Ok(tree) => Ok((0, format!(in alloc; "{tree}\n")?)),
+        Err(InterpretError::Refused(_, token)) => Ok((1, format!(in alloc; "refused at {token}\n")?)),
+        Err(InterpretError::Limit) => Ok((1, String::from_str(alloc, "limit\n")?)),
+        Err(InterpretError::Memory) => Err(OutOfMemory),
+    }
+}
+
+// Words as literals.
+fn tokens_of(alloc: Global, words: &[String]) -> Result<Vec<TerminalString>, OutOfMemory>
+    ensures { IfOk result (λ tokens. tokens.items ≡ map Literal (map string_bytes words.now)) }
+{
+    let mut tokens = Vec::new(alloc);
+    for word in words {
+        tokens.push(TerminalString::Literal(Text::new(alloc, word.as_str())?))?;
+    }
+    Ok(tokens)
+}

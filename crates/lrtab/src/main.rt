@@ -1,0 +1,60 @@
+//! `lrtab` reads a grammar text, and parses words with its tables.
+#![tactic(auto)]
+
+mod answer;
+mod collected;
+mod grammar;
+mod lines;
+mod output;
+mod read_error;
+#[cfg(test)]
+mod refusing;
+mod run;
+mod symbols;
+#[cfg(test)]
+mod tests;
+mod words;
+
+use lalrpop_base::memory::OutOfMemory;
+use lalrpop_tables::build::Method;
+use std::fs::File;
+use std::io::ErrorKind;
+use std::process::ExitCode;
+use std::{env, fs};
+
+fn main(rt: HostRuntime) -> ExitCode {
+    let Ok(words) = given_words(&rt) else {
+        let _ = eprintln!(rt; "out of memory");
+        return ExitCode::from(3);
+    };
+    let file: Option<File> = match words.first() {
+        Some(name) => fs::open(&rt, name.as_str()).ok(),
+        None => None,
+    };
+    ExitCode::from(run::run(
+        rt.alloc(),
+        &words,
+        Method::Lane,
+        file,
+        &mut rt.stdout(),
+        &mut rt.stderr(),
+    ))
+}
+
+/// The words after the program's name. Where one is not UTF-8 they are no request, as no words are.
+fn given_words(rt: &HostRuntime) -> Result<Vec<String>, OutOfMemory> {
+    let mut words = Vec::new(rt.alloc());
+    match env::args(rt) {
+        Ok(all) => {
+            for word in all.skip(1) {
+                words.push(word)?;
+            }
+        }
+        Err(e) => {
+            if e.kind() == ErrorKind::OutOfMemory {
+                return Err(OutOfMemory);
+            }
+        }
+    }
+    Ok(words)
+}

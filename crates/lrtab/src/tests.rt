@@ -1,0 +1,300 @@
+//! Tests that run the program.
+use crate::refusing::Refusing;
+use crate::run::run;
+use lalrpop_tables::build::Method;
+use std::alloc::{AllocError, Global};
+use std::io;
+use std::io::{ErrorKind, Read, Write};
+use std::test::Fail;
+
+const USAGE: &str = "usage: lrtab FILE START (parse LIMIT TOKEN.. | report | explain)\n";
+
+const SUMS: &str = "S = E\nE = E \"-\" T\nE = T\nT = \"N\"\nT = \"(\" E \")\"\n";
+
+/// What a writer does once it has taken some bytes.
+#[derive(Clone, Copy, Debug, PartialEq, Eq)]
+enum Then {
+    Fails,
+    TakesNothing,
+    IsInterrupted,
+}
+
+/// A writer that takes a byte a call, and so many bytes in all.
+#[derive(Drop)]
+struct Closing {
+    left: usize,
+    taken: usize,
+    then: Then,
+}
+
+impl Write for Closing {
+    fn write(&mut self, buf: &[u8]) -> io::Result<usize> {
+        if self.left == 0 {
+            return match self.then {
+                Then::Fails => Err(io::Error::from(ErrorKind::BrokenPipe)),
+                Then::TakesNothing => Ok(0),
+                Then::IsInterrupted => Err(io::Error::from(ErrorKind::Interrupted)),
+            };
+        }
+        let n = buf.len().min(1);
+        self.left = self.left.saturating_sub(n);
+        self.taken = self.taken.saturating_add(n);
+        Ok(n)
+    }
+
+    fn flush(&mut self) -> io::Result<()> {
+        Ok(())
+    }
+}
+
+/// A reader that fails at once.
+#[derive(Drop)]
+struct Broken;
+
+impl Read for Broken {
+    fn read(&mut self, _buf: &mut [u8]) -> io::Result<usize> {
+        Err(io::Error::from(ErrorKind::Other))
+    }
+}
+
+/// Words of the command line, parted by spaces.
+fn words_of(alloc: Global, line: &str) -> Result<Vec<String>, AllocError> {
+    let mut words = Vec::new(alloc);
+    for word in line.split_whitespace() {
+        words.push(word.to_string(alloc)?)?;
+    }
+    Ok(words)
+}
+
+/// What a run of the program on a file writes and answers.
+fn ran(
+    alloc: Global,
+    file: Option<&[u8]>,
+    line: &str,
+) -> Result<(Vec<u8>, Vec<u8>, u8), AllocError> {
+    let words = words_of(alloc, line)?;
+    let mut out = Vec::new(alloc);
+    let mut err = Vec::new(alloc);
+    let status = run(alloc, &words, Method::Lane, file, &mut out, &mut err);
+    Ok((out, err, status))
+}
+
+#[test]
+fn answers(rt: HostRuntime) -> Result<(), Fail> {
+    let alloc = rt.alloc();
+    let x = "S = \"x\"";
+    for (text, words, out, status) in [
+        (x, "f S parse 2 x", "[S: \"x\"]\n", 0),
+        (x, "f S parse 1 x", "limit\n", 1),
+        (x, "f S parse 0 x", "limit\n", 1),
+        (x, "f S parse 9 y", "refused at \"y\"\n", 1),
+        (x, "f S parse 9", "refused at Eof\n", 1),
+        (x, "f S parse 9 -x", "refused at \"-x\"\n", 1),
+        (x, "f S parse 00002 x", "[S: \"x\"]\n", 0),
+        (x, "f S parse 18446744073709551615 x", "[S: \"x\"]\n", 0),
+        (x, "f X parse 0", "refused at Eof\n", 1),
+        ("S = \"x\"\nS = \"x\"", "f S parse 2 x", "conflicts: 1\n", 1),
+        ("S =", "f S parse 1", "[S: ]\n", 0),
+        ("S =", "f S parse 0", "limit\n", 1),
+        ("", "f S parse 0", "refused at Eof\n", 1),
+        ("\r\n\tS\t= \"x\" \r\n", "f S parse 2 x", "[S: \"x\"]\n", 0),
+        ("S = \"x\"\r", "f S parse 2 x", "[S: \"x\"]\n", 0),
+        ("S = A \"x\"", "f S parse 9 x", "refused at \"x\"\n", 1),
+        ("inline = \"x\"", "f inline parse 2 x", "[inline: \"x\"]\n", 0),
+        (SUMS, "f S parse 9 N - N", "[S: [E: [E: [T: \"N\"]], \"-\", [T: \"N\"]]]\n", 0),
+        (SUMS, "f S parse 8 N - N", "[S: [E: [E: [T: \"N\"]], \"-\", [T: \"N\"]]]\n", 0),
+        (SUMS, "f S parse 7 N - N", "limit\n", 1),
+        (SUMS, "f S parse 9 N )", "refused at \")\"\n", 1),
+        (SUMS, "f S parse 9 N -", "refused at Eof\n", 1),
+        (SUMS, "f S parse 9 ?", "refused at \"?\"\n", 1),
+    ] {
+        let (wrote, said, got) = ran(alloc, Some(text.as_bytes()), words)?;
+        assert_eq!(rt; wrote.as_slice(), out.as_bytes(), "{words} of {text}");
+        assert_eq!(rt; said.len(), 0, "{words} of {text}");
+        assert_eq!(rt; got, status, "{words} of {text}");
+    }
+    Ok(())
+}
+
+#[test]
+fn faults(rt: HostRuntime) -> Result<(), Fail> {
+    let alloc = rt.alloc();
+    for (text, err) in [
+        ("S \"x\"", "line 1: not a grammar line\n"),
+        ("\r\nS = x\"\n", "line 2: not a grammar line\n"),
+        ("S = \"x\"\n\n5 = \"x\"", "line 3: not a grammar line\n"),
+        ("S=\"x\"", "line 1: not a grammar line\n"),
+        ("S = \"\"", "line 1: not a grammar line\n"),
+        ("S = \"a\"b\"", "line 1: not a grammar line\n"),
+        ("S = \"a b\"", "line 1: not a grammar line\n"),
+        ("S = \"x\"\r\r\n", "line 1: not a grammar line\n"),
+        ("S = A\ninline S", "line 2: not a grammar line\n"),
+        ("\u{feff}S = \"x\"", "line 1: not a grammar line\n"),
+        ("S = \u{e9}", "line 1: not a grammar line\n"),
+    ] {
+        let (wrote, said, got) = ran(alloc, Some(text.as_bytes()), "f S parse 2 x")?;
+        assert_eq!(rt; wrote.len(), 0, "{text}");
+        assert_eq!(rt; said.as_slice(), err.as_bytes(), "{text}");
+        assert_eq!(rt; got, 2, "{text}");
+    }
+    Ok(())
+}
+
+#[test]
+fn other_words(rt: HostRuntime) -> Result<(), Fail> {
+    let alloc = rt.alloc();
+    for words in [
+        "",
+        "f",
+        "f S",
+        "f S parse",
+        "f S report",
+        "f S report 2",
+        "f S explain",
+        "f S Parse 2 x",
+        "f S parse +2 x",
+        "f S parse -2 x",
+        "f S parse 2x x",
+        "f S parse 0x2 x",
+        "f S parse 18446744073709551616 x",
+        "f 5 parse 2 x",
+        "f S-T parse 2 x",
+        "f \"S\" parse 2 x",
+    ] {
+        let (wrote, said, got) = ran(alloc, None, words)?;
+        assert_eq!(rt; wrote.len(), 0, "{words}");
+        assert_eq!(rt; said.as_slice(), USAGE.as_bytes(), "{words}");
+        assert_eq!(rt; got, 2, "{words}");
+    }
+    Ok(())
+}
+
+#[test]
+fn files_that_cannot_be_read(rt: HostRuntime) -> Result<(), Fail> {
+    let alloc = rt.alloc();
+    let no_text: &[u8] = &[83, 32, 61, 32, 34, 255, 34];
+    for file in [None, Some(no_text)] {
+        let (wrote, said, got) = ran(alloc, file, "a/f S parse 2 x")?;
+        assert_eq!(rt; wrote.len(), 0);
+        assert_eq!(rt; said.as_slice(), b"cannot read a/f\n".as_slice());
+        assert_eq!(rt; got, 2);
+    }
+    let words = words_of(alloc, "a/f S parse 2 x")?;
+    let mut out = Vec::new(alloc);
+    let mut err = Vec::new(alloc);
+    let status = run(alloc, &words, Method::Lane, Some(Broken), &mut out, &mut err);
+    assert_eq!(rt; status, 2);
+    assert_eq!(rt; out.len(), 0);
+    assert_eq!(rt; err.as_slice(), b"cannot read a/f\n".as_slice());
+    Ok(())
+}
+
+#[test]
+fn each_character_of_a_literal(rt: HostRuntime) -> Result<(), Fail> {
+    let alloc = rt.alloc();
+    let mut literal = String::new(alloc);
+    for c in '\u{1}'..'\u{800}' {
+        if c != '\n' && c != '\t' && c != ' ' && c != '"' {
+            literal.push(c)?;
+        }
+    }
+    let text = format!(in alloc; "S = \"{literal}\"")?;
+    let mut words = words_of(alloc, "f S parse 2")?;
+    words.push(literal.as_str().to_string(alloc)?)?;
+    let mut out = Vec::new(alloc);
+    let mut err = Vec::new(alloc);
+    let file = Some(text.as_bytes());
+    let status = run(alloc, &words, Method::Lane, file, &mut out, &mut err);
+    let shown = format!(in alloc; "[S: \"{literal}\"]\n")?;
+    assert_eq!(rt; out.as_slice(), shown.as_bytes());
+    assert_eq!(rt; status, 0);
+    Ok(())
+}
+
+#[test]
+fn ten_thousand_productions(rt: HostRuntime) -> Result<(), Fail> {
+    let alloc = rt.alloc();
+    let mut one = String::new(alloc);
+    let mut many = String::new(alloc);
+    for n in 0..10000 {
+        one.push_str(format!(in alloc; "S = \"x{n}\"\n")?.as_str())?;
+        many.push_str(format!(in alloc; "A{n} = \"x{n}\"\n")?.as_str())?;
+    }
+    let (wrote, _said, status) = ran(alloc, Some(one.as_bytes()), "f S parse 2 x9999")?;
+    assert_eq!(rt; wrote.as_slice(), b"[S: \"x9999\"]\n".as_slice());
+    assert_eq!(rt; status, 0);
+    let (wrote, _said, status) = ran(alloc, Some(many.as_bytes()), "f A9999 parse 2 x9999")?;
+    assert_eq!(rt; wrote.as_slice(), b"[A9999: \"x9999\"]\n".as_slice());
+    assert_eq!(rt; status, 0);
+    Ok(())
+}
+
+#[test]
+fn closed_output(rt: HostRuntime) -> Result<(), Fail> {
+    let alloc = rt.alloc();
+    let words = words_of(alloc, "f S parse 2 x")?;
+    for then in [Then::Fails, Then::TakesNothing, Then::IsInterrupted] {
+        for left in 0..10 {
+            let mut err = Vec::new(alloc);
+            let mut out = Closing { left, taken: 0, then };
+            let file = Some("S = \"x\"".as_bytes());
+            let status = run(alloc, &words, Method::Lane, file, &mut out, &mut err);
+            assert_eq!(rt; out.taken, left.min(9), "{then:?} after {left}");
+            if left < 9 {
+                assert_eq!(rt; status, 2, "{then:?} after {left}");
+                assert_eq!(rt; err.as_slice(), b"cannot write\n".as_slice(), "{then:?} after {left}");
+            } else {
+                assert_eq!(rt; status, 0, "{then:?} after {left}");
+                assert_eq!(rt; err.len(), 0, "{then:?} after {left}");
+            }
+        }
+    }
+    Ok(())
+}
+
+#[test]
+fn closed_error_output(rt: HostRuntime) -> Result<(), Fail> {
+    let alloc = rt.alloc();
+    let words = words_of(alloc, "f S parse")?;
+    let mut out = Vec::new(alloc);
+    let mut err = Closing {
+        left: 3,
+        taken: 0,
+        then: Then::Fails,
+    };
+    let file = Some("S = \"x\"".as_bytes());
+    let status = run(alloc, &words, Method::Lane, file, &mut out, &mut err);
+    assert_eq!(rt; status, 2);
+    assert_eq!(rt; out.len(), 0);
+    assert_eq!(rt; err.taken, 3);
+    Ok(())
+}
+
+#[test]
+fn each_growth_refused(rt: HostRuntime) -> Result<(), Fail> {
+    let alloc = rt.alloc();
+    let words = words_of(alloc, "f S parse 3 x y")?;
+    let text = "S = \"x\" \"y\"\n\tB = S A\r\n";
+    let mut out: Vec<u8> = Vec::with_capacity(alloc, 400)?;
+    let mut err: Vec<u8> = Vec::with_capacity(alloc, 400)?;
+    let mut refusing = Refusing::new(alloc)?;
+    let mut refused = 0usize;
+    for turn in 0usize..4000 {
+        out.clear();
+        err.clear();
+        let file = Some(text.as_bytes());
+        let armed = refusing.arm(alloc, turn)?;
+        let status = run(alloc, &words, Method::Lane, file, &mut out, &mut err);
+        refusing.disarm(alloc, armed);
+        if status == 0 {
+            assert_eq!(rt; out.as_slice(), b"[S: \"x\", \"y\"]\n".as_slice());
+            break;
+        }
+        assert_eq!(rt; status, 3);
+        assert_eq!(rt; out.len(), 0);
+        assert_eq!(rt; err.as_slice(), b"out of memory\n".as_slice());
+        refused = refused.saturating_add(1);
+    }
+    assert!(rt; refused > 0, "no growth was refused");
+    Ok(())
+}
