@@ -81,7 +81,7 @@ terminals_in-more p ps q =
 pub collected_more : (ls : List PlacedLine) (old new : Collected) (a name : NonterminalString) (symbols : List Symbol) (action : ActionFn) (span : Span) → IsCollected ls old
     → action.0 ≡ length old.action_fn_defns.items → name ≡ a
     → ((b : NonterminalString) → option_map entry_view (get name_cmp new.nonterminals b)
-        ≡ cond (bytes_eq name.text b.text) (with_production (option_map entry_view (get name_cmp old.nonterminals name)) (production_with a symbols action span)) (option_map entry_view (get name_cmp old.nonterminals b)))
+    ≡ cond (bytes_eq name.text b.text) (with_production (option_map entry_view (get name_cmp old.nonterminals name)) (production_with a symbols action span)) (option_map entry_view (get name_cmp old.nonterminals b)))
     → IsOrdered name_cmp new.nonterminals
     → ((t : TerminalString) → contains terminal_cmp new.terminals t ≡ (contains terminal_cmp old.terminals t || list_any (λ x. is_same x t) (terminals_of symbols)))
     → new.action_fn_defns.items ≡ old.action_fn_defns.items ++ user_action ∷ []
@@ -94,18 +94,18 @@ collected_more ls old new a name symbols action span was number same entries ord
     let more : productions_in (ls ++ l ∷ []) ≡ productions_in ls ++ p ∷ [] = productions_in-more ls l ∙ ap (λ n. productions_in ls ++ production_with a symbols (make n) span ∷ []) (sym counted) in
     record {
       entries = λ b.
-        entries b
-        ∙ ap (λ x. cond (bytes_eq x.text b.text) (with_production (option_map entry_view (get name_cmp old.nonterminals x)) p) (option_map entry_view (get name_cmp old.nonterminals b))) same
-        ∙ ap (λ e. cond (bytes_eq a.text b.text) (with_production e p) (option_map entry_view (get name_cmp old.nonterminals b))) (was.entries a)
-        ∙ ap (λ e. cond (bytes_eq a.text b.text) (with_production (entry_of a ls) p) e) (was.entries b)
-        ∙ named_once (bytes_eq a.text b.text) b a ls p (name_exact a b)
-        ∙ sym (entry_of-more b a ls l p more refl refl);
+          entries b
+          ∙ ap (λ x. cond (bytes_eq x.text b.text) (with_production (option_map entry_view (get name_cmp old.nonterminals x)) p) (option_map entry_view (get name_cmp old.nonterminals b))) same
+          ∙ ap (λ e. cond (bytes_eq a.text b.text) (with_production e p) (option_map entry_view (get name_cmp old.nonterminals b))) (was.entries a)
+          ∙ ap (λ e. cond (bytes_eq a.text b.text) (with_production (entry_of a ls) p) e) (was.entries b)
+          ∙ named_once (bytes_eq a.text b.text) b a ls p (name_exact a b)
+          ∙ sym (entry_of-more b a ls l p more refl refl);
       ordered = ordered;
       terminals = λ t.
-        terminals t
-        ∙ ap (λ x. x || list_any (λ x. is_same x t) (terminals_of symbols)) (was.terminals t)
-        ∙ sym (terminals_in-more (λ x. is_same x t) (productions_in ls) p)
-        ∙ ap (λ ps. list_any (λ x. is_same x t) (terminals_in ps)) (sym more);
+          terminals t
+          ∙ ap (λ x. x || list_any (λ x. is_same x t) (terminals_of symbols)) (was.terminals t)
+          ∙ sym (terminals_in-more (λ x. is_same x t) (productions_in ls) p)
+          ∙ ap (λ ps. list_any (λ x. is_same x t) (terminals_in ps)) (sym more);
       actions = actions ∙ ap (λ ds. ds ++ user_action ∷ []) was.actions ∙ sym (map-append (λ _. user_action) (productions_in ls) (p ∷ [])) ∙ ap (λ ps. map (λ _. user_action) ps) (sym more);
     }
 

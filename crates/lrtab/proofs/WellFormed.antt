@@ -208,8 +208,8 @@ pub terminals_found : (ls : List PlacedLine) (s : BTreeSet TerminalString) → s
 terminals_found ls s ordered has = record {
   ascending = ordered;
   found = λ t.
-    let iff = btree_set_contains_iff terminal_order.total-law exact_terminals s t in
-    (λ c. any_to t (terminals_in (productions_in ls)) (sym (has t) ∙ iff.1 c), λ c. iff.0 (has t ∙ any_from t (terminals_in (productions_in ls)) c));
+      let iff = btree_set_contains_iff terminal_order.total-law exact_terminals s t in
+      (λ c. any_to t (terminals_in (productions_in ls)) (sym (has t) ∙ iff.1 c), λ c. iff.0 (has t ∙ any_from t (terminals_in (productions_in ls)) c));
 }
 
 -- the parts that were collected make the grammar

@@ -172,7 +172,10 @@ fn parse_by<'grammar>(
     let tokens = tokens_of(alloc, request.tokens)?;
     match interpret(alloc, states, terminals, tokens, request.limit) {
         Ok(tree) => Ok((0, format!(in alloc; "{tree}\n")?)),
-        Err(InterpretError::Refused(_, token)) => Ok((1, format!(in alloc; "refused at {token}\n")?)),
+        Err(InterpretError::Refused(_, token)) => Ok((
+            1,
+            format!(in alloc; "refused at {token}\n")?,
+        )),
         Err(InterpretError::Limit) => Ok((1, String::from_str(alloc, "limit\n")?)),
         Err(InterpretError::Memory) => Err(OutOfMemory),
     }

@@ -100,9 +100,24 @@ fn answers(rt: HostRuntime) -> Result<(), Fail> {
         ("\r\n\tS\t= \"x\" \r\n", "f S parse 2 x", "[S: \"x\"]\n", 0),
         ("S = \"x\"\r", "f S parse 2 x", "[S: \"x\"]\n", 0),
         ("S = A \"x\"", "f S parse 9 x", "refused at \"x\"\n", 1),
-        ("inline = \"x\"", "f inline parse 2 x", "[inline: \"x\"]\n", 0),
-        (SUMS, "f S parse 9 N - N", "[S: [E: [E: [T: \"N\"]], \"-\", [T: \"N\"]]]\n", 0),
-        (SUMS, "f S parse 8 N - N", "[S: [E: [E: [T: \"N\"]], \"-\", [T: \"N\"]]]\n", 0),
+        (
+            "inline = \"x\"",
+            "f inline parse 2 x",
+            "[inline: \"x\"]\n",
+            0,
+        ),
+        (
+            SUMS,
+            "f S parse 9 N - N",
+            "[S: [E: [E: [T: \"N\"]], \"-\", [T: \"N\"]]]\n",
+            0,
+        ),
+        (
+            SUMS,
+            "f S parse 8 N - N",
+            "[S: [E: [E: [T: \"N\"]], \"-\", [T: \"N\"]]]\n",
+            0,
+        ),
         (SUMS, "f S parse 7 N - N", "limit\n", 1),
         (SUMS, "f S parse 9 N )", "refused at \")\"\n", 1),
         (SUMS, "f S parse 9 N -", "refused at Eof\n", 1),
@@ -182,7 +197,14 @@ fn files_that_cannot_be_read(rt: HostRuntime) -> Result<(), Fail> {
     let words = words_of(alloc, "a/f S parse 2 x")?;
     let mut out = Vec::new(alloc);
     let mut err = Vec::new(alloc);
-    let status = run(alloc, &words, Method::Lane, Some(Broken), &mut out, &mut err);
+    let status = run(
+        alloc,
+        &words,
+        Method::Lane,
+        Some(Broken),
+        &mut out,
+        &mut err,
+    );
     assert_eq!(rt; status, 2);
     assert_eq!(rt; out.len(), 0);
     assert_eq!(rt; err.as_slice(), b"cannot read a/f\n".as_slice());
@@ -236,13 +258,21 @@ fn closed_output(rt: HostRuntime) -> Result<(), Fail> {
     for then in [Then::Fails, Then::TakesNothing, Then::IsInterrupted] {
         for left in 0..10 {
             let mut err = Vec::new(alloc);
-            let mut out = Closing { left, taken: 0, then };
+            let mut out = Closing {
+                left,
+                taken: 0,
+                then,
+            };
             let file = Some("S = \"x\"".as_bytes());
             let status = run(alloc, &words, Method::Lane, file, &mut out, &mut err);
             assert_eq!(rt; out.taken, left.min(9), "{then:?} after {left}");
             if left < 9 {
                 assert_eq!(rt; status, 2, "{then:?} after {left}");
-                assert_eq!(rt; err.as_slice(), b"cannot write\n".as_slice(), "{then:?} after {left}");
+                assert_eq!(rt;
+                    err.as_slice(),
+                    b"cannot write\n".as_slice(),
+                    "{then:?} after {left}"
+                );
             } else {
                 assert_eq!(rt; status, 0, "{then:?} after {left}");
                 assert_eq!(rt; err.len(), 0, "{then:?} after {left}");
