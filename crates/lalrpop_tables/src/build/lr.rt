@@ -28,12 +28,13 @@ impl<'grammar> Model for Lr<'grammar> {
     ghost use Rattle.std.specs.Coded.{coded_ℕ, codes};
     ghost use base.Stored.{coded_unit};
     ghost use Rattle.std.specs.FinMap as finite;
+    ghost use Rattle.std.specs.Ordering.{nat_cmp};
     ghost use Rattle.lalrpop_base.specs.WellFormed.{rules_of, productions_of};
     ghost use Rattle.lalrpop_tables.specs.Results.{Construction};
 
     ghost Value = { Construction };
 
-    ghost coded = { Prim.hlevel (codes, finite.code coded_ℕ coded_unit) };
+    ghost coded = { Prim.hlevel (codes, finite.code {R = nat_cmp} coded_ℕ coded_unit) };
 
     ghost view = { λ l. record { rules = rules_of l.grammar.now; first = productions_of l.grammar.now l.start; lookahead = l.lookahead } };
 
