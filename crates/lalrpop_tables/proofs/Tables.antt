@@ -1,24 +1,30 @@
 -- The tables of a closure, and one dotted production more.
 use Rattle.std.proofs.Common.{◌≡◌, ◌≢◌, ℕ, zero, suc, ◌+◌, ◌-◌, ◌*◌, ◌<◌, ◌≤◌, ◌⊎◌, inl, inr, List, [], ◌∷◌, ◌++◌, length, map, refl, sym, ◌∙◌, ap, subst, arith, ⊎_elim, length-append, Bool, true, false, cond, Option, Some, None}
-use Rattle.std.specs.Prelude.{Contains, slice_get, sum_by, MatchBool}
+use Rattle.std.specs.Prelude.{Contains, slice_get, sum_by, MatchBool, MatchOption, drop}
 use Rattle.std.specs.Map.{keys_of, lookup}
 use Rattle.std.proofs.lemmas.Map.Entries.{place_from_lookup}
 use Rattle.std.proofs.lemmas.List.Elements.{Contains-append_left, Contains-append_right, Contains-append_cases}
 use Rattle.std.proofs.lemmas.List.Sums.{sum_by-append, sum_by-cons, sum_by-le}
 use Rattle.std.proofs.lemmas.Option.{slice_get-map}
-use Rattle.std.proofs.lemmas.List.{length-map}
+use Rattle.std.proofs.lemmas.List.{length-map, map-append}
 use Rattle.std.proofs.lemmas.Nat.{mul-le}
 use Rattle.lalrpop_base.specs.Bits.{Bits, has, join}
 use Rattle.lalrpop_base.specs.Items.{Dotted}
 use Rattle.lalrpop_base.specs.Places.{AllDiffer}
-use Rattle.lalrpop_base.specs.WellFormed.{Rules}
+use Rattle.lalrpop_base.specs.WellFormed.{Rules, rules_of, productions, productions_of}
+use Rattle.lalrpop_base.specs.Closures.{InClosure}
+use Rattle.lalrpop_base.specs.Closures.InClosure.{in_kernel, expanded}
+use Rattle.lalrpop_base.specs.declared.repr.grammar.Grammar.{Grammar}
+use Rattle.lalrpop_base.specs.declared.repr.NonterminalString.{NonterminalString}
+use Rattle.lalrpop_base.specs.declared.repr.Symbol.{Symbol}
+use Rattle.lalrpop_base.specs.declared.repr.Symbol.TheVariants.{Nonterminal}
 use Rattle.lalrpop_base.specs.Tokens.{FitsTokens}
 use Rattle.lalrpop_base.specs.declared.lookahead.nil.Nil.{Nil}
 use Rattle.lalrpop_base.specs.declared.repr.Production.{Production}
 use Rattle.lalrpop_tables.specs.Counts.{count}
 use Rattle.lalrpop_tables.specs.Entries.{IsJoinedAt}
 use Rattle.lalrpop_tables.specs.Entries.IsJoinedAt.{fresh, known}
-use Rattle.lalrpop_tables.specs.Closure.{dotted_of, IsItemOf, AreItems, IsClosureOf, Found, item_of, IsStacked, IsTable, weight, Spreads}
+use Rattle.lalrpop_tables.specs.Closure.{dotted_of, InKernel, IsItemOf, AreItems, IsClosureOf, Found, item_of, IsStacked, IsTable, weight, AreBegun, begun_of, Spreads, IsSettled, AreDone, IsExpanded, IsClosing}
 use Rattle.lalrpop_tables.proofs.Lists.{Contains-none, Contains-here, Contains-there, Contains-cases, Contains-map, pigeonhole}
 use Rattle.lalrpop_tables.proofs.Places.{midst, around, at_midst, apart_from_differ, same_some, contains_at}
 use Rattle.lalrpop_tables.proofs.Subsets.{AreBelow, count_few, join_counts, join_below}
@@ -67,16 +73,57 @@ same_lr0 a b p i =
 pub found_tokens : (test : Dotted Nil → Bool) (table : Found) (s : Bits) → lookup test table ≡ Some s → (k : Dotted Nil) × Contains table (k, s)
 found_tokens test table s h = let at = place_from_lookup test table s h in (at.1, contains_at table (at.1, s) at.0 at.2)
 
+-- ---- the keys of a table, one dotted production more
+keys_midst : (front back : Found) (e : Entry) → keys_of (front ++ e ∷ back) ≡ keys_of front ++ e.0 ∷ keys_of back
+keys_midst front back e = map-append (λ (x : Entry). x.0) front (e ∷ back)
+
+keys_around : (front back : Found) → keys_of (front ++ back) ≡ keys_of front ++ keys_of back
+keys_around front back = map-append (λ (x : Entry). x.0) front back
+
+joined_keys : (key : Dotted Nil) (tokens : Bits) (told : Bool) (old new : Found) → IsJoinedAt key tokens told old new → (k : Dotted Nil) → Contains (keys_of old) k → Contains (keys_of new) k
+joined_keys key tokens told old new (fresh front back before after t) k c =
+    subst (λ (ks : List (Dotted Nil)). Contains ks k) (sym (ap keys_of after ∙ keys_midst front back (key, tokens))) (around (keys_of front) (keys_of back) key k (subst (λ (ks : List (Dotted Nil)). Contains ks k) (ap keys_of before ∙ keys_around front back) c))
+joined_keys key tokens told old new (known front back s before after t) k c =
+    subst (λ (ks : List (Dotted Nil)). Contains ks k) (ap keys_of before ∙ keys_midst front back (key, s) ∙ sym (ap keys_of after ∙ keys_midst front back (key, join s tokens))) c
+
+joined_from : (key : Dotted Nil) (tokens : Bits) (told : Bool) (old new : Found) → IsJoinedAt key tokens told old new → (k : Dotted Nil) → Contains (keys_of new) k → Contains (keys_of old) k ⊎ ((told ≡ true) × (key ≡ k))
+joined_from key tokens told old new (fresh front back before after t) k c = elim (midst (keys_of front) (keys_of back) key k (subst (λ (ks : List (Dotted Nil)). Contains ks k) (ap keys_of after ∙ keys_midst front back (key, tokens)) c)) [
+  | inl e ↦ inr (t, e)
+  | inr d ↦ inl (subst (λ (ks : List (Dotted Nil)). Contains ks k) (sym (ap keys_of before ∙ keys_around front back)) d)
+]
+joined_from key tokens told old new (known front back s before after t) k c =
+    inl (subst (λ (ks : List (Dotted Nil)). Contains ks k) (ap keys_of after ∙ keys_midst front back (key, join s tokens) ∙ sym (ap keys_of before ∙ keys_midst front back (key, s))) c)
+
+joined_there : (key : Dotted Nil) (tokens : Bits) (told : Bool) (old new : Found) → IsJoinedAt key tokens told old new → Contains (keys_of new) key
+joined_there key tokens told old new (fresh front back before after t) = subst (λ (ks : List (Dotted Nil)). Contains ks key) (sym (ap keys_of after ∙ keys_midst front back (key, tokens))) (at_midst (keys_of front) (keys_of back) key)
+joined_there key tokens told old new (known front back s before after t) = subst (λ (ks : List (Dotted Nil)). Contains ks key) (sym (ap keys_of after ∙ keys_midst front back (key, join s tokens))) (at_midst (keys_of front) (keys_of back) key)
+
+stacked_more : (told : Bool) (key : Dotted Nil) (stack pushed : List (Dotted Nil)) → pushed ≡ cond told (stack ++ key ∷ []) stack → (k : Dotted Nil) → Contains stack k → Contains pushed k
+stacked_more true key stack pushed e k c = subst (λ (ks : List (Dotted Nil)). Contains ks k) (sym e) (Contains-append_left stack (key ∷ []) k c)
+stacked_more false key stack pushed e k c = subst (λ (ks : List (Dotted Nil)). Contains ks k) (sym e) c
+
+stacked_last : (told : Bool) (key : Dotted Nil) (stack pushed : List (Dotted Nil)) → pushed ≡ cond told (stack ++ key ∷ []) stack → told ≡ true → Contains pushed key
+stacked_last true key stack pushed e t = subst (λ (ks : List (Dotted Nil)). Contains ks key) (sym e) (Contains-append_right stack (key ∷ []) key (Contains-here key []))
+stacked_last false key stack pushed e t = cc
+
+stacked_of : (told : Bool) (key : Dotted Nil) (stack pushed : List (Dotted Nil)) → pushed ≡ cond told (stack ++ key ∷ []) stack → (k : Dotted Nil) → Contains pushed k → Contains stack k ⊎ (key ≡ k)
+stacked_of true key stack pushed e k c = elim (Contains-append_cases stack (key ∷ []) k (subst (λ (ks : List (Dotted Nil)). Contains ks k) e c)) [
+  | inl d ↦ inl d
+  | inr d ↦ elim (Contains-cases key [] k d) [ inl same ↦ inr same | inr n ↦ absurd (Contains-none k n) ]
+]
+stacked_of false key stack pushed e k c = inl (subst (λ (ks : List (Dotted Nil)). Contains ks k) e c)
+
 module _ (g : Rules) where
   -- ---- what is found stays of the grammar
   pub Stacked-table : (kernel : List (Dotted Bits)) (key : Dotted Nil) (tokens : Bits) (old new : Found) (stack pushed : List (Dotted Nil)) → IsStacked key tokens old new stack pushed →
-      IsItemOf g (item_of (key, tokens)) → ((key.index ≡ 0) ⊎ Contains (map dotted_of kernel) (dotted_of key)) → IsTable g kernel old stack → IsTable g kernel new pushed
-  Stacked-table kernel key tokens old new stack pushed s i b t =
-      let P : Dotted Nil → Type 0 = λ k. Contains g.productions k.production × (k.index ≤ length k.production.symbols) × ((k.index ≡ 0) ⊎ Contains (map dotted_of kernel) (dotted_of k)) in
-      let each = joined_each P (FitsTokens g.terminals) key tokens (i.production, i.dot, b) i.tokens (join_fits g) s.told old new s.joined (λ e c. let h = t.each e c in ((h.production, h.dot, t.begun e c), h.tokens)) in
+      IsItemOf g (item_of (key, tokens)) → ((key.index ≡ 0) ⊎ Contains (map dotted_of kernel) (dotted_of key)) → InClosure g.productions (InKernel kernel) key.production key.index → IsTable g kernel old stack → IsTable g kernel new pushed
+  Stacked-table kernel key tokens old new stack pushed s i b n t =
+      let P : Dotted Nil → Type 0 = λ k. Contains g.productions k.production × (k.index ≤ length k.production.symbols) × ((k.index ≡ 0) ⊎ Contains (map dotted_of kernel) (dotted_of k)) × InClosure g.productions (InKernel kernel) k.production k.index in
+      let each = joined_each P (FitsTokens g.terminals) key tokens (i.production, i.dot, b, n) i.tokens (join_fits g) s.told old new s.joined (λ e c. let h = t.each e c in ((h.production, h.dot, t.begun e c, t.sound e c), h.tokens)) in
       record {
         each = λ e c. let h = each e c in record { production = h.0.0; dot = h.0.1; tokens = h.1 };
         begun = λ e c. (each e c).0.2;
+        sound = λ e c. (each e c).0.3;
         differ = s.differ;
         stacked = stacked_each (λ k. Contains g.productions k.production) s.told key stack pushed s.grown i.production t.stacked;
       }
@@ -125,30 +172,59 @@ module _ (g : Rules) where
       let n = pushed_length s.told key stack pushed s.grown in
       omega arith
 
-  pub Spreads-none : (table : Found) (stack : List (Dotted Nil)) → Spreads g table table stack stack
-  Spreads-none table stack = record { kept = λ kernel t. t; counted = λ kernel t. omega arith }
+  pub Spreads-none : (tokens : Bits) (table : Found) (stack : List (Dotted Nil)) → Spreads g tokens [] table table stack stack
+  Spreads-none tokens table stack = record {
+    kept = λ kernel f b t. t;
+    counted = λ kernel f b t. omega arith;
+    known = λ k c. c;
+    from = λ k c. inl c;
+    stacked = λ k c. c;
+    pushed_found = λ k c. inl c;
+    there = λ p c. absurd (Contains-none p c);
+  }
 
-  pub Spreads-then : (a b c : Found) (s t u : List (Dotted Nil)) → Spreads g a b s t → Spreads g b c t u → Spreads g a c s u
-  Spreads-then a b c s t u x y = record {
-    kept = λ kernel h. y.kept kernel (x.kept kernel h);
-    counted = λ kernel h. let l = x.counted kernel h in let m = y.counted kernel (x.kept kernel h) in omega arith;
+  pub Spreads-then : (tokens : Bits) (ps qs : List Production) (a b c : Found) (s t u : List (Dotted Nil)) → Spreads g tokens ps a b s t → Spreads g tokens qs b c t u → Spreads g tokens (ps ++ qs) a c s u
+  Spreads-then tokens ps qs a b c s t u x y = record {
+    kept = λ kernel f begun h. y.kept kernel f (λ p d. begun p (Contains-append_right ps qs p d)) (x.kept kernel f (λ p d. begun p (Contains-append_left ps qs p d)) h);
+    counted = λ kernel f begun h.
+        let first = λ (p : Production) (d : Contains ps p). begun p (Contains-append_left ps qs p d) in
+        let l = x.counted kernel f first h in
+        let m = y.counted kernel f (λ p d. begun p (Contains-append_right ps qs p d)) (x.kept kernel f first h) in
+        omega arith;
+    known = λ k d. y.known k (x.known k d);
+    from = λ k d. elim (y.from k d) [ inl e ↦ elim (x.from k e) [ inl f ↦ inl f | inr f ↦ inr (y.stacked k f) ] | inr e ↦ inr e ];
+    stacked = λ k d. y.stacked k (x.stacked k d);
+    pushed_found = λ k d. elim (y.pushed_found k d) [ inl e ↦ elim (x.pushed_found k e) [ inl f ↦ inl f | inr f ↦ inr (y.known k f) ] | inr e ↦ inr e ];
+    there = λ p d. elim (Contains-append_cases ps qs p d) [ inl e ↦ y.known (begun_of p) (x.there p e) | inr e ↦ y.there p e ];
   }
 
   pub Spreads-one : (production : Production) (key : Dotted Nil) (tokens : Bits) (old new : Found) (stack pushed : List (Dotted Nil)) → IsStacked key tokens old new stack pushed →
-      key.production ≡ production → Contains g.productions production → key.index ≡ 0 → FitsTokens g.terminals tokens → Spreads g old new stack pushed
-  Spreads-one production key tokens old new stack pushed s e c z f =
-      let i : IsItemOf g (item_of (key, tokens)) = record { production = subst (Contains g.productions) (sym e) c; dot = omega arith; tokens = f } in
+      key.production ≡ production → Contains g.productions production → key.index ≡ 0 → Spreads g tokens (production ∷ []) old new stack pushed
+  Spreads-one production key tokens old new stack pushed s e c z =
+      let found = subst (Contains g.productions) (sym e) c in
+      let is : begun_of production ≡ key = same_lr0 (begun_of production) key (sym e) (sym z) in
       record {
-        kept = λ kernel t. Stacked-table kernel key tokens old new stack pushed s i (inl z) t;
-        counted = λ kernel t. Stacked-counted kernel key tokens old new stack pushed s f t;
+        kept = λ kernel f begun t.
+            let i : IsItemOf g (item_of (key, tokens)) = record { production = found; dot = omega arith; tokens = f } in
+            let n : InClosure g.productions (InKernel kernel) (begun_of production).production (begun_of production).index = begun production (Contains-here production []) in
+            Stacked-table kernel key tokens old new stack pushed s i (inl z) (subst (λ (k : Dotted Nil). InClosure g.productions (InKernel kernel) k.production k.index) is n) t;
+        counted = λ kernel f begun t. Stacked-counted kernel key tokens old new stack pushed s f t;
+        known = joined_keys key tokens s.told old new s.joined;
+        from = λ k d. elim (joined_from key tokens s.told old new s.joined k d) [
+          | inl h ↦ inl h
+          | inr h ↦ inr (subst (Contains pushed) h.1 (stacked_last s.told key stack pushed s.grown h.0))
+        ];
+        stacked = stacked_more s.told key stack pushed s.grown;
+        pushed_found = λ k d. elim (stacked_of s.told key stack pushed s.grown k d) [ inl h ↦ inl h | inr h ↦ inr (subst (Contains (keys_of new)) h (joined_there key tokens s.told old new s.joined)) ];
+        there = λ p d. elim (Contains-cases production [] p d) [
+          | inl h ↦ subst (λ (q : Production). Contains (keys_of new) (begun_of q)) h (subst (Contains (keys_of new)) (sym is) (joined_there key tokens s.told old new s.joined))
+          | inr n ↦ absurd (Contains-none p n)
+        ];
       }
 
   -- ---- it comes to an end
   abbrev to_lr0 : Dotted Bits → Dotted Nil
   to_lr0 i = record { production = i.production; index = i.index; lookahead = record {} }
-
-  abbrev begun_of : Production → Dotted Nil
-  begun_of p = record { production = p; index = 0; lookahead = record {} }
 
   pub room : List (Dotted Bits) → List (Dotted Nil)
   room kernel = map to_lr0 kernel ++ map begun_of g.productions
@@ -167,7 +243,7 @@ module _ (g : Rules) where
         | inr later ↦ Contains-there (to_lr0 i) (map to_lr0 is) k (kernel_has is later)
       ]
 
-  key_entry : (table : Found) (k : Dotted Nil) → Contains (keys_of table) k → (s : Bits) × Contains table (k, s)
+  pub key_entry : (table : Found) (k : Dotted Nil) → Contains (keys_of table) k → (s : Bits) × Contains table (k, s)
   key_entry [] k c = absurd (Contains-none k c)
   key_entry (e ∷ es) k c = elim (Contains-cases e.0 (keys_of es) k c) [
     | inl same ↦ (e.1, subst (λ (x : Dotted Nil). Contains (e ∷ es) (x, e.1)) same (Contains-here e es))
@@ -197,15 +273,8 @@ module _ (g : Rules) where
   abbrev pub work : List (Dotted Bits) → Found → List (Dotted Nil) → ℕ
   work kernel table stack = length (room kernel) * (length g.terminals + 3) + length stack - weight g table
 
-  pub Spreads-smaller : (kernel : List (Dotted Bits)) (old new : Found) (stack : List (Dotted Nil)) (i : Dotted Nil) (pushed : List (Dotted Nil)) → IsTable g kernel old (stack ++ i ∷ []) → IsTable g kernel old stack → Spreads g old new stack pushed → work kernel new pushed < work kernel old (stack ++ i ∷ [])
-  Spreads-smaller kernel old new stack i pushed t r s =
-      let few_new = weight_few kernel new pushed (s.kept kernel r) in
-      let more = s.counted kernel r in
-      let l = length-append stack (i ∷ []) in
-      omega arith
-
   pub table_popped : (kernel : List (Dotted Bits)) (table : Found) (stack : List (Dotted Nil)) (i : Dotted Nil) → IsTable g kernel table (stack ++ i ∷ []) → IsTable g kernel table stack
-  table_popped kernel table stack i t = record { each = t.each; begun = t.begun; differ = t.differ; stacked = λ j c. t.stacked j (Contains-append_left stack (i ∷ []) j c) }
+  table_popped kernel table stack i t = record { each = t.each; begun = t.begun; sound = t.sound; differ = t.differ; stacked = λ j c. t.stacked j (Contains-append_left stack (i ∷ []) j c) }
 
   -- ---- what it has then
   abbrev lr0 : Production × ℕ → Dotted Nil
@@ -228,20 +297,33 @@ module _ (g : Rules) where
     | inr later ↦ let h = entry_of es i later in (h.0, Contains-there e es h.0 h.1, h.2)
   ]
 
-  pub Table-closure : (kernel : List (Dotted Bits)) (table : Found) (stack : List (Dotted Nil)) → IsTable g kernel table stack → IsClosureOf g kernel (map item_of table)
-  Table-closure kernel table stack t = record {
+  key_of_item : (table : Found) (p : Production) (n : ℕ) → Contains (map dotted_of (map item_of table)) (p, n) → (e : Entry) × Contains table e × (e.0.production ≡ p) × (e.0.index ≡ n)
+  key_of_item [] p n c = absurd (Contains-none (p, n) c)
+  key_of_item (e ∷ es) p n c = elim (Contains-cases (e.0.production, e.0.index) (map dotted_of (map item_of es)) (p, n) c) [
+    | inl same ↦ (e, Contains-here e es, ap (λ (d : Production × ℕ). d.0) same, ap (λ (d : Production × ℕ). d.1) same)
+    | inr later ↦ let h = key_of_item es p n later in (h.0, Contains-there e es h.0 h.1, h.2, h.3)
+  ]
+
+  item_of_key : (table : Found) (k : Dotted Nil) → Contains (keys_of table) k → Contains (map dotted_of (map item_of table)) (k.production, k.index)
+  item_of_key [] k c = absurd (Contains-none k c)
+  item_of_key (e ∷ es) k c = elim (Contains-cases e.0 (keys_of es) k c) [
+    | inl same ↦ subst (λ (x : Dotted Nil). Contains (map dotted_of (map item_of (e ∷ es))) (x.production, x.index)) same (Contains-here (e.0.production, e.0.index) (map dotted_of (map item_of es)))
+    | inr later ↦ Contains-there (e.0.production, e.0.index) (map dotted_of (map item_of es)) (k.production, k.index) (item_of_key es k later)
+  ]
+
+  pub Table-items : (kernel : List (Dotted Bits)) (table : Found) (stack : List (Dotted Nil)) → IsTable g kernel table stack → ((p : Production) (n : ℕ) → InClosure g.productions (InKernel kernel) p n → Contains (keys_of table) (lr0 (p, n))) → IsClosureOf g kernel (map item_of table)
+  Table-items kernel table stack t complete = record {
     are_items = record {
       each = λ i c. let h = entry_of table i c in subst (IsItemOf g) h.2 (t.each h.0 h.1);
       differ = dotted_differ table t.differ;
     };
     begun = λ i c. let h = entry_of table i c in subst (λ (j : Dotted Bits). (j.index ≡ 0) ⊎ Contains (map dotted_of kernel) (j.production, j.index)) h.2 (t.begun h.0 h.1);
-  }
-
-  -- where the tokens are tokens if what is found is of the grammar
-  pub Spreads-given : (old new : Found) (stack pushed : List (Dotted Nil)) (Fits : Type 0) → ((kernel : List (Dotted Bits)) → IsTable g kernel old stack → Fits) → (Fits → Spreads g old new stack pushed) → Spreads g old new stack pushed
-  Spreads-given old new stack pushed Fits fits s = record {
-    kept = λ kernel t. (s (fits kernel t)).kept kernel t;
-    counted = λ kernel t. (s (fits kernel t)).counted kernel t;
+    exact = λ p n. (
+      λ c.
+          let h = key_of_item table p n c in
+          subst (λ (q : Production). InClosure g.productions (InKernel kernel) q n) h.2 (subst (λ (m : ℕ). InClosure g.productions (InKernel kernel) h.0.0.production m) h.3 (t.sound h.0 h.1)),
+      λ c. item_of_key table (lr0 (p, n)) (complete p n c),
+    );
   }
 
   -- an item of the kernel more
@@ -251,12 +333,160 @@ module _ (g : Rules) where
       let of = k.each i c in
       let same : dotted_of i ≡ dotted_of key = ap (λ q. (q, i.index)) (sym p) ∙ ap (λ n. (key.production, n)) (sym d) in
       let is : IsItemOf g (item_of (key, i.lookahead)) = record { production = subst (Contains g.productions) (sym p) of.production; dot = subst (λ (x : Production × ℕ). x.1 ≤ length x.0.symbols) same of.dot; tokens = of.tokens } in
-      Stacked-table kernel key i.lookahead old new stack pushed s is (inr (subst (Contains (map dotted_of kernel)) same (Contains-map dotted_of kernel i c))) t
+      let among : Contains (map dotted_of kernel) (dotted_of key) = subst (Contains (map dotted_of kernel)) same (Contains-map dotted_of kernel i c) in
+      Stacked-table kernel key i.lookahead old new stack pushed s is (inr among) (in_kernel among) t
 
   pub Started-none : (kernel : List (Dotted Bits)) (table : Found) (stack : List (Dotted Nil)) → table ≡ [] → stack ≡ [] → IsTable g kernel table stack
   Started-none kernel table stack e f = record {
     each = λ x c. absurd (Contains-none x (subst (λ (xs : Found). Contains xs x) e c));
     begun = λ x c. absurd (Contains-none x (subst (λ (xs : Found). Contains xs x) e c));
+    sound = λ x c. absurd (Contains-none x (subst (λ (xs : Found). Contains xs x) e c));
     differ = subst (λ (xs : Found). AllDiffer (keys_of xs)) (sym e) (λ i j x l at. cc);
     stacked = λ x c. absurd (Contains-none x (subst (λ (xs : List (Dotted Nil)). Contains xs x) f c));
   }
+
+-- ---- the loop
+module _ (g : Grammar) (ordered : (q : Production) → Contains (productions g) q → Contains (productions_of g q.nonterminal) q) where
+  pub Closing-step : (kernel : List (Dotted Bits)) (i : Dotted Nil) (old new : Found) (stack pushed : List (Dotted Nil)) → IsClosing g kernel old (stack ++ i ∷ []) → IsExpanded g i old new stack pushed → IsClosing g kernel new pushed
+  Closing-step kernel i old new stack pushed c x =
+      let i_found = c.found i (Contains-append_right stack (i ∷ []) i (Contains-here i [])) in
+      record {
+        is_table = x.kept kernel i_found (table_popped (rules_of g) kernel old stack i c.is_table);
+        found = λ k d. elim (x.pushed_found k d) [ inl h ↦ x.known k (c.found k (Contains-append_left stack (i ∷ []) k h)) | inr h ↦ h ];
+        has = λ k d. x.known k (c.has k d);
+        done = λ k d. elim (x.from k d) [
+          | inr h ↦ inl h
+          | inl h ↦ elim (c.done k h) [
+            | inr settled ↦ inr (λ q after e m. x.known (begun_of q) (settled q after e m))
+            | inl on ↦ elim (Contains-append_cases stack (i ∷ []) k on) [
+              | inl s ↦ inl (x.stacked k s)
+              | inr last ↦ elim (Contains-cases i [] k last) [
+                | inl same ↦ inr (subst (IsSettled g new) same x.settled)
+                | inr n ↦ absurd (Contains-none k n)
+              ]
+            ]
+          ]
+        ];
+      }
+
+  pub Closing-smaller : (kernel : List (Dotted Bits)) (i : Dotted Nil) (old new : Found) (stack pushed : List (Dotted Nil)) → IsClosing g kernel old (stack ++ i ∷ []) → IsExpanded g i old new stack pushed → work (rules_of g) kernel new pushed < work (rules_of g) kernel old (stack ++ i ∷ [])
+  Closing-smaller kernel i old new stack pushed c x =
+      let i_found = c.found i (Contains-append_right stack (i ∷ []) i (Contains-here i [])) in
+      let before = table_popped (rules_of g) kernel old stack i c.is_table in
+      let few_new = weight_few (rules_of g) kernel new pushed (x.kept kernel i_found before) in
+      let more = x.counted kernel i_found before in
+      let l = length-append stack (i ∷ []) in
+      omega arith
+
+  complete : (kernel : List (Dotted Bits)) (table : Found) → IsClosing g kernel table [] → (p : Production) (n : ℕ) → InClosure (productions g) (InKernel kernel) p n → Contains (keys_of table) (lr0 (rules_of g) (p, n))
+  complete kernel table c p n (in_kernel h) = c.has (lr0 (rules_of g) (p, n)) h
+  complete kernel table c p n (expanded {p = parent} {dot} q after h e m) =
+      elim (c.done (lr0 (rules_of g) (parent, dot)) (complete kernel table c parent dot h)) [
+        | inl s ↦ absurd (Contains-none (lr0 (rules_of g) (parent, dot)) s)
+        | inr settled ↦ settled q after e (ordered q m)
+      ]
+
+  pub Closing-end : (kernel : List (Dotted Bits)) (table : Found) → IsClosing g kernel table [] → IsClosureOf (rules_of g) kernel (map item_of table)
+  Closing-end kernel table c = Table-items (rules_of g) kernel table [] c.is_table (complete kernel table c)
+
+-- ---- an item is expanded
+drop_at : {X : Type 0} (xs : List X) (n : ℕ) (x : X) → slice_get xs n ≡ Some x → drop n xs ≡ x ∷ drop (n + 1) xs
+drop_at [] n x h = cc
+drop_at {X} (y ∷ xs) zero x h = let e : y ≡ x = same_some y x h in ap (λ (z : X). z ∷ xs) e
+drop_at (y ∷ xs) (suc n) x h = let e : suc (n + 1) ≡ suc n + 1 = omega arith in drop_at xs n x h ∙ ap (λ (k : ℕ). x ∷ drop k (y ∷ xs)) e
+
+at_drop : {X : Type 0} (xs : List X) (n : ℕ) (x : X) (after : List X) → drop n xs ≡ x ∷ after → slice_get xs n ≡ Some x
+at_drop [] zero x after h = cc
+at_drop [] (suc n) x after h = cc
+at_drop (y ∷ xs) zero x after h = let e : y ≡ x = cc in ap Some e
+at_drop (y ∷ xs) (suc n) x after h = at_drop xs n x after h
+
+module _ (g : Grammar) (i : Dotted Nil) (old : Found) (stack : List (Dotted Nil)) where
+  -- where the productions of the nonterminal behind the dot went to the table
+  pub Expanded-over : (name : NonterminalString) (tokens : Bits) (new : Found) (pushed : List (Dotted Nil)) → slice_get i.production.symbols i.index ≡ Some (Nonterminal name) →
+      ((p : Production) → Contains (productions_of g name) p → p.nonterminal ≡ name) → ((p : Production) → Contains (productions_of g name) p → Contains (productions g) p) →
+      ((kernel : List (Dotted Bits)) → IsTable (rules_of g) kernel old stack → FitsTokens g.terminals tokens) → Spreads (rules_of g) tokens (productions_of g name) old new stack pushed → IsExpanded g i old new stack pushed
+  Expanded-over name tokens new pushed behind named among fits s =
+      let at = drop_at i.production.symbols i.index (Nonterminal name) behind in
+      let begun : (kernel : List (Dotted Bits)) → Contains (keys_of old) i → IsTable (rules_of g) kernel old stack → AreBegun (rules_of g) kernel (productions_of g name) = λ kernel found t p c.
+          let e = key_entry (rules_of g) old i found in
+          expanded p (drop (i.index + 1) i.production.symbols) (t.sound (i, e.0) e.1) (at ∙ ap (λ (a : NonterminalString). Nonterminal a ∷ drop (i.index + 1) i.production.symbols) (sym (named p c))) (among p c) in
+      record {
+        kept = λ kernel found t. s.kept kernel (fits kernel t) (begun kernel found t) t;
+        counted = λ kernel found t. s.counted kernel (fits kernel t) (begun kernel found t) t;
+        known = s.known;
+        from = s.from;
+        stacked = s.stacked;
+        pushed_found = s.pushed_found;
+        settled = λ q after e m.
+            let same : Nonterminal q.nonterminal ∷ after ≡ Nonterminal name ∷ drop (i.index + 1) i.production.symbols = sym e ∙ at in
+            let is : q.nonterminal ≡ name = cc in
+            s.there q (subst (λ (a : NonterminalString). Contains (productions_of g a) q) is m);
+      }
+
+  -- where no nonterminal stands behind the dot
+  pub Expanded-none : ((name : NonterminalString) → slice_get i.production.symbols i.index ≡ Some (Nonterminal name) → ⊥) → IsExpanded g i old old stack stack
+  Expanded-none none = record {
+    kept = λ kernel found t. t;
+    counted = λ kernel found t. omega arith;
+    known = λ k c. c;
+    from = λ k c. inl c;
+    stacked = λ k c. c;
+    pushed_found = λ k c. inl c;
+    settled = λ q after e m. absurd (none q.nonterminal (at_drop i.production.symbols i.index (Nonterminal q.nonterminal) after e));
+  }
+
+-- the tokens that follow are tokens, as those of the table are
+pub fits_of : (g : Rules) (kernel : List (Dotted Bits)) (test : Dotted Nil → Bool) (table : Found) (stack : List (Dotted Nil)) (given : Bits) (o : Option Bits) → lookup test table ≡ o →
+    MatchOption o (FitsTokens g.terminals given) (λ set. FitsTokens g.terminals set → FitsTokens g.terminals given) → IsTable g kernel table stack → FitsTokens g.terminals given
+fits_of g kernel test table stack given None e m t = m
+fits_of g kernel test table stack given (Some s) e m t = let at = found_tokens test table s e in m (t.each (at.0, s) at.1).tokens
+
+-- ---- the kernel goes to the table
+-- the first items of a kernel, each on the stack
+pub record AreStarted (g : Rules) (kernel : List (Dotted Bits)) (first : List (Dotted Bits)) (table : Found) (stack : List (Dotted Nil)) : Type 0 where
+  pub is_table : IsTable g kernel table stack
+  pub on_stack : (k : Dotted Nil) → Contains (keys_of table) k → Contains stack k
+  pub found : (k : Dotted Nil) → Contains stack k → Contains (keys_of table) k
+  pub has : (k : Dotted Nil) → Contains (map dotted_of first) (dotted_of k) → Contains (keys_of table) k
+
+pub Start-none : (g : Rules) (kernel : List (Dotted Bits)) (table : Found) (stack : List (Dotted Nil)) → table ≡ [] → stack ≡ [] → AreStarted g kernel [] table stack
+Start-none g kernel table stack e f = record {
+  is_table = Started-none g kernel table stack e f;
+  on_stack = λ k c. absurd (Contains-none k (subst (λ (xs : Found). Contains (keys_of xs) k) e c));
+  found = λ k c. absurd (Contains-none k (subst (λ (xs : List (Dotted Nil)). Contains xs k) f c));
+  has = λ k c. absurd (Contains-none (dotted_of k) c);
+}
+
+pub Start-more : (g : Rules) (kernel first : List (Dotted Bits)) (i : Dotted Bits) (key : Dotted Nil) (old new : Found) (stack pushed : List (Dotted Nil)) → AreItems g kernel → Contains kernel i → key.production ≡ i.production → key.index ≡ i.index →
+    IsStacked key i.lookahead old new stack pushed → AreStarted g kernel first old stack → AreStarted g kernel (first ++ i ∷ []) new pushed
+Start-more g kernel first i key old new stack pushed a c p d s t =
+    let same : dotted_of i ≡ dotted_of key = ap (λ q. (q, i.index)) (sym p) ∙ ap (λ n. (key.production, n)) (sym d) in
+    record {
+      is_table = Started-more g kernel i key old new stack pushed a c p d s t.is_table;
+      on_stack = λ k m. elim (joined_from key i.lookahead s.told old new s.joined k m) [
+        | inl h ↦ stacked_more s.told key stack pushed s.grown k (t.on_stack k h)
+        | inr h ↦ subst (Contains pushed) h.1 (stacked_last s.told key stack pushed s.grown h.0)
+      ];
+      found = λ k m. elim (stacked_of s.told key stack pushed s.grown k m) [
+        | inl h ↦ joined_keys key i.lookahead s.told old new s.joined k (t.found k h)
+        | inr h ↦ subst (Contains (keys_of new)) h (joined_there key i.lookahead s.told old new s.joined)
+      ];
+      has = λ k m. elim (Contains-append_cases (map dotted_of first) (dotted_of i ∷ []) (dotted_of k) (subst (λ (ds : List (Production × ℕ)). Contains ds (dotted_of k)) (map-append dotted_of first (i ∷ [])) m)) [
+        | inl h ↦ joined_keys key i.lookahead s.told old new s.joined k (t.has k h)
+        | inr h ↦ elim (Contains-cases (dotted_of i) [] (dotted_of k) h) [
+          | inl e ↦
+              let is : dotted_of key ≡ dotted_of k = sym same ∙ e in
+              subst (Contains (keys_of new)) (same_lr0 key k (ap (λ (x : Production × ℕ). x.0) is) (ap (λ (x : Production × ℕ). x.1) is)) (joined_there key i.lookahead s.told old new s.joined)
+          | inr n ↦ absurd (Contains-none (dotted_of k) n)
+        ]
+      ];
+    }
+
+pub Start-closing : (g : Grammar) (kernel first : List (Dotted Bits)) (table : Found) (stack : List (Dotted Nil)) → first ≡ kernel → AreStarted (rules_of g) kernel first table stack → IsClosing g kernel table stack
+Start-closing g kernel first table stack e t = record {
+  is_table = t.is_table;
+  found = t.found;
+  has = λ k c. t.has k (subst (λ (xs : List (Dotted Bits)). Contains (map dotted_of xs) (dotted_of k)) (sym e) c);
+  done = λ k c. inl (t.on_stack k c);
+}

@@ -1,13 +1,17 @@
 -- Items of a grammar, and the closure of a kernel.
-use Rattle.std.specs.Prelude.{◌≡◌, ◌≤◌, ◌+◌, ◌⊎◌, ℕ, Bool, cond, true, List, [], ◌∷◌, ◌++◌, length, Contains, sum_by, map}
+use Rattle.std.specs.Prelude.{◌≡◌, ◌≤◌, ◌+◌, ◌⊎◌, ◌↔◌, ℕ, Bool, cond, true, List, [], ◌∷◌, ◌++◌, length, drop, Contains, sum_by, map}
 use Rattle.std.specs.Map.{keys_of}
 use Rattle.lalrpop_base.specs.Bits.{Bits, has}
 use Rattle.lalrpop_base.specs.Items.{Dotted}
 use Rattle.lalrpop_base.specs.Places.{AllDiffer}
 use Rattle.lalrpop_base.specs.Tokens.{FitsTokens}
-use Rattle.lalrpop_base.specs.WellFormed.{Rules}
+use Rattle.lalrpop_base.specs.WellFormed.{Rules, rules_of, productions_of}
+use Rattle.lalrpop_base.specs.declared.repr.grammar.Grammar.{Grammar}
 use Rattle.lalrpop_base.specs.declared.lookahead.nil.Nil.{Nil}
+use Rattle.lalrpop_base.specs.Closures.{InClosure}
 use Rattle.lalrpop_base.specs.declared.repr.Production.{Production}
+use Rattle.lalrpop_base.specs.declared.repr.Symbol.{Symbol}
+use Rattle.lalrpop_base.specs.declared.repr.Symbol.TheVariants.{Nonterminal}
 use Rattle.lalrpop_tables.specs.Counts.{count}
 use Rattle.lalrpop_tables.specs.Entries.{IsJoinedAt}
 
@@ -26,10 +30,15 @@ pub record AreItems (g : Rules) (items : List (Dotted Bits)) : Type 0 where
   pub each : (i : Dotted Bits) → Contains items i → IsItemOf g i
   pub differ : AllDiffer (map dotted_of items)
 
--- the items are those of the kernel and others with the dot at the start
+-- the dotted production is in the kernel
+abbrev pub InKernel : List (Dotted Bits) → Production → ℕ → Type 0
+InKernel kernel p dot = Contains (map dotted_of kernel) (p, dot)
+
+-- the items are exactly the closure of the kernel; those that the kernel lacks have the dot at the start
 pub record IsClosureOf (g : Rules) (kernel items : List (Dotted Bits)) : Type 0 where
   pub are_items : AreItems g items
-  pub begun : (i : Dotted Bits) → Contains items i → (i.index ≡ 0) ⊎ Contains (map dotted_of kernel) (i.production, i.index)
+  pub begun : (i : Dotted Bits) → Contains items i → (i.index ≡ 0) ⊎ InKernel kernel i.production i.index
+  pub exact : (p : Production) (dot : ℕ) → Contains (map dotted_of items) (p, dot) ↔ InClosure g.productions (InKernel kernel) p dot
 
 -- ---- the worklist
 -- dotted productions with their tokens, as a closure finds them
@@ -51,6 +60,7 @@ pub record IsStacked (key : Dotted Nil) (tokens : Bits) (old new : Found) (stack
 pub record IsTable (g : Rules) (kernel : List (Dotted Bits)) (table : Found) (stack : List (Dotted Nil)) : Type 0 where
   pub each : (e : Dotted Nil × Bits) → Contains table e → IsItemOf g (item_of e)
   pub begun : (e : Dotted Nil × Bits) → Contains table e → (e.0.index ≡ 0) ⊎ Contains (map dotted_of kernel) (dotted_of e.0)
+  pub sound : (e : Dotted Nil × Bits) → Contains table e → InClosure g.productions (InKernel kernel) e.0.production e.0.index
   pub differ : AllDiffer (keys_of table)
   pub stacked : (i : Dotted Nil) → Contains stack i → Contains g.productions i.production
 
@@ -58,7 +68,45 @@ pub record IsTable (g : Rules) (kernel : List (Dotted Bits)) (table : Found) (st
 abbrev pub weight : Rules → Found → ℕ
 weight g table = sum_by (λ e. 1 + count (length g.terminals + 2) e.1) table
 
--- one table becomes another, where each that is put on the stack has something new
-pub record Spreads (g : Rules) (old new : Found) (stack pushed : List (Dotted Nil)) : Type 0 where
-  pub kept : (kernel : List (Dotted Bits)) → IsTable g kernel old stack → IsTable g kernel new pushed
-  pub counted : (kernel : List (Dotted Bits)) → IsTable g kernel old stack → weight g old + length pushed ≤ weight g new + length stack
+-- productions are in the closure of a kernel, with the dot at the start
+abbrev pub AreBegun : Rules → List (Dotted Bits) → List Production → Type 0
+AreBegun g kernel ps = (p : Production) → Contains ps p → InClosure g.productions (InKernel kernel) p 0
+
+-- the production with the dot at the start
+abbrev pub begun_of : Production → Dotted Nil
+begun_of p = record { production = p; index = 0; lookahead = record {} }
+
+-- productions went to a table, with the dot at the start and the tokens; each that has something new is on the stack
+pub record Spreads (g : Rules) (tokens : Bits) (ps : List Production) (old new : Found) (stack pushed : List (Dotted Nil)) : Type 0 where
+  pub kept : (kernel : List (Dotted Bits)) → FitsTokens g.terminals tokens → AreBegun g kernel ps → IsTable g kernel old stack → IsTable g kernel new pushed
+  pub counted : (kernel : List (Dotted Bits)) → FitsTokens g.terminals tokens → AreBegun g kernel ps → IsTable g kernel old stack → weight g old + length pushed ≤ weight g new + length stack
+  pub known : (k : Dotted Nil) → Contains (keys_of old) k → Contains (keys_of new) k
+  pub from : (k : Dotted Nil) → Contains (keys_of new) k → Contains (keys_of old) k ⊎ Contains pushed k
+  pub stacked : (k : Dotted Nil) → Contains stack k → Contains pushed k
+  pub pushed_found : (k : Dotted Nil) → Contains pushed k → Contains stack k ⊎ Contains (keys_of new) k
+  pub there : (p : Production) → Contains ps p → Contains (keys_of new) (begun_of p)
+
+-- what an item leads to without a symbol is in the table
+abbrev pub IsSettled : Grammar → Found → Dotted Nil → Type 0
+IsSettled g table k = (q : Production) (after : List Symbol) → drop k.index k.production.symbols ≡ Nonterminal q.nonterminal ∷ after → Contains (productions_of g q.nonterminal) q → Contains (keys_of table) (begun_of q)
+
+-- each item of the table is on the stack or settled
+abbrev pub AreDone : Grammar → Found → List (Dotted Nil) → Type 0
+AreDone g table stack = (k : Dotted Nil) → Contains (keys_of table) k → Contains stack k ⊎ IsSettled g table k
+
+-- an item was taken from the stack, and is settled
+pub record IsExpanded (g : Grammar) (i : Dotted Nil) (old new : Found) (stack pushed : List (Dotted Nil)) : Type 0 where
+  pub kept : (kernel : List (Dotted Bits)) → Contains (keys_of old) i → IsTable (rules_of g) kernel old stack → IsTable (rules_of g) kernel new pushed
+  pub counted : (kernel : List (Dotted Bits)) → Contains (keys_of old) i → IsTable (rules_of g) kernel old stack → weight (rules_of g) old + length pushed ≤ weight (rules_of g) new + length stack
+  pub known : (k : Dotted Nil) → Contains (keys_of old) k → Contains (keys_of new) k
+  pub from : (k : Dotted Nil) → Contains (keys_of new) k → Contains (keys_of old) k ⊎ Contains pushed k
+  pub stacked : (k : Dotted Nil) → Contains stack k → Contains pushed k
+  pub pushed_found : (k : Dotted Nil) → Contains pushed k → Contains stack k ⊎ Contains (keys_of new) k
+  pub settled : IsSettled g new i
+
+-- the state of the loop: a table with the kernel, whose items are on the stack or settled, and what is on the stack is found
+pub record IsClosing (g : Grammar) (kernel : List (Dotted Bits)) (table : Found) (stack : List (Dotted Nil)) : Type 0 where
+  pub is_table : IsTable (rules_of g) kernel table stack
+  pub found : (k : Dotted Nil) → Contains stack k → Contains (keys_of table) k
+  pub has : (k : Dotted Nil) → Contains (map dotted_of kernel) (dotted_of k) → Contains (keys_of table) k
+  pub done : AreDone g table stack

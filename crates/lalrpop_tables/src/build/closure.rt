@@ -1,8 +1,8 @@
 //! The closure of a kernel.
-ghost use Rattle.std.specs.Prelude.{◌≡◌, ◌≤◌, [], ℕ, IfOk, OnOk, Contains, length, map, slice_get};
+ghost use Rattle.std.specs.Prelude.{◌≡◌, ◌≤◌, [], ℕ, IfOk, OnOk, Contains, length, map, slice_get, MatchOption, option_copied};
 ghost use Rattle.lalrpop_base.specs.WellFormed.{IsWellFormed, rules_of, productions, productions_of, HasKnownTerminals};
 ghost use Rattle.lalrpop_base.specs.Tokens.{FitsTokens};
-ghost use Rattle.lalrpop_tables.specs.Closure.{AreItems, IsClosureOf, IsStacked, IsTable, Spreads, item_of};
+ghost use Rattle.lalrpop_tables.specs.Closure.{AreItems, IsClosureOf, IsStacked, Spreads, IsExpanded, IsClosing, item_of};
 
 use super::tokens::add_tokens;
 use lalrpop_base::first::FirstSets;
@@ -43,7 +43,7 @@ fn add_productions<'grammar>(
     table: &mut Table<'grammar>,
     stack: &mut Vec<Lr0Item<'grammar>>,
 ) -> Result<(), OutOfMemory>
-    ensures { OnOk result (FitsTokens grammar.now.terminals tokens.now → Spreads (rules_of grammar.now) table.old.entries table.new.entries stack.old.items stack.new.items) }
+    ensures { OnOk result (Spreads (rules_of grammar.now) tokens.now (productions_of grammar.now name.now) table.old.entries table.new.entries stack.old.items stack.new.items) }
 {
     for production in grammar.productions_for(name) {
         let item = Item {
@@ -54,6 +54,27 @@ fn add_productions<'grammar>(
         add_item(alloc, item, tokens, table, stack)?;
     }
     Ok(())
+}
+
+// The tokens that may follow what an item leads to without a symbol.
+fn tokens_after<'grammar>(
+    alloc: Global,
+    grammar: &'grammar Grammar,
+    first_sets: &FirstSets<'grammar>,
+    rest: &[Symbol],
+    tokens: Option<&TokenSet>,
+) -> Result<TokenSet, OutOfMemory>
+    requires firsts { first_sets.now ≡ rules_of grammar.now }
+    requires known { HasKnownTerminals grammar.now.terminals rest.now }
+    ensures { IfOk result (λ given. MatchOption (option_copied tokens.entry) (FitsTokens grammar.now.terminals given) (λ set. FitsTokens grammar.now.terminals set → FitsTokens grammar.now.terminals given)) }
+{
+    match tokens {
+        Some(set) => first_sets.first1(alloc, rest, set),
+        None => {
+            let none = TokenSet::new(alloc, &grammar.terminals);
+            first_sets.first1(alloc, rest, &none)
+        }
+    }
 }
 
 // Adds what an item leads to without a symbol, with the tokens that may follow there.
@@ -68,7 +89,7 @@ fn expand<'grammar>(
     requires well_formed { IsWellFormed grammar.now }
     requires firsts { first_sets.now ≡ rules_of grammar.now }
     requires known { Contains (productions grammar.now) item.production }
-    ensures { OnOk result (Spreads (rules_of grammar.now) table.old.entries table.new.entries stack.old.items stack.new.items) }
+    ensures { OnOk result (IsExpanded grammar.now item.entry table.old.entries table.new.entries stack.old.items stack.new.items) }
 {
     let Some((symbol, rest)) = item.shift_symbol() else {
         return Ok(());
@@ -76,10 +97,7 @@ fn expand<'grammar>(
     let Symbol::Nonterminal(name) = symbol else {
         return Ok(());
     };
-    let Some(tokens) = table.get(&item) else {
-        return Ok(());
-    };
-    let given = first_sets.first1(alloc, rest, tokens)?;
+    let given = tokens_after(alloc, grammar, first_sets, rest, table.get(&item))?;
     add_productions(alloc, grammar, name, &given, table, stack)?;
     Ok(())
 }
@@ -113,7 +131,7 @@ fn start<'grammar>(
     requires kernel { AreItems (rules_of grammar.now) kernel.now }
     requires table { table.old.entries ≡ [] }
     requires stack { stack.old.items ≡ [] }
-    ensures { OnOk result (IsTable (rules_of grammar.now) kernel.now table.new.entries stack.new.items) }
+    ensures { OnOk result (IsClosing grammar.now kernel.now table.new.entries stack.new.items) }
 {
     let _ = grammar;
     for item in kernel {
@@ -134,6 +152,7 @@ pub fn closure<'grammar>(
     requires kernel { AreItems (rules_of grammar.now) kernel.now }
     ensures { IfOk result (λ items. IsClosureOf (rules_of grammar.now) kernel.now items.items) }
 {
+    let _names = grammar.nonterminals.len();
     let mut table = BTreeMap::new(alloc);
     let mut stack = Vec::new(alloc);
     start(alloc, grammar, kernel, &mut table, &mut stack)?;
