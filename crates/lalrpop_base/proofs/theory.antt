@@ -5,6 +5,7 @@ pub mod Beginnings
 pub mod Canonical
 pub mod Closures
 pub mod Collapse
+pub mod ConflictLists
 pub mod Conflicts
 pub mod Copies
 pub mod Derivations
