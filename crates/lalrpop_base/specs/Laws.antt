@@ -12,8 +12,9 @@ use Rattle.lalrpop_base.specs.States.{Contents, Reduction, leads, state_after, H
 use Rattle.lalrpop_base.specs.Trees.{Tree, Node, no_trees, beside, nodes, IsParseTree}
 use Rattle.lalrpop_base.specs.Runs.{Configuration, move, Stands, Ends, Reaches, begin, Outcome, HasOutcome, Parsed, Refused, Limit, IsFirstWrong, IsRightNext, IsPromptRefusal}
 use Rattle.lalrpop_base.specs.Lanes.{AreLr0, IsLaneToken, HoldLaneTokens, HoldLalrTokens}
-use Rattle.lalrpop_base.specs.Conflicts.{IsOrder, ConflictContents, HasNoConflict, AreConflictsOf, AreCanonicalConflicts, ReducesInOrder, HasNoCanonicalConflict}
+use Rattle.lalrpop_base.specs.Conflicts.{IsLess, IsOrder, ConflictContents, HasNoConflict, AreConflictsOf, AreCanonicalConflicts, ReducesInOrder, HasNoCanonicalConflict}
 use Rattle.lalrpop_base.specs.Collapse.{IsCollapse}
+use Rattle.lalrpop_base.specs.ConflictLists.{Ordered, ShiftParts, ReduceParts}
 use Rattle.lalrpop_base.specs.Renumbering.{IsRenumbering}
 use Rattle.lalrpop_base.specs.FirstSets.{NullableBy, FirstBy, AreFirstSets}
 use Rattle.lalrpop_base.specs.Augmented.{IsAugmented}
@@ -159,6 +160,10 @@ NoConflictIsLr1 = (productions : Production → Production → Ordering) → IsO
 -- a state whose reductions do not repeat has no conflict exactly where its list is empty
 abbrev pub NoConflictIsEmptyList : Type 0
 NoConflictIsEmptyList = (terminals : TerminalString → TerminalString → Ordering) (s : Contents) → HasNoRepeat s.reductions → AreConflictsOf terminals s [] ↔ HasNoConflict s
+
+-- the list made by going through the shifted terminals, ascending, and then through the reductions, is that of the state's conflicts
+abbrev pub ConflictsAreListed : Type 0
+ConflictsAreListed = (terminals : TerminalString → TerminalString → Ordering) (s : Contents) → HasNoRepeat s.reductions → (ts : List TerminalString) → Ordered (IsLess terminals) ts → ((t : TerminalString) → Contains ts t ↔ ((n : ℕ) × (s.shift t ≡ Some n))) → (cs ds : List ConflictContents) → ShiftParts s.reductions ts cs → ReduceParts s.reductions ds → AreConflictsOf terminals s (cs ++ ds)
 
 -- a prefix has one list of canonical conflicts
 abbrev pub OneListOfConflicts : Type 0

@@ -14,3 +14,6 @@ returns-clause-of_states c terminals productions o g start states tokens h = sta
 
 pub returns-clause-empty : goal.returns-clause-empty
 returns-clause-empty c = empty_list
+
+pub returns-clause-listed : goal.returns-clause-listed
+returns-clause-listed c = conflict_list
