@@ -254,9 +254,9 @@ module _ (terminals : TerminalString → TerminalString → Ordering) (s : Conte
     ];
     all = all;
     ascending = ordered-append Precedes cs ds (shifts_ordered p in_order ascending) (reduces_ordered d in_order) (λ a b i j.
-    let x = shifts_from p a i in
-    let y = reduces_from d b j in
-    precede a b (x.2.0).production (y.0).production (Shift x.0) (Reduce (y.1).production) (x.2.2).production (y.3).production (x.2.2).action (y.3).action tt);
+        let x = shifts_from p a i in
+        let y = reduces_from d b j in
+        precede a b (x.2.0).production (y.0).production (Shift x.0) (Reduce (y.1).production) (x.2.2).production (y.3).production (x.2.2).action (y.3).action tt);
   }
     where
       all : (p : Production) (a : Action) (t : Token) → IsInConflict (StandsBefore s.reductions) (Allows s) p a t → (c : ConflictContents) × Contains (cs ++ ds) c × (c.production ≡ p) × (c.action ≡ a)
