@@ -13,12 +13,12 @@ ghost use Rattle.std.specs.Prelude.{IfOk, IfErr};
 ghost use Rattle.lalrpop_base.specs.WellFormed.{IsWellFormed};
 ghost use Rattle.lalrpop_tables.specs.Results.{AreTables, FailsBy, canonical_of};
 
-use self::lr::Lr;
-use self::options::Options;
 use lalrpop_base::lookahead::token_set::TokenSet;
 use lalrpop_base::lr1_core::state::Lr1Result;
 use lalrpop_base::repr::NonterminalString;
 use lalrpop_base::repr::grammar::Grammar;
+pub use lr::Lr;
+pub use options::{Method, Options};
 use std::alloc::Global;
 
 /// The LR(1) states of a grammar by their construction numbers, or their conflicts. Both methods decide by the
