@@ -72,9 +72,9 @@ module _ (g : Rules) (first : List (Dotted Bits)) where
         of = λ k c. elim (Contains-append_cases old.list x.added k (subst (λ (ks : List (List (Dotted Bits))). Contains ks k) grown c)) [ inl d ↦ b.of k d | inr d ↦ x.of k d ];
         start = subst (λ (ks : List (List (Dotted Bits))). slice_get ks 0 ≡ Some first) (sym grown) (slice_get-longer old.list x.added 0 first b.start);
         each = λ n s at. ⊎_elim
-        (λ had. built_longer old.list x.added new.list n s grown (b.each n s had))
-        (λ is. subst (λ (m : ℕ). IsBuiltOf g new.list m s) (number ∙ sym is.0) (subst (IsBuiltOf g new.list old.handed) is.1 built))
-        (push_cases states state n s at);
+            (λ had. built_longer old.list x.added new.list n s grown (b.each n s had))
+            (λ is. subst (λ (m : ℕ). IsBuiltOf g new.list m s) (number ∙ sym is.0) (subst (IsBuiltOf g new.list old.handed) is.1 built))
+            (push_cases states state n s at);
       }
 
   pub Building-smaller : (old : Kernels (List (Dotted Bits))) (states : List (State Bits)) → Building g first old states → old.handed < length old.list → old.handed < kernels_limit g

@@ -121,11 +121,11 @@ module _ (g : Rules) (first : List (Dotted Bits)) (states : List (State Bits)) (
       let built = b.each place state at in record {
         numbered = built.built.index;
         start = λ zero_place k i at_k. ⊎_elim
-        (λ z. z)
-        (λ c.
-        let kernel : built.kernel ≡ first = same_some built.kernel first (sym built.numbered ∙ ap (slice_get b.kernels) zero_place ∙ b.start) in
-        zeros (i.production, i.index) (subst (λ (ks : List (Dotted Bits)). Contains (map dotted_of ks) (i.production, i.index)) kernel c))
-        (built.built.closure.begun i (contains_at state.items.vec.items i k at_k));
+            (λ z. z)
+            (λ c.
+            let kernel : built.kernel ≡ first = same_some built.kernel first (sym built.numbered ∙ ap (slice_get b.kernels) zero_place ∙ b.start) in
+            zeros (i.production, i.index) (subst (λ (ks : List (Dotted Bits)). Contains (map dotted_of ks) (i.production, i.index)) kernel c))
+            (built.built.closure.begun i (contains_at state.items.vec.items i k at_k));
         shifts = λ k e at_k. step state state.items.vec.items (Terminal e.0) e.1 (built.built.leads (Terminal e.0) e.1 (contains_at state.shifts.entries e k at_k));
         gotos = λ k e at_k. step state state.items.vec.items (Nonterminal e.0) e.1 (built.built.leads (Nonterminal e.0) e.1 (contains_at state.gotos.entries e k at_k));
         finished = finished place state built;

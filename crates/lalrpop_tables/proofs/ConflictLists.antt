@@ -50,12 +50,12 @@ module _ (terminals : List TerminalString) where
       record {
         are = e ∙ ap (λ cs. cs ++ f state) a.are ∙ sym (ap (λ cs. flat_map f (take n states) ++ cs) one) ∙ sym (flat_map-append f (take n states) (state ∷ [])) ∙ ap (flat_map f) (sym more);
         free = λ k s less at h. ⊎_elim
-        (λ before. a.free k s before at h)
-        (λ here.
-        let same_place : n ≡ k = omega arith in
-        let same : state ≡ s = same_some state s (sym (slice_get_at states n state l is) ∙ ap (slice_get states) same_place ∙ at) in
-        subst (HasNoConflict terminals) same (none.0 (subst (λ (u : State Bits). f u ≡ []) (sym same) h)))
-        (cases_lt k n);
+            (λ before. a.free k s before at h)
+            (λ here.
+            let same_place : n ≡ k = omega arith in
+            let same : state ≡ s = same_some state s (sym (slice_get_at states n state l is) ∙ ap (slice_get states) same_place ∙ at) in
+            subst (HasNoConflict terminals) same (none.0 (subst (λ (u : State Bits). f u ≡ []) (sym same) h)))
+            (cases_lt k n);
       }
 
   pub Conflicts-all : (states : List (State Bits)) (n : ℕ) (list : List (Conflict Bits)) → take n states ≡ states → length states ≤ n → AreFirstConflicts terminals states n list → (list ≡ flat_map (state_conflicts terminals) states) × (list ≡ [] → HaveNoConflict terminals states)

@@ -204,6 +204,7 @@ Edges-none groups old edges s t = record {
     append_nil : {X : Type 0} (xs : List X) → xs ++ [] ≡ xs
     append_nil [] = refl
     append_nil (x ∷ xs) = ap (λ ys. x ∷ ys) (append_nil xs)
+
     no_edge : (x : Symbol) (n : StateIndex) → HasEdge x n edges → ⊥
     no_edge (Nonterminal a) n h = Contains-none (a, n) (subst (λ (es : List (NonterminalString × StateIndex)). Contains es (a, n)) t h)
     no_edge (Terminal a) n h = Contains-none (a, n) (subst (λ (es : List (TerminalString × StateIndex)). Contains es (a, n)) s h)

@@ -135,6 +135,7 @@ part_high (suc m) s q l = part_high_at m s q (has s m) l (part_high m s q (omega
     not_equal : (q m : ℕ) (b : Bool) → (q == m) ≡ b → q ≢ m → b ≡ false
     not_equal q m true e n = absurd (n (eqb-true q m e))
     not_equal q m false e n = refl
+
     part_high_at : (m : ℕ) (s : Bits) (q : ℕ) (b : Bool) → suc m ≤ q → has (part m s) q ≡ false → has (cond b (with_bit (part m s) m) (part m s)) q ≡ false
     part_high_at m s q true l h = has-with_bit (part m s) m q ∙ ap (λ c. c || has (part m s) q) (not_equal q m (q == m) refl (omega arith)) ∙ h
     part_high_at m s q false l h = h

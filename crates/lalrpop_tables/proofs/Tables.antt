@@ -409,8 +409,8 @@ module _ (g : Grammar) (i : Dotted Nil) (old : Found) (stack : List (Dotted Nil)
   Expanded-over name tokens new pushed behind named among fits s =
       let at = drop_at i.production.symbols i.index (Nonterminal name) behind in
       let begun : (kernel : List (Dotted Bits)) → Contains (keys_of old) i → IsTable (rules_of g) kernel old stack → AreBegun (rules_of g) kernel (productions_of g name) = λ kernel found t p c.
-          let e = key_entry (rules_of g) old i found in
-          expanded p (drop (i.index + 1) i.production.symbols) (t.sound (i, e.0) e.1) (at ∙ ap (λ (a : NonterminalString). Nonterminal a ∷ drop (i.index + 1) i.production.symbols) (sym (named p c))) (among p c) in
+      let e = key_entry (rules_of g) old i found in
+      expanded p (drop (i.index + 1) i.production.symbols) (t.sound (i, e.0) e.1) (at ∙ ap (λ (a : NonterminalString). Nonterminal a ∷ drop (i.index + 1) i.production.symbols) (sym (named p c))) (among p c) in
       record {
         kept = λ kernel found t. s.kept kernel (fits kernel t) (begun kernel found t) t;
         counted = λ kernel found t. s.counted kernel (fits kernel t) (begun kernel found t) t;

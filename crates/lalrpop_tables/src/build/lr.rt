@@ -70,7 +70,13 @@ impl<'grammar> Lr<'grammar> {
         ensures failure { IfErr result (FailsBy self.entry) }
     {
         let grammar = self.grammar;
-        let states = build_states(alloc, grammar, &self.first_sets, &self.start, &self.lookahead)?;
+        let states = build_states(
+            alloc,
+            grammar,
+            &self.first_sets,
+            &self.start,
+            &self.lookahead,
+        )?;
         tables_or_conflicts(alloc, states, &grammar.terminals)
     }
 }

@@ -1,7 +1,6 @@
 //! How tables are made.
 ghost use Rattle.std.specs.Prelude.{◌≡◌};
 
-
 /// Which construction decides.
 #[derive(Clone, Copy, Debug, PartialEq, Eq)]
 pub enum Method {

@@ -56,8 +56,5 @@ pub fn tables_or_conflicts<'grammar>(
     if conflicts.is_empty() {
         return Ok(states);
     }
-    Err(BuildError::Conflicts(TableConstructionError {
-        states,
-        conflicts,
-    }))
+    Err(BuildError::Conflicts(TableConstructionError { states, conflicts }))
 }

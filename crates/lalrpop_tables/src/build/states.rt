@@ -56,7 +56,12 @@ fn build_state<'grammar>(
     ensures built { IfOk result (λ state. IsBuiltOf (rules_of grammar.now) kernels.new.list number state) }
     ensures extends { OnOk result (Extends (rules_of grammar.now) kernels.old kernels.new) }
 {
-    let items = closure(alloc, grammar, first_sets, kernels.kernel(number).as_slice())?;
+    let items = closure(
+        alloc,
+        grammar,
+        first_sets,
+        kernels.kernel(number).as_slice(),
+    )?;
     let moves = moves_of(alloc, &items)?;
     let edges = edges_of(alloc, moves, kernels)?;
     let reductions = reductions(alloc, &items)?;

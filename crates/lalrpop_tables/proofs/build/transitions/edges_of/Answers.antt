@@ -17,7 +17,7 @@ loop-symbol-preserved c =
     let state = c.in_ok-number.ensures in
     record {
       edges = Edges-more groups c.in-Some.symbol c.in-Some.kernel (group_among groups first c.next.new.self (c.in-Some.symbol, c.in-Some.kernel) split) first c.args.kernels.now c.loop-symbol.kernels c.add_state.new.self c.loop-symbol.edges c.add_edge.new.edges c.in_ok-number.number c.loop-symbol.invariant.edges
-      (groups_differ groups first c.next.new.self (c.in-Some.symbol, c.in-Some.kernel) split differ) state.numbered state.either state.handed state.differ c.in_ok-add_edge.ensures;
+          (groups_differ groups first c.next.new.self (c.in-Some.symbol, c.in-Some.kernel) split differ) state.numbered state.either state.handed state.differ c.in_ok-add_edge.ensures;
       left = split;
     }
 
