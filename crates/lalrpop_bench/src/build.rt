@@ -95,8 +95,8 @@ fn in_states(conflicts: &[Lr1Conflict], states: &[usize]) -> bool {
 }
 
 // Whether the result is that of the row: so many states, coherent, and conflicts in the states that it names.
-fn is_owed(result: Lr1Result, row: &Row) -> bool {
-    match result {
+fn is_owed(outcome: Lr1Result, row: &Row) -> bool {
+    match outcome {
         Ok(states) => {
             row.conflicts.is_empty() && states.len() == row.states && are_coherent(&states)
         }
