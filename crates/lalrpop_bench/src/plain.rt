@@ -2,12 +2,16 @@
 pub mod actions;
 #[cfg(test)]
 mod against_first;
+#[cfg(test)]
+mod against_runs;
+#[cfg(test)]
+mod against_states;
 pub mod derivations;
 #[cfg(test)]
 mod generated;
 pub mod grammars;
 #[cfg(test)]
-pub(crate) mod known;
+mod known;
 #[cfg(test)]
 mod samples;
 pub mod spans;
