@@ -103,7 +103,7 @@ module _ {L : Type 0} (holds : L → Token → Bool) where
   step_edge : (states : List (State L)) (n : ℕ) (state : State L) (x : Symbol) (m : ℕ) → slice_get states n ≡ Some state → IsCoherentStep states state.items.vec.items x m → IsEdge (contents_in holds states) (length states) n x m
   step_edge states n state x m e step =
       let items : (p : Production) (d : ℕ) → Contains (contents_in holds states m).items (p, suc d) → Contains (contents_of holds step.to).items (p, suc d) =
-          λ p d. subst (λ (c : Contents). Contains c.items (p, suc d)) (contents_there states m step.to step.there) in
+      λ p d. subst (λ (c : Contents). Contains c.items (p, suc d)) (contents_there states m step.to step.there) in
       record {
         within = slice_get_within states m step.to step.there;
         over = λ p d h.

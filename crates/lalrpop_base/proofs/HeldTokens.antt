@@ -36,9 +36,9 @@ module _ (terminals : List TerminalString) where
   place_is differ t k e =
       let within : k < length terminals = slice_get_within terminals k t e in
       let first : position_or_len (λ x. terminal_eq.ghosts.eq x t) terminals ≡ k =
-          position_or_len_is (λ x. terminal_eq.ghosts.eq x t) terminals k t (omega arith)
-          (λ j less. differs differ t k j e less (terminal_eq.ghosts.eq (get_or terminals j t) t) refl)
-          (λ _. ap (λ x. terminal_eq.ghosts.eq x t) (get_or_from_slice_get terminals k t t e) ∙ terminal_laws.Laws.laws-law.refl t) in
+      position_or_len_is (λ x. terminal_eq.ghosts.eq x t) terminals k t (omega arith)
+      (λ j less. differs differ t k j e less (terminal_eq.ghosts.eq (get_or terminals j t) t) refl)
+      (λ _. ap (λ x. terminal_eq.ghosts.eq x t) (get_or_from_slice_get terminals k t t e) ∙ terminal_laws.Laws.laws-law.refl t) in
       ap (λ i. cond (nat_lt i (length terminals)) (Some i) None) first ∙ ap (λ b. cond b (Some k) None) (lt-ltb k (length terminals) within)
 
   held : (set : Bits) (t : TerminalString) (o : Option ℕ) → place_in terminals t ≡ o → has_at set o ≡ true → HasToken terminals set (Terminal t)

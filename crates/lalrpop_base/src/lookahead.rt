@@ -1,6 +1,6 @@
 //! Tokens, and the sets of them that may follow an item.
 pub mod members;
-mod rising;
 pub mod nil;
+mod rising;
 pub mod token;
 pub mod token_set;

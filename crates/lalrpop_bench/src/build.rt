@@ -133,12 +133,18 @@ fn literal(alloc: Global, text: &str) -> Result<TerminalString, OutOfMemory> {
 }
 
 // Whether the one conflict is that of an arrow behind an arrow, in state 5, which may go on to state 4.
-fn is_conflict_of_arrows(conflicts: &[Lr1Conflict], arrow: &Token, terminals: &TerminalSet) -> bool {
+fn is_conflict_of_arrows(
+    conflicts: &[Lr1Conflict],
+    arrow: &Token,
+    terminals: &TerminalSet,
+) -> bool {
     match conflicts {
         [conflict] => {
             let to_four = match &conflict.action {
                 Action::Shift(terminal, target) => {
-                    target.0 == 4 && conflict.lookahead.contains(arrow, terminals) && is_token(arrow, terminal)
+                    target.0 == 4
+                        && conflict.lookahead.contains(arrow, terminals)
+                        && is_token(arrow, terminal)
                 }
                 Action::Reduce(_) => false,
             };

@@ -94,7 +94,11 @@ fn first0(rt: HostRuntime) -> Result<(), Fail> {
         assert!(rt; are_known(&grammar.terminals, &list));
         let sets = FirstSets::new(alloc, &grammar)?.clone(alloc)?;
         let set = sets.first0(alloc, &list)?;
-        assert!(rt; is_set_of(alloc, &set, &row, &grammar.terminals)?, "{}", row.list);
+        assert!(rt;
+            is_set_of(alloc, &set, &row, &grammar.terminals)?,
+            "{}",
+            row.list
+        );
     }
     Ok(())
 }
@@ -110,7 +114,11 @@ fn first1(rt: HostRuntime) -> Result<(), Fail> {
         let list = symbols(alloc, row.list)?;
         assert!(rt; are_known(&grammar.terminals, &list));
         let set = sets.first1(alloc, &list, &follow)?;
-        assert!(rt; is_set_of(alloc, &set, &row, &grammar.terminals)?, "{}", row.list);
+        assert!(rt;
+            is_set_of(alloc, &set, &row, &grammar.terminals)?,
+            "{}",
+            row.list
+        );
     }
     Ok(())
 }

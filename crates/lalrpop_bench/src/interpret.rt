@@ -174,9 +174,18 @@ fn no_terminal(rt: HostRuntime) -> Result<(), Fail> {
     only.items.vec.push(item(&rt, alloc, &terminals, &s, 0)?)?;
     reduces(alloc, &terminals, &mut only, &s)?;
     let states = vec![in alloc; only]?;
-    assert_eq!(rt; told(&rt, alloc, &states, &terminals, &[], 1)?.as_str(), "[S: ]");
-    assert_eq!(rt; told(&rt, alloc, &states, &terminals, &[], 0)?.as_str(), "Limit");
+    assert_eq!(rt;
+        told(&rt, alloc, &states, &terminals, &[], 1)?.as_str(),
+        "[S: ]"
+    );
+    assert_eq!(rt;
+        told(&rt, alloc, &states, &terminals, &[], 0)?.as_str(),
+        "Limit"
+    );
     let empty = vec![in alloc; state(alloc, 0)]?;
-    assert_eq!(rt; told(&rt, alloc, &empty, &terminals, &[], 0)?.as_str(), "0 refuses Eof");
+    assert_eq!(rt;
+        told(&rt, alloc, &empty, &terminals, &[], 0)?.as_str(),
+        "0 refuses Eof"
+    );
     Ok(())
 }
