@@ -15,3 +15,6 @@ pub mod HeldTokens
 pub mod ViewLemmas
 pub mod ConflictLemmas
 pub mod FirstTokens
+pub mod MultimapLemmas
+pub mod SetLemmas
+pub mod Settled

@@ -14,9 +14,12 @@ pub mod FirstSets
 pub mod FirstTables
 pub mod Grammar
 pub mod Items
+pub mod Kernels
 pub mod Lanes
 pub mod Laws
 pub mod Names
+pub mod Multimaps
+pub mod NilConflicts
 pub mod Places
 pub mod Refusals
 pub mod Renumbering

@@ -1,6 +1,85 @@
-//! Tokens, and the sets of them that may follow an item.
+//! Tokens, and what may follow an item.
 pub mod members;
 pub mod nil;
 mod rising;
 pub mod token;
+pub mod token_lookahead;
 pub mod token_set;
+
+ghost use Rattle.std.specs.Prelude.{◌≡◌, ◌≢◌, ◌↔◌, IfOk, OnOk, OnErr, MatchBool, false, List};
+ghost use Rattle.lalrpop_base.specs.Bits.{Bits, no_bits, join as joined};
+ghost use Rattle.lalrpop_base.specs.Exact.{Exactly};
+ghost use Rattle.lalrpop_base.specs.declared.lr1_core.state.State.{State};
+ghost use Rattle.lalrpop_base.specs.declared.lr1_core.state.Conflict.{Conflict};
+ghost use Rattle.lalrpop_base.specs.declared.repr.TerminalString.{TerminalString};
+
+use crate::collections::Collection;
+use crate::lr1_core::state::{Conflict, State};
+use crate::memory::OutOfMemory;
+use crate::repr::terminals::TerminalSet;
+use std::alloc::Global;
+use std::fmt;
+use std::hash::Hash;
+
+/// What may follow an item: a finite set of the bits of tokens.
+pub trait Lookahead: fmt::Debug + Eq + Ord + Hash + Drop + Collection<Item = Self> {
+    // The set that the value stands for.
+    ghost meaning: { Self → Bits };
+
+    fn copy(&self, alloc: Global) -> Result<Self, OutOfMemory>
+        ensures { IfOk result (λ copy. copy ≡ self.now) };
+
+    /// What is printed behind an item.
+    fn fmt_as_item_suffix<W: fmt::Write>(&self, f: &mut fmt::Formatter<W>) -> fmt::Result;
+
+    // The list has the conflicts of the state, in order.
+    ghost lists_conflicts: { State Self → List TerminalString → List (Conflict Self) → Type 0 };
+
+    /// The conflicts of a state, in order.
+    fn conflicts<'grammar>(
+        state: &State<'grammar, Self>,
+        terminals: &TerminalSet,
+        alloc: Global,
+    ) -> Result<Vec<Conflict<'grammar, Self>>, OutOfMemory>
+        ensures { IfOk result (λ list. lists_conflicts state.now terminals.now list.items) };
+
+    // `==` answers true at one value alone.
+    ghost equal_is_same: { Exactly Self.eq };
+
+    // Values with equal meanings are equal.
+    ghost same_by_meaning: { (a b : Self) → meaning a ≡ meaning b → a ≡ b };
+
+    // A push answers false at one value alone.
+    ghost reads_all: { (a b : Self) → Self.Collection.same a b ↔ (b ≡ a) };
+
+    // An empty value means the empty set.
+    ghost empty_is_empty: { (e : Self) → Self.Collection.is_empty e → meaning e ≡ no_bits };
+
+    // A push is the join.
+    ghost push_is_join: { (a b c : Self) → Self.Collection.pushes a b c → meaning c ≡ joined (meaning a) (meaning b) };
+}
+
+/// Joins a value into another, and tells whether it changed.
+pub fn join<L: Lookahead>(into: &mut L, from: &L, alloc: Global) -> Result<bool, OutOfMemory>
+    ensures joined { OnOk result (L.meaning into.new ≡ joined (L.meaning into.old) (L.meaning from.now)) }
+    ensures told { IfOk result (λ changed. MatchBool changed (into.new ≢ into.old) (into.new ≡ into.old)) }
+    ensures err { OnErr result (into.new ≡ into.old) }
+{
+    let copy = from.copy(alloc)?;
+    into.push(copy)
+}
+
+/// A second join changes nothing.
+pub fn join_twice<L: Lookahead>(into: &mut L, from: &L, alloc: Global) -> Result<bool, OutOfMemory>
+    ensures { IfOk result (λ changed. changed ≡ false) }
+{
+    join(into, from, alloc)?;
+    join(into, from, alloc)
+}
+
+/// A value that means the empty set.
+pub fn make_empty<L: Lookahead>(alloc: Global) -> L
+    ensures { L.meaning result ≡ no_bits }
+{
+    L::empty(alloc)
+}

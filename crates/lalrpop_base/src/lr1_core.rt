@@ -5,6 +5,8 @@ pub mod compared;
 pub mod conflict;
 pub mod item;
 pub mod kernel_items;
+pub mod kernels;
+pub mod lr0;
 pub mod state;
 pub mod symbol_sets;
 mod views;

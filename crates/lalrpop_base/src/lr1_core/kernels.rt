@@ -1,0 +1,52 @@
+//! Lists of items as kernels.
+ghost use Rattle.std.specs.Prelude.{◌≡◌, IfOk};
+ghost use Rattle.lalrpop_base.specs.Exact.{list_exact};
+ghost use Rattle.lalrpop_base.specs.Items.{dotted_exact};
+ghost use Rattle.lalrpop_base.specs.contracts.exact.ProductionExact.TheImpl.Laws.{exact-law as production_exact};
+
+use super::item::Item;
+use super::state::StateIndex;
+use crate::exact::Exact;
+use crate::kernel_set::Kernel;
+use crate::lookahead::Lookahead;
+use crate::memory::OutOfMemory;
+use crate::sequence::Sequence;
+use std::alloc::Global;
+
+impl<'grammar, L: Lookahead> Exact for Item<'grammar, L> {
+    ghost exact = { dotted_exact _ _ production_exact L.equal_is_same };
+}
+
+impl<'grammar, L: Lookahead> Item<'grammar, L> {
+    pub fn clone(&self, alloc: Global) -> Result<Self, OutOfMemory>
+        ensures { IfOk result (λ copy. copy ≡ self.now) }
+    {
+        Ok(Item {
+            production: self.production,
+            index: self.index,
+            lookahead: self.lookahead.copy(alloc)?,
+        })
+    }
+}
+
+impl<'grammar, L: Lookahead> Kernel for Sequence<Item<'grammar, L>> {
+    type Index = StateIndex;
+
+    ghost numbered = { λ n. record { 0 = n } };
+
+    fn index(number: usize) -> StateIndex
+        ensures { result ≡ record { 0 = number } }
+    {
+        StateIndex(number)
+    }
+
+    fn copy(&self, alloc: Global) -> Result<Self, OutOfMemory> {
+        let mut copy = Sequence::new(alloc);
+        for item in self.as_slice() {
+            copy.push(item.clone(alloc)?)?;
+        }
+        Ok(copy)
+    }
+
+    ghost equal_is_same = { list_exact (dotted_exact _ _ production_exact L.equal_is_same) };
+}

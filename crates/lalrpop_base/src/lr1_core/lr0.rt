@@ -1,0 +1,44 @@
+//! Items, states and conflicts without lookahead.
+ghost use Rattle.std.specs.Prelude.{◌≡◌, ◌≤◌, length};
+
+use super::item::Item;
+use super::state::{Conflict, Items, State, TableConstructionError};
+use crate::lookahead::nil::Nil;
+use crate::repr::Production;
+
+pub type Lr0Item<'grammar> = Item<'grammar, Nil>;
+
+pub type Lr0Items<'grammar> = Items<'grammar, Nil>;
+
+pub type Lr0State<'grammar> = State<'grammar, Nil>;
+
+pub type Lr0Conflict<'grammar> = Conflict<'grammar, Nil>;
+
+pub type Lr0TableConstructionError<'grammar> = TableConstructionError<'grammar, Nil>;
+
+impl<'grammar> Item<'grammar, Nil> {
+    /// The production with its dot at the index.
+    pub fn lr0(production: &'grammar Production, index: usize) -> Self
+        requires { index ≤ length production.now.symbols }
+        ensures { result ≡ record { production = production.now; index = index; lookahead = record {} } }
+    {
+        Item {
+            production,
+            index,
+            lookahead: Nil,
+        }
+    }
+}
+
+impl<'grammar, L> Item<'grammar, L> {
+    /// The item without its lookahead.
+    pub fn to_lr0(&self) -> Lr0Item<'grammar>
+        ensures { result ≡ record { production = self.now.production; index = self.now.index; lookahead = record {} } }
+    {
+        Item {
+            production: self.production,
+            index: self.index,
+            lookahead: Nil,
+        }
+    }
+}
