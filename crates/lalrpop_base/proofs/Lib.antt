@@ -18,3 +18,4 @@ pub mod FirstTokens
 pub mod MultimapLemmas
 pub mod SetLemmas
 pub mod Settled
+pub mod KernelLemmas

@@ -44,7 +44,7 @@ pub err_everywhere : {K C E : Type 0} {cmp : K → K → Ordering} → IsTotalOr
 err_everywhere {cmp = cmp} total Same itself old new key (Ok b) kept here = tt
 err_everywhere {cmp = cmp} total Same itself old new key (Err e) kept here = everywhere total Same itself old new key kept here
 
-module _ {C I : Type 0} {IsNone : C → Type 0} {Pushes : C → I → C → Type 0} where
+module _ {C I : Type 0} (IsNone : C → Type 0) (Pushes : C → I → C → Type 0) where
   -- a push after the others
   pub all_and_one : (old next new : C) (values : List I) (value : I) → PushesAll IsNone Pushes old values next → Pushes next value new → PushesAll IsNone Pushes old (values ++ value ∷ []) new
   all_and_one old next new [] value same pushed = (new, subst (λ (c : C). Pushes c value new) same pushed, refl)
@@ -64,7 +64,7 @@ values_at-tied : {K I : Type 0} (cmp : K → K → Ordering) (q key : K) (value 
 values_at-tied cmp q key value tied [] = rw tied refl
 values_at-tied cmp q key value tied (p ∷ pairs) =
     elim (is_eq (cmp q p.0)) as (λ b. map (λ e. e.1) (cond b (p ∷ filter (λ e. is_eq (cmp q e.0)) (pairs ++ (key, value) ∷ [])) (filter (λ e. is_eq (cmp q e.0)) (pairs ++ (key, value) ∷ [])))
-        ≡ map (λ e. e.1) (cond b (p ∷ filter (λ e. is_eq (cmp q e.0)) pairs) (filter (λ e. is_eq (cmp q e.0)) pairs)) ++ value ∷ []) [
+    ≡ map (λ e. e.1) (cond b (p ∷ filter (λ e. is_eq (cmp q e.0)) pairs) (filter (λ e. is_eq (cmp q e.0)) pairs)) ++ value ∷ []) [
       | true ↦ ap (λ vs. p.1 ∷ vs) (values_at-tied cmp q key value tied pairs)
       | false ↦ values_at-tied cmp q key value tied pairs
     ]
@@ -74,7 +74,7 @@ values_at-apart : {K I : Type 0} (cmp : K → K → Ordering) (q key : K) (value
 values_at-apart cmp q key value apart [] = rw apart refl
 values_at-apart cmp q key value apart (p ∷ pairs) =
     elim (is_eq (cmp q p.0)) as (λ b. map (λ e. e.1) (cond b (p ∷ filter (λ e. is_eq (cmp q e.0)) (pairs ++ (key, value) ∷ [])) (filter (λ e. is_eq (cmp q e.0)) (pairs ++ (key, value) ∷ [])))
-        ≡ map (λ e. e.1) (cond b (p ∷ filter (λ e. is_eq (cmp q e.0)) pairs) (filter (λ e. is_eq (cmp q e.0)) pairs))) [
+    ≡ map (λ e. e.1) (cond b (p ∷ filter (λ e. is_eq (cmp q e.0)) pairs) (filter (λ e. is_eq (cmp q e.0)) pairs))) [
       | true ↦ ap (λ vs. p.1 ∷ vs) (values_at-apart cmp q key value apart pairs)
       | false ↦ values_at-apart cmp q key value apart pairs
     ]
@@ -83,17 +83,17 @@ apart_back : {K : Type 0} {cmp : K → K → Ordering} → IsTotalOrder cmp → 
 apart_back {cmp = cmp} total q k apart = ((eq_by_cmp_equiv total).symm k q) ∙ apart
 
 -- a pair more, pushed into what the earlier ones made
-pub pairs_and_one : {K C I : Type 0} {cmp : K → K → Ordering} {IsNone : C → Type 0} {Pushes : C → I → C → Type 0} → IsTotalOrder cmp → (pairs : List (K × I)) (key : K) (value : I) (old new : List (K × C)) →
+pub pairs_and_one : {K C I : Type 0} {cmp : K → K → Ordering} (IsNone : C → Type 0) (Pushes : C → I → C → Type 0) → IsTotalOrder cmp → (pairs : List (K × I)) (key : K) (value : I) (old new : List (K × C)) →
     ((q : K) → IsCollected IsNone Pushes (values_at cmp q pairs) (collection_at cmp old q)) →
     PushesAt IsNone Pushes (collection_at cmp old key) value (collection_at cmp new key) →
     ((q : K) → is_eq (cmp key q) ≡ false → collection_at cmp new q ≡ collection_at cmp old q) →
     (q : K) → IsCollected IsNone Pushes (values_at cmp q (pairs ++ (key, value) ∷ [])) (collection_at cmp new q)
-pairs_and_one {C = C} {cmp = cmp} {IsNone = IsNone} {Pushes = Pushes} total pairs key value old new collected pushed others q =
+pairs_and_one {C = C} {cmp = cmp} IsNone Pushes total pairs key value old new collected pushed others q =
     ⊎_elim
     (λ tied. let tie : cmp q key ≡ Equal = (Equal-is (cmp q key)).0 tied in
     let here : PushesAt IsNone Pushes (collection_at cmp old q) value (collection_at cmp new q) =
     subst (λ (o : Option C). PushesAt IsNone Pushes o value (collection_at cmp new q)) (tied_at total q key tie old)
     (subst (λ (n : Option C). PushesAt IsNone Pushes (collection_at cmp old key) value n) (tied_at total q key tie new) pushed) in
-    rw (values_at-tied cmp q key value tied pairs) (collected_and_one (values_at cmp q pairs) value (collection_at cmp old q) (collection_at cmp new q) (collected q) here))
+    rw (values_at-tied cmp q key value tied pairs) (collected_and_one IsNone Pushes (values_at cmp q pairs) value (collection_at cmp old q) (collection_at cmp new q) (collected q) here))
     (λ apart. rw (values_at-apart cmp q key value apart pairs, others q (apart_back total q key apart)) (collected q))
     (cases_Bool (is_eq (cmp q key)))

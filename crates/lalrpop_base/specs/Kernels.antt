@@ -1,9 +1,8 @@
 -- Kernels in the order of their numbers, and how many were handed out.
-use Rattle.std.specs.Prelude.{◌≡◌, ℕ, zero, suc, ◌-◌, ◌<◌, ◌≤◌, ◌==◌, cond, ◌++◌, ◌∷◌, [], List, length, drop, slice_get, Option, Some, None, Contains}
+use Rattle.std.specs.Prelude.{◌≡◌, ℕ, zero, suc, ◌-◌, ◌≤◌, ◌==◌, cond, ◌++◌, ◌∷◌, [], List, length, drop, slice_get, Option, Some, None, Contains}
 use Rattle.std.specs.declared.cmp.Ordering.{Ordering}
 use Rattle.std.specs.Option.{option_to_list}
 use Rattle.std.specs.BTreeMap.{BTreeMap, get}
-use Rattle.lalrpop_base.specs.Places.{AllDiffer}
 
 pub record Kernels (K : Type 0) : Type 0 where
   pub list : List K

@@ -64,7 +64,7 @@ impl<K: Kernel> KernelSet<K> {
     pub fn add_state(&mut self, kernel: K) -> Result<K::Index, OutOfMemory>
         ensures added { OnOk result (AddsOnce self.old.list self.new.list kernel) }
         ensures numbered { IfOk result (λ index. (n : ℕ) × (index ≡ K.numbered n) × (slice_get self.new.list n ≡ Some kernel)) }
-        ensures differ { AllDiffer self.new.list }
+        ensures differ { OnOk result (AllDiffer self.new.list) }
         ensures handed { self.new.handed ≡ self.old.handed }
         ensures err { OnErr result (self.new ≡ self.old) }
     {
