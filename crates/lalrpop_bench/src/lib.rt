@@ -16,3 +16,11 @@ mod lr1_core;
 mod plain;
 #[cfg(test)]
 mod repr;
+mod interpret;
+mod collections;
+#[cfg(test)]
+mod kernel_set;
+pub mod plain;
+#[cfg(test)]
+mod repr;
+pub mod word_lookahead;
