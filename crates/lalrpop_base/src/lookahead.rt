@@ -37,9 +37,9 @@ pub trait Lookahead: fmt::Debug + Eq + Ord + Hash + Drop + Collection<Item = Sel
 
     /// The conflicts of a state, in order.
     fn conflicts<'grammar>(
+        alloc: Global,
         state: &State<'grammar, Self>,
         terminals: &TerminalSet,
-        alloc: Global,
     ) -> Result<Vec<Conflict<'grammar, Self>>, OutOfMemory>
         ensures { IfOk result (λ list. lists_conflicts state.now terminals.now list.items) };
 
@@ -60,7 +60,7 @@ pub trait Lookahead: fmt::Debug + Eq + Ord + Hash + Drop + Collection<Item = Sel
 }
 
 /// Joins a value into another, and tells whether it changed.
-pub fn join<L: Lookahead>(into: &mut L, from: &L, alloc: Global) -> Result<bool, OutOfMemory>
+pub fn join<L: Lookahead>(alloc: Global, into: &mut L, from: &L) -> Result<bool, OutOfMemory>
     ensures joined { OnOk result (L.meaning into.new ≡ joined (L.meaning into.old) (L.meaning from.now)) }
     ensures told { IfOk result (λ changed. MatchBool changed (into.new ≢ into.old) (into.new ≡ into.old)) }
     ensures err { OnErr result (into.new ≡ into.old) }
@@ -70,11 +70,11 @@ pub fn join<L: Lookahead>(into: &mut L, from: &L, alloc: Global) -> Result<bool,
 }
 
 /// A second join changes nothing.
-pub fn join_twice<L: Lookahead>(into: &mut L, from: &L, alloc: Global) -> Result<bool, OutOfMemory>
+pub fn join_twice<L: Lookahead>(alloc: Global, into: &mut L, from: &L) -> Result<bool, OutOfMemory>
     ensures { IfOk result (λ changed. changed ≡ false) }
 {
-    join(into, from, alloc)?;
-    join(into, from, alloc)
+    join(alloc, into, from)?;
+    join(alloc, into, from)
 }
 
 /// A value that means the empty set.

@@ -24,9 +24,9 @@ one_more bit bound t there =
     ⊎_elim
     (λ less. rw (ne_eqb bit bound (λ same. omega arith), lt-ltb bit bound less, lt-ltb bit (suc bound) (omega arith)) refl)
     (λ most. ⊎_elim
-      (λ below. let same : bit ≡ bound = omega arith in rw (eq-eqb bit bound same, lt-ltb bit (suc bound) below, ap t same, there) refl)
-      (λ above. rw (ne_eqb bit bound (λ same. omega arith), le-ltb bit bound most, le-ltb bit (suc bound) above) refl)
-      (cases_lt bit (suc bound)))
+    (λ below. let same : bit ≡ bound = omega arith in rw (eq-eqb bit bound same, lt-ltb bit (suc bound) below, ap t same, there) refl)
+    (λ above. rw (ne_eqb bit bound (λ same. omega arith), le-ltb bit bound most, le-ltb bit (suc bound) above) refl)
+    (cases_lt bit (suc bound)))
     (cases_lt bit bound)
 
 not_more : (bit bound : ℕ) (t : ℕ → Bool) → t bound ≡ false → (nat_lt bit bound && t bit) ≡ (nat_lt bit (suc bound) && t bit)
@@ -34,9 +34,9 @@ not_more bit bound t absent =
     ⊎_elim
     (λ less. rw (lt-ltb bit bound less, lt-ltb bit (suc bound) (omega arith)) refl)
     (λ most. ⊎_elim
-      (λ below. let same : bit ≡ bound = omega arith in rw (ap t same, absent, le-ltb bit bound most, lt-ltb bit (suc bound) below) refl)
-      (λ above. rw (le-ltb bit bound most, le-ltb bit (suc bound) above) refl)
-      (cases_lt bit (suc bound)))
+    (λ below. let same : bit ≡ bound = omega arith in rw (ap t same, absent, le-ltb bit bound most, lt-ltb bit (suc bound) below) refl)
+    (λ above. rw (le-ltb bit bound most, le-ltb bit (suc bound) above) refl)
+    (cases_lt bit (suc bound)))
     (cases_lt bit bound)
 
 has-bits_below : (bound word bit : ℕ) → has (bits_below bound word) bit ≡ (nat_lt bit bound && has_bit word bit)

@@ -42,7 +42,12 @@ fn maps_of_collections(rt: HostRuntime) -> Result<(), Fail> {
     assert!(rt; keys.get(&1).is_some());
     assert!(rt; keys.get(&2).is_none());
     let mut sets: Multimap<u32, Set<char>> = Multimap::new(alloc);
-    for (key, value, changed) in [(0, 'a', true), (0, 'b', true), (0, 'b', false), (1, 'a', true)] {
+    for (key, value, changed) in [
+        (0, 'a', true),
+        (0, 'b', true),
+        (0, 'b', false),
+        (1, 'a', true),
+    ] {
         assert_eq!(rt; sets.push(key, value)?, changed);
     }
     let mut counts = Vec::new(alloc);
@@ -74,10 +79,10 @@ fn joins(rt: HostRuntime) -> Result<(), Fail> {
     let terminals = TerminalSet::new(alloc, all)?;
     let mut set: TokenSet = make_empty(alloc);
     let eof = TokenSet::of(alloc, Token::Eof, &terminals)?;
-    assert_eq!(rt; join(&mut set, &eof, alloc)?, true);
-    assert_eq!(rt; join(&mut set, &eof, alloc)?, false);
+    assert_eq!(rt; join(alloc, &mut set, &eof)?, true);
+    assert_eq!(rt; join(alloc, &mut set, &eof)?, false);
     let every = TokenSet::all(alloc, &terminals)?;
-    assert_eq!(rt; join_twice(&mut set, &every, alloc)?, false);
+    assert_eq!(rt; join_twice(alloc, &mut set, &every)?, false);
     assert!(rt; set == Lookahead::copy(&every, alloc)?);
     Ok(())
 }

@@ -56,9 +56,7 @@ fn kernels_are_numbered_once(rt: HostRuntime) -> Result<(), Fail> {
 /// The production `S = "x"`.
 fn production(alloc: Global) -> Result<Production, OutOfMemory> {
     let mut symbols = Sequence::new(alloc);
-    symbols.push(Symbol::Terminal(TerminalString::Literal(Text::new(
-        alloc, "x",
-    )?)))?;
+    symbols.push(Symbol::Terminal(TerminalString::Literal(Text::new(alloc, "x")?)))?;
     Ok(Production {
         nonterminal: NonterminalString {
             text: Text::new(alloc, "S")?,

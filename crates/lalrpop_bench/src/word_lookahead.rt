@@ -55,9 +55,9 @@ impl Lookahead for Word {
     ghost lists_conflicts = { λ _ _ _. ⊤ };
 
     fn conflicts<'grammar>(
+        alloc: Global,
         _state: &State<'grammar, Word>,
         _terminals: &TerminalSet,
-        alloc: Global,
     ) -> Result<Vec<Conflict<'grammar, Word>>, OutOfMemory> {
         Ok(Vec::new(alloc))
     }

@@ -50,15 +50,15 @@ impl Lookahead for Nil {
     ghost lists_conflicts = { λ s _ list. list ≡ nil_conflicts s };
 
     fn conflicts<'grammar>(
+        alloc: Global,
         state: &State<'grammar, Nil>,
         _terminals: &TerminalSet,
-        alloc: Global,
     ) -> Result<Vec<Conflict<'grammar, Nil>>, OutOfMemory> {
         let mut list = Vec::new(alloc);
         for (terminal, target) in state.shifts.iter() {
             push_shift_conflicts(
-                &mut list,
                 alloc,
+                &mut list,
                 state.index,
                 terminal,
                 *target,
@@ -82,8 +82,8 @@ impl Lookahead for Nil {
 
 // A shift with each reduction.
 fn push_shift_conflicts<'grammar>(
-    list: &mut Vec<Conflict<'grammar, Nil>>,
     alloc: Global,
+    list: &mut Vec<Conflict<'grammar, Nil>>,
     index: StateIndex,
     terminal: &TerminalString,
     target: StateIndex,

@@ -45,9 +45,9 @@ impl Lookahead for TokenSet {
     ghost lists_conflicts = { λ _ _ _. ⊤ };
 
     fn conflicts<'grammar>(
+        alloc: Global,
         _state: &State<'grammar, TokenSet>,
         _terminals: &TerminalSet,
-        alloc: Global,
     ) -> Result<Vec<Conflict<'grammar, TokenSet>>, OutOfMemory> {
         Ok(Vec::new(alloc))
     }
