@@ -19,9 +19,11 @@ pub trait Kernel: fmt::Debug + Hash + Eq + PartialOrd + Ord + Drop {
     // The index with the number.
     ghost numbered: { ℕ → Self.Index };
 
+    /// The index with a number.
     fn index(number: usize) -> Self::Index
         ensures { result ≡ numbered number };
 
+    /// An equal kernel.
     fn copy(&self, alloc: Global) -> Result<Self, OutOfMemory>
         ensures { IfOk result (λ copy. copy ≡ self.now) };
 

@@ -26,6 +26,7 @@ pub trait Lookahead: fmt::Debug + Eq + Ord + Hash + Drop + Collection<Item = Sel
     // The set that the value stands for.
     ghost meaning: { Self → Bits };
 
+    /// An equal value.
     fn copy(&self, alloc: Global) -> Result<Self, OutOfMemory>
         ensures { IfOk result (λ copy. copy ≡ self.now) };
 

@@ -38,6 +38,7 @@ impl<K: Ord + Drop, C: Collection + Drop> Multimap<K, C> {
         }
     }
 
+    /// Whether nothing was pushed.
     pub fn is_empty(&self) -> bool
         ensures { IsTrue result ↔ (self.now ≡ []) }
     {
@@ -133,7 +134,7 @@ impl<K: Ord + Drop, C: Collection + Drop> IntoIterator for Multimap<K, C> {
 
     type IntoIter = btree_map::IntoIter<K, C>;
 
-    ghost into_iter_gives = { λ m it. it ≡ m };
+    ghost into_iter_gives = { λ m it. (it ≡ m) × IsStrictlySortedBy K.cmp (keys_of m) };
 
     fn into_iter(self) -> btree_map::IntoIter<K, C> {
         Multimap::into_iter(self)
@@ -145,7 +146,7 @@ impl<'a, K: Ord + Drop, C: Collection + Drop> IntoIterator for &'a Multimap<K, C
 
     type IntoIter = btree_map::Iter<'a, K, C>;
 
-    ghost into_iter_gives = { λ m it. it ≡ m.now };
+    ghost into_iter_gives = { λ m it. (it ≡ m.now) × IsStrictlySortedBy K.cmp (keys_of m.now) };
 
     fn into_iter(self) -> btree_map::Iter<'a, K, C> {
         self.iter()

@@ -6,14 +6,19 @@ use super::state::{Conflict, Items, State, TableConstructionError};
 use crate::lookahead::nil::Nil;
 use crate::repr::Production;
 
+/// An item without lookahead.
 pub type Lr0Item<'grammar> = Item<'grammar, Nil>;
 
+/// The items of a state without lookahead.
 pub type Lr0Items<'grammar> = Items<'grammar, Nil>;
 
+/// A state without lookahead.
 pub type Lr0State<'grammar> = State<'grammar, Nil>;
 
+/// A conflict of a state without lookahead.
 pub type Lr0Conflict<'grammar> = Conflict<'grammar, Nil>;
 
+/// States without lookahead, and their conflicts.
 pub type Lr0TableConstructionError<'grammar> = TableConstructionError<'grammar, Nil>;
 
 impl<'grammar> Item<'grammar, Nil> {
