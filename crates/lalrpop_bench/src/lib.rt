@@ -4,23 +4,19 @@
 
 #[cfg(test)]
 mod build;
+mod collections;
 #[cfg(test)]
 mod first;
 #[cfg(test)]
 mod interpret;
+#[cfg(test)]
+mod kernel_set;
 #[cfg(test)]
 mod lookahead;
 #[cfg(test)]
 mod lr1_core;
 #[cfg(test)]
 mod plain;
-#[cfg(test)]
-mod repr;
-mod interpret;
-mod collections;
-#[cfg(test)]
-mod kernel_set;
-pub mod plain;
 #[cfg(test)]
 mod repr;
 pub mod word_lookahead;

@@ -1,10 +1,12 @@
 //! Sets of tokens as lookaheads.
-ghost use Rattle.std.specs.Prelude.{◌≡◌, refl, ⊤};
+ghost use Rattle.std.specs.Prelude.{◌≡◌, refl};
 ghost use Rattle.lalrpop_base.specs.Bits.{no_bits, join, bits_exact};
+ghost use Rattle.lalrpop_base.specs.StateConflicts.{state_conflicts};
 
 use super::Lookahead;
 use super::token_set::TokenSet;
 use crate::collections::Collection;
+use crate::lr1_core::conflict;
 use crate::lr1_core::state::{Conflict, State};
 use crate::memory::OutOfMemory;
 use crate::repr::terminals::TerminalSet;
@@ -42,14 +44,14 @@ impl Lookahead for TokenSet {
         write!(f, " {self:?}")
     }
 
-    ghost lists_conflicts = { λ _ _ _. ⊤ };
+    ghost lists_conflicts = { λ s terminals list. list ≡ state_conflicts terminals s };
 
     fn conflicts<'grammar>(
         alloc: Global,
-        _state: &State<'grammar, TokenSet>,
-        _terminals: &TerminalSet,
+        state: &State<'grammar, TokenSet>,
+        terminals: &TerminalSet,
     ) -> Result<Vec<Conflict<'grammar, TokenSet>>, OutOfMemory> {
-        Ok(Vec::new(alloc))
+        conflict::conflicts(alloc, state, terminals)
     }
 
     ghost equal_is_same = { bits_exact };

@@ -4,7 +4,7 @@ ghost use Rattle.lalrpop_base.specs.StateCopies.{IsSameState, IsShiftedItem};
 
 use super::item::Item;
 use super::state::{Action, Conflict, Items, State};
-use crate::lookahead::token_set::TokenSet;
+use crate::lookahead::Lookahead;
 use crate::memory::OutOfMemory;
 use crate::repr::{Production, Symbol, TerminalString};
 use std::alloc::{AllocError, Global};
@@ -25,19 +25,19 @@ impl Clone for TerminalString {
     }
 }
 
-impl<'grammar> Item<'grammar, TokenSet> {
+impl<'grammar, L: Lookahead> Item<'grammar, L> {
     /// A copy of its own.
     pub fn clone(&self, alloc: Global) -> Result<Self, OutOfMemory>
         ensures copy { IfOk result (λ copy. copy ≡ self.now) }
     {
-        Ok(self.with_lookahead(self.lookahead.clone(alloc)?))
+        Ok(self.with_lookahead(self.lookahead.copy(alloc)?))
     }
 
     /// The symbol behind the dot, and the item with the dot behind it.
     pub fn shifted_item(
         &self,
         alloc: Global,
-    ) -> Result<Option<(&'grammar Symbol, Item<'grammar, TokenSet>)>, OutOfMemory>
+    ) -> Result<Option<(&'grammar Symbol, Item<'grammar, L>)>, OutOfMemory>
         ensures shifted { IfOk result (IsShiftedItem self.now) }
     {
         let symbols = self.production.symbols.as_slice();
@@ -45,7 +45,7 @@ impl<'grammar> Item<'grammar, TokenSet> {
             let item = Item {
                 production: self.production,
                 index: self.index + 1,
-                lookahead: self.lookahead.clone(alloc)?,
+                lookahead: self.lookahead.copy(alloc)?,
             };
             Ok(Some((&symbols[self.index], item)))
         } else {
@@ -54,7 +54,7 @@ impl<'grammar> Item<'grammar, TokenSet> {
     }
 }
 
-impl<'grammar> Items<'grammar, TokenSet> {
+impl<'grammar, L: Lookahead> Items<'grammar, L> {
     /// A copy of its own.
     pub fn clone(&self, alloc: Global) -> Result<Self, OutOfMemory>
         ensures copy { IfOk result (λ copy. copy.vec.items ≡ self.now.vec.items) }
@@ -67,7 +67,7 @@ impl<'grammar> Items<'grammar, TokenSet> {
     }
 }
 
-impl<'grammar> State<'grammar, TokenSet> {
+impl<'grammar, L: Lookahead> State<'grammar, L> {
     /// A copy of its own.
     pub fn clone(&self, alloc: Global) -> Result<Self, OutOfMemory>
         ensures copy { IfOk result (IsSameState self.now) }
@@ -82,15 +82,15 @@ impl<'grammar> State<'grammar, TokenSet> {
     }
 }
 
-fn clone_reductions<'grammar>(
+fn clone_reductions<'grammar, L: Lookahead>(
     alloc: Global,
-    reductions: &[(TokenSet, &'grammar Production)],
-) -> Result<Vec<(TokenSet, &'grammar Production)>, OutOfMemory>
+    reductions: &[(L, &'grammar Production)],
+) -> Result<Vec<(L, &'grammar Production)>, OutOfMemory>
     ensures { IfOk result (λ copy. copy.items ≡ reductions.now) }
 {
     let mut copy = Vec::new(alloc);
-    for (tokens, production) in reductions {
-        copy.push((tokens.clone(alloc)?, *production))?;
+    for (lookahead, production) in reductions {
+        copy.push((lookahead.copy(alloc)?, *production))?;
     }
     Ok(copy)
 }
@@ -107,14 +107,14 @@ impl<'grammar> Action<'grammar> {
     }
 }
 
-impl<'grammar> Conflict<'grammar, TokenSet> {
+impl<'grammar, L: Lookahead> Conflict<'grammar, L> {
     /// A copy of its own.
     pub fn clone(&self, alloc: Global) -> Result<Self, OutOfMemory>
         ensures copy { IfOk result (λ copy. copy ≡ self.now) }
     {
         Ok(Conflict {
             state: self.state,
-            lookahead: self.lookahead.clone(alloc)?,
+            lookahead: self.lookahead.copy(alloc)?,
             production: self.production,
             action: self.action.clone(alloc)?,
         })

@@ -1,5 +1,5 @@
 //! Lists of items as kernels.
-ghost use Rattle.std.specs.Prelude.{◌≡◌, IfOk};
+ghost use Rattle.std.specs.Prelude.{◌≡◌};
 ghost use Rattle.lalrpop_base.specs.Exact.{list_exact};
 ghost use Rattle.lalrpop_base.specs.Items.{dotted_exact};
 ghost use Rattle.lalrpop_base.specs.contracts.exact.ProductionExact.TheImpl.Laws.{exact-law as production_exact};
@@ -15,18 +15,6 @@ use std::alloc::Global;
 
 impl<'grammar, L: Lookahead> Exact for Item<'grammar, L> {
     ghost exact = { dotted_exact _ _ production_exact L.equal_is_same };
-}
-
-impl<'grammar, L: Lookahead> Item<'grammar, L> {
-    pub fn clone(&self, alloc: Global) -> Result<Self, OutOfMemory>
-        ensures { IfOk result (λ copy. copy ≡ self.now) }
-    {
-        Ok(Item {
-            production: self.production,
-            index: self.index,
-            lookahead: self.lookahead.copy(alloc)?,
-        })
-    }
 }
 
 impl<'grammar, L: Lookahead> Kernel for Sequence<Item<'grammar, L>> {
