@@ -10,6 +10,10 @@ use Rattle.lalrpop_base.specs.Bits.{Bits, has, no_bits, with_bit, join, same_bit
 abbrev pub has_bit : ℕ → ℕ → Bool
 has_bit word bit = bit_at word bit == 1
 
+-- whether the bit is one of the 64, and the word has it
+abbrev pub holds_bit : ℕ → ℕ → Bool
+holds_bit word bit = nat_lt bit 64 && has_bit word bit
+
 -- the bits of the word below a bound
 abbrev pub bits_below : ℕ → ℕ → Bits
 bits_below zero word = no_bits

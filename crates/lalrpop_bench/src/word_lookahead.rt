@@ -1,8 +1,11 @@
 //! A lookahead of a user's own: tokens whose bits are below 64, as the bits of one word.
-ghost use Rattle.std.specs.Prelude.{◌≡◌, ◌==◌, bit_or, refl, ⊤};
+mod conflicts;
+
+ghost use Rattle.std.specs.Prelude.{◌≡◌, ◌==◌, ◌<◌, ◌^◌, bit_or, bit_and, IsTrue, refl};
 ghost use Rattle.std.proofs.Common.{ap, ◌∙◌, eqb-true};
 ghost use Rattle.lalrpop_base.specs.Bits.{no_bits};
-ghost use Rattle.lalrpop_bench.specs.Words.{bits_of_word, same_word, word-zero, word-or};
+ghost use Rattle.lalrpop_bench.specs.WordConflicts.{word_conflicts};
+ghost use Rattle.lalrpop_bench.specs.Words.{bits_of_word, holds_bit, same_word, word-zero, word-or};
 
 use lalrpop_base::collections::Collection;
 use lalrpop_base::lookahead::Lookahead;
@@ -16,6 +19,36 @@ use std::fmt;
 #[derive(Clone, Copy, Debug, PartialEq, Eq, PartialOrd, Ord, Hash)]
 pub struct Word {
     pub bits: u64,
+}
+
+impl Word {
+    /// Whether the token with the bit is in the set.
+    pub fn holds(self, bit: usize) -> bool
+        ensures holds { result ≡ holds_bit self.bits bit }
+        ensures low { IsTrue result → bit < 64 }
+    {
+        if bit >= 64 {
+            return false;
+        }
+        (self.bits >> bit) & 1 == 1
+    }
+
+    /// The set of the token with the bit.
+    pub fn single(bit: usize) -> Word
+        requires { bit < 64 }
+        ensures { result.bits ≡ 2 ^ bit }
+    {
+        Word { bits: 1 << bit }
+    }
+
+    /// The tokens that are in both sets.
+    pub fn intersection(self, other: Word) -> Word
+        ensures { result.bits ≡ bit_and self.bits other.bits }
+    {
+        Word {
+            bits: self.bits & other.bits,
+        }
+    }
 }
 
 impl Collection for Word {
@@ -52,14 +85,14 @@ impl Lookahead for Word {
         write!(f, " {self:?}")
     }
 
-    ghost lists_conflicts = { λ _ _ _. ⊤ };
+    ghost lists_conflicts = { λ s terminals list. list ≡ word_conflicts terminals s };
 
     fn conflicts<'grammar>(
         alloc: Global,
-        _state: &State<'grammar, Word>,
-        _terminals: &TerminalSet,
+        state: &State<'grammar, Word>,
+        terminals: &TerminalSet,
     ) -> Result<Vec<Conflict<'grammar, Word>>, OutOfMemory> {
-        Ok(Vec::new(alloc))
+        conflicts::conflicts(alloc, state, terminals)
     }
 
     ghost equal_is_same = { λ a b h. ap (λ n. record { bits = n }) (eqb-true a.bits b.bits h) };
