@@ -4,8 +4,7 @@ ghost use Rattle.std.proofs.Common.{ap, eqb-true};
 
 use lalrpop_base::kernel_set::{Kernel, KernelSet};
 use lalrpop_base::lookahead::nil::Nil;
-use lalrpop_base::lr1_core::item::Item;
-use lalrpop_base::lr1_core::lr0::Lr0Item;
+use lalrpop_base::lr1_core::item::{Item, Lr0Item};
 use lalrpop_base::lr1_core::state::StateIndex;
 use lalrpop_base::memory::OutOfMemory;
 use lalrpop_base::repr::{ActionFn, NonterminalString, Production, Span, Symbol, TerminalString};

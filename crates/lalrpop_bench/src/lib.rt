@@ -4,6 +4,7 @@
 
 #[cfg(test)]
 mod build;
+#[cfg(test)]
 mod collections;
 #[cfg(test)]
 mod first;

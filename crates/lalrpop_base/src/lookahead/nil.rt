@@ -4,6 +4,7 @@ ghost use Rattle.lalrpop_base.specs.Bits.{no_bits, join_self};
 ghost use Rattle.lalrpop_base.specs.NilConflicts.{nil_conflict, nil_conflicts, nil_reduce_conflicts};
 
 use crate::collections::Collection;
+use crate::exact::Exact;
 use crate::lookahead::Lookahead;
 use crate::lr1_core::state::{Action, Conflict, State, StateIndex};
 use crate::memory::OutOfMemory;
@@ -15,6 +16,10 @@ use std::fmt;
 /// The lookahead of an LR(0) item: none.
 #[derive(Clone, Copy, Debug, PartialEq, Eq, PartialOrd, Ord, Hash)]
 pub struct Nil;
+
+impl Exact for Nil {
+    ghost exact = { λ a b h. refl };
+}
 
 impl Collection for Nil {
     type Item = Nil;

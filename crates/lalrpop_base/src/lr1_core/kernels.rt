@@ -6,16 +6,11 @@ ghost use Rattle.lalrpop_base.specs.contracts.exact.ProductionExact.TheImpl.Laws
 
 use super::item::Item;
 use super::state::StateIndex;
-use crate::exact::Exact;
 use crate::kernel_set::Kernel;
 use crate::lookahead::Lookahead;
 use crate::memory::OutOfMemory;
 use crate::sequence::Sequence;
 use std::alloc::Global;
-
-impl<'grammar, L: Lookahead> Exact for Item<'grammar, L> {
-    ghost exact = { dotted_exact _ _ production_exact L.equal_is_same };
-}
 
 impl<'grammar, L: Lookahead> Kernel for Sequence<Item<'grammar, L>> {
     type Index = StateIndex;

@@ -6,9 +6,6 @@ use super::state::{Conflict, Items, State, TableConstructionError};
 use crate::lookahead::nil::Nil;
 use crate::repr::Production;
 
-/// An item without lookahead.
-pub type Lr0Item<'grammar> = Item<'grammar, Nil>;
-
 /// The items of a state without lookahead.
 pub type Lr0Items<'grammar> = Items<'grammar, Nil>;
 
@@ -30,19 +27,6 @@ impl<'grammar> Item<'grammar, Nil> {
         Item {
             production,
             index,
-            lookahead: Nil,
-        }
-    }
-}
-
-impl<'grammar, L> Item<'grammar, L> {
-    /// The item without its lookahead.
-    pub fn to_lr0(&self) -> Lr0Item<'grammar>
-        ensures { result ≡ record { production = self.now.production; index = self.now.index; lookahead = record {} } }
-    {
-        Item {
-            production: self.production,
-            index: self.index,
             lookahead: Nil,
         }
     }
