@@ -2,7 +2,7 @@
 use Rattle.std.specs.Prelude.{ℕ, ◌^◌, ◌==◌, not, bit_and, List, [], ◌∷◌, ◌++◌, map, filter, Option, Some, None}
 use Rattle.std.specs.List.{flat_map}
 use Rattle.std.specs.Borrow.{Bor}
-use Rattle.lalrpop_base.specs.StateConflicts.{place_of}
+use Rattle.lalrpop_base.specs.TerminalPlaces.{place_in}
 use Rattle.lalrpop_base.specs.declared.repr.Production.{Production}
 use Rattle.lalrpop_base.specs.declared.repr.TerminalString.{TerminalString}
 use Rattle.lalrpop_base.specs.declared.lr1_core.state.StateIndex.{StateIndex}
@@ -31,7 +31,7 @@ conflicts_on_place state t target reductions (Some bit) = conflicts_on_bit state
 
 -- the conflicts of a shift
 abbrev pub shift_conflicts : List TerminalString → StateIndex → List Reduction → TerminalString × StateIndex → List (Conflict Word)
-shift_conflicts terminals state reductions e = conflicts_on_place state e.0 e.1 reductions (place_of terminals e.0)
+shift_conflicts terminals state reductions e = conflicts_on_place state e.0 e.1 reductions (place_in terminals e.0)
 
 -- two reductions, on all bits that they share
 abbrev pub reduce_conflict : StateIndex → Reduction → Reduction → Conflict Word

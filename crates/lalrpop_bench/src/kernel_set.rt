@@ -3,9 +3,7 @@ ghost use Rattle.std.specs.Prelude.{◌≡◌, ◌==◌};
 ghost use Rattle.std.proofs.Common.{ap, eqb-true};
 
 use lalrpop_base::kernel_set::{Kernel, KernelSet};
-use lalrpop_base::lookahead::nil::Nil;
 use lalrpop_base::lr1_core::item::{Item, Lr0Item};
-use lalrpop_base::lr1_core::state::StateIndex;
 use lalrpop_base::memory::OutOfMemory;
 use lalrpop_base::repr::{ActionFn, NonterminalString, Production, Span, Symbol, TerminalString};
 use lalrpop_base::sequence::Sequence;
@@ -66,19 +64,23 @@ fn production(alloc: Global) -> Result<Production, OutOfMemory> {
     })
 }
 
+/// The numbers of a kernel without items, of a kernel of one item and of its copy, and the dot of that item.
+fn numbers(alloc: Global, production: &Production) -> Result<[usize; 4], OutOfMemory> {
+    let mut kernels: KernelSet<Sequence<Lr0Item>> = KernelSet::new(alloc);
+    let first = kernels.add_state(Sequence::new(alloc))?;
+    let mut kernel = Sequence::new(alloc);
+    kernel.push(Item::lr0(production, 0))?;
+    let copy = Kernel::copy(&kernel, alloc)?;
+    let second = kernels.add_state(kernel)?;
+    let third = kernels.add_state(copy)?;
+    let lr0 = Item::lr0(production, 0).to_lr0();
+    Ok([first.0, second.0, third.0, lr0.index])
+}
+
 #[test]
 fn items_are_kernels(rt: HostRuntime) -> Result<(), Fail> {
     let alloc = rt.alloc();
     let production = production(alloc)?;
-    let mut kernels: KernelSet<Sequence<Lr0Item>> = KernelSet::new(alloc);
-    assert_eq!(rt; kernels.add_state(Sequence::new(alloc))?, StateIndex(0));
-    let mut kernel = Sequence::new(alloc);
-    kernel.push(Item::lr0(&production, 0))?;
-    let copy = Kernel::copy(&kernel, alloc)?;
-    assert_eq!(rt; kernels.add_state(kernel)?, StateIndex(1));
-    assert_eq!(rt; kernels.add_state(copy)?, StateIndex(1));
-    let lr0 = Item::lr0(&production, 0).to_lr0();
-    assert_eq!(rt; lr0.index, 0);
-    assert!(rt; lr0.lookahead == Nil);
+    assert_eq!(rt; numbers(alloc, &production)?, [0, 1, 1, 0]);
     Ok(())
 }
