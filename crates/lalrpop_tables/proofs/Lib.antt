@@ -5,6 +5,7 @@ pub mod Updates
 pub mod Subsets
 pub mod Grammars
 pub mod Tables
+pub mod ClosureLoops
 pub mod Universe
 pub mod Building
 pub mod Shifting

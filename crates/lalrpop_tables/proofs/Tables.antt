@@ -29,7 +29,7 @@ use Rattle.lalrpop_tables.proofs.Lists.{Contains-none, Contains-here, Contains-t
 use Rattle.lalrpop_tables.proofs.Places.{midst, around, at_midst, apart_from_differ, same_some, contains_at}
 use Rattle.lalrpop_tables.proofs.Subsets.{AreBelow, count_few, join_counts, join_below}
 
-abbrev Entry : Type 0
+abbrev pub Entry : Type 0
 Entry = Dotted Nil × Bits
 
 -- a bit of a token is below the number of tokens
@@ -80,13 +80,13 @@ keys_midst front back e = map-append (λ (x : Entry). x.0) front (e ∷ back)
 keys_around : (front back : Found) → keys_of (front ++ back) ≡ keys_of front ++ keys_of back
 keys_around front back = map-append (λ (x : Entry). x.0) front back
 
-joined_keys : (key : Dotted Nil) (tokens : Bits) (told : Bool) (old new : Found) → IsJoinedAt key tokens told old new → (k : Dotted Nil) → Contains (keys_of old) k → Contains (keys_of new) k
+pub joined_keys : (key : Dotted Nil) (tokens : Bits) (told : Bool) (old new : Found) → IsJoinedAt key tokens told old new → (k : Dotted Nil) → Contains (keys_of old) k → Contains (keys_of new) k
 joined_keys key tokens told old new (fresh front back before after t) k c =
     subst (λ (ks : List (Dotted Nil)). Contains ks k) (sym (ap keys_of after ∙ keys_midst front back (key, tokens))) (around (keys_of front) (keys_of back) key k (subst (λ (ks : List (Dotted Nil)). Contains ks k) (ap keys_of before ∙ keys_around front back) c))
 joined_keys key tokens told old new (known front back s before after t) k c =
     subst (λ (ks : List (Dotted Nil)). Contains ks k) (ap keys_of before ∙ keys_midst front back (key, s) ∙ sym (ap keys_of after ∙ keys_midst front back (key, join s tokens))) c
 
-joined_from : (key : Dotted Nil) (tokens : Bits) (told : Bool) (old new : Found) → IsJoinedAt key tokens told old new → (k : Dotted Nil) → Contains (keys_of new) k → Contains (keys_of old) k ⊎ ((told ≡ true) × (key ≡ k))
+pub joined_from : (key : Dotted Nil) (tokens : Bits) (told : Bool) (old new : Found) → IsJoinedAt key tokens told old new → (k : Dotted Nil) → Contains (keys_of new) k → Contains (keys_of old) k ⊎ ((told ≡ true) × (key ≡ k))
 joined_from key tokens told old new (fresh front back before after t) k c = elim (midst (keys_of front) (keys_of back) key k (subst (λ (ks : List (Dotted Nil)). Contains ks k) (ap keys_of after ∙ keys_midst front back (key, tokens)) c)) [
   | inl e ↦ inr (t, e)
   | inr d ↦ inl (subst (λ (ks : List (Dotted Nil)). Contains ks k) (sym (ap keys_of before ∙ keys_around front back)) d)
@@ -94,19 +94,19 @@ joined_from key tokens told old new (fresh front back before after t) k c = elim
 joined_from key tokens told old new (known front back s before after t) k c =
     inl (subst (λ (ks : List (Dotted Nil)). Contains ks k) (ap keys_of after ∙ keys_midst front back (key, join s tokens) ∙ sym (ap keys_of before ∙ keys_midst front back (key, s))) c)
 
-joined_there : (key : Dotted Nil) (tokens : Bits) (told : Bool) (old new : Found) → IsJoinedAt key tokens told old new → Contains (keys_of new) key
+pub joined_there : (key : Dotted Nil) (tokens : Bits) (told : Bool) (old new : Found) → IsJoinedAt key tokens told old new → Contains (keys_of new) key
 joined_there key tokens told old new (fresh front back before after t) = subst (λ (ks : List (Dotted Nil)). Contains ks key) (sym (ap keys_of after ∙ keys_midst front back (key, tokens))) (at_midst (keys_of front) (keys_of back) key)
 joined_there key tokens told old new (known front back s before after t) = subst (λ (ks : List (Dotted Nil)). Contains ks key) (sym (ap keys_of after ∙ keys_midst front back (key, join s tokens))) (at_midst (keys_of front) (keys_of back) key)
 
-stacked_more : (told : Bool) (key : Dotted Nil) (stack pushed : List (Dotted Nil)) → pushed ≡ cond told (stack ++ key ∷ []) stack → (k : Dotted Nil) → Contains stack k → Contains pushed k
+pub stacked_more : (told : Bool) (key : Dotted Nil) (stack pushed : List (Dotted Nil)) → pushed ≡ cond told (stack ++ key ∷ []) stack → (k : Dotted Nil) → Contains stack k → Contains pushed k
 stacked_more true key stack pushed e k c = subst (λ (ks : List (Dotted Nil)). Contains ks k) (sym e) (Contains-append_left stack (key ∷ []) k c)
 stacked_more false key stack pushed e k c = subst (λ (ks : List (Dotted Nil)). Contains ks k) (sym e) c
 
-stacked_last : (told : Bool) (key : Dotted Nil) (stack pushed : List (Dotted Nil)) → pushed ≡ cond told (stack ++ key ∷ []) stack → told ≡ true → Contains pushed key
+pub stacked_last : (told : Bool) (key : Dotted Nil) (stack pushed : List (Dotted Nil)) → pushed ≡ cond told (stack ++ key ∷ []) stack → told ≡ true → Contains pushed key
 stacked_last true key stack pushed e t = subst (λ (ks : List (Dotted Nil)). Contains ks key) (sym e) (Contains-append_right stack (key ∷ []) key (Contains-here key []))
 stacked_last false key stack pushed e t = cc
 
-stacked_of : (told : Bool) (key : Dotted Nil) (stack pushed : List (Dotted Nil)) → pushed ≡ cond told (stack ++ key ∷ []) stack → (k : Dotted Nil) → Contains pushed k → Contains stack k ⊎ (key ≡ k)
+pub stacked_of : (told : Bool) (key : Dotted Nil) (stack pushed : List (Dotted Nil)) → pushed ≡ cond told (stack ++ key ∷ []) stack → (k : Dotted Nil) → Contains pushed k → Contains stack k ⊎ (key ≡ k)
 stacked_of true key stack pushed e k c = elim (Contains-append_cases stack (key ∷ []) k (subst (λ (ks : List (Dotted Nil)). Contains ks k) e c)) [
   | inl d ↦ inl d
   | inr d ↦ elim (Contains-cases key [] k d) [ inl same ↦ inr same | inr n ↦ absurd (Contains-none k n) ]
@@ -277,7 +277,7 @@ module _ (g : Rules) where
   table_popped kernel table stack i t = record { each = t.each; begun = t.begun; sound = t.sound; differ = t.differ; stacked = λ j c. t.stacked j (Contains-append_left stack (i ∷ []) j c) }
 
   -- ---- what it has then
-  abbrev lr0 : Production × ℕ → Dotted Nil
+  abbrev pub lr0 : Production × ℕ → Dotted Nil
   lr0 x = record { production = x.0; index = x.1; lookahead = record {} }
 
   key_at : (table : Found) (i : ℕ) (x : Production × ℕ) → slice_get (map dotted_of (map item_of table)) i ≡ Some x → slice_get (keys_of table) i ≡ Some (lr0 x)
@@ -344,149 +344,3 @@ module _ (g : Rules) where
     differ = subst (λ (xs : Found). AllDiffer (keys_of xs)) (sym e) (λ i j x l at. cc);
     stacked = λ x c. absurd (Contains-none x (subst (λ (xs : List (Dotted Nil)). Contains xs x) f c));
   }
-
--- ---- the loop
-module _ (g : Grammar) (ordered : (q : Production) → Contains (productions g) q → Contains (productions_of g q.nonterminal) q) where
-  pub Closing-step : (kernel : List (Dotted Bits)) (i : Dotted Nil) (old new : Found) (stack pushed : List (Dotted Nil)) → IsClosing g kernel old (stack ++ i ∷ []) → IsExpanded g i old new stack pushed → IsClosing g kernel new pushed
-  Closing-step kernel i old new stack pushed c x =
-      let i_found = c.found i (Contains-append_right stack (i ∷ []) i (Contains-here i [])) in
-      record {
-        is_table = x.kept kernel i_found (table_popped (rules_of g) kernel old stack i c.is_table);
-        found = λ k d. elim (x.pushed_found k d) [ inl h ↦ x.known k (c.found k (Contains-append_left stack (i ∷ []) k h)) | inr h ↦ h ];
-        has = λ k d. x.known k (c.has k d);
-        done = λ k d. elim (x.from k d) [
-          | inr h ↦ inl h
-          | inl h ↦ elim (c.done k h) [
-            | inr settled ↦ inr (λ q after e m. x.known (begun_of q) (settled q after e m))
-            | inl on ↦ elim (Contains-append_cases stack (i ∷ []) k on) [
-              | inl s ↦ inl (x.stacked k s)
-              | inr last ↦ elim (Contains-cases i [] k last) [
-                | inl same ↦ inr (subst (IsSettled g new) same x.settled)
-                | inr n ↦ absurd (Contains-none k n)
-              ]
-            ]
-          ]
-        ];
-      }
-
-  pub Closing-smaller : (kernel : List (Dotted Bits)) (i : Dotted Nil) (old new : Found) (stack pushed : List (Dotted Nil)) → IsClosing g kernel old (stack ++ i ∷ []) → IsExpanded g i old new stack pushed → work (rules_of g) kernel new pushed < work (rules_of g) kernel old (stack ++ i ∷ [])
-  Closing-smaller kernel i old new stack pushed c x =
-      let i_found = c.found i (Contains-append_right stack (i ∷ []) i (Contains-here i [])) in
-      let before = table_popped (rules_of g) kernel old stack i c.is_table in
-      let few_new = weight_few (rules_of g) kernel new pushed (x.kept kernel i_found before) in
-      let more = x.counted kernel i_found before in
-      let l = length-append stack (i ∷ []) in
-      omega arith
-
-  complete : (kernel : List (Dotted Bits)) (table : Found) → IsClosing g kernel table [] → (p : Production) (n : ℕ) → InClosure (productions g) (InKernel kernel) p n → Contains (keys_of table) (lr0 (rules_of g) (p, n))
-  complete kernel table c p n (in_kernel h) = c.has (lr0 (rules_of g) (p, n)) h
-  complete kernel table c p n (expanded {p = parent} {dot} q after h e m) =
-      elim (c.done (lr0 (rules_of g) (parent, dot)) (complete kernel table c parent dot h)) [
-        | inl s ↦ absurd (Contains-none (lr0 (rules_of g) (parent, dot)) s)
-        | inr settled ↦ settled q after e (ordered q m)
-      ]
-
-  pub Closing-end : (kernel : List (Dotted Bits)) (table : Found) → IsClosing g kernel table [] → IsClosureOf (rules_of g) kernel (map item_of table)
-  Closing-end kernel table c = Table-items (rules_of g) kernel table [] c.is_table (complete kernel table c)
-
--- ---- an item is expanded
-drop_at : {X : Type 0} (xs : List X) (n : ℕ) (x : X) → slice_get xs n ≡ Some x → drop n xs ≡ x ∷ drop (n + 1) xs
-drop_at [] n x h = cc
-drop_at {X} (y ∷ xs) zero x h = let e : y ≡ x = same_some y x h in ap (λ (z : X). z ∷ xs) e
-drop_at (y ∷ xs) (suc n) x h = let e : suc (n + 1) ≡ suc n + 1 = omega arith in drop_at xs n x h ∙ ap (λ (k : ℕ). x ∷ drop k (y ∷ xs)) e
-
-at_drop : {X : Type 0} (xs : List X) (n : ℕ) (x : X) (after : List X) → drop n xs ≡ x ∷ after → slice_get xs n ≡ Some x
-at_drop [] zero x after h = cc
-at_drop [] (suc n) x after h = cc
-at_drop (y ∷ xs) zero x after h = let e : y ≡ x = cc in ap Some e
-at_drop (y ∷ xs) (suc n) x after h = at_drop xs n x after h
-
-module _ (g : Grammar) (i : Dotted Nil) (old : Found) (stack : List (Dotted Nil)) where
-  -- where the productions of the nonterminal behind the dot went to the table
-  pub Expanded-over : (name : NonterminalString) (tokens : Bits) (new : Found) (pushed : List (Dotted Nil)) → slice_get i.production.symbols i.index ≡ Some (Nonterminal name) →
-      ((p : Production) → Contains (productions_of g name) p → p.nonterminal ≡ name) → ((p : Production) → Contains (productions_of g name) p → Contains (productions g) p) →
-      ((kernel : List (Dotted Bits)) → IsTable (rules_of g) kernel old stack → FitsTokens g.terminals tokens) → Spreads (rules_of g) tokens (productions_of g name) old new stack pushed → IsExpanded g i old new stack pushed
-  Expanded-over name tokens new pushed behind named among fits s =
-      let at = drop_at i.production.symbols i.index (Nonterminal name) behind in
-      let begun : (kernel : List (Dotted Bits)) → Contains (keys_of old) i → IsTable (rules_of g) kernel old stack → AreBegun (rules_of g) kernel (productions_of g name) = λ kernel found t p c.
-      let e = key_entry (rules_of g) old i found in
-      expanded p (drop (i.index + 1) i.production.symbols) (t.sound (i, e.0) e.1) (at ∙ ap (λ (a : NonterminalString). Nonterminal a ∷ drop (i.index + 1) i.production.symbols) (sym (named p c))) (among p c) in
-      record {
-        kept = λ kernel found t. s.kept kernel (fits kernel t) (begun kernel found t) t;
-        counted = λ kernel found t. s.counted kernel (fits kernel t) (begun kernel found t) t;
-        known = s.known;
-        from = s.from;
-        stacked = s.stacked;
-        pushed_found = s.pushed_found;
-        settled = λ q after e m.
-            let same : Nonterminal q.nonterminal ∷ after ≡ Nonterminal name ∷ drop (i.index + 1) i.production.symbols = sym e ∙ at in
-            let is : q.nonterminal ≡ name = cc in
-            s.there q (subst (λ (a : NonterminalString). Contains (productions_of g a) q) is m);
-      }
-
-  -- where no nonterminal stands behind the dot
-  pub Expanded-none : ((name : NonterminalString) → slice_get i.production.symbols i.index ≡ Some (Nonterminal name) → ⊥) → IsExpanded g i old old stack stack
-  Expanded-none none = record {
-    kept = λ kernel found t. t;
-    counted = λ kernel found t. omega arith;
-    known = λ k c. c;
-    from = λ k c. inl c;
-    stacked = λ k c. c;
-    pushed_found = λ k c. inl c;
-    settled = λ q after e m. absurd (none q.nonterminal (at_drop i.production.symbols i.index (Nonterminal q.nonterminal) after e));
-  }
-
--- the tokens that follow are tokens, as those of the table are
-pub fits_of : (g : Rules) (kernel : List (Dotted Bits)) (test : Dotted Nil → Bool) (table : Found) (stack : List (Dotted Nil)) (given : Bits) (o : Option Bits) → lookup test table ≡ o →
-    MatchOption o (FitsTokens g.terminals given) (λ set. FitsTokens g.terminals set → FitsTokens g.terminals given) → IsTable g kernel table stack → FitsTokens g.terminals given
-fits_of g kernel test table stack given None e m t = m
-fits_of g kernel test table stack given (Some s) e m t = let at = found_tokens test table s e in m (t.each (at.0, s) at.1).tokens
-
--- ---- the kernel goes to the table
--- the first items of a kernel, each on the stack
-pub record AreStarted (g : Rules) (kernel : List (Dotted Bits)) (first : List (Dotted Bits)) (table : Found) (stack : List (Dotted Nil)) : Type 0 where
-  pub is_table : IsTable g kernel table stack
-  pub on_stack : (k : Dotted Nil) → Contains (keys_of table) k → Contains stack k
-  pub found : (k : Dotted Nil) → Contains stack k → Contains (keys_of table) k
-  pub has : (k : Dotted Nil) → Contains (map dotted_of first) (dotted_of k) → Contains (keys_of table) k
-
-pub Start-none : (g : Rules) (kernel : List (Dotted Bits)) (table : Found) (stack : List (Dotted Nil)) → table ≡ [] → stack ≡ [] → AreStarted g kernel [] table stack
-Start-none g kernel table stack e f = record {
-  is_table = Started-none g kernel table stack e f;
-  on_stack = λ k c. absurd (Contains-none k (subst (λ (xs : Found). Contains (keys_of xs) k) e c));
-  found = λ k c. absurd (Contains-none k (subst (λ (xs : List (Dotted Nil)). Contains xs k) f c));
-  has = λ k c. absurd (Contains-none (dotted_of k) c);
-}
-
-pub Start-more : (g : Rules) (kernel first : List (Dotted Bits)) (i : Dotted Bits) (key : Dotted Nil) (old new : Found) (stack pushed : List (Dotted Nil)) → AreItems g kernel → Contains kernel i → key.production ≡ i.production → key.index ≡ i.index →
-    IsStacked key i.lookahead old new stack pushed → AreStarted g kernel first old stack → AreStarted g kernel (first ++ i ∷ []) new pushed
-Start-more g kernel first i key old new stack pushed a c p d s t =
-    let same : dotted_of i ≡ dotted_of key = ap (λ q. (q, i.index)) (sym p) ∙ ap (λ n. (key.production, n)) (sym d) in
-    record {
-      is_table = Started-more g kernel i key old new stack pushed a c p d s t.is_table;
-      on_stack = λ k m. elim (joined_from key i.lookahead s.told old new s.joined k m) [
-        | inl h ↦ stacked_more s.told key stack pushed s.grown k (t.on_stack k h)
-        | inr h ↦ subst (Contains pushed) h.1 (stacked_last s.told key stack pushed s.grown h.0)
-      ];
-      found = λ k m. elim (stacked_of s.told key stack pushed s.grown k m) [
-        | inl h ↦ joined_keys key i.lookahead s.told old new s.joined k (t.found k h)
-        | inr h ↦ subst (Contains (keys_of new)) h (joined_there key i.lookahead s.told old new s.joined)
-      ];
-      has = λ k m. elim (Contains-append_cases (map dotted_of first) (dotted_of i ∷ []) (dotted_of k) (subst (λ (ds : List (Production × ℕ)). Contains ds (dotted_of k)) (map-append dotted_of first (i ∷ [])) m)) [
-        | inl h ↦ joined_keys key i.lookahead s.told old new s.joined k (t.has k h)
-        | inr h ↦ elim (Contains-cases (dotted_of i) [] (dotted_of k) h) [
-          | inl e ↦
-              let is : dotted_of key ≡ dotted_of k = sym same ∙ e in
-              subst (Contains (keys_of new)) (same_lr0 key k (ap (λ (x : Production × ℕ). x.0) is) (ap (λ (x : Production × ℕ). x.1) is)) (joined_there key i.lookahead s.told old new s.joined)
-          | inr n ↦ absurd (Contains-none (dotted_of k) n)
-        ]
-      ];
-    }
-
-pub Start-closing : (g : Grammar) (kernel first : List (Dotted Bits)) (table : Found) (stack : List (Dotted Nil)) → first ≡ kernel → AreStarted (rules_of g) kernel first table stack → IsClosing g kernel table stack
-Start-closing g kernel first table stack e t = record {
-  is_table = t.is_table;
-  found = t.found;
-  has = λ k c. t.has k (subst (λ (xs : List (Dotted Bits)). Contains (map dotted_of xs) (dotted_of k)) (sym e) c);
-  done = λ k c. inl (t.on_stack k c);
-}

@@ -8,7 +8,7 @@ use Rattle.lalrpop_base.specs.WellFormed.{rules_of}
 use Rattle.lalrpop_tables.specs.Closure.{IsClosing}
 use Rattle.lalrpop_tables.proofs.Grammars.{productions_own}
 use Rattle.lalrpop_tables.proofs.Lists.{Contains-here}
-use Rattle.lalrpop_tables.proofs.Tables.{Closing-smaller, Closing-step, Closing-end}
+use Rattle.lalrpop_tables.proofs.ClosureLoops.{Closing-smaller, Closing-step, Closing-end}
 use Rattle.lalrpop_tables.proofs.build.closure.closure.Goals as goal
 
 pub loop-item-smaller : goal.loop-item-smaller

@@ -2,7 +2,7 @@ use Rattle.std.proofs.Common.{◌≡◌, ◌+◌, ◌∙◌, subst, sym, refl, a
 use Rattle.std.specs.Prelude.{Contains, Some}
 use Rattle.lalrpop_base.specs.WellFormed.{rules_of}
 use Rattle.lalrpop_tables.proofs.Grammars.{known_symbols, known_rest, productions_among, productions_named}
-use Rattle.lalrpop_tables.proofs.Tables.{Expanded-none, Expanded-over, fits_of}
+use Rattle.lalrpop_tables.proofs.ClosureLoops.{Expanded-none, Expanded-over, fits_of}
 use Rattle.lalrpop_tables.proofs.build.closure.expand.Goals as goal
 
 pub tokens_after-requires-clause-known : goal.tokens_after-requires-clause-known

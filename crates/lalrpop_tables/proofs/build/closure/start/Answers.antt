@@ -5,7 +5,7 @@ use Rattle.lalrpop_base.specs.Bits.{Bits}
 use Rattle.lalrpop_base.specs.Items.{Dotted}
 use Rattle.lalrpop_base.specs.WellFormed.{rules_of}
 use Rattle.lalrpop_tables.specs.Closure.{IsStacked}
-use Rattle.lalrpop_tables.proofs.Tables.{AreStarted, Start-none, Start-more, Start-closing}
+use Rattle.lalrpop_tables.proofs.ClosureLoops.{AreStarted, Start-none, Start-more, Start-closing}
 use Rattle.lalrpop_tables.proofs.build.closure.start.Goals as goal
 
 pub loop-item-init : goal.loop-item-init

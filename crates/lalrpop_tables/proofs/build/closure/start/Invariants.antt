@@ -1,6 +1,6 @@
 use Rattle.std.proofs.Common.{take}
 use Rattle.lalrpop_base.specs.WellFormed.{rules_of}
-use Rattle.lalrpop_tables.proofs.Tables.{AreStarted}
+use Rattle.lalrpop_tables.proofs.ClosureLoops.{AreStarted}
 use Rattle.lalrpop_tables.proofs.build.closure.start.Given as goal
 
 abbrev pub invariant-loop-item : goal.invariant-loop-item
