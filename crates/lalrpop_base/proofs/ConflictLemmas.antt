@@ -1,8 +1,7 @@
 -- The conflicts of a state, one shift or reduction at a time.
-use Rattle.std.proofs.Common.{◌≡◌, ◌≢◌, ℕ, zero, suc, ◌+◌, ◌<◌, ◌≤◌, ◌==◌, ⊎_elim, Bool, true, false, ◌&&◌, List, [], ◌∷◌, ◌++◌, map, length, take, drop, get_or, refl, sym, ◌∙◌, ap, subst, arith, append_assoc}
-use Rattle.std.specs.Prelude.{cond, slice_get, Option, Some, None, unwrap_or, is_some, nat_lt, IfSome, IsNone, Contains, IsTrue, IsFalse, ◌↔◌}
+use Rattle.std.proofs.Common.{◌≡◌, ℕ, zero, suc, ◌+◌, ◌<◌, ◌≤◌, ⊎_elim, Bool, true, false, ◌&&◌, List, [], ◌∷◌, ◌++◌, map, length, take, drop, get_or, refl, sym, ◌∙◌, ap, arith, append_assoc}
+use Rattle.std.specs.Prelude.{cond, slice_get, Option, Some, None, unwrap_or, is_some, nat_lt, IfSome, ◌↔◌}
 use Rattle.std.specs.List.{filter, flat_map, list_any}
-use Rattle.std.specs.Borrow.{Bor}
 use Rattle.std.proofs.lemmas.List.{append-nil, take_more, take_all, drop_more, drop_all}
 use Rattle.std.proofs.lemmas.List.Folds.{list_any_at}
 use Rattle.std.proofs.lemmas.Bool.{cases_Bool, or_cases, lt-ltb}
@@ -20,8 +19,8 @@ use Rattle.lalrpop_base.specs.declared.lr1_core.state.Action.TheVariants.{Reduce
 use Rattle.lalrpop_base.specs.contracts.repr.TerminalStringPartialEq.TheImpl as terminal
 use Rattle.lalrpop_base.specs.contracts.repr.TerminalStringEq.TheImpl.Laws as equality
 use Rattle.lalrpop_base.specs.contracts.exact.TerminalStringExact.TheImpl.Laws.{exact-law}
-use Rattle.lalrpop_base.specs.Bits.{Bits, has, rising, bits_of, has-at, has-place, same_bits}
-use Rattle.lalrpop_base.specs.StateConflicts.{Reduction, meet, share, conflicts_on_bit, conflicts_on_place, shift_conflicts, reduce_conflicts, later_conflicts, reduce_conflict, shift_conflict, state_conflicts, HasNoConflict}
+use Rattle.lalrpop_base.specs.Bits.{Bits, has, rising, has-at, has-place, same_bits}
+use Rattle.lalrpop_base.specs.StateConflicts.{Reduction, meet, share, conflicts_on_place, shift_conflicts, reduce_conflicts, later_conflicts, reduce_conflict, shift_conflict, state_conflicts, HasNoConflict}
 use Rattle.lalrpop_base.proofs.RisingLemmas.{filter_bits}
 
 -- the bit that a set of terminals answers is the place

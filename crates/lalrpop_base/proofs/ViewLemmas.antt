@@ -1,14 +1,13 @@
 -- The first shortest and last longest lists, list after list.
-use Rattle.std.proofs.Common.{◌≡◌, ℕ, zero, suc, ◌+◌, ◌<◌, ◌≤◌, ◌⊎◌, inl, inr, ⊎_elim, Bool, true, false, List, [], ◌∷◌, ◌++◌, map, length, refl, sym, ◌∙◌, ap, subst, arith, append_assoc, drop, get_or}
+use Rattle.std.proofs.Common.{◌≡◌, ℕ, zero, suc, ◌<◌, ◌≤◌, ◌⊎◌, inl, inr, ⊎_elim, Bool, true, false, List, [], ◌∷◌, ◌++◌, map, length, refl, sym, ◌∙◌, ap, subst, arith, append_assoc, drop, get_or}
 use Rattle.std.specs.Prelude.{cond, nat_lt, slice_get, Option, Some, None, unwrap_or}
-use Rattle.std.specs.List.{filter}
 use Rattle.std.proofs.lemmas.List.{append-nil, drop_all}
 use Rattle.std.proofs.lemmas.Bool.{cases_Bool, ltb-true, ltb-false, lt-ltb}
 use Rattle.lalrpop_base.specs.Items.{Dotted}
 use Rattle.lalrpop_base.specs.declared.repr.Symbol.{Symbol}
 use Rattle.lalrpop_base.specs.declared.repr.NonterminalString.{NonterminalString}
-use Rattle.lalrpop_base.specs.Views.{IsLastLongest, IsFirstShortest, IsFirstShortestOrEmpty, prefix_of, name_of, has_moved, moved, AreAll, IsOneName}
-use Rattle.lalrpop_base.specs.ViewFolds.{shorter_of, longer_of, shorter_step, shortest_from, longest_from}
+use Rattle.lalrpop_base.specs.Views.{IsLastLongest, IsFirstShortest, IsFirstShortestOrEmpty, prefix_of, name_of, has_moved, moved, AreAll}
+use Rattle.lalrpop_base.specs.ViewFolds.{shorter_of, longer_of, shortest_from, longest_from}
 use Rattle.lalrpop_base.specs.Each.{EachItem}
 
 module _ {X : Type 0} where

@@ -1,6 +1,6 @@
 -- The lookahead of a start symbol.
-use Rattle.std.proofs.Common.{◌≡◌, ℕ, ◌+◌, ◌≤◌, List, length, sym, ◌∙◌, ap, arith, ⊎_elim, eqb-true, false, true}
-use Rattle.std.specs.Prelude.{◌==◌, ◌||◌}
+use Rattle.std.proofs.Common.{◌≡◌, List, length, sym, ◌∙◌, ap, arith, ⊎_elim, eqb-true, false}
+use Rattle.std.specs.Prelude.{◌==◌}
 use Rattle.std.proofs.lemmas.Bool.{or_cases}
 use mathlib.Core.Bool.{true≢false}
 use Rattle.lalrpop_base.specs.Bits.{Bits, has, no_bits, with_bit, has-with_bit, has-no_bits}

@@ -1,10 +1,9 @@
 -- The sets of bits below a number: how many of the bits a set has, and a list of all such sets.
-use Rattle.std.proofs.Common.{◌≡◌, ◌≢◌, ℕ, zero, suc, ◌+◌, ◌<◌, ◌≤◌, ◌⊎◌, inl, inr, List, [], ◌∷◌, ◌++◌, length, map, refl, sym, ap, subst, ◌∙◌, arith, Bool, true, false, cond, eqb-true, eq-eqb}
-use Rattle.std.specs.Prelude.{Contains, ◌||◌, ◌==◌, IsTrue}
+use Rattle.std.proofs.Common.{◌≡◌, ◌≢◌, ℕ, zero, suc, ◌<◌, ◌≤◌, ◌⊎◌, List, [], ◌∷◌, ◌++◌, map, refl, sym, ap, subst, ◌∙◌, arith, Bool, true, false, cond, eqb-true, eq-eqb}
+use Rattle.std.specs.Prelude.{Contains, ◌||◌, ◌==◌}
 use Rattle.std.proofs.lemmas.List.Elements.{Contains-append_left, Contains-append_right}
 use Rattle.std.proofs.lemmas.Bool.{or_cases, cases_eq, cases_lt}
 use Rattle.std.proofs.Common.{⊎_elim}
-use mathlib.Core.Bool.{true≢false}
 use Rattle.lalrpop_base.specs.Bits.{Bits, has, no_bits, with_bit, join, has-no_bits, has-with_bit, has-join, same_bits}
 use Rattle.lalrpop_tables.proofs.Lists.{Contains-here, Contains-map}
 use Rattle.lalrpop_tables.specs.Counts.{one_if, count}

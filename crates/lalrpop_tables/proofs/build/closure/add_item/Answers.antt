@@ -1,8 +1,4 @@
-use Rattle.std.proofs.Common.{◌≡◌, ap, ◌∙◌, cond, ◌++◌, ◌∷◌, [], true, false, Bool, List, subst, sym, refl}
-use Rattle.lalrpop_base.specs.Bits.{Bits}
-use Rattle.lalrpop_base.specs.Items.{Dotted}
-use Rattle.lalrpop_base.specs.declared.lookahead.nil.Nil.{Nil}
-use Rattle.lalrpop_tables.specs.Entries.{IsJoinedAt}
+use Rattle.std.proofs.Common.{◌≡◌, true, false, refl}
 use Rattle.lalrpop_tables.proofs.Tables.{same_lr0}
 use Rattle.lalrpop_tables.proofs.build.closure.add_item.Goals as goal
 

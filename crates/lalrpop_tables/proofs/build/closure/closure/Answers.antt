@@ -1,11 +1,9 @@
-use Rattle.std.proofs.Common.{◌≡◌, ◌∙◌, subst, sym, refl, ap, ◌++◌, ◌∷◌, []}
+use Rattle.std.proofs.Common.{◌≡◌, ◌∷◌, []}
 use Rattle.std.proofs.lemmas.Grind.{common_steps}
 use Rattle.std.proofs.Common.{rules, arith}
 use Rattle.std.proofs.lemmas.List.{nil_from_length}
 use Rattle.std.proofs.lemmas.List.Elements.{Contains-append_right}
 use Rattle.std.proofs.lemmas.Result.{IfOk-weaker}
-use Rattle.lalrpop_base.specs.WellFormed.{rules_of}
-use Rattle.lalrpop_tables.specs.Closure.{IsClosing}
 use Rattle.lalrpop_tables.proofs.Grammars.{productions_own}
 use Rattle.lalrpop_tables.proofs.Lists.{Contains-here}
 use Rattle.lalrpop_tables.proofs.ClosureLoops.{Closing-smaller, Closing-step, Closing-end}

@@ -1,5 +1,5 @@
-use Rattle.std.proofs.Common.{◌≡◌, ◌+◌, ◌∙◌, subst, sym, refl, ap}
-use Rattle.std.specs.Prelude.{Contains, Some}
+use Rattle.std.proofs.Common.{◌+◌, ◌∙◌, sym, ap}
+use Rattle.std.specs.Prelude.{Some}
 use Rattle.lalrpop_base.specs.WellFormed.{rules_of}
 use Rattle.lalrpop_tables.proofs.Grammars.{known_symbols, known_rest, productions_among, productions_named}
 use Rattle.lalrpop_tables.proofs.ClosureLoops.{Expanded-none, Expanded-over, fits_of}

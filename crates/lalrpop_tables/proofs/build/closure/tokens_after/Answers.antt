@@ -1,4 +1,4 @@
-use Rattle.std.proofs.Common.{◌≡◌, ◌∙◌, subst, sym, refl, ap}
+use Rattle.std.proofs.Common.{subst, sym}
 use Rattle.std.proofs.lemmas.Result.{IfOk-weaker}
 use Rattle.lalrpop_base.specs.Tokens.{FitsTokens}
 use Rattle.lalrpop_base.specs.WellFormed.{Rules, HasKnownTerminals}

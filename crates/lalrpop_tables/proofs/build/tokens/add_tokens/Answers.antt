@@ -1,5 +1,4 @@
-use Rattle.std.proofs.Common.{◌≡◌, ℕ, refl, ap, ◌∙◌, sym}
-use Rattle.std.specs.Prelude.{Some, None, option_map}
+use Rattle.std.proofs.Common.{sym}
 use Rattle.lalrpop_tables.proofs.Updates.{exact_order, inserted, replaced, keys_differ, joined_fresh, joined_known}
 use Rattle.lalrpop_tables.proofs.build.tokens.add_tokens.Goals as goal
 
