@@ -1,6 +1,5 @@
 -- How what was collected grows by a line.
-use Rattle.std.proofs.Common.{◌≡◌, ◌⊎◌, inl, inr, ℕ, ◌+◌, Bool, true, false, ◌||◌, List, [], ◌∷◌, ◌++◌, map, length, Option, None, Some, cond, option_map, refl, sym, ap, ◌∙◌, arith, append_assoc}
-use Rattle.std.specs.Prelude.{filter, find}
+use Rattle.std.proofs.Common.{◌≡◌, ◌⊎◌, inl, inr, ℕ, Bool, true, false, ◌||◌, List, [], ◌∷◌, ◌++◌, map, length, Option, None, Some, cond, option_map, refl, sym, ap, ◌∙◌}
 use Rattle.std.specs.List.{list_any}
 use Rattle.std.specs.Ordering.{is_eq, nat_cmp}
 use Rattle.std.specs.Cmp.Lexicographic.{slice_cmp}
@@ -17,17 +16,15 @@ use Rattle.lalrpop_base.specs.declared.repr.grammar.NonterminalData.{Nonterminal
 use Rattle.std.proofs.lemmas.List.{map-append, append-nil, length-map}
 use Rattle.std.proofs.lemmas.List.Folds.{list_any-append}
 use Rattle.std.proofs.lemmas.Grind.{flat_map-append}
-use Rattle.std.specs.Prelude.{vec_len}
 use Rattle.std.specs.BTreeMap.{IsOrdered}
 use Rattle.std.specs.BTreeSet.{contains}
 use Rattle.lalrpop_base.specs.Exact.{name_exact}
 use Rattle.lalrpop_base.specs.declared.repr.ActionFn.{ActionFn}
 use Rattle.lalrpop_base.specs.declared.repr.Span.{Span}
-use Rattle.lrtab.specs.declared.lines.Line.{Line}
-use Rattle.lrtab.specs.declared.lines.Line.TheVariants.{Blank, Production as production_line, Fault}
+use Rattle.lrtab.specs.declared.lines.Line.TheVariants.{Blank, Fault}
 use Rattle.lrtab.specs.declared.lines.PlacedLine.{PlacedLine}
 use Rattle.lrtab.specs.declared.collected.Collected.{Collected}
-use Rattle.lrtab.specs.Grammar.{Entry, entry_view, with_production, terminals_of, terminals_in, terminal_cmp, user_action, entry_of, productions_in, production_of, names, line_names, has_name}
+use Rattle.lrtab.specs.Grammar.{Entry, entry_view, with_production, terminals_of, terminals_in, terminal_cmp, user_action, entry_of, productions_in, production_of, names, line_names}
 use Rattle.lrtab.specs.Collected.{IsCollected, is_same, production_at}
 use Rattle.lrtab.proofs.Numbered.{productions_in-more, entry_of-more, entry_of-same}
 

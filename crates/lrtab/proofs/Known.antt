@@ -1,5 +1,5 @@
 -- What is told of a file whose bytes may be known.
-use Rattle.std.proofs.Common.{◌≡◌, ℕ, ◌⊎◌, inl, inr, List, Option, None, Some, Result, Ok, Err, subst}
+use Rattle.std.proofs.Common.{◌≡◌, ℕ, inl, inr, List, Option, None, Some, Result, Ok, Err, subst}
 use Rattle.std.specs.Prelude.{IfSome, IfOk, position, string_bytes}
 use Rattle.std.specs.Str.{IsUtf8}
 use Rattle.lalrpop_base.specs.declared.memory.OutOfMemory.{OutOfMemory}

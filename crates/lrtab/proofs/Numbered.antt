@@ -1,5 +1,5 @@
 -- Productions of lines, numbered as they come.
-use Rattle.std.proofs.Common.{◌≡◌, ℕ, ◌+◌, Bool, true, false, List, [], ◌∷◌, ◌++◌, map, length, Option, None, Some, cond, option_map, refl, sym, ap, ◌∙◌, arith, append_assoc, length-append, add-zero, zero-add, add_assoc}
+use Rattle.std.proofs.Common.{◌≡◌, ℕ, ◌+◌, Bool, true, false, List, [], ◌∷◌, ◌++◌, length, Option, None, Some, cond, option_map, refl, sym, ap, ◌∙◌, arith, append_assoc, length-append, add-zero, zero-add}
 use Rattle.std.proofs.lemmas.List.{append-nil}
 use Rattle.std.proofs.lemmas.List.Elements.{filter-append}
 use Rattle.std.proofs.lemmas.List.Folds.{find-append}

@@ -1,5 +1,5 @@
 -- The grammar that lines stand for is well-formed.
-use Rattle.std.proofs.Common.{◌≡◌, ℕ, suc, zero, ◌+◌, ◌<◌, ◌≤◌, Bool, true, false, ◌||◌, List, [], ◌∷◌, ◌++◌, map, length, Option, None, Some, cond, option_map, refl, sym, ap, ◌∙◌, subst, arith, add-zero, get_or}
+use Rattle.std.proofs.Common.{◌≡◌, ℕ, suc, zero, ◌+◌, ◌<◌, ◌≤◌, Bool, true, false, ◌||◌, List, [], ◌∷◌, ◌++◌, length, Option, None, Some, cond, option_map, refl, sym, ap, ◌∙◌, subst, arith, add-zero, get_or}
 use Rattle.std.specs.Prelude.{filter, find, Contains, All, vec_len, slice_get}
 use Rattle.std.specs.List.{flat_map, list_any}
 use Rattle.std.specs.Ordering.{is_eq, ordering_reverse}
@@ -8,8 +8,7 @@ use Rattle.std.specs.declared.cmp.Ordering.TheVariants.{Less, Equal, Greater}
 use Rattle.std.specs.List.Sorted.{IsStrictlySortedBy}
 use Rattle.std.proofs.lemmas.Map.Keys.{Less-from_sorted}
 use Rattle.lalrpop_base.specs.declared.repr.TerminalString.TheVariants.{Literal, Bare, Error}
-use Rattle.std.specs.Cmp.{IsTotalOrder}
-use Rattle.std.specs.BTreeMap.{BTreeMap, get, IsOrdered}
+use Rattle.std.specs.BTreeMap.{get, IsOrdered}
 use Rattle.std.specs.BTreeSet as set
 use Rattle.std.specs.BTreeSet.{BTreeSet}
 use Rattle.std.proofs.lemmas.List.{length-map}
@@ -20,14 +19,12 @@ use Rattle.std.proofs.lemmas.Map.Lookups.{CmpEqualImpliesEq, exact_bytes}
 use Rattle.std.proofs.lemmas.Map.Views.{btree_set_contains_iff}
 use Rattle.lalrpop_base.specs.Places.{AllDiffer, IsFirstRepeat}
 use Rattle.lalrpop_base.specs.Exact.{name_exact}
-use Rattle.lalrpop_base.specs.WellFormed.{IsWellFormed, IsWellFormedEntry, IsWellFormedProduction, HasKnownTerminals, name_cmp}
+use Rattle.lalrpop_base.specs.WellFormed.{IsWellFormed, IsWellFormedEntry, IsWellFormedProduction, name_cmp}
 use Rattle.lalrpop_base.specs.contracts.repr.NonterminalStringOrd.TheImpl.Laws as name_order
 use Rattle.lalrpop_base.specs.contracts.repr.TerminalStringOrd.TheImpl.Laws as terminal_order
-use Rattle.lalrpop_base.specs.contracts.exact.TerminalStringExact.TheImpl.Laws as terminal_exact
 use Rattle.lalrpop_base.specs.declared.repr.NonterminalString.{NonterminalString}
 use Rattle.lalrpop_base.specs.declared.repr.TerminalString.{TerminalString}
-use Rattle.lalrpop_base.specs.declared.repr.Symbol.{Symbol}
-use Rattle.lalrpop_base.specs.declared.repr.Symbol.TheVariants.{Nonterminal, Terminal}
+use Rattle.lalrpop_base.specs.declared.repr.Symbol.TheVariants.{Terminal}
 use Rattle.lalrpop_base.specs.declared.repr.Production.{Production}
 use Rattle.lalrpop_base.specs.declared.repr.Span.{Span}
 use Rattle.lalrpop_base.specs.declared.repr.grammar.Grammar.{Grammar}
@@ -35,7 +32,7 @@ use Rattle.lalrpop_base.specs.declared.repr.grammar.NonterminalData.{Nonterminal
 use Rattle.lrtab.specs.declared.lines.Line.{Line}
 use Rattle.lrtab.specs.declared.lines.Line.TheVariants.{Blank, Production as production_line, Fault}
 use Rattle.lrtab.specs.declared.lines.PlacedLine.{PlacedLine}
-use Rattle.lrtab.specs.Grammar.{Entry, entry_view, terminal_of, terminals_of, terminals_in, terminal_cmp, user_action, entry_of, productions_in, productions_from, production_of, has_name, names, StandsFor, AreTerminalsOf}
+use Rattle.lrtab.specs.Grammar.{Entry, entry_view, terminal_of, terminals_of, terminals_in, terminal_cmp, user_action, productions_in, productions_from, production_of, has_name, names, StandsFor, AreTerminalsOf}
 use Rattle.lrtab.specs.declared.collected.Collected.{Collected}
 use Rattle.lrtab.specs.Collected.{IsCollected, is_same}
 use Rattle.lrtab.proofs.Numbered.{entry_from}

@@ -1,12 +1,11 @@
 -- What the program tells, and what is told.
-use Rattle.std.specs.Prelude.{◌≡◌, ℕ, ◌+◌, ◌≤◌, List, [], ◌∷◌, ◌++◌, map, Option, None, Some, IfSome, codes, position, string_bytes, length}
+use Rattle.std.specs.Prelude.{◌≡◌, ℕ, ◌≤◌, List, [], ◌∷◌, ◌++◌, map, Option, None, Some, IfSome, codes, position, string_bytes}
 use Rattle.std.proofs.Common.{◌⊎◌}
 use Rattle.std.specs.Fmt.{decimal}
 use Rattle.std.specs.Str.{IsUtf8}
 use Rattle.std.specs.Io.KnownBytes.{Keeps, Appends}
 use Rattle.lalrpop_base.specs.Names.{token_text}
 use Rattle.lalrpop_base.specs.Trees.{beside, no_trees, leaves, nodes}
-use Rattle.lalrpop_base.specs.declared.repr.TerminalString.{TerminalString}
 use Rattle.lalrpop_base.specs.declared.repr.TerminalString.TheVariants.{Literal}
 use Rattle.lalrpop_base.specs.declared.lookahead.token.Token.{Token}
 use Rattle.lalrpop_lr1.specs.ParseTrees.{tree_of, tree_text}

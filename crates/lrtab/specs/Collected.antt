@@ -1,5 +1,5 @@
 -- What the lines so far have given.
-use Rattle.std.specs.Prelude.{◌≡◌, ℕ, ◌≤◌, ◌^◌, Bool, true, false, List, map, vec_len, option_map}
+use Rattle.std.specs.Prelude.{◌≡◌, ◌≤◌, ◌^◌, Bool, true, false, List, map, vec_len, option_map}
 use Rattle.std.specs.List.{list_any}
 use Rattle.std.specs.BTreeMap.{get, IsOrdered}
 use Rattle.std.specs.BTreeSet.{contains}

@@ -1,5 +1,5 @@
 -- Why a text gives no grammar.
-use Rattle.std.specs.Prelude.{◌≡◌, ℕ, ◌+◌, ◌^◌, ◌<◌, List, length, Option, None, Some, position}
+use Rattle.std.specs.Prelude.{◌≡◌, ℕ, ◌+◌, ◌^◌, ◌<◌, List, length, None, Some, position}
 use Rattle.lrtab.specs.declared.lines.PlacedLine.{PlacedLine}
 use Rattle.lrtab.specs.declared.read_error.ReadError.{ReadError}
 use Rattle.lrtab.specs.declared.read_error.ReadError.TheVariants.{Line, TooManyActions, Memory}

@@ -1,4 +1,3 @@
-use Rattle.std.proofs.Common.{◌≡◌}
 use Rattle.lrtab.proofs.Known.{told_of_file}
 use Rattle.lrtab.proofs.answer.answer_to.Goals as goal
 

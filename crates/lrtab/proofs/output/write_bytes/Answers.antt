@@ -1,5 +1,5 @@
-use Rattle.std.proofs.Common.{◌≡◌, ◌++◌, take}
-use Rattle.lrtab.proofs.Written.{parted_more, appends_more, appends_kept}
+use Rattle.std.proofs.Common.{◌++◌, take}
+use Rattle.lrtab.proofs.Written.{parted_more, appends_more}
 use Rattle.lrtab.proofs.output.write_bytes.Goals as goal
 
 pub loop-rest-preserved : goal.loop-rest-preserved
