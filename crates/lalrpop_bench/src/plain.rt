@@ -11,7 +11,7 @@ pub mod derivations;
 mod generated;
 pub mod grammars;
 #[cfg(test)]
-mod known;
+pub(crate) mod known;
 #[cfg(test)]
 mod samples;
 pub mod spans;

@@ -6,10 +6,15 @@ pub mod Subsets
 pub mod Grammars
 pub mod Tables
 pub mod ClosureLoops
+pub mod Growth
+pub mod KnownTerminals
+pub mod Closing
 pub mod Universe
 pub mod Building
 pub mod Shifting
 pub mod Coherence
+pub mod Canonical
+pub mod CanonicalStates
 pub mod Lookaheads
 pub mod ConflictLists
 pub mod Orders

@@ -5,7 +5,12 @@ use Rattle.std.specs.declared.cmp.Ordering.TheVariants.{Less, Equal, Greater}
 use Rattle.std.specs.Ordering.{is_eq, match_ordering}
 use Rattle.std.specs.BTreeMap.{insert_entry, is_at}
 use Rattle.std.specs.Map.{keys_of, lookup, set_value}
-use Rattle.std.specs.Cmp.{IsTotalOrder}
+use Rattle.std.specs.Cmp.{IsTotalOrder, eq_by_cmp_equiv}
+use Rattle.std.proofs.lemmas.Map.Views.{IsSome-lookup_from_Contains, Contains-from_lookup}
+use Rattle.std.specs.Ordering.{eq_by_cmp}
+use Rattle.std.proofs.Common.{ℕ, zero, suc, ◌<◌, arith, IsSome, option_map, slice_get}
+use Rattle.lalrpop_tables.proofs.Places.{same_some}
+use Rattle.lalrpop_tables.proofs.Lists.{place, Contains-map}
 use Rattle.std.specs.List.Sorted.{IsStrictlySortedBy}
 use Rattle.std.proofs.lemmas.Map.{lookup-none}
 use Rattle.std.proofs.lemmas.Map.Entries.{none_below_head}
@@ -151,3 +156,38 @@ module _ {K V : Type 0} (k : K) (v : V) where
 
   pub pushed_known : (vs ws : List V) (old new : List (K × List V)) → ws ≡ vs ++ v ∷ [] → IsReplaced k vs ws old new → IsPushedAt k v old new
   pushed_known vs ws old new e i = push_known i.front i.back vs i.before (i.after ∙ ap (λ (xs : List V). i.front ++ (k, xs) ∷ i.back) e)
+
+-- ---- a look-up finds the value of a key that has one
+places_apart : (i j : ℕ) → (i < j) ⊎ ((j < i) ⊎ (i ≡ j))
+places_apart zero zero = inr (inr refl)
+places_apart zero (suc j) = inl (omega arith)
+places_apart (suc i) zero = inr (inl (omega arith))
+places_apart (suc i) (suc j) = elim (places_apart i j) [ inl l ↦ inl (omega arith) | inr r ↦ elim r [ inl l ↦ inr (inl (omega arith)) | inr e ↦ inr (inr (ap suc e)) ] ]
+
+found_is : {V : Type 0} (o : Option V) (v : V) → IsSome o → ((w : V) → o ≡ Some w → w ≡ v) → o ≡ Some v
+found_is None v s each = cc
+found_is (Some w) v s each = ap Some (each w refl)
+
+module _ {K V : Type 0} where
+  key_stands : (es : List (K × V)) (i : ℕ) (e : K × V) → slice_get es i ≡ Some e → slice_get (keys_of es) i ≡ Some e.0
+  key_stands [] i e h = cc
+  key_stands (x ∷ es) zero e h = ap (λ (o : Option (K × V)). option_map (λ (y : K × V). y.0) o) h
+  key_stands (x ∷ es) (suc i) e h = key_stands es i e h
+
+  -- where keys differ, a key has one value
+  pub one_value : (es : List (K × V)) → AllDiffer (keys_of es) → (k : K) (v w : V) → Contains es (k, v) → Contains es (k, w) → v ≡ w
+  one_value es differ k v w c d =
+      let i = place es (k, v) c in
+      let j = place es (k, w) d in
+      elim (places_apart i.0 j.0) [
+        | inl l ↦ absurd (differ i.0 j.0 k l (key_stands es i.0 (k, v) i.2) (key_stands es j.0 (k, w) j.2))
+        | inr r ↦ elim r [
+          | inl l ↦ absurd (differ j.0 i.0 k l (key_stands es j.0 (k, w) j.2) (key_stands es i.0 (k, v) i.2))
+          | inr e ↦ ap (λ (x : K × V). x.1) (same_some (k, v) (k, w) (sym i.2 ∙ ap (slice_get es) e ∙ j.2))
+        ]
+      ]
+
+  pub looked_up : (E : K → K → Bool) (R : K → K → Ordering) → ((x y : K) → E x y ≡ true → x ≡ y) → ((x y : K) → E x y ≡ is_eq (R x y)) → IsTotalOrder R → (es : List (K × V)) → AllDiffer (keys_of es) → (k : K) (v : V) → Contains es (k, v) → lookup (is_at (R k)) es ≡ Some v
+  looked_up E R exact ties total es differ k v c =
+      let there = IsSome-lookup_from_Contains (eq_by_cmp_equiv total) k es (Contains-map (λ (x : K × V). x.0) es (k, v) c) in
+      found_is (lookup (is_at (R k)) es) v there (λ w h. one_value es differ k w v (Contains-from_lookup {eq = eq_by_cmp R} (λ x y e. exact x y (ties x y ∙ e)) k w es h) c)

@@ -1,5 +1,5 @@
 -- Items of a grammar, and the closure of a kernel.
-use Rattle.std.specs.Prelude.{◌≡◌, ◌≤◌, ◌+◌, ◌⊎◌, ◌↔◌, ℕ, Bool, cond, List, [], ◌∷◌, ◌++◌, length, drop, Contains, sum_by, map}
+use Rattle.std.specs.Prelude.{◌≡◌, ◌≤◌, ◌+◌, ◌⊎◌, ◌↔◌, ℕ, Bool, cond, true, List, [], ◌∷◌, ◌++◌, length, drop, Contains, sum_by, map}
 use Rattle.std.specs.Map.{keys_of}
 use Rattle.lalrpop_base.specs.Bits.{Bits}
 use Rattle.lalrpop_base.specs.Items.{Dotted}
@@ -8,7 +8,10 @@ use Rattle.lalrpop_base.specs.Tokens.{FitsTokens}
 use Rattle.lalrpop_base.specs.WellFormed.{Rules, rules_of, productions_of}
 use Rattle.lalrpop_base.specs.declared.repr.grammar.Grammar.{Grammar}
 use Rattle.lalrpop_base.specs.declared.lookahead.nil.Nil.{Nil}
-use Rattle.lalrpop_base.specs.Closures.{InClosure}
+use Rattle.lalrpop_base.specs.Closures.{InClosure, InTokenClosure}
+use Rattle.lalrpop_base.specs.Contents.{holds_token}
+use Rattle.lalrpop_base.specs.declared.lookahead.token.Token.{Token}
+use Rattle.lalrpop_base.specs.declared.repr.TerminalString.{TerminalString}
 use Rattle.lalrpop_base.specs.declared.repr.Production.{Production}
 use Rattle.lalrpop_base.specs.declared.repr.Symbol.{Symbol}
 use Rattle.lalrpop_base.specs.declared.repr.Symbol.TheVariants.{Nonterminal}
@@ -34,11 +37,19 @@ pub record AreItems (g : Rules) (items : List (Dotted Bits)) : Type 0 where
 abbrev pub InKernel : List (Dotted Bits) → Production → ℕ → Type 0
 InKernel kernel p dot = Contains (map dotted_of kernel) (p, dot)
 
--- the items are exactly the closure of the kernel; those that the kernel lacks have the dot at the start
+-- an item with the dotted production holds the token
+pub record HasItemToken (terminals : List TerminalString) (items : List (Dotted Bits)) (p : Production) (dot : ℕ) (t : Token) : Type 0 where
+  pub item : Dotted Bits
+  pub there : Contains items item
+  pub is : dotted_of item ≡ (p, dot)
+  pub holds : holds_token terminals item.lookahead t ≡ true
+
+-- the items are exactly the closure of the kernel, with exactly the tokens of the closure (Aho, Sethi, Ullman, section 4.7); those that the kernel lacks have the dot at the start
 pub record IsClosureOf (g : Rules) (kernel items : List (Dotted Bits)) : Type 0 where
   pub are_items : AreItems g items
   pub begun : (i : Dotted Bits) → Contains items i → (i.index ≡ 0) ⊎ InKernel kernel i.production i.index
   pub exact : (p : Production) (dot : ℕ) → Contains (map dotted_of items) (p, dot) ↔ InClosure g.productions (InKernel kernel) p dot
+  pub tokens : (p : Production) (dot : ℕ) (t : Token) → HasItemToken g.terminals items p dot t ↔ InTokenClosure g.productions (λ q n. Contains (map dotted_of items) (q, n)) (HasItemToken g.terminals kernel) p dot t
 
 -- ---- the worklist
 -- dotted productions with their tokens, as a closure finds them

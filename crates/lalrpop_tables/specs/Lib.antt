@@ -1,3 +1,4 @@
+pub mod Closing
 pub mod Closure
 pub mod Counts
 pub mod Entries

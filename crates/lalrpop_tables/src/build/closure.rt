@@ -1,10 +1,13 @@
 //! The closure of a kernel.
-ghost use Rattle.std.specs.Prelude.{◌≡◌, ◌≤◌, [], ℕ, IfOk, OnOk, Contains, length, map, slice_get, MatchOption, option_copied};
+ghost use Rattle.std.specs.Prelude.{◌≡◌, ◌≤◌, [], ℕ, IfOk, OnOk, Contains, length, map, slice_get, MatchOption, option_copied, Some};
 ghost use Rattle.lalrpop_base.specs.WellFormed.{IsWellFormed, rules_of, productions, productions_of, HasKnownTerminals};
 ghost use Rattle.lalrpop_base.specs.Tokens.{FitsTokens};
+ghost use Rattle.lalrpop_base.specs.Bits.{Bits};
+ghost use Rattle.lalrpop_base.specs.First.{IsFirstSetBefore};
+ghost use Rattle.lalrpop_tables.specs.Closing.{Adds, IsBegunOf, ExpandsFound, IsStarted};
 ghost use Rattle.lalrpop_tables.specs.Closure.{AreItems, IsClosureOf, IsStacked, Spreads, IsExpanded, IsClosing, item_of};
 
-use super::tokens::add_tokens;
+use super::tokens::{add_tokens, tokens_of};
 use lalrpop_base::first::FirstSets;
 use lalrpop_base::lookahead::nil::Nil;
 use lalrpop_base::lookahead::token_set::TokenSet;
@@ -43,7 +46,8 @@ fn add_productions<'grammar>(
     table: &mut Table<'grammar>,
     stack: &mut Vec<Lr0Item<'grammar>>,
 ) -> Result<(), OutOfMemory>
-    ensures { OnOk result (Spreads (rules_of grammar.now) tokens.now (productions_of grammar.now name.now) table.old.entries table.new.entries stack.old.items stack.new.items) }
+    ensures spreads { OnOk result (Spreads (rules_of grammar.now) tokens.now (productions_of grammar.now name.now) table.old.entries table.new.entries stack.old.items stack.new.items) }
+    ensures adds { OnOk result (Adds (IsBegunOf (productions_of grammar.now name.now)) tokens.now table.old.entries table.new.entries stack.old.items stack.new.items) }
 {
     for production in grammar.productions_for(name) {
         let item = Item {
@@ -66,7 +70,8 @@ fn tokens_after<'grammar>(
 ) -> Result<TokenSet, OutOfMemory>
     requires firsts { first_sets.now ≡ rules_of grammar.now }
     requires known { HasKnownTerminals grammar.now.terminals rest.now }
-    ensures { IfOk result (λ given. MatchOption (option_copied tokens.entry) (FitsTokens grammar.now.terminals given) (λ set. FitsTokens grammar.now.terminals set → FitsTokens grammar.now.terminals given)) }
+    ensures fits { IfOk result (λ given. MatchOption (option_copied tokens.entry) (FitsTokens grammar.now.terminals given) (λ set. FitsTokens grammar.now.terminals set → FitsTokens grammar.now.terminals given)) }
+    ensures first { IfOk result (λ given. (set : Bits) → option_copied tokens.entry ≡ Some set → IsFirstSetBefore (rules_of grammar.now) rest.now set given) }
 {
     match tokens {
         Some(set) => first_sets.first1(alloc, rest, set),
@@ -89,7 +94,8 @@ fn expand<'grammar>(
     requires well_formed { IsWellFormed grammar.now }
     requires firsts { first_sets.now ≡ rules_of grammar.now }
     requires known { Contains (productions grammar.now) item.production }
-    ensures { OnOk result (IsExpanded grammar.now item.entry table.old.entries table.new.entries stack.old.items stack.new.items) }
+    ensures expanded { OnOk result (IsExpanded grammar.now item.entry table.old.entries table.new.entries stack.old.items stack.new.items) }
+    ensures tokens { OnOk result (ExpandsFound grammar.now item.entry table.old.entries table.new.entries stack.old.items stack.new.items) }
 {
     let Some((symbol, rest)) = item.shift_symbol() else {
         return Ok(());
@@ -97,7 +103,7 @@ fn expand<'grammar>(
     let Symbol::Nonterminal(name) = symbol else {
         return Ok(());
     };
-    let given = tokens_after(alloc, grammar, first_sets, rest, table.get(&item))?;
+    let given = tokens_after(alloc, grammar, first_sets, rest, tokens_of(table, &item))?;
     add_productions(alloc, grammar, name, &given, table, stack)?;
     Ok(())
 }
@@ -131,7 +137,8 @@ fn start<'grammar>(
     requires kernel { AreItems (rules_of grammar.now) kernel.now }
     requires table { table.old.entries ≡ [] }
     requires stack { stack.old.items ≡ [] }
-    ensures { OnOk result (IsClosing grammar.now kernel.now table.new.entries stack.new.items) }
+    ensures closing { OnOk result (IsClosing grammar.now kernel.now table.new.entries stack.new.items) }
+    ensures started { OnOk result (IsStarted kernel.now table.new.entries stack.new.items) }
 {
     let _ = grammar;
     for item in kernel {

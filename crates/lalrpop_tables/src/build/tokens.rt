@@ -1,6 +1,7 @@
 //! Tokens by key, joined as they come.
-ghost use Rattle.std.specs.Prelude.{OnOk, IfOk};
-ghost use Rattle.std.specs.BTreeMap.{keys};
+ghost use Rattle.std.specs.Prelude.{◌≡◌, OnOk, IfOk, Contains, Some, option_copied};
+ghost use Rattle.std.specs.BTreeMap.{keys, get};
+ghost use Rattle.lalrpop_base.specs.Bits.{Bits};
 ghost use Rattle.lalrpop_base.specs.Places.{AllDiffer};
 ghost use Rattle.lalrpop_tables.specs.Entries.{IsJoinedAt};
 
@@ -30,4 +31,15 @@ pub fn add_tokens<K: Ord + Exact + Drop>(
     let grew = grown.union_with(tokens)?;
     map.insert(key, grown)?;
     Ok(grew)
+}
+
+/// The tokens of a key, where it has some.
+pub fn tokens_of<'map, K: Ord + Exact>(
+    map: &'map BTreeMap<K, TokenSet>,
+    key: &K,
+) -> Option<&'map TokenSet>
+    ensures value { option_copied result ≡ get K.cmp map.now key.now }
+    ensures found { AllDiffer (keys map.now) → (set : Bits) → Contains map.now.entries (key.now, set) → option_copied result ≡ Some set }
+{
+    map.get(key)
 }
