@@ -1,6 +1,6 @@
 -- The loop that makes the states.
-use Rattle.std.proofs.Common.{◌≡◌, ◌≢◌, ℕ, zero, suc, ◌+◌, ◌-◌, ◌<◌, ◌≤◌, ◌⊎◌, inl, inr, List, [], ◌∷◌, ◌++◌, length, map, refl, sym, ◌∙◌, ap, subst, arith, ⊎_elim, length-append, Bool, true, false, cond}
-use Rattle.std.specs.Prelude.{Contains, slice_get, Some, None, Option, ◌==◌}
+use Rattle.std.proofs.Common.{◌≡◌, ℕ, ◌+◌, ◌<◌, ◌≤◌, ◌⊎◌, inl, inr, List, [], ◌∷◌, ◌++◌, length, sym, ◌∙◌, ap, subst, arith, ⊎_elim, length-append}
+use Rattle.std.specs.Prelude.{Contains, slice_get, Some}
 use Rattle.std.proofs.lemmas.List.Elements.{Contains-append_cases}
 use Rattle.std.proofs.lemmas.Option.{slice_get_within}
 use Rattle.lalrpop_base.specs.Bits.{Bits}
@@ -8,11 +8,9 @@ use Rattle.lalrpop_base.specs.Items.{Dotted}
 use Rattle.lalrpop_base.specs.Places.{AllDiffer}
 use Rattle.lalrpop_base.specs.WellFormed.{Rules}
 use Rattle.lalrpop_base.specs.declared.lr1_core.state.State.{State}
-use Rattle.lalrpop_base.specs.declared.lr1_core.state.StateIndex.{StateIndex}
-use Rattle.lalrpop_base.specs.declared.repr.Symbol.{Symbol}
 use Rattle.lalrpop_tables.specs.Closure.{AreItems}
 use Rattle.lalrpop_tables.specs.Kernels.{Kernels}
-use Rattle.lalrpop_tables.specs.States.{HasTransition, Leads, IsBuilt, IsBuiltOf, Extends, AreBuilt}
+use Rattle.lalrpop_tables.specs.States.{IsBuiltOf, Extends, AreBuilt}
 use Rattle.lalrpop_tables.proofs.Lists.{Contains-none, Contains-cases}
 use Rattle.lalrpop_tables.proofs.Places.{slice_get-longer, push_cases}
 pub use Rattle.lalrpop_tables.proofs.Universe.{kernels_limit}

@@ -1,6 +1,6 @@
 -- The kernels of the construction are those of canonical states.
-use Rattle.std.proofs.Common.{◌≡◌, ◌↔◌, ℕ, zero, suc, ◌+◌, ◌<◌, ◌⊎◌, inl, inr, List, [], ◌∷◌, length, map, drop, refl, sym, ◌∙◌, ap, subst, arith, Bool, true, false, ◌||◌, ◌==◌, eqb-true, eq-eqb, Option, Some, None}
-use Rattle.std.specs.Prelude.{Contains, slice_get}
+use Rattle.std.proofs.Common.{◌≡◌, ◌↔◌, ℕ, suc, ◌+◌, inl, inr, List, ◌∷◌, length, map, drop, refl, sym, ◌∙◌, ap, subst, arith, true, ◌||◌, ◌==◌, eqb-true, eq-eqb}
+use Rattle.std.specs.Prelude.{Contains}
 use Rattle.std.proofs.lemmas.Bool.{or_cases, false≢true}
 use Rattle.std.proofs.lemmas.Option.{slice_get_within}
 use Rattle.lalrpop_base.specs.Bits.{Bits, has, no_bits, with_bit, has-no_bits, has-with_bit}
@@ -23,9 +23,8 @@ use Rattle.lalrpop_tables.specs.Transitions.{IsBehind, moved, Shifts}
 use Rattle.lalrpop_tables.specs.Transitions.Shifts.{none, moves, stays}
 use Rattle.lalrpop_tables.proofs.Closing.{drop_split, split_drop}
 use Rattle.lalrpop_tables.proofs.Grammars.{productions_among, productions_named}
-use Rattle.lalrpop_tables.proofs.KnownTerminals.{token_bit, held_bit, bit_held}
+use Rattle.lalrpop_tables.proofs.KnownTerminals.{held_bit}
 use Rattle.lalrpop_tables.proofs.Lists.{Contains-here, Contains-there, Contains-cases, Contains-none, Contains-map}
-use Rattle.lalrpop_tables.proofs.Places.{same_some}
 use Rattle.lalrpop_tables.proofs.Shifting.{of_dotted, begun_in, Shifts-from}
 
 -- ---- a closure of more is more

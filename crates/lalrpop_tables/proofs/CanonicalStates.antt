@@ -1,5 +1,5 @@
 -- The states of the construction are closures of the start and of what was moved, with their tokens.
-use Rattle.std.proofs.Common.{◌≡◌, ◌↔◌, ℕ, zero, suc, ◌<◌, Bool, List, [], ◌∷◌, length, map, refl, sym, ◌∙◌, ap, subst, arith, Option, Some, None, option_map}
+use Rattle.std.proofs.Common.{◌≡◌, ◌↔◌, ℕ, zero, suc, ◌<◌, Bool, List, [], ◌∷◌, length, map, refl, sym, ◌∙◌, ap, subst, arith, Option, Some, option_map}
 use Rattle.std.specs.Prelude.{Contains, slice_get, IfSome}
 use Rattle.std.specs.BTreeMap.{BTreeMap, get}
 use Rattle.std.specs.Cmp.{IsTotalOrder}
@@ -30,7 +30,6 @@ use Rattle.lalrpop_tables.specs.Results.{AreStatesOf, canonical_of}
 use Rattle.lalrpop_tables.specs.States.{begun, HasTransition}
 use Rattle.lalrpop_tables.specs.Transitions.{Shifts}
 use Rattle.lalrpop_tables.proofs.Canonical.{InClosure-more, InTokenClosure-more, start_items, start_tokens, moved_items, moved_tokens}
-use Rattle.lalrpop_tables.proofs.Lists.{place}
 use Rattle.lalrpop_tables.proofs.Places.{same_some}
 
 -- ---- where a state leads

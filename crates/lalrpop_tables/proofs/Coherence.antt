@@ -1,10 +1,9 @@
 -- The states that are built of kernels are coherent.
-use Rattle.std.proofs.Common.{◌≡◌, ◌≢◌, ℕ, zero, suc, ◌+◌, ◌-◌, ◌<◌, ◌≤◌, ◌⊎◌, inl, inr, List, [], ◌∷◌, ◌++◌, length, get_or, map, refl, sym, ◌∙◌, ap, subst, arith, ⊎_elim, Bool, true, false, cond, Option, Some, None, eqb-true, option_map}
+use Rattle.std.proofs.Common.{◌≡◌, ℕ, ◌+◌, ◌-◌, ◌<◌, inl, inr, List, [], ◌∷◌, length, get_or, map, refl, sym, ◌∙◌, ap, subst, arith, ⊎_elim, Bool, true, false, cond, Some, eqb-true, option_map}
 use Rattle.std.specs.Prelude.{Contains, slice_get, ◌==◌}
-use Rattle.std.specs.Borrow.{Bor}
 use Rattle.std.proofs.lemmas.Option.{slice_get_within, slice_get-get_or, slice_get-map}
 use Rattle.lalrpop_base.specs.Bits.{Bits}
-use Rattle.lalrpop_base.specs.Coherent.{IsAt, HasItem, IsShifted, IsCoherentEdge, IsCoherentStep, StartsAtZero, AreFinished, IsCoherentState, AreCoherent}
+use Rattle.lalrpop_base.specs.Coherent.{HasItem, IsShifted, IsCoherentStep, AreFinished, AreCoherent}
 use Rattle.lalrpop_base.specs.Items.{Dotted}
 use Rattle.lalrpop_base.specs.WellFormed.{Rules}
 use Rattle.lalrpop_base.specs.declared.lr1_core.state.State.{State}
@@ -15,11 +14,11 @@ use Rattle.lalrpop_base.specs.declared.repr.Symbol.TheVariants.{Nonterminal, Ter
 use Rattle.lalrpop_tables.specs.Closure.{dotted_of, AreItems, IsClosureOf}
 use Rattle.lalrpop_tables.specs.Kernels.{Kernels}
 use Rattle.lalrpop_tables.specs.States.{begun, HasTransition, Leads, IsBuilt, IsBuiltOf, Extends, AreBuilt}
-use Rattle.lalrpop_tables.specs.Transitions.{IsBehind, moved, Shifts, Groups, AreMoves, HasEdge, AreEdges, IsReached, reductions_of, seen}
+use Rattle.lalrpop_tables.specs.Transitions.{Shifts, Groups, AreMoves, HasEdge, AreEdges, IsReached, reductions_of, seen}
 use Rattle.lalrpop_tables.specs.declared.build.transitions.Edges.{Edges}
 use Rattle.lalrpop_tables.proofs.Lists.{Contains-none, Contains-here, Contains-there, Contains-cases, place}
 use Rattle.lalrpop_tables.proofs.Places.{contains_at, same_some}
-use Rattle.lalrpop_tables.proofs.Shifting.{IsFrom, Shifts-from, Shifts-items, of_dotted, begun_zero}
+use Rattle.lalrpop_tables.proofs.Shifting.{Shifts-from, Shifts-items, of_dotted, begun_zero}
 
 -- ---- a state is made
 edge_of : (x : Symbol) (target : StateIndex) (edges : Edges) (state : State Bits) → state.shifts ≡ edges.shifts → state.gotos ≡ edges.gotos → HasTransition x target state → HasEdge x target edges

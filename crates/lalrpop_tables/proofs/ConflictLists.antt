@@ -1,6 +1,6 @@
 -- The conflicts of states, one state more, and results made of them.
-use Rattle.std.proofs.Common.{◌≡◌, ◌≢◌, ℕ, zero, suc, ◌+◌, ◌<◌, ◌≤◌, List, [], ◌∷◌, ◌++◌, length, take, map, get_or, refl, sym, ◌∙◌, ap, subst, arith, ⊎_elim}
-use Rattle.std.specs.Prelude.{slice_get, Some, None, ◌↔◌}
+use Rattle.std.proofs.Common.{◌≡◌, ℕ, zero, suc, ◌+◌, ◌<◌, ◌≤◌, List, [], ◌∷◌, ◌++◌, length, take, map, get_or, refl, sym, ◌∙◌, ap, subst, arith, ⊎_elim}
+use Rattle.std.specs.Prelude.{slice_get, Some, ◌↔◌}
 use Rattle.std.specs.List.{flat_map}
 use Rattle.std.proofs.lemmas.List.{take_more, append-nil}
 use Rattle.std.proofs.lemmas.Option.{slice_get_within}
@@ -13,7 +13,6 @@ use Rattle.lalrpop_base.specs.declared.lr1_core.state.BuildError.TheVariants.{Co
 use Rattle.lalrpop_base.specs.declared.lr1_core.state.Conflict.{Conflict}
 use Rattle.lalrpop_base.specs.declared.lr1_core.state.State.{State}
 use Rattle.lalrpop_base.specs.declared.repr.TerminalString.{TerminalString}
-use Rattle.lalrpop_base.specs.WellFormed.{rules_of, productions_of}
 use Rattle.lalrpop_tables.specs.Results.{HaveNoConflict, AreAllConflicts, FailWithConflicts, Construction, AreStatesOf, AreTables, FailsBy}
 use Rattle.lalrpop_tables.specs.States.{begun, AreBuilt}
 use Rattle.lalrpop_tables.proofs.Coherence.{Built-coherent, Built-some, begun_zeros}

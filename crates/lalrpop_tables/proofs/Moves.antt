@@ -1,5 +1,5 @@
 -- The kernels that items move to, one item more, and the edges to them, one edge more.
-use Rattle.std.proofs.Common.{◌≡◌, ◌≢◌, ℕ, zero, suc, ◌+◌, ◌-◌, ◌<◌, ◌≤◌, ◌⊎◌, inl, inr, List, [], ◌∷◌, ◌++◌, length, take, map, refl, sym, ◌∙◌, ap, subst, arith, ⊎_elim, length-append, append_assoc, Bool, true, false, cond, Option, Some, None}
+use Rattle.std.proofs.Common.{◌≡◌, ℕ, suc, ◌⊎◌, inl, inr, List, [], ◌∷◌, ◌++◌, length, refl, sym, ◌∙◌, ap, subst, arith, append_assoc, Bool, true, false, cond, Some}
 use Rattle.std.specs.Prelude.{Contains, slice_get, ◌==◌}
 use Rattle.std.specs.Map.{keys_of}
 use Rattle.std.proofs.lemmas.List.Elements.{Contains-append_left, Contains-append_right, Contains-append_cases}
@@ -20,7 +20,7 @@ use Rattle.lalrpop_tables.specs.Transitions.{IsBehind, moved, Shifts, Groups, Ha
 use Rattle.lalrpop_tables.specs.Transitions.Shifts.{none, moves, stays}
 use Rattle.lalrpop_tables.specs.Transitions.IsMoveAdded.{over, at_end}
 use Rattle.lalrpop_tables.proofs.Lists.{Contains-none, Contains-here, Contains-there, Contains-cases, Contains-map, place}
-use Rattle.lalrpop_tables.proofs.Places.{midst, around, at_midst, differ_front, same_some, contains_at, slice_get-longer, push_cases}
+use Rattle.lalrpop_tables.proofs.Places.{midst, around, at_midst, differ_front, same_some, slice_get-longer}
 use Rattle.std.proofs.lemmas.Option.{slice_get_within}
 use Rattle.std.proofs.lemmas.List.{map-append}
 use Rattle.std.specs.declared.cmp.Ordering.{Ordering}

@@ -1,6 +1,6 @@
 -- The tables of a closure, and one dotted production more.
-use Rattle.std.proofs.Common.{◌≡◌, ◌↔◌, ◌≢◌, ℕ, zero, suc, ◌+◌, ◌-◌, ◌*◌, ◌<◌, ◌≤◌, ◌⊎◌, inl, inr, List, [], ◌∷◌, ◌++◌, length, map, refl, sym, ◌∙◌, ap, subst, arith, length-append, Bool, true, false, cond, Option, Some, None}
-use Rattle.std.specs.Prelude.{Contains, slice_get, MatchBool, MatchOption, drop}
+use Rattle.std.proofs.Common.{◌≡◌, ◌↔◌, ◌≢◌, ℕ, zero, suc, ◌+◌, ◌-◌, ◌*◌, ◌≤◌, ◌⊎◌, inl, inr, List, [], ◌∷◌, ◌++◌, length, map, refl, sym, ◌∙◌, ap, subst, arith, length-append, Bool, true, false, cond, Some}
+use Rattle.std.specs.Prelude.{Contains, slice_get, MatchBool}
 use Rattle.std.specs.Map.{keys_of, lookup}
 use Rattle.std.proofs.lemmas.Map.Entries.{place_from_lookup}
 use Rattle.std.proofs.lemmas.List.Elements.{Contains-append_left, Contains-append_right, Contains-append_cases}
@@ -10,20 +10,17 @@ use Rattle.std.proofs.lemmas.Nat.{mul-le}
 use Rattle.lalrpop_base.specs.Bits.{Bits, join}
 use Rattle.lalrpop_base.specs.Items.{Dotted}
 use Rattle.lalrpop_base.specs.Places.{AllDiffer}
-use Rattle.lalrpop_base.specs.WellFormed.{Rules, rules_of, productions, productions_of}
+use Rattle.lalrpop_base.specs.WellFormed.{Rules}
 use Rattle.lalrpop_base.specs.Closures.{InClosure, InTokenClosure}
 use Rattle.lalrpop_base.specs.declared.lookahead.token.Token.{Token}
-use Rattle.lalrpop_base.specs.Closures.InClosure.{in_kernel, expanded}
-use Rattle.lalrpop_base.specs.declared.repr.grammar.Grammar.{Grammar}
-use Rattle.lalrpop_base.specs.declared.repr.NonterminalString.{NonterminalString}
-use Rattle.lalrpop_base.specs.declared.repr.Symbol.TheVariants.{Nonterminal}
+use Rattle.lalrpop_base.specs.Closures.InClosure.{in_kernel}
 use Rattle.lalrpop_base.specs.Tokens.{FitsTokens}
 use Rattle.lalrpop_base.specs.declared.lookahead.nil.Nil.{Nil}
 use Rattle.lalrpop_base.specs.declared.repr.Production.{Production}
 use Rattle.lalrpop_tables.specs.Counts.{count}
 use Rattle.lalrpop_tables.specs.Entries.{IsJoinedAt}
 use Rattle.lalrpop_tables.specs.Entries.IsJoinedAt.{fresh, known}
-use Rattle.lalrpop_tables.specs.Closure.{dotted_of, InKernel, HasItemToken, IsItemOf, AreItems, IsClosureOf, Found, item_of, IsStacked, IsTable, weight, AreBegun, begun_of, Spreads, IsSettled, IsExpanded, IsClosing}
+use Rattle.lalrpop_tables.specs.Closure.{dotted_of, InKernel, HasItemToken, IsItemOf, AreItems, IsClosureOf, Found, item_of, IsStacked, IsTable, weight, begun_of, Spreads}
 use Rattle.lalrpop_tables.proofs.Lists.{Contains-none, Contains-here, Contains-there, Contains-cases, Contains-map, pigeonhole}
 use Rattle.lalrpop_tables.proofs.Places.{midst, around, at_midst, apart_from_differ, same_some, contains_at}
 use Rattle.lalrpop_tables.proofs.Subsets.{AreBelow, count_few, join_counts, join_below}

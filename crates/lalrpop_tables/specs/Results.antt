@@ -4,8 +4,7 @@ use Rattle.std.specs.List.{flat_map}
 use Rattle.lalrpop_base.specs.Bits.{Bits, no_bits, with_bit}
 use Rattle.lalrpop_base.specs.Coherent.{AreCoherent}
 use Rattle.lalrpop_base.specs.StateConflicts.{state_conflicts, HasNoConflict}
-use Rattle.lalrpop_base.specs.Tokens.{FitsTokens}
-use Rattle.lalrpop_base.specs.WellFormed.{Rules, rules_of, IsWellFormed, productions_of}
+use Rattle.lalrpop_base.specs.WellFormed.{Rules, rules_of, productions_of}
 use Rattle.lalrpop_base.specs.declared.lr1_core.state.BuildError.{BuildError}
 use Rattle.lalrpop_base.specs.declared.lr1_core.state.BuildError.TheVariants.{Conflicts, Memory}
 use Rattle.lalrpop_base.specs.declared.lr1_core.state.Conflict.{Conflict}

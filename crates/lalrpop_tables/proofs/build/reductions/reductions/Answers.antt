@@ -1,9 +1,9 @@
-use Rattle.std.proofs.Common.{◌≡◌, ◌∙◌, ◌++◌, ◌∷◌, [], ap, sym, take, length, map, get_or, ◌+◌}
+use Rattle.std.proofs.Common.{◌≡◌, ◌∙◌, ◌++◌, ◌∷◌, [], ap, sym, take, ◌+◌}
 use Rattle.std.proofs.lemmas.List.{take_more}
 use Rattle.lalrpop_base.specs.Bits.{Bits}
 use Rattle.lalrpop_base.specs.Items.{Dotted}
 use Rattle.std.specs.Prelude.{List}
-use Rattle.lalrpop_tables.specs.Transitions.{reductions_of, seen}
+use Rattle.lalrpop_tables.specs.Transitions.{reductions_of}
 use Rattle.lalrpop_tables.proofs.Moves.{reductions_of-append}
 use Rattle.lalrpop_tables.proofs.build.reductions.reductions.Goals as goal
 

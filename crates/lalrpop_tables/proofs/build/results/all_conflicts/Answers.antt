@@ -1,4 +1,3 @@
-use Rattle.std.proofs.Common.{◌≡◌, take, length, sym, ◌≤◌, arith}
 use Rattle.std.proofs.lemmas.List.{take_all}
 use Rattle.lalrpop_tables.proofs.ConflictLists.{Conflicts-none, Conflicts-more, Conflicts-all}
 use Rattle.lalrpop_tables.proofs.build.results.all_conflicts.Goals as goal

@@ -1,4 +1,4 @@
-use Rattle.std.proofs.Common.{◌≡◌, ◌++◌, ◌∙◌, ap, sym}
+use Rattle.std.proofs.Common.{◌++◌, ◌∙◌, ap}
 use Rattle.lalrpop_tables.proofs.build.results.push_conflicts.Goals as goal
 
 pub returns-clause-list : goal.returns-clause-list

@@ -1,10 +1,9 @@
-use Rattle.std.proofs.Common.{◌≡◌, ◌∙◌, ap, sym, subst, refl, List}
-use Rattle.std.specs.Prelude.{slice_get, Some, Contains}
+use Rattle.std.proofs.Common.{◌≡◌, sym, subst, refl, List}
+use Rattle.std.specs.Prelude.{slice_get, Some}
 use Rattle.lalrpop_base.specs.Bits.{Bits}
 use Rattle.lalrpop_base.specs.Items.{Dotted}
 use Rattle.lalrpop_base.specs.WellFormed.{rules_of}
-use Rattle.lalrpop_tables.specs.Closure.{AreItems, IsClosureOf}
-use Rattle.lalrpop_tables.specs.Transitions.{AreMoves}
+use Rattle.lalrpop_tables.specs.Closure.{AreItems}
 use Rattle.lalrpop_tables.proofs.Places.{contains_at, slice_get-longer}
 use Rattle.lalrpop_tables.proofs.Coherence.{Built-made, Reached-extends}
 use Rattle.lalrpop_tables.proofs.build.states.build_state.Goals as goal

@@ -1,10 +1,10 @@
-use Rattle.std.proofs.Common.{◌≡◌, ◌∙◌, ◌⊎◌, ◌∷◌, [], ◌++◌, ap, sym, subst, refl, List, map, length, arith, ◌+◌, ◌<◌}
-use Rattle.std.specs.Prelude.{slice_get, Some, Contains}
+use Rattle.std.proofs.Common.{◌≡◌, ◌∙◌, ap, subst, refl, List, map, length, arith, ◌+◌, ◌<◌}
+use Rattle.std.specs.Prelude.{Contains}
 use Rattle.lalrpop_base.specs.Bits.{Bits}
 use Rattle.lalrpop_base.specs.Items.{Dotted}
 use Rattle.lalrpop_base.specs.WellFormed.{rules_of, productions_of}
 use Rattle.lalrpop_tables.specs.States.{begun}
-use Rattle.lalrpop_tables.proofs.Building.{Building, Building-init, Building-step, Building-smaller, Building-all, first_added}
+use Rattle.lalrpop_tables.proofs.Building.{Building-init, Building-step, Building-smaller, Building-all, first_added}
 use Rattle.lalrpop_tables.proofs.Shifting.{Start-items}
 use Rattle.lalrpop_tables.proofs.build.states.build_states.Goals as goal
 

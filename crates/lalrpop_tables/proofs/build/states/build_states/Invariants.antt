@@ -1,4 +1,4 @@
-use Rattle.std.proofs.Common.{◌≡◌, map, length, ◌-◌}
+use Rattle.std.proofs.Common.{map, ◌-◌}
 use Rattle.lalrpop_base.specs.WellFormed.{rules_of, productions_of}
 use Rattle.lalrpop_tables.specs.States.{begun}
 use Rattle.lalrpop_tables.proofs.Building.{Building, kernels_limit}

@@ -1,12 +1,4 @@
-use Rattle.std.proofs.Common.{◌≡◌, ◌∙◌, ◌+◌, ap, sym, subst, refl, List, length}
-use Rattle.std.specs.Prelude.{slice_get, Some}
-use Rattle.std.proofs.lemmas.Option.{slice_get_read}
-use Rattle.lalrpop_base.specs.Bits.{Bits}
-use Rattle.lalrpop_base.specs.Items.{Dotted}
-use Rattle.lalrpop_base.specs.declared.repr.Symbol.{Symbol}
-use Rattle.lalrpop_tables.specs.Entries.{IsPushedAt}
-use Rattle.lalrpop_tables.specs.Transitions.{IsBehind, IsMoveAdded, moved}
-use Rattle.lalrpop_tables.specs.Transitions.IsMoveAdded.{over, at_end}
+use Rattle.lalrpop_tables.specs.Transitions.IsMoveAdded.{over}
 use Rattle.lalrpop_tables.proofs.Places.{slice_get_at}
 use Rattle.lalrpop_tables.proofs.build.transitions.add_move.Goals as goal
 

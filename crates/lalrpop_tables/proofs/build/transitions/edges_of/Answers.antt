@@ -1,4 +1,4 @@
-use Rattle.std.proofs.Common.{◌≡◌, ◌∙◌, ◌++◌, ◌∷◌, [], ap, sym, subst, append-nil}
+use Rattle.std.proofs.Common.{◌∙◌, ◌++◌, ap, sym, append-nil}
 use Rattle.lalrpop_tables.specs.Transitions.{Groups}
 use Rattle.lalrpop_tables.proofs.Orders.{symbol_order, symbol_total}
 use Rattle.lalrpop_tables.proofs.Updates.{keys_differ}

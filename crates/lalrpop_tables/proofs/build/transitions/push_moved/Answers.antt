@@ -1,4 +1,4 @@
-use Rattle.std.proofs.Common.{◌≡◌, ◌∙◌, ◌++◌, ◌∷◌, [], ap, sym, subst, refl}
+use Rattle.std.proofs.Common.{◌≡◌, ◌∙◌, ◌++◌, ◌∷◌, [], ap, sym}
 use Rattle.lalrpop_tables.proofs.Orders.{symbol_order, symbol_exact, symbol_total}
 use Rattle.lalrpop_tables.proofs.Updates.{keys_differ, inserted, set_replaced, pushed_fresh, pushed_known}
 use Rattle.lalrpop_tables.proofs.build.transitions.push_moved.Goals as goal

@@ -1,8 +1,7 @@
-use Rattle.std.proofs.Common.{◌≡◌, ◌++◌, ◌∷◌, [], refl, ap, ◌∙◌, sym, length, subst}
-use Rattle.std.specs.Prelude.{is_ok, cond, slice_get, Some, None}
-use Rattle.std.specs.BTreeMap.{get, Updates}
+use Rattle.std.proofs.Common.{◌≡◌, ◌++◌, ◌∷◌, [], ap, ◌∙◌, sym, length}
+use Rattle.std.specs.Prelude.{is_ok, cond, Some}
+use Rattle.std.specs.BTreeMap.{Updates}
 use Rattle.lalrpop_tables.proofs.Updates.{exact_order}
-use Rattle.lalrpop_tables.specs.Kernels.{IsIndexed}
 use Rattle.lalrpop_tables.proofs.Places.{slice_get-push_at}
 use Rattle.lalrpop_tables.proofs.KernelNumbers.{Indexed-differ, Indexed-push}
 use Rattle.lalrpop_tables.proofs.build.kernels.KernelSet.add_state.Goals as goal

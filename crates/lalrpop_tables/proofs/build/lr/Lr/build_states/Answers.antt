@@ -1,4 +1,3 @@
-use Rattle.std.proofs.Common.{◌≡◌, ◌∙◌, ap, sym}
 use Rattle.std.proofs.lemmas.Result.{IfOk-weaker, IfErr-weaker}
 use Rattle.lalrpop_base.specs.WellFormed.{rules_of, productions_of}
 use Rattle.lalrpop_tables.specs.Results.{Construction}
