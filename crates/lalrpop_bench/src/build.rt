@@ -109,20 +109,27 @@ fn is_owed(outcome: Lr1Result, row: &Row) -> bool {
     }
 }
 
+// Whether the grammar is well-formed, and its result is that of the row.
+fn answers(alloc: Global, grammar: &Grammar, row: &Row, options: &Options) -> Result<bool, Fail> {
+    if !is_well_formed(grammar) {
+        return Ok(false);
+    }
+    let start = name(alloc, row.start)?;
+    Ok(is_owed(build_states(alloc, grammar, start, options), row))
+}
+
 #[test]
 fn build_states_of_rows(rt: HostRuntime) -> Result<(), Fail> {
     let alloc = rt.alloc();
     for row in ROWS.iter() {
         let grammar = grammar(alloc, row.lines)?;
-        assert!(rt; is_well_formed(&grammar));
         for method in [Method::Lane, Method::Canonical] {
             let options = Options {
                 method,
                 stop_after: 0,
                 max_copies: 10000,
             };
-            let result = build_states(alloc, &grammar, name(alloc, row.start)?, &options);
-            assert!(rt; is_owed(result, row), "{}", row.lines);
+            assert!(rt; answers(alloc, &grammar, row, &options)?, "{}", row.lines);
         }
     }
     Ok(())
@@ -165,20 +172,28 @@ fn is_token(token: &Token, terminal: &TerminalString) -> bool {
     }
 }
 
+// Whether the grammar is well-formed, and its one conflict is that of an arrow behind an arrow.
+fn has_conflict_of_arrows(alloc: Global, grammar: &Grammar) -> Result<bool, Fail> {
+    if !is_well_formed(grammar) {
+        return Ok(false);
+    }
+    let arrow = Token::Terminal(literal(alloc, "->")?);
+    let start = name(alloc, "Ty")?;
+    match build_states(alloc, grammar, start, &Options::default()) {
+        Err(BuildError::Conflicts(error)) => Ok(is_conflict_of_arrows(
+            &error.conflicts,
+            &arrow,
+            &grammar.terminals,
+        )),
+        Err(BuildError::Memory) => Ok(false),
+        Ok(_) => Ok(false),
+    }
+}
+
 #[test]
 fn conflict_of_arrows(rt: HostRuntime) -> Result<(), Fail> {
     let alloc = rt.alloc();
     let grammar = grammar(alloc, ROWS[4].lines)?;
-    assert!(rt; is_well_formed(&grammar));
-    let arrow = Token::Terminal(literal(alloc, "->")?);
-    let result = build_states(alloc, &grammar, name(alloc, "Ty")?, &Options::default());
-    let owed = match result {
-        Err(BuildError::Conflicts(error)) => {
-            is_conflict_of_arrows(&error.conflicts, &arrow, &grammar.terminals)
-        }
-        Err(BuildError::Memory) => false,
-        Ok(_) => false,
-    };
-    assert!(rt; owed);
+    assert!(rt; has_conflict_of_arrows(alloc, &grammar)?);
     Ok(())
 }

@@ -49,28 +49,90 @@ fn item<'g>(
     })
 }
 
-fn state<'g>(alloc: Global, number: usize) -> Lr1State<'g> {
+fn state<'g>(
+    alloc: Global,
+    number: usize,
+    items: Vec<Lr1Item<'g>>,
+    shifts: BTreeMap<TerminalString, StateIndex>,
+    reductions: Vec<(TokenSet, &'g Production)>,
+) -> Lr1State<'g> {
     State {
         index: StateIndex(number),
-        items: Items {
-            vec: Vec::new(alloc),
-        },
-        shifts: BTreeMap::new(alloc),
-        reductions: Vec::new(alloc),
+        items: Items { vec: items },
+        shifts,
+        reductions,
         gotos: BTreeMap::new(alloc),
     }
 }
 
-// Makes the state reduce by a production before the end.
-fn reduces<'g>(
+// A reduction by a production before the end.
+fn reductions<'g>(
     alloc: Global,
     terminals: &TerminalSet,
-    state: &mut Lr1State<'g>,
     production: &'g Production,
-) -> Result<(), Fail> {
+) -> Result<Vec<(TokenSet, &'g Production)>, Fail> {
     let tokens = TokenSet::of(alloc, Token::Eof, terminals)?;
-    state.reductions.push((tokens, production))?;
-    Ok(())
+    let mut list = Vec::new(alloc);
+    list.push((tokens, production))?;
+    Ok(list)
+}
+
+// The one item of a state.
+fn one_item<'g>(
+    rt: &impl Abort,
+    alloc: Global,
+    terminals: &TerminalSet,
+    production: &'g Production,
+    index: usize,
+) -> Result<Vec<Lr1Item<'g>>, Fail> {
+    let mut list = Vec::new(alloc);
+    list.push(item(rt, alloc, terminals, production, index)?)?;
+    Ok(list)
+}
+
+// The state before a terminal, and the one behind it.
+fn states_of_one<'g>(
+    rt: &impl Abort,
+    alloc: Global,
+    terminals: &TerminalSet,
+    production: &'g Production,
+) -> Result<Vec<Lr1State<'g>>, Fail> {
+    let mut shifts = BTreeMap::new(alloc);
+    shifts.insert(literal(alloc, "x")?, StateIndex(1))?;
+    let before = one_item(rt, alloc, terminals, production, 0)?;
+    let behind = one_item(rt, alloc, terminals, production, 1)?;
+    let reduced = reductions(alloc, terminals, production)?;
+    let mut states = Vec::new(alloc);
+    states.push(state(alloc, 0, before, shifts, Vec::new(alloc)))?;
+    states.push(state(alloc, 1, behind, BTreeMap::new(alloc), reduced))?;
+    Ok(states)
+}
+
+// The one state of an empty right side.
+fn states_of_none<'g>(
+    rt: &impl Abort,
+    alloc: Global,
+    terminals: &TerminalSet,
+    production: &'g Production,
+) -> Result<Vec<Lr1State<'g>>, Fail> {
+    let items = one_item(rt, alloc, terminals, production, 0)?;
+    let reduced = reductions(alloc, terminals, production)?;
+    let mut states = Vec::new(alloc);
+    states.push(state(alloc, 0, items, BTreeMap::new(alloc), reduced))?;
+    Ok(states)
+}
+
+// A state without items.
+fn states_without_items<'g>(alloc: Global) -> Result<Vec<Lr1State<'g>>, Fail> {
+    let mut states = Vec::new(alloc);
+    states.push(state(
+        alloc,
+        0,
+        Vec::new(alloc),
+        BTreeMap::new(alloc),
+        Vec::new(alloc),
+    ))?;
+    Ok(states)
 }
 
 fn error_text(alloc: Global, error: InterpretError) -> Result<String, Fail> {
@@ -101,8 +163,12 @@ fn told(
     words: &[&str],
     limit: usize,
 ) -> Result<String, Fail> {
-    assert!(rt; are_coherent(states));
-    assert!(rt; states.len() > 0);
+    if !are_coherent(states) {
+        panic!(rt; "not coherent");
+    }
+    if states.is_empty() {
+        panic!(rt; "no states");
+    }
     match interpret(alloc, states, terminals, list(alloc, words)?, limit) {
         Ok(tree) => Ok(format!(in alloc; "{tree}")?),
         Err(error) => error_text(alloc, error),
@@ -118,8 +184,12 @@ fn stack_told(
     words: &[&str],
     limit: usize,
 ) -> Result<String, Fail> {
-    assert!(rt; are_coherent(states));
-    assert!(rt; states.len() > 0);
+    if !are_coherent(states) {
+        panic!(rt; "not coherent");
+    }
+    if states.is_empty() {
+        panic!(rt; "no states");
+    }
     match interpret_partial(alloc, states, terminals, list(alloc, words)?, limit) {
         Ok(stack) => Ok(format!(in alloc; "{stack:?}")?),
         Err(error) => error_text(alloc, error),
@@ -131,13 +201,7 @@ fn one_terminal(rt: HostRuntime) -> Result<(), Fail> {
     let alloc = rt.alloc();
     let terminals = TerminalSet::new(alloc, list(alloc, &["x"])?)?;
     let s = production(alloc, &["x"])?;
-    let mut first = state(alloc, 0);
-    first.items.vec.push(item(&rt, alloc, &terminals, &s, 0)?)?;
-    first.shifts.insert(literal(alloc, "x")?, StateIndex(1))?;
-    let mut second = state(alloc, 1);
-    second.items.vec.push(item(&rt, alloc, &terminals, &s, 1)?)?;
-    reduces(alloc, &terminals, &mut second, &s)?;
-    let states = vec![in alloc; first, second]?;
+    let states = states_of_one(&rt, alloc, &terminals, &s)?;
     let cases: [(&[&str], usize, &str); 8] = [
         (&["x"], 2, "[S: \"x\"]"),
         (&["x"], 1, "Limit"),
@@ -170,10 +234,7 @@ fn no_terminal(rt: HostRuntime) -> Result<(), Fail> {
     let alloc = rt.alloc();
     let terminals = TerminalSet::new(alloc, list(alloc, &[])?)?;
     let s = production(alloc, &[])?;
-    let mut only = state(alloc, 0);
-    only.items.vec.push(item(&rt, alloc, &terminals, &s, 0)?)?;
-    reduces(alloc, &terminals, &mut only, &s)?;
-    let states = vec![in alloc; only]?;
+    let states = states_of_none(&rt, alloc, &terminals, &s)?;
     assert_eq!(rt;
         told(&rt, alloc, &states, &terminals, &[], 1)?.as_str(),
         "[S: ]"
@@ -182,7 +243,7 @@ fn no_terminal(rt: HostRuntime) -> Result<(), Fail> {
         told(&rt, alloc, &states, &terminals, &[], 0)?.as_str(),
         "Limit"
     );
-    let empty = vec![in alloc; state(alloc, 0)]?;
+    let empty = states_without_items(alloc)?;
     assert_eq!(rt;
         told(&rt, alloc, &empty, &terminals, &[], 0)?.as_str(),
         "0 refuses Eof"

@@ -180,7 +180,9 @@ fn items_are_shifted_and_copied(rt: HostRuntime) -> Result<(), Fail> {
     let start = item(&parens, 2).with_lookahead(eof);
     match start.shifted_item(alloc)? {
         Some((symbol, shifted)) => {
-            assert!(rt; *symbol == parens.symbols.as_slice()[2]);
+            let symbols = parens.symbols.as_slice();
+            assert_eq!(rt; symbols.len(), 3);
+            assert!(rt; *symbol == symbols[2]);
             assert_eq!(rt; shifted.index, 3);
             assert!(rt; shifted.lookahead == start.lookahead);
             assert!(rt; shifted.clone(alloc)? == shifted);
