@@ -20,4 +20,6 @@ mod lr1_core;
 mod plain;
 #[cfg(test)]
 mod repr;
+#[cfg(test)]
+mod views;
 pub mod word_lookahead;
