@@ -21,5 +21,7 @@ mod plain;
 #[cfg(test)]
 mod repr;
 #[cfg(test)]
+mod texts;
+#[cfg(test)]
 mod views;
 pub mod word_lookahead;
