@@ -2,6 +2,7 @@
 use Rattle.std.proofs.Common.{◌≡◌, ℕ, ◌+◌, ◌<◌, ◌≤◌, ◌⊎◌, inl, inr, List, [], ◌∷◌, ◌++◌, length, sym, ◌∙◌, ap, subst, arith, ⊎_elim, length-append}
 use Rattle.std.specs.Prelude.{Contains, slice_get, Some}
 use Rattle.std.proofs.lemmas.List.Elements.{Contains-append_cases}
+use Rattle.std.proofs.lemmas.Bool.{cases_lt}
 use Rattle.std.proofs.lemmas.Option.{slice_get_within}
 use Rattle.lalrpop_base.specs.Bits.{Bits}
 use Rattle.lalrpop_base.specs.Items.{Dotted}
@@ -10,13 +11,13 @@ use Rattle.lalrpop_base.specs.WellFormed.{Rules}
 use Rattle.lalrpop_base.specs.declared.lr1_core.state.State.{State}
 use Rattle.lalrpop_tables.specs.Closure.{AreItems}
 use Rattle.lalrpop_tables.specs.Kernels.{Kernels}
-use Rattle.lalrpop_tables.specs.States.{IsBuiltOf, Extends, AreBuilt}
+use Rattle.lalrpop_tables.specs.States.{IsBuiltOf, Extends, LeadsToAdded, IsLedTo, AreBuilt}
 use Rattle.lalrpop_tables.proofs.Lists.{Contains-none, Contains-cases}
-use Rattle.lalrpop_tables.proofs.Places.{slice_get-longer, push_cases}
+use Rattle.lalrpop_tables.proofs.Places.{slice_get-longer, slice_get-push_at, push_cases}
 pub use Rattle.lalrpop_tables.proofs.Universe.{kernels_limit}
 use Rattle.lalrpop_tables.proofs.Universe.{kernels_bounded}
 
--- each kernel that was handed out has its state, and all kernels are the grammar's
+-- each kernel that was handed out has its state, all kernels are the grammar's, and a transition leads to each but the first
 pub record Building (g : Rules) (first : List (Dotted Bits)) (kernels : Kernels (List (Dotted Bits))) (states : List (State Bits)) : Type 0 where
   pub handed : kernels.handed ≡ length states
   pub fewer : kernels.handed ≤ length kernels.list
@@ -24,6 +25,19 @@ pub record Building (g : Rules) (first : List (Dotted Bits)) (kernels : Kernels 
   pub of : (k : List (Dotted Bits)) → Contains kernels.list k → AreItems g k
   pub start : slice_get kernels.list 0 ≡ Some first
   pub each : (n : ℕ) (state : State Bits) → slice_get states n ≡ Some state → IsBuiltOf g kernels.list n state
+  pub led : (n : ℕ) → 0 < n → n < length kernels.list → IsLedTo states n
+
+led_longer : (states : List (State Bits)) (state : State Bits) (n : ℕ) → IsLedTo states n → IsLedTo (states ++ state ∷ []) n
+led_longer states state n l = record {
+  place = l.place;
+  earlier = l.earlier;
+  state = l.state;
+  there = slice_get-longer states (state ∷ []) l.place l.state l.there;
+  symbol = l.symbol;
+  target = l.target;
+  transition = l.transition;
+  leads = l.leads;
+}
 
 module _ (g : Rules) (first : List (Dotted Bits)) where
   pub Building-init : (kernels : Kernels (List (Dotted Bits))) (states : List (State Bits)) → kernels.list ≡ first ∷ [] → kernels.handed ≡ 0 → states ≡ [] → AreItems g first → AllDiffer kernels.list → Building g first kernels states
@@ -37,6 +51,7 @@ module _ (g : Rules) (first : List (Dotted Bits)) where
         of = λ k c. elim (Contains-cases first [] k (subst (λ (ks : List (List (Dotted Bits))). Contains ks k) l c)) [ inl e ↦ subst (AreItems g) e of | inr n ↦ absurd (Contains-none k n) ];
         start = ap (λ (ks : List (List (Dotted Bits))). slice_get ks 0) l;
         each = λ n state at. let w : n < length states = slice_get_within states n state at in absurd (omega arith);
+        led = λ n more within. absurd (omega arith);
       }
 
   built_longer : (old more new : List (List (Dotted Bits))) (n : ℕ) (state : State Bits) → new ≡ old ++ more → IsBuiltOf g old n state → IsBuiltOf g new n state
@@ -46,8 +61,9 @@ module _ (g : Rules) (first : List (Dotted Bits)) where
     built = record {
       index = b.built.index;
       closure = b.built.closure;
-      leads = λ x t h. let l = b.built.leads x t h in record { kernel = l.kernel; shifts = l.shifts; numbered = longer l.kernel t.0 l.numbered };
+      leads = λ x t h. let l = b.built.leads x t h in record { kernel = l.kernel; behind = l.behind; shifts = l.shifts; numbered = longer l.kernel t.0 l.numbered };
       all = b.built.all;
+      ascend = b.built.ascend;
       finished = b.built.finished;
     };
   }
@@ -56,8 +72,8 @@ module _ (g : Rules) (first : List (Dotted Bits)) where
       longer k n h = subst (λ (ks : List (List (Dotted Bits))). slice_get ks n ≡ Some k) (sym e) (slice_get-longer old more n k h)
 
   pub Building-step : (old middle new : Kernels (List (Dotted Bits))) (states : List (State Bits)) (state : State Bits) → Building g first old states → old.handed < length old.list → middle.list ≡ old.list → middle.handed ≡ old.handed + 1 →
-      Extends g middle new → IsBuiltOf g new.list old.handed state → Building g first new (states ++ state ∷ [])
-  Building-step old middle new states state b l same handed x built =
+      Extends g middle new → IsBuiltOf g new.list old.handed state → LeadsToAdded middle new state → Building g first new (states ++ state ∷ [])
+  Building-step old middle new states state b l same handed x built led =
       let grown : new.list ≡ old.list ++ x.added = x.stay ∙ ap (λ ks. ks ++ x.added) same in
       let number = b.handed in
       let more : length (states ++ state ∷ []) ≡ length states + 1 = length-append states (state ∷ []) in
@@ -73,6 +89,22 @@ module _ (g : Rules) (first : List (Dotted Bits)) where
             (λ had. built_longer old.list x.added new.list n s grown (b.each n s had))
             (λ is. subst (λ (m : ℕ). IsBuiltOf g new.list m s) (number ∙ sym is.0) (subst (IsBuiltOf g new.list old.handed) is.1 built))
             (push_cases states state n s at);
+        led = λ n more within. ⊎_elim
+            (λ had. led_longer states state n (b.led n more had))
+            (λ past.
+            let before : length middle.list ≡ length old.list = ap length same in
+            let to = led (subst AllDiffer (sym same) b.differ) n (omega arith) within in
+            record {
+              place = length states;
+              earlier = omega arith;
+              state = state;
+              there = slice_get-push_at states state;
+              symbol = to.0;
+              target = to.1;
+              transition = to.2;
+              leads = to.3;
+            })
+            (cases_lt n (length old.list));
       }
 
   pub Building-smaller : (old : Kernels (List (Dotted Bits))) (states : List (State Bits)) → Building g first old states → old.handed < length old.list → old.handed < kernels_limit g
@@ -85,6 +117,7 @@ module _ (g : Rules) (first : List (Dotted Bits)) where
     differ = b.differ;
     start = b.start;
     each = b.each;
+    led = λ n more within. let handed = b.handed in b.led n more (omega arith);
   }
 
 -- the first kernel of all

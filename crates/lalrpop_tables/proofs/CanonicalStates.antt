@@ -1,5 +1,5 @@
 -- The states of the construction are closures of the start and of what was moved, with their tokens.
-use Rattle.std.proofs.Common.{◌≡◌, ◌↔◌, ℕ, zero, suc, ◌<◌, Bool, List, [], ◌∷◌, length, map, refl, sym, ◌∙◌, ap, subst, arith, Option, Some, option_map}
+use Rattle.std.proofs.Common.{◌≡◌, ◌↔◌, ℕ, Bool, List, length, map, sym, ◌∙◌, ap, subst, arith, Option, Some, option_map}
 use Rattle.std.specs.Prelude.{Contains, slice_get, IfSome}
 use Rattle.std.specs.BTreeMap.{BTreeMap, get}
 use Rattle.std.specs.Cmp.{IsTotalOrder}
@@ -30,7 +30,7 @@ use Rattle.lalrpop_tables.specs.Results.{AreStatesOf, canonical_of}
 use Rattle.lalrpop_tables.specs.States.{begun, HasTransition}
 use Rattle.lalrpop_tables.specs.Transitions.{Shifts}
 use Rattle.lalrpop_tables.proofs.Canonical.{InClosure-more, InTokenClosure-more, start_items, start_tokens, moved_items, moved_tokens}
-use Rattle.lalrpop_tables.proofs.Places.{same_some}
+use Rattle.lalrpop_tables.proofs.Places.{same_some, filled}
 
 -- ---- where a state leads
 entry_of : {K : Type 0} {R : K → K → Ordering} → IsTotalOrder R → CmpEqualImpliesEq R → (m : BTreeMap K StateIndex) (key : K) (n : ℕ) → option_map number_of (get R m key) ≡ Some n → (target : StateIndex) × (target.0 ≡ n) × Contains m.entries (key, target)
@@ -41,12 +41,6 @@ entry_of {R = R} total exact m key n e =
 pub leads_transition : (holds : Bits → Token → Bool) (s : State Bits) (x : Symbol) (m : ℕ) → leads (contents_of holds s) x ≡ Some m → (target : StateIndex) × (target.0 ≡ m) × HasTransition x target s
 leads_transition holds s (Nonterminal a) m e = entry_of name_ord.Laws.total-law names_ordered s.gotos a m e
 leads_transition holds s (Terminal t) m e = entry_of terminal_ord.Laws.total-law terminals_ordered s.shifts t m e
-
--- a place of a list that is long enough has a value
-filled : {X : Type 0} (xs : List X) (n : ℕ) → n < length xs → (x : X) × (slice_get xs n ≡ Some x)
-filled [] n l = absurd (omega arith)
-filled (x ∷ xs) zero l = (x, refl)
-filled (x ∷ xs) (suc n) l = filled xs n (omega arith)
 
 module _ (g : Grammar) (start : NonterminalString) (states : List (State Bits)) (made : AreStatesOf (canonical_of g start) states) where
   -- the state to which a symbol leads is the closure of what was moved over it

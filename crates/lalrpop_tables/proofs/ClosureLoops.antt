@@ -16,6 +16,7 @@ use Rattle.lalrpop_base.specs.declared.repr.Symbol.TheVariants.{Nonterminal}
 use Rattle.lalrpop_base.specs.Tokens.{FitsTokens}
 use Rattle.lalrpop_base.specs.declared.lookahead.nil.Nil.{Nil}
 use Rattle.lalrpop_base.specs.declared.repr.Production.{Production}
+use Rattle.lalrpop_tables.specs.Ascending.{Ascend}
 use Rattle.lalrpop_tables.specs.Closure.{dotted_of, InKernel, HasItemToken, AreItems, IsClosureOf, Found, item_of, IsStacked, IsTable, AreBegun, begun_of, Spreads, IsSettled, IsExpanded, IsClosing}
 use Rattle.lalrpop_tables.proofs.Lists.{Contains-none, Contains-here, Contains-cases}
 use Rattle.lalrpop_tables.proofs.Places.{same_some}
@@ -62,9 +63,9 @@ module _ (g : Grammar) (ordered : (q : Production) → Contains (productions g) 
         | inr settled ↦ settled q after e (ordered q m)
       ]
 
-  pub Closing-end : (kernel : List (Dotted Bits)) (table : Found) → IsClosing g kernel table [] →
+  pub Closing-end : (kernel : List (Dotted Bits)) (table : Found) → IsClosing g kernel table [] → Ascend (map item_of table) →
       ((p : Production) (dot : ℕ) (t : Token) → HasItemToken g.terminals (map item_of table) p dot t ↔ InTokenClosure (productions g) (InKernel (map item_of table)) (HasItemToken g.terminals kernel) p dot t) → IsClosureOf (rules_of g) kernel (map item_of table)
-  Closing-end kernel table c tokens = Table-items (rules_of g) kernel table [] c.is_table (complete kernel table c) tokens
+  Closing-end kernel table c ascend tokens = Table-items (rules_of g) kernel table [] c.is_table ascend (complete kernel table c) tokens
 
 -- ---- an item is expanded
 drop_at : {X : Type 0} (xs : List X) (n : ℕ) (x : X) → slice_get xs n ≡ Some x → drop n xs ≡ x ∷ drop (n + 1) xs

@@ -1,6 +1,7 @@
 -- The states that are built of kernels are coherent.
 use Rattle.std.proofs.Common.{◌≡◌, ℕ, ◌+◌, ◌-◌, ◌<◌, inl, inr, List, [], ◌∷◌, length, get_or, map, refl, sym, ◌∙◌, ap, subst, arith, ⊎_elim, Bool, true, false, cond, Some, eqb-true, option_map}
 use Rattle.std.specs.Prelude.{Contains, slice_get, ◌==◌}
+use Rattle.std.specs.BTreeMap.{BTreeMap, IsOrdered}
 use Rattle.std.proofs.lemmas.Option.{slice_get_within, slice_get-get_or, slice_get-map}
 use Rattle.lalrpop_base.specs.Bits.{Bits}
 use Rattle.lalrpop_base.specs.Coherent.{HasItem, IsShifted, IsCoherentStep, AreFinished, AreCoherent}
@@ -12,12 +13,16 @@ use Rattle.lalrpop_base.specs.declared.repr.Production.{Production}
 use Rattle.lalrpop_base.specs.declared.repr.Symbol.{Symbol}
 use Rattle.lalrpop_base.specs.declared.repr.Symbol.TheVariants.{Nonterminal, Terminal}
 use Rattle.lalrpop_tables.specs.Closure.{dotted_of, AreItems, IsClosureOf}
+use Rattle.lalrpop_base.specs.contracts.repr.TerminalStringOrd.TheImpl as terminal_ord
+use Rattle.lalrpop_base.specs.declared.repr.TerminalString.{TerminalString}
 use Rattle.lalrpop_tables.specs.Kernels.{Kernels}
-use Rattle.lalrpop_tables.specs.States.{begun, HasTransition, Leads, IsBuilt, IsBuiltOf, Extends, AreBuilt}
-use Rattle.lalrpop_tables.specs.Transitions.{Shifts, Groups, AreMoves, HasEdge, AreEdges, IsReached, reductions_of, seen}
+use Rattle.lalrpop_tables.specs.States.{begun, HasTransition, Leads, IsBuilt, IsBuiltOf, Extends, LeadsToAdded, AreBuilt}
+use Rattle.lalrpop_tables.specs.Transitions.{IsBehindOne, Shifts, Groups, AreMoves, HasEdge, AreEdges, IsReached, reductions_of, seen}
 use Rattle.lalrpop_tables.specs.declared.build.transitions.Edges.{Edges}
 use Rattle.lalrpop_tables.proofs.Lists.{Contains-none, Contains-here, Contains-there, Contains-cases, place}
-use Rattle.lalrpop_tables.proofs.Places.{contains_at, same_some}
+use Rattle.lalrpop_tables.specs.Transitions.{moved}
+use Rattle.lalrpop_tables.specs.Transitions.Shifts.{none, moves, stays}
+use Rattle.lalrpop_tables.proofs.Places.{contains_at, same_some, one_place, in_added}
 use Rattle.lalrpop_tables.proofs.Shifting.{Shifts-from, Shifts-items, of_dotted, begun_zero}
 
 -- ---- a state is made
@@ -36,11 +41,12 @@ Built-made g kernel items groups list edges number state n i s t r c m e = recor
   closure = subst (IsClosureOf g kernel) (sym i) c;
   leads = λ x target h.
       let l = e.leads x target (edge_of x target edges state s t h) in
-      record { kernel = l.kernel; shifts = subst (λ (xs : List (Dotted Bits)). Shifts x xs l.kernel) (sym i) (m.each x l.kernel l.group); numbered = l.numbered };
+      record { kernel = l.kernel; behind = subst (IsBehindOne x) (sym i) (m.some x l.kernel l.group); shifts = subst (λ (xs : List (Dotted Bits)). Shifts x xs l.kernel) (sym i) (m.each x l.kernel l.group); numbered = l.numbered };
   all = λ x j d b.
       let group = m.has x j (subst (λ (xs : List (Dotted Bits)). Contains xs j) i d) b in
       let edge = e.all x group.0 group.1 in
       (edge.0, transition_of x edge.0 edges state s t edge.1);
+  ascend = subst (λ (shifts : BTreeMap TerminalString StateIndex). IsOrdered terminal_ord.ghosts.cmp shifts) (sym s) e.ascend;
   finished = r ∙ ap reductions_of (sym i);
 }
 
@@ -52,6 +58,23 @@ Reached-extends g items groups old new a m r = record {
   handed = r.handed;
   differ = r.differ;
 }
+
+-- items and a symbol have one kernel
+one_kernel : (x : Symbol) (items a b : List (Dotted Bits)) → Shifts x items a → Shifts x items b → a ≡ b
+one_kernel x items a b none none = refl
+one_kernel x items a b (moves {i} {items = is} {kernel = ks} h s) (moves {kernel = ls} k t) = ap (λ (js : List (Dotted Bits)). moved i ∷ js) (one_kernel x is ks ls s t)
+one_kernel x items a b (moves h s) (stays k t) = absurd (k h)
+one_kernel x items a b (stays h s) (moves k t) = absurd (h k)
+one_kernel x items a b (stays {items = is} {kernel = ks} h s) (stays {kernel = ls} k t) = one_kernel x is ks ls s t
+
+pub Reached-led : (items : List (Dotted Bits)) (groups : Groups) (old new : Kernels (List (Dotted Bits))) (edges : Edges) (state : State Bits) → state.shifts ≡ edges.shifts → state.gotos ≡ edges.gotos → AreMoves items groups → AreEdges groups new.list edges → IsReached groups old new → LeadsToAdded old new state
+Reached-led items groups old new edges state s t m e r differ n from to =
+    let k = in_added old.list r.added new.list n r.stay from to in
+    let group = r.of k.0 k.2 in
+    let edge = e.all group.0 k.0 group.1 in
+    let l = e.leads group.0 edge.0 edge.1 in
+    let same : l.kernel ≡ k.0 = one_kernel group.0 items l.kernel k.0 (m.each group.0 l.kernel l.group) (m.each group.0 k.0 group.1) in
+    (group.0, edge.0, transition_of group.0 edge.0 edges state s t edge.1, one_place new.list (r.differ differ) edge.0.0 n k.0 (l.numbered ∙ ap Some same) k.1)
 
 -- ---- and is coherent with the others
 has_item : (items : List (Dotted Bits)) (i : Dotted Bits) (p : Production) (n : ℕ) → Contains items i → i.production ≡ p → i.index ≡ n → HasItem items p n

@@ -1,4 +1,6 @@
+pub mod BothFacts
 pub mod Lists
+pub mod Ascending
 pub mod Places
 pub mod Bounded
 pub mod Updates

@@ -12,11 +12,12 @@ use Rattle.lalrpop_base.specs.declared.repr.Symbol.TheVariants.{Nonterminal, Ter
 use Rattle.lalrpop_base.specs.declared.repr.NonterminalString.{NonterminalString}
 use Rattle.lalrpop_base.specs.declared.repr.TerminalString.{TerminalString}
 use Rattle.lalrpop_base.specs.declared.repr.Production.{Production}
+use Rattle.lalrpop_base.specs.contracts.repr.TerminalStringOrd.TheImpl as terminal_ord
 use Rattle.lalrpop_tables.specs.Entries.{IsPushedAt}
 use Rattle.lalrpop_tables.specs.Entries.IsPushedAt.{fresh, known}
 use Rattle.lalrpop_tables.specs.Kernels.{Kernels}
 use Rattle.lalrpop_tables.specs.declared.build.transitions.Edges.{Edges}
-use Rattle.lalrpop_tables.specs.Transitions.{IsBehind, moved, Shifts, Groups, HasNoGroup, AreMoves, IsMoveAdded, HasEdge, IsEdgeAdded, LeadsTo, AreEdges, IsReached, reductions_of}
+use Rattle.lalrpop_tables.specs.Transitions.{IsBehind, IsBehindOne, moved, Shifts, Groups, HasNoGroup, AreMoves, IsMoveAdded, HasEdge, ShiftsAscend, IsEdgeAdded, LeadsTo, AreEdges, IsReached, reductions_of}
 use Rattle.lalrpop_tables.specs.Transitions.Shifts.{none, moves, stays}
 use Rattle.lalrpop_tables.specs.Transitions.IsMoveAdded.{over, at_end}
 use Rattle.lalrpop_tables.proofs.Lists.{Contains-none, Contains-here, Contains-there, Contains-cases, Contains-map, place}
@@ -24,7 +25,7 @@ use Rattle.lalrpop_tables.proofs.Places.{midst, around, at_midst, differ_front, 
 use Rattle.std.proofs.lemmas.Option.{slice_get_within}
 use Rattle.std.proofs.lemmas.List.{map-append}
 use Rattle.std.specs.declared.cmp.Ordering.{Ordering}
-use Rattle.std.specs.BTreeMap.{insert_entry}
+use Rattle.std.specs.BTreeMap.{BTreeMap, IsOrdered, insert_entry}
 use Rattle.std.specs.Cmp.{IsTotalOrder}
 use Rattle.std.specs.List.Sorted.{IsStrictlySortedBy}
 use Rattle.std.proofs.lemmas.Map.Lookups.{CmpEqualImpliesEq}
@@ -61,6 +62,9 @@ midst_differs (f ∷ front) back g h d c e = elim (Contains-cases f (front ++ ba
   | inr later ↦ midst_differs front back g h (differ_tail f.0 (keys_of (front ++ g ∷ back)) d) later e
 ]
 
+behind_longer : (items : List (Dotted Bits)) (i : Dotted Bits) (x : Symbol) → IsBehindOne x items → IsBehindOne x (items ++ i ∷ [])
+behind_longer items i x b = record { item = b.item; among = Contains-append_left items (i ∷ []) b.item b.among; behind = b.behind }
+
 module _ (items : List (Dotted Bits)) (i : Dotted Bits) (y : Symbol) (behind : IsBehind y i) where
   not_behind : (x : Symbol) → (y ≡ x → ⊥) → ¬ IsBehind x i
   not_behind x other b = other (same_some y x (sym behind ∙ b))
@@ -76,6 +80,13 @@ module _ (items : List (Dotted Bits)) (i : Dotted Bits) (y : Symbol) (behind : I
   over_other : (front back : Groups) (g : Group) (new : Groups) → new ≡ front ++ g ∷ back → g.0 ≡ y → ((x : Symbol) → ((ks : List (Dotted Bits)) → Contains new (x, ks) → ⊥) → Shifts x items []) → (x : Symbol) → HasNoGroup new x → Shifts x (items ++ i ∷ []) []
   over_other front back g new after key old x none_new =
       Shifts-other x i items [] (not_behind x (λ e. none_new g.1 (subst (λ (gs : Groups). Contains gs (x, g.1)) (sym after) (subst (λ (s : Symbol). Contains (front ++ g ∷ back) (s, g.1)) (key ∙ e) (at_midst front back g))))) (old x none_new)
+
+  -- a symbol with a group stands behind a dot: y behind that of the new item
+  over_some : (front back : Groups) (g : Group) (new : Groups) → new ≡ front ++ g ∷ back → g.0 ≡ y → ((h : Group) → Contains (front ++ back) h → IsBehindOne h.0 items) → (x : Symbol) (ks : List (Dotted Bits)) → Contains new (x, ks) → IsBehindOne x (items ++ i ∷ [])
+  over_some front back g new after key each x ks c = elim (midst front back g (x, ks) (subst (λ (gs : Groups). Contains gs (x, ks)) after c)) [
+    | inl same ↦ record { item = i; among = Contains-append_right items (i ∷ []) i (Contains-here i []); behind = subst (λ (s : Symbol). IsBehind s i) (sym key ∙ ap (λ (h : Group). h.0) same) behind }
+    | inr other ↦ behind_longer items i x (each (x, ks) other)
+  ]
 
   -- each symbol that had a group has one, and so has y
   over_has : (old new : Groups) → AreMoves items old → ((h : Group) → Contains old h → (ks : List (Dotted Bits)) × Contains new (h.0, ks)) → (ks : List (Dotted Bits)) → Contains new (y, ks) → (x : Symbol) (j : Dotted Bits) → Contains (items ++ i ∷ []) j → IsBehind x j → (ks : List (Dotted Bits)) × Contains new (x, ks)
@@ -94,6 +105,7 @@ module _ (items : List (Dotted Bits)) (i : Dotted Bits) (y : Symbol) (behind : I
       record {
         each = over_each front back [] old new after d (m.other y none_y) (λ h c. m.each h.0 h.1 (subst (λ (gs : Groups). Contains gs h) (sym before) c));
         has = over_has old new m (λ h c. (h.1, subst (λ (gs : Groups). Contains gs h) (sym after) (around front back (y, moved i ∷ []) h (subst (λ (gs : Groups). Contains gs h) before c)))) (moved i ∷ []) (subst (λ (gs : Groups). Contains gs (y, moved i ∷ [])) (sym after) (at_midst front back (y, moved i ∷ [])));
+        some = over_some front back (y, moved i ∷ []) new after refl (λ h c. m.some h.0 h.1 (subst (λ (gs : Groups). Contains gs h) (sym before) c));
         other = over_other front back (y, moved i ∷ []) new after refl (λ x none_new. m.other x (λ ks c. none_new ks (subst (λ (gs : Groups). Contains gs (x, ks)) (sym after) (around front back (y, moved i ∷ []) (x, ks) (subst (λ (gs : Groups). Contains gs (x, ks)) before c)))));
         differ = d;
       }
@@ -104,6 +116,7 @@ module _ (items : List (Dotted Bits)) (i : Dotted Bits) (y : Symbol) (behind : I
           | inl same ↦ (vs ++ moved i ∷ [], subst (λ (gs : Groups). Contains gs (h.0, vs ++ moved i ∷ [])) (sym after) (subst (λ (s : Symbol). Contains (front ++ (y, vs ++ moved i ∷ []) ∷ back) (s, vs ++ moved i ∷ [])) (ap (λ (g : Group). g.0) same) (at_midst front back (y, vs ++ moved i ∷ []))))
           | inr out ↦ (h.1, subst (λ (gs : Groups). Contains gs h) (sym after) (around front back (y, vs ++ moved i ∷ []) h out))
         ]) (vs ++ moved i ∷ []) (subst (λ (gs : Groups). Contains gs (y, vs ++ moved i ∷ [])) (sym after) (at_midst front back (y, vs ++ moved i ∷ [])));
+        some = over_some front back (y, vs ++ moved i ∷ []) new after refl (λ h c. m.some h.0 h.1 (subst (λ (gs : Groups). Contains gs h) (sym before) (around front back (y, vs) h c)));
         other = over_other front back (y, vs ++ moved i ∷ []) new after refl (λ x none_new. m.other x (λ ks c. elim (midst front back (y, vs) (x, ks) (subst (λ (gs : Groups). Contains gs (x, ks)) before c)) [
           | inl same ↦ none_new (vs ++ moved i ∷ []) (subst (λ (gs : Groups). Contains gs (x, vs ++ moved i ∷ [])) (sym after) (subst (λ (s : Symbol). Contains (front ++ (y, vs ++ moved i ∷ []) ∷ back) (s, vs ++ moved i ∷ [])) (ap (λ (g : Group). g.0) same) (at_midst front back (y, vs ++ moved i ∷ []))))
           | inr out ↦ none_new ks (subst (λ (gs : Groups). Contains gs (x, ks)) (sym after) (around front back (y, vs ++ moved i ∷ []) (x, ks) out))
@@ -119,6 +132,7 @@ Moves-more items i old new m (over x b p d) = Moves-over items i x b old new m p
 Moves-more items i old new m (at_end e same) = subst (AreMoves (items ++ i ∷ [])) (sym same) (record {
   each = λ x ks c. Shifts-other x i items ks (past_end i x e) (m.each x ks c);
   other = λ x n. Shifts-other x i items [] (past_end i x e) (m.other x n);
+  some = λ x ks c. behind_longer items i x (m.some x ks c);
   has = λ x j c b. elim (Contains-append_cases items (i ∷ []) j c) [
     | inl had ↦ m.has x j had b
     | inr last ↦ elim (Contains-cases i [] j last) [ inl same ↦ absurd (past_end i x e (subst (λ (k : Dotted Bits). IsBehind x k) (sym same) b)) | inr n ↦ absurd (Contains-none j n) ]
@@ -127,7 +141,7 @@ Moves-more items i old new m (at_end e same) = subst (AreMoves (items ++ i ∷ [
 })
 
 pub Moves-none : AreMoves [] []
-Moves-none = record { each = λ x ks c. absurd (Contains-none (x, ks) c); other = λ x n. none; has = λ x i c b. absurd (Contains-none i c); differ = λ i j x l at. cc }
+Moves-none = record { each = λ x ks c. absurd (Contains-none (x, ks) c); other = λ x n. none; some = λ x ks c. absurd (Contains-none (x, ks) c); has = λ x i c b. absurd (Contains-none i c); differ = λ i j x l at. cc }
 
 -- ---- one edge more
 -- the edges to the kernels of the first groups
@@ -136,6 +150,7 @@ pub record AreSomeEdges (groups first : Groups) (old new : Kernels (List (Dotted
   pub among : (x : Symbol) (target : StateIndex) → HasEdge x target edges → Contains (keys_of first) x
   pub all : (x : Symbol) (kernel : List (Dotted Bits)) → Contains first (x, kernel) → (target : StateIndex) × HasEdge x target edges
   pub reached : IsReached groups old new
+  pub ascend : ShiftsAscend edges
 
 leads_longer : (groups : Groups) (list more : List (List (Dotted Bits))) (new : List (List (Dotted Bits))) → new ≡ list ++ more → (x : Symbol) (target : StateIndex) → LeadsTo groups list x target → LeadsTo groups new x target
 leads_longer groups list more new e x target l = record { kernel = l.kernel; group = l.group; numbered = subst (λ (ks : List (List (Dotted Bits))). slice_get ks target.0 ≡ Some l.kernel) (sym e) (slice_get-longer list more target.0 l.kernel l.numbered) }
@@ -183,6 +198,7 @@ module _ (groups : Groups) (x : Symbol) (kernel : List (Dotted Bits)) (group : C
           ]
         ];
         reached = Reached-more old middle new s.reached either handed differ;
+        ascend = a.ascend s.ascend;
       }
     where
       key_append : (first : Groups) (y : Symbol) → Contains (keys_of first) y → Contains (keys_of (first ++ (x, kernel) ∷ [])) y
@@ -194,11 +210,13 @@ module _ (groups : Groups) (x : Symbol) (kernel : List (Dotted Bits)) (group : C
 
 -- ---- all edges
 pub Edges-none : (groups : Groups) (old : Kernels (List (Dotted Bits))) (edges : Edges) → edges.shifts.entries ≡ [] → edges.gotos.entries ≡ [] → AreSomeEdges groups [] old old edges
+unfolding IsStrictlySortedBy
 Edges-none groups old edges s t = record {
   leads = λ x n h. absurd (no_edge x n h);
   among = λ x n h. absurd (no_edge x n h);
   all = λ x k c. absurd (Contains-none (x, k) c);
   reached = record { added = []; stay = sym (append_nil old.list); of = λ k c. absurd (Contains-none k c); handed = refl; differ = λ d. d };
+  ascend = subst (λ (es : List (TerminalString × StateIndex)). IsStrictlySortedBy terminal_ord.ghosts.cmp (keys_of es)) (sym s) tt;
 }
   where
     append_nil : {X : Type 0} (xs : List X) → xs ++ [] ≡ xs
@@ -210,7 +228,7 @@ Edges-none groups old edges s t = record {
     no_edge (Terminal a) n h = Contains-none (a, n) (subst (λ (es : List (TerminalString × StateIndex)). Contains es (a, n)) s h)
 
 pub Edges-all : (groups first : Groups) (old new : Kernels (List (Dotted Bits))) (edges : Edges) → first ≡ groups → AreSomeEdges groups first old new edges → AreEdges groups new.list edges
-Edges-all groups first old new edges e s = record { leads = s.leads; all = λ x k c. s.all x k (subst (λ (gs : Groups). Contains gs (x, k)) (sym e) c) }
+Edges-all groups first old new edges e s = record { leads = s.leads; all = λ x k c. s.all x k (subst (λ (gs : Groups). Contains gs (x, k)) (sym e) c); ascend = s.ascend }
 
 -- ---- one reduction more
 reductions_at : (b : Bool) (r : Bits × Production) (xs ys : List (Bits × Production)) → cond b (r ∷ (xs ++ ys)) (xs ++ ys) ≡ cond b (r ∷ xs) xs ++ ys
@@ -237,11 +255,12 @@ module _ (cmp : NonterminalString → NonterminalString → Ordering) (exact : C
       ]
       | Terminal t ↦ λ n h. inl (rw (← same) h)
     ];
+    ascend = λ o. subst (λ (m : BTreeMap TerminalString StateIndex). IsOrdered terminal_ord.ghosts.cmp m) (sym same) o;
   }
 
 module _ (cmp : TerminalString → TerminalString → Ordering) (exact : CmpEqualImpliesEq cmp) (total : IsTotalOrder cmp) where
-  pub Added-shift : (a : TerminalString) (target : StateIndex) (old new : Edges) → IsStrictlySortedBy cmp (keys_of old.shifts.entries) → new.shifts.entries ≡ insert_entry cmp old.shifts.entries a target → new.gotos ≡ old.gotos → IsEdgeAdded (Terminal a) target old new
-  Added-shift a target old new sorted e same = record {
+  pub Added-shift : (a : TerminalString) (target : StateIndex) (old new : Edges) → IsStrictlySortedBy cmp (keys_of old.shifts.entries) → new.shifts.entries ≡ insert_entry cmp old.shifts.entries a target → new.gotos ≡ old.gotos → ShiftsAscend new → IsEdgeAdded (Terminal a) target old new
+  Added-shift a target old new sorted e same after = record {
     there = subst (λ (es : List (TerminalString × StateIndex)). Contains es (a, target)) (sym e) (put_there cmp exact total old.shifts.entries sorted a target);
     kept = elim [
       | Terminal b ↦ λ n other h. subst (λ (es : List (TerminalString × StateIndex)). Contains es (b, n)) (sym e) (put_kept cmp exact total old.shifts.entries sorted a target (b, n) (λ f. other (ap Terminal f)) h)
@@ -254,6 +273,7 @@ module _ (cmp : TerminalString → TerminalString → Ordering) (exact : CmpEqua
       ]
       | Nonterminal t ↦ λ n h. inl (rw (← same) h)
     ];
+    ascend = λ o. after;
   }
 
 -- ---- the next group of those that are left

@@ -1,5 +1,5 @@
 -- Lists whose values differ, and a value more.
-use Rattle.std.proofs.Common.{◌≡◌, ◌≢◌, ℕ, zero, suc, ◌+◌, ◌<◌, ◌⊎◌, inl, inr, List, [], ◌∷◌, ◌++◌, length, get_or, refl, sym, ◌∙◌, ap, arith, ⊎_elim, length-append}
+use Rattle.std.proofs.Common.{◌≡◌, ◌≢◌, ℕ, zero, suc, ◌+◌, ◌<◌, ◌≤◌, ◌⊎◌, inl, inr, List, [], ◌∷◌, ◌++◌, length, get_or, refl, sym, ◌∙◌, ap, subst, arith, ⊎_elim, length-append}
 use Rattle.std.specs.Prelude.{slice_get, Some, Contains, unwrap_or, AllPairs}
 use Rattle.std.proofs.lemmas.Option.{slice_get_within, get_or_from_slice_get, slice_get-get_or, slice_get_read}
 use Rattle.std.proofs.lemmas.Bool.{cases_lt}
@@ -68,3 +68,34 @@ differ_front xs ys d i j x l at_i at_j = d i j x l (slice_get-longer xs ys i x a
 -- what is read at a place stands there
 pub slice_get_at : {X : Type 0} (xs : List X) (i : ℕ) (x : X) → i < length xs → x ≡ get_or xs i x → slice_get xs i ≡ Some x
 slice_get_at xs i x l e = slice_get_read xs (length xs) i x refl l e
+
+-- ---- places in lists whose values differ, and in lists with more values
+places_apart : (i j : ℕ) → (i < j) ⊎ ((j < i) ⊎ (i ≡ j))
+places_apart zero zero = inr (inr refl)
+places_apart zero (suc j) = inl (omega arith)
+places_apart (suc i) zero = inr (inl (omega arith))
+places_apart (suc i) (suc j) = elim (places_apart i j) [ inl l ↦ inl (omega arith) | inr r ↦ elim r [ inl l ↦ inr (inl (omega arith)) | inr e ↦ inr (inr (ap suc e)) ] ]
+
+-- a value that differs from all others stands at one place
+pub one_place : {X : Type 0} (xs : List X) → AllDiffer xs → (i j : ℕ) (x : X) → slice_get xs i ≡ Some x → slice_get xs j ≡ Some x → i ≡ j
+one_place xs differ i j x at_i at_j = elim (places_apart i j) [
+  | inl l ↦ absurd (differ i j x l at_i at_j)
+  | inr r ↦ elim r [ inl l ↦ absurd (differ j i x l at_j at_i) | inr e ↦ e ]
+]
+
+-- a place of a list that is long enough has a value
+pub filled : {X : Type 0} (xs : List X) (n : ℕ) → n < length xs → (x : X) × (slice_get xs n ≡ Some x)
+filled [] n l = absurd (omega arith)
+filled (x ∷ xs) zero l = (x, refl)
+filled (x ∷ xs) (suc n) l = filled xs n (omega arith)
+
+-- what stands past a list in a longer one was added
+past : {X : Type 0} (old added : List X) (n : ℕ) (x : X) → length old ≤ n → slice_get (old ++ added) n ≡ Some x → Contains added x
+past [] added n x l at = contains_at added x n at
+past (y ∷ old) added zero x l at = absurd (omega arith)
+past (y ∷ old) added (suc n) x l at = past old added n x (omega arith) at
+
+pub in_added : {X : Type 0} (old added new : List X) (n : ℕ) → new ≡ old ++ added → length old ≤ n → n < length new → (x : X) × (slice_get new n ≡ Some x) × Contains added x
+in_added {X} old added new n e from to =
+    let x = filled new n to in
+    (x.0, x.1, past old added n x.0 from (subst (λ (xs : List X). slice_get xs n ≡ Some x.0) e x.1))

@@ -17,6 +17,7 @@ use Rattle.lalrpop_base.specs.Closures.InClosure.{in_kernel}
 use Rattle.lalrpop_base.specs.Tokens.{FitsTokens}
 use Rattle.lalrpop_base.specs.declared.lookahead.nil.Nil.{Nil}
 use Rattle.lalrpop_base.specs.declared.repr.Production.{Production}
+use Rattle.lalrpop_tables.specs.Ascending.{Ascend}
 use Rattle.lalrpop_tables.specs.Counts.{count}
 use Rattle.lalrpop_tables.specs.Entries.{IsJoinedAt}
 use Rattle.lalrpop_tables.specs.Entries.IsJoinedAt.{fresh, known}
@@ -307,9 +308,10 @@ module _ (g : Rules) where
     | inr later ↦ Contains-there (e.0.production, e.0.index) (map dotted_of (map item_of es)) (k.production, k.index) (item_of_key es k later)
   ]
 
-  pub Table-items : (kernel : List (Dotted Bits)) (table : Found) (stack : List (Dotted Nil)) → IsTable g kernel table stack → ((p : Production) (n : ℕ) → InClosure g.productions (InKernel kernel) p n → Contains (keys_of table) (lr0 (p, n))) →
+  pub Table-items : (kernel : List (Dotted Bits)) (table : Found) (stack : List (Dotted Nil)) → IsTable g kernel table stack → Ascend (map item_of table) → ((p : Production) (n : ℕ) → InClosure g.productions (InKernel kernel) p n → Contains (keys_of table) (lr0 (p, n))) →
       ((p : Production) (dot : ℕ) (t : Token) → HasItemToken g.terminals (map item_of table) p dot t ↔ InTokenClosure g.productions (InKernel (map item_of table)) (HasItemToken g.terminals kernel) p dot t) → IsClosureOf g kernel (map item_of table)
-  Table-items kernel table stack t complete tokens = record {
+  Table-items kernel table stack t ascend complete tokens = record {
+    ascend = ascend;
     tokens = tokens;
     are_items = record {
       each = λ i c. let h = entry_of table i c in subst (IsItemOf g) h.2 (t.each h.0 h.1);

@@ -8,8 +8,8 @@ use Rattle.std.specs.Map.{keys_of, lookup, set_value}
 use Rattle.std.specs.Cmp.{IsTotalOrder, eq_by_cmp_equiv}
 use Rattle.std.proofs.lemmas.Map.Views.{IsSome-lookup_from_Contains, Contains-from_lookup}
 use Rattle.std.specs.Ordering.{eq_by_cmp}
-use Rattle.std.proofs.Common.{ℕ, zero, suc, ◌<◌, arith, IsSome, option_map, slice_get}
-use Rattle.lalrpop_tables.proofs.Places.{same_some}
+use Rattle.std.proofs.Common.{ℕ, zero, suc, IsSome, option_map, slice_get}
+use Rattle.lalrpop_tables.proofs.Places.{same_some, one_place}
 use Rattle.lalrpop_tables.proofs.Lists.{place, Contains-map}
 use Rattle.std.specs.List.Sorted.{IsStrictlySortedBy}
 use Rattle.std.proofs.lemmas.Map.{lookup-none}
@@ -158,18 +158,12 @@ module _ {K V : Type 0} (k : K) (v : V) where
   pushed_known vs ws old new e i = push_known i.front i.back vs i.before (i.after ∙ ap (λ (xs : List V). i.front ++ (k, xs) ∷ i.back) e)
 
 -- ---- a look-up finds the value of a key that has one
-places_apart : (i j : ℕ) → (i < j) ⊎ ((j < i) ⊎ (i ≡ j))
-places_apart zero zero = inr (inr refl)
-places_apart zero (suc j) = inl (omega arith)
-places_apart (suc i) zero = inr (inl (omega arith))
-places_apart (suc i) (suc j) = elim (places_apart i j) [ inl l ↦ inl (omega arith) | inr r ↦ elim r [ inl l ↦ inr (inl (omega arith)) | inr e ↦ inr (inr (ap suc e)) ] ]
-
 found_is : {V : Type 0} (o : Option V) (v : V) → IsSome o → ((w : V) → o ≡ Some w → w ≡ v) → o ≡ Some v
 found_is None v s each = cc
 found_is (Some w) v s each = ap Some (each w refl)
 
 module _ {K V : Type 0} where
-  key_stands : (es : List (K × V)) (i : ℕ) (e : K × V) → slice_get es i ≡ Some e → slice_get (keys_of es) i ≡ Some e.0
+  pub key_stands : (es : List (K × V)) (i : ℕ) (e : K × V) → slice_get es i ≡ Some e → slice_get (keys_of es) i ≡ Some e.0
   key_stands [] i e h = cc
   key_stands (x ∷ es) zero e h = ap (λ (o : Option (K × V)). option_map (λ (y : K × V). y.0) o) h
   key_stands (x ∷ es) (suc i) e h = key_stands es i e h
@@ -179,13 +173,8 @@ module _ {K V : Type 0} where
   one_value es differ k v w c d =
       let i = place es (k, v) c in
       let j = place es (k, w) d in
-      elim (places_apart i.0 j.0) [
-        | inl l ↦ absurd (differ i.0 j.0 k l (key_stands es i.0 (k, v) i.2) (key_stands es j.0 (k, w) j.2))
-        | inr r ↦ elim r [
-          | inl l ↦ absurd (differ j.0 i.0 k l (key_stands es j.0 (k, w) j.2) (key_stands es i.0 (k, v) i.2))
-          | inr e ↦ ap (λ (x : K × V). x.1) (same_some (k, v) (k, w) (sym i.2 ∙ ap (slice_get es) e ∙ j.2))
-        ]
-      ]
+      let e = one_place (keys_of es) differ i.0 j.0 k (key_stands es i.0 (k, v) i.2) (key_stands es j.0 (k, w) j.2) in
+      ap (λ (x : K × V). x.1) (same_some (k, v) (k, w) (sym i.2 ∙ ap (slice_get es) e ∙ j.2))
 
   pub looked_up : (E : K → K → Bool) (R : K → K → Ordering) → ((x y : K) → E x y ≡ true → x ≡ y) → ((x y : K) → E x y ≡ is_eq (R x y)) → IsTotalOrder R → (es : List (K × V)) → AllDiffer (keys_of es) → (k : K) (v : V) → Contains es (k, v) → lookup (is_at (R k)) es ≡ Some v
   looked_up E R exact ties total es differ k v c =

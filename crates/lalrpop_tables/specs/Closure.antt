@@ -15,6 +15,7 @@ use Rattle.lalrpop_base.specs.declared.repr.TerminalString.{TerminalString}
 use Rattle.lalrpop_base.specs.declared.repr.Production.{Production}
 use Rattle.lalrpop_base.specs.declared.repr.Symbol.{Symbol}
 use Rattle.lalrpop_base.specs.declared.repr.Symbol.TheVariants.{Nonterminal}
+use Rattle.lalrpop_tables.specs.Ascending.{Ascend}
 use Rattle.lalrpop_tables.specs.Counts.{count}
 use Rattle.lalrpop_tables.specs.Entries.{IsJoinedAt}
 
@@ -44,9 +45,10 @@ pub record HasItemToken (terminals : List TerminalString) (items : List (Dotted 
   pub is : dotted_of item ≡ (p, dot)
   pub holds : holds_token terminals item.lookahead t ≡ true
 
--- the items are exactly the closure of the kernel, with exactly the tokens of the closure (Aho, Sethi, Ullman, section 4.7); those that the kernel lacks have the dot at the start
+-- the items are exactly the closure of the kernel, with exactly the tokens of the closure (Aho, Sethi, Ullman, section 4.7), ascending; those that the kernel lacks have the dot at the start
 pub record IsClosureOf (g : Rules) (kernel items : List (Dotted Bits)) : Type 0 where
   pub are_items : AreItems g items
+  pub ascend : Ascend items
   pub begun : (i : Dotted Bits) → Contains items i → (i.index ≡ 0) ⊎ InKernel kernel i.production i.index
   pub exact : (p : Production) (dot : ℕ) → Contains (map dotted_of items) (p, dot) ↔ InClosure g.productions (InKernel kernel) p dot
   pub tokens : (p : Production) (dot : ℕ) (t : Token) → HasItemToken g.terminals items p dot t ↔ InTokenClosure g.productions (λ q n. Contains (map dotted_of items) (q, n)) (HasItemToken g.terminals kernel) p dot t

@@ -1,3 +1,4 @@
+pub mod Ascending
 pub mod Closing
 pub mod Closure
 pub mod Counts

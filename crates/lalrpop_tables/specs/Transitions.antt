@@ -1,6 +1,7 @@
 -- The transitions and reductions of a state with given items.
 use Rattle.std.specs.Prelude.{◌≡◌, ◌≢◌, ◌+◌, ◌⊎◌, ◌==◌, cond, List, [], ◌∷◌, ◌++◌, length, slice_get, Some, Contains}
 use Rattle.std.specs.Borrow.{Bor}
+use Rattle.std.specs.BTreeMap.{IsOrdered}
 use Rattle.std.specs.Map.{keys_of}
 use Rattle.lalrpop_base.specs.Bits.{Bits}
 use Rattle.lalrpop_base.specs.Items.{Dotted}
@@ -9,6 +10,7 @@ use Rattle.lalrpop_base.specs.declared.lr1_core.state.StateIndex.{StateIndex}
 use Rattle.lalrpop_base.specs.declared.repr.Production.{Production}
 use Rattle.lalrpop_base.specs.declared.repr.Symbol.{Symbol}
 use Rattle.lalrpop_base.specs.declared.repr.Symbol.TheVariants.{Nonterminal, Terminal}
+use Rattle.lalrpop_base.specs.contracts.repr.TerminalStringOrd.TheImpl as terminal_ord
 use Rattle.lalrpop_tables.specs.Entries.{IsPushedAt}
 use Rattle.lalrpop_tables.specs.Kernels.{Kernels}
 use Rattle.lalrpop_tables.specs.declared.build.transitions.Edges.{Edges}
@@ -16,6 +18,12 @@ use Rattle.lalrpop_tables.specs.declared.build.transitions.Edges.{Edges}
 -- x stands behind the item's dot
 abbrev pub IsBehind : Symbol → Dotted Bits → Type 0
 IsBehind x i = slice_get i.production.symbols i.index ≡ Some x
+
+-- x stands behind the dot of one of the items
+pub record IsBehindOne (x : Symbol) (items : List (Dotted Bits)) : Type 0 where
+  pub item : Dotted Bits
+  pub among : Contains items item
+  pub behind : IsBehind x item
 
 -- the item with its dot one symbol further
 abbrev pub moved : Dotted Bits → Dotted Bits
@@ -38,6 +46,7 @@ HasNoGroup groups x = (kernel : List (Dotted Bits)) → Contains groups (x, kern
 pub record AreMoves (items : List (Dotted Bits)) (groups : Groups) : Type 0 where
   pub each : (x : Symbol) (kernel : List (Dotted Bits)) → Contains groups (x, kernel) → Shifts x items kernel
   pub other : (x : Symbol) → HasNoGroup groups x → Shifts x items []
+  pub some : (x : Symbol) (kernel : List (Dotted Bits)) → Contains groups (x, kernel) → IsBehindOne x items
   pub has : (x : Symbol) (i : Dotted Bits) → Contains items i → IsBehind x i → (kernel : List (Dotted Bits)) × Contains groups (x, kernel)
   pub differ : AllDiffer (keys_of groups)
 
@@ -51,11 +60,16 @@ abbrev pub HasEdge : Symbol → StateIndex → Edges → Type 0
 HasEdge (Nonterminal a) target edges = Contains edges.gotos.entries (a, target)
 HasEdge (Terminal t) target edges = Contains edges.shifts.entries (t, target)
 
+-- the shifts ascend by their terminals
+abbrev pub ShiftsAscend : Edges → Type 0
+ShiftsAscend edges = IsOrdered terminal_ord.ghosts.cmp edges.shifts
+
 -- an edge more, in the place of one with the same symbol if there was one
 pub record IsEdgeAdded (x : Symbol) (target : StateIndex) (old new : Edges) : Type 0 where
   pub there : HasEdge x target new
   pub kept : (y : Symbol) (n : StateIndex) → y ≢ x → HasEdge y n old → HasEdge y n new
   pub from : (y : Symbol) (n : StateIndex) → HasEdge y n new → HasEdge y n old ⊎ ((y ≡ x) × (n ≡ target))
+  pub ascend : ShiftsAscend old → ShiftsAscend new
 
 -- the symbol leads to the number of its kernel
 pub record LeadsTo (groups : Groups) (list : List (List (Dotted Bits))) (x : Symbol) (target : StateIndex) : Type 0 where
@@ -63,10 +77,11 @@ pub record LeadsTo (groups : Groups) (list : List (List (Dotted Bits))) (x : Sym
   pub group : Contains groups (x, kernel)
   pub numbered : slice_get list target.0 ≡ Some kernel
 
--- the edges lead from each symbol to the number of its kernel
+-- the edges lead from each symbol to the number of its kernel, and the shifts ascend
 pub record AreEdges (groups : Groups) (list : List (List (Dotted Bits))) (edges : Edges) : Type 0 where
   pub leads : (x : Symbol) (target : StateIndex) → HasEdge x target edges → LeadsTo groups list x target
   pub all : (x : Symbol) (kernel : List (Dotted Bits)) → Contains groups (x, kernel) → (target : StateIndex) × HasEdge x target edges
+  pub ascend : ShiftsAscend edges
 
 -- the kernels are those of before and others of the groups
 pub record IsReached (groups : Groups) (old new : Kernels (List (Dotted Bits))) : Type 0 where

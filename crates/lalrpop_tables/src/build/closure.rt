@@ -4,6 +4,7 @@ ghost use Rattle.lalrpop_base.specs.WellFormed.{IsWellFormed, rules_of, producti
 ghost use Rattle.lalrpop_base.specs.Tokens.{FitsTokens};
 ghost use Rattle.lalrpop_base.specs.Bits.{Bits};
 ghost use Rattle.lalrpop_base.specs.First.{IsFirstSetBefore};
+ghost use Rattle.lalrpop_tables.specs.Ascending.{Ascend};
 ghost use Rattle.lalrpop_tables.specs.Closing.{Adds, IsBegunOf, ExpandsFound, IsStarted};
 ghost use Rattle.lalrpop_tables.specs.Closure.{AreItems, IsClosureOf, IsStacked, Spreads, IsExpanded, IsClosing, item_of};
 
@@ -113,7 +114,8 @@ fn items_of<'grammar>(
     alloc: Global,
     table: Table<'grammar>,
 ) -> Result<Vec<Lr1Item<'grammar>>, OutOfMemory>
-    ensures { IfOk result (λ items. items.items ≡ map item_of table.entry.entries) }
+    ensures items { IfOk result (λ items. items.items ≡ map item_of table.entry.entries) }
+    ensures ascend { IfOk result (λ items. Ascend items.items) }
 {
     let mut items = Vec::new(alloc);
     for (item, tokens) in table {

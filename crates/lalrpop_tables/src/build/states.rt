@@ -5,7 +5,7 @@ ghost use Rattle.lalrpop_base.specs.Tokens.{FitsTokens};
 ghost use Rattle.lalrpop_base.specs.Bits.{Bits};
 ghost use Rattle.lalrpop_base.specs.Items.{Dotted};
 ghost use Rattle.lalrpop_tables.specs.Closure.{AreItems};
-ghost use Rattle.lalrpop_tables.specs.States.{begun, IsBuiltOf, Extends, AreBuilt};
+ghost use Rattle.lalrpop_tables.specs.States.{begun, IsBuiltOf, Extends, LeadsToAdded, AreBuilt};
 
 use super::closure::closure;
 use super::kernels::KernelSet;
@@ -55,6 +55,7 @@ fn build_state<'grammar>(
     requires kernel { (kernel : List (Dotted Bits)) → Contains kernels.old.list kernel → AreItems (rules_of grammar.now) kernel }
     ensures built { IfOk result (λ state. IsBuiltOf (rules_of grammar.now) kernels.new.list number state) }
     ensures extends { OnOk result (Extends (rules_of grammar.now) kernels.old kernels.new) }
+    ensures led { IfOk result (LeadsToAdded kernels.old kernels.new) }
 {
     let items = closure(
         alloc,

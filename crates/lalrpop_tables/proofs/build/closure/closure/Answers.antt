@@ -5,6 +5,7 @@ use Rattle.std.proofs.lemmas.List.{nil_from_length}
 use Rattle.std.proofs.lemmas.List.Elements.{Contains-append_right}
 use Rattle.std.proofs.lemmas.Result.{IfOk-weaker}
 use Rattle.lalrpop_base.specs.WellFormed.{rules_of}
+use Rattle.lalrpop_tables.proofs.BothFacts.{IfOk-both}
 use Rattle.lalrpop_tables.proofs.Grammars.{productions_own}
 use Rattle.lalrpop_tables.proofs.Lists.{Contains-here}
 use Rattle.lalrpop_tables.proofs.Growth.{key_entry}
@@ -40,4 +41,4 @@ returns c =
     let none : c.loop-item.stack.items ≡ [] = first_of (search rules, grind (arith, common_steps), grind (arith, common_steps, nil_from_length c.loop-item.stack.items)) in
     let own = productions_own c.args.grammar.now c.requires.well_formed c.len-names.ensures.ordered in
     let end = rw none at c.loop-item.invariant in
-    IfOk-weaker c.items_of.result _ _ (λ items e. rw e (Closing-end c.args.grammar.now own c.args.kernel.now c.loop-item.table.entries end.0 (Tokens-end (rules_of c.args.grammar.now) c.args.kernel.now c.loop-item.table.entries end.1))) c.items_of.ensures
+    IfOk-weaker c.items_of.result _ _ (λ items h. rw h.0 (Closing-end c.args.grammar.now own c.args.kernel.now c.loop-item.table.entries end.0 (rw h.0 at h.1) (Tokens-end (rules_of c.args.grammar.now) c.args.kernel.now c.loop-item.table.entries end.1))) (IfOk-both c.items_of.result _ _ c.items_of.ensures.items c.items_of.ensures.ascend)

@@ -5,7 +5,7 @@ use Rattle.lalrpop_base.specs.Items.{Dotted}
 use Rattle.lalrpop_base.specs.WellFormed.{rules_of}
 use Rattle.lalrpop_tables.specs.Closure.{AreItems}
 use Rattle.lalrpop_tables.proofs.Places.{contains_at, slice_get-longer}
-use Rattle.lalrpop_tables.proofs.Coherence.{Built-made, Reached-extends}
+use Rattle.lalrpop_tables.proofs.Coherence.{Built-made, Reached-extends, Reached-led}
 use Rattle.lalrpop_tables.proofs.build.states.build_state.Goals as goal
 
 pub closure-requires-clause-kernel : goal.closure-requires-clause-kernel
@@ -27,3 +27,8 @@ returns-clause-extends c =
     let closed = rw c.as_slice.ensures at c.in_ok-items.ensures in
     let moves = rw c.deref.ensures.value at c.in_ok-moves.ensures in
     Reached-extends (rules_of c.args.grammar.now) c.in_ok-items.items.items _ _ _ closed.are_items moves c.in_ok-edges.ensures.reached
+
+pub returns-clause-led : goal.returns-clause-led
+returns-clause-led c =
+    let moves = rw c.deref.ensures.value at c.in_ok-moves.ensures in
+    Reached-led c.in_ok-items.items.items _ _ _ c.in_ok-edges.edges _ refl refl moves c.in_ok-edges.ensures.edges c.in_ok-edges.ensures.reached

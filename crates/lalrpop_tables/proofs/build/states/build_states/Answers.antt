@@ -35,7 +35,7 @@ loop-number-preserved c =
     let l : c.loop-number.kernels.handed < length c.loop-number.kernels.list = omega (arith, next.0, next.1) in
     let handed : c.next.new.self.handed ≡ c.loop-number.kernels.handed + 1 = ap (λ s. s.handed) next.2 ∙ ap (λ n. n + 1) next.0 in
     let built = rw next.0 at c.in_ok-state.ensures.built in
-    rw c.in_ok-push.ensures.items (Building-step _ _ c.loop-number.kernels c.next.new.self c.build_state.new.kernels c.loop-number.states.items c.in_ok-state.state c.loop-number.invariant l (ap (λ s. s.list) next.2) handed c.in_ok-state.ensures.extends built)
+    rw c.in_ok-push.ensures.items (Building-step _ _ c.loop-number.kernels c.next.new.self c.build_state.new.kernels c.loop-number.states.items c.in_ok-state.state c.loop-number.invariant l (ap (λ s. s.list) next.2) handed c.in_ok-state.ensures.extends built c.in_ok-state.ensures.led)
 
 pub returns : goal.returns
 returns c = Building-all _ _ c.loop-number.kernels c.loop-number.states.items c.loop-number.invariant (c.in_default.ensures.none refl)

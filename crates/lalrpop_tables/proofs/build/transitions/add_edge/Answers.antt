@@ -11,4 +11,4 @@ returns-in_ok-insert-in-Nonterminal c =
 pub returns-in_ok-insert-in-Terminal : goal.returns-in_ok-insert-in-Terminal
 returns-in_ok-insert-in-Terminal c =
     let put = c.in_ok-insert-in-Terminal.ensures in
-    rw c.in-Terminal.is (Added-shift terminal_order terminal_exact terminal_total c.in-Terminal.terminal c.args.target _ _ put.was_ordered put.entries refl)
+    rw c.in-Terminal.is (Added-shift terminal_order terminal_exact terminal_total c.in-Terminal.terminal c.args.target _ _ put.was_ordered put.entries refl put.ordered)
