@@ -33,7 +33,7 @@ use Rattle.lalrpop_tables.proofs.Canonical.{InClosure-more, InTokenClosure-more,
 use Rattle.lalrpop_tables.proofs.Places.{same_some, filled}
 
 -- ---- where a state leads
-entry_of : {K : Type 0} {R : K → K → Ordering} → IsTotalOrder R → CmpEqualImpliesEq R → (m : BTreeMap K StateIndex) (key : K) (n : ℕ) → option_map number_of (get R m key) ≡ Some n → (target : StateIndex) × (target.0 ≡ n) × Contains m.entries (key, target)
+pub entry_of : {K : Type 0} {R : K → K → Ordering} → IsTotalOrder R → CmpEqualImpliesEq R → (m : BTreeMap K StateIndex) (key : K) (n : ℕ) → option_map number_of (get R m key) ≡ Some n → (target : StateIndex) × (target.0 ≡ n) × Contains m.entries (key, target)
 entry_of {R = R} total exact m key n e =
     let found = some_of_map number_of (get R m key) n e in
     (found.0, found.2, subst (λ (o : Option StateIndex). IfSome o (λ v. Contains m.entries (key, v))) found.1 (IfSome-get total exact m key))

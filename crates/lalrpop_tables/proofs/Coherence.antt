@@ -60,7 +60,7 @@ Reached-extends g items groups old new a m r = record {
 }
 
 -- items and a symbol have one kernel
-one_kernel : (x : Symbol) (items a b : List (Dotted Bits)) → Shifts x items a → Shifts x items b → a ≡ b
+pub one_kernel : (x : Symbol) (items a b : List (Dotted Bits)) → Shifts x items a → Shifts x items b → a ≡ b
 one_kernel x items a b none none = refl
 one_kernel x items a b (moves {i} {items = is} {kernel = ks} h s) (moves {kernel = ls} k t) = ap (λ (js : List (Dotted Bits)). moved i ∷ js) (one_kernel x is ks ls s t)
 one_kernel x items a b (moves h s) (stays k t) = absurd (k h)

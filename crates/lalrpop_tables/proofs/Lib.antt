@@ -17,6 +17,10 @@ pub mod Shifting
 pub mod Coherence
 pub mod Canonical
 pub mod CanonicalStates
+pub mod ItemTokens
+pub mod StateEdges
+pub mod SameKernels
+pub mod Reductions
 pub mod Lookaheads
 pub mod ConflictLists
 pub mod Orders

@@ -1,4 +1,5 @@
 pub mod Ascending
+pub mod Canonical
 pub mod Closing
 pub mod Closure
 pub mod Counts

@@ -1,0 +1,58 @@
+-- The canonical states of a grammar (Knuth 1965; Aho, Sethi and Ullman, section 4.7), as the code's states.
+use Rattle.std.specs.Prelude.{◌≡◌, ◌<◌, ◌==◌, ◌&&◌, ℕ, Bool, true, false, List, length, slice_get, Option, Some, None}
+use Rattle.std.specs.List.{list_any}
+use Rattle.lalrpop_base.specs.Bits.{Bits}
+use Rattle.lalrpop_base.specs.Closures.{IsReached, TokenKernelsDiffer}
+use Rattle.lalrpop_base.specs.Conflicts.{ReducesInOrder}
+use Rattle.lalrpop_base.specs.Contents.{contents, holds_token}
+use Rattle.lalrpop_base.specs.Items.{Dotted}
+use Rattle.lalrpop_base.specs.Laws.{AreCanonicalWith}
+use Rattle.lalrpop_base.specs.Validity.{IsLR1}
+use Rattle.lalrpop_base.specs.WellFormed.{productions}
+use Rattle.lalrpop_base.specs.contracts.repr.ProductionPartialEq.TheImpl as production_eq
+use Rattle.lalrpop_base.specs.declared.lookahead.token.Token.{Token}
+use Rattle.lalrpop_base.specs.declared.lr1_core.state.BuildError.{BuildError}
+use Rattle.lalrpop_base.specs.declared.lr1_core.state.BuildError.TheVariants.{Conflicts, Memory}
+use Rattle.lalrpop_base.specs.declared.lr1_core.state.State.{State}
+use Rattle.lalrpop_base.specs.declared.repr.NonterminalString.{NonterminalString}
+use Rattle.lalrpop_base.specs.declared.repr.Production.{Production}
+use Rattle.lalrpop_base.specs.declared.repr.TerminalString.{TerminalString}
+use Rattle.lalrpop_base.specs.declared.repr.grammar.Grammar.{Grammar}
+use Rattle.lalrpop_tables.specs.Ascending.{production_order}
+
+-- ---- the tokens of the states' items
+module _ {L : Type 0} (holds : L → Token → Bool) where
+  -- whether the item is the dotted production and holds the token
+  abbrev pub is_with_token : Production → ℕ → Token → Dotted L → Bool
+  is_with_token p dot t item = (production_eq.ghosts.eq item.production p && (item.index == dot)) && holds item.lookahead t
+
+  -- whether one of a state's items is
+  abbrev pub tokens_at : Option (State L) → Production → ℕ → Token → Bool
+  tokens_at None p dot t = false
+  tokens_at (Some state) p dot t = list_any (is_with_token p dot t) state.items.vec.items
+
+  -- which tokens the dotted productions of each state have
+  abbrev pub tokens_in : List (State L) → ℕ → Production → ℕ → Token → Bool
+  tokens_in states n = tokens_at (slice_get states n)
+
+-- the same over sets of tokens, whose bits the terminals number
+abbrev pub tokens_of : List TerminalString → List (State Bits) → ℕ → Production → ℕ → Token → Bool
+tokens_of terminals states = tokens_in (holds_token terminals) states
+
+-- ---- the states
+-- the states are canonical, each with exactly the tokens of its items; no kernel stands twice; each state is reached; and reductions ascend by their productions
+pub record AreCanonicalStates (g : Grammar) (start : NonterminalString) (states : List (State Bits)) : Type 0 where
+  pub canonical : AreCanonicalWith (productions g) start (contents g.terminals states) (tokens_of g.terminals states)
+  pub differ : TokenKernelsDiffer (contents g.terminals states) (λ n p dot t. tokens_of g.terminals states n p dot t ≡ true)
+  pub reached : (n : ℕ) → n < length states → IsReached (contents g.terminals states) n
+  pub ascend : (n : ℕ) → ReducesInOrder production_order (contents g.terminals states n)
+
+-- the states of an error are; want of memory says nothing
+abbrev pub HasCanonicalStates : Grammar → NonterminalString → BuildError Bits → Type 0
+HasCanonicalStates g start (Conflicts error) = AreCanonicalStates g start error.states.items
+HasCanonicalStates g start Memory = Unit {0}
+
+-- an error with conflicts comes of a grammar that is not LR(1); want of memory says nothing
+abbrev pub TellsNotLR1 : List Production → NonterminalString → BuildError Bits → Type 0
+TellsNotLR1 g start (Conflicts error) = ¬ IsLR1 g start
+TellsNotLR1 g start Memory = Unit {0}
