@@ -48,6 +48,7 @@ module _ (g : Grammar) (start : NonterminalString) (states : List (State Bits)) 
     pub state : State Bits
     pub there : slice_get states m ≡ Some state
     pub kernel : List (Dotted Bits)
+    pub numbered : slice_get made.built.kernels m ≡ Some kernel
     pub shifts : Shifts x s.items.vec.items kernel
     pub closure : IsClosureOf (rules_of g) kernel state.items.vec.items
 
@@ -61,7 +62,7 @@ module _ (g : Grammar) (start : NonterminalString) (states : List (State Bits)) 
       let to = filled states m (omega arith) in
       let b = made.built.each m to.0 to.1 in
       let kernels : b.kernel ≡ over.kernel = same_some b.kernel over.kernel (sym b.numbered ∙ number) in
-      record { state = to.0; there = to.1; kernel = over.kernel; shifts = over.shifts; closure = subst (λ (k : List (Dotted Bits)). IsClosureOf (rules_of g) k to.0.items.vec.items) kernels b.built.closure }
+      record { state = to.0; there = to.1; kernel = over.kernel; numbered = number; shifts = over.shifts; closure = subst (λ (k : List (Dotted Bits)). IsClosureOf (rules_of g) k to.0.items.vec.items) kernels b.built.closure }
 
   pub target_items : (s : State Bits) (x : Symbol) (m : ℕ) (t : IsTarget s x m) (p : Production) (dot : ℕ) →
       Contains (map dotted_of t.state.items.vec.items) (p, dot) ↔ InClosure (productions g) (IsMoved (λ q n. Contains (map dotted_of s.items.vec.items) (q, n)) x) p dot

@@ -20,6 +20,7 @@ pub mod CanonicalStates
 pub mod ItemTokens
 pub mod StateEdges
 pub mod SameKernels
+pub mod CanonicalContents
 pub mod Reductions
 pub mod Lookaheads
 pub mod ConflictLists

@@ -74,7 +74,7 @@ module _ (holds : Bits → Token → Bool) (g : Rules) (list : List (List (Dotte
         ((found.0).0, found.1),
   )
 
-no_leads : (x : Symbol) (m : ℕ) → leads no_contents x ≡ Some m → ⊥
+pub no_leads : (x : Symbol) (m : ℕ) → leads no_contents x ≡ Some m → ⊥
 no_leads (Nonterminal a) m e = cc
 no_leads (Terminal t) m e = cc
 
