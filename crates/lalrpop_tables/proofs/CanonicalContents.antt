@@ -1,12 +1,11 @@
 -- The states of the construction, as the definitions speak of states, are the canonical ones.
-use Rattle.std.proofs.Common.{◌≡◌, ◌↔◌, ℕ, suc, ◌<◌, Bool, true, List, length, map, refl, sym, ◌∙◌, ap, subst, arith, Option, Some, None}
+use Rattle.std.proofs.Common.{◌≡◌, ◌↔◌, ℕ, suc, Bool, true, List, length, map, refl, sym, ◌∙◌, ap, subst, arith, Option, Some, None}
 use Rattle.std.specs.Prelude.{Contains, slice_get}
 use Rattle.lalrpop_base.specs.Bits.{Bits}
-use Rattle.lalrpop_base.specs.Closures.{InClosure, InTokenClosure, IsAtStart, IsAtStartWith, IsMoved, IsMovedWith, items_of, AreClosed, TokenKernelsDiffer}
+use Rattle.lalrpop_base.specs.Closures.{InClosure, InTokenClosure, IsAtStart, IsAtStartWith, IsMoved, IsMovedWith, items_of, TokenKernelsDiffer}
 use Rattle.lalrpop_base.specs.Conflicts.{ReducesInOrder}
-use Rattle.lalrpop_base.specs.Contents.{contents, contents_of, contents_at, no_contents, holds_token}
+use Rattle.lalrpop_base.specs.Contents.{contents, contents_at, no_contents, holds_token}
 use Rattle.lalrpop_base.specs.Items.{Dotted}
-use Rattle.lalrpop_base.specs.Laws.{AreCanonicalWith}
 use Rattle.lalrpop_base.specs.Places.{AllDiffer}
 use Rattle.lalrpop_base.specs.States.{Contents, Reduction, leads, LeadsOverDots, ReducesFinished}
 use Rattle.lalrpop_base.specs.WellFormed.{productions, rules_of, IsWellFormed}
@@ -17,16 +16,15 @@ use Rattle.lalrpop_base.specs.declared.repr.Production.{Production}
 use Rattle.lalrpop_base.specs.declared.repr.Symbol.{Symbol}
 use Rattle.lalrpop_base.specs.declared.repr.grammar.Grammar.{Grammar}
 use Rattle.lalrpop_tables.specs.Ascending.{production_order}
-use Rattle.lalrpop_tables.specs.Canonical.{is_with_token, tokens_at, tokens_of, AreCanonicalStates}
+use Rattle.lalrpop_tables.specs.Canonical.{tokens_at, tokens_of, AreCanonicalStates}
 use Rattle.lalrpop_tables.specs.Closing.{AreOwn}
 use Rattle.lalrpop_tables.specs.Closure.{dotted_of, HasItemToken, IsClosureOf}
 use Rattle.lalrpop_tables.specs.Results.{AreStatesOf, canonical_of}
-use Rattle.lalrpop_tables.specs.States.{IsBuilt, IsBuiltOf}
 use Rattle.lalrpop_tables.proofs.Canonical.{InTokenClosure-more}
 use Rattle.lalrpop_tables.proofs.CanonicalStates.{IsTarget, target_of, target_items, target_tokens, first_items, first_tokens}
 use Rattle.lalrpop_tables.proofs.ItemTokens.{test_exact, one_item}
 use Rattle.lalrpop_tables.proofs.Places.{filled, one_place}
-use Rattle.lalrpop_tables.proofs.Reductions.{IsFinished, meant, reduced, reduction_from, reduces_in_order, reduces_finished}
+use Rattle.lalrpop_tables.proofs.Reductions.{reduction_from, reduces_in_order, reduces_finished}
 use Rattle.lalrpop_tables.proofs.SameKernels.{IsMovedKernel, Shifts-ascend, Shifts-past, kernel_items, kernel_tokens, same_kernels}
 use Rattle.lalrpop_tables.proofs.Shifting.{Shifts-items}
 use Rattle.lalrpop_tables.proofs.StateEdges.{leads_over_dots, nowhere_leads, no_leads, all_reached}
@@ -82,9 +80,11 @@ module _ (g : Grammar) (start : NonterminalString) (well : IsWellFormed g) (own 
       let i = reduction_from holds s ((made.built.each n s at).built.finished) r c in
       let is : dotted_of i.0 ≡ ((i.0).production, length (i.0).production.symbols) = ap (λ (d : ℕ). ((i.0).production, d)) i.2 in
       subst (λ (q : Reduction). (q.holds t ≡ true) ↔ (tokens_at holds (Some s) q.production (length q.production.symbols) t ≡ true)) i.3
-      (then_both
-      ((λ h. record { item = i.0; there = i.1; is = is; holds = h }), (λ (h : HasItemToken g.terminals items (i.0).production (length (i.0).production.symbols) t).
-      subst (λ (x : Dotted Bits). holds_token g.terminals x.lookahead t ≡ true) (one_item items (closure_of n s at).are_items.differ h.item i.0 h.there i.1 (h.is ∙ sym is)) h.holds))
+      (then_both (
+        (λ h. record { item = i.0; there = i.1; is = is; holds = h }),
+        (λ (h : HasItemToken g.terminals items (i.0).production (length (i.0).production.symbols) t).
+            subst (λ (x : Dotted Bits). holds_token g.terminals x.lookahead t ≡ true) (one_item items (closure_of n s at).are_items.differ h.item i.0 h.there i.1 (h.is ∙ sym is)) h.holds),
+      )
       (turned_both (test_exact g.terminals items (i.0).production (length (i.0).production.symbols) t)))
 
   -- ---- an edge, with its source and its target

@@ -21,6 +21,8 @@ pub mod ItemTokens
 pub mod StateEdges
 pub mod SameKernels
 pub mod CanonicalContents
+pub mod ConflictFree
+pub mod Deciding
 pub mod Reductions
 pub mod Lookaheads
 pub mod ConflictLists

@@ -1,6 +1,10 @@
 //! LR(1) tables.
-ghost use Rattle.std.specs.Prelude.{IfOk, IfErr};
-ghost use Rattle.lalrpop_base.specs.WellFormed.{IsWellFormed};
+ghost use Rattle.std.specs.Prelude.{IfOk, IfErr, MatchResult};
+ghost use Rattle.lalrpop_base.specs.Contents.{contents};
+ghost use Rattle.lalrpop_base.specs.States.{AreFaithful};
+ghost use Rattle.lalrpop_base.specs.Validity.{IsLR1};
+ghost use Rattle.lalrpop_base.specs.WellFormed.{IsWellFormed, productions};
+ghost use Rattle.lalrpop_tables.specs.Canonical.{AreCanonicalStates, HasCanonicalStates, TellsNotLR1};
 ghost use Rattle.lalrpop_tables.specs.Results.{AreTables, FailsBy, canonical_of};
 
 use crate::build::build_lr1_states;
@@ -20,6 +24,9 @@ pub fn build_states<'grammar>(
     requires { IsWellFormed grammar.now }
     ensures tables { IfOk result (λ tables. AreTables (canonical_of grammar.now start) tables.items) }
     ensures failure { IfErr result (FailsBy (canonical_of grammar.now start)) }
+    ensures canonical { MatchResult result (λ tables. AreCanonicalStates grammar.now start tables.items) (HasCanonicalStates grammar.now start) }
+    ensures lr1 { MatchResult result (λ _. IsLR1 (productions grammar.now) start) (TellsNotLR1 (productions grammar.now) start) }
+    ensures faithful { IfOk result (λ tables. AreFaithful (productions grammar.now) start (contents grammar.now.terminals tables.items)) }
 {
     build_lr1_states(alloc, grammar, start, options)
 }

@@ -1,0 +1,84 @@
+-- The answer of the construction decides whether the grammar is LR(1).
+use Rattle.std.proofs.Common.{◌≡◌, ℕ, true, List, refl, ◌∙◌, subst, Option, Some, None}
+use Rattle.std.specs.Prelude.{Contains, slice_get}
+use Rattle.std.proofs.lemmas.Option.{slice_get_within}
+use Rattle.lalrpop_base.specs.Bits.{Bits}
+use Rattle.lalrpop_base.specs.Conflicts.{HasNoConflict as HoldsNoConflict}
+use Rattle.lalrpop_base.specs.Contents.{contents, contents_at, holds_token}
+use Rattle.lalrpop_base.specs.Places.{AllDiffer}
+use Rattle.lalrpop_base.specs.States.{Contents, AreFaithful}
+use Rattle.lalrpop_base.specs.Tokens.{FitsTokens}
+use Rattle.lalrpop_base.specs.Validity.{IsLR1}
+use Rattle.lalrpop_base.specs.WellFormed.{productions, IsWellFormed}
+use Rattle.lalrpop_base.specs.declared.lr1_core.state.BuildError.{BuildError}
+use Rattle.lalrpop_base.specs.declared.lr1_core.state.BuildError.TheVariants.{Conflicts, Memory}
+use Rattle.lalrpop_base.specs.declared.lr1_core.state.Conflict.{Conflict}
+use Rattle.lalrpop_base.specs.declared.lr1_core.state.State.{State}
+use Rattle.lalrpop_base.specs.declared.repr.NonterminalString.{NonterminalString}
+use Rattle.lalrpop_base.specs.declared.repr.Production.{Production}
+use Rattle.lalrpop_base.specs.declared.repr.grammar.Grammar.{Grammar}
+use Rattle.lalrpop_base.proofs.ContentsViews.{contains_map}
+use Rattle.lalrpop_base.proofs.theory.Canonical.{no_conflict_faithful, lr1_no_state_conflict}
+use Rattle.lalrpop_base.proofs.theory.Closures.{reached_live}
+use Rattle.lalrpop_base.proofs.theory.RightStates.{faithful_lr1}
+use Rattle.lalrpop_tables.specs.Canonical.{tokens_of, AreCanonicalStates, HasCanonicalStates, TellsNotLR1}
+use Rattle.lalrpop_tables.specs.Closing.{AreOwn}
+use Rattle.lalrpop_tables.specs.Results.{HaveNoConflict, AreAllConflicts, AreStatesOf, AreTables, FailsBy, canonical_of}
+use Rattle.lalrpop_tables.specs.Transitions.{seen}
+use Rattle.lalrpop_tables.proofs.CanonicalContents.{are_canonical}
+use Rattle.lalrpop_tables.proofs.ConflictFree.{FitReductions, nowhere_conflict, free_contents, contents_free, none_listed}
+use Rattle.lalrpop_tables.proofs.Reductions.{reduced_from}
+
+module _ (g : Grammar) (start : NonterminalString) (well : IsWellFormed g) (own : AreOwn g) (differ : AllDiffer g.terminals) (states : List (State Bits)) (made : AreStatesOf (canonical_of g start) states) where
+  abbrev now : ℕ → Contents
+  now = contents g.terminals states
+
+  canonical : AreCanonicalStates g start states
+  canonical = are_canonical g start well own differ states made
+
+  fits : (n : ℕ) (s : State Bits) → slice_get states n ≡ Some s → FitReductions g.terminals s
+  fits n s at r c =
+      let b = (made.built.each n s at).built in
+      let seen_in = subst (λ (rs : List (Bits × Production)). Contains rs (seen r)) b.finished (contains_map seen s.reductions.items r c) in
+      let i = reduced_from s.items.vec.items (seen r) seen_in in
+      subst (λ (q : Bits × Production). FitsTokens g.terminals q.0) i.is (b.closure.are_items.each i.item i.among).tokens
+
+  -- ---- without a conflict
+  free_at : HaveNoConflict g.terminals states → (n : ℕ) (o : Option (State Bits)) → slice_get states n ≡ o → HoldsNoConflict (contents_at (holds_token g.terminals) o)
+  free_at free n None at = nowhere_conflict
+  free_at free n (Some s) at = free_contents g.terminals s (free n s at)
+
+  pub free_faithful : HaveNoConflict g.terminals states → AreFaithful (productions g) start now
+  free_faithful free = no_conflict_faithful (productions g) start now (λ n p dot t. tokens_of g.terminals states n p dot t ≡ true) canonical.canonical (λ u n live after. free_at free n (slice_get states n) refl)
+
+  pub free_lr1 : HaveNoConflict g.terminals states → IsLR1 (productions g) start
+  free_lr1 free = faithful_lr1 (productions g) start now (free_faithful free)
+
+  -- ---- with one
+  lr1_free : IsLR1 (productions g) start → HaveNoConflict g.terminals states
+  lr1_free lr1 n s at =
+      let live = reached_live (productions g) start now canonical.canonical.closed (canonical.reached n (slice_get_within states n s at)) in
+      let none = lr1_no_state_conflict (productions g) start now (λ n p dot t. tokens_of g.terminals states n p dot t ≡ true) canonical.canonical lr1 live.0 n live.1 live.2 in
+      contents_free g.terminals s differ (fits n s at) (subst (λ (o : Option (State Bits)). HoldsNoConflict (contents_at (holds_token g.terminals) o)) at none)
+
+  pub listed_not_lr1 : (conflicts : List (Conflict Bits)) → AreAllConflicts g.terminals states conflicts → ¬ IsLR1 (productions g) start
+  listed_not_lr1 conflicts all lr1 = all.some (all.all ∙ none_listed g.terminals states (lr1_free lr1))
+
+-- ---- what the answers say
+module _ (g : Grammar) (start : NonterminalString) (well : IsWellFormed g) (own : AreOwn g) (differ : AllDiffer g.terminals) where
+  pub tables_canonical : (tables : List (State Bits)) → AreTables (canonical_of g start) tables → AreCanonicalStates g start tables
+  tables_canonical tables t = are_canonical g start well own differ tables t.made
+
+  pub failure_canonical : (error : BuildError Bits) → FailsBy (canonical_of g start) error → HasCanonicalStates g start error
+  failure_canonical (Conflicts error) f = are_canonical g start well own differ error.states.items f.0
+  failure_canonical Memory f = tt
+
+  pub tables_faithful : (tables : List (State Bits)) → AreTables (canonical_of g start) tables → AreFaithful (productions g) start (contents g.terminals tables)
+  tables_faithful tables t = free_faithful g start well own differ tables t.made t.free
+
+  pub tables_lr1 : (tables : List (State Bits)) → AreTables (canonical_of g start) tables → IsLR1 (productions g) start
+  tables_lr1 tables t = free_lr1 g start well own differ tables t.made t.free
+
+  pub failure_not_lr1 : (error : BuildError Bits) → FailsBy (canonical_of g start) error → TellsNotLR1 (productions g) start error
+  failure_not_lr1 (Conflicts error) f = listed_not_lr1 g start well own differ error.states.items f.0 error.conflicts.items f.1
+  failure_not_lr1 Memory f = tt
