@@ -72,6 +72,10 @@ module _ (g : Grammar) (start : NonterminalString) (well : IsWellFormed g) (own 
   order_at n None at = λ i j r q l at_i. cc
   order_at n (Some s) at = let b = made.built.each n s at in reduces_in_order holds s b.built.finished (closure_of n s at).ascend
 
+  once_at : (n : ℕ) (o : Option (State Bits)) → slice_get states n ≡ o → AllDiffer (contents_at holds o).items
+  once_at n None at = λ i j x l at_i. cc
+  once_at n (Some s) at = (closure_of n s at).are_items.differ
+
   -- a reduction holds the tokens of its item
   held_at : (n : ℕ) (o : Option (State Bits)) → slice_get states n ≡ o → (r : Reduction) (t : Token) → Contains (contents_at holds o).reductions r → (r.holds t ≡ true) ↔ (tokens_at holds o r.production (length r.production.symbols) t ≡ true)
   held_at n None at r t c = absurd (no_reduction r c)
@@ -168,7 +172,7 @@ module _ (g : Grammar) (start : NonterminalString) (well : IsWellFormed g) (own 
       one_place made.built.kernels made.built.differ n m a s.target.numbered (u.target.numbered ∙ ap Some (sym same))
 
   -- ---- all of it
-  pub are_canonical : AreCanonicalStates g start states
+  pub are_canonical : AreCanonicalStates (rules_of g) start states
   are_canonical = record {
     canonical = record {
       closed = record { first = starts; next = goes; edges = λ n. edges_at n (slice_get states n) refl };
@@ -177,6 +181,7 @@ module _ (g : Grammar) (start : NonterminalString) (well : IsWellFormed g) (own 
       next = goes_with;
       holds = λ n. held_at n (slice_get states n) refl;
     };
+    once = λ n. once_at n (slice_get states n) refl;
     differ = kernels_differ;
     reached = all_reached holds (rules_of g) _ states made.built;
     ascend = λ n. order_at n (slice_get states n) refl;

@@ -9,7 +9,7 @@ use Rattle.lalrpop_base.specs.Places.{AllDiffer}
 use Rattle.lalrpop_base.specs.States.{Contents, AreFaithful}
 use Rattle.lalrpop_base.specs.Tokens.{FitsTokens}
 use Rattle.lalrpop_base.specs.Validity.{IsLR1}
-use Rattle.lalrpop_base.specs.WellFormed.{productions, IsWellFormed}
+use Rattle.lalrpop_base.specs.WellFormed.{productions, rules_of, IsWellFormed}
 use Rattle.lalrpop_base.specs.declared.lr1_core.state.BuildError.{BuildError}
 use Rattle.lalrpop_base.specs.declared.lr1_core.state.BuildError.TheVariants.{Conflicts, Memory}
 use Rattle.lalrpop_base.specs.declared.lr1_core.state.Conflict.{Conflict}
@@ -33,7 +33,7 @@ module _ (g : Grammar) (start : NonterminalString) (well : IsWellFormed g) (own 
   abbrev now : ℕ → Contents
   now = contents g.terminals states
 
-  canonical : AreCanonicalStates g start states
+  canonical : AreCanonicalStates (rules_of g) start states
   canonical = are_canonical g start well own differ states made
 
   fits : (n : ℕ) (s : State Bits) → slice_get states n ≡ Some s → FitReductions g.terminals s
@@ -66,10 +66,10 @@ module _ (g : Grammar) (start : NonterminalString) (well : IsWellFormed g) (own 
 
 -- ---- what the answers say
 module _ (g : Grammar) (start : NonterminalString) (well : IsWellFormed g) (own : AreOwn g) (differ : AllDiffer g.terminals) where
-  pub tables_canonical : (tables : List (State Bits)) → AreTables (canonical_of g start) tables → AreCanonicalStates g start tables
+  pub tables_canonical : (tables : List (State Bits)) → AreTables (canonical_of g start) tables → AreCanonicalStates (rules_of g) start tables
   tables_canonical tables t = are_canonical g start well own differ tables t.made
 
-  pub failure_canonical : (error : BuildError Bits) → FailsBy (canonical_of g start) error → HasCanonicalStates g start error
+  pub failure_canonical : (error : BuildError Bits) → FailsBy (canonical_of g start) error → HasCanonicalStates (rules_of g) start error
   failure_canonical (Conflicts error) f = are_canonical g start well own differ error.states.items f.0
   failure_canonical Memory f = tt
 

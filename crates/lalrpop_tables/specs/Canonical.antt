@@ -7,8 +7,9 @@ use Rattle.lalrpop_base.specs.Conflicts.{ReducesInOrder}
 use Rattle.lalrpop_base.specs.Contents.{contents, holds_token}
 use Rattle.lalrpop_base.specs.Items.{Dotted}
 use Rattle.lalrpop_base.specs.Laws.{AreCanonicalWith}
+use Rattle.lalrpop_base.specs.Places.{AllDiffer}
 use Rattle.lalrpop_base.specs.Validity.{IsLR1}
-use Rattle.lalrpop_base.specs.WellFormed.{productions}
+use Rattle.lalrpop_base.specs.WellFormed.{Rules}
 use Rattle.lalrpop_base.specs.contracts.repr.ProductionPartialEq.TheImpl as production_eq
 use Rattle.lalrpop_base.specs.declared.lookahead.token.Token.{Token}
 use Rattle.lalrpop_base.specs.declared.lr1_core.state.BuildError.{BuildError}
@@ -17,7 +18,6 @@ use Rattle.lalrpop_base.specs.declared.lr1_core.state.State.{State}
 use Rattle.lalrpop_base.specs.declared.repr.NonterminalString.{NonterminalString}
 use Rattle.lalrpop_base.specs.declared.repr.Production.{Production}
 use Rattle.lalrpop_base.specs.declared.repr.TerminalString.{TerminalString}
-use Rattle.lalrpop_base.specs.declared.repr.grammar.Grammar.{Grammar}
 use Rattle.lalrpop_tables.specs.Ascending.{production_order}
 
 -- ---- the tokens of the states' items
@@ -40,15 +40,16 @@ abbrev pub tokens_of : List TerminalString → List (State Bits) → ℕ → Pro
 tokens_of terminals states = tokens_in (holds_token terminals) states
 
 -- ---- the states
--- the states are canonical, each with exactly the tokens of its items; no kernel stands twice; each state is reached; and reductions ascend by their productions
-pub record AreCanonicalStates (g : Grammar) (start : NonterminalString) (states : List (State Bits)) : Type 0 where
-  pub canonical : AreCanonicalWith (productions g) start (contents g.terminals states) (tokens_of g.terminals states)
+-- the states are canonical, each with exactly the tokens of its items, of which none stands twice; no kernel stands twice; each state is reached; and reductions ascend by their productions
+pub record AreCanonicalStates (g : Rules) (start : NonterminalString) (states : List (State Bits)) : Type 0 where
+  pub canonical : AreCanonicalWith g.productions start (contents g.terminals states) (tokens_of g.terminals states)
+  pub once : (n : ℕ) → AllDiffer (contents g.terminals states n).items
   pub differ : TokenKernelsDiffer (contents g.terminals states) (λ n p dot t. tokens_of g.terminals states n p dot t ≡ true)
   pub reached : (n : ℕ) → n < length states → IsReached (contents g.terminals states) n
   pub ascend : (n : ℕ) → ReducesInOrder production_order (contents g.terminals states n)
 
 -- the states of an error are; want of memory says nothing
-abbrev pub HasCanonicalStates : Grammar → NonterminalString → BuildError Bits → Type 0
+abbrev pub HasCanonicalStates : Rules → NonterminalString → BuildError Bits → Type 0
 HasCanonicalStates g start (Conflicts error) = AreCanonicalStates g start error.states.items
 HasCanonicalStates g start Memory = Unit {0}
 

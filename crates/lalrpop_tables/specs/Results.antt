@@ -29,9 +29,10 @@ abbrev pub FailWithConflicts : List TerminalString → List (State Bits) → Bui
 FailWithConflicts terminals states (Conflicts error) = (error.states.items ≡ states) × AreAllConflicts terminals states error.conflicts.items
 FailWithConflicts terminals states Memory = Unit {0}
 
--- what states are made of: the rules of a grammar, the productions of its start symbol, and what may follow it
+-- what states are made of: the rules of a grammar, its start symbol, the productions of that, and what may follow it
 pub record Construction : Type 0 where
   pub rules : Rules
+  pub start : NonterminalString
   pub first : List Production
   pub lookahead : Bits
 
@@ -51,6 +52,10 @@ abbrev pub FailsBy : Construction → BuildError Bits → Type 0
 FailsBy c (Conflicts error) = AreStatesOf c error.states.items × AreAllConflicts c.rules.terminals error.states.items error.conflicts.items
 FailsBy c Memory = Unit {0}
 
+-- nothing but Eof follows the start symbol
+abbrev pub EndsWithEof : Construction → Type 0
+EndsWithEof c = c.lookahead ≡ with_bit no_bits (length c.rules.terminals)
+
 -- the canonical construction for a start symbol, which Eof follows
 abbrev pub canonical_of : Grammar → NonterminalString → Construction
-canonical_of g start = record { rules = rules_of g; first = productions_of g start; lookahead = with_bit no_bits (length g.terminals) }
+canonical_of g start = record { rules = rules_of g; start = start; first = productions_of g start; lookahead = with_bit no_bits (length g.terminals) }

@@ -3,7 +3,7 @@ ghost use Rattle.std.specs.Prelude.{IfOk, IfErr, MatchResult};
 ghost use Rattle.lalrpop_base.specs.Contents.{contents};
 ghost use Rattle.lalrpop_base.specs.States.{AreFaithful};
 ghost use Rattle.lalrpop_base.specs.Validity.{IsLR1};
-ghost use Rattle.lalrpop_base.specs.WellFormed.{IsWellFormed, productions};
+ghost use Rattle.lalrpop_base.specs.WellFormed.{IsWellFormed, productions, rules_of};
 ghost use Rattle.lalrpop_tables.specs.Canonical.{AreCanonicalStates, HasCanonicalStates, TellsNotLR1};
 ghost use Rattle.lalrpop_tables.specs.Results.{AreTables, FailsBy, canonical_of};
 
@@ -24,7 +24,7 @@ pub fn build_states<'grammar>(
     requires { IsWellFormed grammar.now }
     ensures tables { IfOk result (λ tables. AreTables (canonical_of grammar.now start) tables.items) }
     ensures failure { IfErr result (FailsBy (canonical_of grammar.now start)) }
-    ensures canonical { MatchResult result (λ tables. AreCanonicalStates grammar.now start tables.items) (HasCanonicalStates grammar.now start) }
+    ensures canonical { MatchResult result (λ tables. AreCanonicalStates (rules_of grammar.now) start tables.items) (HasCanonicalStates (rules_of grammar.now) start) }
     ensures lr1 { MatchResult result (λ _. IsLR1 (productions grammar.now) start) (TellsNotLR1 (productions grammar.now) start) }
     ensures faithful { IfOk result (λ tables. AreFaithful (productions grammar.now) start (contents grammar.now.terminals tables.items)) }
 {
