@@ -29,3 +29,4 @@ pub mod ConflictLists
 pub mod Orders
 pub mod Moves
 pub mod KernelNumbers
+pub mod ListedConflicts

@@ -5,6 +5,7 @@ pub mod Closure
 pub mod Counts
 pub mod Entries
 pub mod Kernels
+pub mod ListedConflicts
 pub mod Ready
 pub mod Results
 pub mod States
