@@ -30,3 +30,5 @@ pub mod Orders
 pub mod Moves
 pub mod KernelNumbers
 pub mod ListedConflicts
+pub mod NumberedConflicts
+pub mod CanonicalConflicts

@@ -1,6 +1,6 @@
 -- The list of a state's conflicts that the code makes is that of the definitions: it goes through the shifted terminals, ascending, and then through the reductions.
-use Rattle.std.proofs.Common.{◌≡◌, ◌↔◌, ◌⊎◌, ℕ, zero, suc, ◌+◌, ◌<◌, ◌≤◌, inl, inr, List, [], ◌∷◌, ◌++◌, length, map, get_or, refl, sym, ◌∙◌, ap, subst, arith, Bool, true, false, cond, ◌||◌, ◌&&◌, ◌==◌, eqb-true, eq-eqb, Option, Some, None}
-use Rattle.std.specs.Prelude.{Contains, slice_get, option_map, IfSome}
+use Rattle.std.proofs.Common.{◌≡◌, ◌↔◌, ◌⊎◌, ℕ, ◌+◌, ◌<◌, ◌≤◌, inl, inr, List, [], ◌∷◌, length, map, get_or, refl, sym, ◌∙◌, ap, subst, arith, Bool, true, false, cond, ◌||◌, ◌&&◌, ◌==◌, eqb-true, eq-eqb, Option, Some}
+use Rattle.std.specs.Prelude.{Contains, option_map, IfSome}
 use Rattle.std.specs.declared.cmp.Ordering.TheVariants.{Less}
 use Rattle.std.specs.BTreeMap.{BTreeMap, get, keys, IsOrdered}
 use Rattle.std.specs.List.{filter, flat_map}
@@ -12,13 +12,13 @@ use Rattle.std.proofs.lemmas.Map.Entries.{btree_map_get_place}
 use Rattle.std.proofs.lemmas.Map.Keys.{Less-from_sorted}
 use Rattle.std.proofs.lemmas.Map.Views.{IfSome-get}
 use Rattle.std.proofs.lemmas.Option.{slice_get_within, slice_get_cases, get_or_from_slice_get}
-use Rattle.lalrpop_base.specs.Bits.{Bits, has, rising, no_bits, with_bit, has-no_bits, has-with_bit}
-use Rattle.lalrpop_base.specs.ConflictLists.{Ordered, IsShiftConflict, ShiftPart, no_more, in_conflict, apart, ShiftParts, no_shifts, shift_first, IsReduceConflict, LaterPart, no_later, with_later, shares_none, ReduceParts, no_reductions, reduce_first}
-use Rattle.lalrpop_base.specs.Conflicts.{IsLess, ConflictContents, AreConflictsOf}
+use Rattle.lalrpop_base.specs.Bits.{Bits, has, no_bits, with_bit, has-no_bits, has-with_bit}
+use Rattle.lalrpop_base.specs.ConflictLists.{Ordered, ShiftPart, no_more, in_conflict, apart, ShiftParts, no_shifts, shift_first, LaterPart, no_later, with_later, shares_none, ReduceParts, no_reductions, reduce_first}
+use Rattle.lalrpop_base.specs.Conflicts.{IsLess, ConflictContents, AreConflictsOf, HasNoConflict}
 use Rattle.lalrpop_base.specs.Contents.{holds_token, number_of, reduction_of, contents_of}
 use Rattle.lalrpop_base.specs.Places.{AllDiffer}
 use Rattle.lalrpop_base.specs.StateConflicts.{meet, share, shift_conflict, conflicts_on_bit, conflicts_on_place, shift_conflicts, reduce_conflict, later_conflicts, reduce_conflicts, state_conflicts}
-use Rattle.lalrpop_base.specs.States.{Reduction, HasNoRepeat}
+use Rattle.lalrpop_base.specs.States.{Reduction, Contents, HasNoRepeat}
 use Rattle.lalrpop_base.specs.TerminalPlaces.{place_in}
 use Rattle.lalrpop_base.specs.Tokens.{FitsTokens}
 use Rattle.lalrpop_base.specs.declared.lookahead.token.Token.{Token}
@@ -29,13 +29,14 @@ use Rattle.lalrpop_base.specs.declared.lr1_core.state.StateIndex.{StateIndex}
 use Rattle.lalrpop_base.specs.declared.repr.Production.{Production}
 use Rattle.lalrpop_base.specs.declared.repr.TerminalString.{TerminalString}
 use Rattle.lalrpop_base.proofs.ConflictLemmas.{shared, share_some}
-use Rattle.lalrpop_base.proofs.ContentsViews.{contains_of_map, contains_map, some_of_map, at_contains, contains_at}
+use Rattle.lalrpop_base.proofs.ContentsViews.{contains_of_map, contains_map, some_of_map, contains_at}
 use Rattle.lalrpop_base.proofs.HeldTokens.{place_there, place_is}
 use Rattle.lalrpop_base.proofs.RisingLemmas.{filter_bits}
 use Rattle.lalrpop_base.proofs.theory.ConflictLists.{conflict_list}
+use Rattle.lalrpop_base.proofs.theory.Conflicts.{empty_list}
 use Rattle.lalrpop_tables.specs.ListedConflicts.{conflict_of, conflicts_of}
 use Rattle.lalrpop_tables.proofs.KnownTerminals.{token_bit, held_bit, bit_held}
-use Rattle.lalrpop_tables.proofs.Lists.{Contains-here, Contains-there}
+use Rattle.lalrpop_tables.proofs.Lists.{Contains-none, Contains-here, Contains-there}
 use Rattle.lalrpop_tables.proofs.Orders.{terminal_order, terminal_exact, terminal_total}
 use Rattle.lalrpop_tables.proofs.Places.{same_some}
 
@@ -63,6 +64,27 @@ both_bits s t b h = both_true (has s b) (has t b) (sym (filter_bits (λ c. has t
 
 met_bit : (s t : Bits) (b : ℕ) → has s b ≡ true → has t b ≡ true → has (meet s t) b ≡ true
 met_bit s t b h k = filter_bits (λ c. has t c) s b ∙ ap (λ a. a && has t b) h ∙ k
+
+-- ---- the shifted terminals
+module _ (shifts : BTreeMap TerminalString StateIndex) (ordered : IsOrdered terminal_order shifts) where
+  keys_ascend : Ordered (IsLess terminal_order) (keys shifts)
+  keys_ascend i j x y l e f =
+      let within = slice_get_within (keys shifts) j y f in
+      let less : terminal_order (get_or (keys shifts) i x) (get_or (keys shifts) j x) ≡ Less = Less-from_sorted terminal_order (keys shifts) i j x ordered l within in
+      ap (λ z. terminal_order z y) (sym (get_or_from_slice_get (keys shifts) i x x e)) ∙ ap (λ z. terminal_order (get_or (keys shifts) i x) z) (sym (get_or_from_slice_get (keys shifts) j y x f)) ∙ less
+
+  pub keys_shifted : (t : TerminalString) → Contains (keys shifts) t ↔ ((n : ℕ) × (option_map number_of (get terminal_order shifts t) ≡ Some n))
+  keys_shifted t = (
+    λ c.
+        let e = contains_of_map (λ (e : TerminalString × StateIndex). e.0) shifts.entries t c in
+        let at = contains_at shifts.entries e.0 e.1 in
+        let found : get terminal_order shifts e.0.0 ≡ Some e.0.1 = btree_map_get_place terminal_total shifts at.0 e.0.0 e.0.1 ordered at.1 in
+        (number_of e.0.1, ap (option_map number_of) (subst (λ (u : TerminalString). get terminal_order shifts u ≡ Some e.0.1) e.2 found)),
+    λ h.
+        let target = some_of_map number_of (get terminal_order shifts t) h.0 h.1 in
+        let entry = subst (λ o. IfSome o (λ v. Contains shifts.entries (t, v))) target.1 (IfSome-get terminal_total terminal_exact shifts t) in
+        contains_map (λ (e : TerminalString × StateIndex). e.0) shifts.entries (t, target.0) entry,
+  )
 
 module _ (terminals : List TerminalString) (differ : AllDiffer terminals) where
   -- what holds a reduction's tokens
@@ -178,27 +200,6 @@ module _ (terminals : List TerminalString) (differ : AllDiffer terminals) where
         subst (ReduceParts (seen_reduction r ∷ map seen_reduction rs)) (sym (map-append (conflict_of terminals) (later_conflicts number r rs) (reduce_conflicts number rs)))
         (reduce_first (seen_reduction r) (later_part r (fits r (Contains-here r rs)) rs) (reduce_parts rs (λ q c. fits q (Contains-there r rs q c))))
 
-  -- ---- the shifted terminals
-  module _ (shifts : BTreeMap TerminalString StateIndex) (ordered : IsOrdered terminal_order shifts) where
-    keys_ascend : Ordered (IsLess terminal_order) (keys shifts)
-    keys_ascend i j x y l e f =
-        let within = slice_get_within (keys shifts) j y f in
-        let less : terminal_order (get_or (keys shifts) i x) (get_or (keys shifts) j x) ≡ Less = Less-from_sorted terminal_order (keys shifts) i j x ordered l within in
-        ap (λ z. terminal_order z y) (sym (get_or_from_slice_get (keys shifts) i x x e)) ∙ ap (λ z. terminal_order (get_or (keys shifts) i x) z) (sym (get_or_from_slice_get (keys shifts) j y x f)) ∙ less
-
-    keys_shifted : (t : TerminalString) → Contains (keys shifts) t ↔ ((n : ℕ) × (option_map number_of (get terminal_order shifts t) ≡ Some n))
-    keys_shifted t = (
-      λ c.
-          let e = contains_of_map (λ (e : TerminalString × StateIndex). e.0) shifts.entries t c in
-          let at = contains_at shifts.entries e.0 e.1 in
-          let found : get terminal_order shifts e.0.0 ≡ Some e.0.1 = btree_map_get_place terminal_total shifts at.0 e.0.0 e.0.1 ordered at.1 in
-          (number_of e.0.1, ap (option_map number_of) (subst (λ (u : TerminalString). get terminal_order shifts u ≡ Some e.0.1) e.2 found)),
-      λ h.
-          let target = some_of_map number_of (get terminal_order shifts t) h.0 h.1 in
-          let entry = subst (λ o. IfSome o (λ v. Contains shifts.entries (t, v))) target.1 (IfSome-get terminal_total terminal_exact shifts t) in
-          contains_map (λ (e : TerminalString × StateIndex). e.0) shifts.entries (t, target.0) entry,
-    )
-
   -- ---- the whole list
   pub conflicts_are_listed : (state : State Bits) → IsOrdered terminal_order state.shifts → ((t : TerminalString) → Contains (keys state.shifts) t → Contains terminals t) → ((r : CodeReduction) → Contains state.reductions.items r → FitsTokens terminals r.0) →
       HasNoRepeat (contents_of (holds_token terminals) state).reductions → AreConflictsOf terminal_order (contents_of (holds_token terminals) state) (conflicts_of terminals (state_conflicts terminals state))
@@ -210,3 +211,22 @@ module _ (terminals : List TerminalString) (differ : AllDiffer terminals) where
       (conflict_list terminal_order s once (keys state.shifts) (keys_ascend state.shifts ordered) (keys_shifted state.shifts ordered) (conflicts_of terminals with_shifts) (conflicts_of terminals of_reductions)
       (shift_parts state.index state.reductions.items state.shifts.entries known)
       (reduce_parts state.index state.reductions.items fits))
+
+  -- a list that is that of a state without a conflict is empty
+  nothing : (s : Contents) → AreConflictsOf terminal_order s [] → (cs : List (Conflict Bits)) → AreConflictsOf terminal_order s (conflicts_of terminals cs) → cs ≡ []
+  nothing s none [] h = refl
+  nothing s none (c ∷ cs) h =
+      let view = conflict_of terminals c in
+      let is = h.each view (Contains-here view (conflicts_of terminals cs)) in
+      absurd (Contains-none _ (none.all view.production view.action (is.some).0 ((is.exact (is.some).0).0 (is.some).1)).1)
+
+  -- the list is empty exactly where no reduction holds a terminal that is shifted, and no two share a token
+  pub no_conflicts_are_listed : (state : State Bits) → IsOrdered terminal_order state.shifts → ((t : TerminalString) → Contains (keys state.shifts) t → Contains terminals t) → ((r : CodeReduction) → Contains state.reductions.items r → FitsTokens terminals r.0) →
+      HasNoRepeat (contents_of (holds_token terminals) state).reductions → (state_conflicts terminals state ≡ []) ↔ HasNoConflict (contents_of (holds_token terminals) state)
+  no_conflicts_are_listed state ordered known fits once =
+      let s = contents_of (holds_token terminals) state in
+      let all = conflicts_are_listed state ordered known fits once in
+      let empty = empty_list terminal_order s once in (
+        λ e. empty.0 (subst (λ (cs : List (Conflict Bits)). AreConflictsOf terminal_order s (conflicts_of terminals cs)) e all),
+        λ none. nothing s (empty.1 none) (state_conflicts terminals state) all,
+      )

@@ -1,5 +1,6 @@
 pub mod Ascending
 pub mod Canonical
+pub mod CanonicalConflicts
 pub mod Closing
 pub mod Closure
 pub mod Counts
