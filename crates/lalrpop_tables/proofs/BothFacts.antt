@@ -10,3 +10,8 @@ IfOk-both (Err e) P Q p q = tt
 pub MatchResult-both : {T E : Type 0} (r : Result T E) (P : T → Type 0) (Q : E → Type 0) → IfOk r P → IfErr r Q → MatchResult r P Q
 MatchResult-both (Ok x) P Q p q = p
 MatchResult-both (Err e) P Q p q = q
+
+-- a fact of the error with another, where the value has a third
+pub IfErr-with : {T E : Type 0} (r : Result T E) (A : T → Type 0) (P Q : E → Type 0) → IfErr r P → MatchResult r A Q → IfErr r (λ e. P e × Q e)
+IfErr-with (Ok x) A P Q p q = tt
+IfErr-with (Err e) A P Q p q = (p, q)

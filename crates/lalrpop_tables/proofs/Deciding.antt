@@ -1,7 +1,9 @@
 -- The answer of the construction decides whether the grammar is LR(1).
 use Rattle.std.proofs.Common.{◌≡◌, ℕ, true, List, refl, ◌∙◌, subst, Option, Some, None}
-use Rattle.std.specs.Prelude.{Contains, slice_get}
+use Rattle.std.specs.Prelude.{Contains, slice_get, IfErr, MatchResult}
+use Rattle.std.specs.declared.result.Result.{Result}
 use Rattle.std.proofs.lemmas.Option.{slice_get_within}
+use Rattle.std.proofs.lemmas.Result.{IfErr-weaker}
 use Rattle.lalrpop_base.specs.Bits.{Bits}
 use Rattle.lalrpop_base.specs.Conflicts.{HasNoConflict as HoldsNoConflict}
 use Rattle.lalrpop_base.specs.Contents.{contents, contents_at, holds_token}
@@ -22,10 +24,13 @@ use Rattle.lalrpop_base.proofs.theory.Canonical.{no_conflict_faithful, lr1_no_st
 use Rattle.lalrpop_base.proofs.theory.Closures.{reached_live}
 use Rattle.lalrpop_base.proofs.theory.RightStates.{faithful_lr1}
 use Rattle.lalrpop_tables.specs.Canonical.{tokens_of, AreCanonicalStates, HasCanonicalStates, TellsNotLR1}
+use Rattle.lalrpop_tables.specs.CanonicalConflicts.{ListsCanonicalConflicts}
 use Rattle.lalrpop_tables.specs.Closing.{AreOwn}
-use Rattle.lalrpop_tables.specs.Results.{HaveNoConflict, AreAllConflicts, AreStatesOf, AreTables, FailsBy, canonical_of}
+use Rattle.lalrpop_tables.specs.Results.{HaveNoConflict, AreAllConflicts, Construction, AreStatesOf, AreTables, FailsBy, canonical_of}
 use Rattle.lalrpop_tables.specs.Transitions.{seen}
 use Rattle.lalrpop_tables.proofs.CanonicalContents.{are_canonical}
+use Rattle.lalrpop_tables.proofs.BothFacts.{IfErr-with}
+use Rattle.lalrpop_tables.proofs.CanonicalConflicts.{canonical_failure}
 use Rattle.lalrpop_tables.proofs.ConflictFree.{FitReductions, nowhere_conflict, free_contents, contents_free, none_listed}
 use Rattle.lalrpop_tables.proofs.Reductions.{reduced_from}
 
@@ -82,3 +87,16 @@ module _ (g : Grammar) (start : NonterminalString) (well : IsWellFormed g) (own 
   pub failure_not_lr1 : (error : BuildError Bits) → FailsBy (canonical_of g start) error → TellsNotLR1 (productions g) start error
   failure_not_lr1 (Conflicts error) f = listed_not_lr1 g start well own differ error.states.items f.0 error.conflicts.items f.1
   failure_not_lr1 Memory f = tt
+
+pub failure_lists : (g : Grammar) (start : NonterminalString) → IsWellFormed g → AllDiffer g.terminals → (error : BuildError Bits) → FailsBy (canonical_of g start) error → HasCanonicalStates (rules_of g) start error → ListsCanonicalConflicts g start error
+failure_lists g start well differ (Conflicts error) f h =
+    let states = error.states.items in
+    canonical_failure g start states error.conflicts.items (λ n p dot t. tokens_of g.terminals states n p dot t ≡ true) well differ f.0 (λ n s at. (f.0.built.each n s at).built.ascend) h.canonical h.ascend f.1
+failure_lists g start well differ Memory f h = tt
+
+pub result_lists : {T : Type 0} (g : Grammar) (start : NonterminalString) (c : Construction) (r : Result T (BuildError Bits)) (A : T → Type 0) → IsWellFormed g → AllDiffer g.terminals → c ≡ canonical_of g start →
+    IfErr r (FailsBy c) → MatchResult r A (HasCanonicalStates (rules_of g) start) → IfErr r (ListsCanonicalConflicts g start)
+result_lists g start c r A well differ same failure canonical =
+    IfErr-weaker r (λ e. FailsBy c e × HasCanonicalStates (rules_of g) start e) (ListsCanonicalConflicts g start)
+    (λ e h. failure_lists g start well differ e (subst (λ (k : Construction). FailsBy k e) same h.0) h.1)
+    (IfErr-with r A (FailsBy c) (HasCanonicalStates (rules_of g) start) failure canonical)

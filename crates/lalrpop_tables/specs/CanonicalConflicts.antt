@@ -10,6 +10,8 @@ use Rattle.lalrpop_base.specs.WellFormed.{productions}
 use Rattle.lalrpop_base.specs.contracts.repr.ProductionOrd.TheImpl as production_ord
 use Rattle.lalrpop_base.specs.contracts.repr.TerminalStringOrd.TheImpl as terminal_ord
 use Rattle.lalrpop_base.specs.declared.lr1_core.state.Action.TheVariants.{Shift}
+use Rattle.lalrpop_base.specs.declared.lr1_core.state.BuildError.{BuildError}
+use Rattle.lalrpop_base.specs.declared.lr1_core.state.BuildError.TheVariants.{Conflicts, Memory}
 use Rattle.lalrpop_base.specs.declared.lr1_core.state.Conflict.{Conflict}
 use Rattle.lalrpop_base.specs.declared.lr1_core.state.State.{State}
 use Rattle.lalrpop_base.specs.declared.lr1_core.state.StateIndex.{StateIndex}
@@ -41,3 +43,8 @@ pub record AreCanonicalConflictsOf (g : Grammar) (start : NonterminalString) (st
 pub record FailByCanonicalConflicts (g : Grammar) (start : NonterminalString) (states : List (State Bits)) (conflicts : List (Conflict Bits)) : Type 0 where
   pub canonical : AreCanonicalConflictsOf g start states conflicts
   pub some : conflicts ≢ []
+
+-- the conflicts of an error are; want of memory says nothing
+abbrev pub ListsCanonicalConflicts : Grammar → NonterminalString → BuildError Bits → Type 0
+ListsCanonicalConflicts g start (Conflicts error) = FailByCanonicalConflicts g start error.states.items error.conflicts.items
+ListsCanonicalConflicts g start Memory = Unit {0}

@@ -15,6 +15,7 @@ ghost use Rattle.lalrpop_base.specs.States.{AreFaithful};
 ghost use Rattle.lalrpop_base.specs.Validity.{IsLR1};
 ghost use Rattle.lalrpop_base.specs.WellFormed.{IsWellFormed, productions, rules_of};
 ghost use Rattle.lalrpop_tables.specs.Canonical.{AreCanonicalStates, HasCanonicalStates, TellsNotLR1};
+ghost use Rattle.lalrpop_tables.specs.CanonicalConflicts.{ListsCanonicalConflicts};
 ghost use Rattle.lalrpop_tables.specs.Results.{AreTables, FailsBy, canonical_of};
 
 use lalrpop_base::lookahead::token_set::TokenSet;
@@ -38,9 +39,11 @@ pub fn build_lr1_states<'grammar>(
     ensures tables { IfOk result (λ tables. AreTables (canonical_of grammar.now start) tables.items) }
     ensures failure { IfErr result (FailsBy (canonical_of grammar.now start)) }
     ensures canonical { MatchResult result (λ tables. AreCanonicalStates (rules_of grammar.now) start tables.items) (HasCanonicalStates (rules_of grammar.now) start) }
+    ensures conflicts { IfErr result (ListsCanonicalConflicts grammar.now start) }
     ensures lr1 { MatchResult result (λ _. IsLR1 (productions grammar.now) start) (TellsNotLR1 (productions grammar.now) start) }
     ensures faithful { IfOk result (λ tables. AreFaithful (productions grammar.now) start (contents grammar.now.terminals tables.items)) }
 {
+    let _terminals = grammar.terminals.all();
     let eof = TokenSet::eof(alloc, &grammar.terminals)?;
     let lr = Lr::new(alloc, grammar, start, eof)?;
     lr.build_states(alloc)
