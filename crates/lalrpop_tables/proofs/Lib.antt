@@ -32,3 +32,6 @@ pub mod KernelNumbers
 pub mod ListedConflicts
 pub mod NumberedConflicts
 pub mod CanonicalConflicts
+pub mod Partitions
+pub mod Moved
+pub mod Renumbered

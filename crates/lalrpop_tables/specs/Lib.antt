@@ -7,7 +7,10 @@ pub mod Counts
 pub mod Entries
 pub mod Kernels
 pub mod ListedConflicts
+pub mod Moved
+pub mod Partitions
 pub mod Ready
+pub mod Renumbered
 pub mod Results
 pub mod States
 pub mod Transitions

@@ -3,3 +3,4 @@
 
 pub mod build;
 pub mod lr1;
+mod renumber;

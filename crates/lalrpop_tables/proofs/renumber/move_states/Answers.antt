@@ -1,0 +1,41 @@
+use Rattle.std.proofs.Common.{◌≡◌, List, [], ◌∷◌, ◌++◌, length, sym, subst, ap, ◌∙◌, append_assoc, append-nil, refl, arith}
+use Rattle.lalrpop_base.specs.Bits.{Bits}
+use Rattle.lalrpop_base.specs.declared.lr1_core.state.State.{State}
+use Rattle.lalrpop_tables.specs.Moved.{AreMoved, no_more}
+use Rattle.lalrpop_tables.specs.Partitions.{fails, parted}
+use Rattle.lalrpop_tables.specs.Renumbered.{stands_first, number_in}
+use Rattle.lalrpop_tables.proofs.Moved.{Moved-append, Moved-grows}
+use Rattle.lalrpop_tables.proofs.renumber.move_states.Goals as goal
+
+taken : {X : Type 0} (all rest yielded left : List X) (x : X) → yielded ++ rest ≡ all → rest ≡ x ∷ left → (yielded ++ x ∷ []) ++ left ≡ all
+taken all rest yielded left x e f = append_assoc yielded (x ∷ []) left ∙ ap (λ ys. yielded ++ ys) (sym f) ∙ e
+
+none_left : {X : Type 0} (xs : List X) → length xs ≡ 0 → xs ≡ []
+none_left [] e = refl
+none_left (x ∷ xs) e = absurd (omega arith)
+
+pub loop-state-init : goal.loop-state-init
+loop-state-init c =
+    let new = number_in c.args.numbers.now in
+    record { front = subst (AreMoved new _) (sym c.new-front.ensures.items) no_more; back = subst (AreMoved new _) (sym c.new-back.ensures.items) no_more; left = c.into_iter-state-iterator.ensures.into_iter_gives.0 }
+
+pub loop-state-preserved : goal.loop-state-preserved
+loop-state-preserved c =
+    let new = number_in c.args.numbers.now in
+    let h = c.loop-state.invariant in
+    record {
+      front = Moved-grows new stands_first c.in-Some.state c.loop-state.yielded _ _ h.front c.in_ok-push_state.ensures.front;
+      back = Moved-grows new (fails stands_first) c.in-Some.state c.loop-state.yielded _ _ h.back c.in_ok-push_state.ensures.back;
+      left = taken _ _ c.loop-state.yielded _ c.in-Some.state h.left c.in-Some.ensures.steps.0;
+    }
+
+pub returns : goal.returns
+returns c =
+    let new = number_in c.args.numbers.now in
+    let h = c.loop-state.invariant in
+    let rest = none_left c.loop-state.state-iterator.rest.items (let k = c.loop-state.state-iterator.rest.ok in let none = c.in-None.ensures.steps.0 in omega arith) in
+    let all = sym (append-nil c.loop-state.yielded) ∙ ap (λ ys. c.loop-state.yielded ++ ys) (sym rest) ∙ h.left in
+    let moved = Moved-append new h.front h.back in
+    let joined : List (State Bits) = c.loop-state.front.items ++ c.loop-state.back.items in
+    let parts : AreMoved new (parted stands_first c.args.states.items) joined = subst (λ (xs : List (State Bits)). AreMoved new (parted stands_first xs) joined) all moved in
+    subst (AreMoved new (parted stands_first c.args.states.items)) (sym c.in_ok-append.ensures.items) parts

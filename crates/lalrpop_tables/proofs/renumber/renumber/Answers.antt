@@ -1,0 +1,15 @@
+use Rattle.std.proofs.Common.{subst, List, ℕ, length}
+use Rattle.lalrpop_base.specs.Bits.{Bits}
+use Rattle.lalrpop_base.specs.declared.lr1_core.state.State.{State}
+use Rattle.std.proofs.lemmas.Result.{IfOk-weaker}
+use Rattle.lalrpop_tables.specs.Moved.{AreMoved}
+use Rattle.lalrpop_tables.specs.Partitions.{ArePlaces, parted}
+use Rattle.lalrpop_tables.specs.Renumbered.{stands_first, number_in}
+use Rattle.lalrpop_tables.proofs.Renumbered.{States-renumbered}
+use Rattle.lalrpop_tables.proofs.renumber.renumber.Goals as goal
+
+pub returns : goal.returns
+returns c =
+    let numbers = c.in_ok-numbers.numbers.items in
+    let places : ArePlaces stands_first c.args.states.items (length c.args.states.items) numbers = subst (λ (xs : List (State Bits)). ArePlaces stands_first xs (length xs) numbers) c.deref.ensures.value c.in_ok-numbers.ensures in
+    IfOk-weaker c.move_states.result _ _ (λ moved h terminals. States-renumbered terminals c.args.states.items moved.items numbers c.requires places (subst (λ (ns : List ℕ). AreMoved (number_in ns) (parted stands_first c.args.states.items) moved.items) c.deref-2.ensures.value h)) c.move_states.ensures
