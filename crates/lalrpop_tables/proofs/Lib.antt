@@ -35,3 +35,5 @@ pub mod CanonicalConflicts
 pub mod Partitions
 pub mod Moved
 pub mod Renumbered
+pub mod RenumberedTables
+pub mod RenumberedCanonical

@@ -49,14 +49,14 @@ module _ (new : ℕ → ℕ) where
   leads_after terminals before after r (Nonterminal a) = led_after (is_at (name_cmp a)) before.gotos.entries after.gotos.entries r.gotos
 
   -- each entry comes from one
-  entry_from : {K : Type 0} (before after : List (K × StateIndex)) → after ≡ retargeted_all new before → (k : ℕ) (e : K × StateIndex) → slice_get after k ≡ Some e → (d : K × StateIndex) × (slice_get before k ≡ Some d) × (d.0 ≡ e.0) × (retargeted new d.1 ≡ e.1)
+  pub entry_from : {K : Type 0} (before after : List (K × StateIndex)) → after ≡ retargeted_all new before → (k : ℕ) (e : K × StateIndex) → slice_get after k ≡ Some e → (d : K × StateIndex) × (slice_get before k ≡ Some d) × (d.0 ≡ e.0) × (retargeted new d.1 ≡ e.1)
   entry_from {K} before after same k e at =
       let f : K × StateIndex → K × StateIndex = λ d. (d.0, retargeted new d.1) in
       let d = some_of_map f (slice_get before k) e (sym (slice_get-map f before k) ∙ ap (λ es. slice_get es k) (sym same) ∙ at) in
       (d.0, d.1, ap (λ (x : K × StateIndex). x.0) d.2, ap (λ (x : K × StateIndex). x.1) d.2)
 
 -- ---- what stands inside a list, and values that tie with themselves
-slice_get_inside : {X : Type 0} (xs : List X) (k : ℕ) → k < length xs → (x : X) × (slice_get xs k ≡ Some x)
+pub slice_get_inside : {X : Type 0} (xs : List X) (k : ℕ) → k < length xs → (x : X) × (slice_get xs k ≡ Some x)
 slice_get_inside xs k l = elim ((slice_get_cases xs k).1) [
   | inl at ↦ (at.0, at.2)
   | inr past ↦ absurd (let m = past.0 in omega arith)

@@ -11,6 +11,7 @@ pub mod Moved
 pub mod Partitions
 pub mod Ready
 pub mod Renumbered
+pub mod RenumberedTables
 pub mod Results
 pub mod States
 pub mod Transitions

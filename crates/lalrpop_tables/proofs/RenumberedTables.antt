@@ -1,0 +1,56 @@
+-- Renumbered tables have a state and no conflict, as before, and stay faithful.
+use Rattle.std.proofs.Common.{◌≡◌, ℕ, inl, inr, List, length, sym, ◌∙◌, ap, subst, arith, Some}
+use Rattle.std.specs.Prelude.{slice_get}
+use Rattle.std.proofs.lemmas.Bool.{cases_lt}
+use Rattle.std.proofs.lemmas.Option.{slice_get_within}
+use Rattle.lalrpop_base.specs.Bits.{Bits}
+use Rattle.lalrpop_base.specs.Contents.{contents}
+use Rattle.lalrpop_base.specs.StateConflicts.{HasNoConflict}
+use Rattle.lalrpop_base.specs.States.{AreFaithful}
+use Rattle.lalrpop_base.specs.declared.lr1_core.state.State.{State}
+use Rattle.lalrpop_base.specs.declared.repr.NonterminalString.{NonterminalString}
+use Rattle.lalrpop_base.specs.declared.repr.Production.{Production}
+use Rattle.lalrpop_base.specs.declared.repr.TerminalString.{TerminalString}
+use Rattle.lalrpop_base.proofs.theory.Renumbering.{faithful-renumbered}
+use Rattle.lalrpop_tables.specs.Renumbered.{IsRenumberedState, AreRenumbered}
+use Rattle.lalrpop_tables.specs.RenumberedTables.{AreRenumberedTables}
+use Rattle.lalrpop_tables.specs.Results.{Construction, AreTables, HaveNoConflict}
+use Rattle.lalrpop_tables.proofs.Places.{same_some}
+use Rattle.lalrpop_tables.proofs.Renumbered.{entry_from, slice_get_inside}
+
+-- a state under another number has no conflict where it had none
+no_conflict_after : (new : ℕ → ℕ) (terminals : List TerminalString) (before after : State Bits) → IsRenumberedState new before after → HasNoConflict terminals before → HasNoConflict terminals after
+no_conflict_after new terminals before after r h = record {
+  shifts = λ k j bit t target q at place there.
+      let d = entry_from new before.shifts.entries after.shifts.entries r.shifts k (t, target) at in
+      let at_old = d.1 ∙ ap (λ (u : TerminalString). Some (u, d.0.1)) d.2 in
+      h.shifts k j bit t d.0.1 q at_old place (ap (λ rs. slice_get rs.items j) (sym r.reductions) ∙ there);
+  reductions = λ i j bit q s l at there. h.reductions i j bit q s l (ap (λ rs. slice_get rs.items i) (sym r.reductions) ∙ at) (ap (λ rs. slice_get rs.items j) (sym r.reductions) ∙ there);
+}
+
+module _ (terminals : List TerminalString) (before after : List (State Bits)) (r : AreRenumbered terminals before after) where
+  -- each state was one under its old number
+  state_before : (k : ℕ) (state : State Bits) → slice_get after k ≡ Some state → (n : ℕ) × (old : State Bits) × (slice_get before n ≡ Some old) × IsRenumberedState r.new old state
+  state_before k state at = elim (cases_lt (r.old k) (length before)) [
+    | inl inside ↦
+        let x = slice_get_inside before (r.old k) inside in
+        let t = r.each (r.old k) x.0 x.1 in
+        let same : t.0 ≡ state = same_some t.0 state (sym t.1 ∙ ap (slice_get after) (r.renumbering.back k) ∙ at) in
+        (r.old k, x.0, x.1, subst (IsRenumberedState r.new x.0) same t.2)
+    | inr past ↦ absurd (let o = r.outside (r.old k) past in let b = r.renumbering.back k in let c = r.counted in let w = slice_get_within after k state at in omega arith)
+  ]
+
+  pub Free-renumbered : HaveNoConflict terminals before → HaveNoConflict terminals after
+  Free-renumbered free k state at = let x = state_before k state at in no_conflict_after r.new terminals x.1 state x.3 (free x.0 x.1 x.2)
+
+  pub Faithful-renumbered : (g : List Production) (start : NonterminalString) → AreFaithful g start (contents terminals before) → AreFaithful g start (contents terminals after)
+  Faithful-renumbered g start f = faithful-renumbered r.new r.old (contents terminals before) (contents terminals after) r.renumbering g start f
+
+pub Tables-renumbered : (c : Construction) (built tables : List (State Bits)) → AreTables c built → AreRenumbered c.rules.terminals built tables → AreRenumberedTables c tables
+Tables-renumbered c built tables made r = record {
+  built = built;
+  made = made;
+  renumbered = r;
+  some = let l = made.made.some in let k = r.counted in omega arith;
+  free = Free-renumbered c.rules.terminals built tables r made.free;
+}
