@@ -1,20 +1,21 @@
 -- What the parts of a run say of the whole of it.
-use Rattle.std.proofs.Common.{◌≡◌, ℕ, ◌+◌, List, [], ◌∷◌, ◌++◌, length, map, reverse, refl, sym, ap, subst, ◌∙◌, arith}
+use Rattle.std.proofs.Common.{◌≡◌, ℕ, ◌+◌, ◌≤◌, List, [], ◌∷◌, ◌++◌, length, map, reverse, refl, sym, ap, subst, ◌∙◌, arith}
 use Rattle.std.specs.Prelude.{Result, Ok, Err, IfOk}
 use Rattle.std.proofs.lemmas.List.{reverse-reverse}
 use Rattle.lalrpop_base.specs.Bits.{Bits}
 use Rattle.lalrpop_base.specs.Coherent.{AreCoherent}
 use Rattle.lalrpop_base.specs.Contents.{number_of, contents, reduced_productions}
 use Rattle.lalrpop_base.specs.States.{Contents}
+use Rattle.lalrpop_base.specs.Trees.{beside, no_trees, leaves, nodes, AreOfGrammar}
 use Rattle.lalrpop_base.specs.Runs.{here, begin, HasOutcome}
 use Rattle.lalrpop_base.specs.declared.repr.TerminalString.{TerminalString}
 use Rattle.lalrpop_base.specs.declared.lr1_core.state.State.{State}
 use Rattle.lalrpop_base.specs.declared.lr1_core.state.StateIndex.{StateIndex}
 use Rattle.lalrpop_lr1.specs.Answers.{IsFailure, IsAnswer}
-use Rattle.lalrpop_lr1.specs.Machines.{numbers, trees_on, configuration, bottom, IsStacked, HasRead}
+use Rattle.lalrpop_lr1.specs.Machines.{numbers, trees_on, configuration, bottom, IsAtStart, IsStacked, HasRead}
 use Rattle.lalrpop_lr1.specs.ParseTrees.{tree_of}
 use Rattle.lalrpop_lr1.specs.Reading.{Reads, read, StopsReading, HasPartialOutcome, Stack, Stop, all_read, stopped}
-use Rattle.lalrpop_lr1.specs.Steps.{HasOutcomeFrom}
+use Rattle.lalrpop_lr1.specs.Steps.{HasOutcomeFrom, IsParsedIn}
 use Rattle.lalrpop_lr1.specs.declared.interpret.error.InterpretError.{InterpretError}
 use Rattle.lalrpop_lr1.specs.declared.interpret.machine.Machine.{Machine}
 use Rattle.lalrpop_lr1.specs.declared.interpret.tree.ParseTree.{ParseTree}
@@ -24,15 +25,11 @@ use Rattle.lalrpop_lr1.proofs.Parses.{IsBuilt, parsed_built, reduces_by}
 use Rattle.lalrpop_lr1.proofs.Popping.{numbers_more}
 use Rattle.lalrpop_lr1.proofs.Stacks.{IsStackOf, run_keeps}
 
--- a machine at its start
-abbrev pub IsAtStart : Machine → Type 0
-IsAtStart m = (m.state.0 ≡ 0) × (m.below.items ≡ []) × (m.trees.items ≡ [])
-
 pub begins : (m : Machine) (w : List TerminalString) → IsAtStart m → configuration m w ≡ begin w
 begins m w start =
-    ap (λ n. record { state = n; below = numbers m.below.items; trees = trees_on m.trees.items; rest = w }) start.0
-    ∙ ap (λ l. record { state = 0; below = numbers l; trees = trees_on m.trees.items; rest = w }) start.1
-    ∙ ap (λ ts. record { state = 0; below = []; trees = trees_on ts; rest = w }) start.2
+    ap (λ n. record { state = n; below = numbers m.below.items; trees = trees_on m.trees.items; rest = w }) start.state
+    ∙ ap (λ l. record { state = 0; below = numbers l; trees = trees_on m.trees.items; rest = w }) start.below
+    ∙ ap (λ ts. record { state = 0; below = []; trees = trees_on ts; rest = w }) start.trees
 
 pub start_stacked : (states : ℕ → Contents) (m : Machine) → IsAtStart m → IsStacked states m
 start_stacked states m start = subst (IsStackOf states) (sym (begins m [] start)) bottom
@@ -49,6 +46,11 @@ nothing_read {states} m w rest e = record {
 pub read_from_start : {states : ℕ → Contents} (m new : Machine) (w rest : List TerminalString) (limit left : ℕ) → IsAtStart m → left ≡ limit → HasRead states (configuration m w) left new rest → HasRead states (begin w) limit new rest
 read_from_start {states} m new w rest limit left start e r =
     subst (λ c. HasRead states c limit new rest) (begins m w start) (subst (λ n. HasRead states (configuration m w) n new rest) e r)
+
+-- what is told of each tree
+if_ok : {E : Type 0} {P Q : ParseTree → Type 0} → ((t : ParseTree) → P t → Q t) → (answer : Result ParseTree E) → IfOk answer P → IfOk answer Q
+if_ok f (Ok tree) h = f tree h
+if_ok f (Err e) h = tt
 
 module _ (terminals : List TerminalString) (states : List (State Bits)) (coherent : AreCoherent states) where
   -- the stack stays one
@@ -82,10 +84,22 @@ module _ (terminals : List TerminalString) (states : List (State Bits)) (coheren
       parsed_built (reduced_productions states) (contents terminals states) (length states) (lead terminals states coherent) (reduces_by terminals states) w limit h
   answer_built w limit (Err e) h = tt
 
--- what is told of each tree
-pub if_ok : {E : Type 0} (P Q : ParseTree → Type 0) → ((t : ParseTree) → P t → Q t) → (answer : Result ParseTree E) → IfOk answer P → IfOk answer Q
-if_ok P Q f (Ok tree) h = f tree h
-if_ok P Q f (Err e) h = tt
+  -- so its inner nodes are given by productions, its leaves are the list, and it has a node for each step
+  pub tree_of_productions : (w : List TerminalString) (limit : ℕ) (answer : Result ParseTree InterpretError) → IsAnswer (HasOutcome (contents terminals states) w limit) states answer → IfOk answer (λ tree. AreOfGrammar (reduced_productions states) (beside (tree_of tree) no_trees))
+  tree_of_productions w limit answer h = if_ok (λ tree built. built.of_grammar) answer (answer_built w limit answer h)
+
+  pub tree_of_list : (w : List TerminalString) (limit : ℕ) (answer : Result ParseTree InterpretError) → IsAnswer (HasOutcome (contents terminals states) w limit) states answer → IfOk answer (λ tree. leaves (beside (tree_of tree) no_trees) ≡ w)
+  tree_of_list w limit answer h = if_ok (λ tree built. built.of_list) answer (answer_built w limit answer h)
+
+  pub tree_steps : (w : List TerminalString) (limit : ℕ) (answer : Result ParseTree InterpretError) → IsAnswer (HasOutcome (contents terminals states) w limit) states answer → IfOk answer (λ tree. IsParsedIn (contents terminals states) w (nodes (beside (tree_of tree) no_trees)) (tree_of tree))
+  tree_steps w limit answer h = if_ok (λ tree built. built.steps) answer (answer_built w limit answer h)
+
+  pub tree_within : (w : List TerminalString) (limit : ℕ) (answer : Result ParseTree InterpretError) → IsAnswer (HasOutcome (contents terminals states) w limit) states answer → IfOk answer (λ tree. nodes (beside (tree_of tree) no_trees) ≤ limit)
+  tree_within w limit answer h = if_ok (λ tree built. built.within) answer (answer_built w limit answer h)
+
+-- an answer with as many steps left as the limit
+pub answer_at : (table : ℕ → Contents) (states : List (State Bits)) (w : List TerminalString) (left limit : ℕ) → left ≡ limit → (answer : Result ParseTree InterpretError) → IsAnswer (HasOutcome table w left) states answer → IsAnswer (HasOutcome table w limit) states answer
+answer_at table states w left limit e answer h = subst (λ n. IsAnswer (HasOutcome table w n) states answer) e h
 
 -- the stack as it is handed out
 pub stack_is : (below : List StateIndex) (s : StateIndex) → reverse (s.0 ∷ numbers below) ≡ map number_of (below ++ s ∷ [])

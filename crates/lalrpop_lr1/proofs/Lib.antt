@@ -5,3 +5,4 @@ pub mod Outcomes
 pub mod MachineRuns
 pub mod Parses
 pub mod Interpreted
+pub mod FaithfulAnswers

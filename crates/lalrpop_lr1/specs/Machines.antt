@@ -29,6 +29,12 @@ trees_on trees = reverse (map tree_of trees)
 abbrev pub configuration : Machine → List TerminalString → Configuration
 configuration m rest = record { state = m.state.0; below = numbers m.below.items; trees = trees_on m.trees.items; rest = rest }
 
+-- a machine at its start: in state 0, without trees
+pub record IsAtStart (m : Machine) : Type 0 where
+  pub state : m.state.0 ≡ 0
+  pub below : m.below.items ≡ []
+  pub trees : m.trees.items ≡ []
+
 -- a stack: each state is the one to which the root of its tree leads from the state below
 pub data IsStack (states : ℕ → Contents) : ℕ → List ℕ → List Tree → Type 0 where
   bottom : IsStack states 0 [] []

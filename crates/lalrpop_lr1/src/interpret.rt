@@ -3,12 +3,13 @@ pub mod error;
 mod machine;
 pub mod tree;
 
-ghost use Rattle.std.specs.Prelude.{◌≡◌, ◌<◌, ◌≤◌, length, IfOk, option_copied};
+ghost use Rattle.std.specs.Prelude.{◌≡◌, ◌<◌, ◌≤◌, length, IfOk, IfErr, option_copied};
 ghost use Rattle.lalrpop_base.specs.Coherent.{AreCoherent};
 ghost use Rattle.lalrpop_base.specs.Contents.{holds_token, contents_of, contents, reduced_productions};
-ghost use Rattle.lalrpop_base.specs.Runs.{begin, reduction_on, HasOutcome};
+ghost use Rattle.lalrpop_base.specs.Runs.{begin, reduction_on, HasOutcome, IsFirstWrong, IsPromptRefusal};
 ghost use Rattle.lalrpop_base.specs.Trees.{beside, no_trees, leaves, nodes, AreOfGrammar};
 ghost use Rattle.lalrpop_lr1.specs.Answers.{IsAnswer, IsPartialAnswer};
+ghost use Rattle.lalrpop_lr1.specs.FaithfulAnswers.{ForEachGrammar, ForEachCanonical, HasOneTree, IsTreeWithin, IsCutOff, AnswersTrees, IfRefused, IfLimit, IsLimit};
 ghost use Rattle.lalrpop_lr1.specs.ParseTrees.{tree_of};
 ghost use Rattle.lalrpop_lr1.specs.Reading.{HasPartialOutcome};
 ghost use Rattle.lalrpop_lr1.specs.Steps.{IsParsedIn};
@@ -23,7 +24,7 @@ use machine::Machine;
 use std::alloc::Global;
 pub use tree::ParseTree;
 
-/// The tree of a list of terminals, by at most so many steps.
+/// The tree of a list of terminals, by at most so many steps: each shift and each reduction is one.
 pub fn interpret<'a, 'grammar>(
     alloc: Global,
     states: &'a [Lr1State<'grammar>],
@@ -38,10 +39,21 @@ pub fn interpret<'a, 'grammar>(
     ensures of_list { IfOk result (λ tree. leaves (beside (tree_of tree) no_trees) ≡ tokens.items) }
     ensures steps { IfOk result (λ tree. IsParsedIn (contents terminals.now states.now) tokens.items (nodes (beside (tree_of tree) no_trees)) (tree_of tree)) }
     ensures within { IfOk result (λ tree. nodes (beside (tree_of tree) no_trees) ≤ limit) }
+
+    // The limit is told exactly where that many steps were made and there is another.
+    ensures limit { IfErr result (IfLimit (IsCutOff (contents terminals.now states.now) tokens.items limit)) }
+    ensures cut_off { IsCutOff (contents terminals.now states.now) tokens.items limit → IsLimit result }
+
+    // Where the states are faithful to a grammar, its parse trees within the limit are answered, and no others.
+    ensures one_tree { ForEachGrammar (contents terminals.now states.now) (HasOneTree tokens.items) }
+    ensures parsed { IfOk result (λ tree. ForEachGrammar (contents terminals.now states.now) (IsTreeWithin limit tokens.items (tree_of tree))) }
+    ensures parses { ForEachGrammar (contents terminals.now states.now) (AnswersTrees limit tokens.items result) }
+
+    // A refusal names the first wrong token; over canonical states it comes right behind the last right one.
+    ensures refused { IfErr result (IfRefused (λ _ token. ForEachGrammar (contents terminals.now states.now) (λ g start. IsFirstWrong g start tokens.items token)) states.now) }
+    ensures prompt { IfErr result (IfRefused (λ state token. ForEachCanonical (contents terminals.now states.now) (λ g start. IsPromptRefusal g start (contents terminals.now states.now) tokens.items state token)) states.now) }
 {
-    let mut machine = Machine::new(alloc, limit);
-    machine.shift_all(alloc, states, terminals, tokens)?;
-    machine.finish(alloc, states, terminals)
+    Machine::new(alloc, limit).run(alloc, states, terminals, tokens)
 }
 
 /// The stack of states once all terminals are shifted, the newest last. The end of the input is not fed.

@@ -2,13 +2,13 @@
 ghost use Rattle.std.specs.Prelude.{◌≡◌, ◌+◌, ◌<◌, ◌≤◌, ℕ, suc, List, [], ◌∷◌, ◌++◌, length, drop, slice_get, Some, cond, OnOk, IfOk, IfErr, IfSome, IsNone};
 ghost use Rattle.lalrpop_base.specs.Coherent.{AreCoherent};
 ghost use Rattle.lalrpop_base.specs.Contents.{contents};
-ghost use Rattle.lalrpop_base.specs.Runs.{received, reduced, Goes, Ends};
+ghost use Rattle.lalrpop_base.specs.Runs.{received, reduced, Goes, Ends, HasOutcome};
 ghost use Rattle.lalrpop_base.specs.Tokens.{IsTerminal};
 ghost use Rattle.lalrpop_base.specs.Trees.{Tree, Leaf};
 ghost use Rattle.lalrpop_base.specs.declared.repr.TerminalString.{TerminalString};
 ghost use Rattle.lalrpop_base.specs.declared.lookahead.token.Token.{Token};
 ghost use Rattle.lalrpop_lr1.specs.Answers.{IsAnswer, IsFailure};
-ghost use Rattle.lalrpop_lr1.specs.Machines.{numbers, trees_on, configuration, CanPop, IsStacked, IsProgress, IsHalted, IsSpent, IsShifted, HasRead};
+ghost use Rattle.lalrpop_lr1.specs.Machines.{numbers, trees_on, configuration, CanPop, IsAtStart, IsStacked, IsProgress, IsHalted, IsSpent, IsShifted, HasRead};
 ghost use Rattle.lalrpop_lr1.specs.ParseTrees.{tree_of};
 ghost use Rattle.lalrpop_lr1.specs.Reading.{StopsReading};
 ghost use Rattle.lalrpop_lr1.specs.Steps.{HasOutcomeFrom};
@@ -42,7 +42,7 @@ pub(crate) enum Progress {
 
 impl Machine {
     pub(crate) fn new(alloc: Global, limit: usize) -> Machine
-        ensures start { (result.state.0 ≡ 0) × (result.below.items ≡ []) × (result.trees.items ≡ []) }
+        ensures start { IsAtStart result }
         ensures left { result.left ≡ limit }
     {
         Machine {
@@ -186,6 +186,23 @@ impl Machine {
                 }
             }
         }
+    }
+
+    /// Shifts all terminals, and reduces before the end of the input until the parse ends.
+    pub(crate) fn run<'a, 'grammar>(
+        mut self,
+        alloc: Global,
+        states: &'a [Lr1State<'grammar>],
+        terminals: &TerminalSet,
+        tokens: Vec<TerminalString>,
+    ) -> Result<ParseTree, InterpretError<'a, 'grammar>>
+        requires coherent { AreCoherent states.now }
+        requires some { 0 < length states.now }
+        requires start { IsAtStart self }
+        ensures { IsAnswer (HasOutcome (contents terminals.now states.now) tokens.items self.left) states.now result }
+    {
+        self.shift_all(alloc, states, terminals, tokens)?;
+        self.finish(alloc, states, terminals)
     }
 
     /// Shifts all terminals in turn.

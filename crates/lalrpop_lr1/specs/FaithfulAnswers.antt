@@ -1,0 +1,71 @@
+-- What an answer says where the states are faithful to a grammar. The parser is handed no grammar, so each holds of whatever grammar the states are faithful to.
+use Rattle.std.specs.Prelude.{◌≡◌, ◌≢◌, ℕ, ◌<◌, ◌≤◌, Bool, List, slice_get, Some, Result, Ok, Err}
+use Rattle.lalrpop_base.specs.Bits.{Bits}
+use Rattle.lalrpop_base.specs.Grammar.{IsOnNoRightSide}
+use Rattle.lalrpop_base.specs.Laws.{AreCanonicalWith}
+use Rattle.lalrpop_base.specs.Runs.{Configuration, Stands, move, Reaches, begin}
+use Rattle.lalrpop_base.specs.States.{Contents, AreFaithful}
+use Rattle.lalrpop_base.specs.Trees.{Tree, beside, no_trees, nodes, IsParseTree}
+use Rattle.lalrpop_base.specs.Validity.{IsLR1}
+use Rattle.lalrpop_base.specs.declared.lookahead.token.Token.{Token}
+use Rattle.lalrpop_base.specs.declared.lr1_core.state.State.{State}
+use Rattle.lalrpop_base.specs.declared.repr.NonterminalString.{NonterminalString}
+use Rattle.lalrpop_base.specs.declared.repr.Production.{Production}
+use Rattle.lalrpop_base.specs.declared.repr.TerminalString.{TerminalString}
+use Rattle.lalrpop_lr1.specs.ParseTrees.{tree_of}
+use Rattle.lalrpop_lr1.specs.declared.interpret.error.InterpretError.{InterpretError}
+use Rattle.lalrpop_lr1.specs.declared.interpret.error.InterpretError.TheVariants.{Refused, Limit, Memory}
+use Rattle.lalrpop_lr1.specs.declared.interpret.tree.ParseTree.{ParseTree}
+
+-- something holds of each grammar and start symbol to which the states are faithful, where the start symbol stands on no right side
+abbrev pub ForEachGrammar : (ℕ → Contents) → (List Production → NonterminalString → Type 0) → Type 0
+ForEachGrammar states P = (g : List Production) (start : NonterminalString) → AreFaithful g start states → IsOnNoRightSide g start → P g start
+
+-- something holds of each LR(1) grammar and start symbol on no right side for which the states are canonical
+abbrev pub ForEachCanonical : (ℕ → Contents) → (List Production → NonterminalString → Type 0) → Type 0
+ForEachCanonical states P = (g : List Production) (start : NonterminalString) (tokens : ℕ → Production → ℕ → Token → Bool) → AreCanonicalWith g start states tokens → IsLR1 g start → IsOnNoRightSide g start → P g start
+
+-- a list has at most one parse tree
+abbrev pub HasOneTree : List TerminalString → List Production → NonterminalString → Type 0
+HasOneTree w g start = (t u : Tree) → IsParseTree g start w t → IsParseTree g start w u → t ≡ u
+
+-- a parse tree of the list with no more nodes than the limit
+pub record IsTreeWithin (limit : ℕ) (w : List TerminalString) (t : Tree) (g : List Production) (start : NonterminalString) : Type 0 where
+  pub parse : IsParseTree g start w t
+  pub within : nodes (beside t no_trees) ≤ limit
+
+-- that many steps can be made, none of them final, and there is another
+pub record IsCutOff (states : ℕ → Contents) (w : List TerminalString) (limit : ℕ) : Type 0 where
+  pub last : Configuration
+  pub reached : Reaches states limit (begin w) last
+  pub another : move states last ≢ Stands
+
+-- the answer for a list with a parse tree: the tree, if its nodes are within the limit, and else `Limit`. Want of memory tells nothing
+abbrev pub IsAnswerFor : Tree → ℕ → Result ParseTree InterpretError → Type 0
+IsAnswerFor t limit (Ok tree) = (tree_of tree ≡ t) × (nodes (beside t no_trees) ≤ limit)
+IsAnswerFor t limit (Err (Refused state token)) = ⊥
+IsAnswerFor t limit (Err Limit) = limit < nodes (beside t no_trees)
+IsAnswerFor t limit (Err Memory) = Unit {0}
+
+-- each list with a parse tree has its answer
+abbrev pub AnswersTrees : ℕ → List TerminalString → Result ParseTree InterpretError → List Production → NonterminalString → Type 0
+AnswersTrees limit w answer g start = (t : Tree) → IsParseTree g start w t → IsAnswerFor t limit answer
+
+-- a refusal is by a state of the list and at a token for which something holds
+abbrev pub IfRefused : (ℕ → Token → Type 0) → List (State Bits) → InterpretError → Type 0
+IfRefused P states (Refused state token) = (n : ℕ) × (slice_get states n ≡ Some state.now) × P n token
+IfRefused P states Limit = Unit {0}
+IfRefused P states Memory = Unit {0}
+
+-- something holds where the limit is told
+abbrev pub IfLimit : Type 0 → InterpretError → Type 0
+IfLimit P (Refused state token) = Unit {0}
+IfLimit P Limit = P
+IfLimit P Memory = Unit {0}
+
+-- the limit is told, but for want of memory
+abbrev pub IsLimit : Result ParseTree InterpretError → Type 0
+IsLimit (Ok tree) = ⊥
+IsLimit (Err (Refused state token)) = ⊥
+IsLimit (Err Limit) = Unit {0}
+IsLimit (Err Memory) = Unit {0}
