@@ -1,4 +1,5 @@
 pub mod Answers
+pub mod EqualTrees
 pub mod FaithfulAnswers
 pub mod Machines
 pub mod ParseTrees

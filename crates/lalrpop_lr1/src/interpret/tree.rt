@@ -1,16 +1,17 @@
 //! Parse trees.
-ghost use Rattle.std.specs.Prelude.{◌≡◌, ◌++◌, Some, true, IfOk, OnOk, OnErr};
+ghost use Rattle.std.specs.Prelude.{◌≡◌, ◌↔◌, ◌++◌, map, Some, true, IsTrue, IfOk, OnOk};
 ghost use Rattle.std.specs.Fmt.{WritesOnOk};
 ghost use Rattle.lalrpop_base.specs.Trees.{leaves, beside, no_trees};
 ghost use Rattle.lalrpop_lr1.specs.ParseTrees.{tree_of, tree_text, children_text, separator_text};
 
+use lalrpop_base::exact::equal;
 use lalrpop_base::memory::OutOfMemory;
 use lalrpop_base::repr::{NonterminalString, TerminalString};
 use std::alloc::Global;
 use std::fmt;
 
 /// A tree of a parse: a nonterminal over its children, or a terminal.
-#[derive(PartialEq, Eq, Drop)]
+#[derive(Drop)]
 pub enum ParseTree {
     Nonterminal(NonterminalString, Vec<ParseTree>),
     Terminal(TerminalString),
@@ -40,6 +41,61 @@ impl ParseTree {
             ParseTree::Terminal(terminal) => Ok(ParseTree::Terminal(terminal.clone(alloc)?)),
         }
     }
+}
+
+impl PartialEq for ParseTree {
+    ghost use Rattle.std.specs.Cmp.{partial_equiv_from_equiv, on_equiv};
+    ghost use Rattle.std.specs.Ordering.{on};
+    ghost use Rattle.lalrpop_lr1.specs.EqualTrees.{equal_tree, tree_equivalence};
+
+    ghost eq = { on tree_of equal_tree };
+
+    ghost laws = { partial_equiv_from_equiv (on_equiv tree_of tree_equivalence) };
+
+    fn eq(&self, other: &ParseTree) -> bool
+        ensures same { IsTrue result ↔ (tree_of self.now ≡ tree_of other.now) }
+        ensures eq { result ≡ equal_tree (tree_of self.now) (tree_of other.now) }
+    {
+        are_equal(self, other)
+    }
+}
+
+impl Eq for ParseTree {
+    ghost use Rattle.std.specs.Cmp.{on_equiv};
+    ghost use Rattle.lalrpop_lr1.specs.EqualTrees.{tree_equivalence};
+
+    ghost laws = { on_equiv tree_of tree_equivalence };
+}
+
+// Whether two trees are the same.
+#[cycle(equal)]
+fn are_equal(tree: &ParseTree, other: &ParseTree) -> bool
+    ensures { IsTrue result ↔ (tree_of tree.now ≡ tree_of other.now) }
+{
+    match (tree, other) {
+        (ParseTree::Nonterminal(a, children), ParseTree::Nonterminal(b, others)) => {
+            equal(a, b) && have_equal(children, others)
+        }
+        (ParseTree::Terminal(t), ParseTree::Terminal(u)) => equal(t, u),
+        (ParseTree::Nonterminal(_, _), ParseTree::Terminal(_)) => false,
+        (ParseTree::Terminal(_), ParseTree::Nonterminal(_, _)) => false,
+    }
+}
+
+// Whether two lists of trees are the same.
+#[cycle(equal)]
+fn have_equal(trees: &Vec<ParseTree>, others: &Vec<ParseTree>) -> bool
+    ensures { IsTrue result ↔ (map tree_of trees.now.items ≡ map tree_of others.now.items) }
+{
+    if trees.len() != others.len() {
+        return false;
+    }
+    'trees: for (place, tree) in trees.iter().enumerate() {
+        if !are_equal(tree, &others[place]) {
+            return false;
+        }
+    }
+    true
 }
 
 // Copies the leaves of a tree behind a list.
