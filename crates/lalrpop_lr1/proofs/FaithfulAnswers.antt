@@ -1,7 +1,6 @@
 -- From the outcome of a run, what an answer says of a grammar to which the states are faithful.
 use Rattle.std.proofs.Common.{◌≡◌, ℕ, zero, suc, ◌<◌, ◌≤◌, ◌⊎◌, inl, inr, List, [], ◌∷◌, true, refl, sym, ap, ◌∙◌, arith}
 use Rattle.std.specs.Prelude.{Result, Ok, Err, IfOk, IfErr}
-use Rattle.lalrpop_base.specs.Bits.{Bits}
 use Rattle.lalrpop_base.specs.Runs.{Configuration, begin, Stands, Ends, move, Reaches, Outcome, Parsed, Refused, Limit, HasOutcome, cut_off, IsFirstWrong, IsPromptRefusal}
 use Rattle.lalrpop_base.specs.States.{Contents, AreFaithful}
 use Rattle.lalrpop_base.specs.Grammar.{IsOnNoRightSide}
@@ -39,24 +38,24 @@ was_cut_off : {table : ℕ → Contents} {w : List TerminalString} {limit : ℕ}
 was_cut_off (cut_off c r another) e = record { last = c; reached = r; another = another }
 was_cut_off _ e = cc
 
-module _ (table : ℕ → Contents) (states : List (State Bits)) (w : List TerminalString) (limit : ℕ) where
+module _ {L : Type 0} (table : ℕ → Contents) (states : List (State L)) (w : List TerminalString) (limit : ℕ) where
   -- two outcomes of one run
   same_outcome : (o p : Outcome) → HasOutcome table w limit o → HasOutcome table w limit p → o ≡ p
   same_outcome = one_outcome table w limit
 
-  pub limit_cut_off : (answer : Result ParseTree InterpretError) → IsAnswer (HasOutcome table w limit) states answer → IfErr answer (IfLimit (IsCutOff table w limit))
+  pub limit_cut_off : (answer : Result ParseTree (InterpretError L)) → IsAnswer (HasOutcome table w limit) states answer → IfErr answer (IfLimit (IsCutOff table w limit))
   limit_cut_off (Ok tree) h = tt
   limit_cut_off (Err (RefusedBy state token)) h = tt
   limit_cut_off (Err LimitPassed) h = was_cut_off h refl
   limit_cut_off (Err Memory) h = tt
 
-  pub cut_off_limit : (answer : Result ParseTree InterpretError) → IsAnswer (HasOutcome table w limit) states answer → IsCutOff table w limit → IsLimit answer
+  pub cut_off_limit : (answer : Result ParseTree (InterpretError L)) → IsAnswer (HasOutcome table w limit) states answer → IsCutOff table w limit → IsLimit answer
   cut_off_limit (Ok tree) h k = absurd (let e = same_outcome (Parsed (tree_of tree)) Limit h (cut_off k.last k.reached k.another) in cc)
   cut_off_limit (Err (RefusedBy state token)) h k = absurd (let e = same_outcome (Refused h.0 token) Limit h.2 (cut_off k.last k.reached k.another) in cc)
   cut_off_limit (Err LimitPassed) h k = tt
   cut_off_limit (Err Memory) h k = tt
 
-  pub tree_parses : (answer : Result ParseTree InterpretError) → IsAnswer (HasOutcome table w limit) states answer → IfOk answer (λ tree. ForEachGrammar table (IsTreeWithin limit w (tree_of tree)))
+  pub tree_parses : (answer : Result ParseTree (InterpretError L)) → IsAnswer (HasOutcome table w limit) states answer → IfOk answer (λ tree. ForEachGrammar table (IsTreeWithin limit w (tree_of tree)))
   tree_parses (Ok tree) h = λ g start faithful alone. record {
     parse = answered_is_tree g start table faithful w (tree_of tree) limit h;
     within = answered_within g start table faithful alone w (tree_of tree) limit h;
@@ -84,32 +83,32 @@ module _ (table : ℕ → Contents) (states : List (State Bits)) (w : List Termi
               let k : Stands ≡ Ends (t ∷ []) = sym e ∙ ends in
               cc
 
-  answer_within : (t : Tree) → nodes (beside t no_trees) ≤ limit → HasOutcome table w limit (Parsed t) → (answer : Result ParseTree InterpretError) → IsAnswer (HasOutcome table w limit) states answer → IsAnswerFor t limit answer
+  answer_within : (t : Tree) → nodes (beside t no_trees) ≤ limit → HasOutcome table w limit (Parsed t) → (answer : Result ParseTree (InterpretError L)) → IsAnswer (HasOutcome table w limit) states answer → IsAnswerFor t limit answer
   answer_within t l k (Ok tree) h = let e = same_outcome (Parsed (tree_of tree)) (Parsed t) h k in (cc, l)
   answer_within t l k (Err (RefusedBy state token)) h = let e = same_outcome (Refused h.0 token) (Parsed t) h.2 k in cc
   answer_within t l k (Err LimitPassed) h = absurd (let e = same_outcome Limit (Parsed t) h k in cc)
   answer_within t l k (Err Memory) h = tt
 
-  answer_beyond : (t : Tree) → limit < nodes (beside t no_trees) → HasOutcome table w limit Limit → (answer : Result ParseTree InterpretError) → IsAnswer (HasOutcome table w limit) states answer → IsAnswerFor t limit answer
+  answer_beyond : (t : Tree) → limit < nodes (beside t no_trees) → HasOutcome table w limit Limit → (answer : Result ParseTree (InterpretError L)) → IsAnswer (HasOutcome table w limit) states answer → IsAnswerFor t limit answer
   answer_beyond t l k (Ok tree) h = absurd (let e = same_outcome (Parsed (tree_of tree)) Limit h k in cc)
   answer_beyond t l k (Err (RefusedBy state token)) h = let e = same_outcome (Refused h.0 token) Limit h.2 k in cc
   answer_beyond t l k (Err LimitPassed) h = l
   answer_beyond t l k (Err Memory) h = tt
 
   -- a list with a parse tree has its answer
-  pub answers_trees : (answer : Result ParseTree InterpretError) → IsAnswer (HasOutcome table w limit) states answer → ForEachGrammar table (AnswersTrees limit w answer)
+  pub answers_trees : (answer : Result ParseTree (InterpretError L)) → IsAnswer (HasOutcome table w limit) states answer → ForEachGrammar table (AnswersTrees limit w answer)
   answers_trees answer h g start faithful alone t parse = elim (less_or_not limit (nodes (beside t no_trees))) [
     | inl l ↦ answer_beyond t l (cut_off_before g start faithful alone t parse l) answer h
     | inr l ↦ answer_within t l (tree_parsed g start table faithful alone w t limit parse l) answer h
   ]
 
-  pub refusal_wrong : (answer : Result ParseTree InterpretError) → IsAnswer (HasOutcome table w limit) states answer → IfErr answer (IfRefused (λ _ token. ForEachGrammar table (λ g start. IsFirstWrong g start w token)) states)
+  pub refusal_wrong : (answer : Result ParseTree (InterpretError L)) → IsAnswer (HasOutcome table w limit) states answer → IfErr answer (IfRefused (λ _ token. ForEachGrammar table (λ g start. IsFirstWrong g start w token)) states)
   refusal_wrong (Ok tree) h = tt
   refusal_wrong (Err (RefusedBy state token)) h = (h.0, h.1, λ g start faithful alone. refused_wrong g start table faithful alone w limit h.0 token h.2)
   refusal_wrong (Err LimitPassed) h = tt
   refusal_wrong (Err Memory) h = tt
 
-  pub refusal_prompt : (answer : Result ParseTree InterpretError) → IsAnswer (HasOutcome table w limit) states answer → IfErr answer (IfRefused (λ s token. ForEachCanonical table (λ g start. IsPromptRefusal g start table w s token)) states)
+  pub refusal_prompt : (answer : Result ParseTree (InterpretError L)) → IsAnswer (HasOutcome table w limit) states answer → IfErr answer (IfRefused (λ s token. ForEachCanonical table (λ g start. IsPromptRefusal g start table w s token)) states)
   refusal_prompt (Ok tree) h = tt
   refusal_prompt (Err (RefusedBy state token)) h = (h.0, h.1, λ g start tokens canonical lr1 alone. refused_promptly g start table (λ n p dot t. tokens n p dot t ≡ true) canonical lr1 alone w limit h.0 token h.2)
   refusal_prompt (Err LimitPassed) h = tt

@@ -1,13 +1,13 @@
 -- What the parts of a run say of the whole of it.
-use Rattle.std.proofs.Common.{◌≡◌, ℕ, ◌+◌, ◌≤◌, List, [], ◌∷◌, ◌++◌, length, map, reverse, refl, sym, ap, subst, ◌∙◌, arith}
+use Rattle.std.proofs.Common.{Bool, ◌≡◌, ℕ, ◌+◌, ◌≤◌, List, [], ◌∷◌, ◌++◌, length, map, reverse, refl, sym, ap, subst, ◌∙◌, arith}
 use Rattle.std.specs.Prelude.{Result, Ok, Err, IfOk}
 use Rattle.std.proofs.lemmas.List.{reverse-reverse}
-use Rattle.lalrpop_base.specs.Bits.{Bits}
 use Rattle.lalrpop_base.specs.Coherent.{AreCoherent}
-use Rattle.lalrpop_base.specs.Contents.{number_of, contents, reduced_productions}
+use Rattle.lalrpop_base.specs.Contents.{number_of, contents_in, reduced_productions}
 use Rattle.lalrpop_base.specs.States.{Contents}
 use Rattle.lalrpop_base.specs.Trees.{beside, no_trees, leaves, nodes, AreOfGrammar}
 use Rattle.lalrpop_base.specs.Runs.{here, begin, HasOutcome}
+use Rattle.lalrpop_base.specs.declared.lookahead.token.Token.{Token}
 use Rattle.lalrpop_base.specs.declared.repr.TerminalString.{TerminalString}
 use Rattle.lalrpop_base.specs.declared.lr1_core.state.State.{State}
 use Rattle.lalrpop_base.specs.declared.lr1_core.state.StateIndex.{StateIndex}
@@ -52,53 +52,53 @@ if_ok : {E : Type 0} {P Q : ParseTree → Type 0} → ((t : ParseTree) → P t �
 if_ok f (Ok tree) h = f tree h
 if_ok f (Err e) h = tt
 
-module _ (terminals : List TerminalString) (states : List (State Bits)) (coherent : AreCoherent states) where
+module _ {L : Type 0} (holds : L → Token → Bool) (states : List (State L)) (coherent : AreCoherent states) where
   -- the stack stays one
-  pub read_stacked : (m new : Machine) (w rest : List TerminalString) (left : ℕ) → IsStacked (contents terminals states) m → HasRead (contents terminals states) (configuration m w) left new rest → IsStacked (contents terminals states) new
-  read_stacked m new w rest left st r = run_keeps (contents terminals states) (length states) (lead terminals states coherent) (reads_reaches r.reads) st
+  pub read_stacked : (m new : Machine) (w rest : List TerminalString) (left : ℕ) → IsStacked (contents_in holds states) m → HasRead (contents_in holds states) (configuration m w) left new rest → IsStacked (contents_in holds states) new
+  read_stacked m new w rest left st r = run_keeps (contents_in holds states) (length states) (lead holds states coherent) (reads_reaches r.reads) st
 
   -- a stop while terminals are left tells the outcome
-  pub stop_answer : (m : Machine) (w : List TerminalString) (limit : ℕ) → IsAtStart m → m.left ≡ limit → (e : InterpretError) → IsFailure (StopsReading (contents terminals states) (configuration m w) m.left) states e → IsFailure (HasOutcome (contents terminals states) w limit) states e
+  pub stop_answer : (m : Machine) (w : List TerminalString) (limit : ℕ) → IsAtStart m → m.left ≡ limit → (e : InterpretError L) → IsFailure (StopsReading (contents_in holds states) (configuration m w) m.left) states e → IsFailure (HasOutcome (contents_in holds states) w limit) states e
   stop_answer m w limit start size e h =
-      failure_follows (StopsReading (contents terminals states) (configuration m w) m.left) (HasOutcome (contents terminals states) w limit) states
-      (λ o k. whole_outcome {k = 0} here (let whole : 0 + m.left ≡ limit = omega (arith, size) in whole) (subst (λ c. HasOutcomeFrom (contents terminals states) c m.left o) (begins m w start) (stop_outcome k)))
+      failure_follows (StopsReading (contents_in holds states) (configuration m w) m.left) (HasOutcome (contents_in holds states) w limit) states
+      (λ o k. whole_outcome {k = 0} here (let whole : 0 + m.left ≡ limit = omega (arith, size) in whole) (subst (λ c. HasOutcomeFrom (contents_in holds states) c m.left o) (begins m w start) (stop_outcome k)))
       e h
 
   -- and the partial one
-  pub stop_partial : (m : Machine) (w : List TerminalString) (limit : ℕ) → IsAtStart m → m.left ≡ limit → (e : InterpretError) → IsFailure (StopsReading (contents terminals states) (configuration m w) m.left) states e → IsFailure (λ o. HasPartialOutcome (contents terminals states) (begin w) limit (Stop o)) states e
+  pub stop_partial : (m : Machine) (w : List TerminalString) (limit : ℕ) → IsAtStart m → m.left ≡ limit → (e : InterpretError L) → IsFailure (StopsReading (contents_in holds states) (configuration m w) m.left) states e → IsFailure (λ o. HasPartialOutcome (contents_in holds states) (begin w) limit (Stop o)) states e
   stop_partial m w limit start size e h =
-      failure_follows (StopsReading (contents terminals states) (configuration m w) m.left) (λ o. HasPartialOutcome (contents terminals states) (begin w) limit (Stop o)) states
-      (λ o k. stopped o (subst (λ c. StopsReading (contents terminals states) c limit o) (begins m w start) (subst (λ n. StopsReading (contents terminals states) (configuration m w) n o) size k)))
+      failure_follows (StopsReading (contents_in holds states) (configuration m w) m.left) (λ o. HasPartialOutcome (contents_in holds states) (begin w) limit (Stop o)) states
+      (λ o k. stopped o (subst (λ c. StopsReading (contents_in holds states) c limit o) (begins m w start) (subst (λ n. StopsReading (contents_in holds states) (configuration m w) n o) size k)))
       e h
 
   -- the end of a run tells the outcome of the whole
-  pub last_answer : (m : Machine) (w : List TerminalString) (limit : ℕ) → HasRead (contents terminals states) (begin w) limit m [] → (answer : Result ParseTree InterpretError) → IsAnswer (HasOutcomeFrom (contents terminals states) (configuration m []) m.left) states answer → IsAnswer (HasOutcome (contents terminals states) w limit) states answer
+  pub last_answer : (m : Machine) (w : List TerminalString) (limit : ℕ) → HasRead (contents_in holds states) (begin w) limit m [] → (answer : Result ParseTree (InterpretError L)) → IsAnswer (HasOutcomeFrom (contents_in holds states) (configuration m []) m.left) states answer → IsAnswer (HasOutcome (contents_in holds states) w limit) states answer
   last_answer m w limit r (Ok tree) h = whole_outcome (reads_reaches r.reads) r.counted h
   last_answer m w limit r (Err e) h =
-      failure_follows (HasOutcomeFrom (contents terminals states) (configuration m []) m.left) (HasOutcome (contents terminals states) w limit) states
+      failure_follows (HasOutcomeFrom (contents_in holds states) (configuration m []) m.left) (HasOutcome (contents_in holds states) w limit) states
       (λ o k. whole_outcome (reads_reaches r.reads) r.counted k) e h
 
   -- a tree that is answered is a parse
-  pub answer_built : (w : List TerminalString) (limit : ℕ) (answer : Result ParseTree InterpretError) → IsAnswer (HasOutcome (contents terminals states) w limit) states answer → IfOk answer (λ tree. IsBuilt (reduced_productions states) (contents terminals states) w limit (tree_of tree))
+  pub answer_built : (w : List TerminalString) (limit : ℕ) (answer : Result ParseTree (InterpretError L)) → IsAnswer (HasOutcome (contents_in holds states) w limit) states answer → IfOk answer (λ tree. IsBuilt (reduced_productions states) (contents_in holds states) w limit (tree_of tree))
   answer_built w limit (Ok tree) h =
-      parsed_built (reduced_productions states) (contents terminals states) (length states) (lead terminals states coherent) (reduces_by terminals states) w limit h
+      parsed_built (reduced_productions states) (contents_in holds states) (length states) (lead holds states coherent) (reduces_by holds states) w limit h
   answer_built w limit (Err e) h = tt
 
   -- so its inner nodes are given by productions, its leaves are the list, and it has a node for each step
-  pub tree_of_productions : (w : List TerminalString) (limit : ℕ) (answer : Result ParseTree InterpretError) → IsAnswer (HasOutcome (contents terminals states) w limit) states answer → IfOk answer (λ tree. AreOfGrammar (reduced_productions states) (beside (tree_of tree) no_trees))
+  pub tree_of_productions : (w : List TerminalString) (limit : ℕ) (answer : Result ParseTree (InterpretError L)) → IsAnswer (HasOutcome (contents_in holds states) w limit) states answer → IfOk answer (λ tree. AreOfGrammar (reduced_productions states) (beside (tree_of tree) no_trees))
   tree_of_productions w limit answer h = if_ok (λ tree built. built.of_grammar) answer (answer_built w limit answer h)
 
-  pub tree_of_list : (w : List TerminalString) (limit : ℕ) (answer : Result ParseTree InterpretError) → IsAnswer (HasOutcome (contents terminals states) w limit) states answer → IfOk answer (λ tree. leaves (beside (tree_of tree) no_trees) ≡ w)
+  pub tree_of_list : (w : List TerminalString) (limit : ℕ) (answer : Result ParseTree (InterpretError L)) → IsAnswer (HasOutcome (contents_in holds states) w limit) states answer → IfOk answer (λ tree. leaves (beside (tree_of tree) no_trees) ≡ w)
   tree_of_list w limit answer h = if_ok (λ tree built. built.of_list) answer (answer_built w limit answer h)
 
-  pub tree_steps : (w : List TerminalString) (limit : ℕ) (answer : Result ParseTree InterpretError) → IsAnswer (HasOutcome (contents terminals states) w limit) states answer → IfOk answer (λ tree. IsParsedIn (contents terminals states) w (nodes (beside (tree_of tree) no_trees)) (tree_of tree))
+  pub tree_steps : (w : List TerminalString) (limit : ℕ) (answer : Result ParseTree (InterpretError L)) → IsAnswer (HasOutcome (contents_in holds states) w limit) states answer → IfOk answer (λ tree. IsParsedIn (contents_in holds states) w (nodes (beside (tree_of tree) no_trees)) (tree_of tree))
   tree_steps w limit answer h = if_ok (λ tree built. built.steps) answer (answer_built w limit answer h)
 
-  pub tree_within : (w : List TerminalString) (limit : ℕ) (answer : Result ParseTree InterpretError) → IsAnswer (HasOutcome (contents terminals states) w limit) states answer → IfOk answer (λ tree. nodes (beside (tree_of tree) no_trees) ≤ limit)
+  pub tree_within : (w : List TerminalString) (limit : ℕ) (answer : Result ParseTree (InterpretError L)) → IsAnswer (HasOutcome (contents_in holds states) w limit) states answer → IfOk answer (λ tree. nodes (beside (tree_of tree) no_trees) ≤ limit)
   tree_within w limit answer h = if_ok (λ tree built. built.within) answer (answer_built w limit answer h)
 
 -- an answer with as many steps left as the limit
-pub answer_at : (table : ℕ → Contents) (states : List (State Bits)) (w : List TerminalString) (left limit : ℕ) → left ≡ limit → (answer : Result ParseTree InterpretError) → IsAnswer (HasOutcome table w left) states answer → IsAnswer (HasOutcome table w limit) states answer
+pub answer_at : {L : Type 0} (table : ℕ → Contents) (states : List (State L)) (w : List TerminalString) (left limit : ℕ) → left ≡ limit → (answer : Result ParseTree (InterpretError L)) → IsAnswer (HasOutcome table w left) states answer → IsAnswer (HasOutcome table w limit) states answer
 answer_at table states w left limit e answer h = subst (λ n. IsAnswer (HasOutcome table w n) states answer) e h
 
 -- the stack as it is handed out

@@ -1,5 +1,5 @@
 -- A machine over coherent states makes the steps of a run.
-use Rattle.std.proofs.Common.{◌≡◌, ◌≢◌, ℕ, suc, ◌+◌, ◌-◌, ◌<◌, ◌≤◌, List, [], ◌∷◌, ◌++◌, length, drop, map, reverse, get_or, Option, Some, None, refl, sym, ap, ap₂, subst, ◌∙◌, arith}
+use Rattle.std.proofs.Common.{Bool, ◌≡◌, ◌≢◌, ℕ, suc, ◌+◌, ◌-◌, ◌<◌, ◌≤◌, List, [], ◌∷◌, ◌++◌, length, drop, map, reverse, get_or, Option, Some, None, refl, sym, ap, ap₂, subst, ◌∙◌, arith}
 use Rattle.std.specs.Prelude.{slice_get, option_map, Result, Ok, Err, OnOk, IfErr, IfSome, IsNone, IsErrAnd, ◌⊎◌, ok_or}
 use Rattle.std.specs.Borrow.{Bor}
 use Rattle.std.specs.declared.vec.Vec.{Vec}
@@ -7,9 +7,8 @@ use Rattle.std.proofs.Common.{⊎_elim}
 use Rattle.std.specs.BTreeMap.{get}
 use Rattle.std.proofs.lemmas.List.{get_or-reverse, length-map, length-reverse}
 use Rattle.std.proofs.lemmas.Option.{slice_get_read, slice_get_within, get_or_from_slice_get, slice_get-map}
-use Rattle.lalrpop_base.specs.Bits.{Bits}
 use Rattle.lalrpop_base.specs.Coherent.{AreCoherent}
-use Rattle.lalrpop_base.specs.Contents.{number_of, holds_token, contents_of, contents_at, contents}
+use Rattle.lalrpop_base.specs.Contents.{number_of, contents_of, contents_at, contents_in}
 use Rattle.lalrpop_base.specs.States.{Contents}
 use Rattle.lalrpop_base.specs.Trees.{Tree, Leaf}
 use Rattle.lalrpop_base.specs.Runs.{Configuration, reduction_on, reduces, received, reduced, Stands, Goes, Ends, shifts_or, move, Reaches, here, further, Outcome, Parsed, Refused, Limit}
@@ -48,39 +47,39 @@ number_there xs k x e =
     let there : get_or all k x.0 ≡ x.0 = get_or_from_slice_get all k x.0 x.0 (slice_get-map number_of xs k ∙ ap (option_map number_of) e) in
     (j, slice_get_read (reverse all) (length (reverse all)) j x.0 refl (omega arith) (sym (get_or-reverse all j x.0 (omega arith) ∙ ap (λ i. get_or all i x.0) back ∙ there)))
 
-module _ (terminals : List TerminalString) (states : List (State Bits)) where
+module _ {L : Type 0} (holds : L → Token → Bool) (states : List (State L)) where
   -- what the top state holds
-  pub top_is : (m : Machine) (top : State Bits) → slice_get states m.state.0 ≡ Some top → contents terminals states m.state.0 ≡ contents_of (holds_token terminals) top
-  top_is m top there = ap (contents_at (holds_token terminals)) there
+  pub top_is : (m : Machine) (top : State L) → slice_get states m.state.0 ≡ Some top → contents_in holds states m.state.0 ≡ contents_of holds top
+  top_is m top there = ap (contents_at holds) there
 
-  pub by_production : (m : Machine) (top : State Bits) (token : Token) (p : Production) (rest : List TerminalString) → slice_get states m.state.0 ≡ Some top → Some p ≡ reduction_on (contents_of (holds_token terminals) top).reductions token →
-      reduction_move (contents terminals states) (configuration m rest) token ≡ received (contents terminals states) p (drop (length p.symbols) (m.state.0 ∷ numbers m.below.items)) (reduced p (trees_on m.trees.items)) rest
+  pub by_production : (m : Machine) (top : State L) (token : Token) (p : Production) (rest : List TerminalString) → slice_get states m.state.0 ≡ Some top → Some p ≡ reduction_on (contents_of holds top).reductions token →
+      reduction_move (contents_in holds states) (configuration m rest) token ≡ received (contents_in holds states) p (drop (length p.symbols) (m.state.0 ∷ numbers m.below.items)) (reduced p (trees_on m.trees.items)) rest
   by_production m top token p rest there e =
-      ap (reduces (contents terminals states) (configuration m rest)) (ap (λ (s : Contents). reduction_on s.reductions token) (top_is m top there) ∙ sym e)
+      ap (reduces (contents_in holds states) (configuration m rest)) (ap (λ (s : Contents). reduction_on s.reductions token) (top_is m top there) ∙ sym e)
 
-  pub by_nothing : (m : Machine) (top : State Bits) (token : Token) (rest : List TerminalString) → slice_get states m.state.0 ≡ Some top → None ≡ reduction_on (contents_of (holds_token terminals) top).reductions token →
-      reduction_move (contents terminals states) (configuration m rest) token ≡ Stands
+  pub by_nothing : (m : Machine) (top : State L) (token : Token) (rest : List TerminalString) → slice_get states m.state.0 ≡ Some top → None ≡ reduction_on (contents_of holds top).reductions token →
+      reduction_move (contents_in holds states) (configuration m rest) token ≡ Stands
   by_nothing m top token rest there e =
-      ap (reduces (contents terminals states) (configuration m rest)) (ap (λ (s : Contents). reduction_on s.reductions token) (top_is m top there) ∙ sym e)
+      ap (reduces (contents_in holds states) (configuration m rest)) (ap (λ (s : Contents). reduction_on s.reductions token) (top_is m top there) ∙ sym e)
 
   -- a reduction is a step
-  pub is_a_step : (m : Machine) (top : State Bits) (token : Token) (p : Production) (rest : List TerminalString) → slice_get states m.state.0 ≡ Some top → Some p ≡ reduction_on (contents_of (holds_token terminals) top).reductions token →
-      reduction_move (contents terminals states) (configuration m rest) token ≢ Stands
+  pub is_a_step : (m : Machine) (top : State L) (token : Token) (p : Production) (rest : List TerminalString) → slice_get states m.state.0 ≡ Some top → Some p ≡ reduction_on (contents_of holds top).reductions token →
+      reduction_move (contents_in holds states) (configuration m rest) token ≢ Stands
   is_a_step m top token p rest there e h =
-      received_moves (contents terminals states) p (drop (length p.symbols) (m.state.0 ∷ numbers m.below.items)) (reduced p (trees_on m.trees.items)) rest (sym (by_production m top token p rest there e) ∙ h)
+      received_moves (contents_in holds states) p (drop (length p.symbols) (m.state.0 ∷ numbers m.below.items)) (reduced p (trees_on m.trees.items)) rest (sym (by_production m top token p rest there e) ∙ h)
 
-  pub lead : AreCoherent states → LeadAsItemsSay (contents terminals states) (length states)
-  lead coherent = lead_as_items_say (holds_token terminals) states coherent
+  pub lead : AreCoherent states → LeadAsItemsSay (contents_in holds states) (length states)
+  lead coherent = lead_as_items_say holds states coherent
 
   module _ (coherent : AreCoherent states) (some : 0 < length states) where
-    pub top_within : (m : Machine) → IsStacked (contents terminals states) m → m.state.0 < length states
-    top_within m st = on_stack (contents terminals states) (length states) (lead coherent) some st 0 m.state.0 refl
+    pub top_within : (m : Machine) → IsStacked (contents_in holds states) m → m.state.0 < length states
+    top_within m st = on_stack (contents_in holds states) (length states) (lead coherent) some st 0 m.state.0 refl
 
     -- a reduction can be made
-    pub can_pop : (m : Machine) (top : State Bits) (token : Token) (p : Production) → IsStacked (contents terminals states) m → slice_get states m.state.0 ≡ Some top → Some p ≡ reduction_on (contents_of (holds_token terminals) top).reductions token → CanPop (length states) m (length p.symbols)
+    pub can_pop : (m : Machine) (top : State L) (token : Token) (p : Production) → IsStacked (contents_in holds states) m → slice_get states m.state.0 ≡ Some top → Some p ≡ reduction_on (contents_of holds top).reductions token → CanPop (length states) m (length p.symbols)
     can_pop m top token p st there e =
         let c = configuration m [] in
-        let f : Found (contents terminals states) c p = found (contents terminals states) (length states) (lead coherent) c token p st (ap (λ (s : Contents). reduction_on s.reductions token) (top_is m top there) ∙ sym e) in
+        let f : Found (contents_in holds states) c p = found (contents_in holds states) (length states) (lead coherent) c token p st (ap (λ (s : Contents). reduction_on s.reductions token) (top_is m top there) ∙ sym e) in
         let fits : length p.symbols ≤ length (numbers m.below.items) = f.popped.fits in
         let below : length (numbers m.below.items) ≡ length m.below.items = length-reverse (map number_of m.below.items) ∙ length-map m.below.items number_of in
         let trees : length (trees_on m.trees.items) ≡ length m.trees.items = length-reverse (map _ m.trees.items) ∙ length-map m.trees.items _ in
@@ -90,35 +89,35 @@ module _ (terminals : List TerminalString) (states : List (State Bits)) where
           states = omega arith;
           within = λ k x h.
               let (j, at) = number_there (m.below.items ++ m.state ∷ []) k x h in
-              on_stack (contents terminals states) (length states) (lead coherent) some st j x.0 (subst (λ l. slice_get l j ≡ Some x.0) (numbers_more m.below.items m.state) at);
+              on_stack (contents_in holds states) (length states) (lead coherent) some st j x.0 (subst (λ l. slice_get l j ≡ Some x.0) (numbers_more m.below.items m.state) at);
         }
 
   -- a shift is the step that the top state has before a terminal
-  pub shift_goes : (m new : Machine) (top : State Bits) (t : TerminalString) (target : StateIndex) (rest : List TerminalString) → slice_get states m.state.0 ≡ Some top → get terminal_ord.ghosts.cmp top.shifts t ≡ Some target → IsShifted m target.0 t new →
-      move (contents terminals states) (configuration m (t ∷ rest)) ≡ Goes (configuration new rest)
+  pub shift_goes : (m new : Machine) (top : State L) (t : TerminalString) (target : StateIndex) (rest : List TerminalString) → slice_get states m.state.0 ≡ Some top → get terminal_ord.ghosts.cmp top.shifts t ≡ Some target → IsShifted m target.0 t new →
+      move (contents_in holds states) (configuration m (t ∷ rest)) ≡ Goes (configuration new rest)
   shift_goes m new top t target rest there e s =
-      let first : move (contents terminals states) (configuration m (t ∷ rest)) ≡ shifts_or (contents terminals states) (configuration m (t ∷ rest)) t rest (Some target.0) =
-      ap (λ (k : Contents). shifts_or (contents terminals states) (configuration m (t ∷ rest)) t rest (k.shift t)) (top_is m top there)
-      ∙ ap (λ o. shifts_or (contents terminals states) (configuration m (t ∷ rest)) t rest (option_map number_of o)) e in
+      let first : move (contents_in holds states) (configuration m (t ∷ rest)) ≡ shifts_or (contents_in holds states) (configuration m (t ∷ rest)) t rest (Some target.0) =
+      ap (λ (k : Contents). shifts_or (contents_in holds states) (configuration m (t ∷ rest)) t rest (k.shift t)) (top_is m top there)
+      ∙ ap (λ o. shifts_or (contents_in holds states) (configuration m (t ∷ rest)) t rest (option_map number_of o)) e in
       first
       ∙ ap (λ n. Goes (record { state = n; below = m.state.0 ∷ numbers m.below.items; trees = Leaf t ∷ trees_on m.trees.items; rest = rest })) (sym s.state)
       ∙ ap₂ (λ l ts. Goes (record { state = new.state.0; below = l; trees = ts; rest = rest })) (sym s.below) (sym s.trees)
 
-  pub shift_is_a_step : (m : Machine) (top : State Bits) (t : TerminalString) (target : StateIndex) (rest : List TerminalString) → slice_get states m.state.0 ≡ Some top → get terminal_ord.ghosts.cmp top.shifts t ≡ Some target →
-      move (contents terminals states) (configuration m (t ∷ rest)) ≢ Stands
+  pub shift_is_a_step : (m : Machine) (top : State L) (t : TerminalString) (target : StateIndex) (rest : List TerminalString) → slice_get states m.state.0 ≡ Some top → get terminal_ord.ghosts.cmp top.shifts t ≡ Some target →
+      move (contents_in holds states) (configuration m (t ∷ rest)) ≢ Stands
   shift_is_a_step m top t target rest there e h =
-      let first : move (contents terminals states) (configuration m (t ∷ rest)) ≡ shifts_or (contents terminals states) (configuration m (t ∷ rest)) t rest (Some target.0) =
-      ap (λ (k : Contents). shifts_or (contents terminals states) (configuration m (t ∷ rest)) t rest (k.shift t)) (top_is m top there)
-      ∙ ap (λ o. shifts_or (contents terminals states) (configuration m (t ∷ rest)) t rest (option_map number_of o)) e in
-      let k : shifts_or (contents terminals states) (configuration m (t ∷ rest)) t rest (Some target.0) ≡ Stands = sym first ∙ h in
+      let first : move (contents_in holds states) (configuration m (t ∷ rest)) ≡ shifts_or (contents_in holds states) (configuration m (t ∷ rest)) t rest (Some target.0) =
+      ap (λ (k : Contents). shifts_or (contents_in holds states) (configuration m (t ∷ rest)) t rest (k.shift t)) (top_is m top there)
+      ∙ ap (λ o. shifts_or (contents_in holds states) (configuration m (t ∷ rest)) t rest (option_map number_of o)) e in
+      let k : shifts_or (contents_in holds states) (configuration m (t ∷ rest)) t rest (Some target.0) ≡ Stands = sym first ∙ h in
       cc
 
   -- without a shift the step is the reduction
-  pub no_shift : (m : Machine) (top : State Bits) (t : TerminalString) (rest : List TerminalString) → slice_get states m.state.0 ≡ Some top → get terminal_ord.ghosts.cmp top.shifts t ≡ None →
-      move (contents terminals states) (configuration m (t ∷ rest)) ≡ reduction_move (contents terminals states) (configuration m (t ∷ rest)) (TokenOf t)
+  pub no_shift : (m : Machine) (top : State L) (t : TerminalString) (rest : List TerminalString) → slice_get states m.state.0 ≡ Some top → get terminal_ord.ghosts.cmp top.shifts t ≡ None →
+      move (contents_in holds states) (configuration m (t ∷ rest)) ≡ reduction_move (contents_in holds states) (configuration m (t ∷ rest)) (TokenOf t)
   no_shift m top t rest there e =
-      ap (λ (k : Contents). shifts_or (contents terminals states) (configuration m (t ∷ rest)) t rest (k.shift t)) (top_is m top there)
-      ∙ ap (λ o. shifts_or (contents terminals states) (configuration m (t ∷ rest)) t rest (option_map number_of o)) e
+      ap (λ (k : Contents). shifts_or (contents_in holds states) (configuration m (t ∷ rest)) t rest (k.shift t)) (top_is m top there)
+      ∙ ap (λ o. shifts_or (contents_in holds states) (configuration m (t ∷ rest)) t rest (option_map number_of o)) e
 
 -- a machine before the end of the input to which steps led from a configuration, and what is left of the steps
 pub record HasReached (states : ℕ → Contents) (b : Configuration) (left : ℕ) (m : Machine) : Type 0 where
@@ -172,20 +171,20 @@ module _ {states : ℕ → Contents} {b : Configuration} {left : ℕ} (m : Machi
       let all : r.steps ≡ left = let k : r.steps + m.left ≡ left = r.counted in omega (arith, k) in
       cut_off (configuration m (t ∷ rest)) t rest (subst (λ n. Reads states n b (configuration m (t ∷ rest))) all r.reads) refl e
 
-  pub stops_spent : (list : List (State Bits)) → move states (configuration m (t ∷ rest)) ≢ Stands → (e : InterpretError) → IsSpent m e → IsFailure (StopsReading states b left) list e
+  pub stops_spent : {L : Type 0} (list : List (State L)) → move states (configuration m (t ∷ rest)) ≢ Stands → (e : InterpretError L) → IsSpent m e → IsFailure (StopsReading states b left) list e
   stops_spent list h (RefusedBy state token) s = absurd s
   stops_spent list h LimitPassed s = stops_cut_off h s
   stops_spent list h Memory s = tt
 
 -- a reduction for which no step is left stops the run
-pub halted_stops : {states : ℕ → Contents} {b : Configuration} {left : ℕ} (m : Machine) (t : TerminalString) (rest : List TerminalString) (token : Token) (list : List (State Bits)) → HasRead states b left m (t ∷ rest) →
-    token ≡ TokenOf t → move states (configuration m (t ∷ rest)) ≡ reduction_move states (configuration m (t ∷ rest)) (TokenOf t) → (e : InterpretError) → IsHalted states m token (t ∷ rest) e → IsFailure (StopsReading states b left) list e
+pub halted_stops : {L : Type 0} {states : ℕ → Contents} {b : Configuration} {left : ℕ} (m : Machine) (t : TerminalString) (rest : List TerminalString) (token : Token) (list : List (State L)) → HasRead states b left m (t ∷ rest) →
+    token ≡ TokenOf t → move states (configuration m (t ∷ rest)) ≡ reduction_move states (configuration m (t ∷ rest)) (TokenOf t) → (e : InterpretError L) → IsHalted states m token (t ∷ rest) e → IsFailure (StopsReading states b left) list e
 halted_stops m t rest token list r same k (RefusedBy state u) h = absurd h
 halted_stops {states} m t rest token list r same k LimitPassed h = stops_cut_off m t rest r (λ e. h.0 (ap (reduction_move states (configuration m (t ∷ rest))) same ∙ sym k ∙ e)) h.1
 halted_stops m t rest token list r same k Memory h = tt
 
 -- before the end
-pub halted_ends : {states : ℕ → Contents} {b : Configuration} {left : ℕ} (m : Machine) (list : List (State Bits)) → HasReached states b left m → (e : InterpretError) → IsHalted states m Eof [] e → IsFailure (HasOutcomeFrom states b left) list e
+pub halted_ends : {L : Type 0} {states : ℕ → Contents} {b : Configuration} {left : ℕ} (m : Machine) (list : List (State L)) → HasReached states b left m → (e : InterpretError L) → IsHalted states m Eof [] e → IsFailure (HasOutcomeFrom states b left) list e
 halted_ends m list r (RefusedBy state u) h = absurd h
 halted_ends m list r LimitPassed h = ends_cut_off m r h.0 h.1
 halted_ends m list r Memory h = tt
@@ -205,12 +204,12 @@ if_err P Q f (Ok v) h = tt
 if_err P Q f (Err e) h = f e h
 
 -- a machine holds a stack after a reduction before a terminal
-pub reduces_stacked : (terminals : List TerminalString) (states : List (State Bits)) → AreCoherent states → (m new : Machine) (t : TerminalString) (token : Token) → IsStacked (contents terminals states) m →
-    token ≡ TokenOf t → move (contents terminals states) (configuration m (t ∷ [])) ≡ reduction_move (contents terminals states) (configuration m (t ∷ [])) (TokenOf t) →
-    IsProgress (contents terminals states) m token (t ∷ []) new GoesOn → IsStacked (contents terminals states) new
-reduces_stacked terminals states coherent m new t token st same k h =
-    step_keeps (contents terminals states) (length states) (lead terminals states coherent) (configuration m (t ∷ [])) (configuration new (t ∷ []))
-    (k ∙ ap (reduction_move (contents terminals states) (configuration m (t ∷ []))) (sym same) ∙ h.0) st
+pub reduces_stacked : {L : Type 0} (holds : L → Token → Bool) (states : List (State L)) → AreCoherent states → (m new : Machine) (t : TerminalString) (token : Token) → IsStacked (contents_in holds states) m →
+    token ≡ TokenOf t → move (contents_in holds states) (configuration m (t ∷ [])) ≡ reduction_move (contents_in holds states) (configuration m (t ∷ [])) (TokenOf t) →
+    IsProgress (contents_in holds states) m token (t ∷ []) new GoesOn → IsStacked (contents_in holds states) new
+reduces_stacked holds states coherent m new t token st same k h =
+    step_keeps (contents_in holds states) (length states) (lead holds states coherent) (configuration m (t ∷ [])) (configuration new (t ∷ []))
+    (k ∙ ap (reduction_move (contents_in holds states) (configuration m (t ∷ []))) (sym same) ∙ h.0) st
 
 -- a reduction that is none or the last one stops the run before a terminal
 pub refused_stops : {states : ℕ → Contents} {b : Configuration} {left : ℕ} (m new : Machine) (t : TerminalString) (rest : List TerminalString) (token : Token) → HasRead states b left m (t ∷ rest) →
@@ -232,14 +231,14 @@ read_on {states} {b} {left} m new all rest t r e s = record {
 }
 
 -- and stops where that stops
-pub fail_later : {states : ℕ → Contents} {b : Configuration} {left : ℕ} (list : List (State Bits)) (m : Machine) (all rest : List TerminalString) (t : TerminalString) →
-    HasRead states b left m all → all ≡ t ∷ rest → (error : InterpretError) → IsFailure (StopsReading states (configuration m (t ∷ rest)) m.left) list error → IsFailure (StopsReading states b left) list error
+pub fail_later : {L : Type 0} {states : ℕ → Contents} {b : Configuration} {left : ℕ} (list : List (State L)) (m : Machine) (all rest : List TerminalString) (t : TerminalString) →
+    HasRead states b left m all → all ≡ t ∷ rest → (error : InterpretError L) → IsFailure (StopsReading states (configuration m (t ∷ rest)) m.left) list error → IsFailure (StopsReading states b left) list error
 fail_later {states} {b} {left} list m all rest t r e error h =
     failure_follows (StopsReading states (configuration m (t ∷ rest)) m.left) (StopsReading states b left) list
     (λ o k. stop_later (subst (λ l. Reads states r.steps b (configuration m l)) e r.reads) r.counted k) error h
 
 -- one tree is a parse, and any others are none
-pub ended_answer : {states : ℕ → Contents} {b : Configuration} {left : ℕ} (list : List (State Bits)) (m : Machine) (state : Bor (State Bits)) (trees : List Tree) → HasReached states b left m →
+pub ended_answer : {L : Type 0} {states : ℕ → Contents} {b : Configuration} {left : ℕ} (list : List (State L)) (m : Machine) (state : Bor (State L)) (trees : List Tree) → HasReached states b left m →
     slice_get list m.state.0 ≡ Some state.now → move states (configuration m []) ≡ Ends trees → 0 < m.left →
     (o : Option ParseTree) → IfSome o (λ tree. trees ≡ tree_of tree ∷ []) → (IsNone o → (t : Tree) → trees ≡ t ∷ [] → ⊥) →
     IsAnswer (HasOutcomeFrom states b left) list (ok_or o (RefusedBy state Eof))
@@ -251,11 +250,11 @@ pub raised : {T E : Type 0} (Q : E → Type 0) (error : E) → Q error → (r : 
 raised Q error h (Ok v) k = absurd k
 raised Q error h (Err e) k = subst Q (sym k) h
 
-pub raised_answer : (R : Outcome → Type 0) (list : List (State Bits)) (error : InterpretError) → IsFailure R list error → (r : Result ParseTree InterpretError) → IsErrAnd r (λ e. e ≡ error) → IsAnswer R list r
+pub raised_answer : {L : Type 0} (R : Outcome → Type 0) (list : List (State L)) (error : InterpretError L) → IsFailure R list error → (r : Result ParseTree (InterpretError L)) → IsErrAnd r (λ e. e ≡ error) → IsAnswer R list r
 raised_answer R list error h (Ok v) k = absurd k
 raised_answer R list error h (Err e) k = subst (IsFailure R list) (sym k) h
 
-pub raised_partial : {A : Type 0} (R : PartialOutcome → Type 0) (list : List (State Bits)) (error : InterpretError) → IsFailure (λ o. R (Stop o)) list error → (r : Result (Vec StateIndex A) InterpretError) → IsErrAnd r (λ e. e ≡ error) → IsPartialAnswer R list r
+pub raised_partial : {A L : Type 0} (R : PartialOutcome → Type 0) (list : List (State L)) (error : InterpretError L) → IsFailure (λ o. R (Stop o)) list error → (r : Result (Vec StateIndex A) (InterpretError L)) → IsErrAnd r (λ e. e ≡ error) → IsPartialAnswer R list r
 raised_partial R list error h (Ok v) k = absurd k
 raised_partial R list error h (Err e) k = subst (IsFailure (λ o. R (Stop o)) list) (sym k) h
 

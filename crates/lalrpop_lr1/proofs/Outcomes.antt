@@ -2,7 +2,6 @@
 use Rattle.std.proofs.Common.{◌≡◌, ℕ, ◌+◌, List, [], ◌∷◌, sym, subst, ap, ◌∙◌, arith}
 use Rattle.lalrpop_base.specs.declared.repr.TerminalString.{TerminalString}
 use Rattle.lalrpop_base.specs.declared.lr1_core.state.State.{State}
-use Rattle.lalrpop_base.specs.Bits.{Bits}
 use Rattle.lalrpop_base.specs.States.{Contents}
 use Rattle.lalrpop_base.specs.Trees.{Tree}
 use Rattle.lalrpop_base.specs.Runs.{Configuration, next_token, Reaches, here, further, begin, Outcome, Refused, Limit, IsParse, HasOutcome, parsed, stuck as stuck_at, other_end, cut_off as cut_off_at}
@@ -50,7 +49,7 @@ whole_outcome {k = k} r e (other_end_from n c trees l s h p) = other_end (k + n)
 whole_outcome {states} {w} r e (cut_off_from c s h) = cut_off_at c (subst (λ n. Reaches states n (begin w) c) e (Reaches-append r s)) h
 
 -- an error tells whatever follows from what it tells
-pub failure_follows : (R Q : Outcome → Type 0) (states : List (State Bits)) → ((o : Outcome) → R o → Q o) → (e : InterpretError) → IsFailure R states e → IsFailure Q states e
+pub failure_follows : {L : Type 0} (R Q : Outcome → Type 0) (states : List (State L)) → ((o : Outcome) → R o → Q o) → (e : InterpretError L) → IsFailure R states e → IsFailure Q states e
 failure_follows R Q states f (RefusedBy state token) h = (h.0, h.1, f (Refused h.0 token) h.2)
 failure_follows R Q states f LimitPassed h = f Limit h
 failure_follows R Q states f Memory h = h

@@ -1,10 +1,9 @@
 -- What a run over coherent states answers: trees built of productions, over the input, with a node for each step.
-use Rattle.std.proofs.Common.{◌≡◌, ℕ, zero, suc, ◌+◌, ◌<◌, ◌≤◌, List, [], ◌∷◌, ◌++◌, map, append_assoc, append-nil, sym, subst, refl, ap, ap₂, ◌∙◌, Option, Some, None, arith}
+use Rattle.std.proofs.Common.{◌≡◌, ℕ, Bool, zero, suc, ◌+◌, ◌<◌, ◌≤◌, List, [], ◌∷◌, ◌++◌, map, append_assoc, append-nil, sym, subst, refl, ap, ap₂, ◌∙◌, Option, Some, None, arith}
 use Rattle.std.specs.Prelude.{Contains, slice_get}
 use Rattle.std.specs.List.{flat_map}
 use Rattle.std.specs.Borrow.{Bor}
-use Rattle.lalrpop_base.specs.Bits.{Bits}
-use Rattle.lalrpop_base.specs.Contents.{holds_token, contents, contents_at, reduction_of, reduced_productions}
+use Rattle.lalrpop_base.specs.Contents.{contents_in, contents_at, reduction_of, reduced_productions}
 use Rattle.lalrpop_base.specs.States.{Contents, Reduction}
 use Rattle.lalrpop_base.specs.Trees.{Tree, Leaf, Node, Trees, no_trees, beside, trees_of, leaves, nodes, IsNode, AreOfGrammar}
 use Rattle.lalrpop_base.specs.Runs.{Configuration, reduction_on, Goes, Ends, goes_on, reduces, shifts_or, moves_on, move, Reaches, here, further, begin, Parsed, HasOutcome, parsed}
@@ -197,13 +196,13 @@ in_flat {X} f (z ∷ xs) zero x y e h =
 in_flat f (z ∷ xs) (suc k) x y e h = behind (f z) (flat_map f xs) y (in_flat f xs k x y e h)
 
 -- each reduction is by one of the productions by which states reduce
-pub reduces_by : (terminals : List TerminalString) (states : List (State Bits)) (n : ℕ) (r : Reduction) → Contains (contents terminals states n).reductions r → Contains (reduced_productions states) r.production
-reduces_by terminals states n r h = go (slice_get states n) refl h
+pub reduces_by : {L : Type 0} (holds : L → Token → Bool) (states : List (State L)) (n : ℕ) (r : Reduction) → Contains (contents_in holds states n).reductions r → Contains (reduced_productions states) r.production
+reduces_by {L} holds states n r h = go (slice_get states n) refl h
   where
-    go : (o : Option (State Bits)) → slice_get states n ≡ o → Contains (contents_at (holds_token terminals) o).reductions r → Contains (reduced_productions states) r.production
+    go : (o : Option (State L)) → slice_get states n ≡ o → Contains (contents_at holds o).reductions r → Contains (reduced_productions states) r.production
     go None e k = absurd (let l : k.0 < 0 = k.1 in omega arith)
     go (Some s) e k =
-        let (pair, there, same) = contains_of_map (reduction_of (holds_token terminals)) s.reductions.items r k in
-        let named : Contains (map (λ (q : Bits × Bor Production). q.1.now) s.reductions.items) pair.1.now = contains_map (λ (q : Bits × Bor Production). q.1.now) s.reductions.items pair there in
-        let (j, at) = in_flat (λ (x : State Bits). map (λ (q : Bits × Bor Production). q.1.now) x.reductions.items) states n s pair.1.now e named in
+        let (pair, there, same) = contains_of_map (reduction_of holds) s.reductions.items r k in
+        let named : Contains (map (λ (q : L × Bor Production). q.1.now) s.reductions.items) pair.1.now = contains_map (λ (q : L × Bor Production). q.1.now) s.reductions.items pair there in
+        let (j, at) = in_flat (λ (x : State L). map (λ (q : L × Bor Production). q.1.now) x.reductions.items) states n s pair.1.now e named in
         subst (Contains (reduced_productions states)) (ap (λ (q : Reduction). q.production) same) (at_contains (reduced_productions states) j pair.1.now at)

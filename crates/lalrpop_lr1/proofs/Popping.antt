@@ -5,7 +5,6 @@ use Rattle.std.specs.BTreeMap.{get}
 use Rattle.std.proofs.lemmas.List.{reverse-append, reverse-reverse, length-reverse, take-map, drop-map, length-map, map-append, take-append-drop}
 use Rattle.std.proofs.Math.ListN.{length-drop}
 use Rattle.std.proofs.Math.Seq.{take-append_seam, drop-append_seam}
-use Rattle.lalrpop_base.specs.Bits.{Bits}
 use Rattle.lalrpop_base.specs.Contents.{number_of, contents_at, contents_in}
 use Rattle.lalrpop_base.specs.Runs.{Goes, Ends, reduced, goes_on, received}
 use Rattle.lalrpop_base.specs.Trees.{Tree, Node, trees_of}
@@ -119,7 +118,7 @@ topped stack top some at = go (ended stack) some at
         (numbers xs, numbers_more xs x ∙ ap (λ (y : StateIndex). y.0 ∷ numbers xs) same)
 
 -- the state that receives a reduction goes on by its goto
-pub received_by : (holds : Bits → Token → Bool) (states : List (State Bits)) (p : Production) (number : ℕ) (under : List ℕ) (state : State Bits) (stack : List ℕ) (trees : List Tree) (rest : List TerminalString) →
+pub received_by : {L : Type 0} (holds : L → Token → Bool) (states : List (State L)) (p : Production) (number : ℕ) (under : List ℕ) (state : State L) (stack : List ℕ) (trees : List Tree) (rest : List TerminalString) →
     stack ≡ number ∷ under → slice_get states number ≡ Some state → received (contents_in holds states) p stack trees rest ≡ goes_on (option_map number_of (get name_cmp state.gotos p.nonterminal)) number under trees rest
 received_by holds states p number under state stack trees rest e there =
     ap (λ l. received (contents_in holds states) p l trees rest) e
@@ -132,7 +131,7 @@ stands_in (suc m) [] j x e = e
 stands_in (suc m) (y ∷ xs) zero x e = e
 stands_in (suc m) (y ∷ xs) (suc j) x e = stands_in m xs j x e
 
-module _ (holds : Bits → Token → Bool) (states : List (State Bits)) (p : Production) (number : ℕ) (under : List ℕ) (state : State Bits) (stack : List ℕ) (trees : List Tree) (rest : List TerminalString) where
+module _ {L : Type 0} (holds : L → Token → Bool) (states : List (State L)) (p : Production) (number : ℕ) (under : List ℕ) (state : State L) (stack : List ℕ) (trees : List Tree) (rest : List TerminalString) where
   pub goes_to : (target : StateIndex) → stack ≡ number ∷ under → slice_get states number ≡ Some state → get name_cmp state.gotos p.nonterminal ≡ Some target →
       received (contents_in holds states) p stack trees rest ≡ Goes (record { state = target.0; below = stack; trees = trees; rest = rest })
   goes_to target e there goto =

@@ -1,6 +1,5 @@
 -- What an answer says where the states are faithful to a grammar. The parser is handed no grammar, so each holds of whatever grammar the states are faithful to.
 use Rattle.std.specs.Prelude.{◌≡◌, ◌≢◌, ℕ, ◌<◌, ◌≤◌, Bool, List, slice_get, Some, Result, Ok, Err}
-use Rattle.lalrpop_base.specs.Bits.{Bits}
 use Rattle.lalrpop_base.specs.Grammar.{IsOnNoRightSide}
 use Rattle.lalrpop_base.specs.Laws.{AreCanonicalWith}
 use Rattle.lalrpop_base.specs.Runs.{Configuration, Stands, move, Reaches, begin}
@@ -41,30 +40,30 @@ pub record IsCutOff (states : ℕ → Contents) (w : List TerminalString) (limit
   pub another : move states last ≢ Stands
 
 -- the answer for a list with a parse tree: the tree, if its nodes are within the limit, and else `Limit`. Want of memory tells nothing
-abbrev pub IsAnswerFor : Tree → ℕ → Result ParseTree InterpretError → Type 0
+abbrev pub IsAnswerFor : {L : Type 0} → Tree → ℕ → Result ParseTree (InterpretError L) → Type 0
 IsAnswerFor t limit (Ok tree) = (tree_of tree ≡ t) × (nodes (beside t no_trees) ≤ limit)
 IsAnswerFor t limit (Err (Refused state token)) = ⊥
 IsAnswerFor t limit (Err Limit) = limit < nodes (beside t no_trees)
 IsAnswerFor t limit (Err Memory) = Unit {0}
 
 -- each list with a parse tree has its answer
-abbrev pub AnswersTrees : ℕ → List TerminalString → Result ParseTree InterpretError → List Production → NonterminalString → Type 0
+abbrev pub AnswersTrees : {L : Type 0} → ℕ → List TerminalString → Result ParseTree (InterpretError L) → List Production → NonterminalString → Type 0
 AnswersTrees limit w answer g start = (t : Tree) → IsParseTree g start w t → IsAnswerFor t limit answer
 
 -- a refusal is by a state of the list and at a token for which something holds
-abbrev pub IfRefused : (ℕ → Token → Type 0) → List (State Bits) → InterpretError → Type 0
+abbrev pub IfRefused : {L : Type 0} → (ℕ → Token → Type 0) → List (State L) → InterpretError L → Type 0
 IfRefused P states (Refused state token) = (n : ℕ) × (slice_get states n ≡ Some state.now) × P n token
 IfRefused P states Limit = Unit {0}
 IfRefused P states Memory = Unit {0}
 
 -- something holds where the limit is told
-abbrev pub IfLimit : Type 0 → InterpretError → Type 0
+abbrev pub IfLimit : {L : Type 0} → Type 0 → InterpretError L → Type 0
 IfLimit P (Refused state token) = Unit {0}
 IfLimit P Limit = P
 IfLimit P Memory = Unit {0}
 
 -- the limit is told, but for want of memory
-abbrev pub IsLimit : Result ParseTree InterpretError → Type 0
+abbrev pub IsLimit : {L : Type 0} → Result ParseTree (InterpretError L) → Type 0
 IsLimit (Ok tree) = ⊥
 IsLimit (Err (Refused state token)) = ⊥
 IsLimit (Err Limit) = Unit {0}

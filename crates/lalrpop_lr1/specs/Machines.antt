@@ -1,5 +1,6 @@
 -- The code's stack, as a configuration.
-use Rattle.std.specs.Prelude.{◌≡◌, ◌≢◌, ℕ, suc, ◌+◌, ◌<◌, ◌≤◌, List, [], ◌∷◌, ◌++◌, length, map, reverse, Some}
+use Rattle.std.specs.Prelude.{◌≡◌, ◌≢◌, ℕ, suc, ◌+◌, ◌<◌, ◌≤◌, List, [], ◌∷◌, ◌++◌, length, map, reverse, Option, Some, None}
+use Rattle.std.specs.BTreeMap.{get}
 use Rattle.lalrpop_base.specs.Contents.{number_of}
 use Rattle.lalrpop_base.specs.Each.{EachItem}
 use Rattle.lalrpop_base.specs.States.{Contents, leads}
@@ -7,6 +8,9 @@ use Rattle.lalrpop_base.specs.Trees.{Tree, Leaf, root}
 use Rattle.lalrpop_base.specs.Runs.{Configuration, reduction_on, reduces, Move, Stands, Goes, Ends}
 use Rattle.lalrpop_base.specs.declared.repr.TerminalString.{TerminalString}
 use Rattle.lalrpop_base.specs.declared.lookahead.token.Token.{Token}
+use Rattle.lalrpop_base.specs.contracts.repr.TerminalStringOrd.TheImpl as terminal_ord
+use Rattle.lalrpop_base.specs.declared.lookahead.token.Token.TheVariants.{Eof, Error, Terminal as TokenOf}
+use Rattle.lalrpop_base.specs.declared.lr1_core.state.State.{State}
 use Rattle.lalrpop_base.specs.declared.lr1_core.state.StateIndex.{StateIndex}
 use Rattle.lalrpop_lr1.specs.ParseTrees.{tree_of}
 use Rattle.lalrpop_lr1.specs.Reading.{Reads}
@@ -50,6 +54,12 @@ pub record CanPop (count : ℕ) (m : Machine) (popped : ℕ) : Type 0 where
   pub states : popped ≤ length m.below.items
   pub within : EachItem (λ (s : StateIndex). s.0 < count) (m.below.items ++ m.state ∷ [])
 
+-- where a state shifts a token, if it does
+abbrev pub shift_on : {L : Type 0} → State L → Token → Option StateIndex
+shift_on state Eof = None
+shift_on state Error = None
+shift_on state (TokenOf t) = get terminal_ord.ghosts.cmp state.shifts t
+
 -- where the first reduction on a token leads, if there is one
 abbrev pub reduction_move : (ℕ → Contents) → Configuration → Token → Move
 reduction_move states c token = reduces states c (reduction_on (states c.state).reductions token)
@@ -61,13 +71,13 @@ IsProgress states old token rest new GoesOn = (reduction_move states (configurat
 IsProgress states old token rest new Ended = (reduction_move states (configuration old rest) token ≡ Ends (trees_on new.trees.items)) × (0 < old.left)
 
 -- a reduction was not made: there is one, and no step is left for it
-abbrev pub IsHalted : (ℕ → Contents) → Machine → Token → List TerminalString → InterpretError → Type 0
+abbrev pub IsHalted : {L : Type 0} → (ℕ → Contents) → Machine → Token → List TerminalString → InterpretError L → Type 0
 IsHalted states old token rest (Refused state t) = ⊥
 IsHalted states old token rest Limit = (reduction_move states (configuration old rest) token ≢ Stands) × (old.left ≡ 0)
 IsHalted states old token rest Memory = Unit {0}
 
 -- a shift was not made, since no step is left for it
-abbrev pub IsSpent : Machine → InterpretError → Type 0
+abbrev pub IsSpent : {L : Type 0} → Machine → InterpretError L → Type 0
 IsSpent old (Refused state t) = ⊥
 IsSpent old Limit = old.left ≡ 0
 IsSpent old Memory = Unit {0}

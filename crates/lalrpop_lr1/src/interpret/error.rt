@@ -3,23 +3,26 @@ ghost use Rattle.std.specs.Prelude.{◌≡◌};
 ghost use Rattle.lalrpop_lr1.specs.declared.interpret.error.InterpretError.TheVariants.{Memory};
 
 use lalrpop_base::lookahead::token::Token;
-use lalrpop_base::lr1_core::state::Lr1State;
+use lalrpop_base::lr1_core::state::State;
 use lalrpop_base::memory::OutOfMemory;
 use std::alloc::{AllocError, AllocFailed};
+use std::fmt;
 use thiserror::Error;
 
 /// A state had no step on a token or ended the parse there, too many steps were asked for, or a growth was refused.
-#[derive(Debug, Drop, Error)]
-pub enum InterpretError<'a, 'grammar> {
+#[derive(Drop, Error)]
+#[derive_where(Debug; L: fmt::Debug)]
+#[error_bound(L: fmt::Debug)]
+pub enum InterpretError<'a, 'grammar, L> {
     #[error("refused at {1}")]
-    Refused(&'a Lr1State<'grammar>, Token),
+    Refused(&'a State<'grammar, L>, Token),
     #[error("limit")]
     Limit,
     #[error("out of memory")]
     Memory,
 }
 
-impl<'a, 'grammar> From<OutOfMemory> for InterpretError<'a, 'grammar> {
+impl<'a, 'grammar, L> From<OutOfMemory> for InterpretError<'a, 'grammar, L> {
     ghost from_gives = { λ _ e. e ≡ Memory };
 
     fn from(_error: OutOfMemory) -> Self {
@@ -27,7 +30,7 @@ impl<'a, 'grammar> From<OutOfMemory> for InterpretError<'a, 'grammar> {
     }
 }
 
-impl<'a, 'grammar> From<AllocError> for InterpretError<'a, 'grammar> {
+impl<'a, 'grammar, L> From<AllocError> for InterpretError<'a, 'grammar, L> {
     ghost from_gives = { λ _ e. e ≡ Memory };
 
     fn from(_error: AllocError) -> Self {
@@ -35,7 +38,7 @@ impl<'a, 'grammar> From<AllocError> for InterpretError<'a, 'grammar> {
     }
 }
 
-impl<'a, 'grammar, T: Drop> From<AllocFailed<T>> for InterpretError<'a, 'grammar> {
+impl<'a, 'grammar, L, T: Drop> From<AllocFailed<T>> for InterpretError<'a, 'grammar, L> {
     ghost from_gives = { λ _ e. e ≡ Memory };
 
     fn from(_error: AllocFailed<T>) -> Self {

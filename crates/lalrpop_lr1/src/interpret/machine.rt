@@ -1,23 +1,23 @@
 //! A run of the parser.
 ghost use Rattle.std.specs.Prelude.{◌≡◌, ◌+◌, ◌<◌, ◌≤◌, ℕ, suc, List, [], ◌∷◌, ◌++◌, length, drop, slice_get, Some, cond, OnOk, IfOk, IfErr, IfSome, IsNone};
 ghost use Rattle.lalrpop_base.specs.Coherent.{AreCoherent};
-ghost use Rattle.lalrpop_base.specs.Contents.{contents};
+ghost use Rattle.lalrpop_base.specs.Contents.{contents_in};
 ghost use Rattle.lalrpop_base.specs.Runs.{received, reduced, Goes, Ends, HasOutcome};
 ghost use Rattle.lalrpop_base.specs.Tokens.{IsTerminal};
 ghost use Rattle.lalrpop_base.specs.Trees.{Tree, Leaf};
 ghost use Rattle.lalrpop_base.specs.declared.repr.TerminalString.{TerminalString};
 ghost use Rattle.lalrpop_base.specs.declared.lookahead.token.Token.{Token};
 ghost use Rattle.lalrpop_lr1.specs.Answers.{IsAnswer, IsFailure};
-ghost use Rattle.lalrpop_lr1.specs.Machines.{numbers, trees_on, configuration, CanPop, IsAtStart, IsStacked, IsProgress, IsHalted, IsSpent, IsShifted, HasRead};
+ghost use Rattle.lalrpop_lr1.specs.Machines.{numbers, trees_on, configuration, CanPop, IsAtStart, IsStacked, IsProgress, IsHalted, IsSpent, IsShifted, HasRead, shift_on};
 ghost use Rattle.lalrpop_lr1.specs.ParseTrees.{tree_of};
 ghost use Rattle.lalrpop_lr1.specs.Reading.{StopsReading};
 ghost use Rattle.lalrpop_lr1.specs.Steps.{HasOutcomeFrom};
 
 use super::error::InterpretError;
-use super::reduction;
+use super::lookahead::LookaheadInterpret;
 use super::tree::ParseTree;
 use lalrpop_base::lookahead::token::Token;
-use lalrpop_base::lr1_core::state::{Lr1State, StateIndex};
+use lalrpop_base::lr1_core::state::{State, StateIndex};
 use lalrpop_base::memory::OutOfMemory;
 use lalrpop_base::repr::terminals::TerminalSet;
 use lalrpop_base::repr::{Production, TerminalString};
@@ -63,7 +63,7 @@ impl Machine {
     }
 
     // The state on top.
-    fn top<'a, 'grammar>(&self, states: &'a [Lr1State<'grammar>]) -> &'a Lr1State<'grammar>
+    fn top<'a, 'grammar, L>(&self, states: &'a [State<'grammar, L>]) -> &'a State<'grammar, L>
         requires { self.now.state.0 < length states.now }
         ensures { slice_get states.now self.now.state.0 ≡ Some result.now }
     {
@@ -90,14 +90,14 @@ impl Machine {
     }
 
     // Reduces by a production, and goes on where the state that is then on top has a goto.
-    fn reduce<'grammar>(
+    fn reduce<'grammar, L: LookaheadInterpret>(
         &mut self,
         alloc: Global,
-        states: &[Lr1State<'grammar>],
+        states: &[State<'grammar, L>],
         production: &Production,
     ) -> Result<bool, OutOfMemory>
         requires { CanPop (length states.now) self.old (length production.now.symbols) }
-        ensures made { IfOk result (λ goes_on. (terminals : List TerminalString) (rest : List TerminalString) → received (contents terminals states.now) production.now (drop (length production.now.symbols) (self.old.state.0 ∷ numbers self.old.below.items)) (reduced production.now (trees_on self.old.trees.items)) rest ≡ cond goes_on (Goes (configuration self.new rest)) (Ends (trees_on self.new.trees.items))) }
+        ensures made { IfOk result (λ goes_on. (terminals : List TerminalString) (rest : List TerminalString) → received (contents_in (L.holds terminals) states.now) production.now (drop (length production.now.symbols) (self.old.state.0 ∷ numbers self.old.below.items)) (reduced production.now (trees_on self.old.trees.items)) rest ≡ cond goes_on (Goes (configuration self.new rest)) (Ends (trees_on self.new.trees.items))) }
         ensures left { self.new.left ≡ self.old.left }
     {
         let receiving = self.gather(alloc, production)?;
@@ -111,20 +111,20 @@ impl Machine {
     }
 
     // Makes the reduction that the top state has on a token, if it has one.
-    fn reduce_on<'a, 'grammar>(
+    fn reduce_on<'a, 'grammar, L: LookaheadInterpret>(
         &mut self,
         alloc: Global,
-        states: &'a [Lr1State<'grammar>],
+        states: &'a [State<'grammar, L>],
         terminals: &TerminalSet,
         token: &Token,
-    ) -> Result<Progress, InterpretError<'a, 'grammar>>
+    ) -> Result<Progress, InterpretError<'a, 'grammar, L>>
         requires coherent { AreCoherent states.now }
         requires some { 0 < length states.now }
-        requires stacked { IsStacked (contents terminals.now states.now) self.old }
-        ensures made { IfOk result (λ progress. (rest : List TerminalString) → IsProgress (contents terminals.now states.now) self.old token.now rest self.new progress) }
-        ensures halted { IfErr result (λ e. (rest : List TerminalString) → IsHalted (contents terminals.now states.now) self.old token.now rest e) }
+        requires stacked { IsStacked (contents_in (L.holds terminals.now) states.now) self.old }
+        ensures made { IfOk result (λ progress. (rest : List TerminalString) → IsProgress (contents_in (L.holds terminals.now) states.now) self.old token.now rest self.new progress) }
+        ensures halted { IfErr result (λ e. (rest : List TerminalString) → IsHalted (contents_in (L.holds terminals.now) states.now) self.old token.now rest e) }
     {
-        match reduction(self.top(states), token, terminals) {
+        match L::reduction(self.top(states), token, terminals) {
             Some(production) => {
                 if self.left == 0 {
                     return Err(InterpretError::Limit);
@@ -141,11 +141,11 @@ impl Machine {
     }
 
     // Puts a terminal and the state to which it leads on top.
-    fn push<'a, 'grammar>(
+    fn push<'a, 'grammar, L>(
         &mut self,
         target: StateIndex,
         terminal: TerminalString,
-    ) -> Result<(), InterpretError<'a, 'grammar>>
+    ) -> Result<(), InterpretError<'a, 'grammar, L>>
         ensures made { OnOk result (IsShifted self.old target.0 terminal self.new) }
         ensures spent { IfErr result (IsSpent self.old) }
     {
@@ -160,24 +160,24 @@ impl Machine {
     }
 
     // Reduces before a terminal until it can be shifted, and shifts it.
-    fn shift<'a, 'grammar>(
+    fn shift<'a, 'grammar, L: LookaheadInterpret>(
         &mut self,
         alloc: Global,
-        states: &'a [Lr1State<'grammar>],
+        states: &'a [State<'grammar, L>],
         terminals: &TerminalSet,
         terminal: TerminalString,
-    ) -> Result<(), InterpretError<'a, 'grammar>>
+    ) -> Result<(), InterpretError<'a, 'grammar, L>>
         requires coherent { AreCoherent states.now }
         requires some { 0 < length states.now }
-        requires stacked { IsStacked (contents terminals.now states.now) self.old }
-        ensures shifted { OnOk result ((rest : List TerminalString) → HasRead (contents terminals.now states.now) (configuration self.old (terminal ∷ rest)) self.old.left self.new rest) }
-        ensures stopped { IfErr result (λ e. (rest : List TerminalString) → IsFailure (StopsReading (contents terminals.now states.now) (configuration self.old (terminal ∷ rest)) self.old.left) states.now e) }
+        requires stacked { IsStacked (contents_in (L.holds terminals.now) states.now) self.old }
+        ensures shifted { OnOk result ((rest : List TerminalString) → HasRead (contents_in (L.holds terminals.now) states.now) (configuration self.old (terminal ∷ rest)) self.old.left self.new rest) }
+        ensures stopped { IfErr result (λ e. (rest : List TerminalString) → IsFailure (StopsReading (contents_in (L.holds terminals.now) states.now) (configuration self.old (terminal ∷ rest)) self.old.left) states.now e) }
     {
         let token = Token::Terminal(terminal);
         'reducing: loop {
             let state = self.top(states);
-            if let Some(target) = state.shifts.get(token.unwrap_terminal()) {
-                return self.push(*target, into_terminal(token));
+            if let Some(target) = shift_target(state, &token) {
+                return self.push(target, into_terminal(token));
             }
             match self.reduce_on(alloc, states, terminals, &token)? {
                 Progress::GoesOn => {}
@@ -189,35 +189,35 @@ impl Machine {
     }
 
     /// Shifts all terminals, and reduces before the end of the input until the parse ends.
-    pub(crate) fn run<'a, 'grammar>(
+    pub(crate) fn run<'a, 'grammar, L: LookaheadInterpret>(
         mut self,
         alloc: Global,
-        states: &'a [Lr1State<'grammar>],
+        states: &'a [State<'grammar, L>],
         terminals: &TerminalSet,
         tokens: Vec<TerminalString>,
-    ) -> Result<ParseTree, InterpretError<'a, 'grammar>>
+    ) -> Result<ParseTree, InterpretError<'a, 'grammar, L>>
         requires coherent { AreCoherent states.now }
         requires some { 0 < length states.now }
         requires start { IsAtStart self }
-        ensures { IsAnswer (HasOutcome (contents terminals.now states.now) tokens.items self.left) states.now result }
+        ensures { IsAnswer (HasOutcome (contents_in (L.holds terminals.now) states.now) tokens.items self.left) states.now result }
     {
         self.shift_all(alloc, states, terminals, tokens)?;
         self.finish(alloc, states, terminals)
     }
 
     /// Shifts all terminals in turn.
-    pub(crate) fn shift_all<'a, 'grammar>(
+    pub(crate) fn shift_all<'a, 'grammar, L: LookaheadInterpret>(
         &mut self,
         alloc: Global,
-        states: &'a [Lr1State<'grammar>],
+        states: &'a [State<'grammar, L>],
         terminals: &TerminalSet,
         tokens: Vec<TerminalString>,
-    ) -> Result<(), InterpretError<'a, 'grammar>>
+    ) -> Result<(), InterpretError<'a, 'grammar, L>>
         requires coherent { AreCoherent states.now }
         requires some { 0 < length states.now }
-        requires stacked { IsStacked (contents terminals.now states.now) self.old }
-        ensures shifted { OnOk result (HasRead (contents terminals.now states.now) (configuration self.old tokens.items) self.old.left self.new []) }
-        ensures stopped { IfErr result (λ e. IsFailure (StopsReading (contents terminals.now states.now) (configuration self.old tokens.items) self.old.left) states.now e) }
+        requires stacked { IsStacked (contents_in (L.holds terminals.now) states.now) self.old }
+        ensures shifted { OnOk result (HasRead (contents_in (L.holds terminals.now) states.now) (configuration self.old tokens.items) self.old.left self.new []) }
+        ensures stopped { IfErr result (λ e. IsFailure (StopsReading (contents_in (L.holds terminals.now) states.now) (configuration self.old tokens.items) self.old.left) states.now e) }
     {
         for terminal in tokens {
             self.shift(alloc, states, terminals, terminal)?;
@@ -226,16 +226,16 @@ impl Machine {
     }
 
     /// Reduces before the end of the input until the parse ends.
-    pub(crate) fn finish<'a, 'grammar>(
+    pub(crate) fn finish<'a, 'grammar, L: LookaheadInterpret>(
         mut self,
         alloc: Global,
-        states: &'a [Lr1State<'grammar>],
+        states: &'a [State<'grammar, L>],
         terminals: &TerminalSet,
-    ) -> Result<ParseTree, InterpretError<'a, 'grammar>>
+    ) -> Result<ParseTree, InterpretError<'a, 'grammar, L>>
         requires coherent { AreCoherent states.now }
         requires some { 0 < length states.now }
-        requires stacked { IsStacked (contents terminals.now states.now) self }
-        ensures { IsAnswer (HasOutcomeFrom (contents terminals.now states.now) (configuration self []) self.left) states.now result }
+        requires stacked { IsStacked (contents_in (L.holds terminals.now) states.now) self }
+        ensures { IsAnswer (HasOutcomeFrom (contents_in (L.holds terminals.now) states.now) (configuration self []) self.left) states.now result }
     {
         'reducing: loop {
             let state = self.top(states);
@@ -248,6 +248,17 @@ impl Machine {
                 }
             }
         }
+    }
+}
+
+// Where a state shifts a token, if it does.
+fn shift_target<'grammar, L>(state: &State<'grammar, L>, token: &Token) -> Option<StateIndex>
+    ensures { result ≡ shift_on state.now token.now }
+{
+    match token {
+        Token::Terminal(terminal) => state.shifts.get(terminal).copied(),
+        Token::Eof => None,
+        Token::Error => None,
     }
 }
 

@@ -1,14 +1,14 @@
 use Rattle.std.proofs.Common.{[]}
-use Rattle.lalrpop_base.specs.Contents.{contents}
+use Rattle.lalrpop_base.specs.Contents.{contents_in}
 use Rattle.lalrpop_lr1.specs.Machines.{configuration, IsStacked}
 use Rattle.lalrpop_lr1.proofs.MachineRuns.{HasReached}
 use Rattle.lalrpop_lr1.proofs.interpret.machine.Machine.finish.Given as goal
 
 abbrev pub invariant-reducing : goal.invariant-reducing
-invariant-reducing l = record {
-  stacked : IsStacked (contents l.terminals l.states) l.self;
-  reached : HasReached (contents l.terminals l.states) (configuration l.fn.self []) l.fn.self.left l.self;
+invariant-reducing g l = record {
+  stacked : IsStacked (contents_in (g.L.LookaheadInterpret.holds l.terminals) l.states) l.self;
+  reached : HasReached (contents_in (g.L.LookaheadInterpret.holds l.terminals) l.states) (configuration l.fn.self []) l.fn.self.left l.self;
 }
 
 abbrev pub decreases-reducing : goal.decreases-reducing
-decreases-reducing l = l.self.left
+decreases-reducing g l = l.self.left

@@ -1,16 +1,16 @@
 use Rattle.std.proofs.Common.{◌≡◌, List, ◌∷◌}
-use Rattle.lalrpop_base.specs.Contents.{contents}
+use Rattle.lalrpop_base.specs.Contents.{contents_in}
 use Rattle.lalrpop_base.specs.declared.repr.TerminalString.{TerminalString}
 use Rattle.lalrpop_base.specs.declared.lookahead.token.Token.TheVariants.{Terminal}
 use Rattle.lalrpop_lr1.specs.Machines.{configuration, IsStacked, HasRead}
 use Rattle.lalrpop_lr1.proofs.interpret.machine.Machine.shift.Given as goal
 
 abbrev pub invariant-reducing : goal.invariant-reducing
-invariant-reducing l = record {
+invariant-reducing g l = record {
   token : l.token ≡ Terminal l.fn.terminal;
-  stacked : IsStacked (contents l.terminals l.states) l.self;
-  read : (rest : List TerminalString) → HasRead (contents l.terminals l.states) (configuration l.fn.self (l.fn.terminal ∷ rest)) l.fn.self.left l.self (l.fn.terminal ∷ rest);
+  stacked : IsStacked (contents_in (g.L.LookaheadInterpret.holds l.terminals) l.states) l.self;
+  read : (rest : List TerminalString) → HasRead (contents_in (g.L.LookaheadInterpret.holds l.terminals) l.states) (configuration l.fn.self (l.fn.terminal ∷ rest)) l.fn.self.left l.self (l.fn.terminal ∷ rest);
 }
 
 abbrev pub decreases-reducing : goal.decreases-reducing
-decreases-reducing l = l.self.left
+decreases-reducing g l = l.self.left

@@ -1,7 +1,7 @@
 use Rattle.std.proofs.Common.{◌≡◌, drop, map}
 use Rattle.lalrpop_base.specs.Contents.{holds_token, reduction_of}
 use Rattle.lalrpop_base.specs.Runs.{reduction_on}
-use Rattle.lalrpop_lr1.proofs.interpret.reduction.Given as goal
+use Rattle.lalrpop_lr1.proofs.interpret.lookahead.TokenSetLookaheadInterpret.reduction.Given as goal
 
 -- the first reduction among those that are left is the first of all
 abbrev pub invariant-loop-reduction : goal.invariant-loop-reduction
