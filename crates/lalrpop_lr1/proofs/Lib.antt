@@ -6,3 +6,4 @@ pub mod MachineRuns
 pub mod Parses
 pub mod Interpreted
 pub mod FaithfulAnswers
+pub mod ToldByTables
