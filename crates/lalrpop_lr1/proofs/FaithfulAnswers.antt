@@ -1,7 +1,7 @@
 -- From the outcome of a run, what an answer says of a grammar to which the states are faithful.
-use Rattle.std.proofs.Common.{◌≡◌, ℕ, zero, suc, ◌<◌, ◌≤◌, ◌⊎◌, inl, inr, List, [], ◌∷◌, true, refl, sym, ap, ◌∙◌, arith}
+use Rattle.std.proofs.Common.{◌≡◌, ℕ, zero, suc, ◌<◌, ◌≤◌, ◌⊎◌, inl, inr, List, [], ◌∷◌, ◌+◌, true, refl, sym, ap, subst, ◌∙◌, arith}
 use Rattle.std.specs.Prelude.{Result, Ok, Err, IfOk, IfErr}
-use Rattle.lalrpop_base.specs.Runs.{Configuration, begin, Stands, Ends, move, Reaches, Outcome, Parsed, Refused, Limit, HasOutcome, cut_off, IsFirstWrong, IsPromptRefusal}
+use Rattle.lalrpop_base.specs.Runs.{Configuration, begin, Stands, Ends, move, Reaches, here, Outcome, Parsed, Refused, Limit, HasOutcome, cut_off, IsFirstWrong, IsPromptRefusal}
 use Rattle.lalrpop_base.specs.States.{Contents, AreFaithful}
 use Rattle.lalrpop_base.specs.Grammar.{IsOnNoRightSide}
 use Rattle.lalrpop_base.specs.Trees.{Tree, beside, no_trees, nodes, IsParseTree}
@@ -15,7 +15,11 @@ use Rattle.lalrpop_base.proofs.theory.Refusals.{refused_wrong}
 use Rattle.lalrpop_base.proofs.theory.Runs.{answered_is_tree, answered_within}
 use Rattle.lalrpop_base.proofs.theory.Sentences.{EndsWith, one_tree, tree_parsed, tree_run}
 use Rattle.lalrpop_base.proofs.theory.Steps.{ends_halts, stands_halts, together}
-use Rattle.lalrpop_lr1.specs.Answers.{IsAnswer}
+use Rattle.std.specs.declared.vec.Vec.{Vec}
+use Rattle.lalrpop_base.specs.declared.lr1_core.state.StateIndex.{StateIndex}
+use Rattle.lalrpop_lr1.specs.Answers.{IsAnswer, IsPartialAnswer}
+use Rattle.lalrpop_lr1.specs.Reading.{StopsReading, PartialOutcome, Stack, Stop, HasPartialOutcome, all_read, stopped}
+use Rattle.lalrpop_lr1.proofs.Outcomes.{stop_outcome, whole_outcome}
 use Rattle.lalrpop_lr1.specs.FaithfulAnswers.{ForEachGrammar, ForEachCanonical, HasOneTree, IsTreeWithin, IsCutOff, IsAnswerFor, AnswersTrees, IfRefused, IfLimit, IsLimit}
 use Rattle.lalrpop_lr1.specs.ParseTrees.{tree_of}
 use Rattle.lalrpop_lr1.specs.declared.interpret.error.InterpretError.{InterpretError}
@@ -32,6 +36,13 @@ less_or_not (suc n) (suc m) = elim (less_or_not n m) [
 
 pub trees_are_one : (table : ℕ → Contents) (w : List TerminalString) → ForEachGrammar table (HasOneTree w)
 trees_are_one table w g start faithful alone = one_tree g start table faithful alone w
+
+abbrev stop_in : Outcome → PartialOutcome → Outcome
+stop_in o (Stack states) = o
+stop_in o (Stop p) = p
+
+stop_same : {o p : Outcome} → Stop o ≡ Stop p → o ≡ p
+stop_same {o} e = ap (stop_in o) e
 
 -- a run that is cut off has told the limit
 was_cut_off : {table : ℕ → Contents} {w : List TerminalString} {limit : ℕ} {o : Outcome} → HasOutcome table w limit o → o ≡ Limit → IsCutOff table w limit
@@ -113,3 +124,23 @@ module _ {L : Type 0} (table : ℕ → Contents) (states : List (State L)) (w : 
   refusal_prompt (Err (RefusedBy state token)) h = (h.0, h.1, λ g start tokens canonical lr1 alone. refused_promptly g start table (λ n p dot t. tokens n p dot t ≡ true) canonical lr1 alone w limit h.0 token h.2)
   refusal_prompt (Err LimitPassed) h = tt
   refusal_prompt (Err Memory) h = tt
+
+  -- the same of the stack that is left without the end of the input
+  pub stop_is_outcome : (o : Outcome) → HasPartialOutcome table (begin w) limit (Stop o) → HasOutcome table w limit o
+  stop_is_outcome o h = go (Stop o) o h refl
+    where
+      go : (p : PartialOutcome) (o : Outcome) → HasPartialOutcome table (begin w) limit p → p ≡ Stop o → HasOutcome table w limit o
+      go _ o (all_read n c l r e) same = cc
+      go _ o (stopped q k) same = whole_outcome {k = 0} here (let whole : 0 + limit ≡ limit = omega arith in whole) (stop_outcome (subst (StopsReading table (begin w) limit) (stop_same same) k))
+
+  pub stop_limit : {A : Type 0} (answer : Result (Vec StateIndex A) (InterpretError L)) → IsPartialAnswer (HasPartialOutcome table (begin w) limit) states answer → IfErr answer (IfLimit (IsCutOff table w limit))
+  stop_limit (Ok stack) h = tt
+  stop_limit (Err (RefusedBy state token)) h = tt
+  stop_limit (Err LimitPassed) h = was_cut_off (stop_is_outcome Limit h) refl
+  stop_limit (Err Memory) h = tt
+
+  pub stop_wrong : {A : Type 0} (answer : Result (Vec StateIndex A) (InterpretError L)) → IsPartialAnswer (HasPartialOutcome table (begin w) limit) states answer → IfErr answer (IfRefused (λ _ token. ForEachGrammar table (λ g start. IsFirstWrong g start w token)) states)
+  stop_wrong (Ok stack) h = tt
+  stop_wrong (Err (RefusedBy state token)) h = (h.0, h.1, λ g start faithful alone. refused_wrong g start table faithful alone w limit h.0 token (stop_is_outcome (Refused h.0 token) h.2))
+  stop_wrong (Err LimitPassed) h = tt
+  stop_wrong (Err Memory) h = tt

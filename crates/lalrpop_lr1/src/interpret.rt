@@ -66,7 +66,9 @@ pub fn interpret_partial<'a, 'grammar, L: LookaheadInterpret>(
 ) -> Result<Vec<StateIndex>, InterpretError<'a, 'grammar, L>>
     requires coherent { AreCoherent states.now }
     requires some { 0 < length states.now }
-    ensures { IsPartialAnswer (HasPartialOutcome (contents_in (L.holds terminals.now) states.now) (begin tokens.items) limit) states.now result }
+    ensures outcome { IsPartialAnswer (HasPartialOutcome (contents_in (L.holds terminals.now) states.now) (begin tokens.items) limit) states.now result }
+    ensures limit { IfErr result (IfLimit (IsCutOff (contents_in (L.holds terminals.now) states.now) tokens.items limit)) }
+    ensures refused { IfErr result (IfRefused (λ _ token. ForEachGrammar (contents_in (L.holds terminals.now) states.now) (λ g start. IsFirstWrong g start tokens.items token)) states.now) }
 {
     let mut machine = Machine::new(alloc, limit);
     machine.shift_all(alloc, states, terminals, tokens)?;

@@ -2,6 +2,7 @@ use Rattle.std.proofs.Common.{[]}
 use Rattle.lalrpop_base.specs.Contents.{contents_in}
 use Rattle.lalrpop_base.specs.Runs.{begin}
 use Rattle.lalrpop_lr1.specs.Reading.{HasPartialOutcome}
+use Rattle.lalrpop_lr1.proofs.FaithfulAnswers.{stop_limit, stop_wrong}
 use Rattle.lalrpop_lr1.proofs.Interpreted.{start_stacked, read_from_start, stop_partial, stack_answer}
 use Rattle.lalrpop_lr1.proofs.MachineRuns.{raised_partial}
 use Rattle.lalrpop_lr1.proofs.interpret.interpret_partial.Goals as goal
@@ -9,14 +10,22 @@ use Rattle.lalrpop_lr1.proofs.interpret.interpret_partial.Goals as goal
 pub shift_all-requires-clause-stacked : goal.shift_all-requires-clause-stacked
 shift_all-requires-clause-stacked g c = start_stacked (contents_in (g.L.LookaheadInterpret.holds c.args.terminals.now) c.args.states.now) c.new-machine.result c.new-machine.ensures.start
 
-pub returns-in_err-shift_all : goal.returns-in_err-shift_all
-returns-in_err-shift_all g c =
+pub returns-in_err-shift_all-clause-outcome : goal.returns-in_err-shift_all-clause-outcome
+returns-in_err-shift_all-clause-outcome g c =
     raised_partial (HasPartialOutcome (contents_in (g.L.LookaheadInterpret.holds c.args.terminals.now) c.args.states.now) (begin c.args.tokens.items) c.args.limit) c.args.states.now c.in_err-shift_all.field-0.0
     (stop_partial (g.L.LookaheadInterpret.holds c.args.terminals.now) c.args.states.now c.requires.coherent c.new-machine.result c.args.tokens.items c.args.limit c.new-machine.ensures.start c.new-machine.ensures.left c.in_err-shift_all.field-0.0 c.in_err-shift_all.ensures.stopped)
     c.from_residual.result c.from_residual.ensures.1
 
-pub returns : goal.returns
-returns g c =
+pub returns-clause-outcome : goal.returns-clause-outcome
+returns-clause-outcome g c =
     stack_answer c.shift_all.new.self c.args.tokens.items c.args.limit c.in_ok-stack.stack.items
     (read_from_start c.new-machine.result c.shift_all.new.self c.args.tokens.items [] c.args.limit c.new-machine.result.left c.new-machine.ensures.start c.new-machine.ensures.left c.in_ok-shift_all.ensures.shifted)
     c.in_ok-stack.ensures
+
+pub returns-in_err-shift_all-clause-limit : goal.returns-in_err-shift_all-clause-limit
+returns-in_err-shift_all-clause-limit g c =
+    stop_limit (contents_in (g.L.LookaheadInterpret.holds c.args.terminals.now) c.args.states.now) c.args.states.now c.args.tokens.items c.args.limit c.from_residual.result (returns-in_err-shift_all-clause-outcome g c)
+
+pub returns-in_err-shift_all-clause-refused : goal.returns-in_err-shift_all-clause-refused
+returns-in_err-shift_all-clause-refused g c =
+    stop_wrong (contents_in (g.L.LookaheadInterpret.holds c.args.terminals.now) c.args.states.now) c.args.states.now c.args.tokens.items c.args.limit c.from_residual.result (returns-in_err-shift_all-clause-outcome g c)
