@@ -6,7 +6,7 @@ use Rattle.lalrpop_lr1.proofs.ToldByTables.{faithful_of, parsed_by_tables, cut_o
 use Rattle.lalrpop_lr1.proofs.headline.parse.Goals as goal
 
 pub parse_by-requires-clause-coherent : goal.parse_by-requires-clause-coherent
-parse_by-requires-clause-coherent c = subst AreCoherent (sym c.deref.ensures.value) c.in-Ok.ensures.tables.made.coherent
+parse_by-requires-clause-coherent c = subst AreCoherent (sym c.deref.ensures.value) c.in-Ok.ensures.tables.renumbered.coherent
 
 pub returns-in-Ok-clause-parsed : goal.returns-in-Ok-clause-parsed
 returns-in-Ok-clause-parsed c = parsed_by_tables (productions c.args.grammar.now) c.args.start (contents c.args.grammar.now.terminals c.deref.result.now) (faithful_of c.args.grammar.now c.args.start c.in-Ok.states.items c.deref.result.now c.deref.ensures.value c.in-Ok.ensures.faithful) c.args.tokens.items c.args.limit c.parse_by.result c.parse_by.ensures.parsed
