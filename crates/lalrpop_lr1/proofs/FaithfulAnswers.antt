@@ -37,11 +37,11 @@ less_or_not (suc n) (suc m) = elim (less_or_not n m) [
 pub trees_are_one : (table : ℕ → Contents) (w : List TerminalString) → ForEachGrammar table (HasOneTree w)
 trees_are_one table w g start faithful alone = one_tree g start table faithful alone w
 
-abbrev stop_in : Outcome → PartialOutcome → Outcome
+abbrev pub stop_in : Outcome → PartialOutcome → Outcome
 stop_in o (Stack states) = o
 stop_in o (Stop p) = p
 
-stop_same : {o p : Outcome} → Stop o ≡ Stop p → o ≡ p
+pub stop_same : {o p : Outcome} → Stop o ≡ Stop p → o ≡ p
 stop_same {o} e = ap (stop_in o) e
 
 -- a run that is cut off has told the limit

@@ -6,4 +6,5 @@ pub mod MachineRuns
 pub mod Parses
 pub mod Interpreted
 pub mod FaithfulAnswers
+pub mod FaithfulStacks
 pub mod ToldByTables

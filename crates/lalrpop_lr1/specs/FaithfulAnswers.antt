@@ -1,6 +1,6 @@
--- What an answer says where the states are faithful to a grammar. The parser is handed no grammar, so each holds of whatever grammar the states are faithful to.
+-- What an answer says where the states are faithful to a grammar: the correctness of an LR parser (Knuth 1965; Aho, Sethi and Ullman, section 4.7), with this library's limit. The parser is handed no grammar, so each holds of whatever grammar the states are faithful to.
 use Rattle.std.specs.Prelude.{◌≡◌, ◌≢◌, ℕ, ◌<◌, ◌≤◌, Bool, List, slice_get, Some, Result, Ok, Err}
-use Rattle.lalrpop_base.specs.Grammar.{IsOnNoRightSide}
+use Rattle.lalrpop_base.specs.Grammar.{IsBeginning, IsOnNoRightSide}
 use Rattle.lalrpop_base.specs.Laws.{AreCanonicalWith}
 use Rattle.lalrpop_base.specs.Runs.{Configuration, Stands, move, Reaches, begin}
 use Rattle.lalrpop_base.specs.States.{Contents, AreFaithful}
@@ -68,3 +68,14 @@ IsLimit (Ok tree) = ⊥
 IsLimit (Err (Refused state token)) = ⊥
 IsLimit (Err Limit) = Unit {0}
 IsLimit (Err Memory) = Unit {0}
+
+-- a value or the limit is told, but for want of memory
+abbrev pub IsNoRefusal : {T L : Type 0} → Result T (InterpretError L) → Type 0
+IsNoRefusal (Ok value) = Unit {0}
+IsNoRefusal (Err (Refused state token)) = ⊥
+IsNoRefusal (Err Limit) = Unit {0}
+IsNoRefusal (Err Memory) = Unit {0}
+
+-- a beginning is not refused
+abbrev pub TakesBeginning : {T L : Type 0} → List TerminalString → Result T (InterpretError L) → List Production → NonterminalString → Type 0
+TakesBeginning w answer g start = IsBeginning g start w → IsNoRefusal answer

@@ -1,4 +1,4 @@
--- What is promised from a grammar to its trees.
+-- What is promised from a grammar to its trees: that LR(1) grammars have deterministic parsers (Knuth 1965), in this library's words.
 use Rattle.std.specs.Prelude.{◌≡◌, ℕ, ◌<◌, ◌≤◌, List, Result, Ok, Err}
 use Rattle.lalrpop_base.specs.Bits.{Bits}
 use Rattle.lalrpop_base.specs.States.{Contents, AreFaithful}

@@ -7,10 +7,11 @@ pub mod tree;
 ghost use Rattle.std.specs.Prelude.{◌≡◌, ◌<◌, ◌≤◌, length, IfOk, IfErr};
 ghost use Rattle.lalrpop_base.specs.Coherent.{AreCoherent};
 ghost use Rattle.lalrpop_base.specs.Contents.{contents_in, reduced_productions};
+ghost use Rattle.lalrpop_base.specs.Grammar.{IsBeginning};
 ghost use Rattle.lalrpop_base.specs.Runs.{begin, HasOutcome, IsFirstWrong, IsPromptRefusal};
 ghost use Rattle.lalrpop_base.specs.Trees.{beside, no_trees, leaves, nodes, AreOfGrammar};
 ghost use Rattle.lalrpop_lr1.specs.Answers.{IsAnswer, IsPartialAnswer};
-ghost use Rattle.lalrpop_lr1.specs.FaithfulAnswers.{ForEachGrammar, ForEachCanonical, HasOneTree, IsTreeWithin, IsCutOff, AnswersTrees, IfRefused, IfLimit, IsLimit};
+ghost use Rattle.lalrpop_lr1.specs.FaithfulAnswers.{ForEachGrammar, ForEachCanonical, HasOneTree, IsTreeWithin, IsCutOff, AnswersTrees, IfRefused, IfLimit, IsLimit, TakesBeginning};
 ghost use Rattle.lalrpop_lr1.specs.ParseTrees.{tree_of};
 ghost use Rattle.lalrpop_lr1.specs.Reading.{HasPartialOutcome};
 ghost use Rattle.lalrpop_lr1.specs.Steps.{IsParsedIn};
@@ -67,8 +68,12 @@ pub fn interpret_partial<'a, 'grammar, L: LookaheadInterpret>(
     requires coherent { AreCoherent states.now }
     requires some { 0 < length states.now }
     ensures outcome { IsPartialAnswer (HasPartialOutcome (contents_in (L.holds terminals.now) states.now) (begin tokens.items) limit) states.now result }
+
+    // As of `interpret`; and where the states are faithful to a grammar, its beginnings are taken, and no other lists.
     ensures limit { IfErr result (IfLimit (IsCutOff (contents_in (L.holds terminals.now) states.now) tokens.items limit)) }
     ensures refused { IfErr result (IfRefused (λ _ token. ForEachGrammar (contents_in (L.holds terminals.now) states.now) (λ g start. IsFirstWrong g start tokens.items token)) states.now) }
+    ensures begun { IfOk result (λ _. ForEachGrammar (contents_in (L.holds terminals.now) states.now) (λ g start. IsBeginning g start tokens.items)) }
+    ensures begins { ForEachGrammar (contents_in (L.holds terminals.now) states.now) (TakesBeginning tokens.items result) }
 {
     let mut machine = Machine::new(alloc, limit);
     machine.shift_all(alloc, states, terminals, tokens)?;

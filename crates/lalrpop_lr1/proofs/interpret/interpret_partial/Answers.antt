@@ -1,8 +1,10 @@
 use Rattle.std.proofs.Common.{[]}
+use Rattle.std.specs.Prelude.{Ok}
 use Rattle.lalrpop_base.specs.Contents.{contents_in}
 use Rattle.lalrpop_base.specs.Runs.{begin}
 use Rattle.lalrpop_lr1.specs.Reading.{HasPartialOutcome}
 use Rattle.lalrpop_lr1.proofs.FaithfulAnswers.{stop_limit, stop_wrong}
+use Rattle.lalrpop_lr1.proofs.FaithfulStacks.{stack_begun, takes_beginning}
 use Rattle.lalrpop_lr1.proofs.Interpreted.{start_stacked, read_from_start, stop_partial, stack_answer}
 use Rattle.lalrpop_lr1.proofs.MachineRuns.{raised_partial}
 use Rattle.lalrpop_lr1.proofs.interpret.interpret_partial.Goals as goal
@@ -29,3 +31,11 @@ returns-in_err-shift_all-clause-limit g c =
 pub returns-in_err-shift_all-clause-refused : goal.returns-in_err-shift_all-clause-refused
 returns-in_err-shift_all-clause-refused g c =
     stop_wrong (contents_in (g.L.LookaheadInterpret.holds c.args.terminals.now) c.args.states.now) c.args.states.now c.args.tokens.items c.args.limit c.from_residual.result (returns-in_err-shift_all-clause-outcome g c)
+
+pub returns-in_err-shift_all-clause-begins : goal.returns-in_err-shift_all-clause-begins
+returns-in_err-shift_all-clause-begins g c =
+    takes_beginning (contents_in (g.L.LookaheadInterpret.holds c.args.terminals.now) c.args.states.now) c.args.states.now c.args.tokens.items c.args.limit c.from_residual.result (returns-in_err-shift_all-clause-outcome g c)
+
+pub returns-clause-begun : goal.returns-clause-begun
+returns-clause-begun g c =
+    stack_begun {L = g.row.L.Denot} (contents_in (g.L.LookaheadInterpret.holds c.args.terminals.now) c.args.states.now) c.args.states.now c.args.tokens.items c.args.limit (Ok c.in_ok-stack.stack) (returns-clause-outcome g c)
