@@ -8,18 +8,18 @@ use lalrpop_base::repr::terminals::TerminalSet;
 use lalrpop_base::repr::{ActionFn, NonterminalString, Production, Span, Symbol, TerminalString};
 use lalrpop_base::sequence::Sequence;
 use lalrpop_base::text::Text;
-use lalrpop_lr1::interpret::{InterpretError, interpret, interpret_partial};
+use lalrpop_lr1::interpret::{InterpretError, LookaheadInterpret, interpret, interpret_partial};
 use std::alloc::Global;
 use std::collections::BTreeMap;
 use std::process::Abort;
 use std::test::Fail;
 
-fn literal(alloc: Global, text: &str) -> Result<TerminalString, Fail> {
+pub(crate) fn literal(alloc: Global, text: &str) -> Result<TerminalString, Fail> {
     Ok(TerminalString::Literal(Text::new(alloc, text)?))
 }
 
 // A production of S whose symbols are literals.
-fn production(alloc: Global, words: &[&str]) -> Result<Production, Fail> {
+pub(crate) fn production(alloc: Global, words: &[&str]) -> Result<Production, Fail> {
     let mut symbols = Sequence::new(alloc);
     for word in words {
         symbols.push(Symbol::Terminal(literal(alloc, word)?))?;
@@ -135,7 +135,7 @@ fn states_without_items<'g>(alloc: Global) -> Result<Vec<Lr1State<'g>>, Fail> {
     Ok(states)
 }
 
-fn error_text(alloc: Global, error: InterpretError) -> Result<String, Fail> {
+fn error_text<L>(alloc: Global, error: InterpretError<L>) -> Result<String, Fail> {
     match error {
         InterpretError::Refused(state, Token::Terminal(terminal)) => {
             Ok(format!(in alloc; "{} refuses {terminal}", state.index)?)
@@ -146,7 +146,7 @@ fn error_text(alloc: Global, error: InterpretError) -> Result<String, Fail> {
     }
 }
 
-fn list(alloc: Global, words: &[&str]) -> Result<Vec<TerminalString>, Fail> {
+pub(crate) fn list(alloc: Global, words: &[&str]) -> Result<Vec<TerminalString>, Fail> {
     let mut tokens = Vec::new(alloc);
     for word in words {
         tokens.push(literal(alloc, word)?)?;
@@ -155,10 +155,10 @@ fn list(alloc: Global, words: &[&str]) -> Result<Vec<TerminalString>, Fail> {
 }
 
 // What the parser answers, as a text.
-fn told(
+pub(crate) fn told<L: LookaheadInterpret>(
     rt: &impl Abort,
     alloc: Global,
-    states: &[Lr1State],
+    states: &[State<L>],
     terminals: &TerminalSet,
     words: &[&str],
     limit: usize,
@@ -176,10 +176,10 @@ fn told(
 }
 
 // The stack that is left without the end of the input, as a text.
-fn stack_told(
+pub(crate) fn stack_told<L: LookaheadInterpret>(
     rt: &impl Abort,
     alloc: Global,
-    states: &[Lr1State],
+    states: &[State<L>],
     terminals: &TerminalSet,
     words: &[&str],
     limit: usize,

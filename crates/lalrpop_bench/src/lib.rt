@@ -11,6 +11,14 @@ mod first;
 #[cfg(test)]
 mod interpret;
 #[cfg(test)]
+mod interpret_headline;
+#[cfg(test)]
+mod interpret_lr0;
+#[cfg(test)]
+mod interpret_rows;
+#[cfg(test)]
+mod interpret_tree;
+#[cfg(test)]
 mod kernel_set;
 #[cfg(test)]
 mod lookahead;
