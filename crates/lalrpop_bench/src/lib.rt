@@ -27,6 +27,8 @@ mod lr1_core;
 #[cfg(test)]
 mod plain;
 #[cfg(test)]
+mod renumber;
+#[cfg(test)]
 mod repr;
 #[cfg(test)]
 mod texts;
