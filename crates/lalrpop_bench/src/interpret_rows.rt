@@ -54,16 +54,16 @@ const TREES: [Row; 14] = [
         "[S: [E: [E: [T: \"N\"]], \"-\", [T: \"(\", [E: [E: [T: \"N\"]], \"-\", [T: \"N\"]], \")\"]]]",
     ),
     (SUMS, &["N", "-", "(", "N", "-", "N", ")"], 15, "Limit"),
-    (SUMS, &["N", ")"], 9, "4 refuses \")\""),
-    (SUMS, &["N", ")"], 1, "4 refuses \")\""),
+    (SUMS, &["N", ")"], 9, "7 refuses \")\""),
+    (SUMS, &["N", ")"], 1, "7 refuses \")\""),
     (SUMS, &["N", ")"], 0, "Limit"),
-    (SUMS, &["N", "-"], 9, "5 refuses Eof"),
+    (SUMS, &["N", "-"], 9, "2 refuses Eof"),
     (SUMS, &["?"], 0, "0 refuses \"?\""),
     (NO_GOTO, &["x", "a"], 4, "[S: \"x\", [A: \"a\"]]"),
     (NO_GOTO, &["x", "a"], 3, "Limit"),
     (NO_SENTENCE, &["a"], 9, "2 refuses Eof"),
     (NO_SENTENCE, &["a", "z"], 9, "2 refuses \"z\""),
-    (NESTED, &["b", "c"], 9, "2 refuses \"c\""),
+    (NESTED, &["b", "c"], 9, "3 refuses \"c\""),
     (NESTED, &["a", "b", "c"], 5, "[S: \"a\", [S: \"b\"], \"c\"]"),
     (NESTED, &["a", "b", "c"], 4, "Limit"),
 ];
@@ -83,11 +83,11 @@ fn trees_and_refusals(rt: HostRuntime) -> Result<(), Fail> {
 }
 
 const STACKS: [Row; 5] = [
-    (SUMS, &["N"], 9, "[S0, S4]"),
-    (SUMS, &["N", "-"], 9, "[S0, S1, S5]"),
+    (SUMS, &["N"], 9, "[S0, S7]"),
+    (SUMS, &["N", "-"], 9, "[S0, S5, S2]"),
     (SUMS, &[], 0, "[S0]"),
     (SUMS, &["N", "-"], 3, "Limit"),
-    (SUMS, &["N", ")"], 9, "4 refuses \")\""),
+    (SUMS, &["N", ")"], 9, "7 refuses \")\""),
 ];
 
 #[test]
