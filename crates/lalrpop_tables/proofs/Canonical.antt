@@ -58,21 +58,21 @@ only_eof terminals (TokenOf t) h =
     absurd (omega arith)
 
 module _ (g : Grammar) (well : IsWellFormed g) (own : AreOwn g) (start : NonterminalString) where
-  at_start : (p q : Production) (dot : ℕ) → dotted_of (begun no_bits q) ≡ (p, dot) → Contains (productions_of g start) q → IsAtStart (productions g) start p dot
+  at_start : (p q : Production) (dot : ℕ) → ◌≡◌ {A = Production × ℕ} (q, 0) (p, dot) → Contains (productions_of g start) q → IsAtStart (productions g) start p dot
   at_start p q dot e c =
       let same : q ≡ p = ap (λ (d : Production × ℕ). d.0) e in
       let d : Contains (productions_of g start) p = subst (Contains (productions_of g start)) same c in
       (sym (ap (λ (d : Production × ℕ). d.1) e), productions_among g start p d, productions_named g well start p d)
 
-  in_start : (s : Bits) (p : Production) → Contains (productions g) p → p.nonterminal ≡ start → Contains (map (begun s) (productions_of g start)) (begun s p)
+  in_start : {L : Type 0} (s : L) (p : Production) → Contains (productions g) p → p.nonterminal ≡ start → Contains (map (begun s) (productions_of g start)) (begun s p)
   in_start s p among named = Contains-map (begun s) (productions_of g start) p (subst (λ (a : NonterminalString). Contains (productions_of g a) p) named (own p among))
 
-  pub start_items : (s : Bits) (p : Production) (dot : ℕ) → InKernel (map (begun s) (productions_of g start)) p dot ↔ IsAtStart (productions g) start p dot
-  start_items s p dot = (
+  pub start_items : {L : Type 0} (s : L) (p : Production) (dot : ℕ) → InKernel (map (begun s) (productions_of g start)) p dot ↔ IsAtStart (productions g) start p dot
+  start_items {L} s p dot = (
     λ c.
         let i = of_dotted (map (begun s) (productions_of g start)) (p, dot) c in
         let q = begun_in s (productions_of g start) i.0 i.1 in
-        at_start p q.0 dot (ap (λ (j : Dotted Bits). dotted_of j) q.2 ∙ i.2) q.1,
+        at_start p q.0 dot (ap (λ (j : Dotted L). dotted_of j) q.2 ∙ i.2) q.1,
     λ h. subst (λ (n : ℕ). InKernel (map (begun s) (productions_of g start)) p n) (sym h.0) (Contains-map dotted_of (map (begun s) (productions_of g start)) (begun s p) (in_start s p h.1 h.2)),
   )
 
@@ -93,29 +93,29 @@ module _ (g : Grammar) (well : IsWellFormed g) (own : AreOwn g) (start : Nonterm
   )
 
 -- ---- the kernel of a target
-pub Shifts-onto : (x : Symbol) (items kernel : List (Dotted Bits)) → Shifts x items kernel → (i : Dotted Bits) → Contains items i → IsBehind x i → Contains kernel (moved i)
-Shifts-onto x items kernel none i c b = absurd (Contains-none i c)
-Shifts-onto x items kernel (moves {i = j} {items = is} {kernel = ks} behind s) i c b = elim (Contains-cases j is i c) [
-  | inl e ↦ subst (λ (k : Dotted Bits). Contains (moved j ∷ ks) (moved k)) e (Contains-here (moved j) ks)
+pub Shifts-onto : {L : Type 0} (x : Symbol) (items kernel : List (Dotted L)) → Shifts x items kernel → (i : Dotted L) → Contains items i → IsBehind x i → Contains kernel (moved i)
+Shifts-onto {L} x items kernel none i c b = absurd (Contains-none i c)
+Shifts-onto {L} x items kernel (moves {i = j} {items = is} {kernel = ks} behind s) i c b = elim (Contains-cases j is i c) [
+  | inl e ↦ subst (λ (k : Dotted L). Contains (moved j ∷ ks) (moved k)) e (Contains-here (moved j) ks)
   | inr later ↦ Contains-there (moved j) ks (moved i) (Shifts-onto x is ks s i later b)
 ]
-Shifts-onto x items kernel (stays {i = j} {items = is} {kernel = ks} out s) i c b = elim (Contains-cases j is i c) [
+Shifts-onto {L} x items kernel (stays {i = j} {items = is} {kernel = ks} out s) i c b = elim (Contains-cases j is i c) [
   | inl e ↦ absurd (out (subst (IsBehind x) (sym e) b))
   | inr later ↦ Shifts-onto x is ks s i later b
 ]
 
-module _ (x : Symbol) (items kernel : List (Dotted Bits)) (s : Shifts x items kernel) where
-  behind_dot : (i : Dotted Bits) (p : Production) (n : ℕ) (after : List Symbol) → dotted_of i ≡ (p, n) → drop n p.symbols ≡ x ∷ after → IsBehind x i
+module _ {L : Type 0} (x : Symbol) (items kernel : List (Dotted L)) (s : Shifts x items kernel) where
+  behind_dot : (i : Dotted L) (p : Production) (n : ℕ) (after : List Symbol) → dotted_of i ≡ (p, n) → drop n p.symbols ≡ x ∷ after → IsBehind x i
   behind_dot i p n after e h = split_drop i.index i.production.symbols x after (ap (λ (d : Production × ℕ). drop d.1 d.0.symbols) e ∙ h)
 
-  moved_dotted : (i : Dotted Bits) (p : Production) (n dot : ℕ) → dotted_of i ≡ (p, n) → dot ≡ suc n → dotted_of (moved i) ≡ (p, dot)
+  moved_dotted : (i : Dotted L) (p : Production) (n dot : ℕ) → dotted_of i ≡ (p, n) → dot ≡ suc n → dotted_of (moved i) ≡ (p, dot)
   moved_dotted i p n dot e m =
       let k : n + 1 ≡ dot = omega arith in
       ap (λ (d : Production × ℕ). (d.0, d.1 + 1)) e ∙ ap (λ (j : ℕ). (p, j)) k
 
-  before_moved : (i j : Dotted Bits) (p : Production) (dot : ℕ) → moved i ≡ j → dotted_of j ≡ (p, dot) → (i.production ≡ p) × (dot ≡ suc i.index)
+  before_moved : (i j : Dotted L) (p : Production) (dot : ℕ) → moved i ≡ j → dotted_of j ≡ (p, dot) → (i.production ≡ p) × (dot ≡ suc i.index)
   before_moved i j p dot e f =
-      let both : dotted_of (moved i) ≡ (p, dot) = ap (λ (k : Dotted Bits). dotted_of k) e ∙ f in
+      let both : dotted_of (moved i) ≡ (p, dot) = ap (λ (k : Dotted L). dotted_of k) e ∙ f in
       let n : i.index + 1 ≡ dot = ap (λ (d : Production × ℕ). d.1) both in
       (ap (λ (d : Production × ℕ). d.0) both, omega arith)
 
@@ -137,11 +137,12 @@ module _ (x : Symbol) (items kernel : List (Dotted Bits)) (s : Shifts x items ke
         subst (Contains (map dotted_of kernel)) (moved_dotted i.0 p h.before dot i.2 h.moved) (Contains-map dotted_of kernel (moved i.0) (Shifts-onto x items kernel s i.0 i.1 (behind_dot i.0 p h.before h.after i.2 h.behind))),
   )
 
+module _ (x : Symbol) (items kernel : List (Dotted Bits)) (s : Shifts x items kernel) where
   pub moved_tokens : (terminals : List TerminalString) (p : Production) (dot : ℕ) (t : Token) → HasItemToken terminals kernel p dot t ↔ IsMovedWith (HasItemToken terminals items) x p dot t
   moved_tokens terminals p dot t = (
     λ h.
         let f = Shifts-from x items kernel s h.item h.there in
-        let b = before_moved f.item h.item p dot f.is h.is in
+        let b = before_moved x items kernel s f.item h.item p dot f.is h.is in
         record {
           before = f.item.index;
           after = drop (suc f.item.index) f.item.production.symbols;
@@ -151,8 +152,8 @@ module _ (x : Symbol) (items kernel : List (Dotted Bits)) (s : Shifts x items ke
         },
     λ h. record {
       item = moved h.token.item;
-      there = Shifts-onto x items kernel s h.token.item h.token.there (behind_dot h.token.item p h.before h.after h.token.is h.behind);
-      is = moved_dotted h.token.item p h.before dot h.token.is h.moved;
+      there = Shifts-onto x items kernel s h.token.item h.token.there (behind_dot x items kernel s h.token.item p h.before h.after h.token.is h.behind);
+      is = moved_dotted x items kernel s h.token.item p h.before dot h.token.is h.moved;
       holds = h.token.holds;
     },
   )

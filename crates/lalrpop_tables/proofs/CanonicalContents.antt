@@ -18,7 +18,7 @@ use Rattle.lalrpop_base.specs.declared.repr.grammar.Grammar.{Grammar}
 use Rattle.lalrpop_tables.specs.Ascending.{production_order}
 use Rattle.lalrpop_tables.specs.Canonical.{tokens_at, tokens_of, AreCanonicalStates}
 use Rattle.lalrpop_tables.specs.Closing.{AreOwn}
-use Rattle.lalrpop_tables.specs.Closure.{dotted_of, HasItemToken, IsClosureOf}
+use Rattle.lalrpop_tables.specs.Closure.{dotted_of, itself, HasItemToken, IsClosureOf}
 use Rattle.lalrpop_tables.specs.Results.{AreStatesOf, canonical_of}
 use Rattle.lalrpop_tables.proofs.Canonical.{InTokenClosure-more}
 use Rattle.lalrpop_tables.proofs.CanonicalStates.{IsTarget, target_of, target_items, target_tokens, first_items, first_tokens}
@@ -62,7 +62,7 @@ module _ (g : Grammar) (start : NonterminalString) (well : IsWellFormed g) (own 
   -- ---- the places that have a state
   edges_at : (n : ℕ) (o : Option (State Bits)) → slice_get states n ≡ o → LeadsOverDots (contents_at holds o)
   edges_at n None at = nowhere_leads
-  edges_at n (Some s) at = let b = made.built.each n s at in leads_over_dots holds (rules_of g) made.built.kernels b.kernel n s b.built
+  edges_at n (Some s) at = let b = made.built.each n s at in leads_over_dots holds (IsClosureOf (rules_of g)) made.built.kernels b.kernel n s b.built
 
   reductions_at : (n : ℕ) (o : Option (State Bits)) → slice_get states n ≡ o → ReducesFinished (contents_at holds o)
   reductions_at n None at = nothing_reduced
@@ -147,7 +147,7 @@ module _ (g : Grammar) (start : NonterminalString) (well : IsWellFormed g) (own 
   moved_kernel n m x s =
       let items = s.source.items.vec.items in
       let c = closure_of n s.source s.at in record {
-        of = Shifts-items (rules_of g) x items s.target.kernel s.target.shifts c.are_items;
+        of = Shifts-items itself (rules_of g) x items s.target.kernel s.target.shifts c.are_items;
         ascend = Shifts-ascend x items s.target.kernel s.target.shifts c.ascend;
         past = Shifts-past x items s.target.kernel s.target.shifts;
       }
@@ -183,6 +183,6 @@ module _ (g : Grammar) (start : NonterminalString) (well : IsWellFormed g) (own 
     };
     once = λ n. once_at n (slice_get states n) refl;
     differ = kernels_differ;
-    reached = all_reached holds (rules_of g) _ states made.built;
+    reached = all_reached holds (IsClosureOf (rules_of g)) _ states made.built;
     ascend = λ n. order_at n (slice_get states n) refl;
   }

@@ -38,7 +38,7 @@ entry_of {R = R} total exact m key n e =
     let found = some_of_map number_of (get R m key) n e in
     (found.0, found.2, subst (λ (o : Option StateIndex). IfSome o (λ v. Contains m.entries (key, v))) found.1 (IfSome-get total exact m key))
 
-pub leads_transition : (holds : Bits → Token → Bool) (s : State Bits) (x : Symbol) (m : ℕ) → leads (contents_of holds s) x ≡ Some m → (target : StateIndex) × (target.0 ≡ m) × HasTransition x target s
+pub leads_transition : {L : Type 0} (holds : L → Token → Bool) (s : State L) (x : Symbol) (m : ℕ) → leads (contents_of holds s) x ≡ Some m → (target : StateIndex) × (target.0 ≡ m) × HasTransition x target s
 leads_transition holds s (Nonterminal a) m e = entry_of name_ord.Laws.total-law names_ordered s.gotos a m e
 leads_transition holds s (Terminal t) m e = entry_of terminal_ord.Laws.total-law terminals_ordered s.shifts t m e
 

@@ -1,31 +1,25 @@
 -- The loop of a closure: what it finds is of the closure, and when nothing waits it is all of it.
-use Rattle.std.proofs.Common.{◌≡◌, ◌↔◌, ℕ, zero, suc, ◌+◌, ◌⊎◌, inl, inr, List, [], ◌∷◌, ◌++◌, length, map, drop, refl, sym, ◌∙◌, ap, subst, arith, true, Some}
+use Rattle.std.proofs.Common.{◌≡◌, ◌↔◌, ℕ, zero, suc, ◌+◌, ◌⊎◌, inl, inr, List, [], ◌∷◌, ◌++◌, map, drop, refl, sym, ◌∙◌, ap, subst, arith, true, Some}
 use Rattle.std.specs.Prelude.{Contains, slice_get}
 use Rattle.std.specs.Map.{keys_of}
 use Rattle.std.proofs.lemmas.List.Elements.{Contains-append_left, Contains-append_right, Contains-append_cases}
-use Rattle.lalrpop_base.specs.Bits.{Bits, has}
-use Rattle.lalrpop_base.specs.Closures.{InClosure, in_kernel, expanded, InTokenClosure, with_token, begins_rest, inherits}
+use Rattle.lalrpop_base.specs.Bits.{Bits}
+use Rattle.lalrpop_base.specs.Closures.{InClosure, in_kernel, expanded}
 use Rattle.lalrpop_base.specs.Contents.{holds_token}
-use Rattle.lalrpop_base.specs.First.{IsFirstSetBefore}
-use Rattle.lalrpop_base.specs.Grammar.{IsNullable}
 use Rattle.lalrpop_base.specs.Items.{Dotted}
 use Rattle.lalrpop_base.specs.Places.{AllDiffer}
-use Rattle.lalrpop_base.specs.WellFormed.{Rules, rules_of, IsWellFormed, productions_of, HasKnownTerminals}
-use Rattle.lalrpop_base.specs.declared.repr.grammar.Grammar.{Grammar}
+use Rattle.lalrpop_base.specs.WellFormed.{Rules}
 use Rattle.std.proofs.lemmas.List.{map-append}
-use Rattle.lalrpop_tables.proofs.Grammars.{productions_among, productions_named}
 use Rattle.lalrpop_base.specs.declared.lookahead.nil.Nil.{Nil}
 use Rattle.lalrpop_base.specs.declared.lookahead.token.Token.{Token}
-use Rattle.lalrpop_base.specs.declared.lookahead.token.Token.TheVariants.{Eof, Error, Terminal as TokenOf}
 use Rattle.lalrpop_base.specs.declared.repr.NonterminalString.{NonterminalString}
 use Rattle.lalrpop_base.specs.declared.repr.Production.{Production}
 use Rattle.lalrpop_base.specs.declared.repr.Symbol.{Symbol}
 use Rattle.lalrpop_base.specs.declared.repr.Symbol.TheVariants.{Nonterminal}
 use Rattle.lalrpop_base.proofs.ContentsViews.{contains_of_map}
-use Rattle.lalrpop_base.proofs.HeldTokens.{place_there}
-use Rattle.lalrpop_tables.specs.Closure.{dotted_of, InKernel, HasItemToken, Found, item_of, IsStacked}
-use Rattle.lalrpop_tables.specs.Closing.{IsFound, HasFoundToken, Adds, IsBegunOf, IsBegunBy, AreOwn, Begins, IsExpandedTo, HasGiven, IsTokenSettled, Expands, IsStarted, IsTokenClosing}
-use Rattle.lalrpop_tables.proofs.KnownTerminals.{token_bit, held_bit, bit_held, holds_more, begun_bit}
+use Rattle.lalrpop_tables.specs.Closure.{dotted_of, InKernel, HasItemToken, InTokenClosureBy, own_token, from_rest, from_parent, Found, item_of, IsStacked}
+use Rattle.lalrpop_tables.specs.Closing.{IsFound, HasFoundToken, Adds, IsBegunBy, IsExpandedTo, HasGiven, IsTokenSettled, Expands, IsStarted, IsTokenClosing}
+use Rattle.lalrpop_tables.proofs.KnownTerminals.{held_bit, bit_held, holds_more}
 use Rattle.lalrpop_tables.proofs.Lists.{Contains-here, Contains-cases, Contains-none, Contains-map}
 use Rattle.lalrpop_tables.proofs.Places.{same_some}
 use Rattle.lalrpop_tables.proofs.Growth.{Grows-none, Adds-one, entry_key, key_entry, same_set, found_kept}
@@ -51,22 +45,9 @@ same_name a b k l e = cc
 same_rest : (a b : NonterminalString) (k l : List Symbol) → Nonterminal a ∷ k ≡ Nonterminal b ∷ l → k ≡ l
 same_rest a b k l e = cc
 
-module _ (g : Rules) where
-  -- ---- the tokens that an item gives
-  module _ (rest : List Symbol) (follow given : Bits) (first : IsFirstSetBefore g rest follow given) where
-    given_cases : (t : Token) (bit : ℕ) → token_bit g.terminals t ≡ Some bit → (has given bit ≡ true) ↔ (Begins g rest t ⊎ (IsNullable g.productions rest × (has follow bit ≡ true)))
-    given_cases Eof bit e =
-        let at : length g.terminals ≡ bit = same_some (length g.terminals) bit e in
-        let o = first.others bit (omega arith) in
-        (λ h. inr (o.0 h), λ h. elim h [ inl none ↦ absurd none | inr k ↦ o.1 k ])
-    given_cases Error bit e =
-        let at : length g.terminals + 1 ≡ bit = same_some (length g.terminals + 1) bit e in
-        let o = first.others bit (omega arith) in
-        (λ h. inr (o.0 h), λ h. elim h [ inl none ↦ absurd none | inr k ↦ o.1 k ])
-    given_cases (TokenOf t) bit e = first.begins bit t (place_there g.terminals t bit e)
-
+module _ (begins : Rules → List Symbol → Token → Type 0) (passes : Rules → List Symbol → Type 0) (g : Rules) where
   -- ---- an item is expanded
-  pub Expands-none : (item : Dotted Nil) (table : Found) (stack : List (Dotted Nil)) → ((s : Bits) → Contains table (item, s) → (q : Production) (after : List Symbol) → drop item.index item.production.symbols ≡ Nonterminal q.nonterminal ∷ after → ⊥) → Expands g item table table stack stack
+  pub Expands-none : (item : Dotted Nil) (table : Found) (stack : List (Dotted Nil)) → ((s : Bits) → Contains table (item, s) → (q : Production) (after : List Symbol) → drop item.index item.production.symbols ≡ Nonterminal q.nonterminal ∷ after → ⊥) → Expands begins passes g item table table stack stack
   Expands-none item table stack none = record {
     grows = Grows-none table stack;
     keys = λ e c. inl (entry_key table e c);
@@ -74,17 +55,16 @@ module _ (g : Rules) where
     settled = λ differ s c q after behind among. absurd (none s c q after behind);
   }
 
-  module _ (known : (p : Production) → Contains g.productions p → HasKnownTerminals g.terminals p.symbols)
-      (name : NonterminalString) (rest : List Symbol) (tokens given : Bits) (item : Dotted Nil) (old new : Found) (stack pushed : List (Dotted Nil))
-      (at : slice_get item.production.symbols item.index ≡ Some (Nonterminal name)) (is : rest ≡ drop (suc item.index) item.production.symbols) (rest_known : HasKnownTerminals g.terminals rest)
-      (entry : Contains old (item, tokens)) (first : IsFirstSetBefore g rest tokens given) (adds : Adds (IsBegunBy g name) given old new stack pushed) where
+  module _ (name : NonterminalString) (rest : List Symbol) (tokens given : Bits) (item : Dotted Nil) (old new : Found) (stack pushed : List (Dotted Nil))
+      (at : slice_get item.production.symbols item.index ≡ Some (Nonterminal name)) (is : rest ≡ drop (suc item.index) item.production.symbols) (entry : Contains old (item, tokens))
+      (holds : (t : Token) → (holds_token g.terminals given t ≡ true) ↔ (begins g rest t ⊎ (passes g rest × (holds_token g.terminals tokens t ≡ true)))) (adds : Adds (IsBegunBy g name) given old new stack pushed) where
     there_behind : drop item.index item.production.symbols ≡ Nonterminal name ∷ rest
     there_behind = drop_split item.index item.production.symbols (Nonterminal name) at ∙ ap (λ xs. Nonterminal name ∷ xs) (sym is)
 
     as_expanded : (k : Dotted Nil) → IsBegunBy g name k → IsExpandedTo g old item k rest
     as_expanded k b = record { found = entry_key old (item, tokens) entry; start = b.start; among = b.among; behind = there_behind ∙ ap (λ a. Nonterminal a ∷ rest) (sym b.named) }
 
-    token_cases : (e : Entry) (t : Token) → Contains new e → holds_token g.terminals e.1 t ≡ true → HasFoundToken g old e.0 t ⊎ ((after : List Symbol) × IsExpandedTo g old item e.0 after × (Begins g after t ⊎ (IsNullable g.productions after × HasFoundToken g old item t)))
+    token_cases : (e : Entry) (t : Token) → Contains new e → holds_token g.terminals e.1 t ≡ true → HasFoundToken g old e.0 t ⊎ ((after : List Symbol) × IsExpandedTo g old item e.0 after × (begins g after t ⊎ (passes g after × HasFoundToken g old item t)))
     token_cases e t c h =
         let b = held_bit g.terminals e.1 t h in
         elim (adds.bits e b.0 c b.2) [
@@ -92,14 +72,11 @@ module _ (g : Rules) where
           | inr n ↦ inr (
             rest,
             as_expanded e.0 n.0,
-            elim ((given_cases rest tokens given first t b.0 b.1).0 n.1) [
-              | inl begins ↦ inl begins
-              | inr k ↦ inr (k.0, record { set = tokens; entry = entry; there = bit_held g.terminals tokens t b.0 b.1 k.1 })
-            ],
+            elim ((holds t).0 (bit_held g.terminals given t b.0 b.1 n.1)) [ inl h ↦ inl h | inr k ↦ inr (k.0, record { set = tokens; entry = entry; there = k.1 }) ],
           )
         ]
 
-    settles : (s : Bits) → s ≡ tokens → (q : Production) (after : List Symbol) → after ≡ rest → q.nonterminal ≡ name → Contains g.productions q → HasGiven g new s q after
+    settles : (s : Bits) → s ≡ tokens → (q : Production) (after : List Symbol) → after ≡ rest → q.nonterminal ≡ name → Contains g.productions q → HasGiven begins passes g new s q after
     settles s same q after e named among =
         let key : Dotted Nil = record { production = q; index = 0; lookahead = record {} } in
         let found = adds.there key (record { start = refl; among = among; named = named }) in
@@ -109,16 +86,15 @@ module _ (g : Rules) where
           start = refl;
           set = found.set;
           entry = found.entry;
-          begins = λ t f.
-              let b : Begins g rest t = subst (λ (l : List Symbol). Begins g l t) e f in
-              let bit = begun_bit g known rest rest_known t b in
-              bit_held g.terminals found.set t bit.0 bit.1 (found.all bit.0 ((given_cases rest tokens given first t bit.0 bit.1).1 (inl b)));
-          inherits = λ t n h.
-              let bit = held_bit g.terminals s t h in
-              bit_held g.terminals found.set t bit.0 bit.1 (found.all bit.0 ((given_cases rest tokens given first t bit.0 bit.1).1 (inr (subst (IsNullable g.productions) e n, subst (λ (x : Bits). has x bit.0 ≡ true) same bit.2))));
+          first = λ t f.
+              let bit = held_bit g.terminals given t ((holds t).1 (inl (subst (λ (l : List Symbol). begins g l t) e f))) in
+              bit_held g.terminals found.set t bit.0 bit.1 (found.all bit.0 bit.2);
+          through = λ t n h.
+              let bit = held_bit g.terminals given t ((holds t).1 (inr (subst (passes g) e n, subst (λ (x : Bits). holds_token g.terminals x t ≡ true) same h))) in
+              bit_held g.terminals found.set t bit.0 bit.1 (found.all bit.0 bit.2);
         }
 
-    pub Expands-given : Expands g item old new stack pushed
+    pub Expands-given : Expands begins passes g item old new stack pushed
     Expands-given = record {
       grows = adds.grows;
       keys = λ e c. elim (adds.keys e c) [ inl o ↦ inl o | inr b ↦ inr (rest, as_expanded e.0 b) ];
@@ -134,38 +110,36 @@ module _ (g : Rules) where
     Reached = InClosure g.productions (InKernel kernel)
 
     abbrev ReachedWith : Production → ℕ → Token → Type 0
-    ReachedWith = InTokenClosure g.productions Reached (HasItemToken g.terminals kernel)
+    ReachedWith = InTokenClosureBy (begins g) (passes g) g.productions Reached (HasItemToken g.terminals kernel)
 
-    pub Tokens-start : (table : Found) (stack : List (Dotted Nil)) → IsStarted kernel table stack → IsTokenClosing g kernel table stack
+    pub Tokens-start : (table : Found) (stack : List (Dotted Nil)) → IsStarted kernel table stack → IsTokenClosing begins passes g kernel table stack
     Tokens-start table stack s = record {
       all = s.all;
       keys = λ e c. in_kernel (s.keys e c);
       tokens = λ e t c h.
           let b = held_bit g.terminals e.1 t h in
           let i = s.bits e b.0 c b.2 in
-          with_token (record { item = i.0; there = i.1; is = i.2; holds = bit_held g.terminals (i.0).lookahead t b.0 b.1 i.3 });
+          own_token (record { item = i.0; there = i.1; is = i.2; holds = bit_held g.terminals (i.0).lookahead t b.0 b.1 i.3 });
       settled = λ e c. inl (s.waiting e c);
     }
 
-    module _ (item : Dotted Nil) (old new : Found) (stack pushed : List (Dotted Nil)) (differ : AllDiffer (keys_of old)) (before : IsTokenClosing g kernel old (stack ++ item ∷ [])) (x : Expands g item old new stack pushed) where
+    module _ (item : Dotted Nil) (old new : Found) (stack pushed : List (Dotted Nil)) (differ : AllDiffer (keys_of old)) (before : IsTokenClosing begins passes g kernel old (stack ++ item ∷ [])) (x : Expands begins passes g item old new stack pushed) where
       key_reached : (k : Dotted Nil) → Contains (keys_of old) k → Reached k.production k.index
       key_reached k c = let h = key_entry old k c in before.keys (k, h.0) h.1
 
       expanded_reached : (k : Dotted Nil) (after : List Symbol) → IsExpandedTo g old item k after → Reached k.production k.index
       expanded_reached k after e = subst (Reached k.production) (sym e.start) (expanded k.production after (key_reached item e.found) e.behind e.among)
 
-      begun_reached : (t : Token) (k : Dotted Nil) (after : List Symbol) → IsExpandedTo g old item k after → Begins g after t → ReachedWith k.production k.index t
-      begun_reached Eof k after e b = absurd b
-      begun_reached Error k after e b = absurd b
-      begun_reached (TokenOf t) k after e b = subst (λ (n : ℕ). ReachedWith k.production n (TokenOf t)) (sym e.start) (begins_rest k.production after (key_reached item e.found) e.behind e.among b)
+      begun_reached : (t : Token) (k : Dotted Nil) (after : List Symbol) → IsExpandedTo g old item k after → begins g after t → ReachedWith k.production k.index t
+      begun_reached t k after e b = subst (λ (n : ℕ). ReachedWith k.production n t) (sym e.start) (from_rest k.production after (key_reached item e.found) e.behind e.among b)
 
       found_reached : (k : Dotted Nil) (t : Token) → HasFoundToken g old k t → ReachedWith k.production k.index t
       found_reached k t f = before.tokens (k, f.set) t f.entry f.there
 
-      passed_reached : (t : Token) (k : Dotted Nil) (after : List Symbol) → IsExpandedTo g old item k after → IsNullable g.productions after → HasFoundToken g old item t → ReachedWith k.production k.index t
-      passed_reached t k after e n f = subst (λ (i : ℕ). ReachedWith k.production i t) (sym e.start) (inherits k.production after (found_reached item t f) e.behind e.among n)
+      passed_reached : (t : Token) (k : Dotted Nil) (after : List Symbol) → IsExpandedTo g old item k after → passes g after → HasFoundToken g old item t → ReachedWith k.production k.index t
+      passed_reached t k after e n f = subst (λ (i : ℕ). ReachedWith k.production i t) (sym e.start) (from_parent k.production after (found_reached item t f) e.behind e.among n)
 
-      kept_settled : (e : Entry) → IsTokenSettled g old e.0 e.1 → IsTokenSettled g new e.0 e.1
+      kept_settled : (e : Entry) → IsTokenSettled begins passes g old e.0 e.1 → IsTokenSettled begins passes g new e.0 e.1
       kept_settled e s q after behind among =
           let h = s q after behind among in
           let k = x.grows.kept (h.key, h.set) h.entry in
@@ -175,20 +149,20 @@ module _ (g : Rules) where
             start = h.start;
             set = k.set;
             entry = k.entry;
-            begins = λ t b. holds_more g.terminals h.set k.set t k.all (h.begins t b);
-            inherits = λ t n i. holds_more g.terminals h.set k.set t k.all (h.inherits t n i);
+            first = λ t b. holds_more g.terminals h.set k.set t k.all (h.first t b);
+            through = λ t n i. holds_more g.terminals h.set k.set t k.all (h.through t n i);
           }
 
-      popped_settled : (e : Entry) → Contains old e → Contains (stack ++ item ∷ []) e.0 → Contains pushed e.0 ⊎ IsTokenSettled g new e.0 e.1
+      popped_settled : (e : Entry) → Contains old e → Contains (stack ++ item ∷ []) e.0 → Contains pushed e.0 ⊎ IsTokenSettled begins passes g new e.0 e.1
       popped_settled e c w = elim (Contains-append_cases stack (item ∷ []) e.0 w) [
         | inl s ↦ inl (x.grows.stays e.0 s)
         | inr i ↦ elim (Contains-cases item [] e.0 i) [
-          | inl same ↦ inr (subst (λ (k : Dotted Nil). IsTokenSettled g new k e.1) same (x.settled differ e.1 (subst (λ (k : Dotted Nil). Contains old (k, e.1)) (sym same) c)))
+          | inl same ↦ inr (subst (λ (k : Dotted Nil). IsTokenSettled begins passes g new k e.1) same (x.settled differ e.1 (subst (λ (k : Dotted Nil). Contains old (k, e.1)) (sym same) c)))
           | inr none ↦ absurd (Contains-none e.0 none)
         ]
       ]
 
-      pub Tokens-step : IsTokenClosing g kernel new pushed
+      pub Tokens-step : IsTokenClosing begins passes g kernel new pushed
       Tokens-step = record {
         all = λ i c. let a = before.all i c in (a.0, a.1, found_kept old new stack pushed x.grows a.0 i.lookahead a.2);
         keys = λ e c. elim (x.keys e c) [ inl o ↦ key_reached e.0 o | inr n ↦ expanded_reached e.0 n.0 n.1 ];
@@ -203,8 +177,8 @@ module _ (g : Rules) where
       }
 
     -- ---- its end
-    module _ (table : Found) (end : IsTokenClosing g kernel table []) where
-      settled_at : (e : Entry) → Contains table e → IsTokenSettled g table e.0 e.1
+    module _ (table : Found) (end : IsTokenClosing begins passes g kernel table []) where
+      settled_at : (e : Entry) → Contains table e → IsTokenSettled begins passes g table e.0 e.1
       settled_at e c = elim (end.settled e c) [ inl none ↦ absurd (Contains-none e.0 none) | inr s ↦ s ]
 
       -- an entry of the dotted production
@@ -220,7 +194,7 @@ module _ (g : Rules) where
       entry_behind : (e : Entry) (p : Production) (dot : ℕ) (l : List Symbol) → dotted_of e.0 ≡ (p, dot) → drop dot p.symbols ≡ l → drop e.0.index e.0.production.symbols ≡ l
       entry_behind e p dot l s h = ap (λ (d : Production × ℕ). drop d.1 d.0.symbols) s ∙ h
 
-      given_dotted : (tokens : Bits) (q : Production) (after : List Symbol) (h : HasGiven g table tokens q after) → dotted_of h.key ≡ (q, 0)
+      given_dotted : (tokens : Bits) (q : Production) (after : List Symbol) (h : HasGiven begins passes g table tokens q after) → dotted_of h.key ≡ (q, 0)
       given_dotted tokens q after h = ap (λ (p : Production). (p, h.key.index)) h.production ∙ ap (λ (n : ℕ). (q, n)) h.start
 
       all_listed : {p : Production} {dot : ℕ} → Reached p dot → InKernel (map item_of table) p dot
@@ -250,39 +224,33 @@ module _ (g : Rules) where
           let e = contains_of_map item_of table h.item h.there in
           (e.0, e.1, ap dotted_of e.2 ∙ h.is, subst (λ (i : Dotted Bits). holds_token g.terminals i.lookahead t ≡ true) (sym e.2) h.holds)
 
-      over_listed : {p : Production} {dot : ℕ} {t : Token} → ReachedWith p dot t → InTokenClosure g.productions (InKernel (map item_of table)) (HasItemToken g.terminals kernel) p dot t
-      over_listed (with_token k) = with_token k
-      over_listed (begins_rest q after i behind among f) = begins_rest q after (all_listed i) behind among f
-      over_listed (inherits q after c behind among n) = inherits q after (over_listed c) behind among n
+      over_listed : {p : Production} {dot : ℕ} {t : Token} → ReachedWith p dot t → InTokenClosureBy (begins g) (passes g) g.productions (InKernel (map item_of table)) (HasItemToken g.terminals kernel) p dot t
+      over_listed (own_token k) = own_token k
+      over_listed (from_rest q after i behind among f) = from_rest q after (all_listed i) behind among f
+      over_listed (from_parent q after c behind among n) = from_parent q after (over_listed c) behind among n
 
-      all_held : {p : Production} {dot : ℕ} {t : Token} → InTokenClosure g.productions (InKernel (map item_of table)) (HasItemToken g.terminals kernel) p dot t → HeldWith p dot t
-      all_held {p} {dot} {t} (with_token k) =
+      all_held : {p : Production} {dot : ℕ} {t : Token} → InTokenClosureBy (begins g) (passes g) g.productions (InKernel (map item_of table)) (HasItemToken g.terminals kernel) p dot t → HeldWith p dot t
+      all_held {p} {dot} {t} (own_token k) =
           let a = end.all k.item k.there in
           held_entry (a.0, a.2.set) p dot t a.2.entry (a.1 ∙ k.is) (holds_more g.terminals k.item.lookahead a.2.set t a.2.all k.holds)
-      all_held (begins_rest {p} {dot} {t} q after i behind among f) =
+      all_held (from_rest {p} {dot} {t} q after i behind among f) =
           let e = listed p dot i in
           let h = settled_at e.0 e.1 q after (entry_behind e.0 p dot (Nonterminal q.nonterminal ∷ after) e.2 behind) among in
-          held_entry (h.key, h.set) q 0 (TokenOf t) h.entry (given_dotted e.0.1 q after h) (h.begins (TokenOf t) f)
-      all_held (inherits {p} {dot} {t} q after c behind among n) =
+          held_entry (h.key, h.set) q 0 t h.entry (given_dotted e.0.1 q after h) (h.first t f)
+      all_held (from_parent {p} {dot} {t} q after c behind among n) =
           let e = entry_held p dot t (all_held c) in
           let h = settled_at e.0 e.1 q after (entry_behind e.0 p dot (Nonterminal q.nonterminal ∷ after) e.2 behind) among in
-          held_entry (h.key, h.set) q 0 t h.entry (given_dotted e.0.1 q after h) (h.inherits t n e.3)
+          held_entry (h.key, h.set) q 0 t h.entry (given_dotted e.0.1 q after h) (h.through t n e.3)
 
-      pub Tokens-end : (p : Production) (dot : ℕ) (t : Token) → HeldWith p dot t ↔ InTokenClosure g.productions (InKernel (map item_of table)) (HasItemToken g.terminals kernel) p dot t
+      pub Tokens-end : (p : Production) (dot : ℕ) (t : Token) → HeldWith p dot t ↔ InTokenClosureBy (begins g) (passes g) g.productions (InKernel (map item_of table)) (HasItemToken g.terminals kernel) p dot t
       Tokens-end p dot t = (
         λ h. let e = entry_held p dot t h in over_listed (subst (λ (d : Production × ℕ). ReachedWith d.0 d.1 t) e.2 (end.tokens e.0 t e.1 e.3)),
         all_held,
       )
 
--- ---- the productions of a nonterminal
+-- ---- what stands behind the nonterminal
 pub rest_from : (n : ℕ) (xs rest : List Symbol) → rest ≡ drop (n + 1) xs → rest ≡ drop (suc n) xs
 rest_from n xs rest e = let s : n + 1 ≡ suc n = omega arith in e ∙ ap (λ k. drop k xs) s
-
-pub begun_by : (g : Grammar) → IsWellFormed g → (name : NonterminalString) (k : Dotted Nil) → IsBegunOf (productions_of g name) k → IsBegunBy (rules_of g) name k
-begun_by g well name k b = record { start = b.start; among = productions_among g name k.production b.among; named = productions_named g well name k.production b.among }
-
-pub begun_of_own : (g : Grammar) → AreOwn g → (name : NonterminalString) (k : Dotted Nil) → IsBegunBy (rules_of g) name k → IsBegunOf (productions_of g name) k
-begun_of_own g own name k b = record { start = b.start; among = subst (λ (a : NonterminalString). Contains (productions_of g a) k.production) b.named (own k.production b.among) }
 
 -- ---- the kernel goes to the table
 pub Started-tokens-none : (table : Found) (stack : List (Dotted Nil)) → table ≡ [] → IsStarted [] table stack

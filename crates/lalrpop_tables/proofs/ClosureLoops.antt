@@ -1,34 +1,34 @@
 -- The loop of a closure: from the kernel on the stack to an empty stack.
-use Rattle.std.proofs.Common.{◌≡◌, ◌↔◌, ℕ, zero, suc, ◌+◌, ◌<◌, inl, inr, List, [], ◌∷◌, ◌++◌, map, sym, ◌∙◌, ap, subst, arith, length-append, Bool, Option, Some, None}
-use Rattle.std.specs.Prelude.{Contains, slice_get, MatchOption, drop}
-use Rattle.std.specs.Map.{keys_of, lookup}
+use Rattle.std.proofs.Common.{◌≡◌, ◌↔◌, ℕ, zero, suc, ◌+◌, ◌<◌, inl, inr, List, [], ◌∷◌, ◌++◌, map, sym, ◌∙◌, ap, subst, arith, length-append, Some}
+use Rattle.std.specs.Prelude.{Contains, slice_get, drop}
+use Rattle.std.specs.Map.{keys_of}
 use Rattle.std.proofs.lemmas.List.Elements.{Contains-append_left, Contains-append_right, Contains-append_cases}
 use Rattle.std.proofs.lemmas.List.{map-append}
 use Rattle.lalrpop_base.specs.Bits.{Bits}
 use Rattle.lalrpop_base.specs.Items.{Dotted}
-use Rattle.lalrpop_base.specs.WellFormed.{Rules, rules_of, productions, productions_of}
-use Rattle.lalrpop_base.specs.Closures.{InClosure, InTokenClosure}
+use Rattle.lalrpop_base.specs.WellFormed.{Rules}
+use Rattle.lalrpop_base.specs.Closures.{InClosure}
 use Rattle.lalrpop_base.specs.declared.lookahead.token.Token.{Token}
 use Rattle.lalrpop_base.specs.Closures.InClosure.{in_kernel, expanded}
-use Rattle.lalrpop_base.specs.declared.repr.grammar.Grammar.{Grammar}
+use Rattle.lalrpop_base.specs.declared.repr.Symbol.{Symbol}
 use Rattle.lalrpop_base.specs.declared.repr.NonterminalString.{NonterminalString}
 use Rattle.lalrpop_base.specs.declared.repr.Symbol.TheVariants.{Nonterminal}
 use Rattle.lalrpop_base.specs.Tokens.{FitsTokens}
 use Rattle.lalrpop_base.specs.declared.lookahead.nil.Nil.{Nil}
 use Rattle.lalrpop_base.specs.declared.repr.Production.{Production}
 use Rattle.lalrpop_tables.specs.Ascending.{Ascend}
-use Rattle.lalrpop_tables.specs.Closure.{dotted_of, InKernel, HasItemToken, AreItems, IsClosureOf, Found, item_of, IsStacked, IsTable, AreBegun, begun_of, Spreads, IsSettled, IsExpanded, IsClosing}
+use Rattle.lalrpop_tables.specs.Closure.{dotted_of, InKernel, HasItemToken, AreItems, IsClosureBy, InTokenClosureBy, itself, Found, item_of, IsStacked, IsTable, AreBegun, begun_of, Spreads, IsSettled, IsExpanded, IsClosing}
 use Rattle.lalrpop_tables.proofs.Lists.{Contains-none, Contains-here, Contains-cases}
 use Rattle.lalrpop_tables.proofs.Places.{same_some}
-use Rattle.lalrpop_tables.proofs.Tables.{same_lr0, found_tokens, joined_keys, joined_from, joined_there, stacked_more, stacked_last, stacked_of, key_entry, weight_few, work, table_popped, lr0, Table-items, Started-more, Started-none}
+use Rattle.lalrpop_tables.proofs.Tables.{same_lr0, joined_keys, joined_from, joined_there, stacked_more, stacked_last, stacked_of, key_entry, weight_few, work, table_popped, lr0, Table-items, Started-more, Started-none}
 
 -- ---- the loop
-module _ (g : Grammar) (ordered : (q : Production) → Contains (productions g) q → Contains (productions_of g q.nonterminal) q) where
+module _ (g : Rules) where
   pub Closing-step : (kernel : List (Dotted Bits)) (i : Dotted Nil) (old new : Found) (stack pushed : List (Dotted Nil)) → IsClosing g kernel old (stack ++ i ∷ []) → IsExpanded g i old new stack pushed → IsClosing g kernel new pushed
   Closing-step kernel i old new stack pushed c x =
       let i_found = c.found i (Contains-append_right stack (i ∷ []) i (Contains-here i [])) in
       record {
-        is_table = x.kept kernel i_found (table_popped (rules_of g) kernel old stack i c.is_table);
+        is_table = x.kept kernel i_found (table_popped g kernel old stack i c.is_table);
         found = λ k d. elim (x.pushed_found k d) [ inl h ↦ x.known k (c.found k (Contains-append_left stack (i ∷ []) k h)) | inr h ↦ h ];
         has = λ k d. x.known k (c.has k d);
         done = λ k d. elim (x.from k d) [
@@ -46,26 +46,27 @@ module _ (g : Grammar) (ordered : (q : Production) → Contains (productions g) 
         ];
       }
 
-  pub Closing-smaller : (kernel : List (Dotted Bits)) (i : Dotted Nil) (old new : Found) (stack pushed : List (Dotted Nil)) → IsClosing g kernel old (stack ++ i ∷ []) → IsExpanded g i old new stack pushed → work (rules_of g) kernel new pushed < work (rules_of g) kernel old (stack ++ i ∷ [])
+  pub Closing-smaller : (kernel : List (Dotted Bits)) (i : Dotted Nil) (old new : Found) (stack pushed : List (Dotted Nil)) → IsClosing g kernel old (stack ++ i ∷ []) → IsExpanded g i old new stack pushed → work g kernel new pushed < work g kernel old (stack ++ i ∷ [])
   Closing-smaller kernel i old new stack pushed c x =
       let i_found = c.found i (Contains-append_right stack (i ∷ []) i (Contains-here i [])) in
-      let before = table_popped (rules_of g) kernel old stack i c.is_table in
-      let few_new = weight_few (rules_of g) kernel new pushed (x.kept kernel i_found before) in
+      let before = table_popped g kernel old stack i c.is_table in
+      let few_new = weight_few g kernel new pushed (x.kept kernel i_found before) in
       let more = x.counted kernel i_found before in
       let l = length-append stack (i ∷ []) in
       omega arith
 
-  complete : (kernel : List (Dotted Bits)) (table : Found) → IsClosing g kernel table [] → (p : Production) (n : ℕ) → InClosure (productions g) (InKernel kernel) p n → Contains (keys_of table) (lr0 (rules_of g) (p, n))
-  complete kernel table c p n (in_kernel h) = c.has (lr0 (rules_of g) (p, n)) h
+  complete : (kernel : List (Dotted Bits)) (table : Found) → IsClosing g kernel table [] → (p : Production) (n : ℕ) → InClosure g.productions (InKernel kernel) p n → Contains (keys_of table) (lr0 g (p, n))
+  complete kernel table c p n (in_kernel h) = c.has (lr0 g (p, n)) h
   complete kernel table c p n (expanded {p = parent} {dot} q after h e m) =
-      elim (c.done (lr0 (rules_of g) (parent, dot)) (complete kernel table c parent dot h)) [
-        | inl s ↦ absurd (Contains-none (lr0 (rules_of g) (parent, dot)) s)
-        | inr settled ↦ settled q after e (ordered q m)
+      elim (c.done (lr0 g (parent, dot)) (complete kernel table c parent dot h)) [
+        | inl s ↦ absurd (Contains-none (lr0 g (parent, dot)) s)
+        | inr settled ↦ settled q after e m
       ]
 
-  pub Closing-end : (kernel : List (Dotted Bits)) (table : Found) → IsClosing g kernel table [] → Ascend (map item_of table) →
-      ((p : Production) (dot : ℕ) (t : Token) → HasItemToken g.terminals (map item_of table) p dot t ↔ InTokenClosure (productions g) (InKernel (map item_of table)) (HasItemToken g.terminals kernel) p dot t) → IsClosureOf (rules_of g) kernel (map item_of table)
-  Closing-end kernel table c ascend tokens = Table-items (rules_of g) kernel table [] c.is_table ascend (complete kernel table c) tokens
+  module _ (begins : Rules → List Symbol → Token → Type 0) (passes : Rules → List Symbol → Type 0) where
+    pub Closing-end : (kernel : List (Dotted Bits)) (table : Found) → IsClosing g kernel table [] → Ascend (map item_of table) →
+        ((p : Production) (dot : ℕ) (t : Token) → HasItemToken g.terminals (map item_of table) p dot t ↔ InTokenClosureBy (begins g) (passes g) g.productions (InKernel (map item_of table)) (HasItemToken g.terminals kernel) p dot t) → IsClosureBy itself begins passes g kernel (map item_of table)
+    Closing-end kernel table c ascend tokens = Table-items begins passes g kernel table [] c.is_table ascend (complete kernel table c) tokens
 
 -- ---- an item is expanded
 drop_at : {X : Type 0} (xs : List X) (n : ℕ) (x : X) → slice_get xs n ≡ Some x → drop n xs ≡ x ∷ drop (n + 1) xs
@@ -79,15 +80,15 @@ at_drop [] (suc n) x after h = cc
 at_drop (y ∷ xs) zero x after h = let e : y ≡ x = cc in ap Some e
 at_drop (y ∷ xs) (suc n) x after h = at_drop xs n x after h
 
-module _ (g : Grammar) (i : Dotted Nil) (old : Found) (stack : List (Dotted Nil)) where
-  -- where the productions of the nonterminal behind the dot went to the table
-  pub Expanded-over : (name : NonterminalString) (tokens : Bits) (new : Found) (pushed : List (Dotted Nil)) → slice_get i.production.symbols i.index ≡ Some (Nonterminal name) →
-      ((p : Production) → Contains (productions_of g name) p → p.nonterminal ≡ name) → ((p : Production) → Contains (productions_of g name) p → Contains (productions g) p) →
-      ((kernel : List (Dotted Bits)) → IsTable (rules_of g) kernel old stack → FitsTokens g.terminals tokens) → Spreads (rules_of g) tokens (productions_of g name) old new stack pushed → IsExpanded g i old new stack pushed
-  Expanded-over name tokens new pushed behind named among fits s =
+module _ (g : Rules) (i : Dotted Nil) (old : Found) (stack : List (Dotted Nil)) where
+  -- where productions of the nonterminal behind the dot went to the table, all of them
+  pub Expanded-over : (name : NonterminalString) (tokens : Bits) (ps : List Production) (new : Found) (pushed : List (Dotted Nil)) → slice_get i.production.symbols i.index ≡ Some (Nonterminal name) →
+      ((p : Production) → Contains ps p → p.nonterminal ≡ name) → ((p : Production) → Contains ps p → Contains g.productions p) → ((p : Production) → Contains g.productions p → p.nonterminal ≡ name → Contains ps p) →
+      ((kernel : List (Dotted Bits)) → IsTable g kernel old stack → FitsTokens g.terminals tokens) → Spreads g tokens ps old new stack pushed → IsExpanded g i old new stack pushed
+  Expanded-over name tokens ps new pushed behind named among all fits s =
       let at = drop_at i.production.symbols i.index (Nonterminal name) behind in
-      let begun : (kernel : List (Dotted Bits)) → Contains (keys_of old) i → IsTable (rules_of g) kernel old stack → AreBegun (rules_of g) kernel (productions_of g name) = λ kernel found t p c.
-      let e = key_entry (rules_of g) old i found in
+      let begun : (kernel : List (Dotted Bits)) → Contains (keys_of old) i → IsTable g kernel old stack → AreBegun g kernel ps = λ kernel found t p c.
+      let e = key_entry g old i found in
       expanded p (drop (i.index + 1) i.production.symbols) (t.sound (i, e.0) e.1) (at ∙ ap (λ (a : NonterminalString). Nonterminal a ∷ drop (i.index + 1) i.production.symbols) (sym (named p c))) (among p c) in
       record {
         kept = λ kernel found t. s.kept kernel (fits kernel t) (begun kernel found t) t;
@@ -99,7 +100,7 @@ module _ (g : Grammar) (i : Dotted Nil) (old : Found) (stack : List (Dotted Nil)
         settled = λ q after e m.
             let same : Nonterminal q.nonterminal ∷ after ≡ Nonterminal name ∷ drop (i.index + 1) i.production.symbols = sym e ∙ at in
             let is : q.nonterminal ≡ name = cc in
-            s.there q (subst (λ (a : NonterminalString). Contains (productions_of g a) q) is m);
+            s.there q (all q m is);
       }
 
   -- where no nonterminal stands behind the dot
@@ -113,12 +114,6 @@ module _ (g : Grammar) (i : Dotted Nil) (old : Found) (stack : List (Dotted Nil)
     pushed_found = λ k c. inl c;
     settled = λ q after e m. absurd (none q.nonterminal (at_drop i.production.symbols i.index (Nonterminal q.nonterminal) after e));
   }
-
--- the tokens that follow are tokens, as those of the table are
-pub fits_of : (g : Rules) (kernel : List (Dotted Bits)) (test : Dotted Nil → Bool) (table : Found) (stack : List (Dotted Nil)) (given : Bits) (o : Option Bits) → lookup test table ≡ o →
-    MatchOption o (FitsTokens g.terminals given) (λ set. FitsTokens g.terminals set → FitsTokens g.terminals given) → IsTable g kernel table stack → FitsTokens g.terminals given
-fits_of g kernel test table stack given None e m t = m
-fits_of g kernel test table stack given (Some s) e m t = let at = found_tokens test table s e in m (t.each (at.0, s) at.1).tokens
 
 -- ---- the kernel goes to the table
 -- the first items of a kernel, each on the stack
@@ -161,7 +156,7 @@ Start-more g kernel first i key old new stack pushed a c p d s t =
       ];
     }
 
-pub Start-closing : (g : Grammar) (kernel first : List (Dotted Bits)) (table : Found) (stack : List (Dotted Nil)) → first ≡ kernel → AreStarted (rules_of g) kernel first table stack → IsClosing g kernel table stack
+pub Start-closing : (g : Rules) (kernel first : List (Dotted Bits)) (table : Found) (stack : List (Dotted Nil)) → first ≡ kernel → AreStarted g kernel first table stack → IsClosing g kernel table stack
 Start-closing g kernel first table stack e t = record {
   is_table = t.is_table;
   found = t.found;

@@ -94,9 +94,9 @@ failure_lists g start well differ (Conflicts error) f h =
     canonical_failure g start states error.conflicts.items (λ n p dot t. tokens_of g.terminals states n p dot t ≡ true) well differ f.0 (λ n s at. (f.0.built.each n s at).built.ascend) h.canonical h.ascend f.1
 failure_lists g start well differ Memory f h = tt
 
-pub result_lists : {T : Type 0} (g : Grammar) (start : NonterminalString) (c : Construction) (r : Result T (BuildError Bits)) (A : T → Type 0) → IsWellFormed g → AllDiffer g.terminals → c ≡ canonical_of g start →
+pub result_lists : {T : Type 0} (g : Grammar) (start : NonterminalString) (c : Construction Bits) (r : Result T (BuildError Bits)) (A : T → Type 0) → IsWellFormed g → AllDiffer g.terminals → c ≡ canonical_of g start →
     IfErr r (FailsBy c) → MatchResult r A (HasCanonicalStates (rules_of g) start) → IfErr r (ListsCanonicalConflicts g start)
 result_lists g start c r A well differ same failure canonical =
     IfErr-weaker r (λ e. FailsBy c e × HasCanonicalStates (rules_of g) start e) (ListsCanonicalConflicts g start)
-    (λ e h. failure_lists g start well differ e (subst (λ (k : Construction). FailsBy k e) same h.0) h.1)
+    (λ e h. failure_lists g start well differ e (subst (λ (k : Construction Bits). FailsBy k e) same h.0) h.1)
     (IfErr-with r A (FailsBy c) (HasCanonicalStates (rules_of g) start) failure canonical)

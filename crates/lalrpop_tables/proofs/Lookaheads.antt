@@ -15,6 +15,10 @@ eof_fits terminals bit h =
     (λ none. absurd (true≢false (sym none ∙ has-no_bits bit)))
     (or_cases (bit == length terminals) (has no_bits bit) (sym (has-with_bit no_bits (length terminals) bit) ∙ h))
 
+-- nothing is held of tokens
+pub nothing_fits : (terminals : List TerminalString) → FitsTokens terminals no_bits
+nothing_fits terminals bit h = absurd (true≢false (sym h ∙ has-no_bits bit))
+
 -- no bit is one of a token
 pub none_fits : (terminals : List TerminalString) (s : Bits) → s ≡ no_bits → FitsTokens terminals s
 none_fits terminals s e bit h = let none : has s bit ≡ false = ap (λ (t : Bits). has t bit) e ∙ has-no_bits bit in absurd (true≢false (sym h ∙ none))

@@ -21,28 +21,29 @@ use Rattle.lalrpop_tables.proofs.Lists.{Contains-map}
 use Rattle.lalrpop_tables.proofs.Shifting.{Shifts-from, of_dotted}
 
 -- ---- moved items ascend
-moved_precedes : (i j : Dotted Bits) → Precedes i j → Precedes (moved i) (moved j)
-moved_precedes i j (inl h) = inl h
-moved_precedes i j (inr h) = let l = h.1 in inr (h.0, omega arith)
+module _ {L : Type 0} where
+  moved_precedes : (i j : Dotted L) → Precedes i j → Precedes (moved i) (moved j)
+  moved_precedes i j (inl h) = inl h
+  moved_precedes i j (inr h) = let l = h.1 in inr (h.0, omega arith)
 
-pub Shifts-ascend : (x : Symbol) (items kernel : List (Dotted Bits)) → Shifts x items kernel → Ascend items → Ascend kernel
-Shifts-ascend x items kernel none a = a
-Shifts-ascend x items kernel (moves {i} {items = is} {kernel = ks} b s) a =
-    ordered_cons Precedes (moved i) ks
-    (λ j c. let f = Shifts-from x is ks s j c in subst (Precedes (moved i)) f.is (moved_precedes i f.item (ordered_head Precedes i is a f.item f.among)))
-    (Shifts-ascend x is ks s (ordered_tail Precedes i is a))
-Shifts-ascend x items kernel (stays {i} {items = is} {kernel = ks} b s) a = Shifts-ascend x is ks s (ordered_tail Precedes i is a)
+  pub Shifts-ascend : (x : Symbol) (items kernel : List (Dotted L)) → Shifts x items kernel → Ascend items → Ascend kernel
+  Shifts-ascend x items kernel none a = a
+  Shifts-ascend x items kernel (moves {i} {items = is} {kernel = ks} b s) a =
+      ordered_cons Precedes (moved i) ks
+      (λ j c. let f = Shifts-from x is ks s j c in subst (Precedes (moved i)) f.is (moved_precedes i f.item (ordered_head Precedes i is a f.item f.among)))
+      (Shifts-ascend x is ks s (ordered_tail Precedes i is a))
+  Shifts-ascend x items kernel (stays {i} {items = is} {kernel = ks} b s) a = Shifts-ascend x is ks s (ordered_tail Precedes i is a)
 
--- the dots of moved items are past the start
-pub Shifts-past : (x : Symbol) (items kernel : List (Dotted Bits)) → Shifts x items kernel → (i : Dotted Bits) → Contains kernel i → (d : ℕ) × (i.index ≡ suc d)
-Shifts-past x items kernel s i c =
-    let f = Shifts-from x items kernel s i c in
-    let e : i.index ≡ f.item.index + 1 = ap (λ (j : Dotted Bits). j.index) (sym f.is) in
-    (f.item.index, omega arith)
+  -- the dots of moved items are past the start
+  pub Shifts-past : (x : Symbol) (items kernel : List (Dotted L)) → Shifts x items kernel → (i : Dotted L) → Contains kernel i → (d : ℕ) × (i.index ≡ suc d)
+  Shifts-past x items kernel s i c =
+      let f = Shifts-from x items kernel s i c in
+      let e : i.index ≡ f.item.index + 1 = ap (λ (j : Dotted L). j.index) (sym f.is) in
+      (f.item.index, omega arith)
 
 -- ---- what stands past the start in a closure is of its kernel
 module _ (g : List Production) where
-  past_in_kernel : (K : Production → ℕ → Type 0) {p : Production} {dot : ℕ} (d : ℕ) → dot ≡ suc d → InClosure g K p dot → K p dot
+  pub past_in_kernel : (K : Production → ℕ → Type 0) {p : Production} {dot : ℕ} (d : ℕ) → dot ≡ suc d → InClosure g K p dot → K p dot
   past_in_kernel K d e (in_kernel k) = k
   past_in_kernel K d e (expanded q after c behind among) = absurd (omega arith)
 

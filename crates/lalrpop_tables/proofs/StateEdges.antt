@@ -7,12 +7,10 @@ use Rattle.std.specs.declared.cmp.Ordering.{Ordering}
 use Rattle.std.proofs.lemmas.Map.Lookups.{CmpEqualImpliesEq}
 use Rattle.std.proofs.lemmas.Map.Views.{IsSome-lookup_from_Contains}
 use Rattle.std.proofs.lemmas.Option.{slice_get_within}
-use Rattle.lalrpop_base.specs.Bits.{Bits}
 use Rattle.lalrpop_base.specs.Closures.{IsReached, at_zero, over_edge}
 use Rattle.lalrpop_base.specs.Contents.{number_of, contents_of, contents_at, contents_in, no_contents}
 use Rattle.lalrpop_base.specs.Items.{Dotted}
 use Rattle.lalrpop_base.specs.States.{leads, IsBehindDot, LeadsOverDots}
-use Rattle.lalrpop_base.specs.WellFormed.{Rules}
 use Rattle.lalrpop_base.specs.contracts.repr.TerminalStringOrd.TheImpl as terminal_ord
 use Rattle.lalrpop_base.specs.contracts.repr.NonterminalStringOrd.TheImpl as name_ord
 use Rattle.lalrpop_base.specs.declared.lookahead.token.Token.{Token}
@@ -23,7 +21,7 @@ use Rattle.lalrpop_base.specs.declared.repr.Symbol.{Symbol}
 use Rattle.lalrpop_base.specs.declared.repr.Symbol.TheVariants.{Nonterminal, Terminal}
 use Rattle.lalrpop_base.proofs.ContentsViews.{terminals_ordered, names_ordered}
 use Rattle.lalrpop_tables.specs.Closure.{dotted_of}
-use Rattle.lalrpop_tables.specs.States.{HasTransition, IsBuilt, AreBuilt}
+use Rattle.lalrpop_tables.specs.States.{HasTransition, IsBuiltBy, AreBuiltBy}
 use Rattle.lalrpop_tables.specs.Transitions.{IsBehind}
 use Rattle.lalrpop_tables.proofs.CanonicalStates.{entry_of, leads_transition}
 use Rattle.lalrpop_tables.proofs.Closing.{drop_split, split_drop}
@@ -45,13 +43,13 @@ found_of {K} {R = R} total exact m key target c =
     let entry = entry_of total exact m key (there.0).0 number in
     (entry.0, number ∙ ap Some (sym entry.1), entry.2)
 
-pub transition_leads : (holds : Bits → Token → Bool) (s : State Bits) (x : Symbol) (target : StateIndex) → HasTransition x target s → (found : StateIndex) × (leads (contents_of holds s) x ≡ Some found.0) × HasTransition x found s
+pub transition_leads : {L : Type 0} (holds : L → Token → Bool) (s : State L) (x : Symbol) (target : StateIndex) → HasTransition x target s → (found : StateIndex) × (leads (contents_of holds s) x ≡ Some found.0) × HasTransition x found s
 transition_leads holds s (Nonterminal a) target h = found_of name_ord.Laws.total-law names_ordered s.gotos a target h
 transition_leads holds s (Terminal t) target h = found_of terminal_ord.Laws.total-law terminals_ordered s.shifts t target h
 
 -- ---- the symbols behind the dots
-module _ (holds : Bits → Token → Bool) (g : Rules) (list : List (List (Dotted Bits))) (kernel : List (Dotted Bits)) (number : ℕ) (s : State Bits) (built : IsBuilt g list kernel number s) where
-  behind_of : (x : Symbol) (i : Dotted Bits) → Contains s.items.vec.items i → IsBehind x i → IsBehindDot (contents_of holds s) x
+module _ {L : Type 0} (holds : L → Token → Bool) (Closes : List (Dotted L) → List (Dotted L) → Type 0) (list : List (List (Dotted L))) (kernel : List (Dotted L)) (number : ℕ) (s : State L) (built : IsBuiltBy Closes list kernel number s) where
+  behind_of : (x : Symbol) (i : Dotted L) → Contains s.items.vec.items i → IsBehind x i → IsBehindDot (contents_of holds s) x
   behind_of x i c b = record {
     production = i.production;
     dot = i.index;
@@ -86,9 +84,9 @@ pub nowhere_leads : LeadsOverDots no_contents
 nowhere_leads x = (λ h. absurd (no_leads x h.0 h.1), λ b. absurd (no_item b.production b.dot b.item))
 
 -- ---- each state is reached
-module _ (holds : Bits → Token → Bool) (g : Rules) (first : List (Dotted Bits)) (states : List (State Bits)) (b : AreBuilt g first states) where
+module _ {L : Type 0} (holds : L → Token → Bool) (Closes : List (Dotted L) → List (Dotted L) → Type 0) (first : List (Dotted L)) (states : List (State L)) (b : AreBuiltBy Closes first states) where
   -- a transition is the edge of its symbol
-  edge_to : (place : ℕ) (s : State Bits) (x : Symbol) (target : StateIndex) (n : ℕ) → slice_get states place ≡ Some s → HasTransition x target s → target.0 ≡ n → leads (contents_in holds states place) x ≡ Some n
+  edge_to : (place : ℕ) (s : State L) (x : Symbol) (target : StateIndex) (n : ℕ) → slice_get states place ≡ Some s → HasTransition x target s → target.0 ≡ n → leads (contents_in holds states place) x ≡ Some n
   edge_to place s x target n at h e =
       let built = b.each place s at in
       let found = transition_leads holds s x target h in
@@ -96,7 +94,7 @@ module _ (holds : Bits → Token → Bool) (g : Rules) (first : List (Dotted Bit
       let k = built.built.leads x found.0 found.2 in
       let same : k.kernel ≡ l.kernel = one_kernel x s.items.vec.items k.kernel l.kernel k.shifts l.shifts in
       let number : (found.0).0 ≡ target.0 = one_place b.kernels b.differ (found.0).0 target.0 l.kernel (k.numbered ∙ ap Some same) l.numbered in
-      ap (λ (o : Option (State Bits)). leads (contents_at holds o) x) at ∙ found.1 ∙ ap Some (number ∙ e)
+      ap (λ (o : Option (State L)). leads (contents_at holds o) x) at ∙ found.1 ∙ ap Some (number ∙ e)
 
   reached_below : (bound n : ℕ) → n < bound → n < length states → IsReached (contents_in holds states) n
   reached_below zero n l within = absurd (omega arith)

@@ -1,8 +1,7 @@
 -- The tables of a closure, and one dotted production more.
 use Rattle.std.proofs.Common.{◌≡◌, ◌↔◌, ◌≢◌, ℕ, zero, suc, ◌+◌, ◌-◌, ◌*◌, ◌≤◌, ◌⊎◌, inl, inr, List, [], ◌∷◌, ◌++◌, length, map, refl, sym, ◌∙◌, ap, subst, arith, length-append, Bool, true, false, cond, Some}
 use Rattle.std.specs.Prelude.{Contains, slice_get, MatchBool}
-use Rattle.std.specs.Map.{keys_of, lookup}
-use Rattle.std.proofs.lemmas.Map.Entries.{place_from_lookup}
+use Rattle.std.specs.Map.{keys_of}
 use Rattle.std.proofs.lemmas.List.Elements.{Contains-append_left, Contains-append_right, Contains-append_cases}
 use Rattle.std.proofs.lemmas.List.Sums.{sum_by-append, sum_by-cons}
 use Rattle.std.proofs.lemmas.List.{length-map, map-append}
@@ -11,19 +10,20 @@ use Rattle.lalrpop_base.specs.Bits.{Bits, join}
 use Rattle.lalrpop_base.specs.Items.{Dotted}
 use Rattle.lalrpop_base.specs.Places.{AllDiffer}
 use Rattle.lalrpop_base.specs.WellFormed.{Rules}
-use Rattle.lalrpop_base.specs.Closures.{InClosure, InTokenClosure}
+use Rattle.lalrpop_base.specs.Closures.{InClosure}
 use Rattle.lalrpop_base.specs.declared.lookahead.token.Token.{Token}
 use Rattle.lalrpop_base.specs.Closures.InClosure.{in_kernel}
 use Rattle.lalrpop_base.specs.Tokens.{FitsTokens}
 use Rattle.lalrpop_base.specs.declared.lookahead.nil.Nil.{Nil}
 use Rattle.lalrpop_base.specs.declared.repr.Production.{Production}
+use Rattle.lalrpop_base.specs.declared.repr.Symbol.{Symbol}
 use Rattle.lalrpop_tables.specs.Ascending.{Ascend}
 use Rattle.lalrpop_tables.specs.Counts.{count}
 use Rattle.lalrpop_tables.specs.Entries.{IsJoinedAt}
 use Rattle.lalrpop_tables.specs.Entries.IsJoinedAt.{fresh, known}
-use Rattle.lalrpop_tables.specs.Closure.{dotted_of, InKernel, HasItemToken, IsItemOf, AreItems, IsClosureOf, Found, item_of, IsStacked, IsTable, weight, begun_of, Spreads}
+use Rattle.lalrpop_tables.specs.Closure.{dotted_of, InKernel, HasItemToken, IsItemOf, AreItems, IsClosureBy, InTokenClosureBy, itself, Found, item_of, IsStacked, IsTable, weight, begun_of, Spreads}
 use Rattle.lalrpop_tables.proofs.Lists.{Contains-none, Contains-here, Contains-there, Contains-cases, Contains-map, pigeonhole}
-use Rattle.lalrpop_tables.proofs.Places.{midst, around, at_midst, apart_from_differ, same_some, contains_at}
+use Rattle.lalrpop_tables.proofs.Places.{midst, around, at_midst, apart_from_differ, same_some}
 use Rattle.lalrpop_tables.proofs.Subsets.{AreBelow, count_few, join_counts, join_below}
 
 abbrev pub Entry : Type 0
@@ -65,10 +65,6 @@ pub same_lr0 : (a b : Dotted Nil) → a.production ≡ b.production → a.index 
 same_lr0 a b p i =
     let make : Production → ℕ → Dotted Nil = λ p i. record { production = p; index = i; lookahead = record {} } in
     ap (λ p. make p a.index) p ∙ ap (λ i. make b.production i) i
-
--- the tokens that a look-up finds are those of an entry
-pub found_tokens : (test : Dotted Nil → Bool) (table : Found) (s : Bits) → lookup test table ≡ Some s → (k : Dotted Nil) × Contains table (k, s)
-found_tokens test table s h = let at = place_from_lookup test table s h in (at.1, contains_at table (at.1, s) at.0 at.2)
 
 -- ---- the keys of a table, one dotted production more
 keys_midst : (front back : Found) (e : Entry) → keys_of (front ++ e ∷ back) ≡ keys_of front ++ e.0 ∷ keys_of back
@@ -308,24 +304,6 @@ module _ (g : Rules) where
     | inr later ↦ Contains-there (e.0.production, e.0.index) (map dotted_of (map item_of es)) (k.production, k.index) (item_of_key es k later)
   ]
 
-  pub Table-items : (kernel : List (Dotted Bits)) (table : Found) (stack : List (Dotted Nil)) → IsTable g kernel table stack → Ascend (map item_of table) → ((p : Production) (n : ℕ) → InClosure g.productions (InKernel kernel) p n → Contains (keys_of table) (lr0 (p, n))) →
-      ((p : Production) (dot : ℕ) (t : Token) → HasItemToken g.terminals (map item_of table) p dot t ↔ InTokenClosure g.productions (InKernel (map item_of table)) (HasItemToken g.terminals kernel) p dot t) → IsClosureOf g kernel (map item_of table)
-  Table-items kernel table stack t ascend complete tokens = record {
-    ascend = ascend;
-    tokens = tokens;
-    are_items = record {
-      each = λ i c. let h = entry_of table i c in subst (IsItemOf g) h.2 (t.each h.0 h.1);
-      differ = dotted_differ table t.differ;
-    };
-    begun = λ i c. let h = entry_of table i c in subst (λ (j : Dotted Bits). (j.index ≡ 0) ⊎ Contains (map dotted_of kernel) (j.production, j.index)) h.2 (t.begun h.0 h.1);
-    exact = λ p n. (
-      λ c.
-          let h = key_of_item table p n c in
-          subst (λ (q : Production). InClosure g.productions (InKernel kernel) q n) h.2 (subst (λ (m : ℕ). InClosure g.productions (InKernel kernel) h.0.0.production m) h.3 (t.sound h.0 h.1)),
-      λ c. item_of_key table (lr0 (p, n)) (complete p n c),
-    );
-  }
-
   -- an item of the kernel more
   pub Started-more : (kernel : List (Dotted Bits)) (i : Dotted Bits) (key : Dotted Nil) (old new : Found) (stack pushed : List (Dotted Nil)) → AreItems g kernel → Contains kernel i → key.production ≡ i.production → key.index ≡ i.index →
       IsStacked key i.lookahead old new stack pushed → IsTable g kernel old stack → IsTable g kernel new pushed
@@ -343,4 +321,23 @@ module _ (g : Rules) where
     sound = λ x c. absurd (Contains-none x (subst (λ (xs : Found). Contains xs x) e c));
     differ = subst (λ (xs : Found). AllDiffer (keys_of xs)) (sym e) (λ i j x l at. cc);
     stacked = λ x c. absurd (Contains-none x (subst (λ (xs : List (Dotted Nil)). Contains xs x) f c));
+  }
+
+module _ (begins : Rules → List Symbol → Token → Type 0) (passes : Rules → List Symbol → Type 0) (g : Rules) where
+  pub Table-items : (kernel : List (Dotted Bits)) (table : Found) (stack : List (Dotted Nil)) → IsTable g kernel table stack → Ascend (map item_of table) → ((p : Production) (n : ℕ) → InClosure g.productions (InKernel kernel) p n → Contains (keys_of table) (lr0 g (p, n))) →
+      ((p : Production) (dot : ℕ) (t : Token) → HasItemToken g.terminals (map item_of table) p dot t ↔ InTokenClosureBy (begins g) (passes g) g.productions (InKernel (map item_of table)) (HasItemToken g.terminals kernel) p dot t) → IsClosureBy itself begins passes g kernel (map item_of table)
+  Table-items kernel table stack t ascend complete tokens = record {
+    ascend = ascend;
+    tokens = tokens;
+    are_items = record {
+      each = λ i c. let h = entry_of g table i c in subst (IsItemOf g) h.2 (t.each h.0 h.1);
+      differ = dotted_differ g table t.differ;
+    };
+    begun = λ i c. let h = entry_of g table i c in subst (λ (j : Dotted Bits). (j.index ≡ 0) ⊎ Contains (map dotted_of kernel) (j.production, j.index)) h.2 (t.begun h.0 h.1);
+    exact = λ p n. (
+      λ c.
+          let h = key_of_item g table p n c in
+          subst (λ (q : Production). InClosure g.productions (InKernel kernel) q n) h.2 (subst (λ (m : ℕ). InClosure g.productions (InKernel kernel) h.0.0.production m) h.3 (t.sound h.0 h.1)),
+      λ c. item_of_key g table (lr0 g (p, n)) (complete p n c),
+    );
   }

@@ -10,21 +10,19 @@ use Rattle.std.proofs.lemmas.Map.Views.{IsSome-lookup_from_Contains, Contains-fr
 use Rattle.std.specs.Ordering.{eq_by_cmp}
 use Rattle.std.proofs.Common.{ℕ, zero, suc, IsSome, option_map, slice_get}
 use Rattle.lalrpop_tables.proofs.Places.{same_some, one_place}
-use Rattle.lalrpop_tables.proofs.Lists.{place, Contains-map}
+use Rattle.lalrpop_tables.proofs.Lists.{place}
 use Rattle.std.specs.List.Sorted.{IsStrictlySortedBy}
 use Rattle.std.proofs.lemmas.Map.{lookup-none}
 use Rattle.std.proofs.lemmas.Map.Entries.{none_below_head}
 use Rattle.std.proofs.lemmas.Map.Keys.{sorted_tail}
 use Rattle.std.proofs.lemmas.Map.Lookups.{CmpEqualImpliesEq}
-use Rattle.std.specs.Prelude.{MatchBool, ◌≢◌, Contains}
+use Rattle.std.specs.Prelude.{◌≢◌, Contains}
 use Rattle.std.proofs.Common.{◌⊎◌, inl, inr, subst}
-use Rattle.lalrpop_base.specs.Bits.{Bits, join}
 use Rattle.lalrpop_base.specs.Places.{AllDiffer}
 use Rattle.lalrpop_tables.proofs.Lists.{apart-from_sorted}
 use Rattle.lalrpop_tables.proofs.Places.{differ_from_apart, midst, around, at_midst}
-use Rattle.lalrpop_tables.specs.Entries.{IsJoinedAt, IsPushedAt}
+use Rattle.lalrpop_tables.specs.Entries.{IsPushedAt}
 use Rattle.lalrpop_tables.specs.Entries.IsPushedAt.{fresh as push_fresh, known as push_known}
-use Rattle.lalrpop_tables.specs.Entries.IsJoinedAt.{fresh as join_fresh, known as join_known}
 
 module _ {K V : Type 0} where
   -- the list is others with an entry in their midst
@@ -107,13 +105,6 @@ exact_order E R exact ties x y h = exact x y (ties x y ∙ ap is_eq h)
 pub keys_differ : {K V : Type 0} (R : K → K → Ordering) → IsTotalOrder R → (es : List (K × V)) → IsStrictlySortedBy R (keys_of es) → AllDiffer (keys_of es)
 keys_differ R total es s = differ_from_apart (keys_of es) (apart-from_sorted R total (keys_of es) s)
 
-module _ {K : Type 0} (k : K) (tokens : Bits) where
-  pub joined_fresh : (old new : List (K × Bits)) → IsInserted k tokens old new → IsJoinedAt k tokens true old new
-  joined_fresh old new i = join_fresh i.front i.back i.before i.after refl
-
-  pub joined_known : (told : Bool) (s : Bits) (old new : List (K × Bits)) → MatchBool told (join s tokens ≢ s) (join s tokens ≡ s) → IsReplaced k s (join s tokens) old new → IsJoinedAt k tokens told old new
-  joined_known told s old new t i = join_known i.front i.back s i.before i.after t
-
 -- ---- an entry goes into a map, in the place of one with its key if there was one
 module _ {K V : Type 0} (cmp : K → K → Ordering) (exact : CmpEqualImpliesEq cmp) (total : IsTotalOrder cmp) (es : List (K × V)) (sorted : IsStrictlySortedBy cmp (keys_of es)) (k : K) (v : V) where
   put_at : (o : Option V) → lookup (is_at (cmp k)) es ≡ o → IsInserted k v es (insert_entry cmp es k v) ⊎ ((w : V) × IsReplaced k w v es (insert_entry cmp es k v))
@@ -157,10 +148,10 @@ module _ {K V : Type 0} (k : K) (v : V) where
   pub pushed_known : (vs ws : List V) (old new : List (K × List V)) → ws ≡ vs ++ v ∷ [] → IsReplaced k vs ws old new → IsPushedAt k v old new
   pushed_known vs ws old new e i = push_known i.front i.back vs i.before (i.after ∙ ap (λ (xs : List V). i.front ++ (k, xs) ∷ i.back) e)
 
--- ---- a look-up finds the value of a key that has one
-found_is : {V : Type 0} (o : Option V) (v : V) → IsSome o → ((w : V) → o ≡ Some w → w ≡ v) → o ≡ Some v
-found_is None v s each = cc
-found_is (Some w) v s each = ap Some (each w refl)
+-- ---- what a look-up finds
+none_some : {V : Type 0} (o : Option V) → o ≡ None → IsSome o → ⊥
+none_some None e s = cc
+none_some (Some v) e s = cc
 
 module _ {K V : Type 0} where
   pub key_stands : (es : List (K × V)) (i : ℕ) (e : K × V) → slice_get es i ≡ Some e → slice_get (keys_of es) i ≡ Some e.0
@@ -176,7 +167,11 @@ module _ {K V : Type 0} where
       let e = one_place (keys_of es) differ i.0 j.0 k (key_stands es i.0 (k, v) i.2) (key_stands es j.0 (k, w) j.2) in
       ap (λ (x : K × V). x.1) (same_some (k, v) (k, w) (sym i.2 ∙ ap (slice_get es) e ∙ j.2))
 
-  pub looked_up : (E : K → K → Bool) (R : K → K → Ordering) → ((x y : K) → E x y ≡ true → x ≡ y) → ((x y : K) → E x y ≡ is_eq (R x y)) → IsTotalOrder R → (es : List (K × V)) → AllDiffer (keys_of es) → (k : K) (v : V) → Contains es (k, v) → lookup (is_at (R k)) es ≡ Some v
-  looked_up E R exact ties total es differ k v c =
-      let there = IsSome-lookup_from_Contains (eq_by_cmp_equiv total) k es (Contains-map (λ (x : K × V). x.0) es (k, v) c) in
-      found_is (lookup (is_at (R k)) es) v there (λ w h. one_value es differ k w v (Contains-from_lookup {eq = eq_by_cmp R} (λ x y e. exact x y (ties x y ∙ e)) k w es h) c)
+module _ {K V : Type 0} where
+  -- what a look-up finds stands in the map
+  pub looked_found : (E : K → K → Bool) (R : K → K → Ordering) → ((x y : K) → E x y ≡ true → x ≡ y) → ((x y : K) → E x y ≡ is_eq (R x y)) → (es : List (K × V)) (k : K) (v : V) → lookup (is_at (R k)) es ≡ Some v → Contains es (k, v)
+  looked_found E R exact ties es k v h = Contains-from_lookup {eq = eq_by_cmp R} (λ x y e. exact x y (ties x y ∙ e)) k v es h
+
+  -- and where it finds nothing, the key is not there
+  pub looked_none : (R : K → K → Ordering) → IsTotalOrder R → (es : List (K × V)) (k : K) → lookup (is_at (R k)) es ≡ None → ¬ Contains (keys_of es) k
+  looked_none R total es k e c = none_some (lookup (is_at (R k)) es) e (IsSome-lookup_from_Contains (eq_by_cmp_equiv total) k es c)

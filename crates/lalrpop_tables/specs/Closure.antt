@@ -5,8 +5,7 @@ use Rattle.lalrpop_base.specs.Bits.{Bits}
 use Rattle.lalrpop_base.specs.Items.{Dotted}
 use Rattle.lalrpop_base.specs.Places.{AllDiffer}
 use Rattle.lalrpop_base.specs.Tokens.{FitsTokens}
-use Rattle.lalrpop_base.specs.WellFormed.{Rules, rules_of, productions_of}
-use Rattle.lalrpop_base.specs.declared.repr.grammar.Grammar.{Grammar}
+use Rattle.lalrpop_base.specs.WellFormed.{Rules}
 use Rattle.lalrpop_base.specs.declared.lookahead.nil.Nil.{Nil}
 use Rattle.lalrpop_base.specs.Closures.{InClosure, InTokenClosure}
 use Rattle.lalrpop_base.specs.Contents.{holds_token}
@@ -23,27 +22,46 @@ use Rattle.lalrpop_tables.specs.Entries.{IsJoinedAt}
 abbrev pub dotted_of : {L : Type 0} → Dotted L → Production × ℕ
 dotted_of {L} i = (i.production, i.index)
 
--- an item of the grammar: its production is the grammar's, its dot is within, and its bits are those of tokens
-pub record IsItemOf (g : Rules) (i : Dotted Bits) : Type 0 where
-  pub production : Contains g.productions i.production
-  pub dot : i.index ≤ length i.production.symbols
-  pub tokens : FitsTokens g.terminals i.lookahead
+-- an item with what its lookahead stands for
+abbrev pub meant : {L : Type 0} → (L → Bits) → Dotted L → Dotted Bits
+meant meaning i = record { production = i.production; index = i.index; lookahead = meaning i.lookahead }
 
--- items of the grammar, no dotted production twice
-pub record AreItems (g : Rules) (items : List (Dotted Bits)) : Type 0 where
-  pub each : (i : Dotted Bits) → Contains items i → IsItemOf g i
-  pub differ : AllDiffer (map dotted_of items)
+-- what a lookahead stands for is a parameter, so that this serves each kind of lookahead
+module _ {L : Type 0} (meaning : L → Bits) where
+  -- an item of the grammar: its production is the grammar's, its dot is within, and its bits are those of tokens
+  pub record IsItemBy (g : Rules) (i : Dotted L) : Type 0 where
+    pub production : Contains g.productions i.production
+    pub dot : i.index ≤ length i.production.symbols
+    pub tokens : FitsTokens g.terminals (meaning i.lookahead)
+
+  -- items of the grammar, no dotted production twice
+  pub record AreItemsBy (g : Rules) (items : List (Dotted L)) : Type 0 where
+    pub each : (i : Dotted L) → Contains items i → IsItemBy g i
+    pub differ : AllDiffer (map dotted_of items)
+
+  -- an item with the dotted production holds the token
+  pub record HasItemTokenBy (terminals : List TerminalString) (items : List (Dotted L)) (p : Production) (dot : ℕ) (t : Token) : Type 0 where
+    pub item : Dotted L
+    pub there : Contains items item
+    pub is : dotted_of item ≡ (p, dot)
+    pub holds : holds_token terminals (meaning item.lookahead) t ≡ true
+
+-- a set of tokens stands for itself
+abbrev pub itself : Bits → Bits
+itself set = set
+
+abbrev pub IsItemOf : Rules → Dotted Bits → Type 0
+IsItemOf = IsItemBy itself
+
+abbrev pub AreItems : Rules → List (Dotted Bits) → Type 0
+AreItems = AreItemsBy itself
+
+abbrev pub HasItemToken : List TerminalString → List (Dotted Bits) → Production → ℕ → Token → Type 0
+HasItemToken = HasItemTokenBy itself
 
 -- the dotted production is in the kernel
-abbrev pub InKernel : List (Dotted Bits) → Production → ℕ → Type 0
+abbrev pub InKernel : {L : Type 0} → List (Dotted L) → Production → ℕ → Type 0
 InKernel kernel p dot = Contains (map dotted_of kernel) (p, dot)
-
--- an item with the dotted production holds the token
-pub record HasItemToken (terminals : List TerminalString) (items : List (Dotted Bits)) (p : Production) (dot : ℕ) (t : Token) : Type 0 where
-  pub item : Dotted Bits
-  pub there : Contains items item
-  pub is : dotted_of item ≡ (p, dot)
-  pub holds : holds_token terminals item.lookahead t ≡ true
 
 -- the items are exactly the closure of the kernel, with exactly the tokens of the closure (Aho, Sethi, Ullman, section 4.7), ascending; those that the kernel lacks have the dot at the start
 pub record IsClosureOf (g : Rules) (kernel items : List (Dotted Bits)) : Type 0 where
@@ -53,13 +71,27 @@ pub record IsClosureOf (g : Rules) (kernel items : List (Dotted Bits)) : Type 0 
   pub exact : (p : Production) (dot : ℕ) → Contains (map dotted_of items) (p, dot) ↔ InClosure g.productions (InKernel kernel) p dot
   pub tokens : (p : Production) (dot : ℕ) (t : Token) → HasItemToken g.terminals items p dot t ↔ InTokenClosure g.productions (λ q n. Contains (map dotted_of items) (q, n)) (HasItemToken g.terminals kernel) p dot t
 
+-- the tokens of a closure (Aho, Sethi, Ullman, section 4.7), where what begins the symbols behind a nonterminal, and which symbols let tokens pass, are parameters
+pub data InTokenClosureBy (begins : List Symbol → Token → Type 0) (passes : List Symbol → Type 0) (g : List Production) (items : Production → ℕ → Type 0) (kernel : Production → ℕ → Token → Type 0) : Production → ℕ → Token → Type 0 where
+  own_token : {p : Production} {dot : ℕ} {t : Token} → kernel p dot t → InTokenClosureBy begins passes g items kernel p dot t
+  from_rest : {p : Production} {dot : ℕ} {t : Token} (q : Production) (after : List Symbol) → items p dot → drop dot p.symbols ≡ Nonterminal q.nonterminal ∷ after → Contains g q → begins after t → InTokenClosureBy begins passes g items kernel q 0 t
+  from_parent : {p : Production} {dot : ℕ} {t : Token} (q : Production) (after : List Symbol) → InTokenClosureBy begins passes g items kernel p dot t → drop dot p.symbols ≡ Nonterminal q.nonterminal ∷ after → Contains g q → passes after → InTokenClosureBy begins passes g items kernel q 0 t
+
+-- the closure of a kernel with any lookahead
+pub record IsClosureBy {L : Type 0} (meaning : L → Bits) (begins : Rules → List Symbol → Token → Type 0) (passes : Rules → List Symbol → Type 0) (g : Rules) (kernel items : List (Dotted L)) : Type 0 where
+  pub are_items : AreItemsBy meaning g items
+  pub ascend : Ascend items
+  pub begun : (i : Dotted L) → Contains items i → (i.index ≡ 0) ⊎ InKernel kernel i.production i.index
+  pub exact : (p : Production) (dot : ℕ) → Contains (map dotted_of items) (p, dot) ↔ InClosure g.productions (InKernel kernel) p dot
+  pub tokens : (p : Production) (dot : ℕ) (t : Token) → HasItemTokenBy meaning g.terminals items p dot t ↔ InTokenClosureBy (begins g) (passes g) g.productions (λ q n. Contains (map dotted_of items) (q, n)) (HasItemTokenBy meaning g.terminals kernel) p dot t
+
 -- ---- the worklist
 -- dotted productions with their tokens, as a closure finds them
 abbrev pub Found : Type 0
 Found = List (Dotted Nil × Bits)
 
--- a dotted production and its tokens, as an item
-abbrev pub item_of : Dotted Nil × Bits → Dotted Bits
+-- a dotted production and its lookahead, as an item
+abbrev pub item_of : {L : Type 0} → Dotted Nil × L → Dotted L
 item_of e = record { production = e.0.production; index = e.0.index; lookahead = e.1 }
 
 -- the tokens went to the dotted production, which was put on the stack where it has something new
@@ -100,17 +132,17 @@ pub record Spreads (g : Rules) (tokens : Bits) (ps : List Production) (old new :
   pub there : (p : Production) → Contains ps p → Contains (keys_of new) (begun_of p)
 
 -- what an item leads to without a symbol is in the table
-abbrev pub IsSettled : Grammar → Found → Dotted Nil → Type 0
-IsSettled g table k = (q : Production) (after : List Symbol) → drop k.index k.production.symbols ≡ Nonterminal q.nonterminal ∷ after → Contains (productions_of g q.nonterminal) q → Contains (keys_of table) (begun_of q)
+abbrev pub IsSettled : Rules → Found → Dotted Nil → Type 0
+IsSettled g table k = (q : Production) (after : List Symbol) → drop k.index k.production.symbols ≡ Nonterminal q.nonterminal ∷ after → Contains g.productions q → Contains (keys_of table) (begun_of q)
 
 -- each item of the table is on the stack or settled
-abbrev pub AreDone : Grammar → Found → List (Dotted Nil) → Type 0
+abbrev pub AreDone : Rules → Found → List (Dotted Nil) → Type 0
 AreDone g table stack = (k : Dotted Nil) → Contains (keys_of table) k → Contains stack k ⊎ IsSettled g table k
 
 -- an item was taken from the stack, and is settled
-pub record IsExpanded (g : Grammar) (i : Dotted Nil) (old new : Found) (stack pushed : List (Dotted Nil)) : Type 0 where
-  pub kept : (kernel : List (Dotted Bits)) → Contains (keys_of old) i → IsTable (rules_of g) kernel old stack → IsTable (rules_of g) kernel new pushed
-  pub counted : (kernel : List (Dotted Bits)) → Contains (keys_of old) i → IsTable (rules_of g) kernel old stack → weight (rules_of g) old + length pushed ≤ weight (rules_of g) new + length stack
+pub record IsExpanded (g : Rules) (i : Dotted Nil) (old new : Found) (stack pushed : List (Dotted Nil)) : Type 0 where
+  pub kept : (kernel : List (Dotted Bits)) → Contains (keys_of old) i → IsTable g kernel old stack → IsTable g kernel new pushed
+  pub counted : (kernel : List (Dotted Bits)) → Contains (keys_of old) i → IsTable g kernel old stack → weight g old + length pushed ≤ weight g new + length stack
   pub known : (k : Dotted Nil) → Contains (keys_of old) k → Contains (keys_of new) k
   pub from : (k : Dotted Nil) → Contains (keys_of new) k → Contains (keys_of old) k ⊎ Contains pushed k
   pub stacked : (k : Dotted Nil) → Contains stack k → Contains pushed k
@@ -118,8 +150,8 @@ pub record IsExpanded (g : Grammar) (i : Dotted Nil) (old new : Found) (stack pu
   pub settled : IsSettled g new i
 
 -- the state of the loop: a table with the kernel, whose items are on the stack or settled, and what is on the stack is found
-pub record IsClosing (g : Grammar) (kernel : List (Dotted Bits)) (table : Found) (stack : List (Dotted Nil)) : Type 0 where
-  pub is_table : IsTable (rules_of g) kernel table stack
+pub record IsClosing (g : Rules) (kernel : List (Dotted Bits)) (table : Found) (stack : List (Dotted Nil)) : Type 0 where
+  pub is_table : IsTable g kernel table stack
   pub found : (k : Dotted Nil) → Contains stack k → Contains (keys_of table) k
   pub has : (k : Dotted Nil) → Contains (map dotted_of kernel) (dotted_of k) → Contains (keys_of table) k
   pub done : AreDone g table stack

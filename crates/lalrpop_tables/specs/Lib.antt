@@ -5,8 +5,9 @@ pub mod Closing
 pub mod Closure
 pub mod Counts
 pub mod Entries
-pub mod Kernels
+pub mod EpsilonMoves
 pub mod ListedConflicts
+pub mod Lr0
 pub mod Moved
 pub mod Partitions
 pub mod Ready

@@ -4,9 +4,11 @@ use Rattle.lalrpop_base.specs.Bits.{Bits}
 use Rattle.lalrpop_base.specs.Tokens.{FitsTokens}
 use Rattle.lalrpop_base.specs.WellFormed.{Rules, rules_of, IsWellFormed}
 use Rattle.lalrpop_base.specs.declared.repr.grammar.Grammar.{Grammar}
+use Rattle.lalrpop_tables.specs.Closing.{AreOwn}
 
--- the grammar is well-formed, the first sets are its own, and the lookahead holds bits of its tokens
+-- the grammar is well-formed and its productions are found by their names, the first sets are its own, and the lookahead holds bits of its tokens
 pub record IsReady (g : Grammar) (first_sets : Rules) (lookahead : Bits) : Type 0 where
   pub well_formed : IsWellFormed g
+  pub own : AreOwn g
   pub firsts : first_sets ≡ rules_of g
   pub fits : FitsTokens g.terminals lookahead

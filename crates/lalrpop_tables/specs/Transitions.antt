@@ -3,7 +3,6 @@ use Rattle.std.specs.Prelude.{◌≡◌, ◌≢◌, ◌+◌, ◌⊎◌, ◌==◌
 use Rattle.std.specs.Borrow.{Bor}
 use Rattle.std.specs.BTreeMap.{IsOrdered}
 use Rattle.std.specs.Map.{keys_of}
-use Rattle.lalrpop_base.specs.Bits.{Bits}
 use Rattle.lalrpop_base.specs.Items.{Dotted}
 use Rattle.lalrpop_base.specs.Places.{AllDiffer}
 use Rattle.lalrpop_base.specs.declared.lr1_core.state.StateIndex.{StateIndex}
@@ -12,46 +11,46 @@ use Rattle.lalrpop_base.specs.declared.repr.Symbol.{Symbol}
 use Rattle.lalrpop_base.specs.declared.repr.Symbol.TheVariants.{Nonterminal, Terminal}
 use Rattle.lalrpop_base.specs.contracts.repr.TerminalStringOrd.TheImpl as terminal_ord
 use Rattle.lalrpop_tables.specs.Entries.{IsPushedAt}
-use Rattle.lalrpop_tables.specs.Kernels.{Kernels}
+use Rattle.lalrpop_base.specs.Kernels.{Kernels}
 use Rattle.lalrpop_tables.specs.declared.build.transitions.Edges.{Edges}
 
 -- x stands behind the item's dot
-abbrev pub IsBehind : Symbol → Dotted Bits → Type 0
+abbrev pub IsBehind : {L : Type 0} → Symbol → Dotted L → Type 0
 IsBehind x i = slice_get i.production.symbols i.index ≡ Some x
 
 -- x stands behind the dot of one of the items
-pub record IsBehindOne (x : Symbol) (items : List (Dotted Bits)) : Type 0 where
-  pub item : Dotted Bits
+pub record IsBehindOne {L : Type 0} (x : Symbol) (items : List (Dotted L)) : Type 0 where
+  pub item : Dotted L
   pub among : Contains items item
   pub behind : IsBehind x item
 
 -- the item with its dot one symbol further
-abbrev pub moved : Dotted Bits → Dotted Bits
+abbrev pub moved : {L : Type 0} → Dotted L → Dotted L
 moved i = record { production = i.production; index = i.index + 1; lookahead = i.lookahead }
 
 -- the kernel is the items with x behind the dot, moved over it, in order
-pub data Shifts (x : Symbol) : List (Dotted Bits) → List (Dotted Bits) → Type 0 where
+pub data Shifts {L : Type 0} (x : Symbol) : List (Dotted L) → List (Dotted L) → Type 0 where
   none : Shifts x [] []
-  moves : {i : Dotted Bits} {items kernel : List (Dotted Bits)} → IsBehind x i → Shifts x items kernel → Shifts x (i ∷ items) (moved i ∷ kernel)
-  stays : {i : Dotted Bits} {items kernel : List (Dotted Bits)} → ¬ IsBehind x i → Shifts x items kernel → Shifts x (i ∷ items) kernel
+  moves : {i : Dotted L} {items kernel : List (Dotted L)} → IsBehind x i → Shifts x items kernel → Shifts x (i ∷ items) (moved i ∷ kernel)
+  stays : {i : Dotted L} {items kernel : List (Dotted L)} → ¬ IsBehind x i → Shifts x items kernel → Shifts x (i ∷ items) kernel
 
 -- kernels by the symbols that lead to them
-abbrev pub Groups : Type 0
-Groups = List (Symbol × List (Dotted Bits))
+abbrev pub Groups : Type 0 → Type 0
+Groups L = List (Symbol × List (Dotted L))
 
-abbrev pub HasNoGroup : Groups → Symbol → Type 0
-HasNoGroup groups x = (kernel : List (Dotted Bits)) → Contains groups (x, kernel) → ⊥
+abbrev pub HasNoGroup : {L : Type 0} → Groups L → Symbol → Type 0
+HasNoGroup {L} groups x = (kernel : List (Dotted L)) → Contains groups (x, kernel) → ⊥
 
 -- each symbol behind a dot has its kernel, and no other symbol has one
-pub record AreMoves (items : List (Dotted Bits)) (groups : Groups) : Type 0 where
-  pub each : (x : Symbol) (kernel : List (Dotted Bits)) → Contains groups (x, kernel) → Shifts x items kernel
+pub record AreMoves {L : Type 0} (items : List (Dotted L)) (groups : Groups L) : Type 0 where
+  pub each : (x : Symbol) (kernel : List (Dotted L)) → Contains groups (x, kernel) → Shifts x items kernel
   pub other : (x : Symbol) → HasNoGroup groups x → Shifts x items []
-  pub some : (x : Symbol) (kernel : List (Dotted Bits)) → Contains groups (x, kernel) → IsBehindOne x items
-  pub has : (x : Symbol) (i : Dotted Bits) → Contains items i → IsBehind x i → (kernel : List (Dotted Bits)) × Contains groups (x, kernel)
+  pub some : (x : Symbol) (kernel : List (Dotted L)) → Contains groups (x, kernel) → IsBehindOne x items
+  pub has : (x : Symbol) (i : Dotted L) → Contains items i → IsBehind x i → (kernel : List (Dotted L)) × Contains groups (x, kernel)
   pub differ : AllDiffer (keys_of groups)
 
 -- the moved item went to the kernel of the symbol behind its dot; where there is none, nothing changed
-pub data IsMoveAdded (i : Dotted Bits) (old new : Groups) : Type 0 where
+pub data IsMoveAdded {L : Type 0} (i : Dotted L) (old new : Groups L) : Type 0 where
   over : (x : Symbol) → IsBehind x i → IsPushedAt x (moved i) old new → AllDiffer (keys_of new) → IsMoveAdded i old new
   at_end : i.index ≡ length i.production.symbols → new ≡ old → IsMoveAdded i old new
 
@@ -72,31 +71,31 @@ pub record IsEdgeAdded (x : Symbol) (target : StateIndex) (old new : Edges) : Ty
   pub ascend : ShiftsAscend old → ShiftsAscend new
 
 -- the symbol leads to the number of its kernel
-pub record LeadsTo (groups : Groups) (list : List (List (Dotted Bits))) (x : Symbol) (target : StateIndex) : Type 0 where
-  pub kernel : List (Dotted Bits)
+pub record LeadsTo {L : Type 0} (groups : Groups L) (list : List (List (Dotted L))) (x : Symbol) (target : StateIndex) : Type 0 where
+  pub kernel : List (Dotted L)
   pub group : Contains groups (x, kernel)
   pub numbered : slice_get list target.0 ≡ Some kernel
 
 -- the edges lead from each symbol to the number of its kernel, and the shifts ascend
-pub record AreEdges (groups : Groups) (list : List (List (Dotted Bits))) (edges : Edges) : Type 0 where
+pub record AreEdges {L : Type 0} (groups : Groups L) (list : List (List (Dotted L))) (edges : Edges) : Type 0 where
   pub leads : (x : Symbol) (target : StateIndex) → HasEdge x target edges → LeadsTo groups list x target
-  pub all : (x : Symbol) (kernel : List (Dotted Bits)) → Contains groups (x, kernel) → (target : StateIndex) × HasEdge x target edges
+  pub all : (x : Symbol) (kernel : List (Dotted L)) → Contains groups (x, kernel) → (target : StateIndex) × HasEdge x target edges
   pub ascend : ShiftsAscend edges
 
 -- the kernels are those of before and others of the groups
-pub record IsReached (groups : Groups) (old new : Kernels (List (Dotted Bits))) : Type 0 where
-  pub added : List (List (Dotted Bits))
+pub record IsReached {L : Type 0} (groups : Groups L) (old new : Kernels (List (Dotted L))) : Type 0 where
+  pub added : List (List (Dotted L))
   pub stay : new.list ≡ old.list ++ added
-  pub of : (kernel : List (Dotted Bits)) → Contains added kernel → (x : Symbol) × Contains groups (x, kernel)
+  pub of : (kernel : List (Dotted L)) → Contains added kernel → (x : Symbol) × Contains groups (x, kernel)
   pub handed : new.handed ≡ old.handed
   pub differ : AllDiffer old.list → AllDiffer new.list
 
 -- ---- reductions
 -- a reduction, with its production as a value
-abbrev pub seen : Bits × Bor Production → Bits × Production
+abbrev pub seen : {L : Type 0} → L × Bor Production → L × Production
 seen r = (r.0, r.1.now)
 
 -- the productions of the finished items, with their tokens, in order
-abbrev pub reductions_of : List (Dotted Bits) → List (Bits × Production)
+abbrev pub reductions_of : {L : Type 0} → List (Dotted L) → List (L × Production)
 reductions_of [] = []
 reductions_of (i ∷ items) = cond (i.index == length i.production.symbols) ((i.lookahead, i.production) ∷ reductions_of items) (reductions_of items)

@@ -1,7 +1,9 @@
-//! The construction of LR(1) states.
+//! The construction of LR(0) and LR(1) states.
 mod closure;
-mod kernels;
+mod epsilon_moves;
+pub mod lookahead_build;
 pub mod lr;
+mod lr0;
 pub mod options;
 mod reductions;
 mod results;
@@ -22,7 +24,9 @@ use lalrpop_base::lookahead::token_set::TokenSet;
 use lalrpop_base::lr1_core::state::Lr1Result;
 use lalrpop_base::repr::NonterminalString;
 use lalrpop_base::repr::grammar::Grammar;
+pub use lookahead_build::LookaheadBuild;
 pub use lr::Lr;
+pub use lr0::build_lr0_states;
 pub use options::{Method, Options};
 use std::alloc::Global;
 
@@ -46,5 +50,5 @@ pub fn build_lr1_states<'grammar>(
     let _terminals = grammar.terminals.all();
     let eof = TokenSet::eof(alloc, &grammar.terminals)?;
     let lr = Lr::new(alloc, grammar, start, eof)?;
-    lr.build_states(alloc)
+    lr.build_lr1_states(alloc)
 }

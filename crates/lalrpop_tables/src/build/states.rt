@@ -1,68 +1,32 @@
 //! The states of a grammar, by their kernels.
-ghost use Rattle.std.specs.Prelude.{◌≡◌, ◌<◌, IfOk, OnOk, List, map, length, slice_get, Some, Contains};
-ghost use Rattle.lalrpop_base.specs.WellFormed.{IsWellFormed, rules_of, productions_of};
-ghost use Rattle.lalrpop_base.specs.Tokens.{FitsTokens};
-ghost use Rattle.lalrpop_base.specs.Bits.{Bits};
-ghost use Rattle.lalrpop_base.specs.Items.{Dotted};
-ghost use Rattle.lalrpop_tables.specs.Closure.{AreItems};
-ghost use Rattle.lalrpop_tables.specs.States.{begun, IsBuiltOf, Extends, LeadsToAdded, AreBuilt};
+ghost use Rattle.std.specs.Prelude.{◌≡◌, IfOk, OnOk, map, length, slice_get, Some};
+ghost use Rattle.lalrpop_tables.specs.Closure.{AreItemsBy, IsClosureBy};
+ghost use Rattle.lalrpop_tables.specs.States.{begun, IsBuiltBy, Extends, LeadsToAdded, AreBuiltBy};
 
 use super::closure::closure;
-use super::kernels::KernelSet;
+use super::lookahead_build::LookaheadBuild;
+use super::lr::Lr;
 use super::reductions::reductions;
 use super::transitions::{Edges, Items as KernelItems, edges_of, moves_of};
-use lalrpop_base::first::FirstSets;
-use lalrpop_base::lookahead::token_set::TokenSet;
-use lalrpop_base::lr1_core::item::Item;
-use lalrpop_base::lr1_core::state::{Items, Lr1State, State, StateIndex};
+use lalrpop_base::kernel_set::KernelSet;
+use lalrpop_base::lr1_core::state::{Items, State, StateIndex};
 use lalrpop_base::memory::OutOfMemory;
-use lalrpop_base::repr::NonterminalString;
-use lalrpop_base::repr::grammar::Grammar;
-use lalrpop_base::sequence::Sequence;
 use std::alloc::Global;
 
-// The productions of the start symbol, dot first, with the lookahead.
-fn start_kernel<'grammar>(
+// The state of the kernel, with the number.
+fn build_state<'grammar, L: LookaheadBuild>(
     alloc: Global,
-    grammar: &'grammar Grammar,
-    start: &NonterminalString,
-    lookahead: &TokenSet,
-) -> Result<KernelItems<'grammar>, OutOfMemory>
-    ensures { IfOk result (λ kernel. kernel ≡ map (begun lookahead.now) (productions_of grammar.now start.now)) }
-{
-    let mut kernel = Sequence::new(alloc);
-    for production in grammar.productions_for(start) {
-        kernel.push(Item {
-            production,
-            index: 0,
-            lookahead: lookahead.clone(alloc)?,
-        })?;
-    }
-    Ok(kernel)
-}
-
-// The state of the kernel with the number.
-fn build_state<'grammar>(
-    alloc: Global,
-    grammar: &'grammar Grammar,
-    first_sets: &FirstSets<'grammar>,
+    lr: &Lr<'grammar, L>,
+    kernel: &KernelItems<'grammar, L>,
     number: usize,
-    kernels: &mut KernelSet<KernelItems<'grammar>>,
-) -> Result<Lr1State<'grammar>, OutOfMemory>
-    requires well_formed { IsWellFormed grammar.now }
-    requires firsts { first_sets.now ≡ rules_of grammar.now }
-    requires number { number < length kernels.old.list }
-    requires kernel { (kernel : List (Dotted Bits)) → Contains kernels.old.list kernel → AreItems (rules_of grammar.now) kernel }
-    ensures built { IfOk result (λ state. IsBuiltOf (rules_of grammar.now) kernels.new.list number state) }
-    ensures extends { OnOk result (Extends (rules_of grammar.now) kernels.old kernels.new) }
+    kernels: &mut KernelSet<KernelItems<'grammar, L>>,
+) -> Result<State<'grammar, L>, OutOfMemory>
+    requires kernel { AreItemsBy L.meaning lr.now.rules kernel.now }
+    ensures built { IfOk result (λ state. IsBuiltBy (IsClosureBy L.meaning L.begins L.passes lr.now.rules) kernels.new.list kernel.now number state) }
+    ensures extends { OnOk result (Extends L.meaning lr.now.rules kernels.old kernels.new) }
     ensures led { IfOk result (LeadsToAdded kernels.old kernels.new) }
 {
-    let items = closure(
-        alloc,
-        grammar,
-        first_sets,
-        kernels.kernel(number).as_slice(),
-    )?;
+    let items = closure(alloc, lr, kernel.as_slice())?;
     let moves = moves_of(alloc, &items)?;
     let edges = edges_of(alloc, moves, kernels)?;
     let reductions = reductions(alloc, &items)?;
@@ -77,24 +41,18 @@ fn build_state<'grammar>(
 }
 
 /// The states, numbered as their kernels first appear.
-pub fn build_states<'grammar>(
+pub fn build_states<'grammar, L: LookaheadBuild>(
     alloc: Global,
-    grammar: &'grammar Grammar,
-    first_sets: &FirstSets<'grammar>,
-    start: &NonterminalString,
-    lookahead: &TokenSet,
-) -> Result<Vec<Lr1State<'grammar>>, OutOfMemory>
-    requires well_formed { IsWellFormed grammar.now }
-    requires firsts { first_sets.now ≡ rules_of grammar.now }
-    requires fits { FitsTokens grammar.now.terminals lookahead.now }
-    ensures { IfOk result (λ states. AreBuilt (rules_of grammar.now) (map (begun lookahead.now) (productions_of grammar.now start.now)) states.items) }
+    lr: &Lr<'grammar, L>,
+) -> Result<Vec<State<'grammar, L>>, OutOfMemory>
+    ensures { IfOk result (λ states. AreBuiltBy (IsClosureBy L.meaning L.begins L.passes lr.now.rules) (map (begun lr.now.lookahead) lr.now.first) states.items) }
 {
     let mut kernels = KernelSet::new(alloc);
     let mut states = Vec::new(alloc);
-    let first = start_kernel(alloc, grammar, start, lookahead)?;
-    kernels.add_state(alloc, first)?;
-    while let Some(number) = kernels.next() {
-        let state = build_state(alloc, grammar, first_sets, number, &mut kernels)?;
+    kernels.add_state(lr.start_kernel(alloc)?)?;
+    while let Some(kernel) = kernels.next() {
+        let number = states.len();
+        let state = build_state(alloc, lr, &kernel, number, &mut kernels)?;
         states.push(state)?;
     }
     Ok(states)

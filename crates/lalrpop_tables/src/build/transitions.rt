@@ -5,8 +5,9 @@ ghost use Rattle.lalrpop_base.specs.Places.{AllDiffer};
 ghost use Rattle.lalrpop_tables.specs.Entries.{IsPushedAt};
 ghost use Rattle.lalrpop_tables.specs.Transitions.{AreMoves, IsMoveAdded, IsEdgeAdded, AreEdges, IsReached};
 
-use super::kernels::KernelSet;
-use lalrpop_base::lr1_core::item::{Item, Lr1Item};
+use lalrpop_base::kernel_set::KernelSet;
+use lalrpop_base::lookahead::Lookahead;
+use lalrpop_base::lr1_core::item::Item;
 use lalrpop_base::lr1_core::state::StateIndex;
 use lalrpop_base::memory::OutOfMemory;
 use lalrpop_base::repr::{NonterminalString, Symbol, TerminalString};
@@ -15,10 +16,10 @@ use std::alloc::Global;
 use std::collections::BTreeMap;
 
 /// The items of a kernel.
-pub type Items<'grammar> = Sequence<Lr1Item<'grammar>>;
+pub type Items<'grammar, L> = Sequence<Item<'grammar, L>>;
 
 /// The kernel to which each symbol behind a dot leads.
-pub type Moves<'grammar> = BTreeMap<Symbol, Items<'grammar>>;
+pub type Moves<'grammar, L> = BTreeMap<Symbol, Items<'grammar, L>>;
 
 /// The transitions of a state.
 #[derive(Drop)]
@@ -28,11 +29,11 @@ pub struct Edges {
 }
 
 // Puts an item behind those that came over the same symbol.
-fn push_moved<'grammar>(
+fn push_moved<'grammar, L: Lookahead>(
     alloc: Global,
     symbol: &Symbol,
-    item: Lr1Item<'grammar>,
-    moves: &mut Moves<'grammar>,
+    item: Item<'grammar, L>,
+    moves: &mut Moves<'grammar, L>,
 ) -> Result<(), OutOfMemory>
     ensures pushed { OnOk result (IsPushedAt symbol.now item.entry moves.old.entries moves.new.entries) }
     ensures differ { OnOk result (AllDiffer (keys moves.new)) }
@@ -48,10 +49,10 @@ fn push_moved<'grammar>(
 }
 
 // Moves the dot of an item over the symbol behind it, if there is one.
-fn add_move<'grammar>(
+fn add_move<'grammar, L: Lookahead>(
     alloc: Global,
-    item: &Lr1Item<'grammar>,
-    moves: &mut Moves<'grammar>,
+    item: &Item<'grammar, L>,
+    moves: &mut Moves<'grammar, L>,
 ) -> Result<(), OutOfMemory>
     ensures { OnOk result (IsMoveAdded item.now moves.old.entries moves.new.entries) }
 {
@@ -62,7 +63,7 @@ fn add_move<'grammar>(
         let moved = Item {
             production,
             index: index + 1,
-            lookahead: item.lookahead.clone(alloc)?,
+            lookahead: item.lookahead.copy(alloc)?,
         };
         push_moved(alloc, &symbols[index], moved, moves)?;
     }
@@ -70,10 +71,10 @@ fn add_move<'grammar>(
 }
 
 /// The items whose dot can move, moved, by the symbol over which.
-pub fn moves_of<'grammar>(
+pub fn moves_of<'grammar, L: Lookahead>(
     alloc: Global,
-    items: &[Lr1Item<'grammar>],
-) -> Result<Moves<'grammar>, OutOfMemory>
+    items: &[Item<'grammar, L>],
+) -> Result<Moves<'grammar, L>, OutOfMemory>
     ensures { IfOk result (λ moves. AreMoves items.now moves.entries) }
 {
     let mut moves = BTreeMap::new(alloc);
@@ -99,10 +100,10 @@ fn add_edge(symbol: Symbol, target: StateIndex, edges: &mut Edges) -> Result<(),
 }
 
 /// A transition to the state of each kernel, in the order of the symbols.
-pub fn edges_of<'grammar>(
+pub fn edges_of<'grammar, L: Lookahead>(
     alloc: Global,
-    moves: Moves<'grammar>,
-    kernels: &mut KernelSet<Items<'grammar>>,
+    moves: Moves<'grammar, L>,
+    kernels: &mut KernelSet<Items<'grammar, L>>,
 ) -> Result<Edges, OutOfMemory>
     ensures edges { IfOk result (λ edges. AreEdges moves.entry.entries kernels.new.list edges) }
     ensures reached { OnOk result (IsReached moves.entry.entries kernels.old kernels.new) }
@@ -112,8 +113,8 @@ pub fn edges_of<'grammar>(
         gotos: BTreeMap::new(alloc),
     };
     for (symbol, kernel) in moves {
-        let number = kernels.add_state(alloc, kernel)?;
-        add_edge(symbol, StateIndex(number), &mut edges)?;
+        let target = kernels.add_state(kernel)?;
+        add_edge(symbol, target, &mut edges)?;
     }
     Ok(edges)
 }

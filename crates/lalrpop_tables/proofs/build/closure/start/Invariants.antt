@@ -1,8 +1,11 @@
-use Rattle.std.proofs.Common.{take}
-use Rattle.lalrpop_base.specs.WellFormed.{rules_of}
+use Rattle.std.proofs.Common.{take, map}
 use Rattle.lalrpop_tables.specs.Closing.{IsStarted}
+use Rattle.lalrpop_tables.specs.Closure.{meant}
+use Rattle.lalrpop_tables.specs.Entries.{readings}
 use Rattle.lalrpop_tables.proofs.ClosureLoops.{AreStarted}
 use Rattle.lalrpop_tables.proofs.build.closure.start.Given as goal
 
 abbrev pub invariant-loop-item : goal.invariant-loop-item
-invariant-loop-item l = AreStarted (rules_of l.fn.grammar) l.kernel (take l.item-index l.kernel) l.table.entries l.stack.items × IsStarted (take l.item-index l.kernel) l.table.entries l.stack.items
+invariant-loop-item g l =
+    AreStarted l.fn.lr.rules (map (meant g.L.Lookahead.meaning) l.kernel) (map (meant g.L.Lookahead.meaning) (take l.item-index l.kernel)) (readings g.L.Lookahead.meaning l.table.entries) l.stack.items
+    × IsStarted (map (meant g.L.Lookahead.meaning) (take l.item-index l.kernel)) (readings g.L.Lookahead.meaning l.table.entries) l.stack.items

@@ -3,4 +3,4 @@ use Rattle.lalrpop_tables.specs.Transitions.{reductions_of, seen}
 use Rattle.lalrpop_tables.proofs.build.reductions.reductions.Given as goal
 
 abbrev pub invariant-loop-item : goal.invariant-loop-item
-invariant-loop-item l = map seen l.reductions.items ≡ reductions_of (take l.item-index l.items)
+invariant-loop-item g l = map seen l.reductions.items ≡ reductions_of (take l.item-index l.items)

@@ -1,41 +1,37 @@
-use Rattle.std.proofs.Common.{◌≡◌, ◌∙◌, ap, subst, refl, List, map, length, arith, ◌+◌, ◌<◌}
-use Rattle.std.specs.Prelude.{Contains}
-use Rattle.lalrpop_base.specs.Bits.{Bits}
+use Rattle.std.proofs.Common.{◌∙◌, ap, subst, List, map, arith, ◌∷◌, []}
+use Rattle.std.proofs.lemmas.Option.{slice_get_within}
 use Rattle.lalrpop_base.specs.Items.{Dotted}
-use Rattle.lalrpop_base.specs.WellFormed.{rules_of, productions_of}
+use Rattle.lalrpop_tables.specs.Closure.{AreItemsBy}
 use Rattle.lalrpop_tables.specs.States.{begun}
 use Rattle.lalrpop_tables.proofs.Building.{Building-init, Building-step, Building-smaller, Building-all, first_added}
-use Rattle.lalrpop_tables.proofs.Shifting.{Start-items}
+use Rattle.lalrpop_tables.proofs.Places.{contains_at}
 use Rattle.lalrpop_tables.proofs.build.states.build_states.Goals as goal
 
-pub loop-number-init : goal.loop-number-init
-loop-number-init c =
-    let first : List (Dotted Bits) = map (begun c.args.lookahead.now) (productions_of c.args.grammar.now c.args.start.now) in
+pub loop-kernel-init : goal.loop-kernel-init
+loop-kernel-init g c =
+    let first : List (Dotted g.row.L.Denot) = map (begun c.args.lr.now.lookahead) c.args.lr.now.first in
     let state = c.in_ok-add_state.ensures in
+    let kernel = c.in_ok-start_kernel.ensures.kernel in
     let empty = ap (λ k. k.list) c.new-kernels.ensures in
-    let one = first_added c.in_ok-first.first first c.new-kernels.result c.add_state.new.self c.in_ok-first.ensures empty state.either c.in_ok-add_state.field-0 state.numbered in
-    Building-init (rules_of c.args.grammar.now) first c.add_state.new.self _ one (state.handed ∙ ap (λ k. k.handed) c.new-kernels.ensures) c.new-states.ensures.items (Start-items c.args.grammar.now c.args.start.now c.args.lookahead.now c.requires.well_formed c.requires.fits) state.differ
+    let one = first_added _ _ _ empty state.added ∙ ap (λ k. k ∷ []) kernel in
+    Building-init _ _ c.args.lr.now.rules first c.add_state.new.self _ one (state.handed ∙ ap (λ k. k.handed) c.new-kernels.ensures) c.new-states.ensures.items (subst (AreItemsBy g.L.Lookahead.meaning c.args.lr.now.rules) kernel c.in_ok-start_kernel.ensures.items) state.differ
 
-pub build_state-requires-clause-kernel : goal.build_state-requires-clause-kernel
-build_state-requires-clause-kernel c = λ k d. c.loop-number.invariant.of k (subst (λ (ks : List (List (Dotted Bits))). Contains ks k) (ap (λ s. s.list) c.in-Some.ensures.next.2) d)
+pub build_state-requires : goal.build_state-requires
+build_state-requires g c = record { kernel = c.loop-kernel.invariant.of c.in-Some.kernel (contains_at c.loop-kernel.kernels.list c.in-Some.kernel c.loop-kernel.kernels.handed c.in-Some.ensures.next) }
 
-pub loop-number-smaller : goal.loop-number-smaller
-loop-number-smaller c =
-    let next = c.in-Some.ensures.next in
-    let l : c.loop-number.kernels.handed < length c.loop-number.kernels.list = omega (arith, next.0, next.1) in
-    let small = Building-smaller _ _ c.loop-number.kernels c.loop-number.states.items c.loop-number.invariant l in
+pub loop-kernel-smaller : goal.loop-kernel-smaller
+loop-kernel-smaller g c =
+    let l = slice_get_within c.loop-kernel.kernels.list c.loop-kernel.kernels.handed c.in-Some.kernel c.in-Some.ensures.next in
+    let small = Building-smaller _ _ _ _ g.met.L.Lookahead.same_by_meaning c.loop-kernel.kernels c.loop-kernel.states.items c.loop-kernel.invariant l in
     let handed = c.in_ok-state.ensures.extends.handed in
-    let before = ap (λ s. s.handed) next.2 in
-    let number = next.0 in
+    let before = ap (λ s. s.handed) c.in-Some.ensures.some in
     omega arith
 
-pub loop-number-preserved : goal.loop-number-preserved
-loop-number-preserved c =
-    let next = c.in-Some.ensures.next in
-    let l : c.loop-number.kernels.handed < length c.loop-number.kernels.list = omega (arith, next.0, next.1) in
-    let handed : c.next.new.self.handed ≡ c.loop-number.kernels.handed + 1 = ap (λ s. s.handed) next.2 ∙ ap (λ n. n + 1) next.0 in
-    let built = rw next.0 at c.in_ok-state.ensures.built in
-    rw c.in_ok-push.ensures.items (Building-step _ _ c.loop-number.kernels c.next.new.self c.build_state.new.kernels c.loop-number.states.items c.in_ok-state.state c.loop-number.invariant l (ap (λ s. s.list) next.2) handed c.in_ok-state.ensures.extends built c.in_ok-state.ensures.led)
+pub loop-kernel-preserved : goal.loop-kernel-preserved
+loop-kernel-preserved g c =
+    let some = c.in-Some.ensures.some in
+    let built = rw (c.len-number.ensures, c.loop-kernel.states.ok.0) at c.in_ok-state.ensures.built in
+    rw c.in_ok-push.ensures.items (Building-step _ _ _ _ c.loop-kernel.kernels c.next.new.self c.build_state.new.kernels c.loop-kernel.states.items c.in-Some.kernel c.in_ok-state.state c.loop-kernel.invariant c.in-Some.ensures.next (ap (λ s. s.list) some) (ap (λ s. s.handed) some) c.in_ok-state.ensures.extends built c.in_ok-state.ensures.led)
 
 pub returns : goal.returns
-returns c = Building-all _ _ c.loop-number.kernels c.loop-number.states.items c.loop-number.invariant (c.in_default.ensures.none refl)
+returns g c = Building-all _ _ _ _ c.loop-kernel.kernels c.loop-kernel.states.items c.loop-kernel.invariant c.in_default.ensures.all

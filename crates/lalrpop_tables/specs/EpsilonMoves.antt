@@ -1,0 +1,33 @@
+-- What an item leads to without a symbol, with any lookahead: the items of the nonterminal behind its dot, and which tokens they get.
+use Rattle.std.specs.Prelude.{◌≡◌, ◌⊎◌, ◌↔◌, true, List, map, Contains}
+use Rattle.lalrpop_base.specs.Bits.{Bits}
+use Rattle.lalrpop_base.specs.Contents.{holds_token}
+use Rattle.lalrpop_base.specs.Items.{Dotted}
+use Rattle.lalrpop_base.specs.Places.{AllDiffer}
+use Rattle.lalrpop_base.specs.Tokens.{FitsTokens}
+use Rattle.lalrpop_base.specs.WellFormed.{Rules}
+use Rattle.lalrpop_base.specs.declared.lookahead.token.Token.{Token}
+use Rattle.lalrpop_base.specs.declared.repr.NonterminalString.{NonterminalString}
+use Rattle.lalrpop_base.specs.declared.repr.Production.{Production}
+use Rattle.lalrpop_base.specs.declared.repr.Symbol.{Symbol}
+use Rattle.lalrpop_tables.specs.Closure.{dotted_of}
+
+-- the item is of a production of the nonterminal, with the dot at the start and the lookahead
+pub record IsBegunWith {L : Type 0} (g : Rules) (name : NonterminalString) (lookahead : L) (i : Dotted L) : Type 0 where
+  pub start : i.index ≡ 0
+  pub among : Contains g.productions i.production
+  pub named : i.production.nonterminal ≡ name
+  pub same : i.lookahead ≡ lookahead
+
+-- an item of each production of the nonterminal, once, with the dot at the start and the lookahead, and no other item
+pub record AreBegunWith {L : Type 0} (g : Rules) (name : NonterminalString) (lookahead : L) (items : List (Dotted L)) : Type 0 where
+  pub each : (i : Dotted L) → Contains items i → IsBegunWith g name lookahead i
+  pub all : (p : Production) → Contains g.productions p → p.nonterminal ≡ name → Contains (map dotted_of items) (p, 0)
+  pub once : AllDiffer (map dotted_of items)
+
+-- what an item gives to the productions of the nonterminal behind its dot: the tokens with which the symbols behind that can begin, and the item's own where these let them pass
+pub record AreEpsilonMoves {L : Type 0} (meaning : L → Bits) (begins : Rules → List Symbol → Token → Type 0) (passes : Rules → List Symbol → Type 0) (g : Rules) (name : NonterminalString) (rest : List Symbol) (lookahead : L) (moves : List (Dotted L)) : Type 0 where
+  pub given : L
+  pub begun : AreBegunWith g name given moves
+  pub fits : FitsTokens g.terminals (meaning lookahead) → FitsTokens g.terminals (meaning given)
+  pub holds : (t : Token) → (holds_token g.terminals (meaning given) t ≡ true) ↔ (begins g rest t ⊎ (passes g rest × (holds_token g.terminals (meaning lookahead) t ≡ true)))
