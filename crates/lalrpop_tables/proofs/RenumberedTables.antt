@@ -46,7 +46,7 @@ module _ (terminals : List TerminalString) (before after : List (State Bits)) (r
   pub Faithful-renumbered : (g : List Production) (start : NonterminalString) → AreFaithful g start (contents terminals before) → AreFaithful g start (contents terminals after)
   Faithful-renumbered g start f = faithful-renumbered r.new r.old (contents terminals before) (contents terminals after) r.renumbering g start f
 
-pub Tables-renumbered : (c : Construction) (built tables : List (State Bits)) → AreTables c built → AreRenumbered c.rules.terminals built tables → AreRenumberedTables c tables
+pub Tables-renumbered : (c : Construction Bits) (built tables : List (State Bits)) → AreTables c built → AreRenumbered c.rules.terminals built tables → AreRenumberedTables c tables
 Tables-renumbered c built tables made r = record {
   built = built;
   made = made;

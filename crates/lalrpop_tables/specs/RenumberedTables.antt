@@ -6,7 +6,7 @@ use Rattle.lalrpop_tables.specs.Renumbered.{AreRenumbered}
 use Rattle.lalrpop_tables.specs.Results.{Construction, AreTables, HaveNoConflict}
 
 -- the tables that a construction makes, renumbered; there is a state, and none has a conflict
-pub record AreRenumberedTables (c : Construction) (tables : List (State Bits)) : Type 0 where
+pub record AreRenumberedTables (c : Construction Bits) (tables : List (State Bits)) : Type 0 where
   pub built : List (State Bits)
   pub made : AreTables c built
   pub renumbered : AreRenumbered c.rules.terminals built tables
