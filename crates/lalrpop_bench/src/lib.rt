@@ -23,6 +23,8 @@ mod kernel_set;
 #[cfg(test)]
 mod lookahead;
 #[cfg(test)]
+mod lr0;
+#[cfg(test)]
 mod lr1_core;
 #[cfg(test)]
 mod plain;

@@ -48,7 +48,8 @@ const ROWS: [Row; 5] = [
     },
 ];
 
-const NINE: &str = "S = D \"t\"\nS = F \"z\"\nS = G \"u\"\nS = H \"t\"\nD = \"x\" A\nF = \"x\" B \"w\"\nG = \"y\" A \"v\"\nH = \"y\" B\nA = \"e\"\nB = \"e\"";
+const NINE: &str =
+    "S = D \"t\"\nS = F \"z\"\nS = G \"u\"\nS = H \"t\"\nD = \"x\" A\nF = \"x\" B \"w\"\nG = \"y\" A \"v\"\nH = \"y\" B\nA = \"e\"\nB = \"e\"";
 
 fn grammar(alloc: Global, lines: &str) -> Result<Grammar, Fail> {
     Ok(PlainGrammar::new(alloc, lines)?.to_grammar(alloc)?)
@@ -179,10 +180,12 @@ fn is_behind_paren(alloc: Global, state: &State<Nil>) -> Result<bool, Fail> {
     if state.items.vec.is_empty() {
         return Ok(false);
     }
-    Ok(reads(alloc, state.max_prefix(), &["(", "E"])?
-        && reads(alloc, state.will_pop(), &["E"])?
-        && reads(alloc, state.will_push(), &[")"])?
-        && state.will_produce(alloc)?.is_none())
+    Ok(
+        reads(alloc, state.max_prefix(), &["(", "E"])?
+            && reads(alloc, state.will_pop(), &["E"])?
+            && reads(alloc, state.will_push(), &[")"])?
+            && state.will_produce(alloc)?.is_none(),
+    )
 }
 
 fn sixth_is_behind_paren(alloc: Global, grammar: &Grammar) -> Result<bool, Fail> {
