@@ -38,6 +38,8 @@ pub mod RenumberedTables
 pub mod SameKernels
 pub mod Shifting
 pub mod StateEdges
+pub mod StateGraphs
+pub mod Stepping
 pub mod Subsets
 pub mod Tables
 pub mod TokenTables

@@ -9,10 +9,12 @@ pub mod EpsilonMoves
 pub mod ListedConflicts
 pub mod Lr0
 pub mod Moved
+pub mod Neighbours
 pub mod Partitions
 pub mod Ready
 pub mod Renumbered
 pub mod RenumberedTables
 pub mod Results
+pub mod StateGraph
 pub mod States
 pub mod Transitions

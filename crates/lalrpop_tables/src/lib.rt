@@ -4,3 +4,4 @@
 pub mod build;
 pub mod lr1;
 mod renumber;
+pub mod state_graph;

@@ -1,0 +1,5 @@
+use Rattle.lalrpop_tables.proofs.Stepping.{IsSteppingBack}
+use Rattle.lalrpop_tables.proofs.state_graph.StateGraph.step_back.Given as goal
+
+abbrev pub invariant-loop-state : goal.invariant-loop-state
+invariant-loop-state l = IsSteppingBack l.self l.symbol l.state-iterator l.states.keys l.sources.keys

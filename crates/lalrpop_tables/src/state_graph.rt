@@ -1,0 +1,178 @@
+//! Where the shifts and gotos of states lead, in both directions.
+pub mod neighbours;
+
+ghost use Rattle.std.specs.Prelude.{◌≡◌, ◌↔◌, ◌∷◌, [], List, reverse, IfOk, OnOk, Contains};
+ghost use Rattle.std.specs.List.Sorted.{IsStrictlySortedBy};
+ghost use Rattle.lalrpop_base.specs.declared.lr1_core.state.StateIndex.{StateIndex};
+ghost use Rattle.lalrpop_tables.specs.Neighbours.{targets_left, sources_left};
+ghost use Rattle.lalrpop_tables.specs.StateGraph.{Edge, edges, shift_edges, goto_edges, IsGraphOf, IsGrown, LeadsTo, targets_of, sources_over, edge, state_cmp, AddsStates, IsStepBack};
+
+use self::neighbours::{Predecessors, Successors};
+use lalrpop_base::collections::multimap::Multimap;
+use lalrpop_base::lr1_core::state::{State, StateIndex};
+use lalrpop_base::memory::OutOfMemory;
+use lalrpop_base::repr::{NonterminalString, Symbol, TerminalString};
+use std::alloc::Global;
+use std::collections::{BTreeMap, BTreeSet};
+
+/// The shifts and gotos of a list of states. A target that is not in the list is a state without successors.
+#[derive(Drop)]
+pub struct StateGraph {
+    successors: Multimap<StateIndex, Vec<StateIndex>>,
+    predecessors: Multimap<StateIndex, Vec<(Symbol, StateIndex)>>,
+}
+
+impl StateGraph {
+    /// The graph of the states, numbered by their places.
+    pub fn new<'grammar, L>(
+        alloc: Global,
+        states: &[State<'grammar, L>],
+    ) -> Result<StateGraph, OutOfMemory>
+        ensures graph { IfOk result (IsGraphOf (edges states.now)) }
+    {
+        let mut graph = StateGraph {
+            successors: Multimap::new(alloc),
+            predecessors: Multimap::new(alloc),
+        };
+        for (number, state) in states.iter().enumerate() {
+            graph.add_shifts(alloc, StateIndex(number), &state.shifts)?;
+            graph.add_gotos(alloc, StateIndex(number), &state.gotos)?;
+        }
+        Ok(graph)
+    }
+
+    // Adds the shifts of a state, in order.
+    fn add_shifts(
+        &mut self,
+        alloc: Global,
+        source: StateIndex,
+        shifts: &BTreeMap<TerminalString, StateIndex>,
+    ) -> Result<(), OutOfMemory>
+        ensures { OnOk result (IsGrown (shift_edges source shifts.now.entries) self.old self.new) }
+    {
+        for (terminal, target) in shifts.iter() {
+            let symbol = Symbol::Terminal(terminal.clone(alloc)?);
+            self.add_edge(source, symbol, *target)?;
+        }
+        Ok(())
+    }
+
+    // Adds the gotos of a state, in order.
+    fn add_gotos(
+        &mut self,
+        alloc: Global,
+        source: StateIndex,
+        gotos: &BTreeMap<NonterminalString, StateIndex>,
+    ) -> Result<(), OutOfMemory>
+        ensures { OnOk result (IsGrown (goto_edges source gotos.now.entries) self.old self.new) }
+    {
+        for (name, target) in gotos.iter() {
+            let symbol = Symbol::Nonterminal(name.clone(alloc)?);
+            self.add_edge(source, symbol, *target)?;
+        }
+        Ok(())
+    }
+
+    // Adds an edge behind the others.
+    fn add_edge(
+        &mut self,
+        source: StateIndex,
+        symbol: Symbol,
+        target: StateIndex,
+    ) -> Result<(), OutOfMemory>
+        ensures { OnOk result (IsGrown (edge source symbol target ∷ []) self.old self.new) }
+    {
+        self.successors.push(source, target)?;
+        self.predecessors.push(target, (symbol, source))?;
+        Ok(())
+    }
+
+    /// The targets of the edges of a state: of its gotos and then of its shifts, each by descending symbol.
+    pub fn successors(&self, state: StateIndex) -> Successors<'_>
+        ensures targets { targets_left result ≡ reverse (targets_of self.now state) }
+    {
+        Successors {
+            targets: match self.successors.get(&state) {
+                Some(targets) => targets.as_slice(),
+                None => &[],
+            },
+        }
+    }
+
+    /// The states from which an edge over the symbol leads to the state, descending.
+    pub fn predecessors<'a>(&'a self, state: StateIndex, symbol: &'a Symbol) -> Predecessors<'a>
+        ensures sources { sources_left result ≡ reverse (sources_over self.now symbol.now state) }
+    {
+        Predecessors {
+            edges: match self.predecessors.get(&state) {
+                Some(edges) => edges.as_slice(),
+                None => &[],
+            },
+            symbol,
+        }
+    }
+
+    /// The states from which the symbols lead to the state, ascending, none twice.
+    pub fn trace_back(
+        &self,
+        alloc: Global,
+        state: StateIndex,
+        symbols: &[Symbol],
+    ) -> Result<Vec<StateIndex>, OutOfMemory>
+        ensures ascending { IfOk result (λ found. IsStrictlySortedBy state_cmp found.items) }
+        ensures exactly { IfOk result (λ found. (es : List Edge) → IsGraphOf es self.now → (r : StateIndex) → Contains found.items r ↔ LeadsTo es r symbols.now state) }
+    {
+        let mut found = BTreeSet::new(alloc);
+        found.insert(state)?;
+        let mut left = symbols;
+        while let Some((symbol, before)) = left.split_last() {
+            found = self.step_back(alloc, &found, symbol)?;
+            left = before;
+        }
+        let list = in_order(alloc, found)?;
+        Ok(list)
+    }
+
+    // The states from which the symbol leads to one of the states.
+    fn step_back(
+        &self,
+        alloc: Global,
+        states: &BTreeSet<StateIndex>,
+        symbol: &Symbol,
+    ) -> Result<BTreeSet<StateIndex>, OutOfMemory>
+        ensures { IfOk result (λ sources. IsStepBack self.now symbol.now states.now.keys sources.keys) }
+    {
+        let mut sources = BTreeSet::new(alloc);
+        for state in states.iter() {
+            self.add_sources(*state, symbol, &mut sources)?;
+        }
+        Ok(sources)
+    }
+
+    // Adds the states from which the symbol leads to the state.
+    fn add_sources(
+        &self,
+        state: StateIndex,
+        symbol: &Symbol,
+        sources: &mut BTreeSet<StateIndex>,
+    ) -> Result<(), OutOfMemory>
+        ensures { OnOk result (AddsStates (sources_over self.now symbol.now state) sources.old.keys sources.new.keys) }
+    {
+        for source in self.predecessors(state, symbol) {
+            sources.insert(source)?;
+        }
+        Ok(())
+    }
+}
+
+// The states of a set, ascending.
+fn in_order(alloc: Global, states: BTreeSet<StateIndex>) -> Result<Vec<StateIndex>, OutOfMemory>
+    ensures items { IfOk result (λ list. list.items ≡ states.keys) }
+    ensures ascending { IfOk result (λ list. IsStrictlySortedBy state_cmp list.items) }
+{
+    let mut list = Vec::new(alloc);
+    for state in states {
+        list.push(state)?;
+    }
+    Ok(list)
+}
