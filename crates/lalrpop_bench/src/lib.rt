@@ -36,4 +36,6 @@ mod repr;
 mod texts;
 #[cfg(test)]
 mod views;
+mod state_graph;
+mod trace;
 pub mod word_lookahead;

@@ -3,6 +3,9 @@ pub mod EqualTrees
 pub mod FaithfulAnswers
 pub mod Headline
 pub mod Machines
+pub mod Meetings
 pub mod ParseTrees
 pub mod Reading
 pub mod Steps
+pub mod TraceGraphs
+pub mod Walks

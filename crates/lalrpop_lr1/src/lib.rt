@@ -1,5 +1,6 @@
-//! What stands on tables: the parser, whose trees are printed and counted.
+//! What stands on tables: the parser, whose trees are printed and counted, and traces that explain conflicts.
 #![tactic(auto)]
 
 pub mod headline;
 pub mod interpret;
+pub mod trace;

@@ -1,0 +1,9 @@
+use Rattle.std.proofs.Common.{refl}
+use Rattle.lalrpop_lr1.specs.Walks.{frames}
+use Rattle.lalrpop_lr1.proofs.Walks.{entered_load}
+use Rattle.lalrpop_lr1.proofs.trace.enumerator.PathEnumerator.take.Goals as goal
+
+pub returns-clause-falls : goal.returns-clause-falls
+returns-clause-falls c =
+    let walk = c.enter-2.new.self in
+    entered_load c.args.self.now walk.graph.now walk.start (frames walk) c.count_from-self.result c.args.number c.in_ok-enter-2.ensures.graph c.in_ok-enter-2.ensures.start c.in_ok-enter-2.ensures.frames c.count_from-self.ensures (c.if-passes.ensures.room refl)

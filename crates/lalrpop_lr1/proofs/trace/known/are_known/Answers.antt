@@ -1,0 +1,18 @@
+use Rattle.std.proofs.Common.{◌≡◌, List, [], ◌∷◌, ◌++◌, take, refl, sym, ◌∙◌, ap, subst, arith}
+use Rattle.std.proofs.lemmas.List.{take_more, take_all}
+use Rattle.lalrpop_base.specs.WellFormed.{HasKnownTerminals}
+use Rattle.lalrpop_base.specs.declared.repr.Symbol.{Symbol}
+use Rattle.lalrpop_lr1.proofs.KnownLabels.{known_more}
+use Rattle.lalrpop_lr1.proofs.trace.known.are_known.Goals as goal
+
+pub loop-symbol-preserved : goal.loop-symbol-preserved
+loop-symbol-preserved c =
+    let xs = c.args.symbols.now in
+    let i = c.loop-symbol.symbol-index in
+    let x = c.symbol-item.result in
+    known_more c.args.terminals.now (take i xs) (x ∷ []) _ (take_more xs i x (omega arith) ∙ ap (λ y. take i xs ++ y ∷ []) (sym c.symbol-item.is)) c.loop-symbol.invariant (c.if-not-is_known.ensures refl)
+
+pub returns : goal.returns
+returns c =
+    let P : List Symbol → Type 0 = HasKnownTerminals c.args.terminals.now in
+    λ h. subst P (take_all c.loop-symbol.symbol-index c.args.symbols.now (omega arith)) c.loop-symbol.invariant

@@ -1,0 +1,10 @@
+use Rattle.std.proofs.Common.{List, sym, subst}
+use Rattle.lalrpop_base.specs.WellFormed.{HasKnownTerminals}
+use Rattle.lalrpop_base.specs.declared.repr.Symbol.{Symbol}
+use Rattle.lalrpop_lr1.proofs.trace.spelling.first_of.Goals as goal
+
+pub first0-requires : goal.first0-requires
+first0-requires c =
+    let terminals = c.args.first_sets.now.terminals in
+    let P : List Symbol → Type 0 = HasKnownTerminals terminals in
+    record { known = subst P (sym c.deref.ensures.value) (c.in_ok-symbols.ensures.known terminals c.requires.known) }

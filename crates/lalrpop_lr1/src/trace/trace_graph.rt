@@ -1,0 +1,255 @@
+//! The graph of a trace.
+ghost use Rattle.std.specs.Prelude.{◌≡◌, List, Some, IfSome, IfOk, length, slice_get};
+ghost use Rattle.lalrpop_lr1.specs.TraceGraphs.{AreKnownEdges, IsKnownLabel, node_count, numbers_to, numbers_from};
+ghost use Rattle.lalrpop_base.specs.declared.repr.TerminalString.{TerminalString};
+ghost use Rattle.lalrpop_lr1.specs.declared.trace.trace_graph.TraceGraphEdge.{TraceGraphEdge};
+
+use super::enumerator::PathEnumerator;
+use super::filtered::FilteredPathEnumerator;
+use super::node::TraceGraphNode;
+use lalrpop_base::collections::multimap::Multimap;
+use lalrpop_base::first::FirstSets;
+use lalrpop_base::lr1_core::item::{Lr0Item, Lr1Item};
+use lalrpop_base::lr1_core::symbol_sets::SymbolSets;
+use lalrpop_base::memory::OutOfMemory;
+use lalrpop_base::repr::NonterminalString;
+use std::alloc::Global;
+use std::collections::BTreeMap;
+
+/// The number of a node, by its first appearance.
+#[derive(Clone, Copy, Debug, PartialEq, Eq, PartialOrd, Ord)]
+pub struct NodeIndex(pub usize);
+
+/// An edge, and the symbols around what its target stands for.
+#[derive(Debug, Drop)]
+pub struct TraceGraphEdge<'grammar> {
+    pub from: TraceGraphNode<'grammar>,
+    pub to: TraceGraphNode<'grammar>,
+    pub symbol_sets: SymbolSets<'grammar>,
+}
+
+/// Nodes, and edges between them, none twice. The edges to a node are kept by their numbers.
+#[derive(Drop)]
+pub struct TraceGraph<'grammar> {
+    alloc: Global,
+    indices: BTreeMap<TraceGraphNode<'grammar>, NodeIndex>,
+    edges: Vec<TraceGraphEdge<'grammar>>,
+    incoming: Multimap<TraceGraphNode<'grammar>, Vec<usize>>,
+}
+
+impl<'grammar> TraceGraph<'grammar> {
+    /// A graph without nodes.
+    pub fn new(alloc: Global) -> Self {
+        TraceGraph {
+            alloc,
+            indices: BTreeMap::new(alloc),
+            edges: Vec::new(alloc),
+            incoming: Multimap::new(alloc),
+        }
+    }
+
+    /// The number of an equal node, or the next number.
+    pub fn add_node(&mut self, node: TraceGraphNode<'grammar>) -> Result<NodeIndex, OutOfMemory> {
+        if let Some(index) = self.indices.get(&node) {
+            return Ok(*index);
+        }
+        let index = NodeIndex(self.indices.len());
+        self.indices.insert(node, index)?;
+        Ok(index)
+    }
+
+    /// Adds an edge where there is no equal one, and its nodes. After want of memory nodes may stand, the edge does not.
+    pub fn add_edge(
+        &mut self,
+        from: TraceGraphNode<'grammar>,
+        to: TraceGraphNode<'grammar>,
+        labels: SymbolSets<'grammar>,
+    ) -> Result<(), OutOfMemory> {
+        let alloc = self.alloc;
+        self.add_node(from.clone(alloc)?)?;
+        self.add_node(to.clone(alloc)?)?;
+        if self.has_edge(&from, &to, &labels) {
+            return Ok(());
+        }
+        let key = to.clone(alloc)?;
+        self.push_edge(
+            key,
+            TraceGraphEdge {
+                from,
+                to,
+                symbol_sets: labels,
+            },
+        )
+    }
+
+    // Puts an edge to a node behind the others.
+    fn push_edge(
+        &mut self,
+        key: TraceGraphNode<'grammar>,
+        edge: TraceGraphEdge<'grammar>,
+    ) -> Result<(), OutOfMemory> {
+        let number = self.edges.len();
+        self.edges.push(edge)?;
+        if self.incoming.push(key, number).is_err() {
+            let _ = self.edges.pop();
+            return Err(OutOfMemory);
+        }
+        Ok(())
+    }
+
+    // Whether there is an equal edge.
+    fn has_edge(
+        &self,
+        from: &TraceGraphNode<'grammar>,
+        to: &TraceGraphNode<'grammar>,
+        labels: &SymbolSets<'grammar>,
+    ) -> bool {
+        for number in self.numbers_to(to) {
+            if self.is_edge(*number, from, labels) {
+                return true;
+            }
+        }
+        false
+    }
+
+    // Whether the edge with the number comes from the node with the labels.
+    fn is_edge(
+        &self,
+        number: usize,
+        from: &TraceGraphNode<'grammar>,
+        labels: &SymbolSets<'grammar>,
+    ) -> bool {
+        if number >= self.edges.len() {
+            return false;
+        }
+        let edge = &self.edges[number];
+        edge.from == *from && edge.symbol_sets == *labels
+    }
+
+    /// Whether the item is a node.
+    pub fn contains(&self, item: &Lr0Item<'grammar>) -> bool {
+        self.indices.contains_key(&TraceGraphNode::Item(item.to_lr0()))
+    }
+
+    /// The edges in the order in which they were added.
+    pub fn edges(&self) -> &[TraceGraphEdge<'grammar>]
+        ensures { result.now ≡ self.now.edges.items }
+    {
+        self.edges.as_slice()
+    }
+
+    /// The examples of the paths back from an item, the newest edges first.
+    pub fn lr0_examples<'graph>(
+        &'graph self,
+        item: Lr0Item<'grammar>,
+    ) -> Result<PathEnumerator<'graph, 'grammar>, OutOfMemory> {
+        PathEnumerator::new(self.alloc, self, item)
+    }
+
+    /// Those examples that can go on with a token of the item's lookahead.
+    pub fn lr1_examples<'graph>(
+        &'graph self,
+        first_sets: &'graph FirstSets<'grammar>,
+        item: &Lr1Item<'grammar>,
+    ) -> Result<FilteredPathEnumerator<'graph, 'grammar>, OutOfMemory>
+        requires known { AreKnownEdges first_sets.now.terminals self.now.edges.items }
+        ensures known { IfOk result (λ it. AreKnownEdges it.first_sets.now.terminals it.base.graph.now.edges.items) }
+    {
+        FilteredPathEnumerator::new(self.alloc, first_sets, self, item)
+    }
+}
+
+impl<'grammar> TraceGraph<'grammar> {
+    /// The number of nodes.
+    pub(crate) fn len(&self) -> usize
+        ensures { result ≡ node_count self.now }
+    {
+        self.indices.len()
+    }
+
+    /// The numbers of the edges to a node, the newest last.
+    pub(crate) fn numbers_to(&self, node: &TraceGraphNode<'grammar>) -> &[usize]
+        ensures { result.now ≡ numbers_to self.now node.now }
+    {
+        let Some(numbers) = self.incoming.get(node) else {
+            return &[];
+        };
+        numbers.as_slice()
+    }
+
+    /// The number of the edge to a node at a place among those to it.
+    pub(crate) fn number_to(&self, node: &TraceGraphNode<'grammar>, place: usize) -> Option<usize>
+        ensures { IfSome result (λ number. slice_get (numbers_to self.now node.now) place ≡ Some number) }
+    {
+        let numbers = self.numbers_to(node);
+        if place < numbers.len() {
+            return Some(numbers[place]);
+        }
+        None
+    }
+
+    /// The same of the node from which an edge comes.
+    pub(crate) fn number_from(&self, edge: usize, place: usize) -> Option<usize>
+        ensures { IfSome result (λ number. slice_get (numbers_from self.now edge) place ≡ Some number) }
+    {
+        if edge >= self.edges.len() {
+            return None;
+        }
+        self.number_to(&self.edges[edge].from, place)
+    }
+
+    /// How many edges lead to the node from which an edge comes.
+    pub(crate) fn count_from(&self, edge: usize) -> usize
+        ensures { result ≡ length (numbers_from self.now edge) }
+    {
+        if edge >= self.edges.len() {
+            return 0;
+        }
+        self.numbers_to(&self.edges[edge].from).len()
+    }
+
+    /// Whether an edge comes from an item.
+    pub(crate) fn comes_from_item(&self, edge: usize) -> bool {
+        if edge >= self.edges.len() {
+            return false;
+        }
+        match &self.edges[edge].from {
+            TraceGraphNode::Item(_) => true,
+            TraceGraphNode::Nonterminal(_) => false,
+        }
+    }
+
+    /// Whether two edges come from one node.
+    pub(crate) fn come_together(&self, a: usize, b: usize) -> bool {
+        if a >= self.edges.len() || b >= self.edges.len() {
+            return false;
+        }
+        self.edges[a].from == self.edges[b].from
+    }
+
+    /// The labels of an edge.
+    pub(crate) fn labels(&self, edge: usize) -> SymbolSets<'grammar>
+        ensures there { (e : TraceGraphEdge) → slice_get self.now.edges.items edge ≡ Some e → result ≡ e.symbol_sets }
+        ensures known { (terminals : List TerminalString) → AreKnownEdges terminals self.now.edges.items → IsKnownLabel terminals result }
+    {
+        if edge >= self.edges.len() {
+            return SymbolSets::new();
+        }
+        self.edges[edge].symbol_sets
+    }
+
+    /// The nonterminal to which an edge reduces.
+    pub(crate) fn reduced_name(
+        &self,
+        alloc: Global,
+        edge: usize,
+    ) -> Result<Option<NonterminalString>, OutOfMemory> {
+        if edge >= self.edges.len() {
+            return Ok(None);
+        }
+        match &self.edges[edge].from {
+            TraceGraphNode::Nonterminal(name) => Ok(Some(name.clone(alloc)?)),
+            TraceGraphNode::Item(item) => Ok(Some(item.production.nonterminal.clone(alloc)?)),
+        }
+    }
+}
