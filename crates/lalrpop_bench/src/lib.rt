@@ -33,9 +33,11 @@ mod renumber;
 #[cfg(test)]
 mod repr;
 #[cfg(test)]
+mod state_graph;
+#[cfg(test)]
 mod texts;
 #[cfg(test)]
-mod views;
-mod state_graph;
 mod trace;
+#[cfg(test)]
+mod views;
 pub mod word_lookahead;
