@@ -1,5 +1,7 @@
 //! A normalised grammar: names, terminals, symbols and productions.
 pub mod grammar;
+pub mod inlined;
+pub mod norm_error;
 pub mod terminals;
 
 ghost use Rattle.std.specs.Prelude.{◌≡◌, ◌<◌, ◌↔◌, IsTrue, IfOk, List, Some, length};

@@ -4,6 +4,7 @@ ghost use Rattle.std.specs.BTreeMap.{get};
 ghost use Rattle.lalrpop_base.specs.WellFormed.{IsWellFormed, IsWellFormedEntry, IsWellFormedProduction, productions_of, HasKnownTerminals};
 ghost use Rattle.lalrpop_base.specs.SameGrammars.{IsSameEntry, IsSameGrammar};
 
+use super::inlined::InlineActionFnDefn;
 use super::terminals::TerminalSet;
 use super::{NonterminalString, Production, Span, Symbol};
 use crate::exact::{equal, place_of};
@@ -26,10 +27,11 @@ pub struct NonterminalData {
     pub span: Span,
 }
 
-/// Whether an action is the user's.
+/// Whether an action is the user's, or what inlining made of others.
 #[derive(Debug, Drop)]
 pub enum ActionFnDefnKind {
     User,
+    Inline(InlineActionFnDefn),
 }
 
 /// An action.
@@ -104,11 +106,12 @@ fn clone_attributes(alloc: Global, attributes: &[Attribute]) -> Result<Vec<Attri
 
 impl ActionFnDefnKind {
     /// A copy of its own.
-    pub fn clone(&self, _alloc: Global) -> Result<Self, OutOfMemory>
+    pub fn clone(&self, alloc: Global) -> Result<Self, OutOfMemory>
         ensures copy { IfOk result (λ copy. copy ≡ self.now) }
     {
         match self {
             ActionFnDefnKind::User => Ok(ActionFnDefnKind::User),
+            ActionFnDefnKind::Inline(defn) => Ok(ActionFnDefnKind::Inline(defn.clone(alloc)?)),
         }
     }
 }
