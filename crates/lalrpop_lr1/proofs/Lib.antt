@@ -1,6 +1,8 @@
 pub mod Counting
 pub mod FaithfulAnswers
 pub mod FaithfulStacks
+pub mod InlineChoices
+pub mod InlineSteps
 pub mod Interpreted
 pub mod KnownLabels
 pub mod MachineRuns

@@ -2,6 +2,9 @@ pub mod Answers
 pub mod EqualTrees
 pub mod FaithfulAnswers
 pub mod Headline
+pub mod InlineChoices
+pub mod InlineRefusals
+pub mod InlineSteps
 pub mod Machines
 pub mod Meetings
 pub mod ParseTrees

@@ -2,5 +2,6 @@
 #![tactic(auto)]
 
 pub mod headline;
+pub mod inline;
 pub mod interpret;
 pub mod trace;
