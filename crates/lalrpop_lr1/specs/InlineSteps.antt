@@ -1,5 +1,5 @@
 -- Inlining nonterminals, one after another: Aho, Sethi and Ullman, "Compilers", section 4.3, where the alternatives of a nonterminal are put in its place. Here each new production has a new action, which says of what it was made.
-use Rattle.std.specs.Prelude.{◌||◌, ℕ, Bool, true, false, cond, List, [], ◌∷◌, ◌++◌, length, map, slice_get, Option, Some, None}
+use Rattle.std.specs.Prelude.{◌≡◌, ◌||◌, ℕ, Bool, true, false, cond, List, [], ◌∷◌, ◌++◌, length, map, slice_get, Option, Some, None}
 use Rattle.std.specs.List.{flat_map, list_any}
 use Rattle.std.specs.BTreeMap.{is_at}
 use Rattle.std.specs.Map.{lookup}
@@ -86,9 +86,12 @@ pub record View : Type 0 where
 abbrev pub entry_view : NonterminalString × NonterminalData → NonterminalString × Entry
 entry_view e = (e.0, record { productions = e.1.productions.items; attributes = e.1.attributes.items; span = e.1.span })
 
+abbrev pub view_with : List (NonterminalString × NonterminalData) → List ActionFnDefn → View
+view_with entries defns = record { entries = map entry_view entries; defns = defns }
+
 -- of a grammar
 abbrev pub view_of : Grammar → View
-view_of g = record { entries = map entry_view g.nonterminals.entries; defns = g.action_fn_defns.items }
+view_of g = view_with g.nonterminals.entries g.action_fn_defns.items
 
 abbrev pub listed : Option Entry → List Production
 listed None = []
@@ -114,6 +117,12 @@ abbrev pub replaced_entries : NonterminalString → List Production → List (No
 replaced_entries b alternatives [] defns = record { entries = []; defns = defns }
 replaced_entries b alternatives (e ∷ es) defns =
     entry_in_front (entry_with e (replaced_all b alternatives e.1.productions defns).productions) (replaced_entries b alternatives es (replaced_all b alternatives e.1.productions defns).defns)
+
+-- an entry with its productions replaced
+pub record IsEntryReplaced (b : NonterminalString) (alternatives : List Production) (old : NonterminalData) (defns : List ActionFnDefn) (new : NonterminalData) (all : List ActionFnDefn) : Type 0 where
+  pub productions : made_of new.productions.items all ≡ replaced_all b alternatives old.productions.items defns
+  pub attributes : new.attributes.items ≡ old.attributes.items
+  pub span : new.span ≡ old.span
 
 -- with a nonterminal inlined: its alternatives stand in the place of each of its occurrences
 abbrev pub inlined_of : NonterminalString → View → View

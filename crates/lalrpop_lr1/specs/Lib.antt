@@ -3,8 +3,11 @@ pub mod EqualTrees
 pub mod FaithfulAnswers
 pub mod Headline
 pub mod InlineChoices
+pub mod InlineOrder
 pub mod InlineRefusals
 pub mod InlineSteps
+pub mod Inlined
+pub mod InlineWalks
 pub mod Machines
 pub mod Meetings
 pub mod ParseTrees

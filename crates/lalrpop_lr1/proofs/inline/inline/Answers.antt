@@ -1,0 +1,58 @@
+use Rattle.std.proofs.Common.{rules, ◌≡◌, ◌↔◌, List, length, arith, sym, ◌∙◌, ap, subst}
+use Rattle.lalrpop_base.specs.declared.repr.NonterminalString.{NonterminalString}
+use Rattle.lalrpop_lr1.specs.InlineOrder.{IsInlineOrder}
+use Rattle.lalrpop_lr1.specs.InlineSteps.{view_of, inlined_by}
+use Rattle.lalrpop_lr1.specs.Inlined.{IsRefusalOf}
+use Rattle.lalrpop_lr1.proofs.InlineStages.{one_inlined, inlined_past, all_inlined, refusal_past, inlined_well_formed, inlined_unmentioned, inlined_lists, inlined_kept}
+use Rattle.lalrpop_lr1.proofs.inline.inline.Goals as goal
+
+pub loop-name-preserved : goal.loop-name-preserved
+loop-name-preserved c = record {
+  view = one_inlined c.deref-name-items.result.now c.loop-name.name-index c.name-item.result (view_of c.loop-name.inlined) _ _ (omega arith) c.name-item.is c.loop-name.invariant.view c.in_ok-inlined.ensures.view;
+  terminals = c.in_ok-inlined.ensures.terminals ∙ c.loop-name.invariant.terminals;
+  algorithm = c.in_ok-inlined.ensures.algorithm ∙ c.loop-name.invariant.algorithm;
+}
+
+pub returns-in_err-inlined-clause-refused : goal.returns-in_err-inlined-clause-refused
+returns-in_err-inlined-clause-refused c =
+    let order : List NonterminalString = c.deref-name-items.result.now in
+    let is : IsInlineOrder c.args.grammar order = subst (IsInlineOrder c.args.grammar) (sym c.deref-name-items.ensures.value) c.in_ok-order.ensures.order in
+    let step : IsRefusalOf c.args.grammar c.in_err-inlined.field-0.0 =
+    refusal_past c.args.grammar order c.in_err-inlined.field-0.0 is
+    (inlined_past order c.loop-name.name-index c.name-item.result (view_of c.loop-name.inlined) (inlined_by order (view_of c.args.grammar)) c.in_err-inlined.field-0.0 (omega arith) c.name-item.is c.loop-name.invariant.view c.in_err-inlined.ensures.err) in
+    search (rules, step)
+
+pub returns-clause-inlined : goal.returns-clause-inlined
+returns-clause-inlined c =
+    let order : List NonterminalString = c.deref-name-items.result.now in
+    record {
+      order = order;
+      in_order = subst (IsInlineOrder c.args.grammar) (sym c.deref-name-items.ensures.value) c.in_ok-order.ensures.order;
+      view = all_inlined order c.loop-name.name-index (view_of c.loop-name.inlined) (inlined_by order (view_of c.args.grammar)) (omega (arith, c.loop-name-test.false)) c.loop-name.invariant.view;
+      terminals = c.loop-name.invariant.terminals;
+      algorithm = c.loop-name.invariant.algorithm;
+    }
+
+pub returns-clause-well_formed : goal.returns-clause-well_formed
+returns-clause-well_formed c =
+    let order : List NonterminalString = c.deref-name-items.result.now in
+    inlined_well_formed c.args.grammar c.loop-name.inlined order c.in_ok-order.ensures.rising c.requires (subst (IsInlineOrder c.args.grammar) (sym c.deref-name-items.ensures.value) c.in_ok-order.ensures.order)
+    (all_inlined order c.loop-name.name-index (view_of c.loop-name.inlined) (inlined_by order (view_of c.args.grammar)) (omega (arith, c.loop-name-test.false)) c.loop-name.invariant.view) c.loop-name.invariant.terminals
+
+pub returns-clause-unmentioned : goal.returns-clause-unmentioned
+returns-clause-unmentioned c =
+    let order : List NonterminalString = c.deref-name-items.result.now in
+    inlined_unmentioned c.args.grammar c.loop-name.inlined order c.in_ok-order.ensures.rising c.requires (subst (IsInlineOrder c.args.grammar) (sym c.deref-name-items.ensures.value) c.in_ok-order.ensures.order)
+    (all_inlined order c.loop-name.name-index (view_of c.loop-name.inlined) (inlined_by order (view_of c.args.grammar)) (omega (arith, c.loop-name-test.false)) c.loop-name.invariant.view) c.loop-name.invariant.terminals
+
+pub returns-clause-terminal_lists : goal.returns-clause-terminal_lists
+returns-clause-terminal_lists c =
+    let order : List NonterminalString = c.deref-name-items.result.now in
+    inlined_lists c.args.grammar c.loop-name.inlined order c.in_ok-order.ensures.rising c.requires (subst (IsInlineOrder c.args.grammar) (sym c.deref-name-items.ensures.value) c.in_ok-order.ensures.order)
+    (all_inlined order c.loop-name.name-index (view_of c.loop-name.inlined) (inlined_by order (view_of c.args.grammar)) (omega (arith, c.loop-name-test.false)) c.loop-name.invariant.view) c.loop-name.invariant.terminals
+
+pub returns-clause-kept : goal.returns-clause-kept
+returns-clause-kept c =
+    let order : List NonterminalString = c.deref-name-items.result.now in
+    inlined_kept c.args.grammar c.loop-name.inlined order c.in_ok-order.ensures.rising c.requires (subst (IsInlineOrder c.args.grammar) (sym c.deref-name-items.ensures.value) c.in_ok-order.ensures.order)
+    (all_inlined order c.loop-name.name-index (view_of c.loop-name.inlined) (inlined_by order (view_of c.args.grammar)) (omega (arith, c.loop-name-test.false)) c.loop-name.invariant.view) c.loop-name.invariant.terminals
