@@ -24,9 +24,9 @@ use Rattle.lalrpop_base.specs.declared.repr.Span.{Span}
 use Rattle.lrtab.specs.declared.lines.Line.TheVariants.{Blank, Fault}
 use Rattle.lrtab.specs.declared.lines.PlacedLine.{PlacedLine}
 use Rattle.lrtab.specs.declared.collected.Collected.{Collected}
-use Rattle.lrtab.specs.Grammar.{Entry, entry_view, with_production, terminals_of, terminals_in, terminal_cmp, user_action, entry_of, productions_in, production_of, names, line_names}
-use Rattle.lrtab.specs.Collected.{IsCollected, is_same, production_at}
-use Rattle.lrtab.proofs.Numbered.{productions_in-more, entry_of-more, entry_of-same}
+use Rattle.lrtab.specs.Grammar.{Entry, entry_view, with_production, with_mark, terminals_of, terminals_in, terminal_cmp, user_action, entry_of, productions_in, production_of, names, line_names}
+use Rattle.lrtab.specs.Collected.{IsCollected, is_same, production_at, inline_at}
+use Rattle.lrtab.proofs.Numbered.{productions_in-more, entry_of-more, entry_of-marked, entry_of-same}
 
 or_more : (b q rest new all : Bool) → new ≡ (b || (q || false)) → (b || (q || rest)) ≡ all → (new || rest) ≡ all
 or_more true q rest new all e f = rw e f
@@ -56,6 +56,18 @@ pub entries_grown : (m without n : BTreeMap NonterminalString NonterminalData) (
 entries_grown m without n name grown entry p removed inserted was made a =
     let w = with_production (option_map entry_view (get name_cmp m name)) p in
     let is : Some (entry_view grown) ≡ w = made ∙ ap (λ e. with_production (option_map entry_view e) p) was in
+    grown_at (is_eq (slice_cmp nat_cmp name.text a.text)) grown (get name_cmp m a) (get name_cmp without a) (get name_cmp n a) w (removed a) (inserted a) is
+    ∙ ap (λ b. cond b w (option_map entry_view (get name_cmp m a))) (is_eq-slice_cmp name.text a.text)
+
+-- the same of a mark
+pub entries_marked : (m without n : BTreeMap NonterminalString NonterminalData) (name : NonterminalString) (grown : NonterminalData) (entry : Option NonterminalData) (span : Span)
+    → ((a : NonterminalString) → get name_cmp without a ≡ cond (is_at (name_cmp name) a) None (get name_cmp m a))
+    → ((a : NonterminalString) → get name_cmp n a ≡ cond (is_at (name_cmp name) a) (Some grown) (get name_cmp without a))
+    → entry ≡ get name_cmp m name → Some (entry_view grown) ≡ with_mark (option_map entry_view entry) span
+    → (a : NonterminalString) → option_map entry_view (get name_cmp n a) ≡ cond (bytes_eq name.text a.text) (with_mark (option_map entry_view (get name_cmp m name)) span) (option_map entry_view (get name_cmp m a))
+entries_marked m without n name grown entry span removed inserted was made a =
+    let w = with_mark (option_map entry_view (get name_cmp m name)) span in
+    let is : Some (entry_view grown) ≡ w = made ∙ ap (λ e. with_mark (option_map entry_view e) span) was in
     grown_at (is_eq (slice_cmp nat_cmp name.text a.text)) grown (get name_cmp m a) (get name_cmp without a) (get name_cmp n a) w (removed a) (inserted a) is
     ∙ ap (λ b. cond b w (option_map entry_view (get name_cmp m a))) (is_eq-slice_cmp name.text a.text)
 
@@ -96,7 +108,7 @@ collected_more ls old new a name symbols action span was number same entries ord
           ∙ ap (λ e. cond (bytes_eq a.text b.text) (with_production e p) (option_map entry_view (get name_cmp old.nonterminals b))) (was.entries a)
           ∙ ap (λ e. cond (bytes_eq a.text b.text) (with_production (entry_of a ls) p) e) (was.entries b)
           ∙ named_once (bytes_eq a.text b.text) b a ls p (name_exact a b)
-          ∙ sym (entry_of-more b a ls l p more refl refl);
+          ∙ sym (entry_of-more b a ls l p more refl refl refl);
       ordered = ordered;
       terminals = λ t.
           terminals t
@@ -104,6 +116,31 @@ collected_more ls old new a name symbols action span was number same entries ord
           ∙ sym (terminals_in-more (λ x. is_same x t) (productions_in ls) p)
           ∙ ap (λ ps. list_any (λ x. is_same x t) (terminals_in ps)) (sym more);
       actions = actions ∙ ap (λ ds. ds ++ user_action ∷ []) was.actions ∙ sym (map-append (λ _. user_action) (productions_in ls) (p ∷ [])) ∙ ap (λ ps. map (λ _. user_action) ps) (sym more);
+    }
+
+marked_once : (named : Bool) (a b : NonterminalString) (ls : List PlacedLine) (span : Span) → (named ≡ true → b ≡ a)
+    → cond named (with_mark (entry_of b ls) span) (entry_of a ls) ≡ cond named (with_mark (entry_of a ls) span) (entry_of a ls)
+marked_once true a b ls span h = ap (λ x. with_mark (entry_of x ls) span) (h refl)
+marked_once false a b ls span h = refl
+
+-- what was collected grows by a mark
+pub collected_marked : (ls : List PlacedLine) (old new : Collected) (a : NonterminalString) (span : Span) → IsCollected ls old
+    → ((b : NonterminalString) → option_map entry_view (get name_cmp new.nonterminals b)
+    ≡ cond (bytes_eq a.text b.text) (with_mark (option_map entry_view (get name_cmp old.nonterminals a)) span) (option_map entry_view (get name_cmp old.nonterminals b)))
+    → IsOrdered name_cmp new.nonterminals → new.terminals ≡ old.terminals → new.action_fn_defns ≡ old.action_fn_defns → IsCollected (ls ++ inline_at a span ∷ []) new
+collected_marked ls old new a span was entries ordered terminals actions =
+    let l = inline_at a span in
+    let same : productions_in (ls ++ l ∷ []) ≡ productions_in ls = productions_in-more ls l ∙ append-nil (productions_in ls) in
+    record {
+      entries = λ b.
+          entries b
+          ∙ ap (λ e. cond (bytes_eq a.text b.text) (with_mark e span) (option_map entry_view (get name_cmp old.nonterminals b))) (was.entries a)
+          ∙ ap (λ e. cond (bytes_eq a.text b.text) (with_mark (entry_of a ls) span) e) (was.entries b)
+          ∙ marked_once (bytes_eq a.text b.text) b a ls span (name_exact a b)
+          ∙ sym (entry_of-marked b a ls l same (bytes_eq a.text b.text) refl refl);
+      ordered = ordered;
+      terminals = λ t. ap (λ s. contains terminal_cmp s t) terminals ∙ was.terminals t ∙ ap (λ ps. list_any (λ x. is_same x t) (terminals_in ps)) (sym same);
+      actions = ap (λ d. d.items) actions ∙ was.actions ∙ ap (λ ps. map (λ _. user_action) ps) (sym same);
     }
 
 idle : (l : PlacedLine) → (l.line ≡ Blank) ⊎ (l.line ≡ Fault) → ((n : ℕ) → production_of n l.span l.line ≡ []) × ((a : NonterminalString) → names a l ≡ false)

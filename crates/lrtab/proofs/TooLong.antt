@@ -3,7 +3,7 @@ use Rattle.std.proofs.Common.{◌≡◌, ℕ, ◌+◌, ◌<◌, true, List, ◌�
 use Rattle.std.proofs.lemmas.List.{length-map}
 use Rattle.lalrpop_base.specs.declared.repr.Span.{Span}
 use Rattle.lrtab.specs.declared.lines.Line.{Line}
-use Rattle.lrtab.specs.declared.lines.Line.TheVariants.{Blank, Production, Fault}
+use Rattle.lrtab.specs.declared.lines.Line.TheVariants.{Blank, Production, Inline, Fault}
 use Rattle.lrtab.specs.declared.lines.PlacedLine.{PlacedLine}
 use Rattle.lrtab.specs.declared.collected.Collected.{Collected}
 use Rattle.lrtab.specs.declared.read_error.ReadError.{ReadError}
@@ -16,6 +16,7 @@ use Rattle.lrtab.proofs.Numbered.{productions_from-append}
 one : (n : ℕ) (span : Span) (line : Line) → is_production_line line ≡ true → length (production_of n span line) ≡ 1
 one n span Blank h = cc
 one n span (Production a symbols) h = refl
+one n span (Inline a) h = cc
 one n span Fault h = cc
 
 -- as many actions as productions

@@ -27,12 +27,13 @@ use Rattle.lalrpop_base.specs.declared.repr.TerminalString.{TerminalString}
 use Rattle.lalrpop_base.specs.declared.repr.Symbol.TheVariants.{Terminal}
 use Rattle.lalrpop_base.specs.declared.repr.Production.{Production}
 use Rattle.lalrpop_base.specs.declared.repr.Span.{Span}
+use Rattle.lalrpop_base.specs.declared.repr.grammar.Attribute.{Attribute}
 use Rattle.lalrpop_base.specs.declared.repr.grammar.Grammar.{Grammar}
 use Rattle.lalrpop_base.specs.declared.repr.grammar.NonterminalData.{NonterminalData}
 use Rattle.lrtab.specs.declared.lines.Line.{Line}
-use Rattle.lrtab.specs.declared.lines.Line.TheVariants.{Blank, Production as production_line, Fault}
+use Rattle.lrtab.specs.declared.lines.Line.TheVariants.{Blank, Production as production_line, Inline, Fault}
 use Rattle.lrtab.specs.declared.lines.PlacedLine.{PlacedLine}
-use Rattle.lrtab.specs.Grammar.{Entry, entry_view, terminal_of, terminals_of, terminals_in, terminal_cmp, user_action, productions_in, productions_from, production_of, has_name, names, StandsFor, AreTerminalsOf}
+use Rattle.lrtab.specs.Grammar.{Entry, entry_view, terminal_of, terminals_of, terminals_in, terminal_cmp, user_action, productions_in, productions_from, production_of, has_name, names, marks_in, StandsFor, AreTerminalsOf}
 use Rattle.lrtab.specs.declared.collected.Collected.{Collected}
 use Rattle.lrtab.specs.Collected.{IsCollected, is_same}
 use Rattle.lrtab.proofs.Numbered.{entry_from}
@@ -45,6 +46,7 @@ IsNumberedFrom k (p ∷ ps) = (p.action.0 ≡ k) × IsNumberedFrom (k + 1) ps
 numbered_line : (k : ℕ) (span : Span) (line : Line) (ps : List Production) → IsNumberedFrom (k + length (production_of k span line)) ps → IsNumberedFrom k (production_of k span line ++ ps)
 numbered_line k span Blank ps h = let P : ℕ → Type 0 = λ n. IsNumberedFrom n ps in subst P (add-zero k) h
 numbered_line k span (production_line a symbols) ps h = (refl, h)
+numbered_line k span (Inline a) ps h = let P : ℕ → Type 0 = λ n. IsNumberedFrom n ps in subst P (add-zero k) h
 numbered_line k span Fault ps h = let P : ℕ → Type 0 = λ n. IsNumberedFrom n ps in subst P (add-zero k) h
 
 numbered : (k : ℕ) (ls : List PlacedLine) → IsNumberedFrom k (productions_from k ls)
@@ -108,14 +110,14 @@ known ps p c k t e =
     let at = place_at ps p c in
     in_flat (λ (x : Production). terminals_of x.symbols) ps at.0 p t at.1 (in_flat terminal_of p.symbols k (Terminal t) t e (contains_at (t ∷ []) 0 t refl))
 
-listed : (e : Entry) (ps : List Production) (found : Option PlacedLine) → Some e ≡ entry_from ps found → e.productions ≡ ps
-listed e ps None h = cc
-listed e ps (Some first) h = let same : e ≡ record { productions = ps; attributes = []; span = first.span } = cc in ap (λ (x : Entry). x.productions) same
+listed : (e : Entry) (ps : List Production) (marks : List Attribute) (found : Option PlacedLine) → Some e ≡ entry_from ps marks found → e.productions ≡ ps
+listed e ps marks None h = cc
+listed e ps marks (Some first) h = let same : e ≡ record { productions = ps; attributes = marks; span = first.span } = cc in ap (λ (x : Entry). x.productions) same
 
 -- the productions of an entry
 entry_listed : (ls : List PlacedLine) (g : Grammar) (name : NonterminalString) (entry : NonterminalData) → StandsFor ls g → get name_cmp g.nonterminals name ≡ Some entry → entry.productions.items ≡ filter (has_name name) (productions_in ls)
 entry_listed ls g name entry stands found =
-    listed (entry_view entry) (filter (has_name name) (productions_in ls)) (find (names name) ls) (ap (option_map entry_view) (sym found) ∙ stands.entries name)
+    listed (entry_view entry) (filter (has_name name) (productions_in ls)) (marks_in name ls) (find (names name) ls) (ap (option_map entry_view) (sym found) ∙ stands.entries name)
 
 one_of : (ls : List PlacedLine) (g : Grammar) (name : NonterminalString) (p : Production) → StandsFor ls g → Contains (filter (has_name name) (productions_in ls)) p → IsWellFormedProduction g.terminals (vec_len g.action_fn_defns) name p
 one_of ls g name p stands c =

@@ -15,6 +15,11 @@ use Rattle.lrtab.specs.declared.answer.Answer.TheVariants.{Output, Fault, Usage,
 use Rattle.lrtab.specs.declared.read_error.ReadError.TheVariants.{Line as LineFault, TooManyActions as TooMany}
 use Rattle.lrtab.specs.Lines.{lines_of, is_fault}
 use Rattle.lrtab.specs.Faults.{IsFaultOf}
+use Rattle.lrtab.specs.Grammar.{StandsFor}
+use Rattle.lalrpop_base.specs.declared.repr.NonterminalString.{NonterminalString}
+use Rattle.lalrpop_base.specs.declared.repr.grammar.Grammar.{Grammar}
+use Rattle.lalrpop_lr1.specs.InlineOrder.{IsOnRing}
+use Rattle.lalrpop_lr1.specs.Inlined.{HasTooMany}
 use Rattle.lrtab.specs.Words.{Parse}
 use Rattle.lrtab.specs.Output.{AppendsBeginning}
 
@@ -55,19 +60,41 @@ pub record IsOutput (request : Parse) (file : Option (Option (List ℕ))) (statu
   pub readable : OfFile (λ bytes. IsUtf8 bytes × (position is_fault (lines_of bytes) ≡ None)) file
   pub shown : IsShown request status text
 
--- the file is not there, could not be read or is no UTF-8; or its text has a faulty line, and the first is named
+-- the grammar that a text stands for has marked nonterminals that mention each other in a ring, of which a is one
+pub record IsCyclic (bytes : List ℕ) (a : NonterminalString) : Type 0 where
+  pub utf8 : IsUtf8 bytes
+  pub right : position is_fault (lines_of bytes) ≡ None
+  pub grammar : Grammar
+  pub stands : StandsFor (lines_of bytes) grammar
+  pub ring : IsOnRing grammar a
+
+-- there are more actions than numbers for them, as the text stands or with its marked nonterminals inlined
+pub data IsTooMany (bytes : List ℕ) : Type 0 where
+  in_text : IsUtf8 bytes → IsFaultOf (lines_of bytes) TooMany → IsTooMany bytes
+  inlined : (g : Grammar) → IsUtf8 bytes → StandsFor (lines_of bytes) g → HasTooMany g → IsTooMany bytes
+
+-- the file is not there, could not be read or is no UTF-8; or its text has a faulty line, and the first is named; or a nonterminal is named that would have to be inlined into itself
 abbrev pub IsFaultText : List ℕ → Option (Option (List ℕ)) → List ℕ → Type 0
 IsFaultText name file text =
     (text ≡ line (codes "cannot read " ++ name))
     ⊎ ((n : ℕ) × OfFile (λ bytes. IsUtf8 bytes × IsFaultOf (lines_of bytes) (LineFault n)) file × (text ≡ line (codes "line " ++ decimal n ++ codes ": not a grammar line")))
+    ⊎ ((a : NonterminalString) × OfFile (λ bytes. IsCyclic bytes a) file × (text ≡ line (codes "cyclic inline of " ++ a.text)))
 
 -- what the program tells of a request
 abbrev pub IsAnswerTo : Parse → List ℕ → Option (Option (List ℕ)) → Answer → Type 0
 IsAnswerTo request name file (Output status text) = IsOutput request file status (string_bytes text)
 IsAnswerTo request name file (Fault text) = IsFaultText name file (string_bytes text)
 IsAnswerTo request name file Usage = ⊥
-IsAnswerTo request name file TooManyActions = OfFile (λ bytes. IsUtf8 bytes × IsFaultOf (lines_of bytes) TooMany) file
+IsAnswerTo request name file TooManyActions = OfFile IsTooMany file
 IsAnswerTo request name file Memory = Unit {0}
+
+-- what the program tells of a request and a grammar
+abbrev pub IsAnswerToGrammar : Parse → Grammar → Answer → Type 0
+IsAnswerToGrammar request g (Output status text) = IsShown request status (string_bytes text)
+IsAnswerToGrammar request g (Fault text) = (a : NonterminalString) × IsOnRing g a × (string_bytes text ≡ line (codes "cyclic inline of " ++ a.text))
+IsAnswerToGrammar request g Usage = ⊥
+IsAnswerToGrammar request g TooManyActions = HasTooMany g
+IsAnswerToGrammar request g Memory = Unit {0}
 
 -- what the program tells on words: the usage text where they are no request, and nothing else then
 abbrev pub IsAnswer : Option Parse → List ℕ → Option (Option (List ℕ)) → Answer → Type 0

@@ -10,7 +10,7 @@ use Rattle.lalrpop_base.specs.declared.repr.TerminalString.{TerminalString}
 use Rattle.lalrpop_base.specs.declared.repr.Symbol.{Symbol}
 use Rattle.lalrpop_base.specs.declared.repr.Span.{Span}
 use Rattle.lrtab.specs.declared.lines.Line.{Line}
-use Rattle.lrtab.specs.declared.lines.Line.TheVariants.{Blank, Production, Fault}
+use Rattle.lrtab.specs.declared.lines.Line.TheVariants.{Blank, Production, Inline, Fault}
 use Rattle.lrtab.specs.declared.lines.PlacedLine.{PlacedLine}
 use Rattle.lrtab.specs.declared.collected.Collected.{Collected}
 use Rattle.lrtab.specs.declared.read_error.ReadError.{ReadError}
@@ -31,6 +31,7 @@ pub record IsCollected (lines : List PlacedLine) (c : Collected) : Type 0 where
 abbrev pub is_production_line : Line → Bool
 is_production_line Blank = false
 is_production_line (Production a symbols) = true
+is_production_line (Inline a) = false
 is_production_line Fault = false
 
 -- whether a line is a production
@@ -40,6 +41,10 @@ is_production l = is_production_line l.line
 -- the line of a production
 abbrev pub production_at : NonterminalString → List Symbol → Span → PlacedLine
 production_at a symbols span = record { line = Production a symbols; span = span }
+
+-- the line that says that a nonterminal is to be inlined
+abbrev pub inline_at : NonterminalString → Span → PlacedLine
+inline_at a span = record { line = Inline a; span = span }
 
 -- an action is wanted where there is no number left; memory may be refused at any line
 abbrev pub IsFull : Collected → PlacedLine → ReadError → Type 0

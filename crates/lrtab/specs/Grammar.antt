@@ -1,5 +1,5 @@
 -- The grammar that a text stands for, given what its lines say.
-use Rattle.std.specs.Prelude.{◌≡◌, ◌↔◌, ℕ, ◌+◌, Bool, false, List, [], ◌∷◌, ◌++◌, length, map, filter, find, Contains, Option, None, Some, option_map, codes}
+use Rattle.std.specs.Prelude.{◌≡◌, ◌↔◌, ℕ, ◌+◌, Bool, false, List, [], ◌∷◌, ◌++◌, length, map, filter, find, Contains, Option, None, Some, option_map, codes, if◌then◌else◌}
 use Rattle.std.specs.List.{flat_map}
 use Rattle.std.specs.List.Sorted.{IsStrictlySortedBy}
 use Rattle.std.specs.Str.{bytes_eq}
@@ -19,13 +19,15 @@ use Rattle.lalrpop_base.specs.declared.repr.grammar.NonterminalData.{Nonterminal
 use Rattle.lalrpop_base.specs.declared.repr.grammar.ActionFnDefn.{ActionFnDefn}
 use Rattle.lalrpop_base.specs.declared.repr.grammar.ActionFnDefnKind.TheVariants.{User}
 use Rattle.lrtab.specs.declared.lines.Line.{Line}
-use Rattle.lrtab.specs.declared.lines.Line.TheVariants.{Blank, Production as production_line, Fault}
+use Rattle.lrtab.specs.declared.lines.Line.TheVariants.{Blank, Production as production_line, Inline, Fault}
 use Rattle.lrtab.specs.declared.lines.PlacedLine.{PlacedLine}
+use Rattle.lalrpop_lr1.specs.InlineOrder.{inline_mark}
 
 -- the production that a line is, with an action, or none
 abbrev pub production_of : ℕ → Span → Line → List Production
 production_of action span Blank = []
 production_of action span (production_line a symbols) = record { nonterminal = a; symbols = symbols; action = record { 0 = action }; span = span } ∷ []
+production_of action span (Inline a) = []
 production_of action span Fault = []
 
 -- the productions of lines, of which the first has an action, and each further one the next
@@ -44,11 +46,23 @@ has_name a p = bytes_eq p.nonterminal.text a.text
 abbrev pub line_names : NonterminalString → Line → Bool
 line_names a Blank = false
 line_names a (production_line b symbols) = bytes_eq b.text a.text
+line_names a (Inline b) = bytes_eq b.text a.text
 line_names a Fault = false
 
--- whether a line names a nonterminal, as the left side of its production
+-- whether a line names a nonterminal, as the left side of its production or as one to be inlined
 abbrev pub names : NonterminalString → PlacedLine → Bool
 names a l = line_names a l.line
+
+-- the marks that a line gives a nonterminal
+abbrev pub line_marks : NonterminalString → Line → List Attribute
+line_marks a Blank = []
+line_marks a (production_line b symbols) = []
+line_marks a (Inline b) = if bytes_eq b.text a.text then inline_mark ∷ [] else []
+line_marks a Fault = []
+
+-- one for each line that says that it is to be inlined
+abbrev pub marks_in : NonterminalString → List PlacedLine → List Attribute
+marks_in a lines = flat_map (λ (l : PlacedLine). line_marks a l.line) lines
 
 -- what stands under a name
 pub record Entry : Type 0 where
@@ -59,14 +73,19 @@ pub record Entry : Type 0 where
 abbrev pub entry_view : NonterminalData → Entry
 entry_view d = record { productions = d.productions.items; attributes = d.attributes.items; span = d.span }
 
--- what stands under a name: its productions in line order, no marks, and the span of the first line that names it; nothing where no line does
+-- what stands under a name: its productions in line order, its marks, and the span of the first line that names it; nothing where no line does
 abbrev pub entry_of : NonterminalString → List PlacedLine → Option Entry
-entry_of a lines = option_map (λ (first : PlacedLine). record { productions = filter (has_name a) (productions_in lines); attributes = []; span = first.span }) (find (names a) lines)
+entry_of a lines = option_map (λ (first : PlacedLine). record { productions = filter (has_name a) (productions_in lines); attributes = marks_in a lines; span = first.span }) (find (names a) lines)
 
 -- an entry with a production more, or a new one
 abbrev pub with_production : Option Entry → Production → Option Entry
 with_production None p = Some (record { productions = p ∷ []; attributes = []; span = p.span })
 with_production (Some e) p = Some (record { productions = e.productions ++ p ∷ []; attributes = e.attributes; span = e.span })
+
+-- an entry with a mark more, or a new one
+abbrev pub with_mark : Option Entry → Span → Option Entry
+with_mark None span = Some (record { productions = []; attributes = inline_mark ∷ []; span = span })
+with_mark (Some e) span = Some (record { productions = e.productions; attributes = e.attributes ++ inline_mark ∷ []; span = e.span })
 
 -- the order of terminals
 abbrev pub terminal_cmp : TerminalString → TerminalString → Ordering

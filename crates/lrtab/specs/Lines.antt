@@ -5,7 +5,7 @@ use Rattle.std.specs.Str.{bytes_eq}
 use Rattle.lalrpop_base.specs.declared.repr.NonterminalString.{NonterminalString}
 use Rattle.lalrpop_base.specs.declared.repr.Symbol.{Symbol}
 use Rattle.lrtab.specs.declared.lines.Line.{Line}
-use Rattle.lrtab.specs.declared.lines.Line.TheVariants.{Blank, Production, Fault}
+use Rattle.lrtab.specs.declared.lines.Line.TheVariants.{Blank, Production, Inline, Fault}
 use Rattle.lrtab.specs.declared.lines.PlacedLine.{PlacedLine}
 use Rattle.lrtab.specs.Symbols.{name_of, is_name, symbols_of}
 
@@ -17,11 +17,15 @@ abbrev pub is_empty : {A : Type 0} → List A → Bool
 is_empty [] = true
 is_empty (x ∷ xs) = false
 
--- what a line of these words says: nothing, a production where they are a name, `=` and symbol words, and else it is a fault
+-- what two words say, and others behind them: where they are `inline` and a name alone, that it is to be inlined, and else it is a fault
+abbrev pub marked_line : List ℕ → List ℕ → List (List ℕ) → Line
+marked_line w v ws = if is_empty ws && (bytes_eq w (codes "inline") && is_name v) then Inline (name_of v) else Fault
+
+-- what a line of these words says: nothing, a production where they are a name, `=` and symbol words, a name to be inlined, and else it is a fault
 abbrev pub line_of_words : List (List ℕ) → Line
 line_of_words [] = Blank
 line_of_words (w ∷ []) = Fault
-line_of_words (w ∷ v ∷ ws) = if bytes_eq v (codes "=") && is_name w then production_line (name_of w) (symbols_of ws) else Fault
+line_of_words (w ∷ v ∷ ws) = if bytes_eq v (codes "=") && is_name w then production_line (name_of w) (symbols_of ws) else marked_line w v ws
 
 -- words stand between spaces and tabs
 abbrev pub words_of : List ℕ → List (List ℕ)
@@ -49,6 +53,7 @@ lines_of text = placed_from 0 (slice_split (λ b. b == 10) text)
 abbrev pub is_fault_line : Line → Bool
 is_fault_line Blank = false
 is_fault_line (Production a symbols) = false
+is_fault_line (Inline a) = false
 is_fault_line Fault = true
 
 -- a line that is no grammar line

@@ -5,7 +5,7 @@ ghost use Rattle.lalrpop_base.specs.Coherent.{AreCoherent};
 ghost use Rattle.lalrpop_base.specs.WellFormed.{IsWellFormed};
 ghost use Rattle.lalrpop_base.specs.declared.repr.TerminalString.TheVariants.{Literal};
 ghost use Rattle.lrtab.specs.Words.{request_of, request_view};
-ghost use Rattle.lrtab.specs.Answers.{line, file_name, IsShown, IsAnswer, IsAnswerTo};
+ghost use Rattle.lrtab.specs.Answers.{line, file_name, IsShown, IsAnswer, IsAnswerTo, IsAnswerToGrammar};
 
 use crate::grammar::read;
 use crate::read_error::ReadError;
@@ -13,10 +13,12 @@ use crate::symbols::name_of;
 use crate::words::{Request, request_of};
 use lalrpop_base::lr1_core::state::{BuildError, Lr1State};
 use lalrpop_base::memory::OutOfMemory;
-use lalrpop_base::repr::TerminalString;
 use lalrpop_base::repr::grammar::Grammar;
+use lalrpop_base::repr::norm_error::NormError;
 use lalrpop_base::repr::terminals::TerminalSet;
+use lalrpop_base::repr::{NonterminalString, TerminalString};
 use lalrpop_base::text::Text;
+use lalrpop_lr1::inline::inline;
 use lalrpop_lr1::interpret::{InterpretError, interpret};
 use lalrpop_tables::build::{Method, Options};
 use lalrpop_tables::lr1::build_states;
@@ -123,14 +125,39 @@ fn answer_to_text(
     ensures { (name : List ℕ) → IfOk result (IsAnswerTo (request_view request.now) name (Some (Some text.now))) }
 {
     match read(alloc, text) {
-        Ok(grammar) => {
-            let (status, shown) = parse(alloc, request, method, &grammar)?;
-            Ok(Answer::Output(status, shown))
-        }
+        Ok(grammar) => answer_to_grammar(alloc, request, method, grammar),
         Err(ReadError::Line(number)) => Ok(Answer::Fault(faulty_line(alloc, number)?)),
         Err(ReadError::TooManyActions) => Ok(Answer::TooManyActions),
         Err(ReadError::Memory) => Err(OutOfMemory),
     }
+}
+
+// What the program has to tell of a request and a grammar, whose marked nonterminals are inlined.
+fn answer_to_grammar(
+    alloc: Global,
+    request: &Request<'_>,
+    method: Method,
+    grammar: Grammar,
+) -> Result<Answer, OutOfMemory>
+    requires { IsWellFormed grammar }
+    ensures { IfOk result (IsAnswerToGrammar (request_view request.now) grammar) }
+{
+    match inline(alloc, grammar) {
+        Ok(inlined) => {
+            let (status, shown) = parse(alloc, request, method, &inlined)?;
+            Ok(Answer::Output(status, shown))
+        }
+        Err(NormError::Cycle { span: _, name }) => Ok(Answer::Fault(cyclic_inline(alloc, &name)?)),
+        Err(NormError::TooManyActions) => Ok(Answer::TooManyActions),
+        Err(NormError::Memory) => Err(OutOfMemory),
+    }
+}
+
+// The message of a nonterminal that would have to be inlined into itself.
+fn cyclic_inline(alloc: Global, name: &NonterminalString) -> Result<String, OutOfMemory>
+    ensures { IfOk result (λ text. string_bytes text ≡ line (codes "cyclic inline of " ++ name.now.text)) }
+{
+    Ok(format!(in alloc; "cyclic inline of {name}\n")?)
 }
 
 // A status, and what a parse by the tables of a grammar shows.

@@ -8,14 +8,14 @@ ghost use Rattle.lalrpop_base.specs.WellFormed.{name_cmp};
 ghost use Rattle.lrtab.specs.declared.lines.PlacedLine.{PlacedLine};
 ghost use Rattle.lalrpop_base.specs.declared.repr.TerminalString.{TerminalString};
 ghost use Rattle.lalrpop_base.specs.declared.repr.NonterminalString.{NonterminalString};
-ghost use Rattle.lrtab.specs.Grammar.{entry_view, with_production, user_action, terminal_cmp, terminals_of};
-ghost use Rattle.lrtab.specs.Collected.{IsCollected, IsFull, is_same, production_at};
+ghost use Rattle.lrtab.specs.Grammar.{entry_view, with_production, with_mark, user_action, terminal_cmp, terminals_of};
+ghost use Rattle.lrtab.specs.Collected.{IsCollected, IsFull, is_same, production_at, inline_at};
 ghost use Rattle.lrtab.specs.declared.read_error.ReadError.TheVariants.{TooManyActions};
 
 use crate::lines::{Line, PlacedLine};
 use crate::read_error::ReadError;
 use lalrpop_base::memory::OutOfMemory;
-use lalrpop_base::repr::grammar::{ActionFnDefn, ActionFnDefnKind, NonterminalData};
+use lalrpop_base::repr::grammar::{ActionFnDefn, ActionFnDefnKind, Attribute, NonterminalData};
 use lalrpop_base::repr::{
     ActionFn, NonterminalString, Production, Span, Symbol, Symbols, TerminalString,
 };
@@ -55,6 +55,7 @@ impl Collected {
             Line::Production(nonterminal, symbols) => {
                 self.add_production(alloc, nonterminal, symbols, span)
             }
+            Line::Inline(nonterminal) => Ok(self.add_mark(alloc, nonterminal, span)?),
         }
     }
 
@@ -82,6 +83,25 @@ impl Collected {
             span,
         };
         add_to_entry(alloc, &mut self.nonterminals, name, production)?;
+        Ok(())
+    }
+}
+
+impl Collected {
+    // Adds the mark of a nonterminal that is to be inlined.
+    fn add_mark(
+        &mut self,
+        alloc: Global,
+        nonterminal: NonterminalString,
+        span: Span,
+    ) -> Result<(), OutOfMemory>
+        ensures ok { OnOk result ((lines : List PlacedLine) → IsCollected lines self.old →
+            IsCollected (lines ++ inline_at nonterminal span ∷ []) self.new) }
+        ensures same { self.new.action_fn_defns ≡ self.old.action_fn_defns }
+    {
+        let entry = self.nonterminals.remove(&nonterminal);
+        let marked = marked_entry(alloc, entry, span)?;
+        self.nonterminals.insert(nonterminal, marked)?;
         Ok(())
     }
 }
@@ -175,4 +195,26 @@ fn grown_entry(
     };
     grown.productions.push(production)?;
     Ok(grown)
+}
+
+// The entry with a mark more, or a new one.
+fn marked_entry(
+    alloc: Global,
+    entry: Option<NonterminalData>,
+    span: Span,
+) -> Result<NonterminalData, OutOfMemory>
+    ensures { IfOk result (λ marked. Some (entry_view marked) ≡ with_mark (option_map entry_view entry) span) }
+{
+    let mut marked = match entry {
+        Some(entry) => entry,
+        None => NonterminalData {
+            productions: Vec::new(alloc),
+            attributes: Vec::new(alloc),
+            span,
+        },
+    };
+    marked.attributes.push(Attribute {
+        id: Text::new(alloc, "inline")?,
+    })?;
+    Ok(marked)
 }

@@ -1,7 +1,7 @@
 //! Lines of a grammar text.
 ghost use Rattle.std.specs.Prelude.{◌≡◌, ◌==◌, ◌<◌, ◌+◌, ◌^◌, ◌++◌, ◌∷◌, [], position, filter, not, IfOk, OnOk, map, length};
 ghost use Rattle.std.specs.List.{slice_split};
-ghost use Rattle.lrtab.specs.Lines.{is_empty, words_of, without_cr, line_of_words, placed_of, lines_of, is_fault};
+ghost use Rattle.lrtab.specs.Lines.{is_empty, words_of, without_cr, marked_line, line_of_words, placed_of, lines_of, is_fault};
 
 use crate::symbols::{is_a_name, name_of, pieces, symbols_of};
 use lalrpop_base::memory::OutOfMemory;
@@ -14,6 +14,8 @@ pub enum Line {
     /// A line without words.
     Blank,
     Production(NonterminalString, Symbols),
+    /// A nonterminal that is to be inlined.
+    Inline(NonterminalString),
     /// Anything else.
     Fault,
 }
@@ -36,12 +38,22 @@ fn line_of_words(alloc: Global, words: &[&str]) -> Result<Line, OutOfMemory>
         return Ok(Line::Fault);
     };
     if *second != "=" || !is_a_name(first) {
-        return Ok(Line::Fault);
+        return marked_line(alloc, first, second, rest);
     }
     match symbols_of(alloc, rest)? {
         None => Ok(Line::Fault),
         Some(symbols) => Ok(Line::Production(name_of(alloc, first)?, symbols)),
     }
+}
+
+// What a line says that is no production.
+fn marked_line(alloc: Global, first: &str, second: &str, rest: &[&str]) -> Result<Line, OutOfMemory>
+    ensures { IfOk result (λ line. line ≡ marked_line first.now second.now (map (λ w. w.now) rest.now)) }
+{
+    if rest.is_empty() && first == "inline" && is_a_name(second) {
+        return Ok(Line::Inline(name_of(alloc, second)?));
+    }
+    Ok(Line::Fault)
 }
 
 // The words of a line.

@@ -11,6 +11,8 @@ const USAGE: &str = "usage: lrtab FILE START (parse LIMIT TOKEN.. | report | exp
 
 const SUMS: &str = "S = E\nE = E \"-\" T\nE = T\nT = \"N\"\nT = \"(\" E \")\"\n";
 
+const OPTION: &str = "inline OPT\nE = \"L\"\nE = \"&\" OPT E\nOPT =\nOPT = \"L\"\n";
+
 /// What a writer does once it has taken some bytes.
 #[derive(Clone, Copy, Debug, PartialEq, Eq)]
 enum Then {
@@ -106,6 +108,44 @@ fn answers(rt: HostRuntime) -> Result<(), Fail> {
             "[inline: \"x\"]\n",
             0,
         ),
+        ("inline =", "f inline parse 1", "[inline: ]\n", 0),
+        (
+            "S = inline \"x\"\ninline inline\ninline = \"y\"",
+            "f S parse 3 y x",
+            "[S: \"y\", \"x\"]\n",
+            0,
+        ),
+        (
+            "S = A \"x\"\ninline A\ninline A\nA =",
+            "f S parse 2 x",
+            "[S: \"x\"]\n",
+            0,
+        ),
+        (
+            "S = \"x\"\nS = A \"x\"\ninline A",
+            "f S parse 2 x",
+            "[S: \"x\"]\n",
+            0,
+        ),
+        (
+            OPTION,
+            "f E parse 5 & L L",
+            "[E: \"&\", \"L\", [E: \"L\"]]\n",
+            0,
+        ),
+        (OPTION, "f E parse 4 & L L", "limit\n", 1),
+        (
+            OPTION,
+            "f E parse 6 & & L",
+            "[E: \"&\", [E: \"&\", [E: \"L\"]]]\n",
+            0,
+        ),
+        (
+            "E = \"L\"\nE = \"&\" OPT E\nOPT =\nOPT = \"L\"",
+            "f E parse 5 & L L",
+            "conflicts: 1\n",
+            1,
+        ),
         (
             SUMS,
             "f S parse 9 N - N",
@@ -143,7 +183,11 @@ fn faults(rt: HostRuntime) -> Result<(), Fail> {
         ("S = \"a\"b\"", "line 1: not a grammar line\n"),
         ("S = \"a b\"", "line 1: not a grammar line\n"),
         ("S = \"x\"\r\r\n", "line 1: not a grammar line\n"),
-        ("S = A\ninline S", "line 2: not a grammar line\n"),
+        ("S = A\ninline S T", "line 2: not a grammar line\n"),
+        ("S = A\ninline \"S\"", "line 2: not a grammar line\n"),
+        ("S = A\ninline", "line 2: not a grammar line\n"),
+        ("inline A\nA = A \"x\"", "cyclic inline of A\n"),
+        ("inline B\ninline A\nA = B\nB = A", "cyclic inline of A\n"),
         ("\u{feff}S = \"x\"", "line 1: not a grammar line\n"),
         ("S = \u{e9}", "line 1: not a grammar line\n"),
     ] {
