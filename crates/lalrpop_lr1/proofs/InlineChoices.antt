@@ -1,6 +1,6 @@
 -- Choices, one part at a time.
-use Rattle.std.proofs.Common.{◌≡◌, List, [], ◌∷◌, ◌++◌, map, refl, sym, ◌∙◌, ap, ap₂, append_assoc, ℕ, drop, ◌<◌, length, get_or, arith, ◌+◌}
-use Rattle.std.proofs.lemmas.List.{append-nil, drop_more}
+use Rattle.std.proofs.Common.{◌≡◌, List, [], ◌∷◌, ◌++◌, map, refl, sym, ◌∙◌, ap, ap₂, append_assoc, ℕ, drop, ◌<◌, length, get_or, ◌+◌}
+use Rattle.std.proofs.lemmas.List.{drop_more}
 use Rattle.std.specs.List.{flat_map}
 use Rattle.lalrpop_base.specs.declared.repr.Production.{Production}
 use Rattle.lalrpop_base.specs.declared.repr.inlined.InlinedSymbol.{InlinedSymbol}

@@ -1,8 +1,7 @@
 -- Entries, one at a time: a map that is filled in the order of its keys grows at its end.
-use Rattle.std.proofs.Common.{◌≡◌, ℕ, ◌≤◌, Bool, true, false, cond, List, [], ◌∷◌, ◌++◌, map, length, Option, None, Some, refl, sym, ◌∙◌, ap, ap₂, subst, append_assoc, arith}
-use Rattle.std.proofs.lemmas.List.{append-nil}
+use Rattle.std.proofs.Common.{◌≡◌, Bool, true, false, cond, List, [], ◌∷◌, ◌++◌, map, length, Option, Some, refl, sym, ◌∙◌, ap, ap₂, subst, append_assoc, arith}
 use Rattle.std.specs.declared.cmp.Ordering.{Ordering}
-use Rattle.std.specs.declared.cmp.Ordering.TheVariants.{Less, Equal, Greater}
+use Rattle.std.specs.declared.cmp.Ordering.TheVariants.{Less}
 use Rattle.std.specs.Ordering.{ordering_reverse, match_ordering}
 use Rattle.std.specs.Cmp.{IsTotalOrder}
 use Rattle.std.specs.List.{AllByRecursion}
@@ -11,7 +10,6 @@ use Rattle.std.specs.BTreeMap.{insert_entry, is_at}
 use Rattle.std.specs.Map.{keys_of, lookup}
 use Rattle.std.proofs.lemmas.Map.Keys.{sorted_head, sorted_tail}
 use Rattle.lalrpop_base.specs.WellFormed.{name_cmp, listed_productions, productions_of}
-use Rattle.lalrpop_base.specs.contracts.repr.NonterminalStringOrd.TheImpl.Laws as name_order
 use Rattle.lalrpop_base.specs.declared.repr.NonterminalString.{NonterminalString}
 use Rattle.lalrpop_base.specs.declared.repr.Production.{Production}
 use Rattle.lalrpop_base.specs.declared.repr.Span.{Span}
@@ -20,7 +18,7 @@ use Rattle.lalrpop_base.specs.declared.repr.grammar.ActionFnDefn.{ActionFnDefn}
 use Rattle.lalrpop_base.specs.declared.repr.grammar.NonterminalData.{NonterminalData}
 use Rattle.lalrpop_base.specs.declared.repr.grammar.Grammar.{Grammar}
 use Rattle.lalrpop_base.specs.declared.repr.norm_error.NormError.{NormError}
-use Rattle.lalrpop_lr1.specs.InlineSteps.{Made, made_of, replaced_all, Entry, View, entry_view, view_with, view_of, listed, alternatives_in, entry_with, entry_in_front, replaced_entries, IsEntryReplaced}
+use Rattle.lalrpop_lr1.specs.InlineSteps.{Made, replaced_all, Entry, View, entry_view, view_of, listed, alternatives_in, entry_with, replaced_entries, IsEntryReplaced}
 use Rattle.lalrpop_lr1.specs.InlineRefusals.{IsPastLast}
 use Rattle.lalrpop_lr1.proofs.InlineSteps.{past_more, more_longer, replaced_entries_more}
 

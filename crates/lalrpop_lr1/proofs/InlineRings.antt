@@ -1,5 +1,5 @@
 -- Where there is an order, no marked nonterminals mention each other in a ring.
-use Rattle.std.proofs.Common.{◌≡◌, ◌↔◌, inl, inr, List, [], ◌∷◌, ◌++◌, refl, sym, ◌∙◌, ap, subst, append_assoc}
+use Rattle.std.proofs.Common.{◌≡◌, inl, inr, List, [], ◌∷◌, ◌++◌, sym, ◌∙◌, ap, subst, append_assoc}
 use Rattle.std.specs.Prelude.{Contains}
 use Rattle.std.proofs.lemmas.List.Elements.{Contains-append_left}
 use Rattle.lalrpop_base.specs.declared.repr.NonterminalString.{NonterminalString}
@@ -12,7 +12,7 @@ use Rattle.lalrpop_base.specs.WellFormed.{name_cmp}
 use Rattle.lalrpop_base.specs.declared.repr.Span.{Span}
 use Rattle.lalrpop_lr1.specs.declared.inline.graph.Walk.{Walk}
 use Rattle.lalrpop_lr1.specs.InlineWalks.{LeadTo}
-use Rattle.lalrpop_lr1.specs.InlineOrder.{IsMarked, Mentions, Leads, one, more, IsInlineOrder, IsOnRing, HasSpan}
+use Rattle.lalrpop_lr1.specs.InlineOrder.{IsMarked, Leads, one, more, IsInlineOrder, IsOnRing, HasSpan}
 use Rattle.lalrpop_lr1.proofs.InlineApart.{Apart, apart_from}
 
 -- where an element stands

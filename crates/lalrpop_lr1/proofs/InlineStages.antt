@@ -1,6 +1,6 @@
 -- Inlining nonterminals in their order: at each stage the next one mentions none that is marked, and those that were inlined are mentioned nowhere.
-use Rattle.std.proofs.Common.{◌≡◌, ◌↔◌, ◌⊎◌, inl, inr, ℕ, zero, suc, ◌+◌, ◌≤◌, ◌<◌, get_or, drop, arith, Bool, true, false, List, [], ◌∷◌, ◌++◌, map, length, refl, sym, ◌∙◌, ap, subst}
-use Rattle.std.specs.Prelude.{Contains, vec_len}
+use Rattle.std.proofs.Common.{◌≡◌, ◌↔◌, inl, inr, ℕ, zero, suc, ◌+◌, ◌≤◌, ◌<◌, get_or, drop, arith, false, List, [], ◌∷◌, ◌++◌, map, length, refl, sym, ◌∙◌, ap, subst}
+use Rattle.std.specs.Prelude.{Contains}
 use Rattle.std.specs.List.{flat_map}
 use Rattle.std.specs.List.Sorted.{IsStrictlySortedBy}
 use Rattle.std.specs.BTreeMap.{IsOrdered}
@@ -11,10 +11,8 @@ use Rattle.lalrpop_base.specs.Grammar.{IsSentence}
 use Rattle.lalrpop_base.specs.WellFormed.{name_cmp, IsWellFormed, IsWellFormedEntry, productions, productions_of}
 use Rattle.lalrpop_base.specs.declared.repr.NonterminalString.{NonterminalString}
 use Rattle.lalrpop_base.specs.declared.repr.TerminalString.{TerminalString}
-use Rattle.lalrpop_base.specs.declared.repr.Symbol.{Symbol}
 use Rattle.lalrpop_base.specs.declared.repr.Symbol.TheVariants.{Nonterminal}
 use Rattle.lalrpop_base.specs.declared.repr.Production.{Production}
-use Rattle.lalrpop_base.specs.declared.repr.grammar.ActionFnDefn.{ActionFnDefn}
 use Rattle.lalrpop_base.specs.declared.repr.grammar.NonterminalData.{NonterminalData}
 use Rattle.lalrpop_base.specs.declared.repr.grammar.Grammar.{Grammar}
 use Rattle.lalrpop_base.proofs.theory.Lists.{contains-cons, contains-nil, contains_head, contains_tail, contains_place, place_contains}
@@ -25,11 +23,12 @@ use Rattle.lalrpop_base.specs.declared.repr.norm_error.NormError.{NormError}
 use Rattle.lalrpop_base.specs.declared.repr.norm_error.NormError.TheVariants.{Cycle, TooManyActions, Memory}
 use Rattle.lalrpop_lr1.specs.InlineOrder.{IsMarked, Mentions, IsInlineOrder, IsCycleOf}
 use Rattle.lalrpop_lr1.specs.InlineRefusals.{IsPastLast}
-use Rattle.lalrpop_lr1.specs.Inlined.{IsRefusalOf}
+use Rattle.lalrpop_lr1.specs.Inlined.{IsRefusalOf, IsLaidOut}
+use Rattle.lalrpop_lr1.proofs.InlineDefinitions.{laid_out_more, entries_laid_out}
 use Rattle.lalrpop_lr1.proofs.InlineMembers.{in_map, from_map, mentioned_stands, names_itself}
 use Rattle.lalrpop_lr1.proofs.InlineSteps.{IsMore, more_none, more_twice, more_longer, past_more, replaced_entries_more}
 use Rattle.lalrpop_lr1.proofs.InlineEntries.{alternatives_view}
-use Rattle.lalrpop_lr1.proofs.InlineViews.{IsProper, alternatives_own, alternatives_all, step_keeps_lists, step_proper, step_mentions}
+use Rattle.lalrpop_lr1.proofs.InlineViews.{IsProper, listed_entry, proper_production, alternatives_own, alternatives_all, step_keeps_lists, step_proper, step_mentions}
 
 -- the definitions only grow
 pub inlined_by_more : (order : List NonterminalString) (v : View) → IsMore v.defns (inlined_by order v).defns
@@ -60,7 +59,7 @@ module _ (Marked : NonterminalString → Type 0) (terminals : List TerminalStrin
     | inr h ↦ h
   ]
 
-  stage_step : (b : NonterminalString) (rest : List NonterminalString) (v : View) → Stage (b ∷ rest) v → Stage rest (inlined_of b v)
+  pub stage_step : (b : NonterminalString) (rest : List NonterminalString) (v : View) → Stage (b ∷ rest) v → Stage rest (inlined_of b v)
   stage_step b rest v s =
       let alone = stage_alone b rest v s in
       record {
@@ -89,6 +88,32 @@ module _ (Marked : NonterminalString → Type 0) (terminals : List TerminalStrin
       let here = step_keeps_lists terminals v s.proper b (stage_alone b rest v s) a w in
       let later = stages_keep_lists rest (inlined_of b v) (stage_step b rest v s) a w in
       (λ d. later.0 (here.0 d), λ d. here.1 (later.1 d))
+
+module _ (Marked : NonterminalString → Type 0) (terminals : List TerminalString) (old : ℕ) where
+  -- each production with an action from a number on is laid out
+  abbrev pub AreLaidOut : View → Type 0
+  AreLaidOut v = (p : Production) → Contains (productions_in v) p → old ≤ p.action.0 → IsLaidOut v.defns p
+
+  step_laid_out : (b : NonterminalString) (rest : List NonterminalString) (v : View) → Stage Marked terminals (b ∷ rest) v → old ≤ length v.defns → AreLaidOut v → AreLaidOut (inlined_of b v)
+  step_laid_out b rest v s l were p c from =
+      let numbered : (e : NonterminalString × Entry) (q : Production) → Contains v.entries e → Contains e.1.productions q → q.action.0 < length v.defns = λ e q h k. (proper_production terminals v s.proper e q h k).numbered in
+      let few : (r : Production) → Contains (alternatives_in v b) r → r.action.0 < length v.defns =
+      λ r k. let (own, named) = alternatives_own terminals v s.proper b r k in let (e, there, stands) = listed_entry v r own in numbered e r there stands in
+      elim (entries_laid_out b (alternatives_in v b) (length v.defns) few v.entries v.defns (le_itself (length v.defns)) numbered p c) [
+        | inl k ↦
+            let (e, there, stands) = listed_entry v p k in
+            laid_out_more v.defns (inlined_of b v).defns (replaced_entries_more b (alternatives_in v b) v.entries v.defns) p (numbered e p there stands) (were p k from)
+        | inr is ↦ is
+      ]
+    where
+      le_itself : (n : ℕ) → n ≤ n
+      le_itself n = omega arith
+
+  pub stages_laid_out : (rest : List NonterminalString) (v : View) → Stage Marked terminals rest v → old ≤ length v.defns → AreLaidOut v → AreLaidOut (inlined_by rest v)
+  stages_laid_out [] v s l were = were
+  stages_laid_out (b ∷ rest) v s l were =
+      let more : length v.defns ≤ length (inlined_of b v).defns = more_longer v.defns (inlined_of b v).defns (replaced_entries_more b (alternatives_in v b) v.entries v.defns) in
+      stages_laid_out rest (inlined_of b v) (stage_step Marked terminals b rest v s) (omega arith) (step_laid_out b rest v s l were)
 
 flat_view : (es : List (NonterminalString × NonterminalData)) → flat_map (λ (e : NonterminalString × NonterminalData). e.1.productions.items) es ≡ flat_map (λ (e : NonterminalString × Entry). e.1.productions) (map entry_view es)
 flat_view [] = refl
@@ -160,6 +185,20 @@ module _ (g h : Grammar) (order : List NonterminalString) (ordered : IsOrdered n
 
   pub inlined_kept : IsMore g.action_fn_defns.items h.action_fn_defns.items
   inlined_kept = let m = inlined_by_more order (view_of g) in (m.0, ap (λ (v : View). v.defns) view ∙ m.1)
+
+-- each production of h with a new action is laid out
+pub inlined_laid_out : (g h : Grammar) (order : List NonterminalString) → IsOrdered name_cmp g.nonterminals → IsWellFormed g → IsInlineOrder g order → view_of h ≡ inlined_by order (view_of g)
+    → (p : Production) → Contains (productions h) p → length g.action_fn_defns.items ≤ p.action.0 → IsLaidOut h.action_fn_defns.items p
+inlined_laid_out g h order ordered well is view p c from =
+    let stage = first_stage g order ordered well is in
+    let none : AreLaidOut (IsMarked g) g.terminals (length g.action_fn_defns.items) (view_of g) =
+    λ q k l.
+    let (e, there, stands) = listed_entry (view_of g) q k in
+    let few : q.action.0 < length g.action_fn_defns.items = (proper_production g.terminals (view_of g) stage.proper e q there stands).numbered in
+    absurd (omega arith) in
+    let all = stages_laid_out (IsMarked g) g.terminals (length g.action_fn_defns.items) order (view_of g) stage (omega arith) none in
+    let there : Contains (productions_in (inlined_by order (view_of g))) p = subst (λ (ps : List Production). Contains ps p) (productions_view h ∙ ap productions_in view) c in
+    subst (λ (v : View). IsLaidOut v.defns p) (sym view) (all p there from)
 
 drop_end : {A : Type 0} (xs : List A) (i : ℕ) → length xs ≤ i → drop i xs ≡ []
 drop_end [] zero l = refl

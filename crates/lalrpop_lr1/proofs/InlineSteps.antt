@@ -8,7 +8,7 @@ use Rattle.lalrpop_base.specs.declared.repr.grammar.ActionFnDefn.{ActionFnDefn}
 use Rattle.lalrpop_base.specs.declared.repr.norm_error.NormError.{NormError}
 use Rattle.lalrpop_base.specs.declared.repr.norm_error.NormError.TheVariants.{Cycle, TooManyActions, Memory}
 use Rattle.lalrpop_lr1.specs.InlineChoices.{mentions, choices}
-use Rattle.lalrpop_lr1.specs.InlineSteps.{choice_defn, choice_production, Made, made_of, in_front, chosen, replaced, replaced_all, Entry, View, entry_in_front, entry_with, replaced_entries}
+use Rattle.lalrpop_lr1.specs.InlineSteps.{choice_defn, choice_production, Made, made_of, in_front, chosen, replaced, replaced_all, Entry, replaced_entries}
 use Rattle.lalrpop_lr1.specs.InlineRefusals.{IsPastLast}
 
 -- productions in front of others

@@ -1,13 +1,12 @@
 -- Grammars with a nonterminal inlined: the entries keep their names, are well-formed, and every nonterminal keeps its terminal lists.
-use Rattle.std.proofs.Common.{◌≡◌, ◌↔◌, ℕ, zero, suc, ◌+◌, ◌≤◌, ◌<◌, ◌⊎◌, inl, inr, Bool, true, false, cond, List, [], ◌∷◌, ◌++◌, map, length, Option, None, Some, refl, sym, ◌∙◌, ap, subst, arith}
-use Rattle.std.specs.Prelude.{Contains, slice_get}
-use Rattle.std.specs.List.{flat_map}
+use Rattle.std.proofs.Common.{◌≡◌, ◌↔◌, ℕ, ◌≤◌, ◌⊎◌, inl, inr, true, false, List, [], ◌∷◌, map, length, Option, None, Some, refl, sym, ◌∙◌, ap, subst, arith}
+use Rattle.std.specs.Prelude.{Contains}
 use Rattle.std.specs.List.Sorted.{IsStrictlySortedBy}
 use Rattle.std.specs.BTreeMap.{is_at}
 use Rattle.std.specs.Map.{keys_of, lookup}
 use Rattle.std.specs.Cmp.{eq_by_cmp_equiv}
 use Rattle.std.specs.Ordering.{eq_by_cmp}
-use Rattle.std.proofs.lemmas.List.Elements.{Contains-append_left, Contains-append_right, Contains-append_cases}
+use Rattle.std.proofs.lemmas.List.Elements.{Contains-append_cases}
 use Rattle.std.proofs.lemmas.Map.Entries.{place_from_lookup, lookup_from_place}
 use Rattle.std.proofs.lemmas.Map.Keys.{IsDistinct-from_sorted}
 use Rattle.std.proofs.lemmas.Map.Text.{is_eq-slice_cmp}
@@ -22,15 +21,15 @@ use Rattle.lalrpop_base.specs.declared.repr.Symbol.{Symbol}
 use Rattle.lalrpop_base.specs.declared.repr.Symbol.TheVariants.{Nonterminal, Terminal}
 use Rattle.lalrpop_base.specs.declared.repr.Production.{Production}
 use Rattle.lalrpop_base.specs.declared.repr.inlined.InlinedSymbol.{InlinedSymbol}
-use Rattle.lalrpop_base.specs.declared.repr.inlined.InlinedSymbol.TheVariants.{Original, Inlined}
+use Rattle.lalrpop_base.specs.declared.repr.inlined.InlinedSymbol.TheVariants.{Original}
 use Rattle.lalrpop_base.specs.declared.repr.grammar.ActionFnDefn.{ActionFnDefn}
 use Rattle.lalrpop_base.proofs.theory.Lists.{contains-cons, contains-nil, contains_head, contains_tail, contains_place, place_contains}
-use Rattle.lalrpop_lr1.specs.InlineChoices.{is_named, mentions, inlined, choices, part_symbols, laid_out}
+use Rattle.lalrpop_lr1.specs.InlineChoices.{is_named, mentions, choices, part_symbols, laid_out}
 use Rattle.lalrpop_lr1.specs.InlineSteps.{Made, replaced_all, Entry, View, listed, alternatives_in, productions_in, entry_with, replaced_entries, inlined_of}
 use Rattle.lalrpop_lr1.proofs.InlineMembers.{in_flat_map, from_flat_map, unmentioned}
 use Rattle.lalrpop_lr1.proofs.InlineForests.{first_part, which_part, IsReplaced, same_terminal_lists}
 use Rattle.lalrpop_lr1.proofs.InlineSteps.{more_longer, replaced_all_more, replaced_entries_more}
-use Rattle.lalrpop_lr1.proofs.InlineArising.{IsChosen, Arises, kept, made, arises_wider, replaced_all_sound, replaced_all_complete, own_choice, own_laid_out}
+use Rattle.lalrpop_lr1.proofs.InlineArising.{Arises, kept, made, arises_wider, replaced_all_sound, replaced_all_complete, own_choice, own_laid_out}
 use Rattle.lalrpop_lr1.proofs.InlineApart.{apart_from, apart_to, replaced_all_apart}
 
 -- the names rise, and the productions under each are well-formed

@@ -1,8 +1,7 @@
 -- A walk comes into a nonterminal, along what it mentions, and leaves it.
-use Rattle.std.proofs.Common.{◌≡◌, ◌↔◌, ℕ, ◌+◌, ◌≤◌, ◌<◌, ◌⊎◌, inl, inr, Bool, true, false, cond, List, [], ◌∷◌, ◌++◌, take, length, get_or, reverse, refl, sym, ◌∙◌, ap, subst, append_assoc, arith}
+use Rattle.std.proofs.Common.{◌≡◌, ◌↔◌, ℕ, ◌+◌, ◌<◌, ◌⊎◌, inl, inr, Bool, true, false, cond, List, [], ◌∷◌, ◌++◌, take, length, get_or, reverse, refl, sym, ◌∙◌, ap, subst, append_assoc}
 use Rattle.std.specs.Prelude.{Contains}
 use Rattle.std.specs.List.{flat_map}
-use Rattle.std.specs.List.Sorted.{IsPermutation}
 use Rattle.std.specs.BTreeMap.{is_at}
 use Rattle.std.specs.BTreeSet.{BTreeSet, contains}
 use Rattle.std.proofs.lemmas.Bool.{cases_Bool}
@@ -22,7 +21,7 @@ use Rattle.lalrpop_base.specs.declared.repr.Symbol.TheVariants.{Nonterminal, Ter
 use Rattle.lalrpop_base.specs.declared.repr.grammar.Grammar.{Grammar}
 use Rattle.lalrpop_base.proofs.theory.Lists.{contains-cons, contains-nil, contains_head, contains_tail, Ended, nothing, last, ended, same_last}
 use Rattle.lalrpop_lr1.specs.declared.inline.graph.Walk.{Walk}
-use Rattle.lalrpop_lr1.specs.InlineOrder.{IsMarked, Mentions, Leads, one, more, IsInlineOrder, IsOnRing}
+use Rattle.lalrpop_lr1.specs.InlineOrder.{IsMarked, Mentions, Leads, one, more, IsInlineOrder}
 use Rattle.lalrpop_lr1.specs.InlineWalks.{names_of, mentioned_in, IsWalk, IsWalked, LeadTo}
 use Rattle.lalrpop_lr1.proofs.InlineMembers.{in_flat_map, from_flat_map}
 use Rattle.lalrpop_lr1.proofs.InlineApart.{apart_from, apart_to, Apart-append}

@@ -4,6 +4,7 @@ pub mod FaithfulStacks
 pub mod InlineApart
 pub mod InlineArising
 pub mod InlineChoices
+pub mod InlineDefinitions
 pub mod InlineEntries
 pub mod InlineForests
 pub mod InlineMarks

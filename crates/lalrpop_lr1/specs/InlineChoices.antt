@@ -1,5 +1,5 @@
 -- The choices that are left when a nonterminal is inlined: in a right side each of its occurrences gives way to any one of its alternatives, whatever the others give way to.
-use Rattle.std.specs.Prelude.{Bool, true, false, cond, List, [], ◌∷◌, ◌++◌, map}
+use Rattle.std.specs.Prelude.{Bool, false, cond, List, [], ◌∷◌, ◌++◌, map}
 use Rattle.std.specs.List.{flat_map, list_any}
 use Rattle.std.specs.Str.{bytes_eq}
 use Rattle.lalrpop_base.specs.declared.repr.NonterminalString.{NonterminalString}

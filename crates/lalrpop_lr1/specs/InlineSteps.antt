@@ -1,5 +1,5 @@
 -- Inlining nonterminals, one after another: Aho, Sethi and Ullman, "Compilers", section 4.3, where the alternatives of a nonterminal are put in its place. Here each new production has a new action, which says of what it was made.
-use Rattle.std.specs.Prelude.{◌≡◌, ◌||◌, ℕ, Bool, true, false, cond, List, [], ◌∷◌, ◌++◌, length, map, slice_get, Option, Some, None}
+use Rattle.std.specs.Prelude.{◌≡◌, ◌||◌, ℕ, Bool, false, cond, List, [], ◌∷◌, ◌++◌, length, map, slice_get, Option, Some, None}
 use Rattle.std.specs.List.{flat_map, list_any}
 use Rattle.std.specs.BTreeMap.{is_at}
 use Rattle.std.specs.Map.{lookup}
@@ -11,7 +11,7 @@ use Rattle.lalrpop_base.specs.declared.repr.Production.{Production}
 use Rattle.lalrpop_base.specs.declared.repr.inlined.InlinedSymbol.{InlinedSymbol}
 use Rattle.lalrpop_base.specs.declared.repr.inlined.InlinedSymbol.TheVariants.{Original, Inlined}
 use Rattle.lalrpop_base.specs.declared.repr.grammar.ActionFnDefn.{ActionFnDefn}
-use Rattle.lalrpop_base.specs.declared.repr.grammar.ActionFnDefnKind.TheVariants.{User, Inline}
+use Rattle.lalrpop_base.specs.declared.repr.grammar.ActionFnDefnKind.TheVariants.{Inline}
 use Rattle.lalrpop_base.specs.declared.repr.grammar.Attribute.{Attribute}
 use Rattle.lalrpop_base.specs.declared.repr.grammar.NonterminalData.{NonterminalData}
 use Rattle.lalrpop_base.specs.declared.repr.grammar.Grammar.{Grammar}

@@ -4,14 +4,15 @@ mod entries;
 mod graph;
 mod replace;
 
-ghost use Rattle.std.specs.Prelude.{◌≡◌, ◌↔◌, ◌++◌, IfOk, OnOk, IfErr, List};
+ghost use Rattle.std.specs.Prelude.{◌≡◌, ◌≤◌, ◌↔◌, ◌++◌, IfOk, OnOk, IfErr, List, Contains, length};
 ghost use Rattle.lalrpop_base.specs.Grammar.{IsSentence};
 ghost use Rattle.lalrpop_base.specs.WellFormed.{IsWellFormed, productions};
 ghost use Rattle.lalrpop_base.specs.declared.repr.NonterminalString.{NonterminalString};
 ghost use Rattle.lalrpop_base.specs.declared.repr.TerminalString.{TerminalString};
+ghost use Rattle.lalrpop_base.specs.declared.repr.Production.{Production};
 ghost use Rattle.lalrpop_base.specs.declared.repr.grammar.ActionFnDefn.{ActionFnDefn};
 ghost use Rattle.lalrpop_lr1.specs.InlineOrder.{IsMarked, Mentions, IsInlineOrder, IsOnRing, IsCycleOf};
-ghost use Rattle.lalrpop_lr1.specs.Inlined.{IsInlined, IsRefusalOf};
+ghost use Rattle.lalrpop_lr1.specs.Inlined.{IsInlined, IsLaidOut, IsRefusalOf};
 
 use entries::inline_nonterminal;
 use graph::ordered;
@@ -39,6 +40,7 @@ pub fn inline(alloc: Global, grammar: Grammar) -> NormResult<Grammar>
     ensures unmentioned { IfOk result (λ h. (a c : NonterminalString) → IsMarked grammar c → Mentions h a c → ⊥) }
     ensures terminal_lists { IfOk result (λ h. (a : NonterminalString) (w : List TerminalString) → IsSentence (productions grammar) a w ↔ IsSentence (productions h) a w) }
     ensures kept { IfOk result (λ h. (more : List ActionFnDefn) × (h.action_fn_defns.items ≡ grammar.action_fn_defns.items ++ more)) }
+    ensures laid_out { IfOk result (λ h. (p : Production) → Contains (productions h) p → length grammar.action_fn_defns.items ≤ p.action.0 → IsLaidOut h.action_fn_defns.items p) }
     ensures acyclic { OnOk result ((a : NonterminalString) → IsOnRing grammar a → ⊥) }
     ensures refused { IfErr result (IsRefusalOf grammar) }
 {

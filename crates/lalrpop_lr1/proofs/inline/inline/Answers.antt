@@ -1,9 +1,9 @@
-use Rattle.std.proofs.Common.{rules, ◌≡◌, ◌↔◌, List, length, arith, sym, ◌∙◌, ap, subst}
+use Rattle.std.proofs.Common.{rules, List, arith, sym, ◌∙◌, subst}
 use Rattle.lalrpop_base.specs.declared.repr.NonterminalString.{NonterminalString}
 use Rattle.lalrpop_lr1.specs.InlineOrder.{IsInlineOrder}
 use Rattle.lalrpop_lr1.specs.InlineSteps.{view_of, inlined_by}
 use Rattle.lalrpop_lr1.specs.Inlined.{IsRefusalOf}
-use Rattle.lalrpop_lr1.proofs.InlineStages.{one_inlined, inlined_past, all_inlined, refusal_past, inlined_well_formed, inlined_unmentioned, inlined_lists, inlined_kept}
+use Rattle.lalrpop_lr1.proofs.InlineStages.{one_inlined, inlined_past, all_inlined, refusal_past, inlined_well_formed, inlined_unmentioned, inlined_lists, inlined_kept, inlined_laid_out}
 use Rattle.lalrpop_lr1.proofs.inline.inline.Goals as goal
 
 pub loop-name-preserved : goal.loop-name-preserved
@@ -56,3 +56,9 @@ returns-clause-kept c =
     let order : List NonterminalString = c.deref-name-items.result.now in
     inlined_kept c.args.grammar c.loop-name.inlined order c.in_ok-order.ensures.rising c.requires (subst (IsInlineOrder c.args.grammar) (sym c.deref-name-items.ensures.value) c.in_ok-order.ensures.order)
     (all_inlined order c.loop-name.name-index (view_of c.loop-name.inlined) (inlined_by order (view_of c.args.grammar)) (omega (arith, c.loop-name-test.false)) c.loop-name.invariant.view) c.loop-name.invariant.terminals
+
+pub returns-clause-laid_out : goal.returns-clause-laid_out
+returns-clause-laid_out c =
+    let order : List NonterminalString = c.deref-name-items.result.now in
+    inlined_laid_out c.args.grammar c.loop-name.inlined order c.in_ok-order.ensures.rising c.requires (subst (IsInlineOrder c.args.grammar) (sym c.deref-name-items.ensures.value) c.in_ok-order.ensures.order)
+    (all_inlined order c.loop-name.name-index (view_of c.loop-name.inlined) (inlined_by order (view_of c.args.grammar)) (omega (arith, c.loop-name-test.false)) c.loop-name.invariant.view)

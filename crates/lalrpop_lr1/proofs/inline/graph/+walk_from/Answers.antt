@@ -1,4 +1,4 @@
-use Rattle.std.proofs.Common.{rules, ◌≡◌, ◌++◌, ◌∷◌, [], ◌<◌, ◌≤◌, true, false, List, length, reverse, take, arith, sym, ◌∙◌, ap, subst, refl}
+use Rattle.std.proofs.Common.{rules, ◌≡◌, ◌++◌, ◌∷◌, [], ◌<◌, true, List, length, reverse, take, arith, sym, ◌∙◌, ap, subst, refl}
 use Rattle.std.specs.Prelude.{Contains, IfErr}
 use Rattle.std.proofs.Common.{Result, Err}
 use Rattle.std.proofs.lemmas.Grind.{common_steps}

@@ -1,4 +1,4 @@
-use Rattle.std.proofs.Common.{◌≡◌, ℕ, ◌<◌, Contains, take}
+use Rattle.std.proofs.Common.{Contains, take}
 use Rattle.lalrpop_lr1.specs.InlineOrder.{inline_mark}
 use Rattle.lalrpop_lr1.proofs.inline.graph.is_marked.Given as goal
 

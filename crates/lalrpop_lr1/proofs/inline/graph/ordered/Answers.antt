@@ -1,4 +1,4 @@
-use Rattle.std.proofs.Common.{rules, ◌≡◌, ◌↔◌, [], true, false, List, length, take, arith, sym, ◌∙◌, ap, subst}
+use Rattle.std.proofs.Common.{rules, ◌≡◌, ◌↔◌, true, List, take, arith, sym, ◌∙◌, ap, subst}
 use Rattle.std.specs.Prelude.{Contains}
 use Rattle.std.specs.List.{list_any}
 use Rattle.std.specs.BTreeMap.{is_at}
@@ -8,7 +8,7 @@ use mathlib.Core.Bool.{true≢false}
 use Rattle.lalrpop_base.specs.WellFormed.{name_cmp}
 use Rattle.lalrpop_base.specs.declared.repr.NonterminalString.{NonterminalString}
 use Rattle.lalrpop_lr1.specs.declared.inline.graph.Walk.{Walk}
-use Rattle.lalrpop_lr1.specs.InlineOrder.{IsInlineOrder, IsCycleOf}
+use Rattle.lalrpop_lr1.specs.InlineOrder.{IsCycleOf}
 use Rattle.lalrpop_lr1.proofs.InlineWalks.{IsInside, inside_first, inside_more, nothing_walked, all_walked}
 use Rattle.lalrpop_lr1.proofs.InlineRings.{no_ring}
 use Rattle.lalrpop_lr1.proofs.inline.graph.ordered.Goals as goal

@@ -1,5 +1,4 @@
-use Rattle.std.proofs.Common.{◌≡◌, ◌≤◌, length, take}
-use Rattle.lalrpop_lr1.specs.InlineWalks.{IsWalk}
+use Rattle.std.proofs.Common.{take}
 use Rattle.lalrpop_lr1.proofs.InlineWalks.{IsInside}
 use Rattle.lalrpop_lr1.proofs.inline.graph.ordered.Given as goal
 
