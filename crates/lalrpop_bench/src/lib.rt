@@ -9,6 +9,8 @@ mod collections;
 #[cfg(test)]
 mod first;
 #[cfg(test)]
+mod inline;
+#[cfg(test)]
 mod interpret;
 #[cfg(test)]
 mod interpret_headline;
