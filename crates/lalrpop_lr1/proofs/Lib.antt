@@ -21,6 +21,10 @@ pub mod Meetings
 pub mod Outcomes
 pub mod Parses
 pub mod Popping
+pub mod ReportNumbers
+pub mod ReportPadding
+pub mod ReportPlaces
+pub mod ReportTexts
 pub mod Stacks
 pub mod ToldByTables
 pub mod TreeViews

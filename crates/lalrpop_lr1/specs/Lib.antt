@@ -12,6 +12,11 @@ pub mod Machines
 pub mod Meetings
 pub mod ParseTrees
 pub mod Reading
+pub mod Report
+pub mod ReportLines
+pub mod ReportPlaces
+pub mod ReportSinks
+pub mod ReportStates
 pub mod Steps
 pub mod TraceGraphs
 pub mod Walks

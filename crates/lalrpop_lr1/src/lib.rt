@@ -5,3 +5,4 @@ pub mod headline;
 pub mod inline;
 pub mod interpret;
 pub mod trace;
+pub mod report;
