@@ -8,7 +8,12 @@ use Rattle.lalrpop_base.specs.Names.{token_text}
 use Rattle.lalrpop_base.specs.Trees.{beside, no_trees, leaves, nodes}
 use Rattle.lalrpop_base.specs.declared.repr.TerminalString.TheVariants.{Literal}
 use Rattle.lalrpop_base.specs.declared.lookahead.token.Token.{Token}
+use Rattle.lalrpop_base.specs.Bits.{Bits}
+use Rattle.lalrpop_base.specs.declared.repr.TerminalString.{TerminalString}
+use Rattle.lalrpop_base.specs.declared.lr1_core.state.State.{State}
+use Rattle.lalrpop_base.specs.declared.lr1_core.state.Conflict.{Conflict}
 use Rattle.lalrpop_lr1.specs.ParseTrees.{tree_of, tree_text}
+use Rattle.lalrpop_lr1.specs.Report.{tables_report, failure_report}
 use Rattle.lalrpop_lr1.specs.declared.interpret.tree.ParseTree.{ParseTree}
 use Rattle.lrtab.specs.declared.answer.Answer.{Answer}
 use Rattle.lrtab.specs.declared.answer.Answer.TheVariants.{Output, Fault, Usage, TooManyActions, Memory}
@@ -20,7 +25,7 @@ use Rattle.lalrpop_base.specs.declared.repr.NonterminalString.{NonterminalString
 use Rattle.lalrpop_base.specs.declared.repr.grammar.Grammar.{Grammar}
 use Rattle.lalrpop_lr1.specs.InlineOrder.{IsOnRing}
 use Rattle.lalrpop_lr1.specs.Inlined.{HasTooMany}
-use Rattle.lrtab.specs.Words.{Parse}
+use Rattle.lrtab.specs.Words.{Asked, Task, Parse, Report}
 use Rattle.lrtab.specs.Output.{AppendsBeginning}
 
 -- a text and a line end
@@ -38,11 +43,11 @@ file_name [] = []
 file_name (name ∷ words) = name
 
 -- the text of a tree of the tokens, of at most as many nodes as the limit
-pub record IsTreeText (request : Parse) (text : List ℕ) : Type 0 where
+pub record IsTreeText (limit : ℕ) (tokens : List (List ℕ)) (text : List ℕ) : Type 0 where
   pub tree : ParseTree
   pub shown : text ≡ line (tree_text tree)
-  pub of_tokens : leaves (beside (tree_of tree) no_trees) ≡ map Literal request.tokens
-  pub within : nodes (beside (tree_of tree) no_trees) ≤ request.limit
+  pub of_tokens : leaves (beside (tree_of tree) no_trees) ≡ map Literal tokens
+  pub within : nodes (beside (tree_of tree) no_trees) ≤ limit
 
 -- a refusal, the limit or a number of conflicts
 abbrev pub IsFailureText : List ℕ → Type 0
@@ -51,14 +56,23 @@ IsFailureText text =
     ⊎ ((token : Token) × (text ≡ line (codes "refused at " ++ token_text token)))
     ⊎ ((count : ℕ) × (text ≡ line (codes "conflicts: " ++ decimal count)))
 
--- status 0 comes with a tree, and status 1 with a failure
-abbrev pub IsShown : Parse → ℕ → List ℕ → Type 0
-IsShown request status text = ((status ≡ 0) × IsTreeText request text) ⊎ ((status ≡ 1) × IsFailureText text)
+-- the report of some tables
+abbrev pub IsTablesText : List ℕ → Type 0
+IsTablesText text = (terminals : List TerminalString) × (states : List (State Bits)) × (text ≡ tables_report (λ (set : Bits). set) terminals states)
+
+-- the report of some states with conflicts
+abbrev pub IsConflictsText : List ℕ → Type 0
+IsConflictsText text = (terminals : List TerminalString) × (states : List (State Bits)) × (conflicts : List (Conflict Bits)) × (text ≡ failure_report (λ (set : Bits). set) terminals states conflicts)
+
+-- status 0 comes with a tree or the report of tables, and status 1 with a failure or the report of conflicts
+abbrev pub IsShown : Task → ℕ → List ℕ → Type 0
+IsShown (Parse limit tokens) status text = ((status ≡ 0) × IsTreeText limit tokens text) ⊎ ((status ≡ 1) × IsFailureText text)
+IsShown Report status text = ((status ≡ 0) × IsTablesText text) ⊎ ((status ≡ 1) × IsConflictsText text)
 
 -- a text for standard output; the text of the file is UTF-8 and has no faulty line
-pub record IsOutput (request : Parse) (file : Option (Option (List ℕ))) (status : ℕ) (text : List ℕ) : Type 0 where
+pub record IsOutput (request : Asked) (file : Option (Option (List ℕ))) (status : ℕ) (text : List ℕ) : Type 0 where
   pub readable : OfFile (λ bytes. IsUtf8 bytes × (position is_fault (lines_of bytes) ≡ None)) file
-  pub shown : IsShown request status text
+  pub shown : IsShown request.task status text
 
 -- the grammar that a text stands for has marked nonterminals that mention each other in a ring, of which a is one
 pub record IsCyclic (bytes : List ℕ) (a : NonterminalString) : Type 0 where
@@ -81,7 +95,7 @@ IsFaultText name file text =
     ⊎ ((a : NonterminalString) × OfFile (λ bytes. IsCyclic bytes a) file × (text ≡ line (codes "cyclic inline of " ++ a.text)))
 
 -- what the program tells of a request
-abbrev pub IsAnswerTo : Parse → List ℕ → Option (Option (List ℕ)) → Answer → Type 0
+abbrev pub IsAnswerTo : Asked → List ℕ → Option (Option (List ℕ)) → Answer → Type 0
 IsAnswerTo request name file (Output status text) = IsOutput request file status (string_bytes text)
 IsAnswerTo request name file (Fault text) = IsFaultText name file (string_bytes text)
 IsAnswerTo request name file Usage = ⊥
@@ -89,15 +103,15 @@ IsAnswerTo request name file TooManyActions = OfFile IsTooMany file
 IsAnswerTo request name file Memory = Unit {0}
 
 -- what the program tells of a request and a grammar
-abbrev pub IsAnswerToGrammar : Parse → Grammar → Answer → Type 0
-IsAnswerToGrammar request g (Output status text) = IsShown request status (string_bytes text)
+abbrev pub IsAnswerToGrammar : Asked → Grammar → Answer → Type 0
+IsAnswerToGrammar request g (Output status text) = IsShown request.task status (string_bytes text)
 IsAnswerToGrammar request g (Fault text) = (a : NonterminalString) × IsOnRing g a × (string_bytes text ≡ line (codes "cyclic inline of " ++ a.text))
 IsAnswerToGrammar request g Usage = ⊥
 IsAnswerToGrammar request g TooManyActions = HasTooMany g
 IsAnswerToGrammar request g Memory = Unit {0}
 
 -- what the program tells on words: the usage text where they are no request, and nothing else then
-abbrev pub IsAnswer : Option Parse → List ℕ → Option (Option (List ℕ)) → Answer → Type 0
+abbrev pub IsAnswer : Option Asked → List ℕ → Option (Option (List ℕ)) → Answer → Type 0
 IsAnswer None name file answer = answer ≡ Usage
 IsAnswer (Some request) name file answer = IsAnswerTo request name file answer
 

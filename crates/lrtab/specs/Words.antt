@@ -3,25 +3,39 @@ use Rattle.std.specs.Prelude.{ℕ, ◌^◌, nat_lt, ◌&&◌, List, [], ◌∷�
 use Rattle.std.specs.Str.{bytes_eq, all_ascii_digits}
 use Rattle.std.specs.Str.Parse.{digits_value}
 use Rattle.lrtab.specs.declared.words.Request.{Request}
+use Rattle.lrtab.specs.declared.words.Task.{Task as TaskWords}
+use Rattle.lrtab.specs.declared.words.Task.TheVariants.{Parse as ParseWords, Report as ReportWords}
 use Rattle.lrtab.specs.Symbols.{is_name}
 
 -- the number that a word writes in decimal digits alone, where there are some and it is below 2 ^ 64
 abbrev pub limit_of : List ℕ → Option ℕ
 limit_of word = if all_ascii_digits word && (nat_lt 0 (length word) && nat_lt (digits_value 10 word) (2 ^ 64)) then Some (digits_value 10 word) else None
 
--- a parse that is asked for
-pub record Parse : Type 0 where
-  pub start : List ℕ
-  pub limit : ℕ
-  pub tokens : List (List ℕ)
+-- what is asked of the tables: a parse of tokens within a limit, or their report
+pub data Task : Type 0 where
+  Parse : ℕ → List (List ℕ) → Task
+  Report : Task
 
--- what words ask for that have the form FILE START parse LIMIT TOKEN..
-abbrev pub request_of : List (List ℕ) → Option Parse
+-- a start symbol, and what is asked of its tables
+pub record Asked : Type 0 where
+  pub start : List ℕ
+  pub task : Task
+
+-- what the words behind the start symbol ask for: parse LIMIT TOKEN.. or report
+abbrev pub task_of : List ℕ → List (List ℕ) → Option Task
+task_of verb [] = if bytes_eq verb (codes "report") then Some Report else None
+task_of verb (limit ∷ tokens) = if bytes_eq verb (codes "parse") then option_map (λ n. Parse n tokens) (limit_of limit) else None
+
+-- what words ask for that have the form FILE START and a task
+abbrev pub request_of : List (List ℕ) → Option Asked
 request_of [] = None
 request_of (file ∷ []) = None
 request_of (file ∷ start ∷ []) = None
-request_of (file ∷ start ∷ verb ∷ []) = None
-request_of (file ∷ start ∷ verb ∷ limit ∷ tokens) = if bytes_eq verb (codes "parse") && is_name start then option_map (λ n. record { start = start; limit = n; tokens = tokens }) (limit_of limit) else None
+request_of (file ∷ start ∷ verb ∷ words) = if is_name start then option_map (λ task. record { start = start; task = task }) (task_of verb words) else None
 
-abbrev pub request_view : Request → Parse
-request_view r = record { start = r.start.now; limit = r.limit; tokens = map string_bytes r.tokens.now }
+abbrev pub task_view : TaskWords → Task
+task_view (ParseWords limit tokens) = Parse limit (map string_bytes tokens.now)
+task_view ReportWords = Report
+
+abbrev pub request_view : Request → Asked
+request_view r = record { start = r.start.now; task = task_view r.task }

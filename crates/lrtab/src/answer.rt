@@ -1,17 +1,17 @@
 //! What the program has to tell.
-ghost use Rattle.std.specs.Prelude.{◌≡◌, ◌++◌, ◌∷◌, [], IfOk, IfSome, Some, Option, map, option_map, string_bytes, codes, List, ℕ, ◌<◌, length};
+ghost use Rattle.std.specs.Prelude.{◌≡◌, ◌++◌, ◌∷◌, [], IfOk, IfSome, Some, Option, map, option_map, string_bytes, codes, List, ℕ, ◌<◌, length, is_ok, if◌then◌else◌};
 ghost use Rattle.std.specs.Fmt.{decimal};
 ghost use Rattle.lalrpop_base.specs.Coherent.{AreCoherent};
 ghost use Rattle.lalrpop_base.specs.WellFormed.{IsWellFormed};
 ghost use Rattle.lalrpop_base.specs.declared.repr.TerminalString.TheVariants.{Literal};
-ghost use Rattle.lrtab.specs.Words.{request_of, request_view};
+ghost use Rattle.lrtab.specs.Words.{Parse, Report, request_of, request_view};
 ghost use Rattle.lrtab.specs.Answers.{line, file_name, IsShown, IsAnswer, IsAnswerTo, IsAnswerToGrammar};
 
 use crate::grammar::read;
 use crate::read_error::ReadError;
 use crate::symbols::name_of;
-use crate::words::{Request, request_of};
-use lalrpop_base::lr1_core::state::{BuildError, Lr1State};
+use crate::words::{Request, Task, request_of};
+use lalrpop_base::lr1_core::state::{BuildError, Lr1Result, Lr1State};
 use lalrpop_base::memory::OutOfMemory;
 use lalrpop_base::repr::grammar::Grammar;
 use lalrpop_base::repr::norm_error::NormError;
@@ -20,6 +20,7 @@ use lalrpop_base::repr::{NonterminalString, TerminalString};
 use lalrpop_base::text::Text;
 use lalrpop_lr1::inline::inline;
 use lalrpop_lr1::interpret::{InterpretError, interpret};
+use lalrpop_lr1::report::report_text;
 use lalrpop_tables::build::{Method, Options};
 use lalrpop_tables::lr1::build_states;
 use std::alloc::Global;
@@ -144,8 +145,8 @@ fn answer_to_grammar(
 {
     match inline(alloc, grammar) {
         Ok(inlined) => {
-            let (status, shown) = parse(alloc, request, method, &inlined)?;
-            Ok(Answer::Output(status, shown))
+            let (status, text) = shown(alloc, request, method, &inlined)?;
+            Ok(Answer::Output(status, text))
         }
         Err(NormError::Cycle { span: _, name }) => Ok(Answer::Fault(cyclic_inline(alloc, &name)?)),
         Err(NormError::TooManyActions) => Ok(Answer::TooManyActions),
@@ -160,23 +161,41 @@ fn cyclic_inline(alloc: Global, name: &NonterminalString) -> Result<String, OutO
     Ok(format!(in alloc; "cyclic inline of {name}\n")?)
 }
 
-// A status, and what a parse by the tables of a grammar shows.
-fn parse(
+// A status, and what a request of the tables of a grammar shows.
+fn shown(
     alloc: Global,
     request: &Request<'_>,
     method: Method,
     grammar: &Grammar,
 ) -> Result<(u8, String), OutOfMemory>
     requires { IsWellFormed grammar.now }
-    ensures { IfOk result (λ o. IsShown (request_view request.now) o.0 (string_bytes o.1)) }
+    ensures { IfOk result (λ o. IsShown (request_view request.now).task o.0 (string_bytes o.1)) }
 {
     let start = name_of(alloc, request.start)?;
     let options = Options {
         method,
         ..Options::default()
     };
-    match build_states(alloc, grammar, start, &options) {
-        Ok(states) => parse_by(alloc, request, &states, &grammar.terminals),
+    match request.task {
+        Task::Parse(limit, tokens) => parse(alloc, limit, tokens, start, &options, grammar),
+        Task::Report => report(alloc, start, &options, grammar),
+    }
+}
+
+// A status, and what a parse by the tables of a grammar shows.
+fn parse(
+    alloc: Global,
+    limit: usize,
+    words: &[String],
+    start: NonterminalString,
+    options: &Options,
+    grammar: &Grammar,
+) -> Result<(u8, String), OutOfMemory>
+    requires { IsWellFormed grammar.now }
+    ensures { IfOk result (λ o. IsShown (Parse limit (map string_bytes words.now)) o.0 (string_bytes o.1)) }
+{
+    match build_states(alloc, grammar, start, options) {
+        Ok(states) => parse_by(alloc, limit, words, &states, &grammar.terminals),
         Err(BuildError::Conflicts(error)) => {
             let count = error.conflicts.len();
             Ok((1, format!(in alloc; "conflicts: {count}\n")?))
@@ -185,19 +204,45 @@ fn parse(
     }
 }
 
+// A status, and the report of the tables of a grammar or of its conflicts.
+fn report(
+    alloc: Global,
+    start: NonterminalString,
+    options: &Options,
+    grammar: &Grammar,
+) -> Result<(u8, String), OutOfMemory>
+    requires { IsWellFormed grammar.now }
+    ensures { IfOk result (λ o. IsShown Report o.0 (string_bytes o.1)) }
+{
+    let outcome = build_states(alloc, grammar, start, options);
+    let status = status_of(&outcome);
+    match report_text(alloc, &grammar.terminals, &outcome) {
+        Ok(text) => Ok((status, text)),
+        Err(_) => Err(OutOfMemory),
+    }
+}
+
+// The status of a report: 0 for tables, 1 for conflicts.
+fn status_of(outcome: &Lr1Result<'_>) -> u8
+    ensures { result ≡ (if is_ok outcome.now then 0 else 1) }
+{
+    if outcome.is_ok() { 0 } else { 1 }
+}
+
 // A status, and what a parse by states shows.
 fn parse_by<'grammar>(
     alloc: Global,
-    request: &Request<'_>,
+    limit: usize,
+    words: &[String],
     states: &[Lr1State<'grammar>],
     terminals: &TerminalSet,
 ) -> Result<(u8, String), OutOfMemory>
     requires coherent { AreCoherent states.now }
     requires some { 0 < length states.now }
-    ensures { IfOk result (λ o. IsShown (request_view request.now) o.0 (string_bytes o.1)) }
+    ensures { IfOk result (λ o. IsShown (Parse limit (map string_bytes words.now)) o.0 (string_bytes o.1)) }
 {
-    let tokens = tokens_of(alloc, request.tokens)?;
-    match interpret(alloc, states, terminals, tokens, request.limit) {
+    let tokens = tokens_of(alloc, words)?;
+    match interpret(alloc, states, terminals, tokens, limit) {
         Ok(tree) => Ok((0, format!(in alloc; "{tree}\n")?)),
         Err(InterpretError::Refused(_, token)) => Ok((
             1,

@@ -1,4 +1,6 @@
 //! Tests that run the program.
+mod reports;
+
 use crate::refusing::Refusing;
 use crate::run::run;
 use lalrpop_tables::build::Method;
@@ -207,7 +209,6 @@ fn other_words(rt: HostRuntime) -> Result<(), Fail> {
         "f",
         "f S",
         "f S parse",
-        "f S report",
         "f S report 2",
         "f S explain",
         "f S Parse 2 x",

@@ -1,34 +1,58 @@
 //! The words of the command line.
 ghost use Rattle.std.specs.Prelude.{◌≡◌, option_map, map, string_bytes};
 ghost use Rattle.std.specs.Str.{all_ascii_digits};
-ghost use Rattle.lrtab.specs.Words.{limit_of, request_of, request_view};
+ghost use Rattle.lrtab.specs.Words.{limit_of, task_of, task_view, request_of, request_view};
 
 use crate::symbols::is_a_name;
 
+/// What is asked of the tables.
+#[derive(Clone, Copy)]
+pub enum Task<'a> {
+    /// A parse of tokens by at most so many steps.
+    Parse(usize, &'a [String]),
+    Report,
+}
+
 /// What the words ask for.
-#[derive(Drop)]
+#[derive(Clone, Copy)]
 pub struct Request<'a> {
     pub start: &'a str,
-    pub limit: usize,
-    pub tokens: &'a [String],
+    pub task: Task<'a>,
 }
 
 /// What words ask for, where they have its form.
 pub fn request_of(words: &[String]) -> Option<Request<'_>>
     ensures { option_map request_view result ≡ request_of (map string_bytes words.now) }
 {
-    let [_file, start, verb, limit, tokens @ ..] = words else {
+    let [_file, start, verb, rest @ ..] = words else {
         return None;
     };
-    if verb.as_str() != "parse" || !is_a_name(start.as_str()) {
+    if !is_a_name(start.as_str()) {
+        return None;
+    }
+    let task = task_of(verb.as_str(), rest)?;
+    Some(Request {
+        start: start.as_str(),
+        task,
+    })
+}
+
+// What the words behind the start symbol ask for.
+fn task_of<'a>(verb: &str, rest: &'a [String]) -> Option<Task<'a>>
+    ensures { option_map task_view result ≡ task_of verb.now (map string_bytes rest.now) }
+{
+    let [limit, tokens @ ..] = rest else {
+        return if verb == "report" {
+            Some(Task::Report)
+        } else {
+            None
+        };
+    };
+    if verb != "parse" {
         return None;
     }
     let limit = limit_of(limit.as_str())?;
-    Some(Request {
-        start: start.as_str(),
-        limit,
-        tokens,
-    })
+    Some(Task::Parse(limit, tokens))
 }
 
 /// The number that a word writes in decimal digits alone, where it fits.
