@@ -28,6 +28,7 @@ pub trait Sink {
 }
 
 /// A sink over any writer.
+#[derive(Drop)]
 pub struct Counted<W: io::Write> {
     writer: W,
     faults: u64,

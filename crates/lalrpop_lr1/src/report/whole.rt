@@ -1,11 +1,11 @@
 //! The whole text of a report.
-ghost use Rattle.std.specs.Prelude.{◌≡◌, ◌++◌, IfOk, IfErr, OnOk, string_bytes, codes, map, option_copied, slice_get, Some, None, length};
+ghost use Rattle.std.specs.Prelude.{◌≡◌, ◌++◌, IfOk, IfErr, OnOk, string_bytes, Some};
 ghost use Rattle.std.specs.List.{flat_map};
 ghost use Rattle.std.specs.Ordering.{nat_cmp};
 ghost use Rattle.lalrpop_base.specs.Multimaps.{collection_at};
 ghost use Rattle.lalrpop_lr1.specs.Report.{next_state, states_section, tables_report, failure_report, error_report, report_text};
 ghost use Rattle.lalrpop_lr1.specs.ReportPlaces.{places_of, ArePlacesOf};
-ghost use Rattle.lalrpop_lr1.specs.ReportSinks.{IfNothingOffered, IfWriteFault, TellsOfText};
+ghost use Rattle.lalrpop_lr1.specs.ReportSinks.{IfWriteFault, TellsOfText};
 
 use super::error::ReportError;
 use super::printer::LookaheadPrinter;
