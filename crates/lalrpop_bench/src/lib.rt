@@ -33,6 +33,8 @@ mod plain;
 #[cfg(test)]
 mod renumber;
 #[cfg(test)]
+mod report;
+#[cfg(test)]
 mod repr;
 #[cfg(test)]
 mod state_graph;
@@ -40,6 +42,8 @@ mod state_graph;
 mod texts;
 #[cfg(test)]
 mod trace;
+#[cfg(test)]
+mod vectors;
 #[cfg(test)]
 mod views;
 pub mod word_lookahead;
