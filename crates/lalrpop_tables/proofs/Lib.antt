@@ -6,6 +6,14 @@ pub mod Canonical
 pub mod CanonicalConflicts
 pub mod CanonicalContents
 pub mod CanonicalStates
+pub mod CheckAll
+pub mod CheckCarried
+pub mod CheckCarrying
+pub mod CheckClosing
+pub mod CheckSending
+pub mod CheckSets
+pub mod CheckStates
+pub mod CheckTables
 pub mod ClosedStates
 pub mod Closing
 pub mod ClosureLoops

@@ -1,6 +1,12 @@
 pub mod Ascending
 pub mod Canonical
 pub mod CanonicalConflicts
+pub mod Check
+pub mod CheckCarrying
+pub mod CheckClosing
+pub mod CheckPlaces
+pub mod CheckSets
+pub mod CheckStates
 pub mod Closing
 pub mod Closure
 pub mod Counts

@@ -8,7 +8,7 @@ pub mod options;
 mod reductions;
 mod results;
 mod states;
-mod tokens;
+pub(crate) mod tokens;
 mod transitions;
 
 ghost use Rattle.std.specs.Prelude.{IfOk, IfErr, MatchResult};

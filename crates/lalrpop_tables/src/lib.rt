@@ -2,6 +2,7 @@
 #![tactic(auto)]
 
 pub mod build;
+pub mod check;
 pub mod lr1;
 mod renumber;
 pub mod state_graph;

@@ -1,0 +1,6 @@
+use Rattle.lalrpop_base.specs.Each.{EachBelow}
+use Rattle.lalrpop_tables.specs.CheckCarrying.{HoldsCarried}
+use Rattle.lalrpop_tables.proofs.check.carrying.have_carried.Given as goal
+
+abbrev pub invariant-loop-reduction : goal.invariant-loop-reduction
+invariant-loop-reduction l = EachBelow (HoldsCarried l.table.entries l.state) l.reductions l.reduction-index

@@ -1,0 +1,22 @@
+use Rattle.std.proofs.Common.{◌≡◌, ◌∙◌, ◌+◌, ◌++◌, ◌∷◌, [], subst, sym, ap, take, List}
+use Rattle.std.proofs.lemmas.List.{take_more, take_all}
+use Rattle.lalrpop_base.specs.Bits.{Bits}
+use Rattle.lalrpop_base.specs.Items.{Dotted}
+use Rattle.lalrpop_tables.specs.CheckClosing.{Widens, IsMovedOf}
+use Rattle.lalrpop_tables.proofs.CheckClosing.{Moved-none, Moved-more}
+use Rattle.lalrpop_tables.proofs.check.closing.find_moved.Goals as goal
+
+pub loop-item-init : goal.loop-item-init
+loop-item-init c = Moved-none c.args.found.now.keys c.args.stack.now.items
+
+pub loop-item-preserved : goal.loop-item-preserved
+loop-item-preserved c =
+    let xs : List (Dotted Bits) = c.args.items.now in
+    let i = c.loop-item.item-index in
+    let item : Dotted Bits = c.item-item.result in
+    let more : take (i + 1) xs ≡ take i xs ++ item ∷ [] = take_more xs i item c.loop-item-test.true ∙ ap (λ (x : Dotted Bits). take i xs ++ x ∷ []) (sym c.item-item.is) in
+    subst (λ (ys : List (Dotted Bits)). Widens (IsMovedOf ys) c.args.found.now.keys c.find_if_moved.new.found.keys c.args.stack.now.items c.find_if_moved.new.stack.items) (sym more)
+    (Moved-more (take i xs) item _ _ _ _ _ _ c.loop-item.invariant c.in_ok-find_if_moved.ensures)
+
+pub returns : goal.returns
+returns c = subst (λ (ys : List (Dotted Bits)). Widens (IsMovedOf ys) c.args.found.now.keys c.loop-item.found.keys c.args.stack.now.items c.loop-item.stack.items) (take_all c.loop-item.item-index c.args.items.now c.loop-item-test.false) c.loop-item.invariant

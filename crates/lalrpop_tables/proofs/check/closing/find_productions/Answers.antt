@@ -1,0 +1,23 @@
+use Rattle.std.proofs.Common.{◌≡◌, ◌∙◌, ◌+◌, ◌++◌, ◌∷◌, [], subst, sym, refl, ap, take, List}
+use Rattle.std.proofs.lemmas.List.{take_more, take_all}
+use Rattle.lalrpop_base.specs.declared.repr.Production.{Production}
+use Rattle.lalrpop_tables.specs.CheckClosing.{Widens, IsBegun}
+use Rattle.lalrpop_tables.proofs.CheckClosing.{Begun-none, Begun-more}
+use Rattle.lalrpop_tables.proofs.check.closing.find_productions.Goals as goal
+
+pub loop-production-init : goal.loop-production-init
+loop-production-init c = Begun-none c.args.found.now.keys c.args.stack.now.items
+
+pub loop-production-preserved : goal.loop-production-preserved
+loop-production-preserved c =
+    let ps : List Production = c.productions_for-production-items.result.now in
+    let i = c.loop-production.production-index in
+    let p : Production = c.production-item.result in
+    let more : take (i + 1) ps ≡ take i ps ++ p ∷ [] = take_more ps i p c.loop-production-test.true ∙ ap (λ (q : Production). take i ps ++ q ∷ []) (sym c.production-item.is) in
+    subst (λ (qs : List Production). Widens (IsBegun qs) c.args.found.now.keys c.find.new.found.keys c.args.stack.now.items c.find.new.stack.items) (sym more)
+    (Begun-more (take i ps) p _ _ _ _ _ _ _ refl refl c.loop-production.invariant c.in_ok-find.ensures)
+
+pub returns : goal.returns
+returns c =
+    let ps : List Production = c.productions_for-production-items.result.now in
+    subst (λ (qs : List Production). Widens (IsBegun qs) c.args.found.now.keys c.loop-production.found.keys c.args.stack.now.items c.loop-production.stack.items) (take_all c.loop-production.production-index ps c.loop-production-test.false ∙ c.productions_for-production-items.ensures) c.loop-production.invariant

@@ -1,0 +1,8 @@
+use Rattle.lalrpop_base.specs.Bits.{Bits}
+use Rattle.lalrpop_base.specs.Each.{EachBelow}
+use Rattle.lalrpop_base.specs.Items.{Dotted}
+use Rattle.lalrpop_tables.specs.CheckStates.{IsRightItem, reduced}
+use Rattle.lalrpop_tables.proofs.check.states.are_right_items.Given as goal
+
+abbrev pub invariant-loop-item : goal.invariant-loop-item
+invariant-loop-item l = EachBelow (λ (i : Dotted Bits). IsRightItem l.listed l.state (reduced l.state.reductions.items) i) l.item-items l.item-index

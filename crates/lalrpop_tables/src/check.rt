@@ -1,0 +1,67 @@
+//! The check of tables: whoever made them, a yes says that they are faithful.
+mod carrying;
+mod closing;
+mod sets;
+mod states;
+
+ghost use Rattle.std.specs.Prelude.{◌≡◌, ◌↔◌, ◌<◌, IfOk, IsTrue, Contains, ℕ, length};
+ghost use Rattle.lalrpop_base.specs.Closures.{AreClosed, AreChecked};
+ghost use Rattle.lalrpop_base.specs.Coherent.{AreCoherent};
+ghost use Rattle.lalrpop_base.specs.Contents.{contents};
+ghost use Rattle.lalrpop_base.specs.States.{AreFaithful};
+ghost use Rattle.lalrpop_base.specs.WellFormed.{IsWellFormed, productions};
+ghost use Rattle.lalrpop_tables.specs.Check.{PassCheck, HoldCarried};
+ghost use Rattle.lalrpop_tables.specs.CheckStates.{AreListed, AreRightStates, IsTarget};
+
+use self::carrying::{all_have_carried, carried};
+use self::states::{are_right_states, listed_states, targets};
+use lalrpop_base::first::FirstSets;
+use lalrpop_base::lr1_core::state::Lr1State;
+use lalrpop_base::memory::OutOfMemory;
+use lalrpop_base::repr::NonterminalString;
+use lalrpop_base::repr::grammar::Grammar;
+use std::alloc::Global;
+
+// Whether closed states hold what is carried to them.
+fn hold_carried<'grammar>(
+    alloc: Global,
+    grammar: &'grammar Grammar,
+    start: &NonterminalString,
+    states: &[Lr1State<'grammar>],
+) -> Result<bool, OutOfMemory>
+    requires well_formed { IsWellFormed grammar.now }
+    requires closed { AreClosed (productions grammar.now) start.now (contents grammar.now.terminals states.now) }
+    ensures { IfOk result (λ yes. IsTrue yes ↔ HoldCarried grammar.now start.now states.now) }
+{
+    let _terminals = grammar.terminals.all();
+    let first_sets = FirstSets::new(alloc, grammar)?;
+    let table = carried(alloc, grammar, &first_sets, start, states)?;
+    let held = all_have_carried(alloc, &table, states)?;
+    Ok(held)
+}
+
+/// Whether states are tables of a grammar: state 0 holds the closure of the start's productions, each target that of
+/// what was moved, transitions and reductions are what the items say, the tokens that are carried over the states'
+/// own edges lie inside those of the reductions, and no state has a conflict. Each item of a state is visited a small
+/// constant number of times for each token.
+pub fn check_tables<'grammar>(
+    alloc: Global,
+    grammar: &'grammar Grammar,
+    start: NonterminalString,
+    states: &[Lr1State<'grammar>],
+) -> Result<bool, OutOfMemory>
+    requires well_formed { IsWellFormed grammar.now }
+    requires coherent { AreCoherent states.now }
+    requires some { 0 < length states.now }
+    ensures exact { IfOk result (λ yes. IsTrue yes ↔ PassCheck grammar.now start states.now) }
+    ensures checked { IfOk result (λ yes. IsTrue yes → AreChecked (productions grammar.now) start (contents grammar.now.terminals states.now)) }
+    ensures faithful { IfOk result (λ yes. IsTrue yes → AreFaithful (productions grammar.now) start (contents grammar.now.terminals states.now)) }
+{
+    let listed = listed_states(alloc, states)?;
+    let targets = targets(alloc, states)?;
+    if !are_right_states(alloc, grammar, &start, &listed, &targets, states)? {
+        return Ok(false);
+    }
+    let held = hold_carried(alloc, grammar, &start, states)?;
+    Ok(held)
+}

@@ -1,0 +1,258 @@
+//! Tokens carried over the edges of states.
+ghost use Rattle.std.specs.Prelude.{◌≡◌, ◌<◌, ◌+◌, ◌↔◌, ℕ, IfOk, OnOk, Contains, IsTrue, length, slice_get, drop, Some, true};
+ghost use Rattle.std.specs.Map.{keys_of};
+ghost use Rattle.lalrpop_base.specs.Bits.{Bits, has};
+ghost use Rattle.lalrpop_base.specs.Closures.{AreClosed};
+ghost use Rattle.lalrpop_base.specs.Contents.{contents};
+ghost use Rattle.lalrpop_base.specs.Each.{EachItem};
+ghost use Rattle.lalrpop_base.specs.Places.{AllDiffer};
+ghost use Rattle.lalrpop_base.specs.WellFormed.{IsWellFormed, productions, productions_of, rules_of};
+ghost use Rattle.lalrpop_tables.specs.CheckCarrying.{IsSent, Sends, IsBegunAt, IsOver, IsInto, Gives, target_in, AreCarried, HoldsCarried, AllHoldCarried};
+
+use super::sets::find_tokens;
+use super::states::target;
+use crate::build::tokens::add_tokens;
+use lalrpop_base::exact::Exact;
+use lalrpop_base::first::FirstSets;
+use lalrpop_base::lookahead::nil::Nil;
+use lalrpop_base::lookahead::token_set::TokenSet;
+use lalrpop_base::lr1_core::item::{Item, Lr0Item};
+use lalrpop_base::lr1_core::state::Lr1State;
+use lalrpop_base::memory::OutOfMemory;
+use lalrpop_base::repr::grammar::Grammar;
+use lalrpop_base::repr::{NonterminalString, Production, Symbol};
+use std::alloc::Global;
+use std::collections::BTreeMap;
+
+/// A dotted production of a state.
+#[derive(Drop, PartialEq, Eq, PartialOrd, Ord)]
+pub struct Place<'grammar> {
+    pub state: usize,
+    pub item: Lr0Item<'grammar>,
+}
+
+impl<'grammar> Exact for Place<'grammar> {
+    ghost use Rattle.lalrpop_tables.specs.CheckPlaces.{place_exact};
+    ghost use Rattle.lalrpop_base.specs.Items.{dotted_exact};
+    ghost use Rattle.lalrpop_base.specs.contracts.exact.ProductionExact.TheImpl.Laws.{exact-law as production_exact};
+    ghost use Rattle.lalrpop_base.specs.contracts.lookahead.nil.NilExact.TheImpl.Laws.{exact-law as nil_exact};
+
+    ghost exact = { place_exact _ (dotted_exact _ _ production_exact nil_exact) };
+}
+
+impl<'grammar> Place<'grammar> {
+    fn copy(&self) -> Place<'grammar>
+        ensures { result ≡ self.now }
+    {
+        Place {
+            state: self.state,
+            item: self.item.to_lr0(),
+        }
+    }
+}
+
+/// What is carried to each place.
+pub type Table<'grammar> = BTreeMap<Place<'grammar>, TokenSet>;
+
+// Sends tokens to a place, which goes on the stack if it is new or has more now.
+fn send<'grammar>(
+    alloc: Global,
+    place: Place<'grammar>,
+    tokens: &TokenSet,
+    table: &mut Table<'grammar>,
+    stack: &mut Vec<Place<'grammar>>,
+) -> Result<(), OutOfMemory>
+    ensures { OnOk result (IsSent place.entry tokens.now table.old.entries table.new.entries stack.old.items stack.new.items) }
+{
+    let copy = place.copy();
+    if add_tokens(alloc, table, copy, tokens)? {
+        stack.push(place)?;
+    }
+    Ok(())
+}
+
+// Sends tokens to the productions of a nonterminal, dot first, in a state.
+fn send_productions<'grammar>(
+    alloc: Global,
+    grammar: &'grammar Grammar,
+    name: &NonterminalString,
+    state: usize,
+    tokens: &TokenSet,
+    table: &mut Table<'grammar>,
+    stack: &mut Vec<Place<'grammar>>,
+) -> Result<(), OutOfMemory>
+    ensures { OnOk result (Sends (IsBegunAt state (productions_of grammar.now name.now)) tokens.now table.old.entries table.new.entries stack.old.items stack.new.items) }
+{
+    for production in grammar.productions_for(name) {
+        let item = Item {
+            production,
+            index: 0,
+            lookahead: Nil,
+        };
+        send(alloc, Place { state, item }, tokens, table, stack)?;
+    }
+    Ok(())
+}
+
+// The number of the state to which a symbol leads from the one with a number.
+fn target_at<'grammar>(
+    states: &[Lr1State<'grammar>],
+    number: usize,
+    symbol: &Symbol,
+) -> Option<usize>
+    ensures { result ≡ target_in states.now number symbol.now }
+{
+    if number < states.len() {
+        target(&states[number], symbol)
+    } else {
+        None
+    }
+}
+
+// Sends tokens over the symbol behind the dot of a place.
+fn send_over<'grammar>(
+    alloc: Global,
+    states: &[Lr1State<'grammar>],
+    place: &Place<'grammar>,
+    tokens: &TokenSet,
+    table: &mut Table<'grammar>,
+    stack: &mut Vec<Place<'grammar>>,
+) -> Result<(), OutOfMemory>
+    ensures { OnOk result (Sends (IsOver states.now place.now) tokens.now table.old.entries table.new.entries stack.old.items stack.new.items) }
+{
+    let Some((symbol, item)) = place.item.shifted_item(alloc)? else {
+        return Ok(());
+    };
+    let Some(state) = target_at(states, place.state, symbol) else {
+        return Ok(());
+    };
+    send(alloc, Place { state, item }, tokens, table, stack)?;
+    Ok(())
+}
+
+// The tokens of a place that has some.
+fn tokens_at<'grammar>(
+    alloc: Global,
+    table: &Table<'grammar>,
+    place: &Place<'grammar>,
+) -> Result<TokenSet, OutOfMemory>
+    requires found { Contains (keys_of table.now.entries) place.now }
+    requires differ { AllDiffer (keys_of table.now.entries) }
+    ensures { IfOk result (λ set. Contains table.now.entries (place.now, set)) }
+{
+    match find_tokens(table, place) {
+        Some(tokens) => Ok(tokens.clone(alloc)?),
+        None => unreachable!(),
+    }
+}
+
+// Sends what a place has, and what may follow there, to what it leads to.
+fn send_on<'grammar>(
+    alloc: Global,
+    grammar: &'grammar Grammar,
+    first_sets: &FirstSets<'grammar>,
+    states: &[Lr1State<'grammar>],
+    place: &Place<'grammar>,
+    table: &mut Table<'grammar>,
+    stack: &mut Vec<Place<'grammar>>,
+) -> Result<(), OutOfMemory>
+    requires well_formed { IsWellFormed grammar.now }
+    requires firsts { first_sets.now ≡ rules_of grammar.now }
+    requires known { Contains (productions grammar.now) place.now.item.production }
+    requires found { Contains (keys_of table.old.entries) place.now }
+    requires differ { AllDiffer (keys_of table.old.entries) }
+    ensures { OnOk result (Gives grammar.now states.now place.now table.old.entries table.new.entries stack.old.items stack.new.items) }
+{
+    let tokens = tokens_at(alloc, table, place)?;
+    send_over(alloc, states, place, &tokens, table, stack)?;
+    let Some((symbol, rest)) = place.item.shift_symbol() else {
+        return Ok(());
+    };
+    let Symbol::Nonterminal(name) = symbol else {
+        return Ok(());
+    };
+    let given = first_sets.first1(alloc, rest, &tokens)?;
+    send_productions(alloc, grammar, name, place.state, &given, table, stack)?;
+    Ok(())
+}
+
+/// The tokens that are carried to each place from the start.
+pub fn carried<'grammar>(
+    alloc: Global,
+    grammar: &'grammar Grammar,
+    first_sets: &FirstSets<'grammar>,
+    start: &NonterminalString,
+    states: &[Lr1State<'grammar>],
+) -> Result<Table<'grammar>, OutOfMemory>
+    requires well_formed { IsWellFormed grammar.now }
+    requires firsts { first_sets.now ≡ rules_of grammar.now }
+    requires closed { AreClosed (productions grammar.now) start.now (contents grammar.now.terminals states.now) }
+    ensures { IfOk result (λ table. AreCarried grammar.now start.now states.now table.entries) }
+{
+    let _names = grammar.nonterminals.len();
+    let mut table = BTreeMap::new(alloc);
+    let mut stack = Vec::new(alloc);
+    let eof = TokenSet::eof(alloc, &grammar.terminals)?;
+    send_productions(alloc, grammar, start, 0, &eof, &mut table, &mut stack)?;
+    while let Some(place) = stack.pop() {
+        send_on(
+            alloc, grammar, first_sets, states, &place, &mut table, &mut stack,
+        )?;
+    }
+    Ok(table)
+}
+
+// Whether a reduction of a state holds all that is carried to its finished item.
+fn holds_carried<'grammar>(
+    alloc: Global,
+    table: &Table<'grammar>,
+    state: usize,
+    reduction: &(TokenSet, &'grammar Production),
+) -> Result<bool, OutOfMemory>
+    requires { AllDiffer (keys_of table.now.entries) }
+    ensures { IfOk result (λ yes. IsTrue yes ↔ HoldsCarried table.now.entries state reduction.now) }
+{
+    let production = reduction.1;
+    let item = Item::lr0(production, production.symbols.len());
+    let Some(set) = find_tokens(table, &Place { state, item }) else {
+        return Ok(true);
+    };
+    let mut held = reduction.0.clone(alloc)?;
+    let more = held.union_with(set)?;
+    Ok(!more)
+}
+
+// Whether the reductions of a state hold all that is carried to its finished items.
+fn have_carried<'grammar>(
+    alloc: Global,
+    table: &Table<'grammar>,
+    state: usize,
+    reductions: &[(TokenSet, &'grammar Production)],
+) -> Result<bool, OutOfMemory>
+    requires { AllDiffer (keys_of table.now.entries) }
+    ensures { IfOk result (λ yes. IsTrue yes ↔ EachItem (HoldsCarried table.now.entries state) reductions.now) }
+{
+    for reduction in reductions {
+        if !holds_carried(alloc, table, state, reduction)? {
+            return Ok(false);
+        }
+    }
+    Ok(true)
+}
+
+/// Whether the reductions of each state hold all that is carried to its finished items.
+pub fn all_have_carried<'grammar>(
+    alloc: Global,
+    table: &Table<'grammar>,
+    states: &[Lr1State<'grammar>],
+) -> Result<bool, OutOfMemory>
+    requires { AllDiffer (keys_of table.now.entries) }
+    ensures { IfOk result (λ yes. IsTrue yes ↔ AllHoldCarried table.now.entries states.now) }
+{
+    for (number, state) in states.iter().enumerate() {
+        if !have_carried(alloc, table, number, &state.reductions)? {
+            return Ok(false);
+        }
+    }
+    Ok(true)
+}
