@@ -25,6 +25,7 @@ pub mod ReportNumbers
 pub mod ReportPadding
 pub mod ReportPlaces
 pub mod ReportTexts
+pub mod Spelling
 pub mod Stacks
 pub mod ToldByTables
 pub mod TreeViews

@@ -1,13 +1,14 @@
 pub mod Answers
 pub mod EqualTrees
+pub mod Examples
 pub mod FaithfulAnswers
 pub mod Headline
 pub mod InlineChoices
 pub mod InlineOrder
 pub mod InlineRefusals
 pub mod InlineSteps
-pub mod Inlined
 pub mod InlineWalks
+pub mod Inlined
 pub mod Machines
 pub mod Meetings
 pub mod ParseTrees

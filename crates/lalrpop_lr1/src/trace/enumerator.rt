@@ -1,6 +1,7 @@
 //! The paths back from an item to the first item, one by one.
 ghost use Rattle.std.specs.Prelude.{◌≡◌, ◌+◌, ◌<◌, ◌≤◌, length, true, false, ◌∷◌, IfSome, IfOk, OnOk, OnErr, slice_get, Some};
 ghost use Rattle.std.specs.Iterator.{at_most};
+ghost use Rattle.lalrpop_lr1.specs.Examples.{IsExampleOf};
 ghost use Rattle.lalrpop_lr1.specs.TraceGraphs.{AreKnownEdges, node_count};
 ghost use Rattle.lalrpop_lr1.specs.Walks.{frames, numbers_at, load, edge_weight, bound, IsEnded};
 
@@ -196,7 +197,9 @@ impl<'graph, 'grammar> PathEnumerator<'graph, 'grammar> {
     }
 
     /// The example that the path spells.
-    pub fn example(&self, alloc: Global) -> Result<Example, OutOfMemory> {
+    pub fn example(&self, alloc: Global) -> Result<Example, OutOfMemory>
+        ensures { IfOk result (IsExampleOf self.now.graph.now self.now.stack.items) }
+    {
         example_of(alloc, self.graph, &self.stack)
     }
 

@@ -66,7 +66,8 @@ fn add_item<'grammar>(
 {
     let from = TraceGraphNode::Nonterminal(item.production.nonterminal.clone(alloc)?);
     let labels = item.symbol_sets();
-    met.trace_graph.add_edge(from, TraceGraphNode::Item(item), labels)
+    met.trace_graph
+        .add_edge(from, TraceGraphNode::Item(item), labels)
 }
 
 // Whether a nonterminal was not met in a state before. Now it is.
@@ -168,7 +169,8 @@ fn add_shifting<'trace, 'grammar>(
     let to = TraceGraphNode::Nonterminal(name.clone(alloc)?);
     let labels = item.symbol_sets();
     if !goes_on(alloc, traced, ground.first_sets, item)? {
-        met.trace_graph.add_edge(TraceGraphNode::Item(item.to_lr0()), to, labels)?;
+        met.trace_graph
+            .add_edge(TraceGraphNode::Item(item.to_lr0()), to, labels)?;
         return Ok(false);
     }
     let from = TraceGraphNode::Nonterminal(item.production.nonterminal.clone(alloc)?);

@@ -1,5 +1,6 @@
 //! What a path spells.
-ghost use Rattle.std.specs.Prelude.{◌≡◌, ◌++◌, List, IfOk, OnOk};
+ghost use Rattle.std.specs.Prelude.{◌≡◌, ◌≤◌, ◌++◌, List, map, length, slice_get, option_copied, IfOk, OnOk};
+ghost use Rattle.lalrpop_lr1.specs.Examples.{IsExampleOf, prefixes, suffixes, place, place_of, reduced, reduced_at};
 ghost use Rattle.lalrpop_base.specs.WellFormed.{HasKnownTerminals};
 ghost use Rattle.lalrpop_lr1.specs.TraceGraphs.{AreKnownEdges};
 ghost use Rattle.lalrpop_base.specs.declared.repr.TerminalString.{TerminalString};
@@ -61,11 +62,7 @@ fn innermost_cursor<'grammar>(
 }
 
 // Copies symbols behind a list.
-fn push_copies(
-    alloc: Global,
-    list: &[Symbol],
-    symbols: &mut Vec<Symbol>,
-) -> Result<(), OutOfMemory>
+fn push_copies(alloc: Global, list: &[Symbol], symbols: &mut Vec<Symbol>) -> Result<(), OutOfMemory>
     ensures { OnOk result (symbols.new.items ≡ symbols.old.items ++ list.now) }
 {
     for symbol in list {
@@ -79,14 +76,17 @@ pub(crate) fn example_of<'grammar>(
     alloc: Global,
     graph: &TraceGraph<'grammar>,
     path: &[EnumeratorState],
-) -> Result<Example, OutOfMemory> {
+) -> Result<Example, OutOfMemory>
+    ensures { IfOk result (IsExampleOf graph.now path.now) }
+{
     let mut symbols = Vec::new(alloc);
     push_prefixes(alloc, graph, path, &mut symbols)?;
     let cursor = symbols.len();
-    push_cursor(alloc, graph, path, &mut symbols)?;
+    push_place(alloc, graph, path, &mut symbols)?;
     let end = symbols.len();
     push_suffixes(alloc, graph, path, &mut symbols)?;
-    let reductions = reductions_of(alloc, graph, path, cursor, end)?;
+    let count = symbols.len();
+    let reductions = reductions_of(alloc, graph, path, cursor, count - end, count)?;
     Ok(Example {
         symbols,
         cursor,
@@ -99,7 +99,9 @@ fn push_symbols(
     alloc: Global,
     list: &[Symbol],
     symbols: &mut Vec<ExampleSymbol>,
-) -> Result<(), OutOfMemory> {
+) -> Result<(), OutOfMemory>
+    ensures { OnOk result (symbols.new.items ≡ symbols.old.items ++ map ExampleSymbol.Symbol list.now) }
+{
     for symbol in list {
         symbols.push(ExampleSymbol::Symbol(symbol.clone(alloc)?))?;
     }
@@ -112,33 +114,55 @@ fn push_prefixes<'grammar>(
     graph: &TraceGraph<'grammar>,
     path: &[EnumeratorState],
     symbols: &mut Vec<ExampleSymbol>,
-) -> Result<(), OutOfMemory> {
-    for state in path.iter().rev() {
-        push_symbols(alloc, graph.labels(state.number).prefix, symbols)?;
+) -> Result<(), OutOfMemory>
+    ensures { OnOk result (symbols.new.items ≡ symbols.old.items ++ map ExampleSymbol.Symbol (prefixes graph.now path.now)) }
+{
+    let mut left = path;
+    while let Some((outermost, inner)) = left.split_last() {
+        push_symbols(alloc, graph.labels(outermost.number).prefix, symbols)?;
+        left = inner;
     }
     Ok(())
 }
 
-// The innermost cursor, or the place of a right side without symbols.
-fn push_cursor<'grammar>(
+// The innermost cursor, or the sign of a right side without symbols.
+fn push_place<'grammar>(
     alloc: Global,
     graph: &TraceGraph<'grammar>,
     path: &[EnumeratorState],
     symbols: &mut Vec<ExampleSymbol>,
-) -> Result<(), OutOfMemory> {
-    if path.is_empty() {
+) -> Result<(), OutOfMemory>
+    ensures { OnOk result (symbols.new.items ≡ symbols.old.items ++ place graph.now path.now) }
+{
+    let Some((innermost, _)) = path.split_first() else {
         return Ok(());
-    }
-    let labels = graph.labels(path[0].number);
-    match labels.cursor {
-        Some(symbol) => symbols.push(ExampleSymbol::Symbol(symbol.clone(alloc)?))?,
+    };
+    let labels = graph.labels(innermost.number);
+    push_cursor(alloc, labels.cursor, labels.prefix, symbols)?;
+    Ok(())
+}
+
+// A cursor, or the sign of a right side without symbols.
+fn push_cursor(
+    alloc: Global,
+    cursor: Option<&Symbol>,
+    prefix: &[Symbol],
+    symbols: &mut Vec<ExampleSymbol>,
+) -> Result<(), OutOfMemory>
+    ensures { OnOk result (symbols.new.items ≡ symbols.old.items ++ place_of (option_copied cursor.entry) prefix.now) }
+{
+    match cursor {
+        Some(symbol) => {
+            symbols.push(ExampleSymbol::Symbol(symbol.clone(alloc)?))?;
+            Ok(())
+        }
         None => {
-            if labels.prefix.is_empty() {
+            if prefix.is_empty() {
                 symbols.push(ExampleSymbol::Epsilon)?;
             }
+            Ok(())
         }
     }
-    Ok(())
 }
 
 // The suffixes, innermost first.
@@ -147,35 +171,70 @@ fn push_suffixes<'grammar>(
     graph: &TraceGraph<'grammar>,
     path: &[EnumeratorState],
     symbols: &mut Vec<ExampleSymbol>,
-) -> Result<(), OutOfMemory> {
-    for state in path {
-        push_symbols(alloc, graph.labels(state.number).suffix, symbols)?;
+) -> Result<(), OutOfMemory>
+    ensures { OnOk result (symbols.new.items ≡ symbols.old.items ++ map ExampleSymbol.Symbol (suffixes graph.now path.now)) }
+{
+    let mut left = path;
+    while let Some((innermost, outer)) = left.split_first() {
+        push_symbols(alloc, graph.labels(innermost.number).suffix, symbols)?;
+        left = outer;
     }
     Ok(())
 }
 
-// The reductions, innermost first, around the symbols from `cursor` to before `end`.
+// The reductions, innermost first, of an example of `count` symbols: so many stand before the innermost cursor, and so
+// many behind it.
 fn reductions_of<'grammar>(
     alloc: Global,
     graph: &TraceGraph<'grammar>,
     path: &[EnumeratorState],
-    cursor: usize,
-    end: usize,
-) -> Result<Vec<Reduction>, OutOfMemory> {
+    before: usize,
+    behind: usize,
+    count: usize,
+) -> Result<Vec<Reduction>, OutOfMemory>
+    requires before { before ≡ length (prefixes graph.now path.now) }
+    requires behind { behind ≡ length (suffixes graph.now path.now) }
+    requires count { behind ≤ count }
+    ensures { IfOk result (λ list. list.items ≡ reduced graph.now count path.now) }
+{
     let mut reductions = Vec::new(alloc);
-    let mut start = cursor;
-    let mut end = end;
-    for state in path {
-        let labels = graph.labels(state.number);
-        start = start.saturating_sub(labels.prefix.len());
-        end = end.saturating_add(labels.suffix.len());
-        if let Some(nonterminal) = graph.reduced_name(alloc, state.number)? {
-            reductions.push(Reduction {
-                start,
-                end,
-                nonterminal,
-            })?;
-        }
+    let mut left = path;
+    let mut before = before;
+    let mut behind = behind;
+    while let Some((innermost, outer)) = left.split_first() {
+        let labels = graph.labels(innermost.number);
+        before -= labels.prefix.len();
+        behind -= labels.suffix.len();
+        push_reduction(
+            alloc,
+            graph,
+            innermost.number,
+            before,
+            count - behind,
+            &mut reductions,
+        )?;
+        left = outer;
     }
     Ok(reductions)
+}
+
+// What an edge reduces.
+fn push_reduction<'grammar>(
+    alloc: Global,
+    graph: &TraceGraph<'grammar>,
+    edge: usize,
+    start: usize,
+    end: usize,
+    reductions: &mut Vec<Reduction>,
+) -> Result<(), OutOfMemory>
+    ensures { OnOk result (reductions.new.items ≡ reductions.old.items ++ reduced_at (slice_get graph.now.edges.items edge) start end) }
+{
+    if let Some(nonterminal) = graph.reduced_name(alloc, edge)? {
+        reductions.push(Reduction {
+            start,
+            end,
+            nonterminal,
+        })?;
+    }
+    Ok(())
 }

@@ -1,5 +1,6 @@
 //! The graph of a trace.
-ghost use Rattle.std.specs.Prelude.{◌≡◌, List, Some, IfSome, IfOk, length, slice_get};
+ghost use Rattle.std.specs.Prelude.{◌≡◌, List, Some, IfSome, IfOk, length, slice_get, option_copied};
+ghost use Rattle.lalrpop_lr1.specs.Examples.{prefix_of, cursor_of, suffix_of, reduced_name};
 ghost use Rattle.lalrpop_lr1.specs.TraceGraphs.{AreKnownEdges, IsKnownLabel, node_count, numbers_to, numbers_from};
 ghost use Rattle.lalrpop_base.specs.declared.repr.TerminalString.{TerminalString};
 ghost use Rattle.lalrpop_lr1.specs.declared.trace.trace_graph.TraceGraphEdge.{TraceGraphEdge};
@@ -128,7 +129,8 @@ impl<'grammar> TraceGraph<'grammar> {
 
     /// Whether the item is a node.
     pub fn contains(&self, item: &Lr0Item<'grammar>) -> bool {
-        self.indices.contains_key(&TraceGraphNode::Item(item.to_lr0()))
+        self.indices
+            .contains_key(&TraceGraphNode::Item(item.to_lr0()))
     }
 
     /// The edges in the order in which they were added.
@@ -231,6 +233,9 @@ impl<'grammar> TraceGraph<'grammar> {
     pub(crate) fn labels(&self, edge: usize) -> SymbolSets<'grammar>
         ensures there { (e : TraceGraphEdge) → slice_get self.now.edges.items edge ≡ Some e → result ≡ e.symbol_sets }
         ensures known { (terminals : List TerminalString) → AreKnownEdges terminals self.now.edges.items → IsKnownLabel terminals result }
+        ensures prefix { result.prefix.now ≡ prefix_of (slice_get self.now.edges.items edge) }
+        ensures cursor { option_copied result.cursor ≡ cursor_of (slice_get self.now.edges.items edge) }
+        ensures suffix { result.suffix.now ≡ suffix_of (slice_get self.now.edges.items edge) }
     {
         if edge >= self.edges.len() {
             return SymbolSets::new();
@@ -243,7 +248,9 @@ impl<'grammar> TraceGraph<'grammar> {
         &self,
         alloc: Global,
         edge: usize,
-    ) -> Result<Option<NonterminalString>, OutOfMemory> {
+    ) -> Result<Option<NonterminalString>, OutOfMemory>
+        ensures { IfOk result (λ name. name ≡ reduced_name (slice_get self.now.edges.items edge)) }
+    {
         if edge >= self.edges.len() {
             return Ok(None);
         }

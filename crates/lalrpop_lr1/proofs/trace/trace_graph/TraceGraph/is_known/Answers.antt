@@ -11,11 +11,11 @@ pub loop-number-preserved : goal.loop-number-preserved
 loop-number-preserved c =
     let P : SymbolSets → Type 0 = IsKnownLabel c.args.terminals.now in
     λ k e l at. ⊎_elim
-      (λ before. c.loop-number.invariant k e before at)
-      (λ here.
-      let same : k ≡ c.loop-number.number = omega (arith, l, here) in
-      subst P (c.labels.ensures.there e (ap (λ j. slice_get c.args.self.now.edges.items j) (sym same) ∙ at)) (c.if-not-is_known_label.ensures refl))
-      (cases_lt k c.loop-number.number)
+    (λ before. c.loop-number.invariant k e before at)
+    (λ here.
+    let same : k ≡ c.loop-number.number = omega (arith, l, here) in
+    subst P (c.labels.ensures.there e (ap (λ j. slice_get c.args.self.now.edges.items j) (sym same) ∙ at)) (c.if-not-is_known_label.ensures refl))
+    (cases_lt k c.loop-number.number)
 
 pub returns : goal.returns
 returns c = λ h k e at. c.loop-number.invariant k e (omega (arith, slice_get_within c.args.self.now.edges.items k e at, ap length c.edges-number-end.ensures)) at
