@@ -16,7 +16,8 @@ use std::test::Fail;
 const TYPES: &str = "Ty = \"int\"\nTy = \"bool\"\nTy = Ty \"->\" Ty";
 
 // Eight names, each of which derives each other one alone.
-const CYCLES: &str = "S = A \"x\"\nA = \"t\"\nA = B\nA = C\nA = D\nA = E\nA = F\nA = G\nA = H\nB = A\nB = C\nB = D\nB = E\nB = F\nB = G\nB = H\nC = A\nC = B\nC = D\nC = E\nC = F\nC = G\nC = H\nD = A\nD = B\nD = C\nD = E\nD = F\nD = G\nD = H\nE = A\nE = B\nE = C\nE = D\nE = F\nE = G\nE = H\nF = A\nF = B\nF = C\nF = D\nF = E\nF = G\nF = H\nG = A\nG = B\nG = C\nG = D\nG = E\nG = F\nG = H\nH = A\nH = B\nH = C\nH = D\nH = E\nH = F\nH = G";
+const CYCLES: &str =
+    "S = A \"x\"\nA = \"t\"\nA = B\nA = C\nA = D\nA = E\nA = F\nA = G\nA = H\nB = A\nB = C\nB = D\nB = E\nB = F\nB = G\nB = H\nC = A\nC = B\nC = D\nC = E\nC = F\nC = G\nC = H\nD = A\nD = B\nD = C\nD = E\nD = F\nD = G\nD = H\nE = A\nE = B\nE = C\nE = D\nE = F\nE = G\nE = H\nF = A\nF = B\nF = C\nF = D\nF = E\nF = G\nF = H\nG = A\nG = B\nG = C\nG = D\nG = E\nG = F\nG = H\nH = A\nH = B\nH = C\nH = D\nH = E\nH = F\nH = G";
 
 fn grammar(alloc: Global, lines: &str) -> Result<Grammar, Fail> {
     Ok(PlainGrammar::new(alloc, lines)?.to_grammar(alloc)?)
@@ -29,11 +30,26 @@ fn name(alloc: Global, text: &str) -> Result<NonterminalString, OutOfMemory> {
 }
 
 // The states and conflicts of a grammar that has some.
-fn conflicts<'grammar>(outcome: Lr1Result<'grammar>) -> Option<Lr1TableConstructionError<'grammar>> {
+fn conflicts<'grammar>(
+    outcome: Lr1Result<'grammar>,
+) -> Option<Lr1TableConstructionError<'grammar>> {
     match outcome {
         Err(BuildError::Conflicts(error)) => Some(error),
         _ => None,
     }
+}
+
+// The states and conflicts of a grammar, if it is well-formed and has some.
+fn conflicts_of<'grammar>(
+    alloc: Global,
+    grammar: &'grammar Grammar,
+    start: &str,
+) -> Result<Option<Lr1TableConstructionError<'grammar>>, Fail> {
+    if !is_well_formed(grammar) {
+        return Ok(None);
+    }
+    let start = name(alloc, start)?;
+    Ok(conflicts(build_states(alloc, grammar, start, &Options::default())))
 }
 
 // The symbols of an example, parted by spaces.
@@ -67,21 +83,26 @@ fn reductions(alloc: Global, example: &Example) -> Result<String, Fail> {
 }
 
 // Whether the text and the place of an example are these, and its reductions.
-fn is_example(alloc: Global, example: &Example, text: &str, cursor: usize, reduced: &str) -> Result<bool, Fail> {
-    Ok(example.cursor == cursor
-        && words(alloc, example)?.as_str() == text
-        && reductions(alloc, example)?.as_str() == reduced)
+fn is_example(
+    alloc: Global,
+    example: &Example,
+    text: &str,
+    cursor: usize,
+    reduced: &str,
+) -> Result<bool, Fail> {
+    Ok(
+        example.cursor == cursor
+            && words(alloc, example)?.as_str() == text
+            && reductions(alloc, example)?.as_str() == reduced,
+    )
 }
 
 #[test]
 fn shift_has_one_example(rt: HostRuntime) -> Result<(), Fail> {
     let alloc = rt.alloc();
     let grammar = grammar(alloc, TYPES)?;
-    if !is_well_formed(&grammar) {
-        panic!(rt; "not well-formed");
-    }
-    let outcome = build_states(alloc, &grammar, name(alloc, "Ty")?, &Options::default());
-    let error = conflicts(outcome).ok_or("no conflict")?;
+    assert!(rt; is_well_formed(&grammar));
+    let error = conflicts_of(alloc, &grammar, "Ty")?.ok_or("no conflict")?;
     let conflict = error.conflicts.first().ok_or("no conflict")?;
     let production: &Production = conflict.production;
     assert_eq!(rt; production.symbols.len(), 3);
@@ -94,7 +115,15 @@ fn shift_has_one_example(rt: HostRuntime) -> Result<(), Fail> {
     let mut examples = graph.lr0_examples(item)?;
     assert!(rt; examples.found_trace());
     let example = examples.next().ok_or("no example")??;
-    assert!(rt; is_example(alloc, &example, "Ty \"->\" Ty \"->\" Ty", 3, "2..5:Ty 0..5:Ty")?);
+    assert!(rt;
+        is_example(
+            alloc,
+            &example,
+            "Ty \"->\" Ty \"->\" Ty",
+            3,
+            "2..5:Ty 0..5:Ty"
+        )?
+    );
     assert!(rt; examples.next().is_none());
     Ok(())
 }
@@ -103,11 +132,8 @@ fn shift_has_one_example(rt: HostRuntime) -> Result<(), Fail> {
 fn reduction_has_one_example(rt: HostRuntime) -> Result<(), Fail> {
     let alloc = rt.alloc();
     let grammar = grammar(alloc, TYPES)?;
-    if !is_well_formed(&grammar) {
-        panic!(rt; "not well-formed");
-    }
-    let outcome = build_states(alloc, &grammar, name(alloc, "Ty")?, &Options::default());
-    let error = conflicts(outcome).ok_or("no conflict")?;
+    assert!(rt; is_well_formed(&grammar));
+    let error = conflicts_of(alloc, &grammar, "Ty")?.ok_or("no conflict")?;
     let conflict = error.conflicts.first().ok_or("no conflict")?;
     let production: &Production = conflict.production;
     assert_eq!(rt; production.symbols.len(), 3);
@@ -121,7 +147,15 @@ fn reduction_has_one_example(rt: HostRuntime) -> Result<(), Fail> {
     let item: Lr1Item = Item::lr0(production, 3).with_lookahead(lookahead);
     let mut examples = graph.lr1_examples(&first_sets, &item)?;
     let example = examples.next().ok_or("no example")??;
-    assert!(rt; is_example(alloc, &example, "Ty \"->\" Ty \"->\" Ty", 3, "0..3:Ty 0..5:Ty")?);
+    assert!(rt;
+        is_example(
+            alloc,
+            &example,
+            "Ty \"->\" Ty \"->\" Ty",
+            3,
+            "0..3:Ty 0..5:Ty"
+        )?
+    );
     assert!(rt; examples.next().is_none());
     Ok(())
 }
@@ -145,11 +179,8 @@ fn finished<'a, 'grammar>(
 fn examples_come_one_by_one(rt: HostRuntime) -> Result<(), Fail> {
     let alloc = rt.alloc();
     let grammar = grammar(alloc, CYCLES)?;
-    if !is_well_formed(&grammar) {
-        panic!(rt; "not well-formed");
-    }
-    let outcome = build_states(alloc, &grammar, name(alloc, "S")?, &Options::default());
-    let error = conflicts(outcome).ok_or("no conflict")?;
+    assert!(rt; is_well_formed(&grammar));
+    let error = conflicts_of(alloc, &grammar, "S")?.ok_or("no conflict")?;
     let first_sets = FirstSets::new(alloc, &grammar)?;
     let tracer = Tracer::new(alloc, &first_sets, &error.states)?;
     let (state, item) = finished(&error, 1).ok_or("no finished item")?;

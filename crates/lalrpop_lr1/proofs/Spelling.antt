@@ -56,3 +56,11 @@ module _ (g : TraceGraph) where
 
   pub reduced_done : (count : ℕ) (left : List EnumeratorState) (made all : List Reduction) → length left ≡ 0 → made ++ reduced g count left ≡ all → made ≡ all
   reduced_done count left made all e h = sym (append-nil made) ∙ ap (λ (path : List EnumeratorState). made ++ reduced g count path) (sym (none left e)) ∙ h
+
+  -- the symbols that follow, edge by edge
+  pub following_step : (left outer : List EnumeratorState) (s : EnumeratorState) (start new p all : List Symbol) → left ≡ s ∷ outer → new ≡ start ++ p → p ≡ suffix_of (edge_of g s) → start ++ suffixes g left ≡ all → new ++ suffixes g outer ≡ all
+  following_step left outer s start new p all e is same so_far =
+      ap (λ xs. xs ++ suffixes g outer) is ∙ append_assoc start p (suffixes g outer) ∙ ap (λ xs. start ++ (xs ++ suffixes g outer)) same ∙ ap (λ (path : List EnumeratorState). start ++ suffixes g path) (sym e) ∙ so_far
+
+  pub following_done : (left : List EnumeratorState) (symbols all : List Symbol) → length left ≡ 0 → symbols ++ suffixes g left ≡ all → symbols ≡ all
+  following_done left symbols all e h = sym (append-nil symbols) ∙ ap (λ (path : List EnumeratorState). symbols ++ suffixes g path) (sym (none left e)) ∙ h

@@ -38,6 +38,10 @@ place_of (Some x) prefix = SymbolOf x ∷ []
 place_of None [] = Epsilon ∷ []
 place_of None (x ∷ prefix) = []
 
+abbrev pub cursor_list : Option Symbol → List Symbol
+cursor_list None = []
+cursor_list (Some x) = x ∷ []
+
 -- what an edge reduces
 abbrev pub reduced_at : Option TraceGraphEdge → ℕ → ℕ → List Reduction
 reduced_at None start end = []
@@ -66,6 +70,15 @@ module _ (graph : TraceGraph) where
   abbrev pub place : List EnumeratorState → List ExampleSymbol
   place [] = []
   place (s ∷ path) = place_of (cursor_of (edge_of s)) (prefix_of (edge_of s))
+
+  -- the innermost cursor, if there is one
+  abbrev pub innermost : List EnumeratorState → List Symbol
+  innermost [] = []
+  innermost (s ∷ path) = cursor_list (cursor_of (edge_of s))
+
+  -- what follows the place of the example: the innermost cursor, and the suffixes
+  abbrev pub following : List EnumeratorState → List Symbol
+  following path = innermost path ++ suffixes path
 
   -- the symbols of the example
   abbrev pub spelled : List EnumeratorState → List ExampleSymbol

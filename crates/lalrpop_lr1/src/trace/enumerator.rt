@@ -1,7 +1,8 @@
 //! The paths back from an item to the first item, one by one.
 ghost use Rattle.std.specs.Prelude.{◌≡◌, ◌+◌, ◌<◌, ◌≤◌, length, true, false, ◌∷◌, IfSome, IfOk, OnOk, OnErr, slice_get, Some};
 ghost use Rattle.std.specs.Iterator.{at_most};
-ghost use Rattle.lalrpop_lr1.specs.Examples.{IsExampleOf};
+ghost use Rattle.lalrpop_lr1.specs.Examples.{IsExampleOf, following};
+ghost use Rattle.lalrpop_base.specs.First.{IsFirstSet};
 ghost use Rattle.lalrpop_lr1.specs.TraceGraphs.{AreKnownEdges, node_count};
 ghost use Rattle.lalrpop_lr1.specs.Walks.{frames, numbers_at, load, edge_weight, bound, IsEnded};
 
@@ -192,6 +193,7 @@ impl<'graph, 'grammar> PathEnumerator<'graph, 'grammar> {
         first_sets: &FirstSets<'grammar>,
     ) -> Result<TokenSet, OutOfMemory>
         requires known { AreKnownEdges first_sets.now.terminals self.now.graph.now.edges.items }
+        ensures first { IfOk result (IsFirstSet first_sets.now (following self.now.graph.now self.now.stack.items)) }
     {
         first_of(alloc, first_sets, self.graph, &self.stack)
     }

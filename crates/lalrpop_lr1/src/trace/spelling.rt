@@ -1,6 +1,7 @@
 //! What a path spells.
-ghost use Rattle.std.specs.Prelude.{◌≡◌, ◌≤◌, ◌++◌, List, map, length, slice_get, option_copied, IfOk, OnOk};
-ghost use Rattle.lalrpop_lr1.specs.Examples.{IsExampleOf, prefixes, suffixes, place, place_of, reduced, reduced_at};
+ghost use Rattle.std.specs.Prelude.{◌≡◌, ◌≤◌, ◌++◌, List, map, length, slice_get, option_copied, Some, Contains, IfOk, OnOk};
+ghost use Rattle.lalrpop_base.specs.First.{IsFirstSet};
+ghost use Rattle.lalrpop_lr1.specs.Examples.{IsExampleOf, prefixes, suffixes, place, place_of, reduced, reduced_at, cursor_list, innermost, following};
 ghost use Rattle.lalrpop_base.specs.WellFormed.{HasKnownTerminals};
 ghost use Rattle.lalrpop_lr1.specs.TraceGraphs.{AreKnownEdges};
 ghost use Rattle.lalrpop_base.specs.declared.repr.TerminalString.{TerminalString};
@@ -22,9 +23,11 @@ pub(crate) fn first_of<'grammar>(
     path: &[EnumeratorState],
 ) -> Result<TokenSet, OutOfMemory>
     requires known { AreKnownEdges first_sets.now.terminals graph.now.edges.items }
+    ensures first { IfOk result (IsFirstSet first_sets.now (following graph.now path.now)) }
 {
     let symbols = symbols_behind(alloc, graph, path)?;
-    first_sets.first0(alloc, &symbols)
+    let set = first_sets.first0(alloc, &symbols)?;
+    Ok(set)
 }
 
 // The innermost cursor, and the suffixes, innermost first.
@@ -34,10 +37,13 @@ fn symbols_behind<'grammar>(
     path: &[EnumeratorState],
 ) -> Result<Vec<Symbol>, OutOfMemory>
     ensures known { IfOk result (λ symbols. (terminals : List TerminalString) → AreKnownEdges terminals graph.now.edges.items → HasKnownTerminals terminals symbols.items) }
+    ensures following { IfOk result (λ symbols. symbols.items ≡ following graph.now path.now) }
 {
     let mut symbols = innermost_cursor(alloc, graph, path)?;
-    for state in path {
-        push_copies(alloc, graph.labels(state.number).suffix, &mut symbols)?;
+    let mut left = path;
+    while let Some((inner, outer)) = left.split_first() {
+        push_copies(alloc, graph.labels(inner.number).suffix, &mut symbols)?;
+        left = outer;
     }
     Ok(symbols)
 }
@@ -49,12 +55,22 @@ fn innermost_cursor<'grammar>(
     path: &[EnumeratorState],
 ) -> Result<Vec<Symbol>, OutOfMemory>
     ensures known { IfOk result (λ symbols. (terminals : List TerminalString) → AreKnownEdges terminals graph.now.edges.items → HasKnownTerminals terminals symbols.items) }
+    ensures innermost { IfOk result (λ symbols. symbols.items ≡ innermost graph.now path.now) }
+{
+    let Some((inner, _)) = path.split_first() else {
+        return Ok(Vec::new(alloc));
+    };
+    let labels = graph.labels(inner.number);
+    let symbols = copy_cursor(alloc, labels.cursor)?;
+    Ok(symbols)
+}
+
+// A symbol that may be there, as a list.
+fn copy_cursor(alloc: Global, cursor: Option<&Symbol>) -> Result<Vec<Symbol>, OutOfMemory>
+    ensures known { IfOk result (λ symbols. (terminals : List TerminalString) → ((t : TerminalString) → option_copied cursor.entry ≡ Some (Symbol.Terminal t) → Contains terminals t) → HasKnownTerminals terminals symbols.items) }
+    ensures copied { IfOk result (λ symbols. symbols.items ≡ cursor_list (option_copied cursor.entry)) }
 {
     let mut symbols = Vec::new(alloc);
-    if path.is_empty() {
-        return Ok(symbols);
-    }
-    let cursor = graph.labels(path[0].number).cursor;
     if let Some(symbol) = cursor {
         symbols.push(symbol.clone(alloc)?)?;
     }

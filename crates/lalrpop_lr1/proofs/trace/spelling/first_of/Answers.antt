@@ -1,4 +1,5 @@
-use Rattle.std.proofs.Common.{List, sym, subst}
+use Rattle.std.proofs.Common.{List, sym, ◌∙◌, subst}
+use Rattle.lalrpop_base.specs.First.{IsFirstSet}
 use Rattle.lalrpop_base.specs.WellFormed.{HasKnownTerminals}
 use Rattle.lalrpop_base.specs.declared.repr.Symbol.{Symbol}
 use Rattle.lalrpop_lr1.proofs.trace.spelling.first_of.Goals as goal
@@ -8,3 +9,8 @@ first0-requires c =
     let terminals = c.args.first_sets.now.terminals in
     let P : List Symbol → Type 0 = HasKnownTerminals terminals in
     record { known = subst P (sym c.deref.ensures.value) (c.in_ok-symbols.ensures.known terminals c.requires.known) }
+
+pub returns : goal.returns
+returns c =
+    let P : List Symbol → Type 0 = λ symbols. IsFirstSet c.args.first_sets.now symbols c.in_ok-set.set in
+    record { first = subst P (c.deref.ensures.value ∙ c.in_ok-symbols.ensures.following) c.in_ok-set.ensures.first }
