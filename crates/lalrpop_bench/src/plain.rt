@@ -13,7 +13,7 @@ pub mod grammars;
 #[cfg(test)]
 pub(crate) mod known;
 #[cfg(test)]
-mod samples;
+pub(crate) mod samples;
 pub mod spans;
 pub mod trees;
 pub mod validity;
