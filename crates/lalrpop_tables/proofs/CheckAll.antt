@@ -1,5 +1,5 @@
 -- The check, whole.
-use Rattle.std.proofs.Common.{◌≡◌, ◌↔◌, ◌<◌, ℕ, List, length}
+use Rattle.std.proofs.Common.{◌↔◌, ◌<◌, ℕ, List, length}
 use Rattle.std.specs.Prelude.{Contains}
 use Rattle.std.specs.BTreeSet.{BTreeSet}
 use Rattle.lalrpop_base.specs.Bits.{Bits}

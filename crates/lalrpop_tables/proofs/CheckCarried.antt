@@ -1,12 +1,11 @@
 -- What is carried, from the table that the worklist leaves.
-use Rattle.std.proofs.Common.{◌≡◌, ◌↔◌, ◌<◌, ◌≤◌, ◌+◌, ℕ, zero, suc, List, [], ◌∷◌, length, drop, refl, sym, ◌∙◌, ap, subst, arith, Bool, true, Option, Some, None, ⊎_elim}
+use Rattle.std.proofs.Common.{◌≡◌, ◌<◌, ◌≤◌, ◌+◌, ℕ, zero, suc, List, [], ◌∷◌, length, drop, refl, sym, ◌∙◌, ap, subst, arith, true, Option, Some, None, ⊎_elim}
 use Rattle.std.specs.Prelude.{Contains, slice_get}
 use Rattle.std.specs.Borrow.{Bor}
 use Rattle.std.proofs.lemmas.Bool.{cases_lt}
 use Rattle.lalrpop_base.specs.Bits.{Bits, has}
 use Rattle.lalrpop_base.specs.Closures.{InClosure, in_kernel, expanded, IsAtStart, IsMoved, items_of, AreClosed, IsReached, at_zero, over_edge, IsCarried, eof_at_start, over, first_of_rest, through_rest}
-use Rattle.lalrpop_base.specs.Contents.{contents, contents_at, contents_of, holds_token, reduction_of}
-use Rattle.lalrpop_base.specs.Each.{EachItem}
+use Rattle.lalrpop_base.specs.Contents.{contents, contents_at, holds_token, reduction_of}
 use Rattle.lalrpop_base.specs.Places.{AllDiffer}
 use Rattle.lalrpop_base.specs.States.{Contents, Reduction, leads}
 use Rattle.lalrpop_base.specs.WellFormed.{productions}
@@ -16,13 +15,12 @@ use Rattle.lalrpop_base.specs.declared.lr1_core.state.State.{State}
 use Rattle.lalrpop_base.specs.declared.repr.NonterminalString.{NonterminalString}
 use Rattle.lalrpop_base.specs.declared.repr.Production.{Production}
 use Rattle.lalrpop_base.specs.declared.repr.Symbol.{Symbol}
-use Rattle.lalrpop_base.specs.declared.repr.Symbol.TheVariants.{Nonterminal}
 use Rattle.lalrpop_base.specs.declared.repr.TerminalString.{TerminalString}
 use Rattle.lalrpop_base.specs.declared.repr.grammar.Grammar.{Grammar}
 use Rattle.lalrpop_base.proofs.ContentsViews.{contains_of_map}
 use Rattle.lalrpop_base.proofs.HeldTokens.{place_is}
 use Rattle.lalrpop_tables.specs.Check.{HoldCarried}
-use Rattle.lalrpop_tables.specs.CheckCarrying.{Carried, at_place, HasAll, AreCarried, HoldsCarried, AllHoldCarried}
+use Rattle.lalrpop_tables.specs.CheckCarrying.{Carried, at_place, HasAll, AreCarried, AllHoldCarried}
 use Rattle.lalrpop_tables.proofs.CheckCarrying.{leads_in}
 use Rattle.lalrpop_tables.proofs.Closing.{split_drop}
 use Rattle.lalrpop_tables.proofs.KnownTerminals.{token_bit, held_bit, bit_held, holds_more}

@@ -1,5 +1,5 @@
 -- The loop that carries tokens over the edges of states.
-use Rattle.std.proofs.Common.{◌≡◌, ◌↔◌, ◌<◌, ◌≤◌, ◌+◌, ◌-◌, ◌*◌, ℕ, zero, suc, ◌⊎◌, inl, inr, List, [], ◌∷◌, ◌++◌, length, map, drop, refl, sym, ◌∙◌, ap, subst, arith, length-append, Bool, true, ◌||◌, ◌==◌, eq-eqb, Option, Some, None}
+use Rattle.std.proofs.Common.{◌≡◌, ◌↔◌, ◌<◌, ◌≤◌, ◌+◌, ◌-◌, ◌*◌, ℕ, zero, suc, ◌⊎◌, inl, inr, List, [], ◌∷◌, ◌++◌, length, map, drop, refl, sym, ◌∙◌, ap, subst, arith, length-append, true, ◌||◌, eq-eqb, Option, Some, None}
 use Rattle.std.specs.Prelude.{Contains, slice_get}
 use Rattle.std.specs.Map.{keys_of}
 use Rattle.std.proofs.lemmas.List.{length-map}
@@ -10,7 +10,6 @@ use Rattle.lalrpop_base.specs.Closures.{InClosure, in_kernel, expanded, IsAtStar
 use Rattle.lalrpop_base.specs.Contents.{contents, contents_at, holds_token}
 use Rattle.lalrpop_base.specs.First.{IsFirstSetBefore}
 use Rattle.lalrpop_base.specs.Grammar.{IsNullable}
-use Rattle.lalrpop_base.specs.Items.{Dotted}
 use Rattle.lalrpop_base.specs.Places.{AllDiffer}
 use Rattle.lalrpop_base.specs.States.{Contents, leads}
 use Rattle.lalrpop_base.specs.Tokens.{FitsTokens}
@@ -26,16 +25,16 @@ use Rattle.lalrpop_base.specs.declared.repr.grammar.Grammar.{Grammar}
 use Rattle.lalrpop_base.proofs.HeldTokens.{place_there}
 use Rattle.lalrpop_tables.specs.Closing.{AreOwn, Begins}
 use Rattle.lalrpop_tables.specs.Counts.{count}
-use Rattle.lalrpop_tables.specs.CheckStates.{dots, lr0}
-use Rattle.lalrpop_tables.specs.CheckCarrying.{Carried, at_place, target_from, target_in, HasAll, HasBit, burden, AreBelow, AllBelow, Sends, IsBegunAt, IsOver, IsInto, Gives, IsCarriedTo, AreCarriedTo, HasBegun, IsSettled, HasStarted, AreCarried}
+use Rattle.lalrpop_tables.specs.CheckStates.{dots}
+use Rattle.lalrpop_tables.specs.CheckCarrying.{Carried, at_place, target_from, target_in, HasAll, burden, AreBelow, AllBelow, Sends, IsBegunAt, IsOver, IsInto, Gives, IsCarriedTo, AreCarriedTo, HasBegun, IsSettled, HasStarted, AreCarried}
 use Rattle.lalrpop_tables.specs.declared.check.carrying.Place.{Place}
 use Rattle.lalrpop_tables.specs.States.{begun}
 use Rattle.lalrpop_tables.proofs.Canonical.{start_tokens}
-use Rattle.lalrpop_tables.proofs.CheckSending.{Entry, entry_key, key_entry, all_kept, bit_kept, below_after, same_place}
+use Rattle.lalrpop_tables.proofs.CheckSending.{Entry, entry_key, key_entry, all_kept, bit_kept, same_place}
 use Rattle.lalrpop_tables.proofs.Closing.{drop_split, split_drop}
 use Rattle.lalrpop_tables.proofs.Grammars.{productions_among, productions_named, known_symbols, known_rest}
 use Rattle.lalrpop_tables.proofs.KnownTerminals.{token_bit, held_bit, bit_held, holds_more, begun_bit}
-use Rattle.lalrpop_tables.proofs.Lists.{Contains-none, Contains-here, Contains-cases, Contains-map, pigeonhole}
+use Rattle.lalrpop_tables.proofs.Lists.{Contains-none, Contains-cases, Contains-map, pigeonhole}
 use Rattle.lalrpop_tables.proofs.Lookaheads.{eof_fits}
 use Rattle.lalrpop_tables.proofs.Places.{apart_from_differ, same_some}
 use Rattle.lalrpop_tables.proofs.Subsets.{count_few}

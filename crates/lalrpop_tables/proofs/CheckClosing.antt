@@ -1,5 +1,5 @@
 -- The loop of a closure without tokens.
-use Rattle.std.proofs.Common.{◌≡◌, ◌↔◌, ◌<◌, ◌≤◌, ◌+◌, ◌-◌, ℕ, suc, ◌⊎◌, inl, inr, List, [], ◌∷◌, ◌++◌, length, map, drop, refl, sym, ◌∙◌, ap, subst, arith, length-append, Some}
+use Rattle.std.proofs.Common.{◌≡◌, ◌<◌, ◌≤◌, ◌+◌, ◌-◌, ℕ, suc, ◌⊎◌, inl, inr, List, [], ◌∷◌, ◌++◌, length, map, drop, refl, sym, ◌∙◌, ap, subst, arith, length-append, Some}
 use Rattle.std.specs.Prelude.{Contains, slice_get}
 use Rattle.std.proofs.lemmas.List.Elements.{Contains-append_left, Contains-append_right, Contains-append_cases}
 use Rattle.lalrpop_base.specs.Bits.{Bits}
@@ -14,13 +14,13 @@ use Rattle.lalrpop_base.specs.declared.repr.Symbol.{Symbol}
 use Rattle.lalrpop_base.specs.declared.repr.Symbol.TheVariants.{Nonterminal}
 use Rattle.lalrpop_base.specs.declared.repr.grammar.Grammar.{Grammar}
 use Rattle.lalrpop_tables.specs.CheckSets.{IsAdded}
-use Rattle.lalrpop_tables.specs.CheckClosing.{Widens, IsBegun, IsExpansionOf, IsMovedIn, IsMovedOf, AreClosure, AllWait}
+use Rattle.lalrpop_tables.specs.CheckClosing.{Widens, IsBegun, IsExpansionOf, IsMovedOf, AreClosure, AllWait}
 use Rattle.lalrpop_tables.specs.Closing.{AreOwn}
 use Rattle.lalrpop_tables.specs.Closure.{dotted_of, begun_of}
 use Rattle.lalrpop_tables.proofs.Canonical.{InClosure-more}
 use Rattle.lalrpop_tables.proofs.Closing.{drop_split, split_drop}
 use Rattle.lalrpop_tables.proofs.Grammars.{productions_among, productions_named}
-use Rattle.lalrpop_tables.proofs.Lists.{Contains-none, Contains-here, Contains-there, Contains-cases, Contains-map, pigeonhole}
+use Rattle.lalrpop_tables.proofs.Lists.{Contains-none, Contains-here, Contains-cases, Contains-map, pigeonhole}
 use Rattle.lalrpop_tables.proofs.Places.{apart_from_differ}
 use Rattle.lalrpop_tables.proofs.Tables.{same_lr0}
 

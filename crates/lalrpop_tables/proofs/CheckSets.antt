@@ -1,9 +1,9 @@
 -- Ordered sets as lists of keys that differ.
-use Rattle.std.proofs.Common.{◌≡◌, ◌↔◌, ℕ, ◌+◌, List, length, refl, sym, ◌∙◌, ap, subst, arith, Bool, true, false, cond, not, if◌then◌else◌}
-use Rattle.std.specs.Prelude.{Contains, MatchBool, IsTrue}
+use Rattle.std.proofs.Common.{◌≡◌, ◌+◌, List, length, refl, sym, subst, arith, Bool, true, false, not, if◌then◌else◌}
+use Rattle.std.specs.Prelude.{Contains, MatchBool}
 use Rattle.std.specs.declared.cmp.Ordering.{Ordering}
 use Rattle.std.specs.Cmp.{IsTotalOrder}
-use Rattle.std.specs.BTreeSet.{BTreeSet, insert_key, contains, IsOrdered, IsSubset}
+use Rattle.std.specs.BTreeSet.{BTreeSet, insert_key, contains, IsSubset}
 use Rattle.std.specs.List.Sorted.{IsStrictlySortedBy}
 use Rattle.std.proofs.lemmas.Map.Lookups.{CmpEqualImpliesEq}
 use Rattle.std.proofs.lemmas.Map.Views.{btree_set_contains_iff}

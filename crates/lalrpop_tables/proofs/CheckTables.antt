@@ -1,11 +1,11 @@
 -- What the check asks of each state is what the definitions ask of all.
-use Rattle.std.proofs.Common.{◌≡◌, ◌↔◌, ◌<◌, ◌≤◌, ◌+◌, ℕ, zero, suc, ◌⊎◌, inl, inr, List, [], ◌∷◌, length, map, drop, refl, sym, ◌∙◌, ap, subst, arith, Bool, true, Option, Some, None, option_map}
+use Rattle.std.proofs.Common.{◌≡◌, ◌↔◌, ◌<◌, ◌+◌, ℕ, zero, suc, ◌⊎◌, inl, inr, List, [], ◌∷◌, length, drop, refl, sym, ◌∙◌, ap, subst, arith, Bool, true, Option, Some, None, option_map}
 use Rattle.std.specs.Prelude.{Contains, slice_get}
 use Rattle.std.specs.Borrow.{Bor}
 use Rattle.std.specs.BTreeSet.{BTreeSet}
 use Rattle.std.proofs.lemmas.Option.{slice_get_within, slice_get-map}
 use Rattle.lalrpop_base.specs.Bits.{Bits, has}
-use Rattle.lalrpop_base.specs.Closures.{InClosure, in_kernel, expanded, IsAtStart, IsMoved, items_of, AreClosed}
+use Rattle.lalrpop_base.specs.Closures.{InClosure, in_kernel, expanded, IsMoved, items_of, AreClosed}
 use Rattle.lalrpop_base.specs.Coherent.{AreCoherent}
 use Rattle.lalrpop_base.specs.Conflicts.{HasNoConflict as HoldsNoConflict}
 use Rattle.lalrpop_base.specs.Contents.{contents, contents_at, contents_of, no_contents, reduction_of, holds_token}
@@ -24,17 +24,17 @@ use Rattle.lalrpop_base.specs.declared.repr.Symbol.{Symbol}
 use Rattle.lalrpop_base.specs.declared.repr.Symbol.TheVariants.{Nonterminal, Terminal}
 use Rattle.lalrpop_base.specs.declared.repr.TerminalString.{TerminalString}
 use Rattle.lalrpop_base.specs.declared.repr.grammar.Grammar.{Grammar}
-use Rattle.lalrpop_base.proofs.ContentsViews.{LeadAsItemsSay, IsEdge, lead_as_items_say, some_of_map, contains_of_map}
+use Rattle.lalrpop_base.proofs.ContentsViews.{LeadAsItemsSay, lead_as_items_say, some_of_map, contains_of_map}
 use Rattle.lalrpop_tables.specs.Closure.{dotted_of}
 use Rattle.lalrpop_tables.specs.Results.{HaveNoConflict}
-use Rattle.lalrpop_tables.specs.CheckClosing.{AreClosure, IsMovedIn}
-use Rattle.lalrpop_tables.specs.CheckStates.{dots, lr0, target_of, LeadsFrom, IsTarget, Lists, IsListed, LeadsOn, reduced, IsRightItem, IsRightTarget, IsRightState, AreRightStates, AreListed}
+use Rattle.lalrpop_tables.specs.CheckClosing.{IsMovedIn}
+use Rattle.lalrpop_tables.specs.CheckStates.{dots, lr0, target_of, IsTarget, reduced, IsRightItem, IsRightTarget, IsRightState, AreRightStates, AreListed}
 use Rattle.lalrpop_tables.specs.CheckCarrying.{target_from}
 use Rattle.lalrpop_tables.proofs.Canonical.{InClosure-more}
 use Rattle.lalrpop_tables.proofs.CanonicalStates.{leads_transition}
 use Rattle.lalrpop_tables.proofs.CheckCarrying.{leads_in}
 use Rattle.lalrpop_tables.proofs.Closing.{drop_split, split_drop}
-use Rattle.lalrpop_tables.proofs.KnownTerminals.{token_bit, held_bit}
+use Rattle.lalrpop_tables.proofs.KnownTerminals.{held_bit}
 use Rattle.lalrpop_tables.proofs.Lists.{Contains-none, Contains-map, place}
 use Rattle.lalrpop_tables.proofs.Places.{contains_at, same_some}
 

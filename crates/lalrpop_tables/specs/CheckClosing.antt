@@ -1,7 +1,7 @@
 -- The closure of dotted productions without tokens: closures of items of Aho, Sethi and Ullman, section 4.7.
 use Rattle.std.specs.Prelude.{◌≡◌, ◌↔◌, ◌+◌, ◌<◌, ◌⊎◌, ℕ, List, length, map, slice_get, Some, Contains}
 use Rattle.lalrpop_base.specs.Bits.{Bits}
-use Rattle.lalrpop_base.specs.Closures.{InClosure, IsAtStart}
+use Rattle.lalrpop_base.specs.Closures.{InClosure}
 use Rattle.lalrpop_base.specs.Items.{Dotted}
 use Rattle.lalrpop_base.specs.Places.{AllDiffer}
 use Rattle.lalrpop_base.specs.WellFormed.{productions, productions_of}

@@ -1,4 +1,4 @@
-use Rattle.std.proofs.Common.{◌+◌, ◌∙◌, sym, refl, ap, subst, arith, List, drop}
+use Rattle.std.proofs.Common.{◌+◌, ◌∙◌, sym, refl, ap, subst, arith, List}
 use Rattle.std.specs.Prelude.{Some}
 use Rattle.std.proofs.lemmas.Option.{slice_get_within}
 use Rattle.lalrpop_base.specs.First.{IsFirstSetBefore}

@@ -1,4 +1,4 @@
-use Rattle.std.proofs.Common.{◌≡◌, sym, subst, refl, true, false}
+use Rattle.std.proofs.Common.{◌≡◌}
 use Rattle.lalrpop_tables.proofs.Tables.{same_lr0}
 use Rattle.lalrpop_tables.proofs.CheckClosing.{Widens-new, Widens-known}
 use Rattle.lalrpop_tables.proofs.check.closing.find.Goals as goal

@@ -1,6 +1,5 @@
-use Rattle.std.proofs.Common.{◌≡◌, ◌∙◌, ◌∷◌, [], ℕ, sym, ap, map, inl, inr, List, subst}
+use Rattle.std.proofs.Common.{◌≡◌, ◌∷◌, [], ℕ, ap, inl, inr, List, subst}
 use Rattle.std.specs.Prelude.{Contains}
-use Rattle.lalrpop_base.specs.declared.lr1_core.state.StateIndex.{StateIndex}
 use Rattle.lalrpop_tables.proofs.Lists.{Contains-none}
 use Rattle.lalrpop_tables.proofs.CheckStates.{values, targets_more, leads_of_value, value_of_leads, number_added}
 use Rattle.lalrpop_tables.proofs.check.states.add_targets.Goals as goal

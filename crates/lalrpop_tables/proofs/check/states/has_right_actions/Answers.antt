@@ -1,4 +1,3 @@
-use Rattle.std.proofs.Common.{refl}
 use Rattle.lalrpop_tables.proofs.check.states.has_right_actions.Goals as goal
 
 pub returns-in_default : goal.returns-in_default

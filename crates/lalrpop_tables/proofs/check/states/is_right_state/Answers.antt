@@ -1,4 +1,3 @@
-use Rattle.std.proofs.Common.{refl, sym}
 use Rattle.lalrpop_tables.proofs.check.states.is_right_state.Goals as goal
 
 pub returns-then-not-branch : goal.returns-then-not-branch

@@ -1,5 +1,4 @@
 use Rattle.std.proofs.Common.{◌∙◌, length, arith, eqb-true, sym}
-use Rattle.std.specs.Prelude.{Contains}
 use Rattle.lalrpop_tables.specs.CheckClosing.{IsMovedIn}
 use Rattle.lalrpop_tables.specs.CheckStates.{dots}
 use Rattle.lalrpop_tables.proofs.CheckStates.{same_closure, has_number, some_of}

@@ -2,9 +2,7 @@ use Rattle.std.proofs.Common.{◌≡◌, ◌∙◌, ◌+◌, ◌++◌, ◌∷◌
 use Rattle.std.specs.Borrow.{Bor}
 use Rattle.std.proofs.lemmas.List.{take_more, take_all}
 use Rattle.lalrpop_base.specs.Bits.{Bits}
-use Rattle.lalrpop_base.specs.declared.lookahead.nil.Nil.{Nil}
 use Rattle.lalrpop_base.specs.declared.repr.Production.{Production}
-use Rattle.lalrpop_base.specs.Items.{Dotted}
 use Rattle.lalrpop_tables.specs.CheckStates.{finished}
 use Rattle.lalrpop_tables.proofs.Places.{slice_get_at}
 use Rattle.lalrpop_tables.proofs.CheckStates.{AreReduced, Reduced-none, Reduced-more, Reduced-twice, reduced_has}
