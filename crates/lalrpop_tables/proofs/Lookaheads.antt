@@ -1,9 +1,9 @@
 -- The lookahead of a start symbol.
-use Rattle.std.proofs.Common.{◌≡◌, List, length, sym, ◌∙◌, ap, arith, ⊎_elim, eqb-true, false}
+use Rattle.std.proofs.Common.{List, length, sym, ◌∙◌, arith, ⊎_elim, eqb-true}
 use Rattle.std.specs.Prelude.{◌==◌}
 use Rattle.std.proofs.lemmas.Bool.{or_cases}
 use mathlib.Core.Bool.{true≢false}
-use Rattle.lalrpop_base.specs.Bits.{Bits, has, no_bits, with_bit, has-with_bit, has-no_bits}
+use Rattle.lalrpop_base.specs.Bits.{has, no_bits, with_bit, has-with_bit, has-no_bits}
 use Rattle.lalrpop_base.specs.Tokens.{FitsTokens}
 use Rattle.lalrpop_base.specs.declared.repr.TerminalString.{TerminalString}
 
@@ -18,7 +18,3 @@ eof_fits terminals bit h =
 -- nothing is held of tokens
 pub nothing_fits : (terminals : List TerminalString) → FitsTokens terminals no_bits
 nothing_fits terminals bit h = absurd (true≢false (sym h ∙ has-no_bits bit))
-
--- no bit is one of a token
-pub none_fits : (terminals : List TerminalString) (s : Bits) → s ≡ no_bits → FitsTokens terminals s
-none_fits terminals s e bit h = let none : has s bit ≡ false = ap (λ (t : Bits). has t bit) e ∙ has-no_bits bit in absurd (true≢false (sym h ∙ none))

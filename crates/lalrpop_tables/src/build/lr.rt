@@ -74,6 +74,7 @@ impl<'grammar, L: Lookahead> Lr<'grammar, L> {
         })
     }
 
+    /// The grammar whose states are made.
     pub fn grammar(&self) -> &'grammar Grammar
         ensures rules { rules_of result.now ≡ self.now.rules }
         ensures well_formed { IsWellFormed result.now }
