@@ -1,1 +1,2 @@
 mod WordConflictLemmas
+pub mod WordMoves

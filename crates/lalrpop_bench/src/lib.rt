@@ -49,3 +49,5 @@ mod vectors;
 #[cfg(test)]
 mod views;
 pub mod word_lookahead;
+#[cfg(test)]
+mod word_states;

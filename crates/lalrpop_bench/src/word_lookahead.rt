@@ -1,4 +1,5 @@
 //! A lookahead of a user's own: tokens whose bits are below 64, as the bits of one word.
+mod build;
 mod conflicts;
 
 ghost use Rattle.std.specs.Prelude.{◌≡◌, ◌==◌, ◌<◌, ◌^◌, bit_or, bit_and, IsTrue, refl};

@@ -1,5 +1,4 @@
-use Rattle.std.proofs.Common.{◌≡◌, ◌++◌, ◌∙◌, sym, ap}
-use Rattle.std.specs.Prelude.{Option}
+use Rattle.std.proofs.Common.{◌++◌, ◌∙◌, sym, ap}
 use Rattle.lalrpop_bench.specs.WordConflicts.{conflicts_on_place}
 use Rattle.lalrpop_base.proofs.ConflictLemmas.{bit_is_place}
 use Rattle.lalrpop_bench.proofs.WordConflictLemmas.{shift_more}
