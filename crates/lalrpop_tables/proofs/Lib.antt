@@ -48,8 +48,10 @@ pub mod Shifting
 pub mod StateEdges
 pub mod StateGraphs
 pub mod Stepping
+pub mod StoppedStates
 pub mod Subsets
 pub mod Tables
 pub mod TokenTables
 pub mod Universe
 pub mod Updates
+pub mod ValidClosures

@@ -10,6 +10,7 @@ pub mod CheckStates
 pub mod Closing
 pub mod Closure
 pub mod Counts
+pub mod EarlyStop
 pub mod Entries
 pub mod EpsilonMoves
 pub mod ListedConflicts
