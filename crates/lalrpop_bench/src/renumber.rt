@@ -4,6 +4,7 @@ use lalrpop_base::lr1_core::coherent::are_coherent;
 use lalrpop_base::lr1_core::item::Lr1Item;
 use lalrpop_base::lr1_core::state::{Lr1State, StateIndex};
 use lalrpop_base::repr::grammar::{Grammar, is_well_formed};
+use lalrpop_base::repr::terminals::TerminalSet;
 use lalrpop_base::repr::{NonterminalString, TerminalString};
 use lalrpop_base::text::Text;
 use lalrpop_lr1::interpret::{InterpretError, interpret};
@@ -145,24 +146,33 @@ fn words(alloc: Global, texts: &[&str]) -> Result<Vec<TerminalString>, Fail> {
 }
 
 // What the parser answers of an x and an a, as a text.
-fn told(rt: &impl Abort, alloc: Global, grammar: &Grammar, limit: usize) -> Result<String, Fail> {
-    if !is_well_formed(grammar) {
-        panic!(rt; "not well-formed");
-    }
-    let table = build_states(alloc, grammar, start(alloc)?, &canonical())?;
-    if !are_coherent(&table) {
+fn answer(
+    rt: &impl Abort,
+    alloc: Global,
+    states: &[Lr1State],
+    terminals: &TerminalSet,
+    limit: usize,
+) -> Result<String, Fail> {
+    if !are_coherent(states) {
         panic!(rt; "not coherent");
     }
-    if table.is_empty() {
+    if states.is_empty() {
         panic!(rt; "no states");
     }
-    let tokens = words(alloc, &["x", "a"])?;
-    match interpret(alloc, &table, &grammar.terminals, tokens, limit) {
+    match interpret(alloc, states, terminals, words(alloc, &["x", "a"])?, limit) {
         Ok(tree) => Ok(format!(in alloc; "{tree}")?),
         Err(InterpretError::Refused(state, _)) => Ok(format!(in alloc; "{}", state.index)?),
         Err(InterpretError::Limit) => Ok(String::from_str(alloc, "Limit")?),
         Err(InterpretError::Memory) => Ok(String::from_str(alloc, "Memory")?),
     }
+}
+
+fn told(rt: &impl Abort, alloc: Global, grammar: &Grammar, limit: usize) -> Result<String, Fail> {
+    if !is_well_formed(grammar) {
+        panic!(rt; "not well-formed");
+    }
+    let table = build_states(alloc, grammar, start(alloc)?, &canonical())?;
+    answer(rt, alloc, &table, &grammar.terminals, limit)
 }
 
 #[test]

@@ -48,6 +48,7 @@ pub mod Shifting
 pub mod StateEdges
 pub mod StateGraphs
 pub mod Stepping
+pub mod StoppedConflicts
 pub mod StoppedStates
 pub mod Subsets
 pub mod Tables

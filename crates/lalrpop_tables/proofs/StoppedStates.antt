@@ -63,7 +63,7 @@ module _ (g : Grammar) (start : NonterminalString) (items kernel : List (Dotted 
 
 module _ (g : Grammar) (start : NonterminalString) (well : IsWellFormed g) (own : AreOwn g) (states : List (State Bits)) (b : ArePartlyBuilt (rules_of g) (first_kernel g start) states) where
   -- ---- state 0
-  first_state : (s : State Bits) → slice_get states 0 ≡ Some s → IsStateFor g start [] s
+  first_state : (s : State Bits) → slice_get states 0 ≡ Some s → IsStateFor (rules_of g) start [] s
   first_state s at =
       let built = b.each 0 s at in
       let is_first : built.kernel ≡ first_kernel g start = same_some built.kernel (first_kernel g start) (sym built.numbered ∙ b.start) in
@@ -88,7 +88,7 @@ module _ (g : Grammar) (start : NonterminalString) (well : IsWellFormed g) (own 
       let k = b.each m t at_m in
       same_some l.kernel k.kernel (sym l.numbered ∙ ap (slice_get b.kernels) e ∙ k.numbered)
 
-  next_state : (n m : ℕ) (s t : State Bits) (x : Symbol) (target : StateIndex) (u : List Symbol) → slice_get states n ≡ Some s → slice_get states m ≡ Some t → HasTransition x target s → target.0 ≡ m → IsStateFor g start u s → IsStateFor g start (u ++ x ∷ []) t
+  next_state : (n m : ℕ) (s t : State Bits) (x : Symbol) (target : StateIndex) (u : List Symbol) → slice_get states n ≡ Some s → slice_get states m ≡ Some t → HasTransition x target s → target.0 ≡ m → IsStateFor (rules_of g) start u s → IsStateFor (rules_of g) start (u ++ x ∷ []) t
   next_state n m s t x target u at at_m h e f =
       let l = (b.each n s at).built.leads x target h in
       let closure = subst (λ (k : List (Dotted Bits)). IsClosureOf (rules_of g) k t.items.vec.items) (sym (over_kernel n m s t x target at at_m h e)) (b.each m t at_m).built.closure in
@@ -115,7 +115,7 @@ module _ (g : Grammar) (start : NonterminalString) (well : IsWellFormed g) (own 
       both k j = (k, j)
 
   -- ---- so each is that of a live prefix
-  each_below : (bound n : ℕ) → n < bound → (s : State Bits) → slice_get states n ≡ Some s → (u : List Symbol) × IsStateFor g start u s
+  each_below : (bound n : ℕ) → n < bound → (s : State Bits) → slice_get states n ≡ Some s → (u : List Symbol) × IsStateFor (rules_of g) start u s
   each_below zero n l s at = absurd (omega arith)
   each_below (suc bound) zero l s at = ([], first_state s at)
   each_below (suc bound) (suc n) l s at =
@@ -169,5 +169,5 @@ module _ (g : Grammar) (start : NonterminalString) (well : IsWellFormed g) (own 
         let same : j.kernel ≡ k.kernel = same_kernels (rules_of g) differ j.kernel k.kernel (moved_kernel (suc n) s at (omega arith)) (moved_kernel m t at_m (omega arith)) items tokens in
         b.differ (suc n) m k.kernel l (j.numbered ∙ ap Some same) k.numbered
 
-    pub some_canonical_states : AreSomeCanonicalStates g start states
+    pub some_canonical_states : AreSomeCanonicalStates (rules_of g) start states
     some_canonical_states = record { each = λ n s at. each_below (suc n) n (omega arith) s at; differ = apart }
