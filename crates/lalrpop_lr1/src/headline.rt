@@ -1,5 +1,5 @@
 //! The promise on one page: tables for each LR(1) grammar and no other, and by them exactly its parse trees.
-ghost use Rattle.std.specs.Prelude.{◌<◌, length, IfOk, IfErr};
+ghost use Rattle.std.specs.Prelude.{◌≡◌, ◌<◌, length, IfOk, IfErr};
 ghost use Rattle.lalrpop_base.specs.Coherent.{AreCoherent};
 ghost use Rattle.lalrpop_base.specs.Contents.{contents};
 ghost use Rattle.lalrpop_base.specs.Grammar.{IsOnNoRightSide};
@@ -8,6 +8,7 @@ ghost use Rattle.lalrpop_base.specs.Validity.{IsLR1};
 ghost use Rattle.lalrpop_base.specs.WellFormed.{IsWellFormed, productions, rules_of};
 ghost use Rattle.lalrpop_tables.specs.Canonical.{AreCanonicalStates};
 ghost use Rattle.lalrpop_tables.specs.CanonicalConflicts.{FailByCanonicalConflicts};
+ghost use Rattle.lalrpop_tables.specs.EarlyStop.{StopsAfter};
 ghost use Rattle.lalrpop_lr1.specs.FaithfulAnswers.{ForEachGrammar, IsTreeWithin, IsCutOff};
 ghost use Rattle.lalrpop_lr1.specs.Headline.{HadTables, IfConflicts, IfRefusedAt, IfLimitTold, TellsTrees, IsCutOffByTables};
 ghost use Rattle.lalrpop_lr1.specs.ParseTrees.{tree_of};
@@ -47,11 +48,12 @@ pub fn parse<'grammar>(
 ) -> Result<ParseTree, ParseError<'grammar>>
     requires { IsWellFormed grammar.now }
 
-    // There are tables exactly where no prefix and token have two valid actions, and else the canonical conflicts.
+    // There are tables exactly where no prefix and token have two valid actions, and else the canonical conflicts; under early stop, those of the states that are made by then.
     ensures tables { HadTables result → IsLR1 (productions grammar.now) start }
     ensures no_tables { IfErr result (IfConflicts (λ error. ¬ IsLR1 (productions grammar.now) start)) }
-    ensures canonical_states { IfErr result (IfConflicts (λ error. AreCanonicalStates (rules_of grammar.now) start error.states.items)) }
-    ensures canonical_conflicts { IfErr result (IfConflicts (λ error. FailByCanonicalConflicts grammar.now start error.states.items error.conflicts.items)) }
+    ensures canonical_states { options.now.stop_after ≡ 0 → IfErr result (IfConflicts (λ error. AreCanonicalStates (rules_of grammar.now) start error.states.items)) }
+    ensures canonical_conflicts { options.now.stop_after ≡ 0 → IfErr result (IfConflicts (λ error. FailByCanonicalConflicts grammar.now start error.states.items error.conflicts.items)) }
+    ensures stopped { IfErr result (IfConflicts (λ error. StopsAfter (rules_of grammar.now) start options.now.stop_after error.states.items error.conflicts.items)) }
 
     // For a start symbol on no right side, the trees are exactly the parse trees within the limit, and a refusal names the first wrong token.
     ensures parsed { IfOk result (λ tree. IsOnNoRightSide (productions grammar.now) start → IsTreeWithin limit tokens.items (tree_of tree) (productions grammar.now) start) }

@@ -1,38 +1,30 @@
 -- The answer of the construction decides whether the grammar is LR(1).
-use Rattle.std.proofs.Common.{◌≡◌, ℕ, true, List, refl, ◌∙◌, subst, Option, Some, None}
-use Rattle.std.specs.Prelude.{Contains, slice_get, IfErr, MatchResult}
+use Rattle.std.proofs.Common.{◌≡◌, ℕ, true, List, refl, sym, subst, Option, Some, None}
+use Rattle.std.specs.Prelude.{slice_get, IfErr, MatchResult}
 use Rattle.std.specs.declared.result.Result.{Result}
-use Rattle.std.proofs.lemmas.Option.{slice_get_within}
 use Rattle.std.proofs.lemmas.Result.{IfErr-weaker}
 use Rattle.lalrpop_base.specs.Bits.{Bits}
 use Rattle.lalrpop_base.specs.Conflicts.{HasNoConflict as HoldsNoConflict}
 use Rattle.lalrpop_base.specs.Contents.{contents, contents_at, holds_token}
 use Rattle.lalrpop_base.specs.Places.{AllDiffer}
 use Rattle.lalrpop_base.specs.States.{Contents, AreFaithful}
-use Rattle.lalrpop_base.specs.Tokens.{FitsTokens}
 use Rattle.lalrpop_base.specs.Validity.{IsLR1}
 use Rattle.lalrpop_base.specs.WellFormed.{productions, rules_of, IsWellFormed}
 use Rattle.lalrpop_base.specs.declared.lr1_core.state.BuildError.{BuildError}
 use Rattle.lalrpop_base.specs.declared.lr1_core.state.BuildError.TheVariants.{Conflicts, Memory}
-use Rattle.lalrpop_base.specs.declared.lr1_core.state.Conflict.{Conflict}
 use Rattle.lalrpop_base.specs.declared.lr1_core.state.State.{State}
 use Rattle.lalrpop_base.specs.declared.repr.NonterminalString.{NonterminalString}
-use Rattle.lalrpop_base.specs.declared.repr.Production.{Production}
 use Rattle.lalrpop_base.specs.declared.repr.grammar.Grammar.{Grammar}
-use Rattle.lalrpop_base.proofs.ContentsViews.{contains_map}
-use Rattle.lalrpop_base.proofs.theory.Canonical.{no_conflict_faithful, lr1_no_state_conflict}
-use Rattle.lalrpop_base.proofs.theory.Closures.{reached_live}
+use Rattle.lalrpop_base.proofs.theory.Canonical.{no_conflict_faithful}
 use Rattle.lalrpop_base.proofs.theory.RightStates.{faithful_lr1}
-use Rattle.lalrpop_tables.specs.Canonical.{tokens_of, AreCanonicalStates, HasCanonicalStates, TellsNotLR1}
+use Rattle.lalrpop_tables.specs.Canonical.{tokens_of, AreCanonicalStates, HasCanonicalStates}
 use Rattle.lalrpop_tables.specs.CanonicalConflicts.{ListsCanonicalConflicts}
 use Rattle.lalrpop_tables.specs.Closing.{AreOwn}
-use Rattle.lalrpop_tables.specs.Results.{HaveNoConflict, AreAllConflicts, Construction, AreStatesOf, AreTables, FailsBy, canonical_of}
-use Rattle.lalrpop_tables.specs.Transitions.{seen}
+use Rattle.lalrpop_tables.specs.Results.{HaveNoConflict, Construction, AreStatesOf, AreTables, EndsWithEof, FailsBy, canonical_of}
 use Rattle.lalrpop_tables.proofs.CanonicalContents.{are_canonical}
 use Rattle.lalrpop_tables.proofs.BothFacts.{IfErr-with}
 use Rattle.lalrpop_tables.proofs.CanonicalConflicts.{canonical_failure}
-use Rattle.lalrpop_tables.proofs.ConflictFree.{FitReductions, nowhere_conflict, free_contents, contents_free, none_listed}
-use Rattle.lalrpop_tables.proofs.Reductions.{reduced_from}
+use Rattle.lalrpop_tables.proofs.ConflictFree.{nowhere_conflict, free_contents}
 
 module _ (g : Grammar) (start : NonterminalString) (well : IsWellFormed g) (own : AreOwn g) (differ : AllDiffer g.terminals) (states : List (State Bits)) (made : AreStatesOf (canonical_of g start) states) where
   abbrev now : ℕ → Contents
@@ -41,14 +33,6 @@ module _ (g : Grammar) (start : NonterminalString) (well : IsWellFormed g) (own 
   canonical : AreCanonicalStates (rules_of g) start states
   canonical = are_canonical g start well own differ states made
 
-  fits : (n : ℕ) (s : State Bits) → slice_get states n ≡ Some s → FitReductions g.terminals s
-  fits n s at r c =
-      let b = (made.built.each n s at).built in
-      let seen_in = subst (λ (rs : List (Bits × Production)). Contains rs (seen r)) b.finished (contains_map seen s.reductions.items r c) in
-      let i = reduced_from s.items.vec.items (seen r) seen_in in
-      subst (λ (q : Bits × Production). FitsTokens g.terminals q.0) i.is (b.closure.are_items.each i.item i.among).tokens
-
-  -- ---- without a conflict
   free_at : HaveNoConflict g.terminals states → (n : ℕ) (o : Option (State Bits)) → slice_get states n ≡ o → HoldsNoConflict (contents_at (holds_token g.terminals) o)
   free_at free n None at = nowhere_conflict
   free_at free n (Some s) at = free_contents g.terminals s (free n s at)
@@ -58,16 +42,6 @@ module _ (g : Grammar) (start : NonterminalString) (well : IsWellFormed g) (own 
 
   pub free_lr1 : HaveNoConflict g.terminals states → IsLR1 (productions g) start
   free_lr1 free = faithful_lr1 (productions g) start now (free_faithful free)
-
-  -- ---- with one
-  lr1_free : IsLR1 (productions g) start → HaveNoConflict g.terminals states
-  lr1_free lr1 n s at =
-      let live = reached_live (productions g) start now canonical.canonical.closed (canonical.reached n (slice_get_within states n s at)) in
-      let none = lr1_no_state_conflict (productions g) start now (λ n p dot t. tokens_of g.terminals states n p dot t ≡ true) canonical.canonical lr1 live.0 n live.1 live.2 in
-      contents_free g.terminals s differ (fits n s at) (subst (λ (o : Option (State Bits)). HoldsNoConflict (contents_at (holds_token g.terminals) o)) at none)
-
-  pub listed_not_lr1 : (conflicts : List (Conflict Bits)) → AreAllConflicts g.terminals states conflicts → ¬ IsLR1 (productions g) start
-  listed_not_lr1 conflicts all lr1 = all.some (all.all ∙ none_listed g.terminals states (lr1_free lr1))
 
 -- ---- what the answers say
 module _ (g : Grammar) (start : NonterminalString) (well : IsWellFormed g) (own : AreOwn g) (differ : AllDiffer g.terminals) where
@@ -84,19 +58,18 @@ module _ (g : Grammar) (start : NonterminalString) (well : IsWellFormed g) (own 
   pub tables_lr1 : (tables : List (State Bits)) → AreTables (canonical_of g start) tables → IsLR1 (productions g) start
   tables_lr1 tables t = free_lr1 g start well own differ tables t.made t.free
 
-  pub failure_not_lr1 : (error : BuildError Bits) → FailsBy (canonical_of g start) error → TellsNotLR1 (productions g) start error
-  failure_not_lr1 (Conflicts error) f = listed_not_lr1 g start well own differ error.states.items f.0 error.conflicts.items f.1
-  failure_not_lr1 Memory f = tt
-
 pub failure_lists : (g : Grammar) (start : NonterminalString) → IsWellFormed g → AllDiffer g.terminals → (error : BuildError Bits) → FailsBy (canonical_of g start) error → HasCanonicalStates (rules_of g) start error → ListsCanonicalConflicts g start error
 failure_lists g start well differ (Conflicts error) f h =
     let states = error.states.items in
     canonical_failure g start states error.conflicts.items (λ n p dot t. tokens_of g.terminals states n p dot t ≡ true) well differ f.0 (λ n s at. (f.0.built.each n s at).built.ascend) h.canonical h.ascend f.1
 failure_lists g start well differ Memory f h = tt
 
-pub result_lists : {T : Type 0} (g : Grammar) (start : NonterminalString) (c : Construction Bits) (r : Result T (BuildError Bits)) (A : T → Type 0) → IsWellFormed g → AllDiffer g.terminals → c ≡ canonical_of g start →
-    IfErr r (FailsBy c) → MatchResult r A (HasCanonicalStates (rules_of g) start) → IfErr r (ListsCanonicalConflicts g start)
-result_lists g start c r A well differ same failure canonical =
-    IfErr-weaker r (λ e. FailsBy c e × HasCanonicalStates (rules_of g) start e) (ListsCanonicalConflicts g start)
-    (λ e h. failure_lists g start well differ e (subst (λ (k : Construction Bits). FailsBy k e) same h.0) h.1)
-    (IfErr-with r A (FailsBy c) (HasCanonicalStates (rules_of g) start) failure canonical)
+-- the answer of a construction that is not to stop early
+pub result_lists : {T : Type 0} (g : Grammar) (start : NonterminalString) (c : Construction Bits) (stop_after : ℕ) (r : Result T (BuildError Bits)) (A : T → Type 0) → IsWellFormed g → AllDiffer g.terminals → c ≡ canonical_of g start → stop_after ≡ 0 →
+    (stop_after ≡ 0 → IfErr r (FailsBy c)) → (EndsWithEof c → MatchResult r A (λ e. stop_after ≡ 0 → HasCanonicalStates c.rules c.start e)) → IfErr r (ListsCanonicalConflicts g start)
+result_lists g start c stop_after r A well differ same none failure canonical =
+    let eof : EndsWithEof c = subst EndsWithEof (sym same) refl in
+    let states : MatchResult r A (λ e. stop_after ≡ 0 → HasCanonicalStates (rules_of g) start e) = subst (λ (k : Construction Bits). MatchResult r A (λ e. stop_after ≡ 0 → HasCanonicalStates k.rules k.start e)) same (canonical eof) in
+    IfErr-weaker r (λ e. FailsBy c e × (stop_after ≡ 0 → HasCanonicalStates (rules_of g) start e)) (ListsCanonicalConflicts g start)
+    (λ e h. failure_lists g start well differ e (subst (λ (k : Construction Bits). FailsBy k e) same h.0) (h.1 none))
+    (IfErr-with r A (FailsBy c) (λ e. stop_after ≡ 0 → HasCanonicalStates (rules_of g) start e) (failure none) states)

@@ -32,6 +32,7 @@ pub mod ListedConflicts
 pub mod Lists
 pub mod Lookaheads
 pub mod Lr0States
+pub mod MadeUntil
 pub mod Moved
 pub mod Moves
 pub mod NumberedConflicts
@@ -48,6 +49,7 @@ pub mod Shifting
 pub mod StateEdges
 pub mod StateGraphs
 pub mod Stepping
+pub mod StoppedAnswers
 pub mod StoppedConflicts
 pub mod StoppedStates
 pub mod Subsets

@@ -23,7 +23,8 @@ use Rattle.lalrpop_tables.specs.Ascending.{Precedes, Ascend}
 use Rattle.lalrpop_tables.specs.Closing.{AreOwn}
 use Rattle.lalrpop_tables.specs.Closure.{dotted_of, InKernel, IsClosureBy}
 use Rattle.lalrpop_tables.specs.Lr0.{on_any, AreLr0States, HasLr0States, HaveNoNilConflict, ListsNilConflicts}
-use Rattle.lalrpop_tables.specs.Results.{Construction, AreStatesFor, AreTablesFor, FailsFor}
+use Rattle.lalrpop_tables.specs.EarlyStop.{StopsFor}
+use Rattle.lalrpop_tables.specs.Results.{Construction, Settings, AreStatesFor, AreTablesFor, FailsFor}
 use Rattle.lalrpop_tables.specs.States.{begun}
 use Rattle.lalrpop_tables.specs.Transitions.{Shifts}
 use Rattle.lalrpop_tables.proofs.Ascending.{precedes_asymmetric}
@@ -104,6 +105,6 @@ module _ (g : Grammar) (start : NonterminalString) (lookahead : Nil) (well : IsW
 pub Tables-free : (c : Construction Nil) (states : List (State Nil)) → AreTablesFor nothing never stopped Lists c states → HaveNoNilConflict states
 Tables-free c states t = sym (All-listed (λ terminals s. nil_conflicts s) c.rules.terminals t.free)
 
-pub Fails-listed : (c : Construction Nil) (error : BuildError Nil) → FailsFor nothing never stopped Lists c error → ListsNilConflicts error
-Fails-listed c (Conflicts error) f = (All-listed (λ terminals s. nil_conflicts s) c.rules.terminals f.1, f.2)
-Fails-listed c Memory f = tt
+pub Stops-listed : (k : Settings Nil) (error : BuildError Nil) → StopsFor nothing never stopped Lists k error → ListsNilConflicts error
+Stops-listed k (Conflicts error) f = (All-listed (λ terminals s. nil_conflicts s) k.construction.rules.terminals (f.0).listed, f.1)
+Stops-listed k Memory f = tt

@@ -21,7 +21,7 @@ use Rattle.lalrpop_base.specs.declared.repr.TerminalString.{TerminalString}
 use Rattle.lalrpop_base.specs.declared.repr.grammar.Grammar.{Grammar}
 use Rattle.lalrpop_base.proofs.theory.Lists.{place_contains}
 use Rattle.lalrpop_tables.specs.Closing.{AreOwn}
-use Rattle.lalrpop_tables.specs.Closure.{dotted_of, HasItemToken}
+use Rattle.lalrpop_tables.specs.Closure.{dotted_of, HasItemToken, IsClosureOf}
 use Rattle.lalrpop_tables.specs.EarlyStop.{ArePartlyBuilt, IsStateFor}
 use Rattle.lalrpop_tables.specs.States.{IsBuilt}
 use Rattle.lalrpop_tables.proofs.CanonicalConflicts.{reductions_fit}
@@ -45,7 +45,7 @@ module _ (g : Grammar) (start : NonterminalString) (list : List (List (Dotted Bi
 
   shift_valid : (x : TerminalString) (n : ℕ) → now.shift x ≡ Some n → IsValidAction (productions g) start u (TokenOf x) (Shift x)
   shift_valid x n e =
-      let b = (leads_over_dots (holds_token g.terminals) (rules_of g) list kernel number s built (Terminal x)).0 (n, e) in
+      let b = (leads_over_dots (holds_token g.terminals) (IsClosureOf (rules_of g)) list kernel number s built (Terminal x)).0 (n, e) in
       (refl, record { production = b.production; dot = b.dot; after = b.after; valid = (for.items b.production b.dot).0 b.item; behind = b.behind })
 
   reduction_valid : (r : Reduction) (t : Token) → Contains now.reductions r → r.holds t ≡ true → IsValidAction (productions g) start u t (Reduce r.production)

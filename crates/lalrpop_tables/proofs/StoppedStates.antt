@@ -16,7 +16,7 @@ use Rattle.lalrpop_base.specs.declared.repr.Production.{Production}
 use Rattle.lalrpop_base.specs.declared.repr.Symbol.{Symbol}
 use Rattle.lalrpop_base.specs.declared.repr.grammar.Grammar.{Grammar}
 use Rattle.lalrpop_tables.specs.Closing.{AreOwn}
-use Rattle.lalrpop_tables.specs.Closure.{dotted_of, InKernel, HasItemToken, IsClosureOf}
+use Rattle.lalrpop_tables.specs.Closure.{itself, dotted_of, InKernel, HasItemToken, IsClosureOf}
 use Rattle.lalrpop_tables.specs.EarlyStop.{ArePartlyBuilt, HasDotted, IsStateFor, HaveSameContents, AreSomeCanonicalStates}
 use Rattle.lalrpop_tables.specs.States.{begun, HasTransition}
 use Rattle.lalrpop_tables.specs.Transitions.{moved}
@@ -133,7 +133,7 @@ module _ (g : Grammar) (start : NonterminalString) (well : IsWellFormed g) (own 
         let l = from.built.leads led.symbol led.target led.transition in
         let is = led.state.items.vec.items in
         subst (IsMovedKernel (rules_of g)) (over_kernel led.place m led.state t led.symbol led.target led.there at led.transition led.leads) (record {
-          of = Shifts-items (rules_of g) led.symbol is l.kernel l.shifts from.built.closure.are_items;
+          of = Shifts-items itself (rules_of g) led.symbol is l.kernel l.shifts from.built.closure.are_items;
           ascend = Shifts-ascend led.symbol is l.kernel l.shifts from.built.closure.ascend;
           past = Shifts-past led.symbol is l.kernel l.shifts;
         })

@@ -27,10 +27,10 @@ use Rattle.lalrpop_tables.proofs.ConflictLists.{All-listed}
 use Rattle.lalrpop_tables.proofs.Places.{same_some}
 
 -- symbols let tokens pass where they are nullable
-abbrev Passes : Rules → List Symbol → Type 0
+abbrev pub Passes : Rules → List Symbol → Type 0
 Passes g rest = IsNullable g.productions rest
 
-abbrev Lists : State Bits → List TerminalString → List (Conflict Bits) → Type 0
+abbrev pub Lists : State Bits → List TerminalString → List (Conflict Bits) → Type 0
 Lists s terminals list = list ≡ state_conflicts terminals s
 
 -- ---- the tokens of a closure
@@ -50,7 +50,7 @@ module _ (g : Rules) (items : Production → ℕ → Type 0) (kernel : Productio
   without_first (begins_rest q after i e c b) = from_rest q after i e c b
   without_first (inherits q after h e c n) = from_parent q after (without_first h) e c n
 
-closed : (g : Rules) (kernel items : List (Dotted Bits)) → IsClosureBy itself Begins Passes g kernel items → IsClosureOf g kernel items
+pub closed : (g : Rules) (kernel items : List (Dotted Bits)) → IsClosureBy itself Begins Passes g kernel items → IsClosureOf g kernel items
 closed g kernel items c = record {
   are_items = c.are_items;
   ascend = c.ascend;
@@ -83,7 +83,7 @@ built_by C D grows first states b = record {
   led = b.led;
 }
 
-states_of : (c : Construction Bits) (states : List (State Bits)) → AreStatesFor itself Begins Passes Lists c states → AreStatesOf c states
+pub states_of : (c : Construction Bits) (states : List (State Bits)) → AreStatesFor itself Begins Passes Lists c states → AreStatesOf c states
 states_of c states s = record {
   built = built_by (IsClosureBy itself Begins Passes c.rules) (IsClosureOf c.rules) (closed c.rules) (map (begun c.lookahead) c.first) states s.built;
   some = s.some;

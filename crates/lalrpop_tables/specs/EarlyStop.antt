@@ -1,5 +1,5 @@
 -- Canonical states of which some may be left out, since the construction stopped early.
-use Rattle.std.specs.Prelude.{◌⊎◌, ◌-◌, take, ◌≡◌, ◌↔◌, ◌<◌, ◌≤◌, ℕ, List, length, map, slice_get, Some, Contains}
+use Rattle.std.specs.Prelude.{◌⊎◌, ◌-◌, take, ◌≡◌, ◌≢◌, [], ◌↔◌, ◌<◌, ◌≤◌, ℕ, List, length, map, slice_get, Some, Contains}
 use Rattle.std.specs.List.{flat_map}
 use Rattle.lalrpop_base.specs.Bits.{Bits}
 use Rattle.lalrpop_base.specs.Items.{Dotted}
@@ -17,18 +17,22 @@ use Rattle.lalrpop_base.specs.declared.repr.Production.{Production}
 use Rattle.lalrpop_base.specs.declared.repr.Symbol.{Symbol}
 use Rattle.lalrpop_base.specs.declared.repr.TerminalString.{TerminalString}
 use Rattle.lalrpop_tables.specs.Canonical.{AreCanonicalStates}
-use Rattle.lalrpop_tables.specs.Closure.{dotted_of, HasItemToken}
-use Rattle.lalrpop_tables.specs.Results.{AreAllConflicts}
-use Rattle.lalrpop_tables.specs.States.{IsBuiltOf, IsLedTo, AreBuilt}
+use Rattle.lalrpop_tables.specs.Closure.{dotted_of, HasItemToken, IsClosureOf, IsClosureBy}
+use Rattle.lalrpop_tables.specs.Results.{AreAllConflicts, ListsAll, Settings}
+use Rattle.lalrpop_tables.specs.States.{begun, IsBuiltOfBy, IsLedTo, AreBuiltBy}
 
--- a state of each of the first kernels; kernels behind them may have none
-pub record ArePartlyBuilt (g : Rules) (first : List (Dotted Bits)) (states : List (State Bits)) : Type 0 where
-  pub kernels : List (List (Dotted Bits))
+-- a state of each of the first kernels; kernels behind them may have none; what a closure is, is a parameter, so that this serves each kind of lookahead
+pub record ArePartlyBuiltBy {L : Type 0} (Closes : List (Dotted L) → List (Dotted L) → Type 0) (first : List (Dotted L)) (states : List (State L)) : Type 0 where
+  pub kernels : List (List (Dotted L))
   pub fewer : length states ≤ length kernels
   pub differ : AllDiffer kernels
   pub start : slice_get kernels 0 ≡ Some first
-  pub each : (n : ℕ) (state : State Bits) → slice_get states n ≡ Some state → IsBuiltOf g kernels n state
+  pub each : (n : ℕ) (state : State L) → slice_get states n ≡ Some state → IsBuiltOfBy Closes kernels n state
   pub led : (n : ℕ) → 0 < n → n < length states → IsLedTo states n
+
+-- the same of sets of tokens
+abbrev pub ArePartlyBuilt : Rules → List (Dotted Bits) → List (State Bits) → Type 0
+ArePartlyBuilt g = ArePartlyBuiltBy (IsClosureOf g)
 
 -- the dotted production is among the state's items
 abbrev pub HasDotted : State Bits → Production → ℕ → Type 0
@@ -58,12 +62,28 @@ AreEnough stop_after found = (0 < stop_after) × (stop_after ≤ found)
 abbrev pub GoesOnBeforeLast : List TerminalString → ℕ → List (State Bits) → Type 0
 GoesOnBeforeLast terminals stop_after states = 0 < stop_after → length (flat_map (state_conflicts terminals) (take (length states - 1) states)) < stop_after
 
--- the states that a construction makes until so many conflicts are listed, and their conflicts
-pub record AreMadeUntil (g : Rules) (first : List (Dotted Bits)) (stop_after : ℕ) (states : List (State Bits)) (conflicts : List (Conflict Bits)) : Type 0 where
-  pub built : ArePartlyBuilt g first states
-  pub listed : conflicts ≡ flat_map (state_conflicts g.terminals) states
-  pub goes_on : GoesOnBeforeLast g.terminals stop_after states
-  pub whole : ¬ AreEnough stop_after (length conflicts) → AreBuilt g first states
+-- the conflicts that are listed for the states are fewer than so many
+pub record ListFewer {L : Type 0} (lists : State L → List TerminalString → List (Conflict L) → Type 0) (terminals : List TerminalString) (states : List (State L)) (stop_after : ℕ) : Type 0 where
+  pub listed : List (Conflict L)
+  pub all : ListsAll lists terminals states listed
+  pub fewer : length listed < stop_after
+
+-- the states that a construction makes until so many conflicts are listed, and their conflicts; what a closure is and which conflicts are listed are parameters
+pub record AreMadeUntilBy {L : Type 0} (Closes : List (Dotted L) → List (Dotted L) → Type 0) (lists : State L → List TerminalString → List (Conflict L) → Type 0) (terminals : List TerminalString) (first : List (Dotted L)) (stop_after : ℕ) (states : List (State L)) (conflicts : List (Conflict L)) : Type 0 where
+  pub built : ArePartlyBuiltBy Closes first states
+  pub listed : ListsAll lists terminals states conflicts
+  pub goes_on : 0 < stop_after → ListFewer lists terminals (take (length states - 1) states) stop_after
+  pub whole : ¬ AreEnough stop_after (length conflicts) → AreBuiltBy Closes first states
+
+module _ {L : Type 0} (meaning : L → Bits) (begins : Rules → List Symbol → Token → Type 0) (passes : Rules → List Symbol → Type 0) (lists : State L → List TerminalString → List (Conflict L) → Type 0) where
+  -- the states and conflicts that a construction makes until so many conflicts are listed
+  abbrev pub AreMadeFor : Settings L → List (State L) → List (Conflict L) → Type 0
+  AreMadeFor s = AreMadeUntilBy (IsClosureBy meaning begins passes s.construction.rules) lists s.construction.rules.terminals (map (begun s.construction.lookahead) s.construction.first) s.stop_after
+
+  -- an error has such states and conflicts, of which there are some; want of memory says nothing
+  abbrev pub StopsFor : Settings L → BuildError L → Type 0
+  StopsFor s (Conflicts error) = AreMadeFor s error.states.items error.conflicts.items × (error.conflicts.items ≢ [])
+  StopsFor s Memory = Unit {0}
 
 -- an error under early stop: canonical states with all their conflicts, of which there are some; before the last state they were too few to stop; and there are enough, or no canonical state is left out
 pub record StopsAfter (g : Rules) (start : NonterminalString) (stop_after : ℕ) (states : List (State Bits)) (conflicts : List (Conflict Bits)) : Type 0 where

@@ -33,10 +33,10 @@ pub data ListsAll {L : Type 0} (lists : State L → List TerminalString → List
   none : ListsAll lists terminals [] []
   more : {before all : List (State L)} {old new : List (Conflict L)} (state : State L) (own : List (Conflict L)) → ListsAll lists terminals before old → lists state terminals own → all ≡ before ++ state ∷ [] → new ≡ old ++ own → ListsAll lists terminals all new
 
--- an error has the states and all their conflicts, of which there are some; want of memory says nothing
-abbrev pub FailWithConflicts : {L : Type 0} → (State L → List TerminalString → List (Conflict L) → Type 0) → List TerminalString → List (State L) → BuildError L → Type 0
-FailWithConflicts lists terminals states (Conflicts error) = (error.states.items ≡ states) × ListsAll lists terminals states error.conflicts.items × (error.conflicts.items ≢ [])
-FailWithConflicts lists terminals states Memory = Unit {0}
+-- an error has the states and the conflicts, of which there are some; want of memory says nothing
+abbrev pub FailWith : {L : Type 0} → List (State L) → List (Conflict L) → BuildError L → Type 0
+FailWith states conflicts (Conflicts error) = (error.states.items ≡ states) × (error.conflicts.items ≡ conflicts) × (conflicts ≢ [])
+FailWith states conflicts Memory = Unit {0}
 
 -- what states are made of: the rules of a grammar, its start symbol, the productions of that, and what may follow it
 pub record Construction (L : Type 0) : Type 0 where
@@ -44,6 +44,11 @@ pub record Construction (L : Type 0) : Type 0 where
   pub start : NonterminalString
   pub first : List Production
   pub lookahead : L
+
+-- a construction, and after how many conflicts it stops; 0 for no early stop
+pub record Settings (L : Type 0) : Type 0 where
+  pub construction : Construction L
+  pub stop_after : ℕ
 
 -- states built of the kernels, at least one, which lead to one another as their items say
 pub record AreStatesBy {L : Type 0} (Closes : List (Dotted L) → List (Dotted L) → Type 0) (c : Construction L) (states : List (State L)) : Type 0 where

@@ -11,13 +11,14 @@ mod states;
 pub(crate) mod tokens;
 mod transitions;
 
-ghost use Rattle.std.specs.Prelude.{IfOk, IfErr, MatchResult};
+ghost use Rattle.std.specs.Prelude.{◌≡◌, IfOk, IfErr, MatchResult};
 ghost use Rattle.lalrpop_base.specs.Contents.{contents};
 ghost use Rattle.lalrpop_base.specs.States.{AreFaithful};
 ghost use Rattle.lalrpop_base.specs.Validity.{IsLR1};
 ghost use Rattle.lalrpop_base.specs.WellFormed.{IsWellFormed, productions, rules_of};
 ghost use Rattle.lalrpop_tables.specs.Canonical.{AreCanonicalStates, HasCanonicalStates, TellsNotLR1};
 ghost use Rattle.lalrpop_tables.specs.CanonicalConflicts.{ListsCanonicalConflicts};
+ghost use Rattle.lalrpop_tables.specs.EarlyStop.{FailsAfter};
 ghost use Rattle.lalrpop_tables.specs.Results.{AreTables, FailsBy, canonical_of};
 
 use lalrpop_base::lookahead::token_set::TokenSet;
@@ -37,18 +38,20 @@ pub fn build_lr1_states<'grammar>(
     alloc: Global,
     grammar: &'grammar Grammar,
     start: NonterminalString,
-    _options: &Options,
+    options: &Options,
 ) -> Lr1Result<'grammar>
     requires { IsWellFormed grammar.now }
     ensures tables { IfOk result (λ tables. AreTables (canonical_of grammar.now start) tables.items) }
-    ensures failure { IfErr result (FailsBy (canonical_of grammar.now start)) }
-    ensures canonical { MatchResult result (λ tables. AreCanonicalStates (rules_of grammar.now) start tables.items) (HasCanonicalStates (rules_of grammar.now) start) }
-    ensures conflicts { IfErr result (ListsCanonicalConflicts grammar.now start) }
+    ensures failure { options.now.stop_after ≡ 0 → IfErr result (FailsBy (canonical_of grammar.now start)) }
+    ensures canonical { MatchResult result (λ tables. AreCanonicalStates (rules_of grammar.now) start tables.items) (λ error. options.now.stop_after ≡ 0 → HasCanonicalStates (rules_of grammar.now) start error) }
+    ensures conflicts { options.now.stop_after ≡ 0 → IfErr result (ListsCanonicalConflicts grammar.now start) }
+    ensures stopped { IfErr result (FailsAfter (rules_of grammar.now) start options.now.stop_after) }
     ensures lr1 { MatchResult result (λ _. IsLR1 (productions grammar.now) start) (TellsNotLR1 (productions grammar.now) start) }
     ensures faithful { IfOk result (λ tables. AreFaithful (productions grammar.now) start (contents grammar.now.terminals tables.items)) }
 {
     let _terminals = grammar.terminals.all();
     let eof = TokenSet::eof(alloc, &grammar.terminals)?;
-    let lr = Lr::new(alloc, grammar, start, eof)?;
+    let mut lr = Lr::new(alloc, grammar, start, eof)?;
+    lr.set_stop_after(options.stop_after);
     lr.build_lr1_states(alloc)
 }

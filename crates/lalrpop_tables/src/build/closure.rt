@@ -58,10 +58,10 @@ fn expand<'grammar, L: LookaheadBuild>(
     table: &mut Table<'grammar, L>,
     stack: &mut Vec<Lr0Item<'grammar>>,
 ) -> Result<(), OutOfMemory>
-    requires known { Contains lr.now.rules.productions item.production }
+    requires known { Contains lr.now.construction.rules.productions item.production }
     requires found { Contains (keys_of table.old.entries) item }
-    ensures expanded { OnOk result (IsExpanded lr.now.rules item.entry (readings L.meaning table.old.entries) (readings L.meaning table.new.entries) stack.old.items stack.new.items) }
-    ensures tokens { OnOk result (ExpandsFound L.begins L.passes lr.now.rules item.entry (readings L.meaning table.old.entries) (readings L.meaning table.new.entries) stack.old.items stack.new.items) }
+    ensures expanded { OnOk result (IsExpanded lr.now.construction.rules item.entry (readings L.meaning table.old.entries) (readings L.meaning table.new.entries) stack.old.items stack.new.items) }
+    ensures tokens { OnOk result (ExpandsFound L.begins L.passes lr.now.construction.rules item.entry (readings L.meaning table.old.entries) (readings L.meaning table.new.entries) stack.old.items stack.new.items) }
 {
     let Some((symbol, rest)) = item.shift_symbol() else {
         return Ok(());
@@ -105,10 +105,10 @@ fn start<'grammar, L: Lookahead>(
     table: &mut Table<'grammar, L>,
     stack: &mut Vec<Lr0Item<'grammar>>,
 ) -> Result<(), OutOfMemory>
-    requires kernel { AreItemsBy L.meaning lr.now.rules kernel.now }
+    requires kernel { AreItemsBy L.meaning lr.now.construction.rules kernel.now }
     requires table { table.old.entries ≡ [] }
     requires stack { stack.old.items ≡ [] }
-    ensures closing { OnOk result (IsClosing lr.now.rules (map (meant L.meaning) kernel.now) (readings L.meaning table.new.entries) stack.new.items) }
+    ensures closing { OnOk result (IsClosing lr.now.construction.rules (map (meant L.meaning) kernel.now) (readings L.meaning table.new.entries) stack.new.items) }
     ensures started { OnOk result (IsStarted (map (meant L.meaning) kernel.now) (readings L.meaning table.new.entries) stack.new.items) }
 {
     let _ = lr;
@@ -124,8 +124,8 @@ pub fn closure<'grammar, L: LookaheadBuild>(
     lr: &Lr<'grammar, L>,
     kernel: &[Item<'grammar, L>],
 ) -> Result<Vec<Item<'grammar, L>>, OutOfMemory>
-    requires kernel { AreItemsBy L.meaning lr.now.rules kernel.now }
-    ensures { IfOk result (λ items. IsClosureBy L.meaning L.begins L.passes lr.now.rules kernel.now items.items) }
+    requires kernel { AreItemsBy L.meaning lr.now.construction.rules kernel.now }
+    ensures { IfOk result (λ items. IsClosureBy L.meaning L.begins L.passes lr.now.construction.rules kernel.now items.items) }
 {
     let mut table = BTreeMap::new(alloc);
     let mut stack = Vec::new(alloc);

@@ -29,6 +29,6 @@ pub trait LookaheadBuild: Lookahead {
         remainder: &[Symbol],
         lookahead: &Self,
     ) -> Result<Vec<Item<'grammar, Self>>, OutOfMemory>
-        requires known { HasKnownTerminals lr.now.rules.terminals remainder.now }
-        ensures moves { IfOk result (λ moves. AreEpsilonMoves Self.meaning begins passes lr.now.rules nonterminal.now remainder.now lookahead.now moves.items) };
+        requires known { HasKnownTerminals lr.now.construction.rules.terminals remainder.now }
+        ensures moves { IfOk result (λ moves. AreEpsilonMoves Self.meaning begins passes lr.now.construction.rules nonterminal.now remainder.now lookahead.now moves.items) };
 }

@@ -7,6 +7,7 @@ ghost use Rattle.lalrpop_base.specs.Validity.{IsLR1};
 ghost use Rattle.lalrpop_base.specs.WellFormed.{IsWellFormed, rules_of, productions_of};
 ghost use Rattle.lalrpop_tables.specs.Canonical.{AreCanonicalStates, HasCanonicalStates, TellsNotLR1};
 ghost use Rattle.lalrpop_tables.specs.Closure.{AreItemsBy};
+ghost use Rattle.lalrpop_tables.specs.EarlyStop.{FailsAfter, StopsFor};
 ghost use Rattle.lalrpop_tables.specs.EpsilonMoves.{AreBegunWith};
 ghost use Rattle.lalrpop_tables.specs.Lr0.{AreLr0States, HasLr0States, HaveNoNilConflict, ListsNilConflicts};
 ghost use Rattle.lalrpop_tables.specs.Results.{AreTables, AreTablesFor, EndsWithEof, FailsBy, FailsFor};
@@ -36,16 +37,17 @@ pub struct Lr<'grammar, L: Lookahead> {
     start: NonterminalString,
     lookahead: L,
     first_sets: FirstSets<'grammar>,
+    stop_after: usize,
 }
 
 impl<'grammar, L: Lookahead> Model for Lr<'grammar, L> {
     ghost use Rattle.lalrpop_base.specs.WellFormed.{rules_of, productions_of};
     ghost use Rattle.lalrpop_tables.specs.Lr0.{AreLr0States, HasLr0States, HaveNoNilConflict, ListsNilConflicts};
-    ghost use Rattle.lalrpop_tables.specs.Results.{Construction};
+    ghost use Rattle.lalrpop_tables.specs.Results.{Settings};
 
-    ghost Value = { Construction L };
+    ghost Value = { Settings L };
 
-    ghost view = { λ l. record { rules = rules_of l.grammar.now; start = l.start; first = productions_of l.grammar.now l.start; lookahead = l.lookahead } };
+    ghost view = { λ l. record { construction = record { rules = rules_of l.grammar.now; start = l.start; first = productions_of l.grammar.now l.start; lookahead = l.lookahead }; stop_after = l.stop_after } };
 
     ghost use Rattle.lalrpop_tables.specs.Ready.{IsReady};
 
@@ -62,7 +64,7 @@ impl<'grammar, L: Lookahead> Lr<'grammar, L> {
     ) -> Result<Self, OutOfMemory>
         requires well_formed { IsWellFormed grammar.now }
         requires fits { FitsTokens grammar.now.terminals (L.meaning lookahead) }
-        ensures { IfOk result (λ lr. lr ≡ record { rules = rules_of grammar.now; start = start; first = productions_of grammar.now start; lookahead = lookahead }) }
+        ensures { IfOk result (λ lr. lr ≡ record { construction = record { rules = rules_of grammar.now; start = start; first = productions_of grammar.now start; lookahead = lookahead }; stop_after = 0 }) }
     {
         let _names = grammar.nonterminals.len();
         let first_sets = FirstSets::new(alloc, grammar)?;
@@ -71,12 +73,27 @@ impl<'grammar, L: Lookahead> Lr<'grammar, L> {
             start,
             lookahead,
             first_sets,
+            stop_after: 0,
         })
+    }
+
+    /// After how many conflicts to stop; 0 for no early stop.
+    pub fn set_stop_after(&mut self, stop_after: usize)
+        ensures { self.new ≡ record { construction = self.old.construction; stop_after = stop_after } }
+    {
+        self.stop_after = stop_after;
+    }
+
+    /// After how many conflicts it stops; 0 for no early stop.
+    pub fn stop_after(&self) -> usize
+        ensures { result ≡ self.now.stop_after }
+    {
+        self.stop_after
     }
 
     /// The grammar whose states are made.
     pub fn grammar(&self) -> &'grammar Grammar
-        ensures rules { rules_of result.now ≡ self.now.rules }
+        ensures rules { rules_of result.now ≡ self.now.construction.rules }
         ensures well_formed { IsWellFormed result.now }
     {
         self.grammar
@@ -84,7 +101,7 @@ impl<'grammar, L: Lookahead> Lr<'grammar, L> {
 
     /// The first sets of the grammar.
     pub fn first_sets(&self) -> &FirstSets<'grammar>
-        ensures { result.now ≡ self.now.rules }
+        ensures { result.now ≡ self.now.construction.rules }
     {
         &self.first_sets
     }
@@ -96,7 +113,7 @@ impl<'grammar, L: Lookahead> Lr<'grammar, L> {
         nonterminal: &NonterminalString,
         lookahead: &L,
     ) -> Result<Vec<Item<'grammar, L>>, OutOfMemory>
-        ensures { IfOk result (λ items. AreBegunWith self.now.rules nonterminal.now lookahead.now items.items) }
+        ensures { IfOk result (λ items. AreBegunWith self.now.construction.rules nonterminal.now lookahead.now items.items) }
     {
         let grammar = self.grammar;
         begun_items(alloc, grammar, nonterminal, lookahead)
@@ -107,8 +124,8 @@ impl<'grammar, L: Lookahead> Lr<'grammar, L> {
         &self,
         alloc: Global,
     ) -> Result<KernelItems<'grammar, L>, OutOfMemory>
-        ensures kernel { IfOk result (λ kernel. kernel ≡ map (begun self.now.lookahead) self.now.first) }
-        ensures items { IfOk result (λ kernel. AreItemsBy L.meaning self.now.rules kernel) }
+        ensures kernel { IfOk result (λ kernel. kernel ≡ map (begun self.now.construction.lookahead) self.now.construction.first) }
+        ensures items { IfOk result (λ kernel. AreItemsBy L.meaning self.now.construction.rules kernel) }
     {
         let grammar = self.grammar;
         let items = begun_items(alloc, grammar, &self.start, &self.lookahead)?;
@@ -119,22 +136,24 @@ impl<'grammar, L: Lookahead> Lr<'grammar, L> {
 impl<'grammar, L: LookaheadBuild> Lr<'grammar, L> {
     /// The states, or their conflicts. A refused growth is answered by `Memory`.
     pub fn build_states(self, alloc: Global) -> LrResult<'grammar, L>
-        ensures tables { IfOk result (λ tables. AreTablesFor L.meaning L.begins L.passes L.lists_conflicts self.entry tables.items) }
-        ensures failure { IfErr result (FailsFor L.meaning L.begins L.passes L.lists_conflicts self.entry) }
+        ensures tables { IfOk result (λ tables. AreTablesFor L.meaning L.begins L.passes L.lists_conflicts self.entry.construction tables.items) }
+        ensures failure { self.entry.stop_after ≡ 0 → IfErr result (FailsFor L.meaning L.begins L.passes L.lists_conflicts self.entry.construction) }
+        ensures stopped { IfErr result (StopsFor L.meaning L.begins L.passes L.lists_conflicts self.entry) }
     {
-        let states = build_states(alloc, &self)?;
-        tables_or_conflicts(alloc, states, &self.grammar().terminals)
+        let (states, conflicts) = build_states(alloc, &self)?;
+        tables_or_conflicts(states, conflicts)
     }
 }
 
 impl<'grammar> Lr<'grammar, TokenSet> {
     /// The states with sets of tokens, or their conflicts.
     pub fn build_lr1_states(self, alloc: Global) -> Lr1Result<'grammar>
-        ensures tables { IfOk result (λ tables. AreTables self.entry tables.items) }
-        ensures failure { IfErr result (FailsBy self.entry) }
-        ensures canonical { EndsWithEof self.entry → MatchResult result (λ tables. AreCanonicalStates self.entry.rules self.entry.start tables.items) (HasCanonicalStates self.entry.rules self.entry.start) }
-        ensures lr1 { EndsWithEof self.entry → MatchResult result (λ _. IsLR1 self.entry.rules.productions self.entry.start) (TellsNotLR1 self.entry.rules.productions self.entry.start) }
-        ensures faithful { EndsWithEof self.entry → IfOk result (λ tables. AreFaithful self.entry.rules.productions self.entry.start (contents self.entry.rules.terminals tables.items)) }
+        ensures tables { IfOk result (λ tables. AreTables self.entry.construction tables.items) }
+        ensures failure { self.entry.stop_after ≡ 0 → IfErr result (FailsBy self.entry.construction) }
+        ensures canonical { EndsWithEof self.entry.construction → MatchResult result (λ tables. AreCanonicalStates self.entry.construction.rules self.entry.construction.start tables.items) (λ error. self.entry.stop_after ≡ 0 → HasCanonicalStates self.entry.construction.rules self.entry.construction.start error) }
+        ensures stopped { EndsWithEof self.entry.construction → IfErr result (FailsAfter self.entry.construction.rules self.entry.construction.start self.entry.stop_after) }
+        ensures lr1 { EndsWithEof self.entry.construction → MatchResult result (λ _. IsLR1 self.entry.construction.rules.productions self.entry.construction.start) (TellsNotLR1 self.entry.construction.rules.productions self.entry.construction.start) }
+        ensures faithful { EndsWithEof self.entry.construction → IfOk result (λ tables. AreFaithful self.entry.construction.rules.productions self.entry.construction.start (contents self.entry.construction.rules.terminals tables.items)) }
     {
         let grammar = self.grammar;
         let _terminals = grammar.terminals.all();
@@ -145,7 +164,7 @@ impl<'grammar> Lr<'grammar, TokenSet> {
 impl<'grammar> Lr<'grammar, Nil> {
     /// The states without lookahead, or their conflicts.
     pub fn build_lr0_states(self, alloc: Global) -> LrResult<'grammar, Nil>
-        ensures states { MatchResult result (λ tables. AreLr0States self.entry.rules self.entry.start tables.items) (HasLr0States self.entry.rules self.entry.start) }
+        ensures states { MatchResult result (λ tables. AreLr0States self.entry.construction.rules self.entry.construction.start tables.items) (λ error. self.entry.stop_after ≡ 0 → HasLr0States self.entry.construction.rules self.entry.construction.start error) }
         ensures free { IfOk result (λ tables. HaveNoNilConflict tables.items) }
         ensures conflicts { IfErr result ListsNilConflicts }
     {

@@ -1,17 +1,22 @@
 //! The states of a grammar, by their kernels.
-ghost use Rattle.std.specs.Prelude.{◌≡◌, IfOk, OnOk, map, length, slice_get, Some};
+ghost use Rattle.std.specs.Prelude.{◌≡◌, ◌↔◌, IsTrue, IfOk, OnOk, length, slice_get, Some};
 ghost use Rattle.lalrpop_tables.specs.Closure.{AreItemsBy, IsClosureBy};
-ghost use Rattle.lalrpop_tables.specs.States.{begun, IsBuiltBy, Extends, LeadsToAdded, AreBuiltBy};
+ghost use Rattle.lalrpop_tables.specs.EarlyStop.{AreEnough, AreMadeFor};
+ghost use Rattle.lalrpop_tables.specs.States.{IsBuiltBy, Extends, LeadsToAdded};
 
 use super::closure::closure;
 use super::lookahead_build::LookaheadBuild;
 use super::lr::Lr;
 use super::reductions::reductions;
+use super::results::push_conflicts;
 use super::transitions::{Edges, Items as KernelItems, edges_of, moves_of};
 use lalrpop_base::kernel_set::KernelSet;
-use lalrpop_base::lr1_core::state::{Items, State, StateIndex};
+use lalrpop_base::lr1_core::state::{Conflict, Items, State, StateIndex};
 use lalrpop_base::memory::OutOfMemory;
 use std::alloc::Global;
+
+/// States, and their conflicts.
+pub type States<'grammar, L> = (Vec<State<'grammar, L>>, Vec<Conflict<'grammar, L>>);
 
 // The state of the kernel, with the number.
 fn build_state<'grammar, L: LookaheadBuild>(
@@ -21,9 +26,9 @@ fn build_state<'grammar, L: LookaheadBuild>(
     number: usize,
     kernels: &mut KernelSet<KernelItems<'grammar, L>>,
 ) -> Result<State<'grammar, L>, OutOfMemory>
-    requires kernel { AreItemsBy L.meaning lr.now.rules kernel.now }
-    ensures built { IfOk result (λ state. IsBuiltBy (IsClosureBy L.meaning L.begins L.passes lr.now.rules) kernels.new.list kernel.now number state) }
-    ensures extends { OnOk result (Extends L.meaning lr.now.rules kernels.old kernels.new) }
+    requires kernel { AreItemsBy L.meaning lr.now.construction.rules kernel.now }
+    ensures built { IfOk result (λ state. IsBuiltBy (IsClosureBy L.meaning L.begins L.passes lr.now.construction.rules) kernels.new.list kernel.now number state) }
+    ensures extends { OnOk result (Extends L.meaning lr.now.construction.rules kernels.old kernels.new) }
     ensures led { IfOk result (LeadsToAdded kernels.old kernels.new) }
 {
     let items = closure(alloc, lr, kernel.as_slice())?;
@@ -40,20 +45,32 @@ fn build_state<'grammar, L: LookaheadBuild>(
     })
 }
 
-/// The states, numbered as their kernels first appear.
+// Whether so many conflicts are enough to stop; 0 is none.
+fn are_enough(stop_after: usize, found: usize) -> bool
+    ensures { IsTrue result ↔ AreEnough stop_after found }
+{
+    stop_after > 0 && stop_after <= found
+}
+
+/// The states, numbered as their kernels first appear, and their conflicts, until enough are listed.
 pub fn build_states<'grammar, L: LookaheadBuild>(
     alloc: Global,
     lr: &Lr<'grammar, L>,
-) -> Result<Vec<State<'grammar, L>>, OutOfMemory>
-    ensures { IfOk result (λ states. AreBuiltBy (IsClosureBy L.meaning L.begins L.passes lr.now.rules) (map (begun lr.now.lookahead) lr.now.first) states.items) }
+) -> Result<States<'grammar, L>, OutOfMemory>
+    ensures { IfOk result (λ made. AreMadeFor L.meaning L.begins L.passes L.lists_conflicts lr.now made.0.items made.1.items) }
 {
     let mut kernels = KernelSet::new(alloc);
     let mut states = Vec::new(alloc);
+    let mut conflicts = Vec::new(alloc);
     kernels.add_state(lr.start_kernel(alloc)?)?;
     while let Some(kernel) = kernels.next() {
         let number = states.len();
         let state = build_state(alloc, lr, &kernel, number, &mut kernels)?;
+        push_conflicts(alloc, lr, &state, &mut conflicts)?;
         states.push(state)?;
+        if are_enough(lr.stop_after(), conflicts.len()) {
+            return Ok((states, conflicts));
+        }
     }
-    Ok(states)
+    Ok((states, conflicts))
 }

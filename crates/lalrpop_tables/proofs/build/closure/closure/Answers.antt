@@ -21,20 +21,20 @@ use Rattle.lalrpop_tables.proofs.Readings.{Meant-closure, items_read, readings_k
 use Rattle.lalrpop_tables.proofs.build.closure.closure.Goals as goal
 
 pub loop-item-init : goal.loop-item-init
-loop-item-init g c = (c.in_ok-start.ensures.closing, Tokens-start g.L.LookaheadBuild.begins g.L.LookaheadBuild.passes c.args.lr.now.rules (map (meant g.L.Lookahead.meaning) c.args.kernel.now) _ _ c.in_ok-start.ensures.started)
+loop-item-init g c = (c.in_ok-start.ensures.closing, Tokens-start g.L.LookaheadBuild.begins g.L.LookaheadBuild.passes c.args.lr.now.construction.rules (map (meant g.L.Lookahead.meaning) c.args.kernel.now) _ _ c.in_ok-start.ensures.started)
 
 pub loop-item-smaller : goal.loop-item-smaller
 loop-item-smaller g c =
     let before = rw c.in-Some.ensures.items at c.loop-item.invariant in
-    rw c.in-Some.ensures.items (Closing-smaller c.args.lr.now.rules (map (meant g.L.Lookahead.meaning) c.args.kernel.now) c.in-Some.item _ _ _ _ before.0 c.in_ok-expand.ensures.expanded)
+    rw c.in-Some.ensures.items (Closing-smaller c.args.lr.now.construction.rules (map (meant g.L.Lookahead.meaning) c.args.kernel.now) c.in-Some.item _ _ _ _ before.0 c.in_ok-expand.ensures.expanded)
 
 pub loop-item-preserved : goal.loop-item-preserved
 loop-item-preserved g c =
     let before = rw c.in-Some.ensures.items at c.loop-item.invariant in
     let kernel = map (meant g.L.Lookahead.meaning) c.args.kernel.now in
     let found = key_entry _ c.in-Some.item (before.0.found c.in-Some.item (Contains-append_right c.pop.new.self.items (c.in-Some.item ∷ []) c.in-Some.item (Contains-here c.in-Some.item []))) in (
-      Closing-step c.args.lr.now.rules kernel c.in-Some.item _ _ _ _ before.0 c.in_ok-expand.ensures.expanded,
-      Tokens-step g.L.LookaheadBuild.begins g.L.LookaheadBuild.passes c.args.lr.now.rules kernel c.in-Some.item _ _ _ _ before.0.is_table.differ before.1 (c.in_ok-expand.ensures.tokens before.0.is_table.differ found.0 found.1),
+      Closing-step c.args.lr.now.construction.rules kernel c.in-Some.item _ _ _ _ before.0 c.in_ok-expand.ensures.expanded,
+      Tokens-step g.L.LookaheadBuild.begins g.L.LookaheadBuild.passes c.args.lr.now.construction.rules kernel c.in-Some.item _ _ _ _ before.0.is_table.differ before.1 (c.in_ok-expand.ensures.tokens before.0.is_table.differ found.0 found.1),
     )
 
 pub expand-requires-clause-known : goal.expand-requires-clause-known
@@ -53,7 +53,7 @@ returns g c =
     let m = g.L.Lookahead.meaning in
     let begins = g.L.LookaheadBuild.begins in
     let passes = g.L.LookaheadBuild.passes in
-    let r = c.args.lr.now.rules in
+    let r = c.args.lr.now.construction.rules in
     let kernel : List (Dotted Bits) = map (meant m) c.args.kernel.now in
     let entries : List (Dotted Nil × g.row.L.Denot) = c.loop-item.table.entries in
     let none : c.loop-item.stack.items ≡ [] = first_of (search rules, grind (arith, common_steps), grind (arith, common_steps, nil_from_length c.loop-item.stack.items)) in

@@ -16,12 +16,12 @@ use Rattle.lalrpop_tables.proofs.build.closure.start.Goals as goal
 pub loop-item-init : goal.loop-item-init
 loop-item-init g c =
     let none = ap (readings g.L.Lookahead.meaning) c.requires.table in
-    (Start-none c.args.lr.now.rules (map (meant g.L.Lookahead.meaning) c.args.kernel.now) _ _ none c.requires.stack, Started-tokens-none _ _ none)
+    (Start-none c.args.lr.now.construction.rules (map (meant g.L.Lookahead.meaning) c.args.kernel.now) _ _ none c.requires.stack, Started-tokens-none _ _ none)
 
 pub loop-item-preserved : goal.loop-item-preserved
 loop-item-preserved g c =
     let m = g.L.Lookahead.meaning in
-    let rules = c.args.lr.now.rules in
+    let rules = c.args.lr.now.construction.rules in
     let f : Dotted g.row.L.Denot → Dotted Bits = meant m in
     let xs : List (Dotted g.row.L.Denot) = c.args.kernel.now in
     let i = c.loop-item.item-index in
@@ -42,7 +42,7 @@ loop-item-preserved g c =
 pub returns-clause-closing : goal.returns-clause-closing
 returns-clause-closing g c =
     let f : Dotted g.row.L.Denot → Dotted Bits = meant g.L.Lookahead.meaning in
-    Start-closing c.args.lr.now.rules (map f c.args.kernel.now) _ _ _ (ap (map f) (take_all c.loop-item.item-index c.args.kernel.now c.loop-item-test.false)) c.loop-item.invariant.0
+    Start-closing c.args.lr.now.construction.rules (map f c.args.kernel.now) _ _ _ (ap (map f) (take_all c.loop-item.item-index c.args.kernel.now c.loop-item-test.false)) c.loop-item.invariant.0
 
 pub returns-clause-started : goal.returns-clause-started
 returns-clause-started g c =

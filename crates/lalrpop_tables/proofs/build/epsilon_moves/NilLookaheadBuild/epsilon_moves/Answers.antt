@@ -9,6 +9,6 @@ returns c = record {
     given = c.args.lookahead.now;
     begun = begun;
     fits = λ f. f;
-    holds = λ t. (λ h. absurd (holds_none c.args.lr.now.rules.terminals t h), λ h. elim h [ inl n ↦ absurd n | inr n ↦ absurd n.0 ]);
+    holds = λ t. (λ h. absurd (holds_none c.args.lr.now.construction.rules.terminals t h), λ h. elim h [ inl n ↦ absurd n | inr n ↦ absurd n.0 ]);
   }) c.begun_items.ensures;
 }

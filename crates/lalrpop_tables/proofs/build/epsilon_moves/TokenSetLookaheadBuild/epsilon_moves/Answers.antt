@@ -11,7 +11,7 @@ use Rattle.lalrpop_tables.proofs.build.epsilon_moves.TokenSetLookaheadBuild.epsi
 
 pub returns : goal.returns
 returns c =
-    let rules : Rules = c.args.lr.now.rules in
+    let rules : Rules = c.args.lr.now.construction.rules in
     let same = c.first_sets.ensures in
     let first : IsFirstSetBefore rules c.args.remainder.now c.args.lookahead.now c.in_ok-given.given = rw same at c.in_ok-given.ensures.first in
     let fits : FitsTokens rules.terminals c.args.lookahead.now → FitsTokens rules.terminals c.in_ok-given.given = rw same at c.in_ok-given.ensures.fits in
