@@ -51,6 +51,7 @@ pub mod StateGraphs
 pub mod Stepping
 pub mod StoppedAnswers
 pub mod StoppedConflicts
+pub mod StoppedLr0
 pub mod StoppedStates
 pub mod Subsets
 pub mod Tables

@@ -49,10 +49,10 @@ stopped g rest = ⊥
 abbrev pub Lists : State Nil → List TerminalString → List (Conflict Nil) → Type 0
 Lists s terminals list = list ≡ nil_conflicts s
 
-abbrev Closes : Rules → List (Dotted Nil) → List (Dotted Nil) → Type 0
+abbrev pub Closes : Rules → List (Dotted Nil) → List (Dotted Nil) → Type 0
 Closes = IsClosureBy nothing never stopped
 
-exactly : (g : Rules) (kernel items : List (Dotted Nil)) → Closes g kernel items → IsExactClosure g kernel items
+pub exactly : (g : Rules) (kernel items : List (Dotted Nil)) → Closes g kernel items → IsExactClosure g kernel items
 exactly g kernel items c = record { exact = c.exact; ascend = c.ascend; begun = c.begun }
 
 -- ---- kernels of moved items with the same dotted productions are one
@@ -65,7 +65,7 @@ item_over x a b is s more i c =
     let same : dotted_of j.0 ≡ dotted_of i = j.2 ∙ sym e in
     subst (Contains b) (same_lr0 j.0 i (ap (λ (x : Production × ℕ). x.0) same) (ap (λ (x : Production × ℕ). x.1) same)) j.1
 
-one_kernel : (x y : Symbol) (a b is js : List (Dotted Nil)) → Shifts x is a → Shifts y js b → Ascend is → Ascend js → ((p : Production) (d : ℕ) → InKernel a p (suc d) ↔ InKernel b p (suc d)) → a ≡ b
+pub one_kernel : (x y : Symbol) (a b is js : List (Dotted Nil)) → Shifts x is a → Shifts y js b → Ascend is → Ascend js → ((p : Production) (d : ℕ) → InKernel a p (suc d) ↔ InKernel b p (suc d)) → a ≡ b
 one_kernel x y a b is js s t ascend_is ascend_js same =
     ascending_same Precedes precedes_asymmetric a b (Shifts-ascend x is a s ascend_is) (Shifts-ascend y js b t ascend_js)
     (item_over x a b is s (λ p d. (same p d).0))
@@ -73,10 +73,10 @@ one_kernel x y a b is js s t ascend_is ascend_js same =
 
 -- ---- the states
 module _ (g : Grammar) (start : NonterminalString) (lookahead : Nil) (well : IsWellFormed g) (own : AreOwn g) where
-  abbrev construction : Construction Nil
+  abbrev pub construction : Construction Nil
   construction = record { rules = rules_of g; start = start; first = productions_of g start; lookahead = lookahead }
 
-  States-lr0 : (states : List (State Nil)) → AreStatesFor nothing never stopped Lists construction states → AreLr0States (rules_of g) start states
+  pub States-lr0 : (states : List (State Nil)) → AreStatesFor nothing never stopped Lists construction states → AreLr0States (rules_of g) start states
   States-lr0 states made =
       let r = rules_of g in
       let first : List (Dotted Nil) = map (begun lookahead) (productions_of g start) in

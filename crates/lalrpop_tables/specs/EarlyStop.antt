@@ -3,10 +3,12 @@ use Rattle.std.specs.Prelude.{◌⊎◌, ◌-◌, take, ◌≡◌, ◌≢◌, []
 use Rattle.std.specs.List.{flat_map}
 use Rattle.lalrpop_base.specs.Bits.{Bits}
 use Rattle.lalrpop_base.specs.Items.{Dotted}
+use Rattle.lalrpop_base.specs.NilConflicts.{nil_conflicts}
 use Rattle.lalrpop_base.specs.Places.{AllDiffer}
 use Rattle.lalrpop_base.specs.StateConflicts.{state_conflicts}
 use Rattle.lalrpop_base.specs.Validity.{Valid, ValidToken, IsLive}
 use Rattle.lalrpop_base.specs.WellFormed.{Rules}
+use Rattle.lalrpop_base.specs.declared.lookahead.nil.Nil.{Nil}
 use Rattle.lalrpop_base.specs.declared.lookahead.token.Token.{Token}
 use Rattle.lalrpop_base.specs.declared.lr1_core.state.BuildError.{BuildError}
 use Rattle.lalrpop_base.specs.declared.lr1_core.state.BuildError.TheVariants.{Conflicts, Memory}
@@ -18,6 +20,7 @@ use Rattle.lalrpop_base.specs.declared.repr.Symbol.{Symbol}
 use Rattle.lalrpop_base.specs.declared.repr.TerminalString.{TerminalString}
 use Rattle.lalrpop_tables.specs.Canonical.{AreCanonicalStates}
 use Rattle.lalrpop_tables.specs.Closure.{dotted_of, HasItemToken, IsClosureOf, IsClosureBy}
+use Rattle.lalrpop_tables.specs.Lr0.{AreLr0States}
 use Rattle.lalrpop_tables.specs.Results.{AreAllConflicts, ListsAll, Settings}
 use Rattle.lalrpop_tables.specs.States.{begun, IsBuiltOfBy, IsLedTo, AreBuiltBy}
 
@@ -35,7 +38,7 @@ abbrev pub ArePartlyBuilt : Rules → List (Dotted Bits) → List (State Bits) �
 ArePartlyBuilt g = ArePartlyBuiltBy (IsClosureOf g)
 
 -- the dotted production is among the state's items
-abbrev pub HasDotted : State Bits → Production → ℕ → Type 0
+abbrev pub HasDotted : {L : Type 0} → State L → Production → ℕ → Type 0
 HasDotted state p dot = Contains (map dotted_of state.items.vec.items) (p, dot)
 
 -- the state of a live prefix: exactly its valid dotted productions, with exactly their valid tokens
@@ -96,3 +99,27 @@ pub record StopsAfter (g : Rules) (start : NonterminalString) (stop_after : ℕ)
 abbrev pub FailsAfter : Rules → NonterminalString → ℕ → BuildError Bits → Type 0
 FailsAfter g start stop_after (Conflicts error) = StopsAfter g start stop_after error.states.items error.conflicts.items
 FailsAfter g start stop_after Memory = Unit {0}
+
+-- ---- without lookahead
+-- the state of a live prefix: exactly its valid dotted productions
+pub record IsLr0StateFor (g : Rules) (start : NonterminalString) (u : List Symbol) (state : State Nil) : Type 0 where
+  pub live : IsLive g.productions start u
+  pub items : (p : Production) (dot : ℕ) → HasDotted state p dot ↔ Valid g.productions start u p dot
+
+-- each state is that of a live prefix, and no two have the same dotted productions
+pub record AreSomeLr0States (g : Rules) (start : NonterminalString) (states : List (State Nil)) : Type 0 where
+  pub each : (n : ℕ) (state : State Nil) → slice_get states n ≡ Some state → (u : List Symbol) × IsLr0StateFor g start u state
+  pub differ : (n m : ℕ) (a b : State Nil) → n < m → slice_get states n ≡ Some a → slice_get states m ≡ Some b → ¬ ((p : Production) (dot : ℕ) → HasDotted a p dot ↔ HasDotted b p dot)
+
+-- an error under early stop: LR(0) states with all their conflicts, of which there are some; before the last state they were too few to stop; and there are enough, or no LR(0) state is left out
+pub record Lr0StopsAfter (g : Rules) (start : NonterminalString) (stop_after : ℕ) (states : List (State Nil)) (conflicts : List (Conflict Nil)) : Type 0 where
+  pub states_are : AreSomeLr0States g start states
+  pub conflicts_are : conflicts ≡ flat_map nil_conflicts states
+  pub some : conflicts ≢ []
+  pub goes_on : 0 < stop_after → length (flat_map nil_conflicts (take (length states - 1) states)) < stop_after
+  pub either : AreEnough stop_after (length conflicts) ⊎ AreLr0States g start states
+
+-- the same of an error; want of memory says nothing
+abbrev pub FailsAfterLr0 : Rules → NonterminalString → ℕ → BuildError Nil → Type 0
+FailsAfterLr0 g start stop_after (Conflicts error) = Lr0StopsAfter g start stop_after error.states.items error.conflicts.items
+FailsAfterLr0 g start stop_after Memory = Unit {0}

@@ -7,7 +7,7 @@ ghost use Rattle.lalrpop_base.specs.Validity.{IsLR1};
 ghost use Rattle.lalrpop_base.specs.WellFormed.{IsWellFormed, rules_of, productions_of};
 ghost use Rattle.lalrpop_tables.specs.Canonical.{AreCanonicalStates, HasCanonicalStates, TellsNotLR1};
 ghost use Rattle.lalrpop_tables.specs.Closure.{AreItemsBy};
-ghost use Rattle.lalrpop_tables.specs.EarlyStop.{FailsAfter, StopsFor};
+ghost use Rattle.lalrpop_tables.specs.EarlyStop.{FailsAfter, FailsAfterLr0, StopsFor};
 ghost use Rattle.lalrpop_tables.specs.EpsilonMoves.{AreBegunWith};
 ghost use Rattle.lalrpop_tables.specs.Lr0.{AreLr0States, HasLr0States, HaveNoNilConflict, ListsNilConflicts};
 ghost use Rattle.lalrpop_tables.specs.Results.{AreTables, AreTablesFor, EndsWithEof, FailsBy, FailsFor};
@@ -85,7 +85,7 @@ impl<'grammar, L: Lookahead> Lr<'grammar, L> {
     }
 
     /// After how many conflicts it stops; 0 for no early stop.
-    pub fn stop_after(&self) -> usize
+    pub(super) fn stop_after(&self) -> usize
         ensures { result ≡ self.now.stop_after }
     {
         self.stop_after
@@ -165,6 +165,7 @@ impl<'grammar> Lr<'grammar, Nil> {
     /// The states without lookahead, or their conflicts.
     pub fn build_lr0_states(self, alloc: Global) -> LrResult<'grammar, Nil>
         ensures states { MatchResult result (λ tables. AreLr0States self.entry.construction.rules self.entry.construction.start tables.items) (λ error. self.entry.stop_after ≡ 0 → HasLr0States self.entry.construction.rules self.entry.construction.start error) }
+        ensures stopped { IfErr result (FailsAfterLr0 self.entry.construction.rules self.entry.construction.start self.entry.stop_after) }
         ensures free { IfOk result (λ tables. HaveNoNilConflict tables.items) }
         ensures conflicts { IfErr result ListsNilConflicts }
     {
