@@ -9,6 +9,8 @@ mod check;
 #[cfg(test)]
 mod collections;
 #[cfg(test)]
+mod early_stop;
+#[cfg(test)]
 mod first;
 #[cfg(test)]
 mod inline;
