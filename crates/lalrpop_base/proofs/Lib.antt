@@ -17,5 +17,6 @@ pub mod ConflictLemmas
 pub mod FirstTokens
 pub mod MultimapLemmas
 pub mod SetLemmas
+pub mod DotLemmas
 pub mod Settled
 pub mod KernelLemmas

@@ -3,6 +3,7 @@ pub mod Bits
 pub mod Closures
 pub mod Coherent
 pub mod Collapse
+pub mod Collapsible
 pub mod ConflictLists
 pub mod Conflicts
 pub mod Contents

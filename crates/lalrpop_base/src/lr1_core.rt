@@ -1,6 +1,7 @@
 //! Items, states and what goes wrong with them.
 mod clones;
 pub mod coherent;
+pub mod collapsible;
 pub mod compared;
 pub mod conflict;
 pub mod item;

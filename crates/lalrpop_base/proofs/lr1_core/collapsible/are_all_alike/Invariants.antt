@@ -1,0 +1,7 @@
+use Rattle.lalrpop_base.specs.Collapsible.{IsAlikeTo}
+use Rattle.lalrpop_base.specs.Each.{EachItem, EachBelow}
+use Rattle.lalrpop_base.specs.declared.lr1_core.state.State.{State}
+use Rattle.lalrpop_base.proofs.lr1_core.collapsible.are_all_alike.Given as goal
+
+abbrev pub invariant-loop-state : goal.invariant-loop-state
+invariant-loop-state g l = EachBelow (λ (a : State g.row.L.Denot). EachItem (IsAlikeTo l.states a) l.states) l.states l.state-index
