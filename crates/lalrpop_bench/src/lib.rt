@@ -7,6 +7,8 @@ mod build;
 #[cfg(test)]
 mod check;
 #[cfg(test)]
+mod collapsible;
+#[cfg(test)]
 mod collections;
 #[cfg(test)]
 mod early_stop;
