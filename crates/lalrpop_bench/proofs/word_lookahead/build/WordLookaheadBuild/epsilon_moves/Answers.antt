@@ -13,7 +13,7 @@ use Rattle.lalrpop_bench.proofs.word_lookahead.build.WordLookaheadBuild.epsilon_
 
 pub returns : goal.returns
 returns c =
-    let rules : Rules = c.args.lr.now.rules in
+    let rules : Rules = c.args.lr.now.construction.rules in
     let same = c.grammar-grammar.ensures.rules in
     let first : IsFirstSet rules c.args.remainder.now c.in_ok-first.first = rw c.first_sets.ensures at c.in_ok-first.ensures.first in
     let word : IsWordOf c.in_ok-first.first (length rules.terminals) c.in_ok-word.word = subst (λ (r : Rules). IsWordOf c.in_ok-first.first (length r.terminals) c.in_ok-word.word) same c.in_ok-word.ensures in
