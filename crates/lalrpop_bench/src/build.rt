@@ -21,7 +21,7 @@ struct Row {
     conflicts: &'static [usize],
 }
 
-const ROWS: [Row; 8] = [
+const ROWS: [Row; 9] = [
     Row {
         lines: "S = \"x\"",
         start: "S",
@@ -69,6 +69,12 @@ const ROWS: [Row; 8] = [
         start: "S",
         states: 11,
         conflicts: &[0, 1, 4],
+    },
+    Row {
+        lines: "S = \"a\" S \"c\"\nS = \"b\"",
+        start: "S",
+        states: 9,
+        conflicts: &[],
     },
 ];
 
