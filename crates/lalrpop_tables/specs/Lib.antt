@@ -9,6 +9,7 @@ pub mod CheckSets
 pub mod CheckStates
 pub mod Closing
 pub mod Closure
+pub mod Collapsed
 pub mod Counts
 pub mod EarlyStop
 pub mod Entries
