@@ -1,11 +1,11 @@
 -- Edges that are added to a graph, and iterators over them.
 use Rattle.std.proofs.Common.{◌≡◌, ℕ, suc, ◌+◌, ◌<◌, Bool, true, false, List, [], ◌∷◌, ◌++◌, map, reverse, take, length, get_or, refl, sym, ◌∙◌, ap, subst, arith, ⊎_elim, cond, append_assoc, append-nil}
-use Rattle.std.specs.Prelude.{◌==◌, Option, Some, None, filter, OnOk, Result, IsTrue, ◌↔◌}
+use Rattle.std.specs.Prelude.{◌==◌, Option, Some, None}
 use Rattle.std.specs.Borrow.{Bor}
 use Rattle.std.specs.declared.alloc.Global.{Global}
 use Rattle.std.specs.declared.vec.Vec.{Vec}
 use Rattle.std.specs.declared.cmp.Ordering.TheVariants.{Equal}
-use Rattle.std.specs.Ordering.{is_eq, nat_cmp}
+use Rattle.std.specs.Ordering.{is_eq}
 use Rattle.std.specs.Cmp.{IsTotalOrder, Equal-is, nat_cmp_total, unsigned_tied}
 use Rattle.std.proofs.lemmas.Bool.{cases_Bool}
 use Rattle.std.proofs.lemmas.List.{map-append, reverse-append, length-take-le, take_more}
@@ -18,7 +18,7 @@ use Rattle.lalrpop_base.specs.contracts.repr.SymbolPartialEq.TheImpl as symbol_e
 use Rattle.lalrpop_base.specs.contracts.repr.SymbolEq.TheImpl.Laws as symbol_equality
 use Rattle.lalrpop_base.specs.contracts.exact.SymbolExact.TheImpl as symbol_exactly
 use Rattle.lalrpop_base.proofs.MultimapLemmas.{tied_at}
-use Rattle.lalrpop_tables.specs.StateGraph.{Edge, edge, edges, edges_of, edges_from, targets_from, origins, source_of, target_of, origin_of, listed, state_cmp, targets_of, origins_of, with_symbol, IsGrown, IsGraphOf}
+use Rattle.lalrpop_tables.specs.StateGraph.{Edge, edges, edges_of, edges_from, targets_from, origins, target_of, origin_of, listed, state_cmp, targets_of, origins_of, with_symbol, IsGrown, IsGraphOf}
 use Rattle.lalrpop_tables.specs.declared.state_graph.StateGraph.{StateGraph}
 
 pub state_total : IsTotalOrder state_cmp

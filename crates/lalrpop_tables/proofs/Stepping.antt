@@ -1,9 +1,16 @@
 -- States gathered into a set, and steps back.
 use Rattle.std.proofs.lemmas.List.{reverse-append, reverse-reverse}
-use Rattle.std.proofs.Common.{◌≡◌, ℕ, ◌⊎◌, inl, inr, List, [], ◌∷◌, ◌++◌, reverse, refl, sym, ◌∙◌, ap, subst, ⊎_elim, append_assoc, append-nil, map, Bool, true, false, cond, length, arith, eqb-true, eq-eqb}
+use Rattle.std.proofs.Common.{◌≡◌, ℕ, ◌⊎◌, inl, inr, List, [], ◌∷◌, ◌++◌, reverse, refl, sym, ◌∙◌, ap, subst, append_assoc, append-nil, map, Bool, true, false, cond, length, arith, eqb-true, eq-eqb}
 use Rattle.std.specs.Prelude.{Contains, ◌↔◌, ◌==◌, filter}
-use Rattle.std.specs.BTreeSet.{insert_key}
-use Rattle.std.proofs.lemmas.Map.Lookups.{CmpEqualImpliesEq, exact_unsigned}
+use Rattle.std.specs.List.Sorted.{IsStrictlySortedBy, IsPermutation, IsSorted}
+use Rattle.std.specs.List.Retain.{IsFiltered, DiffersFromLast}
+use Rattle.std.specs.Cmp.{unsigned_tied}
+use Rattle.std.proofs.lemmas.List.Filters.{dedup_is}
+use Rattle.std.proofs.lemmas.List.Kept.{Contains-dedup, Contains-from_dedup, IsStrictlySortedBy-dedup}
+use Rattle.std.proofs.lemmas.List.Sorted.{Contains-permutation, IsPermutation-sym}
+use Rattle.lalrpop_base.specs.contracts.lr1_core.state.StateIndexPartialEq.TheImpl as index_eq
+use Rattle.lalrpop_base.specs.contracts.lr1_core.state.StateIndexEq.TheImpl.Laws as index_equality
+use Rattle.lalrpop_tables.proofs.StateGraphs.{state_total}
 use Rattle.std.proofs.lemmas.List.Elements.{Contains-append_left, Contains-append_right, Contains-append_cases}
 use Rattle.lalrpop_base.specs.declared.lr1_core.state.StateIndex.{StateIndex}
 use Rattle.lalrpop_base.specs.declared.repr.Symbol.{Symbol}
@@ -11,9 +18,8 @@ use Rattle.lalrpop_base.specs.contracts.repr.SymbolPartialEq.TheImpl as symbol_e
 use Rattle.lalrpop_base.specs.contracts.repr.SymbolEq.TheImpl.Laws as symbol_equality
 use Rattle.lalrpop_base.specs.contracts.exact.SymbolExact.TheImpl as symbol_exactly
 use Rattle.lalrpop_tables.specs.declared.state_graph.StateGraph.{StateGraph}
-use Rattle.lalrpop_tables.specs.StateGraph.{Edge, edge, state_cmp, AddsStates, IsStepBack, sources_over, origins_of, origins, origin_of, IsGraphOf, LeadsTo, nowhere, over}
-use Rattle.lalrpop_tables.proofs.Lists.{Contains-none, Contains-here, Contains-there, Contains-cases, insert_key-has, insert_key-kept, insert_key-from}
-use Rattle.std.specs.declared.cmp.Ordering.TheVariants.{Equal}
+use Rattle.lalrpop_tables.specs.StateGraph.{Edge, edge, state_cmp, AddsStates, HaveSameStates, IsStepBack, sources_over, origins_of, origins, origin_of, IsGraphOf, LeadsTo, nowhere, over}
+use Rattle.lalrpop_tables.proofs.Lists.{Contains-none, Contains-here, Contains-there, Contains-cases}
 
 -- a state of all is in the set or left, exactly if it is in the set so far or left now
 pub record IsAddingStates (left all start now : List StateIndex) : Type 0 where
@@ -26,17 +32,14 @@ adding_states left all now same = record {
   only = λ r h. elim h [ inl c ↦ inl c | inr c ↦ inr (rw (← same) c) ];
 }
 
-state_exact : CmpEqualImpliesEq state_cmp
-state_exact x y h = (let P : ℕ → StateIndex = λ n. record { 0 = n } in ap P (exact_unsigned x.0 y.0 h))
-
-pub one_more_state : (before left all start now next : List StateIndex) (x : StateIndex) → before ≡ x ∷ left → next ≡ insert_key state_cmp now x → IsAddingStates before all start now → IsAddingStates left all start next
+pub one_more_state : (before left all start now next : List StateIndex) (x : StateIndex) → before ≡ x ∷ left → next ≡ now ++ x ∷ [] → IsAddingStates before all start now → IsAddingStates left all start next
 one_more_state before left all start now next x first is a = record {
   kept = λ r h. elim (a.kept r h) [
-    | inl c ↦ inl (rw is (insert_key-kept state_cmp state_exact now x r c))
-    | inr c ↦ elim (Contains-cases x left r (rw first at c)) [ inl e ↦ inl (rw (is, ← e) (insert_key-has state_cmp state_exact now x)) | inr d ↦ inr d ]
+    | inl c ↦ inl (rw is (Contains-append_left now (x ∷ []) r c))
+    | inr c ↦ elim (Contains-cases x left r (rw first at c)) [ inl e ↦ inl (rw is (Contains-append_right now (x ∷ []) r (rw (← e) (Contains-here x [])))) | inr d ↦ inr d ]
   ];
   only = λ r h. a.only r (elim h [
-    | inl c ↦ elim (insert_key-from state_cmp state_exact now x r (rw is at c)) [ inl d ↦ inl d | inr e ↦ inr (rw (first, ← e) (Contains-here x left)) ]
+    | inl c ↦ elim (Contains-append_cases now (x ∷ []) r (rw is at c)) [ inl d ↦ inl d | inr d ↦ elim (Contains-cases x [] r d) [ inl e ↦ inr (rw (first, ← e) (Contains-here x left)) | inr n ↦ absurd (Contains-none r n) ] ]
     | inr c ↦ inr (rw first (Contains-there x left r c))
   ]);
 }
@@ -84,6 +87,29 @@ stepping_all graph x left all now none i r = (
   λ c. i.only r c,
   λ h. elim (i.kept h.0 r h.1 h.2) [ inl d ↦ d | inr d ↦ absurd (Contains-none h.0 (rw none at d)) ],
 )
+
+-- and the same of a list with the same states
+pub step_moved : (graph : StateGraph) (x : Symbol) (all now list : List StateIndex) → HaveSameStates now list → IsStepBack graph x all now → IsStepBack graph x all list
+step_moved graph x all now list same step r = (λ c. (step r).0 ((same r).0 c), λ h. (same r).1 ((step r).1 h))
+
+-- ---- states in order, none twice
+same_number : (x y : StateIndex) → (x.0 == y.0) ≡ true → x ≡ y
+same_number x y h = let P : ℕ → StateIndex = λ n. record { 0 = n } in ap P (eqb-true x.0 y.0 h)
+
+abbrev state_eq : StateIndex → StateIndex → Bool
+state_eq = index_eq.ghosts.eq
+
+-- sorted states without repeats are the same states
+pub ordered_same : (states sorted list : List StateIndex) → IsPermutation states sorted → IsFiltered (DiffersFromLast state_eq) [] sorted list → HaveSameStates states list
+ordered_same states sorted list moved kept r =
+    let is = dedup_is state_eq sorted list kept in (
+      λ c. Contains-permutation sorted states r (IsPermutation-sym states sorted moved) (Contains-from_dedup state_eq sorted r (rw is at c)),
+      λ c. rw is (Contains-dedup index_equality.laws-law same_number sorted r (Contains-permutation states sorted r moved c)),
+    )
+
+-- and ascend
+pub ordered_ascending : (sorted list : List StateIndex) → IsSorted state_cmp sorted → IsFiltered (DiffersFromLast state_eq) [] sorted list → IsStrictlySortedBy state_cmp list
+ordered_ascending sorted list ascend kept = rw (dedup_is state_eq sorted list kept) (IsStrictlySortedBy-dedup state_total (λ x y. sym (unsigned_tied x.0 y.0)) sorted ascend)
 
 -- ---- the sources that a graph of edges has
 filtered : {X Y : Type 0} (f : X → Y) (p : X → Bool) (xs : List X) (x : X) → Contains xs x → p x ≡ true → Contains (map f (filter p xs)) (f x)
@@ -136,13 +162,19 @@ pub record IsTracing (graph : StateGraph) (left all : List Symbol) (state : Stat
   pub taken : List Symbol
   pub whole : left ++ taken ≡ all
   pub exactly : (es : List Edge) → IsGraphOf es graph → (r : StateIndex) → Contains found r ↔ LeadsTo es r taken state
+  pub ascending : IsStrictlySortedBy state_cmp found
 
 at_once : (es : List Edge) (r s : StateIndex) → LeadsTo es r [] s → r ≡ s
 at_once es r s nowhere = refl
 
-pub tracing_start : (graph : StateGraph) (symbols : List Symbol) (state : StateIndex) (none found : List StateIndex) → none ≡ [] → found ≡ insert_key state_cmp none state → IsTracing graph symbols symbols state found
-tracing_start graph symbols state none found nothing inserted =
-    let is : found ≡ state ∷ [] = inserted ∙ ap (λ ks. insert_key state_cmp ks state) nothing in record {
+one_ascends : (state : StateIndex) → IsStrictlySortedBy state_cmp (state ∷ [])
+unfolding IsStrictlySortedBy
+one_ascends state = (tt, tt)
+
+pub tracing_start : (graph : StateGraph) (symbols : List Symbol) (state : StateIndex) (none found : List StateIndex) → none ≡ [] → found ≡ none ++ state ∷ [] → IsTracing graph symbols symbols state found
+tracing_start graph symbols state none found nothing pushed =
+    let is : found ≡ state ∷ [] = pushed ∙ ap (λ ks. ks ++ state ∷ []) nothing in record {
+      ascending = rw is (one_ascends state);
       taken = [];
       whole = append-nil symbols;
       exactly = λ es g r. (
@@ -160,8 +192,9 @@ record FirstEdge (es : List Edge) (r : StateIndex) (x : Symbol) (symbols : List 
 first_edge : (es : List Edge) (r : StateIndex) (x : Symbol) (symbols : List Symbol) (s : StateIndex) → LeadsTo es r (x ∷ symbols) s → FirstEdge es r x symbols s
 first_edge es r x symbols s (over {m = m} c l) = record { middle = m; along = c; on = l }
 
-pub tracing_more : (graph : StateGraph) (before left all : List Symbol) (x : Symbol) (state : StateIndex) (found next : List StateIndex) → before ≡ left ++ x ∷ [] → IsStepBack graph x found next → IsTracing graph before all state found → IsTracing graph left all state next
-tracing_more graph before left all x state found next last step t = record {
+pub tracing_more : (graph : StateGraph) (before left all : List Symbol) (x : Symbol) (state : StateIndex) (found next : List StateIndex) → before ≡ left ++ x ∷ [] → IsStepBack graph x found next → IsStrictlySortedBy state_cmp next → IsTracing graph before all state found → IsTracing graph left all state next
+tracing_more graph before left all x state found next last step ascends t = record {
+  ascending = ascends;
   taken = x ∷ t.taken;
   whole = sym (append_assoc left (x ∷ []) t.taken) ∙ ap (λ xs. xs ++ t.taken) (sym last) ∙ t.whole;
   exactly = λ es g r. (
@@ -174,9 +207,8 @@ empty : {X : Type 0} (xs : List X) → length xs ≡ 0 → xs ≡ []
 empty [] e = refl
 empty (x ∷ xs) e = absurd (omega (arith, e))
 
-pub tracing_all : (graph : StateGraph) (left all : List Symbol) (state : StateIndex) (found list : List StateIndex) → length left ≡ 0 → list ≡ found → IsTracing graph left all state found → (es : List Edge) → IsGraphOf es graph → (r : StateIndex) → Contains list r ↔ LeadsTo es r all state
-tracing_all graph left all state found list none items t es g r =
+pub tracing_all : (graph : StateGraph) (left all : List Symbol) (state : StateIndex) (found : List StateIndex) → length left ≡ 0 → IsTracing graph left all state found → (es : List Edge) → IsGraphOf es graph → (r : StateIndex) → Contains found r ↔ LeadsTo es r all state
+tracing_all graph left all state found none t es g r =
     let same : t.taken ≡ all = ap (λ xs. xs ++ t.taken) (sym (empty left none)) ∙ t.whole in
-    let P : List Symbol → Type 0 = λ u. Contains list r ↔ LeadsTo es r u state in
-    let Q : List StateIndex → Type 0 = λ states. Contains states r ↔ LeadsTo es r t.taken state in
-    subst P same (subst Q (sym items) (t.exactly es g r))
+    let P : List Symbol → Type 0 = λ u. Contains found r ↔ LeadsTo es r u state in
+    subst P same (t.exactly es g r)

@@ -101,7 +101,11 @@ pub record IsGrown (es : List Edge) (old new : StateGraph) : Type 0 where
   pub targets : (n : StateIndex) → targets_of new n ≡ targets_of old n ++ targets_from n es
   pub sources : (n : StateIndex) → origins_of new n ≡ origins_of old n ++ origins n es
 
--- the states were added to the set, and no others
+-- the lists have the same states
+abbrev pub HaveSameStates : List StateIndex → List StateIndex → Type 0
+HaveSameStates states list = (r : StateIndex) → Contains list r ↔ Contains states r
+
+-- the states were added to the list, and no others
 abbrev pub AddsStates : List StateIndex → List StateIndex → List StateIndex → Type 0
 AddsStates added old new = (r : StateIndex) → Contains new r ↔ (Contains old r ⊎ Contains added r)
 

@@ -2,18 +2,19 @@
 pub mod neighbours;
 
 ghost use Rattle.std.specs.Prelude.{◌≡◌, ◌↔◌, ◌∷◌, [], List, reverse, IfOk, OnOk, Contains};
-ghost use Rattle.std.specs.List.Sorted.{IsStrictlySortedBy};
+ghost use Rattle.std.specs.List.Sorted.{IsStrictlySortedBy, IsPermutation, IsSorted};
 ghost use Rattle.lalrpop_base.specs.declared.lr1_core.state.StateIndex.{StateIndex};
 ghost use Rattle.lalrpop_tables.specs.Neighbours.{targets_left, sources_left};
-ghost use Rattle.lalrpop_tables.specs.StateGraph.{Edge, edges, shift_edges, goto_edges, IsGraphOf, IsGrown, LeadsTo, targets_of, sources_over, edge, state_cmp, AddsStates, IsStepBack};
+ghost use Rattle.lalrpop_tables.specs.StateGraph.{Edge, edges, shift_edges, goto_edges, IsGraphOf, IsGrown, LeadsTo, targets_of, sources_over, edge, state_cmp, AddsStates, HaveSameStates, IsStepBack};
 
 use self::neighbours::{Predecessors, Successors};
+use itertools::Itertools;
 use lalrpop_base::collections::multimap::Multimap;
 use lalrpop_base::lr1_core::state::{State, StateIndex};
 use lalrpop_base::memory::OutOfMemory;
 use lalrpop_base::repr::{NonterminalString, Symbol, TerminalString};
 use std::alloc::Global;
-use std::collections::{BTreeMap, BTreeSet};
+use std::collections::BTreeMap;
 
 /// The shifts and gotos of a list of states. A target that is not in the list is a state without successors.
 #[derive(Drop)]
@@ -122,56 +123,67 @@ impl StateGraph {
         ensures ascending { IfOk result (λ found. IsStrictlySortedBy state_cmp found.items) }
         ensures exactly { IfOk result (λ found. (es : List Edge) → IsGraphOf es self.now → (r : StateIndex) → Contains found.items r ↔ LeadsTo es r symbols.now state) }
     {
-        let mut found = BTreeSet::new(alloc);
-        found.insert(state)?;
+        let mut found = Vec::new(alloc);
+        found.push(state)?;
         let mut left = symbols;
         while let Some((symbol, before)) = left.split_last() {
             found = self.step_back(alloc, &found, symbol)?;
             left = before;
         }
-        let list = in_order(alloc, found)?;
-        Ok(list)
+        Ok(found)
     }
 
-    // The states from which the symbol leads to one of the states.
+    // The states from which the symbol leads to one of the states, ascending, none twice.
     fn step_back(
         &self,
         alloc: Global,
-        states: &BTreeSet<StateIndex>,
+        states: &[StateIndex],
         symbol: &Symbol,
-    ) -> Result<BTreeSet<StateIndex>, OutOfMemory>
-        ensures { IfOk result (λ sources. IsStepBack self.now symbol.now states.now.keys sources.keys) }
+    ) -> Result<Vec<StateIndex>, OutOfMemory>
+        ensures sources { IfOk result (λ sources. IsStepBack self.now symbol.now states.now sources.items) }
+        ensures ascending { IfOk result (λ sources. IsStrictlySortedBy state_cmp sources.items) }
     {
-        let mut sources = BTreeSet::new(alloc);
-        for state in states.iter() {
-            self.add_sources(*state, symbol, &mut sources)?;
+        let mut sources = Vec::new(alloc);
+        for state in states {
+            self.push_sources(*state, symbol, &mut sources)?;
         }
-        Ok(sources)
+        let list = in_order(alloc, sources)?;
+        Ok(list)
     }
 
-    // Adds the states from which the symbol leads to the state.
-    fn add_sources(
+    // Puts the states from which the symbol leads to the state behind the others.
+    fn push_sources(
         &self,
         state: StateIndex,
         symbol: &Symbol,
-        sources: &mut BTreeSet<StateIndex>,
+        sources: &mut Vec<StateIndex>,
     ) -> Result<(), OutOfMemory>
-        ensures { OnOk result (AddsStates (sources_over self.now symbol.now state) sources.old.keys sources.new.keys) }
+        ensures { OnOk result (AddsStates (sources_over self.now symbol.now state) sources.old.items sources.new.items) }
     {
         for source in self.predecessors(state, symbol) {
-            sources.insert(source)?;
+            sources.push(source)?;
         }
         Ok(())
     }
 }
 
-// The states of a set, ascending.
-fn in_order(alloc: Global, states: BTreeSet<StateIndex>) -> Result<Vec<StateIndex>, OutOfMemory>
-    ensures items { IfOk result (λ list. list.items ≡ states.keys) }
+// The states, ascending, none twice.
+fn in_order(alloc: Global, states: Vec<StateIndex>) -> Result<Vec<StateIndex>, OutOfMemory>
+    ensures same { IfOk result (λ list. HaveSameStates states.items list.items) }
     ensures ascending { IfOk result (λ list. IsStrictlySortedBy state_cmp list.items) }
 {
+    let mut list = sorted_states(alloc, states)?;
+    list.dedup();
+    Ok(list)
+}
+
+// The states, ascending.
+fn sorted_states(alloc: Global, states: Vec<StateIndex>) -> Result<Vec<StateIndex>, OutOfMemory>
+    ensures moved { IfOk result (λ list. IsPermutation states.items list.items) }
+    ensures sorted { IfOk result (λ list. IsSorted state_cmp list.items) }
+{
     let mut list = Vec::new(alloc);
-    for state in states {
+    for state in states.into_iter().sorted(alloc)? {
         list.push(state)?;
     }
     Ok(list)

@@ -1,4 +1,4 @@
-use Rattle.std.proofs.Common.{◌≡◌, ap, refl, sym, subst, List, Option, Some, None}
+use Rattle.std.proofs.Common.{◌≡◌, ap, subst, List, Option, Some, None}
 use Rattle.std.specs.Prelude.{Contains, IfSome, IsNone, option_copied}
 use Rattle.std.specs.Borrow.{Bor}
 use Rattle.std.specs.Map.{keys_of}

@@ -1,5 +1,4 @@
 use Rattle.std.proofs.Common.{arith}
-use Rattle.lalrpop_tables.specs.StateGraph.{edges}
 use Rattle.lalrpop_tables.proofs.StateGraphs.{edges_more, grown_on, graph_on}
 use Rattle.lalrpop_tables.proofs.state_graph.StateGraph.new.Goals as goal
 

@@ -1,12 +1,13 @@
-use Rattle.std.proofs.Common.{◌≡◌}
-use Rattle.lalrpop_tables.proofs.Stepping.{stepping_none, stepping_more, stepping_all}
+use Rattle.std.proofs.Common.{refl}
+use Rattle.std.proofs.lemmas.List.{drop_more, drop_all}
+use Rattle.lalrpop_tables.proofs.Stepping.{stepping_none, stepping_more, stepping_all, step_moved}
 use Rattle.lalrpop_tables.proofs.state_graph.StateGraph.step_back.Goals as goal
 
 pub loop-state-init : goal.loop-state-init
-loop-state-init c = let same : c.into_iter-state-iterator.result ≡ c.args.states.now.keys = cc in stepping_none _ _ _ _ _ same c.new-sources.ensures.empty
+loop-state-init c = stepping_none _ _ _ _ _ refl c.new-sources.ensures.items
 
 pub loop-state-preserved : goal.loop-state-preserved
-loop-state-preserved c = stepping_more _ _ _ _ _ _ _ _ c.in-Some.ensures.steps c.in_ok-add_sources.ensures c.loop-state.invariant
+loop-state-preserved c = stepping_more c.args.self.now c.args.symbol.now _ _ c.args.states.now c.loop-state.sources.items _ _ (drop_more c.args.states.now c.loop-state.state-index _ c.loop-state-test.true) c.in_ok-push_sources.ensures c.loop-state.invariant
 
-pub returns : goal.returns
-returns c = stepping_all _ _ _ _ _ c.in-None.ensures.steps.0 c.loop-state.invariant
+pub returns-clause-sources : goal.returns-clause-sources
+returns-clause-sources c = step_moved c.args.self.now c.args.symbol.now c.args.states.now c.loop-state.sources.items _ c.in_ok-list.ensures.same (stepping_all c.args.self.now c.args.symbol.now _ _ _ (drop_all _ _ c.loop-state-test.false) c.loop-state.invariant)

@@ -2,10 +2,13 @@ use Rattle.lalrpop_tables.proofs.Stepping.{tracing_start, tracing_more, tracing_
 use Rattle.lalrpop_tables.proofs.state_graph.StateGraph.trace_back.Goals as goal
 
 pub loop-symbol-init : goal.loop-symbol-init
-loop-symbol-init c = tracing_start _ _ _ _ _ c.new-found.ensures.empty c.in_ok-insert.ensures.keys
+loop-symbol-init c = tracing_start _ _ _ _ _ c.new-found.ensures.items c.in_ok-push.ensures.items
 
 pub loop-symbol-preserved : goal.loop-symbol-preserved
-loop-symbol-preserved c = tracing_more _ _ _ _ _ _ _ _ c.in-Some.ensures.cases.0 c.in_ok-found.ensures c.loop-symbol.invariant
+loop-symbol-preserved c = tracing_more _ _ _ _ _ _ c.loop-symbol.found.items _ c.in-Some.ensures.cases.0 (rw c.deref.ensures.value at c.in_ok-found.ensures.sources) c.in_ok-found.ensures.ascending c.loop-symbol.invariant
 
 pub returns-clause-exactly : goal.returns-clause-exactly
-returns-clause-exactly c = tracing_all _ _ _ _ _ _ c.in_default.ensures.cases c.in_ok-list.ensures.items c.loop-symbol.invariant
+returns-clause-exactly c = tracing_all _ _ _ _ _ c.in_default.ensures.cases c.loop-symbol.invariant
+
+pub returns-clause-ascending : goal.returns-clause-ascending
+returns-clause-ascending c = c.loop-symbol.invariant.ascending

@@ -1,7 +1,0 @@
-use Rattle.std.proofs.Common.{◌≡◌}
-use Rattle.lalrpop_tables.specs.Neighbours.{sources_left}
-use Rattle.lalrpop_tables.proofs.Stepping.{IsAddingStates}
-use Rattle.lalrpop_tables.proofs.state_graph.StateGraph.add_sources.Given as goal
-
-abbrev pub invariant-loop-source : goal.invariant-loop-source
-invariant-loop-source l = IsAddingStates (sources_left l.source-iterator) (sources_left l.initial.source-iterator) l.initial.sources.keys l.sources.keys
