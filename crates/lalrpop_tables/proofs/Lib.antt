@@ -33,6 +33,13 @@ pub mod Lists
 pub mod Lookaheads
 pub mod Lr0States
 pub mod MadeUntil
+pub mod MergedCollapse
+pub mod MergedNumbering
+pub mod MergedNumbers
+pub mod MergedStates
+pub mod Merging
+pub mod MergingItems
+pub mod MergingReductions
 pub mod Moved
 pub mod Moves
 pub mod NumberedConflicts

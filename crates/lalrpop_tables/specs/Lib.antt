@@ -16,6 +16,7 @@ pub mod Entries
 pub mod EpsilonMoves
 pub mod ListedConflicts
 pub mod Lr0
+pub mod Merging
 pub mod Moved
 pub mod Neighbours
 pub mod Partitions

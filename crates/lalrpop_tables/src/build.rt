@@ -6,7 +6,7 @@ pub mod lr;
 mod lr0;
 pub mod options;
 mod reductions;
-mod results;
+pub(crate) mod results;
 mod states;
 pub(crate) mod tokens;
 mod transitions;

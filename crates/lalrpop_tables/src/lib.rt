@@ -2,6 +2,7 @@
 #![tactic(auto)]
 
 pub mod build;
+pub mod build_lalr;
 pub mod check;
 pub mod lr1;
 mod renumber;

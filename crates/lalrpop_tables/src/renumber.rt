@@ -82,7 +82,10 @@ fn renumber_targets<K: Ord + Drop>(targets: &mut BTreeMap<K, StateIndex>, number
 }
 
 // A state under its new number, with its targets under theirs.
-fn renumber_state<'grammar>(mut state: Lr1State<'grammar>, numbers: &[usize]) -> Lr1State<'grammar>
+pub(crate) fn renumber_state<'grammar>(
+    mut state: Lr1State<'grammar>,
+    numbers: &[usize],
+) -> Lr1State<'grammar>
     ensures { IsRenumberedState (number_in numbers.now) state.entry result }
 {
     state.index = renumbered(numbers, state.index);

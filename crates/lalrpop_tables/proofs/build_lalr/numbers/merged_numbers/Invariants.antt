@@ -1,0 +1,10 @@
+use Rattle.std.proofs.Common.{map, take}
+use Rattle.lalrpop_base.specs.Bits.{Bits}
+use Rattle.lalrpop_base.specs.declared.lr1_core.state.State.{State}
+use Rattle.lalrpop_tables.specs.Collapsed.{dots_in}
+use Rattle.lalrpop_tables.specs.Merging.{bare}
+use Rattle.lalrpop_tables.proofs.MergedNumbers.{AreListed}
+use Rattle.lalrpop_tables.proofs.build_lalr.numbers.merged_numbers.Given as goal
+
+abbrev pub invariant-loop-state : goal.invariant-loop-state
+invariant-loop-state l = AreListed (map (λ (s : State Bits). map bare (dots_in s)) (take l.state-index l.states)) l.numbers.items l.known.list

@@ -1,0 +1,55 @@
+//! States placed by their numbers, each joined to those with the same number.
+ghost use Rattle.std.specs.Prelude.{◌≡◌, IfOk, OnOk};
+ghost use Rattle.lalrpop_tables.specs.Merging.{ArePlaced, Places};
+ghost use Rattle.lalrpop_tables.specs.Moved.{AreMoved};
+ghost use Rattle.lalrpop_tables.specs.Renumbered.{number_in};
+
+use super::join::join_state;
+use crate::renumber::renumber_state;
+use lalrpop_base::lr1_core::state::Lr1State;
+use lalrpop_base::memory::OutOfMemory;
+use std::alloc::Global;
+
+// Joins a state to the one with its number, or puts it behind the others.
+fn place_state<'grammar>(
+    state: Lr1State<'grammar>,
+    merged: &mut Vec<Lr1State<'grammar>>,
+) -> Result<(), OutOfMemory>
+    ensures { OnOk result (Places state.entry merged.old.items merged.new.items) }
+{
+    let number = state.index.0;
+    if number < merged.len() {
+        return join_state(&mut merged[number], state);
+    }
+    merged.push(state)?;
+    Ok(())
+}
+
+/// The states, of which those with one number are joined.
+pub(super) fn place_states<'grammar>(
+    alloc: Global,
+    states: Vec<Lr1State<'grammar>>,
+) -> Result<Vec<Lr1State<'grammar>>, OutOfMemory>
+    ensures { IfOk result (λ merged. ArePlaced states.entry.items merged.items) }
+{
+    let mut merged = Vec::new(alloc);
+    for state in states {
+        place_state(state, &mut merged)?;
+    }
+    Ok(merged)
+}
+
+/// The states in their order, under the numbers.
+pub(super) fn number_states<'grammar>(
+    alloc: Global,
+    states: Vec<Lr1State<'grammar>>,
+    numbers: &[usize],
+) -> Result<Vec<Lr1State<'grammar>>, OutOfMemory>
+    ensures { IfOk result (λ numbered. AreMoved (number_in numbers.now) states.entry.items numbered.items) }
+{
+    let mut numbered = Vec::new(alloc);
+    for state in states {
+        numbered.push(renumber_state(state, numbers))?;
+    }
+    Ok(numbered)
+}
