@@ -43,7 +43,7 @@ no_reduction : (r : Reduction) → Contains no_contents.reductions r → ⊥
 no_reduction r c = let l = c.1 in absurd (omega arith)
 
 -- where there is no state, nothing is reduced
-nothing_reduced : ReducesFinished no_contents
+pub nothing_reduced : ReducesFinished no_contents
 nothing_reduced = record {
   finished = λ p. (λ h. absurd (no_reduction h.0 h.1), λ c. let l = c.1 in absurd (omega arith));
   once = λ i j r q l at. cc;

@@ -18,6 +18,9 @@ pub mod ClosedStates
 pub mod Closing
 pub mod ClosureLoops
 pub mod Coherence
+pub mod CollapseCoherent
+pub mod CollapseContents
+pub mod CollapseDots
 pub mod ConflictFree
 pub mod ConflictLists
 pub mod Contained

@@ -70,7 +70,7 @@ pub slice_get_at : {X : Type 0} (xs : List X) (i : ℕ) (x : X) → i < length x
 slice_get_at xs i x l e = slice_get_read xs (length xs) i x refl l e
 
 -- ---- places in lists whose values differ, and in lists with more values
-places_apart : (i j : ℕ) → (i < j) ⊎ ((j < i) ⊎ (i ≡ j))
+pub places_apart : (i j : ℕ) → (i < j) ⊎ ((j < i) ⊎ (i ≡ j))
 places_apart zero zero = inr (inr refl)
 places_apart zero (suc j) = inl (omega arith)
 places_apart (suc i) zero = inr (inl (omega arith))

@@ -1,11 +1,12 @@
 -- States merged where they list the same dotted productions, as the code's states: the LALR tables that Aho, Sethi and Ullman, section 4.7, make of canonical ones.
 use Rattle.std.specs.Prelude.{◌≡◌, ◌↔◌, ◌<◌, ℕ, List, map, length, slice_get, Some, Contains, IsTrue}
 use Rattle.std.specs.Borrow.{Bor}
-use Rattle.std.specs.BTreeMap.{BTreeMap, get}
+use Rattle.std.specs.BTreeMap.{BTreeMap, IsOrdered, get}
 use Rattle.std.specs.List.Sorted.{IsStrictlySortedBy}
 use Rattle.std.specs.declared.cmp.Ordering.{Ordering}
 use Rattle.lalrpop_base.specs.Bits.{Bits, has}
 use Rattle.lalrpop_base.specs.Collapsible.{dots}
+use Rattle.lalrpop_base.specs.Each.{EachItem}
 use Rattle.lalrpop_base.specs.Items.{Dotted}
 use Rattle.lalrpop_base.specs.WellFormed.{name_cmp}
 use Rattle.lalrpop_base.specs.contracts.repr.TerminalStringOrd.TheImpl as terminal_ord
@@ -80,3 +81,12 @@ pub record AreCollapsedTables (terminals : List TerminalString) (before after : 
 abbrev pub FailsByCollapse : List TerminalString → List (State Bits) → BuildError Bits → Type 0
 FailsByCollapse terminals before (Conflicts error) = IsCollapsed before error.states.items × AreAllConflicts terminals error.states.items error.conflicts.items
 FailsByCollapse terminals before Memory = Unit {0}
+
+-- the shifts and gotos of the state ascend, no symbol twice
+pub record IsOrderedState (s : State Bits) : Type 0 where
+  pub shifts : IsOrdered terminal_ord.ghosts.cmp s.shifts
+  pub gotos : IsOrdered name_cmp s.gotos
+
+-- those of each state
+abbrev pub AreOrdered : List (State Bits) → Type 0
+AreOrdered states = EachItem IsOrderedState states
