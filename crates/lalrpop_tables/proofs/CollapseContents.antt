@@ -34,23 +34,23 @@ use Rattle.lalrpop_tables.proofs.Lists.{Contains-none, place}
 use Rattle.lalrpop_tables.proofs.Places.{same_some, filled, places_apart}
 use Rattle.lalrpop_tables.proofs.StateEdges.{no_leads}
 
-abbrev CodeReduction : Type 0
+abbrev pub CodeReduction : Type 0
 CodeReduction = Bits × Bor Production
 
 abbrev production_in : CodeReduction → Production
 production_in r = r.1.now
 
 module _ (g : Grammar) (start : NonterminalString) (before after : List (State Bits)) (made : AreStatesOf (canonical_of g start) before) (canonical : AreCanonicalStates (rules_of g) start before) (c : IsCollapsed before after) where
-  abbrev holds : Bits → Token → Bool
+  abbrev pub holds : Bits → Token → Bool
   holds = holds_token g.terminals
 
-  abbrev old : ℕ → Contents
+  abbrev pub old : ℕ → Contents
   old = contents g.terminals before
 
-  abbrev now : ℕ → Contents
+  abbrev pub now : ℕ → Contents
   now = contents g.terminals after
 
-  abbrev number : ℕ → ℕ
+  abbrev pub number : ℕ → ℕ
   number = group before after c
 
   -- what is merged under a number

@@ -18,9 +18,11 @@ pub mod ClosedStates
 pub mod Closing
 pub mod ClosureLoops
 pub mod Coherence
+pub mod CollapseCanonical
 pub mod CollapseCoherent
 pub mod CollapseContents
 pub mod CollapseDots
+pub mod CollapseLalr
 pub mod ConflictFree
 pub mod ConflictLists
 pub mod Contained

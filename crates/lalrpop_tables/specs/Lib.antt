@@ -14,6 +14,7 @@ pub mod Counts
 pub mod EarlyStop
 pub mod Entries
 pub mod EpsilonMoves
+pub mod Lalr
 pub mod ListedConflicts
 pub mod Lr0
 pub mod Merging
