@@ -1,8 +1,8 @@
 -- Counts of the elements of a list that pass a test.
-use Rattle.std.proofs.Common.{◌≡◌, ℕ, suc, ◌+◌, ◌<◌, ◌≤◌, Bool, true, false, List, [], ◌∷◌, ◌++◌, map, length, refl, sym, ◌∙◌, ap, subst, arith, cond, inl, inr}
-use Rattle.std.specs.Prelude.{filter, Contains, not}
+use Rattle.std.proofs.Common.{◌≡◌, ◌<◌, ◌≤◌, Bool, true, false, List, [], ◌∷◌, length, refl, sym, arith, cond, inl, inr}
+use Rattle.std.specs.Prelude.{filter, Contains}
 use mathlib.Core.Bool.{true≢false}
-use Rattle.lalrpop_tables.proofs.Lists.{Contains-none, Contains-here, Contains-cases}
+use Rattle.lalrpop_tables.proofs.Lists.{Contains-none, Contains-cases}
 
 module _ {X : Type 0} (P Q : X → Bool) (implies : (x : X) → Q x ≡ true → P x ≡ true) where
   step : (x : X) (q p : Bool) (a b : List X) → (q ≡ true → p ≡ true) → length a ≤ length b → length (cond q (x ∷ a) a) ≤ length (cond p (x ∷ b) b)

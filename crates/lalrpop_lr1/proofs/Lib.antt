@@ -28,5 +28,6 @@ pub mod ReportTexts
 pub mod Spelling
 pub mod Stacks
 pub mod ToldByTables
+pub mod TraceGraphs
 pub mod TreeViews
 pub mod Walks

@@ -1,10 +1,9 @@
 -- Nonterminals that are met become fewer.
-use Rattle.std.proofs.Common.{◌≡◌, ℕ, ◌<◌, ◌≤◌, Bool, true, false, List, [], ◌∷◌, map, length, refl, sym, ◌∙◌, ap, subst, arith}
-use Rattle.std.specs.Prelude.{filter, Contains, not}
+use Rattle.std.proofs.Common.{◌≡◌, ◌<◌, ◌≤◌, Bool, true, false, List, map, length, refl, sym, ◌∙◌, ap}
+use Rattle.std.specs.Prelude.{Contains, not}
 use Rattle.std.specs.List.{range_with_len}
 use Rattle.std.specs.BTreeSet.{BTreeSet, contains}
 use mathlib.Core.Bool.{true≢false}
-use Rattle.std.proofs.lemmas.List.Elements.{Contains-get_or}
 use Rattle.lalrpop_base.specs.Bits.{Bits}
 use Rattle.lalrpop_base.specs.Items.{Dotted}
 use Rattle.lalrpop_base.specs.declared.repr.NonterminalString.{NonterminalString}

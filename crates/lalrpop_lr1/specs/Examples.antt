@@ -54,7 +54,7 @@ reduced_name (Some e) = Some (name_of e.from)
 module _ (graph : TraceGraph) where
   -- the edge that was taken
   abbrev pub edge_of : EnumeratorState → Option TraceGraphEdge
-  edge_of s = slice_get graph.edges.items s.number
+  edge_of s = slice_get graph.edges s.number
 
   -- the prefixes, outermost first
   abbrev pub prefixes : List EnumeratorState → List Symbol

@@ -1,7 +1,7 @@
 -- The nonterminals that a trace can still meet.
-use Rattle.std.specs.Prelude.{◌≡◌, ℕ, Bool, true, not, List, [], ◌∷◌, ◌++◌, map, filter, length}
+use Rattle.std.specs.Prelude.{◌≡◌, ℕ, Bool, true, not, List, map, filter, length}
 use Rattle.std.specs.List.{flat_map, range_with_len}
-use Rattle.std.specs.BTreeSet.{BTreeSet, contains, Updates}
+use Rattle.std.specs.BTreeSet.{BTreeSet, contains}
 use Rattle.std.specs.declared.cmp.Ordering.{Ordering}
 use Rattle.std.specs.Ordering.{then_cmp, on}
 use Rattle.lalrpop_base.specs.Bits.{Bits}

@@ -192,7 +192,7 @@ impl<'graph, 'grammar> PathEnumerator<'graph, 'grammar> {
         alloc: Global,
         first_sets: &FirstSets<'grammar>,
     ) -> Result<TokenSet, OutOfMemory>
-        requires known { AreKnownEdges first_sets.now.terminals self.now.graph.now.edges.items }
+        requires known { AreKnownEdges first_sets.now.terminals self.now.graph.now.edges }
         ensures first { IfOk result (IsFirstSet first_sets.now (following self.now.graph.now self.now.stack.items)) }
     {
         first_of(alloc, first_sets, self.graph, &self.stack)

@@ -29,8 +29,8 @@ impl<'graph, 'grammar> FilteredPathEnumerator<'graph, 'grammar> {
         graph: &'graph TraceGraph<'grammar>,
         item: &Lr1Item<'grammar>,
     ) -> Result<Self, OutOfMemory>
-        requires known { AreKnownEdges first_sets.now.terminals graph.now.edges.items }
-        ensures known { IfOk result (λ it. AreKnownEdges it.first_sets.now.terminals it.base.graph.now.edges.items) }
+        requires known { AreKnownEdges first_sets.now.terminals graph.now.edges }
+        ensures known { IfOk result (λ it. AreKnownEdges it.first_sets.now.terminals it.base.graph.now.edges) }
     {
         Ok(FilteredPathEnumerator {
             alloc,
@@ -42,7 +42,7 @@ impl<'graph, 'grammar> FilteredPathEnumerator<'graph, 'grammar> {
 
     // Whether the path is none, or can go on with a token of the lookahead.
     fn fits(&self) -> Result<bool, OutOfMemory>
-        requires known { AreKnownEdges self.now.first_sets.now.terminals self.now.base.graph.now.edges.items }
+        requires known { AreKnownEdges self.now.first_sets.now.terminals self.now.base.graph.now.edges }
     {
         let first = self.base.first0(self.alloc, self.first_sets)?;
         Ok(first.is_intersecting(&self.lookahead))
@@ -52,7 +52,7 @@ impl<'graph, 'grammar> FilteredPathEnumerator<'graph, 'grammar> {
 impl<'graph, 'grammar> Iterator for FilteredPathEnumerator<'graph, 'grammar> {
     type Item = Result<Example, OutOfMemory>;
 
-    ghost can_next = { λ it. AreKnownEdges it.first_sets.now.terminals it.base.graph.now.edges.items };
+    ghost can_next = { λ it. AreKnownEdges it.first_sets.now.terminals it.base.graph.now.edges };
 
     ghost remaining = { λ it. at_most (bound it.base) };
 

@@ -12,7 +12,7 @@ use lalrpop_base::repr::terminals::TerminalSet;
 impl<'grammar> TraceGraph<'grammar> {
     /// Whether each terminal of a cursor or a suffix is in the set.
     pub fn is_known(&self, terminals: &TerminalSet) -> bool
-        ensures { IsTrue result → AreKnownEdges terminals.now self.now.edges.items }
+        ensures { IsTrue result → AreKnownEdges terminals.now self.now.edges }
     {
         for number in 0..self.edges().len() {
             if !is_known_label(terminals, self.labels(number)) {

@@ -1,6 +1,14 @@
 //! The nodes of a trace graph.
 ghost use Rattle.std.specs.Prelude.{◌≡◌, IfOk};
+ghost use Rattle.std.proofs.Common.{sym, ap};
+ghost use mathlib.Core.Bool.{true≢false};
+ghost use Rattle.lalrpop_base.specs.Exact.{name_exact};
+ghost use Rattle.lalrpop_base.specs.Items.{dotted_exact};
+ghost use Rattle.lalrpop_base.specs.contracts.exact.ProductionExact.TheImpl.Laws.{exact-law as production_exact};
+ghost use Rattle.lalrpop_base.specs.contracts.lookahead.nil.NilExact.TheImpl.Laws.{exact-law as nil_exact};
+ghost use Rattle.lalrpop_lr1.specs.declared.trace.node.TraceGraphNode.TheVariants.{Nonterminal, Item};
 
+use lalrpop_base::exact::Exact;
 use lalrpop_base::lookahead::Lookahead;
 use lalrpop_base::lr1_core::item::{Item, Lr0Item};
 use lalrpop_base::memory::OutOfMemory;
@@ -25,6 +33,13 @@ impl<'grammar> TraceGraphNode<'grammar> {
             TraceGraphNode::Item(item) => Ok(TraceGraphNode::Item(item.to_lr0())),
         }
     }
+}
+
+impl<'grammar> Exact for TraceGraphNode<'grammar> {
+    ghost exact = { elim [
+      | Nonterminal a ↦ elim [ Nonterminal b ↦ λ h. ap Nonterminal (name_exact a b h) | Item b ↦ λ h. absurd (true≢false (sym h)) ]
+      | Item a ↦ elim [ Item b ↦ λ h. ap Item (dotted_exact _ _ production_exact nil_exact a b h) | Nonterminal b ↦ λ h. absurd (true≢false (sym h)) ]
+    ] };
 }
 
 impl<'grammar> From<NonterminalString> for TraceGraphNode<'grammar> {

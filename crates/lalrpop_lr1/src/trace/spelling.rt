@@ -22,7 +22,7 @@ pub(crate) fn first_of<'grammar>(
     graph: &TraceGraph<'grammar>,
     path: &[EnumeratorState],
 ) -> Result<TokenSet, OutOfMemory>
-    requires known { AreKnownEdges first_sets.now.terminals graph.now.edges.items }
+    requires known { AreKnownEdges first_sets.now.terminals graph.now.edges }
     ensures first { IfOk result (IsFirstSet first_sets.now (following graph.now path.now)) }
 {
     let symbols = symbols_behind(alloc, graph, path)?;
@@ -36,7 +36,7 @@ fn symbols_behind<'grammar>(
     graph: &TraceGraph<'grammar>,
     path: &[EnumeratorState],
 ) -> Result<Vec<Symbol>, OutOfMemory>
-    ensures known { IfOk result (λ symbols. (terminals : List TerminalString) → AreKnownEdges terminals graph.now.edges.items → HasKnownTerminals terminals symbols.items) }
+    ensures known { IfOk result (λ symbols. (terminals : List TerminalString) → AreKnownEdges terminals graph.now.edges → HasKnownTerminals terminals symbols.items) }
     ensures following { IfOk result (λ symbols. symbols.items ≡ following graph.now path.now) }
 {
     let mut symbols = innermost_cursor(alloc, graph, path)?;
@@ -54,7 +54,7 @@ fn innermost_cursor<'grammar>(
     graph: &TraceGraph<'grammar>,
     path: &[EnumeratorState],
 ) -> Result<Vec<Symbol>, OutOfMemory>
-    ensures known { IfOk result (λ symbols. (terminals : List TerminalString) → AreKnownEdges terminals graph.now.edges.items → HasKnownTerminals terminals symbols.items) }
+    ensures known { IfOk result (λ symbols. (terminals : List TerminalString) → AreKnownEdges terminals graph.now.edges → HasKnownTerminals terminals symbols.items) }
     ensures innermost { IfOk result (λ symbols. symbols.items ≡ innermost graph.now path.now) }
 {
     let Some((inner, _)) = path.split_first() else {
@@ -243,7 +243,7 @@ fn push_reduction<'grammar>(
     end: usize,
     reductions: &mut Vec<Reduction>,
 ) -> Result<(), OutOfMemory>
-    ensures { OnOk result (reductions.new.items ≡ reductions.old.items ++ reduced_at (slice_get graph.now.edges.items edge) start end) }
+    ensures { OnOk result (reductions.new.items ≡ reductions.old.items ++ reduced_at (slice_get graph.now.edges edge) start end) }
 {
     if let Some(nonterminal) = graph.reduced_name(alloc, edge)? {
         reductions.push(Reduction {

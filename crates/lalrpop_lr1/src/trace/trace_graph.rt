@@ -1,14 +1,16 @@
 //! The graph of a trace.
-ghost use Rattle.std.specs.Prelude.{◌≡◌, List, Some, IfSome, IfOk, length, slice_get, option_copied};
-ghost use Rattle.lalrpop_lr1.specs.Examples.{prefix_of, cursor_of, suffix_of, reduced_name};
-ghost use Rattle.lalrpop_lr1.specs.TraceGraphs.{AreKnownEdges, IsKnownLabel, node_count, numbers_to, numbers_from};
+ghost use Rattle.std.specs.Prelude.{◌≡◌, ◌∷◌, ◌++◌, ◌↔◌, [], ℕ, List, Some, None, IsTrue, IsNone, IfSome, IfOk, OnOk, OnErr, false, Contains, map, length, slice_get, option_copied};
+ghost use Rattle.lalrpop_base.specs.Kernels.{AddsOnce};
 ghost use Rattle.lalrpop_base.specs.declared.repr.TerminalString.{TerminalString};
+ghost use Rattle.lalrpop_lr1.specs.Examples.{prefix_of, cursor_of, suffix_of, reduced_name};
+ghost use Rattle.lalrpop_lr1.specs.TraceGraphs.{AreKnownEdges, IsKnownLabel, IsGraph, IsFrom, KeepPlaces, AddsBoth, AddsEdge, SameLabels, plain, plain_edge, node_count, numbers_to, numbers_from};
 ghost use Rattle.lalrpop_lr1.specs.declared.trace.trace_graph.TraceGraphEdge.{TraceGraphEdge};
 
 use super::enumerator::PathEnumerator;
 use super::filtered::FilteredPathEnumerator;
 use super::node::TraceGraphNode;
 use lalrpop_base::collections::multimap::Multimap;
+use lalrpop_base::exact::equal;
 use lalrpop_base::first::FirstSets;
 use lalrpop_base::lr1_core::item::{Lr0Item, Lr1Item};
 use lalrpop_base::lr1_core::symbol_sets::SymbolSets;
@@ -16,6 +18,7 @@ use lalrpop_base::memory::OutOfMemory;
 use lalrpop_base::repr::NonterminalString;
 use std::alloc::Global;
 use std::collections::BTreeMap;
+use std::marker::Model;
 
 /// The number of a node, by its first appearance.
 #[derive(Clone, Copy, Debug, PartialEq, Eq, PartialOrd, Ord)]
@@ -33,14 +36,27 @@ pub struct TraceGraphEdge<'grammar> {
 #[derive(Drop)]
 pub struct TraceGraph<'grammar> {
     alloc: Global,
-    indices: BTreeMap<TraceGraphNode<'grammar>, NodeIndex>,
+    indices: BTreeMap<TraceGraphNode<'grammar>, usize>,
     edges: Vec<TraceGraphEdge<'grammar>>,
     incoming: Multimap<TraceGraphNode<'grammar>, Vec<usize>>,
 }
 
+impl<'grammar> Model for TraceGraph<'grammar> {
+    ghost use Rattle.lalrpop_base.specs.Kernels.{by_number};
+    ghost use Rattle.lalrpop_lr1.specs.TraceGraphs.{Graph, IsKept};
+
+    ghost Value = { Graph };
+
+    ghost view = { λ g. record { nodes = by_number g.indices.entries; edges = g.edges.items } };
+
+    ghost invariant = { λ g. IsKept g.indices (by_number g.indices.entries) g.edges.items g.incoming };
+}
+
 impl<'grammar> TraceGraph<'grammar> {
     /// A graph without nodes.
-    pub fn new(alloc: Global) -> Self {
+    pub fn new(alloc: Global) -> Self
+        ensures { result ≡ record { nodes = []; edges = [] } }
+    {
         TraceGraph {
             alloc,
             indices: BTreeMap::new(alloc),
@@ -50,13 +66,20 @@ impl<'grammar> TraceGraph<'grammar> {
     }
 
     /// The number of an equal node, or the next number.
-    pub fn add_node(&mut self, node: TraceGraphNode<'grammar>) -> Result<NodeIndex, OutOfMemory> {
+    pub fn add_node(&mut self, node: TraceGraphNode<'grammar>) -> Result<NodeIndex, OutOfMemory>
+        ensures graph { IsGraph self.new }
+        ensures added { OnOk result (AddsOnce self.old.nodes self.new.nodes node.entry) }
+        ensures numbered { IfOk result (λ index. slice_get self.new.nodes index.0 ≡ Some node.entry) }
+        ensures stay { KeepPlaces self.old.nodes self.new.nodes }
+        ensures edges { self.new.edges ≡ self.old.edges }
+        ensures err { OnErr result (self.new ≡ self.old) }
+    {
         if let Some(index) = self.indices.get(&node) {
-            return Ok(*index);
+            return Ok(NodeIndex(*index));
         }
-        let index = NodeIndex(self.indices.len());
+        let index = self.indices.len();
         self.indices.insert(node, index)?;
-        Ok(index)
+        Ok(NodeIndex(index))
     }
 
     /// Adds an edge where there is no equal one, and its nodes. After want of memory nodes may stand, the edge does not.
@@ -65,7 +88,13 @@ impl<'grammar> TraceGraph<'grammar> {
         from: TraceGraphNode<'grammar>,
         to: TraceGraphNode<'grammar>,
         labels: SymbolSets<'grammar>,
-    ) -> Result<(), OutOfMemory> {
+    ) -> Result<(), OutOfMemory>
+        ensures graph { IsGraph self.new }
+        ensures nodes { OnOk result (AddsBoth self.old.nodes self.new.nodes from.entry to.entry) }
+        ensures added { OnOk result (AddsEdge self.old.edges self.new.edges (record { from = from.entry; to = to.entry; symbol_sets = labels.entry })) }
+        ensures stay { KeepPlaces self.old.nodes self.new.nodes }
+        ensures err { OnErr result (self.new.edges ≡ self.old.edges) }
+    {
         let alloc = self.alloc;
         self.add_node(from.clone(alloc)?)?;
         self.add_node(to.clone(alloc)?)?;
@@ -88,13 +117,19 @@ impl<'grammar> TraceGraph<'grammar> {
         &mut self,
         key: TraceGraphNode<'grammar>,
         edge: TraceGraphEdge<'grammar>,
-    ) -> Result<(), OutOfMemory> {
+    ) -> Result<(), OutOfMemory>
+        requires key { key ≡ edge.to }
+        requires from { Contains self.old.nodes edge.from }
+        requires to { Contains self.old.nodes edge.to }
+        requires fresh { ¬ Contains (map plain self.old.edges) (plain edge) }
+        ensures graph { IsGraph self.new }
+        ensures pushed { OnOk result (self.new ≡ record { nodes = self.old.nodes; edges = self.old.edges ++ edge.entry ∷ [] }) }
+        ensures err { OnErr result (self.new ≡ self.old) }
+    {
         let number = self.edges.len();
-        self.edges.push(edge)?;
-        if self.incoming.push(key, number).is_err() {
-            let _ = self.edges.pop();
-            return Err(OutOfMemory);
-        }
+        self.edges.reserve(1)?;
+        self.incoming.push(key, number)?;
+        self.edges.push(edge).unwrap();
         Ok(())
     }
 
@@ -104,7 +139,9 @@ impl<'grammar> TraceGraph<'grammar> {
         from: &TraceGraphNode<'grammar>,
         to: &TraceGraphNode<'grammar>,
         labels: &SymbolSets<'grammar>,
-    ) -> bool {
+    ) -> bool
+        ensures { IsTrue result ↔ Contains (map plain self.now.edges) (plain_edge from.now to.now labels.now) }
+    {
         for number in self.numbers_to(to) {
             if self.is_edge(*number, from, labels) {
                 return true;
@@ -119,23 +156,30 @@ impl<'grammar> TraceGraph<'grammar> {
         number: usize,
         from: &TraceGraphNode<'grammar>,
         labels: &SymbolSets<'grammar>,
-    ) -> bool {
-        if number >= self.edges.len() {
+    ) -> bool
+        ensures there { (e : TraceGraphEdge) → slice_get self.now.edges number ≡ Some e → IsTrue result ↔ IsFrom from.now labels.now e }
+        ensures none { slice_get self.now.edges number ≡ None → result ≡ false }
+    {
+        let edges = self.edges();
+        if number >= edges.len() {
             return false;
         }
-        let edge = &self.edges[number];
-        edge.from == *from && edge.symbol_sets == *labels
+        let edge = &edges[number];
+        equal(&edge.from, from) && same_labels(&edge.symbol_sets, labels)
     }
 
     /// Whether the item is a node.
-    pub fn contains(&self, item: &Lr0Item<'grammar>) -> bool {
+    pub fn contains(&self, item: &Lr0Item<'grammar>) -> bool
+        ensures { IsTrue result ↔ Contains self.now.nodes (TraceGraphNode.Item item.now) }
+    {
         self.indices
             .contains_key(&TraceGraphNode::Item(item.to_lr0()))
     }
 
     /// The edges in the order in which they were added.
     pub fn edges(&self) -> &[TraceGraphEdge<'grammar>]
-        ensures { result.now ≡ self.now.edges.items }
+        ensures edges { result.now ≡ self.now.edges }
+        ensures graph { IsGraph self.now }
     {
         self.edges.as_slice()
     }
@@ -154,8 +198,8 @@ impl<'grammar> TraceGraph<'grammar> {
         first_sets: &'graph FirstSets<'grammar>,
         item: &Lr1Item<'grammar>,
     ) -> Result<FilteredPathEnumerator<'graph, 'grammar>, OutOfMemory>
-        requires known { AreKnownEdges first_sets.now.terminals self.now.edges.items }
-        ensures known { IfOk result (λ it. AreKnownEdges it.first_sets.now.terminals it.base.graph.now.edges.items) }
+        requires known { AreKnownEdges first_sets.now.terminals self.now.edges }
+        ensures known { IfOk result (λ it. AreKnownEdges it.first_sets.now.terminals it.base.graph.now.edges) }
     {
         FilteredPathEnumerator::new(self.alloc, first_sets, self, item)
     }
@@ -164,7 +208,8 @@ impl<'grammar> TraceGraph<'grammar> {
 impl<'grammar> TraceGraph<'grammar> {
     /// The number of nodes.
     pub(crate) fn len(&self) -> usize
-        ensures { result ≡ node_count self.now }
+        ensures count { result ≡ node_count self.now }
+        ensures graph { IsGraph self.now }
     {
         self.indices.len()
     }
@@ -194,28 +239,31 @@ impl<'grammar> TraceGraph<'grammar> {
     pub(crate) fn number_from(&self, edge: usize, place: usize) -> Option<usize>
         ensures { IfSome result (λ number. slice_get (numbers_from self.now edge) place ≡ Some number) }
     {
-        if edge >= self.edges.len() {
+        let edges = self.edges();
+        if edge >= edges.len() {
             return None;
         }
-        self.number_to(&self.edges[edge].from, place)
+        self.number_to(&edges[edge].from, place)
     }
 
     /// How many edges lead to the node from which an edge comes.
     pub(crate) fn count_from(&self, edge: usize) -> usize
         ensures { result ≡ length (numbers_from self.now edge) }
     {
-        if edge >= self.edges.len() {
+        let edges = self.edges();
+        if edge >= edges.len() {
             return 0;
         }
-        self.numbers_to(&self.edges[edge].from).len()
+        self.numbers_to(&edges[edge].from).len()
     }
 
     /// Whether an edge comes from an item.
     pub(crate) fn comes_from_item(&self, edge: usize) -> bool {
-        if edge >= self.edges.len() {
+        let edges = self.edges();
+        if edge >= edges.len() {
             return false;
         }
-        match &self.edges[edge].from {
+        match &edges[edge].from {
             TraceGraphNode::Item(_) => true,
             TraceGraphNode::Nonterminal(_) => false,
         }
@@ -223,24 +271,26 @@ impl<'grammar> TraceGraph<'grammar> {
 
     /// Whether two edges come from one node.
     pub(crate) fn come_together(&self, a: usize, b: usize) -> bool {
-        if a >= self.edges.len() || b >= self.edges.len() {
+        let edges = self.edges();
+        if a >= edges.len() || b >= edges.len() {
             return false;
         }
-        self.edges[a].from == self.edges[b].from
+        edges[a].from == edges[b].from
     }
 
     /// The labels of an edge.
     pub(crate) fn labels(&self, edge: usize) -> SymbolSets<'grammar>
-        ensures there { (e : TraceGraphEdge) → slice_get self.now.edges.items edge ≡ Some e → result ≡ e.symbol_sets }
-        ensures known { (terminals : List TerminalString) → AreKnownEdges terminals self.now.edges.items → IsKnownLabel terminals result }
-        ensures prefix { result.prefix.now ≡ prefix_of (slice_get self.now.edges.items edge) }
-        ensures cursor { option_copied result.cursor ≡ cursor_of (slice_get self.now.edges.items edge) }
-        ensures suffix { result.suffix.now ≡ suffix_of (slice_get self.now.edges.items edge) }
+        ensures there { (e : TraceGraphEdge) → slice_get self.now.edges edge ≡ Some e → result ≡ e.symbol_sets }
+        ensures known { (terminals : List TerminalString) → AreKnownEdges terminals self.now.edges → IsKnownLabel terminals result }
+        ensures prefix { result.prefix.now ≡ prefix_of (slice_get self.now.edges edge) }
+        ensures cursor { option_copied result.cursor ≡ cursor_of (slice_get self.now.edges edge) }
+        ensures suffix { result.suffix.now ≡ suffix_of (slice_get self.now.edges edge) }
     {
-        if edge >= self.edges.len() {
+        let edges = self.edges();
+        if edge >= edges.len() {
             return SymbolSets::new();
         }
-        self.edges[edge].symbol_sets
+        edges[edge].symbol_sets
     }
 
     /// The nonterminal to which an edge reduces.
@@ -249,14 +299,22 @@ impl<'grammar> TraceGraph<'grammar> {
         alloc: Global,
         edge: usize,
     ) -> Result<Option<NonterminalString>, OutOfMemory>
-        ensures { IfOk result (λ name. name ≡ reduced_name (slice_get self.now.edges.items edge)) }
+        ensures { IfOk result (λ name. name ≡ reduced_name (slice_get self.now.edges edge)) }
     {
-        if edge >= self.edges.len() {
+        let edges = self.edges();
+        if edge >= edges.len() {
             return Ok(None);
         }
-        match &self.edges[edge].from {
+        match &edges[edge].from {
             TraceGraphNode::Nonterminal(name) => Ok(Some(name.clone(alloc)?)),
             TraceGraphNode::Item(item) => Ok(Some(item.production.nonterminal.clone(alloc)?)),
         }
     }
+}
+
+// Whether two labels are of the same symbols.
+fn same_labels<'grammar>(a: &SymbolSets<'grammar>, b: &SymbolSets<'grammar>) -> bool
+    ensures { IsTrue result ↔ SameLabels a.now b.now }
+{
+    a == b
 }

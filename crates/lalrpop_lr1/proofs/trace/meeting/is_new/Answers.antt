@@ -1,6 +1,6 @@
-use Rattle.std.proofs.Common.{◌≡◌, Bool, true, false, refl, sym, ap, ◌∙◌, subst, cond}
+use Rattle.std.proofs.Common.{◌≡◌, Bool, true, false, refl, sym, ap, ◌∙◌, cond}
 use Rattle.std.specs.Prelude.{not}
-use Rattle.std.specs.BTreeSet.{contains, contains_by}
+use Rattle.std.specs.BTreeSet.{contains}
 use Rattle.lalrpop_lr1.specs.Meetings.{meeting_cmp}
 use Rattle.lalrpop_lr1.proofs.trace.meeting.is_new.Goals as goal
 

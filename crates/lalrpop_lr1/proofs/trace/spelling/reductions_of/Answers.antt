@@ -1,5 +1,4 @@
-use Rattle.std.proofs.Common.{◌≡◌, ◌+◌, ◌-◌, length, ap, arith}
-use Rattle.lalrpop_lr1.specs.Examples.{prefixes, suffixes}
+use Rattle.std.proofs.Common.{◌-◌, ap, arith}
 use Rattle.lalrpop_lr1.proofs.Spelling.{before_splits, behind_splits, reduced_step, reduced_done}
 use Rattle.lalrpop_lr1.proofs.trace.spelling.reductions_of.Goals as goal
 

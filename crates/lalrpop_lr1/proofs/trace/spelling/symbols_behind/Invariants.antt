@@ -7,7 +7,7 @@ use Rattle.lalrpop_lr1.proofs.trace.spelling.symbols_behind.Given as goal
 
 abbrev pub invariant-loop-inner : goal.invariant-loop-inner
 invariant-loop-inner l = record {
-  known : (terminals : List TerminalString) → AreKnownEdges terminals l.graph.edges.items → HasKnownTerminals terminals l.symbols.items;
+  known : (terminals : List TerminalString) → AreKnownEdges terminals l.graph.edges → HasKnownTerminals terminals l.symbols.items;
   made : l.symbols.items ++ suffixes l.graph l.left ≡ following l.graph l.path;
 }
 

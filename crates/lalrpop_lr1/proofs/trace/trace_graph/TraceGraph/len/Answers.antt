@@ -1,0 +1,7 @@
+use Rattle.std.proofs.Common.{subst}
+use Rattle.lalrpop_lr1.specs.TraceGraphs.{IsGraph}
+use Rattle.lalrpop_lr1.proofs.TraceGraphs.{kept_graph}
+use Rattle.lalrpop_lr1.proofs.trace.trace_graph.TraceGraph.len.Goals as goal
+
+pub returns-clause-graph : goal.returns-clause-graph
+returns-clause-graph c = subst IsGraph c.self.view_is (kept_graph c.self.invariant)
