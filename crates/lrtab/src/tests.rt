@@ -1,7 +1,7 @@
 //! Tests that run the program.
+mod refused_growth;
 mod reports;
 
-use crate::refusing::Refusing;
 use crate::run::run;
 use lalrpop_tables::build::Method;
 use std::alloc::{AllocError, Global};
@@ -342,34 +342,5 @@ fn closed_error_output(rt: HostRuntime) -> Result<(), Fail> {
     assert_eq!(rt; status, 2);
     assert_eq!(rt; out.len(), 0);
     assert_eq!(rt; err.taken, 3);
-    Ok(())
-}
-
-#[test]
-fn each_growth_refused(rt: HostRuntime) -> Result<(), Fail> {
-    let alloc = rt.alloc();
-    let words = words_of(alloc, "f S parse 3 x y")?;
-    let text = "S = \"x\" \"y\"\n\tB = S A\r\n";
-    let mut out: Vec<u8> = Vec::with_capacity(alloc, 400)?;
-    let mut err: Vec<u8> = Vec::with_capacity(alloc, 400)?;
-    let mut refusing = Refusing::new(alloc)?;
-    let mut refused = 0usize;
-    for turn in 0usize..4000 {
-        out.clear();
-        err.clear();
-        let file = Some(text.as_bytes());
-        let armed = refusing.arm(alloc, turn)?;
-        let status = run(alloc, &words, Method::Lane, file, &mut out, &mut err);
-        refusing.disarm(alloc, armed);
-        if status == 0 {
-            assert_eq!(rt; out.as_slice(), b"[S: \"x\", \"y\"]\n".as_slice());
-            break;
-        }
-        assert_eq!(rt; status, 3);
-        assert_eq!(rt; out.len(), 0);
-        assert_eq!(rt; err.as_slice(), b"out of memory\n".as_slice());
-        refused = refused.saturating_add(1);
-    }
-    assert!(rt; refused > 0, "no growth was refused");
     Ok(())
 }

@@ -5,7 +5,7 @@ use lalrpop_tables::build::Method;
 use std::alloc::{AllocError, Global};
 use std::test::Fail;
 
-const ONE_TERMINAL: &str = "Lalrpop Report File
+pub(super) const ONE_TERMINAL: &str = "Lalrpop Report File
 ========================================
 
 Summary
@@ -38,7 +38,7 @@ State 1 {
 }
 ";
 
-const AMBIGUOUS: &str = "Lalrpop Report File
+pub(super) const AMBIGUOUS: &str = "Lalrpop Report File
 ========================================
 
 Summary
