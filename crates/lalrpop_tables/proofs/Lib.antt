@@ -32,6 +32,7 @@ pub mod Expanding
 pub mod Grammars
 pub mod Growth
 pub mod ItemTokens
+pub mod KernelDots
 pub mod KnownTerminals
 pub mod ListedConflicts
 pub mod Lists

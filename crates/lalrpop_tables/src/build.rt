@@ -1,6 +1,7 @@
 //! The construction of LR(0) and LR(1) states.
 mod closure;
 mod epsilon_moves;
+mod kernel;
 pub mod lookahead_build;
 pub mod lr;
 mod lr0;
@@ -21,6 +22,7 @@ ghost use Rattle.lalrpop_tables.specs.CanonicalConflicts.{ListsCanonicalConflict
 ghost use Rattle.lalrpop_tables.specs.EarlyStop.{FailsAfter};
 ghost use Rattle.lalrpop_tables.specs.Results.{AreTables, FailsBy, canonical_of};
 
+pub use kernel::Kernel;
 use lalrpop_base::lookahead::token_set::TokenSet;
 use lalrpop_base::lr1_core::state::Lr1Result;
 use lalrpop_base::repr::NonterminalString;

@@ -13,10 +13,10 @@ ghost use Rattle.lalrpop_tables.specs.Lr0.{AreLr0States, HasLr0States, HaveNoNil
 ghost use Rattle.lalrpop_tables.specs.Results.{AreTables, AreTablesFor, EndsWithEof, FailsBy, FailsFor};
 ghost use Rattle.lalrpop_tables.specs.States.{begun};
 
+use super::kernel::Kernel;
 use super::lookahead_build::LookaheadBuild;
 use super::results::tables_or_conflicts;
 use super::states::build_states;
-use super::transitions::Items as KernelItems;
 use lalrpop_base::first::FirstSets;
 use lalrpop_base::lookahead::Lookahead;
 use lalrpop_base::lookahead::nil::Nil;
@@ -120,16 +120,13 @@ impl<'grammar, L: Lookahead> Lr<'grammar, L> {
     }
 
     /// The productions of the start symbol, dot first, with its lookahead.
-    pub(super) fn start_kernel(
-        &self,
-        alloc: Global,
-    ) -> Result<KernelItems<'grammar, L>, OutOfMemory>
+    pub(super) fn start_kernel(&self, alloc: Global) -> Result<Kernel<'grammar, L>, OutOfMemory>
         ensures kernel { IfOk result (λ kernel. kernel ≡ map (begun self.now.construction.lookahead) self.now.construction.first) }
         ensures items { IfOk result (λ kernel. AreItemsBy L.meaning self.now.construction.rules kernel) }
     {
         let grammar = self.grammar;
         let items = begun_items(alloc, grammar, &self.start, &self.lookahead)?;
-        Ok(Sequence::from_vec(items))
+        Ok(Kernel::start(Sequence::from_vec(items)))
     }
 }
 

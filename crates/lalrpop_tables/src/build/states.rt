@@ -5,11 +5,12 @@ ghost use Rattle.lalrpop_tables.specs.EarlyStop.{AreEnough, AreMadeFor};
 ghost use Rattle.lalrpop_tables.specs.States.{IsBuiltBy, Extends, LeadsToAdded};
 
 use super::closure::closure;
+use super::kernel::Kernel;
 use super::lookahead_build::LookaheadBuild;
 use super::lr::Lr;
 use super::reductions::reductions;
 use super::results::push_conflicts;
-use super::transitions::{Edges, Items as KernelItems, edges_of, moves_of};
+use super::transitions::{Edges, edges_of, moves_of};
 use lalrpop_base::kernel_set::KernelSet;
 use lalrpop_base::lr1_core::state::{Conflict, Items, State, StateIndex};
 use lalrpop_base::memory::OutOfMemory;
@@ -22,9 +23,9 @@ pub type States<'grammar, L> = (Vec<State<'grammar, L>>, Vec<Conflict<'grammar, 
 fn build_state<'grammar, L: LookaheadBuild>(
     alloc: Global,
     lr: &Lr<'grammar, L>,
-    kernel: &KernelItems<'grammar, L>,
+    kernel: &Kernel<'grammar, L>,
     number: usize,
-    kernels: &mut KernelSet<KernelItems<'grammar, L>>,
+    kernels: &mut KernelSet<Kernel<'grammar, L>>,
 ) -> Result<State<'grammar, L>, OutOfMemory>
     requires kernel { AreItemsBy L.meaning lr.now.construction.rules kernel.now }
     ensures built { IfOk result (λ state. IsBuiltBy (IsClosureBy L.meaning L.begins L.passes lr.now.construction.rules) kernels.new.list kernel.now number state) }

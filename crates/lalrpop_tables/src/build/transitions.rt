@@ -3,8 +3,9 @@ ghost use Rattle.std.specs.Prelude.{◌≡◌, IfOk, OnOk};
 ghost use Rattle.std.specs.BTreeMap.{keys};
 ghost use Rattle.lalrpop_base.specs.Places.{AllDiffer};
 ghost use Rattle.lalrpop_tables.specs.Entries.{IsPushedAt};
-ghost use Rattle.lalrpop_tables.specs.Transitions.{AreMoves, IsMoveAdded, IsEdgeAdded, AreEdges, IsReached};
+ghost use Rattle.lalrpop_tables.specs.Transitions.{AreMoves, AreShifted, IsMoveAdded, IsEdgeAdded, AreEdges, IsReached};
 
+use super::kernel::Kernel;
 use lalrpop_base::kernel_set::KernelSet;
 use lalrpop_base::lookahead::Lookahead;
 use lalrpop_base::lr1_core::item::Item;
@@ -15,11 +16,8 @@ use lalrpop_base::sequence::Sequence;
 use std::alloc::Global;
 use std::collections::BTreeMap;
 
-/// The items of a kernel.
-pub type Items<'grammar, L> = Sequence<Item<'grammar, L>>;
-
-/// The kernel to which each symbol behind a dot leads.
-pub type Moves<'grammar, L> = BTreeMap<Symbol, Items<'grammar, L>>;
+/// The items to which each symbol behind a dot leads.
+pub type Moves<'grammar, L> = BTreeMap<Symbol, Sequence<Item<'grammar, L>>>;
 
 /// The transitions of a state.
 #[derive(Drop)]
@@ -38,13 +36,13 @@ fn push_moved<'grammar, L: Lookahead>(
     ensures pushed { OnOk result (IsPushedAt symbol.now item.entry moves.old.entries moves.new.entries) }
     ensures differ { OnOk result (AllDiffer (keys moves.new)) }
 {
-    if let Some(kernel) = moves.get_mut(symbol) {
-        kernel.push(item)?;
+    if let Some(items) = moves.get_mut(symbol) {
+        items.push(item)?;
         return Ok(());
     }
-    let mut kernel = Sequence::new(alloc);
-    kernel.push(item)?;
-    moves.insert(symbol.clone(alloc)?, kernel)?;
+    let mut items = Sequence::new(alloc);
+    items.push(item)?;
+    moves.insert(symbol.clone(alloc)?, items)?;
     Ok(())
 }
 
@@ -103,8 +101,9 @@ fn add_edge(symbol: Symbol, target: StateIndex, edges: &mut Edges) -> Result<(),
 pub fn edges_of<'grammar, L: Lookahead>(
     alloc: Global,
     moves: Moves<'grammar, L>,
-    kernels: &mut KernelSet<Items<'grammar, L>>,
+    kernels: &mut KernelSet<Kernel<'grammar, L>>,
 ) -> Result<Edges, OutOfMemory>
+    requires { AreShifted moves.entries }
     ensures edges { IfOk result (λ edges. AreEdges moves.entry.entries kernels.new.list edges) }
     ensures reached { OnOk result (IsReached moves.entry.entries kernels.old kernels.new) }
 {
@@ -112,8 +111,8 @@ pub fn edges_of<'grammar, L: Lookahead>(
         shifts: BTreeMap::new(alloc),
         gotos: BTreeMap::new(alloc),
     };
-    for (symbol, kernel) in moves {
-        let target = kernels.add_state(kernel)?;
+    for (symbol, items) in moves {
+        let target = kernels.add_state(Kernel::shifted(items))?;
         add_edge(symbol, target, &mut edges)?;
     }
     Ok(edges)

@@ -1,10 +1,14 @@
 use Rattle.std.proofs.Common.{sym, subst, refl}
 use Rattle.lalrpop_tables.specs.Closure.{AreItemsBy, IsClosureBy}
 use Rattle.lalrpop_tables.proofs.Coherence.{Built-made, Reached-extends, Reached-led}
+use Rattle.lalrpop_tables.proofs.KernelDots.{Moves-shifted}
 use Rattle.lalrpop_tables.proofs.build.states.build_state.Goals as goal
 
 pub closure-requires : goal.closure-requires
 closure-requires g c = record { kernel = subst (AreItemsBy g.L.Lookahead.meaning c.args.lr.now.construction.rules) (sym c.as_slice.ensures) c.requires.kernel }
+
+pub edges_of-requires : goal.edges_of-requires
+edges_of-requires g c = let moves = rw c.deref.ensures.value at c.in_ok-moves.ensures in Moves-shifted c.in_ok-items.items.items _ moves
 
 pub returns-clause-built : goal.returns-clause-built
 returns-clause-built g c =
