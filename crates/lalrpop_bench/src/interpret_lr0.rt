@@ -1,62 +1,41 @@
-// The parser over LR(0) states that are made by hand: they reduce whatever the token.
-use crate::interpret::{list, literal, production, stack_told, told};
+// The parser over LR(0) states, with or without conflicts: they reduce whatever the token.
+use crate::interpret::{stack_told, told};
+use crate::plain::grammars::PlainGrammar;
 use lalrpop_base::lookahead::nil::Nil;
-use lalrpop_base::lr1_core::item::Item;
-use lalrpop_base::lr1_core::state::{Items, State, StateIndex};
-use lalrpop_base::repr::terminals::TerminalSet;
-use lalrpop_base::repr::{Production, TerminalString};
+use lalrpop_base::lr1_core::state::{BuildError, State};
+use lalrpop_base::repr::NonterminalString;
+use lalrpop_base::repr::grammar::{Grammar, is_well_formed};
+use lalrpop_base::text::Text;
+use lalrpop_tables::build::build_lr0_states;
 use std::alloc::Global;
-use std::collections::BTreeMap;
 use std::process::Abort;
 use std::test::Fail;
 
-// A state with one item.
-fn state<'g>(
-    rt: &impl Abort,
-    alloc: Global,
-    production: &'g Production,
-    index: usize,
-    shifts: BTreeMap<TerminalString, StateIndex>,
-    reductions: Vec<(Nil, &'g Production)>,
-) -> Result<State<'g, Nil>, Fail> {
-    assert!(rt; index <= production.symbols.len());
-    let mut items = Vec::new(alloc);
-    items.push(Item {
-        production,
-        index,
-        lookahead: Nil,
-    })?;
-    Ok(State {
-        index: StateIndex(index),
-        items: Items { vec: items },
-        shifts,
-        reductions,
-        gotos: BTreeMap::new(alloc),
-    })
-}
-
-// The state before a terminal, and the one behind it.
+// The LR(0) states of a grammar from S, and how many conflicts they have.
 fn states<'g>(
     rt: &impl Abort,
     alloc: Global,
-    production: &'g Production,
-) -> Result<Vec<State<'g, Nil>>, Fail> {
-    let mut shifts = BTreeMap::new(alloc);
-    shifts.insert(literal(alloc, "x")?, StateIndex(1))?;
-    let mut reductions = Vec::new(alloc);
-    reductions.push((Nil, production))?;
-    let mut states = Vec::new(alloc);
-    states.push(state(rt, alloc, production, 0, shifts, Vec::new(alloc))?)?;
-    states.push(state(rt, alloc, production, 1, BTreeMap::new(alloc), reductions)?)?;
-    Ok(states)
+    grammar: &'g Grammar,
+) -> Result<(Vec<State<'g, Nil>>, usize), Fail> {
+    if !is_well_formed(grammar) {
+        panic!(rt; "not well-formed");
+    }
+    let start = NonterminalString {
+        text: Text::new(alloc, "S")?,
+    };
+    match build_lr0_states(alloc, grammar, start) {
+        Ok(states) => Ok((states, 0)),
+        Err(BuildError::Conflicts(error)) => Ok((error.states, error.conflicts.len())),
+        Err(BuildError::Memory) => panic!(rt; "no memory"),
+    }
 }
 
 #[test]
 fn whatever_the_token(rt: HostRuntime) -> Result<(), Fail> {
     let alloc = rt.alloc();
-    let terminals = TerminalSet::new(alloc, list(alloc, &["x"])?)?;
-    let s = production(alloc, &["x"])?;
-    let states = states(&rt, alloc, &s)?;
+    let grammar = PlainGrammar::new(alloc, "S = \"x\"")?.to_grammar(alloc)?;
+    let (states, conflicts) = states(&rt, alloc, &grammar)?;
+    assert_eq!(rt; (states.len(), conflicts), (2, 0));
     let cases: [(&[&str], usize, &str); 7] = [
         (&["x"], 2, "[S: \"x\"]"),
         (&["x"], 1, "Limit"),
@@ -67,10 +46,24 @@ fn whatever_the_token(rt: HostRuntime) -> Result<(), Fail> {
         (&["y"], 0, "0 refuses \"y\""),
     ];
     for (words, limit, wanted) in cases {
-        let answer = told(&rt, alloc, &states, &terminals, words, limit)?;
+        let answer = told(&rt, alloc, &states, &grammar.terminals, words, limit)?;
         assert_eq!(rt; answer.as_str(), wanted);
     }
-    let stack = stack_told(&rt, alloc, &states, &terminals, &["x"], 1)?;
+    let stack = stack_told(&rt, alloc, &states, &grammar.terminals, &["x"], 1)?;
     assert_eq!(rt; stack.as_str(), "[S0, S1]");
+    Ok(())
+}
+
+#[test]
+fn reductions_without_end(rt: HostRuntime) -> Result<(), Fail> {
+    let alloc = rt.alloc();
+    let lines = "S = E \"x\"\nE = B E \"y\"\nE = \"z\"\nB =";
+    let grammar = PlainGrammar::new(alloc, lines)?.to_grammar(alloc)?;
+    let (states, conflicts) = states(&rt, alloc, &grammar)?;
+    assert_eq!(rt; (states.len(), conflicts), (7, 2));
+    for limit in [5, 0] {
+        let answer = told(&rt, alloc, &states, &grammar.terminals, &["x"], limit)?;
+        assert_eq!(rt; answer.as_str(), "Limit");
+    }
     Ok(())
 }

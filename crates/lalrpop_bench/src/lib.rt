@@ -27,6 +27,8 @@ mod interpret_rows;
 #[cfg(test)]
 mod interpret_tree;
 #[cfg(test)]
+mod kernel;
+#[cfg(test)]
 mod kernel_set;
 #[cfg(test)]
 mod lookahead;
