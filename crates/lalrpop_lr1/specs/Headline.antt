@@ -1,13 +1,18 @@
 -- What is promised from a grammar to its trees: that LR(1) grammars have deterministic parsers (Knuth 1965), in this library's words.
 use Rattle.std.specs.Prelude.{◌≡◌, ℕ, ◌<◌, ◌≤◌, List, Result, Ok, Err}
 use Rattle.lalrpop_base.specs.Bits.{Bits}
+use Rattle.lalrpop_base.specs.Contents.{contents}
+use Rattle.lalrpop_base.specs.Runs.{Outcome, Parsed, HasOutcome, Refused as RefusedIn, Limit as CutOff}
 use Rattle.lalrpop_base.specs.States.{Contents, AreFaithful}
 use Rattle.lalrpop_base.specs.Trees.{Tree, beside, no_trees, nodes, IsParseTree}
+use Rattle.lalrpop_base.specs.WellFormed.{Rules}
 use Rattle.lalrpop_base.specs.declared.lookahead.token.Token.{Token}
+use Rattle.lalrpop_base.specs.declared.lr1_core.state.State.{State}
 use Rattle.lalrpop_base.specs.declared.lr1_core.state.TableConstructionError.{TableConstructionError}
 use Rattle.lalrpop_base.specs.declared.repr.NonterminalString.{NonterminalString}
 use Rattle.lalrpop_base.specs.declared.repr.Production.{Production}
 use Rattle.lalrpop_base.specs.declared.repr.TerminalString.{TerminalString}
+use Rattle.lalrpop_tables.specs.Canonical.{AreCanonicalStates}
 use Rattle.lalrpop_lr1.specs.FaithfulAnswers.{IsCutOff}
 use Rattle.lalrpop_lr1.specs.ParseTrees.{tree_of}
 use Rattle.lalrpop_lr1.specs.declared.headline.ParseError.{ParseError}
@@ -60,3 +65,18 @@ pub record IsCutOffByTables (g : List Production) (start : NonterminalString) (w
   pub states : ℕ → Contents
   pub faithful : AreFaithful g start states
   pub cut_off : IsCutOff states w limit
+
+-- the answer tells what a run comes to: a tree, a refusal by its token, or the limit. Conflicts and want of memory tell nothing of it
+abbrev pub IsOutcomeTold : (Outcome → Type 0) → Result ParseTree ParseError → Type 0
+IsOutcomeTold R (Ok tree) = R (Parsed (tree_of tree))
+IsOutcomeTold R (Err (Conflicts error)) = Unit {0}
+IsOutcomeTold R (Err (Refused token)) = (n : ℕ) × R (RefusedIn n token)
+IsOutcomeTold R (Err Limit) = R CutOff
+IsOutcomeTold R (Err Memory) = Unit {0}
+
+-- the answer tells what the run over the canonical states comes to, which are faithful
+pub record IsToldByTables (g : Rules) (start : NonterminalString) (w : List TerminalString) (limit : ℕ) (answer : Result ParseTree ParseError) : Type 0 where
+  pub tables : List (State Bits)
+  pub canonical : AreCanonicalStates g start tables
+  pub faithful : AreFaithful g.productions start (contents g.terminals tables)
+  pub told : IsOutcomeTold (HasOutcome (contents g.terminals tables) w limit) answer

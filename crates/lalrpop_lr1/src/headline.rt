@@ -3,14 +3,14 @@ ghost use Rattle.std.specs.Prelude.{◌≡◌, ◌<◌, length, IfOk, IfErr};
 ghost use Rattle.lalrpop_base.specs.Coherent.{AreCoherent};
 ghost use Rattle.lalrpop_base.specs.Contents.{contents};
 ghost use Rattle.lalrpop_base.specs.Grammar.{IsOnNoRightSide};
-ghost use Rattle.lalrpop_base.specs.Runs.{IsFirstWrong};
+ghost use Rattle.lalrpop_base.specs.Runs.{HasOutcome, IsFirstWrong};
 ghost use Rattle.lalrpop_base.specs.Validity.{IsLR1};
 ghost use Rattle.lalrpop_base.specs.WellFormed.{IsWellFormed, productions, rules_of};
 ghost use Rattle.lalrpop_tables.specs.Canonical.{AreCanonicalStates};
 ghost use Rattle.lalrpop_tables.specs.CanonicalConflicts.{FailByCanonicalConflicts};
 ghost use Rattle.lalrpop_tables.specs.EarlyStop.{StopsAfter};
 ghost use Rattle.lalrpop_lr1.specs.FaithfulAnswers.{ForEachGrammar, IsTreeWithin, IsCutOff};
-ghost use Rattle.lalrpop_lr1.specs.Headline.{HadTables, IfConflicts, IfRefusedAt, IfLimitTold, TellsTrees, IsCutOffByTables};
+ghost use Rattle.lalrpop_lr1.specs.Headline.{HadTables, IfConflicts, IfRefusedAt, IfLimitTold, TellsTrees, IsCutOffByTables, IsOutcomeTold, IsToldByTables};
 ghost use Rattle.lalrpop_lr1.specs.ParseTrees.{tree_of};
 
 use crate::interpret::{InterpretError, ParseTree, interpret};
@@ -55,6 +55,9 @@ pub fn parse<'grammar>(
     ensures canonical_conflicts { options.now.stop_after ≡ 0 → IfErr result (IfConflicts (λ error. FailByCanonicalConflicts grammar.now start error.states.items error.conflicts.items)) }
     ensures stopped { IfErr result (IfConflicts (λ error. StopsAfter (rules_of grammar.now) start options.now.stop_after error.states.items error.conflicts.items)) }
 
+    // The answer is what the run by the tables comes to, whatever the start symbol.
+    ensures run { HadTables result → IsToldByTables (rules_of grammar.now) start tokens.items limit result }
+
     // For a start symbol on no right side, the trees are exactly the parse trees within the limit, and a refusal names the first wrong token.
     ensures parsed { IfOk result (λ tree. IsOnNoRightSide (productions grammar.now) start → IsTreeWithin limit tokens.items (tree_of tree) (productions grammar.now) start) }
     ensures parses { IsLR1 (productions grammar.now) start → IsOnNoRightSide (productions grammar.now) start → TellsTrees limit tokens.items result (productions grammar.now) start }
@@ -79,6 +82,7 @@ fn parse_by<'a, 'grammar>(
     requires coherent { AreCoherent states.now }
     requires some { 0 < length states.now }
     ensures conflicts { IfErr result (IfConflicts (λ _. ⊥)) }
+    ensures run { IsOutcomeTold (HasOutcome (contents terminals.now states.now) tokens.items limit) result }
     ensures parsed { IfOk result (λ tree. ForEachGrammar (contents terminals.now states.now) (IsTreeWithin limit tokens.items (tree_of tree))) }
     ensures parses { ForEachGrammar (contents terminals.now states.now) (TellsTrees limit tokens.items result) }
     ensures limit { IfErr result (IfLimitTold (IsCutOff (contents terminals.now states.now) tokens.items limit)) }
