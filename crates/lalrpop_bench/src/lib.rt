@@ -5,6 +5,8 @@
 #[cfg(test)]
 mod build;
 #[cfg(test)]
+mod build_lalr;
+#[cfg(test)]
 mod check;
 #[cfg(test)]
 mod collapsible;
