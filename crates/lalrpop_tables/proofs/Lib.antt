@@ -23,6 +23,7 @@ pub mod CollapseCoherent
 pub mod CollapseContents
 pub mod CollapseDots
 pub mod CollapseLalr
+pub mod CollapseTold
 pub mod ConflictFree
 pub mod ConflictLists
 pub mod Contained

@@ -1,5 +1,5 @@
 -- Renumbered tables have a state and no conflict, as before, and stay faithful.
-use Rattle.std.proofs.Common.{◌≡◌, ℕ, inl, inr, List, length, sym, ◌∙◌, ap, subst, arith, Some}
+use Rattle.std.proofs.Common.{◌≡◌, ◌<◌, ℕ, inl, inr, List, length, sym, ◌∙◌, ap, subst, arith, Some}
 use Rattle.std.specs.Prelude.{slice_get}
 use Rattle.std.proofs.lemmas.Bool.{cases_lt}
 use Rattle.std.proofs.lemmas.Option.{slice_get_within}
@@ -11,7 +11,9 @@ use Rattle.lalrpop_base.specs.declared.lr1_core.state.State.{State}
 use Rattle.lalrpop_base.specs.declared.repr.NonterminalString.{NonterminalString}
 use Rattle.lalrpop_base.specs.declared.repr.Production.{Production}
 use Rattle.lalrpop_base.specs.declared.repr.TerminalString.{TerminalString}
+use Rattle.lalrpop_base.specs.declared.repr.grammar.Grammar.{Grammar}
 use Rattle.lalrpop_base.proofs.theory.Renumbering.{faithful-renumbered}
+use Rattle.lalrpop_tables.specs.Lalr.{AreMergedTables, AreRenumberedMerged}
 use Rattle.lalrpop_tables.specs.Renumbered.{IsRenumberedState, AreRenumbered}
 use Rattle.lalrpop_tables.specs.RenumberedTables.{AreRenumberedTables}
 use Rattle.lalrpop_tables.specs.Results.{Construction, AreTables, HaveNoConflict}
@@ -43,6 +45,9 @@ module _ (terminals : List TerminalString) (before after : List (State Bits)) (r
   pub Free-renumbered : HaveNoConflict terminals before → HaveNoConflict terminals after
   Free-renumbered free k state at = let x = state_before k state at in no_conflict_after r.new terminals x.1 state x.3 (free x.0 x.1 x.2)
 
+  pub Some-renumbered : 0 < length before → 0 < length after
+  Some-renumbered some = let k = r.counted in omega arith
+
   pub Faithful-renumbered : (g : List Production) (start : NonterminalString) → AreFaithful g start (contents terminals before) → AreFaithful g start (contents terminals after)
   Faithful-renumbered g start f = faithful-renumbered r.new r.old (contents terminals before) (contents terminals after) r.renumbering g start f
 
@@ -53,4 +58,12 @@ Tables-renumbered c built tables made r = record {
   renumbered = r;
   some = let l = made.made.some in let k = r.counted in omega arith;
   free = Free-renumbered c.rules.terminals built tables r made.free;
+}
+
+pub Merged-renumbered : (g : Grammar) (start : NonterminalString) (built tables : List (State Bits)) → AreMergedTables g start built → AreRenumbered g.terminals built tables → AreRenumberedMerged g start tables
+Merged-renumbered g start built tables made r = record {
+  built = built;
+  made = made;
+  renumbered = r;
+  free = Free-renumbered g.terminals built tables r made.merged.free;
 }

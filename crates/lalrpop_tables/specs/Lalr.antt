@@ -1,6 +1,7 @@
 -- LALR(1) tables: what the collapse of a grammar's canonical states tells of the grammar.
-use Rattle.std.specs.Prelude.{List}
+use Rattle.std.specs.Prelude.{◌≡◌, ◌⊎◌, ℕ, List, IsTrue}
 use Rattle.lalrpop_base.specs.Bits.{Bits}
+use Rattle.lalrpop_base.specs.Coherent.{AreCoherent}
 use Rattle.lalrpop_base.specs.Contents.{contents}
 use Rattle.lalrpop_base.specs.States.{AreFaithful}
 use Rattle.lalrpop_base.specs.Validity.{IsLALR1}
@@ -12,7 +13,17 @@ use Rattle.lalrpop_base.specs.declared.repr.NonterminalString.{NonterminalString
 use Rattle.lalrpop_base.specs.declared.repr.Production.{Production}
 use Rattle.lalrpop_base.specs.declared.repr.grammar.Grammar.{Grammar}
 use Rattle.lalrpop_tables.specs.Canonical.{AreCanonicalStates}
-use Rattle.lalrpop_tables.specs.Results.{AreStatesOf, canonical_of}
+use Rattle.lalrpop_tables.specs.Collapsed.{AreOrdered, AreCollapsedTables, FailsByCollapse}
+use Rattle.lalrpop_tables.specs.EarlyStop.{FailsAfter}
+use Rattle.lalrpop_tables.specs.Renumbered.{AreRenumbered}
+use Rattle.lalrpop_tables.specs.Results.{HaveNoConflict, AreStatesOf, AreTables, canonical_of}
+use Rattle.lalrpop_tables.specs.declared.build.options.Method.TheVariants.{Canonical}
+use Rattle.lalrpop_tables.specs.declared.build.options.Options.{Options}
+
+-- the states are to be collapsed: the grammar asks for it, and the canonical construction decides
+pub record Collapses (g : Grammar) (options : Options) : Type 0 where
+  pub asked : IsTrue g.algorithm.lalr
+  pub canonical : options.method ≡ Canonical
 
 -- the canonical states of the grammar, as their construction makes them
 pub record AreBuiltCanonical (g : Grammar) (start : NonterminalString) (states : List (State Bits)) : Type 0 where
@@ -28,3 +39,36 @@ pub record AreLalrTables (g : Grammar) (start : NonterminalString) (tables : Lis
 abbrev pub TellsNotLALR1 : List Production → NonterminalString → BuildError Bits → Type 0
 TellsNotLALR1 g start (Conflicts error) = ¬ IsLALR1 g start
 TellsNotLALR1 g start Memory = Unit {0}
+
+-- the states of an error are coherent; want of memory says nothing
+abbrev pub HasCoherentStates : BuildError Bits → Type 0
+HasCoherentStates (Conflicts error) = AreCoherent error.states.items
+HasCoherentStates Memory = Unit {0}
+
+-- the transitions of an error's states ascend; want of memory says nothing
+abbrev pub HasOrderedStates : BuildError Bits → Type 0
+HasOrderedStates (Conflicts error) = AreOrdered error.states.items
+HasOrderedStates Memory = Unit {0}
+
+-- canonical states of the grammar without a conflict, merged into states without one
+pub record AreMergedTables (g : Grammar) (start : NonterminalString) (tables : List (State Bits)) : Type 0 where
+  pub before : List (State Bits)
+  pub canonical : AreTables (canonical_of g start) before
+  pub merged : AreCollapsedTables g.terminals before tables
+
+-- those, renumbered
+pub record AreRenumberedMerged (g : Grammar) (start : NonterminalString) (tables : List (State Bits)) : Type 0 where
+  pub built : List (State Bits)
+  pub made : AreMergedTables g start built
+  pub renumbered : AreRenumbered g.terminals built tables
+  pub free : HaveNoConflict g.terminals tables
+
+-- canonical states of the grammar without a conflict, and an error of their collapse
+pub record FailsMerged (g : Grammar) (start : NonterminalString) (error : BuildError Bits) : Type 0 where
+  pub before : List (State Bits)
+  pub canonical : AreTables (canonical_of g start) before
+  pub merged : FailsByCollapse g.terminals before error
+
+-- an error of the canonical construction, or of the collapse of what it makes
+abbrev pub FailsAsLalr : Grammar → NonterminalString → ℕ → BuildError Bits → Type 0
+FailsAsLalr g start stop_after error = FailsAfter (rules_of g) start stop_after error ⊎ FailsMerged g start error

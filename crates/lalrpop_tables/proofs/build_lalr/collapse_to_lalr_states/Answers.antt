@@ -1,33 +1,12 @@
-use Rattle.std.proofs.Common.{◌≡◌, ◌∙◌, List, ℕ, map, subst, ap}
-use Rattle.std.specs.List.{flat_map}
-use Rattle.std.proofs.lemmas.Result.{IfOk-weaker, IfErr-weaker}
-use Rattle.lalrpop_base.specs.Bits.{Bits}
-use Rattle.lalrpop_base.specs.StateConflicts.{state_conflicts}
-use Rattle.lalrpop_base.specs.declared.lr1_core.state.State.{State}
-use Rattle.lalrpop_tables.specs.Collapsed.{dots_in, IsCollapsed}
-use Rattle.lalrpop_tables.specs.Merging.{AreFirstNumbers}
-use Rattle.lalrpop_tables.specs.Moved.{AreMoved}
-use Rattle.lalrpop_tables.specs.Renumbered.{number_in}
-use Rattle.lalrpop_tables.proofs.BothFacts.{MatchResult-both}
-use Rattle.lalrpop_tables.proofs.MergedCollapse.{Merged-collapsed, Collapse-tables, Collapse-failure}
+use Rattle.lalrpop_tables.proofs.CollapseLalr.{Collapse-tells}
+use Rattle.lalrpop_tables.proofs.CollapseTold.{Collapse-coherent, Collapse-some}
 use Rattle.lalrpop_tables.proofs.build_lalr.collapse_to_lalr_states.Goals as goal
 
-pub returns : goal.returns
-returns c =
-    let terminals = c.args.terminals.now in
-    let before : List (State Bits) = c.args.states.items in
-    let moved : List (State Bits) = c.in_ok-numbered.numbered.items in
-    let merged : List (State Bits) = c.in_ok-merged.merged.items in
-    let after : List (State Bits) = c.in_ok-reduced.reduced.items in
-    let numbers : List ℕ = c.in_ok-numbers.numbers.items in
-    let named : AreFirstNumbers (map dots_in before) numbers = subst (λ (xs : List (State Bits)). AreFirstNumbers (map dots_in xs) numbers) c.deref.ensures.value c.in_ok-numbers.ensures in
-    let under_new : AreMoved (number_in numbers) before moved = subst (λ (ns : List ℕ). AreMoved (number_in ns) before moved) c.deref-2.ensures.value c.in_ok-numbered.ensures in
-    let collapsed : IsCollapsed before after = Merged-collapsed before moved merged after numbers c.requires named under_new c.in_ok-merged.ensures c.in_ok-reduced.ensures in
-    let conflicts = c.in_ok-conflicts.conflicts.items in
-    let all : conflicts ≡ flat_map (state_conflicts terminals) after = c.in_ok-conflicts.ensures ∙ ap (flat_map (state_conflicts terminals)) c.deref-3.ensures.value in
-    let r = c.tables_or_conflicts.result in
-    record {
-      merged = MatchResult-both r _ _
-          (IfOk-weaker r _ _ (λ tables t. Collapse-tables terminals before after conflicts collapsed all tables.items t.0 t.1) c.tables_or_conflicts.ensures.ok)
-          (IfErr-weaker r _ _ (λ error f. Collapse-failure terminals before after conflicts collapsed all error f) c.tables_or_conflicts.ensures.failure);
-    }
+pub returns-clause-coherent : goal.returns-clause-coherent
+returns-clause-coherent c = Collapse-coherent (λ tables. tables.items) c.args.terminals.now c.args.states.items c.requires.coherent c.merge_states.result c.merge_states.ensures.merged c.merge_states.ensures.ordered
+
+pub returns-clause-some : goal.returns-clause-some
+returns-clause-some c some = Collapse-some (λ tables. tables.items) c.args.terminals.now c.args.states.items some c.merge_states.result c.merge_states.ensures.merged
+
+pub returns-clause-lalr : goal.returns-clause-lalr
+returns-clause-lalr c g start same built = Collapse-tells (λ tables. tables.items) g start c.args.terminals.now c.all-terminals.ensures.distinct same c.args.states.items built c.merge_states.result c.merge_states.ensures.merged

@@ -1,0 +1,6 @@
+use Rattle.lalrpop_base.specs.Each.{EachBelow}
+use Rattle.lalrpop_tables.specs.Collapsed.{IsOrderedState}
+use Rattle.lalrpop_tables.proofs.build_lalr.order.read_order.Given as goal
+
+abbrev pub invariant-loop-state : goal.invariant-loop-state
+invariant-loop-state l = EachBelow IsOrderedState l.states l.state-index
