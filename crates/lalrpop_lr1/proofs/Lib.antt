@@ -1,6 +1,7 @@
 pub mod Counting
 pub mod FaithfulAnswers
 pub mod FaithfulStacks
+pub mod FilteredWalks
 pub mod InlineApart
 pub mod InlineArising
 pub mod InlineChoices
@@ -20,11 +21,16 @@ pub mod MachineRuns
 pub mod Meetings
 pub mod Outcomes
 pub mod Parses
+pub mod PathLists
+pub mod Paths
+pub mod PathsExact
+pub mod PathsLeft
 pub mod Popping
 pub mod ReportNumbers
 pub mod ReportPadding
 pub mod ReportPlaces
 pub mod ReportTexts
+pub mod SpelledDerivations
 pub mod Spelling
 pub mod Stacks
 pub mod ToldByTables

@@ -1,9 +1,10 @@
 -- Walks over a trace graph end.
 use Rattle.std.proofs.Common.{◌≡◌, ℕ, zero, suc, ◌+◌, ◌-◌, ◌<◌, ◌≤◌, List, [], ◌∷◌, ◌++◌, length, take, reverse, refl, sym, ◌∙◌, ap, arith, cond, true}
-use Rattle.std.specs.Prelude.{slice_get, Option, Some, None, IfSome, unwrap_or}
+use Rattle.std.specs.Prelude.{slice_get, Some, None, unwrap_or}
 use Rattle.std.proofs.lemmas.List.{take_all, reverse-append, reverse-reverse, length-append, length-reverse}
 use Rattle.lalrpop_tables.proofs.Places.{slice_get-push_at, same_some}
 use Rattle.std.proofs.lemmas.Option.{slice_get_within}
+use Rattle.lalrpop_lr1.proofs.PathsLeft.{take_none}
 use Rattle.lalrpop_lr1.specs.TraceGraphs.{node_count, numbers_from}
 use Rattle.lalrpop_lr1.specs.Walks.{total, weight, numbers_at, load_of, load, frames, edge_weight, bound, bound_of, IsEnded}
 use Rattle.lalrpop_lr1.specs.declared.trace.enumerator.PathEnumerator.{PathEnumerator}
@@ -72,10 +73,14 @@ stopped_load old new number same_graph same_start same_frames none =
     ∙ popped g old.start (node_count g) s (frames old)
 
 -- a walk that took an edge has its weight less left
-pub taken_load : (g : TraceGraph) (start : TraceGraphNode) (n : ℕ) (fs : List EnumeratorState) (after left most : ℕ) (r : Option ℕ) → left ≡ suc after → load_of g start n fs left ≤ most →
-    IfSome r (λ k. slice_get (numbers_at g start fs) after ≡ Some k) → IfSome r (λ k. load_of g start n fs after + weight g (n - length fs) k ≤ most)
-taken_load g start n fs after left most None e h at = tt
-taken_load g start n fs after left most (Some k) e h at = omega (arith, taken g start n fs after k at, ap (load_of g start n fs) e, h)
+pub taken_load : (g : TraceGraph) (start : TraceGraphNode) (n : ℕ) (fs : List EnumeratorState) (after left most k : ℕ) → left ≡ suc after → load_of g start n fs left ≤ most → slice_get (numbers_at g start fs) after ≡ Some k → load_of g start n fs after + weight g (n - length fs) k ≤ most
+taken_load g start n fs after left most k e h at = omega (arith, taken g start n fs after k at, ap (load_of g start n fs) e, h)
+
+-- a number behind all edges weighs nothing
+pub none_load : (g : TraceGraph) (start : TraceGraphNode) (n : ℕ) (fs : List EnumeratorState) (after left : ℕ) → left ≡ suc after → slice_get (numbers_at g start fs) after ≡ None → load_of g start n fs after ≡ load_of g start n fs left
+none_load g start n fs after left e at =
+    let w = weight g (n - length fs) in
+    load_split g start n fs after ∙ ap (λ (ks : List ℕ). total w ks + below g start n fs) (sym (take_none (numbers_at g start fs) after at)) ∙ sym (load_split g start n fs (suc after)) ∙ ap (load_of g start n fs) (sym e)
 
 -- the edges at the node to which the newest edge led
 at_newest : (g : TraceGraph) (start : TraceGraphNode) (stack newest_first : List EnumeratorState) (s : EnumeratorState) → stack ≡ reverse newest_first → slice_get stack (length stack - 1) ≡ Some s → numbers_at g start newest_first ≡ numbers_from g s.number

@@ -1,7 +1,9 @@
--- What a path of a trace graph spells. A path lists its edges innermost first.
-use Rattle.std.specs.Prelude.{◌≡◌, ℕ, ◌-◌, List, [], ◌∷◌, ◌++◌, map, length, slice_get, Option, Some, None, option_copied}
+-- What a path of a trace graph spells. A path lists the numbers of its edges, innermost first.
+use Rattle.std.specs.Prelude.{◌≡◌, ℕ, ◌-◌, ◌≤◌, List, [], ◌∷◌, ◌++◌, map, length, take, drop, slice_get, Option, Some, None, option_copied, Contains}
 use Rattle.lalrpop_base.specs.declared.repr.NonterminalString.{NonterminalString}
+use Rattle.lalrpop_base.specs.declared.repr.Production.{Production}
 use Rattle.lalrpop_base.specs.declared.repr.Symbol.{Symbol}
+use Rattle.lalrpop_base.specs.declared.repr.Symbol.TheVariants.{Nonterminal as NonterminalOf}
 use Rattle.lalrpop_lr1.specs.declared.trace.node.TraceGraphNode.{TraceGraphNode}
 use Rattle.lalrpop_lr1.specs.declared.trace.node.TraceGraphNode.TheVariants.{Nonterminal, Item}
 use Rattle.lalrpop_lr1.specs.declared.trace.trace_graph.TraceGraph.{TraceGraph}
@@ -51,46 +53,89 @@ abbrev pub reduced_name : Option TraceGraphEdge → Option NonterminalString
 reduced_name None = None
 reduced_name (Some e) = Some (name_of e.from)
 
+-- the numbers of the edges that a walk took
+abbrev pub path_of : List EnumeratorState → List ℕ
+path_of states = map (λ (s : EnumeratorState). s.number) states
+
 module _ (graph : TraceGraph) where
-  -- the edge that was taken
-  abbrev pub edge_of : EnumeratorState → Option TraceGraphEdge
-  edge_of s = slice_get graph.edges s.number
+  -- the edge with the number
+  abbrev pub edge_of : ℕ → Option TraceGraphEdge
+  edge_of k = slice_get graph.edges k
 
   -- the prefixes, outermost first
-  abbrev pub prefixes : List EnumeratorState → List Symbol
+  abbrev pub prefixes : List ℕ → List Symbol
   prefixes [] = []
-  prefixes (s ∷ path) = prefixes path ++ prefix_of (edge_of s)
+  prefixes (k ∷ path) = prefixes path ++ prefix_of (edge_of k)
 
   -- the suffixes, innermost first
-  abbrev pub suffixes : List EnumeratorState → List Symbol
+  abbrev pub suffixes : List ℕ → List Symbol
   suffixes [] = []
-  suffixes (s ∷ path) = suffix_of (edge_of s) ++ suffixes path
+  suffixes (k ∷ path) = suffix_of (edge_of k) ++ suffixes path
 
   -- the innermost cursor, or the sign of a right side without symbols
-  abbrev pub place : List EnumeratorState → List ExampleSymbol
+  abbrev pub place : List ℕ → List ExampleSymbol
   place [] = []
-  place (s ∷ path) = place_of (cursor_of (edge_of s)) (prefix_of (edge_of s))
+  place (k ∷ path) = place_of (cursor_of (edge_of k)) (prefix_of (edge_of k))
 
   -- the innermost cursor, if there is one
-  abbrev pub innermost : List EnumeratorState → List Symbol
+  abbrev pub innermost : List ℕ → List Symbol
   innermost [] = []
-  innermost (s ∷ path) = cursor_list (cursor_of (edge_of s))
+  innermost (k ∷ path) = cursor_list (cursor_of (edge_of k))
 
   -- what follows the place of the example: the innermost cursor, and the suffixes
-  abbrev pub following : List EnumeratorState → List Symbol
+  abbrev pub following : List ℕ → List Symbol
   following path = innermost path ++ suffixes path
 
   -- the symbols of the example
-  abbrev pub spelled : List EnumeratorState → List ExampleSymbol
+  abbrev pub spelled : List ℕ → List ExampleSymbol
   spelled path = map SymbolOf (prefixes path) ++ (place path ++ map SymbolOf (suffixes path))
 
   -- the reductions of an example of so many symbols, innermost first, each from behind the prefixes to before the suffixes of the edges around it
-  abbrev pub reduced : ℕ → List EnumeratorState → List Reduction
+  abbrev pub reduced : ℕ → List ℕ → List Reduction
   reduced count [] = []
-  reduced count (s ∷ path) = reduced_at (edge_of s) (length (prefixes path)) (count - length (suffixes path)) ++ reduced count path
+  reduced count (k ∷ path) = reduced_at (edge_of k) (length (prefixes path)) (count - length (suffixes path)) ++ reduced count path
 
   -- the example that a path spells
-  pub record IsExampleOf (path : List EnumeratorState) (example : Example) : Type 0 where
+  pub record IsExampleOf (path : List ℕ) (example : Example) : Type 0 where
     pub symbols : example.symbols.items ≡ spelled path
     pub cursor : example.cursor ≡ length (prefixes path)
     pub reductions : example.reductions.items ≡ reduced (length (spelled path)) path
+
+-- ---- what an example derives
+
+-- the symbols, where the sign of a right side without symbols reads as nothing
+abbrev pub read : List ExampleSymbol → List Symbol
+read [] = []
+read (SymbolOf x ∷ symbols) = x ∷ read symbols
+read (Epsilon ∷ symbols) = read symbols
+
+-- what stands from one place to before another
+abbrev pub between : List ExampleSymbol → ℕ → ℕ → List Symbol
+between symbols start end = read (take (end - start) (drop start symbols))
+
+-- the list is the right side of a production of the name
+abbrev pub IsRightSide : List Production → NonterminalString → List Symbol → Type 0
+IsRightSide productions name symbols = (p : Production) × Contains productions p × (p.nonterminal ≡ name) × (p.symbols ≡ symbols)
+
+-- each reduction stands around the one before it; what it reduces, with that one's part replaced by its nonterminal, is a right side of its own nonterminal
+abbrev pub ReduceAround : List Production → List ExampleSymbol → Reduction → List Reduction → Type 0
+ReduceAround productions symbols inner [] = Unit {0}
+ReduceAround productions symbols inner (r ∷ rs) =
+    (r.start ≤ inner.start) × (inner.end ≤ r.end) × IsRightSide productions r.nonterminal (between symbols r.start inner.start ++ (NonterminalOf inner.nonterminal ∷ between symbols inner.end r.end)) × ReduceAround productions symbols r rs
+
+-- the innermost reduction is of a right side of its nonterminal, and so is each around it
+abbrev pub ReduceAll : List Production → List ExampleSymbol → List Reduction → Type 0
+ReduceAll productions symbols [] = ⊥
+ReduceAll productions symbols (r ∷ rs) = (r.start ≤ r.end) × IsRightSide productions r.nonterminal (between symbols r.start r.end) × ReduceAround productions symbols r rs
+
+-- for each reduction, what stands between its start and end, with the next inner one's part replaced by that one's nonterminal, is the right side of a production of its nonterminal
+abbrev pub SpellsDerivation : List Production → Example → Type 0
+SpellsDerivation productions example = ReduceAll productions example.symbols.items example.reductions.items
+
+-- an edge carries a right side of its source's nonterminal, and the nonterminal to which it leads, if it leads to one, is its cursor
+pub record CarriesRightSide (productions : List Production) (e : TraceGraphEdge) : Type 0 where
+  pub right_side : IsRightSide productions (name_of e.from) (e.symbol_sets.prefix.now ++ (cursor_list (option_copied e.symbol_sets.cursor) ++ e.symbol_sets.suffix.now))
+  pub cursor : (name : NonterminalString) → e.to ≡ Nonterminal name → option_copied e.symbol_sets.cursor ≡ Some (NonterminalOf name)
+
+abbrev pub CarryRightSides : List Production → List TraceGraphEdge → Type 0
+CarryRightSides productions edges = (k : ℕ) (e : TraceGraphEdge) → slice_get edges k ≡ Some e → CarriesRightSide productions e

@@ -12,6 +12,7 @@ pub mod Inlined
 pub mod Machines
 pub mod Meetings
 pub mod ParseTrees
+pub mod Paths
 pub mod Reading
 pub mod Report
 pub mod ReportLines

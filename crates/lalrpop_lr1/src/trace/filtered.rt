@@ -1,8 +1,10 @@
 //! The paths that can go on with one of some tokens.
-ghost use Rattle.std.specs.Prelude.{◌≡◌, ◌<◌, IfOk, IfSome};
+ghost use Rattle.std.specs.Prelude.{◌≡◌, false, IsTrue, IsFalse, IfOk};
 ghost use Rattle.std.specs.Iterator.{at_most};
 ghost use Rattle.lalrpop_lr1.specs.TraceGraphs.{AreKnownEdges};
-ghost use Rattle.lalrpop_lr1.specs.Walks.{bound};
+ghost use Rattle.lalrpop_lr1.specs.Examples.{path_of};
+ghost use Rattle.lalrpop_lr1.specs.Paths.{item_node, paths};
+ghost use Rattle.lalrpop_lr1.specs.Walks.{bound, to_come, Meets, IsSameFilter, GivesNextMeeting};
 
 use super::enumerator::PathEnumerator;
 use super::example::Example;
@@ -31,6 +33,11 @@ impl<'graph, 'grammar> FilteredPathEnumerator<'graph, 'grammar> {
     ) -> Result<Self, OutOfMemory>
         requires known { AreKnownEdges first_sets.now.terminals graph.now.edges }
         ensures known { IfOk result (λ it. AreKnownEdges it.first_sets.now.terminals it.base.graph.now.edges) }
+        ensures graph { IfOk result (λ it. it.base.graph.now ≡ graph.now) }
+        ensures first_sets { IfOk result (λ it. it.first_sets.now ≡ first_sets.now) }
+        ensures lookahead { IfOk result (λ it. it.lookahead ≡ item.now.lookahead) }
+        ensures paths { IfOk result (λ it. to_come it.base ≡ paths graph.now (item_node item.now)) }
+        ensures refused { IfOk result (λ it. it.base.refused ≡ false) }
     {
         Ok(FilteredPathEnumerator {
             alloc,
@@ -40,9 +47,11 @@ impl<'graph, 'grammar> FilteredPathEnumerator<'graph, 'grammar> {
         })
     }
 
-    // Whether the path is none, or can go on with a token of the lookahead.
+    // Whether the path can go on with a token of the lookahead.
     fn fits(&self) -> Result<bool, OutOfMemory>
         requires known { AreKnownEdges self.now.first_sets.now.terminals self.now.base.graph.now.edges }
+        ensures yes { IfOk result (λ fits. IsTrue fits → Meets self.now (path_of self.now.base.stack.items)) }
+        ensures no { IfOk result (λ fits. IsFalse fits → ¬ Meets self.now (path_of self.now.base.stack.items)) }
     {
         let first = self.base.first0(self.alloc, self.first_sets)?;
         Ok(first.is_intersecting(&self.lookahead))
@@ -53,6 +62,8 @@ impl<'graph, 'grammar> Iterator for FilteredPathEnumerator<'graph, 'grammar> {
     type Item = Result<Example, OutOfMemory>;
 
     ghost can_next = { λ it. AreKnownEdges it.first_sets.now.terminals it.base.graph.now.edges };
+
+    ghost next_gives = { λ old result new. IsSameFilter old new × GivesNextMeeting old result new };
 
     ghost remaining = { λ it. at_most (bound it.base) };
 

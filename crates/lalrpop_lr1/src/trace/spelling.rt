@@ -1,7 +1,7 @@
 //! What a path spells.
 ghost use Rattle.std.specs.Prelude.{◌≡◌, ◌≤◌, ◌++◌, List, map, length, slice_get, option_copied, Some, Contains, IfOk, OnOk};
 ghost use Rattle.lalrpop_base.specs.First.{IsFirstSet};
-ghost use Rattle.lalrpop_lr1.specs.Examples.{IsExampleOf, prefixes, suffixes, place, place_of, reduced, reduced_at, cursor_list, innermost, following};
+ghost use Rattle.lalrpop_lr1.specs.Examples.{IsExampleOf, path_of, prefixes, suffixes, place, place_of, reduced, reduced_at, cursor_list, innermost, following};
 ghost use Rattle.lalrpop_base.specs.WellFormed.{HasKnownTerminals};
 ghost use Rattle.lalrpop_lr1.specs.TraceGraphs.{AreKnownEdges};
 ghost use Rattle.lalrpop_base.specs.declared.repr.TerminalString.{TerminalString};
@@ -23,7 +23,7 @@ pub(crate) fn first_of<'grammar>(
     path: &[EnumeratorState],
 ) -> Result<TokenSet, OutOfMemory>
     requires known { AreKnownEdges first_sets.now.terminals graph.now.edges }
-    ensures first { IfOk result (IsFirstSet first_sets.now (following graph.now path.now)) }
+    ensures first { IfOk result (IsFirstSet first_sets.now (following graph.now (path_of path.now))) }
 {
     let symbols = symbols_behind(alloc, graph, path)?;
     let set = first_sets.first0(alloc, &symbols)?;
@@ -37,7 +37,7 @@ fn symbols_behind<'grammar>(
     path: &[EnumeratorState],
 ) -> Result<Vec<Symbol>, OutOfMemory>
     ensures known { IfOk result (λ symbols. (terminals : List TerminalString) → AreKnownEdges terminals graph.now.edges → HasKnownTerminals terminals symbols.items) }
-    ensures following { IfOk result (λ symbols. symbols.items ≡ following graph.now path.now) }
+    ensures following { IfOk result (λ symbols. symbols.items ≡ following graph.now (path_of path.now)) }
 {
     let mut symbols = innermost_cursor(alloc, graph, path)?;
     let mut left = path;
@@ -55,7 +55,7 @@ fn innermost_cursor<'grammar>(
     path: &[EnumeratorState],
 ) -> Result<Vec<Symbol>, OutOfMemory>
     ensures known { IfOk result (λ symbols. (terminals : List TerminalString) → AreKnownEdges terminals graph.now.edges → HasKnownTerminals terminals symbols.items) }
-    ensures innermost { IfOk result (λ symbols. symbols.items ≡ innermost graph.now path.now) }
+    ensures innermost { IfOk result (λ symbols. symbols.items ≡ innermost graph.now (path_of path.now)) }
 {
     let Some((inner, _)) = path.split_first() else {
         return Ok(Vec::new(alloc));
@@ -93,7 +93,7 @@ pub(crate) fn example_of<'grammar>(
     graph: &TraceGraph<'grammar>,
     path: &[EnumeratorState],
 ) -> Result<Example, OutOfMemory>
-    ensures { IfOk result (IsExampleOf graph.now path.now) }
+    ensures { IfOk result (IsExampleOf graph.now (path_of path.now)) }
 {
     let mut symbols = Vec::new(alloc);
     push_prefixes(alloc, graph, path, &mut symbols)?;
@@ -131,7 +131,7 @@ fn push_prefixes<'grammar>(
     path: &[EnumeratorState],
     symbols: &mut Vec<ExampleSymbol>,
 ) -> Result<(), OutOfMemory>
-    ensures { OnOk result (symbols.new.items ≡ symbols.old.items ++ map ExampleSymbol.Symbol (prefixes graph.now path.now)) }
+    ensures { OnOk result (symbols.new.items ≡ symbols.old.items ++ map ExampleSymbol.Symbol (prefixes graph.now (path_of path.now))) }
 {
     let mut left = path;
     while let Some((outermost, inner)) = left.split_last() {
@@ -148,7 +148,7 @@ fn push_place<'grammar>(
     path: &[EnumeratorState],
     symbols: &mut Vec<ExampleSymbol>,
 ) -> Result<(), OutOfMemory>
-    ensures { OnOk result (symbols.new.items ≡ symbols.old.items ++ place graph.now path.now) }
+    ensures { OnOk result (symbols.new.items ≡ symbols.old.items ++ place graph.now (path_of path.now)) }
 {
     let Some((innermost, _)) = path.split_first() else {
         return Ok(());
@@ -188,7 +188,7 @@ fn push_suffixes<'grammar>(
     path: &[EnumeratorState],
     symbols: &mut Vec<ExampleSymbol>,
 ) -> Result<(), OutOfMemory>
-    ensures { OnOk result (symbols.new.items ≡ symbols.old.items ++ map ExampleSymbol.Symbol (suffixes graph.now path.now)) }
+    ensures { OnOk result (symbols.new.items ≡ symbols.old.items ++ map ExampleSymbol.Symbol (suffixes graph.now (path_of path.now))) }
 {
     let mut left = path;
     while let Some((innermost, outer)) = left.split_first() {
@@ -208,10 +208,10 @@ fn reductions_of<'grammar>(
     behind: usize,
     count: usize,
 ) -> Result<Vec<Reduction>, OutOfMemory>
-    requires before { before ≡ length (prefixes graph.now path.now) }
-    requires behind { behind ≡ length (suffixes graph.now path.now) }
+    requires before { before ≡ length (prefixes graph.now (path_of path.now)) }
+    requires behind { behind ≡ length (suffixes graph.now (path_of path.now)) }
     requires count { behind ≤ count }
-    ensures { IfOk result (λ list. list.items ≡ reduced graph.now count path.now) }
+    ensures { IfOk result (λ list. list.items ≡ reduced graph.now count (path_of path.now)) }
 {
     let mut reductions = Vec::new(alloc);
     let mut left = path;

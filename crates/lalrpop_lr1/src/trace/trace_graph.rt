@@ -1,9 +1,12 @@
 //! The graph of a trace.
-ghost use Rattle.std.specs.Prelude.{◌≡◌, ◌∷◌, ◌++◌, ◌↔◌, [], ℕ, List, Some, None, IsTrue, IsNone, IfSome, IfOk, OnOk, OnErr, false, Contains, map, length, slice_get, option_copied};
+ghost use Rattle.std.specs.Prelude.{◌≡◌, ◌∷◌, ◌++◌, ◌↔◌, [], ℕ, List, Some, None, IsTrue, IsNone, IfOk, OnOk, OnErr, false, Contains, map, length, slice_get, option_copied};
 ghost use Rattle.lalrpop_base.specs.Kernels.{AddsOnce};
+ghost use Rattle.lalrpop_base.specs.Places.{AllDiffer};
 ghost use Rattle.lalrpop_base.specs.declared.repr.TerminalString.{TerminalString};
+ghost use Rattle.lalrpop_lr1.specs.Paths.{is_item, item_node, source, are_one, paths, IsPath};
 ghost use Rattle.lalrpop_lr1.specs.Examples.{prefix_of, cursor_of, suffix_of, reduced_name};
 ghost use Rattle.lalrpop_lr1.specs.TraceGraphs.{AreKnownEdges, IsKnownLabel, IsGraph, IsFrom, KeepPlaces, AddsBoth, AddsEdge, SameLabels, plain, plain_edge, node_count, numbers_to, numbers_from};
+ghost use Rattle.lalrpop_lr1.specs.Walks.{to_come};
 ghost use Rattle.lalrpop_lr1.specs.declared.trace.trace_graph.TraceGraphEdge.{TraceGraphEdge};
 
 use super::enumerator::PathEnumerator;
@@ -188,7 +191,13 @@ impl<'grammar> TraceGraph<'grammar> {
     pub fn lr0_examples<'graph>(
         &'graph self,
         item: Lr0Item<'grammar>,
-    ) -> Result<PathEnumerator<'graph, 'grammar>, OutOfMemory> {
+    ) -> Result<PathEnumerator<'graph, 'grammar>, OutOfMemory>
+        ensures graph { IfOk result (λ walk. walk.graph.now ≡ self.now) }
+        ensures paths { IfOk result (λ walk. to_come walk ≡ paths self.now (item_node item.entry)) }
+        ensures exact { IfOk result (λ walk. (path : List ℕ) → Contains (to_come walk) path ↔ IsPath self.now (item_node item.entry) path) }
+        ensures once { IfOk result (λ walk. AllDiffer (to_come walk)) }
+        ensures refused { IfOk result (λ walk. walk.refused ≡ false) }
+    {
         PathEnumerator::new(self.alloc, self, item)
     }
 
@@ -200,6 +209,13 @@ impl<'grammar> TraceGraph<'grammar> {
     ) -> Result<FilteredPathEnumerator<'graph, 'grammar>, OutOfMemory>
         requires known { AreKnownEdges first_sets.now.terminals self.now.edges }
         ensures known { IfOk result (λ it. AreKnownEdges it.first_sets.now.terminals it.base.graph.now.edges) }
+        ensures graph { IfOk result (λ it. it.base.graph.now ≡ self.now) }
+        ensures first_sets { IfOk result (λ it. it.first_sets.now ≡ first_sets.now) }
+        ensures lookahead { IfOk result (λ it. it.lookahead ≡ item.now.lookahead) }
+        ensures paths { IfOk result (λ it. to_come it.base ≡ paths self.now (item_node item.now)) }
+        ensures exact { IfOk result (λ it. (path : List ℕ) → Contains (to_come it.base) path ↔ IsPath self.now (item_node item.now) path) }
+        ensures once { IfOk result (λ it. AllDiffer (to_come it.base)) }
+        ensures refused { IfOk result (λ it. it.base.refused ≡ false) }
     {
         FilteredPathEnumerator::new(self.alloc, first_sets, self, item)
     }
@@ -226,7 +242,7 @@ impl<'grammar> TraceGraph<'grammar> {
 
     /// The number of the edge to a node at a place among those to it.
     pub(crate) fn number_to(&self, node: &TraceGraphNode<'grammar>, place: usize) -> Option<usize>
-        ensures { IfSome result (λ number. slice_get (numbers_to self.now node.now) place ≡ Some number) }
+        ensures { result ≡ slice_get (numbers_to self.now node.now) place }
     {
         let numbers = self.numbers_to(node);
         if place < numbers.len() {
@@ -237,7 +253,7 @@ impl<'grammar> TraceGraph<'grammar> {
 
     /// The same of the node from which an edge comes.
     pub(crate) fn number_from(&self, edge: usize, place: usize) -> Option<usize>
-        ensures { IfSome result (λ number. slice_get (numbers_from self.now edge) place ≡ Some number) }
+        ensures { result ≡ slice_get (numbers_from self.now edge) place }
     {
         let edges = self.edges();
         if edge >= edges.len() {
@@ -258,7 +274,9 @@ impl<'grammar> TraceGraph<'grammar> {
     }
 
     /// Whether an edge comes from an item.
-    pub(crate) fn comes_from_item(&self, edge: usize) -> bool {
+    pub(crate) fn comes_from_item(&self, edge: usize) -> bool
+        ensures { result ≡ is_item (source self.now edge) }
+    {
         let edges = self.edges();
         if edge >= edges.len() {
             return false;
@@ -270,7 +288,9 @@ impl<'grammar> TraceGraph<'grammar> {
     }
 
     /// Whether two edges come from one node.
-    pub(crate) fn come_together(&self, a: usize, b: usize) -> bool {
+    pub(crate) fn come_together(&self, a: usize, b: usize) -> bool
+        ensures { result ≡ are_one (source self.now a) (source self.now b) }
+    {
         let edges = self.edges();
         if a >= edges.len() || b >= edges.len() {
             return false;

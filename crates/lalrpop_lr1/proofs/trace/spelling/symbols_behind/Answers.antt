@@ -1,11 +1,11 @@
 use Rattle.std.proofs.Common.{◌++◌, ap}
-use Rattle.lalrpop_lr1.specs.Examples.{suffixes}
+use Rattle.lalrpop_lr1.specs.Examples.{path_of, suffixes}
 use Rattle.lalrpop_lr1.proofs.KnownLabels.{known_more}
 use Rattle.lalrpop_lr1.proofs.Spelling.{following_step, following_done}
 use Rattle.lalrpop_lr1.proofs.trace.spelling.symbols_behind.Goals as goal
 
 pub loop-inner-init : goal.loop-inner-init
-loop-inner-init c = record { known = c.in_ok-symbols.ensures.known; made = ap (λ xs. xs ++ suffixes c.args.graph.now c.args.path.now) c.in_ok-symbols.ensures.innermost }
+loop-inner-init c = record { known = c.in_ok-symbols.ensures.known; made = ap (λ xs. xs ++ suffixes c.args.graph.now (path_of c.args.path.now)) c.in_ok-symbols.ensures.innermost }
 
 pub loop-inner-preserved : goal.loop-inner-preserved
 loop-inner-preserved c = record {

@@ -1,14 +1,14 @@
 use Rattle.std.proofs.Common.{◌≡◌, List, ◌++◌, length}
 use Rattle.lalrpop_base.specs.WellFormed.{HasKnownTerminals}
 use Rattle.lalrpop_base.specs.declared.repr.TerminalString.{TerminalString}
-use Rattle.lalrpop_lr1.specs.Examples.{suffixes, following}
+use Rattle.lalrpop_lr1.specs.Examples.{path_of, suffixes, following}
 use Rattle.lalrpop_lr1.specs.TraceGraphs.{AreKnownEdges}
 use Rattle.lalrpop_lr1.proofs.trace.spelling.symbols_behind.Given as goal
 
 abbrev pub invariant-loop-inner : goal.invariant-loop-inner
 invariant-loop-inner l = record {
   known : (terminals : List TerminalString) → AreKnownEdges terminals l.graph.edges → HasKnownTerminals terminals l.symbols.items;
-  made : l.symbols.items ++ suffixes l.graph l.left ≡ following l.graph l.path;
+  made : l.symbols.items ++ suffixes l.graph (path_of l.left) ≡ following l.graph (path_of l.path);
 }
 
 abbrev pub decreases-loop-inner : goal.decreases-loop-inner

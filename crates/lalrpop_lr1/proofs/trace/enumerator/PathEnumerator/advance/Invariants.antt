@@ -1,9 +1,15 @@
 use Rattle.std.proofs.Common.{◌≡◌, ◌≤◌}
-use Rattle.lalrpop_lr1.specs.Walks.{load}
+use Rattle.lalrpop_lr1.specs.Walks.{load, remaining}
 use Rattle.lalrpop_lr1.proofs.trace.enumerator.PathEnumerator.advance.Given as goal
 
 abbrev pub invariant-loop-number : goal.invariant-loop-number
-invariant-loop-number l = record { graph : l.self.graph.now ≡ l.initial.self.graph.now; refused : l.self.refused ≡ l.initial.self.refused; less : load l.self ≤ load l.initial.self }
+invariant-loop-number l = record {
+  graph : l.self.graph.now ≡ l.initial.self.graph.now;
+  start : l.self.start ≡ l.initial.self.start;
+  refused : l.self.refused ≡ l.initial.self.refused;
+  less : load l.self ≤ load l.initial.self;
+  paths : remaining l.self ≡ remaining l.initial.self;
+}
 
 abbrev pub decreases-loop-number : goal.decreases-loop-number
 decreases-loop-number l = load l.self

@@ -1,9 +1,15 @@
-use Rattle.std.proofs.Common.{◌≡◌, ◌≤◌, vec_len}
-use Rattle.lalrpop_lr1.specs.Walks.{load}
+use Rattle.std.proofs.Common.{◌≡◌, ◌≤◌}
+use Rattle.lalrpop_lr1.specs.Walks.{load, remaining, steps}
 use Rattle.lalrpop_lr1.proofs.trace.enumerator.PathEnumerator.next_edge.Given as goal
 
 abbrev pub invariant-loop-self : goal.invariant-loop-self
-invariant-loop-self l = record { graph : l.self.graph.now ≡ l.initial.self.graph.now; refused : l.self.refused ≡ l.initial.self.refused; less : load l.self ≤ load l.initial.self }
+invariant-loop-self l = record {
+  graph : l.self.graph.now ≡ l.initial.self.graph.now;
+  start : l.self.start ≡ l.initial.self.start;
+  refused : l.self.refused ≡ l.initial.self.refused;
+  less : load l.self ≤ load l.initial.self;
+  paths : remaining l.self ≡ remaining l.initial.self;
+}
 
 abbrev pub decreases-loop-self : goal.decreases-loop-self
-decreases-loop-self l = vec_len l.self.stack
+decreases-loop-self l = steps l.self

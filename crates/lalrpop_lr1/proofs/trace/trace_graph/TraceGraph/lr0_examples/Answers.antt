@@ -1,0 +1,26 @@
+use Rattle.std.proofs.Common.{◌≡◌, ℕ, List, sym, subst, ◌↔◌}
+use Rattle.std.specs.Prelude.{Contains}
+use Rattle.lalrpop_base.specs.Places.{AllDiffer}
+use Rattle.lalrpop_lr1.specs.TraceGraphs.{IsGraph}
+use Rattle.lalrpop_lr1.specs.Paths.{IsPath, item_node, paths}
+use Rattle.lalrpop_lr1.specs.Walks.{to_come}
+use Rattle.lalrpop_lr1.specs.declared.trace.enumerator.PathEnumerator.{PathEnumerator}
+use Rattle.lalrpop_lr1.proofs.PathsExact.{paths_exact, paths_once, if_ok}
+use Rattle.lalrpop_lr1.proofs.TraceGraphs.{kept_graph}
+use Rattle.lalrpop_lr1.proofs.trace.trace_graph.TraceGraph.lr0_examples.Goals as goal
+
+pub returns-clause-exact : goal.returns-clause-exact
+returns-clause-exact c =
+    let g = c.args.self.now in
+    let start = item_node c.args.item in
+    let ok = subst IsGraph c.self.view_is (kept_graph c.self.invariant) in
+    if_ok c.new.result (λ (walk : PathEnumerator). to_come walk ≡ paths g start) (λ (walk : PathEnumerator). (path : List ℕ) → Contains (to_come walk) path ↔ IsPath g start path) c.new.ensures.paths
+    (λ walk e. subst (λ (ps : List (List ℕ)). (path : List ℕ) → Contains ps path ↔ IsPath g start path) (sym e) (paths_exact g ok start))
+
+pub returns-clause-once : goal.returns-clause-once
+returns-clause-once c =
+    let g = c.args.self.now in
+    let start = item_node c.args.item in
+    let ok = subst IsGraph c.self.view_is (kept_graph c.self.invariant) in
+    if_ok c.new.result (λ (walk : PathEnumerator). to_come walk ≡ paths g start) (λ (walk : PathEnumerator). AllDiffer (to_come walk)) c.new.ensures.paths
+    (λ walk e. subst (λ (ps : List (List ℕ)). AllDiffer ps) (sym e) (paths_once g ok start))
