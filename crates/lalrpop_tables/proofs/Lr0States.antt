@@ -90,6 +90,7 @@ module _ (g : Grammar) (start : NonterminalString) (lookahead : Nil) (well : IsW
             let u = reached_live (productions g) start _ c (reached on_any r start (Closes r) (exactly r) first begins states made.built n l) in
             record { prefix = u.0; live = u.1; after = u.2 };
         closed = c;
+        ascend = λ n state at. (made.built.each n state at).built.closure.ascend;
         some = made.some;
         coherent = made.coherent;
       }

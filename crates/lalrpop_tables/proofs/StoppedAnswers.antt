@@ -77,6 +77,7 @@ module _ (g : Grammar) (start : NonterminalString) (well : IsWellFormed g) (own 
     stops : StopsAfter (rules_of g) start stop_after states conflicts
     stops = record {
       states_are = some_canonical_states g start well own states built differ;
+      made = (first_kernel g start, built);
       conflicts_are = record { all = listed; some = some };
       goes_on = goes_on;
       either = enough_or_all (cases_lt 0 stop_after) (cases_lt (length conflicts) stop_after);

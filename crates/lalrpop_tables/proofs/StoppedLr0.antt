@@ -181,6 +181,7 @@ module _ (g : Grammar) (start : NonterminalString) (lookahead : Nil) (well : IsW
     stops : Lr0StopsAfter (rules_of g) start stop_after states conflicts
     stops = record {
       states_are = some_lr0_states g start lookahead well own states m.built;
+      made = (first_kernel g start lookahead, m.built);
       conflicts_are = All-listed (λ terminals s. nil_conflicts s) g.terminals m.listed;
       some = some;
       goes_on = λ positive. let f = m.goes_on positive in subst (λ (cs : List (Conflict Nil)). length cs < stop_after) (All-listed (λ terminals s. nil_conflicts s) g.terminals f.all) f.fewer;

@@ -1,7 +1,7 @@
 -- Canonical states of which some may be left out, since the construction stopped early.
 use Rattle.std.specs.Prelude.{◌⊎◌, ◌-◌, take, ◌≡◌, ◌≢◌, [], ◌↔◌, ◌<◌, ◌≤◌, ℕ, List, length, map, slice_get, Some, Contains}
 use Rattle.std.specs.List.{flat_map}
-use Rattle.lalrpop_base.specs.Bits.{Bits}
+use Rattle.lalrpop_base.specs.Bits.{Bits, no_bits}
 use Rattle.lalrpop_base.specs.Items.{Dotted}
 use Rattle.lalrpop_base.specs.NilConflicts.{nil_conflicts}
 use Rattle.lalrpop_base.specs.Places.{AllDiffer}
@@ -88,9 +88,10 @@ module _ {L : Type 0} (meaning : L → Bits) (begins : Rules → List Symbol →
   StopsFor s (Conflicts error) = AreMadeFor s error.states.items error.conflicts.items × (error.conflicts.items ≢ [])
   StopsFor s Memory = Unit {0}
 
--- an error under early stop: canonical states with all their conflicts, of which there are some; before the last state they were too few to stop; and there are enough, or no canonical state is left out
+-- an error under early stop: canonical states with all their conflicts, of which there are some; each has its number, and the transitions and reductions of its items; before the last state they were too few to stop; and there are enough, or no canonical state is left out
 pub record StopsAfter (g : Rules) (start : NonterminalString) (stop_after : ℕ) (states : List (State Bits)) (conflicts : List (Conflict Bits)) : Type 0 where
   pub states_are : AreSomeCanonicalStates g start states
+  pub made : (first : List (Dotted Bits)) × ArePartlyBuilt g first states
   pub conflicts_are : AreAllConflicts g.terminals states conflicts
   pub goes_on : GoesOnBeforeLast g.terminals stop_after states
   pub either : AreEnough stop_after (length conflicts) ⊎ AreCanonicalStates g start states
@@ -111,9 +112,14 @@ pub record AreSomeLr0States (g : Rules) (start : NonterminalString) (states : Li
   pub each : (n : ℕ) (state : State Nil) → slice_get states n ≡ Some state → (u : List Symbol) × IsLr0StateFor g start u state
   pub differ : (n m : ℕ) (a b : State Nil) → n < m → slice_get states n ≡ Some a → slice_get states m ≡ Some b → ¬ ((p : Production) (dot : ℕ) → HasDotted a p dot ↔ HasDotted b p dot)
 
--- an error under early stop: LR(0) states with all their conflicts, of which there are some; before the last state they were too few to stop; and there are enough, or no LR(0) state is left out
+-- the closure of a kernel, where no lookahead says anything
+abbrev pub IsNilClosureOf : Rules → List (Dotted Nil) → List (Dotted Nil) → Type 0
+IsNilClosureOf = IsClosureBy (λ lookahead. no_bits) (λ g rest t. ⊥) (λ g rest. ⊥)
+
+-- an error under early stop: LR(0) states with all their conflicts, of which there are some; each has its number, and the transitions and reductions of its items; before the last state they were too few to stop; and there are enough, or no LR(0) state is left out
 pub record Lr0StopsAfter (g : Rules) (start : NonterminalString) (stop_after : ℕ) (states : List (State Nil)) (conflicts : List (Conflict Nil)) : Type 0 where
   pub states_are : AreSomeLr0States g start states
+  pub made : (first : List (Dotted Nil)) × ArePartlyBuiltBy (IsNilClosureOf g) first states
   pub conflicts_are : conflicts ≡ flat_map nil_conflicts states
   pub some : conflicts ≢ []
   pub goes_on : 0 < stop_after → length (flat_map nil_conflicts (take (length states - 1) states)) < stop_after

@@ -1,5 +1,5 @@
 -- The LR(0) states of a grammar (DeRemer 1971; Aho, Sethi and Ullman, section 4.7), as the code's states without lookahead.
-use Rattle.std.specs.Prelude.{◌≡◌, ◌≢◌, ◌<◌, ℕ, Bool, true, List, [], length, Some}
+use Rattle.std.specs.Prelude.{◌≡◌, ◌≢◌, ◌<◌, ℕ, Bool, true, List, [], length, slice_get, Some}
 use Rattle.std.specs.List.{flat_map}
 use Rattle.lalrpop_base.specs.Closures.{AreClosed}
 use Rattle.lalrpop_base.specs.Coherent.{AreCoherent}
@@ -16,6 +16,7 @@ use Rattle.lalrpop_base.specs.declared.lr1_core.state.BuildError.TheVariants.{Co
 use Rattle.lalrpop_base.specs.declared.lr1_core.state.State.{State}
 use Rattle.lalrpop_base.specs.declared.repr.NonterminalString.{NonterminalString}
 use Rattle.lalrpop_base.specs.declared.repr.Symbol.{Symbol}
+use Rattle.lalrpop_tables.specs.Ascending.{Ascend}
 
 -- without lookahead a reduction is by its production on any token
 abbrev pub on_any : Nil → Token → Bool
@@ -31,11 +32,12 @@ pub record IsAfterLive (g : Rules) (start : NonterminalString) (states : List (S
   pub live : IsLive g.productions start prefix
   pub after : state_after (lr0_contents states) prefix ≡ Some n
 
--- after each live prefix stands its state, with exactly the valid dotted productions, their edges and the finished reductions; prefixes with the same valid dotted productions share it; and each state is after one of them
+-- after each live prefix stands its state, with exactly the valid dotted productions, ascending and each once, their edges and the finished reductions; prefixes with the same valid dotted productions share it; and each state is after one of them
 pub record AreLr0States (g : Rules) (start : NonterminalString) (states : List (State Nil)) : Type 0 where
   pub lr0 : AreLr0 g.productions start (lr0_contents states)
   pub live : (n : ℕ) → n < length states → IsAfterLive g start states n
   pub closed : AreClosed g.productions start (lr0_contents states)
+  pub ascend : (n : ℕ) (state : State Nil) → slice_get states n ≡ Some state → Ascend state.items.vec.items
   pub some : 0 < length states
   pub coherent : AreCoherent states
 
