@@ -162,7 +162,7 @@ module _ (g : Grammar) (start : NonterminalString) (lookahead : Nil) (well : IsW
       b.differ (suc n) m k.kernel l (j.numbered ∙ ap Some same) k.numbered
 
   some_lr0_states : AreSomeLr0States (rules_of g) start states
-  some_lr0_states = record { each = λ n s at. each_below (suc n) n (omega arith) s at; differ = apart }
+  some_lr0_states = record { first = first_state; each = λ n s at. each_below (suc n) n (omega arith) s at; differ = apart }
 
 -- ---- what an error says
 module _ (g : Grammar) (start : NonterminalString) (lookahead : Nil) (well : IsWellFormed g) (own : AreOwn g) (stop_after : ℕ) where

@@ -170,4 +170,4 @@ module _ (g : Grammar) (start : NonterminalString) (well : IsWellFormed g) (own 
         b.differ (suc n) m k.kernel l (j.numbered ∙ ap Some same) k.numbered
 
     pub some_canonical_states : AreSomeCanonicalStates (rules_of g) start states
-    some_canonical_states = record { each = λ n s at. each_below (suc n) n (omega arith) s at; differ = apart }
+    some_canonical_states = record { first = first_state; each = λ n s at. each_below (suc n) n (omega arith) s at; differ = apart }

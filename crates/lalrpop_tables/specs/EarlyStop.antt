@@ -52,8 +52,9 @@ pub record HaveSameContents (terminals : List TerminalString) (a b : State Bits)
   pub items : (p : Production) (dot : ℕ) → HasDotted a p dot ↔ HasDotted b p dot
   pub tokens : (p : Production) (dot : ℕ) (t : Token) → HasItemToken terminals a.items.vec.items p dot t ↔ HasItemToken terminals b.items.vec.items p dot t
 
--- each state is that of a live prefix, and no two are the same
+-- the first state is that of the empty prefix, each is that of a live prefix, and no two are the same
 pub record AreSomeCanonicalStates (g : Rules) (start : NonterminalString) (states : List (State Bits)) : Type 0 where
+  pub first : (state : State Bits) → slice_get states 0 ≡ Some state → IsStateFor g start [] state
   pub each : (n : ℕ) (state : State Bits) → slice_get states n ≡ Some state → (u : List Symbol) × IsStateFor g start u state
   pub differ : (n m : ℕ) (a b : State Bits) → n < m → slice_get states n ≡ Some a → slice_get states m ≡ Some b → ¬ HaveSameContents g.terminals a b
 
@@ -107,8 +108,9 @@ pub record IsLr0StateFor (g : Rules) (start : NonterminalString) (u : List Symbo
   pub live : IsLive g.productions start u
   pub items : (p : Production) (dot : ℕ) → HasDotted state p dot ↔ Valid g.productions start u p dot
 
--- each state is that of a live prefix, and no two have the same dotted productions
+-- the first state is that of the empty prefix, each is that of a live prefix, and no two have the same dotted productions
 pub record AreSomeLr0States (g : Rules) (start : NonterminalString) (states : List (State Nil)) : Type 0 where
+  pub first : (state : State Nil) → slice_get states 0 ≡ Some state → IsLr0StateFor g start [] state
   pub each : (n : ℕ) (state : State Nil) → slice_get states n ≡ Some state → (u : List Symbol) × IsLr0StateFor g start u state
   pub differ : (n m : ℕ) (a b : State Nil) → n < m → slice_get states n ≡ Some a → slice_get states m ≡ Some b → ¬ ((p : Production) (dot : ℕ) → HasDotted a p dot ↔ HasDotted b p dot)
 
