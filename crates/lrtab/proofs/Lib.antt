@@ -2,6 +2,7 @@ pub mod Texts
 pub mod Growth
 pub mod Numbered
 pub mod ReportShown
+pub mod RunShown
 pub mod WellFormed
 pub mod TooLong
 pub mod Written

@@ -13,7 +13,6 @@ use Rattle.lrtab.specs.declared.lines.Line.{Line}
 use Rattle.lrtab.specs.declared.lines.Line.TheVariants.{Blank, Production as production_line, Inline, Fault}
 use Rattle.lrtab.specs.declared.lines.PlacedLine.{PlacedLine}
 use Rattle.lalrpop_lr1.specs.InlineOrder.{inline_mark}
-use Rattle.std.specs.List.{flat_map}
 use Rattle.std.proofs.lemmas.Grind.{flat_map-append}
 use Rattle.lrtab.specs.Grammar.{production_of, productions_from, productions_in, has_name, names, line_names, line_marks, marks_in, Entry, entry_of, with_production, with_mark}
 

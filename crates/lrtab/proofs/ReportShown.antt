@@ -1,22 +1,52 @@
 -- What the report of a construction shows.
 use Rattle.std.proofs.Common.{◌≡◌, ℕ, List, Some, Result, Ok, Err, is_ok, cond, inl, inr}
+use Rattle.std.specs.Prelude.{IfOk, IfErr, MatchResult}
 use Rattle.std.proofs.lemmas.Option.{none-some}
 use Rattle.std.specs.declared.vec.Vec.{Vec}
 use Rattle.lalrpop_base.specs.Bits.{Bits}
-use Rattle.lalrpop_base.specs.declared.repr.TerminalString.{TerminalString}
+use Rattle.lalrpop_base.specs.Contents.{contents}
+use Rattle.lalrpop_base.specs.States.{AreFaithful}
+use Rattle.lalrpop_base.specs.Validity.{IsLR1}
+use Rattle.lalrpop_base.specs.WellFormed.{productions, rules_of}
+use Rattle.lalrpop_base.specs.declared.repr.NonterminalString.{NonterminalString}
+use Rattle.lalrpop_base.specs.declared.repr.grammar.Grammar.{Grammar}
 use Rattle.lalrpop_base.specs.declared.lr1_core.state.State.{State}
 use Rattle.lalrpop_base.specs.declared.lr1_core.state.BuildError.{BuildError}
 use Rattle.lalrpop_base.specs.declared.lr1_core.state.BuildError.TheVariants.{Conflicts, Memory}
-use Rattle.lalrpop_lr1.specs.Report.{report_text, tables_report, failure_report}
+use Rattle.lalrpop_tables.specs.Canonical.{AreCanonicalStates, HasCanonicalStates, TellsNotLR1}
+use Rattle.lalrpop_tables.specs.CanonicalConflicts.{ListsCanonicalConflicts}
+use Rattle.lalrpop_tables.specs.RenumberedTables.{AreRenumberedTables}
+use Rattle.lalrpop_tables.specs.Results.{FailsBy, canonical_of}
+use Rattle.lalrpop_lr1.specs.Report.{report_text}
 use Rattle.lrtab.specs.Words.{Report}
-use Rattle.lrtab.specs.Answers.{IsShown}
+use Rattle.lrtab.specs.Shown.{AreTablesOf, AreConflictsOf, IsTaskShown}
 
 inside : {X : Type 0} (x y : X) → Some x ≡ Some y → y ≡ x
 inside x y e = cc
 
--- the text of a report comes with the status of its outcome
-pub report_shown : {A : Type 0} (outcome : Result (Vec (State Bits) A) (BuildError Bits)) (terminals : List TerminalString) (status : ℕ) (text : List ℕ) →
-    report_text (λ (set : Bits). set) terminals outcome ≡ Some text → status ≡ cond (is_ok outcome) 0 1 → IsShown Report status text
-report_shown (Ok states) terminals status text same ended = inl (ended, (terminals, states.items, inside _ text same))
-report_shown (Err (Conflicts error)) terminals status text same ended = inr (ended, (terminals, error.states.items, error.conflicts.items, inside _ text same))
-report_shown (Err Memory) terminals status text same ended = absurd (none-some text same)
+-- the tables or the states and conflicts that a construction answers; want of memory is neither
+abbrev pub IsBuilt : {A : Type 0} → Grammar → NonterminalString → Result (Vec (State Bits) A) (BuildError Bits) → Type 0
+IsBuilt g start (Ok states) = AreTablesOf g start states.items
+IsBuilt g start (Err (Conflicts error)) = AreConflictsOf g start error.states.items error.conflicts.items
+IsBuilt g start (Err Memory) = Unit {0}
+
+-- what the construction promises of its answer
+module _ {A : Type 0} (g : Grammar) (start : NonterminalString) where
+  pub built : (stop_after : ℕ) → stop_after ≡ 0 → (outcome : Result (Vec (State Bits) A) (BuildError Bits)) →
+      IfOk outcome (λ tables. AreRenumberedTables (canonical_of g start) tables.items) →
+      (stop_after ≡ 0 → IfErr outcome (FailsBy (canonical_of g start))) →
+      MatchResult outcome (λ tables. AreCanonicalStates (rules_of g) start tables.items) (λ error. stop_after ≡ 0 → HasCanonicalStates (rules_of g) start error) →
+      (stop_after ≡ 0 → IfErr outcome (ListsCanonicalConflicts g start)) →
+      MatchResult outcome (λ _. IsLR1 (productions g) start) (TellsNotLR1 (productions g) start) →
+      IfOk outcome (λ tables. AreFaithful (productions g) start (contents g.terminals tables.items)) →
+      IsBuilt g start outcome
+  built stop_after whole (Ok states) numbered failure canonical conflicts lr1 faithful = record { lr1 = lr1; faithful = faithful; canonical = canonical; numbered = numbered }
+  built stop_after whole (Err (Conflicts error)) numbered failure canonical conflicts lr1 faithful = record { not_lr1 = lr1; canonical = canonical whole; built = (failure whole).0; all = (failure whole).1; canonical_conflicts = conflicts whole }
+  built stop_after whole (Err Memory) numbered failure canonical conflicts lr1 faithful = tt
+
+  -- the text of a report comes with the status of its outcome
+  pub report_shown : (outcome : Result (Vec (State Bits) A) (BuildError Bits)) (status : ℕ) (text : List ℕ) → IsBuilt g start outcome →
+      report_text (λ (set : Bits). set) g.terminals outcome ≡ Some text → status ≡ cond (is_ok outcome) 0 1 → IsTaskShown g start Report status text
+  report_shown (Ok states) status text made same ended = inl (record { states = states.items; tables = made; ended = ended; shown = inside _ text same })
+  report_shown (Err (Conflicts error)) status text made same ended = inr (record { states = error.states.items; conflicts = error.conflicts.items; no_tables = made; ended = ended; shown = inside _ text same })
+  report_shown (Err Memory) status text made same ended = absurd (none-some text same)

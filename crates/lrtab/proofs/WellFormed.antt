@@ -8,7 +8,7 @@ use Rattle.std.specs.declared.cmp.Ordering.TheVariants.{Less, Equal, Greater}
 use Rattle.std.specs.List.Sorted.{IsStrictlySortedBy}
 use Rattle.std.proofs.lemmas.Map.Keys.{Less-from_sorted}
 use Rattle.lalrpop_base.specs.declared.repr.TerminalString.TheVariants.{Literal, Bare, Error}
-use Rattle.std.specs.BTreeMap.{get, IsOrdered}
+use Rattle.std.specs.BTreeMap.{BTreeMap, get, IsOrdered}
 use Rattle.std.specs.BTreeSet as set
 use Rattle.std.specs.BTreeSet.{BTreeSet}
 use Rattle.std.proofs.lemmas.List.{length-map}
@@ -217,7 +217,9 @@ pub stands_for : (ls : List PlacedLine) (c : Collected) (g : Grammar) → IsColl
 stands_for ls c g was entries terminals ascending actions lane =
     let P : List TerminalString → Type 0 = IsStrictlySortedBy terminal_cmp in
     let Q : List TerminalString → Type 0 = AreTerminalsOf ls in
+    let R : BTreeMap NonterminalString NonterminalData → Type 0 = IsOrdered name_cmp in
     record {
+      ordered = subst R (sym entries) was.ordered;
       entries = λ a. ap (λ m. option_map entry_view (get name_cmp m a)) entries ∙ was.entries a;
       terminals = subst Q (sym terminals) (terminals_found ls c.terminals (subst P terminals ascending) was.terminals);
       actions = actions ∙ was.actions;

@@ -1,20 +1,9 @@
 -- What the program tells, and what is told.
-use Rattle.std.specs.Prelude.{◌≡◌, ℕ, ◌≤◌, List, [], ◌∷◌, ◌++◌, map, Option, None, Some, IfSome, codes, position, string_bytes}
+use Rattle.std.specs.Prelude.{◌≡◌, ℕ, List, [], ◌∷◌, ◌++◌, Option, None, Some, IfSome, codes, position, string_bytes}
 use Rattle.std.proofs.Common.{◌⊎◌}
 use Rattle.std.specs.Fmt.{decimal}
 use Rattle.std.specs.Str.{IsUtf8}
 use Rattle.std.specs.Io.KnownBytes.{Keeps, Appends}
-use Rattle.lalrpop_base.specs.Names.{token_text}
-use Rattle.lalrpop_base.specs.Trees.{beside, no_trees, leaves, nodes}
-use Rattle.lalrpop_base.specs.declared.repr.TerminalString.TheVariants.{Literal}
-use Rattle.lalrpop_base.specs.declared.lookahead.token.Token.{Token}
-use Rattle.lalrpop_base.specs.Bits.{Bits}
-use Rattle.lalrpop_base.specs.declared.repr.TerminalString.{TerminalString}
-use Rattle.lalrpop_base.specs.declared.lr1_core.state.State.{State}
-use Rattle.lalrpop_base.specs.declared.lr1_core.state.Conflict.{Conflict}
-use Rattle.lalrpop_lr1.specs.ParseTrees.{tree_of, tree_text}
-use Rattle.lalrpop_lr1.specs.Report.{tables_report, failure_report}
-use Rattle.lalrpop_lr1.specs.declared.interpret.tree.ParseTree.{ParseTree}
 use Rattle.lrtab.specs.declared.answer.Answer.{Answer}
 use Rattle.lrtab.specs.declared.answer.Answer.TheVariants.{Output, Fault, Usage, TooManyActions, Memory}
 use Rattle.lrtab.specs.declared.read_error.ReadError.TheVariants.{Line as LineFault, TooManyActions as TooMany}
@@ -25,12 +14,9 @@ use Rattle.lalrpop_base.specs.declared.repr.NonterminalString.{NonterminalString
 use Rattle.lalrpop_base.specs.declared.repr.grammar.Grammar.{Grammar}
 use Rattle.lalrpop_lr1.specs.InlineOrder.{IsOnRing}
 use Rattle.lalrpop_lr1.specs.Inlined.{HasTooMany}
-use Rattle.lrtab.specs.Words.{Asked, Task, Parse, Report}
+use Rattle.lrtab.specs.Words.{Asked}
+use Rattle.lrtab.specs.Shown.{line, IsShownInlined}
 use Rattle.lrtab.specs.Output.{AppendsBeginning}
-
--- a text and a line end
-abbrev pub line : List ℕ → List ℕ
-line text = text ++ 10 ∷ []
 
 -- a fact of the bytes of a file that is there, where they are known
 abbrev pub OfFile : (List ℕ → Type 0) → Option (Option (List ℕ)) → Type 0
@@ -42,37 +28,13 @@ abbrev pub file_name : List (List ℕ) → List ℕ
 file_name [] = []
 file_name (name ∷ words) = name
 
--- the text of a tree of the tokens, of at most as many nodes as the limit
-pub record IsTreeText (limit : ℕ) (tokens : List (List ℕ)) (text : List ℕ) : Type 0 where
-  pub tree : ParseTree
-  pub shown : text ≡ line (tree_text tree)
-  pub of_tokens : leaves (beside (tree_of tree) no_trees) ≡ map Literal tokens
-  pub within : nodes (beside (tree_of tree) no_trees) ≤ limit
-
--- a refusal, the limit or a number of conflicts
-abbrev pub IsFailureText : List ℕ → Type 0
-IsFailureText text =
-    (text ≡ line (codes "limit"))
-    ⊎ ((token : Token) × (text ≡ line (codes "refused at " ++ token_text token)))
-    ⊎ ((count : ℕ) × (text ≡ line (codes "conflicts: " ++ decimal count)))
-
--- the report of some tables
-abbrev pub IsTablesText : List ℕ → Type 0
-IsTablesText text = (terminals : List TerminalString) × (states : List (State Bits)) × (text ≡ tables_report (λ (set : Bits). set) terminals states)
-
--- the report of some states with conflicts
-abbrev pub IsConflictsText : List ℕ → Type 0
-IsConflictsText text = (terminals : List TerminalString) × (states : List (State Bits)) × (conflicts : List (Conflict Bits)) × (text ≡ failure_report (λ (set : Bits). set) terminals states conflicts)
-
--- status 0 comes with a tree or the report of tables, and status 1 with a failure or the report of conflicts
-abbrev pub IsShown : Task → ℕ → List ℕ → Type 0
-IsShown (Parse limit tokens) status text = ((status ≡ 0) × IsTreeText limit tokens text) ⊎ ((status ≡ 1) × IsFailureText text)
-IsShown Report status text = ((status ≡ 0) × IsTablesText text) ⊎ ((status ≡ 1) × IsConflictsText text)
-
--- a text for standard output; the text of the file is UTF-8 and has no faulty line
-pub record IsOutput (request : Asked) (file : Option (Option (List ℕ))) (status : ℕ) (text : List ℕ) : Type 0 where
-  pub readable : OfFile (λ bytes. IsUtf8 bytes × (position is_fault (lines_of bytes) ≡ None)) file
-  pub shown : IsShown request.task status text
+-- a text for standard output: the text of the file is UTF-8 and has no faulty line, and of the grammar that it stands for this is shown
+pub record IsOutputOf (request : Asked) (status : ℕ) (text bytes : List ℕ) : Type 0 where
+  pub utf8 : IsUtf8 bytes
+  pub right : position is_fault (lines_of bytes) ≡ None
+  pub grammar : Grammar
+  pub stands : StandsFor (lines_of bytes) grammar
+  pub shown : IsShownInlined grammar request status text
 
 -- the grammar that a text stands for has marked nonterminals that mention each other in a ring, of which a is one
 pub record IsCyclic (bytes : List ℕ) (a : NonterminalString) : Type 0 where
@@ -96,7 +58,7 @@ IsFaultText name file text =
 
 -- what the program tells of a request
 abbrev pub IsAnswerTo : Asked → List ℕ → Option (Option (List ℕ)) → Answer → Type 0
-IsAnswerTo request name file (Output status text) = IsOutput request file status (string_bytes text)
+IsAnswerTo request name file (Output status text) = OfFile (IsOutputOf request status (string_bytes text)) file
 IsAnswerTo request name file (Fault text) = IsFaultText name file (string_bytes text)
 IsAnswerTo request name file Usage = ⊥
 IsAnswerTo request name file TooManyActions = OfFile IsTooMany file
@@ -104,7 +66,7 @@ IsAnswerTo request name file Memory = Unit {0}
 
 -- what the program tells of a request and a grammar
 abbrev pub IsAnswerToGrammar : Asked → Grammar → Answer → Type 0
-IsAnswerToGrammar request g (Output status text) = IsShown request.task status (string_bytes text)
+IsAnswerToGrammar request g (Output status text) = IsShownInlined g request status (string_bytes text)
 IsAnswerToGrammar request g (Fault text) = (a : NonterminalString) × IsOnRing g a × (string_bytes text ≡ line (codes "cyclic inline of " ++ a.text))
 IsAnswerToGrammar request g Usage = ⊥
 IsAnswerToGrammar request g TooManyActions = HasTooMany g

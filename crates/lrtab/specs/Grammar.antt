@@ -3,7 +3,7 @@ use Rattle.std.specs.Prelude.{◌≡◌, ◌↔◌, ℕ, ◌+◌, Bool, false, L
 use Rattle.std.specs.List.{flat_map}
 use Rattle.std.specs.List.Sorted.{IsStrictlySortedBy}
 use Rattle.std.specs.Str.{bytes_eq}
-use Rattle.std.specs.BTreeMap.{get}
+use Rattle.std.specs.BTreeMap.{get, IsOrdered}
 use Rattle.std.specs.declared.cmp.Ordering.{Ordering}
 use Rattle.lalrpop_base.specs.WellFormed.{name_cmp}
 use Rattle.lalrpop_base.specs.contracts.repr.TerminalStringOrd.TheImpl as terminal
@@ -112,8 +112,9 @@ pub record AreTerminalsOf (lines : List PlacedLine) (terminals : List TerminalSt
   pub ascending : IsStrictlySortedBy terminal_cmp terminals
   pub found : (t : TerminalString) → Contains terminals t ↔ Contains (terminals_in (productions_in lines)) t
 
--- the grammar that lines stand for
+-- the grammar that lines stand for; its names ascend, so it has no entries but those of the lines
 pub record StandsFor (lines : List PlacedLine) (grammar : Grammar) : Type 0 where
+  pub ordered : IsOrdered name_cmp grammar.nonterminals
   pub entries : (a : NonterminalString) → option_map entry_view (get name_cmp grammar.nonterminals a) ≡ entry_of a lines
   pub terminals : AreTerminalsOf lines grammar.terminals
   pub actions : grammar.action_fn_defns.items ≡ map (λ _. user_action) (productions_in lines)

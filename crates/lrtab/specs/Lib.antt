@@ -5,4 +5,5 @@ pub mod Collected
 pub mod Faults
 pub mod Words
 pub mod Output
+pub mod Shown
 pub mod Answers

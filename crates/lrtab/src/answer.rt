@@ -1,16 +1,22 @@
 //! What the program has to tell.
-ghost use Rattle.std.specs.Prelude.{◌≡◌, ◌++◌, ◌∷◌, [], IfOk, IfSome, Some, Option, map, option_map, string_bytes, codes, List, ℕ, ◌<◌, length, is_ok, if◌then◌else◌};
+ghost use Rattle.std.specs.Prelude.{◌≡◌, ◌++◌, IfOk, IfSome, Some, Option, map, option_map, string_bytes, codes, List, ℕ, ◌<◌, length, false, is_ok, if◌then◌else◌};
 ghost use Rattle.std.specs.Fmt.{decimal};
 ghost use Rattle.lalrpop_base.specs.Coherent.{AreCoherent};
+ghost use Rattle.lalrpop_base.specs.Contents.{contents};
+ghost use Rattle.lalrpop_base.specs.States.{AreFaithful};
 ghost use Rattle.lalrpop_base.specs.WellFormed.{IsWellFormed};
+ghost use Rattle.lalrpop_base.specs.declared.repr.NonterminalString.{NonterminalString};
+ghost use Rattle.lalrpop_base.specs.declared.repr.Production.{Production};
 ghost use Rattle.lalrpop_base.specs.declared.repr.TerminalString.TheVariants.{Literal};
 ghost use Rattle.lrtab.specs.Words.{Parse, Report, request_of, request_view};
-ghost use Rattle.lrtab.specs.Answers.{line, file_name, IsShown, IsAnswer, IsAnswerTo, IsAnswerToGrammar};
+ghost use Rattle.lrtab.specs.Answers.{file_name, IsAnswer, IsAnswerTo, IsAnswerToGrammar};
+ghost use Rattle.lrtab.specs.Shown.{line, IsShown, IsTaskShown, IsRunShown, IsTextOf};
 
 use crate::grammar::read;
 use crate::read_error::ReadError;
 use crate::symbols::name_of;
 use crate::words::{Request, Task, request_of};
+use lalrpop_base::lookahead::token_set::TokenSet;
 use lalrpop_base::lr1_core::state::{BuildError, Lr1Result, Lr1State};
 use lalrpop_base::memory::OutOfMemory;
 use lalrpop_base::repr::grammar::Grammar;
@@ -19,7 +25,7 @@ use lalrpop_base::repr::terminals::TerminalSet;
 use lalrpop_base::repr::{NonterminalString, TerminalString};
 use lalrpop_base::text::Text;
 use lalrpop_lr1::inline::inline;
-use lalrpop_lr1::interpret::{InterpretError, interpret};
+use lalrpop_lr1::interpret::{InterpretError, ParseTree, interpret};
 use lalrpop_lr1::report::report_text;
 use lalrpop_tables::build::{Method, Options};
 use lalrpop_tables::lr1::build_states;
@@ -140,7 +146,8 @@ fn answer_to_grammar(
     method: Method,
     grammar: Grammar,
 ) -> Result<Answer, OutOfMemory>
-    requires { IsWellFormed grammar }
+    requires well_formed { IsWellFormed grammar }
+    requires canonical { grammar.algorithm.lalr ≡ false }
     ensures { IfOk result (IsAnswerToGrammar (request_view request.now) grammar) }
 {
     match inline(alloc, grammar) {
@@ -168,8 +175,9 @@ fn shown(
     method: Method,
     grammar: &Grammar,
 ) -> Result<(u8, String), OutOfMemory>
-    requires { IsWellFormed grammar.now }
-    ensures { IfOk result (λ o. IsShown (request_view request.now).task o.0 (string_bytes o.1)) }
+    requires well_formed { IsWellFormed grammar.now }
+    requires canonical { grammar.now.algorithm.lalr ≡ false }
+    ensures { IfOk result (λ o. IsShown grammar.now (request_view request.now) o.0 (string_bytes o.1)) }
 {
     let start = name_of(alloc, request.start)?;
     let options = Options {
@@ -191,8 +199,10 @@ fn parse(
     options: &Options,
     grammar: &Grammar,
 ) -> Result<(u8, String), OutOfMemory>
-    requires { IsWellFormed grammar.now }
-    ensures { IfOk result (λ o. IsShown (Parse limit (map string_bytes words.now)) o.0 (string_bytes o.1)) }
+    requires well_formed { IsWellFormed grammar.now }
+    requires canonical { grammar.now.algorithm.lalr ≡ false }
+    requires whole { options.now.stop_after ≡ 0 }
+    ensures { IfOk result (λ o. IsTaskShown grammar.now start (Parse limit (map string_bytes words.now)) o.0 (string_bytes o.1)) }
 {
     match build_states(alloc, grammar, start, options) {
         Ok(states) => parse_by(alloc, limit, words, &states, &grammar.terminals),
@@ -211,8 +221,10 @@ fn report(
     options: &Options,
     grammar: &Grammar,
 ) -> Result<(u8, String), OutOfMemory>
-    requires { IsWellFormed grammar.now }
-    ensures { IfOk result (λ o. IsShown Report o.0 (string_bytes o.1)) }
+    requires well_formed { IsWellFormed grammar.now }
+    requires canonical { grammar.now.algorithm.lalr ≡ false }
+    requires whole { options.now.stop_after ≡ 0 }
+    ensures { IfOk result (λ o. IsTaskShown grammar.now start Report o.0 (string_bytes o.1)) }
 {
     let outcome = build_states(alloc, grammar, start, options);
     let status = status_of(&outcome);
@@ -239,10 +251,22 @@ fn parse_by<'grammar>(
 ) -> Result<(u8, String), OutOfMemory>
     requires coherent { AreCoherent states.now }
     requires some { 0 < length states.now }
-    ensures { IfOk result (λ o. IsShown (Parse limit (map string_bytes words.now)) o.0 (string_bytes o.1)) }
+    ensures { (g : List Production) (start : NonterminalString) → AreFaithful g start (contents terminals.now states.now) →
+        IfOk result (λ o. IsRunShown g start (contents terminals.now states.now) (map Literal (map string_bytes words.now)) limit o.0 (string_bytes o.1)) }
 {
     let tokens = tokens_of(alloc, words)?;
-    match interpret(alloc, states, terminals, tokens, limit) {
+    let answer = interpret(alloc, states, terminals, tokens, limit);
+    text_of_answer(alloc, answer)
+}
+
+// A status, and the text of a parser's answer.
+fn text_of_answer(
+    alloc: Global,
+    answer: Result<ParseTree, InterpretError<'_, '_, TokenSet>>,
+) -> Result<(u8, String), OutOfMemory>
+    ensures { IfOk result (λ o. IsTextOf answer.entry o.0 (string_bytes o.1)) }
+{
+    match answer {
         Ok(tree) => Ok((0, format!(in alloc; "{tree}\n")?)),
         Err(InterpretError::Refused(_, token)) => Ok((
             1,

@@ -1,3 +1,6 @@
+use Rattle.lalrpop_base.specs.WellFormed.{productions}
+use Rattle.lrtab.specs.Shown.{AreTablesOf}
+use Rattle.lrtab.proofs.RunShown.{parse_shown}
 use Rattle.lrtab.proofs.answer.parse.Goals as goal
 
 pub parse_by-requires-clause-coherent : goal.parse_by-requires-clause-coherent
@@ -5,3 +8,9 @@ parse_by-requires-clause-coherent c = rw c.deref.ensures.value c.in-Ok.ensures.t
 
 pub parse_by-requires-clause-some : goal.parse_by-requires-clause-some
 parse_by-requires-clause-some c = rw c.deref.ensures.value c.in-Ok.ensures.tables.some
+
+pub returns-in-Ok : goal.returns-in-Ok
+returns-in-Ok c =
+    let e = c.in-Ok.ensures in
+    let tables : AreTablesOf c.args.grammar.now c.args.start c.in-Ok.states.items = record { lr1 = e.lr1; faithful = e.faithful; canonical = e.canonical; numbered = e.tables } in
+    parse_shown c.args.grammar.now c.args.start c.args.limit _ c.in-Ok.states.items c.deref.result.now c.deref.ensures.value tables c.parse_by.result (c.parse_by.ensures (productions c.args.grammar.now) c.args.start)
