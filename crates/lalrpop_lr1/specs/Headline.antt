@@ -74,9 +74,9 @@ IsOutcomeTold R (Err (Refused token)) = (n : ℕ) × R (RefusedIn n token)
 IsOutcomeTold R (Err Limit) = R CutOff
 IsOutcomeTold R (Err Memory) = Unit {0}
 
--- the answer tells what the run over the canonical states comes to, which are faithful
-pub record IsToldByTables (g : Rules) (start : NonterminalString) (w : List TerminalString) (limit : ℕ) (answer : Result ParseTree ParseError) : Type 0 where
+-- the answer tells what the run over some faithful states comes to, which are the canonical ones where they were not collapsed
+pub record IsToldByTables (Uncollapsed : Type 0) (g : Rules) (start : NonterminalString) (w : List TerminalString) (limit : ℕ) (answer : Result ParseTree ParseError) : Type 0 where
   pub tables : List (State Bits)
-  pub canonical : AreCanonicalStates g start tables
+  pub canonical : Uncollapsed → AreCanonicalStates g start tables
   pub faithful : AreFaithful g.productions start (contents g.terminals tables)
   pub told : IsOutcomeTold (HasOutcome (contents g.terminals tables) w limit) answer

@@ -4,11 +4,12 @@ ghost use Rattle.lalrpop_base.specs.Coherent.{AreCoherent};
 ghost use Rattle.lalrpop_base.specs.Contents.{contents};
 ghost use Rattle.lalrpop_base.specs.Grammar.{IsOnNoRightSide};
 ghost use Rattle.lalrpop_base.specs.Runs.{HasOutcome, IsFirstWrong};
-ghost use Rattle.lalrpop_base.specs.Validity.{IsLR1};
+ghost use Rattle.lalrpop_base.specs.Validity.{IsLR1, IsLALR1};
 ghost use Rattle.lalrpop_base.specs.WellFormed.{IsWellFormed, productions, rules_of};
 ghost use Rattle.lalrpop_tables.specs.Canonical.{AreCanonicalStates};
 ghost use Rattle.lalrpop_tables.specs.CanonicalConflicts.{FailByCanonicalConflicts};
 ghost use Rattle.lalrpop_tables.specs.EarlyStop.{StopsAfter};
+ghost use Rattle.lalrpop_tables.specs.Lalr.{Collapses};
 ghost use Rattle.lalrpop_lr1.specs.FaithfulAnswers.{ForEachGrammar, IsTreeWithin, IsCutOff};
 ghost use Rattle.lalrpop_lr1.specs.Headline.{HadTables, IfConflicts, IfRefusedAt, IfLimitTold, TellsTrees, IsCutOffByTables, IsOutcomeTold, IsToldByTables};
 ghost use Rattle.lalrpop_lr1.specs.ParseTrees.{tree_of};
@@ -48,19 +49,22 @@ pub fn parse<'grammar>(
 ) -> Result<ParseTree, ParseError<'grammar>>
     requires { IsWellFormed grammar.now }
 
-    // There are tables exactly where no prefix and token have two valid actions, and else the canonical conflicts; under early stop, those of the states that are made by then.
+    // There are tables exactly where no prefix and token have two valid actions, and else the canonical conflicts; under early stop, those of the states that are made by then. Where the states are collapsed, there are tables exactly for LALR(1) grammars.
     ensures tables { HadTables result → IsLR1 (productions grammar.now) start }
-    ensures no_tables { IfErr result (IfConflicts (λ error. ¬ IsLR1 (productions grammar.now) start)) }
-    ensures canonical_states { options.now.stop_after ≡ 0 → IfErr result (IfConflicts (λ error. AreCanonicalStates (rules_of grammar.now) start error.states.items)) }
-    ensures canonical_conflicts { options.now.stop_after ≡ 0 → IfErr result (IfConflicts (λ error. FailByCanonicalConflicts grammar.now start error.states.items error.conflicts.items)) }
-    ensures stopped { IfErr result (IfConflicts (λ error. StopsAfter (rules_of grammar.now) start options.now.stop_after error.states.items error.conflicts.items)) }
+    ensures no_tables { ¬ Collapses grammar.now options.now → IfErr result (IfConflicts (λ error. ¬ IsLR1 (productions grammar.now) start)) }
+    ensures canonical_states { ¬ Collapses grammar.now options.now → options.now.stop_after ≡ 0 → IfErr result (IfConflicts (λ error. AreCanonicalStates (rules_of grammar.now) start error.states.items)) }
+    ensures canonical_conflicts { ¬ Collapses grammar.now options.now → options.now.stop_after ≡ 0 → IfErr result (IfConflicts (λ error. FailByCanonicalConflicts grammar.now start error.states.items error.conflicts.items)) }
+    ensures stopped { ¬ Collapses grammar.now options.now → IfErr result (IfConflicts (λ error. StopsAfter (rules_of grammar.now) start options.now.stop_after error.states.items error.conflicts.items)) }
+    ensures collapsed_tables { Collapses grammar.now options.now → HadTables result → IsLALR1 (productions grammar.now) start }
+    ensures no_collapsed_tables { Collapses grammar.now options.now → IfErr result (IfConflicts (λ error. ¬ IsLALR1 (productions grammar.now) start)) }
 
     // The answer is what the run by the tables comes to, whatever the start symbol.
-    ensures run { HadTables result → IsToldByTables (rules_of grammar.now) start tokens.items limit result }
+    ensures run { HadTables result → IsToldByTables (¬ Collapses grammar.now options.now) (rules_of grammar.now) start tokens.items limit result }
 
     // For a start symbol on no right side, the trees are exactly the parse trees within the limit, and a refusal names the first wrong token.
     ensures parsed { IfOk result (λ tree. IsOnNoRightSide (productions grammar.now) start → IsTreeWithin limit tokens.items (tree_of tree) (productions grammar.now) start) }
-    ensures parses { IsLR1 (productions grammar.now) start → IsOnNoRightSide (productions grammar.now) start → TellsTrees limit tokens.items result (productions grammar.now) start }
+    ensures parses { ¬ Collapses grammar.now options.now → IsLR1 (productions grammar.now) start → IsOnNoRightSide (productions grammar.now) start → TellsTrees limit tokens.items result (productions grammar.now) start }
+    ensures collapsed_parses { Collapses grammar.now options.now → IsLALR1 (productions grammar.now) start → IsOnNoRightSide (productions grammar.now) start → TellsTrees limit tokens.items result (productions grammar.now) start }
     ensures limit { IfErr result (IfLimitTold (IsCutOffByTables (productions grammar.now) start tokens.items limit)) }
     ensures refused { IfErr result (IfRefusedAt (λ token. IsOnNoRightSide (productions grammar.now) start → IsFirstWrong (productions grammar.now) start tokens.items token)) }
 {
