@@ -1,5 +1,5 @@
 -- What a sink takes and counts, and what an error of a report tells.
-use Rattle.std.specs.Prelude.{◌≡◌, ℕ, ◌+◌, ◌<◌, List, length, take, Option, None, IsSome, Result, MatchResult}
+use Rattle.std.specs.Prelude.{◌≡◌, ℕ, ◌+◌, ◌<◌, Bool, true, false, List, length, take, Option, None, Some, IsSome, Result, MatchResult}
 use Rattle.std.specs.Io.KnownBytes.{Appends, Keeps}
 use Rattle.lalrpop_lr1.specs.declared.report.error.ReportError.{ReportError}
 use Rattle.lalrpop_lr1.specs.declared.report.error.ReportError.TheVariants.{Write, WriteZero, Memory, NoTables}
@@ -12,6 +12,22 @@ PutTakes old new r bytes = MatchResult r (λ k. Appends old new (take k bytes)) 
 -- an error and an answer of 0 are faults
 abbrev pub PutCounts : {E : Type 0} → ℕ → ℕ → Result ℕ E → Type 0
 PutCounts old new r = MatchResult r (λ k. (k ≡ 0 → new ≡ old + 1) × (0 < k → new ≡ old)) (λ _. new ≡ old + 1)
+
+-- the last fault was an answer of 0 (true) or an error (false), where that is known
+abbrev pub WasLastZero : Bool → Option Bool → Type 0
+WasLastZero zero None = Unit {0}
+WasLastZero zero (Some last) = last ≡ zero
+
+-- an answer of 0 is then the last fault, and so is an error; where bytes were taken it stays as it was
+abbrev pub PutIsLast : {E : Type 0} → Option Bool → Option Bool → Result ℕ E → Type 0
+PutIsLast old new r = MatchResult r (λ k. (k ≡ 0 → WasLastZero true new) × (0 < k → new ≡ old)) (λ _. WasLastZero false new)
+
+-- `WriteZero` is told where the last fault was an answer of 0, and `Write` where it was an error
+abbrev pub TellsLastFault : Option Bool → ReportError → Type 0
+TellsLastFault last (Write e) = WasLastZero false last
+TellsLastFault last WriteZero = WasLastZero true last
+TellsLastFault last Memory = Unit {0}
+TellsLastFault last NoTables = Unit {0}
 
 -- the fact, where the sink refused to take bytes
 abbrev pub IfWriteFault : ReportError → Type 0 → Type 0

@@ -12,7 +12,7 @@ ghost use Rattle.std.specs.Prelude.{◌≡◌, ◌+◌, ◌-◌, ◌^◌, ◌<�
 ghost use Rattle.std.specs.Io.KnownBytes.{Appends};
 ghost use Rattle.lalrpop_base.specs.Bits.{Bits};
 ghost use Rattle.lalrpop_lr1.specs.Report.{report_text};
-ghost use Rattle.lalrpop_lr1.specs.ReportSinks.{IfNothingOffered, IfWriteFault, TellsOfText, WroteBeginning};
+ghost use Rattle.lalrpop_lr1.specs.ReportSinks.{IfNothingOffered, IfWriteFault, TellsLastFault, TellsOfText, WroteBeginning};
 
 pub use error::ReportError;
 use lalrpop_base::lr1_core::state::{Lr1Result, LrResult};
@@ -35,6 +35,7 @@ pub fn generate_report<W: Sink>(
     ensures no_fault { OnOk result (W.fault_count out.new ≡ W.fault_count out.old) }
     ensures part { IfErr result (λ e. IfWriteFault e (IsSomeAnd (report_text (λ (set : Bits). set) terminals.now outcome.now) (WroteBeginning (W.contents out.old) (W.contents out.new)))) }
     ensures fault { IfErr result (λ e. IfWriteFault e (W.fault_count out.new ≡ W.fault_count out.old + 1)) }
+    ensures last { IfErr result (TellsLastFault (W.last_was_zero out.new)) }
     ensures untouched { IfErr result (λ e. IfNothingOffered e (out.new ≡ out.old)) }
     ensures tables { IfErr result (TellsOfText (report_text (λ (set : Bits). set) terminals.now outcome.now)) }
 {
@@ -53,6 +54,7 @@ fn report<W: Sink, L: LookaheadPrinter<String>>(
     ensures no_fault { OnOk result (W.fault_count out.new ≡ W.fault_count out.old) }
     ensures part { IfErr result (λ e. IfWriteFault e (IsSomeAnd (report_text L.meaning terminals.now outcome.now) (WroteBeginning (W.contents out.old) (W.contents out.new)))) }
     ensures fault { IfErr result (λ e. IfWriteFault e (W.fault_count out.new ≡ W.fault_count out.old + 1)) }
+    ensures last { IfErr result (TellsLastFault (W.last_was_zero out.new)) }
     ensures untouched { IfErr result (λ e. IfNothingOffered e (out.new ≡ out.old)) }
     ensures tables { IfErr result (TellsOfText (report_text L.meaning terminals.now outcome.now)) }
 {
@@ -89,6 +91,7 @@ impl<'report, W: Sink> ReportGenerator<'report, W> {
         ensures no_fault { OnOk result (W.fault_count self.new.out.now ≡ W.fault_count self.old.out.now) }
         ensures part { IfErr result (λ e. IfWriteFault e (IsSomeAnd (report_text L.meaning self.old.terminals.now outcome.now) (WroteBeginning (W.contents self.old.out.now) (W.contents self.new.out.now)))) }
         ensures fault { IfErr result (λ e. IfWriteFault e (W.fault_count self.new.out.now ≡ W.fault_count self.old.out.now + 1)) }
+        ensures last { IfErr result (TellsLastFault (W.last_was_zero self.new.out.now)) }
         ensures untouched { IfErr result (λ e. IfNothingOffered e (self.new.out.now ≡ self.old.out.now)) }
         ensures tables { IfErr result (TellsOfText (report_text L.meaning self.old.terminals.now outcome.now)) }
     {

@@ -1,7 +1,7 @@
 //! Where a report goes: a sink of bytes that counts its faults.
-ghost use Rattle.std.specs.Prelude.{◌≡◌, ℕ, List, ◌+◌, ◌-◌, ◌^◌, ◌<◌, ◌≤◌, length, None, Option, IfOk, IfErr, OnOk, OnErr};
+ghost use Rattle.std.specs.Prelude.{◌≡◌, ℕ, Bool, List, ◌+◌, ◌-◌, ◌^◌, ◌<◌, ◌≤◌, length, None, Some, Option, IfOk, IfErr, OnOk, OnErr};
 ghost use Rattle.std.specs.Io.KnownBytes.{Appends};
-ghost use Rattle.lalrpop_lr1.specs.ReportSinks.{PutTakes, PutCounts, IsWriteFault, WroteBeginning, writer_of, faults_of};
+ghost use Rattle.lalrpop_lr1.specs.ReportSinks.{PutTakes, PutCounts, PutIsLast, IsWriteFault, TellsLastFault, WroteBeginning, writer_of, faults_of};
 
 use super::error::ReportError;
 use std::io;
@@ -14,13 +14,17 @@ pub trait Sink {
     // How many calls of `put` answered an error or 0.
     ghost fault_count: { Self → ℕ };
 
+    // Whether the last of these calls answered 0, where that is known.
+    ghost last_was_zero: { Self → Option Bool } = { λ _. None };
+
     /// Takes a beginning of the bytes. A call that answers an error or 0 takes nothing, and is a fault.
     fn put(&mut self, bytes: &[u8]) -> io::Result<usize>
         requires some { 0 < length bytes.now }
         requires below_max { fault_count self.old < 2 ^ 64 - 1 }
         ensures count { IfOk result (λ k. k ≤ length bytes.now) }
         ensures taken { PutTakes (contents self.old) (contents self.new) result bytes.now }
-        ensures counted { PutCounts (fault_count self.old) (fault_count self.new) result };
+        ensures counted { PutCounts (fault_count self.old) (fault_count self.new) result }
+        ensures last { PutIsLast (last_was_zero self.old) (last_was_zero self.new) result };
 
     /// How many calls of `put` were faults.
     fn faults(&self) -> u64
@@ -32,6 +36,8 @@ pub trait Sink {
 pub struct Counted<W: io::Write> {
     writer: W,
     faults: u64,
+    // whether the last fault was an answer of 0
+    was_zero: bool,
 }
 
 impl<W: io::Write> Counted<W> {
@@ -40,14 +46,22 @@ impl<W: io::Write> Counted<W> {
         ensures writer { writer_of result ≡ writer }
         ensures faults { faults_of result ≡ 0 }
     {
-        Counted { writer, faults: 0 }
+        Counted {
+            writer,
+            faults: 0,
+            was_zero: false,
+        }
     }
 
     /// The writer.
     pub fn into_inner(self) -> W
         ensures { result ≡ writer_of self }
     {
-        let Counted { writer, faults: _ } = self;
+        let Counted {
+            writer,
+            faults: _,
+            was_zero: _,
+        } = self;
         writer
     }
 }
@@ -57,15 +71,19 @@ impl<W: io::Write> Sink for Counted<W> {
 
     ghost fault_count = { λ s. s.faults };
 
+    ghost last_was_zero = { λ s. Some s.was_zero };
+
     fn put(&mut self, bytes: &[u8]) -> io::Result<usize> {
         match self.writer.write(bytes) {
             Ok(0) => {
                 self.faults += 1;
+                self.was_zero = true;
                 Ok(0)
             }
             Ok(k) => Ok(k),
             Err(e) => {
                 self.faults += 1;
+                self.was_zero = false;
                 Err(e)
             }
         }
@@ -84,6 +102,7 @@ pub(crate) fn put_all<S: Sink>(out: &mut S, text: &[u8]) -> Result<(), ReportErr
     ensures part { OnErr result (WroteBeginning (S.contents out.old) (S.contents out.new) text.now) }
     ensures fault { OnErr result (S.fault_count out.new ≡ S.fault_count out.old + 1) }
     ensures kind { IfErr result IsWriteFault }
+    ensures last { IfErr result (TellsLastFault (S.last_was_zero out.new)) }
 {
     let mut at = 0;
     while at < text.len() {
