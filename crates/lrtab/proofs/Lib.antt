@@ -1,6 +1,7 @@
 pub mod Texts
 pub mod Growth
 pub mod Numbered
+pub mod Plain
 pub mod ReportShown
 pub mod RunShown
 pub mod WellFormed

@@ -1,16 +1,18 @@
 use Rattle.lalrpop_base.specs.WellFormed.{productions}
 use Rattle.lrtab.specs.Shown.{AreTablesOf}
+use Rattle.lrtab.proofs.Plain.{not_collapsed}
 use Rattle.lrtab.proofs.RunShown.{parse_shown}
 use Rattle.lrtab.proofs.answer.parse.Goals as goal
 
 pub parse_by-requires-clause-coherent : goal.parse_by-requires-clause-coherent
-parse_by-requires-clause-coherent c = rw c.deref.ensures.value c.in-Ok.ensures.tables.renumbered.coherent
+parse_by-requires-clause-coherent c = rw c.deref.ensures.value c.in-Ok.ensures.coherent
 
 pub parse_by-requires-clause-some : goal.parse_by-requires-clause-some
-parse_by-requires-clause-some c = rw c.deref.ensures.value c.in-Ok.ensures.tables.some
+parse_by-requires-clause-some c = rw c.deref.ensures.value c.in-Ok.ensures.some
 
 pub returns-in-Ok : goal.returns-in-Ok
 returns-in-Ok c =
     let e = c.in-Ok.ensures in
-    let tables : AreTablesOf c.args.grammar.now c.args.start c.in-Ok.states.items = record { lr1 = e.lr1; faithful = e.faithful; canonical = e.canonical; numbered = e.tables } in
+    let n = not_collapsed c.args.grammar.now c.args.options.now c.requires.canonical in
+    let tables : AreTablesOf c.args.grammar.now c.args.start c.in-Ok.states.items = record { lr1 = e.lr1 n; faithful = e.faithful; canonical = e.canonical n; numbered = e.tables n } in
     parse_shown c.args.grammar.now c.args.start c.args.limit _ c.in-Ok.states.items c.deref.result.now c.deref.ensures.value tables c.parse_by.result (c.parse_by.ensures (productions c.args.grammar.now) c.args.start)

@@ -1,9 +1,11 @@
 use Rattle.std.proofs.Common.{string_bytes}
+use Rattle.lrtab.proofs.Plain.{not_collapsed}
 use Rattle.lrtab.proofs.ReportShown.{built, report_shown}
 use Rattle.lrtab.proofs.answer.report.Goals as goal
 
 pub returns-in-Ok : goal.returns-in-Ok
 returns-in-Ok c =
     let e = c.build_states-outcome.ensures in
-    let is_built = built c.args.grammar.now c.args.start c.args.options.now.stop_after c.requires.whole c.build_states-outcome.result e.tables e.failure e.canonical e.conflicts e.lr1 e.faithful in
+    let n = not_collapsed c.args.grammar.now c.args.options.now c.requires.canonical in
+    let is_built = built c.args.grammar.now c.args.start c.args.options.now.stop_after c.requires.whole c.build_states-outcome.result (e.tables n) (e.failure n) (e.canonical n) (e.conflicts n) (e.lr1 n) e.faithful in
     report_shown c.args.grammar.now c.args.start c.build_states-outcome.result c.status_of-status.result (string_bytes c.in-Ok.text) is_built c.in-Ok.ensures.text c.status_of-status.ensures
