@@ -19,6 +19,7 @@ pub mod Interpreted
 pub mod KnownLabels
 pub mod MachineRuns
 pub mod Meetings
+pub mod Nullable
 pub mod Outcomes
 pub mod Parses
 pub mod PathLists
@@ -35,5 +36,6 @@ pub mod Spelling
 pub mod Stacks
 pub mod ToldByTables
 pub mod TraceGraphs
+pub mod Traces
 pub mod TreeViews
 pub mod Walks

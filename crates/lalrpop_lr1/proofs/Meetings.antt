@@ -10,7 +10,8 @@ use Rattle.lalrpop_base.specs.declared.repr.NonterminalString.{NonterminalString
 use Rattle.lalrpop_base.specs.declared.lr1_core.state.State.{State}
 use Rattle.lalrpop_base.specs.declared.lr1_core.state.StateIndex.{StateIndex}
 use Rattle.lalrpop_tables.proofs.Lists.{Contains-map, Contains-range}
-use Rattle.lalrpop_lr1.specs.Meetings.{Meeting, names_in, meetings, meeting_cmp, unmet, IsInsertedPair}
+use Rattle.lalrpop_lr1.specs.Traces.{Meeting}
+use Rattle.lalrpop_lr1.specs.Meetings.{names_in, meetings, meeting_cmp, unmet, IsInsertedPair}
 use Rattle.lalrpop_tables.proofs.Bounded.{in_flat_map}
 use Rattle.lalrpop_lr1.proofs.Counting.{count_le, count_less}
 

@@ -21,4 +21,5 @@ pub mod ReportSinks
 pub mod ReportStates
 pub mod Steps
 pub mod TraceGraphs
+pub mod Traces
 pub mod Walks

@@ -1,5 +1,5 @@
--- The nonterminals that a trace can still meet.
-use Rattle.std.specs.Prelude.{◌≡◌, ℕ, Bool, true, not, List, map, filter, length}
+-- What a trace has met, what it can still meet, and what is done with what it met.
+use Rattle.std.specs.Prelude.{◌≡◌, ◌↔◌, ◌⊎◌, ℕ, Bool, true, not, List, map, filter, length, Contains}
 use Rattle.std.specs.List.{flat_map, range_with_len}
 use Rattle.std.specs.BTreeSet.{BTreeSet, contains}
 use Rattle.std.specs.declared.cmp.Ordering.{Ordering}
@@ -9,12 +9,11 @@ use Rattle.lalrpop_base.specs.Items.{Dotted}
 use Rattle.lalrpop_base.specs.WellFormed.{name_cmp}
 use Rattle.lalrpop_base.specs.declared.repr.NonterminalString.{NonterminalString}
 use Rattle.lalrpop_base.specs.declared.lr1_core.state.State.{State}
-use Rattle.lalrpop_base.specs.declared.lr1_core.state.StateIndex.{StateIndex}
 use Rattle.lalrpop_tables.specs.StateGraph.{state_cmp}
-
--- a nonterminal in a state
-abbrev pub Meeting : Type 0
-Meeting = StateIndex × NonterminalString
+use Rattle.lalrpop_lr1.specs.TraceGraphs.{Graph, PlainEdge, plain_edges, IsGraph}
+use Rattle.lalrpop_lr1.specs.Traces.{Backtrace, Meeting, Takes, GoesOn, IsSource, IsMet, Gives, IsTraced}
+use Rattle.lalrpop_lr1.specs.declared.trace.ground.Trace.{Trace}
+use Rattle.lalrpop_lr1.specs.declared.trace.meeting.Met.{Met}
 
 -- the nonterminals of the items of states
 abbrev pub names_in : List (State Bits) → List NonterminalString
@@ -37,3 +36,41 @@ pub record IsInsertedPair (fresh : Bool) (m : Meeting) (old new : BTreeSet Meeti
   pub was : fresh ≡ not (contains meeting_cmp old m)
   pub now : (q : Meeting) → contains meeting_cmp old q ≡ true → contains meeting_cmp new q ≡ true
   pub there : contains meeting_cmp new m ≡ true
+  pub only : (q : Meeting) → contains meeting_cmp new q ≡ true → (contains meeting_cmp old q ≡ true) ⊎ (m ≡ q)
+
+-- what a trace is asked for
+abbrev pub asked : Trace → Backtrace
+asked t = record { traced = t.traced; productions = t.ground.now.first_sets.now.productions; states = t.ground.now.states.now; state = t.state; item = t.item }
+
+abbrev pub HasMet : Met → Meeting → Type 0
+HasMet met m = contains meeting_cmp met.visited_set m ≡ true
+
+abbrev pub HasEdge : Met → PlainEdge → Type 0
+HasEdge met e = Contains (plain_edges met.trace_graph) e
+
+-- the second graph has the edges of the first and these besides
+pub record AddsEdges (old new : Graph) (P : PlainEdge → Type 0) : Type 0 where
+  pub is_graph : IsGraph new
+  pub edges : (e : PlainEdge) → Contains (plain_edges new) e ↔ (Contains (plain_edges old) e ⊎ P e)
+
+-- the edges that the item gives where it takes the nonterminal are there, and what it leads to was met
+pub record IsDone (b : Backtrace) (met : Met) (m : Meeting) (item : Dotted Bits) : Type 0 where
+  pub given : (e : PlainEdge) → Gives b m.1 item e → HasEdge met e
+  pub sources : (n : Meeting) → GoesOn b item → IsSource b item.production item.index m.0 n → HasMet met n
+
+-- this is so of each item that takes it
+abbrev pub IsFinished : Backtrace → Met → Meeting → Type 0
+IsFinished b met m = (item : Dotted Bits) → Takes b m item → IsDone b met m item
+
+-- what was met is met by the backtrace, and the edges are edges of it
+pub record IsSound (b : Backtrace) (met : Met) : Type 0 where
+  pub meets : (m : Meeting) → HasMet met m → IsMet b m
+  pub edges : (e : PlainEdge) → HasEdge met e → IsTraced b e
+  pub is_graph : IsGraph met.trace_graph
+
+-- a trace went on: what it met besides is finished
+pub record Advances (b : Backtrace) (old new : Met) : Type 0 where
+  pub kept : (m : Meeting) → HasMet old m → HasMet new m
+  pub edges : (e : PlainEdge) → HasEdge old e → HasEdge new e
+  pub finished : (m : Meeting) → HasMet new m → HasMet old m ⊎ IsFinished b new m
+  pub sound : IsSound b new

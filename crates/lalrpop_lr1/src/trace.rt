@@ -2,6 +2,8 @@
 pub mod enumerator;
 pub mod example;
 pub mod filtered;
+mod giving;
+mod ground;
 mod known;
 mod meeting;
 pub mod node;
@@ -9,15 +11,21 @@ mod nullable;
 mod spelling;
 pub mod trace_graph;
 
+ghost use Rattle.std.specs.Prelude.{◌≡◌, IfOk};
+ghost use Rattle.lalrpop_lr1.specs.Meetings.{asked};
+ghost use Rattle.lalrpop_lr1.specs.Traces.{IsTraceOf};
+ghost use Rattle.lalrpop_lr1.specs.declared.trace.ground.Traced.TheVariants.{Shift, Reduce};
+
 pub use enumerator::PathEnumerator;
 pub use example::{Example, ExampleSymbol, Reduction};
 pub use filtered::FilteredPathEnumerator;
+use ground::{Ground, Trace, Traced};
 use lalrpop_base::first::FirstSets;
 use lalrpop_base::lr1_core::item::Lr0Item;
 use lalrpop_base::lr1_core::state::{Lr1State, StateIndex};
 use lalrpop_base::memory::OutOfMemory;
 use lalrpop_tables::state_graph::StateGraph;
-use meeting::{Ground, Met, Traced, trace_item};
+use meeting::{Met, trace_item};
 pub use node::TraceGraphNode;
 use std::alloc::Global;
 use std::collections::BTreeSet;
@@ -35,7 +43,10 @@ impl<'trace, 'grammar> Tracer<'trace, 'grammar> {
         alloc: Global,
         first_sets: &'trace FirstSets<'grammar>,
         states: &'trace [Lr1State<'grammar>],
-    ) -> Result<Self, OutOfMemory> {
+    ) -> Result<Self, OutOfMemory>
+        ensures states { IfOk result (λ tracer. tracer.ground.states.now ≡ states.now) }
+        ensures rules { IfOk result (λ tracer. tracer.ground.first_sets.now ≡ first_sets.now) }
+    {
         Ok(Tracer {
             ground: Ground {
                 states,
@@ -51,8 +62,16 @@ impl<'trace, 'grammar> Tracer<'trace, 'grammar> {
         alloc: Global,
         state: StateIndex,
         item: Lr0Item<'grammar>,
-    ) -> Result<TraceGraph<'grammar>, OutOfMemory> {
-        trace(alloc, Traced::Shift, &self.ground, state, item)
+    ) -> Result<TraceGraph<'grammar>, OutOfMemory>
+        ensures traced { IfOk result (IsTraceOf (record { traced = Shift; productions = self.entry.ground.first_sets.now.productions; states = self.entry.ground.states.now; state = state; item = item.entry })) }
+    {
+        let trace = Trace {
+            traced: Traced::Shift,
+            state,
+            item,
+            ground: &self.ground,
+        };
+        graph_of(alloc, &trace)
     }
 
     /// How a state came to have an item that is or will be reduced: back to the items behind which more is to come.
@@ -61,24 +80,31 @@ impl<'trace, 'grammar> Tracer<'trace, 'grammar> {
         alloc: Global,
         state: StateIndex,
         item: Lr0Item<'grammar>,
-    ) -> Result<TraceGraph<'grammar>, OutOfMemory> {
-        trace(alloc, Traced::Reduce, &self.ground, state, item)
+    ) -> Result<TraceGraph<'grammar>, OutOfMemory>
+        ensures traced { IfOk result (IsTraceOf (record { traced = Reduce; productions = self.entry.ground.first_sets.now.productions; states = self.entry.ground.states.now; state = state; item = item.entry })) }
+    {
+        let trace = Trace {
+            traced: Traced::Reduce,
+            state,
+            item,
+            ground: &self.ground,
+        };
+        graph_of(alloc, &trace)
     }
 }
 
 // The graph of a trace.
-fn trace<'trace, 'grammar>(
+fn graph_of<'grammar>(
     alloc: Global,
-    traced: Traced,
-    ground: &Ground<'trace, 'grammar>,
-    state: StateIndex,
-    item: Lr0Item<'grammar>,
-) -> Result<TraceGraph<'grammar>, OutOfMemory> {
+    trace: &Trace<'_, '_, 'grammar>,
+) -> Result<TraceGraph<'grammar>, OutOfMemory>
+    ensures traced { IfOk result (IsTraceOf (asked trace.now)) }
+{
     let mut met = Met {
         trace_graph: TraceGraph::new(alloc),
         visited_set: BTreeSet::new(alloc),
     };
-    trace_item(alloc, traced, ground, &mut met, state, item)?;
+    trace_item(alloc, trace, &mut met)?;
     let Met { trace_graph, .. } = met;
     Ok(trace_graph)
 }

@@ -1,4 +1,8 @@
 //! Whether symbols derive the empty list.
+ghost use Rattle.std.specs.Prelude.{◌↔◌, ◌∷◌, [], IsTrue, IfOk};
+ghost use Rattle.lalrpop_base.specs.First.{IsFirstSet};
+ghost use Rattle.lalrpop_base.specs.Grammar.{IsNullable};
+
 use lalrpop_base::first::FirstSets;
 use lalrpop_base::lookahead::token_set::TokenSet;
 use lalrpop_base::memory::OutOfMemory;
@@ -10,28 +14,44 @@ pub(crate) fn is_nullable<'grammar>(
     alloc: Global,
     first_sets: &FirstSets<'grammar>,
     symbols: &[Symbol],
-) -> Result<bool, OutOfMemory> {
+) -> Result<bool, OutOfMemory>
+    ensures { IfOk result (λ nullable. IsTrue nullable ↔ IsNullable first_sets.now.productions symbols.now) }
+{
     let end = first_sets.first0(alloc, &[])?;
     for symbol in symbols {
-        match symbol {
-            Symbol::Terminal(_) => return Ok(false),
-            Symbol::Nonterminal(name) => {
-                if !meets_end(alloc, first_sets, name, &end)? {
-                    return Ok(false);
-                }
-            }
+        if !is_nullable_symbol(alloc, first_sets, symbol, &end)? {
+            return Ok(false);
         }
     }
     Ok(true)
 }
 
-// Whether FIRST of a nonterminal meets a set.
+// Whether a symbol derives the empty list, by FIRST of that list.
+fn is_nullable_symbol<'grammar>(
+    alloc: Global,
+    first_sets: &FirstSets<'grammar>,
+    symbol: &Symbol,
+    end: &TokenSet,
+) -> Result<bool, OutOfMemory>
+    requires end { IsFirstSet first_sets.now [] end.now }
+    ensures { IfOk result (λ nullable. IsTrue nullable ↔ IsNullable first_sets.now.productions (symbol.now ∷ [])) }
+{
+    match symbol {
+        Symbol::Terminal(_) => Ok(false),
+        Symbol::Nonterminal(name) => meets_end(alloc, first_sets, name, end),
+    }
+}
+
+// Whether FIRST of a nonterminal meets that of the empty list.
 fn meets_end<'grammar>(
     alloc: Global,
     first_sets: &FirstSets<'grammar>,
     name: &NonterminalString,
     end: &TokenSet,
-) -> Result<bool, OutOfMemory> {
+) -> Result<bool, OutOfMemory>
+    requires end { IsFirstSet first_sets.now [] end.now }
+    ensures { IfOk result (λ nullable. IsTrue nullable ↔ IsNullable first_sets.now.productions (Symbol.Nonterminal name.now ∷ [])) }
+{
     let mut symbols = Vec::new(alloc);
     symbols.push(Symbol::Nonterminal(name.clone(alloc)?))?;
     let first = first_sets.first0(alloc, &symbols)?;

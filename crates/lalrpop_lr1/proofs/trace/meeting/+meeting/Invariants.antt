@@ -1,18 +1,31 @@
-use Rattle.std.proofs.Common.{◌≤◌, ◌+◌, ◌*◌}
-use Rattle.lalrpop_lr1.specs.Meetings.{unmet}
+use Rattle.std.proofs.Common.{◌≡◌, ℕ, ◌<◌, ◌≤◌, ◌+◌, ◌*◌}
+use Rattle.std.specs.Prelude.{slice_get, Some}
+use Rattle.lalrpop_base.specs.Bits.{Bits}
+use Rattle.lalrpop_base.specs.Items.{Dotted}
+use Rattle.lalrpop_base.specs.declared.lr1_core.state.StateIndex.{StateIndex}
+use Rattle.lalrpop_lr1.specs.Traces.{Takes}
+use Rattle.lalrpop_lr1.specs.Meetings.{unmet, asked, HasMet, IsDone, Advances}
 use Rattle.lalrpop_lr1.proofs.trace.meeting.+meeting.Given as goal
 
 abbrev pub decreases-meet : goal.decreases-meet
-decreases-meet l = 3 * unmet l.ground.now.states.now l.met.now.visited_set
+decreases-meet l = 3 * unmet l.trace.now.ground.now.states.now l.met.now.visited_set
 
 abbrev pub decreases-meet_items : goal.decreases-meet_items
-decreases-meet_items l = 3 * unmet l.ground.now.states.now l.met.now.visited_set + 2
+decreases-meet_items l = 3 * unmet l.trace.now.ground.now.states.now l.met.now.visited_set + 2
 
 abbrev pub decreases-meet_item : goal.decreases-meet_item
-decreases-meet_item l = 3 * unmet l.ground.now.states.now l.met.now.visited_set + 1
+decreases-meet_item l = 3 * unmet l.trace.now.ground.now.states.now l.met.now.visited_set + 1
 
 abbrev pub invariant-meet_items-loop-item : goal.invariant-meet_items-loop-item
-invariant-meet_items-loop-item l = unmet l.ground.states.now l.met.visited_set ≤ unmet l.ground.states.now l.initial.met.visited_set
+invariant-meet_items-loop-item l = record {
+  fewer : unmet l.trace.ground.now.states.now l.met.visited_set ≤ unmet l.trace.ground.now.states.now l.initial.met.visited_set;
+  advances : Advances (asked l.trace) l.initial.met l.met;
+  done : (k : ℕ) (item : Dotted Bits) → k < l.item-index → slice_get l.item-items k ≡ Some item → Takes (asked l.trace) (l.state, l.name) item → IsDone (asked l.trace) l.met (l.state, l.name) item;
+}
 
 abbrev pub invariant-meet_item-loop-source : goal.invariant-meet_item-loop-source
-invariant-meet_item-loop-source l = unmet l.ground.states.now l.met.visited_set ≤ unmet l.ground.states.now l.initial.met.visited_set
+invariant-meet_item-loop-source l = record {
+  fewer : unmet l.trace.ground.now.states.now l.met.visited_set ≤ unmet l.trace.ground.now.states.now l.initial.met.visited_set;
+  advances : Advances (asked l.trace) l.initial.met l.met;
+  met : (k : ℕ) (source : StateIndex) → k < l.source-index → slice_get l.source-items k ≡ Some source → HasMet l.met (source, l.production.nonterminal);
+}

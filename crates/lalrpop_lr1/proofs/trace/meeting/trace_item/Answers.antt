@@ -1,0 +1,40 @@
+use Rattle.std.proofs.Common.{◌≡◌, inr, refl, ap, arith}
+use Rattle.lalrpop_base.specs.Items.{Dotted}
+use Rattle.lalrpop_base.specs.declared.lookahead.nil.Nil.{Nil}
+use Rattle.lalrpop_tables.specs.StateGraph.{edges}
+use Rattle.lalrpop_lr1.specs.Traces.{begins, own_edge}
+use Rattle.lalrpop_lr1.specs.Meetings.{asked}
+use Rattle.lalrpop_lr1.specs.declared.trace.meeting.Met.{Met}
+use Rattle.lalrpop_lr1.proofs.Traces.{advances_none, advances_on, sound_first, is_source, sources_met, met_more, is_trace}
+use Rattle.lalrpop_lr1.proofs.trace.meeting.trace_item.Goals as goal
+
+pub loop-source-init : goal.loop-source-init
+loop-source-init c =
+    let b = asked c.args.trace.now in
+    let next : Met = record { trace_graph = c.add_own.new.graph; visited_set = c.args.met.now.visited_set } in
+    record { advances = advances_none b next (sound_first b c.args.met.now next c.requires.unmet c.requires.no_edges refl c.in_ok-add_own.ensures.edges); met = λ k source l at. absurd (omega (arith, l)) }
+
+pub begin-requires-clause-met : goal.begin-requires-clause-met
+begin-requires-clause-met c =
+    let b = asked c.args.trace.now in
+    let item = c.args.trace.now.item in
+    let p : c.item.inside.production.now ≡ item.production = ap (λ (i : Dotted Nil). i.production) c.item.view_is in
+    begins (is_source b item.production item.index c.args.trace.now.state c.deref-source-items.result.now c.in_ok-sources.sources.items c.item.inside.production.now c.prefix.result.now p c.prefix.ensures c.deref-source-items.ensures.value (c.in_ok-sources.ensures.exactly (edges b.states) c.args.trace.now.ground.now.graph) c.loop-source.source-index _ c.loop-source-test.true)
+
+pub loop-source-preserved : goal.loop-source-preserved
+loop-source-preserved c = record {
+  advances = advances_on (asked c.args.trace.now) _ c.loop-source.met c.begin.new.met c.loop-source.invariant.advances c.in_ok-begin.ensures.advances;
+  met = met_more c.loop-source.met c.begin.new.met c.deref-source-items.result.now c.loop-source.source-index _ _ c.loop-source.invariant.met c.in_ok-begin.ensures.advances.kept c.in_ok-begin.ensures.there;
+}
+
+pub returns : goal.returns
+returns c =
+    let b = asked c.args.trace.now in
+    let item = c.args.trace.now.item in
+    let p : c.item.inside.production.now ≡ item.production = ap (λ (i : Dotted Nil). i.production) c.item.view_is in
+    let next : Met = record { trace_graph = c.add_own.new.graph; visited_set = c.args.met.now.visited_set } in
+    record {
+      traced = is_trace b next c.loop-source.met c.requires.unmet c.loop-source.invariant.advances
+          (sources_met b item.production item.index c.args.trace.now.state c.deref-source-items.result.now c.in_ok-sources.sources.items c.item.inside.production.now c.prefix.result.now p c.prefix.ensures c.deref-source-items.ensures.value (c.in_ok-sources.ensures.exactly (edges b.states) c.args.trace.now.ground.now.graph) c.loop-source.met c.loop-source.source-index c.loop-source-test.false c.loop-source.invariant.met)
+          (c.loop-source.invariant.advances.edges (own_edge item.production item.index) ((c.in_ok-add_own.ensures.edges.edges (own_edge item.production item.index)).1 (inr refl)));
+    }

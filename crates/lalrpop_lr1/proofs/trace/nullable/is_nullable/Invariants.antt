@@ -1,0 +1,6 @@
+use Rattle.std.proofs.Common.{◌↔◌, drop}
+use Rattle.lalrpop_base.specs.Grammar.{IsNullable}
+use Rattle.lalrpop_lr1.proofs.trace.nullable.is_nullable.Given as goal
+
+abbrev pub invariant-loop-symbol : goal.invariant-loop-symbol
+invariant-loop-symbol l = IsNullable l.first_sets.productions (drop l.symbol-index l.symbols) ↔ IsNullable l.first_sets.productions l.symbols
