@@ -39,6 +39,8 @@ mod lr0;
 #[cfg(test)]
 mod lr1_core;
 #[cfg(test)]
+mod lr1_lalr;
+#[cfg(test)]
 mod plain;
 #[cfg(test)]
 mod renumber;
