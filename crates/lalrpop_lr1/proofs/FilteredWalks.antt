@@ -1,6 +1,6 @@
 -- Which paths a filtered walk passes over.
-use Rattle.std.proofs.Common.{◌≡◌, ℕ, ◌⊎◌, inl, inr, Bool, true, false, List, [], ◌∷◌, ◌++◌, refl, sym, ◌∙◌, ap, subst, append_assoc, append-nil}
-use Rattle.std.specs.Prelude.{IsTrue, Contains, Option, Some, None, Ok, Err}
+use Rattle.std.proofs.Common.{◌≡◌, ℕ, ◌⊎◌, inl, inr, true, false, List, [], ◌∷◌, ◌++◌, refl, sym, ◌∙◌, ap, subst, append_assoc, append-nil}
+use Rattle.std.specs.Prelude.{IsTrue, Option, Some, None, Ok, Err}
 use Rattle.std.specs.declared.result.Result.{Result}
 use Rattle.std.proofs.lemmas.List.Elements.{Contains-push_cases}
 use mathlib.Core.Bool.{true≢false}
@@ -11,9 +11,8 @@ use Rattle.lalrpop_base.specs.First.{IsFirstSet}
 use Rattle.lalrpop_base.specs.WellFormed.{Rules}
 use Rattle.lalrpop_base.specs.declared.memory.OutOfMemory.{OutOfMemory}
 use Rattle.lalrpop_lr1.specs.Examples.{path_of, following, IsExampleOf}
-use Rattle.lalrpop_lr1.specs.Walks.{IsEnded, remaining, and_behind, to_come, GoesTo, GivesNext, Meets, NoneMeets, IsSameFilter, IsOfFirst, IsOfFirstMeeting, GivesNextMeeting, HasSkipped}
+use Rattle.lalrpop_lr1.specs.Walks.{IsEnded, remaining, and_behind, to_come, GoesTo, GivesNext, Meets, NoneMeets, IsSameFilter, GivesNextMeeting, HasSkipped}
 use Rattle.lalrpop_lr1.specs.declared.trace.enumerator.EnumeratorState.{EnumeratorState}
-use Rattle.lalrpop_lr1.specs.declared.trace.enumerator.PathEnumerator.{PathEnumerator}
 use Rattle.lalrpop_lr1.specs.declared.trace.example.Example.{Example}
 use Rattle.lalrpop_lr1.specs.declared.trace.filtered.FilteredPathEnumerator.{FilteredPathEnumerator}
 use Rattle.lalrpop_lr1.specs.declared.trace.trace_graph.TraceGraph.{TraceGraph}
@@ -61,6 +60,7 @@ skipped_more old mid new h same told stands none to =
   where
     back : (old new : FilteredPathEnumerator) → IsSameFilter old new → IsSameFilter new old
     back old new same = record { graph = sym same.graph; first_sets = sym same.first_sets; lookahead = sym same.lookahead }
+
     meets_same : (old new : FilteredPathEnumerator) → IsSameFilter old new → (path : List ℕ) → Meets old path → Meets new path
     meets_same old new same path m = same_meets new old (back old new same) path m
 
@@ -70,29 +70,34 @@ gives_standing old mid new None h same stands meets g =
     absurd (nil≢cons (sym g.1 ∙ standing mid.base.stack.items (remaining mid.base) stands))
 gives_standing old mid new (Some (Err e)) h same stands meets g = (same_again old mid new h.same same, g)
 gives_standing old mid new (Some (Ok example)) h same stands meets g =
-    let here : g.path ≡ path_of mid.base.stack.items = head-eq_of_cons-eq (sym g.first ∙ standing mid.base.stack.items (remaining mid.base) stands) in
-    (same_again old mid new h.same same, record {
-      path = g.path;
-      skipped = h.skipped;
-      rest = g.rest;
-      spelled = subst (λ (graph : TraceGraph). IsExampleOf graph g.path example) h.same.graph g.spelled;
-      first = elim h.left [ inl e ↦ e ∙ ap (λ xs. h.skipped ++ xs) g.first | inr r ↦ absurd (true≢false (sym r ∙ g.told)) ];
-      before = h.before;
-      meets = same_meets old mid h.same g.path (subst (λ (q : List ℕ). Meets mid q) (sym here) meets);
-      others = g.others;
-    })
+    let here : g.path ≡ path_of mid.base.stack.items = head-eq_of_cons-eq (sym g.first ∙ standing mid.base.stack.items (remaining mid.base) stands) in (
+      same_again old mid new h.same same,
+      record {
+        path = g.path;
+        skipped = h.skipped;
+        rest = g.rest;
+        spelled = subst (λ (graph : TraceGraph). IsExampleOf graph g.path example) h.same.graph g.spelled;
+        first = elim h.left [ inl e ↦ e ∙ ap (λ xs. h.skipped ++ xs) g.first | inr r ↦ absurd (true≢false (sym r ∙ g.told)) ];
+        before = h.before;
+        meets = same_meets old mid h.same g.path (subst (λ (q : List ℕ). Meets mid q) (sym here) meets);
+        others = g.others;
+      },
+    )
 
 -- no path is left, or a refused growth is to be told
 pub gives_last : (old mid new : FilteredPathEnumerator) (r : Option (Result Example OutOfMemory)) → HasSkipped old mid → IsSameFilter mid new → (mid.base.refused ≡ true) ⊎ IsEnded mid.base → GivesNext mid.base r new.base → IsSameFilter old new × GivesNextMeeting old r new
 gives_last old mid new (Some (Err e)) h same neither g = (same_again old mid new h.same same, g)
-gives_last old mid new None h same neither g = (same_again old mid new h.same same, (
-  elim h.left [
-    | inl e ↦ subst (λ (ps : List (List ℕ)). NoneMeets old ps) (sym (e ∙ ap (λ xs. h.skipped ++ xs) g.1 ∙ append-nil h.skipped)) h.before
-    | inr r ↦ absurd (true≢false (sym r ∙ g.0))
-  ],
-  g.2,
-  g.3,
-))
+gives_last old mid new None h same neither g = (
+  same_again old mid new h.same same,
+  (
+    elim h.left [
+      | inl e ↦ subst (λ (ps : List (List ℕ)). NoneMeets old ps) (sym (e ∙ ap (λ xs. h.skipped ++ xs) g.1 ∙ append-nil h.skipped)) h.before
+      | inr r ↦ absurd (true≢false (sym r ∙ g.0))
+    ],
+    g.2,
+    g.3,
+  ),
+)
 gives_last old mid new (Some (Ok example)) h same neither g = elim neither [
   | inl r ↦ absurd (true≢false (sym r ∙ g.told))
   | inr ended ↦ absurd (nil≢cons (sym (ap (λ (xs : List EnumeratorState). and_behind xs (remaining mid.base)) ended) ∙ g.first))

@@ -1,11 +1,11 @@
 -- Lists of lists without repeats.
-use Rattle.std.proofs.Common.{◌≡◌, inl, inr, List, [], ◌∷◌, ◌++◌, reverse, refl, sym, ◌∙◌, ap, subst, append_assoc}
+use Rattle.std.proofs.Common.{◌≡◌, inl, inr, List, [], ◌∷◌, ◌++◌, reverse, sym, ◌∙◌, ap, subst, append_assoc}
 use Rattle.std.specs.Prelude.{Contains}
 use Rattle.std.specs.List.{flat_map}
 use Rattle.std.proofs.lemmas.List.{reverse-append, reverse-reverse}
 use Rattle.std.proofs.lemmas.List.Sorted.{IsPermutation-reverse, Contains-permutation}
-use mathlib.Core.List.{head-eq_of_cons-eq, tail-eq_of_cons-eq}
-use Rattle.lalrpop_base.proofs.theory.Lists.{contains-cons, contains-nil, contains_head, contains_tail}
+use mathlib.Core.List.{tail-eq_of_cons-eq}
+use Rattle.lalrpop_base.proofs.theory.Lists.{contains-cons, contains-nil}
 use Rattle.lalrpop_lr1.proofs.InlineApart.{Apart, Apart-append}
 use Rattle.lalrpop_lr1.proofs.InlineMembers.{from_flat_map}
 

@@ -1,9 +1,9 @@
 -- The list of the example paths has each of them once, and no other.
-use Rattle.std.proofs.Common.{◌≡◌, ◌≢◌, ℕ, zero, suc, ◌+◌, ◌≤◌, ◌⊎◌, inl, inr, Bool, true, false, ◌||◌, cond, List, [], ◌∷◌, ◌++◌, length, map, reverse, refl, sym, ◌∙◌, ap, subst, arith, append-nil}
+use Rattle.std.proofs.Common.{◌≡◌, ℕ, zero, suc, ◌≤◌, ◌⊎◌, inl, inr, Bool, true, false, cond, List, [], ◌∷◌, ◌++◌, length, reverse, refl, sym, ◌∙◌, subst, arith, append-nil}
 use Rattle.std.specs.Prelude.{Contains}
 use Rattle.std.specs.List.{flat_map}
 use mathlib.Core.List.{head-eq_of_cons-eq}
-use Rattle.lalrpop_base.proofs.theory.Lists.{contains-cons, contains-nil, contains_head, contains_tail}
+use Rattle.lalrpop_base.proofs.theory.Lists.{contains-cons, contains-nil, contains_head}
 use Rattle.lalrpop_lr1.proofs.InlineApart.{Apart}
 use Rattle.lalrpop_lr1.proofs.InlineMembers.{from_flat_map, in_flat_map}
 use Rattle.lalrpop_lr1.proofs.PathLists.{in_reverse, from_reverse, apart_one, apart_reverse, apart_flat_map, same_behind, reverse_more}
@@ -50,9 +50,9 @@ module _ (g : TraceGraph) where
   over_sound (suc n) taken k p c = elim (one_or (is_item (source g k)) (comes_again g k taken) (reverse (k ∷ taken)) (flat_map (over g n (k ∷ taken)) (reverse (numbers_from g k))) p c) [
     | inl h ↦ ([], h.1 ∙ sym (append-nil (reverse (k ∷ taken))), h.0)
     | inr h ↦
-      let r = from_flat_map (over g n (k ∷ taken)) (reverse (numbers_from g k)) p h.2 in
-      let s = over_sound n (k ∷ taken) r.0 p r.2 in
-      (r.0 ∷ s.0, s.1 ∙ reverse_more r.0 (k ∷ taken) s.0, (h.0, h.1, from_reverse (numbers_from g k) r.0 r.1, s.2))
+        let r = from_flat_map (over g n (k ∷ taken)) (reverse (numbers_from g k)) p h.2 in
+        let s = over_sound n (k ∷ taken) r.0 p r.2 in
+        (r.0 ∷ s.0, s.1 ∙ reverse_more r.0 (k ∷ taken) s.0, (h.0, h.1, from_reverse (numbers_from g k) r.0 r.1, s.2))
   ]
 
   -- and each that goes on so, past no more nonterminals than are counted, is listed

@@ -1,5 +1,5 @@
 -- The paths that are listed are the example paths, each once. The number of nodes cuts nothing: a path that passes no node twice passes no more than there are.
-use Rattle.std.proofs.Common.{◌≡◌, ℕ, zero, suc, ◌+◌, ◌≤◌, ◌↔◌, inl, inr, Bool, true, false, ◌||◌, cond, List, [], ◌∷◌, ◌++◌, length, map, reverse, refl, sym, ◌∙◌, ap, subst, arith}
+use Rattle.std.proofs.Common.{◌≡◌, ℕ, suc, ◌≤◌, ◌↔◌, inl, inr, Bool, true, false, ◌||◌, cond, List, [], ◌∷◌, length, map, reverse, refl, sym, ◌∙◌, ap, subst, arith}
 use Rattle.std.specs.Prelude.{Contains, Option, Some, None, Ok, Err, IfOk}
 use Rattle.std.specs.declared.result.Result.{Result}
 use Rattle.std.proofs.lemmas.Bool.{or_cases}
@@ -19,7 +19,7 @@ use Rattle.lalrpop_lr1.specs.contracts.trace.node.TraceGraphNodeExact.TheImpl as
 use Rattle.lalrpop_lr1.specs.contracts.trace.node.TraceGraphNodePartialEq.TheImpl as node_eq
 use Rattle.lalrpop_lr1.specs.TraceGraphs.{IsGraph, places_from, node_count, numbers_to, numbers_to_source, numbers_from}
 use Rattle.lalrpop_lr1.specs.Examples.{edge_of}
-use Rattle.lalrpop_lr1.specs.Paths.{source_of, target_of, source, target, is_item, are_one, comes_again, over, paths, passed, GoesBack, IsPath}
+use Rattle.lalrpop_lr1.specs.Paths.{source_of, target_of, source, target, are_one, comes_again, over, paths, passed, GoesBack, IsPath}
 use Rattle.lalrpop_lr1.specs.declared.trace.node.TraceGraphNode.{TraceGraphNode}
 use Rattle.lalrpop_lr1.specs.declared.trace.trace_graph.TraceGraph.{TraceGraph}
 use Rattle.lalrpop_lr1.specs.declared.trace.trace_graph.TraceGraphEdge.{TraceGraphEdge}
@@ -123,6 +123,7 @@ module _ (g : TraceGraph) (nodes : List TraceGraphNode) (listed : IsListed g nod
       or_first : (b c : Bool) → (b || c) ≡ false → b ≡ false
       or_first true c h = h
       or_first false c h = refl
+
       or_second : (b c : Bool) → (b || c) ≡ false → c ≡ false
       or_second true c h = absurd (true≢false h)
       or_second false c h = h
@@ -148,8 +149,7 @@ module _ (g : TraceGraph) (nodes : List TraceGraphNode) (listed : IsListed g nod
   passes taken k [] h = (tt, λ x c d. contains-nil c)
   passes taken k (j ∷ rest) h =
       let more = passes (k ∷ taken) j rest h.3 in
-      let s = numbers_there g (edge_of g k) j h.2 in
-      (
+      let s = numbers_there g (edge_of g k) j h.2 in (
         (λ c. more.1 (source g k) c (contains_head (source g k) (map (source g) taken)), more.0),
         λ x c d. elim (contains-cons (source g k) (passed g (j ∷ rest)) x c) [
           | inl e ↦ again_none k taken s.0.from (ap source_of s.1) h.1 (subst (λ (y : Option TraceGraphNode). Contains (map (source g) taken) y) (sym e) d)
@@ -164,8 +164,7 @@ module _ (g : TraceGraph) (nodes : List TraceGraphNode) (listed : IsListed g nod
       let s = has_source (edge_of g k) here b.0 in
       let from : source g k ≡ Some s.0.from = ap source_of s.1 in
       let back : GoesBack g (source g k) (j ∷ rest) = b.2 in
-      let t : target g j ≡ source g k = first_target (source g k) j rest back in
-      (
+      let t : target g j ≡ source g k = first_target (source g k) j rest back in (
         b.1,
         none_again (comes_again g k taken) (λ e. d (source g k) (contains_head (source g k) (passed g (j ∷ rest))) (some_again k taken e)),
         from_leads k j s.0 s.1 t,

@@ -1,6 +1,6 @@
 -- What a walk over a trace graph has left, edge by edge.
-use Rattle.std.proofs.Common.{◌≡◌, inl, inr, get_or, ℕ, zero, suc, ◌+◌, ◌-◌, ◌<◌, ◌≤◌, Bool, true, false, ◌||◌, cond, List, [], ◌∷◌, ◌++◌, length, take, map, reverse, refl, sym, ◌∙◌, ap, subst, arith, append_assoc, append-nil}
-use Rattle.std.specs.Prelude.{Contains, slice_get, Option, Some, None}
+use Rattle.std.proofs.Common.{◌≡◌, inl, inr, get_or, ℕ, zero, suc, ◌-◌, ◌<◌, Bool, true, false, ◌||◌, cond, List, [], ◌∷◌, ◌++◌, length, take, reverse, refl, sym, ◌∙◌, ap, subst, arith, append_assoc, append-nil}
+use Rattle.std.specs.Prelude.{Contains, slice_get, Some, None}
 use Rattle.std.specs.List.{flat_map}
 use Rattle.std.proofs.lemmas.List.{take_all, reverse-append, reverse-reverse, map-append}
 use Rattle.std.proofs.lemmas.Option.{slice_get_within, slice_get-get_or}
@@ -123,10 +123,10 @@ entered_walk old graph start fs left number same_graph same_start same_frames co
     let g = old.graph.now in
     entered_left g old.start s (frames old) room e f
     ∙ sym (
-      ap (λ (h : TraceGraph). left_over h start fs left) same_graph
-      ∙ ap (λ (p : TraceGraphNode). left_over g p fs left) same_start
-      ∙ ap (λ (es : List EnumeratorState). left_over g old.start es left) same_frames
-      ∙ ap (λ (m : ℕ). left_over g old.start (s ∷ frames old) m) (count ∙ ap (λ (h : TraceGraph). length (numbers_from h number)) same_graph)
+    ap (λ (h : TraceGraph). left_over h start fs left) same_graph
+    ∙ ap (λ (p : TraceGraphNode). left_over g p fs left) same_start
+    ∙ ap (λ (es : List EnumeratorState). left_over g old.start es left) same_frames
+    ∙ ap (λ (m : ℕ). left_over g old.start (s ∷ frames old) m) (count ∙ ap (λ (h : TraceGraph). length (numbers_from h number)) same_graph)
     )
 
 -- a walk that entered an item, at which it stops
@@ -137,10 +137,10 @@ stopped_walk old graph start stack left number same_graph same_start same_frames
     let g = old.graph.now in
     ap (λ xs. xs ++ remaining old) (over_item g (node_count g - length (frames old)) (path_of (frames old)) number e ∙ ap (λ ks. ks ∷ []) (path_back stack (s ∷ frames old) same_frames))
     ∙ ap (λ xs. path_of stack ∷ xs) (sym (
-      ap (λ (h : TraceGraph). left_over h start (reverse stack) left) same_graph
-      ∙ ap (λ (p : TraceGraphNode). left_over g p (reverse stack) left) same_start
-      ∙ ap (λ (es : List EnumeratorState). left_over g old.start es left) same_frames
-      ∙ ap (λ (m : ℕ). left_over g old.start (s ∷ frames old) m) none
+    ap (λ (h : TraceGraph). left_over h start (reverse stack) left) same_graph
+    ∙ ap (λ (p : TraceGraphNode). left_over g p (reverse stack) left) same_start
+    ∙ ap (λ (es : List EnumeratorState). left_over g old.start es left) same_frames
+    ∙ ap (λ (m : ℕ). left_over g old.start (s ∷ frames old) m) none
     ))
     ∙ sym (standing stack (left_over graph start (reverse stack) left) s (frames old) same_frames)
 

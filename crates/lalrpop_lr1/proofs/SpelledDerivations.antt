@@ -1,9 +1,8 @@
 -- An example of a path over edges that carry right sides spells a derivation.
-use Rattle.std.proofs.Common.{◌≡◌, ℕ, zero, suc, ◌+◌, ◌-◌, ◌≤◌, Bool, true, false, List, [], ◌∷◌, ◌++◌, length, map, take, drop, refl, sym, ◌∙◌, ap, subst, arith, append_assoc, length-append}
-use Rattle.std.specs.Prelude.{Contains, Option, Some, None}
+use Rattle.std.proofs.Common.{◌≡◌, ℕ, suc, ◌+◌, ◌-◌, ◌≤◌, false, List, [], ◌∷◌, ◌++◌, length, map, take, drop, refl, sym, ◌∙◌, ap, subst, arith, append_assoc, length-append}
+use Rattle.std.specs.Prelude.{Option, Some, None}
 use Rattle.std.proofs.lemmas.List.{map-append}
 use mathlib.Core.Bool.{true≢false}
-use Rattle.lalrpop_base.specs.declared.repr.NonterminalString.{NonterminalString}
 use Rattle.lalrpop_base.specs.declared.repr.Production.{Production}
 use Rattle.lalrpop_base.specs.declared.repr.Symbol.{Symbol}
 use Rattle.lalrpop_base.specs.declared.repr.Symbol.TheVariants.{Nonterminal as NonterminalOf}
@@ -73,9 +72,9 @@ module _ (a p s d : List Symbol) (middle : List ExampleSymbol) where
   outer_form =
       front_form
       ∙ ap (λ xs. map SymbolOf a ++ xs) (
-        ap (λ xs. map SymbolOf p ++ (middle ++ xs)) (map-append SymbolOf s d)
-        ∙ ap (λ xs. map SymbolOf p ++ xs) (sym (append_assoc middle (map SymbolOf s) (map SymbolOf d)))
-        ∙ sym (append_assoc (map SymbolOf p) (middle ++ map SymbolOf s) (map SymbolOf d))
+      ap (λ xs. map SymbolOf p ++ (middle ++ xs)) (map-append SymbolOf s d)
+      ∙ ap (λ xs. map SymbolOf p ++ xs) (sym (append_assoc middle (map SymbolOf s) (map SymbolOf d)))
+      ∙ sym (append_assoc (map SymbolOf p) (middle ++ map SymbolOf s) (map SymbolOf d))
       )
 
   whole_length : (all : List ExampleSymbol) → all ≡ whole → length all ≡ ((length a + length p) + length middle) + (length s + length d)
@@ -186,8 +185,8 @@ module _ (g : TraceGraph) (productions : List Production) (carry : CarryRightSid
   all_reduce start (k ∷ (j ∷ rest)) b is =
       let l = led (edge_of g k) start b.0 in
       innermost_one k (j ∷ rest) l.0 l.1 is (
-        around (reduction (j ∷ rest) l.0) j rest (map SymbolOf (prefix_of (edge_of g k)) ++ (place g (k ∷ (j ∷ rest)) ++ map SymbolOf (suffix_of (edge_of g k)))) (next_back start k j rest l.0 l.1 b) refl refl
-        (is ∙ outer_form (prefixes g (j ∷ rest)) (prefix_of (edge_of g k)) (suffix_of (edge_of g k)) (suffixes g (j ∷ rest)) (place g (k ∷ (j ∷ rest))))
+      around (reduction (j ∷ rest) l.0) j rest (map SymbolOf (prefix_of (edge_of g k)) ++ (place g (k ∷ (j ∷ rest)) ++ map SymbolOf (suffix_of (edge_of g k)))) (next_back start k j rest l.0 l.1 b) refl refl
+      (is ∙ outer_form (prefixes g (j ∷ rest)) (prefix_of (edge_of g k)) (suffix_of (edge_of g k)) (suffixes g (j ∷ rest)) (place g (k ∷ (j ∷ rest))))
       )
 
 -- the example of a path spells a derivation

@@ -2,11 +2,13 @@
 ghost use Rattle.std.specs.Prelude.{◌≡◌, ◌∷◌, ◌++◌, ◌↔◌, [], ℕ, List, Some, None, IsTrue, IsNone, IfOk, OnOk, OnErr, false, Contains, map, length, slice_get, option_copied};
 ghost use Rattle.lalrpop_base.specs.Kernels.{AddsOnce};
 ghost use Rattle.lalrpop_base.specs.Places.{AllDiffer};
+ghost use Rattle.lalrpop_base.specs.declared.repr.Production.{Production};
 ghost use Rattle.lalrpop_base.specs.declared.repr.TerminalString.{TerminalString};
 ghost use Rattle.lalrpop_lr1.specs.Paths.{is_item, item_node, source, are_one, paths, IsPath};
-ghost use Rattle.lalrpop_lr1.specs.Examples.{prefix_of, cursor_of, suffix_of, reduced_name};
+ghost use Rattle.lalrpop_lr1.specs.Examples.{prefix_of, cursor_of, suffix_of, reduced_name, IsExampleOf, CarryRightSides, SpellsDerivation};
 ghost use Rattle.lalrpop_lr1.specs.TraceGraphs.{AreKnownEdges, IsKnownLabel, IsGraph, IsFrom, KeepPlaces, AddsBoth, AddsEdge, SameLabels, plain, plain_edge, node_count, numbers_to, numbers_from};
 ghost use Rattle.lalrpop_lr1.specs.Walks.{to_come};
+ghost use Rattle.lalrpop_lr1.specs.declared.trace.example.Example.{Example};
 ghost use Rattle.lalrpop_lr1.specs.declared.trace.trace_graph.TraceGraphEdge.{TraceGraphEdge};
 
 use super::enumerator::PathEnumerator;
@@ -196,6 +198,7 @@ impl<'grammar> TraceGraph<'grammar> {
         ensures paths { IfOk result (λ walk. to_come walk ≡ paths self.now (item_node item.entry)) }
         ensures exact { IfOk result (λ walk. (path : List ℕ) → Contains (to_come walk) path ↔ IsPath self.now (item_node item.entry) path) }
         ensures once { IfOk result (λ walk. AllDiffer (to_come walk)) }
+        ensures derivations { IfOk result (λ walk. (productions : List Production) → CarryRightSides productions self.now.edges → (path : List ℕ) (example : Example) → Contains (to_come walk) path → IsExampleOf self.now path example → SpellsDerivation productions example) }
         ensures refused { IfOk result (λ walk. walk.refused ≡ false) }
     {
         PathEnumerator::new(self.alloc, self, item)
@@ -215,6 +218,7 @@ impl<'grammar> TraceGraph<'grammar> {
         ensures paths { IfOk result (λ it. to_come it.base ≡ paths self.now (item_node item.now)) }
         ensures exact { IfOk result (λ it. (path : List ℕ) → Contains (to_come it.base) path ↔ IsPath self.now (item_node item.now) path) }
         ensures once { IfOk result (λ it. AllDiffer (to_come it.base)) }
+        ensures derivations { IfOk result (λ it. (productions : List Production) → CarryRightSides productions self.now.edges → (path : List ℕ) (example : Example) → Contains (to_come it.base) path → IsExampleOf self.now path example → SpellsDerivation productions example) }
         ensures refused { IfOk result (λ it. it.base.refused ≡ false) }
     {
         FilteredPathEnumerator::new(self.alloc, first_sets, self, item)
