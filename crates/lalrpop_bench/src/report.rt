@@ -1,5 +1,6 @@
 //! Reports, byte for byte, to writers that take all, a part or nothing.
 mod conflicts;
+mod lalr;
 mod texts;
 mod writers;
 
