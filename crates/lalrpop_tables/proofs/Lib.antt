@@ -40,8 +40,8 @@ pub mod Lists
 pub mod Lookaheads
 pub mod Lr0States
 pub mod MadeUntil
+pub mod MergeableStates
 pub mod MergedCollapse
-pub mod MergedNumbering
 pub mod MergedNumbers
 pub mod MergedStates
 pub mod Merging

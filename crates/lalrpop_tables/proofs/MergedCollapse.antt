@@ -24,7 +24,7 @@ use Rattle.lalrpop_tables.specs.Merging.{AreFirstNumbers, ArePlaced, IsReduced}
 use Rattle.lalrpop_tables.specs.Moved.{AreMoved}
 use Rattle.lalrpop_tables.specs.Renumbered.{number_in, IsRenumberedState}
 use Rattle.lalrpop_tables.specs.Results.{HaveNoConflict, FailWith}
-use Rattle.lalrpop_tables.proofs.MergedNumbering.{was, goes, as_many, moved_to, came_from, number_of_place, index_there, same_number, dots_moved, Numbered-merge}
+use Rattle.lalrpop_tables.proofs.MergeableStates.{was, goes, as_many, moved_to, came_from, number_of_place, index_there, same_number, dots_moved, Numbered-merge}
 use Rattle.lalrpop_tables.proofs.MergedStates.{Merges, HasNumber, AreMerged, Placed-merged}
 use Rattle.lalrpop_tables.proofs.Places.{same_some, filled}
 

@@ -55,7 +55,8 @@ fn merge_states<'grammar>(
     tables_or_conflicts(reduced, conflicts)
 }
 
-/// The states merged, numbered by their first appearance, or their conflicts.
+/// The states merged, numbered by their first appearance, or with their conflicts. Dotted productions are looked
+/// up by order, so the time is near linear in the size of the states.
 pub fn collapse_to_lalr_states<'grammar>(
     alloc: Global,
     states: Vec<Lr1State<'grammar>>,
