@@ -4,14 +4,15 @@ use lalrpop_base::lookahead::token::{Token, TokenRef};
 use lalrpop_base::lookahead::token_set::TokenSet;
 use lalrpop_base::lr1_core::coherent::are_coherent;
 use lalrpop_base::lr1_core::collapsible::are_collapsible;
-use lalrpop_base::lr1_core::item::Lr1Item;
+use lalrpop_base::lr1_core::item::{Item, Lr1Item};
 use lalrpop_base::lr1_core::state::{
-    Action, BuildError, Lr1Conflict, Lr1Result, Lr1State, StateIndex,
+    Action, BuildError, Items, Lr1Conflict, Lr1Result, Lr1State, State, StateIndex,
 };
 use lalrpop_base::memory::OutOfMemory;
 use lalrpop_base::repr::grammar::{Grammar, is_well_formed};
 use lalrpop_base::repr::terminals::TerminalSet;
-use lalrpop_base::repr::{NonterminalString, Production, Symbol, TerminalString};
+use lalrpop_base::repr::{ActionFn, NonterminalString, Production, Span, Symbol, TerminalString};
+use lalrpop_base::sequence::Sequence;
 use lalrpop_base::text::Text;
 use lalrpop_tables::build::build_lr1_states;
 use lalrpop_tables::build::options::{Method, Options};
@@ -277,5 +278,77 @@ fn thirteen_states_without_conflict_are_twelve_with_one(rt: HostRuntime) -> Resu
     let alloc = rt.alloc();
     let grammar = grammar(alloc, TWO_ENDS)?;
     assert!(rt; has_conflict_of_ends(alloc, &grammar)?);
+    Ok(())
+}
+
+// X = "c" "d".
+fn c_and_d(alloc: Global) -> Result<Production, OutOfMemory> {
+    let mut symbols = Sequence::new(alloc);
+    symbols.push(Symbol::Terminal(literal(alloc, "c")?))?;
+    symbols.push(Symbol::Terminal(literal(alloc, "d")?))?;
+    Ok(Production {
+        nonterminal: NonterminalString {
+            text: Text::new(alloc, "X")?,
+        },
+        symbols,
+        action: ActionFn::new(0),
+        span: Span(0, 0),
+    })
+}
+
+// A state of the production with its dot there, or at the start where it has no such place, before the end.
+fn state<'grammar>(
+    alloc: Global,
+    number: usize,
+    production: &'grammar Production,
+    dot: usize,
+    terminals: &TerminalSet,
+) -> Result<Lr1State<'grammar>, OutOfMemory> {
+    let index = if dot <= production.symbols.len() {
+        dot
+    } else {
+        0
+    };
+    let item = Item {
+        production,
+        index,
+        lookahead: TokenSet::eof(alloc, terminals)?,
+    };
+    Ok(State {
+        index: StateIndex(number),
+        items: Items {
+            vec: vec![in alloc; item]?,
+        },
+        shifts: BTreeMap::new(alloc),
+        reductions: Vec::new(alloc),
+        gotos: BTreeMap::new(alloc),
+    })
+}
+
+// States 1 and 2 list the same, and only the second leads on.
+fn two_of_one(
+    alloc: Global,
+    production: &Production,
+    terminals: &TerminalSet,
+) -> Result<bool, Fail> {
+    let mut zero = state(alloc, 0, production, 0, terminals)?;
+    zero.shifts.insert(literal(alloc, "c")?, StateIndex(2))?;
+    let one = state(alloc, 1, production, 1, terminals)?;
+    let mut two = state(alloc, 2, production, 1, terminals)?;
+    two.shifts.insert(literal(alloc, "d")?, StateIndex(3))?;
+    let three = state(alloc, 3, production, 2, terminals)?;
+    let merged = collapsed(alloc, vec![in alloc; zero, one, two, three]?, terminals)?;
+    let Some(both) = merged.get(1) else {
+        return Ok(false);
+    };
+    Ok(merged.len() == 3 && both.shifts.get(&literal(alloc, "d")?) == Some(&StateIndex(2)))
+}
+
+#[test]
+fn transitions_are_united(rt: HostRuntime) -> Result<(), Fail> {
+    let alloc = rt.alloc();
+    let grammar = grammar(alloc, "X = \"c\" \"d\"")?;
+    let production = c_and_d(alloc)?;
+    assert!(rt; two_of_one(alloc, &production, &grammar.terminals)?);
     Ok(())
 }
