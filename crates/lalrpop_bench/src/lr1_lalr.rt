@@ -4,7 +4,7 @@ use crate::plain::samples::{CROSSED, SUMS, TYPES};
 use lalrpop_base::lookahead::token::Token;
 use lalrpop_base::lookahead::token_set::TokenSet;
 use lalrpop_base::lr1_core::coherent::are_coherent;
-use lalrpop_base::lr1_core::state::{Action, BuildError, Lr1Conflict, Lr1Result};
+use lalrpop_base::lr1_core::state::{Action, BuildError, Lr1Conflict, Lr1Result, Lr1State};
 use lalrpop_base::memory::OutOfMemory;
 use lalrpop_base::repr::grammar::{Algorithm, Grammar, is_well_formed};
 use lalrpop_base::repr::terminals::TerminalSet;
@@ -112,19 +112,24 @@ fn others_are_not(rt: HostRuntime) -> Result<(), Fail> {
     Ok(())
 }
 
-// Whether the tables for S have nine states and pass the check.
-fn are_nine(alloc: Global, grammar: &Grammar) -> Result<bool, Fail> {
-    let states = tables(alloc, grammar, Method::Canonical)?;
-    if states.len() != 9 {
-        return Ok(false);
-    }
+// Whether the states pass the check for S.
+fn pass(alloc: Global, grammar: &Grammar, states: &[Lr1State]) -> Result<bool, Fail> {
     if !is_well_formed(grammar) {
         return Ok(false);
     }
-    if !are_coherent(&states) {
+    if !are_coherent(states) {
         return Ok(false);
     }
-    Ok(check_tables(alloc, grammar, name(alloc, "S")?, &states)?)
+    if states.is_empty() {
+        return Ok(false);
+    }
+    Ok(check_tables(alloc, grammar, name(alloc, "S")?, states)?)
+}
+
+// Whether the tables for S have nine states and pass the check.
+fn are_nine(alloc: Global, grammar: &Grammar) -> Result<bool, Fail> {
+    let states = tables(alloc, grammar, Method::Canonical)?;
+    Ok(states.len() == 9 && pass(alloc, grammar, &states)?)
 }
 
 #[test]
