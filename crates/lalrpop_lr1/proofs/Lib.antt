@@ -37,5 +37,6 @@ pub mod Stacks
 pub mod ToldByTables
 pub mod TraceGraphs
 pub mod Traces
+pub mod TracedRightSides
 pub mod TreeViews
 pub mod Walks

@@ -49,6 +49,11 @@ GoesOnBy Reduce productions item = IsNullable productions (drop (item.index + 1)
 abbrev pub StandsIn : List (State Bits) → StateIndex → Dotted Bits → Type 0
 StandsIn states n item = (state : State Bits) × (slice_get states n.0 ≡ Some state) × Contains state.items.vec.items item
 
+-- the productions of the traced item and of the items of the states are those of the grammar
+pub record HasOwnProductions (b : Backtrace) : Type 0 where
+  pub item : Contains b.productions b.item.production
+  pub items : (n : StateIndex) (i : Dotted Bits) → StandsIn b.states n i → Contains b.productions i.production
+
 module _ (b : Backtrace) where
   -- the item stands in the state, with the nonterminal behind its dot
   abbrev pub Takes : Meeting → Dotted Bits → Type 0

@@ -13,7 +13,8 @@ pub mod trace_graph;
 
 ghost use Rattle.std.specs.Prelude.{◌≡◌, IfOk};
 ghost use Rattle.lalrpop_lr1.specs.Meetings.{asked};
-ghost use Rattle.lalrpop_lr1.specs.Traces.{IsTraceOf};
+ghost use Rattle.lalrpop_lr1.specs.Examples.{CarryRightSides};
+ghost use Rattle.lalrpop_lr1.specs.Traces.{HasOwnProductions, IsTraceOf};
 ghost use Rattle.lalrpop_lr1.specs.declared.trace.ground.Traced.TheVariants.{Shift, Reduce};
 
 pub use enumerator::PathEnumerator;
@@ -64,6 +65,7 @@ impl<'trace, 'grammar> Tracer<'trace, 'grammar> {
         item: Lr0Item<'grammar>,
     ) -> Result<TraceGraph<'grammar>, OutOfMemory>
         ensures traced { IfOk result (IsTraceOf (record { traced = Shift; productions = self.entry.ground.first_sets.now.productions; states = self.entry.ground.states.now; state = state; item = item.entry })) }
+        ensures right_sides { IfOk result (λ graph. HasOwnProductions (record { traced = Shift; productions = self.entry.ground.first_sets.now.productions; states = self.entry.ground.states.now; state = state; item = item.entry }) → CarryRightSides self.entry.ground.first_sets.now.productions graph.edges) }
     {
         let trace = Trace {
             traced: Traced::Shift,
@@ -82,6 +84,7 @@ impl<'trace, 'grammar> Tracer<'trace, 'grammar> {
         item: Lr0Item<'grammar>,
     ) -> Result<TraceGraph<'grammar>, OutOfMemory>
         ensures traced { IfOk result (IsTraceOf (record { traced = Reduce; productions = self.entry.ground.first_sets.now.productions; states = self.entry.ground.states.now; state = state; item = item.entry })) }
+        ensures right_sides { IfOk result (λ graph. HasOwnProductions (record { traced = Reduce; productions = self.entry.ground.first_sets.now.productions; states = self.entry.ground.states.now; state = state; item = item.entry }) → CarryRightSides self.entry.ground.first_sets.now.productions graph.edges) }
     {
         let trace = Trace {
             traced: Traced::Reduce,
@@ -99,6 +102,7 @@ fn graph_of<'grammar>(
     trace: &Trace<'_, '_, 'grammar>,
 ) -> Result<TraceGraph<'grammar>, OutOfMemory>
     ensures traced { IfOk result (IsTraceOf (asked trace.now)) }
+    ensures right_sides { IfOk result (λ graph. HasOwnProductions (asked trace.now) → CarryRightSides trace.now.ground.now.first_sets.now.productions graph.edges) }
 {
     let mut met = Met {
         trace_graph: TraceGraph::new(alloc),
