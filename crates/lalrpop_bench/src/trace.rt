@@ -3,11 +3,12 @@ use crate::plain::grammars::PlainGrammar;
 use lalrpop_base::first::FirstSets;
 use lalrpop_base::lr1_core::item::{Item, Lr1Item};
 use lalrpop_base::lr1_core::state::{BuildError, Lr1Result, Lr1TableConstructionError, StateIndex};
+use lalrpop_base::lr1_core::symbol_sets::SymbolSets;
 use lalrpop_base::memory::OutOfMemory;
 use lalrpop_base::repr::grammar::{Grammar, is_well_formed};
 use lalrpop_base::repr::{NonterminalString, Production};
 use lalrpop_base::text::Text;
-use lalrpop_lr1::trace::{Example, ExampleSymbol, TraceGraph, Tracer};
+use lalrpop_lr1::trace::{Example, ExampleSymbol, TraceGraph, TraceGraphNode, Tracer};
 use lalrpop_tables::build::options::Options;
 use lalrpop_tables::lr1::build_states;
 use std::alloc::Global;
@@ -112,6 +113,8 @@ fn shift_has_one_example(rt: HostRuntime) -> Result<(), Fail> {
     assert_eq!(rt; graph.edges().len(), 3);
     let item = Item::lr0(production, 1);
     assert!(rt; graph.contains(&item));
+    assert!(rt; graph.contains(&Item::lr0(production, 2)));
+    assert!(rt; !graph.contains(&Item::lr0(production, 3)));
     let mut examples = graph.lr0_examples(item)?;
     assert!(rt; examples.found_trace());
     let example = examples.next().ok_or("no example")??;
@@ -125,6 +128,21 @@ fn shift_has_one_example(rt: HostRuntime) -> Result<(), Fail> {
         )?
     );
     assert!(rt; examples.next().is_none());
+    Ok(())
+}
+
+#[test]
+fn equal_edge_is_kept_once(rt: HostRuntime) -> Result<(), Fail> {
+    let alloc = rt.alloc();
+    let mut graph = TraceGraph::new(alloc);
+    for _ in 0..2 {
+        let from = TraceGraphNode::Nonterminal(name(alloc, "A")?);
+        let to = TraceGraphNode::Nonterminal(name(alloc, "B")?);
+        graph.add_edge(from, to, SymbolSets::new())?;
+    }
+    assert_eq!(rt; graph.edges().len(), 1);
+    let index = graph.add_node(TraceGraphNode::Nonterminal(name(alloc, "B")?))?;
+    assert_eq!(rt; index.0, 1);
     Ok(())
 }
 
