@@ -1,6 +1,6 @@
 -- The edges of a backtrace carry right sides of their sources' nonterminals.
-use Rattle.std.proofs.Common.{◌≡◌, ℕ, suc, ◌+◌, ◌<◌, ◌≤◌, List, [], ◌∷◌, ◌++◌, length, get_or, take, drop, refl, sym, ◌∙◌, ap, subst, arith, ⊎_elim}
-use Rattle.std.specs.Prelude.{Contains, Option, Some, None, slice_get, option_copied}
+use Rattle.std.proofs.Common.{◌≡◌, ℕ, suc, ◌+◌, ◌<◌, ◌≤◌, List, ◌∷◌, ◌++◌, length, get_or, take, drop, refl, sym, ◌∙◌, ap, subst, arith, ⊎_elim}
+use Rattle.std.specs.Prelude.{Contains, Option, Some, None, slice_get}
 use Rattle.std.proofs.lemmas.List.{take-append-drop, drop_all}
 use Rattle.std.proofs.lemmas.Option.{slice_get_cases}
 use Rattle.lalrpop_base.specs.declared.repr.NonterminalString.{NonterminalString}
@@ -9,12 +9,11 @@ use Rattle.lalrpop_base.specs.declared.repr.Symbol.{Symbol}
 use Rattle.lalrpop_base.specs.declared.repr.Symbol.TheVariants.{Nonterminal as NonterminalOf}
 use Rattle.lalrpop_base.proofs.ContentsViews.{contains_map, at_contains}
 use Rattle.lalrpop_tables.proofs.Closing.{drop_split}
-use Rattle.lalrpop_lr1.specs.Examples.{name_of, cursor_list, IsRightSide, CarriesRightSide, CarryRightSides}
+use Rattle.lalrpop_lr1.specs.Examples.{name_of, cursor_list, IsRightSide, CarryRightSides}
 use Rattle.lalrpop_lr1.specs.TraceGraphs.{Graph, PlainEdge, plain}
-use Rattle.lalrpop_lr1.specs.Traces.{Backtrace, IsTraced, first, given, Gives, onward, itself, stops, IsTraceOf, dot_edge, own_edge, dotted, HasOwnProductions}
+use Rattle.lalrpop_lr1.specs.Traces.{Backtrace, IsTraced, first, given, Gives, onward, itself, stops, IsTraceOf, dot_edge, dotted, HasOwnProductions}
 use Rattle.lalrpop_lr1.specs.declared.trace.node.TraceGraphNode.{TraceGraphNode}
 use Rattle.lalrpop_lr1.specs.declared.trace.node.TraceGraphNode.TheVariants.{Nonterminal as NameNode, Item as ItemNode}
-use Rattle.lalrpop_lr1.specs.declared.trace.trace_graph.TraceGraphEdge.{TraceGraphEdge}
 
 -- a list is what stands before a place, at it and behind it
 around : (xs : List Symbol) (i : ℕ) → take i xs ++ (cursor_list (slice_get xs i) ++ drop (i + 1) xs) ≡ xs
@@ -22,14 +21,14 @@ around xs i =
     let one : suc i ≡ i + 1 = omega arith in
     ⊎_elim
     (λ (h : (x : Symbol) × (i < length xs) × (slice_get xs i ≡ Some x) × (get_or xs i x ≡ x)).
-        ap (λ o. take i xs ++ (cursor_list o ++ drop (i + 1) xs)) h.2
-        ∙ ap (λ k. take i xs ++ (h.0 ∷ drop k xs)) (sym one)
-        ∙ ap (λ ys. take i xs ++ ys) (sym (drop_split i xs h.0 h.2))
-        ∙ take-append-drop i xs)
+    ap (λ o. take i xs ++ (cursor_list o ++ drop (i + 1) xs)) h.2
+    ∙ ap (λ k. take i xs ++ (h.0 ∷ drop k xs)) (sym one)
+    ∙ ap (λ ys. take i xs ++ ys) (sym (drop_split i xs h.0 h.2))
+    ∙ take-append-drop i xs)
     (λ (h : (length xs ≤ i) × (slice_get xs i ≡ None)).
-        ap (λ o. take i xs ++ (cursor_list o ++ drop (i + 1) xs)) h.1
-        ∙ ap (λ ys. take i xs ++ ys) (drop_all (i + 1) xs (omega (arith, h.0)) ∙ sym (drop_all i xs h.0))
-        ∙ take-append-drop i xs)
+    ap (λ o. take i xs ++ (cursor_list o ++ drop (i + 1) xs)) h.1
+    ∙ ap (λ ys. take i xs ++ ys) (drop_all (i + 1) xs (omega (arith, h.0)) ∙ sym (drop_all i xs h.0))
+    ∙ take-append-drop i xs)
     (slice_get_cases xs i).1
 
 -- what an edge carries that says the same as one around the dot of a production
