@@ -1,9 +1,9 @@
 -- The loop that carries tokens over the edges of states.
-use Rattle.std.proofs.Common.{◌≡◌, ◌↔◌, ◌<◌, ◌≤◌, ◌+◌, ◌-◌, ◌*◌, ℕ, zero, suc, ◌⊎◌, inl, inr, List, [], ◌∷◌, ◌++◌, length, map, drop, refl, sym, ◌∙◌, ap, subst, arith, length-append, true, ◌||◌, eq-eqb, Option, Some, None}
+use Rattle.std.proofs.Common.{◌≡◌, ◌↔◌, ◌<◌, ◌≤◌, ◌+◌, ◌-◌, ◌*◌, ℕ, zero, suc, ◌⊎◌, inl, inr, List, [], ◌∷◌, ◌++◌, length, map, drop, refl, sym, ◌∙◌, ap, subst, arith, true, ◌||◌, eq-eqb, Option, Some, None}
 use Rattle.std.specs.Prelude.{Contains, slice_get}
 use Rattle.std.specs.Map.{keys_of}
 use Rattle.std.proofs.lemmas.List.{length-map}
-use Rattle.std.proofs.lemmas.List.Elements.{Contains-append_left, Contains-append_right, Contains-append_cases}
+use Rattle.std.proofs.lemmas.List.Elements.{Contains-append_left, Contains-append_right}
 use Rattle.std.proofs.lemmas.List.Sums.{sum_by-cons}
 use Rattle.lalrpop_base.specs.Bits.{Bits, has, no_bits, with_bit, has-with_bit}
 use Rattle.lalrpop_base.specs.Closures.{InClosure, in_kernel, expanded, IsAtStart, IsMoved, items_of, AreClosed, IsReached, at_zero, over_edge, IsCarried, eof_at_start, over, first_of_rest, through_rest}
@@ -34,7 +34,7 @@ use Rattle.lalrpop_tables.proofs.CheckSending.{Entry, entry_key, key_entry, all_
 use Rattle.lalrpop_tables.proofs.Closing.{drop_split, split_drop}
 use Rattle.lalrpop_tables.proofs.Grammars.{productions_among, productions_named, known_symbols, known_rest}
 use Rattle.lalrpop_tables.proofs.KnownTerminals.{token_bit, held_bit, bit_held, holds_more, begun_bit}
-use Rattle.lalrpop_tables.proofs.Lists.{Contains-none, Contains-cases, Contains-map, pigeonhole}
+use Rattle.lalrpop_tables.proofs.Lists.{Contains-none, Contains-there, Contains-cases, Contains-map, pigeonhole}
 use Rattle.lalrpop_tables.proofs.Lookaheads.{eof_fits}
 use Rattle.lalrpop_tables.proofs.Places.{apart_from_differ, same_some}
 use Rattle.lalrpop_tables.proofs.Subsets.{count_few}
@@ -101,11 +101,11 @@ module _ (g : Grammar) (start : NonterminalString) (states : List (State Bits)) 
   limit = length (places_of 0 states) * (length g.terminals + 2 + 1)
 
   -- what is carried is sound, and waits or is settled
-  pub record IsCarrying (table : Carried) (stack : List Place) : Type 0 where
+  pub record IsCarrying (table : Carried) (queue : List Place) : Type 0 where
     pub sound : AreCarriedTo g start states table
     pub started : HasStarted g start table
-    pub done : (e : Entry) → Contains table e → Contains stack e.0 ⊎ IsSettled g states table e.0 e.1
-    pub found : (k : Place) → Contains stack k → Contains (keys_of table) k
+    pub done : (e : Entry) → Contains table e → Contains queue e.0 ⊎ IsSettled g states table e.0 e.1
+    pub found : (k : Place) → Contains queue k → Contains (keys_of table) k
     pub differ : AllDiffer (keys_of table)
 
   few : (table : Carried) → AreCarriedTo g start states table → AllDiffer (keys_of table) → burden (length g.terminals + 2) table ≤ limit
@@ -128,7 +128,7 @@ module _ (g : Grammar) (start : NonterminalString) (states : List (State Bits)) 
       mul_le a b c h = grind arith
 
   pub work : Carried → List Place → ℕ
-  work table stack = limit + length stack - burden (length g.terminals + 2) table
+  work table queue = limit + length queue - burden (length g.terminals + 2) table
 
   below : (s : Bits) → FitsTokens g.terminals s → AreBelow (length g.terminals + 2) s
   below s f q h = let l = f q h in omega arith
@@ -137,8 +137,8 @@ module _ (g : Grammar) (start : NonterminalString) (states : List (State Bits)) 
   all_below table sound e c = below e.1 (sound e c).fits
 
   -- ---- what is sent is sound
-  sends_sound : (Such : Place → Type 0) (tokens : Bits) (old new : Carried) (stack pushed : List Place) → Sends Such tokens old new stack pushed → ((k : Place) → Such k → IsCarriedTo g start states k tokens) → AreCarriedTo g start states old → AreCarriedTo g start states new
-  sends_sound Such tokens old new stack pushed s such sound e c = record {
+  sends_sound : (Such : Place → Type 0) (tokens : Bits) (old new : Carried) (queue pushed : List Place) → Sends Such tokens old new queue pushed → ((k : Place) → Such k → IsCarriedTo g start states k tokens) → AreCarriedTo g start states old → AreCarriedTo g start states new
+  sends_sound Such tokens old new queue pushed s such sound e c = record {
     reached = elim (s.keys e c) [ inl o ↦ (let f = key_entry old e.0 o in (sound (e.0, f.0) f.1).reached) | inr n ↦ (such e.0 n).reached ];
     listed = elim (s.keys e c) [ inl o ↦ (let f = key_entry old e.0 o in (sound (e.0, f.0) f.1).listed) | inr n ↦ (such e.0 n).listed ];
     carried = λ t h.
@@ -201,8 +201,8 @@ module _ (g : Grammar) (start : NonterminalString) (states : List (State Bits)) 
             fits = fits h.fits;
           })
 
-      pub settles_into : (old new : Carried) (stack pushed : List Place) → Sends (IsInto g place) given old new stack pushed → Contains (productions g) place.item.production → (q : Production) (after : List Symbol) → drop place.item.index place.item.production.symbols ≡ Nonterminal q.nonterminal ∷ after → Contains (productions g) q → HasBegun g new place.state q after tokens
-      settles_into old new stack pushed s known q after behind among =
+      pub settles_into : (old new : Carried) (queue pushed : List Place) → Sends (IsInto g place) given old new queue pushed → Contains (productions g) place.item.production → (q : Production) (after : List Symbol) → drop place.item.index place.item.production.symbols ≡ Nonterminal q.nonterminal ∷ after → Contains (productions g) q → HasBegun g new place.state q after tokens
+      settles_into old new queue pushed s known q after behind among =
           let b = split_drop place.item.index place.item.production.symbols (Nonterminal q.nonterminal) after behind in
           let same : after ≡ rest = same_rest q.nonterminal q.nonterminal after rest (sym behind ∙ rest_behind q.nonterminal b) in
           let there = s.there (at_place place.state q 0) (record { name = q.nonterminal; behind = b; begun = record { state = refl; start = refl; among = own q among } }) in
@@ -235,12 +235,12 @@ module _ (g : Grammar) (start : NonterminalString) (states : List (State Bits)) 
           };
     }
 
-    module _ (place : Place) (old new : Carried) (stack pushed : List Place) (c : IsCarrying old (stack ++ place ∷ [])) (known : Contains (productions g) place.item.production) (v : Gives g states place old new stack pushed) where
+    module _ (place : Place) (old new : Carried) (queue pushed : List Place) (c : IsCarrying old (place ∷ queue)) (known : Contains (productions g) place.item.production) (v : Gives g states place old new queue pushed) where
       here : IsCarriedTo g start states place v.tokens
       here = c.sound (place, v.tokens) v.entry
 
       middle_sound : AreCarriedTo g start states v.middle
-      middle_sound = sends_sound (IsOver states place) v.tokens old v.middle stack v.waiting v.over (λ k o. sound_over place k v.tokens here o) c.sound
+      middle_sound = sends_sound (IsOver states place) v.tokens old v.middle queue v.waiting v.over (λ k o. sound_over place k v.tokens here o) c.sound
 
       new_sound : AreCarriedTo g start states new
       new_sound = sends_sound (IsInto g place) v.given v.middle new v.waiting pushed v.into (sound_into place v.tokens v.given here v.first v.fits) middle_sound
@@ -254,15 +254,12 @@ module _ (g : Grammar) (start : NonterminalString) (states : List (State Bits)) 
         into = settles_into place v.tokens v.given here v.first v.fits v.middle new v.waiting pushed v.into known;
       }
 
-      popped : (e : Entry) → Contains old e → Contains (stack ++ place ∷ []) e.0 → Contains pushed e.0 ⊎ IsSettled g states new e.0 e.1
-      popped e o on = elim (Contains-append_cases stack (place ∷ []) e.0 on) [
-        | inl s ↦ inl (v.into.stays e.0 (v.over.stays e.0 s))
-        | inr l ↦ elim (Contains-cases place [] e.0 l) [
-          | inl same ↦
-              let tokens : v.tokens ≡ e.1 = one_value old c.differ place v.tokens e.1 v.entry (subst (λ (x : Place). Contains old (x, e.1)) (sym same) o) in
-              inr (subst (λ (x : Place). IsSettled g states new x e.1) same (subst (IsSettled g states new place) tokens settled_here))
-          | inr none ↦ absurd (Contains-none e.0 none)
-        ]
+      popped : (e : Entry) → Contains old e → Contains (place ∷ queue) e.0 → Contains pushed e.0 ⊎ IsSettled g states new e.0 e.1
+      popped e o on = elim (Contains-cases place queue e.0 on) [
+        | inr s ↦ inl (v.into.stays e.0 (v.over.stays e.0 s))
+        | inl same ↦
+            let tokens : v.tokens ≡ e.1 = one_value old c.differ place v.tokens e.1 v.entry (subst (λ (x : Place). Contains old (x, e.1)) (sym same) o) in
+            inr (subst (λ (x : Place). IsSettled g states new x e.1) same (subst (IsSettled g states new place) tokens settled_here))
       ]
 
       pub Carrying-step : IsCarrying new pushed
@@ -279,14 +276,14 @@ module _ (g : Grammar) (start : NonterminalString) (states : List (State Bits)) 
         found = λ k n. elim (v.into.found k n) [
           | inr key ↦ key
           | inl w ↦ elim (v.over.found k w) [
-            | inl s ↦ (let e = key_entry old k (c.found k (Contains-append_left stack (place ∷ []) k s)) in let f = kept_on (k, e.0) e.1 in entry_key new (k, f.set) f.entry)
+            | inl s ↦ (let e = key_entry old k (c.found k (Contains-there place queue k s)) in let f = kept_on (k, e.0) e.1 in entry_key new (k, f.set) f.entry)
             | inr m ↦ (let e = key_entry v.middle k m in let f = v.into.kept (k, e.0) e.1 in entry_key new (k, f.set) f.entry)
           ]
         ];
         differ = v.into.differ (v.over.differ c.differ);
       }
 
-      pub Carrying-smaller : work new pushed < work old (stack ++ place ∷ [])
+      pub Carrying-smaller : work new pushed < work old (place ∷ queue)
       unfolding work
       Carrying-smaller =
           let n = length g.terminals + 2 in
@@ -294,7 +291,6 @@ module _ (g : Grammar) (start : NonterminalString) (states : List (State Bits)) 
           let b = v.into.weighed n (below v.given (v.fits here.fits)) (all_below v.middle middle_sound) in
           let f = few old c.sound c.differ in
           let h = few new new_sound (v.into.differ (v.over.differ c.differ)) in
-          let l = length-append stack (place ∷ []) in
           omega arith
 
     -- ---- its start
@@ -316,11 +312,11 @@ module _ (g : Grammar) (start : NonterminalString) (states : List (State Bits)) 
           fits = eof_fits g.terminals;
         })
 
-    pub Carrying-start : (tokens : Bits) (empty table : Carried) (none stack : List Place) → tokens ≡ eof → empty ≡ [] → none ≡ [] → Sends (IsBegunAt 0 (productions_of g start)) tokens empty table none stack → IsCarrying table stack
-    Carrying-start tokens empty table none stack e f h s =
+    pub Carrying-start : (tokens : Bits) (empty table : Carried) (none queue : List Place) → tokens ≡ eof → empty ≡ [] → none ≡ [] → Sends (IsBegunAt 0 (productions_of g start)) tokens empty table none queue → IsCarrying table queue
+    Carrying-start tokens empty table none queue e f h s =
         let nothing : (x : Entry) → Contains empty x → ⊥ = λ x c. Contains-none x (subst (λ (xs : Carried). Contains xs x) f c) in
         record {
-          sound = sends_sound (IsBegunAt 0 (productions_of g start)) tokens empty table none stack s (λ k b. subst (IsCarriedTo g start states k) (sym e) (start_carried k b)) (λ x c. absurd (nothing x c));
+          sound = sends_sound (IsBegunAt 0 (productions_of g start)) tokens empty table none queue s (λ k b. subst (IsCarriedTo g start states k) (sym e) (start_carried k b)) (λ x c. absurd (nothing x c));
           started = λ p among named.
               let t = s.there (at_place 0 p 0) (record { state = refl; start = refl; among = subst (λ (a : NonterminalString). Contains (productions_of g a) p) named (own p among) }) in
               let own_bit : has eof (length g.terminals) ≡ true = has-with_bit no_bits (length g.terminals) (length g.terminals) ∙ ap (λ b. b || has no_bits (length g.terminals)) (eq-eqb (length g.terminals) (length g.terminals) refl) in
@@ -330,16 +326,16 @@ module _ (g : Grammar) (start : NonterminalString) (states : List (State Bits)) 
           differ = s.differ (λ i j x l at. let gone = ap (λ (xs : Carried). slice_get (keys_of xs) i) (sym f) ∙ at in cc);
         }
 
-    pub Carrying-end : (table : Carried) (stack : List Place) → stack ≡ [] → IsCarrying table stack → AreCarried g start states table
-    Carrying-end table stack e c = record {
+    pub Carrying-end : (table : Carried) (queue : List Place) → queue ≡ [] → IsCarrying table queue → AreCarried g start states table
+    Carrying-end table queue e c = record {
       sound = c.sound;
       started = c.started;
       settled = λ x h. elim (c.done x h) [ inl none ↦ absurd (Contains-none x.0 (subst (λ (xs : List Place). Contains xs x.0) e none)) | inr s ↦ s ];
       differ = c.differ;
     }
 
-    pub known_place : (table : Carried) (stack : List Place) → IsCarrying table stack → (k : Place) → Contains stack k → Contains (productions g) k.item.production
-    known_place table stack c k on =
+    pub known_place : (table : Carried) (queue : List Place) → IsCarrying table queue → (k : Place) → Contains queue k → Contains (productions g) k.item.production
+    known_place table queue c k on =
         let e = key_entry table k (c.found k on) in
         let h = c.sound (k, e.0) e.1 in
         of_grammar h.reached k.item.production k.item.index h.listed

@@ -85,36 +85,36 @@ module _ (key : Place) (tokens : Bits) where
     | inr out ↦ inl (entry_key old e (subst (λ (xs : Carried). Contains xs e) (sym before) (around front back (key, s) e out)))
   ]
 
-  changed_by : (told : Bool) (s : Bits) (front back old : Carried) (stack pushed : List Place) → pushed ≡ cond told (stack ++ key ∷ []) stack → MatchBool told (join s tokens ≢ s) (join s tokens ≡ s) → old ≡ front ++ (key, s) ∷ back → Contains pushed key ⊎ Contains old (key, join s tokens)
-  changed_by true s front back old stack pushed grown m before = inl (subst (λ (xs : List Place). Contains xs key) (sym grown) (Contains-append_right stack (key ∷ []) key (Contains-here key [])))
-  changed_by false s front back old stack pushed grown m before = inr (subst (λ (t : Bits). Contains old (key, t)) (sym m) (subst (λ (xs : Carried). Contains xs (key, s)) (sym before) (at_midst front back (key, s))))
+  changed_by : (told : Bool) (s : Bits) (front back old : Carried) (queue pushed : List Place) → pushed ≡ cond told (queue ++ key ∷ []) queue → MatchBool told (join s tokens ≢ s) (join s tokens ≡ s) → old ≡ front ++ (key, s) ∷ back → Contains pushed key ⊎ Contains old (key, join s tokens)
+  changed_by true s front back old queue pushed grown m before = inl (subst (λ (xs : List Place). Contains xs key) (sym grown) (Contains-append_right queue (key ∷ []) key (Contains-here key [])))
+  changed_by false s front back old queue pushed grown m before = inr (subst (λ (t : Bits). Contains old (key, t)) (sym m) (subst (λ (xs : Carried). Contains xs (key, s)) (sym before) (at_midst front back (key, s))))
 
-  joined_changed : (told : Bool) (old new : Carried) (stack pushed : List Place) → IsJoinedAt key tokens told old new → pushed ≡ cond told (stack ++ key ∷ []) stack → (e : Entry) → Contains new e → Contains pushed e.0 ⊎ Contains old e
-  joined_changed told old new stack pushed (fresh front back before after t) grown e c = elim (midst front back (key, tokens) e (subst (λ (xs : Carried). Contains xs e) after c)) [
+  joined_changed : (told : Bool) (old new : Carried) (queue pushed : List Place) → IsJoinedAt key tokens told old new → pushed ≡ cond told (queue ++ key ∷ []) queue → (e : Entry) → Contains new e → Contains pushed e.0 ⊎ Contains old e
+  joined_changed told old new queue pushed (fresh front back before after t) grown e c = elim (midst front back (key, tokens) e (subst (λ (xs : Carried). Contains xs e) after c)) [
     | inl same ↦
-        let now : pushed ≡ stack ++ key ∷ [] = grown ∙ ap (λ b. cond b (stack ++ key ∷ []) stack) t in
-        inl (subst (λ (x : Entry). Contains pushed x.0) same (subst (λ (xs : List Place). Contains xs key) (sym now) (Contains-append_right stack (key ∷ []) key (Contains-here key []))))
+        let now : pushed ≡ queue ++ key ∷ [] = grown ∙ ap (λ b. cond b (queue ++ key ∷ []) queue) t in
+        inl (subst (λ (x : Entry). Contains pushed x.0) same (subst (λ (xs : List Place). Contains xs key) (sym now) (Contains-append_right queue (key ∷ []) key (Contains-here key []))))
     | inr out ↦ inr (subst (λ (xs : Carried). Contains xs e) (sym before) out)
   ]
-  joined_changed told old new stack pushed (known front back s before after t) grown e c = elim (midst front back (key, join s tokens) e (subst (λ (xs : Carried). Contains xs e) after c)) [
-    | inl same ↦ subst (λ (x : Entry). Contains pushed x.0 ⊎ Contains old x) same (changed_by told s front back old stack pushed grown t before)
+  joined_changed told old new queue pushed (known front back s before after t) grown e c = elim (midst front back (key, join s tokens) e (subst (λ (xs : Carried). Contains xs e) after c)) [
+    | inl same ↦ subst (λ (x : Entry). Contains pushed x.0 ⊎ Contains old x) same (changed_by told s front back old queue pushed grown t before)
     | inr out ↦ inr (subst (λ (xs : Carried). Contains xs e) (sym before) (around front back (key, s) e out))
   ]
 
-  sent_stays : (told : Bool) (stack pushed : List Place) → pushed ≡ cond told (stack ++ key ∷ []) stack → (k : Place) → Contains stack k → Contains pushed k
-  sent_stays true stack pushed e k c = subst (λ (ks : List Place). Contains ks k) (sym e) (Contains-append_left stack (key ∷ []) k c)
-  sent_stays false stack pushed e k c = subst (λ (ks : List Place). Contains ks k) (sym e) c
+  sent_stays : (told : Bool) (queue pushed : List Place) → pushed ≡ cond told (queue ++ key ∷ []) queue → (k : Place) → Contains queue k → Contains pushed k
+  sent_stays true queue pushed e k c = subst (λ (ks : List Place). Contains ks k) (sym e) (Contains-append_left queue (key ∷ []) k c)
+  sent_stays false queue pushed e k c = subst (λ (ks : List Place). Contains ks k) (sym e) c
 
-  sent_found : (told : Bool) (stack pushed : List Place) → pushed ≡ cond told (stack ++ key ∷ []) stack → (k : Place) → Contains pushed k → Contains stack k ⊎ (key ≡ k)
-  sent_found true stack pushed e k c = elim (Contains-append_cases stack (key ∷ []) k (subst (λ (ks : List Place). Contains ks k) e c)) [
+  sent_found : (told : Bool) (queue pushed : List Place) → pushed ≡ cond told (queue ++ key ∷ []) queue → (k : Place) → Contains pushed k → Contains queue k ⊎ (key ≡ k)
+  sent_found true queue pushed e k c = elim (Contains-append_cases queue (key ∷ []) k (subst (λ (ks : List Place). Contains ks k) e c)) [
     | inl d ↦ inl d
     | inr d ↦ elim (Contains-cases key [] k d) [ inl same ↦ inr same | inr n ↦ absurd (Contains-none k n) ]
   ]
-  sent_found false stack pushed e k c = inl (subst (λ (ks : List Place). Contains ks k) e c)
+  sent_found false queue pushed e k c = inl (subst (λ (ks : List Place). Contains ks k) e c)
 
-  sent_length : (told : Bool) (stack pushed : List Place) → pushed ≡ cond told (stack ++ key ∷ []) stack → length pushed ≡ cond told (length stack + 1) (length stack)
-  sent_length true stack pushed e = ap length e ∙ length-append stack (key ∷ [])
-  sent_length false stack pushed e = ap length e
+  sent_length : (told : Bool) (queue pushed : List Place) → pushed ≡ cond told (queue ++ key ∷ []) queue → length pushed ≡ cond told (length queue + 1) (length queue)
+  sent_length true queue pushed e = ap length e ∙ length-append queue (key ∷ [])
+  sent_length false queue pushed e = ap length e
 
   module _ (n : ℕ) where
     burden_midst : (front back : Carried) (x : Entry) → burden n (front ++ x ∷ back) ≡ burden n (front ++ back) + (1 + count n x.1)
@@ -145,12 +145,12 @@ module _ (key : Place) (tokens : Bits) where
         let l = counted_by told s m (burden n (front ++ back)) (burden n new) t had f in
         omega arith
 
-  pub Sends-one : (old new : Carried) (stack pushed : List Place) → IsSent key tokens old new stack pushed → Sends (λ k. key ≡ k) tokens old new stack pushed
-  Sends-one old new stack pushed s = record {
+  pub Sends-one : (old new : Carried) (queue pushed : List Place) → IsSent key tokens old new queue pushed → Sends (λ k. key ≡ k) tokens old new queue pushed
+  Sends-one old new queue pushed s = record {
     kept = joined_kept s.told old new s.joined;
-    stays = sent_stays s.told stack pushed s.grown;
-    changed = joined_changed s.told old new stack pushed s.joined s.grown;
-    found = λ k c. elim (sent_found s.told stack pushed s.grown k c) [
+    stays = sent_stays s.told queue pushed s.grown;
+    changed = joined_changed s.told old new queue pushed s.joined s.grown;
+    found = λ k c. elim (sent_found s.told queue pushed s.grown k c) [
       | inl o ↦ inl o
       | inr e ↦ inr (subst (Contains (keys_of new)) e (let h = joined_there s.told old new s.joined in entry_key new (key, h.set) h.entry))
     ];
@@ -159,14 +159,14 @@ module _ (key : Place) (tokens : Bits) where
     there = λ k e. subst (λ (x : Place). HasAll new x tokens) e (joined_there s.told old new s.joined);
     differ = λ _. s.differ;
     weighed = λ n f each.
-        let l = joined_weighed n s.told old new (length stack) s.joined f each in
-        let m = sent_length s.told stack pushed s.grown in
+        let l = joined_weighed n s.told old new (length queue) s.joined f each in
+        let m = sent_length s.told queue pushed s.grown in
         omega arith;
   }
 
 -- ---- many
-pub Sends-none : (Such : Place → Type 0) (tokens : Bits) (table : Carried) (stack : List Place) → ((k : Place) → Such k → ⊥) → Sends Such tokens table table stack stack
-Sends-none Such tokens table stack none = record {
+pub Sends-none : (Such : Place → Type 0) (tokens : Bits) (table : Carried) (queue : List Place) → ((k : Place) → Such k → ⊥) → Sends Such tokens table table queue queue
+Sends-none Such tokens table queue none = record {
   kept = as_it_is table;
   stays = λ k c. c;
   changed = λ e c. inr c;
@@ -178,8 +178,8 @@ Sends-none Such tokens table stack none = record {
   weighed = λ n f each. omega arith;
 }
 
-pub below_after : (Such : Place → Type 0) (tokens : Bits) (old new : Carried) (stack pushed : List Place) (n : ℕ) → Sends Such tokens old new stack pushed → AreBelow n tokens → AllBelow n old → AllBelow n new
-below_after Such tokens old new stack pushed n s f each e c bit h = elim (s.bits e bit c h) [ inl o ↦ each (e.0, o.set) o.entry bit o.there | inr t ↦ f bit t.1 ]
+pub below_after : (Such : Place → Type 0) (tokens : Bits) (old new : Carried) (queue pushed : List Place) (n : ℕ) → Sends Such tokens old new queue pushed → AreBelow n tokens → AllBelow n old → AllBelow n new
+below_after Such tokens old new queue pushed n s f each e c bit h = elim (s.bits e bit c h) [ inl o ↦ each (e.0, o.set) o.entry bit o.there | inr t ↦ f bit t.1 ]
 
 pub Sends-then : (A B C : Place → Type 0) (tokens : Bits) → ((k : Place) → A k → C k) → ((k : Place) → B k → C k) → ((k : Place) → C k → A k ⊎ B k) → (a b c : Carried) (s t u : List Place) → Sends A tokens a b s t → Sends B tokens b c t u → Sends C tokens a c s u
 Sends-then A B C tokens left right cases a b c s t u x y = record {
@@ -217,8 +217,8 @@ same_place a b n p i =
     ap (λ n. make n a.item.production a.item.index) n ∙ ap (λ p. make b.state p a.item.index) p ∙ ap (λ i. make b.state b.item.production i) i
 
 -- the productions of a list, one more
-pub Begun-none : (n : ℕ) (tokens : Bits) (table : Carried) (stack : List Place) → Sends (IsBegunAt n []) tokens table table stack stack
-Begun-none n tokens table stack = Sends-none (IsBegunAt n []) tokens table stack (λ k b. Contains-none k.item.production b.among)
+pub Begun-none : (n : ℕ) (tokens : Bits) (table : Carried) (queue : List Place) → Sends (IsBegunAt n []) tokens table table queue queue
+Begun-none n tokens table queue = Sends-none (IsBegunAt n []) tokens table queue (λ k b. Contains-none k.item.production b.among)
 
 pub Begun-more : (n : ℕ) (ps : List Production) (p : Production) (key : Place) (tokens : Bits) (a b c : Carried) (s t u : List Place) → key.state ≡ n → key.item.production ≡ p → key.item.index ≡ 0 → Sends (IsBegunAt n ps) tokens a b s t → IsSent key tokens b c t u → Sends (IsBegunAt n (ps ++ p ∷ [])) tokens a c s u
 Begun-more n ps p key tokens a b c s t u at is dot x y =
@@ -233,28 +233,28 @@ Begun-more n ps p key tokens a b c s t u at is dot x y =
 
 -- ---- over a symbol, and without one
 module _ (states : List (State Bits)) (place : Place) (tokens : Bits) where
-  pub Over-end : (table : Carried) (stack : List Place) → place.item.index ≡ length place.item.production.symbols → Sends (IsOver states place) tokens table table stack stack
-  Over-end table stack end = Sends-none (IsOver states place) tokens table stack (λ k o. let w = slice_get_within place.item.production.symbols place.item.index o.symbol o.behind in absurd (omega arith))
+  pub Over-end : (table : Carried) (queue : List Place) → place.item.index ≡ length place.item.production.symbols → Sends (IsOver states place) tokens table table queue queue
+  Over-end table queue end = Sends-none (IsOver states place) tokens table queue (λ k o. let w = slice_get_within place.item.production.symbols place.item.index o.symbol o.behind in absurd (omega arith))
 
-  pub Over-nowhere : (x : Symbol) (table : Carried) (stack : List Place) → slice_get place.item.production.symbols place.item.index ≡ Some x → target_in states place.state x ≡ None → Sends (IsOver states place) tokens table table stack stack
-  Over-nowhere x table stack at none = Sends-none (IsOver states place) tokens table stack (λ k o.
+  pub Over-nowhere : (x : Symbol) (table : Carried) (queue : List Place) → slice_get place.item.production.symbols place.item.index ≡ Some x → target_in states place.state x ≡ None → Sends (IsOver states place) tokens table table queue queue
+  Over-nowhere x table queue at none = Sends-none (IsOver states place) tokens table queue (λ k o.
       let same : x ≡ o.symbol = same_some x o.symbol (sym at ∙ o.behind) in
       let edge = sym none ∙ ap (target_in states place.state) same ∙ o.edge in
       cc)
 
-  pub Over-one : (x : Symbol) (to : ℕ) (key : Place) (old new : Carried) (stack pushed : List Place) → slice_get place.item.production.symbols place.item.index ≡ Some x → target_in states place.state x ≡ Some to → at_place to place.item.production (place.item.index + 1) ≡ key → IsSent key tokens old new stack pushed → Sends (IsOver states place) tokens old new stack pushed
-  Over-one x to key old new stack pushed at edge is sent =
+  pub Over-one : (x : Symbol) (to : ℕ) (key : Place) (old new : Carried) (queue pushed : List Place) → slice_get place.item.production.symbols place.item.index ≡ Some x → target_in states place.state x ≡ Some to → at_place to place.item.production (place.item.index + 1) ≡ key → IsSent key tokens old new queue pushed → Sends (IsOver states place) tokens old new queue pushed
+  Over-one x to key old new queue pushed at edge is sent =
       Sends-same (λ k. key ≡ k) (IsOver states place) tokens
       (λ k e. record { symbol = x; behind = at; to = to; edge = edge; is = is ∙ e })
       (λ k o.
       let same : o.symbol ≡ x = same_some o.symbol x (sym o.behind ∙ at) in
       let target : to ≡ o.to = same_some to o.to (sym edge ∙ ap (target_in states place.state) (sym same) ∙ o.edge) in
       sym is ∙ ap (λ (n : ℕ). at_place n place.item.production (place.item.index + 1)) target ∙ o.is)
-      old new stack pushed (Sends-one key tokens old new stack pushed sent)
+      old new queue pushed (Sends-one key tokens old new queue pushed sent)
 
 module _ (g : Grammar) (states : List (State Bits)) (place : Place) (tokens : Bits) where
-  pub Gives-over : (old new : Carried) (stack pushed : List Place) → ((name : NonterminalString) → slice_get place.item.production.symbols place.item.index ≡ Some (Nonterminal name) → ⊥) → Contains old (place, tokens) → Sends (IsOver states place) tokens old new stack pushed → Gives g states place old new stack pushed
-  Gives-over old new stack pushed none entry over = record {
+  pub Gives-over : (old new : Carried) (queue pushed : List Place) → ((name : NonterminalString) → slice_get place.item.production.symbols place.item.index ≡ Some (Nonterminal name) → ⊥) → Contains old (place, tokens) → Sends (IsOver states place) tokens old new queue pushed → Gives g states place old new queue pushed
+  Gives-over old new queue pushed none entry over = record {
     tokens = tokens;
     entry = entry;
     middle = new;
@@ -266,9 +266,9 @@ module _ (g : Grammar) (states : List (State Bits)) (place : Place) (tokens : Bi
     fits = λ f. f;
   }
 
-  pub Gives-into : (name : NonterminalString) (given : Bits) (old middle new : Carried) (stack waiting pushed : List Place) → slice_get place.item.production.symbols place.item.index ≡ Some (Nonterminal name) → Contains old (place, tokens) → Sends (IsOver states place) tokens old middle stack waiting → Sends (IsBegunAt place.state (productions_of g name)) given middle new waiting pushed →
-      IsFirstSetBefore (rules_of g) (drop (place.item.index + 1) place.item.production.symbols) tokens given → (FitsTokens g.terminals tokens → FitsTokens g.terminals given) → Gives g states place old new stack pushed
-  Gives-into name given old middle new stack waiting pushed behind entry over into first fits = record {
+  pub Gives-into : (name : NonterminalString) (given : Bits) (old middle new : Carried) (queue waiting pushed : List Place) → slice_get place.item.production.symbols place.item.index ≡ Some (Nonterminal name) → Contains old (place, tokens) → Sends (IsOver states place) tokens old middle queue waiting → Sends (IsBegunAt place.state (productions_of g name)) given middle new waiting pushed →
+      IsFirstSetBefore (rules_of g) (drop (place.item.index + 1) place.item.production.symbols) tokens given → (FitsTokens g.terminals tokens → FitsTokens g.terminals given) → Gives g states place old new queue pushed
+  Gives-into name given old middle new queue waiting pushed behind entry over into first fits = record {
     tokens = tokens;
     entry = entry;
     middle = middle;

@@ -17,7 +17,7 @@ use Rattle.lalrpop_base.specs.declared.repr.Production.{Production}
 use Rattle.lalrpop_base.specs.declared.repr.Symbol.{Symbol}
 use Rattle.lalrpop_base.specs.declared.repr.Symbol.TheVariants.{Nonterminal}
 use Rattle.lalrpop_base.proofs.ContentsViews.{contains_of_map}
-use Rattle.lalrpop_tables.specs.Closure.{dotted_of, InKernel, HasItemToken, InTokenClosureBy, own_token, from_rest, from_parent, Found, item_of, IsStacked}
+use Rattle.lalrpop_tables.specs.Closure.{dotted_of, InKernel, HasItemToken, InTokenClosureBy, own_token, from_rest, from_parent, Found, item_of, IsQueued}
 use Rattle.lalrpop_tables.specs.Closing.{IsFound, HasFoundToken, Adds, IsBegunBy, IsExpandedTo, HasGiven, IsTokenSettled, Expands, IsStarted, IsTokenClosing}
 use Rattle.lalrpop_tables.proofs.KnownTerminals.{held_bit, bit_held, holds_more}
 use Rattle.lalrpop_tables.proofs.Lists.{Contains-here, Contains-cases, Contains-none, Contains-map}
@@ -47,17 +47,17 @@ same_rest a b k l e = cc
 
 module _ (begins : Rules → List Symbol → Token → Type 0) (passes : Rules → List Symbol → Type 0) (g : Rules) where
   -- ---- an item is expanded
-  pub Expands-none : (item : Dotted Nil) (table : Found) (stack : List (Dotted Nil)) → ((s : Bits) → Contains table (item, s) → (q : Production) (after : List Symbol) → drop item.index item.production.symbols ≡ Nonterminal q.nonterminal ∷ after → ⊥) → Expands begins passes g item table table stack stack
-  Expands-none item table stack none = record {
-    grows = Grows-none table stack;
+  pub Expands-none : (item : Dotted Nil) (table : Found) (queue : List (Dotted Nil)) → ((s : Bits) → Contains table (item, s) → (q : Production) (after : List Symbol) → drop item.index item.production.symbols ≡ Nonterminal q.nonterminal ∷ after → ⊥) → Expands begins passes g item table table queue queue
+  Expands-none item table queue none = record {
+    grows = Grows-none table queue;
     keys = λ e c. inl (entry_key table e c);
     tokens = λ e t c h. inl (record { set = e.1; entry = c; there = h });
     settled = λ differ s c q after behind among. absurd (none s c q after behind);
   }
 
-  module _ (name : NonterminalString) (rest : List Symbol) (tokens given : Bits) (item : Dotted Nil) (old new : Found) (stack pushed : List (Dotted Nil))
+  module _ (name : NonterminalString) (rest : List Symbol) (tokens given : Bits) (item : Dotted Nil) (old new : Found) (queue pushed : List (Dotted Nil))
       (at : slice_get item.production.symbols item.index ≡ Some (Nonterminal name)) (is : rest ≡ drop (suc item.index) item.production.symbols) (entry : Contains old (item, tokens))
-      (holds : (t : Token) → (holds_token g.terminals given t ≡ true) ↔ (begins g rest t ⊎ (passes g rest × (holds_token g.terminals tokens t ≡ true)))) (adds : Adds (IsBegunBy g name) given old new stack pushed) where
+      (holds : (t : Token) → (holds_token g.terminals given t ≡ true) ↔ (begins g rest t ⊎ (passes g rest × (holds_token g.terminals tokens t ≡ true)))) (adds : Adds (IsBegunBy g name) given old new queue pushed) where
     there_behind : drop item.index item.production.symbols ≡ Nonterminal name ∷ rest
     there_behind = drop_split item.index item.production.symbols (Nonterminal name) at ∙ ap (λ xs. Nonterminal name ∷ xs) (sym is)
 
@@ -94,7 +94,7 @@ module _ (begins : Rules → List Symbol → Token → Type 0) (passes : Rules �
               bit_held g.terminals found.set t bit.0 bit.1 (found.all bit.0 bit.2);
         }
 
-    pub Expands-given : Expands begins passes g item old new stack pushed
+    pub Expands-given : Expands begins passes g item old new queue pushed
     Expands-given = record {
       grows = adds.grows;
       keys = λ e c. elim (adds.keys e c) [ inl o ↦ inl o | inr b ↦ inr (rest, as_expanded e.0 b) ];
@@ -112,8 +112,8 @@ module _ (begins : Rules → List Symbol → Token → Type 0) (passes : Rules �
     abbrev ReachedWith : Production → ℕ → Token → Type 0
     ReachedWith = InTokenClosureBy (begins g) (passes g) g.productions Reached (HasItemToken g.terminals kernel)
 
-    pub Tokens-start : (table : Found) (stack : List (Dotted Nil)) → IsStarted kernel table stack → IsTokenClosing begins passes g kernel table stack
-    Tokens-start table stack s = record {
+    pub Tokens-start : (table : Found) (queue : List (Dotted Nil)) → IsStarted kernel table queue → IsTokenClosing begins passes g kernel table queue
+    Tokens-start table queue s = record {
       all = s.all;
       keys = λ e c. in_kernel (s.keys e c);
       tokens = λ e t c h.
@@ -123,7 +123,7 @@ module _ (begins : Rules → List Symbol → Token → Type 0) (passes : Rules �
       settled = λ e c. inl (s.waiting e c);
     }
 
-    module _ (item : Dotted Nil) (old new : Found) (stack pushed : List (Dotted Nil)) (differ : AllDiffer (keys_of old)) (before : IsTokenClosing begins passes g kernel old (stack ++ item ∷ [])) (x : Expands begins passes g item old new stack pushed) where
+    module _ (item : Dotted Nil) (old new : Found) (queue pushed : List (Dotted Nil)) (differ : AllDiffer (keys_of old)) (before : IsTokenClosing begins passes g kernel old (item ∷ queue)) (x : Expands begins passes g item old new queue pushed) where
       key_reached : (k : Dotted Nil) → Contains (keys_of old) k → Reached k.production k.index
       key_reached k c = let h = key_entry old k c in before.keys (k, h.0) h.1
 
@@ -153,18 +153,15 @@ module _ (begins : Rules → List Symbol → Token → Type 0) (passes : Rules �
             through = λ t n i. holds_more g.terminals h.set k.set t k.all (h.through t n i);
           }
 
-      popped_settled : (e : Entry) → Contains old e → Contains (stack ++ item ∷ []) e.0 → Contains pushed e.0 ⊎ IsTokenSettled begins passes g new e.0 e.1
-      popped_settled e c w = elim (Contains-append_cases stack (item ∷ []) e.0 w) [
-        | inl s ↦ inl (x.grows.stays e.0 s)
-        | inr i ↦ elim (Contains-cases item [] e.0 i) [
-          | inl same ↦ inr (subst (λ (k : Dotted Nil). IsTokenSettled begins passes g new k e.1) same (x.settled differ e.1 (subst (λ (k : Dotted Nil). Contains old (k, e.1)) (sym same) c)))
-          | inr none ↦ absurd (Contains-none e.0 none)
-        ]
+      popped_settled : (e : Entry) → Contains old e → Contains (item ∷ queue) e.0 → Contains pushed e.0 ⊎ IsTokenSettled begins passes g new e.0 e.1
+      popped_settled e c w = elim (Contains-cases item queue e.0 w) [
+        | inr s ↦ inl (x.grows.stays e.0 s)
+        | inl same ↦ inr (subst (λ (k : Dotted Nil). IsTokenSettled begins passes g new k e.1) same (x.settled differ e.1 (subst (λ (k : Dotted Nil). Contains old (k, e.1)) (sym same) c)))
       ]
 
       pub Tokens-step : IsTokenClosing begins passes g kernel new pushed
       Tokens-step = record {
-        all = λ i c. let a = before.all i c in (a.0, a.1, found_kept old new stack pushed x.grows a.0 i.lookahead a.2);
+        all = λ i c. let a = before.all i c in (a.0, a.1, found_kept old new queue pushed x.grows a.0 i.lookahead a.2);
         keys = λ e c. elim (x.keys e c) [ inl o ↦ key_reached e.0 o | inr n ↦ expanded_reached e.0 n.0 n.1 ];
         tokens = λ e t c h. elim (x.tokens e t c h) [
           | inl f ↦ found_reached e.0 t f
@@ -253,20 +250,20 @@ pub rest_from : (n : ℕ) (xs rest : List Symbol) → rest ≡ drop (n + 1) xs �
 rest_from n xs rest e = let s : n + 1 ≡ suc n = omega arith in e ∙ ap (λ k. drop k xs) s
 
 -- ---- the kernel goes to the table
-pub Started-tokens-none : (table : Found) (stack : List (Dotted Nil)) → table ≡ [] → IsStarted [] table stack
-Started-tokens-none table stack e = record {
+pub Started-tokens-none : (table : Found) (queue : List (Dotted Nil)) → table ≡ [] → IsStarted [] table queue
+Started-tokens-none table queue e = record {
   all = λ i c. absurd (Contains-none i c);
   waiting = λ x c. absurd (Contains-none x (subst (λ (xs : Found). Contains xs x) e c));
   keys = λ x c. absurd (Contains-none x (subst (λ (xs : Found). Contains xs x) e c));
   bits = λ x bit c h. absurd (Contains-none x (subst (λ (xs : Found). Contains xs x) e c));
 }
 
-pub Started-tokens-more : (first : List (Dotted Bits)) (i : Dotted Bits) (key : Dotted Nil) (old new : Found) (stack pushed : List (Dotted Nil)) → dotted_of key ≡ dotted_of i → IsStacked key i.lookahead old new stack pushed → IsStarted first old stack → IsStarted (first ++ i ∷ []) new pushed
-Started-tokens-more first i key old new stack pushed same s t =
-    let a = Adds-one key i.lookahead old new stack pushed s in
+pub Started-tokens-more : (first : List (Dotted Bits)) (i : Dotted Bits) (key : Dotted Nil) (old new : Found) (queue pushed : List (Dotted Nil)) → dotted_of key ≡ dotted_of i → IsQueued key i.lookahead old new queue pushed → IsStarted first old queue → IsStarted (first ++ i ∷ []) new pushed
+Started-tokens-more first i key old new queue pushed same s t =
+    let a = Adds-one key i.lookahead old new queue pushed s in
     record {
       all = λ j c. elim (Contains-append_cases first (i ∷ []) j c) [
-        | inl f ↦ let h = t.all j f in (h.0, h.1, found_kept old new stack pushed a.grows h.0 j.lookahead h.2)
+        | inl f ↦ let h = t.all j f in (h.0, h.1, found_kept old new queue pushed a.grows h.0 j.lookahead h.2)
         | inr l ↦ elim (Contains-cases i [] j l) [
           | inl e ↦ subst (λ (x : Dotted Bits). (k : Dotted Nil) × (dotted_of k ≡ dotted_of x) × IsFound new k x.lookahead) e (key, same, a.there key refl)
           | inr none ↦ absurd (Contains-none j none)

@@ -1,8 +1,8 @@
--- The loop of a closure: from the kernel on the stack to an empty stack.
-use Rattle.std.proofs.Common.{◌≡◌, ◌↔◌, ℕ, zero, suc, ◌+◌, ◌<◌, inl, inr, List, [], ◌∷◌, ◌++◌, map, sym, ◌∙◌, ap, subst, arith, length-append, Some}
+-- The loop of a closure: from the kernel in the queue to an empty queue.
+use Rattle.std.proofs.Common.{◌≡◌, ◌↔◌, ℕ, zero, suc, ◌+◌, ◌<◌, inl, inr, List, [], ◌∷◌, ◌++◌, map, sym, ◌∙◌, ap, subst, arith, Some}
 use Rattle.std.specs.Prelude.{Contains, slice_get, drop}
 use Rattle.std.specs.Map.{keys_of}
-use Rattle.std.proofs.lemmas.List.Elements.{Contains-append_left, Contains-append_right, Contains-append_cases}
+use Rattle.std.proofs.lemmas.List.Elements.{Contains-append_cases}
 use Rattle.std.proofs.lemmas.List.{map-append}
 use Rattle.lalrpop_base.specs.Bits.{Bits}
 use Rattle.lalrpop_base.specs.Items.{Dotted}
@@ -17,42 +17,38 @@ use Rattle.lalrpop_base.specs.Tokens.{FitsTokens}
 use Rattle.lalrpop_base.specs.declared.lookahead.nil.Nil.{Nil}
 use Rattle.lalrpop_base.specs.declared.repr.Production.{Production}
 use Rattle.lalrpop_tables.specs.Ascending.{Ascend}
-use Rattle.lalrpop_tables.specs.Closure.{dotted_of, InKernel, HasItemToken, AreItems, IsClosureBy, InTokenClosureBy, itself, Found, item_of, IsStacked, IsTable, AreBegun, begun_of, Spreads, IsSettled, IsExpanded, IsClosing}
-use Rattle.lalrpop_tables.proofs.Lists.{Contains-none, Contains-here, Contains-cases}
+use Rattle.lalrpop_tables.specs.Closure.{dotted_of, InKernel, HasItemToken, AreItems, IsClosureBy, InTokenClosureBy, itself, Found, item_of, IsQueued, IsTable, AreBegun, begun_of, Spreads, IsSettled, IsExpanded, IsClosing}
+use Rattle.lalrpop_tables.proofs.Lists.{Contains-none, Contains-here, Contains-there, Contains-cases}
 use Rattle.lalrpop_tables.proofs.Places.{same_some}
-use Rattle.lalrpop_tables.proofs.Tables.{same_lr0, joined_keys, joined_from, joined_there, stacked_more, stacked_last, stacked_of, key_entry, weight_few, work, table_popped, lr0, Table-items, Started-more, Started-none}
+use Rattle.lalrpop_tables.proofs.Tables.{same_lr0, joined_keys, joined_from, joined_there, queued_more, queued_last, queued_of, key_entry, weight_few, work, table_popped, lr0, Table-items, Started-more, Started-none}
 
 -- ---- the loop
 module _ (g : Rules) where
-  pub Closing-step : (kernel : List (Dotted Bits)) (i : Dotted Nil) (old new : Found) (stack pushed : List (Dotted Nil)) → IsClosing g kernel old (stack ++ i ∷ []) → IsExpanded g i old new stack pushed → IsClosing g kernel new pushed
-  Closing-step kernel i old new stack pushed c x =
-      let i_found = c.found i (Contains-append_right stack (i ∷ []) i (Contains-here i [])) in
+  pub Closing-step : (kernel : List (Dotted Bits)) (i : Dotted Nil) (old new : Found) (queue pushed : List (Dotted Nil)) → IsClosing g kernel old (i ∷ queue) → IsExpanded g i old new queue pushed → IsClosing g kernel new pushed
+  Closing-step kernel i old new queue pushed c x =
+      let i_found = c.found i (Contains-here i queue) in
       record {
-        is_table = x.kept kernel i_found (table_popped g kernel old stack i c.is_table);
-        found = λ k d. elim (x.pushed_found k d) [ inl h ↦ x.known k (c.found k (Contains-append_left stack (i ∷ []) k h)) | inr h ↦ h ];
+        is_table = x.kept kernel i_found (table_popped g kernel old queue i c.is_table);
+        found = λ k d. elim (x.pushed_found k d) [ inl h ↦ x.known k (c.found k (Contains-there i queue k h)) | inr h ↦ h ];
         has = λ k d. x.known k (c.has k d);
         done = λ k d. elim (x.from k d) [
           | inr h ↦ inl h
           | inl h ↦ elim (c.done k h) [
             | inr settled ↦ inr (λ q after e m. x.known (begun_of q) (settled q after e m))
-            | inl on ↦ elim (Contains-append_cases stack (i ∷ []) k on) [
-              | inl s ↦ inl (x.stacked k s)
-              | inr last ↦ elim (Contains-cases i [] k last) [
-                | inl same ↦ inr (subst (IsSettled g new) same x.settled)
-                | inr n ↦ absurd (Contains-none k n)
-              ]
+            | inl on ↦ elim (Contains-cases i queue k on) [
+              | inr s ↦ inl (x.queued k s)
+              | inl same ↦ inr (subst (IsSettled g new) same x.settled)
             ]
           ]
         ];
       }
 
-  pub Closing-smaller : (kernel : List (Dotted Bits)) (i : Dotted Nil) (old new : Found) (stack pushed : List (Dotted Nil)) → IsClosing g kernel old (stack ++ i ∷ []) → IsExpanded g i old new stack pushed → work g kernel new pushed < work g kernel old (stack ++ i ∷ [])
-  Closing-smaller kernel i old new stack pushed c x =
-      let i_found = c.found i (Contains-append_right stack (i ∷ []) i (Contains-here i [])) in
-      let before = table_popped g kernel old stack i c.is_table in
+  pub Closing-smaller : (kernel : List (Dotted Bits)) (i : Dotted Nil) (old new : Found) (queue pushed : List (Dotted Nil)) → IsClosing g kernel old (i ∷ queue) → IsExpanded g i old new queue pushed → work g kernel new pushed < work g kernel old (i ∷ queue)
+  Closing-smaller kernel i old new queue pushed c x =
+      let i_found = c.found i (Contains-here i queue) in
+      let before = table_popped g kernel old queue i c.is_table in
       let few_new = weight_few g kernel new pushed (x.kept kernel i_found before) in
       let more = x.counted kernel i_found before in
-      let l = length-append stack (i ∷ []) in
       omega arith
 
   complete : (kernel : List (Dotted Bits)) (table : Found) → IsClosing g kernel table [] → (p : Production) (n : ℕ) → InClosure g.productions (InKernel kernel) p n → Contains (keys_of table) (lr0 g (p, n))
@@ -80,14 +76,14 @@ at_drop [] (suc n) x after h = cc
 at_drop (y ∷ xs) zero x after h = let e : y ≡ x = cc in ap Some e
 at_drop (y ∷ xs) (suc n) x after h = at_drop xs n x after h
 
-module _ (g : Rules) (i : Dotted Nil) (old : Found) (stack : List (Dotted Nil)) where
+module _ (g : Rules) (i : Dotted Nil) (old : Found) (queue : List (Dotted Nil)) where
   -- where productions of the nonterminal behind the dot went to the table, all of them
   pub Expanded-over : (name : NonterminalString) (tokens : Bits) (ps : List Production) (new : Found) (pushed : List (Dotted Nil)) → slice_get i.production.symbols i.index ≡ Some (Nonterminal name) →
       ((p : Production) → Contains ps p → p.nonterminal ≡ name) → ((p : Production) → Contains ps p → Contains g.productions p) → ((p : Production) → Contains g.productions p → p.nonterminal ≡ name → Contains ps p) →
-      ((kernel : List (Dotted Bits)) → IsTable g kernel old stack → FitsTokens g.terminals tokens) → Spreads g tokens ps old new stack pushed → IsExpanded g i old new stack pushed
+      ((kernel : List (Dotted Bits)) → IsTable g kernel old queue → FitsTokens g.terminals tokens) → Spreads g tokens ps old new queue pushed → IsExpanded g i old new queue pushed
   Expanded-over name tokens ps new pushed behind named among all fits s =
       let at = drop_at i.production.symbols i.index (Nonterminal name) behind in
-      let begun : (kernel : List (Dotted Bits)) → Contains (keys_of old) i → IsTable g kernel old stack → AreBegun g kernel ps = λ kernel found t p c.
+      let begun : (kernel : List (Dotted Bits)) → Contains (keys_of old) i → IsTable g kernel old queue → AreBegun g kernel ps = λ kernel found t p c.
       let e = key_entry g old i found in
       expanded p (drop (i.index + 1) i.production.symbols) (t.sound (i, e.0) e.1) (at ∙ ap (λ (a : NonterminalString). Nonterminal a ∷ drop (i.index + 1) i.production.symbols) (sym (named p c))) (among p c) in
       record {
@@ -95,7 +91,7 @@ module _ (g : Rules) (i : Dotted Nil) (old : Found) (stack : List (Dotted Nil)) 
         counted = λ kernel found t. s.counted kernel (fits kernel t) (begun kernel found t) t;
         known = s.known;
         from = s.from;
-        stacked = s.stacked;
+        queued = s.queued;
         pushed_found = s.pushed_found;
         settled = λ q after e m.
             let same : Nonterminal q.nonterminal ∷ after ≡ Nonterminal name ∷ drop (i.index + 1) i.production.symbols = sym e ∙ at in
@@ -104,44 +100,44 @@ module _ (g : Rules) (i : Dotted Nil) (old : Found) (stack : List (Dotted Nil)) 
       }
 
   -- where no nonterminal stands behind the dot
-  pub Expanded-none : ((name : NonterminalString) → slice_get i.production.symbols i.index ≡ Some (Nonterminal name) → ⊥) → IsExpanded g i old old stack stack
+  pub Expanded-none : ((name : NonterminalString) → slice_get i.production.symbols i.index ≡ Some (Nonterminal name) → ⊥) → IsExpanded g i old old queue queue
   Expanded-none none = record {
     kept = λ kernel found t. t;
     counted = λ kernel found t. omega arith;
     known = λ k c. c;
     from = λ k c. inl c;
-    stacked = λ k c. c;
+    queued = λ k c. c;
     pushed_found = λ k c. inl c;
     settled = λ q after e m. absurd (none q.nonterminal (at_drop i.production.symbols i.index (Nonterminal q.nonterminal) after e));
   }
 
 -- ---- the kernel goes to the table
--- the first items of a kernel, each on the stack
-pub record AreStarted (g : Rules) (kernel : List (Dotted Bits)) (first : List (Dotted Bits)) (table : Found) (stack : List (Dotted Nil)) : Type 0 where
-  pub is_table : IsTable g kernel table stack
-  pub on_stack : (k : Dotted Nil) → Contains (keys_of table) k → Contains stack k
-  pub found : (k : Dotted Nil) → Contains stack k → Contains (keys_of table) k
+-- the first items of a kernel, each in the queue
+pub record AreStarted (g : Rules) (kernel : List (Dotted Bits)) (first : List (Dotted Bits)) (table : Found) (queue : List (Dotted Nil)) : Type 0 where
+  pub is_table : IsTable g kernel table queue
+  pub on_queue : (k : Dotted Nil) → Contains (keys_of table) k → Contains queue k
+  pub found : (k : Dotted Nil) → Contains queue k → Contains (keys_of table) k
   pub has : (k : Dotted Nil) → Contains (map dotted_of first) (dotted_of k) → Contains (keys_of table) k
 
-pub Start-none : (g : Rules) (kernel : List (Dotted Bits)) (table : Found) (stack : List (Dotted Nil)) → table ≡ [] → stack ≡ [] → AreStarted g kernel [] table stack
-Start-none g kernel table stack e f = record {
-  is_table = Started-none g kernel table stack e f;
-  on_stack = λ k c. absurd (Contains-none k (subst (λ (xs : Found). Contains (keys_of xs) k) e c));
+pub Start-none : (g : Rules) (kernel : List (Dotted Bits)) (table : Found) (queue : List (Dotted Nil)) → table ≡ [] → queue ≡ [] → AreStarted g kernel [] table queue
+Start-none g kernel table queue e f = record {
+  is_table = Started-none g kernel table queue e f;
+  on_queue = λ k c. absurd (Contains-none k (subst (λ (xs : Found). Contains (keys_of xs) k) e c));
   found = λ k c. absurd (Contains-none k (subst (λ (xs : List (Dotted Nil)). Contains xs k) f c));
   has = λ k c. absurd (Contains-none (dotted_of k) c);
 }
 
-pub Start-more : (g : Rules) (kernel first : List (Dotted Bits)) (i : Dotted Bits) (key : Dotted Nil) (old new : Found) (stack pushed : List (Dotted Nil)) → AreItems g kernel → Contains kernel i → key.production ≡ i.production → key.index ≡ i.index →
-    IsStacked key i.lookahead old new stack pushed → AreStarted g kernel first old stack → AreStarted g kernel (first ++ i ∷ []) new pushed
-Start-more g kernel first i key old new stack pushed a c p d s t =
+pub Start-more : (g : Rules) (kernel first : List (Dotted Bits)) (i : Dotted Bits) (key : Dotted Nil) (old new : Found) (queue pushed : List (Dotted Nil)) → AreItems g kernel → Contains kernel i → key.production ≡ i.production → key.index ≡ i.index →
+    IsQueued key i.lookahead old new queue pushed → AreStarted g kernel first old queue → AreStarted g kernel (first ++ i ∷ []) new pushed
+Start-more g kernel first i key old new queue pushed a c p d s t =
     let same : dotted_of i ≡ dotted_of key = ap (λ q. (q, i.index)) (sym p) ∙ ap (λ n. (key.production, n)) (sym d) in
     record {
-      is_table = Started-more g kernel i key old new stack pushed a c p d s t.is_table;
-      on_stack = λ k m. elim (joined_from key i.lookahead s.told old new s.joined k m) [
-        | inl h ↦ stacked_more s.told key stack pushed s.grown k (t.on_stack k h)
-        | inr h ↦ subst (Contains pushed) h.1 (stacked_last s.told key stack pushed s.grown h.0)
+      is_table = Started-more g kernel i key old new queue pushed a c p d s t.is_table;
+      on_queue = λ k m. elim (joined_from key i.lookahead s.told old new s.joined k m) [
+        | inl h ↦ queued_more s.told key queue pushed s.grown k (t.on_queue k h)
+        | inr h ↦ subst (Contains pushed) h.1 (queued_last s.told key queue pushed s.grown h.0)
       ];
-      found = λ k m. elim (stacked_of s.told key stack pushed s.grown k m) [
+      found = λ k m. elim (queued_of s.told key queue pushed s.grown k m) [
         | inl h ↦ joined_keys key i.lookahead s.told old new s.joined k (t.found k h)
         | inr h ↦ subst (Contains (keys_of new)) h (joined_there key i.lookahead s.told old new s.joined)
       ];
@@ -156,10 +152,10 @@ Start-more g kernel first i key old new stack pushed a c p d s t =
       ];
     }
 
-pub Start-closing : (g : Rules) (kernel first : List (Dotted Bits)) (table : Found) (stack : List (Dotted Nil)) → first ≡ kernel → AreStarted g kernel first table stack → IsClosing g kernel table stack
-Start-closing g kernel first table stack e t = record {
+pub Start-closing : (g : Rules) (kernel first : List (Dotted Bits)) (table : Found) (queue : List (Dotted Nil)) → first ≡ kernel → AreStarted g kernel first table queue → IsClosing g kernel table queue
+Start-closing g kernel first table queue e t = record {
   is_table = t.is_table;
   found = t.found;
   has = λ k c. t.has k (subst (λ (xs : List (Dotted Bits)). Contains (map dotted_of xs) (dotted_of k)) (sym e) c);
-  done = λ k c. inl (t.on_stack k c);
+  done = λ k c. inl (t.on_queue k c);
 }

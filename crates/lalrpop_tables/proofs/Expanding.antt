@@ -13,7 +13,7 @@ use Rattle.lalrpop_base.specs.declared.repr.Symbol.{Symbol}
 use Rattle.lalrpop_base.specs.declared.repr.Symbol.TheVariants.{Nonterminal}
 use Rattle.lalrpop_base.proofs.ContentsViews.{contains_of_map}
 use Rattle.lalrpop_tables.specs.Closing.{AreAllBegun, production_of, SpreadFirst, SpreadAll, ExpandsFound, IsBegunOf, IsBegunBy, Adds}
-use Rattle.lalrpop_tables.specs.Closure.{dotted_of, meant, Found, IsStacked, IsExpanded, Spreads}
+use Rattle.lalrpop_tables.specs.Closure.{dotted_of, meant, Found, IsQueued, IsExpanded, Spreads}
 use Rattle.lalrpop_tables.specs.Entries.{readings}
 use Rattle.lalrpop_tables.specs.EpsilonMoves.{AreEpsilonMoves}
 use Rattle.lalrpop_tables.proofs.Closing.{Expands-given}
@@ -24,22 +24,22 @@ use Rattle.lalrpop_tables.proofs.Readings.{readings_there}
 use Rattle.lalrpop_tables.proofs.Tables.{Spreads-none, Spreads-then, Spreads-one}
 
 -- ---- items go to the table, one after the other
-pub Spread-none : (all : List (Dotted Bits)) (table : Found) (stack : List (Dotted Nil)) → SpreadFirst all [] table table stack stack
-Spread-none all table stack g given begun = (Spreads-none g given table stack, Begun-none given table stack)
+pub Spread-none : (all : List (Dotted Bits)) (table : Found) (queue : List (Dotted Nil)) → SpreadFirst all [] table table queue queue
+Spread-none all table queue g given begun = (Spreads-none g given table queue, Begun-none given table queue)
 
-pub Spread-more : (all first : List (Dotted Bits)) (i : Dotted Bits) (key : Dotted Nil) (a b c : Found) (s t u : List (Dotted Nil)) → Contains all i → key.production ≡ i.production → key.index ≡ i.index → IsStacked key i.lookahead b c t u → SpreadFirst all first a b s t → SpreadFirst all (first ++ i ∷ []) a c s u
+pub Spread-more : (all first : List (Dotted Bits)) (i : Dotted Bits) (key : Dotted Nil) (a b c : Found) (s t u : List (Dotted Nil)) → Contains all i → key.production ≡ i.production → key.index ≡ i.index → IsQueued key i.lookahead b c t u → SpreadFirst all first a b s t → SpreadFirst all (first ++ i ∷ []) a c s u
 Spread-more all first i key a b c s t u there p d more had g given begun =
     let is = begun i there in
     let before = had g given begun in
     let ps = map-append production_of first (i ∷ []) in
-    let one : IsStacked key given b c t u = subst (λ (x : Bits). IsStacked key x b c t u) is.2 more in (
+    let one : IsQueued key given b c t u = subst (λ (x : Bits). IsQueued key x b c t u) is.2 more in (
       subst (λ (qs : List Production). Spreads g given qs a c s u) (sym ps) (Spreads-then g given (map production_of first) (i.production ∷ []) a b c s t u before.0 (Spreads-one g i.production key given b c t u one p is.1 (d ∙ is.0))),
       subst (λ (qs : List Production). Adds (IsBegunOf qs) given a c s u) (sym ps) (Begun-more (map production_of first) i.production key given a b c s t u p (d ∙ is.0) before.1 one),
     )
 
 -- ---- what an item gives goes to the table
 module _ {L : Type 0} (meaning : L → Bits) (begins : Rules → List Symbol → Token → Type 0) (passes : Rules → List Symbol → Type 0) (g : Rules) (name : NonterminalString) (rest : List Symbol) (lookahead : L) (moves : List (Dotted L)) (e : AreEpsilonMoves meaning begins passes g name rest lookahead moves)
-    (item : Dotted Nil) (table : List (Dotted Nil × L)) (new : Found) (stack pushed : List (Dotted Nil)) (there : Contains table (item, lookahead)) (at : slice_get item.production.symbols item.index ≡ Some (Nonterminal name)) (spread : SpreadAll (map (meant meaning) moves) (readings meaning table) new stack pushed) where
+    (item : Dotted Nil) (table : List (Dotted Nil × L)) (new : Found) (queue pushed : List (Dotted Nil)) (there : Contains table (item, lookahead)) (at : slice_get item.production.symbols item.index ≡ Some (Nonterminal name)) (spread : SpreadAll (map (meant meaning) moves) (readings meaning table) new queue pushed) where
   abbrev ms : List (Dotted Bits)
   ms = map (meant meaning) moves
 
@@ -75,14 +75,14 @@ module _ {L : Type 0} (meaning : L → Bits) (begins : Rules → List Symbol →
   entry : Contains old (item, meaning lookahead)
   entry = readings_there meaning table item lookahead there
 
-  pub Given-expanded : IsExpanded g item old new stack pushed
+  pub Given-expanded : IsExpanded g item old new queue pushed
   Given-expanded =
-      Expanded-over g item old stack name given (map production_of ms) new pushed at named among all_moves (λ kernel t. e.fits (t.each (item, meaning lookahead) entry).tokens) (spread g given all_begun).0
+      Expanded-over g item old queue name given (map production_of ms) new pushed at named among all_moves (λ kernel t. e.fits (t.each (item, meaning lookahead) entry).tokens) (spread g given all_begun).0
 
-  pub Given-tokens : rest ≡ drop (suc item.index) item.production.symbols → ExpandsFound begins passes g item old new stack pushed
+  pub Given-tokens : rest ≡ drop (suc item.index) item.production.symbols → ExpandsFound begins passes g item old new queue pushed
   Given-tokens is differ tokens found =
-      Expands-given begins passes g name rest (meaning lookahead) given item old new stack pushed at is entry e.holds
+      Expands-given begins passes g name rest (meaning lookahead) given item old new queue pushed at is entry e.holds
       (Adds-same (IsBegunOf (map production_of ms)) (IsBegunBy g name) given
       (λ k b. record { start = b.start; among = among k.production b.among; named = named k.production b.among })
       (λ k b. record { start = b.start; among = all_moves k.production b.among b.named })
-      old new stack pushed (spread g given all_begun).1)
+      old new queue pushed (spread g given all_begun).1)

@@ -11,7 +11,7 @@ use Rattle.lalrpop_base.specs.declared.lookahead.nil.Nil.{Nil}
 use Rattle.lalrpop_base.specs.declared.repr.Production.{Production}
 use Rattle.lalrpop_tables.specs.Entries.{IsJoinedAt}
 use Rattle.lalrpop_tables.specs.Entries.IsJoinedAt.{fresh, known}
-use Rattle.lalrpop_tables.specs.Closure.{Found, IsStacked}
+use Rattle.lalrpop_tables.specs.Closure.{Found, IsQueued}
 use Rattle.lalrpop_tables.specs.Closing.{IsFound, HasBit, Grows, Adds, IsBegunOf}
 use Rattle.lalrpop_tables.proofs.Lists.{Contains-here, Contains-cases, Contains-none, Contains-map}
 use Rattle.lalrpop_tables.proofs.Places.{midst, around, at_midst}
@@ -53,8 +53,8 @@ pub found_more : (table : Found) (k : Dotted Nil) (s t : Bits) → ((bit : ℕ) 
 found_more table k s t all f = record { set = f.set; entry = f.entry; all = λ bit h. f.all bit (all bit h) }
 
 -- ---- growth
-pub Grows-none : (table : Found) (stack : List (Dotted Nil)) → Grows table table stack stack
-Grows-none table stack = record { kept = found_again table; stays = λ k c. c; changed = λ e c. inr c }
+pub Grows-none : (table : Found) (queue : List (Dotted Nil)) → Grows table table queue queue
+Grows-none table queue = record { kept = found_again table; stays = λ k c. c; changed = λ e c. inr c }
 
 pub found_kept : (a b : Found) (s t : List (Dotted Nil)) → Grows a b s t → (k : Dotted Nil) (tokens : Bits) → IsFound a k tokens → IsFound b k tokens
 found_kept a b s t g k tokens f = found_more b k tokens f.set f.all (g.kept (k, f.set) f.entry)
@@ -103,37 +103,37 @@ module _ (key : Dotted Nil) (tokens : Bits) where
     | inr out ↦ inl (entry_key old e (subst (λ (xs : Found). Contains xs e) (sym before) (around front back (key, s) e out)))
   ]
 
-  changed_by : (told : Bool) (s : Bits) (front back old : Found) (stack pushed : List (Dotted Nil)) → pushed ≡ cond told (stack ++ key ∷ []) stack → MatchBool told (join s tokens ≢ s) (join s tokens ≡ s) → old ≡ front ++ (key, s) ∷ back → Contains pushed key ⊎ Contains old (key, join s tokens)
-  changed_by true s front back old stack pushed grown m before = inl (subst (λ (xs : List (Dotted Nil)). Contains xs key) (sym grown) (Contains-append_right stack (key ∷ []) key (Contains-here key [])))
-  changed_by false s front back old stack pushed grown m before = inr (subst (λ (t : Bits). Contains old (key, t)) (sym m) (subst (λ (xs : Found). Contains xs (key, s)) (sym before) (at_midst front back (key, s))))
+  changed_by : (told : Bool) (s : Bits) (front back old : Found) (queue pushed : List (Dotted Nil)) → pushed ≡ cond told (queue ++ key ∷ []) queue → MatchBool told (join s tokens ≢ s) (join s tokens ≡ s) → old ≡ front ++ (key, s) ∷ back → Contains pushed key ⊎ Contains old (key, join s tokens)
+  changed_by true s front back old queue pushed grown m before = inl (subst (λ (xs : List (Dotted Nil)). Contains xs key) (sym grown) (Contains-append_right queue (key ∷ []) key (Contains-here key [])))
+  changed_by false s front back old queue pushed grown m before = inr (subst (λ (t : Bits). Contains old (key, t)) (sym m) (subst (λ (xs : Found). Contains xs (key, s)) (sym before) (at_midst front back (key, s))))
 
-  joined_changed : (told : Bool) (old new : Found) (stack pushed : List (Dotted Nil)) → IsJoinedAt key tokens told old new → pushed ≡ cond told (stack ++ key ∷ []) stack → (e : Entry) → Contains new e → Contains pushed e.0 ⊎ Contains old e
-  joined_changed told old new stack pushed (fresh front back before after t) grown e c = elim (midst front back (key, tokens) e (subst (λ (xs : Found). Contains xs e) after c)) [
+  joined_changed : (told : Bool) (old new : Found) (queue pushed : List (Dotted Nil)) → IsJoinedAt key tokens told old new → pushed ≡ cond told (queue ++ key ∷ []) queue → (e : Entry) → Contains new e → Contains pushed e.0 ⊎ Contains old e
+  joined_changed told old new queue pushed (fresh front back before after t) grown e c = elim (midst front back (key, tokens) e (subst (λ (xs : Found). Contains xs e) after c)) [
     | inl same ↦
-        let now : pushed ≡ stack ++ key ∷ [] = grown ∙ ap (λ b. cond b (stack ++ key ∷ []) stack) t in
-        inl (subst (λ (x : Entry). Contains pushed x.0) same (subst (λ (xs : List (Dotted Nil)). Contains xs key) (sym now) (Contains-append_right stack (key ∷ []) key (Contains-here key []))))
+        let now : pushed ≡ queue ++ key ∷ [] = grown ∙ ap (λ b. cond b (queue ++ key ∷ []) queue) t in
+        inl (subst (λ (x : Entry). Contains pushed x.0) same (subst (λ (xs : List (Dotted Nil)). Contains xs key) (sym now) (Contains-append_right queue (key ∷ []) key (Contains-here key []))))
     | inr out ↦ inr (subst (λ (xs : Found). Contains xs e) (sym before) out)
   ]
-  joined_changed told old new stack pushed (known front back s before after t) grown e c = elim (midst front back (key, join s tokens) e (subst (λ (xs : Found). Contains xs e) after c)) [
-    | inl same ↦ subst (λ (x : Entry). Contains pushed x.0 ⊎ Contains old x) same (changed_by told s front back old stack pushed grown t before)
+  joined_changed told old new queue pushed (known front back s before after t) grown e c = elim (midst front back (key, join s tokens) e (subst (λ (xs : Found). Contains xs e) after c)) [
+    | inl same ↦ subst (λ (x : Entry). Contains pushed x.0 ⊎ Contains old x) same (changed_by told s front back old queue pushed grown t before)
     | inr out ↦ inr (subst (λ (xs : Found). Contains xs e) (sym before) (around front back (key, s) e out))
   ]
 
-  stacked_stays : (told : Bool) (stack pushed : List (Dotted Nil)) → pushed ≡ cond told (stack ++ key ∷ []) stack → (k : Dotted Nil) → Contains stack k → Contains pushed k
-  stacked_stays true stack pushed e k c = subst (λ (xs : List (Dotted Nil)). Contains xs k) (sym e) (Contains-append_left stack (key ∷ []) k c)
-  stacked_stays false stack pushed e k c = subst (λ (xs : List (Dotted Nil)). Contains xs k) (sym e) c
+  queued_stays : (told : Bool) (queue pushed : List (Dotted Nil)) → pushed ≡ cond told (queue ++ key ∷ []) queue → (k : Dotted Nil) → Contains queue k → Contains pushed k
+  queued_stays true queue pushed e k c = subst (λ (xs : List (Dotted Nil)). Contains xs k) (sym e) (Contains-append_left queue (key ∷ []) k c)
+  queued_stays false queue pushed e k c = subst (λ (xs : List (Dotted Nil)). Contains xs k) (sym e) c
 
-  pub Adds-one : (old new : Found) (stack pushed : List (Dotted Nil)) → IsStacked key tokens old new stack pushed → Adds (λ k. k ≡ key) tokens old new stack pushed
-  Adds-one old new stack pushed s = record {
-    grows = record { kept = joined_kept s.told old new s.joined; stays = stacked_stays s.told stack pushed s.grown; changed = joined_changed s.told old new stack pushed s.joined s.grown };
+  pub Adds-one : (old new : Found) (queue pushed : List (Dotted Nil)) → IsQueued key tokens old new queue pushed → Adds (λ k. k ≡ key) tokens old new queue pushed
+  Adds-one old new queue pushed s = record {
+    grows = record { kept = joined_kept s.told old new s.joined; stays = queued_stays s.told queue pushed s.grown; changed = joined_changed s.told old new queue pushed s.joined s.grown };
     keys = joined_keys s.told old new s.joined;
     bits = joined_bits s.told old new s.joined;
     there = λ k e. subst (λ (x : Dotted Nil). IsFound new x tokens) (sym e) (joined_there s.told old new s.joined);
   }
 
-pub Adds-none : (Such : Dotted Nil → Type 0) (tokens : Bits) (table : Found) (stack : List (Dotted Nil)) → ((k : Dotted Nil) → Such k → ⊥) → Adds Such tokens table table stack stack
-Adds-none Such tokens table stack none = record {
-  grows = Grows-none table stack;
+pub Adds-none : (Such : Dotted Nil → Type 0) (tokens : Bits) (table : Found) (queue : List (Dotted Nil)) → ((k : Dotted Nil) → Such k → ⊥) → Adds Such tokens table table queue queue
+Adds-none Such tokens table queue none = record {
+  grows = Grows-none table queue;
   keys = λ e c. inl (entry_key table e c);
   bits = λ e bit c h. inl (record { set = e.1; entry = c; there = h });
   there = λ k s. absurd (none k s);
@@ -171,10 +171,10 @@ Adds-same A B tokens there back a b s t x = record {
 }
 
 -- the productions of a list, one more
-pub Begun-none : (tokens : Bits) (table : Found) (stack : List (Dotted Nil)) → Adds (IsBegunOf []) tokens table table stack stack
-Begun-none tokens table stack = Adds-none (IsBegunOf []) tokens table stack (λ k b. Contains-none k.production b.among)
+pub Begun-none : (tokens : Bits) (table : Found) (queue : List (Dotted Nil)) → Adds (IsBegunOf []) tokens table table queue queue
+Begun-none tokens table queue = Adds-none (IsBegunOf []) tokens table queue (λ k b. Contains-none k.production b.among)
 
-pub Begun-more : (ps : List Production) (p : Production) (key : Dotted Nil) (tokens : Bits) (a b c : Found) (s t u : List (Dotted Nil)) → key.production ≡ p → key.index ≡ 0 → Adds (IsBegunOf ps) tokens a b s t → IsStacked key tokens b c t u → Adds (IsBegunOf (ps ++ p ∷ [])) tokens a c s u
+pub Begun-more : (ps : List Production) (p : Production) (key : Dotted Nil) (tokens : Bits) (a b c : Found) (s t u : List (Dotted Nil)) → key.production ≡ p → key.index ≡ 0 → Adds (IsBegunOf ps) tokens a b s t → IsQueued key tokens b c t u → Adds (IsBegunOf (ps ++ p ∷ [])) tokens a c s u
 Begun-more ps p key tokens a b c s t u is zero_at x y =
     Adds-then (IsBegunOf ps) (λ k. k ≡ key) (IsBegunOf (ps ++ p ∷ [])) tokens
     (λ k h. record { start = h.start; among = Contains-append_left ps (p ∷ []) k.production h.among })

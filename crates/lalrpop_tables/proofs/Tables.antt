@@ -21,7 +21,7 @@ use Rattle.lalrpop_tables.specs.Ascending.{Ascend}
 use Rattle.lalrpop_tables.specs.Counts.{count}
 use Rattle.lalrpop_tables.specs.Entries.{IsJoinedAt}
 use Rattle.lalrpop_tables.specs.Entries.IsJoinedAt.{fresh, known}
-use Rattle.lalrpop_tables.specs.Closure.{dotted_of, InKernel, HasItemToken, IsItemOf, AreItems, IsClosureBy, InTokenClosureBy, itself, Found, item_of, IsStacked, IsTable, weight, begun_of, Spreads}
+use Rattle.lalrpop_tables.specs.Closure.{dotted_of, InKernel, HasItemToken, IsItemOf, AreItems, IsClosureBy, InTokenClosureBy, itself, Found, item_of, IsQueued, IsTable, weight, begun_of, Spreads}
 use Rattle.lalrpop_tables.proofs.Lists.{Contains-none, Contains-here, Contains-there, Contains-cases, Contains-map, pigeonhole}
 use Rattle.lalrpop_tables.proofs.Places.{midst, around, at_midst, apart_from_differ, same_some}
 use Rattle.lalrpop_tables.proofs.Subsets.{AreBelow, count_few, join_counts, join_below}
@@ -53,12 +53,12 @@ module _ (P : Dotted Nil → Type 0) (Q : Bits → Type 0) (key : Dotted Nil) (t
     | inr other ↦ each e (subst (λ (xs : Found). Contains xs e) (sym before) (around front back (key, s) e other))
   ]
 
-stacked_each : (P : Dotted Nil → Type 0) (told : Bool) (key : Dotted Nil) (stack pushed : List (Dotted Nil)) → pushed ≡ cond told (stack ++ key ∷ []) stack → P key → ((i : Dotted Nil) → Contains stack i → P i) → (i : Dotted Nil) → Contains pushed i → P i
-stacked_each P true key stack pushed e p each i c = elim (Contains-append_cases stack (key ∷ []) i (subst (λ (xs : List (Dotted Nil)). Contains xs i) e c)) [
+queued_each : (P : Dotted Nil → Type 0) (told : Bool) (key : Dotted Nil) (queue pushed : List (Dotted Nil)) → pushed ≡ cond told (queue ++ key ∷ []) queue → P key → ((i : Dotted Nil) → Contains queue i → P i) → (i : Dotted Nil) → Contains pushed i → P i
+queued_each P true key queue pushed e p each i c = elim (Contains-append_cases queue (key ∷ []) i (subst (λ (xs : List (Dotted Nil)). Contains xs i) e c)) [
   | inl d ↦ each i d
   | inr d ↦ elim (Contains-cases key [] i d) [ inl same ↦ subst P same p | inr none ↦ absurd (Contains-none i none) ]
 ]
-stacked_each P false key stack pushed e p each i c = each i (subst (λ (xs : List (Dotted Nil)). Contains xs i) e c)
+queued_each P false key queue pushed e p each i c = each i (subst (λ (xs : List (Dotted Nil)). Contains xs i) e c)
 
 -- dotted productions without lookahead are equal where their parts are
 pub same_lr0 : (a b : Dotted Nil) → a.production ≡ b.production → a.index ≡ b.index → a ≡ b
@@ -91,26 +91,26 @@ pub joined_there : (key : Dotted Nil) (tokens : Bits) (told : Bool) (old new : F
 joined_there key tokens told old new (fresh front back before after t) = subst (λ (ks : List (Dotted Nil)). Contains ks key) (sym (ap keys_of after ∙ keys_midst front back (key, tokens))) (at_midst (keys_of front) (keys_of back) key)
 joined_there key tokens told old new (known front back s before after t) = subst (λ (ks : List (Dotted Nil)). Contains ks key) (sym (ap keys_of after ∙ keys_midst front back (key, join s tokens))) (at_midst (keys_of front) (keys_of back) key)
 
-pub stacked_more : (told : Bool) (key : Dotted Nil) (stack pushed : List (Dotted Nil)) → pushed ≡ cond told (stack ++ key ∷ []) stack → (k : Dotted Nil) → Contains stack k → Contains pushed k
-stacked_more true key stack pushed e k c = subst (λ (ks : List (Dotted Nil)). Contains ks k) (sym e) (Contains-append_left stack (key ∷ []) k c)
-stacked_more false key stack pushed e k c = subst (λ (ks : List (Dotted Nil)). Contains ks k) (sym e) c
+pub queued_more : (told : Bool) (key : Dotted Nil) (queue pushed : List (Dotted Nil)) → pushed ≡ cond told (queue ++ key ∷ []) queue → (k : Dotted Nil) → Contains queue k → Contains pushed k
+queued_more true key queue pushed e k c = subst (λ (ks : List (Dotted Nil)). Contains ks k) (sym e) (Contains-append_left queue (key ∷ []) k c)
+queued_more false key queue pushed e k c = subst (λ (ks : List (Dotted Nil)). Contains ks k) (sym e) c
 
-pub stacked_last : (told : Bool) (key : Dotted Nil) (stack pushed : List (Dotted Nil)) → pushed ≡ cond told (stack ++ key ∷ []) stack → told ≡ true → Contains pushed key
-stacked_last true key stack pushed e t = subst (λ (ks : List (Dotted Nil)). Contains ks key) (sym e) (Contains-append_right stack (key ∷ []) key (Contains-here key []))
-stacked_last false key stack pushed e t = cc
+pub queued_last : (told : Bool) (key : Dotted Nil) (queue pushed : List (Dotted Nil)) → pushed ≡ cond told (queue ++ key ∷ []) queue → told ≡ true → Contains pushed key
+queued_last true key queue pushed e t = subst (λ (ks : List (Dotted Nil)). Contains ks key) (sym e) (Contains-append_right queue (key ∷ []) key (Contains-here key []))
+queued_last false key queue pushed e t = cc
 
-pub stacked_of : (told : Bool) (key : Dotted Nil) (stack pushed : List (Dotted Nil)) → pushed ≡ cond told (stack ++ key ∷ []) stack → (k : Dotted Nil) → Contains pushed k → Contains stack k ⊎ (key ≡ k)
-stacked_of true key stack pushed e k c = elim (Contains-append_cases stack (key ∷ []) k (subst (λ (ks : List (Dotted Nil)). Contains ks k) e c)) [
+pub queued_of : (told : Bool) (key : Dotted Nil) (queue pushed : List (Dotted Nil)) → pushed ≡ cond told (queue ++ key ∷ []) queue → (k : Dotted Nil) → Contains pushed k → Contains queue k ⊎ (key ≡ k)
+queued_of true key queue pushed e k c = elim (Contains-append_cases queue (key ∷ []) k (subst (λ (ks : List (Dotted Nil)). Contains ks k) e c)) [
   | inl d ↦ inl d
   | inr d ↦ elim (Contains-cases key [] k d) [ inl same ↦ inr same | inr n ↦ absurd (Contains-none k n) ]
 ]
-stacked_of false key stack pushed e k c = inl (subst (λ (ks : List (Dotted Nil)). Contains ks k) e c)
+queued_of false key queue pushed e k c = inl (subst (λ (ks : List (Dotted Nil)). Contains ks k) e c)
 
 module _ (g : Rules) where
   -- ---- what is found stays of the grammar
-  pub Stacked-table : (kernel : List (Dotted Bits)) (key : Dotted Nil) (tokens : Bits) (old new : Found) (stack pushed : List (Dotted Nil)) → IsStacked key tokens old new stack pushed →
-      IsItemOf g (item_of (key, tokens)) → ((key.index ≡ 0) ⊎ Contains (map dotted_of kernel) (dotted_of key)) → InClosure g.productions (InKernel kernel) key.production key.index → IsTable g kernel old stack → IsTable g kernel new pushed
-  Stacked-table kernel key tokens old new stack pushed s i b n t =
+  pub Stacked-table : (kernel : List (Dotted Bits)) (key : Dotted Nil) (tokens : Bits) (old new : Found) (queue pushed : List (Dotted Nil)) → IsQueued key tokens old new queue pushed →
+      IsItemOf g (item_of (key, tokens)) → ((key.index ≡ 0) ⊎ Contains (map dotted_of kernel) (dotted_of key)) → InClosure g.productions (InKernel kernel) key.production key.index → IsTable g kernel old queue → IsTable g kernel new pushed
+  Stacked-table kernel key tokens old new queue pushed s i b n t =
       let P : Dotted Nil → Type 0 = λ k. Contains g.productions k.production × (k.index ≤ length k.production.symbols) × ((k.index ≡ 0) ⊎ Contains (map dotted_of kernel) (dotted_of k)) × InClosure g.productions (InKernel kernel) k.production k.index in
       let each = joined_each P (FitsTokens g.terminals) key tokens (i.production, i.dot, b, n) i.tokens (join_fits g) s.told old new s.joined (λ e c. let h = t.each e c in ((h.production, h.dot, t.begun e c, t.sound e c), h.tokens)) in
       record {
@@ -118,7 +118,7 @@ module _ (g : Rules) where
         begun = λ e c. (each e c).0.2;
         sound = λ e c. (each e c).0.3;
         differ = s.differ;
-        stacked = stacked_each (λ k. Contains g.productions k.production) s.told key stack pushed s.grown i.production t.stacked;
+        queued = queued_each (λ k. Contains g.productions k.production) s.told key queue pushed s.grown i.production t.queued;
       }
 
   -- ---- and weighs more
@@ -132,9 +132,9 @@ module _ (g : Rules) where
       let c = sum_by-append entry_weight front back in
       omega arith
 
-  pushed_length : (told : Bool) (key : Dotted Nil) (stack pushed : List (Dotted Nil)) → pushed ≡ cond told (stack ++ key ∷ []) stack → length pushed ≡ cond told (length stack + 1) (length stack)
-  pushed_length true key stack pushed e = ap length e ∙ length-append stack (key ∷ [])
-  pushed_length false key stack pushed e = ap length e
+  pushed_length : (told : Bool) (key : Dotted Nil) (queue pushed : List (Dotted Nil)) → pushed ≡ cond told (queue ++ key ∷ []) queue → length pushed ≡ cond told (length queue + 1) (length queue)
+  pushed_length true key queue pushed e = ap length e ∙ length-append queue (key ∷ [])
+  pushed_length false key queue pushed e = ap length e
 
   counted_by : (told : Bool) (s tokens : Bits) (n old new : ℕ) → MatchBool told (join s tokens ≢ s) (join s tokens ≡ s) → FitsTokens g.terminals s → FitsTokens g.terminals tokens →
       old + (1 + count (length g.terminals + 2) s) + cond told (n + 1) n ≤ old + (1 + count (length g.terminals + 2) (join s tokens)) + n
@@ -158,20 +158,20 @@ module _ (g : Rules) where
       let l = counted_by told s tokens n (weight g (front ++ back)) (weight g new) t had f in
       omega arith
 
-  pub Stacked-counted : (kernel : List (Dotted Bits)) (key : Dotted Nil) (tokens : Bits) (old new : Found) (stack pushed : List (Dotted Nil)) → IsStacked key tokens old new stack pushed →
-      FitsTokens g.terminals tokens → IsTable g kernel old stack → weight g old + length pushed ≤ weight g new + length stack
-  Stacked-counted kernel key tokens old new stack pushed s f t =
-      let l = joined_counted s.told key tokens old new (length stack) s.joined f (λ e c. (t.each e c).tokens) in
-      let n = pushed_length s.told key stack pushed s.grown in
+  pub Stacked-counted : (kernel : List (Dotted Bits)) (key : Dotted Nil) (tokens : Bits) (old new : Found) (queue pushed : List (Dotted Nil)) → IsQueued key tokens old new queue pushed →
+      FitsTokens g.terminals tokens → IsTable g kernel old queue → weight g old + length pushed ≤ weight g new + length queue
+  Stacked-counted kernel key tokens old new queue pushed s f t =
+      let l = joined_counted s.told key tokens old new (length queue) s.joined f (λ e c. (t.each e c).tokens) in
+      let n = pushed_length s.told key queue pushed s.grown in
       omega arith
 
-  pub Spreads-none : (tokens : Bits) (table : Found) (stack : List (Dotted Nil)) → Spreads g tokens [] table table stack stack
-  Spreads-none tokens table stack = record {
+  pub Spreads-none : (tokens : Bits) (table : Found) (queue : List (Dotted Nil)) → Spreads g tokens [] table table queue queue
+  Spreads-none tokens table queue = record {
     kept = λ kernel f b t. t;
     counted = λ kernel f b t. omega arith;
     known = λ k c. c;
     from = λ k c. inl c;
-    stacked = λ k c. c;
+    queued = λ k c. c;
     pushed_found = λ k c. inl c;
     there = λ p c. absurd (Contains-none p c);
   }
@@ -185,30 +185,30 @@ module _ (g : Rules) where
         let m = y.counted kernel f (λ p d. begun p (Contains-append_right ps qs p d)) (x.kept kernel f first h) in
         omega arith;
     known = λ k d. y.known k (x.known k d);
-    from = λ k d. elim (y.from k d) [ inl e ↦ elim (x.from k e) [ inl f ↦ inl f | inr f ↦ inr (y.stacked k f) ] | inr e ↦ inr e ];
-    stacked = λ k d. y.stacked k (x.stacked k d);
+    from = λ k d. elim (y.from k d) [ inl e ↦ elim (x.from k e) [ inl f ↦ inl f | inr f ↦ inr (y.queued k f) ] | inr e ↦ inr e ];
+    queued = λ k d. y.queued k (x.queued k d);
     pushed_found = λ k d. elim (y.pushed_found k d) [ inl e ↦ elim (x.pushed_found k e) [ inl f ↦ inl f | inr f ↦ inr (y.known k f) ] | inr e ↦ inr e ];
     there = λ p d. elim (Contains-append_cases ps qs p d) [ inl e ↦ y.known (begun_of p) (x.there p e) | inr e ↦ y.there p e ];
   }
 
-  pub Spreads-one : (production : Production) (key : Dotted Nil) (tokens : Bits) (old new : Found) (stack pushed : List (Dotted Nil)) → IsStacked key tokens old new stack pushed →
-      key.production ≡ production → Contains g.productions production → key.index ≡ 0 → Spreads g tokens (production ∷ []) old new stack pushed
-  Spreads-one production key tokens old new stack pushed s e c z =
+  pub Spreads-one : (production : Production) (key : Dotted Nil) (tokens : Bits) (old new : Found) (queue pushed : List (Dotted Nil)) → IsQueued key tokens old new queue pushed →
+      key.production ≡ production → Contains g.productions production → key.index ≡ 0 → Spreads g tokens (production ∷ []) old new queue pushed
+  Spreads-one production key tokens old new queue pushed s e c z =
       let found = subst (Contains g.productions) (sym e) c in
       let is : begun_of production ≡ key = same_lr0 (begun_of production) key (sym e) (sym z) in
       record {
         kept = λ kernel f begun t.
             let i : IsItemOf g (item_of (key, tokens)) = record { production = found; dot = omega arith; tokens = f } in
             let n : InClosure g.productions (InKernel kernel) (begun_of production).production (begun_of production).index = begun production (Contains-here production []) in
-            Stacked-table kernel key tokens old new stack pushed s i (inl z) (subst (λ (k : Dotted Nil). InClosure g.productions (InKernel kernel) k.production k.index) is n) t;
-        counted = λ kernel f begun t. Stacked-counted kernel key tokens old new stack pushed s f t;
+            Stacked-table kernel key tokens old new queue pushed s i (inl z) (subst (λ (k : Dotted Nil). InClosure g.productions (InKernel kernel) k.production k.index) is n) t;
+        counted = λ kernel f begun t. Stacked-counted kernel key tokens old new queue pushed s f t;
         known = joined_keys key tokens s.told old new s.joined;
         from = λ k d. elim (joined_from key tokens s.told old new s.joined k d) [
           | inl h ↦ inl h
-          | inr h ↦ inr (subst (Contains pushed) h.1 (stacked_last s.told key stack pushed s.grown h.0))
+          | inr h ↦ inr (subst (Contains pushed) h.1 (queued_last s.told key queue pushed s.grown h.0))
         ];
-        stacked = stacked_more s.told key stack pushed s.grown;
-        pushed_found = λ k d. elim (stacked_of s.told key stack pushed s.grown k d) [ inl h ↦ inl h | inr h ↦ inr (subst (Contains (keys_of new)) h (joined_there key tokens s.told old new s.joined)) ];
+        queued = queued_more s.told key queue pushed s.grown;
+        pushed_found = λ k d. elim (queued_of s.told key queue pushed s.grown k d) [ inl h ↦ inl h | inr h ↦ inr (subst (Contains (keys_of new)) h (joined_there key tokens s.told old new s.joined)) ];
         there = λ p d. elim (Contains-cases production [] p d) [
           | inl h ↦ subst (λ (q : Production). Contains (keys_of new) (begun_of q)) h (subst (Contains (keys_of new)) (sym is) (joined_there key tokens s.told old new s.joined))
           | inr n ↦ absurd (Contains-none p n)
@@ -243,8 +243,8 @@ module _ (g : Rules) where
     | inr later ↦ let h = key_entry es k later in (h.0, Contains-there e es (k, h.0) h.1)
   ]
 
-  few : (kernel : List (Dotted Bits)) (table : Found) (stack : List (Dotted Nil)) → IsTable g kernel table stack → length table ≤ length (room kernel)
-  few kernel table stack t =
+  few : (kernel : List (Dotted Bits)) (table : Found) (queue : List (Dotted Nil)) → IsTable g kernel table queue → length table ≤ length (room kernel)
+  few kernel table queue t =
       let n = pigeonhole (keys_of table) (room kernel) (apart_from_differ (keys_of table) t.differ) (λ k c. let h = key_entry table k c in in_room kernel k (t.each (k, h.0) h.1).production (t.begun (k, h.0) h.1)) in
       omega (arith, n, length-map table (λ (e : Entry). e.0))
 
@@ -256,18 +256,18 @@ module _ (g : Rules) where
       let w = sum_by-cons entry_weight e es in
       omega arith
 
-  pub weight_few : (kernel : List (Dotted Bits)) (table : Found) (stack : List (Dotted Nil)) → IsTable g kernel table stack → weight g table ≤ length (room kernel) * (length g.terminals + 3)
-  weight_few kernel table stack t =
+  pub weight_few : (kernel : List (Dotted Bits)) (table : Found) (queue : List (Dotted Nil)) → IsTable g kernel table queue → weight g table ≤ length (room kernel) * (length g.terminals + 3)
+  weight_few kernel table queue t =
       let n = weight_le table in
-      let m = mul-le (length table) (length g.terminals + 3) (length (room kernel)) (length g.terminals + 3) (few kernel table stack t) (omega arith) in
+      let m = mul-le (length table) (length g.terminals + 3) (length (room kernel)) (length g.terminals + 3) (few kernel table queue t) (omega arith) in
       omega arith
 
   -- what is left to do
   abbrev pub work : List (Dotted Bits) → Found → List (Dotted Nil) → ℕ
-  work kernel table stack = length (room kernel) * (length g.terminals + 3) + length stack - weight g table
+  work kernel table queue = length (room kernel) * (length g.terminals + 3) + length queue - weight g table
 
-  pub table_popped : (kernel : List (Dotted Bits)) (table : Found) (stack : List (Dotted Nil)) (i : Dotted Nil) → IsTable g kernel table (stack ++ i ∷ []) → IsTable g kernel table stack
-  table_popped kernel table stack i t = record { each = t.each; begun = t.begun; sound = t.sound; differ = t.differ; stacked = λ j c. t.stacked j (Contains-append_left stack (i ∷ []) j c) }
+  pub table_popped : (kernel : List (Dotted Bits)) (table : Found) (queue : List (Dotted Nil)) (i : Dotted Nil) → IsTable g kernel table (i ∷ queue) → IsTable g kernel table queue
+  table_popped kernel table queue i t = record { each = t.each; begun = t.begun; sound = t.sound; differ = t.differ; queued = λ j c. t.queued j (Contains-there i queue j c) }
 
   -- ---- what it has then
   abbrev pub lr0 : Production × ℕ → Dotted Nil
@@ -305,28 +305,28 @@ module _ (g : Rules) where
   ]
 
   -- an item of the kernel more
-  pub Started-more : (kernel : List (Dotted Bits)) (i : Dotted Bits) (key : Dotted Nil) (old new : Found) (stack pushed : List (Dotted Nil)) → AreItems g kernel → Contains kernel i → key.production ≡ i.production → key.index ≡ i.index →
-      IsStacked key i.lookahead old new stack pushed → IsTable g kernel old stack → IsTable g kernel new pushed
-  Started-more kernel i key old new stack pushed k c p d s t =
+  pub Started-more : (kernel : List (Dotted Bits)) (i : Dotted Bits) (key : Dotted Nil) (old new : Found) (queue pushed : List (Dotted Nil)) → AreItems g kernel → Contains kernel i → key.production ≡ i.production → key.index ≡ i.index →
+      IsQueued key i.lookahead old new queue pushed → IsTable g kernel old queue → IsTable g kernel new pushed
+  Started-more kernel i key old new queue pushed k c p d s t =
       let of = k.each i c in
       let same : dotted_of i ≡ dotted_of key = ap (λ q. (q, i.index)) (sym p) ∙ ap (λ n. (key.production, n)) (sym d) in
       let is : IsItemOf g (item_of (key, i.lookahead)) = record { production = subst (Contains g.productions) (sym p) of.production; dot = subst (λ (x : Production × ℕ). x.1 ≤ length x.0.symbols) same of.dot; tokens = of.tokens } in
       let among : Contains (map dotted_of kernel) (dotted_of key) = subst (Contains (map dotted_of kernel)) same (Contains-map dotted_of kernel i c) in
-      Stacked-table kernel key i.lookahead old new stack pushed s is (inr among) (in_kernel among) t
+      Stacked-table kernel key i.lookahead old new queue pushed s is (inr among) (in_kernel among) t
 
-  pub Started-none : (kernel : List (Dotted Bits)) (table : Found) (stack : List (Dotted Nil)) → table ≡ [] → stack ≡ [] → IsTable g kernel table stack
-  Started-none kernel table stack e f = record {
+  pub Started-none : (kernel : List (Dotted Bits)) (table : Found) (queue : List (Dotted Nil)) → table ≡ [] → queue ≡ [] → IsTable g kernel table queue
+  Started-none kernel table queue e f = record {
     each = λ x c. absurd (Contains-none x (subst (λ (xs : Found). Contains xs x) e c));
     begun = λ x c. absurd (Contains-none x (subst (λ (xs : Found). Contains xs x) e c));
     sound = λ x c. absurd (Contains-none x (subst (λ (xs : Found). Contains xs x) e c));
     differ = subst (λ (xs : Found). AllDiffer (keys_of xs)) (sym e) (λ i j x l at. cc);
-    stacked = λ x c. absurd (Contains-none x (subst (λ (xs : List (Dotted Nil)). Contains xs x) f c));
+    queued = λ x c. absurd (Contains-none x (subst (λ (xs : List (Dotted Nil)). Contains xs x) f c));
   }
 
 module _ (begins : Rules → List Symbol → Token → Type 0) (passes : Rules → List Symbol → Type 0) (g : Rules) where
-  pub Table-items : (kernel : List (Dotted Bits)) (table : Found) (stack : List (Dotted Nil)) → IsTable g kernel table stack → Ascend (map item_of table) → ((p : Production) (n : ℕ) → InClosure g.productions (InKernel kernel) p n → Contains (keys_of table) (lr0 g (p, n))) →
+  pub Table-items : (kernel : List (Dotted Bits)) (table : Found) (queue : List (Dotted Nil)) → IsTable g kernel table queue → Ascend (map item_of table) → ((p : Production) (n : ℕ) → InClosure g.productions (InKernel kernel) p n → Contains (keys_of table) (lr0 g (p, n))) →
       ((p : Production) (dot : ℕ) (t : Token) → HasItemToken g.terminals (map item_of table) p dot t ↔ InTokenClosureBy (begins g) (passes g) g.productions (InKernel (map item_of table)) (HasItemToken g.terminals kernel) p dot t) → IsClosureBy itself begins passes g kernel (map item_of table)
-  Table-items kernel table stack t ascend complete tokens = record {
+  Table-items kernel table queue t ascend complete tokens = record {
     ascend = ascend;
     tokens = tokens;
     are_items = record {

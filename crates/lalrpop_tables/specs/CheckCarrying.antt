@@ -40,11 +40,11 @@ target_from (Some s) x = target_of s x
 abbrev pub target_in : List (State Bits) → ℕ → Symbol → Option ℕ
 target_in states n x = target_from (slice_get states n) x
 
--- the tokens went to the place, which waits on the stack where it has something new
-pub record IsSent (place : Place) (tokens : Bits) (old new : Carried) (stack pushed : List Place) : Type 0 where
+-- the tokens went to the place, which waits in the queue where it has something new
+pub record IsSent (place : Place) (tokens : Bits) (old new : Carried) (queue pushed : List Place) : Type 0 where
   pub told : Bool
   pub joined : IsJoinedAt place tokens told old new
-  pub grown : pushed ≡ cond told (stack ++ place ∷ []) stack
+  pub grown : pushed ≡ cond told (queue ++ place ∷ []) queue
   pub differ : AllDiffer (keys_of new)
 
 -- the place has at least these tokens
@@ -71,17 +71,17 @@ AreBelow n s = (q : ℕ) → has s q ≡ true → q < n
 abbrev pub AllBelow : ℕ → Carried → Type 0
 AllBelow n table = (e : Place × Bits) → Contains table e → AreBelow n e.1
 
--- all such places take the tokens, and no other takes any; what is new or has new tokens waits on the stack, and nothing else came there
-pub record Sends (Such : Place → Type 0) (tokens : Bits) (old new : Carried) (stack pushed : List Place) : Type 0 where
+-- all such places take the tokens, and no other takes any; what is new or has new tokens waits in the queue, and nothing else came there
+pub record Sends (Such : Place → Type 0) (tokens : Bits) (old new : Carried) (queue pushed : List Place) : Type 0 where
   pub kept : (e : Place × Bits) → Contains old e → HasAll new e.0 e.1
-  pub stays : (k : Place) → Contains stack k → Contains pushed k
+  pub stays : (k : Place) → Contains queue k → Contains pushed k
   pub changed : (e : Place × Bits) → Contains new e → Contains pushed e.0 ⊎ Contains old e
-  pub found : (k : Place) → Contains pushed k → Contains stack k ⊎ Contains (keys_of new) k
+  pub found : (k : Place) → Contains pushed k → Contains queue k ⊎ Contains (keys_of new) k
   pub keys : (e : Place × Bits) → Contains new e → Contains (keys_of old) e.0 ⊎ Such e.0
   pub bits : (e : Place × Bits) (bit : ℕ) → Contains new e → has e.1 bit ≡ true → HasBit old e.0 bit ⊎ (Such e.0 × (has tokens bit ≡ true))
   pub there : (k : Place) → Such k → HasAll new k tokens
   pub differ : AllDiffer (keys_of old) → AllDiffer (keys_of new)
-  pub weighed : (n : ℕ) → AreBelow n tokens → AllBelow n old → burden n old + length pushed ≤ burden n new + length stack
+  pub weighed : (n : ℕ) → AreBelow n tokens → AllBelow n old → burden n old + length pushed ≤ burden n new + length queue
 
 -- a production among these, with the dot at the start, in the state
 pub record IsBegunAt (n : ℕ) (ps : List Production) (k : Place) : Type 0 where
@@ -104,12 +104,12 @@ pub record IsInto (g : Grammar) (place k : Place) : Type 0 where
   pub begun : IsBegunAt place.state (productions_of g name) k
 
 -- what a place gives: its own tokens over the symbol behind its dot, and what may follow there without a symbol
-pub record Gives (g : Grammar) (states : List (State Bits)) (place : Place) (old new : Carried) (stack pushed : List Place) : Type 0 where
+pub record Gives (g : Grammar) (states : List (State Bits)) (place : Place) (old new : Carried) (queue pushed : List Place) : Type 0 where
   pub tokens : Bits
   pub entry : Contains old (place, tokens)
   pub middle : Carried
   pub waiting : List Place
-  pub over : Sends (IsOver states place) tokens old middle stack waiting
+  pub over : Sends (IsOver states place) tokens old middle queue waiting
   pub given : Bits
   pub into : Sends (IsInto g place) given middle new waiting pushed
   pub first : (name : NonterminalString) → slice_get place.item.production.symbols place.item.index ≡ Some (Nonterminal name) → IsFirstSetBefore (rules_of g) (drop (place.item.index + 1) place.item.production.symbols) tokens given

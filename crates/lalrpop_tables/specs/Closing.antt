@@ -36,15 +36,15 @@ pub record HasFoundToken (g : Rules) (table : Found) (key : Dotted Nil) (t : Tok
   pub entry : Contains table (key, set)
   pub there : holds_token g.terminals set t ≡ true
 
--- nothing is lost, and what is new or has new tokens is on the stack
-pub record Grows (old new : Found) (stack pushed : List (Dotted Nil)) : Type 0 where
+-- nothing is lost, and what is new or has new tokens is in the queue
+pub record Grows (old new : Found) (queue pushed : List (Dotted Nil)) : Type 0 where
   pub kept : (e : Dotted Nil × Bits) → Contains old e → IsFound new e.0 e.1
-  pub stays : (k : Dotted Nil) → Contains stack k → Contains pushed k
+  pub stays : (k : Dotted Nil) → Contains queue k → Contains pushed k
   pub changed : (e : Dotted Nil × Bits) → Contains new e → Contains pushed e.0 ⊎ Contains old e
 
 -- all such dotted productions take the tokens, and no other takes any
-pub record Adds (Such : Dotted Nil → Type 0) (tokens : Bits) (old new : Found) (stack pushed : List (Dotted Nil)) : Type 0 where
-  pub grows : Grows old new stack pushed
+pub record Adds (Such : Dotted Nil → Type 0) (tokens : Bits) (old new : Found) (queue pushed : List (Dotted Nil)) : Type 0 where
+  pub grows : Grows old new queue pushed
   pub keys : (e : Dotted Nil × Bits) → Contains new e → Contains (keys_of old) e.0 ⊎ Such e.0
   pub bits : (e : Dotted Nil × Bits) (bit : ℕ) → Contains new e → has e.1 bit ≡ true → HasBit old e.0 bit ⊎ (Such e.0 × (has tokens bit ≡ true))
   pub there : (k : Dotted Nil) → Such k → IsFound new k tokens
@@ -63,7 +63,7 @@ production_of i = i.production
 
 -- the first of the items went to a table
 abbrev pub SpreadFirst : List (Dotted Bits) → List (Dotted Bits) → Found → Found → List (Dotted Nil) → List (Dotted Nil) → Type 0
-SpreadFirst all first old new stack pushed = (g : Rules) (given : Bits) → AreAllBegun g given all → Spreads g given (map production_of first) old new stack pushed × Adds (IsBegunOf (map production_of first)) given old new stack pushed
+SpreadFirst all first old new queue pushed = (g : Rules) (given : Bits) → AreAllBegun g given all → Spreads g given (map production_of first) old new queue pushed × Adds (IsBegunOf (map production_of first)) given old new queue pushed
 
 -- all of them did
 abbrev pub SpreadAll : List (Dotted Bits) → Found → Found → List (Dotted Nil) → List (Dotted Nil) → Type 0
@@ -92,10 +92,10 @@ pub record IsExpandedTo (g : Rules) (old : Found) (item k : Dotted Nil) (after :
 abbrev pub AreOwn : Grammar → Type 0
 AreOwn g = (p : Production) → Contains (productions g) p → Contains (productions_of g p.nonterminal) p
 
--- the table has the items of the kernel and no other, and all wait on the stack
-pub record IsStarted (kernel : List (Dotted Bits)) (table : Found) (stack : List (Dotted Nil)) : Type 0 where
+-- the table has the items of the kernel and no other, and all wait in the queue
+pub record IsStarted (kernel : List (Dotted Bits)) (table : Found) (queue : List (Dotted Nil)) : Type 0 where
   pub all : (i : Dotted Bits) → Contains kernel i → (k : Dotted Nil) × (dotted_of k ≡ dotted_of i) × IsFound table k i.lookahead
-  pub waiting : (e : Dotted Nil × Bits) → Contains table e → Contains stack e.0
+  pub waiting : (e : Dotted Nil × Bits) → Contains table e → Contains queue e.0
   pub keys : (e : Dotted Nil × Bits) → Contains table e → Contains (map dotted_of kernel) (dotted_of e.0)
   pub bits : (e : Dotted Nil × Bits) (bit : ℕ) → Contains table e → has e.1 bit ≡ true → (i : Dotted Bits) × Contains kernel i × (dotted_of i ≡ dotted_of e.0) × (has i.lookahead bit ≡ true)
 
@@ -115,8 +115,8 @@ module _ (begins : Rules → List Symbol → Token → Type 0) (passes : Rules �
   IsTokenSettled g table k tokens = (q : Production) (after : List Symbol) → drop k.index k.production.symbols ≡ Nonterminal q.nonterminal ∷ after → Contains g.productions q → HasGiven g table tokens q after
 
   -- an item was expanded: what it leads to is found, and only that is new
-  pub record Expands (g : Rules) (item : Dotted Nil) (old new : Found) (stack pushed : List (Dotted Nil)) : Type 0 where
-    pub grows : Grows old new stack pushed
+  pub record Expands (g : Rules) (item : Dotted Nil) (old new : Found) (queue pushed : List (Dotted Nil)) : Type 0 where
+    pub grows : Grows old new queue pushed
     pub keys : (e : Dotted Nil × Bits) → Contains new e → Contains (keys_of old) e.0 ⊎ ((after : List Symbol) × IsExpandedTo g old item e.0 after)
     pub tokens : (e : Dotted Nil × Bits) (t : Token) → Contains new e → holds_token g.terminals e.1 t ≡ true →
         HasFoundToken g old e.0 t ⊎ ((after : List Symbol) × IsExpandedTo g old item e.0 after × (begins g after t ⊎ (passes g after × HasFoundToken g old item t)))
@@ -124,11 +124,11 @@ module _ (begins : Rules → List Symbol → Token → Type 0) (passes : Rules �
 
   -- an item that was found is expanded
   abbrev pub ExpandsFound : Rules → Dotted Nil → Found → Found → List (Dotted Nil) → List (Dotted Nil) → Type 0
-  ExpandsFound g item old new stack pushed = AllDiffer (keys_of old) → (tokens : Bits) → Contains old (item, tokens) → Expands g item old new stack pushed
+  ExpandsFound g item old new queue pushed = AllDiffer (keys_of old) → (tokens : Bits) → Contains old (item, tokens) → Expands g item old new queue pushed
 
-  -- what is found is of the closure, with tokens that belong there, and each is on the stack or settled
-  pub record IsTokenClosing (g : Rules) (kernel : List (Dotted Bits)) (table : Found) (stack : List (Dotted Nil)) : Type 0 where
+  -- what is found is of the closure, with tokens that belong there, and each is in the queue or settled
+  pub record IsTokenClosing (g : Rules) (kernel : List (Dotted Bits)) (table : Found) (queue : List (Dotted Nil)) : Type 0 where
     pub all : (i : Dotted Bits) → Contains kernel i → (k : Dotted Nil) × (dotted_of k ≡ dotted_of i) × IsFound table k i.lookahead
     pub keys : (e : Dotted Nil × Bits) → Contains table e → InClosure g.productions (InKernel kernel) e.0.production e.0.index
     pub tokens : (e : Dotted Nil × Bits) (t : Token) → Contains table e → holds_token g.terminals e.1 t ≡ true → InTokenClosureBy (begins g) (passes g) g.productions (InClosure g.productions (InKernel kernel)) (HasItemToken g.terminals kernel) e.0.production e.0.index t
-    pub settled : (e : Dotted Nil × Bits) → Contains table e → Contains stack e.0 ⊎ IsTokenSettled g table e.0 e.1
+    pub settled : (e : Dotted Nil × Bits) → Contains table e → Contains queue e.0 ⊎ IsTokenSettled g table e.0 e.1

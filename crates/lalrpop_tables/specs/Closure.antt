@@ -94,20 +94,20 @@ Found = List (Dotted Nil × Bits)
 abbrev pub item_of : {L : Type 0} → Dotted Nil × L → Dotted L
 item_of e = record { production = e.0.production; index = e.0.index; lookahead = e.1 }
 
--- the tokens went to the dotted production, which was put on the stack where it has something new
-pub record IsStacked (key : Dotted Nil) (tokens : Bits) (old new : Found) (stack pushed : List (Dotted Nil)) : Type 0 where
+-- the tokens went to the dotted production, which was put into the queue where it has something new
+pub record IsQueued (key : Dotted Nil) (tokens : Bits) (old new : Found) (queue pushed : List (Dotted Nil)) : Type 0 where
   pub told : Bool
   pub joined : IsJoinedAt key tokens told old new
-  pub grown : pushed ≡ cond told (stack ++ key ∷ []) stack
+  pub grown : pushed ≡ cond told (queue ++ key ∷ []) queue
   pub differ : AllDiffer (keys_of new)
 
--- what is found is of the grammar, each once, and was in the kernel or has the dot at the start; what is on the stack is of the grammar
-pub record IsTable (g : Rules) (kernel : List (Dotted Bits)) (table : Found) (stack : List (Dotted Nil)) : Type 0 where
+-- what is found is of the grammar, each once, and was in the kernel or has the dot at the start; what is in the queue is of the grammar
+pub record IsTable (g : Rules) (kernel : List (Dotted Bits)) (table : Found) (queue : List (Dotted Nil)) : Type 0 where
   pub each : (e : Dotted Nil × Bits) → Contains table e → IsItemOf g (item_of e)
   pub begun : (e : Dotted Nil × Bits) → Contains table e → (e.0.index ≡ 0) ⊎ Contains (map dotted_of kernel) (dotted_of e.0)
   pub sound : (e : Dotted Nil × Bits) → Contains table e → InClosure g.productions (InKernel kernel) e.0.production e.0.index
   pub differ : AllDiffer (keys_of table)
-  pub stacked : (i : Dotted Nil) → Contains stack i → Contains g.productions i.production
+  pub queued : (i : Dotted Nil) → Contains queue i → Contains g.productions i.production
 
 -- how much is found: dotted productions, and tokens of them
 abbrev pub weight : Rules → Found → ℕ
@@ -121,37 +121,37 @@ AreBegun g kernel ps = (p : Production) → Contains ps p → InClosure g.produc
 abbrev pub begun_of : Production → Dotted Nil
 begun_of p = record { production = p; index = 0; lookahead = record {} }
 
--- productions went to a table, with the dot at the start and the tokens; each that has something new is on the stack
-pub record Spreads (g : Rules) (tokens : Bits) (ps : List Production) (old new : Found) (stack pushed : List (Dotted Nil)) : Type 0 where
-  pub kept : (kernel : List (Dotted Bits)) → FitsTokens g.terminals tokens → AreBegun g kernel ps → IsTable g kernel old stack → IsTable g kernel new pushed
-  pub counted : (kernel : List (Dotted Bits)) → FitsTokens g.terminals tokens → AreBegun g kernel ps → IsTable g kernel old stack → weight g old + length pushed ≤ weight g new + length stack
+-- productions went to a table, with the dot at the start and the tokens; each that has something new is in the queue
+pub record Spreads (g : Rules) (tokens : Bits) (ps : List Production) (old new : Found) (queue pushed : List (Dotted Nil)) : Type 0 where
+  pub kept : (kernel : List (Dotted Bits)) → FitsTokens g.terminals tokens → AreBegun g kernel ps → IsTable g kernel old queue → IsTable g kernel new pushed
+  pub counted : (kernel : List (Dotted Bits)) → FitsTokens g.terminals tokens → AreBegun g kernel ps → IsTable g kernel old queue → weight g old + length pushed ≤ weight g new + length queue
   pub known : (k : Dotted Nil) → Contains (keys_of old) k → Contains (keys_of new) k
   pub from : (k : Dotted Nil) → Contains (keys_of new) k → Contains (keys_of old) k ⊎ Contains pushed k
-  pub stacked : (k : Dotted Nil) → Contains stack k → Contains pushed k
-  pub pushed_found : (k : Dotted Nil) → Contains pushed k → Contains stack k ⊎ Contains (keys_of new) k
+  pub queued : (k : Dotted Nil) → Contains queue k → Contains pushed k
+  pub pushed_found : (k : Dotted Nil) → Contains pushed k → Contains queue k ⊎ Contains (keys_of new) k
   pub there : (p : Production) → Contains ps p → Contains (keys_of new) (begun_of p)
 
 -- what an item leads to without a symbol is in the table
 abbrev pub IsSettled : Rules → Found → Dotted Nil → Type 0
 IsSettled g table k = (q : Production) (after : List Symbol) → drop k.index k.production.symbols ≡ Nonterminal q.nonterminal ∷ after → Contains g.productions q → Contains (keys_of table) (begun_of q)
 
--- each item of the table is on the stack or settled
+-- each item of the table is in the queue or settled
 abbrev pub AreDone : Rules → Found → List (Dotted Nil) → Type 0
-AreDone g table stack = (k : Dotted Nil) → Contains (keys_of table) k → Contains stack k ⊎ IsSettled g table k
+AreDone g table queue = (k : Dotted Nil) → Contains (keys_of table) k → Contains queue k ⊎ IsSettled g table k
 
--- an item was taken from the stack, and is settled
-pub record IsExpanded (g : Rules) (i : Dotted Nil) (old new : Found) (stack pushed : List (Dotted Nil)) : Type 0 where
-  pub kept : (kernel : List (Dotted Bits)) → Contains (keys_of old) i → IsTable g kernel old stack → IsTable g kernel new pushed
-  pub counted : (kernel : List (Dotted Bits)) → Contains (keys_of old) i → IsTable g kernel old stack → weight g old + length pushed ≤ weight g new + length stack
+-- an item was taken from the queue, and is settled
+pub record IsExpanded (g : Rules) (i : Dotted Nil) (old new : Found) (queue pushed : List (Dotted Nil)) : Type 0 where
+  pub kept : (kernel : List (Dotted Bits)) → Contains (keys_of old) i → IsTable g kernel old queue → IsTable g kernel new pushed
+  pub counted : (kernel : List (Dotted Bits)) → Contains (keys_of old) i → IsTable g kernel old queue → weight g old + length pushed ≤ weight g new + length queue
   pub known : (k : Dotted Nil) → Contains (keys_of old) k → Contains (keys_of new) k
   pub from : (k : Dotted Nil) → Contains (keys_of new) k → Contains (keys_of old) k ⊎ Contains pushed k
-  pub stacked : (k : Dotted Nil) → Contains stack k → Contains pushed k
-  pub pushed_found : (k : Dotted Nil) → Contains pushed k → Contains stack k ⊎ Contains (keys_of new) k
+  pub queued : (k : Dotted Nil) → Contains queue k → Contains pushed k
+  pub pushed_found : (k : Dotted Nil) → Contains pushed k → Contains queue k ⊎ Contains (keys_of new) k
   pub settled : IsSettled g new i
 
--- the state of the loop: a table with the kernel, whose items are on the stack or settled, and what is on the stack is found
-pub record IsClosing (g : Rules) (kernel : List (Dotted Bits)) (table : Found) (stack : List (Dotted Nil)) : Type 0 where
-  pub is_table : IsTable g kernel table stack
-  pub found : (k : Dotted Nil) → Contains stack k → Contains (keys_of table) k
+-- the state of the loop: a table with the kernel, whose items are in the queue or settled, and what is in the queue is found
+pub record IsClosing (g : Rules) (kernel : List (Dotted Bits)) (table : Found) (queue : List (Dotted Nil)) : Type 0 where
+  pub is_table : IsTable g kernel table queue
+  pub found : (k : Dotted Nil) → Contains queue k → Contains (keys_of table) k
   pub has : (k : Dotted Nil) → Contains (map dotted_of kernel) (dotted_of k) → Contains (keys_of table) k
-  pub done : AreDone g table stack
+  pub done : AreDone g table queue

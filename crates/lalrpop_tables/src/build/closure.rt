@@ -3,7 +3,7 @@ ghost use Rattle.std.specs.Prelude.{◌≡◌, [], IfOk, OnOk, Contains, map};
 ghost use Rattle.std.specs.Map.{keys_of};
 ghost use Rattle.lalrpop_tables.specs.Ascending.{Ascend};
 ghost use Rattle.lalrpop_tables.specs.Closing.{ExpandsFound, IsStarted, SpreadAll};
-ghost use Rattle.lalrpop_tables.specs.Closure.{AreItemsBy, IsClosureBy, IsStacked, IsExpanded, IsClosing, item_of, meant};
+ghost use Rattle.lalrpop_tables.specs.Closure.{AreItemsBy, IsClosureBy, IsQueued, IsExpanded, IsClosing, item_of, meant};
 ghost use Rattle.lalrpop_tables.specs.Entries.{readings};
 
 use super::lookahead_build::LookaheadBuild;
@@ -14,23 +14,23 @@ use lalrpop_base::lr1_core::item::{Item, Lr0Item};
 use lalrpop_base::memory::OutOfMemory;
 use lalrpop_base::repr::Symbol;
 use std::alloc::Global;
-use std::collections::BTreeMap;
+use std::collections::{BTreeMap, VecDeque};
 
 type Table<'grammar, L> = BTreeMap<Lr0Item<'grammar>, L>;
 
-// Joins the tokens to those of an item, which goes on the stack if it is new or has more now.
+// Joins the tokens to those of an item, which goes into the queue if it is new or has more now.
 fn add_item<'grammar, L: Lookahead>(
     alloc: Global,
     item: Lr0Item<'grammar>,
     tokens: &L,
     table: &mut Table<'grammar, L>,
-    stack: &mut Vec<Lr0Item<'grammar>>,
+    queue: &mut VecDeque<Lr0Item<'grammar>>,
 ) -> Result<(), OutOfMemory>
-    ensures { OnOk result (IsStacked item.entry (L.meaning tokens.now) (readings L.meaning table.old.entries) (readings L.meaning table.new.entries) stack.old.items stack.new.items) }
+    ensures { OnOk result (IsQueued item.entry (L.meaning tokens.now) (readings L.meaning table.old.entries) (readings L.meaning table.new.entries) queue.old.items queue.new.items) }
 {
     let copy = item.to_lr0();
     if add_tokens(alloc, table, copy, tokens)? {
-        stack.push(item)?;
+        queue.push_back(item)?;
     }
     Ok(())
 }
@@ -40,12 +40,12 @@ fn add_moves<'grammar, L: Lookahead>(
     alloc: Global,
     moves: &[Item<'grammar, L>],
     table: &mut Table<'grammar, L>,
-    stack: &mut Vec<Lr0Item<'grammar>>,
+    queue: &mut VecDeque<Lr0Item<'grammar>>,
 ) -> Result<(), OutOfMemory>
-    ensures { OnOk result (SpreadAll (map (meant L.meaning) moves.now) (readings L.meaning table.old.entries) (readings L.meaning table.new.entries) stack.old.items stack.new.items) }
+    ensures { OnOk result (SpreadAll (map (meant L.meaning) moves.now) (readings L.meaning table.old.entries) (readings L.meaning table.new.entries) queue.old.items queue.new.items) }
 {
     for item in moves {
-        add_item(alloc, item.to_lr0(), &item.lookahead, table, stack)?;
+        add_item(alloc, item.to_lr0(), &item.lookahead, table, queue)?;
     }
     Ok(())
 }
@@ -56,12 +56,12 @@ fn expand<'grammar, L: LookaheadBuild>(
     lr: &Lr<'grammar, L>,
     item: Lr0Item<'grammar>,
     table: &mut Table<'grammar, L>,
-    stack: &mut Vec<Lr0Item<'grammar>>,
+    queue: &mut VecDeque<Lr0Item<'grammar>>,
 ) -> Result<(), OutOfMemory>
     requires known { Contains lr.now.construction.rules.productions item.production }
     requires found { Contains (keys_of table.old.entries) item }
-    ensures expanded { OnOk result (IsExpanded lr.now.construction.rules item.entry (readings L.meaning table.old.entries) (readings L.meaning table.new.entries) stack.old.items stack.new.items) }
-    ensures tokens { OnOk result (ExpandsFound L.begins L.passes lr.now.construction.rules item.entry (readings L.meaning table.old.entries) (readings L.meaning table.new.entries) stack.old.items stack.new.items) }
+    ensures expanded { OnOk result (IsExpanded lr.now.construction.rules item.entry (readings L.meaning table.old.entries) (readings L.meaning table.new.entries) queue.old.items queue.new.items) }
+    ensures tokens { OnOk result (ExpandsFound L.begins L.passes lr.now.construction.rules item.entry (readings L.meaning table.old.entries) (readings L.meaning table.new.entries) queue.old.items queue.new.items) }
 {
     let Some((symbol, rest)) = item.shift_symbol() else {
         return Ok(());
@@ -74,7 +74,7 @@ fn expand<'grammar, L: LookaheadBuild>(
     };
     let _grammar = lr.grammar();
     let moves = L::epsilon_moves(alloc, lr, name, rest, lookahead)?;
-    add_moves(alloc, &moves, table, stack)?;
+    add_moves(alloc, &moves, table, queue)?;
     Ok(())
 }
 
@@ -103,17 +103,17 @@ fn start<'grammar, L: Lookahead>(
     lr: &Lr<'grammar, L>,
     kernel: &[Item<'grammar, L>],
     table: &mut Table<'grammar, L>,
-    stack: &mut Vec<Lr0Item<'grammar>>,
+    queue: &mut VecDeque<Lr0Item<'grammar>>,
 ) -> Result<(), OutOfMemory>
     requires kernel { AreItemsBy L.meaning lr.now.construction.rules kernel.now }
     requires table { table.old.entries ≡ [] }
-    requires stack { stack.old.items ≡ [] }
-    ensures closing { OnOk result (IsClosing lr.now.construction.rules (map (meant L.meaning) kernel.now) (readings L.meaning table.new.entries) stack.new.items) }
-    ensures started { OnOk result (IsStarted (map (meant L.meaning) kernel.now) (readings L.meaning table.new.entries) stack.new.items) }
+    requires queue { queue.old.items ≡ [] }
+    ensures closing { OnOk result (IsClosing lr.now.construction.rules (map (meant L.meaning) kernel.now) (readings L.meaning table.new.entries) queue.new.items) }
+    ensures started { OnOk result (IsStarted (map (meant L.meaning) kernel.now) (readings L.meaning table.new.entries) queue.new.items) }
 {
     let _ = lr;
     for item in kernel {
-        add_item(alloc, item.to_lr0(), &item.lookahead, table, stack)?;
+        add_item(alloc, item.to_lr0(), &item.lookahead, table, queue)?;
     }
     Ok(())
 }
@@ -128,10 +128,10 @@ pub fn closure<'grammar, L: LookaheadBuild>(
     ensures { IfOk result (λ items. IsClosureBy L.meaning L.begins L.passes lr.now.construction.rules kernel.now items.items) }
 {
     let mut table = BTreeMap::new(alloc);
-    let mut stack = Vec::new(alloc);
-    start(alloc, lr, kernel, &mut table, &mut stack)?;
-    while let Some(item) = stack.pop() {
-        expand(alloc, lr, item, &mut table, &mut stack)?;
+    let mut queue = VecDeque::new(alloc);
+    start(alloc, lr, kernel, &mut table, &mut queue)?;
+    while let Some(item) = queue.pop_front() {
+        expand(alloc, lr, item, &mut table, &mut queue)?;
     }
     items_of(alloc, table)
 }

@@ -22,7 +22,7 @@ use lalrpop_base::memory::OutOfMemory;
 use lalrpop_base::repr::grammar::Grammar;
 use lalrpop_base::repr::{NonterminalString, Production, Symbol};
 use std::alloc::Global;
-use std::collections::BTreeMap;
+use std::collections::{BTreeMap, VecDeque};
 
 /// A dotted production of a state.
 #[derive(Drop, PartialEq, Eq, PartialOrd, Ord)]
@@ -54,19 +54,19 @@ impl<'grammar> Place<'grammar> {
 /// What is carried to each place.
 pub type Table<'grammar> = BTreeMap<Place<'grammar>, TokenSet>;
 
-// Sends tokens to a place, which goes on the stack if it is new or has more now.
+// Sends tokens to a place, which goes into the queue if it is new or has more now.
 fn send<'grammar>(
     alloc: Global,
     place: Place<'grammar>,
     tokens: &TokenSet,
     table: &mut Table<'grammar>,
-    stack: &mut Vec<Place<'grammar>>,
+    queue: &mut VecDeque<Place<'grammar>>,
 ) -> Result<(), OutOfMemory>
-    ensures { OnOk result (IsSent place.entry tokens.now table.old.entries table.new.entries stack.old.items stack.new.items) }
+    ensures { OnOk result (IsSent place.entry tokens.now table.old.entries table.new.entries queue.old.items queue.new.items) }
 {
     let copy = place.copy();
     if add_tokens(alloc, table, copy, tokens)? {
-        stack.push(place)?;
+        queue.push_back(place)?;
     }
     Ok(())
 }
@@ -79,9 +79,9 @@ fn send_productions<'grammar>(
     state: usize,
     tokens: &TokenSet,
     table: &mut Table<'grammar>,
-    stack: &mut Vec<Place<'grammar>>,
+    queue: &mut VecDeque<Place<'grammar>>,
 ) -> Result<(), OutOfMemory>
-    ensures { OnOk result (Sends (IsBegunAt state (productions_of grammar.now name.now)) tokens.now table.old.entries table.new.entries stack.old.items stack.new.items) }
+    ensures { OnOk result (Sends (IsBegunAt state (productions_of grammar.now name.now)) tokens.now table.old.entries table.new.entries queue.old.items queue.new.items) }
 {
     for production in grammar.productions_for(name) {
         let item = Item {
@@ -89,7 +89,7 @@ fn send_productions<'grammar>(
             index: 0,
             lookahead: Nil,
         };
-        send(alloc, Place { state, item }, tokens, table, stack)?;
+        send(alloc, Place { state, item }, tokens, table, queue)?;
     }
     Ok(())
 }
@@ -116,9 +116,9 @@ fn send_over<'grammar>(
     place: &Place<'grammar>,
     tokens: &TokenSet,
     table: &mut Table<'grammar>,
-    stack: &mut Vec<Place<'grammar>>,
+    queue: &mut VecDeque<Place<'grammar>>,
 ) -> Result<(), OutOfMemory>
-    ensures { OnOk result (Sends (IsOver states.now place.now) tokens.now table.old.entries table.new.entries stack.old.items stack.new.items) }
+    ensures { OnOk result (Sends (IsOver states.now place.now) tokens.now table.old.entries table.new.entries queue.old.items queue.new.items) }
 {
     let Some((symbol, item)) = place.item.shifted_item(alloc)? else {
         return Ok(());
@@ -126,7 +126,7 @@ fn send_over<'grammar>(
     let Some(state) = target_at(states, place.state, symbol) else {
         return Ok(());
     };
-    send(alloc, Place { state, item }, tokens, table, stack)?;
+    send(alloc, Place { state, item }, tokens, table, queue)?;
     Ok(())
 }
 
@@ -154,17 +154,17 @@ fn send_on<'grammar>(
     states: &[Lr1State<'grammar>],
     place: &Place<'grammar>,
     table: &mut Table<'grammar>,
-    stack: &mut Vec<Place<'grammar>>,
+    queue: &mut VecDeque<Place<'grammar>>,
 ) -> Result<(), OutOfMemory>
     requires well_formed { IsWellFormed grammar.now }
     requires firsts { first_sets.now ≡ rules_of grammar.now }
     requires known { Contains (productions grammar.now) place.now.item.production }
     requires found { Contains (keys_of table.old.entries) place.now }
     requires differ { AllDiffer (keys_of table.old.entries) }
-    ensures { OnOk result (Gives grammar.now states.now place.now table.old.entries table.new.entries stack.old.items stack.new.items) }
+    ensures { OnOk result (Gives grammar.now states.now place.now table.old.entries table.new.entries queue.old.items queue.new.items) }
 {
     let tokens = tokens_at(alloc, table, place)?;
-    send_over(alloc, states, place, &tokens, table, stack)?;
+    send_over(alloc, states, place, &tokens, table, queue)?;
     let Some((symbol, rest)) = place.item.shift_symbol() else {
         return Ok(());
     };
@@ -172,7 +172,7 @@ fn send_on<'grammar>(
         return Ok(());
     };
     let given = first_sets.first1(alloc, rest, &tokens)?;
-    send_productions(alloc, grammar, name, place.state, &given, table, stack)?;
+    send_productions(alloc, grammar, name, place.state, &given, table, queue)?;
     Ok(())
 }
 
@@ -191,12 +191,12 @@ pub fn carried<'grammar>(
 {
     let _names = grammar.nonterminals.len();
     let mut table = BTreeMap::new(alloc);
-    let mut stack = Vec::new(alloc);
+    let mut queue = VecDeque::new(alloc);
     let eof = TokenSet::eof(alloc, &grammar.terminals)?;
-    send_productions(alloc, grammar, start, 0, &eof, &mut table, &mut stack)?;
-    while let Some(place) = stack.pop() {
+    send_productions(alloc, grammar, start, 0, &eof, &mut table, &mut queue)?;
+    while let Some(place) = queue.pop_front() {
         send_on(
-            alloc, grammar, first_sets, states, &place, &mut table, &mut stack,
+            alloc, grammar, first_sets, states, &place, &mut table, &mut queue,
         )?;
     }
     Ok(table)

@@ -3,13 +3,13 @@ use Rattle.lalrpop_tables.proofs.Readings.{readings_differ}
 use Rattle.lalrpop_tables.proofs.Tables.{same_lr0}
 use Rattle.lalrpop_tables.proofs.build.closure.add_item.Goals as goal
 
-pub returns-in_ok-push : goal.returns-in_ok-push
-returns-in_ok-push g c =
+pub returns-in_ok-push_back : goal.returns-in_ok-push_back
+returns-in_ok-push_back g c =
     let same : c.to_lr0-copy.result ≡ c.args.item = same_lr0 _ _ c.to_lr0-copy.ensures.production c.to_lr0-copy.ensures.index in
     record {
       told = true;
       joined = rw (← same, ← c.if-branch.true) c.in_ok-add_tokens.ensures.joined;
-      grown = c.in_ok-push.ensures.items;
+      grown = c.in_ok-push_back.ensures.items;
       differ = readings_differ g.L.Lookahead.meaning _ c.in_ok-add_tokens.ensures.differ;
     }
 

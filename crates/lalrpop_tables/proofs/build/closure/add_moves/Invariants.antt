@@ -6,4 +6,4 @@ use Rattle.lalrpop_tables.proofs.build.closure.add_moves.Given as goal
 
 abbrev pub invariant-loop-item : goal.invariant-loop-item
 invariant-loop-item g l =
-    SpreadFirst (map (meant g.L.Lookahead.meaning) l.moves) (map (meant g.L.Lookahead.meaning) (take l.item-index l.moves)) (readings g.L.Lookahead.meaning l.fn.table.entries) (readings g.L.Lookahead.meaning l.table.entries) l.fn.stack.items l.stack.items
+    SpreadFirst (map (meant g.L.Lookahead.meaning) l.moves) (map (meant g.L.Lookahead.meaning) (take l.item-index l.moves)) (readings g.L.Lookahead.meaning l.fn.table.entries) (readings g.L.Lookahead.meaning l.table.entries) l.fn.queue.items l.queue.items

@@ -1,9 +1,8 @@
-use Rattle.std.proofs.Common.{◌≡◌, ◌∷◌, [], List, map, sym, subst}
+use Rattle.std.proofs.Common.{◌≡◌, [], List, map, sym, subst}
 use Rattle.std.proofs.lemmas.Grind.{common_steps}
 use Rattle.std.proofs.Common.{rules, arith}
 use Rattle.std.specs.Prelude.{Contains}
 use Rattle.std.proofs.lemmas.List.{nil_from_length}
-use Rattle.std.proofs.lemmas.List.Elements.{Contains-append_right}
 use Rattle.std.proofs.lemmas.Result.{IfOk-weaker}
 use Rattle.lalrpop_base.specs.Bits.{Bits}
 use Rattle.lalrpop_base.specs.Items.{Dotted}
@@ -32,7 +31,7 @@ pub loop-item-preserved : goal.loop-item-preserved
 loop-item-preserved g c =
     let before = rw c.in-Some.ensures.items at c.loop-item.invariant in
     let kernel = map (meant g.L.Lookahead.meaning) c.args.kernel.now in
-    let found = key_entry _ c.in-Some.item (before.0.found c.in-Some.item (Contains-append_right c.pop.new.self.items (c.in-Some.item ∷ []) c.in-Some.item (Contains-here c.in-Some.item []))) in (
+    let found = key_entry _ c.in-Some.item (before.0.found c.in-Some.item (Contains-here c.in-Some.item c.pop_front.new.self.items)) in (
       Closing-step c.args.lr.now.construction.rules kernel c.in-Some.item _ _ _ _ before.0 c.in_ok-expand.ensures.expanded,
       Tokens-step g.L.LookaheadBuild.begins g.L.LookaheadBuild.passes c.args.lr.now.construction.rules kernel c.in-Some.item _ _ _ _ before.0.is_table.differ before.1 (c.in_ok-expand.ensures.tokens before.0.is_table.differ found.0 found.1),
     )
@@ -40,12 +39,12 @@ loop-item-preserved g c =
 pub expand-requires-clause-known : goal.expand-requires-clause-known
 expand-requires-clause-known g c =
     let before = rw c.in-Some.ensures.items at c.loop-item.invariant in
-    before.0.is_table.stacked c.in-Some.item (Contains-append_right c.pop.new.self.items (c.in-Some.item ∷ []) c.in-Some.item (Contains-here c.in-Some.item []))
+    before.0.is_table.queued c.in-Some.item (Contains-here c.in-Some.item c.pop_front.new.self.items)
 
 pub expand-requires-clause-found : goal.expand-requires-clause-found
 expand-requires-clause-found g c =
     let before = rw c.in-Some.ensures.items at c.loop-item.invariant in
-    let found = before.0.found c.in-Some.item (Contains-append_right c.pop.new.self.items (c.in-Some.item ∷ []) c.in-Some.item (Contains-here c.in-Some.item [])) in
+    let found = before.0.found c.in-Some.item (Contains-here c.in-Some.item c.pop_front.new.self.items) in
     subst (λ (ks : List (Dotted Nil)). Contains ks c.in-Some.item) (readings_keys g.L.Lookahead.meaning c.loop-item.table.entries) found
 
 pub returns : goal.returns
@@ -56,7 +55,7 @@ returns g c =
     let r = c.args.lr.now.construction.rules in
     let kernel : List (Dotted Bits) = map (meant m) c.args.kernel.now in
     let entries : List (Dotted Nil × g.row.L.Denot) = c.loop-item.table.entries in
-    let none : c.loop-item.stack.items ≡ [] = first_of (search rules, grind (arith, common_steps), grind (arith, common_steps, nil_from_length c.loop-item.stack.items)) in
+    let none : c.loop-item.queue.items ≡ [] = first_of (search rules, grind (arith, common_steps), grind (arith, common_steps, nil_from_length c.loop-item.queue.items)) in
     let end = rw none at c.loop-item.invariant in
     IfOk-weaker c.items_of.result _ _ (λ items h.
     let ascend : Ascend (map item_of entries) = subst Ascend h.0 h.1 in

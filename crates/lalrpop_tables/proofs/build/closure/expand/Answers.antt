@@ -22,29 +22,29 @@ pub returns-clause-expanded : goal.returns-clause-expanded
 returns-clause-expanded g c =
     let behind = c.in-Some.ensures.next ∙ ap Some c.in-Nonterminal.is in
     Given-expanded g.L.Lookahead.meaning g.L.LookaheadBuild.begins g.L.LookaheadBuild.passes c.args.lr.now.construction.rules c.in-Nonterminal.name c.in-Some.rest.now c.in-Some-tokens_of.lookahead.now c.in_ok-moves.moves.items c.in_ok-moves.ensures.moves
-    c.args.item c.args.table.now.entries _ c.args.stack.now.items _ c.in-Some-tokens_of.ensures.found behind (rw c.deref.ensures.value at c.in_ok-add_moves.ensures)
+    c.args.item c.args.table.now.entries _ c.args.queue.now.items _ c.in-Some-tokens_of.ensures.found behind (rw c.deref.ensures.value at c.in_ok-add_moves.ensures)
 
 pub returns-clause-tokens : goal.returns-clause-tokens
 returns-clause-tokens g c =
     let behind = c.in-Some.ensures.next ∙ ap Some c.in-Nonterminal.is in
     Given-tokens g.L.Lookahead.meaning g.L.LookaheadBuild.begins g.L.LookaheadBuild.passes c.args.lr.now.construction.rules c.in-Nonterminal.name c.in-Some.rest.now c.in-Some-tokens_of.lookahead.now c.in_ok-moves.moves.items c.in_ok-moves.ensures.moves
-    c.args.item c.args.table.now.entries _ c.args.stack.now.items _ c.in-Some-tokens_of.ensures.found behind (rw c.deref.ensures.value at c.in_ok-add_moves.ensures) (rest_from c.args.item.index c.args.item.production.symbols c.in-Some.rest.now c.in-Some.ensures.rest)
+    c.args.item c.args.table.now.entries _ c.args.queue.now.items _ c.in-Some-tokens_of.ensures.found behind (rw c.deref.ensures.value at c.in_ok-add_moves.ensures) (rest_from c.args.item.index c.args.item.production.symbols c.in-Some.rest.now c.in-Some.ensures.rest)
 
 pub returns-in_default-symbol-clause-expanded : goal.returns-in_default-symbol-clause-expanded
-returns-in_default-symbol-clause-expanded g c = Expanded-none c.args.lr.now.construction.rules c.args.item (readings g.L.Lookahead.meaning c.args.table.now.entries) c.args.stack.now.items (λ name at.
+returns-in_default-symbol-clause-expanded g c = Expanded-none c.args.lr.now.construction.rules c.args.item (readings g.L.Lookahead.meaning c.args.table.now.entries) c.args.queue.now.items (λ name at.
     let next = sym c.in-Some.ensures.next ∙ at in
     let is = c.in_default-symbol.is in
     cc)
 
 pub returns-in_default-symbol-clause-tokens : goal.returns-in_default-symbol-clause-tokens
-returns-in_default-symbol-clause-tokens g c = λ differ tokens there. Expands-none g.L.LookaheadBuild.begins g.L.LookaheadBuild.passes c.args.lr.now.construction.rules c.args.item (readings g.L.Lookahead.meaning c.args.table.now.entries) c.args.stack.now.items (λ s among q after behind.
+returns-in_default-symbol-clause-tokens g c = λ differ tokens there. Expands-none g.L.LookaheadBuild.begins g.L.LookaheadBuild.passes c.args.lr.now.construction.rules c.args.item (readings g.L.Lookahead.meaning c.args.table.now.entries) c.args.queue.now.items (λ s among q after behind.
     let at = split_drop c.args.item.index c.args.item.production.symbols (Nonterminal q.nonterminal) after behind in
     let next = sym c.in-Some.ensures.next ∙ at in
     let is = c.in_default-symbol.is in
     cc)
 
 pub returns-in_default-clause-tokens : goal.returns-in_default-clause-tokens
-returns-in_default-clause-tokens g c = λ differ tokens there. Expands-none g.L.LookaheadBuild.begins g.L.LookaheadBuild.passes c.args.lr.now.construction.rules c.args.item (readings g.L.Lookahead.meaning c.args.table.now.entries) c.args.stack.now.items (λ s among q after behind.
+returns-in_default-clause-tokens g c = λ differ tokens there. Expands-none g.L.LookaheadBuild.begins g.L.LookaheadBuild.passes c.args.lr.now.construction.rules c.args.item (readings g.L.Lookahead.meaning c.args.table.now.entries) c.args.queue.now.items (λ s among q after behind.
     let within = slice_get_within c.args.item.production.symbols c.args.item.index (Nonterminal q.nonterminal) (split_drop c.args.item.index c.args.item.production.symbols (Nonterminal q.nonterminal) after behind) in
     let end = c.in_default.ensures.none refl in
     omega arith)

@@ -7,5 +7,5 @@ use Rattle.lalrpop_tables.proofs.build.closure.start.Given as goal
 
 abbrev pub invariant-loop-item : goal.invariant-loop-item
 invariant-loop-item g l =
-    AreStarted l.fn.lr.construction.rules (map (meant g.L.Lookahead.meaning) l.kernel) (map (meant g.L.Lookahead.meaning) (take l.item-index l.kernel)) (readings g.L.Lookahead.meaning l.table.entries) l.stack.items
-    × IsStarted (map (meant g.L.Lookahead.meaning) (take l.item-index l.kernel)) (readings g.L.Lookahead.meaning l.table.entries) l.stack.items
+    AreStarted l.fn.lr.construction.rules (map (meant g.L.Lookahead.meaning) l.kernel) (map (meant g.L.Lookahead.meaning) (take l.item-index l.kernel)) (readings g.L.Lookahead.meaning l.table.entries) l.queue.items
+    × IsStarted (map (meant g.L.Lookahead.meaning) (take l.item-index l.kernel)) (readings g.L.Lookahead.meaning l.table.entries) l.queue.items

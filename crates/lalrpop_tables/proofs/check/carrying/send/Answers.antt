@@ -11,11 +11,11 @@ read_themselves (e ∷ es) = ap (λ (more : List _). e ∷ more) (read_themselve
 joined_sets : {K : Type 0} (k : K) (tokens : Bits) (told : Bool) (old new : List (K × Bits)) → IsJoinedAt k tokens told (readings (λ (s : Bits). s) old) (readings (λ (s : Bits). s) new) → IsJoinedAt k tokens told old new
 joined_sets k tokens told old new j = subst (λ es. IsJoinedAt k tokens told old es) (read_themselves new) (subst (λ es. IsJoinedAt k tokens told es (readings (λ (s : Bits). s) new)) (read_themselves old) j)
 
-pub returns-in_ok-push : goal.returns-in_ok-push
-returns-in_ok-push c = record {
+pub returns-in_ok-push_back : goal.returns-in_ok-push_back
+returns-in_ok-push_back c = record {
   told = true;
   joined = rw (← c.copy-copy.ensures, ← c.if-branch.true) (joined_sets _ _ _ _ _ c.in_ok-add_tokens.ensures.joined);
-  grown = c.in_ok-push.ensures.items;
+  grown = c.in_ok-push_back.ensures.items;
   differ = c.in_ok-add_tokens.ensures.differ;
 }
 

@@ -6,7 +6,7 @@ use Rattle.lalrpop_tables.proofs.CheckSending.{Begun-none, Begun-more}
 use Rattle.lalrpop_tables.proofs.check.carrying.send_productions.Goals as goal
 
 pub loop-production-init : goal.loop-production-init
-loop-production-init c = Begun-none c.args.state c.args.tokens.now c.args.table.now.entries c.args.stack.now.items
+loop-production-init c = Begun-none c.args.state c.args.tokens.now c.args.table.now.entries c.args.queue.now.items
 
 pub loop-production-preserved : goal.loop-production-preserved
 loop-production-preserved c =
@@ -14,10 +14,10 @@ loop-production-preserved c =
     let i = c.loop-production.production-index in
     let p : Production = c.production-item.result in
     let more : take (i + 1) ps ≡ take i ps ++ p ∷ [] = take_more ps i p c.loop-production-test.true ∙ ap (λ (q : Production). take i ps ++ q ∷ []) (sym c.production-item.is) in
-    subst (λ (qs : List Production). Sends (IsBegunAt c.args.state qs) c.args.tokens.now c.args.table.now.entries c.send.new.table.entries c.args.stack.now.items c.send.new.stack.items) (sym more)
+    subst (λ (qs : List Production). Sends (IsBegunAt c.args.state qs) c.args.tokens.now c.args.table.now.entries c.send.new.table.entries c.args.queue.now.items c.send.new.queue.items) (sym more)
     (Begun-more c.args.state (take i ps) p _ c.args.tokens.now _ _ _ _ _ _ refl refl refl c.loop-production.invariant c.in_ok-send.ensures)
 
 pub returns : goal.returns
 returns c =
     let ps : List Production = c.productions_for-production-items.result.now in
-    subst (λ (qs : List Production). Sends (IsBegunAt c.args.state qs) c.args.tokens.now c.args.table.now.entries c.loop-production.table.entries c.args.stack.now.items c.loop-production.stack.items) (take_all c.loop-production.production-index ps c.loop-production-test.false ∙ c.productions_for-production-items.ensures) c.loop-production.invariant
+    subst (λ (qs : List Production). Sends (IsBegunAt c.args.state qs) c.args.tokens.now c.args.table.now.entries c.loop-production.table.entries c.args.queue.now.items c.loop-production.queue.items) (take_all c.loop-production.production-index ps c.loop-production-test.false ∙ c.productions_for-production-items.ensures) c.loop-production.invariant

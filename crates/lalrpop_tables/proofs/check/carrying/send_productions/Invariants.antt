@@ -3,4 +3,4 @@ use Rattle.lalrpop_tables.specs.CheckCarrying.{Sends, IsBegunAt}
 use Rattle.lalrpop_tables.proofs.check.carrying.send_productions.Given as goal
 
 abbrev pub invariant-loop-production : goal.invariant-loop-production
-invariant-loop-production l = Sends (IsBegunAt l.state (take l.production-index l.production-items)) l.tokens l.fn.table.entries l.table.entries l.fn.stack.items l.stack.items
+invariant-loop-production l = Sends (IsBegunAt l.state (take l.production-index l.production-items)) l.tokens l.fn.table.entries l.table.entries l.fn.queue.items l.queue.items
