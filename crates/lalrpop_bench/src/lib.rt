@@ -55,6 +55,8 @@ mod texts;
 #[cfg(test)]
 mod trace;
 #[cfg(test)]
+mod trace_rows;
+#[cfg(test)]
 mod vectors;
 #[cfg(test)]
 mod views;

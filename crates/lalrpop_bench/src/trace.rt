@@ -24,14 +24,14 @@ fn grammar(alloc: Global, lines: &str) -> Result<Grammar, Fail> {
     Ok(PlainGrammar::new(alloc, lines)?.to_grammar(alloc)?)
 }
 
-fn name(alloc: Global, text: &str) -> Result<NonterminalString, OutOfMemory> {
+pub(crate) fn name(alloc: Global, text: &str) -> Result<NonterminalString, OutOfMemory> {
     Ok(NonterminalString {
         text: Text::new(alloc, text)?,
     })
 }
 
 // The states and conflicts of a grammar that has some.
-fn conflicts<'grammar>(
+pub(crate) fn conflicts<'grammar>(
     outcome: Lr1Result<'grammar>,
 ) -> Option<Lr1TableConstructionError<'grammar>> {
     match outcome {
@@ -41,7 +41,7 @@ fn conflicts<'grammar>(
 }
 
 // The states and conflicts of a grammar, if it is well-formed and has some.
-fn conflicts_of<'grammar>(
+pub(crate) fn conflicts_of<'grammar>(
     alloc: Global,
     grammar: &'grammar Grammar,
     start: &str,
@@ -84,7 +84,7 @@ fn reductions(alloc: Global, example: &Example) -> Result<String, Fail> {
 }
 
 // Whether the text and the place of an example are these, and its reductions.
-fn is_example(
+pub(crate) fn is_example(
     alloc: Global,
     example: &Example,
     text: &str,
@@ -148,7 +148,7 @@ fn equal_edge_is_kept_once(rt: HostRuntime) -> Result<(), Fail> {
 
 // The examples of an item that can go on with a token of its lookahead; none where the grammar is not well-formed, or
 // the graph has other terminals.
-fn filtered_examples<'grammar>(
+pub(crate) fn filtered_examples<'grammar>(
     alloc: Global,
     grammar: &'grammar Grammar,
     graph: &TraceGraph<'grammar>,
