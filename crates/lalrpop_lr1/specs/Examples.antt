@@ -101,6 +101,12 @@ module _ (graph : TraceGraph) where
     pub cursor : example.cursor ≡ length (prefixes path)
     pub reductions : example.reductions.items ≡ reduced (length (spelled path)) path
 
+-- the second example has the same symbols, cursor and reductions
+pub record IsSameExample (example copy : Example) : Type 0 where
+  pub symbols : copy.symbols.items ≡ example.symbols.items
+  pub cursor : copy.cursor ≡ example.cursor
+  pub reductions : copy.reductions.items ≡ example.reductions.items
+
 -- ---- what an example derives
 
 -- the symbols, where the sign of a right side without symbols reads as nothing

@@ -11,6 +11,7 @@ pub mod InlineWalks
 pub mod Inlined
 pub mod Machines
 pub mod Meetings
+pub mod NodeItems
 pub mod ParseTrees
 pub mod Paths
 pub mod Reading

@@ -1,4 +1,7 @@
 //! An input that leads to an item, and what is reduced in it.
+ghost use Rattle.std.specs.Prelude.{◌≡◌, IfOk};
+ghost use Rattle.lalrpop_lr1.specs.Examples.{IsSameExample};
+
 use lalrpop_base::memory::OutOfMemory;
 use lalrpop_base::repr::{NonterminalString, Symbol};
 use std::alloc::Global;
@@ -27,7 +30,9 @@ pub struct Example {
 }
 
 impl ExampleSymbol {
-    pub fn clone(&self, alloc: Global) -> Result<Self, OutOfMemory> {
+    pub fn clone(&self, alloc: Global) -> Result<Self, OutOfMemory>
+        ensures { IfOk result (λ copy. copy ≡ self.now) }
+    {
         match self {
             ExampleSymbol::Symbol(symbol) => Ok(ExampleSymbol::Symbol(symbol.clone(alloc)?)),
             ExampleSymbol::Epsilon => Ok(ExampleSymbol::Epsilon),
@@ -36,7 +41,9 @@ impl ExampleSymbol {
 }
 
 impl Reduction {
-    pub fn clone(&self, alloc: Global) -> Result<Self, OutOfMemory> {
+    pub fn clone(&self, alloc: Global) -> Result<Self, OutOfMemory>
+        ensures { IfOk result (λ copy. copy ≡ self.now) }
+    {
         Ok(Reduction {
             start: self.start,
             end: self.end,
@@ -46,7 +53,9 @@ impl Reduction {
 }
 
 impl Example {
-    pub fn clone(&self, alloc: Global) -> Result<Self, OutOfMemory> {
+    pub fn clone(&self, alloc: Global) -> Result<Self, OutOfMemory>
+        ensures { IfOk result (IsSameExample self.now) }
+    {
         Ok(Example {
             symbols: clone_symbols(alloc, &self.symbols)?,
             cursor: self.cursor,
@@ -58,7 +67,9 @@ impl Example {
 fn clone_symbols(
     alloc: Global,
     symbols: &[ExampleSymbol],
-) -> Result<Vec<ExampleSymbol>, OutOfMemory> {
+) -> Result<Vec<ExampleSymbol>, OutOfMemory>
+    ensures { IfOk result (λ copy. copy.items ≡ symbols.now) }
+{
     let mut copy = Vec::new(alloc);
     for symbol in symbols {
         copy.push(symbol.clone(alloc)?)?;
@@ -69,7 +80,9 @@ fn clone_symbols(
 fn clone_reductions(
     alloc: Global,
     reductions: &[Reduction],
-) -> Result<Vec<Reduction>, OutOfMemory> {
+) -> Result<Vec<Reduction>, OutOfMemory>
+    ensures { IfOk result (λ copy. copy.items ≡ reductions.now) }
+{
     let mut copy = Vec::new(alloc);
     for reduction in reductions {
         copy.push(reduction.clone(alloc)?)?;

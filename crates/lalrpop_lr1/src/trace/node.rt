@@ -6,6 +6,7 @@ ghost use Rattle.lalrpop_base.specs.Exact.{name_exact};
 ghost use Rattle.lalrpop_base.specs.Items.{dotted_exact};
 ghost use Rattle.lalrpop_base.specs.contracts.exact.ProductionExact.TheImpl.Laws.{exact-law as production_exact};
 ghost use Rattle.lalrpop_base.specs.contracts.lookahead.nil.NilExact.TheImpl.Laws.{exact-law as nil_exact};
+ghost use Rattle.lalrpop_lr1.specs.NodeItems.{without_lookahead};
 ghost use Rattle.lalrpop_lr1.specs.declared.trace.node.TraceGraphNode.TheVariants.{Nonterminal, Item};
 
 use lalrpop_base::exact::Exact;
@@ -43,18 +44,24 @@ impl<'grammar> Exact for TraceGraphNode<'grammar> {
 }
 
 impl<'grammar> From<NonterminalString> for TraceGraphNode<'grammar> {
+    ghost from_gives = { λ name node. node ≡ Nonterminal name };
+
     fn from(name: NonterminalString) -> TraceGraphNode<'grammar> {
         TraceGraphNode::Nonterminal(name)
     }
 }
 
 impl<'grammar, L: Lookahead> From<Item<'grammar, L>> for TraceGraphNode<'grammar> {
+    ghost from_gives = { λ item node. node ≡ Item (without_lookahead item) };
+
     fn from(item: Item<'grammar, L>) -> TraceGraphNode<'grammar> {
         TraceGraphNode::Item(item.to_lr0())
     }
 }
 
 impl<'a, 'grammar, L: Lookahead> From<&'a Item<'grammar, L>> for TraceGraphNode<'grammar> {
+    ghost from_gives = { λ item node. node ≡ Item (without_lookahead item.now) };
+
     fn from(item: &'a Item<'grammar, L>) -> TraceGraphNode<'grammar> {
         TraceGraphNode::Item(item.to_lr0())
     }
