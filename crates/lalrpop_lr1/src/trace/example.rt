@@ -77,10 +77,7 @@ fn clone_symbols(
     Ok(copy)
 }
 
-fn clone_reductions(
-    alloc: Global,
-    reductions: &[Reduction],
-) -> Result<Vec<Reduction>, OutOfMemory>
+fn clone_reductions(alloc: Global, reductions: &[Reduction]) -> Result<Vec<Reduction>, OutOfMemory>
     ensures { IfOk result (λ copy. copy.items ≡ reductions.now) }
 {
     let mut copy = Vec::new(alloc);

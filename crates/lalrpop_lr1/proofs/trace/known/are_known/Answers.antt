@@ -10,9 +10,9 @@ loop-symbol-preserved c =
     let xs = c.args.symbols.now in
     let i = c.loop-symbol.symbol-index in
     let x = c.symbol-item.result in
-    known_more c.args.terminals.now (take i xs) (x ∷ []) _ (take_more xs i x (omega arith) ∙ ap (λ y. take i xs ++ y ∷ []) (sym c.symbol-item.is)) c.loop-symbol.invariant (c.if-not-is_known.ensures refl)
+    known_more c.args.terminals.now (take i xs) (x ∷ []) _ (take_more xs i x (omega arith) ∙ ap (λ y. take i xs ++ y ∷ []) (sym c.symbol-item.is)) c.loop-symbol.invariant (c.if-not-is_known.ensures.0 refl)
 
 pub returns : goal.returns
 returns c =
     let P : List Symbol → Type 0 = HasKnownTerminals c.args.terminals.now in
-    λ h. subst P (take_all c.loop-symbol.symbol-index c.args.symbols.now (omega arith)) c.loop-symbol.invariant
+    (λ h. subst P (take_all c.loop-symbol.symbol-index c.args.symbols.now (omega arith)) c.loop-symbol.invariant, λ h. refl)

@@ -13,8 +13,8 @@ loop-number-preserved c =
     (λ before. c.loop-number.invariant k e before at)
     (λ here.
     let same : k ≡ c.loop-number.number = omega (arith, l, here) in
-    subst P (c.labels.ensures.there e (ap (λ j. slice_get c.args.self.now.edges j) (sym same) ∙ at)) (c.if-not-is_known_label.ensures refl))
+    subst P (c.labels.ensures.there e (ap (λ j. slice_get c.args.self.now.edges j) (sym same) ∙ at)) (c.if-not-is_known_label.ensures.0 refl))
     (cases_lt k c.loop-number.number)
 
 pub returns : goal.returns
-returns c = λ h k e at. c.loop-number.invariant k e (omega (arith, slice_get_within c.args.self.now.edges k e at, ap length c.edges-number-end.ensures.edges)) at
+returns c = (λ h k e at. c.loop-number.invariant k e (omega (arith, slice_get_within c.args.self.now.edges k e at, ap length c.edges-number-end.ensures.edges)) at, λ h. refl)
