@@ -33,6 +33,9 @@ mod kernel;
 #[cfg(test)]
 mod kernel_set;
 #[cfg(test)]
+mod lane_states;
+mod lane_table;
+#[cfg(test)]
 mod lookahead;
 #[cfg(test)]
 mod lr0;

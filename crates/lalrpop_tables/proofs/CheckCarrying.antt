@@ -27,7 +27,7 @@ use Rattle.lalrpop_tables.specs.Closing.{AreOwn, Begins}
 use Rattle.lalrpop_tables.specs.Counts.{count}
 use Rattle.lalrpop_tables.specs.CheckStates.{dots}
 use Rattle.lalrpop_tables.specs.CheckCarrying.{Carried, at_place, target_from, target_in, HasAll, burden, AreBelow, AllBelow, Sends, IsBegunAt, IsOver, IsInto, Gives, IsCarriedTo, AreCarriedTo, HasBegun, IsSettled, HasStarted, AreCarried}
-use Rattle.lalrpop_tables.specs.declared.check.carrying.Place.{Place}
+use Rattle.lalrpop_tables.specs.declared.place.Place.{Place}
 use Rattle.lalrpop_tables.specs.States.{begun}
 use Rattle.lalrpop_tables.proofs.Canonical.{start_tokens}
 use Rattle.lalrpop_tables.proofs.CheckSending.{Entry, entry_key, key_entry, all_kept, bit_kept, same_place}

@@ -20,7 +20,7 @@ use Rattle.lalrpop_tables.specs.Counts.{count}
 use Rattle.lalrpop_tables.specs.Entries.{IsJoinedAt}
 use Rattle.lalrpop_tables.specs.Entries.IsJoinedAt.{fresh, known}
 use Rattle.lalrpop_tables.specs.CheckCarrying.{Carried, IsSent, HasAll, HasBit, Sends, burden, AreBelow, AllBelow, IsBegunAt, IsOver, IsInto, Gives, at_place, target_in}
-use Rattle.lalrpop_tables.specs.declared.check.carrying.Place.{Place}
+use Rattle.lalrpop_tables.specs.declared.place.Place.{Place}
 use Rattle.lalrpop_tables.proofs.Growth.{join_left, join_right, join_cases}
 use Rattle.lalrpop_tables.proofs.Lists.{Contains-none, Contains-here, Contains-there, Contains-cases, Contains-map}
 use Rattle.lalrpop_tables.proofs.Places.{midst, around, at_midst, same_some}

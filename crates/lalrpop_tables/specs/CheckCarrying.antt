@@ -22,7 +22,7 @@ use Rattle.lalrpop_tables.specs.Closing.{Begins}
 use Rattle.lalrpop_tables.specs.CheckStates.{lr0, target_of}
 use Rattle.lalrpop_tables.specs.Counts.{count}
 use Rattle.lalrpop_tables.specs.Entries.{IsJoinedAt}
-use Rattle.lalrpop_tables.specs.declared.check.carrying.Place.{Place}
+use Rattle.lalrpop_tables.specs.declared.place.Place.{Place}
 
 -- what is carried to each place
 abbrev pub Carried : Type 0

@@ -4,7 +4,7 @@ use Rattle.std.proofs.Common.{ap, ◌∙◌, eqb-true}
 use Rattle.lalrpop_base.specs.Exact.{Exactly, both}
 use Rattle.lalrpop_base.specs.Items.{Dotted}
 use Rattle.lalrpop_base.specs.declared.lookahead.nil.Nil.{Nil}
-use Rattle.lalrpop_tables.specs.declared.check.carrying.Place.{Place}
+use Rattle.lalrpop_tables.specs.declared.place.Place.{Place}
 
 pub place_exact : (E : Dotted Nil → Dotted Nil → Bool) → Exactly E → (a b : Place) → ((a.state == b.state) && E a.item b.item) ≡ true → a ≡ b
 place_exact E exact a b h =

@@ -1,5 +1,4 @@
 //! LALR(1) states: canonical ones, merged where they list the same dotted productions.
-mod conflicts;
 mod join;
 mod numbers;
 mod order;
@@ -25,7 +24,7 @@ ghost use Rattle.lalrpop_tables.specs.Results.{AreTables, FailsBy, canonical_of}
 use crate::build::build_lr1_states;
 use crate::build::options::{Method, Options};
 use crate::build::results::tables_or_conflicts;
-use conflicts::conflicts_of;
+use crate::conflicts::conflicts_of;
 use lalrpop_base::lr1_core::state::{Lr1Result, Lr1State};
 use lalrpop_base::repr::NonterminalString;
 use lalrpop_base::repr::grammar::Grammar;

@@ -1,7 +1,7 @@
 //! The check of tables: whoever made them, a yes says that they are faithful.
 mod carrying;
 mod closing;
-mod sets;
+pub(crate) mod sets;
 mod states;
 
 ghost use Rattle.std.specs.Prelude.{◌≡◌, ◌↔◌, ◌<◌, IfOk, IsTrue, Contains, ℕ, length};

@@ -4,6 +4,9 @@
 pub mod build;
 pub mod build_lalr;
 pub mod check;
+mod conflicts;
+pub mod lane_table;
 pub mod lr1;
+mod place;
 mod renumber;
 pub mod state_graph;

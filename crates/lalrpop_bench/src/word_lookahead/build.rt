@@ -1,5 +1,5 @@
 //! Words in the construction of states: what follows an item, of the tokens whose bits are below 64.
-ghost use Rattle.std.specs.Prelude.{◌≡◌, ◌^◌, ◌<◌, bit_or, length, IfOk, IfSome, MatchBool, slice_get, Some};
+ghost use Rattle.std.specs.Prelude.{◌≡◌, ◌^◌, ◌<◌, ◌≤◌, bit_or, length, IfOk, IfSome, MatchBool, slice_get, None, Some};
 ghost use Rattle.lalrpop_base.specs.Bits.{has};
 ghost use Rattle.lalrpop_base.specs.Grammar.{IsNullable};
 ghost use Rattle.lalrpop_base.specs.Tokens.{FitsTokens};
@@ -91,7 +91,9 @@ impl LookaheadBuild for Word {
 impl Word {
     /// The end of input, where its bit is below 64.
     pub fn eof(terminals: &TerminalSet) -> Option<Word>
-        ensures { IfSome result (λ word. FitsTokens terminals.now (bits_of_word word.bits)) }
+        ensures fits { IfSome result (λ word. FitsTokens terminals.now (bits_of_word word.bits)) }
+        ensures end { IfSome result (λ word. word.bits ≡ 2 ^ length terminals.now) }
+        ensures past { result ≡ None → 64 ≤ length terminals.now }
     {
         let bit = terminals.all().len();
         if bit >= 64 {

@@ -12,44 +12,17 @@ ghost use Rattle.lalrpop_tables.specs.CheckCarrying.{IsSent, Sends, IsBegunAt, I
 use super::sets::find_tokens;
 use super::states::target;
 use crate::build::tokens::add_tokens;
-use lalrpop_base::exact::Exact;
+use crate::place::Place;
 use lalrpop_base::first::FirstSets;
 use lalrpop_base::lookahead::nil::Nil;
 use lalrpop_base::lookahead::token_set::TokenSet;
-use lalrpop_base::lr1_core::item::{Item, Lr0Item};
+use lalrpop_base::lr1_core::item::Item;
 use lalrpop_base::lr1_core::state::Lr1State;
 use lalrpop_base::memory::OutOfMemory;
 use lalrpop_base::repr::grammar::Grammar;
 use lalrpop_base::repr::{NonterminalString, Production, Symbol};
 use std::alloc::Global;
 use std::collections::{BTreeMap, VecDeque};
-
-/// A dotted production of a state.
-#[derive(Drop, PartialEq, Eq, PartialOrd, Ord)]
-pub struct Place<'grammar> {
-    pub state: usize,
-    pub item: Lr0Item<'grammar>,
-}
-
-impl<'grammar> Exact for Place<'grammar> {
-    ghost use Rattle.lalrpop_tables.specs.CheckPlaces.{place_exact};
-    ghost use Rattle.lalrpop_base.specs.Items.{dotted_exact};
-    ghost use Rattle.lalrpop_base.specs.contracts.exact.ProductionExact.TheImpl.Laws.{exact-law as production_exact};
-    ghost use Rattle.lalrpop_base.specs.contracts.lookahead.nil.NilExact.TheImpl.Laws.{exact-law as nil_exact};
-
-    ghost exact = { place_exact _ (dotted_exact _ _ production_exact nil_exact) };
-}
-
-impl<'grammar> Place<'grammar> {
-    fn copy(&self) -> Place<'grammar>
-        ensures { result ≡ self.now }
-    {
-        Place {
-            state: self.state,
-            item: self.item.to_lr0(),
-        }
-    }
-}
 
 /// What is carried to each place.
 pub type Table<'grammar> = BTreeMap<Place<'grammar>, TokenSet>;

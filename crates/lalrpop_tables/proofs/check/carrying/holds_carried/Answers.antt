@@ -4,7 +4,7 @@ use Rattle.lalrpop_base.specs.Bits.{Bits, has}
 use Rattle.lalrpop_base.specs.Items.{Dotted}
 use Rattle.lalrpop_base.specs.declared.lookahead.nil.Nil.{Nil}
 use Rattle.lalrpop_tables.specs.CheckStates.{finished}
-use Rattle.lalrpop_tables.specs.declared.check.carrying.Place.{Place}
+use Rattle.lalrpop_tables.specs.declared.place.Place.{Place}
 use Rattle.std.proofs.Common.{refl}
 use Rattle.lalrpop_tables.proofs.CheckSending.{holds_joined}
 use Rattle.lalrpop_tables.proofs.Places.{same_some}

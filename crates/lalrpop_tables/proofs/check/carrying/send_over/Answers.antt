@@ -2,7 +2,7 @@ use Rattle.std.proofs.Common.{◌≡◌, ◌+◌, ◌∙◌, sym, ap}
 use Rattle.lalrpop_base.specs.Items.{Dotted}
 use Rattle.lalrpop_base.specs.declared.lookahead.nil.Nil.{Nil}
 use Rattle.lalrpop_tables.specs.CheckCarrying.{at_place}
-use Rattle.lalrpop_tables.specs.declared.check.carrying.Place.{Place}
+use Rattle.lalrpop_tables.specs.declared.place.Place.{Place}
 use Rattle.lalrpop_tables.proofs.CheckSending.{Over-end, Over-nowhere, Over-one}
 use Rattle.lalrpop_tables.proofs.check.carrying.send_over.Goals as goal
 

@@ -1,0 +1,144 @@
+-- The actions that are asked for are the state's: its shifts where it reduces, and its reductions; and where each stands among them.
+use Rattle.std.proofs.Common.{◌≡◌, ℕ, inl, inr, Bool, true, false, cond, List, [], ◌∷◌, map, refl, sym, ◌∙◌, ap, subst, Option, Some, None}
+use Rattle.std.specs.Prelude.{Contains}
+use Rattle.std.specs.Borrow.{Bor}
+use Rattle.std.specs.List.{filter, flat_map}
+use Rattle.std.specs.Ordering.{ordering_then}
+use Rattle.std.specs.declared.cmp.Ordering.{Ordering}
+use Rattle.std.specs.declared.cmp.Ordering.TheVariants.{Less, Equal, Greater}
+use Rattle.std.proofs.lemmas.List.Elements.{Contains-append_left, Contains-append_right, Contains-append_cases}
+use Rattle.lalrpop_base.specs.Bits.{Bits, has}
+use Rattle.lalrpop_base.specs.StateConflicts.{state_conflicts, shift_conflicts, shift_conflict, conflicts_on_place, reduce_conflicts, reduce_conflict, later_conflicts, share}
+use Rattle.lalrpop_base.specs.TerminalPlaces.{place_in}
+use Rattle.lalrpop_base.specs.declared.lr1_core.state.Action.{Action}
+use Rattle.lalrpop_base.specs.declared.lr1_core.state.Action.TheVariants.{Shift, Reduce}
+use Rattle.lalrpop_base.specs.declared.lr1_core.state.Conflict.{Conflict}
+use Rattle.lalrpop_base.specs.declared.lr1_core.state.State.{State}
+use Rattle.lalrpop_base.specs.declared.lr1_core.state.StateIndex.{StateIndex}
+use Rattle.lalrpop_base.specs.declared.repr.Production.{Production}
+use Rattle.lalrpop_base.specs.declared.repr.TerminalString.{TerminalString}
+use Rattle.lalrpop_base.proofs.ContentsViews.{contains_of_map, contains_map}
+use Rattle.lalrpop_tables.specs.LaneStates.{action_order, conflict_actions, reduce_action, asked_actions}
+use Rattle.lalrpop_tables.proofs.Ascending.{production_exact}
+use Rattle.lalrpop_tables.proofs.Lists.{Contains-none, Contains-here, Contains-there, Contains-cases}
+use Rattle.lalrpop_tables.proofs.Orders.{terminal_exact}
+
+abbrev pub CodeReduction : Type 0
+CodeReduction = Bits × Bor Production
+
+-- ---- lists
+kept_cases : {X : Type 0} (b : Bool) (x : X) (xs : List X) (y : X) → Contains (cond b (x ∷ xs) xs) y → Contains (x ∷ xs) y
+kept_cases true x xs y c = c
+kept_cases false x xs y c = Contains-there x xs y c
+
+of_kept : {X : Type 0} (p : X → Bool) (xs : List X) (y : X) → Contains (filter p xs) y → Contains xs y
+of_kept p [] y c = c
+of_kept p (x ∷ xs) y c = elim (Contains-cases x (filter p xs) y (kept_cases (p x) x (filter p xs) y c)) [
+  | inl e ↦ subst (Contains (x ∷ xs)) e (Contains-here x xs)
+  | inr later ↦ Contains-there x xs y (of_kept p xs y later)
+]
+
+kept_later : {X : Type 0} (b : Bool) (x : X) (xs : List X) (y : X) → Contains xs y → Contains (cond b (x ∷ xs) xs) y
+kept_later true x xs y c = Contains-there x xs y c
+kept_later false x xs y c = c
+
+in_kept : {X : Type 0} (p : X → Bool) (xs : List X) (y : X) → p y ≡ true → Contains xs y → Contains (filter p xs) y
+in_kept p [] y t c = c
+in_kept p (x ∷ xs) y t c = elim (Contains-cases x xs y c) [
+  | inl e ↦ subst (λ (b : Bool). Contains (cond b (x ∷ filter p xs) (filter p xs)) y) (sym (ap p e ∙ t)) (subst (Contains (x ∷ filter p xs)) e (Contains-here x (filter p xs)))
+  | inr later ↦ kept_later (p x) x (filter p xs) y (in_kept p xs y t later)
+]
+
+of_flat : {X Y : Type 0} (f : X → List Y) (xs : List X) (y : Y) → Contains (flat_map f xs) y → (x : X) × Contains xs x × Contains (f x) y
+of_flat f [] y c = absurd (Contains-none y c)
+of_flat f (x ∷ xs) y c = elim (Contains-append_cases (f x) (flat_map f xs) y c) [
+  | inl here ↦ (x, Contains-here x xs, here)
+  | inr later ↦ let r = of_flat f xs y later in (r.0, Contains-there x xs r.0 r.1, r.2)
+]
+
+in_flat_at : {X Y : Type 0} (f : X → List Y) (x : X) (xs : List X) (y : Y) → Contains (f x) y → Contains (flat_map f (x ∷ xs)) y
+in_flat_at f x xs y c = Contains-append_left (f x) (flat_map f xs) y c
+
+in_flat : {X Y : Type 0} (f : X → List Y) (xs : List X) (x : X) (y : Y) → Contains xs x → Contains (f x) y → Contains (flat_map f xs) y
+in_flat f [] x y among c = absurd (Contains-none x among)
+in_flat f (z ∷ xs) x y among c = elim (Contains-cases z xs x among) [
+  | inl e ↦ Contains-append_left (f z) (flat_map f xs) y (subst (λ w. Contains (f w) y) (sym e) c)
+  | inr later ↦ Contains-append_right (f z) (flat_map f xs) y (in_flat f xs x y later c)
+]
+
+-- ---- an action of the state: a shift of its, or a reduction of its
+abbrev pub IsActionOf : State Bits → Action → Type 0
+IsActionOf state (Shift t target) = Contains state.shifts.entries (t, target)
+IsActionOf state (Reduce p) = (r : CodeReduction) × Contains state.reductions.items r × (r.1 ≡ p)
+
+abbrev IsConflictOf : State Bits → Conflict Bits → Type 0
+IsConflictOf state c = IsActionOf state (Reduce c.production) × IsActionOf state c.action
+
+module _ (terminals : List TerminalString) (state : State Bits) where
+  abbrev reductions : List CodeReduction
+  reductions = state.reductions.items
+
+  shift_of : (t : TerminalString) (target : StateIndex) → Contains state.shifts.entries (t, target) → (o : Option ℕ) (c : Conflict Bits) → Contains (conflicts_on_place state.index t target reductions o) c → IsConflictOf state c
+  shift_of t target among None c i = absurd (Contains-none c i)
+  shift_of t target among (Some bit) c i =
+      let r = contains_of_map (shift_conflict state.index t target bit) (filter (λ (q : CodeReduction). has q.0 bit) reductions) c i in
+      let here : IsConflictOf state (shift_conflict state.index t target bit r.0) = ((r.0, of_kept (λ (q : CodeReduction). has q.0 bit) reductions r.0 r.1, refl), among) in
+      subst (IsConflictOf state) r.2 here
+
+  reduce_of : (rs : List CodeReduction) → ((r : CodeReduction) → Contains rs r → Contains reductions r) → (c : Conflict Bits) → Contains (reduce_conflicts state.index rs) c → IsConflictOf state c
+  reduce_of [] among c i = absurd (Contains-none c i)
+  reduce_of (r ∷ rs) among c i = elim (Contains-append_cases (later_conflicts state.index r rs) (reduce_conflicts state.index rs) c i) [
+    | inl here ↦
+        let q = contains_of_map (reduce_conflict state.index r) (filter (λ (s : CodeReduction). share r.0 s.0) rs) c here in
+        let both : IsConflictOf state (reduce_conflict state.index r q.0) = ((r, among r (Contains-here r rs), refl), (q.0, among q.0 (Contains-there r rs q.0 (of_kept (λ (s : CodeReduction). share r.0 s.0) rs q.0 q.1)), refl)) in
+        subst (IsConflictOf state) q.2 both
+    | inr later ↦ reduce_of rs (λ q h. among q (Contains-there r rs q h)) c later
+  ]
+
+  conflict_of : (c : Conflict Bits) → Contains (state_conflicts terminals state) c → IsConflictOf state c
+  conflict_of c i = elim (Contains-append_cases (flat_map (shift_conflicts terminals state.index reductions) state.shifts.entries) (reduce_conflicts state.index reductions) c i) [
+    | inl s ↦ let e = of_flat (shift_conflicts terminals state.index reductions) state.shifts.entries c s in shift_of (e.0).0 (e.0).1 e.1 (place_in terminals (e.0).0) c e.2
+    | inr r ↦ reduce_of reductions (λ q h. h) c r
+  ]
+
+  of_pair : (c : Conflict Bits) (a : Action) → IsConflictOf state c → Contains (conflict_actions c) a → IsActionOf state a
+  of_pair c a h i = elim (Contains-cases (Reduce c.production) (c.action ∷ []) a i) [
+    | inl e ↦ subst (IsActionOf state) e h.0
+    | inr later ↦ elim (Contains-cases c.action [] a later) [ inl e ↦ subst (IsActionOf state) e h.1 | inr none ↦ absurd (Contains-none a none) ]
+  ]
+
+  -- each asked action is the state's
+  pub asked_of : (a : Action) → Contains (asked_actions terminals state) a → IsActionOf state a
+  asked_of a i = elim (Contains-append_cases (flat_map conflict_actions (state_conflicts terminals state)) (map reduce_action reductions) a i) [
+    | inl s ↦ let c = of_flat conflict_actions (state_conflicts terminals state) a s in of_pair c.0 a (conflict_of c.0 c.1) c.2
+    | inr r ↦ let q = contains_of_map reduce_action reductions a r in subst (IsActionOf state) q.2 (q.0, q.1, refl)
+  ]
+
+  -- each reduction is asked for
+  pub reduction_asked : (r : CodeReduction) → Contains reductions r → Contains (asked_actions terminals state) (Reduce r.1)
+  reduction_asked r among = Contains-append_right (flat_map conflict_actions (state_conflicts terminals state)) (map reduce_action reductions) (Reduce r.1) (contains_map reduce_action reductions r among)
+
+  -- and each shift of a terminal that a reduction holds
+  pub shift_asked : (t : TerminalString) (target : StateIndex) (bit : ℕ) (r : CodeReduction) → Contains state.shifts.entries (t, target) → place_in terminals t ≡ Some bit → Contains reductions r → has r.0 bit ≡ true → Contains (asked_actions terminals state) (Shift t target)
+  shift_asked t target bit r entry place among holds =
+      let c = shift_conflict state.index t target bit r in
+      let on : Contains (conflicts_on_place state.index t target reductions (Some bit)) c = contains_map (shift_conflict state.index t target bit) (filter (λ (q : CodeReduction). has q.0 bit) reductions) r (in_kept (λ (q : CodeReduction). has q.0 bit) reductions r holds among) in
+      let here : Contains (shift_conflicts terminals state.index reductions (t, target)) c = subst (λ (o : Option ℕ). Contains (conflicts_on_place state.index t target reductions o) c) (sym place) on in
+      let all : Contains (state_conflicts terminals state) c = Contains-append_left (flat_map (shift_conflicts terminals state.index reductions) state.shifts.entries) (reduce_conflicts state.index reductions) c (in_flat (shift_conflicts terminals state.index reductions) state.shifts.entries (t, target) c entry here) in
+      Contains-append_left (flat_map conflict_actions (state_conflicts terminals state)) (map reduce_action reductions) (Shift t target) (in_flat conflict_actions (state_conflicts terminals state) c (Shift t target) all (Contains-there (Reduce r.1) (Shift t target ∷ []) (Shift t target) (Contains-here (Shift t target) [])))
+
+-- ---- what ties
+first_equal : (a b : Ordering) → ordering_then a b ≡ Equal → (a ≡ Equal) × (b ≡ Equal)
+first_equal Less b e = cc
+first_equal Equal b e = (refl, e)
+first_equal Greater b e = cc
+
+-- what ties with a reduction is one by an equal production
+pub tied_reduce : (p : Bor Production) (b : Action) → action_order (Reduce p) b ≡ Equal → (lent : Bor Production) × (b ≡ Reduce lent) × (lent.now ≡ p.now)
+tied_reduce p (Shift t target) e = cc
+tied_reduce p (Reduce q) e = (q, refl, sym (production_exact p.now q.now e))
+
+-- what ties with a shift is one of its terminal
+pub tied_shift : (t : TerminalString) (target : StateIndex) (b : Action) → action_order (Shift t target) b ≡ Equal → (to : StateIndex) × (b ≡ Shift t to)
+tied_shift t target (Shift u to) e = (to, ap (λ x. Shift x to) (sym (terminal_exact t u (first_equal _ _ e).0)))
+tied_shift t target (Reduce q) e = cc

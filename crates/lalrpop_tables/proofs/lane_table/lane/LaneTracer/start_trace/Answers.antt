@@ -1,0 +1,30 @@
+use Rattle.std.proofs.Common.{sym, subst}
+use Rattle.lalrpop_base.specs.WellFormed.{rules_of}
+use Rattle.lalrpop_base.specs.declared.lr1_core.state.Action.{Action}
+use Rattle.lalrpop_tables.specs.LaneTraces.{TakesAction, places_in}
+use Rattle.lalrpop_tables.proofs.lane_table.lane.LaneTracer.start_trace.Goals as goal
+
+pub returns-in_err-add_lookahead-in-Shift-clause-ready : goal.returns-in_err-add_lookahead-in-Shift-clause-ready
+returns-in_err-add_lookahead-in-Shift-clause-ready g c =
+    let ready = c.requires.ready in
+    record { well_formed = ready.well_formed; coherent = ready.coherent; own = ready.own; firsts = ready.firsts; graph = ready.graph; in_range = c.in_err-add_lookahead-in-Shift.ensures.in_range ready.in_range }
+
+pub returns-in_err-take_lane-in-Reduce-clause-ready : goal.returns-in_err-take_lane-in-Reduce-clause-ready
+returns-in_err-take_lane-in-Reduce-clause-ready g c =
+    let ready = c.requires.ready in
+    record { well_formed = ready.well_formed; coherent = ready.coherent; own = ready.own; firsts = ready.firsts; graph = ready.graph; in_range = c.in_err-take_lane-in-Reduce.ensures.in_range ready.in_range }
+
+pub returns-in_ok-add_lookahead-in-Shift-clause-ready : goal.returns-in_ok-add_lookahead-in-Shift-clause-ready
+returns-in_ok-add_lookahead-in-Shift-clause-ready g c =
+    let ready = c.requires.ready in
+    record { well_formed = ready.well_formed; coherent = ready.coherent; own = ready.own; firsts = ready.firsts; graph = ready.graph; in_range = c.in_ok-add_lookahead-in-Shift.ensures.in_range ready.in_range }
+
+pub returns-in_ok-take_lane-in-Reduce-clause-ready : goal.returns-in_ok-take_lane-in-Reduce-clause-ready
+returns-in_ok-take_lane-in-Reduce-clause-ready g c =
+    let ready = c.requires.ready in
+    record { well_formed = ready.well_formed; coherent = ready.coherent; own = ready.own; firsts = ready.firsts; graph = ready.graph; in_range = c.in_ok-take_lane-in-Reduce.ensures.in_range ready.in_range }
+
+pub returns-in_ok-add_lookahead-in-Shift-clause-traced : goal.returns-in_ok-add_lookahead-in-Shift-clause-traced
+returns-in_ok-add_lookahead-in-Shift-clause-traced g c =
+    subst (λ (a : Action). TakesAction (rules_of c.args.self.now.grammar.now) c.args.self.now.start (places_in c.args.self.now.states.now) c.args.state c.args.conflict.index a c.args.self.now.table c.add_lookahead.new.self) (sym c.in-Shift.is)
+    (c.in_ok-tokens-in-Shift.tokens, c.in_ok-tokens-in-Shift.ensures, c.in_ok-add_lookahead-in-Shift.ensures.added)

@@ -1,0 +1,32 @@
+use Rattle.std.proofs.Common.{◌≡◌, [], refl, rules, arith}
+use Rattle.std.proofs.lemmas.Grind.{common_steps}
+use Rattle.std.proofs.lemmas.List.{nil_from_length}
+use Rattle.lalrpop_tables.specs.declared.lane_table.lane.walk.Walk.{Walk}
+use Rattle.lalrpop_tables.proofs.LaneTraces.{Tracing-start, Tracing-step, Tracing-smaller, Tracing-end, place_listed}
+use Rattle.lalrpop_tables.proofs.lane_table.lane.trace_back.trace_back.Goals as goal
+
+pub loop-place-init : goal.loop-place-init
+loop-place-init g c = Tracing-start c.args.ground.now c.args.first c.requires.ground c.requires.end c.args.conflict.index c.args.table.now c.new-walk.result c.visit.new.self c.new-walk.ensures.visited c.new-walk.ensures.waiting c.in_ok-visit.ensures
+
+pub step-requires-clause-listed : goal.step-requires-clause-listed
+step-requires-clause-listed g c =
+    let popped : Walk = record { visited = c.loop-place.walk.visited; waiting = c.pop_front.new.self } in
+    place_listed c.args.ground.now c.args.first c.requires.ground c.requires.end c.args.conflict.index c.in-Some.place c.args.table.now c.loop-place.table c.loop-place.table c.loop-place.walk popped popped refl c.in-Some.ensures.items c.loop-place.invariant
+
+pub loop-place-preserved : goal.loop-place-preserved
+loop-place-preserved g c =
+    let popped : Walk = record { visited = c.loop-place.walk.visited; waiting = c.pop_front.new.self } in
+    Tracing-step c.args.ground.now c.args.first c.requires.ground c.requires.end c.args.conflict.index c.in-Some.place c.args.table.now c.loop-place.table c.step.new.table c.loop-place.walk popped c.step.new.walk refl c.in-Some.ensures.items c.loop-place.invariant c.in_ok-step.ensures.gains c.in_ok-step.ensures.visits c.in_ok-step.ensures.columns c.in_ok-step.ensures.in_range
+
+pub loop-place-smaller : goal.loop-place-smaller
+loop-place-smaller g c =
+    let popped : Walk = record { visited = c.loop-place.walk.visited; waiting = c.pop_front.new.self } in
+    Tracing-smaller c.args.ground.now c.args.first c.requires.ground c.requires.end c.args.conflict.index c.in-Some.place c.args.table.now c.loop-place.table c.step.new.table c.loop-place.walk popped c.step.new.walk refl c.in-Some.ensures.items c.loop-place.invariant c.in_ok-step.ensures.visits (loop-place-preserved g c)
+
+pub returns-in_err-step-clause-in_range : goal.returns-in_err-step-clause-in_range
+returns-in_err-step-clause-in_range g c = λ r. c.in_err-step.ensures.in_range (c.loop-place.invariant.in_range r)
+
+pub returns-clause-gains : goal.returns-clause-gains
+returns-clause-gains g c =
+    let none : c.loop-place.walk.waiting.items ≡ [] = first_of (search rules, grind (arith, common_steps), grind (arith, common_steps, nil_from_length c.loop-place.walk.waiting.items)) in
+    Tracing-end c.args.ground.now c.args.first c.requires.ground c.requires.end c.args.conflict.index c.args.table.now c.loop-place.table c.loop-place.walk none c.loop-place.invariant

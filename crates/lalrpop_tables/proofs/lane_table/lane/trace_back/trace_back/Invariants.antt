@@ -1,0 +1,9 @@
+use Rattle.std.proofs.Common.{length, ◌+◌, ◌-◌}
+use Rattle.lalrpop_tables.proofs.LaneTraces.{IsTracing, all_places}
+use Rattle.lalrpop_tables.proofs.lane_table.lane.trace_back.trace_back.Given as goal
+
+abbrev pub invariant-loop-place : goal.invariant-loop-place
+invariant-loop-place g l = IsTracing l.ground l.fn.first l.conflict.index l.fn.table l.table l.walk
+
+abbrev pub decreases-loop-place : goal.decreases-loop-place
+decreases-loop-place g l = length (all_places l.ground l.fn.first) + length l.walk.waiting.items - length l.walk.visited.keys

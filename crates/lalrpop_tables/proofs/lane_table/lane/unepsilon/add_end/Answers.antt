@@ -1,0 +1,13 @@
+use Rattle.std.proofs.Common.{sym, refl}
+use mathlib.Core.Bool.{true≢false}
+use Rattle.lalrpop_base.specs.WellFormed.{rules_of}
+use Rattle.lalrpop_tables.proofs.Following.{end_gained, no_end}
+use Rattle.lalrpop_tables.proofs.lane_table.lane.unepsilon.add_end.Goals as goal
+
+pub returns-in_ok-add_lookahead-clause-gains : goal.returns-in_ok-add_lookahead-clause-gains
+returns-in_ok-add_lookahead-clause-gains g c =
+    end_gained (rules_of c.args.ground.now.grammar.now) c.args.ground.now.start.now c.args.name.now (record { 0 = c.args.state }) c.args.conflict.index _ _ _ (c.if-equal.ensures.0 refl) c.in_ok-end.ensures c.in_ok-add_lookahead.ensures.added
+
+pub returns-else-equal-clause-gains : goal.returns-else-equal-clause-gains
+returns-else-equal-clause-gains g c =
+    no_end (rules_of c.args.ground.now.grammar.now) c.args.ground.now.start.now c.args.name.now c.args.state c.args.conflict.index c.args.table.now (λ same. true≢false (sym (c.if-equal.ensures.1 same)))

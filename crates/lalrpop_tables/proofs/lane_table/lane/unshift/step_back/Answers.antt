@@ -1,0 +1,11 @@
+use Rattle.std.proofs.Common.{◌≡◌, subst}
+use Rattle.lalrpop_tables.specs.LaneSteps.{Visits}
+use Rattle.lalrpop_tables.specs.declared.place.Place.{Place}
+use Rattle.lalrpop_tables.proofs.Gains.{Gains-successor}
+use Rattle.lalrpop_tables.proofs.lane_table.lane.unshift.step_back.Goals as goal
+
+pub returns-clause-gains : goal.returns-clause-gains
+returns-clause-gains c = λ k. Gains-successor c.args.source (record { 0 = c.args.place.now.state }) _ _ c.in_ok-add_successor.ensures.added k
+
+pub returns-clause-visits : goal.returns-clause-visits
+returns-clause-visits c = subst (λ (p : Place). Visits (λ k. p ≡ k) c.args.walk.now c.visit.new.self) c.back_in.ensures c.in_ok-visit.ensures

@@ -1,0 +1,13 @@
+use Rattle.std.proofs.Common.{refl}
+use Rattle.lalrpop_tables.proofs.Walks.{Visits-new, Visits-known}
+use Rattle.lalrpop_tables.proofs.lane_table.lane.walk.Walk.visit.Goals as goal
+
+pub returns-in_ok-push_back : goal.returns-in_ok-push_back
+returns-in_ok-push_back c =
+    let told = rw c.if-branch.true at c.in_ok-add_key.ensures.told in
+    Visits-new c.args.place c.args.self.now _ (rw (← c.copy-copy.ensures) c.in_ok-add_key.ensures.added) c.in_ok-add_key.ensures.differ told.0 c.in_ok-push_back.ensures.items
+
+pub returns-else-branch : goal.returns-else-branch
+returns-else-branch c =
+    let told = rw c.if-branch.false at c.in_ok-add_key.ensures.told in
+    Visits-known c.args.place c.args.self.now _ (rw (← c.copy-copy.ensures) c.in_ok-add_key.ensures.added) c.in_ok-add_key.ensures.differ (rw (← c.copy-copy.ensures) told.1) told.0 refl

@@ -1,0 +1,9 @@
+use Rattle.lalrpop_tables.specs.LaneTableStates.{IsClosedEdge}
+use Rattle.lalrpop_tables.proofs.LaneTableStates.{HoldsSoFar, EachSoFar}
+use Rattle.lalrpop_tables.proofs.lane_table.table.LaneTable.are_closed.Given as goal
+
+abbrev pub invariant-loop-successor : goal.invariant-loop-successor
+invariant-loop-successor l =
+    (goal.iterator-loop-successor).can_next l.successor-iterator ×
+    (goal.iterator-loop-successor).is_finite l.successor-iterator ×
+    HoldsSoFar (EachSoFar (IsClosedEdge l.count l.self l.state)) l.successor-iterator l.successors.keys

@@ -1,0 +1,5 @@
+use Rattle.lalrpop_tables.proofs.LaneTableStates.{HoldsSoFar, BeachSoFar}
+use Rattle.lalrpop_tables.proofs.lane_table.table.LaneTable.beachhead_states.Given as goal
+
+abbrev pub invariant-loop-state : goal.invariant-loop-state
+invariant-loop-state l = HoldsSoFar (BeachSoFar l.reached.keys l.states.keys) l.state-iterator l.self.lookaheads.entries

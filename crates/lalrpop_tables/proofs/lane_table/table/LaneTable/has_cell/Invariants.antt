@@ -1,0 +1,8 @@
+use Rattle.lalrpop_tables.proofs.LaneTableStates.{HoldsSoFar, EachSoFar, IsOther}
+use Rattle.lalrpop_tables.proofs.lane_table.table.LaneTable.has_cell.Given as goal
+
+abbrev pub invariant-loop-row : goal.invariant-loop-row
+invariant-loop-row l =
+    (goal.iterator-loop-row).can_next l.row-iterator ×
+    (goal.iterator-loop-row).is_finite l.row-iterator ×
+    HoldsSoFar (EachSoFar (IsOther l.state)) l.row-iterator l.self.lookaheads.entries

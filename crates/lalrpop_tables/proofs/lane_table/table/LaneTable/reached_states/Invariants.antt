@@ -1,0 +1,5 @@
+use Rattle.lalrpop_tables.proofs.LaneTableStates.{HoldsSoFar, ReachedSoFar}
+use Rattle.lalrpop_tables.proofs.lane_table.table.LaneTable.reached_states.Given as goal
+
+abbrev pub invariant-loop-state : goal.invariant-loop-state
+invariant-loop-state l = HoldsSoFar (ReachedSoFar l.reached.keys) l._state-iterator l.self.successors

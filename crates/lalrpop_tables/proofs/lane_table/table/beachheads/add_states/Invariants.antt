@@ -1,0 +1,5 @@
+use Rattle.lalrpop_tables.proofs.LaneTableStates.{HoldsSoFar, AddedSoFar}
+use Rattle.lalrpop_tables.proofs.lane_table.table.beachheads.add_states.Given as goal
+
+abbrev pub invariant-loop-state : goal.invariant-loop-state
+invariant-loop-state l = HoldsSoFar (AddedSoFar l.initial.set.keys l.set.keys) l.state-iterator l.states.keys

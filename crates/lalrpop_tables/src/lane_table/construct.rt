@@ -1,0 +1,71 @@
+//! The construction of lane tables.
+mod actions;
+mod promote;
+mod resolving;
+mod states;
+mod tracing;
+
+ghost use Rattle.std.specs.Prelude.{◌≡◌, IfOk, IfErr, MatchResult};
+ghost use Rattle.lalrpop_base.specs.Grammar.{IsOnNoRightSide};
+ghost use Rattle.lalrpop_base.specs.WellFormed.{IsWellFormed, productions, rules_of};
+ghost use Rattle.lalrpop_tables.specs.Lalr.{TellsNotLALR1};
+ghost use Rattle.lalrpop_tables.specs.LaneStates.{AreLalrLaneTables, AreLaneTables, AreLr0Tables, FailsByLanes, HasLr0Tables, IsReadyToConstruct};
+
+use crate::conflicts::conflicts_of;
+use crate::state_graph::StateGraph;
+use lalrpop_base::first::FirstSets;
+use lalrpop_base::lr1_core::state::{BuildError, Lr1Result, TableConstructionError};
+use lalrpop_base::memory::OutOfMemory;
+use lalrpop_base::repr::NonterminalString;
+use lalrpop_base::repr::grammar::Grammar;
+use std::alloc::Global;
+
+/// A construction of lane tables for a start symbol of a grammar.
+#[derive(Drop)]
+pub struct LaneTableConstruct<'grammar> {
+    grammar: &'grammar Grammar,
+    first_sets: FirstSets<'grammar>,
+    start: NonterminalString,
+    max_copies: usize,
+}
+
+impl<'grammar> LaneTableConstruct<'grammar> {
+    /// States are copied at most so often; as yet none is.
+    pub fn new(
+        alloc: Global,
+        grammar: &'grammar Grammar,
+        start: NonterminalString,
+        max_copies: usize,
+    ) -> Result<Self, OutOfMemory>
+        requires well_formed { IsWellFormed grammar.now }
+        ensures ready { IfOk result IsReadyToConstruct }
+        ensures over { IfOk result (λ construct. (construct.grammar.now ≡ grammar.now) × (construct.start ≡ start) × (construct.max_copies ≡ max_copies)) }
+    {
+        let first_sets = FirstSets::new(alloc, grammar)?;
+        Ok(LaneTableConstruct {
+            grammar,
+            first_sets,
+            start,
+            max_copies,
+        })
+    }
+
+    /// The LR(0) states with the tokens of their lanes, or their conflicts where two actions share a token.
+    pub fn construct(self, alloc: Global) -> Lr1Result<'grammar>
+        requires ready { IsReadyToConstruct self }
+        ensures tables { IfOk result (λ tables. AreLaneTables (rules_of self.entry.grammar.now) self.entry.start tables.items) }
+        ensures failure { IfErr result (FailsByLanes (rules_of self.entry.grammar.now) self.entry.start) }
+        ensures shape { MatchResult result (λ tables. AreLr0Tables (rules_of self.entry.grammar.now) self.entry.start tables.items) (HasLr0Tables (rules_of self.entry.grammar.now) self.entry.start) }
+        ensures lalr { IsOnNoRightSide (productions self.entry.grammar.now) self.entry.start → MatchResult result (λ tables. AreLalrLaneTables (rules_of self.entry.grammar.now) self.entry.start tables.items) (TellsNotLALR1 (productions self.entry.grammar.now) self.entry.start) }
+    {
+        let grammar = self.grammar;
+        let _terminals = grammar.terminals.all();
+        let mut states = self.promoted_states(alloc)?;
+        let graph = StateGraph::new(alloc, &states)?;
+        if self.resolve_states(alloc, &mut states, &graph)? {
+            return Ok(states);
+        }
+        let conflicts = conflicts_of(alloc, &states, &grammar.terminals)?;
+        Err(BuildError::Conflicts(TableConstructionError { states, conflicts }))
+    }
+}

@@ -1,0 +1,55 @@
+//! All states of a construction, promoted and then resolved.
+ghost use Rattle.std.specs.Prelude.{◌≡◌, IfOk, OnOk, MatchBool};
+ghost use Rattle.lalrpop_base.specs.WellFormed.{rules_of};
+ghost use Rattle.lalrpop_tables.specs.LaneStates.{AreLaneStates, AreLaneTables, HaveMeetingLanes, HoldAllFrom, IsReadyToConstruct};
+ghost use Rattle.lalrpop_tables.specs.StateGraph.{edges, IsGraphOf};
+
+use super::LaneTableConstruct;
+use super::promote::{lr0_states, promote_states};
+use crate::state_graph::StateGraph;
+use lalrpop_base::lookahead::token_set::TokenSet;
+use lalrpop_base::lr1_core::state::Lr1State;
+use lalrpop_base::memory::OutOfMemory;
+use std::alloc::Global;
+
+impl<'grammar> LaneTableConstruct<'grammar> {
+    /// The LR(0) states with all tokens.
+    pub(super) fn promoted_states(
+        &self,
+        alloc: Global,
+    ) -> Result<Vec<Lr1State<'grammar>>, OutOfMemory>
+        requires ready { IsReadyToConstruct self.now }
+        ensures lanes { IfOk result (λ states. AreLaneStates (rules_of self.now.grammar.now) self.now.start states.items) }
+        ensures full { IfOk result (λ states. HoldAllFrom self.now.grammar.now.terminals 0 states.items) }
+    {
+        let grammar = self.grammar;
+        let all = TokenSet::all(alloc, &grammar.terminals)?;
+        let states = lr0_states(alloc, grammar, self.start.clone(alloc)?)?;
+        promote_states(alloc, states, &all)
+    }
+
+    /// Resolves the states by rising index, and tells whether each could be.
+    pub(super) fn resolve_states(
+        &self,
+        alloc: Global,
+        states: &mut Vec<Lr1State<'grammar>>,
+        graph: &StateGraph,
+    ) -> Result<bool, OutOfMemory>
+        requires ready { IsReadyToConstruct self.now }
+        requires lanes { AreLaneStates (rules_of self.now.grammar.now) self.now.start states.old.items }
+        requires graph { IsGraphOf (edges states.old.items) graph.now }
+        requires full { HoldAllFrom self.now.grammar.now.terminals 0 states.old.items }
+        ensures lanes { OnOk result (AreLaneStates (rules_of self.now.grammar.now) self.now.start states.new.items) }
+        ensures resolved { IfOk result (λ done. MatchBool done (AreLaneTables (rules_of self.now.grammar.now) self.now.start states.new.items) (HaveMeetingLanes (rules_of self.now.grammar.now) self.now.start states.new.items)) }
+    {
+        let grammar = self.grammar;
+        let _terminals = grammar.terminals.all();
+        let count = states.len();
+        for index in 0..count {
+            if !self.resolve_inconsistencies(alloc, states, graph, index)? {
+                return Ok(false);
+            }
+        }
+        Ok(true)
+    }
+}

@@ -1,0 +1,96 @@
+//! Traces a place back, over edges and without symbols.
+ghost use Rattle.std.specs.Prelude.{◌≡◌, ◌<◌, OnOk, Contains, length};
+ghost use Rattle.lalrpop_base.specs.WellFormed.{productions, rules_of};
+ghost use Rattle.lalrpop_tables.specs.LaneSteps.{GainsAll, GainsOf, IsEndPlace, IsGround, VisitsOf};
+ghost use Rattle.lalrpop_tables.specs.LaneTables.{AreInRange};
+ghost use Rattle.lalrpop_tables.specs.LaneTraces.{TakesLane, places_in};
+
+use super::ground::Ground;
+use super::unepsilon::unepsilon;
+use super::unshift::unshift;
+use super::walk::Walk;
+use crate::lane_table::context_set::ConflictIndex;
+use crate::lane_table::table::LaneTable;
+use crate::place::Place;
+use lalrpop_base::lookahead::token_set::TokenSet;
+use lalrpop_base::lr1_core::item::Item;
+use lalrpop_base::lr1_core::state::StateIndex;
+use lalrpop_base::memory::OutOfMemory;
+use lalrpop_base::repr::Production;
+use std::alloc::Global;
+
+// Steps back from a place.
+fn step<'grammar, L>(
+    alloc: Global,
+    ground: &Ground<'_, 'grammar, L>,
+    place: &Place<'grammar>,
+    conflict: ConflictIndex,
+    table: &mut LaneTable<'grammar>,
+    walk: &mut Walk<'grammar>,
+) -> Result<(), OutOfMemory>
+    requires there { conflict.index < table.old.conflicts }
+    requires ground { IsGround ground.now }
+    requires listed { place.now.state < length ground.now.states.now }
+    ensures gains { OnOk result (GainsOf ground.now place.now conflict.index table.old table.new) }
+    ensures visits { OnOk result (VisitsOf ground.now place.now walk.old walk.new) }
+    ensures columns { table.new.conflicts ≡ table.old.conflicts }
+    ensures in_range { AreInRange table.old → AreInRange table.new }
+{
+    if place.is_past_start() {
+        unshift(ground, place, table, walk)?;
+        return Ok(());
+    }
+    unepsilon(alloc, ground, place, conflict, table, walk)?;
+    Ok(())
+}
+
+// Traces the end of a production back: what the places give to which it leads goes into the table.
+fn trace_back<'grammar, L>(
+    alloc: Global,
+    ground: &Ground<'_, 'grammar, L>,
+    first: Place<'grammar>,
+    conflict: ConflictIndex,
+    table: &mut LaneTable<'grammar>,
+) -> Result<(), OutOfMemory>
+    requires there { conflict.index < table.old.conflicts }
+    requires ground { IsGround ground.now }
+    requires end { IsEndPlace ground.now first }
+    ensures gains { OnOk result (GainsAll ground.now first.entry conflict.index table.old table.new) }
+    ensures columns { table.new.conflicts ≡ table.old.conflicts }
+    ensures in_range { AreInRange table.old → AreInRange table.new }
+{
+    let mut walk = Walk::new(alloc);
+    walk.visit(first)?;
+    while let Some(place) = walk.waiting.pop_front() {
+        step(alloc, ground, &place, conflict, table, &mut walk)?;
+    }
+    Ok(())
+}
+
+/// Takes the lane of a reduction from a state into a column. The cell of the state itself is made first.
+pub(crate) fn take_lane<'grammar, L>(
+    alloc: Global,
+    ground: &Ground<'_, 'grammar, L>,
+    state: StateIndex,
+    production: &'grammar Production,
+    conflict: ConflictIndex,
+    table: &mut LaneTable<'grammar>,
+) -> Result<(), OutOfMemory>
+    requires there { conflict.index < table.old.conflicts }
+    requires ground { IsGround ground.now }
+    requires own { Contains (productions ground.now.grammar.now) production.now }
+    requires listed { state.0 < length ground.now.states.now }
+    ensures taken { OnOk result (TakesLane (rules_of ground.now.grammar.now) ground.now.start.now (places_in ground.now.states.now) state production.now conflict.index table.old table.new) }
+    ensures columns { table.new.conflicts ≡ table.old.conflicts }
+    ensures in_range { AreInRange table.old → AreInRange table.new }
+{
+    let none = TokenSet::new(alloc, &ground.grammar.terminals);
+    table.add_lookahead(state, conflict, &none)?;
+    let item = Item::lr0(production, production.symbols.len());
+    let first = Place {
+        state: state.0,
+        item,
+    };
+    trace_back(alloc, ground, first, conflict, table)?;
+    Ok(())
+}
