@@ -2,17 +2,24 @@
 use Rattle.std.specs.Prelude.{◌≡◌, ℕ, ◌<◌, ◌≤◌, List, Result, Ok, Err}
 use Rattle.lalrpop_base.specs.Bits.{Bits}
 use Rattle.lalrpop_base.specs.Contents.{contents}
+use Rattle.lalrpop_base.specs.Grammar.{IsOnNoRightSide}
 use Rattle.lalrpop_base.specs.Runs.{Outcome, Parsed, HasOutcome, Refused as RefusedIn, Limit as CutOff}
 use Rattle.lalrpop_base.specs.States.{Contents, AreFaithful}
 use Rattle.lalrpop_base.specs.Trees.{Tree, beside, no_trees, nodes, IsParseTree}
-use Rattle.lalrpop_base.specs.WellFormed.{Rules}
+use Rattle.lalrpop_base.specs.Validity.{IsLALR1}
+use Rattle.lalrpop_base.specs.WellFormed.{productions, rules_of}
 use Rattle.lalrpop_base.specs.declared.lookahead.token.Token.{Token}
 use Rattle.lalrpop_base.specs.declared.lr1_core.state.State.{State}
 use Rattle.lalrpop_base.specs.declared.lr1_core.state.TableConstructionError.{TableConstructionError}
 use Rattle.lalrpop_base.specs.declared.repr.NonterminalString.{NonterminalString}
 use Rattle.lalrpop_base.specs.declared.repr.Production.{Production}
 use Rattle.lalrpop_base.specs.declared.repr.TerminalString.{TerminalString}
+use Rattle.lalrpop_base.specs.declared.repr.grammar.Grammar.{Grammar}
 use Rattle.lalrpop_tables.specs.Canonical.{AreCanonicalStates}
+use Rattle.lalrpop_tables.specs.Lalr.{Collapses}
+use Rattle.lalrpop_tables.specs.RenumberedTables.{AreRenumberedLaneTables}
+use Rattle.lalrpop_tables.specs.declared.build.options.Method.TheVariants.{Lane, Canonical}
+use Rattle.lalrpop_tables.specs.declared.build.options.Options.{Options}
 use Rattle.lalrpop_lr1.specs.FaithfulAnswers.{IsCutOff}
 use Rattle.lalrpop_lr1.specs.ParseTrees.{tree_of}
 use Rattle.lalrpop_lr1.specs.declared.headline.ParseError.{ParseError}
@@ -74,9 +81,10 @@ IsOutcomeTold R (Err (Refused token)) = (n : ℕ) × R (RefusedIn n token)
 IsOutcomeTold R (Err Limit) = R CutOff
 IsOutcomeTold R (Err Memory) = Unit {0}
 
--- the answer tells what the run over some faithful states comes to, which are the canonical ones where they were not collapsed
-pub record IsToldByTables (Uncollapsed : Type 0) (g : Rules) (start : NonterminalString) (w : List TerminalString) (limit : ℕ) (answer : Result ParseTree ParseError) : Type 0 where
+-- the answer tells what the run over some faithful states comes to: the canonical ones by the canonical method where they are not collapsed, and by the lane way, for an LALR(1) grammar whose start symbol is on no right side, lane tables, as many as its LR(0) states
+pub record IsToldByTables (g : Grammar) (options : Options) (start : NonterminalString) (w : List TerminalString) (limit : ℕ) (answer : Result ParseTree ParseError) : Type 0 where
   pub tables : List (State Bits)
-  pub canonical : Uncollapsed → AreCanonicalStates g start tables
-  pub faithful : AreFaithful g.productions start (contents g.terminals tables)
+  pub canonical : options.method ≡ Canonical → ¬ Collapses g options → AreCanonicalStates (rules_of g) start tables
+  pub lanes : options.method ≡ Lane → IsOnNoRightSide (productions g) start → IsLALR1 (productions g) start → AreRenumberedLaneTables (rules_of g) start tables
+  pub faithful : AreFaithful (productions g) start (contents g.terminals tables)
   pub told : IsOutcomeTold (HasOutcome (contents g.terminals tables) w limit) answer

@@ -58,8 +58,8 @@ pub fn parse<'grammar>(
     ensures collapsed_tables { Collapses grammar.now options.now → HadTables result → IsLALR1 (productions grammar.now) start }
     ensures no_collapsed_tables { Collapses grammar.now options.now → IfErr result (IfConflicts (λ error. ¬ IsLALR1 (productions grammar.now) start)) }
 
-    // The answer is what the run by the tables comes to, whatever the start symbol.
-    ensures run { HadTables result → IsToldByTables (¬ Collapses grammar.now options.now) (rules_of grammar.now) start tokens.items limit result }
+    // The answer is what the run by the tables comes to, whatever the start symbol. By the canonical method they are the canonical states, by the lane way as few as the LR(0) states where the grammar is LALR(1) and the start symbol on no right side.
+    ensures run { HadTables result → IsToldByTables grammar.now options.now start tokens.items limit result }
 
     // For a start symbol on no right side, the trees are exactly the parse trees within the limit, and a refusal names the first wrong token.
     ensures parsed { IfOk result (λ tree. IsOnNoRightSide (productions grammar.now) start → IsTreeWithin limit tokens.items (tree_of tree) (productions grammar.now) start) }

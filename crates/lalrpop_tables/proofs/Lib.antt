@@ -2,6 +2,7 @@ pub mod Ascending
 pub mod BothFacts
 pub mod Bounded
 pub mod Building
+pub mod ByLanes
 pub mod Canonical
 pub mod CanonicalConflicts
 pub mod CanonicalContents

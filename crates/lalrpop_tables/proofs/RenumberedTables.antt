@@ -1,5 +1,5 @@
--- Renumbered tables have a state and no conflict, as before, and stay faithful.
-use Rattle.std.proofs.Common.{◌≡◌, ◌<◌, ℕ, inl, inr, List, length, sym, ◌∙◌, ap, subst, arith, Some}
+-- Renumbered tables have a state and no conflict, as before, and stay faithful; lane tables stay as many as the LR(0) states.
+use Rattle.std.proofs.Common.{◌≡◌, ◌⊎◌, ◌<◌, ℕ, inl, inr, ⊎_elim, List, length, sym, ◌∙◌, ap, subst, arith, Some}
 use Rattle.std.specs.Prelude.{slice_get}
 use Rattle.std.proofs.lemmas.Bool.{cases_lt}
 use Rattle.std.proofs.lemmas.Option.{slice_get_within}
@@ -7,6 +7,7 @@ use Rattle.lalrpop_base.specs.Bits.{Bits}
 use Rattle.lalrpop_base.specs.Contents.{contents}
 use Rattle.lalrpop_base.specs.StateConflicts.{HasNoConflict}
 use Rattle.lalrpop_base.specs.States.{AreFaithful}
+use Rattle.lalrpop_base.specs.WellFormed.{Rules, rules_of}
 use Rattle.lalrpop_base.specs.declared.lr1_core.state.State.{State}
 use Rattle.lalrpop_base.specs.declared.repr.NonterminalString.{NonterminalString}
 use Rattle.lalrpop_base.specs.declared.repr.Production.{Production}
@@ -14,9 +15,10 @@ use Rattle.lalrpop_base.specs.declared.repr.TerminalString.{TerminalString}
 use Rattle.lalrpop_base.specs.declared.repr.grammar.Grammar.{Grammar}
 use Rattle.lalrpop_base.proofs.theory.Renumbering.{faithful-renumbered}
 use Rattle.lalrpop_tables.specs.Lalr.{AreMergedTables, AreRenumberedMerged}
+use Rattle.lalrpop_tables.specs.LaneStates.{AreLaneTables}
 use Rattle.lalrpop_tables.specs.Renumbered.{IsRenumberedState, AreRenumbered}
-use Rattle.lalrpop_tables.specs.RenumberedTables.{AreRenumberedTables}
-use Rattle.lalrpop_tables.specs.Results.{Construction, AreTables, HaveNoConflict}
+use Rattle.lalrpop_tables.specs.RenumberedTables.{AreRenumberedTables, AreRenumberedLaneTables}
+use Rattle.lalrpop_tables.specs.Results.{Construction, AreTables, HaveNoConflict, canonical_of}
 use Rattle.lalrpop_tables.proofs.Places.{same_some}
 use Rattle.lalrpop_tables.proofs.Renumbered.{entry_from, slice_get_inside}
 
@@ -67,3 +69,18 @@ Merged-renumbered g start built tables made r = record {
   renumbered = r;
   free = Free-renumbered g.terminals built tables r made.merged.free;
 }
+
+pub Lanes-renumbered : (g : Rules) (start : NonterminalString) (built tables : List (State Bits)) → AreLaneTables g start built → AreRenumbered g.terminals built tables → AreRenumberedLaneTables g start tables
+Lanes-renumbered g start built tables lanes r = record {
+  built = built;
+  lanes = lanes;
+  renumbered = r;
+  free = Free-renumbered g.terminals built tables r lanes.free;
+  bare = lanes.made.bare;
+  lr0 = lanes.made.lr0;
+  counted = r.counted ∙ lanes.made.same.counted;
+}
+
+pub Either-renumbered : (g : Grammar) (start : NonterminalString) (built tables : List (State Bits)) → AreLaneTables (rules_of g) start built ⊎ AreTables (canonical_of g start) built → AreRenumbered g.terminals built tables →
+    AreRenumberedLaneTables (rules_of g) start tables ⊎ AreRenumberedTables (canonical_of g start) tables
+Either-renumbered g start built tables either r = ⊎_elim (λ lanes. inl (Lanes-renumbered (rules_of g) start built tables lanes r)) (λ made. inr (Tables-renumbered (canonical_of g start) built tables made r)) either

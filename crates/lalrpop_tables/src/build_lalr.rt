@@ -5,20 +5,22 @@ mod order;
 mod place;
 mod reductions;
 
-ghost use Rattle.std.specs.Prelude.{◌≡◌, ◌≢◌, ◌<◌, length, IfOk, IfErr, MatchResult};
+ghost use Rattle.std.specs.Prelude.{◌≡◌, ◌≢◌, ◌⊎◌, ◌<◌, length, IfOk, IfErr, MatchResult};
 ghost use Rattle.lalrpop_base.specs.Coherent.{AreCoherent};
 ghost use Rattle.lalrpop_base.specs.Collapsible.{AreCollapsible};
 ghost use Rattle.lalrpop_base.specs.Contents.{contents};
+ghost use Rattle.lalrpop_base.specs.Grammar.{IsOnNoRightSide};
 ghost use Rattle.lalrpop_base.specs.States.{AreFaithful};
-ghost use Rattle.lalrpop_base.specs.Validity.{IsLR1};
+ghost use Rattle.lalrpop_base.specs.Validity.{IsLR1, IsLALR1};
 ghost use Rattle.lalrpop_base.specs.WellFormed.{IsWellFormed, productions, rules_of};
 ghost use Rattle.lalrpop_base.specs.declared.repr.NonterminalString.{NonterminalString as Start};
 ghost use Rattle.lalrpop_base.specs.declared.repr.grammar.Grammar.{Grammar as Rules};
-ghost use Rattle.lalrpop_tables.specs.Canonical.{AreCanonicalStates, HasCanonicalStates, TellsNotLR1};
+ghost use Rattle.lalrpop_tables.specs.Canonical.{HasCanonicalStates, TellsNotLR1};
 ghost use Rattle.lalrpop_tables.specs.CanonicalConflicts.{ListsCanonicalConflicts};
 ghost use Rattle.lalrpop_tables.specs.Collapsed.{AreOrdered, AreCollapsedTables, FailsByCollapse};
 ghost use Rattle.lalrpop_tables.specs.EarlyStop.{FailsAfter};
 ghost use Rattle.lalrpop_tables.specs.Lalr.{AreBuiltCanonical, AreLalrTables, TellsNotLALR1, HasCoherentStates, HasOrderedStates, AreMergedTables, FailsAsLalr};
+ghost use Rattle.lalrpop_tables.specs.LaneStates.{AreLaneTables};
 ghost use Rattle.lalrpop_tables.specs.Results.{AreTables, FailsBy, canonical_of};
 
 use crate::build::build_lr1_states;
@@ -73,8 +75,8 @@ pub fn collapse_to_lalr_states<'grammar>(
     merge_states(alloc, states, terminals)
 }
 
-/// The LALR(1) states of a grammar, numbered by their first appearance, or its conflicts. Only canonical states
-/// are merged; where the construction of those fails, its error is the answer.
+/// The LALR(1) states of a grammar, numbered by their first appearance, or its conflicts. Only states of the canonical
+/// method are merged; where the construction fails, its error is the answer.
 #[tactic(auto, using(crate::proofs::CollapseLalr::not_lr1_tells))]
 pub fn build_lalr_states<'grammar>(
     alloc: Global,
@@ -91,10 +93,11 @@ pub fn build_lalr_states<'grammar>(
     ensures lalr { options.now.method ≡ Method.Canonical → MatchResult result (λ tables. AreLalrTables grammar.now start tables.items) (TellsNotLALR1 (productions grammar.now) start) }
     ensures merged { options.now.method ≡ Method.Canonical → MatchResult result (λ tables. AreMergedTables grammar.now start tables.items) (FailsAsLalr grammar.now start options.now.stop_after) }
 
-    // By any other: as without the collapse.
-    ensures tables { options.now.method ≢ Method.Canonical → IfOk result (λ tables. AreTables (canonical_of grammar.now start) tables.items) }
+    // By the lane way nothing is merged: as without the collapse.
+    ensures either { options.now.method ≡ Method.Lane → IfOk result (λ tables. AreLaneTables (rules_of grammar.now) start tables.items ⊎ AreTables (canonical_of grammar.now start) tables.items) }
+    ensures lane { options.now.method ≡ Method.Lane → IsOnNoRightSide (productions grammar.now) start → IsLALR1 (productions grammar.now) start → IfOk result (λ tables. AreLaneTables (rules_of grammar.now) start tables.items) }
     ensures failure { options.now.method ≢ Method.Canonical → options.now.stop_after ≡ 0 → IfErr result (FailsBy (canonical_of grammar.now start)) }
-    ensures canonical { options.now.method ≢ Method.Canonical → MatchResult result (λ tables. AreCanonicalStates (rules_of grammar.now) start tables.items) (λ error. options.now.stop_after ≡ 0 → HasCanonicalStates (rules_of grammar.now) start error) }
+    ensures error_states { options.now.method ≢ Method.Canonical → options.now.stop_after ≡ 0 → IfErr result (HasCanonicalStates (rules_of grammar.now) start) }
     ensures conflicts { options.now.method ≢ Method.Canonical → options.now.stop_after ≡ 0 → IfErr result (ListsCanonicalConflicts grammar.now start) }
     ensures stopped { options.now.method ≢ Method.Canonical → IfErr result (FailsAfter (rules_of grammar.now) start options.now.stop_after) }
     ensures lr1 { options.now.method ≢ Method.Canonical → MatchResult result (λ _. IsLR1 (productions grammar.now) start) (TellsNotLR1 (productions grammar.now) start) }

@@ -40,7 +40,8 @@ returns-in-Ok-clause-refused c = refused_by_tables (productions c.args.grammar.n
 pub returns-in-Ok-clause-run : goal.returns-in-Ok-clause-run
 returns-in-Ok-clause-run c had = record {
   tables = c.in-Ok.states.items;
-  canonical = c.in-Ok.ensures.canonical;
+  canonical = λ method uncollapsed. c.in-Ok.ensures.canonical uncollapsed method;
+  lanes = c.in-Ok.ensures.lane;
   faithful = c.in-Ok.ensures.faithful;
   told = subst (λ (states : List (State Bits)). IsOutcomeTold (HasOutcome (contents c.args.grammar.now.terminals states) c.args.tokens.items c.args.limit) c.parse_by.result) c.deref.ensures.value c.parse_by.ensures.run;
 }

@@ -1,0 +1,60 @@
+//! LR(1) states by the lane way: lane tables, where they pass the check.
+ghost use Rattle.std.specs.Prelude.{◌≡◌, ◌<◌, length, true, IfOk, IfSome, is_some};
+ghost use Rattle.lalrpop_base.specs.Coherent.{AreCoherent};
+ghost use Rattle.lalrpop_base.specs.Contents.{contents};
+ghost use Rattle.lalrpop_base.specs.Grammar.{IsOnNoRightSide};
+ghost use Rattle.lalrpop_base.specs.States.{AreFaithful};
+ghost use Rattle.lalrpop_base.specs.Validity.{IsLALR1};
+ghost use Rattle.lalrpop_base.specs.WellFormed.{IsWellFormed, productions, rules_of};
+ghost use Rattle.lalrpop_tables.specs.Check.{PassCheck};
+ghost use Rattle.lalrpop_tables.specs.LaneStates.{AreLaneTables, AreLr0Tables};
+
+use crate::check::check_tables;
+use crate::lane_table::build_lane_table_states;
+use lalrpop_base::lr1_core::state::{BuildError, Lr1State};
+use lalrpop_base::memory::OutOfMemory;
+use lalrpop_base::repr::NonterminalString;
+use lalrpop_base::repr::grammar::Grammar;
+use std::alloc::Global;
+
+/// The lane tables of a grammar, where there are such and they pass the check. Those of an LALR(1) grammar whose
+/// start symbol stands on no right side do.
+pub fn lane_tables<'grammar>(
+    alloc: Global,
+    grammar: &'grammar Grammar,
+    start: &NonterminalString,
+    max_copies: usize,
+) -> Result<Option<Vec<Lr1State<'grammar>>>, OutOfMemory>
+    requires { IsWellFormed grammar.now }
+    ensures lanes { IfOk result (λ answer. IfSome answer (λ tables. AreLaneTables (rules_of grammar.now) start.now tables.items)) }
+    ensures shape { IfOk result (λ answer. IfSome answer (λ tables. AreLr0Tables (rules_of grammar.now) start.now tables.items)) }
+    ensures faithful { IfOk result (λ answer. IfSome answer (λ tables. AreFaithful (productions grammar.now) start.now (contents grammar.now.terminals tables.items))) }
+    ensures lalr { IsOnNoRightSide (productions grammar.now) start.now → IsLALR1 (productions grammar.now) start.now → IfOk result (λ answer. is_some answer ≡ true) }
+{
+    let first = start.clone(alloc)?;
+    match build_lane_table_states(alloc, grammar, first, max_copies) {
+        Ok(tables) => where_checked(alloc, grammar, start.clone(alloc)?, tables),
+        Err(BuildError::Conflicts(_)) => Ok(None),
+        Err(BuildError::Memory) => Err(OutOfMemory),
+    }
+}
+
+// The tables, where they pass the check.
+fn where_checked<'grammar>(
+    alloc: Global,
+    grammar: &'grammar Grammar,
+    start: NonterminalString,
+    tables: Vec<Lr1State<'grammar>>,
+) -> Result<Option<Vec<Lr1State<'grammar>>>, OutOfMemory>
+    requires well_formed { IsWellFormed grammar.now }
+    requires coherent { AreCoherent tables.items }
+    requires some { 0 < length tables.items }
+    ensures kept { IfOk result (λ answer. IfSome answer (λ kept. kept.items ≡ tables.entry.items)) }
+    ensures faithful { IfOk result (λ answer. IfSome answer (λ kept. AreFaithful (productions grammar.now) start (contents grammar.now.terminals kept.items))) }
+    ensures passing { PassCheck grammar.now start tables.entry.items → IfOk result (λ answer. is_some answer ≡ true) }
+{
+    if !check_tables(alloc, grammar, start, &tables)? {
+        return Ok(None);
+    }
+    Ok(Some(tables))
+}
