@@ -15,6 +15,7 @@ use Rattle.lalrpop_base.specs.declared.repr.Production.{Production}
 use Rattle.lalrpop_base.specs.declared.repr.TerminalString.{TerminalString}
 use Rattle.lalrpop_base.specs.declared.repr.TerminalString.TheVariants.{Literal}
 use Rattle.lalrpop_base.specs.declared.repr.grammar.Grammar.{Grammar}
+use Rattle.lalrpop_tables.specs.declared.build.options.Method.{Method}
 use Rattle.lalrpop_lr1.specs.Answers.{IsAnswer}
 use Rattle.lalrpop_lr1.specs.FaithfulAnswers.{ForEachGrammar, IsTreeWithin, IsCutOff, AnswersTrees, IfRefused, IfLimit}
 use Rattle.lalrpop_lr1.specs.ParseTrees.{tree_of}
@@ -69,10 +70,10 @@ module _ (table : ℕ → Contents) (states : List (State Bits)) (w : List Termi
   run_shown named same answer (Err e) h shown = tt
 
 -- what is shown of a run by the tables of a grammar is shown of a parse
-pub parse_shown : {A : Type 0} (g : Grammar) (start : NonterminalString) (limit : ℕ) (words : List (List ℕ)) (tables states : List (State Bits)) → states ≡ tables → AreTablesOf g start tables → (r : Result (ℕ × String A) OutOfMemory) →
+pub parse_shown : {A : Type 0} (method : Method) (g : Grammar) (start : NonterminalString) (limit : ℕ) (words : List (List ℕ)) (tables states : List (State Bits)) → states ≡ tables → AreTablesOf method g start tables → (r : Result (ℕ × String A) OutOfMemory) →
     (AreFaithful (productions g) start (contents g.terminals states) → IfOk r (λ o. IsRunShown (productions g) start (contents g.terminals states) (map Literal words) limit o.0 (string_bytes o.1))) →
-    IfOk r (λ o. IsTaskShown g start (Parse limit words) o.0 (string_bytes o.1))
-parse_shown g start limit words tables states same made (Ok o) run =
-    let here : AreTablesOf g start states = subst (AreTablesOf g start) (sym same) made in
+    IfOk r (λ o. IsTaskShown method g start (Parse limit words) o.0 (string_bytes o.1))
+parse_shown method g start limit words tables states same made (Ok o) run =
+    let here : AreTablesOf method g start states = subst (AreTablesOf method g start) (sym same) made in
     inl (record { states = states; tables = here; run = run here.faithful })
-parse_shown g start limit words tables states same made (Err e) run = tt
+parse_shown method g start limit words tables states same made (Err e) run = tt

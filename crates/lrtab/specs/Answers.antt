@@ -12,6 +12,7 @@ use Rattle.lrtab.specs.Faults.{IsFaultOf}
 use Rattle.lrtab.specs.Grammar.{StandsFor}
 use Rattle.lalrpop_base.specs.declared.repr.NonterminalString.{NonterminalString}
 use Rattle.lalrpop_base.specs.declared.repr.grammar.Grammar.{Grammar}
+use Rattle.lalrpop_tables.specs.declared.build.options.Method.{Method}
 use Rattle.lalrpop_lr1.specs.InlineOrder.{IsOnRing}
 use Rattle.lalrpop_lr1.specs.Inlined.{HasTooMany}
 use Rattle.lrtab.specs.Words.{Asked}
@@ -28,13 +29,13 @@ abbrev pub file_name : List (List ℕ) → List ℕ
 file_name [] = []
 file_name (name ∷ words) = name
 
--- a text for standard output: the text of the file is UTF-8 and has no faulty line, and of the grammar that it stands for this is shown
-pub record IsOutputOf (request : Asked) (status : ℕ) (text bytes : List ℕ) : Type 0 where
+-- a text for standard output: the text of the file is UTF-8 and has no faulty line, and of the grammar that it stands for this is shown by the method
+pub record IsOutputOf (method : Method) (request : Asked) (status : ℕ) (text bytes : List ℕ) : Type 0 where
   pub utf8 : IsUtf8 bytes
   pub right : position is_fault (lines_of bytes) ≡ None
   pub grammar : Grammar
   pub stands : StandsFor (lines_of bytes) grammar
-  pub shown : IsShownInlined grammar request status text
+  pub shown : IsShownInlined method grammar request status text
 
 -- the grammar that a text stands for has marked nonterminals that mention each other in a ring, of which a is one
 pub record IsCyclic (bytes : List ℕ) (a : NonterminalString) : Type 0 where
@@ -57,25 +58,25 @@ IsFaultText name file text =
     ⊎ ((a : NonterminalString) × OfFile (λ bytes. IsCyclic bytes a) file × (text ≡ line (codes "cyclic inline of " ++ a.text)))
 
 -- what the program tells of a request
-abbrev pub IsAnswerTo : Asked → List ℕ → Option (Option (List ℕ)) → Answer → Type 0
-IsAnswerTo request name file (Output status text) = OfFile (IsOutputOf request status (string_bytes text)) file
-IsAnswerTo request name file (Fault text) = IsFaultText name file (string_bytes text)
-IsAnswerTo request name file Usage = ⊥
-IsAnswerTo request name file TooManyActions = OfFile IsTooMany file
-IsAnswerTo request name file Memory = Unit {0}
+abbrev pub IsAnswerTo : Method → Asked → List ℕ → Option (Option (List ℕ)) → Answer → Type 0
+IsAnswerTo method request name file (Output status text) = OfFile (IsOutputOf method request status (string_bytes text)) file
+IsAnswerTo method request name file (Fault text) = IsFaultText name file (string_bytes text)
+IsAnswerTo method request name file Usage = ⊥
+IsAnswerTo method request name file TooManyActions = OfFile IsTooMany file
+IsAnswerTo method request name file Memory = Unit {0}
 
 -- what the program tells of a request and a grammar
-abbrev pub IsAnswerToGrammar : Asked → Grammar → Answer → Type 0
-IsAnswerToGrammar request g (Output status text) = IsShownInlined g request status (string_bytes text)
-IsAnswerToGrammar request g (Fault text) = (a : NonterminalString) × IsOnRing g a × (string_bytes text ≡ line (codes "cyclic inline of " ++ a.text))
-IsAnswerToGrammar request g Usage = ⊥
-IsAnswerToGrammar request g TooManyActions = HasTooMany g
-IsAnswerToGrammar request g Memory = Unit {0}
+abbrev pub IsAnswerToGrammar : Method → Asked → Grammar → Answer → Type 0
+IsAnswerToGrammar method request g (Output status text) = IsShownInlined method g request status (string_bytes text)
+IsAnswerToGrammar method request g (Fault text) = (a : NonterminalString) × IsOnRing g a × (string_bytes text ≡ line (codes "cyclic inline of " ++ a.text))
+IsAnswerToGrammar method request g Usage = ⊥
+IsAnswerToGrammar method request g TooManyActions = HasTooMany g
+IsAnswerToGrammar method request g Memory = Unit {0}
 
 -- what the program tells on words: the usage text where they are no request, and nothing else then
-abbrev pub IsAnswer : Option Asked → List ℕ → Option (Option (List ℕ)) → Answer → Type 0
-IsAnswer None name file answer = answer ≡ Usage
-IsAnswer (Some request) name file answer = IsAnswerTo request name file answer
+abbrev pub IsAnswer : Method → Option Asked → List ℕ → Option (Option (List ℕ)) → Answer → Type 0
+IsAnswer method None name file answer = answer ≡ Usage
+IsAnswer method (Some request) name file answer = IsAnswerTo method request name file answer
 
 -- a text on standard error, or a beginning of it where that fails, and nothing on standard output
 pub record IsComplaint (text : List ℕ) (out_old out_new err_old err_new : Option (List ℕ)) : Type 0 where

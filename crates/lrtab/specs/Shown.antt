@@ -8,7 +8,7 @@ use Rattle.lalrpop_base.specs.Names.{token_text}
 use Rattle.lalrpop_base.specs.Runs.{Outcome, Parsed, Refused, Limit, HasOutcome, IsFirstWrong}
 use Rattle.lalrpop_base.specs.States.{Contents, AreFaithful}
 use Rattle.lalrpop_base.specs.Trees.{Tree, beside, no_trees, leaves, nodes, IsParseTree}
-use Rattle.lalrpop_base.specs.Validity.{IsLR1}
+use Rattle.lalrpop_base.specs.Validity.{IsLR1, IsLALR1}
 use Rattle.lalrpop_base.specs.WellFormed.{IsWellFormed, productions, rules_of}
 use Rattle.lalrpop_base.specs.declared.lr1_core.state.Conflict.{Conflict}
 use Rattle.lalrpop_base.specs.declared.lr1_core.state.State.{State}
@@ -19,8 +19,10 @@ use Rattle.lalrpop_base.specs.declared.repr.TerminalString.TheVariants.{Literal}
 use Rattle.lalrpop_base.specs.declared.repr.grammar.Grammar.{Grammar}
 use Rattle.lalrpop_tables.specs.Canonical.{AreCanonicalStates}
 use Rattle.lalrpop_tables.specs.CanonicalConflicts.{FailByCanonicalConflicts}
-use Rattle.lalrpop_tables.specs.RenumberedTables.{AreRenumberedTables}
+use Rattle.lalrpop_tables.specs.RenumberedTables.{AreRenumberedTables, AreRenumberedLaneTables}
 use Rattle.lalrpop_tables.specs.Results.{AreStatesOf, AreAllConflicts, canonical_of}
+use Rattle.lalrpop_tables.specs.declared.build.options.Method.{Method}
+use Rattle.lalrpop_tables.specs.declared.build.options.Method.TheVariants.{Lane, Canonical}
 use Rattle.lalrpop_lr1.specs.FaithfulAnswers.{IsCutOff}
 use Rattle.lalrpop_lr1.specs.InlineOrder.{IsMarked, Mentions}
 use Rattle.lalrpop_lr1.specs.Inlined.{IsInlined}
@@ -44,12 +46,14 @@ pub record IsInlining (g h : Grammar) : Type 0 where
   pub terminal_lists : (a : NonterminalString) (w : List TerminalString) → IsSentence (productions g) a w ↔ IsSentence (productions h) a w
 
 -- ---- tables and conflicts
--- the tables of a grammar for a start symbol, for which no prefix and token have two valid actions: its canonical states, under the numbers that tables have, and so faithful
-pub record AreTablesOf (g : Grammar) (start : NonterminalString) (states : List (State Bits)) : Type 0 where
+-- the tables of a grammar for a start symbol, for which no prefix and token have two valid actions: faithful ones, under the numbers that tables have. By the canonical method they are the canonical states; by the lane way lane tables or those, and the former, as many as the LR(0) states, where the grammar is LALR(1) and the start symbol on no right side
+pub record AreTablesOf (method : Method) (g : Grammar) (start : NonterminalString) (states : List (State Bits)) : Type 0 where
   pub lr1 : IsLR1 (productions g) start
   pub faithful : AreFaithful (productions g) start (contents g.terminals states)
-  pub canonical : AreCanonicalStates (rules_of g) start states
-  pub numbered : AreRenumberedTables (canonical_of g start) states
+  pub canonical : method ≡ Canonical → AreCanonicalStates (rules_of g) start states
+  pub numbered : method ≡ Canonical → AreRenumberedTables (canonical_of g start) states
+  pub either : method ≡ Lane → AreRenumberedLaneTables (rules_of g) start states ⊎ AreRenumberedTables (canonical_of g start) states
+  pub lanes : method ≡ Lane → IsOnNoRightSide (productions g) start → IsLALR1 (productions g) start → AreRenumberedLaneTables (rules_of g) start states
 
 -- a grammar and start symbol for which some prefix and token have two valid actions: its canonical states, under the numbers of their construction, and its canonical conflicts, of which there are some
 pub record AreConflictsOf (g : Grammar) (start : NonterminalString) (states : List (State Bits)) (conflicts : List (Conflict Bits)) : Type 0 where
@@ -100,10 +104,10 @@ pub record IsRunShown (g : List Production) (start : NonterminalString) (states 
   pub of_grammar : IsOnNoRightSide g start → SaysOfGrammar g start tokens outcome
   pub of_trees : IsOnNoRightSide g start → (t : Tree) → IsParseTree g start tokens t → IsOutcomeFor t limit outcome
 
--- the tables of a grammar for a start symbol, and what is shown of a run by them
-pub record IsParseShown (g : Grammar) (start : NonterminalString) (tokens : List TerminalString) (limit status : ℕ) (text : List ℕ) : Type 0 where
+-- the tables that the method gives a grammar for a start symbol, and what is shown of a run by them
+pub record IsParseShown (method : Method) (g : Grammar) (start : NonterminalString) (tokens : List TerminalString) (limit status : ℕ) (text : List ℕ) : Type 0 where
   pub states : List (State Bits)
-  pub tables : AreTablesOf g start states
+  pub tables : AreTablesOf method g start states
   pub run : IsRunShown (productions g) start (contents g.terminals states) tokens limit status text
 
 -- or, for want of tables, how many canonical conflicts there are, with status 1
@@ -116,9 +120,9 @@ pub record IsCountShown (g : Grammar) (start : NonterminalString) (status : ℕ)
 
 -- ---- a report
 -- the report of the tables, with status 0
-pub record IsTablesShown (g : Grammar) (start : NonterminalString) (status : ℕ) (text : List ℕ) : Type 0 where
+pub record IsTablesShown (method : Method) (g : Grammar) (start : NonterminalString) (status : ℕ) (text : List ℕ) : Type 0 where
   pub states : List (State Bits)
-  pub tables : AreTablesOf g start states
+  pub tables : AreTablesOf method g start states
   pub ended : status ≡ 0
   pub shown : text ≡ tables_report (λ (set : Bits). set) g.terminals states
 
@@ -131,17 +135,17 @@ pub record AreConflictsShown (g : Grammar) (start : NonterminalString) (status :
   pub shown : text ≡ failure_report (λ (set : Bits). set) g.terminals states conflicts
 
 -- ---- what is asked
--- the status and text that a task shows of a grammar and start symbol. The tokens are literals
-abbrev pub IsTaskShown : Grammar → NonterminalString → Task → ℕ → List ℕ → Type 0
-IsTaskShown g start (Parse limit tokens) status text = IsParseShown g start (map Literal tokens) limit status text ⊎ IsCountShown g start status text
-IsTaskShown g start Report status text = IsTablesShown g start status text ⊎ AreConflictsShown g start status text
+-- the status and text that a task shows, by the method, of a grammar and start symbol. The tokens are literals
+abbrev pub IsTaskShown : Method → Grammar → NonterminalString → Task → ℕ → List ℕ → Type 0
+IsTaskShown method g start (Parse limit tokens) status text = IsParseShown method g start (map Literal tokens) limit status text ⊎ IsCountShown g start status text
+IsTaskShown method g start Report status text = IsTablesShown method g start status text ⊎ AreConflictsShown g start status text
 
 -- the status and text that a request shows of a grammar
-abbrev pub IsShown : Grammar → Asked → ℕ → List ℕ → Type 0
-IsShown g request = IsTaskShown g (name_of request.start) request.task
+abbrev pub IsShown : Method → Grammar → Asked → ℕ → List ℕ → Type 0
+IsShown method g request = IsTaskShown method g (name_of request.start) request.task
 
 -- and of a grammar whose marked nonterminals are still to be inlined
-pub record IsShownInlined (g : Grammar) (request : Asked) (status : ℕ) (text : List ℕ) : Type 0 where
+pub record IsShownInlined (method : Method) (g : Grammar) (request : Asked) (status : ℕ) (text : List ℕ) : Type 0 where
   pub inlined : Grammar
   pub inlining : IsInlining g inlined
-  pub shown : IsShown inlined request status text
+  pub shown : IsShown method inlined request status text

@@ -1,7 +1,9 @@
--- What the words of the command line ask for. A word is a list of bytes.
+-- What the words of the command line and of the environment ask for. A word is a list of bytes.
 use Rattle.std.specs.Prelude.{ℕ, ◌^◌, nat_lt, ◌&&◌, List, [], ◌∷◌, length, map, Option, None, Some, option_map, codes, if◌then◌else◌, string_bytes}
 use Rattle.std.specs.Str.{bytes_eq, all_ascii_digits}
 use Rattle.std.specs.Str.Parse.{digits_value}
+use Rattle.lalrpop_tables.specs.declared.build.options.Method.{Method}
+use Rattle.lalrpop_tables.specs.declared.build.options.Method.TheVariants.{Lane, Canonical}
 use Rattle.lrtab.specs.declared.words.Request.{Request}
 use Rattle.lrtab.specs.declared.words.Task.{Task as TaskWords}
 use Rattle.lrtab.specs.declared.words.Task.TheVariants.{Parse as ParseWords, Report as ReportWords}
@@ -10,6 +12,10 @@ use Rattle.lrtab.specs.Symbols.{is_name}
 -- the number that a word writes in decimal digits alone, where there are some and it is below 2 ^ 64
 abbrev pub limit_of : List ℕ → Option ℕ
 limit_of word = if all_ascii_digits word && (nat_lt 0 (length word) && nat_lt (digits_value 10 word) (2 ^ 64)) then Some (digits_value 10 word) else None
+
+-- the method that the environment's word asks for: the canonical one where it is "disabled", else the lane way
+abbrev pub method_of : List ℕ → Method
+method_of word = if bytes_eq word (codes "disabled") then Canonical else Lane
 
 -- what is asked of the tables: a parse of tokens within a limit, or their report
 pub data Task : Type 0 where

@@ -51,7 +51,7 @@ pub fn answer_of<R: Read + Drop>(
     method: Method,
     file: Option<R>,
 ) -> Answer
-    ensures { IsAnswer (request_of (map string_bytes words.now)) (file_name (map string_bytes words.now)) (option_map R.remaining file) result }
+    ensures { IsAnswer method (request_of (map string_bytes words.now)) (file_name (map string_bytes words.now)) (option_map R.remaining file) result }
 {
     let Some(request) = request_of(words) else {
         return Answer::Usage;
@@ -80,7 +80,7 @@ fn answer_to<R: Read + Drop>(
     method: Method,
     file: Option<R>,
 ) -> Result<Answer, OutOfMemory>
-    ensures { IfOk result (IsAnswerTo (request_view request.now) name.now (option_map R.remaining file)) }
+    ensures { IfOk result (IsAnswerTo method (request_view request.now) name.now (option_map R.remaining file)) }
 {
     let Some(reader) = file else {
         return Ok(Answer::Fault(cannot_read(alloc, name)?));
@@ -129,7 +129,7 @@ fn answer_to_text(
     method: Method,
     text: &str,
 ) -> Result<Answer, OutOfMemory>
-    ensures { (name : List ℕ) → IfOk result (IsAnswerTo (request_view request.now) name (Some (Some text.now))) }
+    ensures { (name : List ℕ) → IfOk result (IsAnswerTo method (request_view request.now) name (Some (Some text.now))) }
 {
     match read(alloc, text) {
         Ok(grammar) => answer_to_grammar(alloc, request, method, grammar),
@@ -148,7 +148,7 @@ fn answer_to_grammar(
 ) -> Result<Answer, OutOfMemory>
     requires well_formed { IsWellFormed grammar }
     requires canonical { grammar.algorithm.lalr ≡ false }
-    ensures { IfOk result (IsAnswerToGrammar (request_view request.now) grammar) }
+    ensures { IfOk result (IsAnswerToGrammar method (request_view request.now) grammar) }
 {
     match inline(alloc, grammar) {
         Ok(inlined) => {
@@ -177,7 +177,7 @@ fn shown(
 ) -> Result<(u8, String), OutOfMemory>
     requires well_formed { IsWellFormed grammar.now }
     requires canonical { grammar.now.algorithm.lalr ≡ false }
-    ensures { IfOk result (λ o. IsShown grammar.now (request_view request.now) o.0 (string_bytes o.1)) }
+    ensures { IfOk result (λ o. IsShown method grammar.now (request_view request.now) o.0 (string_bytes o.1)) }
 {
     let start = name_of(alloc, request.start)?;
     let options = Options {
@@ -202,7 +202,7 @@ fn parse(
     requires well_formed { IsWellFormed grammar.now }
     requires canonical { grammar.now.algorithm.lalr ≡ false }
     requires whole { options.now.stop_after ≡ 0 }
-    ensures { IfOk result (λ o. IsTaskShown grammar.now start (Parse limit (map string_bytes words.now)) o.0 (string_bytes o.1)) }
+    ensures { IfOk result (λ o. IsTaskShown options.now.method grammar.now start (Parse limit (map string_bytes words.now)) o.0 (string_bytes o.1)) }
 {
     match build_states(alloc, grammar, start, options) {
         Ok(states) => parse_by(alloc, limit, words, &states, &grammar.terminals),
@@ -224,7 +224,7 @@ fn report(
     requires well_formed { IsWellFormed grammar.now }
     requires canonical { grammar.now.algorithm.lalr ≡ false }
     requires whole { options.now.stop_after ≡ 0 }
-    ensures { IfOk result (λ o. IsTaskShown grammar.now start Report o.0 (string_bytes o.1)) }
+    ensures { IfOk result (λ o. IsTaskShown options.now.method grammar.now start Report o.0 (string_bytes o.1)) }
 {
     let outcome = build_states(alloc, grammar, start, options);
     let status = status_of(&outcome);

@@ -17,6 +17,7 @@ mod words;
 
 use lalrpop_base::memory::OutOfMemory;
 use lalrpop_tables::build::Method;
+use std::env::VarError;
 use std::fs::File;
 use std::io::ErrorKind;
 use std::process::ExitCode;
@@ -24,8 +25,10 @@ use std::{env, fs};
 
 fn main(rt: HostRuntime) -> ExitCode {
     let Ok(words) = given_words(&rt) else {
-        let _ = eprintln!(rt; "out of memory");
-        return ExitCode::from(3);
+        return out_of_memory(&rt);
+    };
+    let Ok(method) = given_method(&rt) else {
+        return out_of_memory(&rt);
     };
     let file: Option<File> = match words.first() {
         Some(name) => fs::open(&rt, name.as_str()).ok(),
@@ -34,11 +37,26 @@ fn main(rt: HostRuntime) -> ExitCode {
     ExitCode::from(run::run(
         rt.alloc(),
         &words,
-        Method::Lane,
+        method,
         file,
         &mut rt.stdout(),
         &mut rt.stderr(),
     ))
+}
+
+/// Tells that memory was refused.
+fn out_of_memory(rt: &HostRuntime) -> ExitCode {
+    let _ = eprintln!(rt; "out of memory");
+    ExitCode::from(3)
+}
+
+/// The method that the environment asks for. Where there is no word, or one that is not UTF-8, it is the lane way.
+fn given_method(rt: &HostRuntime) -> Result<Method, OutOfMemory> {
+    match env::var(rt, "LALRPOP_LANE_TABLE") {
+        Ok(word) => Ok(words::method_of(word.as_str())),
+        Err(VarError::OutOfMemory) => Err(OutOfMemory),
+        Err(_) => Ok(Method::Lane),
+    }
 }
 
 /// The words after the program's name. Where one is not UTF-8 they are no request, as no words are.

@@ -24,7 +24,7 @@ pub fn run<R: Read, O: Write, E: Write>(
 where
     R: Drop,
     ensures { (answer : Answer)
-        × IsAnswer (request_of (map string_bytes words.now)) (file_name (map string_bytes words.now)) (option_map R.remaining file) answer
+        × IsAnswer method (request_of (map string_bytes words.now)) (file_name (map string_bytes words.now)) (option_map R.remaining file) answer
         × IsTold answer result (O.contents out.old) (O.contents out.new) (E.contents err.old) (E.contents err.new) }
 {
     let answer = answer_of(alloc, words, method, file);

@@ -1,9 +1,10 @@
 //! The words of the command line.
 ghost use Rattle.std.specs.Prelude.{◌≡◌, option_map, map, string_bytes};
 ghost use Rattle.std.specs.Str.{all_ascii_digits};
-ghost use Rattle.lrtab.specs.Words.{limit_of, task_of, task_view, request_of, request_view};
+ghost use Rattle.lrtab.specs.Words.{limit_of, method_of, task_of, task_view, request_of, request_view};
 
 use crate::symbols::is_a_name;
+use lalrpop_tables::build::Method;
 
 /// What is asked of the tables.
 #[derive(Clone, Copy)]
@@ -18,6 +19,16 @@ pub enum Task<'a> {
 pub struct Request<'a> {
     pub start: &'a str,
     pub task: Task<'a>,
+}
+
+/// The method that the environment's word asks for: the canonical one where it is "disabled", else the lane way.
+pub fn method_of(word: &str) -> Method
+    ensures { result ≡ method_of word.now }
+{
+    if word == "disabled" {
+        return Method::Canonical;
+    }
+    Method::Lane
 }
 
 /// What words ask for, where they have its form.

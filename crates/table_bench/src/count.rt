@@ -9,7 +9,7 @@ use lalrpop_base::lr1_core::state::BuildError;
 use lalrpop_base::memory::OutOfMemory;
 use lalrpop_base::repr::NonterminalString;
 use lalrpop_base::repr::grammar::Grammar;
-use lalrpop_tables::build::{Options, build_lr0_states, build_lr1_states};
+use lalrpop_tables::build::{Method, Options, build_lr0_states, build_lr1_states};
 use std::alloc::Global;
 
 pub fn lr0_states(
@@ -35,7 +35,11 @@ pub fn lr1_states(
     requires { IsWellFormed grammar.now }
     ensures { IfOk result (IsCountOf (AreCanonicalStates (rules_of grammar.now) start)) }
 {
-    match build_lr1_states(alloc, grammar, start, &Options::default()) {
+    let options = Options {
+        method: Method::Canonical,
+        ..Options::default()
+    };
+    match build_lr1_states(alloc, grammar, start, &options) {
         Ok(states) => Ok(states.len()),
         Err(BuildError::Conflicts(error)) => Ok(error.states.len()),
         Err(BuildError::Memory) => Err(OutOfMemory),

@@ -14,5 +14,5 @@ pub returns-in-Ok : goal.returns-in-Ok
 returns-in-Ok c =
     let e = c.in-Ok.ensures in
     let n = not_collapsed c.args.grammar.now c.args.options.now c.requires.canonical in
-    let tables : AreTablesOf c.args.grammar.now c.args.start c.in-Ok.states.items = record { lr1 = e.lr1 n; faithful = e.faithful; canonical = e.canonical n; numbered = e.tables n } in
-    parse_shown c.args.grammar.now c.args.start c.args.limit _ c.in-Ok.states.items c.deref.result.now c.deref.ensures.value tables c.parse_by.result (c.parse_by.ensures (productions c.args.grammar.now) c.args.start)
+    let tables : AreTablesOf c.args.options.now.method c.args.grammar.now c.args.start c.in-Ok.states.items = record { lr1 = e.lr1 n; faithful = e.faithful; canonical = e.canonical n; numbered = e.tables n; either = e.either; lanes = e.lane } in
+    parse_shown c.args.options.now.method c.args.grammar.now c.args.start c.args.limit _ c.in-Ok.states.items c.deref.result.now c.deref.ensures.value tables c.parse_by.result (c.parse_by.ensures (productions c.args.grammar.now) c.args.start)

@@ -7,5 +7,5 @@ pub returns-in-Ok : goal.returns-in-Ok
 returns-in-Ok c =
     let e = c.build_states-outcome.ensures in
     let n = not_collapsed c.args.grammar.now c.args.options.now c.requires.canonical in
-    let is_built = built c.args.grammar.now c.args.start c.args.options.now.stop_after c.requires.whole c.build_states-outcome.result (e.tables n) (e.failure n) (e.canonical n) (e.conflicts n) (e.lr1 n) e.faithful in
-    report_shown c.args.grammar.now c.args.start c.build_states-outcome.result c.status_of-status.result (string_bytes c.in-Ok.text) is_built c.in-Ok.ensures.text c.status_of-status.ensures
+    let is_built = built c.args.options.now c.args.grammar.now c.args.start c.requires.whole c.build_states-outcome.result (e.tables n) (e.canonical n) e.either e.lane (e.failure n) (e.error_states n) (e.conflicts n) (e.lr1 n) e.faithful in
+    report_shown c.args.options.now c.args.grammar.now c.args.start c.build_states-outcome.result c.status_of-status.result (string_bytes c.in-Ok.text) is_built c.in-Ok.ensures.text c.status_of-status.ensures
