@@ -1,4 +1,5 @@
-// Canonical states and their conflicts, under either method.
+// States and their conflicts, under either method.
+use crate::lane_states::FOUR_ENDS;
 use crate::plain::grammars::PlainGrammar;
 use lalrpop_base::lookahead::token::Token;
 use lalrpop_base::lr1_core::coherent::are_coherent;
@@ -13,67 +14,86 @@ use lalrpop_tables::lr1::build_states;
 use std::alloc::Global;
 use std::test::Fail;
 
-// A grammar, its start symbol, the number of its states, and the states of its conflicts.
+// A grammar, its start symbol, the number of its states by the lane way and by the canonical one, and the states of its
+// conflicts.
 struct Row {
     lines: &'static str,
     start: &'static str,
-    states: usize,
+    by_lanes: usize,
+    canonical: usize,
     conflicts: &'static [usize],
 }
 
-const ROWS: [Row; 9] = [
+const ROWS: [Row; 10] = [
     Row {
         lines: "S = \"x\"",
         start: "S",
-        states: 2,
+        by_lanes: 2,
+        canonical: 2,
         conflicts: &[],
     },
     Row {
         lines: "S =",
         start: "S",
-        states: 1,
+        by_lanes: 1,
+        canonical: 1,
         conflicts: &[],
     },
     Row {
         lines: "",
         start: "S",
-        states: 1,
+        by_lanes: 1,
+        canonical: 1,
         conflicts: &[],
     },
     Row {
         lines: "S = E\nE = E \"-\" T\nE = T\nT = \"N\"\nT = \"(\" E \")\"",
         start: "S",
-        states: 16,
+        by_lanes: 9,
+        canonical: 16,
         conflicts: &[],
     },
     Row {
         lines: "Ty = \"int\"\nTy = \"bool\"\nTy = Ty \"->\" Ty",
         start: "Ty",
-        states: 6,
+        by_lanes: 6,
+        canonical: 6,
         conflicts: &[5],
     },
     Row {
         lines: "S = \"a\" A \"d\"\nS = \"b\" B \"d\"\nS = \"a\" B \"e\"\nS = \"b\" A \"e\"\nA = \"c\"\nB = \"c\"",
         start: "S",
-        states: 13,
+        by_lanes: 13,
+        canonical: 13,
         conflicts: &[],
     },
     Row {
         lines: "S = A U\nA = \"a\"\nU = U \"z\"",
         start: "S",
-        states: 5,
+        by_lanes: 5,
+        canonical: 5,
         conflicts: &[],
     },
     Row {
         lines: "S = E \"x\"\nE = B E \"y\"\nE = \"z\"\nB =",
         start: "S",
-        states: 11,
+        by_lanes: 11,
+        canonical: 11,
         conflicts: &[0, 1, 4],
     },
     Row {
         lines: "S = \"a\" S \"c\"\nS = \"b\"",
         start: "S",
-        states: 9,
+        by_lanes: 5,
+        canonical: 9,
+        conflicts: &[],
+    },
+    // Two of its ends are alike, so there are no lane tables yet: these are canonical.
+    Row {
+        lines: FOUR_ENDS,
+        start: "S",
+        by_lanes: 19,
+        canonical: 19,
         conflicts: &[],
     },
 ];
@@ -101,13 +121,11 @@ fn in_states(conflicts: &[Lr1Conflict], states: &[usize]) -> bool {
 }
 
 // Whether the result is that of the row: so many states, coherent, and conflicts in the states that it names.
-fn is_owed(outcome: Lr1Result, row: &Row) -> bool {
+fn is_owed(outcome: Lr1Result, row: &Row, count: usize) -> bool {
     match outcome {
-        Ok(states) => {
-            row.conflicts.is_empty() && states.len() == row.states && are_coherent(&states)
-        }
+        Ok(states) => row.conflicts.is_empty() && states.len() == count && are_coherent(&states),
         Err(BuildError::Conflicts(error)) => {
-            error.states.len() == row.states
+            error.states.len() == count
                 && are_coherent(&error.states)
                 && in_states(&error.conflicts, row.conflicts)
         }
@@ -116,26 +134,41 @@ fn is_owed(outcome: Lr1Result, row: &Row) -> bool {
 }
 
 // Whether the grammar is well-formed, and its result is that of the row.
-fn answers(alloc: Global, grammar: &Grammar, row: &Row, options: &Options) -> Result<bool, Fail> {
+fn answers(
+    alloc: Global,
+    grammar: &Grammar,
+    row: &Row,
+    options: &Options,
+    count: usize,
+) -> Result<bool, Fail> {
     if !is_well_formed(grammar) {
         return Ok(false);
     }
     let start = name(alloc, row.start)?;
-    Ok(is_owed(build_states(alloc, grammar, start, options), row))
+    Ok(is_owed(build_states(alloc, grammar, start, options), row, count))
 }
 
+// No row needs copies.
 #[test]
 fn build_states_of_rows(rt: HostRuntime) -> Result<(), Fail> {
     let alloc = rt.alloc();
     for row in ROWS.iter() {
         let grammar = grammar(alloc, row.lines)?;
-        for method in [Method::Lane, Method::Canonical] {
+        for (method, count, max_copies) in [
+            (Method::Lane, row.by_lanes, 10000),
+            (Method::Lane, row.by_lanes, 0),
+            (Method::Canonical, row.canonical, 10000),
+        ] {
             let options = Options {
                 method,
                 stop_after: 0,
-                max_copies: 10000,
+                max_copies,
             };
-            assert!(rt; answers(alloc, &grammar, row, &options)?, "{}", row.lines);
+            assert!(rt;
+                answers(alloc, &grammar, row, &options, count)?,
+                "{}",
+                row.lines
+            );
         }
     }
     Ok(())

@@ -12,7 +12,7 @@ use lalrpop_base::repr::terminals::TerminalSet;
 use lalrpop_base::repr::{NonterminalString, TerminalString};
 use lalrpop_base::text::Text;
 use lalrpop_tables::build::build_lr1_states;
-use lalrpop_tables::build::options::Options;
+use lalrpop_tables::build::options::{Method, Options};
 use lalrpop_tables::check::check_tables;
 use std::alloc::Global;
 use std::collections::BTreeMap;
@@ -231,7 +231,10 @@ fn changed<'grammar>(
     if !is_well_formed(grammar) {
         panic!(rt; "not well-formed");
     }
-    let options = Options::default();
+    let options = Options {
+        method: Method::Canonical,
+        ..Options::default()
+    };
     let mut states = match build_lr1_states(alloc, grammar, name(alloc, start)?, &options) {
         Ok(states) => states,
         Err(BuildError::Conflicts(error)) => error.states,

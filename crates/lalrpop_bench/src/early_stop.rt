@@ -71,6 +71,28 @@ const ROWS: [Stop; 7] = [
     },
 ];
 
+// By the lane way tables are lane tables, and what is told of conflicts is the same.
+const LANE_ROWS: [Stop; 3] = [
+    Stop {
+        lines: ENDLESS,
+        stop_after: 0,
+        states: 11,
+        conflicts: 3,
+    },
+    Stop {
+        lines: ENDLESS,
+        stop_after: 2,
+        states: 2,
+        conflicts: 2,
+    },
+    Stop {
+        lines: MINUS,
+        stop_after: 1,
+        states: 9,
+        conflicts: 0,
+    },
+];
+
 fn grammar(alloc: Global, lines: &str) -> Result<Grammar, Fail> {
     Ok(PlainGrammar::new(alloc, lines)?.to_grammar(alloc)?)
 }
@@ -112,9 +134,12 @@ fn stops(alloc: Global, grammar: &Grammar, row: &Stop, method: Method) -> Result
 #[test]
 fn stops_of_rows(rt: HostRuntime) -> Result<(), Fail> {
     let alloc = rt.alloc();
-    for row in ROWS.iter() {
-        let grammar = grammar(alloc, row.lines)?;
-        for method in [Method::Lane, Method::Canonical] {
+    for (rows, method) in [
+        (ROWS.as_slice(), Method::Canonical),
+        (LANE_ROWS.as_slice(), Method::Lane),
+    ] {
+        for row in rows {
+            let grammar = grammar(alloc, row.lines)?;
             assert!(rt;
                 stops(alloc, &grammar, row, method)?,
                 "{} {}",

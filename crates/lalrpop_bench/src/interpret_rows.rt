@@ -68,20 +68,42 @@ const TREES: [Row; 14] = [
     (NESTED, &["a", "b", "c"], 4, "Limit"),
 ];
 
+// By lane tables, which may reduce before they refuse.
+const LANE_TREES: [Row; 9] = [
+    (
+        SUMS,
+        &["N", "-", "(", "N", "-", "N", ")"],
+        16,
+        "[S: [E: [E: [T: \"N\"]], \"-\", [T: \"(\", [E: [E: [T: \"N\"]], \"-\", [T: \"N\"]], \")\"]]]",
+    ),
+    (SUMS, &["N", "-", "(", "N", "-", "N", ")"], 15, "Limit"),
+    (SUMS, &["N", ")"], 3, "3 refuses \")\""),
+    (SUMS, &["N", ")"], 2, "Limit"),
+    (SUMS, &["N", "-"], 9, "2 refuses Eof"),
+    (SUMS, &["?"], 0, "0 refuses \"?\""),
+    (NO_GOTO, &["x", "a"], 4, "[S: \"x\", [A: \"a\"]]"),
+    (NO_GOTO, &["x", "a"], 3, "Limit"),
+    (NESTED, &["a", "b", "c"], 5, "[S: \"a\", [S: \"b\"], \"c\"]"),
+];
+
 #[test]
 fn trees_and_refusals(rt: HostRuntime) -> Result<(), Fail> {
     let alloc = rt.alloc();
-    for (lines, words, limit, wanted) in TREES {
-        let grammar = PlainGrammar::new(alloc, lines)?.to_grammar(alloc)?;
-        for method in [Method::Lane, Method::Canonical] {
+    for (rows, method) in [
+        (TREES.as_slice(), Method::Canonical),
+        (LANE_TREES.as_slice(), Method::Lane),
+    ] {
+        for (lines, words, limit, wanted) in rows {
+            let grammar = PlainGrammar::new(alloc, lines)?.to_grammar(alloc)?;
             let states = states(&rt, alloc, &grammar, method)?;
-            let answer = told(&rt, alloc, &states, &grammar.terminals, words, limit)?;
-            assert_eq!(rt; answer.as_str(), wanted);
+            let answer = told(&rt, alloc, &states, &grammar.terminals, words, *limit)?;
+            assert_eq!(rt; answer.as_str(), *wanted);
         }
     }
     Ok(())
 }
 
+// A list, and the stack behind it by the canonical states.
 const STACKS: [Row; 5] = [
     (SUMS, &["N"], 9, "[S0, S7]"),
     (SUMS, &["N", "-"], 9, "[S0, S5, S2]"),
@@ -90,14 +112,26 @@ const STACKS: [Row; 5] = [
     (SUMS, &["N", ")"], 9, "7 refuses \")\""),
 ];
 
+// The same by lane tables.
+const LANE_STACKS: [Row; 3] = [
+    (SUMS, &["N"], 9, "[S0, S5]"),
+    (SUMS, &["N", "-"], 9, "[S0, S3, S2]"),
+    (SUMS, &["N", ")"], 9, "3 refuses \")\""),
+];
+
 #[test]
 fn stacks_before_the_end(rt: HostRuntime) -> Result<(), Fail> {
     let alloc = rt.alloc();
-    for (lines, words, limit, wanted) in STACKS {
-        let grammar = PlainGrammar::new(alloc, lines)?.to_grammar(alloc)?;
-        let states = states(&rt, alloc, &grammar, Method::Canonical)?;
-        let answer = stack_told(&rt, alloc, &states, &grammar.terminals, words, limit)?;
-        assert_eq!(rt; answer.as_str(), wanted);
+    for (rows, method) in [
+        (STACKS.as_slice(), Method::Canonical),
+        (LANE_STACKS.as_slice(), Method::Lane),
+    ] {
+        for (lines, words, limit, wanted) in rows {
+            let grammar = PlainGrammar::new(alloc, lines)?.to_grammar(alloc)?;
+            let states = states(&rt, alloc, &grammar, method)?;
+            let answer = stack_told(&rt, alloc, &states, &grammar.terminals, words, *limit)?;
+            assert_eq!(rt; answer.as_str(), *wanted);
+        }
     }
     Ok(())
 }

@@ -16,7 +16,7 @@ use std::alloc::Global;
 use std::test::Fail;
 
 // Four ends behind two beginnings, of which two end alike.
-const FOUR_ENDS: &str =
+pub(crate) const FOUR_ENDS: &str =
     "S = D \"t\"\nS = F \"z\"\nS = G \"u\"\nS = H \"t\"\nD = \"x\" A\nF = \"x\" B \"w\"\nG = \"y\" A \"v\"\nH = \"y\" B\nA = \"e\"\nB = \"e\"";
 
 // The tokens of the reductions of each state of sums: none where the state reduces nothing, then "-" and ")" or not.

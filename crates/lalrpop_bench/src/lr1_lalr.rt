@@ -127,16 +127,18 @@ fn pass(alloc: Global, grammar: &Grammar, states: &[Lr1State]) -> Result<bool, F
 }
 
 // Whether the tables for S have nine states and pass the check.
-fn are_nine(alloc: Global, grammar: &Grammar) -> Result<bool, Fail> {
-    let states = tables(alloc, grammar, Method::Canonical)?;
+fn are_nine(alloc: Global, grammar: &Grammar, method: Method) -> Result<bool, Fail> {
+    let states = tables(alloc, grammar, method)?;
     Ok(states.len() == 9 && pass(alloc, grammar, &states)?)
 }
 
 #[test]
-fn collapsed_tables_pass_the_check(rt: HostRuntime) -> Result<(), Fail> {
+fn tables_of_sums_pass_the_check(rt: HostRuntime) -> Result<(), Fail> {
     let alloc = rt.alloc();
     let grammar = grammar(alloc, SUMS)?;
-    assert!(rt; are_nine(alloc, &grammar)?);
+    for method in [Method::Lane, Method::Canonical] {
+        assert!(rt; are_nine(alloc, &grammar, method)?, "{method:?}");
+    }
     Ok(())
 }
 

@@ -16,28 +16,40 @@ use std::collections::BTreeMap;
 use std::process::Abort;
 use std::test::Fail;
 
-// A grammar for S, and the new number of each of its canonical states by construction number.
+// A grammar for S, a method, and the new number of each of its states by construction number.
 struct Numbers {
     lines: &'static str,
+    method: Method,
     numbers: &'static [usize],
 }
 
+const SUMS: &str = "S = E\nE = E \"-\" T\nE = T\nT = \"N\"\nT = \"(\" E \")\"";
+
 // State 0 has a goto where S is a name of others, and none where S begins with a terminal alone.
-const ROWS: [Numbers; 4] = [
+const ROWS: [Numbers; 5] = [
     Numbers {
         lines: "S = \"x\" A\nA = \"a\"",
+        method: Method::Canonical,
         numbers: &[0, 1, 2, 3],
     },
     Numbers {
-        lines: "S = E\nE = E \"-\" T\nE = T\nT = \"N\"\nT = \"(\" E \")\"",
+        lines: SUMS,
+        method: Method::Canonical,
         numbers: &[0, 5, 6, 1, 7, 2, 8, 9, 3, 10, 11, 12, 4, 13, 14, 15],
     },
     Numbers {
+        lines: SUMS,
+        method: Method::Lane,
+        numbers: &[0, 3, 4, 1, 5, 2, 6, 7, 8],
+    },
+    Numbers {
         lines: "S = \"x\"",
+        method: Method::Canonical,
         numbers: &[0, 1],
     },
     Numbers {
         lines: "",
+        method: Method::Canonical,
         numbers: &[0],
     },
 ];
@@ -52,9 +64,9 @@ fn start(alloc: Global) -> Result<NonterminalString, Fail> {
     })
 }
 
-fn canonical() -> Options {
+fn by(method: Method) -> Options {
     Options {
-        method: Method::Canonical,
+        method,
         stop_after: 0,
         max_copies: 10000,
     }
@@ -118,13 +130,14 @@ fn are_renumbered(states: &[Lr1State], table: &[Lr1State], numbers: &[usize]) ->
     true
 }
 
-fn has_numbers(alloc: Global, grammar: &Grammar, numbers: &[usize]) -> Result<bool, Fail> {
+fn has_numbers(alloc: Global, grammar: &Grammar, row: &Numbers) -> Result<bool, Fail> {
     if !is_well_formed(grammar) {
         return Ok(false);
     }
-    let states = build_lr1_states(alloc, grammar, start(alloc)?, &canonical())?;
-    let table = build_states(alloc, grammar, start(alloc)?, &canonical())?;
-    Ok(are_coherent(&table) && are_renumbered(&states, &table, numbers))
+    let options = by(row.method);
+    let states = build_lr1_states(alloc, grammar, start(alloc)?, &options)?;
+    let table = build_states(alloc, grammar, start(alloc)?, &options)?;
+    Ok(are_coherent(&table) && are_renumbered(&states, &table, row.numbers))
 }
 
 #[test]
@@ -132,7 +145,7 @@ fn new_numbers_of_rows(rt: HostRuntime) -> Result<(), Fail> {
     let alloc = rt.alloc();
     for row in ROWS.iter() {
         let grammar = grammar(alloc, row.lines)?;
-        assert!(rt; has_numbers(alloc, &grammar, row.numbers)?, "{}", row.lines);
+        assert!(rt; has_numbers(alloc, &grammar, row)?, "{}", row.lines);
     }
     Ok(())
 }
@@ -171,7 +184,7 @@ fn told(rt: &impl Abort, alloc: Global, grammar: &Grammar, limit: usize) -> Resu
     if !is_well_formed(grammar) {
         panic!(rt; "not well-formed");
     }
-    let table = build_states(alloc, grammar, start(alloc)?, &canonical())?;
+    let table = build_states(alloc, grammar, start(alloc)?, &by(Method::Canonical))?;
     answer(rt, alloc, &table, &grammar.terminals, limit)
 }
 
