@@ -34,6 +34,7 @@ mod kernel;
 mod kernel_set;
 #[cfg(test)]
 mod lane_states;
+#[cfg(test)]
 mod lane_table;
 #[cfg(test)]
 mod lookahead;

@@ -3,6 +3,7 @@ mod refused_growth;
 mod reports;
 
 use crate::run::run;
+use crate::words::method_of;
 use lalrpop_tables::build::Method;
 use std::alloc::{AllocError, Global};
 use std::io;
@@ -70,17 +71,27 @@ fn words_of(alloc: Global, line: &str) -> Result<Vec<String>, AllocError> {
     Ok(words)
 }
 
-/// What a run of the program on a file writes and answers.
-fn ran(
+/// What a run of the program by a method on a file writes and answers.
+fn ran_by(
     alloc: Global,
+    method: Method,
     file: Option<&[u8]>,
     line: &str,
 ) -> Result<(Vec<u8>, Vec<u8>, u8), AllocError> {
     let words = words_of(alloc, line)?;
     let mut out = Vec::new(alloc);
     let mut err = Vec::new(alloc);
-    let status = run(alloc, &words, Method::Lane, file, &mut out, &mut err);
+    let status = run(alloc, &words, method, file, &mut out, &mut err);
     Ok((out, err, status))
+}
+
+/// The same by the lane way.
+fn ran(
+    alloc: Global,
+    file: Option<&[u8]>,
+    line: &str,
+) -> Result<(Vec<u8>, Vec<u8>, u8), AllocError> {
+    ran_by(alloc, Method::Lane, file, line)
 }
 
 #[test]
@@ -230,6 +241,15 @@ fn other_words(rt: HostRuntime) -> Result<(), Fail> {
 }
 
 #[test]
+fn methods_of_words(rt: HostRuntime) -> Result<(), Fail> {
+    assert_eq!(rt; method_of("disabled"), Method::Canonical);
+    for word in ["", "enabled", "Disabled", "disabled "] {
+        assert_eq!(rt; method_of(word), Method::Lane, "{word}");
+    }
+    Ok(())
+}
+
+#[test]
 fn files_that_cannot_be_read(rt: HostRuntime) -> Result<(), Fail> {
     let alloc = rt.alloc();
     let no_text: &[u8] = &[83, 32, 61, 32, 34, 255, 34];
@@ -278,6 +298,7 @@ fn each_character_of_a_literal(rt: HostRuntime) -> Result<(), Fail> {
     Ok(())
 }
 
+// By the canonical method, since by the lane way each item holds all tokens, which takes some GB here.
 #[test]
 fn ten_thousand_productions(rt: HostRuntime) -> Result<(), Fail> {
     let alloc = rt.alloc();
@@ -287,10 +308,13 @@ fn ten_thousand_productions(rt: HostRuntime) -> Result<(), Fail> {
         one.push_str(format!(in alloc; "S = \"x{n}\"\n")?.as_str())?;
         many.push_str(format!(in alloc; "A{n} = \"x{n}\"\n")?.as_str())?;
     }
-    let (wrote, _said, status) = ran(alloc, Some(one.as_bytes()), "f S parse 2 x9999")?;
+    let canonical = Method::Canonical;
+    let file = Some(one.as_bytes());
+    let (wrote, _said, status) = ran_by(alloc, canonical, file, "f S parse 2 x9999")?;
     assert_eq!(rt; wrote.as_slice(), b"[S: \"x9999\"]\n".as_slice());
     assert_eq!(rt; status, 0);
-    let (wrote, _said, status) = ran(alloc, Some(many.as_bytes()), "f A9999 parse 2 x9999")?;
+    let file = Some(many.as_bytes());
+    let (wrote, _said, status) = ran_by(alloc, canonical, file, "f A9999 parse 2 x9999")?;
     assert_eq!(rt; wrote.as_slice(), b"[A9999: \"x9999\"]\n".as_slice());
     assert_eq!(rt; status, 0);
     Ok(())

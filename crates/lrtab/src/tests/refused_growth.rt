@@ -1,5 +1,5 @@
 //! Tests in which a growth is refused.
-use super::reports::{AMBIGUOUS, ONE_TERMINAL};
+use super::reports::{AMBIGUOUS, ONE_TERMINAL, ONE_TERMINAL_BY_LANES};
 use super::words_of;
 use crate::refusing::{Refusing, TURNS};
 use crate::run::run;
@@ -13,6 +13,7 @@ use std::test::Fail;
 fn each_growth_refused(
     rt: &impl Abort,
     alloc: Global,
+    method: Method,
     text: &str,
     line: &str,
     wanted: &str,
@@ -28,7 +29,7 @@ fn each_growth_refused(
         err.clear();
         let file = Some(text.as_bytes());
         refusing.arm(alloc, turn);
-        let status = run(alloc, &words, Method::Canonical, file, &mut out, &mut err);
+        let status = run(alloc, &words, method, file, &mut out, &mut err);
         refusing.disarm(alloc);
         if status != 3 {
             assert_eq!(rt; status, last_status);
@@ -48,17 +49,35 @@ fn each_growth_refused(
 fn each_growth_of_a_parse(rt: HostRuntime) -> Result<(), Fail> {
     let text = "S = \"x\" \"y\"\n\tB = S A\r\n";
     let line = "f S parse 3 x y";
-    each_growth_refused(&rt, rt.alloc(), text, line, "[S: \"x\", \"y\"]\n", 0)
+    let tree = "[S: \"x\", \"y\"]\n";
+    each_growth_refused(&rt, rt.alloc(), Method::Canonical, text, line, tree, 0)
 }
 
 #[test]
 fn each_growth_of_a_report(rt: HostRuntime) -> Result<(), Fail> {
-    let line = "f S report";
-    each_growth_refused(&rt, rt.alloc(), "S = \"x\"", line, ONE_TERMINAL, 0)
+    let text = "S = \"x\"";
+    let canonical = Method::Canonical;
+    each_growth_refused(
+        &rt,
+        rt.alloc(),
+        canonical,
+        text,
+        "f S report",
+        ONE_TERMINAL,
+        0,
+    )
+}
+
+#[test]
+fn each_growth_by_the_lane_way(rt: HostRuntime) -> Result<(), Fail> {
+    let text = "S = \"x\"";
+    let owed = ONE_TERMINAL_BY_LANES;
+    each_growth_refused(&rt, rt.alloc(), Method::Lane, text, "f S report", owed, 0)
 }
 
 #[test]
 fn each_growth_of_a_report_of_conflicts(rt: HostRuntime) -> Result<(), Fail> {
     let text = "S = \"x\"\nS = \"x\"\n";
-    each_growth_refused(&rt, rt.alloc(), text, "f S report", AMBIGUOUS, 1)
+    let canonical = Method::Canonical;
+    each_growth_refused(&rt, rt.alloc(), canonical, text, "f S report", AMBIGUOUS, 1)
 }

@@ -1,8 +1,7 @@
 //! Tests of reports.
-use super::{Closing, Then, ran, words_of};
+use super::{Closing, Then, ran, ran_by, words_of};
 use crate::run::run;
 use lalrpop_tables::build::Method;
-use std::alloc::{AllocError, Global};
 use std::test::Fail;
 
 pub(super) const ONE_TERMINAL: &str = "Lalrpop Report File
@@ -89,24 +88,52 @@ State 1 {
 }
 ";
 
-// What a run of `report` by the canonical construction writes and answers.
-fn reported(alloc: Global, text: &str) -> Result<(Vec<u8>, Vec<u8>, u8), AllocError> {
-    let words = words_of(alloc, "f S report")?;
-    let mut out = Vec::new(alloc);
-    let mut err = Vec::new(alloc);
-    let file = Some(text.as_bytes());
-    let status = run(alloc, &words, Method::Canonical, file, &mut out, &mut err);
-    Ok((out, err, status))
+/// The same by the lane way: each item has all tokens.
+pub(super) const ONE_TERMINAL_BY_LANES: &str = "Lalrpop Report File
+========================================
+
+Summary
+----------------------------------------
+
+Constructed 2 states
+
+State Table
+----------------------------------------
+
+State 0 {
+
+    S -> . \"x\"
+        lookahead \"x\" Eof
+
+    \"x\" shift and goto 1
+
 }
+
+State 1 {
+
+    S -> \"x\" .
+        lookahead \"x\" Eof
+
+
+    reduction S -> \"x\"
+        lookahead Eof
+
+
+}
+";
 
 #[test]
 fn reports(rt: HostRuntime) -> Result<(), Fail> {
     let alloc = rt.alloc();
-    for (text, wanted, status) in [
-        ("S = \"x\"", ONE_TERMINAL, 0),
-        ("S = \"x\"\nS = \"x\"\n", AMBIGUOUS, 1),
+    let twice = "S = \"x\"\nS = \"x\"\n";
+    for (method, text, wanted, status) in [
+        (Method::Canonical, "S = \"x\"", ONE_TERMINAL, 0),
+        (Method::Lane, "S = \"x\"", ONE_TERMINAL_BY_LANES, 0),
+        (Method::Canonical, twice, AMBIGUOUS, 1),
+        (Method::Lane, twice, AMBIGUOUS, 1),
     ] {
-        let (wrote, said, got) = reported(alloc, text)?;
+        let file = Some(text.as_bytes());
+        let (wrote, said, got) = ran_by(alloc, method, file, "f S report")?;
         assert_eq!(rt; wrote.as_slice(), wanted.as_bytes(), "{text}");
         assert_eq!(rt; said.len(), 0, "{text}");
         assert_eq!(rt; got, status, "{text}");
