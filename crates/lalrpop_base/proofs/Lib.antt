@@ -20,3 +20,4 @@ pub mod SetLemmas
 pub mod DotLemmas
 pub mod Settled
 pub mod KernelLemmas
+pub mod NewStart

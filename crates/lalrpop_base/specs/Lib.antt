@@ -20,6 +20,7 @@ pub mod Lanes
 pub mod Laws
 pub mod Names
 pub mod Multimaps
+pub mod NewStart
 pub mod NilConflicts
 pub mod Places
 pub mod Refusals

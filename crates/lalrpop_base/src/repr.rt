@@ -1,4 +1,5 @@
 //! A normalised grammar: names, terminals, symbols and productions.
+pub mod augment;
 pub mod grammar;
 pub mod inlined;
 pub mod norm_error;

@@ -3,6 +3,8 @@
 #![tactic(auto)]
 
 #[cfg(test)]
+mod augment;
+#[cfg(test)]
 mod build;
 #[cfg(test)]
 mod build_lalr;
@@ -16,6 +18,8 @@ mod collections;
 mod early_stop;
 #[cfg(test)]
 mod first;
+#[cfg(test)]
+mod hostile;
 #[cfg(test)]
 mod inline;
 #[cfg(test)]
@@ -32,6 +36,8 @@ mod interpret_tree;
 mod kernel;
 #[cfg(test)]
 mod kernel_set;
+#[cfg(test)]
+mod lane_merge;
 #[cfg(test)]
 mod lane_states;
 #[cfg(test)]

@@ -163,3 +163,16 @@ fn terminals_without_repeats(rt: HostRuntime) -> Result<(), Fail> {
     }
     Ok(())
 }
+
+// The error's bit over two terminals is past the error's bit over one.
+#[test]
+fn sets_of_more_terminals_do_not_fit(rt: HostRuntime) -> Result<(), Fail> {
+    let alloc = rt.alloc();
+    let one = set_of(alloc, &["a"])?;
+    let two = set_of(alloc, &["a", "b"])?;
+    let error = TokenSet::of(alloc, Token::Error, &two)?;
+    assert!(rt; error.fits(&two));
+    assert!(rt; !error.fits(&one));
+    assert!(rt; TokenSet::of(alloc, Token::Error, &one)?.fits(&one));
+    Ok(())
+}

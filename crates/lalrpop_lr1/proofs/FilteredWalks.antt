@@ -35,7 +35,7 @@ same_again : (a b c : FilteredPathEnumerator) → IsSameFilter a b → IsSameFil
 same_again a b c h k = record { graph = k.graph ∙ h.graph; first_sets = k.first_sets ∙ h.first_sets; lookahead = k.lookahead ∙ h.lookahead }
 
 pub skipped_none : (walk : FilteredPathEnumerator) → HasSkipped walk walk
-skipped_none walk = record { same = record { graph = refl; first_sets = refl; lookahead = refl }; skipped = []; before = λ p c. absurd (contains-nil c); left = inl refl }
+skipped_none walk = record { same = record { graph = refl; first_sets = refl; lookahead = refl }; told = λ e. e; skipped = []; before = λ p c. absurd (contains-nil c); left = inl refl }
 
 -- one path more is passed over
 pub skipped_more : (old mid new : FilteredPathEnumerator) → HasSkipped old mid → IsSameFilter mid new → mid.base.refused ≡ false → (IsEnded mid.base → ⊥) → ¬ Meets mid (path_of mid.base.stack.items) → GoesTo (remaining mid.base) new.base → HasSkipped old new
@@ -44,6 +44,7 @@ skipped_more old mid new h same told stands none to =
     let past : List (List ℕ) = h.skipped ++ path ∷ [] in
     record {
       same = same_again old mid new h.same same;
+      told = λ _. h.told told;
       skipped = past;
       before = λ p c m. elim (Contains-push_cases h.skipped path p c) [
         | inl d ↦ h.before p d m
@@ -90,6 +91,7 @@ gives_last old mid new (Some (Err e)) h same neither g = (same_again old mid new
 gives_last old mid new None h same neither g = (
   same_again old mid new h.same same,
   (
+    h.told g.0,
     elim h.left [
       | inl e ↦ subst (λ (ps : List (List ℕ)). NoneMeets old ps) (sym (e ∙ ap (λ xs. h.skipped ++ xs) g.1 ∙ append-nil h.skipped)) h.before
       | inr r ↦ absurd (true≢false (sym r ∙ g.0))

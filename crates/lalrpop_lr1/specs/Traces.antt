@@ -24,6 +24,14 @@ pub record Backtrace : Type 0 where
   pub state : StateIndex
   pub item : Dotted Nil
 
+-- how a shift is traced back
+abbrev pub shift_traced : List Production → List (State Bits) → StateIndex → Dotted Nil → Backtrace
+shift_traced productions states state item = record { traced = Shift; productions = productions; states = states; state = state; item = item }
+
+-- how a reduction is
+abbrev pub reduction_traced : List Production → List (State Bits) → StateIndex → Dotted Nil → Backtrace
+reduction_traced productions states state item = record { traced = Reduce; productions = productions; states = states; state = state; item = item }
+
 -- a nonterminal in a state
 abbrev pub Meeting : Type 0
 Meeting = StateIndex × NonterminalString

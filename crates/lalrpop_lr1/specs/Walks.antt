@@ -129,13 +129,14 @@ pub record IsOfFirstMeeting (old : FilteredPathEnumerator) (example : Example) (
 
 -- a filtered walk gives the example of its first path that meets the lookahead, and nothing where none does; behind a refused growth nothing comes
 abbrev pub GivesNextMeeting : FilteredPathEnumerator → Option (Result Example OutOfMemory) → FilteredPathEnumerator → Type 0
-GivesNextMeeting old None new = NoneMeets old (to_come old.base) × (to_come new.base ≡ []) × (new.base.refused ≡ false)
+GivesNextMeeting old None new = (old.base.refused ≡ false) × NoneMeets old (to_come old.base) × (to_come new.base ≡ []) × (new.base.refused ≡ false)
 GivesNextMeeting old (Some (Ok example)) new = IsOfFirstMeeting old example new
 GivesNextMeeting old (Some (Err e)) new = (to_come new.base ≡ []) × (new.base.refused ≡ false)
 
--- the paths that a filtered walk passed over do not meet the lookahead; then it has the others, or a refused growth to tell
+-- the paths that a filtered walk passed over do not meet the lookahead; then it has the others, or a refused growth to tell, as it has where one was to tell before
 pub record HasSkipped (old new : FilteredPathEnumerator) : Type 0 where
   pub same : IsSameFilter old new
+  pub told : new.base.refused ≡ false → old.base.refused ≡ false
   pub skipped : List (List ℕ)
   pub before : NoneMeets old skipped
   pub left : (to_come old.base ≡ skipped ++ to_come new.base) ⊎ (new.base.refused ≡ true)

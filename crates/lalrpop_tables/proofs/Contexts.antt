@@ -1,14 +1,16 @@
 -- Columns of tokens: what joining to one changes, unions, and what reductions take.
 use Rattle.std.proofs.Common.{◌≡◌, ◌==◌, ℕ, ◌+◌, ◌<◌, ◌≤◌, ◌⊎◌, inl, inr, ⊎_elim, true, cond, List, [], ◌∷◌, ◌++◌, length, Option, None, Some, refl, sym, ap, subst, ◌∙◌, arith, eq-eqb, eqb-true, drop, zero, suc, length-append}
-use Rattle.std.specs.Prelude.{slice_get, option_map}
+use Rattle.std.specs.Prelude.{slice_get, option_map, Contains}
 use Rattle.std.specs.Borrow.{Bor}
 use Rattle.std.proofs.lemmas.Bool.{cases_Bool, cases_lt, or_cases}
 use Rattle.std.proofs.lemmas.Option.{slice_get_within}
 use Rattle.lalrpop_base.specs.Bits.{Bits, has, join, has-join}
 use Rattle.lalrpop_base.specs.declared.lr1_core.state.Action.{Action}
+use Rattle.lalrpop_base.specs.declared.lr1_core.state.Action.TheVariants.{Reduce}
 use Rattle.lalrpop_base.specs.declared.repr.Production.{Production}
 use Rattle.lalrpop_tables.specs.Contexts.{HasAt, MeetsOther, IsJoinedIn, IsUnion, MeetInUnion, AreDisjoint, IsReductionAt, TookColumn, Reduces}
-use Rattle.lalrpop_tables.proofs.Places.{same_some, filled, places_apart, push_cases}
+use Rattle.lalrpop_tables.proofs.Lists.{place}
+use Rattle.lalrpop_tables.proofs.Places.{same_some, contains_at, filled, places_apart, push_cases}
 
 -- no column below n but the one shares a token with the set
 abbrev pub AreApartUntil : List Bits → ℕ → Bits → ℕ → Type 0
@@ -232,3 +234,10 @@ took_more actions columns old new n place r column t at reduces there = record {
       (subst (λ (y : Bits × Bor Production). TookColumn actions columns r y) last.1 (record { same = refl; place = place; action = reduces; column = there })))
       (push_cases new (column, r.1) k q at_q);
 }
+
+-- ---- whether a reduction is among the actions
+pub reduces_there : (actions : List Action) (action : Action) (p : Production) → Contains actions action → Reduces action p → (place : ℕ) × IsReductionAt actions place p
+reduces_there actions action p c r = let k = place actions action c in (k.0, record { lent = r.0; action = k.2 ∙ ap Some r.1; same = r.2 })
+
+pub reduces_nowhere : (actions : List Action) (p : Production) → ((a : Action) → Contains actions a → ¬ Reduces a p) → ((place : ℕ) × IsReductionAt actions place p) → ⊥
+reduces_nowhere actions p none h = none (Reduce h.1.lent) (contains_at actions (Reduce h.1.lent) h.0 h.1.action) (h.1.lent, refl, h.1.same)

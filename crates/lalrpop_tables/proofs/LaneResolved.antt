@@ -73,7 +73,7 @@ tied_places ks sorted i j a b at_i at_j l tie =
     cc
 
 -- productions that are the same place by place
-by_all : (rs qs : List CodeReduction) → length qs ≡ length rs → ((k : ℕ) (r q : CodeReduction) → slice_get rs k ≡ Some r → slice_get qs k ≡ Some q → q.1.now ≡ r.1.now) → map by qs ≡ map by rs
+pub by_all : (rs qs : List CodeReduction) → length qs ≡ length rs → ((k : ℕ) (r q : CodeReduction) → slice_get rs k ≡ Some r → slice_get qs k ≡ Some q → q.1.now ≡ r.1.now) → map by qs ≡ map by rs
 by_all [] [] counted same = refl
 by_all [] (q ∷ qs) counted same = absurd (omega arith)
 by_all (r ∷ rs) [] counted same = absurd (omega arith)
@@ -93,7 +93,7 @@ IsShift (Reduce q) = ⊥
 apart : (t : TerminalString) (to : StateIndex) (p : Bor Production) → Shift t to ≡ Reduce p → ⊥
 apart t to p e = subst IsShift e tt
 
-lent_same : (p q : Bor Production) → Reduce p ≡ Reduce q → p ≡ q
+pub lent_same : (p q : Bor Production) → Reduce p ≡ Reduce q → p ≡ q
 lent_same p q e = cc
 
 -- reductions by equal productions tie

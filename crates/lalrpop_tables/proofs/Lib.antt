@@ -44,8 +44,10 @@ pub mod LaneActions
 pub mod LaneAnswers
 pub mod LaneAsked
 pub mod LaneCoherent
+pub mod LaneCopies
 pub mod LaneColumns
 pub mod LaneLoop
+pub mod LanePatches
 pub mod LanePlaces
 pub mod LanePromoted
 pub mod LaneResolved
@@ -66,11 +68,13 @@ pub mod MergeableStates
 pub mod MergedCollapse
 pub mod MergedNumbers
 pub mod MergedStates
+pub mod Merges
 pub mod Merging
 pub mod MergingItems
 pub mod MergingReductions
 pub mod Moved
 pub mod Moves
+pub mod NewCopies
 pub mod NumberedConflicts
 pub mod Orders
 pub mod Partitions
@@ -85,6 +89,7 @@ pub mod Shifting
 pub mod SomeOf
 pub mod StateEdges
 pub mod StateGraphs
+pub mod StateSets
 pub mod Stepping
 pub mod StoppedAnswers
 pub mod StoppedConflicts

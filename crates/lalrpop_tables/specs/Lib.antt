@@ -25,6 +25,7 @@ pub mod LaneTables
 pub mod LaneTraces
 pub mod ListedConflicts
 pub mod Lr0
+pub mod Merges
 pub mod Merging
 pub mod Moved
 pub mod Neighbours
@@ -34,5 +35,6 @@ pub mod Renumbered
 pub mod RenumberedTables
 pub mod Results
 pub mod StateGraph
+pub mod StateSets
 pub mod States
 pub mod Transitions

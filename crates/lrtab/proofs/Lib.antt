@@ -8,3 +8,7 @@ pub mod WellFormed
 pub mod TooLong
 pub mod Written
 pub mod Known
+pub mod ExplainedParts
+pub mod FirstPaths
+pub mod OwnConflicts
+pub mod TracedReductions

@@ -5,5 +5,7 @@ pub mod Collected
 pub mod Faults
 pub mod Words
 pub mod Output
+pub mod Explained
+pub mod Explaining
 pub mod Shown
 pub mod Answers

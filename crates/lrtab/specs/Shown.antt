@@ -1,4 +1,4 @@
--- What the program shows of a grammar, which a text stands for and whose marked nonterminals are inlined: what a parse by its tables comes to, the report of its tables, or its conflicts.
+-- What the program shows of a grammar, which a text stands for and whose marked nonterminals are inlined: what a parse by its tables comes to, the report of its tables, its conflicts or their explanation.
 use Rattle.std.specs.Prelude.{◌≡◌, ◌↔◌, ◌⊎◌, ℕ, ◌<◌, ◌≤◌, List, [], ◌∷◌, ◌++◌, length, map, codes, Result, Ok, Err}
 use Rattle.std.specs.Fmt.{decimal}
 use Rattle.lalrpop_base.specs.Bits.{Bits}
@@ -32,7 +32,8 @@ use Rattle.lalrpop_lr1.specs.declared.interpret.error.InterpretError.{InterpretE
 use Rattle.lalrpop_lr1.specs.declared.interpret.error.InterpretError.TheVariants.{Refused as RefusedBy, Limit as LimitPassed, Memory}
 use Rattle.lalrpop_lr1.specs.declared.interpret.tree.ParseTree.{ParseTree}
 use Rattle.lrtab.specs.Symbols.{name_of}
-use Rattle.lrtab.specs.Words.{Asked, Task, Parse, Report}
+use Rattle.lrtab.specs.Explained.{IsExplanation}
+use Rattle.lrtab.specs.Words.{Asked, Task, Parse, Report, Explain}
 
 -- a text and a line end
 abbrev pub line : List ℕ → List ℕ
@@ -134,11 +135,28 @@ pub record AreConflictsShown (g : Grammar) (start : NonterminalString) (status :
   pub ended : status ≡ 1
   pub shown : text ≡ failure_report (λ (set : Bits). set) g.terminals states conflicts
 
+-- ---- an explanation
+-- there are tables, with status 0
+pub record IsFreeShown (method : Method) (g : Grammar) (start : NonterminalString) (status : ℕ) (text : List ℕ) : Type 0 where
+  pub states : List (State Bits)
+  pub tables : AreTablesOf method g start states
+  pub ended : status ≡ 0
+  pub shown : text ≡ line (codes "no conflicts")
+
+-- or, for want of tables, the explanation of the canonical conflicts, with status 1
+pub record IsExplanationShown (g : Grammar) (start : NonterminalString) (status : ℕ) (text : List ℕ) : Type 0 where
+  pub states : List (State Bits)
+  pub conflicts : List (Conflict Bits)
+  pub no_tables : AreConflictsOf g start states conflicts
+  pub ended : status ≡ 1
+  pub shown : IsExplanation (rules_of g) states conflicts text
+
 -- ---- what is asked
 -- the status and text that a task shows, by the method, of a grammar and start symbol. The tokens are literals
 abbrev pub IsTaskShown : Method → Grammar → NonterminalString → Task → ℕ → List ℕ → Type 0
 IsTaskShown method g start (Parse limit tokens) status text = IsParseShown method g start (map Literal tokens) limit status text ⊎ IsCountShown g start status text
 IsTaskShown method g start Report status text = IsTablesShown method g start status text ⊎ AreConflictsShown g start status text
+IsTaskShown method g start Explain status text = IsFreeShown method g start status text ⊎ IsExplanationShown g start status text
 
 -- the status and text that a request shows of a grammar
 abbrev pub IsShown : Method → Grammar → Asked → ℕ → List ℕ → Type 0

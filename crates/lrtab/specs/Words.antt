@@ -6,7 +6,7 @@ use Rattle.lalrpop_tables.specs.declared.build.options.Method.{Method}
 use Rattle.lalrpop_tables.specs.declared.build.options.Method.TheVariants.{Lane, Canonical}
 use Rattle.lrtab.specs.declared.words.Request.{Request}
 use Rattle.lrtab.specs.declared.words.Task.{Task as TaskWords}
-use Rattle.lrtab.specs.declared.words.Task.TheVariants.{Parse as ParseWords, Report as ReportWords}
+use Rattle.lrtab.specs.declared.words.Task.TheVariants.{Parse as ParseWords, Report as ReportWords, Explain as ExplainWords}
 use Rattle.lrtab.specs.Symbols.{is_name}
 
 -- the number that a word writes in decimal digits alone, where there are some and it is below 2 ^ 64
@@ -17,19 +17,24 @@ limit_of word = if all_ascii_digits word && (nat_lt 0 (length word) && nat_lt (d
 abbrev pub method_of : List ℕ → Method
 method_of word = if bytes_eq word (codes "disabled") then Canonical else Lane
 
--- what is asked of the tables: a parse of tokens within a limit, or their report
+-- what is asked of the tables: a parse of tokens within a limit, their report, or the explanation of conflicts
 pub data Task : Type 0 where
   Parse : ℕ → List (List ℕ) → Task
   Report : Task
+  Explain : Task
 
 -- a start symbol, and what is asked of its tables
 pub record Asked : Type 0 where
   pub start : List ℕ
   pub task : Task
 
--- what the words behind the start symbol ask for: parse LIMIT TOKEN.. or report
+-- what a verb with no word behind it asks for
+abbrev pub lone_task : List ℕ → Option Task
+lone_task verb = if bytes_eq verb (codes "report") then Some Report else (if bytes_eq verb (codes "explain") then Some Explain else None)
+
+-- what the words behind the start symbol ask for: parse LIMIT TOKEN.., report or explain
 abbrev pub task_of : List ℕ → List (List ℕ) → Option Task
-task_of verb [] = if bytes_eq verb (codes "report") then Some Report else None
+task_of verb [] = lone_task verb
 task_of verb (limit ∷ tokens) = if bytes_eq verb (codes "parse") then option_map (λ n. Parse n tokens) (limit_of limit) else None
 
 -- what words ask for that have the form FILE START and a task
@@ -42,6 +47,7 @@ request_of (file ∷ start ∷ verb ∷ words) = if is_name start then option_ma
 abbrev pub task_view : TaskWords → Task
 task_view (ParseWords limit tokens) = Parse limit (map string_bytes tokens.now)
 task_view ReportWords = Report
+task_view ExplainWords = Explain
 
 abbrev pub request_view : Request → Asked
 request_view r = record { start = r.start.now; task = task_view r.task }

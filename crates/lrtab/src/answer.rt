@@ -8,10 +8,11 @@ ghost use Rattle.lalrpop_base.specs.WellFormed.{IsWellFormed};
 ghost use Rattle.lalrpop_base.specs.declared.repr.NonterminalString.{NonterminalString};
 ghost use Rattle.lalrpop_base.specs.declared.repr.Production.{Production};
 ghost use Rattle.lalrpop_base.specs.declared.repr.TerminalString.TheVariants.{Literal};
-ghost use Rattle.lrtab.specs.Words.{Parse, Report, request_of, request_view};
+ghost use Rattle.lrtab.specs.Words.{Parse, Report, Explain, request_of, request_view};
 ghost use Rattle.lrtab.specs.Answers.{file_name, IsAnswer, IsAnswerTo, IsAnswerToGrammar};
 ghost use Rattle.lrtab.specs.Shown.{line, IsShown, IsTaskShown, IsRunShown, IsTextOf};
 
+use crate::explain::explanation;
 use crate::grammar::read;
 use crate::read_error::ReadError;
 use crate::symbols::name_of;
@@ -187,6 +188,7 @@ fn shown(
     match request.task {
         Task::Parse(limit, tokens) => parse(alloc, limit, tokens, start, &options, grammar),
         Task::Report => report(alloc, start, &options, grammar),
+        Task::Explain => explain(alloc, start, &options, grammar),
     }
 }
 
@@ -239,6 +241,25 @@ fn status_of(outcome: &Lr1Result<'_>) -> u8
     ensures { result ≡ (if is_ok outcome.now then 0 else 1) }
 {
     if outcome.is_ok() { 0 } else { 1 }
+}
+
+// A status, and the explanation of the conflicts of a grammar, if it has some.
+fn explain(
+    alloc: Global,
+    start: NonterminalString,
+    options: &Options,
+    grammar: &Grammar,
+) -> Result<(u8, String), OutOfMemory>
+    requires well_formed { IsWellFormed grammar.now }
+    requires canonical { grammar.now.algorithm.lalr ≡ false }
+    requires whole { options.now.stop_after ≡ 0 }
+    ensures { IfOk result (λ o. IsTaskShown options.now.method grammar.now start Explain o.0 (string_bytes o.1)) }
+{
+    match build_states(alloc, grammar, start, options) {
+        Ok(_) => Ok((0, String::from_str(alloc, "no conflicts\n")?)),
+        Err(BuildError::Conflicts(error)) => Ok((1, explanation(alloc, grammar, &error)?)),
+        Err(BuildError::Memory) => Err(OutOfMemory),
+    }
 }
 
 // A status, and what a parse by states shows.

@@ -1,8 +1,9 @@
-//! `lrtab` reads a grammar text, and parses words with its tables.
+//! `lrtab` reads a grammar text, and parses words with its tables, reports these or explains its conflicts.
 #![tactic(auto)]
 
 mod answer;
 mod collected;
+mod explain;
 mod grammar;
 mod lines;
 mod output;

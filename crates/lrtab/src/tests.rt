@@ -1,4 +1,5 @@
 //! Tests that run the program.
+mod explanations;
 mod refused_growth;
 mod reports;
 
@@ -221,7 +222,8 @@ fn other_words(rt: HostRuntime) -> Result<(), Fail> {
         "f S",
         "f S parse",
         "f S report 2",
-        "f S explain",
+        "f S explain x",
+        "f S Explain",
         "f S Parse 2 x",
         "f S parse +2 x",
         "f S parse -2 x",

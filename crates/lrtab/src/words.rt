@@ -1,7 +1,7 @@
 //! The words of the command line.
 ghost use Rattle.std.specs.Prelude.{◌≡◌, option_map, map, string_bytes};
 ghost use Rattle.std.specs.Str.{all_ascii_digits};
-ghost use Rattle.lrtab.specs.Words.{limit_of, method_of, task_of, task_view, request_of, request_view};
+ghost use Rattle.lrtab.specs.Words.{limit_of, lone_task, method_of, task_of, task_view, request_of, request_view};
 
 use crate::symbols::is_a_name;
 use lalrpop_tables::build::Method;
@@ -12,6 +12,7 @@ pub enum Task<'a> {
     /// A parse of tokens by at most so many steps.
     Parse(usize, &'a [String]),
     Report,
+    Explain,
 }
 
 /// What the words ask for.
@@ -53,17 +54,26 @@ fn task_of<'a>(verb: &str, rest: &'a [String]) -> Option<Task<'a>>
     ensures { option_map task_view result ≡ task_of verb.now (map string_bytes rest.now) }
 {
     let [limit, tokens @ ..] = rest else {
-        return if verb == "report" {
-            Some(Task::Report)
-        } else {
-            None
-        };
+        return lone_task(verb);
     };
     if verb != "parse" {
         return None;
     }
     let limit = limit_of(limit.as_str())?;
     Some(Task::Parse(limit, tokens))
+}
+
+// What a verb with no word behind it asks for.
+fn lone_task<'a>(verb: &str) -> Option<Task<'a>>
+    ensures { option_map task_view result ≡ lone_task verb.now }
+{
+    if verb == "report" {
+        return Some(Task::Report);
+    }
+    if verb == "explain" {
+        return Some(Task::Explain);
+    }
+    None
 }
 
 /// The number that a word writes in decimal digits alone, where it fits.

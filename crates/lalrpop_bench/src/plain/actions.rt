@@ -21,7 +21,7 @@ pub struct PlainConflict {
 }
 
 /// The actions valid for a prefix, whose validity is given, and a token.
-pub fn valid_actions(
+pub(crate) fn valid_actions(
     alloc: Global,
     grammar: &PlainGrammar,
     valid: &PlainValidity,
@@ -45,7 +45,7 @@ pub fn valid_actions(
 }
 
 /// Whether no live prefix of at most some length has two valid actions on one token.
-pub fn is_lr1_up_to(
+pub(crate) fn is_lr1_up_to(
     alloc: Global,
     grammar: &PlainGrammar,
     start: usize,
@@ -63,7 +63,7 @@ pub fn is_lr1_up_to(
 }
 
 /// The conflicts of a prefix, whose validity is given.
-pub fn conflicts(
+pub(crate) fn conflicts(
     alloc: Global,
     grammar: &PlainGrammar,
     valid: &PlainValidity,

@@ -14,7 +14,7 @@ pub struct PlainFirst {
 
 impl PlainFirst {
     /// Both lists, closed under the productions: each round but the last adds a name.
-    pub fn new(alloc: Global, grammar: &PlainGrammar) -> Result<Self, OutOfMemory> {
+    pub(crate) fn new(alloc: Global, grammar: &PlainGrammar) -> Result<Self, OutOfMemory> {
         let mut first = PlainFirst {
             nullable: Vec::new(alloc),
             pairs: Vec::new(alloc),
@@ -49,7 +49,7 @@ impl PlainFirst {
     }
 
     /// Whether the list derives the empty list.
-    pub fn is_nullable(&self, symbols: &[PlainSymbol]) -> bool {
+    pub(crate) fn is_nullable(&self, symbols: &[PlainSymbol]) -> bool {
         for symbol in symbols {
             match symbol {
                 PlainSymbol::Name(name) => {
@@ -64,7 +64,7 @@ impl PlainFirst {
     }
 
     /// The terminals with which lists begin that the list derives.
-    pub fn terminals(
+    pub(crate) fn terminals(
         &self,
         alloc: Global,
         symbols: &[PlainSymbol],
@@ -110,7 +110,7 @@ pub struct Bounds {
 }
 
 /// The terminal lists that the name derives from left to right within the bounds.
-pub fn sentences(
+pub(crate) fn sentences(
     alloc: Global,
     grammar: &PlainGrammar,
     start: usize,

@@ -13,12 +13,12 @@ pub struct Numbers {
 }
 
 impl Numbers {
-    pub fn new(state: u64) -> Self {
+    pub(crate) fn new(state: u64) -> Self {
         Numbers { state }
     }
 
     /// A number below a bound.
-    pub fn below(&mut self, bound: usize) -> usize
+    pub(crate) fn below(&mut self, bound: usize) -> usize
         requires { 0 < bound }
         ensures { result < bound }
     {
@@ -31,7 +31,7 @@ impl Numbers {
 }
 
 /// The lines of a grammar over two terminals, whose start symbol S is on no right side.
-pub fn lines(alloc: Global, numbers: &mut Numbers) -> Result<String, OutOfMemory> {
+pub(crate) fn lines(alloc: Global, numbers: &mut Numbers) -> Result<String, OutOfMemory> {
     let mut lines = String::new(alloc);
     let count = 2 + numbers.below(5);
     for _ in 0..count {
@@ -47,7 +47,7 @@ pub fn lines(alloc: Global, numbers: &mut Numbers) -> Result<String, OutOfMemory
 }
 
 /// Whether a grammar is reduced: each name can be met from the start symbol, and derives some terminal list.
-pub fn is_reduced(
+pub(crate) fn is_reduced(
     alloc: Global,
     grammar: &PlainGrammar,
     start: usize,

@@ -35,7 +35,7 @@ pub struct PlainGrammar {
 
 impl PlainGrammar {
     /// The grammar of some lines, each `NAME = WORD ..`, where a quoted word is a literal.
-    pub fn new(alloc: Global, lines: &str) -> Result<Self, OutOfMemory> {
+    pub(crate) fn new(alloc: Global, lines: &str) -> Result<Self, OutOfMemory> {
         let names = ascending_words(alloc, lines, false)?;
         let terminals = ascending_words(alloc, lines, true)?;
         let mut productions = Vec::new(alloc);
@@ -56,12 +56,12 @@ impl PlainGrammar {
     }
 
     /// The number of a name, one past the last where the grammar does not have it.
-    pub fn name(&self, name: &str) -> usize {
+    pub(crate) fn name(&self, name: &str) -> usize {
         place(&self.names, name)
     }
 
     /// The symbols of a production, none where there is no such production.
-    pub fn symbols(&self, production: usize) -> &[PlainSymbol] {
+    pub(crate) fn symbols(&self, production: usize) -> &[PlainSymbol] {
         match self.productions.get(production) {
             Some(found) => found.symbols.as_slice(),
             None => &[],
@@ -69,7 +69,7 @@ impl PlainGrammar {
     }
 
     /// The grammar as the libraries have it. The action of a production is its number.
-    pub fn to_grammar(&self, alloc: Global) -> Result<Grammar, OutOfMemory> {
+    pub(crate) fn to_grammar(&self, alloc: Global) -> Result<Grammar, OutOfMemory> {
         let mut nonterminals = BTreeMap::new(alloc);
         for (number, name) in self.names.iter().enumerate() {
             let productions = self.productions_of(alloc, number)?;
@@ -134,7 +134,7 @@ impl PlainGrammar {
     }
 
     /// A symbol as the libraries have it.
-    pub fn symbol(&self, alloc: Global, symbol: PlainSymbol) -> Result<Symbol, OutOfMemory> {
+    pub(crate) fn symbol(&self, alloc: Global, symbol: PlainSymbol) -> Result<Symbol, OutOfMemory> {
         match symbol {
             PlainSymbol::Name(name) => Ok(Symbol::Nonterminal(NonterminalString {
                 text: text_at(alloc, &self.names, name)?,

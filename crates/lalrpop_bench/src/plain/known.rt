@@ -10,7 +10,10 @@ use lalrpop_base::repr::terminals::TerminalSet;
 use std::alloc::Global;
 
 /// The grammar as the libraries have it, where it is well-formed.
-pub fn well_formed(alloc: Global, plain: &PlainGrammar) -> Result<Option<Grammar>, OutOfMemory>
+pub(crate) fn well_formed(
+    alloc: Global,
+    plain: &PlainGrammar,
+) -> Result<Option<Grammar>, OutOfMemory>
     ensures { IfOk result (λ found. IfSome found (λ grammar. IsWellFormed grammar)) }
 {
     let grammar = plain.to_grammar(alloc)?;
@@ -21,7 +24,7 @@ pub fn well_formed(alloc: Global, plain: &PlainGrammar) -> Result<Option<Grammar
 }
 
 /// Whether each terminal of some symbols is in the set.
-pub fn are_known(terminals: &TerminalSet, symbols: &[Symbol]) -> bool
+pub(crate) fn are_known(terminals: &TerminalSet, symbols: &[Symbol]) -> bool
     ensures { IsTrue result ↔ HasKnownTerminals terminals.now symbols.now }
 {
     for symbol in symbols {

@@ -29,7 +29,7 @@ pub const TYPES: &str = "Ty = \"int\"\nTy = \"bool\"\nTy = Ty \"->\" Ty";
 /// A name that derives the empty list before what it follows without end.
 pub const EMPTY_FIRST: &str = "S = E \"x\"\nE = B E \"y\"\nE = \"z\"\nB =";
 
-pub fn samples() -> [Sample; 9] {
+pub(crate) fn samples() -> [Sample; 9] {
     [
         make_sample("S = \"x\"", "S", true),
         make_sample("S =", "S", true),

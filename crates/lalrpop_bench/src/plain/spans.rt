@@ -15,7 +15,11 @@ pub struct Spans {
 
 impl Spans {
     /// Both lists, closed under the productions until a round adds nothing.
-    pub fn new(alloc: Global, grammar: &PlainGrammar, list: &[usize]) -> Result<Self, OutOfMemory> {
+    pub(crate) fn new(
+        alloc: Global,
+        grammar: &PlainGrammar,
+        list: &[usize],
+    ) -> Result<Self, OutOfMemory> {
         let mut spans = Spans {
             list: Vec::from_slice(alloc, list)?,
             derived: Vec::new(alloc),
@@ -57,7 +61,7 @@ impl Spans {
     }
 
     /// The places up to which the symbols derive the list from a place on.
-    pub fn ends(
+    pub(crate) fn ends(
         &self,
         alloc: Global,
         symbols: &[PlainSymbol],
@@ -99,7 +103,7 @@ impl Spans {
     }
 
     /// The place behind a terminal that stands at a place.
-    pub fn behind(&self, terminal: usize, place: usize) -> Option<usize> {
+    pub(crate) fn behind(&self, terminal: usize, place: usize) -> Option<usize> {
         if place < self.list.len() && self.list[place] == terminal {
             Some(place + 1)
         } else {
@@ -141,12 +145,12 @@ impl Spans {
     }
 
     /// Whether the name derives the list.
-    pub fn is_sentence(&self, start: usize) -> bool {
+    pub(crate) fn is_sentence(&self, start: usize) -> bool {
         self.derived.contains(&(start, 0, self.list.len()))
     }
 
     /// Whether the name derives a list that begins with the list.
-    pub fn is_beginning(&self, start: usize) -> bool {
+    pub(crate) fn is_beginning(&self, start: usize) -> bool {
         self.list.is_empty() || self.begun.contains(&(start, 0))
     }
 }
@@ -155,7 +159,7 @@ impl Spans {
 const ROUNDS: usize = 1000;
 
 /// The place of the first wrong terminal of a list, its length where the whole list is a beginning.
-pub fn first_wrong(
+pub(crate) fn first_wrong(
     alloc: Global,
     grammar: &PlainGrammar,
     start: usize,
@@ -171,7 +175,7 @@ pub fn first_wrong(
 }
 
 /// All terminal lists of at most some length over some terminals.
-pub fn lists_up_to(
+pub(crate) fn lists_up_to(
     alloc: Global,
     terminals: usize,
     length: usize,

@@ -24,7 +24,7 @@ struct Siblings {
 }
 
 /// The texts of the parse trees of a list that have at most `nodes` nodes.
-pub fn parse_trees(
+pub(crate) fn parse_trees(
     alloc: Global,
     grammar: &PlainGrammar,
     start: usize,

@@ -25,7 +25,7 @@ const ROUNDS: usize = 1000;
 
 impl PlainValidity {
     /// What is valid for a prefix: from the empty prefix on, one symbol after the other.
-    pub fn new(
+    pub(crate) fn new(
         alloc: Global,
         grammar: &PlainGrammar,
         start: usize,
@@ -157,7 +157,7 @@ impl PlainValidity {
     }
 
     /// The valid tokens of a dotted production.
-    pub fn tokens_of(&self, alloc: Global, item: Dotted) -> Result<Vec<usize>, OutOfMemory> {
+    pub(crate) fn tokens_of(&self, alloc: Global, item: Dotted) -> Result<Vec<usize>, OutOfMemory> {
         let mut tokens = Vec::new(alloc);
         for pair in self.tokens.iter() {
             if pair.0 == item {
@@ -168,7 +168,7 @@ impl PlainValidity {
     }
 
     /// The symbols behind the dots, each once.
-    pub fn awaited(
+    pub(crate) fn awaited(
         &self,
         alloc: Global,
         grammar: &PlainGrammar,
@@ -183,7 +183,7 @@ impl PlainValidity {
     }
 
     /// The numbers of the productions whose dot is at the end, each once.
-    pub fn finished(
+    pub(crate) fn finished(
         &self,
         alloc: Global,
         grammar: &PlainGrammar,
@@ -198,7 +198,7 @@ impl PlainValidity {
     }
 
     /// The tokens on which a finished production is valid, none where it is not finished here.
-    pub fn reduced_on(
+    pub(crate) fn reduced_on(
         &self,
         alloc: Global,
         grammar: &PlainGrammar,
@@ -228,7 +228,7 @@ fn shifted(grammar: &PlainGrammar, item: Dotted, symbol: PlainSymbol) -> Option<
 }
 
 /// The live prefixes of at most some length, shorter ones first.
-pub fn live_prefixes(
+pub(crate) fn live_prefixes(
     alloc: Global,
     grammar: &PlainGrammar,
     start: usize,
@@ -271,7 +271,10 @@ fn add_longer(
 }
 
 /// All names and terminals of a grammar.
-pub fn all_symbols(alloc: Global, grammar: &PlainGrammar) -> Result<Vec<PlainSymbol>, OutOfMemory> {
+pub(crate) fn all_symbols(
+    alloc: Global,
+    grammar: &PlainGrammar,
+) -> Result<Vec<PlainSymbol>, OutOfMemory> {
     let mut symbols = Vec::new(alloc);
     for name in 0..grammar.names.len() {
         symbols.push(PlainSymbol::Name(name))?;

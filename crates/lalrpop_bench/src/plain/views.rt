@@ -12,7 +12,7 @@ use lalrpop_base::repr::{Symbol, TerminalString};
 use std::alloc::Global;
 
 /// Whether two lists have the same length and the same values.
-pub fn same<T: PartialEq>(a: &[T], b: &[T]) -> bool {
+pub(crate) fn same<T: PartialEq>(a: &[T], b: &[T]) -> bool {
     a.len() == b.len() && holds(a, b) && holds(b, a)
 }
 
@@ -27,7 +27,7 @@ fn holds<T: PartialEq>(all: &[T], some: &[T]) -> bool {
 }
 
 /// The numbers of the tokens of a set, the end of the input last.
-pub fn token_numbers(
+pub(crate) fn token_numbers(
     alloc: Global,
     set: &TokenSet,
     terminals: &TerminalSet,
@@ -53,7 +53,7 @@ fn terminal_number(terminal: &TerminalString, terminals: &TerminalSet) -> usize 
 }
 
 /// The place of the state to which a prefix leads from the first one.
-pub fn state_after(
+pub(crate) fn state_after(
     alloc: Global,
     grammar: &PlainGrammar,
     states: &[Lr1State<'_>],
@@ -77,7 +77,7 @@ pub fn state_after(
 }
 
 /// What a state's items say, as validity.
-pub fn items_of(
+pub(crate) fn items_of(
     alloc: Global,
     state: &Lr1State<'_>,
     terminals: &TerminalSet,
@@ -100,7 +100,7 @@ pub fn items_of(
 }
 
 /// The symbols that a state shifts or goes by.
-pub fn symbols_of(
+pub(crate) fn symbols_of(
     alloc: Global,
     grammar: &PlainGrammar,
     state: &Lr1State<'_>,
@@ -117,7 +117,7 @@ pub fn symbols_of(
 }
 
 /// The productions by which a state reduces, and each with each of its tokens.
-pub fn reductions_of(
+pub(crate) fn reductions_of(
     alloc: Global,
     state: &Lr1State<'_>,
     terminals: &TerminalSet,
@@ -135,7 +135,7 @@ pub fn reductions_of(
 }
 
 /// The conflicts of a state.
-pub fn conflicts_of(
+pub(crate) fn conflicts_of(
     alloc: Global,
     conflicts: &[Lr1Conflict<'_>],
     place: usize,
@@ -160,7 +160,7 @@ pub fn conflicts_of(
 }
 
 /// Whether the state after a prefix holds exactly what is valid for it.
-pub fn is_right_state(
+pub(crate) fn is_right_state(
     alloc: Global,
     grammar: &PlainGrammar,
     state: &Lr1State<'_>,

@@ -1,7 +1,9 @@
 //! The construction of lane tables.
 mod actions;
+pub mod merge;
 mod promote;
 mod resolving;
+pub mod state_set;
 mod states;
 mod tracing;
 

@@ -178,6 +178,33 @@ impl ContextSet {
     }
 }
 
+/// Whether each reduction is among the actions.
+pub fn are_among<'grammar>(
+    actions: &Set<Action<'grammar>>,
+    reductions: &[(TokenSet, &'grammar Production)],
+) -> bool
+    ensures { IsTrue result ↔ AreReducedAmong actions.now.keys reductions.now }
+{
+    for (_tokens, production) in reductions {
+        if !has_reduction(actions, production) {
+            return false;
+        }
+    }
+    true
+}
+
+// Whether the reduction by a production is among the actions.
+fn has_reduction<'grammar>(actions: &Set<Action<'grammar>>, production: &Production) -> bool
+    ensures { IsTrue result ↔ ((place : ℕ) × IsReductionAt actions.now.keys place production.now) }
+{
+    for action in actions.iter() {
+        if reduces_by(action, production) {
+            return true;
+        }
+    }
+    false
+}
+
 // The place of the reduction by a production that is among the actions.
 fn place_of_reduction<'grammar>(actions: &Set<Action<'grammar>>, production: &Production) -> usize
     requires { (place : ℕ) × IsReductionAt actions.now.keys place production.now }

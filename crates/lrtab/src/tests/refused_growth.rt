@@ -1,4 +1,5 @@
 //! Tests in which a growth is refused.
+use super::explanations::{ONE_EXAMPLE, ONE_EXAMPLE_EXPLAINED, TWICE_EXPLAINED};
 use super::reports::{AMBIGUOUS, ONE_TERMINAL, ONE_TERMINAL_BY_LANES};
 use super::words_of;
 use crate::refusing::{Refusing, TURNS};
@@ -80,4 +81,48 @@ fn each_growth_of_a_report_of_conflicts(rt: HostRuntime) -> Result<(), Fail> {
     let text = "S = \"x\"\nS = \"x\"\n";
     let canonical = Method::Canonical;
     each_growth_refused(&rt, rt.alloc(), canonical, text, "f S report", AMBIGUOUS, 1)
+}
+
+#[test]
+fn each_growth_of_an_explanation(rt: HostRuntime) -> Result<(), Fail> {
+    let canonical = Method::Canonical;
+    each_growth_refused(
+        &rt,
+        rt.alloc(),
+        canonical,
+        ONE_EXAMPLE,
+        "f S explain",
+        ONE_EXAMPLE_EXPLAINED,
+        1,
+    )
+}
+
+#[test]
+fn each_growth_where_nothing_is_explained(rt: HostRuntime) -> Result<(), Fail> {
+    let text = "S = \"x\"";
+    let canonical = Method::Canonical;
+    each_growth_refused(
+        &rt,
+        rt.alloc(),
+        canonical,
+        text,
+        "f S explain",
+        "no conflicts\n",
+        0,
+    )
+}
+
+#[test]
+fn each_growth_of_an_explanation_without_examples(rt: HostRuntime) -> Result<(), Fail> {
+    let text = "S = \"x\"\nS = \"x\"\n";
+    let canonical = Method::Canonical;
+    each_growth_refused(
+        &rt,
+        rt.alloc(),
+        canonical,
+        text,
+        "f S explain",
+        TWICE_EXPLAINED,
+        1,
+    )
 }

@@ -1,5 +1,5 @@
 //! Whether a lane table is closed under successors.
-ghost use Rattle.std.specs.Prelude.{◌↔◌, Contains, IsTrue};
+ghost use Rattle.std.specs.Prelude.{◌≡◌, ◌↔◌, Contains, IsTrue};
 ghost use Rattle.lalrpop_base.specs.declared.lr1_core.state.StateIndex.{StateIndex as State};
 ghost use Rattle.lalrpop_tables.specs.LaneRows.{HasCells};
 ghost use Rattle.lalrpop_tables.specs.LaneTableStates.{HasCellsBelow, IsClosedEdge};
@@ -63,8 +63,8 @@ impl<'grammar> LaneTable<'grammar> {
         self.has_row(successor)
     }
 
-    // Whether a state has a cell or a successor.
-    fn has_row(&self, state: StateIndex) -> bool
+    /// Whether a state has a cell, an empty one too, or a successor.
+    pub fn has_row(&self, state: StateIndex) -> bool
         ensures { IsTrue result ↔ HasRow self.now state }
     {
         if self.has_cell(state) {
@@ -74,6 +74,13 @@ impl<'grammar> LaneTable<'grammar> {
             Some(successors) => !successors.is_empty(),
             None => false,
         }
+    }
+
+    /// How many actions are traced.
+    pub fn column_count(&self) -> usize
+        ensures { result ≡ self.now.conflicts }
+    {
+        self.conflicts
     }
 
     // Whether a state has a cell.

@@ -1,0 +1,6 @@
+use Rattle.std.proofs.Common.{◌≡◌}
+use Rattle.lalrpop_tables.specs.Merges.{Advances}
+use Rattle.lalrpop_tables.proofs.lane_table.construct.merge.Merge.existing_copy.Given as goal
+
+abbrev pub invariant-loop-index : goal.invariant-loop-index
+invariant-loop-index l = record { advances : Advances l.initial.self l.self; same : l.self ≡ record l.initial.self { context_sets = l.self.context_sets } }

@@ -1,0 +1,10 @@
+use Rattle.lalrpop_tables.specs.Contexts.{Reduces}
+use Rattle.lalrpop_base.specs.declared.lr1_core.state.Action.{Action}
+use Rattle.lalrpop_tables.proofs.LaneTableStates.{HoldsSoFar, EachSoFar}
+use Rattle.lalrpop_tables.proofs.lane_table.context_set.has_reduction.Given as goal
+
+abbrev pub invariant-loop-action : goal.invariant-loop-action
+invariant-loop-action l =
+    (goal.iterator-loop-action).can_next l.action-iterator ×
+    (goal.iterator-loop-action).is_finite l.action-iterator ×
+    HoldsSoFar (EachSoFar (λ (a : Action). ¬ Reduces a l.production)) l.action-iterator l.actions.keys
