@@ -1,0 +1,3 @@
+//! What answers look like: one printing for each kind of value.
+pub(crate) mod states;
+pub(crate) mod words;
