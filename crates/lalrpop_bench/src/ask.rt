@@ -1,5 +1,11 @@
 //! Calls by their names: each answers a text.
+mod augment;
+mod first_sets;
+mod grammars;
+mod reports;
 mod states;
+mod views;
+mod words;
 
 ghost use Rattle.lalrpop_base.specs.WellFormed.{IsWellFormed};
 
@@ -35,13 +41,21 @@ fn answer_of_grammar(
 ) -> Result<String, QuestionError>
     requires { IsWellFormed grammar }
 {
+    if let Some(text) = grammars::answer(alloc, question, &grammar)? {
+        return Ok(text);
+    }
     match inline(alloc, grammar) {
         Ok(inlined) => answer_of_inlined(alloc, question, inlined),
-        Err(NormError::Cycle { span: _, name }) => {
-            Ok(format!(in alloc; "cyclic inline of {name}\n")?)
-        }
-        Err(NormError::TooManyActions) => Ok(String::from_str(alloc, "too many actions\n")?),
-        Err(NormError::Memory) => Err(QuestionError::Memory),
+        Err(error) => refusal(alloc, error),
+    }
+}
+
+/// Why a grammar is refused.
+pub(crate) fn refusal(alloc: Global, error: NormError) -> Result<String, QuestionError> {
+    match error {
+        NormError::Cycle { span: _, name } => Ok(format!(in alloc; "cyclic inline of {name}\n")?),
+        NormError::TooManyActions => Ok(String::from_str(alloc, "too many actions\n")?),
+        NormError::Memory => Err(QuestionError::Memory),
     }
 }
 
@@ -56,7 +70,22 @@ fn answer_of_inlined(
     if question.has("collapsed") {
         grammar.algorithm = Algorithm { lalr: true };
     }
+    if let Some(text) = grammars::answer_inlined(alloc, question, &grammar)? {
+        return Ok(text);
+    }
+    if let Some(text) = first_sets::answer(alloc, question, &grammar)? {
+        return Ok(text);
+    }
     if let Some(text) = states::answer(alloc, question, &grammar)? {
+        return Ok(text);
+    }
+    if let Some(text) = views::answer(alloc, question, &grammar)? {
+        return Ok(text);
+    }
+    if let Some(text) = reports::answer(alloc, question, &grammar)? {
+        return Ok(text);
+    }
+    if let Some(text) = augment::answer(alloc, question, &grammar)? {
         return Ok(text);
     }
     Err(QuestionError::Call)

@@ -80,9 +80,26 @@ impl<'text> Question<'text> {
         }
     }
 
-    /// Whether one of the arguments is the word.
+    /// Whether one of the arguments behind the first is the word.
     pub(crate) fn has(&self, word: &str) -> bool {
-        self.arguments.iter().any(|argument| *argument == word)
+        for argument in self.from(2) {
+            if *argument == word {
+                return true;
+            }
+        }
+        false
+    }
+
+    /// How many arguments stand before the first that is the word.
+    pub(crate) fn until(&self, word: &str) -> usize {
+        let mut count: usize = 0;
+        for argument in &self.arguments {
+            if *argument == word {
+                return count;
+            }
+            count = count.saturating_add(1);
+        }
+        count
     }
 }
 
