@@ -140,23 +140,22 @@ fn compare_texts(
 fn first_difference<'a>(a: &'a str, b: &'a str) -> (&'a str, &'a str) {
     let mut left = a;
     let mut right = b;
-    while let (Some((x, more)), Some((y, others))) = (
-        left.split_once('\n'),
-        right.split_once('\n'),
-    ) {
+    while let Some((x, more)) = left.split_once('\n') {
+        let (y, others) = first_line(right);
         if x != y {
             return (x, y);
         }
         left = more;
         right = others;
     }
-    (first_line(left), first_line(right))
+    let (y, _) = first_line(right);
+    (left, y)
 }
 
-// The first line of a text.
-fn first_line(text: &str) -> &str {
+// The first line of a text, and what stands behind it.
+fn first_line(text: &str) -> (&str, &str) {
     match text.split_once('\n') {
-        Some((line, _)) => line,
-        None => text,
+        Some((line, more)) => (line, more),
+        None => (text, ""),
     }
 }
