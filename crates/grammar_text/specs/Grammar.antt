@@ -21,7 +21,6 @@ use Rattle.lalrpop_base.specs.declared.repr.grammar.ActionFnDefnKind.TheVariants
 use Rattle.grammar_text.specs.declared.lines.Line.{Line}
 use Rattle.grammar_text.specs.declared.lines.Line.TheVariants.{Blank, Production as production_line, Inline, Fault}
 use Rattle.grammar_text.specs.declared.lines.PlacedLine.{PlacedLine}
-use Rattle.lalrpop_lr1.specs.InlineOrder.{inline_mark}
 
 -- the production that a line is, with an action, or none
 abbrev pub production_of : ℕ → Span → Line → List Production
@@ -52,6 +51,10 @@ line_names a Fault = false
 -- whether a line names a nonterminal, as the left side of its production or as one to be inlined
 abbrev pub names : NonterminalString → PlacedLine → Bool
 names a l = line_names a l.line
+
+-- the mark of a nonterminal that is to be inlined
+abbrev pub inline_mark : Attribute
+inline_mark = record { id = codes "inline" }
 
 -- the marks that a line gives a nonterminal
 abbrev pub line_marks : NonterminalString → Line → List Attribute

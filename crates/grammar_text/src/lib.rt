@@ -1,4 +1,4 @@
-//! The grammar text, and its reader.
+//! The grammar text: a reader that is proved.
 #![tactic(auto)]
 
 mod collected;
