@@ -70,11 +70,11 @@ pub(crate) fn time_lanes(
 }
 
 // The check of what a construction answers.
-fn time_check(
+fn time_check<'grammar>(
     rt: &HostRuntime,
-    grammar: &Grammar,
+    grammar: &'grammar Grammar,
     start: &NonterminalString,
-    answer: &Lr1Result<'_>,
+    answer: &Lr1Result<'grammar>,
 ) -> anyhow::Result<()>
     requires { IsWellFormed grammar.now }
 {
