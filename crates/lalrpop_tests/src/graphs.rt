@@ -1,14 +1,13 @@
-// Graphs of states that are not all built, and traces that are made by hand.
+// Graphs of states that are not all built, and nodes of traces.
 ghost use Rattle.lalrpop_base.specs.WellFormed.{IsWellFormed};
 
 use crate::fixtures::{EMPTY_FIRST, first_production, grammar, literal};
 use grammar_text::symbols::name_of;
 use lalrpop_base::lr1_core::item::Item;
 use lalrpop_base::lr1_core::state::{BuildError, Lr1State, StateIndex};
-use lalrpop_base::lr1_core::symbol_sets::SymbolSets;
 use lalrpop_base::repr::Symbol;
 use lalrpop_base::repr::grammar::Grammar;
-use lalrpop_lr1::trace::{TraceGraph, TraceGraphNode};
+use lalrpop_lr1::trace::TraceGraphNode;
 use lalrpop_tables::build::options::Options;
 use lalrpop_tables::lr1::build_states;
 use lalrpop_tables::state_graph::StateGraph;
@@ -50,29 +49,20 @@ fn targets_need_not_be_built(rt: HostRuntime) -> Result<(), Fail> {
     Ok(())
 }
 
-// An equal edge is kept once.
+// A name comes before an item.
 #[test]
-fn a_trace_made_by_hand(rt: HostRuntime) -> Result<(), Fail> {
+fn nodes_are_compared(rt: HostRuntime) -> Result<(), Fail> {
     let alloc = rt.alloc();
     let grammar = grammar(alloc, "A = B \"x\"")?;
     let production = first_production(alloc, &grammar, "A")?;
     assert_eq!(rt; production.symbols.len(), 2);
     let item = Item::lr0(production, 1);
-    let mut graph = TraceGraph::new(alloc);
-    for _ in 0..2 {
-        let from = TraceGraphNode::from(name_of(alloc, "A")?);
-        graph.add_edge(from, TraceGraphNode::from(&item), item.symbol_sets())?;
-    }
-    assert_eq!(rt; graph.edges().len(), 1);
-    let node = TraceGraphNode::from(Item::lr0(production, 1));
-    let index = graph.add_node(node.clone(alloc)?)?;
-    assert_eq!(rt; index.0, 1);
-    assert!(rt; graph.contains(&item) && !graph.contains(&Item::lr0(production, 2)));
-    assert!(rt; TraceGraphNode::from(name_of(alloc, "B")?) < node);
-    let mut examples = graph.lr0_examples(item)?;
-    assert!(rt; !examples.found_trace() && examples.next().is_none());
-    let other = TraceGraphNode::from(name_of(alloc, "B")?);
-    graph.add_edge(other, node, SymbolSets::new())?;
-    assert_eq!(rt; graph.edges().len(), 2);
+    let name = TraceGraphNode::from(name_of(alloc, "B")?);
+    let borrowed = TraceGraphNode::from(&item);
+    let node = TraceGraphNode::from(item);
+    assert!(rt; node == borrowed && node == node.clone(alloc)?);
+    assert!(rt; name < node && name == name.clone(alloc)?);
+    assert!(rt; TraceGraphNode::from(name_of(alloc, "A")?) < name);
+    assert!(rt; node < TraceGraphNode::from(Item::lr0(production, 2)));
     Ok(())
 }
