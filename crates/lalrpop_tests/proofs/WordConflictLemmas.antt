@@ -4,8 +4,8 @@ use Rattle.std.specs.List.{flat_map}
 use Rattle.lalrpop_base.specs.declared.repr.TerminalString.{TerminalString}
 use Rattle.lalrpop_base.specs.declared.lr1_core.state.StateIndex.{StateIndex}
 use Rattle.lalrpop_base.specs.declared.lr1_core.state.Conflict.{Conflict}
-use Rattle.lalrpop_bench.specs.declared.word_lookahead.Word.{Word}
-use Rattle.lalrpop_bench.specs.WordConflicts.{Reduction, shift_conflicts}
+use Rattle.lalrpop_tests.specs.declared.word_lookahead.Word.{Word}
+use Rattle.lalrpop_tests.specs.WordConflicts.{Reduction, shift_conflicts}
 
 pub shift_more : (terminals : List TerminalString) (state : StateIndex) (rs : List Reduction) (list new start : List (Conflict Word)) (whole before rest : List (TerminalString × StateIndex)) (e : TerminalString × StateIndex) →
     before ≡ e ∷ rest → list ++ flat_map (shift_conflicts terminals state rs) before ≡ start ++ flat_map (shift_conflicts terminals state rs) whole → new ≡ list ++ shift_conflicts terminals state rs e →

@@ -19,9 +19,9 @@ use Rattle.lalrpop_base.specs.declared.repr.TerminalString.{TerminalString}
 use Rattle.lalrpop_base.proofs.HeldTokens.{place_there}
 use Rattle.lalrpop_tables.proofs.KnownTerminals.{token_bit, held_bit, bit_held, begun_bit}
 use Rattle.lalrpop_tables.proofs.Places.{one_place, same_some}
-use Rattle.lalrpop_bench.specs.declared.word_lookahead.Word.{Word}
-use Rattle.lalrpop_bench.specs.Words.{bits_of_word, has-bits_of_word, word-zero, word-or}
-use Rattle.lalrpop_bench.specs.WordMoves.{BeginsLow, IsWordOf}
+use Rattle.lalrpop_tests.specs.declared.word_lookahead.Word.{Word}
+use Rattle.lalrpop_tests.specs.Words.{bits_of_word, has-bits_of_word, word-zero, word-or}
+use Rattle.lalrpop_tests.specs.WordMoves.{BeginsLow, IsWordOf}
 
 -- the word of one bit
 one_has : (k bit : ℕ) → has (bits_of_word (2 ^ k)) bit ≡ true → bit ≡ k

@@ -9,8 +9,8 @@ use Rattle.lalrpop_base.specs.declared.lr1_core.state.StateIndex.{StateIndex}
 use Rattle.lalrpop_base.specs.declared.lr1_core.state.State.{State}
 use Rattle.lalrpop_base.specs.declared.lr1_core.state.Conflict.{Conflict}
 use Rattle.lalrpop_base.specs.declared.lr1_core.state.Action.TheVariants.{Shift, Reduce}
-use Rattle.lalrpop_bench.specs.declared.word_lookahead.Word.{Word}
-use Rattle.lalrpop_bench.specs.Words.{holds_bit}
+use Rattle.lalrpop_tests.specs.declared.word_lookahead.Word.{Word}
+use Rattle.lalrpop_tests.specs.Words.{holds_bit}
 
 -- a reduction: its word and its production
 abbrev pub Reduction : Type 0

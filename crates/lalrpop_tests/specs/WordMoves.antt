@@ -7,8 +7,8 @@ use Rattle.lalrpop_base.specs.declared.lookahead.token.Token.{Token}
 use Rattle.lalrpop_base.specs.declared.lookahead.token.Token.TheVariants.{Eof, Error, Terminal as TokenOf}
 use Rattle.lalrpop_base.specs.declared.repr.Symbol.{Symbol}
 use Rattle.lalrpop_base.specs.declared.repr.TerminalString.{TerminalString}
-use Rattle.lalrpop_bench.specs.declared.word_lookahead.Word.{Word}
-use Rattle.lalrpop_bench.specs.Words.{bits_of_word}
+use Rattle.lalrpop_tests.specs.declared.word_lookahead.Word.{Word}
+use Rattle.lalrpop_tests.specs.Words.{bits_of_word}
 
 -- the terminal stands at a place below 64
 abbrev pub IsLow : List TerminalString → TerminalString → Type 0

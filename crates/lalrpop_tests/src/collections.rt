@@ -1,13 +1,12 @@
-// Collections and what a push answers.
+// Collections and what a push answers, at types of the standard library and at the lookaheads.
+use crate::fixtures::literals;
 use lalrpop_base::collections::multimap::Multimap;
 use lalrpop_base::collections::{Collection, Set, push_twice};
 use lalrpop_base::lookahead::nil::Nil;
 use lalrpop_base::lookahead::token::Token;
 use lalrpop_base::lookahead::token_set::TokenSet;
 use lalrpop_base::lookahead::{Lookahead, join, join_twice, make_empty};
-use lalrpop_base::repr::TerminalString;
 use lalrpop_base::repr::terminals::TerminalSet;
-use lalrpop_base::text::Text;
 use std::test::Fail;
 
 #[test]
@@ -38,9 +37,7 @@ fn maps_of_collections(rt: HostRuntime) -> Result<(), Fail> {
     for (key, changed) in [(0, true), (0, false), (1, true), (0, false)] {
         assert_eq!(rt; keys.push(key, ())?, changed);
     }
-    assert!(rt; !keys.is_empty());
-    assert!(rt; keys.get(&1).is_some());
-    assert!(rt; keys.get(&2).is_none());
+    assert!(rt; keys.get(&1).is_some() && keys.get(&2).is_none());
     let mut sets: Multimap<u32, Set<char>> = Multimap::new(alloc);
     for (key, value, changed) in [
         (0, 'a', true),
@@ -74,9 +71,7 @@ fn maps_from_pairs(rt: HostRuntime) -> Result<(), Fail> {
 #[test]
 fn joins(rt: HostRuntime) -> Result<(), Fail> {
     let alloc = rt.alloc();
-    let mut all = Vec::new(alloc);
-    all.push(TerminalString::Bare(Text::new(alloc, "a")?))?;
-    let terminals = TerminalSet::new(alloc, all)?;
+    let terminals = TerminalSet::new(alloc, literals(alloc, &["a"])?)?;
     let mut set: TokenSet = make_empty(alloc);
     let eof = TokenSet::of(alloc, Token::Eof, &terminals)?;
     assert_eq!(rt; join(alloc, &mut set, &eof)?, true);

@@ -1,75 +1,25 @@
-//! Tests of the public calls of the libraries with ample memory, each beside what is owed, and a plain
-//! slow program that computes the definitions on small inputs.
+//! Tests of the libraries' public calls where no case file can ask: a lookahead of a user's own, values that a text
+//! does not make, conditions that fail, and writers that stop.
 #![tactic(auto)]
 
 #[cfg(test)]
-mod augment;
-#[cfg(test)]
-mod build;
-#[cfg(test)]
-mod build_lalr;
-#[cfg(test)]
-mod check;
-#[cfg(test)]
-mod collapsible;
-#[cfg(test)]
 mod collections;
 #[cfg(test)]
-mod early_stop;
+mod conditions;
 #[cfg(test)]
-mod first;
+mod fixtures;
 #[cfg(test)]
-mod hostile;
+mod graphs;
 #[cfg(test)]
-mod inline;
+mod lanes;
 #[cfg(test)]
-mod interpret;
+mod tokens;
 #[cfg(test)]
-mod interpret_headline;
+mod values;
 #[cfg(test)]
-mod interpret_lr0;
-#[cfg(test)]
-mod interpret_rows;
-#[cfg(test)]
-mod interpret_tree;
-#[cfg(test)]
-mod kernel;
-#[cfg(test)]
-mod kernel_set;
-#[cfg(test)]
-mod lane_merge;
-#[cfg(test)]
-mod lane_states;
-#[cfg(test)]
-mod lane_table;
-#[cfg(test)]
-mod lookahead;
-#[cfg(test)]
-mod lr0;
-#[cfg(test)]
-mod lr1_core;
-#[cfg(test)]
-mod lr1_lalr;
-#[cfg(test)]
-mod plain;
-#[cfg(test)]
-mod renumber;
-#[cfg(test)]
-mod report;
-#[cfg(test)]
-mod repr;
-#[cfg(test)]
-mod state_graph;
-#[cfg(test)]
-mod texts;
-#[cfg(test)]
-mod trace;
-#[cfg(test)]
-mod trace_rows;
-#[cfg(test)]
-mod vectors;
-#[cfg(test)]
-mod views;
+mod without_lookahead;
 pub mod word_lookahead;
 #[cfg(test)]
 mod word_states;
+#[cfg(test)]
+mod writers;

@@ -5,8 +5,8 @@ mod conflicts;
 ghost use Rattle.std.specs.Prelude.{◌≡◌, ◌==◌, ◌<◌, ◌^◌, bit_or, bit_and, IsTrue, refl};
 ghost use Rattle.std.proofs.Common.{ap, ◌∙◌, eqb-true};
 ghost use Rattle.lalrpop_base.specs.Bits.{no_bits};
-ghost use Rattle.lalrpop_bench.specs.WordConflicts.{word_conflicts};
-ghost use Rattle.lalrpop_bench.specs.Words.{bits_of_word, holds_bit, same_word, word-zero, word-or};
+ghost use Rattle.lalrpop_tests.specs.WordConflicts.{word_conflicts};
+ghost use Rattle.lalrpop_tests.specs.Words.{bits_of_word, holds_bit, same_word, word-zero, word-or};
 
 use lalrpop_base::collections::Collection;
 use lalrpop_base::lookahead::Lookahead;

@@ -3,8 +3,8 @@ ghost use Rattle.std.specs.Prelude.{◌≡◌, ◌^◌, ◌<◌, ◌≤◌, bit_
 ghost use Rattle.lalrpop_base.specs.Bits.{has};
 ghost use Rattle.lalrpop_base.specs.Grammar.{IsNullable};
 ghost use Rattle.lalrpop_base.specs.Tokens.{FitsTokens};
-ghost use Rattle.lalrpop_bench.specs.WordMoves.{BeginsLow, IsWordOf};
-ghost use Rattle.lalrpop_bench.specs.Words.{bits_of_word};
+ghost use Rattle.lalrpop_tests.specs.WordMoves.{BeginsLow, IsWordOf};
+ghost use Rattle.lalrpop_tests.specs.Words.{bits_of_word};
 
 use super::Word;
 use lalrpop_base::lookahead::token::Token;

@@ -1,7 +1,7 @@
 //! The conflicts of a state whose lookaheads are words.
 ghost use Rattle.std.specs.Prelude.{◌≡◌, ◌++◌, ◌∷◌, [], OnOk, IfOk};
 ghost use Rattle.std.specs.List.{flat_map};
-ghost use Rattle.lalrpop_bench.specs.WordConflicts.{word_conflicts, shift_conflicts, conflicts_on_place, conflicts_on_bit, later_conflicts, reduce_conflicts};
+ghost use Rattle.lalrpop_tests.specs.WordConflicts.{word_conflicts, shift_conflicts, conflicts_on_place, conflicts_on_bit, later_conflicts, reduce_conflicts};
 
 use super::Word;
 use lalrpop_base::lr1_core::state::{Action, Conflict, State, StateIndex};

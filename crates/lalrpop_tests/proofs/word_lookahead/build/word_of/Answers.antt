@@ -2,8 +2,8 @@ use Rattle.std.proofs.Common.{◌≡◌, List, refl, subst, arith, Some}
 use Rattle.std.specs.Prelude.{slice_get}
 use Rattle.std.proofs.lemmas.Option.{slice_get_read}
 use Rattle.lalrpop_base.specs.declared.repr.TerminalString.{TerminalString}
-use Rattle.lalrpop_bench.proofs.WordMoves.{Word-none, Word-more}
-use Rattle.lalrpop_bench.proofs.word_lookahead.build.word_of.Goals as goal
+use Rattle.lalrpop_tests.proofs.WordMoves.{Word-none, Word-more}
+use Rattle.lalrpop_tests.proofs.word_lookahead.build.word_of.Goals as goal
 
 pub loop-bit-init : goal.loop-bit-init
 loop-bit-init c = Word-none c.args.set.now _ refl

@@ -1,8 +1,8 @@
 use Rattle.std.proofs.Common.{◌++◌, ◌∙◌, sym, ap}
-use Rattle.lalrpop_bench.specs.WordConflicts.{conflicts_on_place}
+use Rattle.lalrpop_tests.specs.WordConflicts.{conflicts_on_place}
 use Rattle.lalrpop_base.proofs.ConflictLemmas.{bit_is_place}
-use Rattle.lalrpop_bench.proofs.WordConflictLemmas.{shift_more}
-use Rattle.lalrpop_bench.proofs.word_lookahead.conflicts.add_shift_conflicts.Goals as goal
+use Rattle.lalrpop_tests.proofs.WordConflictLemmas.{shift_more}
+use Rattle.lalrpop_tests.proofs.word_lookahead.conflicts.add_shift_conflicts.Goals as goal
 
 pub loop-terminal-preserved : goal.loop-terminal-preserved
 loop-terminal-preserved c =

@@ -1,7 +1,7 @@
 use Rattle.std.proofs.Common.{◌≡◌, ◌++◌}
 use Rattle.std.specs.List.{flat_map}
-use Rattle.lalrpop_bench.specs.WordConflicts.{shift_conflicts}
-use Rattle.lalrpop_bench.proofs.word_lookahead.conflicts.add_shift_conflicts.Given as goal
+use Rattle.lalrpop_tests.specs.WordConflicts.{shift_conflicts}
+use Rattle.lalrpop_tests.proofs.word_lookahead.conflicts.add_shift_conflicts.Given as goal
 
 abbrev pub invariant-loop-terminal : goal.invariant-loop-terminal
 invariant-loop-terminal l =

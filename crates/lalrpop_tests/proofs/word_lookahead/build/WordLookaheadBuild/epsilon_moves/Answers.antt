@@ -7,9 +7,9 @@ use Rattle.lalrpop_base.specs.Places.{AllDiffer}
 use Rattle.lalrpop_base.specs.WellFormed.{Rules, HasKnownTerminals}
 use Rattle.lalrpop_base.specs.declared.repr.Production.{Production}
 use Rattle.lalrpop_tables.proofs.Grammars.{known_symbols}
-use Rattle.lalrpop_bench.specs.WordMoves.{IsWordOf}
-use Rattle.lalrpop_bench.proofs.WordMoves.{Word-holds, Word-fits, low_bit}
-use Rattle.lalrpop_bench.proofs.word_lookahead.build.WordLookaheadBuild.epsilon_moves.Goals as goal
+use Rattle.lalrpop_tests.specs.WordMoves.{IsWordOf}
+use Rattle.lalrpop_tests.proofs.WordMoves.{Word-holds, Word-fits, low_bit}
+use Rattle.lalrpop_tests.proofs.word_lookahead.build.WordLookaheadBuild.epsilon_moves.Goals as goal
 
 pub returns : goal.returns
 returns c =
