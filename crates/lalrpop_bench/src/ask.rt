@@ -1,11 +1,11 @@
 //! Calls by their names: each answers a text.
+mod arguments;
 mod augment;
 mod first_sets;
 mod grammars;
 mod reports;
 mod states;
 mod views;
-mod words;
 
 ghost use Rattle.lalrpop_base.specs.WellFormed.{IsWellFormed};
 

@@ -1,7 +1,7 @@
 //! Questions of first sets.
 ghost use Rattle.lalrpop_base.specs.WellFormed.{IsWellFormed};
 
-use super::words::{known_symbols, token_set_of};
+use super::arguments::{known_symbols, token_set_of};
 use crate::question::{Question, QuestionError};
 use crate::show::words::push_tokens;
 use lalrpop_base::first::FirstSets;

@@ -1,8 +1,8 @@
 //! Questions of reports.
 ghost use Rattle.lalrpop_base.specs.WellFormed.{IsWellFormed};
 
+use super::arguments::{method_at, options_from};
 use super::states::start_of;
-use super::words::{method_at, options_from};
 use crate::question::{Question, QuestionError};
 use lalrpop_base::repr::NonterminalString;
 use lalrpop_base::repr::grammar::Grammar;

@@ -1,7 +1,7 @@
 //! Questions of states.
 ghost use Rattle.lalrpop_base.specs.WellFormed.{IsWellFormed};
 
-use super::words::{method_at, options_from};
+use super::arguments::{method_at, options_from};
 use crate::question::{Question, QuestionError};
 use crate::show::states::{push_counts, push_result};
 use crate::show::words::ShownLookahead;
