@@ -118,8 +118,9 @@ def write_waiting(folder, grammars, texts):
     """Writes the cases that wait for copies of states."""
     kinds = {kind: ask for file_kinds in FILES.values() for kind, ask in file_kinds.items()}
     blocks, count = blocks_of(grammars, texts, kinds, waits=True)
-    remark = ("# Cases of values of the model that wait until the lane way copies states.\n"
-              "# Made by from_values/convert.py. No run asks them yet.\n")
+    remark = ("# Cases of the model's values that wait, since the lane way makes no copies of states yet:\n"
+              "# build_lane_table_states answers the error at which it would copy, and build_states the\n"
+              "# canonical states. No run asks them. Made by from_values/convert.py.\n")
     write_file(folder / WAITING, remark, blocks, count)
 
 
