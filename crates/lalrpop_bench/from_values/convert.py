@@ -11,6 +11,7 @@ import questions as of_states
 import walked_questions as of_walks
 from questions import Grammar
 
+FOLDER = "model"
 WAITING = "lane_copies.cases"
 
 # Of each case file: the kinds of values it holds, each with what makes questions of it.
@@ -137,7 +138,7 @@ def main(words):
         blocks, count = blocks_of(grammars, texts, kinds, waits=False)
         what = " ".join(ask.__doc__ for ask in kinds.values())
         remark = f"# {what}\n# Made by from_values/convert.py of the values of a model.\n"
-        write_file(data / name, remark, blocks, count)
+        write_file(data / FOLDER / name, remark, blocks, count)
     write_waiting(data.parent / "waiting", grammars, texts)
     return 0
 
