@@ -11,6 +11,7 @@ import questions as of_states
 import walked_questions as of_walks
 from questions import Grammar
 
+FOLDER = "model"
 WAITING = "lane_copies.cases"
 
 # Of each case file: the kinds of values it holds, each with what makes questions of it.
@@ -118,8 +119,9 @@ def write_waiting(folder, grammars, texts):
     """Writes the cases that wait for copies of states."""
     kinds = {kind: ask for file_kinds in FILES.values() for kind, ask in file_kinds.items()}
     blocks, count = blocks_of(grammars, texts, kinds, waits=True)
-    remark = ("# Cases of values of the model that wait until the lane way copies states.\n"
-              "# Made by from_values/convert.py. No run asks them yet.\n")
+    remark = ("# Cases of the model's values that wait, since the lane way makes no copies of states yet:\n"
+              "# build_lane_table_states answers the error at which it would copy, and build_states the\n"
+              "# canonical states. No run asks them. Made by from_values/convert.py.\n")
     write_file(folder / WAITING, remark, blocks, count)
 
 
@@ -136,7 +138,7 @@ def main(words):
         blocks, count = blocks_of(grammars, texts, kinds, waits=False)
         what = " ".join(ask.__doc__ for ask in kinds.values())
         remark = f"# {what}\n# Made by from_values/convert.py of the values of a model.\n"
-        write_file(data / name, remark, blocks, count)
+        write_file(data / FOLDER / name, remark, blocks, count)
     write_waiting(data.parent / "waiting", grammars, texts)
     return 0
 
