@@ -11,6 +11,8 @@ mod fixtures;
 #[cfg(test)]
 mod graphs;
 #[cfg(test)]
+mod inlining;
+#[cfg(test)]
 mod lanes;
 #[cfg(test)]
 mod tokens;
