@@ -6,7 +6,8 @@ use lalrpop_base::lookahead::Lookahead;
 use lalrpop_base::lookahead::nil::Nil;
 use lalrpop_base::lr1_core::item::Item;
 use lalrpop_base::lr1_core::state::StateIndex;
-use lalrpop_base::repr::{Symbol, TerminalString, clone_symbols};
+use lalrpop_base::repr::augment::augment;
+use lalrpop_base::repr::{Span, Symbol, TerminalString, clone_symbols};
 use lalrpop_base::sequence::Sequence;
 use lalrpop_base::text::Text;
 use lalrpop_lr1::interpret::ParseTree;
@@ -76,6 +77,20 @@ fn productions_are_compared(rt: HostRuntime) -> Result<(), Fail> {
     assert!(rt; contains(&listed, first) && !contains(&listed, second));
     let symbols = clone_symbols(alloc, second.symbols.as_slice())?;
     assert!(rt; equal(&symbols, &first.symbols));
+    Ok(())
+}
+
+#[test]
+fn a_new_start_symbol_has_the_place_of_the_old(rt: HostRuntime) -> Result<(), Fail> {
+    let alloc = rt.alloc();
+    let grammar = grammar(alloc, "A = \"x\"\nS = A")?;
+    let Ok((new, name)) = augment(alloc, grammar, name_of(alloc, "S")?) else {
+        panic!(rt; "refused");
+    };
+    let Some(production) = new.productions_for(&name).first() else {
+        panic!(rt; "no production");
+    };
+    assert_eq!(rt; production.span, Span(8, 13));
     Ok(())
 }
 
