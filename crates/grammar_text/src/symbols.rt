@@ -10,7 +10,7 @@ use lalrpop_base::text::Text;
 use std::alloc::Global;
 
 /// The pieces of a text between the places of an ASCII character.
-pub(crate) fn pieces<'a>(
+pub fn pieces<'a>(
     alloc: Global,
     text: &'a str,
     by: char,
