@@ -107,6 +107,8 @@ def wait_for(names, beside):
     """Waits until the `rt ci` that runs beside has proved the crates. Its words go to the file `said` of the folder, and `status` is there once it has ended."""
     while True:
         has_ended = os.path.exists(f"{beside}/status")
+        # (so that its last words have reached the file)
+        time.sleep(1)
         said = read(f"{beside}/said") if os.path.exists(f"{beside}/said") else ""
         lacking = [it for it in names if not re.search(rf"(?m)^rt: {re.escape(it)} proved$", said)]
         failed = [it for it in lacking if has_ended or re.search(rf"(?m)^rt: {re.escape(it)} NOT PROVED", said)]
@@ -114,4 +116,3 @@ def wait_for(names, beside):
             raise NotProved(f"rt ci has not proved {failed[0]}")
         if not lacking:
             return
-        time.sleep(1)
