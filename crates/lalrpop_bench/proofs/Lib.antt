@@ -1,2 +1,0 @@
-mod WordConflictLemmas
-pub mod WordMoves

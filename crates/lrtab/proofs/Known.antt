@@ -5,10 +5,10 @@ use Rattle.std.specs.Str.{IsUtf8}
 use Rattle.lalrpop_base.specs.declared.memory.OutOfMemory.{OutOfMemory}
 use Rattle.lrtab.specs.declared.answer.Answer.{Answer}
 use Rattle.lrtab.specs.declared.answer.Answer.TheVariants.{Output, Fault, Usage, TooManyActions, Memory}
-use Rattle.lrtab.specs.declared.read_error.ReadError.TheVariants.{Line as LineFault}
-use Rattle.lrtab.specs.Lines.{lines_of, is_fault}
-use Rattle.lrtab.specs.Faults.{IsFaultOf}
-use Rattle.lrtab.specs.Grammar.{StandsFor}
+use Rattle.grammar_text.specs.declared.read_error.ReadError.TheVariants.{Line as LineFault}
+use Rattle.grammar_text.specs.Lines.{lines_of, is_fault}
+use Rattle.grammar_text.specs.Faults.{IsFaultOf}
+use Rattle.grammar_text.specs.Grammar.{StandsFor}
 use Rattle.lalrpop_base.specs.declared.repr.grammar.Grammar.{Grammar}
 use Rattle.lalrpop_tables.specs.declared.build.options.Method.{Method}
 use Rattle.lrtab.specs.Words.{Asked}

@@ -1,11 +1,6 @@
-pub mod Texts
-pub mod Growth
-pub mod Numbered
 pub mod Plain
 pub mod ReportShown
 pub mod RunShown
-pub mod WellFormed
-pub mod TooLong
 pub mod Written
 pub mod Known
 pub mod ExplainedParts

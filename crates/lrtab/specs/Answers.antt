@@ -6,10 +6,10 @@ use Rattle.std.specs.Str.{IsUtf8}
 use Rattle.std.specs.Io.KnownBytes.{Keeps, Appends}
 use Rattle.lrtab.specs.declared.answer.Answer.{Answer}
 use Rattle.lrtab.specs.declared.answer.Answer.TheVariants.{Output, Fault, Usage, TooManyActions, Memory}
-use Rattle.lrtab.specs.declared.read_error.ReadError.TheVariants.{Line as LineFault, TooManyActions as TooMany}
-use Rattle.lrtab.specs.Lines.{lines_of, is_fault}
-use Rattle.lrtab.specs.Faults.{IsFaultOf}
-use Rattle.lrtab.specs.Grammar.{StandsFor}
+use Rattle.grammar_text.specs.declared.read_error.ReadError.TheVariants.{Line as LineFault, TooManyActions as TooMany}
+use Rattle.grammar_text.specs.Lines.{lines_of, is_fault}
+use Rattle.grammar_text.specs.Faults.{IsFaultOf}
+use Rattle.grammar_text.specs.Grammar.{StandsFor}
 use Rattle.lalrpop_base.specs.declared.repr.NonterminalString.{NonterminalString}
 use Rattle.lalrpop_base.specs.declared.repr.grammar.Grammar.{Grammar}
 use Rattle.lalrpop_tables.specs.declared.build.options.Method.{Method}

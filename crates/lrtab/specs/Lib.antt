@@ -1,8 +1,3 @@
-pub mod Symbols
-pub mod Lines
-pub mod Grammar
-pub mod Collected
-pub mod Faults
 pub mod Words
 pub mod Output
 pub mod Explained

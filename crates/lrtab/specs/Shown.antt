@@ -31,7 +31,7 @@ use Rattle.lalrpop_lr1.specs.Report.{tables_report, failure_report}
 use Rattle.lalrpop_lr1.specs.declared.interpret.error.InterpretError.{InterpretError}
 use Rattle.lalrpop_lr1.specs.declared.interpret.error.InterpretError.TheVariants.{Refused as RefusedBy, Limit as LimitPassed, Memory}
 use Rattle.lalrpop_lr1.specs.declared.interpret.tree.ParseTree.{ParseTree}
-use Rattle.lrtab.specs.Symbols.{name_of}
+use Rattle.grammar_text.specs.Symbols.{name_of}
 use Rattle.lrtab.specs.Explained.{IsExplanation}
 use Rattle.lrtab.specs.Words.{Asked, Task, Parse, Report, Explain}
 

@@ -7,7 +7,7 @@ use Rattle.lalrpop_tables.specs.declared.build.options.Method.TheVariants.{Lane,
 use Rattle.lrtab.specs.declared.words.Request.{Request}
 use Rattle.lrtab.specs.declared.words.Task.{Task as TaskWords}
 use Rattle.lrtab.specs.declared.words.Task.TheVariants.{Parse as ParseWords, Report as ReportWords, Explain as ExplainWords}
-use Rattle.lrtab.specs.Symbols.{is_name}
+use Rattle.grammar_text.specs.Symbols.{is_name}
 
 -- the number that a word writes in decimal digits alone, where there are some and it is below 2 ^ 64
 abbrev pub limit_of : List ℕ → Option ℕ

@@ -13,10 +13,10 @@ ghost use Rattle.lrtab.specs.Answers.{file_name, IsAnswer, IsAnswerTo, IsAnswerT
 ghost use Rattle.lrtab.specs.Shown.{line, IsShown, IsTaskShown, IsRunShown, IsTextOf};
 
 use crate::explain::explanation;
-use crate::grammar::read;
-use crate::read_error::ReadError;
-use crate::symbols::name_of;
 use crate::words::{Request, Task, request_of};
+use grammar_text::grammar::read;
+use grammar_text::read_error::ReadError;
+use grammar_text::symbols::name_of;
 use lalrpop_base::lookahead::token_set::TokenSet;
 use lalrpop_base::lr1_core::state::{BuildError, Lr1Result, Lr1State};
 use lalrpop_base::memory::OutOfMemory;

@@ -2,16 +2,11 @@
 #![tactic(auto)]
 
 mod answer;
-mod collected;
 mod explain;
-mod grammar;
-mod lines;
 mod output;
-mod read_error;
 #[cfg(test)]
 mod refusing;
 mod run;
-mod symbols;
 #[cfg(test)]
 mod tests;
 mod words;

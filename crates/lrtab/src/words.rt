@@ -3,7 +3,7 @@ ghost use Rattle.std.specs.Prelude.{◌≡◌, option_map, map, string_bytes};
 ghost use Rattle.std.specs.Str.{all_ascii_digits};
 ghost use Rattle.lrtab.specs.Words.{limit_of, lone_task, method_of, task_of, task_view, request_of, request_view};
 
-use crate::symbols::is_a_name;
+use grammar_text::symbols::is_a_name;
 use lalrpop_tables::build::Method;
 
 /// What is asked of the tables.

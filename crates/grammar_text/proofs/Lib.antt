@@ -1,0 +1,5 @@
+pub mod Texts
+pub mod Growth
+pub mod Numbered
+pub mod WellFormed
+pub mod TooLong

@@ -1,0 +1,146 @@
+//! Lines of a grammar text.
+ghost use Rattle.std.specs.Prelude.{◌≡◌, ◌==◌, ◌<◌, ◌+◌, ◌^◌, ◌++◌, ◌∷◌, [], position, filter, not, IfOk, OnOk, map, length};
+ghost use Rattle.std.specs.List.{slice_split};
+ghost use Rattle.grammar_text.specs.Lines.{is_empty, words_of, without_cr, marked_line, line_of_words, placed_of, lines_of, is_fault};
+
+use crate::symbols::{is_a_name, name_of, pieces, symbols_of};
+use lalrpop_base::memory::OutOfMemory;
+use lalrpop_base::repr::{NonterminalString, Span, Symbols};
+use std::alloc::Global;
+
+/// What a line says.
+#[derive(Drop)]
+pub enum Line {
+    /// A line without words.
+    Blank,
+    Production(NonterminalString, Symbols),
+    /// A nonterminal that is to be inlined.
+    Inline(NonterminalString),
+    /// Anything else.
+    Fault,
+}
+
+/// A line with its place: its first byte, and the one after its last.
+#[derive(Drop)]
+pub struct PlacedLine {
+    pub line: Line,
+    pub span: Span,
+}
+
+// What a line of these words says.
+fn line_of_words(alloc: Global, words: &[&str]) -> Result<Line, OutOfMemory>
+    ensures { IfOk result (λ line. line ≡ line_of_words (map (λ w. w.now) words.now)) }
+{
+    let Some((first, others)) = words.split_first() else {
+        return Ok(Line::Blank);
+    };
+    let Some((second, rest)) = others.split_first() else {
+        return Ok(Line::Fault);
+    };
+    if *second != "=" || !is_a_name(first) {
+        return marked_line(alloc, first, second, rest);
+    }
+    match symbols_of(alloc, rest)? {
+        None => Ok(Line::Fault),
+        Some(symbols) => Ok(Line::Production(name_of(alloc, first)?, symbols)),
+    }
+}
+
+// What a line says that is no production.
+fn marked_line(alloc: Global, first: &str, second: &str, rest: &[&str]) -> Result<Line, OutOfMemory>
+    ensures { IfOk result (λ line. line ≡ marked_line first.now second.now (map (λ w. w.now) rest.now)) }
+{
+    if rest.is_empty() && first == "inline" && is_a_name(second) {
+        return Ok(Line::Inline(name_of(alloc, second)?));
+    }
+    Ok(Line::Fault)
+}
+
+// The words of a line.
+fn words_in<'a>(alloc: Global, line: &'a str) -> Result<Vec<&'a str>, OutOfMemory>
+    ensures { IfOk result (λ words. map (λ w. w.now) words.items ≡ words_of line.now) }
+{
+    let mut words = Vec::new(alloc);
+    let parts = pieces(alloc, line, ' ')?;
+    for part in &parts {
+        push_words(alloc, &mut words, part)?;
+    }
+    Ok(words)
+}
+
+// Adds the words between the tabs of a piece.
+fn push_words<'a>(alloc: Global, words: &mut Vec<&'a str>, part: &'a str) -> Result<(), OutOfMemory>
+    ensures { OnOk result (map (λ w. w.now) words.new.items
+        ≡ map (λ w. w.now) words.old.items ++ filter (λ w. not (is_empty w)) (slice_split (λ b. b == 9) part.now)) }
+{
+    let found = pieces(alloc, part, '\t')?;
+    for word in &found {
+        push_word(words, word)?;
+    }
+    Ok(())
+}
+
+// Adds a word, unless it is empty.
+fn push_word<'a>(words: &mut Vec<&'a str>, word: &'a str) -> Result<(), OutOfMemory>
+    ensures { OnOk result (map (λ w. w.now) words.new.items
+        ≡ map (λ w. w.now) words.old.items ++ filter (λ w. not (is_empty w)) (word.now ∷ [])) }
+{
+    if !word.is_empty() {
+        words.push(word)?;
+    }
+    Ok(())
+}
+
+// The line without the CR that belongs to its end.
+fn before_cr(line: &str) -> &str
+    ensures { result.now ≡ without_cr line.now }
+{
+    match line.strip_suffix('\r') {
+        None => line,
+        Some(front) => front,
+    }
+}
+
+// What a line says, with its place; it begins at an offset.
+fn placed_line(alloc: Global, line: &str, at: usize) -> Result<PlacedLine, OutOfMemory>
+    requires { at + length line.now < 2 ^ 64 }
+    ensures { IfOk result (λ placed. placed ≡ placed_of at line.now) }
+{
+    let shown = before_cr(line);
+    let span = Span(at, at + shown.len());
+    let words = words_in(alloc, shown)?;
+    let line = line_of_words(alloc, &words)?;
+    Ok(PlacedLine { line, span })
+}
+
+/// The lines of a text.
+pub fn lines_in(alloc: Global, text: &str) -> Result<Vec<PlacedLine>, OutOfMemory>
+    ensures { IfOk result (λ lines. lines.items ≡ lines_of text.now) }
+{
+    let mut lines = Vec::new(alloc);
+    let mut rest = text;
+    let mut at = 0;
+    while let Some((line, more)) = rest.split_once('\n') {
+        lines.push(placed_line(alloc, line, at)?)?;
+        at += line.len() + 1;
+        rest = more;
+    }
+    lines.push(placed_line(alloc, rest, at)?)?;
+    Ok(lines)
+}
+
+impl PlacedLine {
+    /// Whether it is no grammar line.
+    pub fn is_no_grammar_line(&self) -> bool
+        ensures { result ≡ is_fault self.now }
+    {
+        matches!(self.line, Line::Fault)
+    }
+}
+
+/// The first line that is no grammar line, counted from 0.
+pub fn first_fault(lines: &[PlacedLine]) -> Option<usize>
+    ensures { result ≡ position is_fault lines.now }
+{
+    lines.iter().position(|line| line.is_no_grammar_line())
+}

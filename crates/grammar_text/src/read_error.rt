@@ -1,0 +1,39 @@
+//! Why a text gives no grammar.
+ghost use Rattle.std.specs.Prelude.{◌≡◌};
+ghost use Rattle.grammar_text.specs.declared.read_error.ReadError.TheVariants.{Memory};
+
+use lalrpop_base::memory::OutOfMemory;
+use std::alloc::{AllocError, AllocFailed};
+
+/// Why a text gives no grammar.
+#[derive(Clone, Copy, Debug, PartialEq, Eq)]
+pub enum ReadError {
+    /// The number of the first line that is no grammar line, counted from 1.
+    Line(usize),
+    TooManyActions,
+    Memory,
+}
+
+impl From<AllocError> for ReadError {
+    ghost from_gives = { λ _ e. e ≡ Memory };
+
+    fn from(_e: AllocError) -> ReadError {
+        ReadError::Memory
+    }
+}
+
+impl<T: Drop> From<AllocFailed<T>> for ReadError {
+    ghost from_gives = { λ _ e. e ≡ Memory };
+
+    fn from(_e: AllocFailed<T>) -> ReadError {
+        ReadError::Memory
+    }
+}
+
+impl From<OutOfMemory> for ReadError {
+    ghost from_gives = { λ _ e. e ≡ Memory };
+
+    fn from(_e: OutOfMemory) -> ReadError {
+        ReadError::Memory
+    }
+}

@@ -1,5 +1,0 @@
-use Rattle.std.proofs.Common.{refl}
-use Rattle.lalrpop_bench.proofs.build.has_conflict_of_arrows.Goals as goal
-
-pub build_states-requires : goal.build_states-requires
-build_states-requires c = c.if-not-is_well_formed.ensures.0 refl

@@ -1,5 +1,0 @@
-use Rattle.lalrpop_tables.proofs.Lookaheads.{nothing_fits}
-use Rattle.lalrpop_bench.proofs.early_stop.is_told_without_lookahead.Goals as goal
-
-pub new-requires-clause-fits : goal.new-requires-clause-fits
-new-requires-clause-fits c = nothing_fits c.args.grammar.now.terminals

@@ -1,0 +1,92 @@
+//! Calls by their names: each answers a text.
+mod augment;
+mod first_sets;
+mod grammars;
+mod reports;
+mod states;
+mod views;
+mod words;
+
+ghost use Rattle.lalrpop_base.specs.WellFormed.{IsWellFormed};
+
+use crate::question::{Question, QuestionError};
+use grammar_text::grammar::read;
+use grammar_text::read_error::ReadError;
+use lalrpop_base::repr::grammar::{Algorithm, Grammar};
+use lalrpop_base::repr::norm_error::NormError;
+use lalrpop_lr1::inline::inline;
+use std::alloc::Global;
+
+/// The answer to a question of the grammar that a text stands for.
+pub(crate) fn answer(
+    alloc: Global,
+    question: &Question<'_>,
+    text: &str,
+) -> Result<String, QuestionError> {
+    match read(alloc, text) {
+        Ok(grammar) => answer_of_grammar(alloc, question, grammar),
+        Err(ReadError::Line(number)) => {
+            Ok(format!(in alloc; "line {number}: not a grammar line\n")?)
+        }
+        Err(ReadError::TooManyActions) => Ok(String::from_str(alloc, "too many actions\n")?),
+        Err(ReadError::Memory) => Err(QuestionError::Memory),
+    }
+}
+
+// The answer to a question of a grammar, whose marked nonterminals are inlined first where the call asks for it.
+fn answer_of_grammar(
+    alloc: Global,
+    question: &Question<'_>,
+    grammar: Grammar,
+) -> Result<String, QuestionError>
+    requires { IsWellFormed grammar }
+{
+    if let Some(text) = grammars::answer(alloc, question, &grammar)? {
+        return Ok(text);
+    }
+    match inline(alloc, grammar) {
+        Ok(inlined) => answer_of_inlined(alloc, question, inlined),
+        Err(error) => refusal(alloc, error),
+    }
+}
+
+/// Why a grammar is refused.
+pub(crate) fn refusal(alloc: Global, error: NormError) -> Result<String, QuestionError> {
+    match error {
+        NormError::Cycle { span: _, name } => Ok(format!(in alloc; "cyclic inline of {name}\n")?),
+        NormError::TooManyActions => Ok(String::from_str(alloc, "too many actions\n")?),
+        NormError::Memory => Err(QuestionError::Memory),
+    }
+}
+
+// The answer to a question of a grammar without marked nonterminals.
+fn answer_of_inlined(
+    alloc: Global,
+    question: &Question<'_>,
+    mut grammar: Grammar,
+) -> Result<String, QuestionError>
+    requires { IsWellFormed grammar }
+{
+    if question.has("collapsed") {
+        grammar.algorithm = Algorithm { lalr: true };
+    }
+    if let Some(text) = grammars::answer_inlined(alloc, question, &grammar)? {
+        return Ok(text);
+    }
+    if let Some(text) = first_sets::answer(alloc, question, &grammar)? {
+        return Ok(text);
+    }
+    if let Some(text) = states::answer(alloc, question, &grammar)? {
+        return Ok(text);
+    }
+    if let Some(text) = views::answer(alloc, question, &grammar)? {
+        return Ok(text);
+    }
+    if let Some(text) = reports::answer(alloc, question, &grammar)? {
+        return Ok(text);
+    }
+    if let Some(text) = augment::answer(alloc, question, &grammar)? {
+        return Ok(text);
+    }
+    Err(QuestionError::Call)
+}

@@ -1,0 +1,86 @@
+//! Questions of reports.
+ghost use Rattle.lalrpop_base.specs.WellFormed.{IsWellFormed};
+
+use super::states::start_of;
+use super::words::{method_at, options_from};
+use crate::question::{Question, QuestionError};
+use lalrpop_base::repr::NonterminalString;
+use lalrpop_base::repr::grammar::Grammar;
+use lalrpop_lr1::report::{Counted, ReportError, ReportGenerator, generate_report};
+use lalrpop_tables::build::{Options, build_lr0_states};
+use lalrpop_tables::lr1::build_states;
+use std::alloc::Global;
+
+/// The answer to a question of a report, where the call is one.
+pub(crate) fn answer(
+    alloc: Global,
+    question: &Question<'_>,
+    grammar: &Grammar,
+) -> Result<Option<String>, QuestionError>
+    requires { IsWellFormed grammar.now }
+{
+    match question.call {
+        "generate_report" => Ok(Some(report(alloc, question, grammar)?)),
+        _ => Ok(None),
+    }
+}
+
+// The report of the states that the arguments ask for.
+fn report(
+    alloc: Global,
+    question: &Question<'_>,
+    grammar: &Grammar,
+) -> Result<String, QuestionError>
+    requires { IsWellFormed grammar.now }
+{
+    let start = start_of(alloc, question, 1)?;
+    if question.argument(2)? == "lr0" {
+        return lr0_report(alloc, grammar, start);
+    }
+    let method = method_at(question, 2)?;
+    let options = options_from(question, 3, method)?;
+    lr1_report(alloc, grammar, start, &options)
+}
+
+// The report of LR(0) states.
+fn lr0_report(
+    alloc: Global,
+    grammar: &Grammar,
+    start: NonterminalString,
+) -> Result<String, QuestionError>
+    requires { IsWellFormed grammar.now }
+{
+    let answer = build_lr0_states(alloc, grammar, start);
+    let mut out = Counted::new(Vec::new(alloc));
+    let written = ReportGenerator::new(&mut out, &grammar.terminals).report_lr_table_construction(
+        alloc, &answer,
+    );
+    text_of(alloc, written, &out.into_inner())
+}
+
+/// The report of LR(1) states.
+pub(crate) fn lr1_report(
+    alloc: Global,
+    grammar: &Grammar,
+    start: NonterminalString,
+    options: &Options,
+) -> Result<String, QuestionError>
+    requires { IsWellFormed grammar.now }
+{
+    let answer = build_states(alloc, grammar, start, options);
+    let mut out = Counted::new(Vec::new(alloc));
+    let written = generate_report(alloc, &mut out, &grammar.terminals, &answer);
+    text_of(alloc, written, &out.into_inner())
+}
+
+// What was written of a report.
+fn text_of(
+    alloc: Global,
+    written: Result<(), ReportError>,
+    bytes: &[u8],
+) -> Result<String, QuestionError> {
+    match written {
+        Ok(()) => Ok(String::from_utf8_lossy(alloc, bytes)?),
+        Err(_) => Err(QuestionError::Memory),
+    }
+}

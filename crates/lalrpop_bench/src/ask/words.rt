@@ -1,0 +1,135 @@
+//! Words of questions: methods, options, symbols, tokens.
+ghost use Rattle.std.specs.Prelude.{IfOk, IsTrue};
+ghost use Rattle.lalrpop_base.specs.WellFormed.{HasKnownTerminals};
+ghost use Rattle.lalrpop_base.specs.Tokens.{IsKnown};
+
+use crate::question::{Question, QuestionError};
+use grammar_text::symbols::{symbols_of, unquoted};
+use lalrpop_base::lookahead::token::Token;
+use lalrpop_base::lookahead::token_set::TokenSet;
+use lalrpop_base::repr::terminals::TerminalSet;
+use lalrpop_base::repr::{Symbol, Symbols, TerminalString};
+use lalrpop_base::text::Text;
+use lalrpop_tables::build::{Method, Options};
+use std::alloc::Global;
+
+/// The method that the argument with a number names.
+pub(crate) fn method_at(question: &Question<'_>, number: usize) -> Result<Method, QuestionError> {
+    match question.argument(number)? {
+        "lane" => Ok(Method::Lane),
+        "canonical" => Ok(Method::Canonical),
+        _ => Err(QuestionError::Argument(number)),
+    }
+}
+
+/// The options that the arguments from a number on name.
+pub(crate) fn options_from(
+    question: &Question<'_>,
+    number: usize,
+    method: Method,
+) -> Result<Options, QuestionError> {
+    let mut options = Options {
+        method,
+        ..Options::default()
+    };
+    for (place, word) in question.from(number).iter().enumerate() {
+        if !set_option(&mut options, word) {
+            return Err(QuestionError::Argument(number.saturating_add(place)));
+        }
+    }
+    Ok(options)
+}
+
+// Takes the option that a word names, and tells whether it is one.
+fn set_option(options: &mut Options, word: &str) -> bool {
+    if let Some(digits) = word.strip_prefix("max_copies=") {
+        return set_number(&mut options.max_copies, digits);
+    }
+    if let Some(digits) = word.strip_prefix("stop_after=") {
+        return set_number(&mut options.stop_after, digits);
+    }
+    word == "collapsed" || word == "count"
+}
+
+// Takes the number that digits stand for, and tells whether they are digits.
+fn set_number(place: &mut usize, digits: &str) -> bool {
+    match digits.parse::<usize>() {
+        Ok(number) => {
+            *place = number;
+            true
+        }
+        Err(_) => false,
+    }
+}
+
+/// The symbols that words stand for, whose terminals are of the set. The first word is the argument with a number.
+pub(crate) fn known_symbols(
+    alloc: Global,
+    words: &[&str],
+    terminals: &TerminalSet,
+    number: usize,
+) -> Result<Symbols, QuestionError>
+    ensures { IfOk result (HasKnownTerminals terminals.now) }
+{
+    let Some(symbols) = symbols_of(alloc, words)? else {
+        return Err(QuestionError::Argument(number));
+    };
+    if !have_known_terminals(symbols.as_slice(), terminals) {
+        return Err(QuestionError::Argument(number));
+    }
+    Ok(symbols)
+}
+
+// Whether each terminal of a list of symbols is in the set.
+fn have_known_terminals(symbols: &[Symbol], terminals: &TerminalSet) -> bool
+    ensures { IsTrue result → HasKnownTerminals terminals.now symbols.now }
+{
+    for symbol in symbols {
+        if let Symbol::Terminal(terminal) = symbol
+            && terminals.bit(terminal).is_none()
+        {
+            return false;
+        }
+    }
+    true
+}
+
+/// The token that a word stands for: `Eof`, `Error`, or a literal of the set. The word is the argument with a number.
+pub(crate) fn known_token(
+    alloc: Global,
+    word: &str,
+    terminals: &TerminalSet,
+    number: usize,
+) -> Result<Token, QuestionError>
+    ensures { IfOk result (IsKnown terminals.now) }
+{
+    if word == "Eof" {
+        return Ok(Token::Eof);
+    }
+    if word == "Error" {
+        return Ok(Token::Error);
+    }
+    let Some(text) = unquoted(word) else {
+        return Err(QuestionError::Argument(number));
+    };
+    let terminal = TerminalString::Literal(Text::new(alloc, text)?);
+    match terminals.bit(&terminal) {
+        Some(_) => Ok(Token::Terminal(terminal)),
+        None => Err(QuestionError::Argument(number)),
+    }
+}
+
+/// The set of the tokens that words stand for. The first word is the argument with a number.
+pub(crate) fn token_set_of(
+    alloc: Global,
+    words: &[&str],
+    terminals: &TerminalSet,
+    number: usize,
+) -> Result<TokenSet, QuestionError> {
+    let mut set = TokenSet::new(alloc, terminals);
+    for (place, word) in words.iter().enumerate() {
+        let token = known_token(alloc, word, terminals, number.saturating_add(place))?;
+        set.insert(token, terminals)?;
+    }
+    Ok(set)
+}

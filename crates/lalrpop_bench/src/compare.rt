@@ -1,0 +1,161 @@
+//! Comparing answers with what is owed.
+use crate::ask::answer;
+use crate::case_file::{Case, CaseFile};
+use crate::question::{Question, QuestionError};
+use lalrpop_base::memory::OutOfMemory;
+use std::alloc::Global;
+
+/// How many cases agree and differ, and whether each could be asked.
+#[derive(Clone, Copy, Debug, Default, PartialEq, Eq)]
+pub(crate) struct Tally {
+    pub(crate) agree: usize,
+    pub(crate) differ: usize,
+    is_faulty: bool,
+}
+
+impl Tally {
+    /// Of a file that can't be read.
+    pub(crate) fn unread() -> Self {
+        Tally {
+            is_faulty: true,
+            ..Tally::default()
+        }
+    }
+
+    /// Adds the cases of a file.
+    pub(crate) fn add(&mut self, other: &Tally) {
+        self.agree = self.agree.saturating_add(other.agree);
+        self.differ = self.differ.saturating_add(other.differ);
+        self.is_faulty = self.is_faulty || other.is_faulty;
+    }
+
+    /// The status of the program: 2 where something could not be asked, 1 where a case differs.
+    pub(crate) fn status(&self) -> u8 {
+        if self.is_faulty {
+            2
+        } else if self.differ > 0 {
+            1
+        } else {
+            0
+        }
+    }
+}
+
+/// Asks the cases of a file. The text tells the faults and the cases that differ.
+pub(crate) fn compare_file(
+    alloc: Global,
+    name: &str,
+    bytes: &[u8],
+) -> Result<(String, Tally), OutOfMemory> {
+    let mut report = String::new(alloc);
+    let mut tally = Tally::default();
+    let text = String::from_utf8_lossy(alloc, bytes)?;
+    if text.as_bytes() != bytes {
+        let line = first_other_line(text.as_bytes(), bytes);
+        write!(report, "{name}, line {line}: not UTF-8\n")?;
+        tally.is_faulty = true;
+    }
+    let file = CaseFile::new(alloc, text.as_str())?;
+    for fault in &file.faults {
+        write!(report, "{name}, line {}: {}\n", fault.line, fault.what)?;
+        tally.is_faulty = true;
+    }
+    for case in &file.cases {
+        compare_case(alloc, &mut report, &mut tally, name, case)?;
+    }
+    Ok((report, tally))
+}
+
+// The number of the first line in which two texts differ, counted from 1.
+fn first_other_line(a: &[u8], b: &[u8]) -> usize {
+    let mut line: usize = 1;
+    for (x, y) in a.iter().zip(b) {
+        if x != y {
+            return line;
+        }
+        if *x == b'\n' {
+            line = line.saturating_add(1);
+        }
+    }
+    line
+}
+
+// Asks a case, and counts it.
+fn compare_case(
+    alloc: Global,
+    report: &mut String,
+    tally: &mut Tally,
+    name: &str,
+    case: &Case,
+) -> Result<(), OutOfMemory> {
+    let question = Question::new(alloc, case.question.as_str())?;
+    match answer(alloc, &question, case.grammar.as_str()) {
+        Ok(text) => compare_texts(report, tally, name, case, text.as_str()),
+        Err(QuestionError::Memory) => Err(OutOfMemory),
+        Err(QuestionError::Call) => {
+            tally.is_faulty = true;
+            write!(
+                report,
+                "{name}, line {}: no call is named {}\n",
+                case.line, question.call
+            )?;
+            Ok(())
+        }
+        Err(QuestionError::Argument(number)) => {
+            tally.is_faulty = true;
+            write!(
+                report,
+                "{name}, line {}: argument {number} of {}\n",
+                case.line, question.call
+            )?;
+            Ok(())
+        }
+    }
+}
+
+// Compares an answer with the text owed, and tells the first line that differs.
+fn compare_texts(
+    report: &mut String,
+    tally: &mut Tally,
+    name: &str,
+    case: &Case,
+    text: &str,
+) -> Result<(), OutOfMemory> {
+    if text == case.owed.as_str() {
+        tally.agree = tally.agree.saturating_add(1);
+        return Ok(());
+    }
+    tally.differ = tally.differ.saturating_add(1);
+    write!(
+        report,
+        "{name}, line {}: ask {}\n",
+        case.line, case.question
+    )?;
+    let (owed, answered) = first_difference(case.owed.as_str(), text);
+    write!(report, "  owed:     {owed}\n  answered: {answered}\n")?;
+    Ok(())
+}
+
+// The first lines in which two texts differ, empty where a text has ended.
+fn first_difference<'a>(a: &'a str, b: &'a str) -> (&'a str, &'a str) {
+    let mut left = a;
+    let mut right = b;
+    while let Some((x, more)) = left.split_once('\n') {
+        let (y, others) = first_line(right);
+        if x != y {
+            return (x, y);
+        }
+        left = more;
+        right = others;
+    }
+    let (y, _) = first_line(right);
+    (left, y)
+}
+
+// The first line of a text, and what stands behind it.
+fn first_line(text: &str) -> (&str, &str) {
+    match text.split_once('\n') {
+        Some((line, more)) => (line, more),
+        None => (text, ""),
+    }
+}

@@ -1,0 +1,2 @@
+mod WordConflictLemmas
+pub mod WordMoves

@@ -1,0 +1,145 @@
+// Conditions of calls, each where it fails; and views that stay when what they were taken from is gone.
+ghost use Rattle.lalrpop_base.specs.WellFormed.{IsWellFormed};
+
+use crate::fixtures::{first_production, grammar, literal, literals};
+use grammar_text::symbols::name_of;
+use lalrpop_base::lookahead::token::Token;
+use lalrpop_base::lookahead::token_set::TokenSet;
+use lalrpop_base::lr1_core::coherent::are_coherent;
+use lalrpop_base::lr1_core::collapsible::are_collapsible;
+use lalrpop_base::lr1_core::item::Item;
+use lalrpop_base::lr1_core::state::{Items, Lr1State, State, StateIndex};
+use lalrpop_base::memory::OutOfMemory;
+use lalrpop_base::repr::grammar::{Grammar, is_well_formed};
+use lalrpop_base::repr::terminals::TerminalSet;
+use lalrpop_base::repr::{Production, Symbol};
+use lalrpop_tables::build::build_lr1_states;
+use lalrpop_tables::build::options::{Method, Options};
+use std::alloc::Global;
+use std::collections::BTreeMap;
+use std::test::Fail;
+
+const ONE: &str = "S = \"x\"";
+
+#[test]
+fn grammars_that_are_not_well_formed(rt: HostRuntime) -> Result<(), Fail> {
+    let alloc = rt.alloc();
+    let s = name_of(alloc, "S")?;
+    let mut repeated = grammar(alloc, ONE)?;
+    let production = first_production(alloc, &repeated, "S")?.clone(alloc)?;
+    if let Some(entry) = repeated.nonterminals.get_mut(&s) {
+        entry.productions.push(production)?;
+    }
+    assert!(rt; !is_well_formed(&repeated));
+    let mut unknown = grammar(alloc, ONE)?;
+    unknown.terminals = TerminalSet::new(alloc, literals(alloc, &["y"])?)?;
+    assert!(rt; !is_well_formed(&unknown));
+    let mut without_actions = grammar(alloc, ONE)?;
+    without_actions.action_fn_defns.clear();
+    assert!(rt; !is_well_formed(&without_actions));
+    let mut misplaced = grammar(alloc, ONE)?;
+    if let Some(entry) = misplaced.nonterminals.remove(&s) {
+        misplaced.nonterminals.insert(name_of(alloc, "T")?, entry)?;
+    }
+    assert!(rt; !is_well_formed(&misplaced));
+    Ok(())
+}
+
+// The states of X = "c" "d"; a second one behind "c", to which nothing leads, and which leads to a number over "d"; and
+// a second one behind "d", which may list its item twice.
+fn states_with_twins<'g>(
+    alloc: Global,
+    grammar: &'g Grammar,
+    target: usize,
+    is_doubled: bool,
+) -> Result<Vec<Lr1State<'g>>, Fail>
+    requires { IsWellFormed grammar.now }
+{
+    let options = Options {
+        method: Method::Canonical,
+        ..Options::default()
+    };
+    let mut states = build_lr1_states(alloc, grammar, name_of(alloc, "X")?, &options)?;
+    let [_, behind_c, behind_d] = states.as_slice() else {
+        return Err(Fail::from("not three states"));
+    };
+    let mut three = behind_c.clone(alloc)?;
+    three.index = StateIndex(3);
+    three
+        .shifts
+        .insert(literal(alloc, "d")?, StateIndex(target))?;
+    let mut four = behind_d.clone(alloc)?;
+    four.index = StateIndex(4);
+    if is_doubled {
+        let mut more = behind_d.clone(alloc)?;
+        four.items.vec.append(&mut more.items.vec)?;
+    }
+    states.push(three)?;
+    states.push(four)?;
+    Ok(states)
+}
+
+// Coherent states may have equal lists of items that lead to unequal ones.
+#[test]
+fn states_that_are_not_coherent_or_not_collapsible(rt: HostRuntime) -> Result<(), Fail> {
+    let alloc = rt.alloc();
+    let grammar = grammar(alloc, "X = \"c\" \"d\"")?;
+    for (target, is_doubled, coherent, collapsible) in [
+        (4, false, true, true),
+        (4, true, true, false),
+        (2, true, true, true),
+        (5, false, false, false),
+    ] {
+        let states = states_with_twins(alloc, &grammar, target, is_doubled)?;
+        assert_eq!(rt; are_coherent(&states), coherent);
+        assert_eq!(rt; are_collapsible(&states), collapsible);
+    }
+    Ok(())
+}
+
+// The error's bit over two terminals is past the error's bit over one.
+#[test]
+fn sets_of_more_terminals_do_not_fit(rt: HostRuntime) -> Result<(), Fail> {
+    let alloc = rt.alloc();
+    let one = TerminalSet::new(alloc, literals(alloc, &["a"])?)?;
+    let two = TerminalSet::new(alloc, literals(alloc, &["a", "b"])?)?;
+    let error = TokenSet::of(alloc, Token::Error, &two)?;
+    assert!(rt; error.fits(&two));
+    assert!(rt; !error.fits(&one));
+    Ok(())
+}
+
+// Slices of a production, by an item and by a state that are gone; the whole of a production that is shorter than two.
+fn slices<'g>(
+    alloc: Global,
+    production: &'g Production,
+) -> Result<(&'g [Symbol], &'g [Symbol]), OutOfMemory> {
+    let symbols = production.symbols.as_slice();
+    if production.symbols.len() < 2 {
+        return Ok((symbols, symbols));
+    }
+    let prefix = Item::lr0(production, 2).prefix();
+    let gone = State {
+        index: StateIndex(0),
+        items: Items {
+            vec: vec![in alloc; Item::lr0(production, 1)]?,
+        },
+        shifts: BTreeMap::new(alloc),
+        reductions: Vec::new(alloc),
+        gotos: BTreeMap::new(alloc),
+    };
+    Ok((prefix, gone.will_push()))
+}
+
+#[test]
+fn views_outlive_item_and_state(rt: HostRuntime) -> Result<(), Fail> {
+    let alloc = rt.alloc();
+    let grammar = grammar(alloc, "T = \"(\" E \")\"")?;
+    let production = first_production(alloc, &grammar, "T")?;
+    let (prefix, rest) = slices(alloc, production)?;
+    let symbols = production.symbols.as_slice();
+    assert_eq!(rt; symbols.len(), 3);
+    assert_eq!(rt; prefix, &symbols[..2]);
+    assert_eq!(rt; rest, &symbols[1..]);
+    Ok(())
+}

@@ -1,0 +1,106 @@
+// States merged by a lane table that is filled by hand, over the crossed ends: S1, behind "a", leads to S5 over "c".
+ghost use Rattle.std.specs.Prelude.{IfOk};
+ghost use Rattle.lalrpop_base.specs.WellFormed.{IsWellFormed};
+ghost use Rattle.lalrpop_tables.specs.Merges.{IsMerging};
+
+use crate::fixtures::{CROSSED, SUMS, grammar, only};
+use grammar_text::symbols::name_of;
+use lalrpop_base::lookahead::token_set::TokenSet;
+use lalrpop_base::lr1_core::coherent::are_coherent;
+use lalrpop_base::lr1_core::state::{BuildError, Lr1State, StateIndex};
+use lalrpop_base::memory::OutOfMemory;
+use lalrpop_base::repr::grammar::Grammar;
+use lalrpop_tables::lane_table::build_lane_table_states;
+use lalrpop_tables::lane_table::construct::LaneTableConstruct;
+use lalrpop_tables::lane_table::construct::merge::{Merge, MergeError};
+use lalrpop_tables::lane_table::context_set::ConflictIndex;
+use lalrpop_tables::lane_table::table::LaneTable;
+use std::alloc::Global;
+use std::test::Fail;
+
+// The LR(0) states with all tokens, as the construction leaves them where it may make no copy.
+fn crossed_states<'g>(alloc: Global, grammar: &'g Grammar) -> Result<Vec<Lr1State<'g>>, Fail>
+    requires { IsWellFormed grammar.now }
+{
+    match build_lane_table_states(alloc, grammar, name_of(alloc, "S")?, 0) {
+        Err(BuildError::Conflicts(error)) => Ok(error.states),
+        _ => Err(Fail::from("no conflict")),
+    }
+}
+
+// A table where S1 has "d" in its first column and leads to S5, which has the tokens in its second.
+fn chained_table<'g>(
+    alloc: Global,
+    grammar: &'g Grammar,
+    behind: &TokenSet,
+) -> Result<LaneTable<'g>, OutOfMemory> {
+    let d = only(alloc, "d", &grammar.terminals)?;
+    let mut table = LaneTable::new(alloc, grammar, 2);
+    table.add_lookahead(StateIndex(1), ConflictIndex::new(0), &d)?;
+    table.add_successor(StateIndex(1), StateIndex(5))?;
+    table.add_lookahead(StateIndex(5), ConflictIndex::new(1), behind)?;
+    Ok(table)
+}
+
+// The merging of states by a table, whose inconsistent state is S5.
+fn merge_of<'table, 'g>(
+    alloc: Global,
+    table: &'table LaneTable<'g>,
+    states: Vec<Lr1State<'g>>,
+    copies_left: usize,
+) -> Result<Merge<'table, 'g>, Fail>
+    ensures { IfOk result IsMerging }
+{
+    let start = StateIndex(5);
+    if !are_coherent(&states) {
+        return Err(Fail::from("the states are not coherent"));
+    }
+    if !table.is_closed(states.len()) {
+        return Err(Fail::from("the table is not closed"));
+    }
+    if !table.has_row(start) {
+        return Err(Fail::from("the table has no row of S5"));
+    }
+    let rows = table.rows(alloc)?;
+    let merge = Merge::new(alloc, table, rows, states, start, copies_left)?;
+    Ok(merge)
+}
+
+// Walks from a state that has a row.
+fn start(alloc: Global, merge: &mut Merge, state: usize) -> Result<Result<(), MergeError>, Fail>
+    requires { IsMerging merge.old }
+    ensures { IsMerging merge.new }
+{
+    let state = StateIndex(state);
+    if !merge.has_row(state) {
+        return Err(Fail::from("the table has no row of the state"));
+    }
+    Ok(merge.start(alloc, state))
+}
+
+// What stands behind a state is joined with its own tokens where they agree, and is apart where they do not.
+#[test]
+fn successors_are_joined_or_apart(rt: HostRuntime) -> Result<(), Fail> {
+    let alloc = rt.alloc();
+    let grammar = grammar(alloc, CROSSED)?;
+    let apart = MergeError::Apart(StateIndex(1), StateIndex(5));
+    for (behind, answer) in [("e", Ok(())), ("d", Err(apart))] {
+        let tokens = only(alloc, behind, &grammar.terminals)?;
+        let table = chained_table(alloc, &grammar, &tokens)?;
+        let states = crossed_states(alloc, &grammar)?;
+        let mut merge = merge_of(alloc, &table, states, 1)?;
+        assert!(rt; start(alloc, &mut merge, 1)? == answer);
+        assert!(rt; are_coherent(&merge.into_states()));
+    }
+    Ok(())
+}
+
+#[test]
+fn a_construction_of_its_own(rt: HostRuntime) -> Result<(), Fail> {
+    let alloc = rt.alloc();
+    let grammar = grammar(alloc, SUMS)?;
+    let construct = LaneTableConstruct::new(alloc, &grammar, name_of(alloc, "S")?, 0)?;
+    let states = construct.construct(alloc)?;
+    assert_eq!(rt; states.len(), 9);
+    Ok(())
+}

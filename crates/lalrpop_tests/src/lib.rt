@@ -1,0 +1,25 @@
+//! Tests of the libraries' public calls where no case file can ask: a lookahead of a user's own, values that a text
+//! does not make, conditions that fail, and writers that stop.
+#![tactic(auto)]
+
+#[cfg(test)]
+mod collections;
+#[cfg(test)]
+mod conditions;
+#[cfg(test)]
+mod fixtures;
+#[cfg(test)]
+mod graphs;
+#[cfg(test)]
+mod lanes;
+#[cfg(test)]
+mod tokens;
+#[cfg(test)]
+mod values;
+#[cfg(test)]
+mod without_lookahead;
+pub mod word_lookahead;
+#[cfg(test)]
+mod word_states;
+#[cfg(test)]
+mod writers;

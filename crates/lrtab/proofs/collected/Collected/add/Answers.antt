@@ -1,5 +1,0 @@
-use Rattle.lrtab.proofs.Growth.{collected_same}
-use Rattle.lrtab.proofs.collected.Collected.add.Goals as goal
-
-pub returns-in-Blank-clause-ok : goal.returns-in-Blank-clause-ok
-returns-in-Blank-clause-ok c = λ lines was. collected_same lines c.args.self.now c.args.line was c.in-Blank.is
