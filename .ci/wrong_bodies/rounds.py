@@ -60,7 +60,7 @@ class Trial:
         """Settles the edits that kept a check from its end, and returns whether there was one."""
         bad = blamed(taken, said)
         for it in bad:
-            self.complain(it, f"with it the check of {it.function} does not come to its end")
+            self.complain(it, f"with the edits of {it.file} the check does not come to its end")
         self.settle(bad)
         return bool(bad)
 
