@@ -7,7 +7,7 @@ import time
 
 from edits import apply, edits_of, restore
 from scratch import NotProved, checked
-from verdicts import PROVED, UNSAID, WAITS, blamed, has_ended, told, verdict
+from verdicts import PROVED, UNSAID, WAITS, blamed, errors_of, has_ended, told, verdict
 
 # So much of what a check says is shown where it tells nothing.
 SHOWN = 3000
@@ -60,7 +60,7 @@ class Trial:
         """Settles the edits that kept a check from its end, and returns whether there was one."""
         bad = blamed(taken, said)
         for it in bad:
-            self.complain(it, f"with the edits of {it.file} the check does not come to its end")
+            self.complain(it, f"with the edits of {it.file} the check does not come to its end: {errors_of(said)[0]}")
         self.settle(bad)
         return bool(bad)
 

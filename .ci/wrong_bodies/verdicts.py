@@ -33,9 +33,14 @@ def has_ended(said):
     return re.search(r"(?m)^only=\d+ proved=\d+$", said) is not None
 
 
+def errors_of(said):
+    """The error lines of a check."""
+    return [it for it in said.splitlines() if re.search(r"\berror\b", it)]
+
+
 def blamed(edits, said):
     """Those of the edits that an error line names, by the function or by the file, where the check did not come to its end."""
-    errors = [it for it in said.splitlines() if re.search(r"\berror\b", it)]
+    errors = errors_of(said)
     named = {name for it in errors for name in re.findall(r"`([^`]*)`", it)}
     files = {found[1] for it in errors for found in [re.match(r"(?:\./)?(\S+?):\d+:\d+: ", it)] if found}
     return [it for it in edits if it.function in named or it.file in files]
