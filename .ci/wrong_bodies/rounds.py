@@ -1,0 +1,92 @@
+"""Tries the wrong bodies of one crate, many by one check.
+
+The proof of a function rests on the contracts of what it calls, and not on their bodies, so each edited function has a
+verdict of its own. A function of which another edit is tried, or which calls one that is refused, waits for the next check.
+"""
+import time
+
+from edits import apply, edits_of, restore
+from scratch import NotProved, checked
+from verdicts import PROVED, UNSAID, WAITS, blamed, errors_of, has_ended, told, verdict
+
+# So much of what a check says is shown where it tells nothing.
+SHOWN = 3000
+
+
+class Trial:
+    """The wrong bodies of one crate: those that are left, and what is wrong with the others."""
+
+    def __init__(self, name, held, crate):
+        self.name, self.crate = name, crate
+        self.left, self.wrong = [], []
+        self.count = self.checks = 0
+        self.seconds = self.used = 0.0
+        for edit in edits_of(held):
+            self.count += 1
+            if edit.fits(crate):
+                self.left.append(edit)
+            else:
+                self.complain(edit, "an old text is not there once, or the edit is not whole")
+
+    def complain(self, edit, why):
+        self.wrong.append(f"{self.name}/{edit.name}: {why}")
+
+    def settle(self, edits):
+        self.left = [it for it in self.left if it not in edits]
+
+    def check(self, edits):
+        """Checks the crate with these edits, or those of them that go together, and returns them and what the check says."""
+        taken, were = apply(self.crate, edits)
+        try:
+            said, used = checked(self.crate, sorted({it.function for it in taken}))
+        finally:
+            restore(were)
+        self.checks, self.used = self.checks + 1, self.used + used
+        return taken, said
+
+    def read(self, taken, said):
+        """Settles each edit of which the check says something, and returns whether there was one."""
+        verdicts = {it: verdict(self.name, it.function, said) for it in taken}
+        for it in taken:
+            if verdicts[it] == PROVED:
+                self.complain(it, "NOT REFUSED")
+            elif verdicts[it] == UNSAID:
+                self.complain(it, f"the check says nothing of {it.function}: {told(self.name, it.function, said)}")
+        settled = [it for it in taken if verdicts[it] != WAITS]
+        self.settle(settled)
+        return bool(settled)
+
+    def drop(self, taken, said):
+        """Settles the edits that kept a check from its end, and returns whether there was one."""
+        bad = blamed(taken, said)
+        for it in bad:
+            self.complain(it, f"with the edits of {it.file} the check does not come to its end: {errors_of(said)[0]}")
+        self.settle(bad)
+        return bool(bad)
+
+    def turn(self):
+        """Has one check, and returns whether it settled an edit."""
+        taken, said = self.check(self.left)
+        is_whole = has_ended(said)
+        if self.read(taken, said) if is_whole else self.drop(taken, said):
+            return True
+        for it in self.left:
+            self.complain(it, "refused for another function's sake alone" if is_whole else "its check did not come to its end")
+        self.wrong.append(f"{self.name}: the last check said:\n{said[-SHOWN:]}")
+        return False
+
+    def run(self):
+        began = time.time()
+        while self.left and self.turn():
+            print(f"{self.name}: {self.count - len(self.left)} of {self.count} wrong bodies tried, by {self.checks} checks", flush=True)
+        self.seconds = time.time() - began
+
+    def took(self):
+        return f"{self.name}: {self.count} wrong bodies, {self.checks} checks: {self.seconds / 60:.1f} minutes, {self.used / 60:.1f} of processor time"
+
+
+def not_tried(name, held, why):
+    """A trial that was not made, since a library below the crate is not proved."""
+    trial = Trial(name, held, held)
+    trial.left, trial.wrong = [], [f"{name}: its wrong bodies were not tried: {why}"]
+    return trial

@@ -1,0 +1,46 @@
+"""What a check says of an edited function."""
+import re
+
+REFUSED, PROVED, WAITS, UNSAID = "refused", "proved", "waits", "unsaid"
+
+
+def told(crate, function, said):
+    """What the check says of the function, or None."""
+    line = re.search(rf"(?m)^fn {re.escape(crate)}::{re.escape(function)}: (.*)$", said)
+    return line[1] if line else None
+
+
+def verdict(crate, function, said):
+    """REFUSED where the function's own proof fails, PROVED where it does not, WAITS where the check says only that a function
+    or an impl that it uses is refused, or another function of its cycle of calls, and else UNSAID."""
+    line = told(crate, function, said)
+    if line is None:
+        return UNSAID
+    if line.startswith("proved"):
+        return PROVED
+    other = re.search(r"in `([^`]*)`, of this cycle of calls", line)
+    if other and other[1] != f"{crate}::{function}":
+        return WAITS
+    if line.startswith("no proof: expected answers"):
+        return REFUSED
+    if re.search("which (is|are) not proved", line):
+        return WAITS
+    return REFUSED if line.startswith("not proved") else UNSAID
+
+
+def has_ended(said):
+    """Whether the check of named functions came to its end, so that its lines count."""
+    return re.search(r"(?m)^only=\d+ proved=\d+$", said) is not None
+
+
+def errors_of(said):
+    """The error lines of a check."""
+    return [it for it in said.splitlines() if re.search(r"\berror\b", it)]
+
+
+def blamed(edits, said):
+    """Those of the edits that an error line names, by the function or by the file, where the check did not come to its end."""
+    errors = errors_of(said)
+    named = {name for it in errors for name in re.findall(r"`([^`]*)`", it)}
+    files = {found[1] for it in errors for found in [re.match(r"(?:\./)?(\S+?):\d+:\d+: ", it)] if found}
+    return [it for it in edits if it.function in named or it.file in files]
