@@ -1,5 +1,12 @@
 //! Calls by their names: each answers a text.
+mod checks;
+mod context_sets;
+mod graphs;
+mod kernels;
+mod lane_tables;
+mod merges;
 mod states;
+mod token_sets;
 
 ghost use Rattle.lalrpop_base.specs.WellFormed.{IsWellFormed};
 
@@ -57,6 +64,27 @@ fn answer_of_inlined(
         grammar.algorithm = Algorithm { lalr: true };
     }
     if let Some(text) = states::answer(alloc, question, &grammar)? {
+        return Ok(text);
+    }
+    if let Some(text) = lane_tables::answer(alloc, question, &grammar)? {
+        return Ok(text);
+    }
+    if let Some(text) = context_sets::answer(alloc, question, &grammar)? {
+        return Ok(text);
+    }
+    if let Some(text) = checks::answer(alloc, question, &grammar)? {
+        return Ok(text);
+    }
+    if let Some(text) = graphs::answer(alloc, question, &grammar)? {
+        return Ok(text);
+    }
+    if let Some(text) = merges::answer(alloc, question, &grammar)? {
+        return Ok(text);
+    }
+    if let Some(text) = kernels::answer(alloc, question, &grammar)? {
+        return Ok(text);
+    }
+    if let Some(text) = token_sets::answer(alloc, question, &grammar)? {
         return Ok(text);
     }
     Err(QuestionError::Call)

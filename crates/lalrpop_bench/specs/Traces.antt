@@ -1,0 +1,13 @@
+-- What the tracing of actions of LR(0) states asks for.
+use Rattle.std.specs.Prelude.{◌<◌, length}
+use Rattle.lalrpop_base.specs.Coherent.{AreCoherent}
+use Rattle.lalrpop_base.specs.WellFormed.{IsWellFormed, productions}
+use Rattle.lalrpop_bench.specs.declared.ask.lane_tables.Traces.{Traces}
+use Rattle.lalrpop_tables.specs.LaneTraces.{HaveOwnItems}
+
+-- the states are coherent ones of a well-formed grammar, and the traced one is among them
+pub record AreReady (traces : Traces) : Type 0 where
+  pub well_formed : IsWellFormed traces.grammar.now
+  pub coherent : AreCoherent traces.states.now
+  pub own : HaveOwnItems (productions traces.grammar.now) traces.states.now
+  pub listed : traces.state < length traces.states.now

@@ -1,0 +1,219 @@
+//! Questions of lane tables.
+ghost use Rattle.std.specs.Prelude.{IsTrue};
+ghost use Rattle.lalrpop_base.specs.WellFormed.{IsWellFormed, productions};
+ghost use Rattle.lalrpop_bench.specs.Traces.{AreReady};
+ghost use Rattle.lalrpop_tables.specs.LaneTraces.{ReducesOwn};
+
+use super::context_sets::actions_of;
+use super::graphs::lr0_states;
+use super::states::start_of;
+use super::token_sets::{piece_end, tokens_of};
+use crate::question::{Question, QuestionError};
+use crate::show::context_set::column_of;
+use crate::show::lane_table::{push_actions, push_lane_table};
+use crate::show::words::push_tokens;
+use lalrpop_base::collections::Set;
+use lalrpop_base::exact::contains;
+use lalrpop_base::first::FirstSets;
+use lalrpop_base::lr1_core::lr0::Lr0State;
+use lalrpop_base::lr1_core::state::{Action, StateIndex};
+use lalrpop_base::repr::NonterminalString;
+use lalrpop_base::repr::grammar::Grammar;
+use lalrpop_base::repr::terminals::TerminalSet;
+use lalrpop_tables::lane_table::context_set::ConflictIndex;
+use lalrpop_tables::lane_table::lane::LaneTracer;
+use lalrpop_tables::lane_table::table::LaneTable;
+use lalrpop_tables::state_graph::StateGraph;
+use std::alloc::Global;
+
+/// The answer to a question of lane tables, where the call is one.
+pub(crate) fn answer(
+    alloc: Global,
+    question: &Question<'_>,
+    grammar: &Grammar,
+) -> Result<Option<String>, QuestionError>
+    requires { IsWellFormed grammar.now }
+{
+    match question.call {
+        "lane_table" => Ok(Some(traced_table(alloc, question, grammar)?)),
+        "lane_table_of" => Ok(Some(made_table(alloc, question, grammar)?)),
+        _ => Ok(None),
+    }
+}
+
+// The table that tracing the actions of a state leaves.
+fn traced_table(
+    alloc: Global,
+    question: &Question<'_>,
+    grammar: &Grammar,
+) -> Result<String, QuestionError>
+    requires { IsWellFormed grammar.now }
+{
+    let start = start_of(alloc, question, 1)?;
+    let number = question.number(2)?;
+    let states = lr0_states(alloc, grammar, start.clone(alloc)?)?;
+    if number >= states.len() {
+        return Err(QuestionError::Argument(2));
+    }
+    let actions = actions_of(alloc, &states[number])?;
+    let mut text = String::new(alloc);
+    push_actions(&mut text, &actions)?;
+    let traces = Traces {
+        grammar,
+        start: &start,
+        states: &states,
+        state: number,
+        actions: &actions,
+    };
+    push_cells(alloc, &mut text, &traces)?;
+    let table = traced(alloc, &traces, 0, actions.len())?;
+    push_lane_table(alloc, &mut text, &table, states.len(), &grammar.terminals)?;
+    Ok(text)
+}
+
+/// The actions of an LR(0) state that are traced.
+#[derive(Clone, Copy)]
+pub(crate) struct Traces<'a, 'grammar> {
+    pub(crate) grammar: &'grammar Grammar,
+    pub(crate) start: &'a NonterminalString,
+    pub(crate) states: &'a [Lr0State<'grammar>],
+    pub(crate) state: usize,
+    pub(crate) actions: &'a Set<Action<'grammar>>,
+}
+
+// Appends the tokens of each action in the row of each state, as tracing that action alone leaves them.
+fn push_cells(
+    alloc: Global,
+    text: &mut String,
+    traces: &Traces<'_, '_>,
+) -> Result<(), QuestionError>
+    requires { AreReady traces.now }
+{
+    let mut tables = Vec::new(alloc);
+    for place in 0..traces.actions.len() {
+        tables.push(traced(alloc, traces, place, place.saturating_add(1))?)?;
+    }
+    for state in 0..traces.states.len() {
+        push_cells_of(alloc, text, &tables, state, &traces.grammar.terminals)?;
+    }
+    Ok(())
+}
+
+// Appends the tokens that tables, of one action each, have in the row of a state.
+fn push_cells_of(
+    alloc: Global,
+    text: &mut String,
+    tables: &[LaneTable<'_>],
+    pub(crate) state: usize,
+    terminals: &TerminalSet,
+) -> Result<(), QuestionError> {
+    for (place, table) in tables.iter().enumerate() {
+        let Ok(row) = table.context_set(alloc, StateIndex(state)) else {
+            return Err(QuestionError::Memory);
+        };
+        if place < table.column_count() {
+            let tokens = column_of(alloc, &row, place, terminals)?;
+            if tokens.len() > 0 {
+                write!(text, "cell {state} {place}")?;
+                push_tokens(text, &tokens, terminals)?;
+                text.push_str("\n")?;
+            }
+        }
+    }
+    Ok(())
+}
+
+/// The table that tracing the actions from one number to before another leaves.
+pub(crate) fn traced<'grammar>(
+    alloc: Global,
+    traces: &Traces<'_, 'grammar>,
+    from: usize,
+    to: usize,
+) -> Result<LaneTable<'grammar>, QuestionError>
+    requires { AreReady traces.now }
+{
+    let grammar = traces.grammar;
+    let first_sets = FirstSets::new(alloc, grammar)?;
+    let graph = StateGraph::new(alloc, traces.states)?;
+    let count = traces.actions.len();
+    let start = traces.start.clone(alloc)?;
+    let mut tracer = LaneTracer::new(
+        alloc,
+        grammar,
+        start,
+        traces.states,
+        &first_sets,
+        &graph,
+        count,
+    );
+    for (place, action) in traces.actions.iter().enumerate() {
+        if from <= place && place < to && place < count && is_own(grammar, action) {
+            let state = StateIndex(traces.state);
+            let conflict = ConflictIndex::new(place);
+            tracer.start_trace(alloc, state, conflict, action.clone(alloc)?)?;
+        }
+    }
+    Ok(tracer.into_table())
+}
+
+// Whether an action is no reduction by a production of another grammar.
+fn is_own(grammar: &Grammar, action: &Action<'_>) -> bool
+    ensures { IsTrue result → ReducesOwn (productions grammar.now) action.now }
+{
+    match action {
+        Action::Shift(..) => true,
+        Action::Reduce(production) => contains(
+            grammar.productions_for(&production.nonterminal),
+            *production,
+        ),
+    }
+}
+
+// A table with the cells and successors that arguments name.
+fn made_table(
+    alloc: Global,
+    question: &Question<'_>,
+    grammar: &Grammar,
+) -> Result<String, QuestionError> {
+    let columns = question.number(1)?;
+    let count = question.number(2)?;
+    let mut table = LaneTable::new(alloc, grammar, columns);
+    let after = question.arguments.len().saturating_add(1);
+    let mut begin: usize = 3;
+    for number in 3..after {
+        if number == begin {
+            let end = piece_end(question, begin, after);
+            add(alloc, &mut table, question, begin, end, &grammar.terminals)?;
+            begin = end.saturating_add(1);
+        }
+    }
+    let mut text = String::new(alloc);
+    push_lane_table(alloc, &mut text, &table, count, &grammar.terminals)?;
+    Ok(text)
+}
+
+// Adds a cell or a successor, by the arguments from one number to before another.
+fn add(
+    alloc: Global,
+    table: &mut LaneTable<'_>,
+    question: &Question<'_>,
+    from: usize,
+    to: usize,
+    terminals: &TerminalSet,
+) -> Result<(), QuestionError> {
+    let state = StateIndex(question.number(from)?);
+    let second = from.saturating_add(1);
+    let third = second.saturating_add(1);
+    if question.argument(second)? == ">" {
+        table.add_successor(state, StateIndex(question.number(third)?))?;
+        return Ok(());
+    }
+    let column = question.number(second)?;
+    if column >= table.column_count() {
+        return Err(QuestionError::Argument(second));
+    }
+    let tokens = tokens_of(alloc, question, third, to, terminals)?;
+    table.add_lookahead(state, ConflictIndex::new(column), &tokens)?;
+    Ok(())
+}
+
