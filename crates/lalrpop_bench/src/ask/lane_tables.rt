@@ -1,5 +1,5 @@
 //! Questions of lane tables.
-ghost use Rattle.std.specs.Prelude.{IsTrue};
+ghost use Rattle.std.specs.Prelude.{IfOk, IsTrue};
 ghost use Rattle.lalrpop_base.specs.WellFormed.{IsWellFormed, productions};
 ghost use Rattle.lalrpop_bench.specs.Traces.{AreReady};
 ghost use Rattle.lalrpop_tables.specs.LaneTraces.{ReducesOwn};
@@ -49,44 +49,54 @@ fn traced_table(
 ) -> Result<String, QuestionError>
     requires { IsWellFormed grammar.now }
 {
-    let start = start_of(alloc, question, 1)?;
-    let number = question.number(2)?;
-    let states = lr0_states(alloc, grammar, start.clone(alloc)?)?;
-    if number >= states.len() {
-        return Err(QuestionError::Argument(2));
-    }
-    let actions = actions_of(alloc, &states[number])?;
+    let traces = traces_of(alloc, question, grammar)?;
     let mut text = String::new(alloc);
-    push_actions(&mut text, &actions)?;
-    let traces = Traces {
-        grammar,
-        start: &start,
-        states: &states,
-        state: number,
-        actions: &actions,
-    };
+    push_actions(&mut text, &traces.actions)?;
     push_cells(alloc, &mut text, &traces)?;
-    let table = traced(alloc, &traces, 0, actions.len())?;
-    push_lane_table(alloc, &mut text, &table, states.len(), &grammar.terminals)?;
+    let table = traced(alloc, &traces, 0, traces.actions.len())?;
+    let count = traces.states.len();
+    push_lane_table(alloc, &mut text, &table, count, &grammar.terminals)?;
     Ok(text)
 }
 
 /// The actions of an LR(0) state that are traced.
-#[derive(Clone, Copy)]
-pub(crate) struct Traces<'a, 'grammar> {
+#[derive(Drop)]
+pub(crate) struct Traces<'grammar> {
     pub(crate) grammar: &'grammar Grammar,
-    pub(crate) start: &'a NonterminalString,
-    pub(crate) states: &'a [Lr0State<'grammar>],
+    pub(crate) start: NonterminalString,
+    pub(crate) states: Vec<Lr0State<'grammar>>,
     pub(crate) state: usize,
-    pub(crate) actions: &'a Set<Action<'grammar>>,
+    pub(crate) actions: Set<Action<'grammar>>,
+}
+
+/// The actions of the state that the second argument names.
+pub(crate) fn traces_of<'grammar>(
+    alloc: Global,
+    question: &Question<'_>,
+    grammar: &'grammar Grammar,
+) -> Result<Traces<'grammar>, QuestionError>
+    requires { IsWellFormed grammar.now }
+    ensures { IfOk result AreReady }
+{
+    let start = start_of(alloc, question, 1)?;
+    let state = question.number(2)?;
+    let copy = start.clone(alloc)?;
+    let states = lr0_states(alloc, grammar, copy)?;
+    if state >= states.len() {
+        return Err(QuestionError::Argument(2));
+    }
+    let actions = actions_of(alloc, &states[state])?;
+    Ok(Traces {
+        grammar,
+        start,
+        states,
+        state,
+        actions,
+    })
 }
 
 // Appends the tokens of each action in the row of each state, as tracing that action alone leaves them.
-fn push_cells(
-    alloc: Global,
-    text: &mut String,
-    traces: &Traces<'_, '_>,
-) -> Result<(), QuestionError>
+fn push_cells(alloc: Global, text: &mut String, traces: &Traces<'_>) -> Result<(), QuestionError>
     requires { AreReady traces.now }
 {
     let mut tables = Vec::new(alloc);
@@ -104,7 +114,7 @@ fn push_cells_of(
     alloc: Global,
     text: &mut String,
     tables: &[LaneTable<'_>],
-    pub(crate) state: usize,
+    state: usize,
     terminals: &TerminalSet,
 ) -> Result<(), QuestionError> {
     for (place, table) in tables.iter().enumerate() {
@@ -126,7 +136,7 @@ fn push_cells_of(
 /// The table that tracing the actions from one number to before another leaves.
 pub(crate) fn traced<'grammar>(
     alloc: Global,
-    traces: &Traces<'_, 'grammar>,
+    traces: &Traces<'grammar>,
     from: usize,
     to: usize,
 ) -> Result<LaneTable<'grammar>, QuestionError>
@@ -134,14 +144,14 @@ pub(crate) fn traced<'grammar>(
 {
     let grammar = traces.grammar;
     let first_sets = FirstSets::new(alloc, grammar)?;
-    let graph = StateGraph::new(alloc, traces.states)?;
+    let graph = StateGraph::new(alloc, &traces.states)?;
     let count = traces.actions.len();
     let start = traces.start.clone(alloc)?;
     let mut tracer = LaneTracer::new(
         alloc,
         grammar,
         start,
-        traces.states,
+        &traces.states,
         &first_sets,
         &graph,
         count,
@@ -216,4 +226,3 @@ fn add(
     table.add_lookahead(state, ConflictIndex::new(column), &tokens)?;
     Ok(())
 }
-

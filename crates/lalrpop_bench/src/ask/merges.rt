@@ -1,19 +1,17 @@
 //! Questions of the merging of states.
 ghost use Rattle.std.specs.Prelude.{IfOk};
 ghost use Rattle.lalrpop_base.specs.WellFormed.{IsWellFormed};
-ghost use Rattle.lalrpop_bench.specs.Traces.{AreReady};
 ghost use Rattle.lalrpop_tables.specs.Merges.{IsMerging};
 
 use super::checks::states_by;
-use super::context_sets::{actions_of, push_reductions};
-use super::graphs::lr0_states;
-use super::lane_tables::{Traces, traced};
-use super::states::start_of;
+use super::context_sets::push_reductions;
+use super::lane_tables::{Traces, traced, traces_of};
 use crate::question::{Question, QuestionError};
-use lalrpop_base::collections::Set;
 use lalrpop_base::lr1_core::coherent::are_coherent;
-use lalrpop_base::lr1_core::state::{Action, Lr1State, StateIndex};
+use lalrpop_base::lr1_core::state::{Lr1State, StateIndex};
+use lalrpop_base::memory::OutOfMemory;
 use lalrpop_base::repr::grammar::Grammar;
+use lalrpop_base::repr::terminals::TerminalSet;
 use lalrpop_tables::lane_table::construct::merge::{Merge, MergeError};
 use lalrpop_tables::lane_table::table::LaneTable;
 use lalrpop_tables::lane_table::table::rows::RowsError;
@@ -37,43 +35,40 @@ pub(crate) fn answer(
 fn merge(alloc: Global, question: &Question<'_>, grammar: &Grammar) -> Result<String, QuestionError>
     requires { IsWellFormed grammar.now }
 {
-    let start = start_of(alloc, question, 1)?;
-    let number = question.number(2)?;
-    let states = lr0_states(alloc, grammar, start.clone(alloc)?)?;
-    if number >= states.len() {
-        return Err(QuestionError::Argument(2));
-    }
-    let actions = actions_of(alloc, &states[number])?;
-    let traces = Traces {
-        grammar,
-        start: &start,
-        states: &states,
-        state: number,
-        actions: &actions,
-    };
-    let table = traced(alloc, &traces, 0, actions.len())?;
-    let own = states_by(alloc, grammar, start.clone(alloc)?, "lane")?;
+    let traces = traces_of(alloc, question, grammar)?;
+    let table = traced(alloc, &traces, 0, traces.actions.len())?;
     let mut text = String::new(alloc);
     if let Err(RowsError::State(state)) = table.rows(alloc) {
         write!(text, "rows overlap in state {state}\n")?;
         return Ok(text);
     }
-    let mut merge = merge_of(alloc, question, &table, own)?;
-    if !start_all(alloc, &mut text, &mut merge, &table)? {
-        return Ok(text);
+    let start = traces.start.clone(alloc)?;
+    let states = states_by(alloc, grammar, start, "lane")?;
+    let mut merge = merge_of(alloc, question, &table, states)?;
+    if start_all(alloc, &mut text, &mut merge, &table)? {
+        if !merge.is_patchable(&traces.actions) {
+            return Err(QuestionError::Argument(2));
+        }
+        merge.patch_target_starts(alloc, &traces.actions)?;
     }
-    if !merge.is_patchable(&actions) {
-        return Err(QuestionError::Argument(2));
-    }
-    merge.patch_target_starts(alloc, &actions)?;
-    let merged = merge.into_states();
-    write!(text, "{} states\n", merged.len())?;
-    for state in &merged {
-        if state.index.0 == number || state.index.0 >= states.len() {
-            push_reductions(&mut text, state, &grammar.terminals)?;
+    push_merged(&mut text, &merge.into_states(), &traces, &grammar.terminals)?;
+    Ok(text)
+}
+
+// Appends how many states there are, and the reductions of the state that was traced and of all copies.
+fn push_merged(
+    text: &mut String,
+    states: &[Lr1State<'_>],
+    traces: &Traces<'_>,
+    terminals: &TerminalSet,
+) -> Result<(), OutOfMemory> {
+    write!(text, "{} states\n", states.len())?;
+    for (place, state) in states.iter().enumerate() {
+        if place == traces.state || place >= traces.states.len() {
+            push_reductions(text, state, terminals)?;
         }
     }
-    Ok(text)
+    Ok(())
 }
 
 // The merging of states by a table, before anything is merged.
@@ -87,7 +82,13 @@ fn merge_of<'table, 'grammar>(
 {
     let start = StateIndex(question.number(2)?);
     let copies = question.number(3)?;
-    if !are_coherent(&states) || !table.is_closed(states.len()) || !table.has_row(start) {
+    if !are_coherent(&states) {
+        return Err(QuestionError::Argument(2));
+    }
+    if !table.is_closed(states.len()) {
+        return Err(QuestionError::Argument(2));
+    }
+    if !table.has_row(start) {
         return Err(QuestionError::Argument(2));
     }
     let Ok(rows) = table.rows(alloc) else {
