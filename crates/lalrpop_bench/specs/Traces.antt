@@ -1,5 +1,5 @@
 -- What the tracing of actions of LR(0) states asks for.
-use Rattle.std.specs.Prelude.{◌≡◌, ◌<◌, ℕ, length}
+use Rattle.std.specs.Prelude.{◌≡◌, ◌<◌, length}
 use Rattle.lalrpop_base.specs.Coherent.{AreCoherent}
 use Rattle.lalrpop_base.specs.WellFormed.{IsWellFormed, productions}
 use Rattle.lalrpop_base.specs.declared.lookahead.nil.Nil.{Nil}
@@ -15,8 +15,8 @@ pub record AreReady (traces : Traces) : Type 0 where
   pub listed : traces.state < length traces.states.items
 
 -- what tracing keeps
-pub record IsTracing (traces : Traces) (count : ℕ) (tracer : LaneTracer Nil) : Type 0 where
+pub record IsTracing (traces : Traces) (tracer : LaneTracer Nil) : Type 0 where
   pub ready : IsReadyToTrace tracer
   pub grammar : tracer.grammar.now ≡ traces.grammar.now
   pub states : tracer.states.now ≡ traces.states.items
-  pub columns : tracer.table.conflicts ≡ count
+  pub columns : tracer.table.conflicts ≡ length traces.actions.keys

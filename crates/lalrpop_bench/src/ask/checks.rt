@@ -8,6 +8,7 @@ use lalrpop_base::lookahead::token_set::TokenSet;
 use lalrpop_base::lr1_core::coherent::are_coherent;
 use lalrpop_base::lr1_core::collapsible::are_collapsible;
 use lalrpop_base::lr1_core::state::{BuildError, Lr1State, TableConstructionError};
+use lalrpop_base::memory::OutOfMemory;
 use lalrpop_base::repr::NonterminalString;
 use lalrpop_base::repr::grammar::Grammar;
 use lalrpop_base::repr::terminals::TerminalSet;
@@ -49,14 +50,28 @@ fn check(alloc: Global, question: &Question<'_>, grammar: &Grammar) -> Result<St
     if question.arguments.len() > 2 {
         change(alloc, question, &mut states, &grammar.terminals)?;
     }
-    if !are_coherent(&states) {
-        return Ok(String::from_str(alloc, "not coherent\n")?);
+    match passes(alloc, grammar, start, &states)? {
+        Some(yes) => Ok(format!(in alloc; "{yes}\n")?),
+        None => Ok(String::from_str(alloc, "not coherent\n")?),
+    }
+}
+
+// Whether coherent states pass the check.
+fn passes<'grammar>(
+    alloc: Global,
+    grammar: &'grammar Grammar,
+    start: NonterminalString,
+    states: &[Lr1State<'grammar>],
+) -> Result<Option<bool>, OutOfMemory>
+    requires { IsWellFormed grammar.now }
+{
+    if !are_coherent(states) {
+        return Ok(None);
     }
     if states.is_empty() {
-        return Ok(String::from_str(alloc, "no states\n")?);
+        return Ok(None);
     }
-    let passes = check_tables(alloc, grammar, start, &states)?;
-    Ok(format!(in alloc; "{passes}\n")?)
+    Ok(Some(check_tables(alloc, grammar, start, states)?))
 }
 
 /// The states that a way of construction makes, also those of an error. The way is the second argument.

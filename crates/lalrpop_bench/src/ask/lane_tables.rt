@@ -1,7 +1,7 @@
 //! Questions of lane tables.
 ghost use Rattle.std.specs.Prelude.{IfOk, IsTrue};
 ghost use Rattle.lalrpop_base.specs.WellFormed.{IsWellFormed, productions};
-ghost use Rattle.lalrpop_bench.specs.Traces.{AreReady};
+ghost use Rattle.lalrpop_bench.specs.Traces.{AreReady, IsTracing};
 ghost use Rattle.lalrpop_tables.specs.LaneTraces.{ReducesOwn};
 
 use super::context_sets::actions_of;
@@ -15,8 +15,10 @@ use crate::show::words::push_tokens;
 use lalrpop_base::collections::Set;
 use lalrpop_base::exact::contains;
 use lalrpop_base::first::FirstSets;
+use lalrpop_base::lookahead::nil::Nil;
 use lalrpop_base::lr1_core::lr0::Lr0State;
 use lalrpop_base::lr1_core::state::{Action, StateIndex};
+use lalrpop_base::memory::OutOfMemory;
 use lalrpop_base::repr::NonterminalString;
 use lalrpop_base::repr::grammar::Grammar;
 use lalrpop_base::repr::terminals::TerminalSet;
@@ -70,6 +72,7 @@ pub(crate) struct Traces<'grammar> {
 }
 
 /// The actions of the state that the second argument names.
+#[tactic(auto, using(crate::proofs::OwnItems::ready_traces))]
 pub(crate) fn traces_of<'grammar>(
     alloc: Global,
     question: &Question<'_>,
@@ -134,6 +137,7 @@ fn push_cells_of(
 }
 
 /// The table that tracing the actions from one number to before another leaves.
+#[tactic(auto, using(crate::proofs::OwnItems::coherent_there, crate::proofs::OwnItems::own_there, crate::proofs::OwnItems::tracing_start))]
 pub(crate) fn traced<'grammar>(
     alloc: Global,
     traces: &Traces<'grammar>,
@@ -157,16 +161,39 @@ pub(crate) fn traced<'grammar>(
         count,
     );
     for (place, action) in traces.actions.iter().enumerate() {
-        if from <= place && place < to && place < count && is_own(grammar, action) {
-            let state = StateIndex(traces.state);
-            let conflict = ConflictIndex::new(place);
-            tracer.start_trace(alloc, state, conflict, action.clone(alloc)?)?;
-        }
+        trace(alloc, &mut tracer, traces, from, to, place, action)?;
     }
     Ok(tracer.into_table())
 }
 
+// Traces an action where its number is from one to before another.
+#[tactic(auto, using(crate::proofs::OwnItems::tracing_more, crate::proofs::OwnItems::action_own, crate::proofs::OwnItems::state_listed, crate::proofs::OwnItems::column_there))]
+fn trace<'grammar>(
+    alloc: Global,
+    tracer: &mut LaneTracer<'_, 'grammar, Nil>,
+    traces: &Traces<'grammar>,
+    from: usize,
+    to: usize,
+    place: usize,
+    action: &Action<'grammar>,
+) -> Result<(), OutOfMemory>
+    requires ready { AreReady traces.now }
+    requires tracing { IsTracing traces.now tracer.old }
+    ensures { IsTracing traces.now tracer.new }
+{
+    if place < from || place >= to || place >= traces.actions.len() {
+        return Ok(());
+    }
+    if !is_own(traces.grammar, action) {
+        return Ok(());
+    }
+    let copy = action.clone(alloc)?;
+    let state = StateIndex(traces.state);
+    tracer.start_trace(alloc, state, ConflictIndex::new(place), copy)
+}
+
 // Whether an action is no reduction by a production of another grammar.
+#[tactic(auto, using(crate::proofs::OwnItems::own_production))]
 fn is_own(grammar: &Grammar, action: &Action<'_>) -> bool
     ensures { IsTrue result → ReducesOwn (productions grammar.now) action.now }
 {
