@@ -1,10 +1,20 @@
 //! Calls by their names: each answers a text.
 mod arguments;
 mod augment;
+mod checks;
+mod context_sets;
 mod first_sets;
 mod grammars;
+mod graphs;
+mod kernels;
+mod lane_tables;
+mod merges;
 mod reports;
+mod runs;
 mod states;
+mod token_sets;
+mod trace_graphs;
+mod traces;
 mod views;
 
 ghost use Rattle.lalrpop_base.specs.WellFormed.{IsWellFormed};
@@ -70,23 +80,83 @@ fn answer_of_inlined(
     if question.has("collapsed") {
         grammar.algorithm = Algorithm { lalr: true };
     }
-    if let Some(text) = grammars::answer_inlined(alloc, question, &grammar)? {
+    if let Some(text) = answer_of_states(alloc, question, &grammar)? {
         return Ok(text);
     }
-    if let Some(text) = first_sets::answer(alloc, question, &grammar)? {
+    if let Some(text) = answer_of_lanes(alloc, question, &grammar)? {
         return Ok(text);
     }
-    if let Some(text) = states::answer(alloc, question, &grammar)? {
-        return Ok(text);
-    }
-    if let Some(text) = views::answer(alloc, question, &grammar)? {
-        return Ok(text);
-    }
-    if let Some(text) = reports::answer(alloc, question, &grammar)? {
-        return Ok(text);
-    }
-    if let Some(text) = augment::answer(alloc, question, &grammar)? {
+    if let Some(text) = answer_of_runs(alloc, question, &grammar)? {
         return Ok(text);
     }
     Err(QuestionError::Call)
+}
+
+// The answer to a question of sets, states and reports, where the call is one.
+fn answer_of_states(
+    alloc: Global,
+    question: &Question<'_>,
+    grammar: &Grammar,
+) -> Result<Option<String>, QuestionError>
+    requires { IsWellFormed grammar.now }
+{
+    if let Some(text) = grammars::answer_inlined(alloc, question, grammar)? {
+        return Ok(Some(text));
+    }
+    if let Some(text) = first_sets::answer(alloc, question, grammar)? {
+        return Ok(Some(text));
+    }
+    if let Some(text) = states::answer(alloc, question, grammar)? {
+        return Ok(Some(text));
+    }
+    if let Some(text) = views::answer(alloc, question, grammar)? {
+        return Ok(Some(text));
+    }
+    if let Some(text) = reports::answer(alloc, question, grammar)? {
+        return Ok(Some(text));
+    }
+    augment::answer(alloc, question, grammar)
+}
+
+// The answer to a question of lane tables, checks, graphs, kernels and token sets, where the call is one.
+fn answer_of_lanes(
+    alloc: Global,
+    question: &Question<'_>,
+    grammar: &Grammar,
+) -> Result<Option<String>, QuestionError>
+    requires { IsWellFormed grammar.now }
+{
+    if let Some(text) = lane_tables::answer(alloc, question, grammar)? {
+        return Ok(Some(text));
+    }
+    if let Some(text) = context_sets::answer(alloc, question, grammar)? {
+        return Ok(Some(text));
+    }
+    if let Some(text) = checks::answer(alloc, question, grammar)? {
+        return Ok(Some(text));
+    }
+    if let Some(text) = graphs::answer(alloc, question, grammar)? {
+        return Ok(Some(text));
+    }
+    if let Some(text) = merges::answer(alloc, question, grammar)? {
+        return Ok(Some(text));
+    }
+    if let Some(text) = kernels::answer(alloc, question, grammar)? {
+        return Ok(Some(text));
+    }
+    token_sets::answer(alloc, question, grammar)
+}
+
+// The answer to a question of runs and traces, where the call is one.
+fn answer_of_runs(
+    alloc: Global,
+    question: &Question<'_>,
+    grammar: &Grammar,
+) -> Result<Option<String>, QuestionError>
+    requires { IsWellFormed grammar.now }
+{
+    if let Some(text) = runs::answer(alloc, question, grammar)? {
+        return Ok(Some(text));
+    }
+    traces::answer(alloc, question, grammar)
 }

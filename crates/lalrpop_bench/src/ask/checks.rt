@@ -1,0 +1,132 @@
+//! Questions of the checks of tables.
+ghost use Rattle.lalrpop_base.specs.WellFormed.{IsWellFormed};
+
+use super::states::start_of;
+use super::token_sets::tokens_of;
+use crate::question::{Question, QuestionError};
+use lalrpop_base::lookahead::token_set::TokenSet;
+use lalrpop_base::lr1_core::coherent::are_coherent;
+use lalrpop_base::lr1_core::collapsible::are_collapsible;
+use lalrpop_base::lr1_core::state::{BuildError, Lr1State, TableConstructionError};
+use lalrpop_base::memory::OutOfMemory;
+use lalrpop_base::repr::NonterminalString;
+use lalrpop_base::repr::grammar::Grammar;
+use lalrpop_base::repr::terminals::TerminalSet;
+use lalrpop_tables::build::build_lr1_states;
+use lalrpop_tables::build::options::{Method, Options};
+use lalrpop_tables::build_lalr::build_lalr_states;
+use lalrpop_tables::check::check_tables;
+use lalrpop_tables::lane_table::build_lane_table_states;
+use std::alloc::Global;
+
+/// The answer to a question of checks, where the call is one.
+pub(crate) fn answer(
+    alloc: Global,
+    question: &Question<'_>,
+    grammar: &Grammar,
+) -> Result<Option<String>, QuestionError>
+    requires { IsWellFormed grammar.now }
+{
+    match question.call {
+        "check_tables" => Ok(Some(check(alloc, question, grammar)?)),
+        "are_collapsible" => {
+            let start = start_of(alloc, question, 1)?;
+            let states = states_by(alloc, grammar, start, "canonical")?;
+            let coherent = are_coherent(&states);
+            let collapsible = are_collapsible(&states);
+            Ok(Some(format!(in alloc; "are_coherent {coherent}\nare_collapsible {collapsible}\n")?))
+        }
+        _ => Ok(None),
+    }
+}
+
+// Whether states pass the check, of which a reduction may be changed first.
+fn check(alloc: Global, question: &Question<'_>, grammar: &Grammar) -> Result<String, QuestionError>
+    requires { IsWellFormed grammar.now }
+{
+    let start = start_of(alloc, question, 1)?;
+    let way = question.argument(2)?;
+    let mut states = states_by(alloc, grammar, start.clone(alloc)?, way)?;
+    if question.arguments.len() > 2 {
+        change(alloc, question, &mut states, &grammar.terminals)?;
+    }
+    match passes(alloc, grammar, start, &states)? {
+        Some(yes) => Ok(format!(in alloc; "{yes}\n")?),
+        None => Ok(String::from_str(alloc, "not coherent\n")?),
+    }
+}
+
+// Whether coherent states pass the check.
+fn passes<'grammar>(
+    alloc: Global,
+    grammar: &'grammar Grammar,
+    start: NonterminalString,
+    states: &[Lr1State<'grammar>],
+) -> Result<Option<bool>, OutOfMemory>
+    requires { IsWellFormed grammar.now }
+{
+    if !are_coherent(states) {
+        return Ok(None);
+    }
+    if states.is_empty() {
+        return Ok(None);
+    }
+    Ok(Some(check_tables(alloc, grammar, start, states)?))
+}
+
+/// The states that a way of construction makes, also those of an error. The way is the second argument.
+pub(crate) fn states_by<'grammar>(
+    alloc: Global,
+    grammar: &'grammar Grammar,
+    start: NonterminalString,
+    way: &str,
+) -> Result<Vec<Lr1State<'grammar>>, QuestionError>
+    requires { IsWellFormed grammar.now }
+{
+    let lane = Options::default();
+    let canonical = Options {
+        method: Method::Canonical,
+        ..lane
+    };
+    let built = match way {
+        "canonical" => build_lr1_states(alloc, grammar, start, &canonical),
+        "collapsed" => build_lalr_states(alloc, grammar, start, &canonical),
+        "lane" => build_lane_table_states(alloc, grammar, start, lane.max_copies),
+        "fallback" => build_lr1_states(alloc, grammar, start, &lane),
+        _ => return Err(QuestionError::Argument(2)),
+    };
+    match built {
+        Ok(states) => Ok(states),
+        Err(BuildError::Conflicts(error)) => {
+            let TableConstructionError { states, .. } = error;
+            Ok(states)
+        }
+        Err(BuildError::Memory) => Err(QuestionError::Memory),
+    }
+}
+
+// Gives a reduction of a state other tokens.
+fn change(
+    alloc: Global,
+    question: &Question<'_>,
+    states: &mut [Lr1State<'_>],
+    terminals: &TerminalSet,
+) -> Result<(), QuestionError> {
+    let Some(state) = states.get_mut(question.number(3)?) else {
+        return Err(QuestionError::Argument(3));
+    };
+    let Some(reduction) = state.reductions.get_mut(question.number(4)?) else {
+        return Err(QuestionError::Argument(4));
+    };
+    match question.argument(5)? {
+        "emptied" => reduction.0 = TokenSet::new(alloc, terminals),
+        "full" => reduction.0 = TokenSet::all(alloc, terminals)?,
+        "with" => {
+            let after = question.arguments.len().saturating_add(1);
+            let more = tokens_of(alloc, question, 6, after, terminals)?;
+            reduction.0.union_with(&more)?;
+        }
+        _ => return Err(QuestionError::Argument(5)),
+    }
+    Ok(())
+}
