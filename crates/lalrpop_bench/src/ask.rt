@@ -1,5 +1,9 @@
 //! Calls by their names: each answers a text.
+mod runs;
 mod states;
+mod trace_graphs;
+mod traces;
+mod words;
 
 ghost use Rattle.lalrpop_base.specs.WellFormed.{IsWellFormed};
 
@@ -57,6 +61,12 @@ fn answer_of_inlined(
         grammar.algorithm = Algorithm { lalr: true };
     }
     if let Some(text) = states::answer(alloc, question, &grammar)? {
+        return Ok(text);
+    }
+    if let Some(text) = runs::answer(alloc, question, &grammar)? {
+        return Ok(text);
+    }
+    if let Some(text) = traces::answer(alloc, question, &grammar)? {
         return Ok(text);
     }
     Err(QuestionError::Call)
