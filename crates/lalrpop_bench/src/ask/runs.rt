@@ -152,8 +152,12 @@ fn run_over<'grammar, L: LookaheadInterpret>(
         limit,
     } = input_of(alloc, question)?;
     let mut text = String::new(alloc);
-    if states.is_empty() || !are_coherent(states) {
+    if !are_coherent(states) {
         text.push_str("not coherent\n")?;
+        return Ok(text);
+    }
+    if states.is_empty() {
+        text.push_str("no states\n")?;
         return Ok(text);
     }
     if question.call == "interpret_partial" {

@@ -1,5 +1,6 @@
 //! Questions of traces: how a state came to have an item, and examples of input.
 ghost use Rattle.lalrpop_base.specs.WellFormed.{IsWellFormed};
+ghost use Rattle.lalrpop_lr1.specs.TraceGraphs.{AreKnownEdges};
 
 use super::states::start_of;
 use super::trace_graphs::graph_of_words;
@@ -13,6 +14,7 @@ use lalrpop_base::lr1_core::item::Lr0Item;
 use lalrpop_base::lr1_core::state::{BuildError, Lr1State, StateIndex};
 use lalrpop_base::memory::OutOfMemory;
 use lalrpop_base::repr::grammar::Grammar;
+use lalrpop_base::repr::terminals::TerminalSet;
 use lalrpop_lr1::trace::{PathEnumerator, TraceGraph, Tracer};
 use lalrpop_tables::lr1::build_states;
 use std::alloc::Global;
@@ -164,14 +166,18 @@ fn push_meeting<'grammar>(
         text.push_str("unknown terminals\n")?;
         return Ok(());
     }
-    let examples = graph.lr1_examples(&first_sets, &item.with_lookahead(tokens))?;
-    for example in examples.take(MOST) {
+    let mut left = MOST;
+    for example in graph.lr1_examples(&first_sets, &item.with_lookahead(tokens))? {
+        if left == 0 {
+            return Ok(());
+        }
         push_example(alloc, text, "example", &example?)?;
+        left -= 1;
     }
     Ok(())
 }
 
-// Appends what a walk tells of each path, of the first ones.
+// Appends what a walk back from an item tells of its first paths.
 fn push_walk<'grammar>(
     alloc: Global,
     text: &mut String,
@@ -186,13 +192,26 @@ fn push_walk<'grammar>(
         text.push_str("unknown terminals\n")?;
         return Ok(());
     }
-    let mut walk = graph.lr0_examples(item)?;
-    for _ in 0..MOST {
+    let walk = graph.lr0_examples(item)?;
+    push_paths(alloc, text, &first_sets, &grammar.terminals, walk)
+}
+
+// Appends what a walk tells of each path, of the first ones, whose terminals are known.
+fn push_paths<'grammar>(
+    alloc: Global,
+    text: &mut String,
+    first_sets: &FirstSets<'grammar>,
+    terminals: &TerminalSet,
+    mut walk: PathEnumerator<'_, 'grammar>,
+) -> Result<(), OutOfMemory>
+    requires { AreKnownEdges first_sets.now.terminals walk.graph.now.edges }
+{
+    'paths: for _ in 0..MOST {
         let found = walk.found_trace();
         write!(text, "found_trace {found}\n")?;
         if found {
             text.push_str("first0")?;
-            push_tokens(text, &walk.first0(alloc, &first_sets)?, &grammar.terminals)?;
+            push_tokens(text, &walk.first0(alloc, first_sets)?, terminals)?;
             text.push_str("\n")?;
             push_path(alloc, text, &walk)?;
         }
