@@ -6,6 +6,7 @@ mod context_sets;
 mod first_sets;
 mod grammars;
 mod graphs;
+mod items;
 mod kernels;
 mod lane_tables;
 mod merges;

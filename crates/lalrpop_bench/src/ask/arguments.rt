@@ -94,8 +94,8 @@ fn have_known_terminals(symbols: &[Symbol], terminals: &TerminalSet) -> bool
     true
 }
 
-/// The token that a word stands for: `Eof`, `Error`, or a literal of the set. The word is the argument with a number.
-pub(crate) fn known_token(
+// The token that a word stands for: `Eof`, `Error`, or a literal of the set. The word is the argument with a number.
+fn known_token(
     alloc: Global,
     word: &str,
     terminals: &TerminalSet,
@@ -119,17 +119,35 @@ pub(crate) fn known_token(
     }
 }
 
-/// The set of the tokens that words stand for. The first word is the argument with a number.
-pub(crate) fn token_set_of(
+/// The set of the tokens that arguments name, from one number to before another. `All` is each terminal and `Eof`.
+pub(crate) fn tokens_between(
     alloc: Global,
-    words: &[&str],
+    question: &Question<'_>,
+    from: usize,
+    to: usize,
     terminals: &TerminalSet,
-    number: usize,
 ) -> Result<TokenSet, QuestionError> {
-    let mut set = TokenSet::new(alloc, terminals);
-    for (place, word) in words.iter().enumerate() {
-        let token = known_token(alloc, word, terminals, number.saturating_add(place))?;
-        set.insert(token, terminals)?;
+    let mut tokens = TokenSet::new(alloc, terminals);
+    for number in from..to {
+        let word = question.argument(number)?;
+        if word == "All" {
+            tokens.union_with(&TokenSet::all(alloc, terminals)?)?;
+        } else {
+            let token = known_token(alloc, word, terminals, number)?;
+            tokens.insert(token, terminals)?;
+        }
     }
-    Ok(set)
+    Ok(tokens)
+}
+
+/// The number of the first argument, from one number to before another, that is a comma; else the latter.
+pub(crate) fn piece_end(question: &Question<'_>, from: usize, to: usize) -> usize {
+    for number in from..to {
+        if let Ok(word) = question.argument(number)
+            && word == ","
+        {
+            return number;
+        }
+    }
+    to
 }

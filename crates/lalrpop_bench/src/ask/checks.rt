@@ -1,8 +1,8 @@
 //! Questions of the checks of tables.
 ghost use Rattle.lalrpop_base.specs.WellFormed.{IsWellFormed};
 
+use super::arguments::tokens_between;
 use super::states::start_of;
-use super::token_sets::tokens_of;
 use crate::question::{Question, QuestionError};
 use lalrpop_base::lookahead::token_set::TokenSet;
 use lalrpop_base::lr1_core::coherent::are_coherent;
@@ -123,7 +123,7 @@ fn change(
         "full" => reduction.0 = TokenSet::all(alloc, terminals)?,
         "with" => {
             let after = question.arguments.len().saturating_add(1);
-            let more = tokens_of(alloc, question, 6, after, terminals)?;
+            let more = tokens_between(alloc, question, 6, after, terminals)?;
             reduction.0.union_with(&more)?;
         }
         _ => return Err(QuestionError::Argument(5)),

@@ -2,9 +2,9 @@
 ghost use Rattle.std.specs.Prelude.{◌≡◌, length, IfOk};
 ghost use Rattle.lalrpop_base.specs.WellFormed.{IsWellFormed};
 
+use super::arguments::{piece_end, tokens_between};
 use super::checks::states_by;
 use super::states::start_of;
-use super::token_sets::{piece_end, tokens_of};
 use crate::question::{Question, QuestionError};
 use crate::show::context_set::push_columns;
 use crate::show::lane_table::push_actions;
@@ -136,7 +136,7 @@ fn insert(
     if column >= count {
         return Err(QuestionError::Argument(from));
     }
-    let tokens = tokens_of(alloc, question, from.saturating_add(1), to, terminals)?;
+    let tokens = tokens_between(alloc, question, from.saturating_add(1), to, terminals)?;
     match set.insert(ConflictIndex::new(column), &tokens) {
         Ok(grew) => write!(text, "insert {grew}\n")?,
         Err(OverlappingLookahead::Overlapping) => text.push_str("insert overlap\n")?,

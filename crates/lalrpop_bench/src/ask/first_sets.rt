@@ -1,7 +1,7 @@
 //! Questions of first sets.
 ghost use Rattle.lalrpop_base.specs.WellFormed.{IsWellFormed};
 
-use super::arguments::{known_symbols, token_set_of};
+use super::arguments::{known_symbols, tokens_between};
 use crate::question::{Question, QuestionError};
 use crate::show::words::push_tokens;
 use lalrpop_base::first::FirstSets;
@@ -52,12 +52,12 @@ fn first1(
     let Some((words, others)) = question.from(1).split_at_checked(count) else {
         return Err(QuestionError::Argument(1));
     };
-    let Some((_comma, tokens)) = others.split_first() else {
+    if others.is_empty() {
         return Err(QuestionError::Argument(count.saturating_add(1)));
-    };
+    }
     let symbols = known_symbols(alloc, words, &grammar.terminals, 1)?;
-    let number = count.saturating_add(2);
-    let follow = token_set_of(alloc, tokens, &grammar.terminals, number)?;
+    let (first, end) = (count.saturating_add(2), question.arguments.len().saturating_add(1));
+    let follow = tokens_between(alloc, question, first, end, &grammar.terminals)?;
     let set = sets.first1(alloc, symbols.as_slice(), &follow)?;
     shown(alloc, &set, &grammar.terminals)
 }

@@ -1,4 +1,5 @@
 //! Questions of kernels, without lookahead.
+use super::items::item_of;
 use crate::question::{Question, QuestionError};
 use crate::show::words::push_item;
 use grammar_text::symbols::pieces;
@@ -72,9 +73,9 @@ fn kernel_of<'grammar>(
 ) -> Result<Option<Kernel<'grammar, Nil>>, OutOfMemory> {
     let mut items = Sequence::new(alloc);
     for piece in pieces(alloc, word, ';')? {
-        match item_of(grammar, piece) {
-            Some(item) => items.push(item)?,
-            None => return Ok(None),
+        match item_of(grammar, piece, 1) {
+            Ok(item) => items.push(item)?,
+            Err(_) => return Ok(None),
         }
     }
     if items.as_slice().iter().all(|item| item.index == 0) {
@@ -84,31 +85,4 @@ fn kernel_of<'grammar>(
         return Ok(Some(Kernel::shifted(items)));
     }
     Ok(None)
-}
-
-// The item that a word names: the number of an action, and the place of the dot.
-fn item_of<'grammar>(grammar: &'grammar Grammar, word: &str) -> Option<Lr0Item<'grammar>> {
-    let (action, dot) = word.split_once('.')?;
-    let (Ok(action), Ok(dot)) = (action.parse::<usize>(), dot.parse::<usize>()) else {
-        return None;
-    };
-    let production = production_of(grammar, action)?;
-    if dot > production.symbols.len() {
-        return None;
-    }
-    Some(Item::lr0(production, dot))
-}
-
-// The first production with the number of an action.
-fn production_of(grammar: &Grammar, action: usize) -> Option<&Production> {
-    for (_name, entry) in grammar.nonterminals.iter() {
-        let found = entry
-            .productions
-            .iter()
-            .find(|production| production.action.index() == action);
-        if found.is_some() {
-            return found;
-        }
-    }
-    None
 }

@@ -4,10 +4,10 @@ ghost use Rattle.lalrpop_base.specs.WellFormed.{IsWellFormed, productions};
 ghost use Rattle.lalrpop_bench.specs.Traces.{AreReady, IsTracing};
 ghost use Rattle.lalrpop_tables.specs.LaneTraces.{ReducesOwn};
 
+use super::arguments::{piece_end, tokens_between};
 use super::context_sets::actions_of;
 use super::graphs::lr0_states;
 use super::states::start_of;
-use super::token_sets::{piece_end, tokens_of};
 use crate::question::{Question, QuestionError};
 use crate::show::context_set::column_of;
 use crate::show::lane_table::{push_actions, push_lane_table};
@@ -249,7 +249,7 @@ fn add(
     if column >= table.column_count() {
         return Err(QuestionError::Argument(second));
     }
-    let tokens = tokens_of(alloc, question, third, to, terminals)?;
+    let tokens = tokens_between(alloc, question, third, to, terminals)?;
     table.add_lookahead(state, ConflictIndex::new(column), &tokens)?;
     Ok(())
 }

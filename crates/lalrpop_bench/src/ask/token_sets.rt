@@ -1,14 +1,11 @@
 //! Questions of token sets.
+use super::arguments::{piece_end, tokens_between};
 use crate::question::{Question, QuestionError};
 use crate::show::words::push_tokens;
-use grammar_text::symbols::unquoted;
-use lalrpop_base::lookahead::token::Token;
 use lalrpop_base::lookahead::token_set::TokenSet;
 use lalrpop_base::memory::OutOfMemory;
-use lalrpop_base::repr::TerminalString;
 use lalrpop_base::repr::grammar::Grammar;
 use lalrpop_base::repr::terminals::TerminalSet;
-use lalrpop_base::text::Text;
 use std::alloc::Global;
 use std::cmp::Ordering;
 
@@ -32,8 +29,8 @@ fn token_sets(
 ) -> Result<String, QuestionError> {
     let after = question.arguments.len().saturating_add(1);
     let comma = piece_end(question, 1, after);
-    let mut first = tokens_of(alloc, question, 1, comma, terminals)?;
-    let second = tokens_of(alloc, question, comma.saturating_add(1), after, terminals)?;
+    let mut first = tokens_between(alloc, question, 1, comma, terminals)?;
+    let second = tokens_between(alloc, question, comma.saturating_add(1), after, terminals)?;
     let mut text = String::new(alloc);
     push_line(&mut text, "first", &first, terminals)?;
     push_line(&mut text, "second", &second, terminals)?;
@@ -82,62 +79,4 @@ fn push_line(
     push_tokens(text, tokens, terminals)?;
     text.push_str("\n")?;
     Ok(())
-}
-
-/// The number of the first argument, from one number to before another, that is a comma; else the latter.
-pub(crate) fn piece_end(question: &Question<'_>, from: usize, to: usize) -> usize {
-    for number in from..to {
-        if let Ok(word) = question.argument(number)
-            && word == ","
-        {
-            return number;
-        }
-    }
-    to
-}
-
-/// The set of the tokens that arguments name, from one number to before another. `All` is each terminal and the end.
-pub(crate) fn tokens_of(
-    alloc: Global,
-    question: &Question<'_>,
-    from: usize,
-    to: usize,
-    terminals: &TerminalSet,
-) -> Result<TokenSet, QuestionError> {
-    let mut tokens = TokenSet::new(alloc, terminals);
-    for number in from..to {
-        if !add_token(alloc, &mut tokens, question.argument(number)?, terminals)? {
-            return Err(QuestionError::Argument(number));
-        }
-    }
-    Ok(tokens)
-}
-
-// Adds the token that a word names, and tells whether it names one.
-fn add_token(
-    alloc: Global,
-    tokens: &mut TokenSet,
-    word: &str,
-    terminals: &TerminalSet,
-) -> Result<bool, OutOfMemory> {
-    let token = match word {
-        "All" => {
-            tokens.union_with(&TokenSet::all(alloc, terminals)?)?;
-            return Ok(true);
-        }
-        "Eof" => Token::Eof,
-        "Error" => Token::Error,
-        _ => {
-            let Some(text) = unquoted(word) else {
-                return Ok(false);
-            };
-            let terminal = TerminalString::Literal(Text::new(alloc, text)?);
-            if terminals.bit(&terminal).is_none() {
-                return Ok(false);
-            }
-            Token::Terminal(terminal)
-        }
-    };
-    tokens.insert(token, terminals)?;
-    Ok(true)
 }

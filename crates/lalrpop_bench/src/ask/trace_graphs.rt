@@ -1,0 +1,88 @@
+//! Graphs of traces that are made by words.
+use super::traces::{push_contained, push_examples};
+use super::items::item_of;
+use crate::question::{Question, QuestionError};
+use crate::show::trace_graph::push_trace_edges;
+use grammar_text::symbols::{is_a_name, name_of};
+use lalrpop_base::lr1_core::symbol_sets::SymbolSets;
+use lalrpop_base::repr::grammar::Grammar;
+use lalrpop_lr1::trace::{TraceGraph, TraceGraphNode};
+use std::alloc::Global;
+
+/// What the words of a question tell of the graph that they make, and its edges.
+pub(crate) fn graph_of_words(
+    alloc: Global,
+    question: &Question<'_>,
+    grammar: &Grammar,
+) -> Result<String, QuestionError> {
+    let mut text = String::new(alloc);
+    let mut graph = TraceGraph::new(alloc);
+    let mut number: usize = 1;
+    for word in &question.arguments {
+        follow_word(alloc, &mut text, &mut graph, grammar, word, number)?;
+        number = number.saturating_add(1);
+    }
+    push_trace_edges(&mut text, graph.edges(), &grammar.terminals)?;
+    Ok(text)
+}
+
+// Does what a word says: asks for an item or its examples, or adds a node or an edge.
+fn follow_word<'grammar>(
+    alloc: Global,
+    text: &mut String,
+    graph: &mut TraceGraph<'grammar>,
+    grammar: &'grammar Grammar,
+    word: &str,
+    number: usize,
+) -> Result<(), QuestionError> {
+    if let Some(asked) = word.strip_prefix('?') {
+        let item = item_of(grammar, asked, number)?;
+        push_contained(text, grammar, graph, &item)?;
+        return Ok(());
+    }
+    if let Some(asked) = word.strip_prefix('=') {
+        push_examples(alloc, text, graph, item_of(grammar, asked, number)?)?;
+        return Ok(());
+    }
+    if let Some((from, rest)) = word.split_once('/') {
+        return add_edge(alloc, graph, grammar, (from, rest), number);
+    }
+    let node = node_of(alloc, grammar, word, number)?;
+    let index = graph.add_node(node.clone(alloc)?)?;
+    write!(text, "node {}\n", index.0)?;
+    Ok(())
+}
+
+// Adds an edge between two nodes, without labels or with those of an item.
+fn add_edge<'grammar>(
+    alloc: Global,
+    graph: &mut TraceGraph<'grammar>,
+    grammar: &'grammar Grammar,
+    (from, rest): (&str, &str),
+    number: usize,
+) -> Result<(), QuestionError> {
+    let (to, labels) = match rest.split_once('/') {
+        Some((to, item)) => (to, item_of(grammar, item, number)?.symbol_sets()),
+        None => (rest, SymbolSets::new()),
+    };
+    let from = node_of(alloc, grammar, from, number)?;
+    let to = node_of(alloc, grammar, to, number)?;
+    graph.add_edge(from, to, labels)?;
+    Ok(())
+}
+
+// The node that a word names: a name, or an item, also one that is borrowed.
+fn node_of<'grammar>(
+    alloc: Global,
+    grammar: &'grammar Grammar,
+    word: &str,
+    number: usize,
+) -> Result<TraceGraphNode<'grammar>, QuestionError> {
+    if is_a_name(word) {
+        return Ok(TraceGraphNode::from(name_of(alloc, word)?));
+    }
+    if let Some(borrowed) = word.strip_prefix('&') {
+        return Ok(TraceGraphNode::from(&item_of(grammar, borrowed, number)?));
+    }
+    Ok(TraceGraphNode::from(item_of(grammar, word, number)?))
+}

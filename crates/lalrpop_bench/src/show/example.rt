@@ -1,0 +1,45 @@
+//! Examples of input.
+use lalrpop_base::memory::OutOfMemory;
+use lalrpop_lr1::trace::{Example, ExampleSymbol, Reduction};
+use std::alloc::Global;
+
+/// Appends an example behind a word: its symbols, the place of its cursor and its reductions. Copies of its parts are shown.
+pub(crate) fn push_example(
+    alloc: Global,
+    text: &mut String,
+    head: &str,
+    example: &Example,
+) -> Result<(), OutOfMemory> {
+    text.push_str(head)?;
+    for symbol in &example.symbols {
+        push_symbol(text, &symbol.clone(alloc)?)?;
+    }
+    write!(text, " at {} reductions", example.cursor)?;
+    push_reductions(alloc, text, &example.reductions)
+}
+
+// Appends a symbol of an example behind a space. The place of a right side without symbols is a pair of parentheses.
+fn push_symbol(text: &mut String, symbol: &ExampleSymbol) -> Result<(), OutOfMemory> {
+    match symbol {
+        ExampleSymbol::Symbol(symbol) => write!(text, " {symbol}")?,
+        ExampleSymbol::Epsilon => text.push_str(" ()")?,
+    }
+    Ok(())
+}
+
+// Appends reductions, each behind a space, and a hyphen where there are none. Then the line ends.
+fn push_reductions(
+    alloc: Global,
+    text: &mut String,
+    reductions: &[Reduction],
+) -> Result<(), OutOfMemory> {
+    if reductions.is_empty() {
+        text.push_str(" -")?;
+    }
+    for reduction in reductions {
+        let copy = reduction.clone(alloc)?;
+        write!(text, " {}..{} {}", copy.start, copy.end, copy.nonterminal)?;
+    }
+    text.push_str("\n")?;
+    Ok(())
+}

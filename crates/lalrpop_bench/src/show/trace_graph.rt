@@ -1,0 +1,53 @@
+//! Graphs of traces.
+use super::words::{push_item, push_list};
+use lalrpop_base::memory::OutOfMemory;
+use lalrpop_base::repr::terminals::TerminalSet;
+use lalrpop_lr1::trace::{TraceGraphEdge, TraceGraphNode};
+
+/// Appends edges, each in a line.
+pub(crate) fn push_trace_edges(
+    text: &mut String,
+    edges: &[TraceGraphEdge<'_>],
+    terminals: &TerminalSet,
+) -> Result<(), OutOfMemory> {
+    for edge in edges {
+        push_trace_edge(text, edge, terminals)?;
+    }
+    Ok(())
+}
+
+// Appends an edge: its nodes, and the symbols around what its target stands for.
+fn push_trace_edge(
+    text: &mut String,
+    edge: &TraceGraphEdge<'_>,
+    terminals: &TerminalSet,
+) -> Result<(), OutOfMemory> {
+    text.push_str("edge ")?;
+    push_node(text, &edge.from, terminals)?;
+    text.push_str(" to ")?;
+    push_node(text, &edge.to, terminals)?;
+    text.push_str(" prefix")?;
+    push_list(text, edge.symbol_sets.prefix)?;
+    match edge.symbol_sets.cursor {
+        Some(symbol) => write!(text, " cursor {symbol} suffix")?,
+        None => text.push_str(" cursor - suffix")?,
+    }
+    push_list(text, edge.symbol_sets.suffix)?;
+    text.push_str("\n")?;
+    Ok(())
+}
+
+// Appends a node: a name, or an item.
+fn push_node(
+    text: &mut String,
+    node: &TraceGraphNode<'_>,
+    terminals: &TerminalSet,
+) -> Result<(), OutOfMemory> {
+    match node {
+        TraceGraphNode::Nonterminal(name) => {
+            write!(text, "{name}")?;
+            Ok(())
+        }
+        TraceGraphNode::Item(item) => push_item(text, item, terminals),
+    }
+}
