@@ -74,20 +74,50 @@ pub(crate) fn refusal(alloc: Global, error: NormError) -> Result<String, Questio
 fn answer_of_inlined(
     alloc: Global,
     question: &Question<'_>,
-    mut grammar: Grammar,
+    grammar: Grammar,
 ) -> Result<String, QuestionError>
     requires { IsWellFormed grammar }
 {
     if question.has("collapsed") {
-        grammar.algorithm = Algorithm { lalr: true };
+        return answer_of_each(alloc, question, &collapsing(grammar));
     }
-    if let Some(text) = answer_of_states(alloc, question, &grammar)? {
+    answer_of_each(alloc, question, &grammar)
+}
+
+// The grammar, whose canonical states are to be merged.
+fn collapsing(grammar: Grammar) -> Grammar
+    requires { IsWellFormed grammar }
+    ensures { IsWellFormed result }
+{
+    let Grammar {
+        nonterminals,
+        terminals,
+        action_fn_defns,
+        algorithm: _,
+    } = grammar;
+    Grammar {
+        nonterminals,
+        terminals,
+        action_fn_defns,
+        algorithm: Algorithm { lalr: true },
+    }
+}
+
+// The answer of the group of calls that has the question's.
+fn answer_of_each(
+    alloc: Global,
+    question: &Question<'_>,
+    grammar: &Grammar,
+) -> Result<String, QuestionError>
+    requires { IsWellFormed grammar.now }
+{
+    if let Some(text) = answer_of_states(alloc, question, grammar)? {
         return Ok(text);
     }
-    if let Some(text) = answer_of_lanes(alloc, question, &grammar)? {
+    if let Some(text) = answer_of_lanes(alloc, question, grammar)? {
         return Ok(text);
     }
-    if let Some(text) = answer_of_runs(alloc, question, &grammar)? {
+    if let Some(text) = answer_of_runs(alloc, question, grammar)? {
         return Ok(text);
     }
     Err(QuestionError::Call)

@@ -40,14 +40,14 @@ pub(crate) struct Question<'text> {
 impl<'text> Question<'text> {
     /// The question that the words of a line make.
     pub(crate) fn new(alloc: Global, line: &'text str) -> Result<Self, OutOfMemory> {
-        let mut call = "";
+        let (call, others) = first_word(line);
         let mut arguments = Vec::new(alloc);
-        let mut rest = line;
+        let mut rest = others;
         while let Some((word, more)) = rest.split_once(' ') {
-            push_word(&mut call, &mut arguments, word)?;
+            push_word(&mut arguments, word)?;
             rest = more;
         }
-        push_word(&mut call, &mut arguments, rest)?;
+        push_word(&mut arguments, rest)?;
         Ok(Question { call, arguments })
     }
 
@@ -103,18 +103,17 @@ impl<'text> Question<'text> {
     }
 }
 
-// Takes a word as the call, or as an argument. An empty one is none.
-fn push_word<'text>(
-    call: &mut &'text str,
-    arguments: &mut Vec<&'text str>,
-    word: &'text str,
-) -> Result<(), OutOfMemory> {
-    if word.is_empty() {
-        return Ok(());
+// The first word of a line, and what stands behind it.
+fn first_word(line: &str) -> (&str, &str) {
+    match line.split_once(' ') {
+        Some((word, more)) => (word, more),
+        None => (line, ""),
     }
-    if call.is_empty() {
-        *call = word;
-    } else {
+}
+
+// Takes a word as an argument. An empty one is none.
+fn push_word<'text>(arguments: &mut Vec<&'text str>, word: &'text str) -> Result<(), OutOfMemory> {
+    if !word.is_empty() {
         arguments.push(word)?;
     }
     Ok(())

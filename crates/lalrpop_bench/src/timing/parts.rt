@@ -79,7 +79,10 @@ fn time_check<'grammar>(
     requires { IsWellFormed grammar.now }
 {
     let states = states_of(answer)?;
-    if states.is_empty() || !are_coherent(states) {
+    if !are_coherent(states) {
+        return Ok(());
+    }
+    if states.is_empty() {
         return Ok(());
     }
     let name = start.clone(rt.alloc())?;
