@@ -3,4 +3,4 @@ use Rattle.lalrpop_bench.proofs.ask.traces.push_paths.Given as goal
 
 -- the terminals of the walk's graph stay known
 abbrev pub invariant-paths : goal.invariant-paths
-invariant-paths l = AreKnownEdges l.first_sets.now.terminals l.walk.graph.now.edges
+invariant-paths l = AreKnownEdges l.first_sets.terminals l.walk.graph.now.edges
