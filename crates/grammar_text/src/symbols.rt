@@ -10,11 +10,7 @@ use lalrpop_base::text::Text;
 use std::alloc::Global;
 
 /// The pieces of a text between the places of an ASCII character.
-pub fn pieces<'a>(
-    alloc: Global,
-    text: &'a str,
-    by: char,
-) -> Result<Vec<&'a str>, OutOfMemory>
+pub fn pieces<'a>(alloc: Global, text: &'a str, by: char) -> Result<Vec<&'a str>, OutOfMemory>
     requires { by < 128 }
     ensures { IfOk result (λ all. map (λ p. p.now) all.items ≡ slice_split (λ b. b == by) text.now) }
 {

@@ -40,8 +40,8 @@ ready_traces traces start well made listed = record {
 }
 
 -- a production of a name is the grammar's
-pub own_production : (g : Grammar) (name : NonterminalString) (p : Production) → Contains (productions_of g name) p → Contains (productions g) p
-own_production = productions_among
+pub own_production : (g : Grammar) (name : NonterminalString) (ps : List Production) (p : Production) → ps ≡ productions_of g name → Contains ps p → Contains (productions g) p
+own_production g name ps p same held = productions_among g name p (subst (λ (xs : List Production). Contains xs p) same held)
 
 -- ---- one action more
 pub tracing_more : (traces : Traces) (old new : LaneTracer Nil) → IsTracing traces old → IsReadyToTrace new → (new.grammar.now ≡ old.grammar.now) × (new.start ≡ old.start) × (new.states.now ≡ old.states.now) × (new.table.conflicts ≡ old.table.conflicts) → IsTracing traces new

@@ -119,7 +119,8 @@ fn known_token(
     }
 }
 
-/// The set of the tokens that arguments name, from one number to before another. `All` is each terminal and `Eof`.
+/// The set of the tokens that arguments name, from one number to before another. `All` is each terminal and `Eof`, and
+/// the option `collapsed` is none.
 pub(crate) fn tokens_between(
     alloc: Global,
     question: &Question<'_>,
@@ -132,7 +133,7 @@ pub(crate) fn tokens_between(
         let word = question.argument(number)?;
         if word == "All" {
             tokens.union_with(&TokenSet::all(alloc, terminals)?)?;
-        } else {
+        } else if word != "collapsed" {
             let token = known_token(alloc, word, terminals, number)?;
             tokens.insert(token, terminals)?;
         }

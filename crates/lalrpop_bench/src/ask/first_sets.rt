@@ -56,7 +56,10 @@ fn first1(
         return Err(QuestionError::Argument(count.saturating_add(1)));
     }
     let symbols = known_symbols(alloc, words, &grammar.terminals, 1)?;
-    let (first, end) = (count.saturating_add(2), question.arguments.len().saturating_add(1));
+    let (first, end) = (
+        count.saturating_add(2),
+        question.arguments.len().saturating_add(1),
+    );
     let follow = tokens_between(alloc, question, first, end, &grammar.terminals)?;
     let set = sets.first1(alloc, symbols.as_slice(), &follow)?;
     shown(alloc, &set, &grammar.terminals)

@@ -160,8 +160,10 @@ pub(crate) fn traced<'grammar>(
         &graph,
         count,
     );
-    for (place, action) in traces.actions.iter().enumerate() {
+    let mut place: usize = 0;
+    for action in traces.actions.iter() {
         trace(alloc, &mut tracer, traces, from, to, place, action)?;
+        place = place.saturating_add(1);
     }
     Ok(tracer.into_table())
 }

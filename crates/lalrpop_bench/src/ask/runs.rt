@@ -1,8 +1,8 @@
 //! Questions of runs: trees, stacks and refusals.
 ghost use Rattle.lalrpop_base.specs.WellFormed.{IsWellFormed};
 
-use super::states::start_of;
 use super::arguments::method_at;
+use super::states::start_of;
 use crate::question::{Question, QuestionError};
 use crate::show::states::push_counts;
 use grammar_text::symbols::unquoted;

@@ -1,6 +1,6 @@
 //! Graphs of traces that are made by words.
-use super::traces::{push_contained, push_examples};
 use super::items::item_of;
+use super::traces::{push_contained, push_examples};
 use crate::question::{Question, QuestionError};
 use crate::show::trace_graph::push_trace_edges;
 use grammar_text::symbols::{is_a_name, name_of};

@@ -2,10 +2,10 @@
 ghost use Rattle.lalrpop_base.specs.WellFormed.{IsWellFormed};
 ghost use Rattle.lalrpop_lr1.specs.TraceGraphs.{AreKnownEdges};
 
-use super::states::start_of;
-use super::trace_graphs::graph_of_words;
 use super::arguments::{method_at, tokens_between};
 use super::items::item_of;
+use super::states::start_of;
+use super::trace_graphs::graph_of_words;
 use crate::question::{Question, QuestionError};
 use crate::show::example::push_example;
 use crate::show::trace_graph::push_trace_edges;
