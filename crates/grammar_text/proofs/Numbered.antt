@@ -13,7 +13,8 @@ use Rattle.grammar_text.specs.declared.lines.Line.{Line}
 use Rattle.grammar_text.specs.declared.lines.Line.TheVariants.{Blank, Production as production_line, Inline, Fault}
 use Rattle.grammar_text.specs.declared.lines.PlacedLine.{PlacedLine}
 use Rattle.std.proofs.lemmas.Grind.{flat_map-append}
-use Rattle.grammar_text.specs.Grammar.{inline_mark, production_of, productions_from, productions_in, has_name, names, line_names, line_marks, marks_in, Entry, entry_of, with_production, with_mark}
+use Rattle.lalrpop_base.specs.Marks.{inline_mark}
+use Rattle.grammar_text.specs.Grammar.{production_of, productions_from, productions_in, has_name, names, line_names, line_marks, marks_in, Entry, entry_of, with_production, with_mark}
 
 -- the productions of lines, and of those after them
 pub productions_from-append : (k : ℕ) (ls ms : List PlacedLine) → productions_from k (ls ++ ms) ≡ productions_from k ls ++ productions_from (k + length (productions_from k ls)) ms

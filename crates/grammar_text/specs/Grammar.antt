@@ -5,6 +5,7 @@ use Rattle.std.specs.List.Sorted.{IsStrictlySortedBy}
 use Rattle.std.specs.Str.{bytes_eq}
 use Rattle.std.specs.BTreeMap.{get, IsOrdered}
 use Rattle.std.specs.declared.cmp.Ordering.{Ordering}
+use Rattle.lalrpop_base.specs.Marks.{inline_mark}
 use Rattle.lalrpop_base.specs.WellFormed.{name_cmp}
 use Rattle.lalrpop_base.specs.contracts.repr.TerminalStringOrd.TheImpl as terminal
 use Rattle.lalrpop_base.specs.declared.repr.NonterminalString.{NonterminalString}
@@ -51,10 +52,6 @@ line_names a Fault = false
 -- whether a line names a nonterminal, as the left side of its production or as one to be inlined
 abbrev pub names : NonterminalString → PlacedLine → Bool
 names a l = line_names a l.line
-
--- the mark of a nonterminal that is to be inlined
-abbrev pub inline_mark : Attribute
-inline_mark = record { id = codes "inline" }
 
 -- the marks that a line gives a nonterminal
 abbrev pub line_marks : NonterminalString → Line → List Attribute

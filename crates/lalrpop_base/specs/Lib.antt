@@ -18,6 +18,7 @@ pub mod Items
 pub mod Kernels
 pub mod Lanes
 pub mod Laws
+pub mod Marks
 pub mod Names
 pub mod Multimaps
 pub mod NewStart

@@ -10,7 +10,8 @@ use Rattle.lalrpop_base.specs.declared.repr.NonterminalString.{NonterminalString
 use Rattle.lalrpop_base.specs.declared.repr.grammar.NonterminalData.{NonterminalData}
 use Rattle.lalrpop_base.specs.declared.repr.grammar.Grammar.{Grammar}
 use Rattle.lalrpop_base.proofs.theory.Lists.{contains-nil, contains_place, place_contains}
-use Rattle.lalrpop_lr1.specs.InlineOrder.{inline_mark, IsMarkedEntry, IsMarked}
+use Rattle.lalrpop_base.specs.Marks.{inline_mark}
+use Rattle.lalrpop_lr1.specs.InlineOrder.{IsMarkedEntry, IsMarked}
 use Rattle.std.specs.BTreeSet.{BTreeSet, contains}
 use Rattle.std.proofs.lemmas.Bool.{cases_Bool}
 use Rattle.std.proofs.lemmas.List.{take_more}

@@ -1,21 +1,17 @@
 -- The order in which marked nonterminals are inlined, and why there may be none.
-use Rattle.std.specs.Prelude.{◌≡◌, ◌↔◌, List, ◌∷◌, ◌++◌, Contains, Option, None, Some, codes}
+use Rattle.std.specs.Prelude.{◌≡◌, ◌↔◌, List, ◌∷◌, ◌++◌, Contains, Option, None, Some}
 use Rattle.std.specs.BTreeMap.{get}
+use Rattle.lalrpop_base.specs.Marks.{inline_mark}
 use Rattle.lalrpop_base.specs.Places.{AllDiffer}
 use Rattle.lalrpop_base.specs.WellFormed.{name_cmp, productions_of}
 use Rattle.lalrpop_base.specs.declared.repr.NonterminalString.{NonterminalString}
 use Rattle.lalrpop_base.specs.declared.repr.Span.{Span}
 use Rattle.lalrpop_base.specs.declared.repr.Production.{Production}
 use Rattle.lalrpop_base.specs.declared.repr.Symbol.TheVariants.{Nonterminal}
-use Rattle.lalrpop_base.specs.declared.repr.grammar.Attribute.{Attribute}
 use Rattle.lalrpop_base.specs.declared.repr.grammar.NonterminalData.{NonterminalData}
 use Rattle.lalrpop_base.specs.declared.repr.grammar.Grammar.{Grammar}
 use Rattle.lalrpop_base.specs.declared.repr.norm_error.NormError.{NormError}
 use Rattle.lalrpop_base.specs.declared.repr.norm_error.NormError.TheVariants.{Cycle, TooManyActions, Memory}
-
--- the mark of a nonterminal that is to be inlined
-abbrev pub inline_mark : Attribute
-inline_mark = record { id = codes "inline" }
 
 abbrev pub IsMarkedEntry : Option NonterminalData → Type 0
 IsMarkedEntry None = ⊥
