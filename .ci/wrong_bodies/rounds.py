@@ -30,6 +30,7 @@ class Trial:
 
     def complain(self, edit, why):
         self.wrong.append(f"{self.name}/{edit.name}: {why}")
+        print(self.wrong[-1], flush=True)
 
     def settle(self, edits):
         self.left = [it for it in self.left if it not in edits]
