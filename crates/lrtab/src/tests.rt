@@ -11,12 +11,6 @@ use std::io;
 use std::io::{ErrorKind, Read, Write};
 use std::test::Fail;
 
-const USAGE: &str = "usage: lrtab FILE START (parse LIMIT TOKEN.. | report | explain)\n";
-
-const SUMS: &str = "S = E\nE = E \"-\" T\nE = T\nT = \"N\"\nT = \"(\" E \")\"\n";
-
-const OPTION: &str = "inline OPT\nE = \"L\"\nE = \"&\" OPT E\nOPT =\nOPT = \"L\"\n";
-
 /// What a writer does once it has taken some bytes.
 #[derive(Clone, Copy, Debug, PartialEq, Eq)]
 enum Then {
@@ -96,153 +90,6 @@ fn ran(
 }
 
 #[test]
-fn answers(rt: HostRuntime) -> Result<(), Fail> {
-    let alloc = rt.alloc();
-    let x = "S = \"x\"";
-    for (text, words, out, status) in [
-        (x, "f S parse 2 x", "[S: \"x\"]\n", 0),
-        (x, "f S parse 1 x", "limit\n", 1),
-        (x, "f S parse 0 x", "limit\n", 1),
-        (x, "f S parse 9 y", "refused at \"y\"\n", 1),
-        (x, "f S parse 9", "refused at Eof\n", 1),
-        (x, "f S parse 9 -x", "refused at \"-x\"\n", 1),
-        (x, "f S parse 00002 x", "[S: \"x\"]\n", 0),
-        (x, "f S parse 18446744073709551615 x", "[S: \"x\"]\n", 0),
-        (x, "f X parse 0", "refused at Eof\n", 1),
-        ("S = \"x\"\nS = \"x\"", "f S parse 2 x", "conflicts: 1\n", 1),
-        ("S =", "f S parse 1", "[S: ]\n", 0),
-        ("S =", "f S parse 0", "limit\n", 1),
-        ("", "f S parse 0", "refused at Eof\n", 1),
-        ("\r\n\tS\t= \"x\" \r\n", "f S parse 2 x", "[S: \"x\"]\n", 0),
-        ("S = \"x\"\r", "f S parse 2 x", "[S: \"x\"]\n", 0),
-        ("S = A \"x\"", "f S parse 9 x", "refused at \"x\"\n", 1),
-        (
-            "inline = \"x\"",
-            "f inline parse 2 x",
-            "[inline: \"x\"]\n",
-            0,
-        ),
-        ("inline =", "f inline parse 1", "[inline: ]\n", 0),
-        (
-            "S = inline \"x\"\ninline inline\ninline = \"y\"",
-            "f S parse 3 y x",
-            "[S: \"y\", \"x\"]\n",
-            0,
-        ),
-        (
-            "S = A \"x\"\ninline A\ninline A\nA =",
-            "f S parse 2 x",
-            "[S: \"x\"]\n",
-            0,
-        ),
-        (
-            "S = \"x\"\nS = A \"x\"\ninline A",
-            "f S parse 2 x",
-            "[S: \"x\"]\n",
-            0,
-        ),
-        (
-            OPTION,
-            "f E parse 5 & L L",
-            "[E: \"&\", \"L\", [E: \"L\"]]\n",
-            0,
-        ),
-        (OPTION, "f E parse 4 & L L", "limit\n", 1),
-        (
-            OPTION,
-            "f E parse 6 & & L",
-            "[E: \"&\", [E: \"&\", [E: \"L\"]]]\n",
-            0,
-        ),
-        (
-            "E = \"L\"\nE = \"&\" OPT E\nOPT =\nOPT = \"L\"",
-            "f E parse 5 & L L",
-            "conflicts: 1\n",
-            1,
-        ),
-        (
-            SUMS,
-            "f S parse 9 N - N",
-            "[S: [E: [E: [T: \"N\"]], \"-\", [T: \"N\"]]]\n",
-            0,
-        ),
-        (
-            SUMS,
-            "f S parse 8 N - N",
-            "[S: [E: [E: [T: \"N\"]], \"-\", [T: \"N\"]]]\n",
-            0,
-        ),
-        (SUMS, "f S parse 7 N - N", "limit\n", 1),
-        (SUMS, "f S parse 9 N )", "refused at \")\"\n", 1),
-        (SUMS, "f S parse 9 N -", "refused at Eof\n", 1),
-        (SUMS, "f S parse 9 ?", "refused at \"?\"\n", 1),
-    ] {
-        let (wrote, said, got) = ran(alloc, Some(text.as_bytes()), words)?;
-        assert_eq!(rt; wrote.as_slice(), out.as_bytes(), "{words} of {text}");
-        assert_eq!(rt; said.len(), 0, "{words} of {text}");
-        assert_eq!(rt; got, status, "{words} of {text}");
-    }
-    Ok(())
-}
-
-#[test]
-fn faults(rt: HostRuntime) -> Result<(), Fail> {
-    let alloc = rt.alloc();
-    for (text, err) in [
-        ("S \"x\"", "line 1: not a grammar line\n"),
-        ("\r\nS = x\"\n", "line 2: not a grammar line\n"),
-        ("S = \"x\"\n\n5 = \"x\"", "line 3: not a grammar line\n"),
-        ("S=\"x\"", "line 1: not a grammar line\n"),
-        ("S = \"\"", "line 1: not a grammar line\n"),
-        ("S = \"a\"b\"", "line 1: not a grammar line\n"),
-        ("S = \"a b\"", "line 1: not a grammar line\n"),
-        ("S = \"x\"\r\r\n", "line 1: not a grammar line\n"),
-        ("S = A\ninline S T", "line 2: not a grammar line\n"),
-        ("S = A\ninline \"S\"", "line 2: not a grammar line\n"),
-        ("S = A\ninline", "line 2: not a grammar line\n"),
-        ("inline A\nA = A \"x\"", "cyclic inline of A\n"),
-        ("inline B\ninline A\nA = B\nB = A", "cyclic inline of A\n"),
-        ("\u{feff}S = \"x\"", "line 1: not a grammar line\n"),
-        ("S = \u{e9}", "line 1: not a grammar line\n"),
-    ] {
-        let (wrote, said, got) = ran(alloc, Some(text.as_bytes()), "f S parse 2 x")?;
-        assert_eq!(rt; wrote.len(), 0, "{text}");
-        assert_eq!(rt; said.as_slice(), err.as_bytes(), "{text}");
-        assert_eq!(rt; got, 2, "{text}");
-    }
-    Ok(())
-}
-
-#[test]
-fn other_words(rt: HostRuntime) -> Result<(), Fail> {
-    let alloc = rt.alloc();
-    for words in [
-        "",
-        "f",
-        "f S",
-        "f S parse",
-        "f S report 2",
-        "f S explain x",
-        "f S Explain",
-        "f S Parse 2 x",
-        "f S parse +2 x",
-        "f S parse -2 x",
-        "f S parse 2x x",
-        "f S parse 0x2 x",
-        "f S parse 18446744073709551616 x",
-        "f 5 parse 2 x",
-        "f S-T parse 2 x",
-        "f \"S\" parse 2 x",
-    ] {
-        let (wrote, said, got) = ran(alloc, None, words)?;
-        assert_eq!(rt; wrote.len(), 0, "{words}");
-        assert_eq!(rt; said.as_slice(), USAGE.as_bytes(), "{words}");
-        assert_eq!(rt; got, 2, "{words}");
-    }
-    Ok(())
-}
-
-#[test]
 fn methods_of_words(rt: HostRuntime) -> Result<(), Fail> {
     assert_eq!(rt; method_of("disabled"), Method::Canonical);
     for word in ["", "enabled", "Disabled", "disabled "] {
@@ -275,28 +122,6 @@ fn files_that_cannot_be_read(rt: HostRuntime) -> Result<(), Fail> {
     assert_eq!(rt; status, 2);
     assert_eq!(rt; out.len(), 0);
     assert_eq!(rt; err.as_slice(), b"cannot read a/f\n".as_slice());
-    Ok(())
-}
-
-#[test]
-fn each_character_of_a_literal(rt: HostRuntime) -> Result<(), Fail> {
-    let alloc = rt.alloc();
-    let mut literal = String::new(alloc);
-    for c in '\u{1}'..'\u{800}' {
-        if c != '\n' && c != '\t' && c != ' ' && c != '"' {
-            literal.push(c)?;
-        }
-    }
-    let text = format!(in alloc; "S = \"{literal}\"")?;
-    let mut words = words_of(alloc, "f S parse 2")?;
-    words.push(literal.as_str().to_string(alloc)?)?;
-    let mut out = Vec::new(alloc);
-    let mut err = Vec::new(alloc);
-    let file = Some(text.as_bytes());
-    let status = run(alloc, &words, Method::Lane, file, &mut out, &mut err);
-    let shown = format!(in alloc; "[S: \"{literal}\"]\n")?;
-    assert_eq!(rt; out.as_slice(), shown.as_bytes());
-    assert_eq!(rt; status, 0);
     Ok(())
 }
 

@@ -1,5 +1,5 @@
-//! Tests of reports.
-use super::{Closing, Then, ran, ran_by, words_of};
+//! Reports, and outputs that close on them.
+use super::{Closing, Then, words_of};
 use crate::run::run;
 use lalrpop_tables::build::Method;
 use std::test::Fail;
@@ -121,35 +121,6 @@ State 1 {
 
 }
 ";
-
-#[test]
-fn reports(rt: HostRuntime) -> Result<(), Fail> {
-    let alloc = rt.alloc();
-    let twice = "S = \"x\"\nS = \"x\"\n";
-    for (method, text, wanted, status) in [
-        (Method::Canonical, "S = \"x\"", ONE_TERMINAL, 0),
-        (Method::Lane, "S = \"x\"", ONE_TERMINAL_BY_LANES, 0),
-        (Method::Canonical, twice, AMBIGUOUS, 1),
-        (Method::Lane, twice, AMBIGUOUS, 1),
-    ] {
-        let file = Some(text.as_bytes());
-        let (wrote, said, got) = ran_by(alloc, method, file, "f S report")?;
-        assert_eq!(rt; wrote.as_slice(), wanted.as_bytes(), "{text}");
-        assert_eq!(rt; said.len(), 0, "{text}");
-        assert_eq!(rt; got, status, "{text}");
-    }
-    Ok(())
-}
-
-#[test]
-fn report_of_a_faulty_text(rt: HostRuntime) -> Result<(), Fail> {
-    let alloc = rt.alloc();
-    let (wrote, said, got) = ran(alloc, Some("S".as_bytes()), "f S report")?;
-    assert_eq!(rt; wrote.len(), 0);
-    assert_eq!(rt; said.as_slice(), b"line 1: not a grammar line\n".as_slice());
-    assert_eq!(rt; got, 2);
-    Ok(())
-}
 
 #[test]
 fn report_to_a_closed_output(rt: HostRuntime) -> Result<(), Fail> {
