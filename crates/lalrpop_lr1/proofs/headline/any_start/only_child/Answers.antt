@@ -1,0 +1,16 @@
+use Rattle.std.proofs.Common.{◌≡◌, List, [], ◌∷◌, ◌++◌, map, sym, ap, ◌∙◌}
+use Rattle.lalrpop_base.specs.Trees.{Tree, Node, trees_of}
+use Rattle.lalrpop_lr1.specs.ParseTrees.{tree_of}
+use Rattle.lalrpop_lr1.specs.declared.interpret.tree.ParseTree.{ParseTree}
+use Rattle.lalrpop_lr1.specs.declared.interpret.tree.ParseTree.TheOpen as Open
+use Rattle.lalrpop_lr1.specs.declared.interpret.tree.ParseTree.TheViews.{roll-ParseTree}
+use denote.Hole.Carrier.{roll}
+use Rattle.lalrpop_lr1.proofs.TreeViews.{tree_of_roll}
+use Rattle.lalrpop_lr1.proofs.AnyStart.{last_of_one}
+use Rattle.lalrpop_lr1.proofs.headline.any_start.only_child.Goals as goal
+
+pub returns : goal.returns
+unfolding roll-ParseTree roll
+returns c a t is =
+    let seen : tree_of c.args.tree ≡ Node c.in-Nonterminal.field-0 (trees_of (map tree_of c.in-Nonterminal.children.items)) = ap tree_of c.in-Nonterminal.is ∙ tree_of_roll (Open.Nonterminal c.in-Nonterminal.field-0 c.in-Nonterminal.children) in
+    last_of_one a c.in-Nonterminal.field-0 t c.in-Nonterminal.children.items c.pop.new.self.items c.in-Some.child (sym seen ∙ is) ?
