@@ -41,7 +41,7 @@ pub record Augmented : Type 0 where
 abbrev pub augmented_code : Coded Augmented
 augmented_code =
     code_by (List Production × (NonterminalString × (Grammar × NonterminalString))) (coded× (coded_list production.the_row.coded) (coded× name.the_row.coded (coded× whole.the_row.coded name.the_row.coded)))
-        (λ a. (a.old_productions, (a.old_start, (a.grammar, a.start)))) (λ p. record { old_productions = p.0; old_start = p.1.0; grammar = p.1.1.0; start = p.1.1.1 }) (λ _. refl)
+    (λ a. (a.old_productions, (a.old_start, (a.grammar, a.start)))) (λ p. record { old_productions = p.0; old_start = p.1.0; grammar = p.1.1.0; start = p.1.1.1 }) (λ _. refl)
 
 -- the productions of other names than one
 abbrev pub productions_but : NonterminalString → List Production → List Production
