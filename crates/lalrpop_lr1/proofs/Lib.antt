@@ -1,3 +1,4 @@
+pub mod AnyStart
 pub mod Counting
 pub mod FaithfulAnswers
 pub mod FaithfulStacks

@@ -1,4 +1,5 @@
 pub mod Answers
+pub mod AnyStart
 pub mod EqualTrees
 pub mod Examples
 pub mod FaithfulAnswers

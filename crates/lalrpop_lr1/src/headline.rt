@@ -1,4 +1,6 @@
 //! The promise on one page: tables for each LR(1) grammar and no other, and by them exactly its parse trees.
+pub mod any_start;
+
 ghost use Rattle.std.specs.Prelude.{◌≡◌, ◌<◌, length, IfOk, IfErr};
 ghost use Rattle.lalrpop_base.specs.Coherent.{AreCoherent};
 ghost use Rattle.lalrpop_base.specs.Contents.{contents};
