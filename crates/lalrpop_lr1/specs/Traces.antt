@@ -3,6 +3,7 @@ use Rattle.std.specs.Prelude.{◌≡◌, ◌↔◌, ℕ, ◌+◌, List, take, dr
 use Rattle.lalrpop_base.specs.Bits.{Bits}
 use Rattle.lalrpop_base.specs.Grammar.{IsNullable}
 use Rattle.lalrpop_base.specs.Items.{Dotted}
+use Rattle.lalrpop_base.specs.WellFormed.{Rules, HasKnownTerminals}
 use Rattle.lalrpop_base.specs.declared.lookahead.nil.Nil.{Nil}
 use Rattle.lalrpop_base.specs.declared.repr.NonterminalString.{NonterminalString}
 use Rattle.lalrpop_base.specs.declared.repr.Production.{Production}
@@ -61,6 +62,10 @@ StandsIn states n item = (state : State Bits) × (slice_get states n.0 ≡ Some 
 pub record HasOwnProductions (b : Backtrace) : Type 0 where
   pub item : Contains b.productions b.item.production
   pub items : (n : StateIndex) (i : Dotted Bits) → StandsIn b.states n i → Contains b.productions i.production
+
+-- each terminal of a production is one of the grammar's
+abbrev pub HasOwnTerminals : Rules → Type 0
+HasOwnTerminals g = (p : Production) → Contains g.productions p → HasKnownTerminals g.terminals p.symbols
 
 module _ (b : Backtrace) where
   -- the item stands in the state, with the nonterminal behind its dot
