@@ -1,6 +1,6 @@
 -- The graph of a trace: what is kept of it, with a node or an edge more.
 use Rattle.std.proofs.Common.{◌≡◌, ℕ, zero, suc, ◌+◌, ◌-◌, ◌≤◌, inl, inr, Bool, true, false, cond, List, [], ◌∷◌, ◌++◌, map, length, refl, sym, ◌∙◌, ap, subst, arith, ⊎_elim, append-nil, IsTrue, ◌↔◌, Result, Ok, Err}
-use Rattle.std.specs.Prelude.{slice_get, OnOk, Option, Some, None, Contains, is_some, ◌&&◌, option_copied}
+use Rattle.std.specs.Prelude.{slice_get, OnOk, OnErr, ◌⊎◌, Option, Some, None, Contains, is_some, ◌&&◌, option_copied}
 use Rattle.std.specs.Borrow.{Bor}
 use Rattle.std.specs.Option.{option_eq}
 use Rattle.std.specs.Ordering.{is_eq}
@@ -12,7 +12,7 @@ use Rattle.std.specs.declared.vec.Vec.{Vec}
 use Rattle.std.specs.declared.cmp.Ordering.TheVariants.{Equal}
 use Rattle.std.proofs.lemmas.Bool.{cases_Bool}
 use Rattle.std.proofs.lemmas.List.{drop_all, map-append}
-use Rattle.std.proofs.lemmas.List.Elements.{Contains-append_left}
+use Rattle.std.proofs.lemmas.List.Elements.{Contains-append_left, Contains-push_cases}
 use Rattle.std.proofs.lemmas.Option.{slice_get_within}
 use mathlib.Core.Bool.{true≢false}
 use lib.Pointwise.{pointwise}
@@ -30,9 +30,10 @@ use Rattle.lalrpop_base.specs.declared.repr.Symbol.{Symbol}
 use Rattle.lalrpop_base.proofs.KernelLemmas.{IsNext, all_differ, list_grows, next_numbering, exact_by_cmp}
 use Rattle.lalrpop_base.proofs.MultimapLemmas.{tied_at, everywhere}
 use Rattle.lalrpop_tables.specs.StateGraph.{listed}
+use Rattle.lalrpop_tables.proofs.Contained.{Decided, decided, added_or_not}
 use Rattle.lalrpop_tables.proofs.Lists.{Contains-map, place}
 use Rattle.lalrpop_tables.proofs.Places.{push_cases, contains_at, same_some}
-use Rattle.lalrpop_lr1.specs.TraceGraphs.{Graph, PlainEdge, plain, plain_edge, IsGraph, IsKept, IsFrom, SameLabels, HaveEnds, KeepPlaces, AddsBoth, AddsEdge, places_from}
+use Rattle.lalrpop_lr1.specs.TraceGraphs.{Graph, PlainEdge, plain, plain_edge, IsGraph, IsKept, IsFrom, SameLabels, HaveEnds, KeepPlaces, AddsBoth, AddsNoOther, AddsEdge, places_from}
 use Rattle.lalrpop_lr1.specs.contracts.trace.node.TraceGraphNodeOrd.TheImpl as node_ord
 use Rattle.lalrpop_lr1.specs.contracts.trace.node.TraceGraphNodeEq.TheImpl as node_equality
 use Rattle.lalrpop_lr1.specs.contracts.trace.node.TraceGraphNodePartialEq.TheImpl as node_eq
@@ -321,6 +322,31 @@ on_ok (Err e) h f = tt
 pub adds_both : (old middle newer new : List TraceGraphNode) (from to a b : TraceGraphNode) → a ≡ from → b ≡ to → new ≡ newer → AddsOnce old middle a → AddsOnce middle newer b → AddsBoth old new from to
 adds_both old middle newer new from to a b is_from is_to same first second =
     (middle, subst (AddsOnce old middle) is_from first, let P : List TraceGraphNode → Type 0 = λ xs. AddsOnce middle xs to in subst P (sym same) (subst (AddsOnce middle newer) is_to second))
+
+-- ---- which nodes were added
+decided_node : Decided TraceGraphNode
+decided_node = decided node_eq.ghosts.eq node_exactly.Laws.exact-law (λ x. node_equality.Laws.laws-law.refl x)
+
+-- a node more is no other than the one that was added
+node_more : (old new : List TraceGraphNode) (a node : TraceGraphNode) → a ≡ node → AddsOnce old new a → (n : TraceGraphNode) → Contains new n → Contains old n ⊎ (n ≡ node)
+node_more old new a node is added n c = elim (added_or_not decided_node old new a added) [
+  | inl same ↦ inl (let P : List TraceGraphNode → Type 0 = λ xs. Contains xs n in subst P same c)
+  | inr grown ↦ elim (Contains-push_cases old a n (let P : List TraceGraphNode → Type 0 = λ xs. Contains xs n in subst P grown c)) [ inl before ↦ inl before | inr here ↦ inr (sym here ∙ is) ]
+]
+
+pub no_other_first : (old new : List TraceGraphNode) (from to a : TraceGraphNode) → a ≡ from → AddsOnce old new a → AddsNoOther old new from to
+no_other_first old new from to a is added n c = elim (node_more old new a from is added n c) [ inl before ↦ inl before | inr first ↦ inr (inl first) ]
+
+pub no_other_second : (old middle new : List TraceGraphNode) (from to a b : TraceGraphNode) → a ≡ from → AddsOnce old middle a → b ≡ to → AddsOnce middle new b → AddsNoOther old new from to
+no_other_second old middle new from to a b is_from first is_to second n c = elim (node_more middle new b to is_to second n c) [ inl before ↦ no_other_first old middle from to a is_from first n before | inr added ↦ inr (inr added) ]
+
+pub no_other_same : (old middle new : List TraceGraphNode) (from to : TraceGraphNode) → AddsNoOther old middle from to → new ≡ middle → AddsNoOther old new from to
+no_other_same old middle new from to none same n c = none n (let P : List TraceGraphNode → Type 0 = λ xs. Contains xs n in subst P same c)
+
+-- an edge more, or a refused one, leaves the nodes
+pub nodes_stay : {A E : Type 0} (r : Result A E) (old new : Graph) (edges : List TraceGraphEdge) → OnOk r (new ≡ record { nodes = old.nodes; edges = edges }) → OnErr r (new ≡ old) → new.nodes ≡ old.nodes
+nodes_stay (Ok a) old new edges pushed err = ap (λ (g : Graph). g.nodes) pushed
+nodes_stay (Err e) old new edges pushed err = ap (λ (g : Graph). g.nodes) err
 
 -- an edge was put behind those among which none said the same
 pub adds_edge : (old middle new : List TraceGraphEdge) (e : TraceGraphEdge) → middle ≡ old → new ≡ middle ++ e ∷ [] → ¬ Contains (map plain middle) (plain e) → AddsEdge old new e

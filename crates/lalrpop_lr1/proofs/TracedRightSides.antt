@@ -1,19 +1,22 @@
--- The edges of a backtrace carry right sides of their sources' nonterminals.
-use Rattle.std.proofs.Common.{◌≡◌, ℕ, suc, ◌+◌, ◌<◌, ◌≤◌, List, ◌∷◌, ◌++◌, length, get_or, take, drop, refl, sym, ◌∙◌, ap, subst, arith, ⊎_elim}
-use Rattle.std.specs.Prelude.{Contains, Option, Some, None, slice_get}
+-- The edges of a backtrace carry right sides of their sources' nonterminals, so their terminals are the grammar's.
+use Rattle.std.proofs.Common.{◌≡◌, ℕ, zero, suc, ◌+◌, ◌<◌, ◌≤◌, List, [], ◌∷◌, ◌++◌, length, get_or, take, drop, refl, sym, ◌∙◌, ap, subst, arith, ⊎_elim}
+use Rattle.std.specs.Prelude.{Contains, Option, Some, None, option_copied, slice_get}
 use Rattle.std.proofs.lemmas.List.{take-append-drop, drop_all}
 use Rattle.std.proofs.lemmas.Option.{slice_get_cases}
+use Rattle.lalrpop_base.specs.WellFormed.{Rules, HasKnownTerminals}
 use Rattle.lalrpop_base.specs.declared.repr.NonterminalString.{NonterminalString}
 use Rattle.lalrpop_base.specs.declared.repr.Production.{Production}
 use Rattle.lalrpop_base.specs.declared.repr.Symbol.{Symbol}
-use Rattle.lalrpop_base.specs.declared.repr.Symbol.TheVariants.{Nonterminal as NonterminalOf}
+use Rattle.lalrpop_base.specs.declared.repr.Symbol.TheVariants.{Nonterminal as NonterminalOf, Terminal}
+use Rattle.lalrpop_base.specs.declared.repr.TerminalString.{TerminalString}
 use Rattle.lalrpop_base.proofs.ContentsViews.{contains_map, at_contains}
 use Rattle.lalrpop_tables.proofs.Closing.{drop_split}
 use Rattle.lalrpop_lr1.specs.Examples.{name_of, cursor_list, IsRightSide, CarryRightSides}
-use Rattle.lalrpop_lr1.specs.TraceGraphs.{Graph, PlainEdge, plain}
-use Rattle.lalrpop_lr1.specs.Traces.{Backtrace, IsTraced, first, given, Gives, onward, itself, stops, IsTraceOf, dot_edge, dotted, HasOwnProductions}
+use Rattle.lalrpop_lr1.specs.TraceGraphs.{Graph, PlainEdge, plain, AreKnownEdges}
+use Rattle.lalrpop_lr1.specs.Traces.{Backtrace, IsTraced, first, given, Gives, onward, itself, stops, IsTraceOf, dot_edge, dotted, HasOwnProductions, HasOwnTerminals}
 use Rattle.lalrpop_lr1.specs.declared.trace.node.TraceGraphNode.{TraceGraphNode}
 use Rattle.lalrpop_lr1.specs.declared.trace.node.TraceGraphNode.TheVariants.{Nonterminal as NameNode, Item as ItemNode}
+use Rattle.lalrpop_lr1.specs.declared.trace.trace_graph.TraceGraphEdge.{TraceGraphEdge}
 
 -- a list is what stands before a place, at it and behind it
 around : (xs : List Symbol) (i : ℕ) → take i xs ++ (cursor_list (slice_get xs i) ++ drop (i + 1) xs) ≡ xs
@@ -63,3 +66,23 @@ module _ (b : Backtrace) (own : HasOwnProductions b) where
   traced_right_sides graph trace k e at =
       let c = traced_carries (plain e) ((trace.exactly (plain e)).0 (contains_map plain graph.edges e (at_contains graph.edges k e at))) in
       record { right_side = c.right_side; cursor = c.cursor }
+
+-- ---- the parts of a right side whose terminals are known
+known_behind : (terminals : List TerminalString) (xs ys : List Symbol) → HasKnownTerminals terminals (xs ++ ys) → HasKnownTerminals terminals ys
+known_behind terminals [] ys h = h
+known_behind terminals (x ∷ xs) ys h = known_behind terminals xs ys (λ k t at. h (suc k) t at)
+
+known_first : (terminals : List TerminalString) (o : Option Symbol) (ys : List Symbol) → HasKnownTerminals terminals (cursor_list o ++ ys) → (t : TerminalString) → o ≡ Some (Terminal t) → Contains terminals t
+known_first terminals None ys h t e = cc
+known_first terminals (Some x) ys h t e = h zero t e
+
+-- edges that carry right sides of a grammar have its terminals
+pub known_edges : (g : Rules) (edges : List TraceGraphEdge) → HasOwnTerminals g → CarryRightSides g.productions edges → AreKnownEdges g.terminals edges
+known_edges g edges known carry k e at =
+    let side = (carry k e at).right_side in
+    let prefix = e.symbol_sets.prefix.now in
+    let cursor = option_copied e.symbol_sets.cursor in
+    let suffix = e.symbol_sets.suffix.now in
+    let all : HasKnownTerminals g.terminals (prefix ++ (cursor_list cursor ++ suffix)) = subst (HasKnownTerminals g.terminals) side.3 (known side.0 side.1) in
+    let behind = known_behind g.terminals prefix (cursor_list cursor ++ suffix) all in
+    record { cursor = known_first g.terminals cursor suffix behind; suffix = known_behind g.terminals (cursor_list cursor) suffix behind }

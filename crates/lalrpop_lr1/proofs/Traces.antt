@@ -25,44 +25,55 @@ use Rattle.lalrpop_tables.proofs.Lists.{Contains-none, place}
 use Rattle.lalrpop_tables.proofs.Places.{same_some}
 use Rattle.lalrpop_base.specs.declared.lr1_core.symbol_sets.SymbolSets.{SymbolSets}
 use Rattle.lalrpop_base.specs.declared.repr.Symbol.{Symbol}
-use Rattle.lalrpop_lr1.specs.TraceGraphs.{Graph, PlainEdge, plain, plain_edge, plain_edges, IsGraph, AddsEdge}
+use Rattle.lalrpop_lr1.specs.TraceGraphs.{Graph, PlainEdge, plain, plain_edge, plain_edges, IsEnd, IsGraph, AddsNoOther, AddsEdge}
 use Rattle.lalrpop_lr1.specs.Traces.{Backtrace, Meeting, dotted, dot_edge, own_edge, Takes, GoesOn, IsSource, IsMet, begins, goes_on, Gives, onward, itself, stops, IsTraced, first, given, IsTraceOf}
-use Rattle.lalrpop_lr1.specs.Meetings.{meeting_cmp, IsInsertedPair, AddsEdges, HasMet, HasEdge, IsDone, IsFinished, IsSound, Advances}
+use Rattle.lalrpop_lr1.specs.Meetings.{meeting_cmp, IsInsertedPair, AreEnds, AddsEdges, HasMet, HasEdge, IsDone, IsFinished, IsSound, Advances}
 use Rattle.lalrpop_lr1.specs.declared.trace.ground.Traced.TheVariants.{Shift, Reduce}
 use Rattle.lalrpop_lr1.specs.declared.trace.meeting.Met.{Met}
 use Rattle.lalrpop_lr1.specs.declared.trace.node.TraceGraphNode.{TraceGraphNode}
 use Rattle.lalrpop_lr1.specs.declared.trace.node.TraceGraphNode.TheVariants.{Nonterminal as NameNode, Item as ItemNode}
 use Rattle.lalrpop_lr1.specs.declared.trace.trace_graph.TraceGraphEdge.{TraceGraphEdge}
-use Rattle.lalrpop_lr1.proofs.TraceGraphs.{plain_push}
+use Rattle.lalrpop_lr1.proofs.TraceGraphs.{plain_push, plain_place}
 
 -- ---- edges that are added
 
--- an edge more
-pub adds_plain : (old new : Graph) (e : TraceGraphEdge) (p : PlainEdge) → IsGraph new → AddsEdge old.edges new.edges e → plain e ≡ p → AddsEdges old new (λ q. q ≡ p)
-adds_plain old new e p is_graph (inl h) is =
-    let P : PlainEdge → List TraceGraphEdge → Type 0 = λ q es. Contains (map plain es) q in
+-- an edge more, with no nodes but its ends
+pub adds_plain : (old new : Graph) (e : TraceGraphEdge) (p : PlainEdge) → IsGraph new → AddsEdge old.edges new.edges e → AddsNoOther old.nodes new.nodes e.from e.to → plain e ≡ p → AddsEdges old new (λ q. q ≡ p)
+adds_plain old new e p is_graph added none is =
+    let same : (q : PlainEdge) → Contains (plain_edges new) q ↔ (Contains (plain_edges old) q ⊎ (q ≡ p)) = adds_said old.edges new.edges e p added is in
+    let there : Contains (plain_edges new) p = (same p).1 (inr refl) in
     record {
       is_graph = is_graph;
-      edges = λ q. (λ c. inl (subst (P q) h.1 c), λ either. ⊎_elim (λ c. subst (P q) (sym h.1) c) (λ same. subst (P q) (sym h.1) (let Q : PlainEdge → Type 0 = Contains (map plain old.edges) in subst Q (is ∙ sym same) h.0)) either);
+      edges = same;
+      nodes = λ n c. elim (none n c) [
+        | inl before ↦ inl before
+        | inr (inl f) ↦ inr (p, there, inl (ap (λ (q : PlainEdge). q.from) (sym is) ∙ sym f))
+        | inr (inr t) ↦ inr (p, there, inr (ap (λ (q : PlainEdge). q.to) (sym is) ∙ sym t))
+      ];
     }
-adds_plain old new e p is_graph (inr h) is =
-    let Q : List PlainEdge → PlainEdge → Type 0 = λ es q. Contains es q in
-    let grown : map plain new.edges ≡ map plain old.edges ++ plain e ∷ [] = ap (map plain) h.1 ∙ plain_push old.edges e in
-    let P : PlainEdge → List PlainEdge → Type 0 = λ q es. Contains es q in
-    record {
-      is_graph = is_graph;
-      edges = λ q. (
-        λ c. ⊎_elim (λ before. inl before) (λ here. inr (sym here ∙ is)) (Contains-push_cases (map plain old.edges) (plain e) q (subst (P q) grown c)),
-        λ either. subst (P q) (sym grown) (⊎_elim (λ c. Contains-append_left (map plain old.edges) (plain e ∷ []) q c) (λ same. let R : PlainEdge → Type 0 = Contains (map plain old.edges ++ plain e ∷ []) in subst R (is ∙ sym same) (Contains-push (map plain old.edges) (plain e))) either),
-      );
-    }
+  where
+    adds_said : (old new : List TraceGraphEdge) (e : TraceGraphEdge) (p : PlainEdge) → AddsEdge old new e → plain e ≡ p → (q : PlainEdge) → Contains (map plain new) q ↔ (Contains (map plain old) q ⊎ (q ≡ p))
+    adds_said old new e p (inl h) is q =
+        let P : List TraceGraphEdge → Type 0 = λ es. Contains (map plain es) q in
+        (λ c. inl (subst P h.1 c), λ either. ⊎_elim (λ c. subst P (sym h.1) c) (λ same. subst P (sym h.1) (let Q : PlainEdge → Type 0 = Contains (map plain old) in subst Q (is ∙ sym same) h.0)) either)
+    adds_said old new e p (inr h) is q =
+        let grown : map plain new ≡ map plain old ++ plain e ∷ [] = ap (map plain) h.1 ∙ plain_push old e in
+        let P : List PlainEdge → Type 0 = λ es. Contains es q in (
+          λ c. ⊎_elim (λ before. inl before) (λ here. inr (sym here ∙ is)) (Contains-push_cases (map plain old) (plain e) q (subst P grown c)),
+          λ either. subst P (sym grown) (⊎_elim (λ c. Contains-append_left (map plain old) (plain e ∷ []) q c) (λ same. let R : PlainEdge → Type 0 = Contains (map plain old ++ plain e ∷ []) in subst R (is ∙ sym same) (Contains-push (map plain old) (plain e))) either),
+        )
 
 -- the same edges, said in other words
 pub adds_as : (old new : Graph) (P R : PlainEdge → Type 0) → AddsEdges old new P → ((e : PlainEdge) → P e ↔ R e) → AddsEdges old new R
 adds_as old new P R adds same = record {
   is_graph = adds.is_graph;
   edges = λ e. (λ c. ⊎_elim (λ before. inl before) (λ p. inr ((same e).0 p)) ((adds.edges e).0 c), λ either. (adds.edges e).1 (⊎_elim (λ c. inl c) (λ r. inr ((same e).1 r)) either));
+  nodes = adds.nodes;
 }
+
+-- an end of an edge stays one where edges stay
+end_stays : (old new : Graph) (n : TraceGraphNode) → ((e : PlainEdge) → Contains (plain_edges old) e → Contains (plain_edges new) e) → IsEnd (plain_edges old) n → IsEnd (plain_edges new) n
+end_stays old new n stays end = (end.0, stays end.0 end.1, end.2)
 
 -- edges and others after them
 pub adds_both_edges : (old middle new : Graph) (P Q R : PlainEdge → Type 0) → AddsEdges old middle P → AddsEdges middle new Q → ((e : PlainEdge) → (P e ⊎ Q e) ↔ R e) → AddsEdges old new R
@@ -72,7 +83,18 @@ adds_both_edges old middle new P Q R one two same = record {
     λ c. ⊎_elim (λ before. ⊎_elim (λ at_first. inl at_first) (λ p. inr ((same e).0 (inl p))) ((one.edges e).0 before)) (λ q. inr ((same e).0 (inr q))) ((two.edges e).0 c),
     λ either. (two.edges e).1 (⊎_elim (λ c. inl ((one.edges e).1 (inl c))) (λ r. ⊎_elim (λ p. inl ((one.edges e).1 (inr p))) (λ q. inr q) ((same e).1 r)) either),
   );
+  nodes = λ n c. ⊎_elim (λ before. ⊎_elim (λ at_first. inl at_first) (λ end. inr (end_stays middle new n (λ e i. (two.edges e).1 (inl i)) end)) (one.nodes n before)) (λ end. inr end) (two.nodes n c);
 }
+
+-- the ends of edges are nodes
+end_is_node : (graph : Graph) (n : TraceGraphNode) → IsGraph graph → IsEnd (plain_edges graph) n → Contains graph.nodes n
+end_is_node graph n is end =
+    let at = plain_place graph.edges end.0 end.1 in
+    let both_ends = is.ends at.0 at.1 at.2 in
+    elim end.2 [
+      | inl f ↦ subst (Contains graph.nodes) (ap (λ (q : PlainEdge). q.from) at.3 ∙ f) both_ends.0
+      | inr t ↦ subst (Contains graph.nodes) (ap (λ (q : PlainEdge). q.to) at.3 ∙ t) both_ends.1
+    ]
 
 dot_same : (from to from_is to_is : TraceGraphNode) (p : Production) (index : ℕ) → from ≡ from_is → to ≡ to_is → dot_edge from to p index ≡ dot_edge from_is to_is p index
 dot_same from to from_is to_is p index f t = ap (λ (x : TraceGraphNode). dot_edge x to p index) f ∙ ap (λ (x : TraceGraphNode). dot_edge from_is x p index) t
@@ -158,6 +180,7 @@ module _ (b : Backtrace) where
         sound = record {
           meets = λ m h. sound.meets m (stays m h);
           edges = λ e c. ⊎_elim (λ before. sound.edges e before) (λ p. traced e p) ((adds.edges e).0 c);
+          nodes = λ n c. ⊎_elim (λ before. end_stays old.trace_graph new.trace_graph n (λ e i. (adds.edges e).1 (inl i)) (sound.nodes n before)) (λ end. end) (adds.nodes n c);
           is_graph = adds.is_graph;
         };
       }
@@ -173,6 +196,7 @@ module _ (b : Backtrace) where
     sound_inserted sound met = record {
       meets = λ q h. ⊎_elim (λ before. sound.meets q before) (λ here. let P : Meeting → Type 0 = IsMet b in subst P here met) (inserted.only q h);
       edges = λ e c. sound.edges e (edge_was e c);
+      nodes = let P : Graph → Type 0 = AreEnds in subst P (sym same) sound.nodes;
       is_graph = let P : Graph → Type 0 = IsGraph in subst P (sym same) sound.is_graph;
     }
 
@@ -218,13 +242,18 @@ module _ (b : Backtrace) where
     all_edges e (given m item met takes gives) = (finished_all m (all_met m met) item takes).given e gives
 
     pub is_trace : IsTraceOf b last.trace_graph
-    is_trace = record { exactly = λ e. (advances.sound.edges e, all_edges e); is_graph = advances.sound.is_graph }
+    is_trace = record {
+      exactly = λ e. (advances.sound.edges e, all_edges e);
+      nodes = λ n. (advances.sound.nodes n, end_is_node last.trace_graph n advances.sound.is_graph);
+      is_graph = advances.sound.is_graph;
+    }
 
   -- the edge of the traced item is the first
-  pub sound_first : (old new : Met) → ((m : Meeting) → HasMet old m → ⊥) → old.trace_graph.edges ≡ [] → new.visited_set ≡ old.visited_set → AddsEdges old.trace_graph new.trace_graph (λ e. e ≡ own_edge b.item.production b.item.index) → IsSound b new
-  sound_first old new none no_edges same adds = record {
+  pub sound_first : (old new : Met) → ((m : Meeting) → HasMet old m → ⊥) → old.trace_graph ≡ record { nodes = []; edges = [] } → new.visited_set ≡ old.visited_set → AddsEdges old.trace_graph new.trace_graph (λ e. e ≡ own_edge b.item.production b.item.index) → IsSound b new
+  sound_first old new none empty same adds = record {
     meets = λ m h. absurd (none m (ap (λ (s : BTreeSet Meeting). contains meeting_cmp s m) (sym same) ∙ h));
-    edges = λ e c. ⊎_elim (λ before. let P : List TraceGraphEdge → Type 0 = λ es. Contains (map plain es) e in absurd (Contains-none e (subst P no_edges before))) (λ is. first is) ((adds.edges e).0 c);
+    edges = λ e c. ⊎_elim (λ before. let P : Graph → Type 0 = λ g. Contains (plain_edges g) e in absurd (Contains-none e (subst P empty before))) (λ is. first is) ((adds.edges e).0 c);
+    nodes = λ n c. ⊎_elim (λ before. let P : Graph → Type 0 = λ g. Contains g.nodes n in absurd (Contains-none n (subst P empty before))) (λ end. end) (adds.nodes n c);
     is_graph = adds.is_graph;
   }
 

@@ -10,10 +10,11 @@ use Rattle.lalrpop_base.specs.WellFormed.{name_cmp}
 use Rattle.lalrpop_base.specs.declared.repr.NonterminalString.{NonterminalString}
 use Rattle.lalrpop_base.specs.declared.lr1_core.state.State.{State}
 use Rattle.lalrpop_tables.specs.StateGraph.{state_cmp}
-use Rattle.lalrpop_lr1.specs.TraceGraphs.{Graph, PlainEdge, plain_edges, IsGraph}
+use Rattle.lalrpop_lr1.specs.TraceGraphs.{Graph, PlainEdge, plain_edges, IsEnd, IsGraph}
 use Rattle.lalrpop_lr1.specs.Traces.{Backtrace, Meeting, Takes, GoesOn, IsSource, IsMet, Gives, IsTraced}
 use Rattle.lalrpop_lr1.specs.declared.trace.ground.Trace.{Trace}
 use Rattle.lalrpop_lr1.specs.declared.trace.meeting.Met.{Met}
+use Rattle.lalrpop_lr1.specs.declared.trace.node.TraceGraphNode.{TraceGraphNode}
 
 -- the nonterminals of the items of states
 abbrev pub names_in : List (State Bits) → List NonterminalString
@@ -48,10 +49,15 @@ HasMet met m = contains meeting_cmp met.visited_set m ≡ true
 abbrev pub HasEdge : Met → PlainEdge → Type 0
 HasEdge met e = Contains (plain_edges met.trace_graph) e
 
--- the second graph has the edges of the first and these besides
+-- each node is an end of an edge
+abbrev pub AreEnds : Graph → Type 0
+AreEnds graph = (n : TraceGraphNode) → Contains graph.nodes n → IsEnd (plain_edges graph) n
+
+-- the second graph has the edges of the first and these besides, and no nodes but those of the first and the ends of its edges
 pub record AddsEdges (old new : Graph) (P : PlainEdge → Type 0) : Type 0 where
   pub is_graph : IsGraph new
   pub edges : (e : PlainEdge) → Contains (plain_edges new) e ↔ (Contains (plain_edges old) e ⊎ P e)
+  pub nodes : (n : TraceGraphNode) → Contains new.nodes n → Contains old.nodes n ⊎ IsEnd (plain_edges new) n
 
 -- the edges that the item gives where it takes the nonterminal are there, and what it leads to was met
 pub record IsDone (b : Backtrace) (met : Met) (m : Meeting) (item : Dotted Bits) : Type 0 where
@@ -62,10 +68,11 @@ pub record IsDone (b : Backtrace) (met : Met) (m : Meeting) (item : Dotted Bits)
 abbrev pub IsFinished : Backtrace → Met → Meeting → Type 0
 IsFinished b met m = (item : Dotted Bits) → Takes b m item → IsDone b met m item
 
--- what was met is met by the backtrace, and the edges are edges of it
+-- what was met is met by the backtrace, the edges are edges of it, and the nodes are their ends
 pub record IsSound (b : Backtrace) (met : Met) : Type 0 where
   pub meets : (m : Meeting) → HasMet met m → IsMet b m
   pub edges : (e : PlainEdge) → HasEdge met e → IsTraced b e
+  pub nodes : AreEnds met.trace_graph
   pub is_graph : IsGraph met.trace_graph
 
 -- a trace went on: what it met besides is finished

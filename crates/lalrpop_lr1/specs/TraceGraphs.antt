@@ -49,6 +49,10 @@ pub record IsGraph (graph : Graph) : Type 0 where
   pub edges : AllDiffer (plain_edges graph)
   pub ends : HaveEnds graph.nodes graph.edges
 
+-- an edge comes from the node or leads to it
+abbrev pub IsEnd : List PlainEdge → TraceGraphNode → Type 0
+IsEnd edges n = (e : PlainEdge) × Contains edges e × ((e.from ≡ n) ⊎ (e.to ≡ n))
+
 -- each value of the first list stands at its place in the second
 abbrev pub KeepPlaces : {X : Type 0} → List X → List X → Type 0
 KeepPlaces {X} old new = (n : ℕ) (x : X) → slice_get old n ≡ Some x → slice_get new n ≡ Some x
@@ -56,6 +60,10 @@ KeepPlaces {X} old new = (n : ℕ) (x : X) → slice_get old n ≡ Some x → sl
 -- two nodes were added in turn, each where it was none
 abbrev pub AddsBoth : List TraceGraphNode → List TraceGraphNode → TraceGraphNode → TraceGraphNode → Type 0
 AddsBoth old new from to = (middle : List TraceGraphNode) × AddsOnce old middle from × AddsOnce middle new to
+
+-- each node was there before, or is one of the two
+abbrev pub AddsNoOther : List TraceGraphNode → List TraceGraphNode → TraceGraphNode → TraceGraphNode → Type 0
+AddsNoOther old new from to = (n : TraceGraphNode) → Contains new n → Contains old n ⊎ ((n ≡ from) ⊎ (n ≡ to))
 
 -- either an edge that says the same stood in the list, which stays, or the edge was put behind the others
 abbrev pub AddsEdge : List TraceGraphEdge → List TraceGraphEdge → TraceGraphEdge → Type 0

@@ -3,6 +3,7 @@ use Rattle.std.specs.Prelude.{◌≡◌, ◌↔◌, ℕ, ◌+◌, List, take, dr
 use Rattle.lalrpop_base.specs.Bits.{Bits}
 use Rattle.lalrpop_base.specs.Grammar.{IsNullable}
 use Rattle.lalrpop_base.specs.Items.{Dotted}
+use Rattle.lalrpop_base.specs.WellFormed.{Rules, HasKnownTerminals}
 use Rattle.lalrpop_base.specs.declared.lookahead.nil.Nil.{Nil}
 use Rattle.lalrpop_base.specs.declared.repr.NonterminalString.{NonterminalString}
 use Rattle.lalrpop_base.specs.declared.repr.Production.{Production}
@@ -10,7 +11,7 @@ use Rattle.lalrpop_base.specs.declared.repr.Symbol.TheVariants.{Nonterminal}
 use Rattle.lalrpop_base.specs.declared.lr1_core.state.State.{State}
 use Rattle.lalrpop_base.specs.declared.lr1_core.state.StateIndex.{StateIndex}
 use Rattle.lalrpop_tables.specs.StateGraph.{edges, LeadsTo}
-use Rattle.lalrpop_lr1.specs.TraceGraphs.{Graph, PlainEdge, plain_edges, IsGraph}
+use Rattle.lalrpop_lr1.specs.TraceGraphs.{Graph, PlainEdge, plain_edges, IsEnd, IsGraph}
 use Rattle.lalrpop_lr1.specs.declared.trace.ground.Traced.{Traced}
 use Rattle.lalrpop_lr1.specs.declared.trace.ground.Traced.TheVariants.{Shift, Reduce}
 use Rattle.lalrpop_lr1.specs.declared.trace.node.TraceGraphNode.{TraceGraphNode}
@@ -62,6 +63,10 @@ pub record HasOwnProductions (b : Backtrace) : Type 0 where
   pub item : Contains b.productions b.item.production
   pub items : (n : StateIndex) (i : Dotted Bits) → StandsIn b.states n i → Contains b.productions i.production
 
+-- each terminal of a production is one of the grammar's
+abbrev pub HasOwnTerminals : Rules → Type 0
+HasOwnTerminals g = (p : Production) → Contains g.productions p → HasKnownTerminals g.terminals p.symbols
+
 module _ (b : Backtrace) where
   -- the item stands in the state, with the nonterminal behind its dot
   abbrev pub Takes : Meeting → Dotted Bits → Type 0
@@ -90,7 +95,8 @@ module _ (b : Backtrace) where
     first : e ≡ own_edge b.item.production b.item.index → IsTraced e
     given : (m : Meeting) (item : Dotted Bits) → IsMet m → Takes m item → Gives m.1 item e → IsTraced e
 
--- the graph has exactly the edges of the backtrace, each once, and the ends of these are its nodes
+-- the graph has exactly the edges of the backtrace, each once, and exactly the ends of these are its nodes
 pub record IsTraceOf (b : Backtrace) (graph : Graph) : Type 0 where
   pub exactly : (e : PlainEdge) → Contains (plain_edges graph) e ↔ IsTraced b e
+  pub nodes : (n : TraceGraphNode) → Contains graph.nodes n ↔ IsEnd (plain_edges graph) n
   pub is_graph : IsGraph graph

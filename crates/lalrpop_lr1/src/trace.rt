@@ -14,8 +14,8 @@ pub mod trace_graph;
 ghost use Rattle.std.specs.Prelude.{◌≡◌, IfOk};
 ghost use Rattle.lalrpop_lr1.specs.Meetings.{asked};
 ghost use Rattle.lalrpop_lr1.specs.Examples.{CarryRightSides};
-ghost use Rattle.lalrpop_lr1.specs.Traces.{HasOwnProductions, IsTraceOf};
-ghost use Rattle.lalrpop_lr1.specs.declared.trace.ground.Traced.TheVariants.{Shift, Reduce};
+ghost use Rattle.lalrpop_lr1.specs.TraceGraphs.{AreKnownEdges};
+ghost use Rattle.lalrpop_lr1.specs.Traces.{HasOwnProductions, HasOwnTerminals, IsTraceOf, shift_traced, reduction_traced};
 
 pub use enumerator::PathEnumerator;
 pub use example::{Example, ExampleSymbol, Reduction};
@@ -64,8 +64,9 @@ impl<'trace, 'grammar> Tracer<'trace, 'grammar> {
         state: StateIndex,
         item: Lr0Item<'grammar>,
     ) -> Result<TraceGraph<'grammar>, OutOfMemory>
-        ensures traced { IfOk result (IsTraceOf (record { traced = Shift; productions = self.entry.ground.first_sets.now.productions; states = self.entry.ground.states.now; state = state; item = item.entry })) }
-        ensures right_sides { IfOk result (λ graph. HasOwnProductions (record { traced = Shift; productions = self.entry.ground.first_sets.now.productions; states = self.entry.ground.states.now; state = state; item = item.entry }) → CarryRightSides self.entry.ground.first_sets.now.productions graph.edges) }
+        ensures traced { IfOk result (IsTraceOf (shift_traced self.entry.ground.first_sets.now.productions self.entry.ground.states.now state item.entry)) }
+        ensures right_sides { IfOk result (λ graph. HasOwnProductions (shift_traced self.entry.ground.first_sets.now.productions self.entry.ground.states.now state item.entry) → CarryRightSides self.entry.ground.first_sets.now.productions graph.edges) }
+        ensures known { IfOk result (λ graph. HasOwnTerminals self.entry.ground.first_sets.now → HasOwnProductions (shift_traced self.entry.ground.first_sets.now.productions self.entry.ground.states.now state item.entry) → AreKnownEdges self.entry.ground.first_sets.now.terminals graph.edges) }
     {
         let trace = Trace {
             traced: Traced::Shift,
@@ -83,8 +84,9 @@ impl<'trace, 'grammar> Tracer<'trace, 'grammar> {
         state: StateIndex,
         item: Lr0Item<'grammar>,
     ) -> Result<TraceGraph<'grammar>, OutOfMemory>
-        ensures traced { IfOk result (IsTraceOf (record { traced = Reduce; productions = self.entry.ground.first_sets.now.productions; states = self.entry.ground.states.now; state = state; item = item.entry })) }
-        ensures right_sides { IfOk result (λ graph. HasOwnProductions (record { traced = Reduce; productions = self.entry.ground.first_sets.now.productions; states = self.entry.ground.states.now; state = state; item = item.entry }) → CarryRightSides self.entry.ground.first_sets.now.productions graph.edges) }
+        ensures traced { IfOk result (IsTraceOf (reduction_traced self.entry.ground.first_sets.now.productions self.entry.ground.states.now state item.entry)) }
+        ensures right_sides { IfOk result (λ graph. HasOwnProductions (reduction_traced self.entry.ground.first_sets.now.productions self.entry.ground.states.now state item.entry) → CarryRightSides self.entry.ground.first_sets.now.productions graph.edges) }
+        ensures known { IfOk result (λ graph. HasOwnTerminals self.entry.ground.first_sets.now → HasOwnProductions (reduction_traced self.entry.ground.first_sets.now.productions self.entry.ground.states.now state item.entry) → AreKnownEdges self.entry.ground.first_sets.now.terminals graph.edges) }
     {
         let trace = Trace {
             traced: Traced::Reduce,
@@ -103,6 +105,7 @@ fn graph_of<'grammar>(
 ) -> Result<TraceGraph<'grammar>, OutOfMemory>
     ensures traced { IfOk result (IsTraceOf (asked trace.now)) }
     ensures right_sides { IfOk result (λ graph. HasOwnProductions (asked trace.now) → CarryRightSides trace.now.ground.now.first_sets.now.productions graph.edges) }
+    ensures known { IfOk result (λ graph. HasOwnTerminals trace.now.ground.now.first_sets.now → HasOwnProductions (asked trace.now) → AreKnownEdges trace.now.ground.now.first_sets.now.terminals graph.edges) }
 {
     let mut met = Met {
         trace_graph: TraceGraph::new(alloc),

@@ -28,7 +28,7 @@ pub(crate) fn trace_item<'grammar>(
     met: &mut Met<'grammar>,
 ) -> Result<(), OutOfMemory>
     requires unmet { (m : Meeting) → HasMet met.old m → ⊥ }
-    requires no_edges { met.old.trace_graph.edges ≡ [] }
+    requires empty { met.old.trace_graph ≡ record { nodes = []; edges = [] } }
     ensures traced { OnOk result (IsTraceOf (asked trace.now) met.new.trace_graph) }
 {
     let item = &trace.item;

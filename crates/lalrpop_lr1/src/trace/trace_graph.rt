@@ -6,7 +6,7 @@ ghost use Rattle.lalrpop_base.specs.declared.repr.Production.{Production};
 ghost use Rattle.lalrpop_base.specs.declared.repr.TerminalString.{TerminalString};
 ghost use Rattle.lalrpop_lr1.specs.Paths.{is_item, item_node, source, are_one, paths, IsPath};
 ghost use Rattle.lalrpop_lr1.specs.Examples.{prefix_of, cursor_of, suffix_of, reduced_name, IsExampleOf, CarryRightSides, SpellsDerivation};
-ghost use Rattle.lalrpop_lr1.specs.TraceGraphs.{AreKnownEdges, IsKnownLabel, IsGraph, IsFrom, KeepPlaces, AddsBoth, AddsEdge, SameLabels, plain, plain_edge, node_count, numbers_to, numbers_from};
+ghost use Rattle.lalrpop_lr1.specs.TraceGraphs.{AreKnownEdges, IsKnownLabel, IsGraph, IsFrom, KeepPlaces, AddsBoth, AddsNoOther, AddsEdge, SameLabels, plain, plain_edge, node_count, numbers_to, numbers_from};
 ghost use Rattle.lalrpop_lr1.specs.Walks.{to_come};
 ghost use Rattle.lalrpop_lr1.specs.declared.trace.example.Example.{Example};
 ghost use Rattle.lalrpop_lr1.specs.declared.trace.trace_graph.TraceGraphEdge.{TraceGraphEdge};
@@ -96,6 +96,7 @@ impl<'grammar> TraceGraph<'grammar> {
     ) -> Result<(), OutOfMemory>
         ensures graph { IsGraph self.new }
         ensures nodes { OnOk result (AddsBoth self.old.nodes self.new.nodes from.entry to.entry) }
+        ensures no_other { AddsNoOther self.old.nodes self.new.nodes from.entry to.entry }
         ensures added { OnOk result (AddsEdge self.old.edges self.new.edges (record { from = from.entry; to = to.entry; symbol_sets = labels.entry })) }
         ensures stay { KeepPlaces self.old.nodes self.new.nodes }
         ensures err { OnErr result (self.new.edges ≡ self.old.edges) }

@@ -4,6 +4,6 @@ use Rattle.lalrpop_lr1.proofs.trace.giving.add_dotted.Goals as goal
 
 pub returns : goal.returns
 returns g c = record {
-  edges = on_ok c.add_edge.result c.add_edge.ensures.added (λ added. adds_plain c.args.graph.now c.add_edge.new.self _ _ c.add_edge.ensures.graph added
+  edges = on_ok c.add_edge.result c.add_edge.ensures.added (λ added. adds_plain c.args.graph.now c.add_edge.new.self _ _ c.add_edge.ensures.graph added c.add_edge.ensures.no_other
       (plain_dot c.args.from c.args.to c.symbol_sets.result c.args.item.now.production c.args.item.now.index c.symbol_sets.ensures.prefix c.symbol_sets.ensures.cursor c.symbol_sets.ensures.suffix));
 }

@@ -12,7 +12,7 @@ pub loop-source-init : goal.loop-source-init
 loop-source-init c =
     let b = asked c.args.trace.now in
     let next : Met = record { trace_graph = c.add_own.new.graph; visited_set = c.args.met.now.visited_set } in
-    record { advances = advances_none b next (sound_first b c.args.met.now next c.requires.unmet c.requires.no_edges refl c.in_ok-add_own.ensures.edges); met = λ k source l at. absurd (omega (arith, l)) }
+    record { advances = advances_none b next (sound_first b c.args.met.now next c.requires.unmet c.requires.empty refl c.in_ok-add_own.ensures.edges); met = λ k source l at. absurd (omega (arith, l)) }
 
 pub begin-requires-clause-met : goal.begin-requires-clause-met
 begin-requires-clause-met c =
