@@ -1,4 +1,5 @@
 //! Calls by their names: each answers a text.
+mod any_start;
 mod arguments;
 mod augment;
 mod checks;
@@ -146,7 +147,10 @@ fn answer_of_states(
     if let Some(text) = reports::answer(alloc, question, grammar)? {
         return Ok(Some(text));
     }
-    augment::answer(alloc, question, grammar)
+    if let Some(text) = augment::answer(alloc, question, grammar)? {
+        return Ok(Some(text));
+    }
+    any_start::answer(alloc, question, grammar)
 }
 
 // The answer to a question of lane tables, checks, graphs, kernels and token sets, where the call is one.

@@ -21,12 +21,12 @@ use lalrpop_tables::build::{Options, build_lr0_states};
 use lalrpop_tables::lr1::build_states;
 use std::alloc::Global;
 
-// Terminals that are fed, those of a second list, and how many steps may be made.
+/// Terminals that are fed, those of a second list, and how many steps may be made.
 #[derive(Drop)]
-struct Input {
-    tokens: Vec<TerminalString>,
+pub(super) struct Input {
+    pub(super) tokens: Vec<TerminalString>,
     others: Vec<TerminalString>,
-    limit: usize,
+    pub(super) limit: usize,
 }
 
 /// The answer to a question of runs, where the call is one.
@@ -47,8 +47,8 @@ pub(crate) fn answer(
     }
 }
 
-// What is fed: the words behind the limit, up to a comma and behind it.
-fn input_of(alloc: Global, question: &Question<'_>) -> Result<Input, QuestionError> {
+/// What is fed: the words behind the limit, up to a comma and behind it.
+pub(super) fn input_of(alloc: Global, question: &Question<'_>) -> Result<Input, QuestionError> {
     let limit = question.number(3)?;
     let mut tokens = Vec::new(alloc);
     let mut others = Vec::new(alloc);
@@ -89,8 +89,19 @@ fn parsed(
         ..Options::default()
     };
     let input = input_of(alloc, question)?;
+    shown(
+        alloc,
+        parse(alloc, grammar, start, &options, input.tokens, input.limit),
+    )
+}
+
+/// What a call from a grammar to its trees answers.
+pub(super) fn shown(
+    alloc: Global,
+    answer: Result<ParseTree, ParseError<'_>>,
+) -> Result<String, QuestionError> {
     let mut text = String::new(alloc);
-    match parse(alloc, grammar, start, &options, input.tokens, input.limit) {
+    match answer {
         Ok(tree) => write!(text, "{tree}\n")?,
         Err(ParseError::Conflicts(error)) => {
             push_counts(&mut text, &Err(BuildError::Conflicts(error)))?;

@@ -1,0 +1,50 @@
+//! Questions of parsing for any start symbol.
+use super::arguments::method_at;
+use super::refusal;
+use super::runs::{input_of, shown};
+use super::states::start_of;
+use crate::question::{Question, QuestionError};
+use lalrpop_base::repr::grammar::{Grammar, is_well_formed};
+use lalrpop_lr1::headline::any_start::{AugmentedGrammar, parse_from_any};
+use lalrpop_tables::build::Options;
+use std::alloc::Global;
+
+/// The answer to a question of any start symbol, where the call is one.
+pub(crate) fn answer(
+    alloc: Global,
+    question: &Question<'_>,
+    grammar: &Grammar,
+) -> Result<Option<String>, QuestionError> {
+    match question.call {
+        "parse_from_any" => Ok(Some(parsed(alloc, question, grammar)?)),
+        _ => Ok(None),
+    }
+}
+
+// What is parsed from a grammar, wherever its start symbol stands.
+fn parsed(
+    alloc: Global,
+    question: &Question<'_>,
+    grammar: &Grammar,
+) -> Result<String, QuestionError> {
+    let start = start_of(alloc, question, 1)?;
+    let options = Options {
+        method: method_at(question, 2)?,
+        ..Options::default()
+    };
+    let input = input_of(alloc, question)?;
+    let copy = grammar.clone(alloc)?;
+    if !is_well_formed(&copy) {
+        return Ok(String::from_str(alloc, "not well-formed\n")?);
+    }
+    match AugmentedGrammar::new(alloc, copy, start) {
+        Ok(augmented) => {
+            let (tokens, limit) = (input.tokens, input.limit);
+            shown(
+                alloc,
+                parse_from_any(alloc, &augmented, &options, tokens, limit),
+            )
+        }
+        Err(error) => refusal(alloc, error),
+    }
+}
