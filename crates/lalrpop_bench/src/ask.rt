@@ -1,6 +1,7 @@
 //! Calls by their names: each answers a text.
 mod arguments;
 mod augment;
+mod changes;
 mod checks;
 mod context_sets;
 mod first_sets;
