@@ -2,6 +2,7 @@
 mod any_start;
 mod arguments;
 mod augment;
+mod changes;
 mod checks;
 mod context_sets;
 mod first_sets;

@@ -80,6 +80,14 @@ impl<'text> Question<'text> {
         }
     }
 
+    /// Whether the argument with a number, counted from 1, is the word.
+    pub(crate) fn is(&self, number: usize, word: &str) -> bool {
+        match self.argument(number) {
+            Ok(argument) => argument == word,
+            Err(_) => false,
+        }
+    }
+
     /// Whether one of the arguments behind the first is the word.
     pub(crate) fn has(&self, word: &str) -> bool {
         for argument in self.from(2) {

@@ -4,7 +4,7 @@ ghost use Rattle.lalrpop_base.specs.WellFormed.{HasKnownTerminals};
 ghost use Rattle.lalrpop_base.specs.Tokens.{IsKnown};
 
 use crate::question::{Question, QuestionError};
-use grammar_text::symbols::{symbols_of, unquoted};
+use grammar_text::symbols::{symbol_of, symbols_of, unquoted};
 use lalrpop_base::lookahead::token::Token;
 use lalrpop_base::lookahead::token_set::TokenSet;
 use lalrpop_base::repr::terminals::TerminalSet;
@@ -78,6 +78,22 @@ pub(crate) fn known_symbols(
         return Err(QuestionError::Argument(number));
     }
     Ok(symbols)
+}
+
+/// The symbol that the argument with a number stands for, whose terminal is of the set.
+pub(crate) fn known_symbol(
+    alloc: Global,
+    question: &Question<'_>,
+    number: usize,
+    terminals: &TerminalSet,
+) -> Result<Symbol, QuestionError> {
+    match symbol_of(alloc, question.argument(number)?)? {
+        Some(Symbol::Terminal(terminal)) if terminals.bit(&terminal).is_some() => {
+            Ok(Symbol::Terminal(terminal))
+        }
+        Some(Symbol::Nonterminal(name)) => Ok(Symbol::Nonterminal(name)),
+        _ => Err(QuestionError::Argument(number)),
+    }
 }
 
 // Whether each terminal of a list of symbols is in the set.

@@ -1,17 +1,15 @@
 //! Questions of the checks of tables.
 ghost use Rattle.lalrpop_base.specs.WellFormed.{IsWellFormed};
 
-use super::arguments::tokens_between;
+use super::changes::change_states;
 use super::states::start_of;
 use crate::question::{Question, QuestionError};
-use lalrpop_base::lookahead::token_set::TokenSet;
 use lalrpop_base::lr1_core::coherent::are_coherent;
 use lalrpop_base::lr1_core::collapsible::are_collapsible;
 use lalrpop_base::lr1_core::state::{BuildError, Lr1State, TableConstructionError};
 use lalrpop_base::memory::OutOfMemory;
 use lalrpop_base::repr::NonterminalString;
 use lalrpop_base::repr::grammar::Grammar;
-use lalrpop_base::repr::terminals::TerminalSet;
 use lalrpop_tables::build::build_lr1_states;
 use lalrpop_tables::build::options::{Method, Options};
 use lalrpop_tables::build_lalr::build_lalr_states;
@@ -31,7 +29,8 @@ pub(crate) fn answer(
         "check_tables" => Ok(Some(check(alloc, question, grammar)?)),
         "are_collapsible" => {
             let start = start_of(alloc, question, 1)?;
-            let states = states_by(alloc, grammar, start, "canonical")?;
+            let mut states = states_by(alloc, grammar, start, "canonical")?;
+            change_states(alloc, question, 2, &mut states, &grammar.terminals)?;
             let coherent = are_coherent(&states);
             let collapsible = are_collapsible(&states);
             Ok(Some(format!(in alloc; "are_coherent {coherent}\nare_collapsible {collapsible}\n")?))
@@ -40,20 +39,31 @@ pub(crate) fn answer(
     }
 }
 
-// Whether states pass the check, of which a reduction may be changed first.
+// Whether states, which may be changed first, pass the check.
 fn check(alloc: Global, question: &Question<'_>, grammar: &Grammar) -> Result<String, QuestionError>
     requires { IsWellFormed grammar.now }
 {
     let start = start_of(alloc, question, 1)?;
     let way = question.argument(2)?;
-    let mut states = states_by(alloc, grammar, start.clone(alloc)?, way)?;
-    if question.arguments.len() > 2 {
-        change(alloc, question, &mut states, &grammar.terminals)?;
-    }
-    match passes(alloc, grammar, start, &states)? {
+    let mut states = states_by(alloc, grammar, start, way)?;
+    let (asked, from) = start_asked(alloc, question)?;
+    change_states(alloc, question, from, &mut states, &grammar.terminals)?;
+    match passes(alloc, grammar, asked, &states)? {
         Some(yes) => Ok(format!(in alloc; "{yes}\n")?),
         None => Ok(String::from_str(alloc, "not coherent\n")?),
     }
+}
+
+// The start symbol that the check is asked for, and the number of the first argument behind it: another than that of the
+// tables where `for` stands before it.
+fn start_asked(
+    alloc: Global,
+    question: &Question<'_>,
+) -> Result<(NonterminalString, usize), QuestionError> {
+    if question.is(3, "for") {
+        return Ok((start_of(alloc, question, 4)?, 5));
+    }
+    Ok((start_of(alloc, question, 1)?, 3))
 }
 
 // Whether coherent states pass the check.
@@ -103,30 +113,4 @@ pub(crate) fn states_by<'grammar>(
         }
         Err(BuildError::Memory) => Err(QuestionError::Memory),
     }
-}
-
-// Gives a reduction of a state other tokens.
-fn change(
-    alloc: Global,
-    question: &Question<'_>,
-    states: &mut [Lr1State<'_>],
-    terminals: &TerminalSet,
-) -> Result<(), QuestionError> {
-    let Some(state) = states.get_mut(question.number(3)?) else {
-        return Err(QuestionError::Argument(3));
-    };
-    let Some(reduction) = state.reductions.get_mut(question.number(4)?) else {
-        return Err(QuestionError::Argument(4));
-    };
-    match question.argument(5)? {
-        "emptied" => reduction.0 = TokenSet::new(alloc, terminals),
-        "full" => reduction.0 = TokenSet::all(alloc, terminals)?,
-        "with" => {
-            let after = question.arguments.len().saturating_add(1);
-            let more = tokens_between(alloc, question, 6, after, terminals)?;
-            reduction.0.union_with(&more)?;
-        }
-        _ => return Err(QuestionError::Argument(5)),
-    }
-    Ok(())
 }

@@ -4,10 +4,11 @@ ghost use Rattle.lalrpop_base.specs.WellFormed.{IsWellFormed};
 use super::arguments::{method_at, options_from};
 use super::states::start_of;
 use crate::question::{Question, QuestionError};
+use lalrpop_base::lr1_core::state::{BuildError, Lr1Result};
 use lalrpop_base::repr::NonterminalString;
 use lalrpop_base::repr::grammar::Grammar;
 use lalrpop_lr1::report::{Counted, ReportError, ReportGenerator, generate_report};
-use lalrpop_tables::build::{Options, build_lr0_states};
+use lalrpop_tables::build::build_lr0_states;
 use lalrpop_tables::lr1::build_states;
 use std::alloc::Global;
 
@@ -38,8 +39,21 @@ fn report(
         return lr0_report(alloc, grammar, start);
     }
     let method = method_at(question, 2)?;
-    let options = options_from(question, 3, method)?;
-    lr1_report(alloc, grammar, start, &options)
+    let is_reversed = question.is(3, "reversed");
+    let from = if is_reversed { 4 } else { 3 };
+    let options = options_from(question, from, method)?;
+    let mut answer = build_states(alloc, grammar, start, &options);
+    if is_reversed {
+        reverse_conflicts(&mut answer);
+    }
+    lr1_report(alloc, grammar, &answer)
+}
+
+// Lists the conflicts, if there are any, from the last to the first.
+fn reverse_conflicts(answer: &mut Lr1Result<'_>) {
+    if let Err(BuildError::Conflicts(error)) = answer {
+        error.conflicts.reverse();
+    }
 }
 
 // The report of LR(0) states.
@@ -58,18 +72,14 @@ fn lr0_report(
     text_of(alloc, written, &out.into_inner())
 }
 
-/// The report of LR(1) states.
-pub(crate) fn lr1_report(
+// The report of LR(1) states.
+fn lr1_report(
     alloc: Global,
     grammar: &Grammar,
-    start: NonterminalString,
-    options: &Options,
-) -> Result<String, QuestionError>
-    requires { IsWellFormed grammar.now }
-{
-    let answer = build_states(alloc, grammar, start, options);
+    answer: &Lr1Result<'_>,
+) -> Result<String, QuestionError> {
     let mut out = Counted::new(Vec::new(alloc));
-    let written = generate_report(alloc, &mut out, &grammar.terminals, &answer);
+    let written = generate_report(alloc, &mut out, &grammar.terminals, answer);
     text_of(alloc, written, &out.into_inner())
 }
 

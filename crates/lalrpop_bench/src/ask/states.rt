@@ -2,6 +2,7 @@
 ghost use Rattle.lalrpop_base.specs.WellFormed.{IsWellFormed};
 
 use super::arguments::{method_at, options_from};
+use super::changes::change_states;
 use crate::question::{Question, QuestionError};
 use crate::show::states::{push_counts, push_result};
 use crate::show::words::ShownLookahead;
@@ -126,7 +127,7 @@ pub(crate) fn canonical_states<'grammar>(
     }
 }
 
-// The canonical states of a grammar, merged.
+// The canonical states of a grammar, which may be changed first, merged.
 fn collapsed_states(
     alloc: Global,
     question: &Question<'_>,
@@ -135,7 +136,9 @@ fn collapsed_states(
     requires { IsWellFormed grammar.now }
 {
     let start = start_of(alloc, question, 1)?;
-    let states = canonical_states(alloc, grammar, start)?;
+    let mut states = canonical_states(alloc, grammar, start)?;
+    let from = if question.is(2, "count") { 3 } else { 2 };
+    change_states(alloc, question, from, &mut states, &grammar.terminals)?;
     if !are_collapsible(&states) {
         return Ok(String::from_str(alloc, "collapsible false\n")?);
     }
