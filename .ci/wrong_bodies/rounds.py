@@ -2,12 +2,11 @@
 
 The proof of a function rests on the contracts of what it calls, and not on their bodies, so each edited function has a
 verdict of its own. A function of which another edit is tried, or which calls one that is refused, waits for the next check.
-The functions are first checked as they stand, and each check with edits begins from what that one kept, so that none is proved twice.
 """
 import time
 
 from edits import apply, edits_of, restore
-from scratch import NotProved, checked, keep, take_kept
+from scratch import NotProved, checked
 from verdicts import PROVED, UNSAID, WAITS, blamed, errors_of, has_ended, told, verdict
 
 # So much of what a check says is shown where it tells nothing.
@@ -39,7 +38,6 @@ class Trial:
     def check(self, edits):
         """Checks the crate with these edits, or those of them that go together, and returns them and what the check says."""
         taken, were = apply(self.crate, edits)
-        take_kept(self.crate)
         try:
             said, used = checked(self.crate, sorted({it.function for it in taken}))
         finally:
@@ -78,15 +76,8 @@ class Trial:
         self.wrong.append(f"{self.name}: the last check said:\n{said[-SHOWN:]}")
         return False
 
-    def check_as_it_stands(self):
-        """Checks the functions without edits, and keeps what the checks with edits begin from."""
-        if self.left:
-            _, self.used = checked(self.crate, sorted({it.function for it in self.left}))
-            keep(self.crate)
-
     def run(self):
         began = time.time()
-        self.check_as_it_stands()
         while self.left and self.turn():
             print(f"{self.name}: {self.count - len(self.left)} of {self.count} wrong bodies tried, by {self.checks} checks", flush=True)
         self.seconds = time.time() - began

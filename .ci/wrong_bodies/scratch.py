@@ -103,19 +103,6 @@ def checked(crate, functions):
     return said, used.ru_utime + used.ru_stime
 
 
-def keep(crate):
-    """Keeps what a check of the crate in this folder left for later ones."""
-    if os.path.isdir(f"{crate}/out/incremental"):
-        os.rename(f"{crate}/out/incremental", f"{crate}/out/kept")
-
-
-def take_kept(crate):
-    """Has the next check of the crate begin from what was kept, and from nothing else."""
-    shutil.rmtree(f"{crate}/out/incremental", ignore_errors=True)
-    if os.path.isdir(f"{crate}/out/kept"):
-        shutil.copytree(f"{crate}/out/kept", f"{crate}/out/incremental")
-
-
 def wait_for(names, beside):
     """Waits until the `rt ci` that runs beside has proved the crates. Its words go to the file `said` of the folder, and `status` is there once it has ended."""
     while True:
