@@ -2,12 +2,14 @@
 
 The proof of a function rests on the contracts of what it calls, and not on their bodies, so each edited function has a
 verdict of its own. A function of which another edit is tried, or which calls one that is refused, waits for the next check.
+So most edits go by the first check alone, as functions beside the edited ones, which stay as they are.
 """
 import time
 
+from copies import put_beside, take_away
 from edits import apply, edits_of, restore
 from scratch import NotProved, checked
-from verdicts import PROVED, UNSAID, WAITS, blamed, errors_of, has_ended, told, verdict
+from verdicts import PROVED, REFUSED, UNSAID, WAITS, blamed, errors_of, has_ended, told, verdict
 
 # So much of what a check says is shown where it tells nothing.
 SHOWN = 3000
@@ -76,11 +78,49 @@ class Trial:
         self.wrong.append(f"{self.name}: the last check said:\n{said[-SHOWN:]}")
         return False
 
+    def try_copies(self):
+        """Tries by one check those edits that can be had as functions beside the edited ones; the others are left."""
+        copies, were, folders = put_beside(self.crate, self.name, self.left)
+        if not copies:
+            return
+        try:
+            said, used = checked(self.crate, sorted(it.function for it in copies))
+        finally:
+            take_away(were, folders)
+        self.checks, self.used = self.checks + 1, self.used + used
+        if not has_ended(said):
+            print(f"{self.name}: no copies, since their check did not come to its end: {errors_of(said)[:1]}", flush=True)
+            return
+        for it in copies:
+            found = verdict(self.name, it.function, said)
+            if found == PROVED:
+                self.complain(it.edit, "NOT REFUSED")
+            if found in (PROVED, REFUSED):
+                self.settle([it.edit])
+
+    def try_unedited(self):
+        """Checks one copy of each function as it stands: each must be proved, so that a copy is refused for its edit alone."""
+        first = {it.function: it for it in reversed(self.left)}
+        copies, were, folders = put_beside(self.crate, self.name, [*first.values()], is_edited=False)
+        try:
+            said, self.used = checked(self.crate, sorted(it.function for it in copies))
+        finally:
+            take_away(were, folders)
+        self.count, self.checks = len(copies), 1
+        for it in copies:
+            if verdict(self.name, it.function, said) != PROVED:
+                self.complain(it.edit, f"a copy of {it.edit.function} as it stands is not proved: {told(self.name, it.function, said)}")
+
     def run(self):
         began = time.time()
+        self.try_copies()
+        self.tell()
         while self.left and self.turn():
-            print(f"{self.name}: {self.count - len(self.left)} of {self.count} wrong bodies tried, by {self.checks} checks", flush=True)
+            self.tell()
         self.seconds = time.time() - began
+
+    def tell(self):
+        print(f"{self.name}: {self.count - len(self.left)} of {self.count} wrong bodies tried, by {self.checks} checks", flush=True)
 
     def took(self):
         return f"{self.name}: {self.count} wrong bodies, {self.checks} checks: {self.seconds / 60:.1f} minutes, {self.used / 60:.1f} of processor time"

@@ -10,6 +10,7 @@ pub mod Contents
 pub mod Copies
 pub mod Each
 pub mod Exact
+pub mod Failures
 pub mod First
 pub mod FirstSets
 pub mod FirstTables

@@ -1,9 +1,9 @@
 //! Comparing answers with what is owed.
 use crate::ask::answer;
 use crate::case_file::{Case, CaseFile};
-use crate::question::{Question, QuestionError};
 use lalrpop_base::memory::OutOfMemory;
 use std::alloc::Global;
+use table_questions::question::{Question, QuestionError};
 
 /// How many cases agree and differ, and whether each could be asked.
 #[derive(Clone, Copy, Debug, Default, PartialEq, Eq)]

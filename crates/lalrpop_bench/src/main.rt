@@ -5,7 +5,6 @@
 mod ask;
 mod case_file;
 mod compare;
-mod question;
 mod show;
 mod timing;
 

@@ -32,7 +32,7 @@ use std::alloc::Global;
 use std::collections::BTreeSet;
 pub use trace_graph::{NodeIndex, TraceGraph, TraceGraphEdge};
 
-/// Traces backwards over states. A tracer serves one trace.
+/// Traces backwards over states.
 #[derive(Drop)]
 pub struct Tracer<'trace, 'grammar> {
     ground: Ground<'trace, 'grammar>,
@@ -59,14 +59,14 @@ impl<'trace, 'grammar> Tracer<'trace, 'grammar> {
 
     /// How a state came to have an item that shifts: back to the items whose dot is past the start.
     pub fn backtrace_shift(
-        self,
+        &self,
         alloc: Global,
         state: StateIndex,
         item: Lr0Item<'grammar>,
     ) -> Result<TraceGraph<'grammar>, OutOfMemory>
-        ensures traced { IfOk result (IsTraceOf (shift_traced self.entry.ground.first_sets.now.productions self.entry.ground.states.now state item.entry)) }
-        ensures right_sides { IfOk result (λ graph. HasOwnProductions (shift_traced self.entry.ground.first_sets.now.productions self.entry.ground.states.now state item.entry) → CarryRightSides self.entry.ground.first_sets.now.productions graph.edges) }
-        ensures known { IfOk result (λ graph. HasOwnTerminals self.entry.ground.first_sets.now → HasOwnProductions (shift_traced self.entry.ground.first_sets.now.productions self.entry.ground.states.now state item.entry) → AreKnownEdges self.entry.ground.first_sets.now.terminals graph.edges) }
+        ensures traced { IfOk result (IsTraceOf (shift_traced self.now.ground.first_sets.now.productions self.now.ground.states.now state item.entry)) }
+        ensures right_sides { IfOk result (λ graph. HasOwnProductions (shift_traced self.now.ground.first_sets.now.productions self.now.ground.states.now state item.entry) → CarryRightSides self.now.ground.first_sets.now.productions graph.edges) }
+        ensures known { IfOk result (λ graph. HasOwnTerminals self.now.ground.first_sets.now → HasOwnProductions (shift_traced self.now.ground.first_sets.now.productions self.now.ground.states.now state item.entry) → AreKnownEdges self.now.ground.first_sets.now.terminals graph.edges) }
     {
         let trace = Trace {
             traced: Traced::Shift,
@@ -79,14 +79,14 @@ impl<'trace, 'grammar> Tracer<'trace, 'grammar> {
 
     /// How a state came to have an item that is or will be reduced: back to the items behind which more is to come.
     pub fn backtrace_reduce(
-        self,
+        &self,
         alloc: Global,
         state: StateIndex,
         item: Lr0Item<'grammar>,
     ) -> Result<TraceGraph<'grammar>, OutOfMemory>
-        ensures traced { IfOk result (IsTraceOf (reduction_traced self.entry.ground.first_sets.now.productions self.entry.ground.states.now state item.entry)) }
-        ensures right_sides { IfOk result (λ graph. HasOwnProductions (reduction_traced self.entry.ground.first_sets.now.productions self.entry.ground.states.now state item.entry) → CarryRightSides self.entry.ground.first_sets.now.productions graph.edges) }
-        ensures known { IfOk result (λ graph. HasOwnTerminals self.entry.ground.first_sets.now → HasOwnProductions (reduction_traced self.entry.ground.first_sets.now.productions self.entry.ground.states.now state item.entry) → AreKnownEdges self.entry.ground.first_sets.now.terminals graph.edges) }
+        ensures traced { IfOk result (IsTraceOf (reduction_traced self.now.ground.first_sets.now.productions self.now.ground.states.now state item.entry)) }
+        ensures right_sides { IfOk result (λ graph. HasOwnProductions (reduction_traced self.now.ground.first_sets.now.productions self.now.ground.states.now state item.entry) → CarryRightSides self.now.ground.first_sets.now.productions graph.edges) }
+        ensures known { IfOk result (λ graph. HasOwnTerminals self.now.ground.first_sets.now → HasOwnProductions (reduction_traced self.now.ground.first_sets.now.productions self.now.ground.states.now state item.entry) → AreKnownEdges self.now.ground.first_sets.now.terminals graph.edges) }
     {
         let trace = Trace {
             traced: Traced::Reduce,

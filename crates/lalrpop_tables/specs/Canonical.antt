@@ -5,6 +5,7 @@ use Rattle.lalrpop_base.specs.Bits.{Bits}
 use Rattle.lalrpop_base.specs.Closures.{IsReached, TokenKernelsDiffer}
 use Rattle.lalrpop_base.specs.Conflicts.{ReducesInOrder}
 use Rattle.lalrpop_base.specs.Contents.{contents, holds_token}
+use Rattle.lalrpop_base.specs.Failures.{IfConflicts}
 use Rattle.lalrpop_base.specs.Items.{Dotted}
 use Rattle.lalrpop_base.specs.Laws.{AreCanonicalWith}
 use Rattle.lalrpop_base.specs.Places.{AllDiffer}
@@ -13,7 +14,6 @@ use Rattle.lalrpop_base.specs.WellFormed.{Rules}
 use Rattle.lalrpop_base.specs.contracts.repr.ProductionPartialEq.TheImpl as production_eq
 use Rattle.lalrpop_base.specs.declared.lookahead.token.Token.{Token}
 use Rattle.lalrpop_base.specs.declared.lr1_core.state.BuildError.{BuildError}
-use Rattle.lalrpop_base.specs.declared.lr1_core.state.BuildError.TheVariants.{Conflicts, Memory}
 use Rattle.lalrpop_base.specs.declared.lr1_core.state.State.{State}
 use Rattle.lalrpop_base.specs.declared.repr.NonterminalString.{NonterminalString}
 use Rattle.lalrpop_base.specs.declared.repr.Production.{Production}
@@ -50,10 +50,8 @@ pub record AreCanonicalStates (g : Rules) (start : NonterminalString) (states : 
 
 -- the states of an error are; want of memory says nothing
 abbrev pub HasCanonicalStates : Rules → NonterminalString → BuildError Bits → Type 0
-HasCanonicalStates g start (Conflicts error) = AreCanonicalStates g start error.states.items
-HasCanonicalStates g start Memory = Unit {0}
+HasCanonicalStates g start = IfConflicts (λ error. AreCanonicalStates g start error.states.items)
 
 -- an error with conflicts comes of a grammar that is not LR(1); want of memory says nothing
 abbrev pub TellsNotLR1 : List Production → NonterminalString → BuildError Bits → Type 0
-TellsNotLR1 g start (Conflicts error) = ¬ IsLR1 g start
-TellsNotLR1 g start Memory = Unit {0}
+TellsNotLR1 g start = IfConflicts (λ error. ¬ IsLR1 g start)

@@ -5,13 +5,13 @@ use Rattle.lalrpop_base.specs.Bits.{Bits}
 use Rattle.lalrpop_base.specs.ConflictLists.{Ordered}
 use Rattle.lalrpop_base.specs.Conflicts.{AreCanonicalConflicts}
 use Rattle.lalrpop_base.specs.Contents.{contents}
+use Rattle.lalrpop_base.specs.Failures.{IfConflicts}
 use Rattle.lalrpop_base.specs.States.{state_after}
 use Rattle.lalrpop_base.specs.WellFormed.{productions}
 use Rattle.lalrpop_base.specs.contracts.repr.ProductionOrd.TheImpl as production_ord
 use Rattle.lalrpop_base.specs.contracts.repr.TerminalStringOrd.TheImpl as terminal_ord
 use Rattle.lalrpop_base.specs.declared.lr1_core.state.Action.TheVariants.{Shift}
 use Rattle.lalrpop_base.specs.declared.lr1_core.state.BuildError.{BuildError}
-use Rattle.lalrpop_base.specs.declared.lr1_core.state.BuildError.TheVariants.{Conflicts, Memory}
 use Rattle.lalrpop_base.specs.declared.lr1_core.state.Conflict.{Conflict}
 use Rattle.lalrpop_base.specs.declared.lr1_core.state.State.{State}
 use Rattle.lalrpop_base.specs.declared.lr1_core.state.StateIndex.{StateIndex}
@@ -46,5 +46,4 @@ pub record FailByCanonicalConflicts (g : Grammar) (start : NonterminalString) (s
 
 -- the conflicts of an error are; want of memory says nothing
 abbrev pub ListsCanonicalConflicts : Grammar → NonterminalString → BuildError Bits → Type 0
-ListsCanonicalConflicts g start (Conflicts error) = FailByCanonicalConflicts g start error.states.items error.conflicts.items
-ListsCanonicalConflicts g start Memory = Unit {0}
+ListsCanonicalConflicts g start = IfConflicts (λ error. FailByCanonicalConflicts g start error.states.items error.conflicts.items)

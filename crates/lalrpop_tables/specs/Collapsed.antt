@@ -7,11 +7,11 @@ use Rattle.std.specs.declared.cmp.Ordering.{Ordering}
 use Rattle.lalrpop_base.specs.Bits.{Bits, has}
 use Rattle.lalrpop_base.specs.Collapsible.{dots}
 use Rattle.lalrpop_base.specs.Each.{EachItem}
+use Rattle.lalrpop_base.specs.Failures.{IfConflicts}
 use Rattle.lalrpop_base.specs.Items.{Dotted}
 use Rattle.lalrpop_base.specs.WellFormed.{name_cmp}
 use Rattle.lalrpop_base.specs.contracts.repr.TerminalStringOrd.TheImpl as terminal_ord
 use Rattle.lalrpop_base.specs.declared.lr1_core.state.BuildError.{BuildError}
-use Rattle.lalrpop_base.specs.declared.lr1_core.state.BuildError.TheVariants.{Conflicts, Memory}
 use Rattle.lalrpop_base.specs.declared.lr1_core.state.State.{State}
 use Rattle.lalrpop_base.specs.declared.lr1_core.state.StateIndex.{StateIndex}
 use Rattle.lalrpop_base.specs.declared.repr.NonterminalString.{NonterminalString}
@@ -79,8 +79,7 @@ pub record AreCollapsedTables (terminals : List TerminalString) (before after : 
 
 -- an error has the merged states and all their conflicts, of which there are some; want of memory says nothing
 abbrev pub FailsByCollapse : List TerminalString → List (State Bits) → BuildError Bits → Type 0
-FailsByCollapse terminals before (Conflicts error) = IsCollapsed before error.states.items × AreAllConflicts terminals error.states.items error.conflicts.items
-FailsByCollapse terminals before Memory = Unit {0}
+FailsByCollapse terminals before = IfConflicts (λ error. IsCollapsed before error.states.items × AreAllConflicts terminals error.states.items error.conflicts.items)
 
 -- the shifts and gotos of the state ascend, no symbol twice
 pub record IsOrderedState (s : State Bits) : Type 0 where

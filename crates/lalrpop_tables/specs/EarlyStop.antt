@@ -2,6 +2,7 @@
 use Rattle.std.specs.Prelude.{◌⊎◌, ◌-◌, take, ◌≡◌, ◌≢◌, [], ◌↔◌, ◌<◌, ◌≤◌, ℕ, List, length, map, slice_get, Some, Contains}
 use Rattle.std.specs.List.{flat_map}
 use Rattle.lalrpop_base.specs.Bits.{Bits, no_bits}
+use Rattle.lalrpop_base.specs.Failures.{IfConflicts}
 use Rattle.lalrpop_base.specs.Items.{Dotted}
 use Rattle.lalrpop_base.specs.NilConflicts.{nil_conflicts}
 use Rattle.lalrpop_base.specs.Places.{AllDiffer}
@@ -11,7 +12,6 @@ use Rattle.lalrpop_base.specs.WellFormed.{Rules}
 use Rattle.lalrpop_base.specs.declared.lookahead.nil.Nil.{Nil}
 use Rattle.lalrpop_base.specs.declared.lookahead.token.Token.{Token}
 use Rattle.lalrpop_base.specs.declared.lr1_core.state.BuildError.{BuildError}
-use Rattle.lalrpop_base.specs.declared.lr1_core.state.BuildError.TheVariants.{Conflicts, Memory}
 use Rattle.lalrpop_base.specs.declared.lr1_core.state.Conflict.{Conflict}
 use Rattle.lalrpop_base.specs.declared.lr1_core.state.State.{State}
 use Rattle.lalrpop_base.specs.declared.repr.NonterminalString.{NonterminalString}
@@ -86,8 +86,7 @@ module _ {L : Type 0} (meaning : L → Bits) (begins : Rules → List Symbol →
 
   -- an error has such states and conflicts, of which there are some; want of memory says nothing
   abbrev pub StopsFor : Settings L → BuildError L → Type 0
-  StopsFor s (Conflicts error) = AreMadeFor s error.states.items error.conflicts.items × (error.conflicts.items ≢ [])
-  StopsFor s Memory = Unit {0}
+  StopsFor s = IfConflicts (λ error. AreMadeFor s error.states.items error.conflicts.items × (error.conflicts.items ≢ []))
 
 -- an error under early stop: canonical states with all their conflicts, of which there are some; each has its number, and the transitions and reductions of its items; before the last state they were too few to stop; and there are enough, or no canonical state is left out
 pub record StopsAfter (g : Rules) (start : NonterminalString) (stop_after : ℕ) (states : List (State Bits)) (conflicts : List (Conflict Bits)) : Type 0 where
@@ -99,8 +98,7 @@ pub record StopsAfter (g : Rules) (start : NonterminalString) (stop_after : ℕ)
 
 -- the same of an error; want of memory says nothing
 abbrev pub FailsAfter : Rules → NonterminalString → ℕ → BuildError Bits → Type 0
-FailsAfter g start stop_after (Conflicts error) = StopsAfter g start stop_after error.states.items error.conflicts.items
-FailsAfter g start stop_after Memory = Unit {0}
+FailsAfter g start stop_after = IfConflicts (λ error. StopsAfter g start stop_after error.states.items error.conflicts.items)
 
 -- ---- without lookahead
 -- the state of a live prefix: exactly its valid dotted productions
@@ -129,5 +127,4 @@ pub record Lr0StopsAfter (g : Rules) (start : NonterminalString) (stop_after : �
 
 -- the same of an error; want of memory says nothing
 abbrev pub FailsAfterLr0 : Rules → NonterminalString → ℕ → BuildError Nil → Type 0
-FailsAfterLr0 g start stop_after (Conflicts error) = Lr0StopsAfter g start stop_after error.states.items error.conflicts.items
-FailsAfterLr0 g start stop_after Memory = Unit {0}
+FailsAfterLr0 g start stop_after = IfConflicts (λ error. Lr0StopsAfter g start stop_after error.states.items error.conflicts.items)

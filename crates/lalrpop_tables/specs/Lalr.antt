@@ -3,11 +3,11 @@ use Rattle.std.specs.Prelude.{◌≡◌, ◌⊎◌, ℕ, List, IsTrue}
 use Rattle.lalrpop_base.specs.Bits.{Bits}
 use Rattle.lalrpop_base.specs.Coherent.{AreCoherent}
 use Rattle.lalrpop_base.specs.Contents.{contents}
+use Rattle.lalrpop_base.specs.Failures.{IfConflicts}
 use Rattle.lalrpop_base.specs.States.{AreFaithful}
 use Rattle.lalrpop_base.specs.Validity.{IsLALR1}
 use Rattle.lalrpop_base.specs.WellFormed.{productions, rules_of}
 use Rattle.lalrpop_base.specs.declared.lr1_core.state.BuildError.{BuildError}
-use Rattle.lalrpop_base.specs.declared.lr1_core.state.BuildError.TheVariants.{Conflicts, Memory}
 use Rattle.lalrpop_base.specs.declared.lr1_core.state.State.{State}
 use Rattle.lalrpop_base.specs.declared.repr.NonterminalString.{NonterminalString}
 use Rattle.lalrpop_base.specs.declared.repr.Production.{Production}
@@ -37,18 +37,15 @@ pub record AreLalrTables (g : Grammar) (start : NonterminalString) (tables : Lis
 
 -- an error with conflicts comes of a grammar that is not LALR(1); want of memory says nothing
 abbrev pub TellsNotLALR1 : List Production → NonterminalString → BuildError Bits → Type 0
-TellsNotLALR1 g start (Conflicts error) = ¬ IsLALR1 g start
-TellsNotLALR1 g start Memory = Unit {0}
+TellsNotLALR1 g start = IfConflicts (λ error. ¬ IsLALR1 g start)
 
 -- the states of an error are coherent; want of memory says nothing
 abbrev pub HasCoherentStates : BuildError Bits → Type 0
-HasCoherentStates (Conflicts error) = AreCoherent error.states.items
-HasCoherentStates Memory = Unit {0}
+HasCoherentStates = IfConflicts (λ error. AreCoherent error.states.items)
 
 -- the transitions of an error's states ascend; want of memory says nothing
 abbrev pub HasOrderedStates : BuildError Bits → Type 0
-HasOrderedStates (Conflicts error) = AreOrdered error.states.items
-HasOrderedStates Memory = Unit {0}
+HasOrderedStates = IfConflicts (λ error. AreOrdered error.states.items)
 
 -- canonical states of the grammar without a conflict, merged into states without one
 pub record AreMergedTables (g : Grammar) (start : NonterminalString) (tables : List (State Bits)) : Type 0 where

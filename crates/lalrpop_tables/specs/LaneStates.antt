@@ -9,6 +9,7 @@ use Rattle.lalrpop_base.specs.Bits.{Bits, has}
 use Rattle.lalrpop_base.specs.Closures.{AreClosed, AreChecked}
 use Rattle.lalrpop_base.specs.Coherent.{AreCoherent}
 use Rattle.lalrpop_base.specs.Contents.{contents}
+use Rattle.lalrpop_base.specs.Failures.{IfConflicts}
 use Rattle.lalrpop_base.specs.Items.{Dotted}
 use Rattle.lalrpop_base.specs.Lanes.{AreLr0, IsLaneToken, HoldLaneTokens}
 use Rattle.lalrpop_base.specs.StateConflicts.{HasNoConflict, state_conflicts}
@@ -23,7 +24,6 @@ use Rattle.lalrpop_base.specs.declared.lookahead.token.Token.TheVariants.{Termin
 use Rattle.lalrpop_base.specs.declared.lr1_core.state.Action.{Action as CodeAction}
 use Rattle.lalrpop_base.specs.declared.lr1_core.state.Action.TheVariants.{Shift as CodeShift, Reduce as CodeReduce}
 use Rattle.lalrpop_base.specs.declared.lr1_core.state.BuildError.{BuildError}
-use Rattle.lalrpop_base.specs.declared.lr1_core.state.BuildError.TheVariants.{Conflicts, Memory}
 use Rattle.lalrpop_base.specs.declared.lr1_core.state.Conflict.{Conflict}
 use Rattle.lalrpop_base.specs.declared.lr1_core.state.State.{State}
 use Rattle.lalrpop_base.specs.declared.repr.NonterminalString.{NonterminalString}
@@ -75,8 +75,7 @@ pub record AreLr0Tables (g : Rules) (start : NonterminalString) (states : List (
 
 -- the states of an error are such; want of memory says nothing
 abbrev pub HasLr0Tables : Rules → NonterminalString → BuildError Bits → Type 0
-HasLr0Tables g start (Conflicts error) = AreLr0Tables g start error.states.items
-HasLr0Tables g start Memory = Unit {0}
+HasLr0Tables g start = IfConflicts (λ error. AreLr0Tables g start error.states.items)
 
 -- ---- promoted states
 -- the set has each bit of a terminal, and that of the end
@@ -196,8 +195,7 @@ pub record AreLaneConflicts (g : Rules) (start : NonterminalString) (states : Li
 
 -- an error has such; want of memory says nothing
 abbrev pub FailsByLanes : Rules → NonterminalString → BuildError Bits → Type 0
-FailsByLanes g start (Conflicts error) = AreLaneConflicts g start error.states.items error.conflicts.items
-FailsByLanes g start Memory = Unit {0}
+FailsByLanes g start = IfConflicts (λ error. AreLaneConflicts g start error.states.items error.conflicts.items)
 
 -- tables of an LALR(1) grammar, which pass the check and are faithful
 pub record AreLalrLaneTables (g : Rules) (start : NonterminalString) (tables : List (State Bits)) : Type 0 where

@@ -4,6 +4,7 @@ use Rattle.std.specs.List.{flat_map}
 use Rattle.lalrpop_base.specs.Closures.{AreClosed}
 use Rattle.lalrpop_base.specs.Coherent.{AreCoherent}
 use Rattle.lalrpop_base.specs.Contents.{contents_in}
+use Rattle.lalrpop_base.specs.Failures.{IfConflicts}
 use Rattle.lalrpop_base.specs.Lanes.{AreLr0}
 use Rattle.lalrpop_base.specs.NilConflicts.{nil_conflicts}
 use Rattle.lalrpop_base.specs.States.{Contents, state_after}
@@ -12,7 +13,6 @@ use Rattle.lalrpop_base.specs.WellFormed.{Rules}
 use Rattle.lalrpop_base.specs.declared.lookahead.nil.Nil.{Nil}
 use Rattle.lalrpop_base.specs.declared.lookahead.token.Token.{Token}
 use Rattle.lalrpop_base.specs.declared.lr1_core.state.BuildError.{BuildError}
-use Rattle.lalrpop_base.specs.declared.lr1_core.state.BuildError.TheVariants.{Conflicts, Memory}
 use Rattle.lalrpop_base.specs.declared.lr1_core.state.State.{State}
 use Rattle.lalrpop_base.specs.declared.repr.NonterminalString.{NonterminalString}
 use Rattle.lalrpop_base.specs.declared.repr.Symbol.{Symbol}
@@ -43,8 +43,7 @@ pub record AreLr0States (g : Rules) (start : NonterminalString) (states : List (
 
 -- the states of an error are; want of memory says nothing
 abbrev pub HasLr0States : Rules → NonterminalString → BuildError Nil → Type 0
-HasLr0States g start (Conflicts error) = AreLr0States g start error.states.items
-HasLr0States g start Memory = Unit {0}
+HasLr0States g start = IfConflicts (λ error. AreLr0States g start error.states.items)
 
 -- no state has a conflict: a shift and a reduction, or two reductions
 abbrev pub HaveNoNilConflict : List (State Nil) → Type 0
@@ -52,5 +51,4 @@ HaveNoNilConflict states = flat_map nil_conflicts states ≡ []
 
 -- an error lists the conflicts of each of its states, states ascending, and there are some; want of memory says nothing
 abbrev pub ListsNilConflicts : BuildError Nil → Type 0
-ListsNilConflicts (Conflicts error) = (error.conflicts.items ≡ flat_map nil_conflicts error.states.items) × (error.conflicts.items ≢ [])
-ListsNilConflicts Memory = Unit {0}
+ListsNilConflicts = IfConflicts (λ error. (error.conflicts.items ≡ flat_map nil_conflicts error.states.items) × (error.conflicts.items ≢ []))

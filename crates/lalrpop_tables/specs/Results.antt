@@ -3,12 +3,12 @@ use Rattle.std.specs.Prelude.{◌≡◌, ◌≢◌, ℕ, ◌<◌, ◌++◌, ◌�
 use Rattle.std.specs.List.{flat_map}
 use Rattle.lalrpop_base.specs.Bits.{Bits, no_bits, with_bit}
 use Rattle.lalrpop_base.specs.Coherent.{AreCoherent}
+use Rattle.lalrpop_base.specs.Failures.{IfConflicts}
 use Rattle.lalrpop_base.specs.StateConflicts.{state_conflicts, HasNoConflict}
 use Rattle.lalrpop_base.specs.Items.{Dotted}
 use Rattle.lalrpop_base.specs.WellFormed.{Rules, rules_of, productions_of}
 use Rattle.lalrpop_base.specs.declared.lookahead.token.Token.{Token}
 use Rattle.lalrpop_base.specs.declared.lr1_core.state.BuildError.{BuildError}
-use Rattle.lalrpop_base.specs.declared.lr1_core.state.BuildError.TheVariants.{Conflicts, Memory}
 use Rattle.lalrpop_base.specs.declared.lr1_core.state.Conflict.{Conflict}
 use Rattle.lalrpop_base.specs.declared.lr1_core.state.State.{State}
 use Rattle.lalrpop_base.specs.declared.repr.NonterminalString.{NonterminalString}
@@ -35,8 +35,7 @@ pub data ListsAll {L : Type 0} (lists : State L → List TerminalString → List
 
 -- an error has the states and the conflicts, of which there are some; want of memory says nothing
 abbrev pub FailWith : {L : Type 0} → List (State L) → List (Conflict L) → BuildError L → Type 0
-FailWith states conflicts (Conflicts error) = (error.states.items ≡ states) × (error.conflicts.items ≡ conflicts) × (conflicts ≢ [])
-FailWith states conflicts Memory = Unit {0}
+FailWith states conflicts = IfConflicts (λ error. (error.states.items ≡ states) × (error.conflicts.items ≡ conflicts) × (conflicts ≢ []))
 
 -- what states are made of: the rules of a grammar, its start symbol, the productions of that, and what may follow it
 pub record Construction (L : Type 0) : Type 0 where
@@ -67,8 +66,7 @@ pub record AreTables (c : Construction Bits) (states : List (State Bits)) : Type
 
 -- an error has such states and all their conflicts, of which there are some
 abbrev pub FailsBy : Construction Bits → BuildError Bits → Type 0
-FailsBy c (Conflicts error) = AreStatesOf c error.states.items × AreAllConflicts c.rules.terminals error.states.items error.conflicts.items
-FailsBy c Memory = Unit {0}
+FailsBy c = IfConflicts (λ error. AreStatesOf c error.states.items × AreAllConflicts c.rules.terminals error.states.items error.conflicts.items)
 
 -- nothing but Eof follows the start symbol
 abbrev pub EndsWithEof : Construction Bits → Type 0
@@ -90,5 +88,4 @@ module _ {L : Type 0} (meaning : L → Bits) (begins : Rules → List Symbol →
 
   -- an error has such states and the conflicts that are listed for them, of which there are some
   abbrev pub FailsFor : Construction L → BuildError L → Type 0
-  FailsFor c (Conflicts error) = AreStatesFor c error.states.items × ListsAll lists c.rules.terminals error.states.items error.conflicts.items × (error.conflicts.items ≢ [])
-  FailsFor c Memory = Unit {0}
+  FailsFor c = IfConflicts (λ error. AreStatesFor c error.states.items × ListsAll lists c.rules.terminals error.states.items error.conflicts.items × (error.conflicts.items ≢ []))

@@ -2,13 +2,12 @@
 pub mod neighbours;
 
 ghost use Rattle.std.specs.Prelude.{◌≡◌, ◌↔◌, ◌∷◌, [], List, reverse, IfOk, OnOk, Contains};
-ghost use Rattle.std.specs.List.Sorted.{IsStrictlySortedBy, IsPermutation, IsSorted};
+ghost use Rattle.std.specs.List.Sorted.{IsStrictlySortedBy};
 ghost use Rattle.lalrpop_base.specs.declared.lr1_core.state.StateIndex.{StateIndex};
 ghost use Rattle.lalrpop_tables.specs.Neighbours.{targets_left, sources_left};
 ghost use Rattle.lalrpop_tables.specs.StateGraph.{Edge, edges, shift_edges, goto_edges, IsGraphOf, IsGrown, LeadsTo, targets_of, sources_over, edge, state_cmp, AddsStates, HaveSameStates, IsStepBack};
 
 use self::neighbours::{Predecessors, Successors};
-use itertools::Itertools;
 use lalrpop_base::collections::multimap::Multimap;
 use lalrpop_base::lr1_core::state::{State, StateIndex};
 use lalrpop_base::memory::OutOfMemory;
@@ -147,8 +146,7 @@ impl StateGraph {
         for state in states {
             self.push_sources(*state, symbol, &mut sources)?;
         }
-        let list = in_order(alloc, sources)?;
-        Ok(list)
+        Ok(in_order(sources))
     }
 
     // Puts the states from which the symbol leads to the state behind the others.
@@ -168,23 +166,11 @@ impl StateGraph {
 }
 
 // The states, ascending, none twice.
-fn in_order(alloc: Global, states: Vec<StateIndex>) -> Result<Vec<StateIndex>, OutOfMemory>
-    ensures same { IfOk result (λ list. HaveSameStates states.items list.items) }
-    ensures ascending { IfOk result (λ list. IsStrictlySortedBy state_cmp list.items) }
+fn in_order(mut states: Vec<StateIndex>) -> Vec<StateIndex>
+    ensures same { HaveSameStates states.items result.items }
+    ensures ascending { IsStrictlySortedBy state_cmp result.items }
 {
-    let mut list = sorted_states(alloc, states)?;
-    list.dedup();
-    Ok(list)
-}
-
-// The states, ascending.
-fn sorted_states(alloc: Global, states: Vec<StateIndex>) -> Result<Vec<StateIndex>, OutOfMemory>
-    ensures moved { IfOk result (λ list. IsPermutation states.items list.items) }
-    ensures sorted { IfOk result (λ list. IsSorted state_cmp list.items) }
-{
-    let mut list = Vec::new(alloc);
-    for state in states.into_iter().sorted(alloc)? {
-        list.push(state)?;
-    }
-    Ok(list)
+    states.sort_unstable();
+    states.dedup();
+    states
 }

@@ -13,6 +13,7 @@ use lalrpop_base::memory::OutOfMemory;
 use lalrpop_base::repr::grammar::{Grammar, is_well_formed};
 use lalrpop_base::repr::terminals::TerminalSet;
 use lalrpop_base::repr::{Production, Symbol};
+use lalrpop_lr1::trace::{TraceGraph, TraceGraphNode};
 use lalrpop_tables::build::build_lr1_states;
 use lalrpop_tables::build::options::{Method, Options};
 use std::alloc::Global;
@@ -42,6 +43,21 @@ fn grammars_that_are_not_well_formed(rt: HostRuntime) -> Result<(), Fail> {
         misplaced.nonterminals.insert(name_of(alloc, "T")?, entry)?;
     }
     assert!(rt; !is_well_formed(&misplaced));
+    Ok(())
+}
+
+#[test]
+fn terminals_of_a_trace_graph(rt: HostRuntime) -> Result<(), Fail> {
+    let alloc = rt.alloc();
+    let grammar = grammar(alloc, ONE)?;
+    let others = TerminalSet::new(alloc, literals(alloc, &["y"])?)?;
+    let item = Item::lr0(first_production(alloc, &grammar, "S")?, 0);
+    let mut graph = TraceGraph::new(alloc);
+    assert!(rt; graph.is_known(&others));
+    let from = TraceGraphNode::from(name_of(alloc, "S")?);
+    graph.add_edge(from, TraceGraphNode::from(&item), item.symbol_sets())?;
+    assert!(rt; graph.is_known(&grammar.terminals));
+    assert!(rt; !graph.is_known(&others));
     Ok(())
 }
 

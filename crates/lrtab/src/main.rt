@@ -1,18 +1,10 @@
 //! `lrtab` reads a grammar text, and parses words with its tables, reports these or explains its conflicts.
 #![tactic(auto)]
 
-mod answer;
-mod explain;
-mod output;
-#[cfg(test)]
-mod refusing;
-mod run;
-#[cfg(test)]
-mod tests;
-mod words;
-
 use lalrpop_base::memory::OutOfMemory;
 use lalrpop_tables::build::Method;
+use lrtab_run::run::run;
+use lrtab_run::words::method_of;
 use std::env::VarError;
 use std::fs::File;
 use std::io::ErrorKind;
@@ -30,7 +22,7 @@ fn main(rt: HostRuntime) -> ExitCode {
         Some(name) => fs::open(&rt, name.as_str()).ok(),
         None => None,
     };
-    ExitCode::from(run::run(
+    ExitCode::from(run(
         rt.alloc(),
         &words,
         method,
@@ -49,7 +41,7 @@ fn out_of_memory(rt: &HostRuntime) -> ExitCode {
 /// The method that the environment asks for. Where there is no word, or one that is not UTF-8, it is the lane way.
 fn given_method(rt: &HostRuntime) -> Result<Method, OutOfMemory> {
     match env::var(rt, "LALRPOP_LANE_TABLE") {
-        Ok(word) => Ok(words::method_of(word.as_str())),
+        Ok(word) => Ok(method_of(word.as_str())),
         Err(VarError::OutOfMemory) => Err(OutOfMemory),
         Err(_) => Ok(Method::Lane),
     }

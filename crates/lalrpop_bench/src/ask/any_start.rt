@@ -1,13 +1,13 @@
 //! Questions of parsing for any start symbol.
-use super::arguments::method_at;
-use super::refusal;
 use super::runs::{input_of, shown};
-use super::states::start_of;
-use crate::question::{Question, QuestionError};
 use lalrpop_base::repr::grammar::{Grammar, is_well_formed};
 use lalrpop_lr1::headline::any_start::{AugmentedGrammar, parse_from_any};
 use lalrpop_tables::build::Options;
 use std::alloc::Global;
+use table_questions::ask::arguments::method_at;
+use table_questions::ask::refusal;
+use table_questions::ask::states::start_of;
+use table_questions::question::{Question, QuestionError};
 
 /// The answer to a question of any start symbol, where the call is one.
 pub(crate) fn answer(

@@ -1,10 +1,12 @@
 //! Questions of the grammar that a text stands for, and of its inlining.
-use super::refusal;
-use crate::question::{Question, QuestionError};
-use crate::show::grammar::{push_grammar, push_inline_actions, push_names, push_productions};
 use lalrpop_base::repr::grammar::Grammar;
 use lalrpop_lr1::inline::inline_order;
 use std::alloc::Global;
+use table_questions::ask::refusal;
+use table_questions::question::{Question, QuestionError};
+use table_questions::show::grammar::{
+    push_grammar, push_inline_actions, push_names, push_productions,
+};
 
 /// The answer to a question of a grammar as it was read, where the call is one.
 pub(crate) fn answer(

@@ -1,9 +1,6 @@
 //! Questions of reports.
 ghost use Rattle.lalrpop_base.specs.WellFormed.{IsWellFormed};
 
-use super::arguments::{method_at, options_from};
-use super::states::start_of;
-use crate::question::{Question, QuestionError};
 use lalrpop_base::lr1_core::state::{BuildError, Lr1Result};
 use lalrpop_base::repr::NonterminalString;
 use lalrpop_base::repr::grammar::Grammar;
@@ -11,6 +8,9 @@ use lalrpop_lr1::report::{Counted, ReportError, ReportGenerator, generate_report
 use lalrpop_tables::build::build_lr0_states;
 use lalrpop_tables::lr1::build_states;
 use std::alloc::Global;
+use table_questions::ask::arguments::{method_at, options_from};
+use table_questions::ask::states::start_of;
+use table_questions::question::{Question, QuestionError};
 
 /// The answer to a question of a report, where the call is one.
 pub(crate) fn answer(

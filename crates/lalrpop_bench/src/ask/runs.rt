@@ -1,10 +1,6 @@
 //! Questions of runs: trees, stacks and refusals.
 ghost use Rattle.lalrpop_base.specs.WellFormed.{IsWellFormed};
 
-use super::arguments::method_at;
-use super::states::start_of;
-use crate::question::{Question, QuestionError};
-use crate::show::states::push_counts;
 use grammar_text::symbols::unquoted;
 use lalrpop_base::lr1_core::coherent::are_coherent;
 use lalrpop_base::lr1_core::state::{BuildError, State, StateIndex};
@@ -20,6 +16,10 @@ use lalrpop_lr1::interpret::{
 use lalrpop_tables::build::{Options, build_lr0_states};
 use lalrpop_tables::lr1::build_states;
 use std::alloc::Global;
+use table_questions::ask::arguments::method_at;
+use table_questions::ask::states::start_of;
+use table_questions::question::{Question, QuestionError};
+use table_questions::show::states::push_counts;
 
 /// Terminals that are fed, those of a second list, and how many steps may be made.
 #[derive(Drop)]

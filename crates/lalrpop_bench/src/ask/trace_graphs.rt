@@ -1,13 +1,13 @@
 //! Graphs of traces that are made by words.
-use super::items::item_of;
 use super::traces::{push_contained, push_examples};
-use crate::question::{Question, QuestionError};
 use crate::show::trace_graph::push_trace_edges;
 use grammar_text::symbols::{is_a_name, name_of};
 use lalrpop_base::lr1_core::symbol_sets::SymbolSets;
 use lalrpop_base::repr::grammar::Grammar;
 use lalrpop_lr1::trace::{TraceGraph, TraceGraphNode};
 use std::alloc::Global;
+use table_questions::ask::items::item_of;
+use table_questions::question::{Question, QuestionError};
 
 /// What the words of a question tell of the graph that they make, and its edges.
 pub(crate) fn graph_of_words(

@@ -2,14 +2,9 @@
 ghost use Rattle.lalrpop_base.specs.WellFormed.{IsWellFormed};
 ghost use Rattle.lalrpop_lr1.specs.TraceGraphs.{AreKnownEdges};
 
-use super::arguments::{method_at, tokens_between};
-use super::items::item_of;
-use super::states::start_of;
 use super::trace_graphs::graph_of_words;
-use crate::question::{Question, QuestionError};
 use crate::show::example::push_example;
 use crate::show::trace_graph::push_trace_edges;
-use crate::show::words::{push_item, push_tokens};
 use lalrpop_base::first::FirstSets;
 use lalrpop_base::lr1_core::item::Lr0Item;
 use lalrpop_base::lr1_core::state::{BuildError, Lr1State, StateIndex};
@@ -20,6 +15,11 @@ use lalrpop_lr1::trace::{PathEnumerator, TraceGraph, Tracer};
 use lalrpop_tables::build::Options;
 use lalrpop_tables::lr1::build_states;
 use std::alloc::Global;
+use table_questions::ask::arguments::{method_at, tokens_between};
+use table_questions::ask::items::item_of;
+use table_questions::ask::states::start_of;
+use table_questions::question::{Question, QuestionError};
+use table_questions::show::words::{push_item, push_tokens};
 
 // How many examples are shown.
 const MOST: usize = 12;
@@ -142,7 +142,7 @@ pub(crate) fn push_examples<'grammar>(
     graph: &TraceGraph<'grammar>,
     item: Lr0Item<'grammar>,
 ) -> Result<(), OutOfMemory> {
-    let examples = graph.lr0_examples(item)?;
+    let examples = graph.lr0_examples(alloc, item)?;
     write!(text, "found_trace {}\n", examples.found_trace())?;
     for example in examples.take(MOST) {
         push_example(alloc, text, "example", &example?)?;
@@ -169,7 +169,7 @@ fn push_meeting<'grammar>(
         return Ok(());
     }
     let mut left = MOST;
-    for example in graph.lr1_examples(&first_sets, &item.with_lookahead(tokens))? {
+    for example in graph.lr1_examples(alloc, &first_sets, &item.with_lookahead(tokens))? {
         if left == 0 {
             return Ok(());
         }
@@ -194,7 +194,7 @@ fn push_walk<'grammar>(
         text.push_str("unknown terminals\n")?;
         return Ok(());
     }
-    let walk = graph.lr0_examples(item)?;
+    let walk = graph.lr0_examples(alloc, item)?;
     push_paths(alloc, text, &first_sets, &grammar.terminals, walk)
 }
 

@@ -1,8 +1,8 @@
 //! Graphs of traces.
-use super::words::{push_item, push_list};
 use lalrpop_base::memory::OutOfMemory;
 use lalrpop_base::repr::terminals::TerminalSet;
 use lalrpop_lr1::trace::{TraceGraphEdge, TraceGraphNode};
+use table_questions::show::words::{push_item, push_list};
 
 /// Appends edges, each in a line.
 pub(crate) fn push_trace_edges(

@@ -73,6 +73,7 @@ impl<'graph, 'grammar> PathEnumerator<'graph, 'grammar> {
         ensures falls { IfOk result (λ found. found ≡ true → load self.new < load self.old) }
         ensures err { OnErr result (IsEnded self.new) }
         ensures err_none { OnErr result (to_come self.new ≡ []) }
+        ensures err_behind { OnErr result (remaining self.new ≡ []) }
     {
         while let Some(number) = self.next_edge() {
             if self.take(number)? {
@@ -146,6 +147,7 @@ impl<'graph, 'grammar> PathEnumerator<'graph, 'grammar> {
         ensures on { IfOk result (λ found. found ≡ false → paths_over self.old number ++ remaining self.old ≡ remaining self.new) }
         ensures err { OnErr result (IsEnded self.new) }
         ensures err_none { OnErr result (to_come self.new ≡ []) }
+        ensures err_behind { OnErr result (remaining self.new ≡ []) }
     {
         if self.graph.comes_from_item(number) {
             self.enter(number)?;
@@ -185,6 +187,7 @@ impl<'graph, 'grammar> PathEnumerator<'graph, 'grammar> {
         ensures left { self.new.left ≡ 0 }
         ensures err { OnErr result (IsEnded self.new) }
         ensures err_none { OnErr result (to_come self.new ≡ []) }
+        ensures err_behind { OnErr result (remaining self.new ≡ []) }
     {
         let state = EnumeratorState {
             number,

@@ -193,6 +193,7 @@ impl<'grammar> TraceGraph<'grammar> {
     /// The examples of the paths back from an item, the newest edges first.
     pub fn lr0_examples<'graph>(
         &'graph self,
+        alloc: Global,
         item: Lr0Item<'grammar>,
     ) -> Result<PathEnumerator<'graph, 'grammar>, OutOfMemory>
         ensures graph { IfOk result (λ walk. walk.graph.now ≡ self.now) }
@@ -202,12 +203,15 @@ impl<'grammar> TraceGraph<'grammar> {
         ensures derivations { IfOk result (λ walk. (productions : List Production) → CarryRightSides productions self.now.edges → (path : List ℕ) (example : Example) → Contains (to_come walk) path → IsExampleOf self.now path example → SpellsDerivation productions example) }
         ensures refused { IfOk result (λ walk. walk.refused ≡ false) }
     {
-        PathEnumerator::new(self.alloc, self, item)
+        // A field is read, so that what is kept of a graph is known.
+        let _edges = &self.edges;
+        PathEnumerator::new(alloc, self, item)
     }
 
     /// Those examples that can go on with a token of the item's lookahead.
     pub fn lr1_examples<'graph>(
         &'graph self,
+        alloc: Global,
         first_sets: &'graph FirstSets<'grammar>,
         item: &Lr1Item<'grammar>,
     ) -> Result<FilteredPathEnumerator<'graph, 'grammar>, OutOfMemory>
@@ -222,7 +226,9 @@ impl<'grammar> TraceGraph<'grammar> {
         ensures derivations { IfOk result (λ it. (productions : List Production) → CarryRightSides productions self.now.edges → (path : List ℕ) (example : Example) → Contains (to_come it.base) path → IsExampleOf self.now path example → SpellsDerivation productions example) }
         ensures refused { IfOk result (λ it. it.base.refused ≡ false) }
     {
-        FilteredPathEnumerator::new(self.alloc, first_sets, self, item)
+        // A field is read, so that what is kept of a graph is known.
+        let _edges = &self.edges;
+        FilteredPathEnumerator::new(alloc, first_sets, self, item)
     }
 }
 

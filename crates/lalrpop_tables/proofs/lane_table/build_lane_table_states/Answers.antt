@@ -1,12 +1,18 @@
 use Rattle.std.proofs.Common.{subst}
-use Rattle.std.specs.Prelude.{MatchResult}
+use Rattle.std.specs.Prelude.{IfErr, MatchResult}
 use Rattle.lalrpop_base.specs.Grammar.{IsOnNoRightSide}
 use Rattle.lalrpop_base.specs.WellFormed.{productions, rules_of}
 use Rattle.lalrpop_base.specs.declared.repr.NonterminalString.{NonterminalString}
 use Rattle.lalrpop_base.specs.declared.repr.grammar.Grammar.{Grammar}
 use Rattle.lalrpop_tables.specs.Lalr.{TellsNotLALR1}
-use Rattle.lalrpop_tables.specs.LaneStates.{AreLalrLaneTables}
+use Rattle.lalrpop_tables.specs.LaneStates.{AreLalrLaneTables, FailsByLanes}
 use Rattle.lalrpop_tables.proofs.lane_table.build_lane_table_states.Goals as goal
+
+pub returns-clause-failure : goal.returns-clause-failure
+returns-clause-failure c =
+    let Told : Grammar → NonterminalString → Type 0 = λ g start. IfErr c.construct.result (FailsByLanes (rules_of g) start) in
+    let over = c.in_ok-construct.ensures.over in
+    subst (λ g. Told g c.args.start) over.0 (subst (Told c.in_ok-construct.construct.grammar.now) over.1 c.construct.ensures.failure)
 
 pub returns-clause-lalr : goal.returns-clause-lalr
 returns-clause-lalr c =

@@ -1,5 +1,0 @@
-use Rattle.lalrpop_tables.specs.Merges.{IsMerging}
-use Rattle.lalrpop_bench.proofs.ask.merges.start_all.Given as goal
-
-abbrev pub invariant-loop-state : goal.invariant-loop-state
-invariant-loop-state l = IsMerging l.merge

@@ -1,7 +1,0 @@
-use Rattle.std.proofs.Common.{string_bytes}
-use Rattle.lrtab.specs.Explained.{IsConflictPart}
-use Rattle.lrtab.proofs.ExplainedParts.{AreDone}
-use Rattle.lrtab.proofs.explain.push_conflicts.Given as goal
-
-abbrev pub invariant-loop-place : goal.invariant-loop-place
-invariant-loop-place l = AreDone (IsConflictPart l.ground.first_sets.now l.ground.states.now) 1 l.conflicts l.place (string_bytes l.fn.text) (string_bytes l.text)

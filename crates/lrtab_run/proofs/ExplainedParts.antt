@@ -1,0 +1,59 @@
+-- A text that grows part by part.
+use Rattle.std.proofs.Common.{◌≡◌, ℕ, ◌+◌, ◌<◌, ◌≤◌, List, [], ◌∷◌, ◌++◌, length, drop, get_or, refl, sym, ◌∙◌, ap, subst, arith, append_assoc}
+use Rattle.std.proofs.lemmas.List.{append-nil, drop_all, drop_more}
+use Rattle.std.specs.Prelude.{slice_get, codes}
+use Rattle.lalrpop_base.specs.Bits.{Bits}
+use Rattle.lalrpop_base.specs.Items.{Dotted}
+use Rattle.lalrpop_base.specs.Names.{terminal_text}
+use Rattle.lalrpop_base.specs.WellFormed.{Rules}
+use Rattle.lalrpop_base.specs.declared.lr1_core.state.State.{State}
+use Rattle.lalrpop_base.specs.declared.lr1_core.state.StateIndex.{StateIndex}
+use Rattle.lalrpop_base.specs.declared.repr.TerminalString.{TerminalString}
+use Rattle.lrtab_run.specs.Explained.{HasParts, no_part, part, IsItemPart, IsShiftPart, items_at}
+use Rattle.lrtab_run.specs.Explaining.{Grows}
+
+module _ {X : Type 0} (IsPart : ℕ → X → List ℕ → Type 0) where
+  -- the parts of so many are there, and with those of the others they are the parts of all
+  pub record AreDone (first : ℕ) (xs : List X) (count : ℕ) (old now : List ℕ) : Type 0 where
+    pub done : List ℕ
+    pub grown : now ≡ old ++ done
+    pub whole : (rest : List ℕ) → HasParts IsPart (count + first) (drop count xs) rest → HasParts IsPart first xs (done ++ rest)
+
+  pub done_none : (first : ℕ) (xs : List X) (text : List ℕ) → AreDone first xs 0 text text
+  done_none first xs text = record {
+    done = [];
+    grown = sym (append-nil text);
+    whole = λ rest h. let e : 0 + first ≡ first = omega arith in subst (λ (n : ℕ). HasParts IsPart n xs rest) e h;
+  }
+
+  pub done_more : (first : ℕ) (xs : List X) (count : ℕ) (x : X) (old now new : List ℕ) → AreDone first xs count old now → count < length xs → x ≡ get_or xs count x → Grows (IsPart (count + first) x) now new → AreDone first xs (count + 1) old new
+  done_more first xs count x old now new d l is g = record {
+    done = d.done ++ g.added;
+    grown = g.grown ∙ ap (λ ys. ys ++ g.added) d.grown ∙ append_assoc old d.done g.added;
+    whole = λ rest h.
+        let e : count + 1 + first ≡ count + first + 1 = omega arith in
+        let others : HasParts IsPart (count + first + 1) (drop (count + 1) xs) rest = subst (λ (n : ℕ). HasParts IsPart n (drop (count + 1) xs) rest) e h in
+        let split : x ∷ drop (count + 1) xs ≡ drop count xs = ap (λ y. y ∷ drop (count + 1) xs) is ∙ sym (drop_more xs count x l) in
+        let more : HasParts IsPart (count + first) (x ∷ drop (count + 1) xs) (g.added ++ rest) = part g.added rest g.holds others refl in
+        subst (HasParts IsPart first xs) (sym (append_assoc d.done g.added rest)) (d.whole (g.added ++ rest) (subst (λ (ys : List X). HasParts IsPart (count + first) ys (g.added ++ rest)) split more));
+  }
+
+  pub done_all : (first : ℕ) (xs : List X) (count : ℕ) (old now : List ℕ) → AreDone first xs count old now → length xs ≤ count → Grows (HasParts IsPart first xs) old now
+  done_all first xs count old now d l = record {
+    added = d.done;
+    holds = subst (HasParts IsPart first xs) (append-nil d.done) (d.whole [] (subst (λ (ys : List X). HasParts IsPart (count + first) ys []) (sym (drop_all count xs l)) no_part));
+    grown = d.grown;
+  }
+
+-- the line of a shift, and the examples of each item
+pub shift_grows : (g : Rules) (states : List (State Bits)) (state : StateIndex) (t : TerminalString) (items : List (Dotted Bits)) (old now new : List ℕ) → items ≡ items_at (slice_get states state.0) →
+    now ≡ old ++ (codes "  shift " ++ (terminal_text t ++ codes "\n")) → Grows (HasParts (λ _ item. IsItemPart g states state t item) 0 items) now new → Grows (IsShiftPart g states state t) old new
+shift_grows g states state t items old now new are line grows = record {
+  added = codes "  shift " ++ (terminal_text t ++ (codes "\n" ++ grows.added));
+  holds = record {
+    examples = grows.added;
+    of_items = subst (λ (xs : List (Dotted Bits)). HasParts (λ _ item. IsItemPart g states state t item) 0 xs grows.added) are grows.holds;
+    shown = refl;
+  };
+  grown = simp (grows.grown, line, append_assoc);
+}

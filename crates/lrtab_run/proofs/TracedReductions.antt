@@ -1,0 +1,54 @@
+-- The graph of a reduction that is traced: its edges have terminals with bits, and its first examples are what is shown.
+use Rattle.std.proofs.Common.{◌≡◌, ℕ, List, sym, ap, subst}
+use Rattle.std.specs.Prelude.{Contains}
+use Rattle.lalrpop_base.specs.Bits.{Bits}
+use Rattle.lalrpop_base.specs.Items.{Dotted}
+use Rattle.lalrpop_base.specs.WellFormed.{Rules}
+use Rattle.lalrpop_base.specs.declared.lookahead.nil.Nil.{Nil}
+use Rattle.lalrpop_base.specs.declared.lr1_core.state.State.{State}
+use Rattle.lalrpop_base.specs.declared.lr1_core.state.StateIndex.{StateIndex}
+use Rattle.lalrpop_lr1.specs.Paths.{item_node, paths}
+use Rattle.lalrpop_lr1.specs.TraceGraphs.{Graph, AreKnownEdges}
+use Rattle.lalrpop_lr1.specs.Traces.{HasOwnProductions, HasOwnTerminals, IsTraceOf, StandsIn, dotted, reduction_traced}
+use Rattle.lalrpop_lr1.specs.Walks.{to_come}
+use Rattle.lalrpop_lr1.specs.declared.trace.filtered.FilteredPathEnumerator.{FilteredPathEnumerator}
+use Rattle.lalrpop_lr1.specs.declared.trace.trace_graph.TraceGraphEdge.{TraceGraphEdge}
+use Rattle.lrtab_run.specs.Explained.{AreFirst, GoesOnWith, AreReduceExamples, path_lines}
+use Rattle.lrtab_run.specs.Explaining.{AreOwnStates, Grows, AreFirstLines}
+
+-- a tracer has the states and the rules with which it was made
+module _ (g h : Rules) (states made : List (State Bits)) (same_rules : h ≡ g) (same_states : made ≡ states) (state : StateIndex) (begun : Dotted Nil) (item : Dotted Bits) (is : begun ≡ dotted item.production item.index) where
+  own_productions : AreOwnStates g states → Contains g.productions item.production → HasOwnProductions (reduction_traced h.productions made state begun)
+  own_productions own c =
+      let named : item.production ≡ begun.production = sym (ap (λ (i : Dotted Nil). i.production) is) in
+      record {
+        item = subst (λ (r : Rules). Contains r.productions begun.production) (sym same_rules) (subst (Contains g.productions) named c);
+        items = λ n i stands. subst (λ (r : Rules). Contains r.productions i.production) (sym same_rules) (own.items n i (subst (λ (xs : List (State Bits)). StandsIn xs n i) same_states stands));
+      }
+
+  pub traced_known : AreOwnStates g states → Contains g.productions item.production → (edges : List TraceGraphEdge) → (HasOwnTerminals h → HasOwnProductions (reduction_traced h.productions made state begun) → AreKnownEdges h.terminals edges) → AreKnownEdges g.terminals edges
+  traced_known own c edges known =
+      let own_terminals : HasOwnTerminals h = subst HasOwnTerminals (sym same_rules) own.known in
+      subst (λ (r : Rules). AreKnownEdges r.terminals edges) same_rules (known own_terminals (own_productions own c))
+
+  -- what a walk over the graph shows are the first examples of the item
+  pub traced_shown : (graph : Graph) (walk : FilteredPathEnumerator) (old new : List ℕ) → IsTraceOf (reduction_traced h.productions made state begun) graph →
+      walk.base.graph.now ≡ graph → walk.first_sets.now ≡ g → walk.lookahead ≡ item.lookahead → to_come walk.base ≡ paths graph (item_node item) → Grows (AreFirstLines walk) old new → Grows (AreReduceExamples g states state item) old new
+  traced_shown graph walk old new trace over sets lookahead come grows =
+      let lines = grows.holds in
+      let by_rules : AreFirst (GoesOnWith g walk.base.graph.now walk.lookahead) 3 (to_come walk.base) lines.first = subst (λ (r : Rules). AreFirst (GoesOnWith r walk.base.graph.now walk.lookahead) 3 (to_come walk.base) lines.first) sets lines.are_first in
+      let by_graph : AreFirst (GoesOnWith g graph walk.lookahead) 3 (to_come walk.base) lines.first = subst (λ (x : Graph). AreFirst (GoesOnWith g x walk.lookahead) 3 (to_come walk.base) lines.first) over by_rules in
+      let by_tokens : AreFirst (GoesOnWith g graph item.lookahead) 3 (to_come walk.base) lines.first = subst (λ (s : Bits). AreFirst (GoesOnWith g graph s) 3 (to_come walk.base) lines.first) lookahead by_graph in
+      let of_rules = subst (λ (r : Rules). IsTraceOf (reduction_traced r.productions made state begun) graph) same_rules trace in
+      let of_states = subst (λ (xs : List (State Bits)). IsTraceOf (reduction_traced g.productions xs state begun) graph) same_states of_rules in
+      record {
+        added = grows.added;
+        holds = record {
+          graph = graph;
+          traced = subst (λ (i : Dotted Nil). IsTraceOf (reduction_traced g.productions states state i) graph) is of_states;
+          first = lines.first;
+          are_first = subst (λ (all : List (List ℕ)). AreFirst (GoesOnWith g graph item.lookahead) 3 all lines.first) come by_tokens;
+          shown = subst (λ (x : Graph). grows.added ≡ path_lines x lines.first) over lines.shown;
+        };
+        grown = grows.grown;
+      }

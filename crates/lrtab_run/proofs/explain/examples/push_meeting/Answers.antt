@@ -1,0 +1,21 @@
+use Rattle.std.proofs.Common.{◌∙◌, ap, string_bytes}
+use Rattle.lalrpop_base.specs.Bits.{Bits}
+use Rattle.lalrpop_base.specs.Items.{Dotted}
+use Rattle.lalrpop_lr1.specs.Traces.{dotted}
+use Rattle.lrtab_run.proofs.TracedReductions.{traced_known, traced_shown}
+use Rattle.lrtab_run.proofs.explain.examples.push_meeting.Goals as goal
+
+pub lr1_examples-requires : goal.lr1_examples-requires
+lr1_examples-requires c =
+    let ground = c.args.ground.now in
+    record {
+      known = traced_known ground.first_sets.now ground.tracer.now.ground.first_sets.now ground.states.now ground.tracer.now.ground.states.now ground.traced_rules ground.traced_states c.args.state
+          c.lr0-finished.result c.args.item.now (c.lr0-finished.ensures ∙ ap (λ (i : Dotted Bits). dotted i.production i.index) c.item.view_is) c.requires.states c.requires.item c.in_ok-graph.graph.edges c.in_ok-graph.ensures.known;
+    }
+
+pub returns : goal.returns
+returns c =
+    let ground = c.args.ground.now in
+    let walk = c.in_ok-walk in
+    traced_shown ground.first_sets.now ground.tracer.now.ground.first_sets.now ground.states.now ground.tracer.now.ground.states.now ground.traced_rules ground.traced_states c.args.state c.lr0-finished.result c.args.item.now
+    (c.lr0-finished.ensures ∙ ap (λ (i : Dotted Bits). dotted i.production i.index) c.item.view_is) c.in_ok-graph.graph walk.walk (string_bytes c.args.text.now) (string_bytes c.push_filtered.new.text) c.in_ok-graph.ensures.traced walk.ensures.graph walk.ensures.first_sets walk.ensures.lookahead walk.ensures.paths c.in_ok-push_filtered.ensures

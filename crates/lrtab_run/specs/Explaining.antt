@@ -1,0 +1,42 @@
+-- Under what conditions conflicts are explained, and how the text grows.
+use Rattle.std.specs.Prelude.{◌≡◌, ℕ, List, ◌++◌, Contains}
+use Rattle.lalrpop_base.specs.Bits.{Bits}
+use Rattle.lalrpop_base.specs.Items.{Dotted}
+use Rattle.lalrpop_base.specs.WellFormed.{Rules, HasKnownTerminals}
+use Rattle.lalrpop_base.specs.declared.lr1_core.state.Action.{Action}
+use Rattle.lalrpop_base.specs.declared.lr1_core.state.Action.TheVariants.{Shift, Reduce}
+use Rattle.lalrpop_base.specs.declared.lr1_core.state.Conflict.{Conflict}
+use Rattle.lalrpop_base.specs.declared.lr1_core.state.State.{State}
+use Rattle.lalrpop_base.specs.declared.lr1_core.state.StateIndex.{StateIndex}
+use Rattle.lalrpop_base.specs.declared.repr.Production.{Production}
+use Rattle.lalrpop_lr1.specs.Traces.{StandsIn}
+use Rattle.lalrpop_lr1.specs.Walks.{Meets, to_come}
+use Rattle.lalrpop_lr1.specs.declared.trace.filtered.FilteredPathEnumerator.{FilteredPathEnumerator}
+use Rattle.lrtab_run.specs.Explained.{AreFirst, path_lines}
+
+-- a text grew by one of which something holds
+pub record Grows (P : List ℕ → Type 0) (old new : List ℕ) : Type 0 where
+  pub added : List ℕ
+  pub holds : P added
+  pub grown : new ≡ old ++ added
+
+-- each item of the states is of one of the grammar's productions, whose terminals have bits
+pub record AreOwnStates (g : Rules) (states : List (State Bits)) : Type 0 where
+  pub known : (p : Production) → Contains g.productions p → HasKnownTerminals g.terminals p.symbols
+  pub items : (n : StateIndex) (i : Dotted Bits) → StandsIn states n i → Contains g.productions i.production
+
+-- a reduction is by one of the productions
+abbrev pub IsOwnAction : List Production → Action → Type 0
+IsOwnAction productions (Shift t target) = Unit {0}
+IsOwnAction productions (Reduce p) = Contains productions p.now
+
+-- the reductions of a conflict are by some of the productions
+pub record IsOwnConflict (productions : List Production) (c : Conflict Bits) : Type 0 where
+  pub production : Contains productions c.production.now
+  pub action : IsOwnAction productions c.action
+
+-- the lines of the first three paths to come that meet the lookahead of a walk
+pub record AreFirstLines (walk : FilteredPathEnumerator) (text : List ℕ) : Type 0 where
+  pub first : List (List ℕ)
+  pub are_first : AreFirst (Meets walk) 3 (to_come walk.base) first
+  pub shown : text ≡ path_lines walk.base.graph.now first

@@ -1,0 +1,34 @@
+//! What examples are made over.
+ghost use Rattle.std.specs.Prelude.{◌≡◌, slice_get};
+ghost use Rattle.lrtab_run.specs.Explained.{items_at};
+
+use lalrpop_base::first::FirstSets;
+use lalrpop_base::lr1_core::item::Lr1Item;
+use lalrpop_base::lr1_core::state::{Lr1State, StateIndex};
+use lalrpop_base::repr::terminals::TerminalSet;
+use lalrpop_lr1::trace::Tracer;
+
+/// States, with the first sets and the terminals of their grammar, and what traces back over them.
+#[derive(Drop)]
+pub(crate) struct Ground<'ground, 'grammar> {
+    pub(crate) states: &'ground [Lr1State<'grammar>],
+    pub(crate) first_sets: &'ground FirstSets<'grammar>,
+    pub(crate) terminals: &'ground TerminalSet,
+    pub(crate) tracer: &'ground Tracer<'ground, 'grammar>,
+    ghost numbered: { terminals.now ≡ first_sets.now.terminals },
+    ghost traced_states: { tracer.now.ground.states.now ≡ states.now },
+    ghost traced_rules: { tracer.now.ground.first_sets.now ≡ first_sets.now },
+}
+
+/// The items of a state, none where there is no such state.
+pub(crate) fn items_in<'a, 'grammar>(
+    states: &'a [Lr1State<'grammar>],
+    state: StateIndex,
+) -> &'a [Lr1Item<'grammar>]
+    ensures { result.now ≡ items_at (slice_get states.now state.0) }
+{
+    if state.0 < states.len() {
+        return states[state.0].items.vec.as_slice();
+    }
+    &[]
+}

@@ -1,0 +1,99 @@
+//! The words of the command line.
+ghost use Rattle.std.specs.Prelude.{◌≡◌, option_map, map, string_bytes};
+ghost use Rattle.std.specs.Str.{all_ascii_digits};
+ghost use Rattle.lrtab_run.specs.Words.{limit_of, lone_task, method_of, task_of, task_view, request_of, request_view};
+
+use grammar_text::symbols::is_a_name;
+use lalrpop_tables::build::Method;
+
+/// What is asked of the tables.
+#[derive(Clone, Copy)]
+pub enum Task<'a> {
+    /// A parse of tokens by at most so many steps.
+    Parse(usize, &'a [String]),
+    Report,
+    Explain,
+}
+
+/// What the words ask for.
+#[derive(Clone, Copy)]
+pub struct Request<'a> {
+    pub start: &'a str,
+    pub task: Task<'a>,
+}
+
+/// The method that the environment's word asks for: the canonical one where it is "disabled", else the lane way.
+pub fn method_of(word: &str) -> Method
+    ensures { result ≡ method_of word.now }
+{
+    if word == "disabled" {
+        return Method::Canonical;
+    }
+    Method::Lane
+}
+
+/// What words ask for, where they have its form.
+pub fn request_of(words: &[String]) -> Option<Request<'_>>
+    ensures { option_map request_view result ≡ request_of (map string_bytes words.now) }
+{
+    let [_file, start, verb, rest @ ..] = words else {
+        return None;
+    };
+    if !is_a_name(start.as_str()) {
+        return None;
+    }
+    let task = task_of(verb.as_str(), rest)?;
+    Some(Request {
+        start: start.as_str(),
+        task,
+    })
+}
+
+// What the words behind the start symbol ask for.
+fn task_of<'a>(verb: &str, rest: &'a [String]) -> Option<Task<'a>>
+    ensures { option_map task_view result ≡ task_of verb.now (map string_bytes rest.now) }
+{
+    let [limit, tokens @ ..] = rest else {
+        return lone_task(verb);
+    };
+    if verb != "parse" {
+        return None;
+    }
+    let limit = limit_of(limit.as_str())?;
+    Some(Task::Parse(limit, tokens))
+}
+
+// What a verb with no word behind it asks for.
+fn lone_task<'a>(verb: &str) -> Option<Task<'a>>
+    ensures { option_map task_view result ≡ lone_task verb.now }
+{
+    if verb == "report" {
+        return Some(Task::Report);
+    }
+    if verb == "explain" {
+        return Some(Task::Explain);
+    }
+    None
+}
+
+/// The number that a word writes in decimal digits alone, where it fits.
+pub fn limit_of(word: &str) -> Option<usize>
+    ensures { result ≡ limit_of word.now }
+{
+    if !are_digits(word.as_bytes()) {
+        return None;
+    }
+    word.parse::<usize>().ok()
+}
+
+// Whether each byte is a decimal digit.
+fn are_digits(bytes: &[u8]) -> bool
+    ensures { result ≡ all_ascii_digits bytes.now }
+{
+    for b in bytes {
+        if !b.is_ascii_digit() {
+            return false;
+        }
+    }
+    true
+}

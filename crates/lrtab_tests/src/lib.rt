@@ -1,0 +1,7 @@
+//! Tests of what `lrtab` answers where no case file can ask: readers and writers that fail, and memory that is refused.
+#![tactic(auto)]
+
+#[cfg(test)]
+mod program;
+#[cfg(test)]
+mod refusing;

@@ -1,0 +1,197 @@
+//! Runs of the program `lrtab` that no stored case can ask: readers that fail, outputs that close, growths that are refused.
+mod explanations;
+mod refused_growth;
+mod reports;
+
+use lalrpop_tables::build::Method;
+use lrtab_run::run::run;
+use lrtab_run::words::method_of;
+use std::alloc::{AllocError, Global};
+use std::io;
+use std::io::{ErrorKind, Read, Write};
+use std::test::Fail;
+
+/// What a writer does once it has taken some bytes.
+#[derive(Clone, Copy, Debug, PartialEq, Eq)]
+enum Then {
+    Fails,
+    TakesNothing,
+    IsInterrupted,
+}
+
+/// A writer that takes a byte a call, and so many bytes in all.
+#[derive(Drop)]
+struct Closing {
+    left: usize,
+    taken: usize,
+    then: Then,
+}
+
+impl Write for Closing {
+    fn write(&mut self, buf: &[u8]) -> io::Result<usize> {
+        if self.left == 0 {
+            return match self.then {
+                Then::Fails => Err(io::Error::from(ErrorKind::BrokenPipe)),
+                Then::TakesNothing => Ok(0),
+                Then::IsInterrupted => Err(io::Error::from(ErrorKind::Interrupted)),
+            };
+        }
+        let n = buf.len().min(1);
+        self.left = self.left.saturating_sub(n);
+        self.taken = self.taken.saturating_add(n);
+        Ok(n)
+    }
+
+    fn flush(&mut self) -> io::Result<()> {
+        Ok(())
+    }
+}
+
+/// A reader that fails at once.
+#[derive(Drop)]
+struct Broken;
+
+impl Read for Broken {
+    fn read(&mut self, _buf: &mut [u8]) -> io::Result<usize> {
+        Err(io::Error::from(ErrorKind::Other))
+    }
+}
+
+/// Words of the command line, parted by spaces.
+fn words_of(alloc: Global, line: &str) -> Result<Vec<String>, AllocError> {
+    let mut words = Vec::new(alloc);
+    for word in line.split_whitespace() {
+        words.push(word.to_string(alloc)?)?;
+    }
+    Ok(words)
+}
+
+/// What a run of the program by a method on a file writes and answers.
+fn ran_by(
+    alloc: Global,
+    method: Method,
+    file: Option<&[u8]>,
+    line: &str,
+) -> Result<(Vec<u8>, Vec<u8>, u8), AllocError> {
+    let words = words_of(alloc, line)?;
+    let mut out = Vec::new(alloc);
+    let mut err = Vec::new(alloc);
+    let status = run(alloc, &words, method, file, &mut out, &mut err);
+    Ok((out, err, status))
+}
+
+/// The same by the lane way.
+fn ran(
+    alloc: Global,
+    file: Option<&[u8]>,
+    line: &str,
+) -> Result<(Vec<u8>, Vec<u8>, u8), AllocError> {
+    ran_by(alloc, Method::Lane, file, line)
+}
+
+#[test]
+fn methods_of_words(rt: HostRuntime) -> Result<(), Fail> {
+    assert_eq!(rt; method_of("disabled"), Method::Canonical);
+    for word in ["", "enabled", "Disabled", "disabled "] {
+        assert_eq!(rt; method_of(word), Method::Lane, "{word}");
+    }
+    Ok(())
+}
+
+#[test]
+fn files_that_cannot_be_read(rt: HostRuntime) -> Result<(), Fail> {
+    let alloc = rt.alloc();
+    let no_text: &[u8] = &[83, 32, 61, 32, 34, 255, 34];
+    for file in [None, Some(no_text)] {
+        let (wrote, said, got) = ran(alloc, file, "a/f S parse 2 x")?;
+        assert_eq!(rt; wrote.len(), 0);
+        assert_eq!(rt; said.as_slice(), b"cannot read a/f\n".as_slice());
+        assert_eq!(rt; got, 2);
+    }
+    let words = words_of(alloc, "a/f S parse 2 x")?;
+    let mut out = Vec::new(alloc);
+    let mut err = Vec::new(alloc);
+    let status = run(
+        alloc,
+        &words,
+        Method::Lane,
+        Some(Broken),
+        &mut out,
+        &mut err,
+    );
+    assert_eq!(rt; status, 2);
+    assert_eq!(rt; out.len(), 0);
+    assert_eq!(rt; err.as_slice(), b"cannot read a/f\n".as_slice());
+    Ok(())
+}
+
+// By the canonical method, since by the lane way each item holds all tokens, which takes some GB here.
+#[test]
+fn ten_thousand_productions(rt: HostRuntime) -> Result<(), Fail> {
+    let alloc = rt.alloc();
+    let mut one = String::new(alloc);
+    let mut many = String::new(alloc);
+    for n in 0..10000 {
+        one.push_str(format!(in alloc; "S = \"x{n}\"\n")?.as_str())?;
+        many.push_str(format!(in alloc; "A{n} = \"x{n}\"\n")?.as_str())?;
+    }
+    let canonical = Method::Canonical;
+    let file = Some(one.as_bytes());
+    let (wrote, _said, status) = ran_by(alloc, canonical, file, "f S parse 2 x9999")?;
+    assert_eq!(rt; wrote.as_slice(), b"[S: \"x9999\"]\n".as_slice());
+    assert_eq!(rt; status, 0);
+    let file = Some(many.as_bytes());
+    let (wrote, _said, status) = ran_by(alloc, canonical, file, "f A9999 parse 2 x9999")?;
+    assert_eq!(rt; wrote.as_slice(), b"[A9999: \"x9999\"]\n".as_slice());
+    assert_eq!(rt; status, 0);
+    Ok(())
+}
+
+#[test]
+fn closed_output(rt: HostRuntime) -> Result<(), Fail> {
+    let alloc = rt.alloc();
+    let words = words_of(alloc, "f S parse 2 x")?;
+    for then in [Then::Fails, Then::TakesNothing, Then::IsInterrupted] {
+        for left in 0..10 {
+            let mut err = Vec::new(alloc);
+            let mut out = Closing {
+                left,
+                taken: 0,
+                then,
+            };
+            let file = Some("S = \"x\"".as_bytes());
+            let status = run(alloc, &words, Method::Lane, file, &mut out, &mut err);
+            assert_eq!(rt; out.taken, left.min(9), "{then:?} after {left}");
+            if left < 9 {
+                assert_eq!(rt; status, 2, "{then:?} after {left}");
+                assert_eq!(rt;
+                    err.as_slice(),
+                    b"cannot write\n".as_slice(),
+                    "{then:?} after {left}"
+                );
+            } else {
+                assert_eq!(rt; status, 0, "{then:?} after {left}");
+                assert_eq!(rt; err.len(), 0, "{then:?} after {left}");
+            }
+        }
+    }
+    Ok(())
+}
+
+#[test]
+fn closed_error_output(rt: HostRuntime) -> Result<(), Fail> {
+    let alloc = rt.alloc();
+    let words = words_of(alloc, "f S parse")?;
+    let mut out = Vec::new(alloc);
+    let mut err = Closing {
+        left: 3,
+        taken: 0,
+        then: Then::Fails,
+    };
+    let file = Some("S = \"x\"".as_bytes());
+    let status = run(alloc, &words, Method::Lane, file, &mut out, &mut err);
+    assert_eq!(rt; status, 2);
+    assert_eq!(rt; out.len(), 0);
+    assert_eq!(rt; err.taken, 3);
+    Ok(())
+}

@@ -1,0 +1,72 @@
+//! Explanations, and outputs that close on them.
+use super::{Closing, Then, ran_by, words_of};
+use lalrpop_tables::build::Method;
+use lrtab_run::run::run;
+use std::test::Fail;
+
+const ARROW: &str = "Ty = \"int\"\nTy = \"bool\"\nTy = Ty \"->\" Ty\n";
+
+const ARROW_EXPLAINED: &str = "conflict 1 in state 5 on \"->\"
+  reduce Ty -> Ty \"->\" Ty
+    Ty \"->\" Ty (*) \"->\" Ty
+  shift \"->\"
+    Ty \"->\" Ty (*) \"->\" Ty
+";
+
+pub(super) const ONE_EXAMPLE: &str = "S = N \"p\"\nN = \"n\"\nN = \"n\"\n";
+
+pub(super) const ONE_EXAMPLE_EXPLAINED: &str = "conflict 1 in state 2 on \"p\"
+  reduce N -> \"n\"
+    \"n\" (*) \"p\"
+  reduce N -> \"n\"
+    \"n\" (*) \"p\"
+";
+
+pub(super) const TWICE_EXPLAINED: &str = "conflict 1 in state 1 on Eof
+  reduce S -> \"x\"
+  reduce S -> \"x\"
+";
+
+#[test]
+fn explanation_to_a_closed_output(rt: HostRuntime) -> Result<(), Fail> {
+    let alloc = rt.alloc();
+    let words = words_of(alloc, "f Ty explain")?;
+    let whole = ARROW_EXPLAINED.len();
+    for left in [0, 1, 10, whole - 1, whole] {
+        let mut err = Vec::new(alloc);
+        let mut out = Closing {
+            left,
+            taken: 0,
+            then: Then::Fails,
+        };
+        let file = Some(ARROW.as_bytes());
+        let status = run(alloc, &words, Method::Lane, file, &mut out, &mut err);
+        assert_eq!(rt; out.taken, left);
+        assert_eq!(rt; status, if left < whole { 2 } else { 1 });
+        let said = if left < whole { "cannot write\n" } else { "" };
+        assert_eq!(rt; err.as_slice(), said.as_bytes());
+    }
+    Ok(())
+}
+
+// Of 142 equal productions each two are in conflict.
+#[test]
+fn ten_thousand_conflicts(rt: HostRuntime) -> Result<(), Fail> {
+    let alloc = rt.alloc();
+    let mut text = String::new(alloc);
+    for _ in 0..142 {
+        text.push_str("S = \"x\"\n")?;
+    }
+    let mut wanted = String::new(alloc);
+    for number in 1..10012 {
+        let head = format!(in alloc; "conflict {number} in state 1 on Eof\n")?;
+        wanted.push_str(head.as_str())?;
+        wanted.push_str("  reduce S -> \"x\"\n  reduce S -> \"x\"\n")?;
+    }
+    let file = Some(text.as_bytes());
+    let (wrote, said, status) = ran_by(alloc, Method::Canonical, file, "f S explain")?;
+    assert!(rt; wrote.as_slice() == wanted.as_bytes());
+    assert_eq!(rt; said.len(), 0);
+    assert_eq!(rt; status, 1);
+    Ok(())
+}

@@ -1,0 +1,4 @@
+use Rattle.table_questions.proofs.ask.checks.passes.Goals as goal
+
+pub check_tables-requires-clause-coherent : goal.check_tables-requires-clause-coherent
+check_tables-requires-clause-coherent c = c.are_coherent.ensures.0 c.if-not-are_coherent.false

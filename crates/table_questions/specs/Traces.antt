@@ -1,0 +1,22 @@
+-- What the tracing of actions of LR(0) states asks for.
+use Rattle.std.specs.Prelude.{◌≡◌, ◌<◌, length}
+use Rattle.lalrpop_base.specs.Coherent.{AreCoherent}
+use Rattle.lalrpop_base.specs.WellFormed.{IsWellFormed, productions}
+use Rattle.lalrpop_base.specs.declared.lookahead.nil.Nil.{Nil}
+use Rattle.table_questions.specs.declared.ask.lane_tables.Traces.{Traces}
+use Rattle.lalrpop_tables.specs.LaneTraces.{HaveOwnItems, IsReadyToTrace}
+use Rattle.lalrpop_tables.specs.declared.lane_table.lane.LaneTracer.{LaneTracer}
+
+-- the states are coherent ones of a well-formed grammar, and the traced one is among them
+pub record AreReady (traces : Traces) : Type 0 where
+  pub well_formed : IsWellFormed traces.grammar.now
+  pub coherent : AreCoherent traces.states.items
+  pub own : HaveOwnItems (productions traces.grammar.now) traces.states.items
+  pub listed : traces.state < length traces.states.items
+
+-- what tracing keeps
+pub record IsTracing (traces : Traces) (tracer : LaneTracer Nil) : Type 0 where
+  pub ready : IsReadyToTrace tracer
+  pub grammar : tracer.grammar.now ≡ traces.grammar.now
+  pub states : tracer.states.now ≡ traces.states.items
+  pub columns : tracer.table.conflicts ≡ length traces.actions.keys

@@ -1,0 +1,170 @@
+//! Words of questions: methods, options, symbols, tokens.
+ghost use Rattle.std.specs.Prelude.{IfOk, IsTrue};
+ghost use Rattle.lalrpop_base.specs.WellFormed.{HasKnownTerminals};
+ghost use Rattle.lalrpop_base.specs.Tokens.{IsKnown};
+
+use crate::question::{Question, QuestionError};
+use grammar_text::symbols::{symbol_of, symbols_of, unquoted};
+use lalrpop_base::lookahead::token::Token;
+use lalrpop_base::lookahead::token_set::TokenSet;
+use lalrpop_base::repr::terminals::TerminalSet;
+use lalrpop_base::repr::{Symbol, Symbols, TerminalString};
+use lalrpop_base::text::Text;
+use lalrpop_tables::build::{Method, Options};
+use std::alloc::Global;
+
+/// The method that the argument with a number names.
+pub fn method_at(question: &Question<'_>, number: usize) -> Result<Method, QuestionError> {
+    match question.argument(number)? {
+        "lane" => Ok(Method::Lane),
+        "canonical" => Ok(Method::Canonical),
+        _ => Err(QuestionError::Argument(number)),
+    }
+}
+
+/// The options that the arguments from a number on name.
+pub fn options_from(
+    question: &Question<'_>,
+    number: usize,
+    method: Method,
+) -> Result<Options, QuestionError> {
+    let mut options = Options {
+        method,
+        ..Options::default()
+    };
+    for (place, word) in question.from(number).iter().enumerate() {
+        if !set_option(&mut options, word) {
+            return Err(QuestionError::Argument(number.saturating_add(place)));
+        }
+    }
+    Ok(options)
+}
+
+// Takes the option that a word names, and tells whether it is one.
+fn set_option(options: &mut Options, word: &str) -> bool {
+    if let Some(digits) = word.strip_prefix("max_copies=") {
+        return set_number(&mut options.max_copies, digits);
+    }
+    if let Some(digits) = word.strip_prefix("stop_after=") {
+        return set_number(&mut options.stop_after, digits);
+    }
+    word == "collapsed" || word == "count"
+}
+
+// Takes the number that digits stand for, and tells whether they are digits.
+fn set_number(place: &mut usize, digits: &str) -> bool {
+    match digits.parse::<usize>() {
+        Ok(number) => {
+            *place = number;
+            true
+        }
+        Err(_) => false,
+    }
+}
+
+/// The symbols that words stand for, whose terminals are of the set. The first word is the argument with a number.
+pub fn known_symbols(
+    alloc: Global,
+    words: &[&str],
+    terminals: &TerminalSet,
+    number: usize,
+) -> Result<Symbols, QuestionError>
+    ensures { IfOk result (HasKnownTerminals terminals.now) }
+{
+    let Some(symbols) = symbols_of(alloc, words)? else {
+        return Err(QuestionError::Argument(number));
+    };
+    if !have_known_terminals(symbols.as_slice(), terminals) {
+        return Err(QuestionError::Argument(number));
+    }
+    Ok(symbols)
+}
+
+/// The symbol that the argument with a number stands for, whose terminal is of the set.
+pub fn known_symbol(
+    alloc: Global,
+    question: &Question<'_>,
+    number: usize,
+    terminals: &TerminalSet,
+) -> Result<Symbol, QuestionError> {
+    match symbol_of(alloc, question.argument(number)?)? {
+        Some(Symbol::Terminal(terminal)) if terminals.bit(&terminal).is_some() => {
+            Ok(Symbol::Terminal(terminal))
+        }
+        Some(Symbol::Nonterminal(name)) => Ok(Symbol::Nonterminal(name)),
+        _ => Err(QuestionError::Argument(number)),
+    }
+}
+
+// Whether each terminal of a list of symbols is in the set.
+fn have_known_terminals(symbols: &[Symbol], terminals: &TerminalSet) -> bool
+    ensures { IsTrue result → HasKnownTerminals terminals.now symbols.now }
+{
+    for symbol in symbols {
+        if let Symbol::Terminal(terminal) = symbol
+            && terminals.bit(terminal).is_none()
+        {
+            return false;
+        }
+    }
+    true
+}
+
+// The token that a word stands for: `Eof`, `Error`, or a literal of the set. The word is the argument with a number.
+fn known_token(
+    alloc: Global,
+    word: &str,
+    terminals: &TerminalSet,
+    number: usize,
+) -> Result<Token, QuestionError>
+    ensures { IfOk result (IsKnown terminals.now) }
+{
+    if word == "Eof" {
+        return Ok(Token::Eof);
+    }
+    if word == "Error" {
+        return Ok(Token::Error);
+    }
+    let Some(text) = unquoted(word) else {
+        return Err(QuestionError::Argument(number));
+    };
+    let terminal = TerminalString::Literal(Text::new(alloc, text)?);
+    match terminals.bit(&terminal) {
+        Some(_) => Ok(Token::Terminal(terminal)),
+        None => Err(QuestionError::Argument(number)),
+    }
+}
+
+/// The set of the tokens that arguments name, from one number to before another. `All` is each terminal and `Eof`, and
+/// the option `collapsed` is none.
+pub fn tokens_between(
+    alloc: Global,
+    question: &Question<'_>,
+    from: usize,
+    to: usize,
+    terminals: &TerminalSet,
+) -> Result<TokenSet, QuestionError> {
+    let mut tokens = TokenSet::new(alloc, terminals);
+    for number in from..to {
+        let word = question.argument(number)?;
+        if word == "All" {
+            tokens.union_with(&TokenSet::all(alloc, terminals)?)?;
+        } else if word != "collapsed" {
+            let token = known_token(alloc, word, terminals, number)?;
+            tokens.insert(token, terminals)?;
+        }
+    }
+    Ok(tokens)
+}
+
+/// The number of the first argument, from one number to before another, that is a comma; else the latter.
+pub fn piece_end(question: &Question<'_>, from: usize, to: usize) -> usize {
+    for number in from..to {
+        if let Ok(word) = question.argument(number)
+            && word == ","
+        {
+            return number;
+        }
+    }
+    to
+}

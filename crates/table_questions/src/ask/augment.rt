@@ -1,0 +1,83 @@
+//! Questions of new start symbols.
+ghost use Rattle.lalrpop_base.specs.WellFormed.{IsWellFormed};
+
+use super::refusal;
+use super::states::start_of;
+use crate::question::{Question, QuestionError};
+use crate::show::states::push_counts;
+use crate::show::words::push_production;
+use lalrpop_base::memory::OutOfMemory;
+use lalrpop_base::repr::NonterminalString;
+use lalrpop_base::repr::augment::augment;
+use lalrpop_base::repr::grammar::{Grammar, is_well_formed};
+use lalrpop_tables::build::{Method, Options};
+use lalrpop_tables::lr1::build_states;
+use std::alloc::Global;
+
+/// The answer to a question of a new start symbol, where the call is one.
+pub fn answer(
+    alloc: Global,
+    question: &Question<'_>,
+    grammar: &Grammar,
+) -> Result<Option<String>, QuestionError> {
+    match question.call {
+        "augment" => Ok(Some(augmented(alloc, question, grammar)?)),
+        _ => Ok(None),
+    }
+}
+
+// A new start symbol, and what both methods make of the grammar for it.
+fn augmented(
+    alloc: Global,
+    question: &Question<'_>,
+    grammar: &Grammar,
+) -> Result<String, QuestionError> {
+    let start = start_of(alloc, question, 1)?;
+    let copy = grammar.clone(alloc)?;
+    if !is_well_formed(&copy) {
+        return Ok(String::from_str(alloc, "not well-formed\n")?);
+    }
+    match augment(alloc, copy, start) {
+        Ok((grown, name)) => shown(alloc, &grown, &name),
+        Err(error) => refusal(alloc, error),
+    }
+}
+
+// A start symbol, its productions, and the counts of its states.
+fn shown(
+    alloc: Global,
+    grammar: &Grammar,
+    start: &NonterminalString,
+) -> Result<String, QuestionError>
+    requires { IsWellFormed grammar.now }
+{
+    let mut text = format!(in alloc; "start {start}\n")?;
+    for production in grammar.productions_for(start) {
+        text.push_str("  ")?;
+        push_production(&mut text, production)?;
+        text.push_str("\n")?;
+    }
+    text.push_str("lane ")?;
+    push_states(alloc, &mut text, grammar, start, Method::Lane)?;
+    text.push_str("canonical ")?;
+    push_states(alloc, &mut text, grammar, start, Method::Canonical)?;
+    Ok(text)
+}
+
+// Appends the counts of the states by a method.
+fn push_states(
+    alloc: Global,
+    text: &mut String,
+    grammar: &Grammar,
+    start: &NonterminalString,
+    method: Method,
+) -> Result<(), OutOfMemory>
+    requires { IsWellFormed grammar.now }
+{
+    let options = Options {
+        method,
+        ..Options::default()
+    };
+    let answer = build_states(alloc, grammar, start.clone(alloc)?, &options);
+    push_counts(text, &answer)
+}

@@ -1,0 +1,192 @@
+//! Questions of context sets.
+ghost use Rattle.std.specs.Prelude.{◌≡◌, length, IfOk};
+ghost use Rattle.lalrpop_base.specs.WellFormed.{IsWellFormed};
+
+use super::arguments::{piece_end, tokens_between};
+use super::checks::states_by;
+use super::states::start_of;
+use crate::question::{Question, QuestionError};
+use crate::show::context_set::push_columns;
+use crate::show::lane_table::push_actions;
+use crate::show::words::{push_production, push_tokens};
+use lalrpop_base::collections::Set;
+use lalrpop_base::lr1_core::state::{Action, Lr1State, State};
+use lalrpop_base::memory::OutOfMemory;
+use lalrpop_base::repr::grammar::Grammar;
+use lalrpop_base::repr::terminals::TerminalSet;
+use lalrpop_tables::lane_table::context_set::{
+    ConflictIndex, ContextSet, OverlappingLookahead, are_among,
+};
+use std::alloc::Global;
+
+/// The answer to a question of context sets, where the call is one.
+pub fn answer(
+    alloc: Global,
+    question: &Question<'_>,
+    grammar: &Grammar,
+) -> Result<Option<String>, QuestionError>
+    requires { IsWellFormed grammar.now }
+{
+    match question.call {
+        "context_set" => Ok(Some(context_sets(alloc, question, &grammar.terminals)?)),
+        "apply" => Ok(Some(apply(alloc, question, grammar)?)),
+        _ => Ok(None),
+    }
+}
+
+/// The actions of a state that has reductions: its shifts and these. No action where it has none.
+pub fn actions_of<'grammar, L>(
+    alloc: Global,
+    state: &State<'grammar, L>,
+) -> Result<Set<Action<'grammar>>, OutOfMemory> {
+    let mut actions = Set::new(alloc);
+    for reduction in &state.reductions {
+        actions.insert(Action::Reduce(reduction.1))?;
+    }
+    if actions.is_empty() {
+        return Ok(actions);
+    }
+    for (terminal, target) in state.shifts.iter() {
+        actions.insert(Action::Shift(terminal.clone(alloc)?, *target))?;
+    }
+    Ok(actions)
+}
+
+// One set or two by their insertions, and then the union.
+fn context_sets(
+    alloc: Global,
+    question: &Question<'_>,
+    terminals: &TerminalSet,
+) -> Result<String, QuestionError> {
+    let count = question.number(1)?;
+    let after = question.arguments.len().saturating_add(1);
+    let bar = bar_of(question);
+    let mut text = String::new(alloc);
+    let first = filled(alloc, &mut text, question, count, 2, bar, terminals)?;
+    if bar == after {
+        return Ok(text);
+    }
+    let from = bar.saturating_add(1);
+    let second = filled(alloc, &mut text, question, count, from, after, terminals)?;
+    match ContextSet::union(alloc, &first, &second) {
+        Ok(union) => {
+            text.push_str("union")?;
+            push_columns(alloc, &mut text, &union, count, terminals)?;
+            text.push_str("\n")?;
+        }
+        Err(OverlappingLookahead::Overlapping) => text.push_str("union overlap\n")?,
+        Err(OverlappingLookahead::Memory) => return Err(QuestionError::Memory),
+    }
+    Ok(text)
+}
+
+// The number of the first argument that is a slash, else the number behind all.
+fn bar_of(question: &Question<'_>) -> usize {
+    let count = question.arguments.len();
+    match question.arguments.iter().position(|word| *word == "/") {
+        Some(place) => place.saturating_add(1),
+        None => count.saturating_add(1),
+    }
+}
+
+// The set of so many columns with what arguments insert, from one number to before another.
+fn filled(
+    alloc: Global,
+    text: &mut String,
+    question: &Question<'_>,
+    count: usize,
+    from: usize,
+    to: usize,
+    terminals: &TerminalSet,
+) -> Result<ContextSet, QuestionError>
+    ensures { IfOk result (λ set. count ≡ length set) }
+{
+    let mut set = ContextSet::new(alloc, count)?;
+    let mut begin = from;
+    for number in from..to {
+        if number == begin {
+            let end = piece_end(question, begin, to);
+            insert(
+                alloc, text, &mut set, count, question, begin, end, terminals,
+            )?;
+            begin = end.saturating_add(1);
+        }
+    }
+    text.push_str("columns")?;
+    push_columns(alloc, text, &set, count, terminals)?;
+    text.push_str("\n")?;
+    Ok(set)
+}
+
+// Inserts the tokens that arguments name behind the number of a column.
+fn insert(
+    alloc: Global,
+    text: &mut String,
+    set: &mut ContextSet,
+    count: usize,
+    question: &Question<'_>,
+    from: usize,
+    to: usize,
+    terminals: &TerminalSet,
+) -> Result<(), QuestionError>
+    requires { count ≡ length set.old }
+    ensures { count ≡ length set.new }
+{
+    let column = question.number(from)?;
+    if column >= count {
+        return Err(QuestionError::Argument(from));
+    }
+    let tokens = tokens_between(alloc, question, from.saturating_add(1), to, terminals)?;
+    match set.insert(ConflictIndex::new(column), &tokens) {
+        Ok(grew) => write!(text, "insert {grew}\n")?,
+        Err(OverlappingLookahead::Overlapping) => text.push_str("insert overlap\n")?,
+        Err(OverlappingLookahead::Memory) => return Err(QuestionError::Memory),
+    }
+    Ok(())
+}
+
+// A context set of the actions of a canonical state, given to its reductions.
+fn apply(alloc: Global, question: &Question<'_>, grammar: &Grammar) -> Result<String, QuestionError>
+    requires { IsWellFormed grammar.now }
+{
+    let start = start_of(alloc, question, 1)?;
+    let mut states = states_by(alloc, grammar, start, "canonical")?;
+    let Some(state) = states.get_mut(question.number(2)?) else {
+        return Err(QuestionError::Argument(2));
+    };
+    let actions = actions_of(alloc, state)?;
+    let mut text = String::new(alloc);
+    push_actions(&mut text, &actions)?;
+    let after = question.arguments.len().saturating_add(1);
+    let set = filled(
+        alloc,
+        &mut text,
+        question,
+        actions.len(),
+        3,
+        after,
+        &grammar.terminals,
+    )?;
+    if !are_among(&actions, &state.reductions) {
+        return Err(QuestionError::Argument(2));
+    }
+    set.apply(alloc, state, &actions)?;
+    push_reductions(&mut text, state, &grammar.terminals)?;
+    Ok(text)
+}
+
+/// Appends the reductions of a state, each on a line of its own.
+pub fn push_reductions(
+    text: &mut String,
+    state: &Lr1State<'_>,
+    terminals: &TerminalSet,
+) -> Result<(), OutOfMemory> {
+    for (tokens, production) in &state.reductions {
+        write!(text, "state {} reduce ", state.index)?;
+        push_production(text, production)?;
+        text.push_str(" on")?;
+        push_tokens(text, tokens, terminals)?;
+        text.push_str("\n")?;
+    }
+    Ok(())
+}

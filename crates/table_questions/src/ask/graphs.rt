@@ -1,0 +1,130 @@
+//! Questions of the graph of LR(0) states.
+ghost use Rattle.std.specs.Prelude.{IfOk};
+ghost use Rattle.lalrpop_base.specs.WellFormed.{IsWellFormed, rules_of};
+ghost use Rattle.lalrpop_tables.specs.Lr0.{AreLr0States};
+
+use super::states::start_of;
+use crate::question::{Question, QuestionError};
+use crate::show::graph::push_state_list;
+use grammar_text::symbols::{symbol_of, symbols_of};
+use lalrpop_base::lr1_core::lr0::Lr0State;
+use lalrpop_base::lr1_core::state::{BuildError, StateIndex, TableConstructionError};
+use lalrpop_base::memory::OutOfMemory;
+use lalrpop_base::repr::NonterminalString;
+use lalrpop_base::repr::grammar::Grammar;
+use lalrpop_tables::build::build_lr0_states;
+use lalrpop_tables::state_graph::StateGraph;
+use std::alloc::Global;
+
+/// The answer to a question of the graph of LR(0) states, where the call is one.
+pub fn answer(
+    alloc: Global,
+    question: &Question<'_>,
+    grammar: &Grammar,
+) -> Result<Option<String>, QuestionError>
+    requires { IsWellFormed grammar.now }
+{
+    match question.call {
+        "state_graph" | "predecessors" | "trace_back" => {
+            let start = start_of(alloc, question, 1)?;
+            let states = lr0_states(alloc, grammar, start)?;
+            let graph = StateGraph::new(alloc, &states)?;
+            Ok(Some(graph_answer(alloc, question, &graph, states.len())?))
+        }
+        _ => Ok(None),
+    }
+}
+
+/// The LR(0) states of a grammar, whether they have conflicts or not.
+pub fn lr0_states<'grammar>(
+    alloc: Global,
+    grammar: &'grammar Grammar,
+    start: NonterminalString,
+) -> Result<Vec<Lr0State<'grammar>>, OutOfMemory>
+    requires { IsWellFormed grammar.now }
+    ensures { IfOk result (λ states. AreLr0States (rules_of grammar.now) start states.items) }
+{
+    match build_lr0_states(alloc, grammar, start) {
+        Ok(states) => Ok(states),
+        Err(BuildError::Conflicts(error)) => {
+            let TableConstructionError { states, .. } = error;
+            Ok(states)
+        }
+        Err(BuildError::Memory) => Err(OutOfMemory),
+    }
+}
+
+// The answer to a question of a graph.
+fn graph_answer(
+    alloc: Global,
+    question: &Question<'_>,
+    graph: &StateGraph,
+    count: usize,
+) -> Result<String, QuestionError> {
+    let mut text = String::new(alloc);
+    if question.call == "state_graph" {
+        push_graph(alloc, &mut text, graph, count)?;
+        return Ok(text);
+    }
+    let state = StateIndex(question.number(2)?);
+    text.push_str("states")?;
+    if question.call == "trace_back" {
+        let Some(symbols) = symbols_of(alloc, question.from(3))? else {
+            return Err(QuestionError::Argument(3));
+        };
+        let found = graph.trace_back(alloc, state, symbols.as_slice())?;
+        push_state_list(&mut text, &found)?;
+    } else {
+        push_predecessors(alloc, &mut text, question, graph, state)?;
+    }
+    text.push_str("\n")?;
+    Ok(text)
+}
+
+// Appends the successors of each state.
+fn push_graph(
+    alloc: Global,
+    text: &mut String,
+    graph: &StateGraph,
+    count: usize,
+) -> Result<(), OutOfMemory> {
+    for state in 0..count {
+        write!(text, "successors {state}:")?;
+        let successors = successors_of(alloc, graph, StateIndex(state))?;
+        push_state_list(text, &successors)?;
+        text.push_str("\n")?;
+    }
+    Ok(())
+}
+
+// The successors of a state, in order.
+fn successors_of(
+    alloc: Global,
+    graph: &StateGraph,
+    state: StateIndex,
+) -> Result<Vec<StateIndex>, OutOfMemory> {
+    let mut list = Vec::new(alloc);
+    for successor in graph.successors(state) {
+        list.push(successor)?;
+    }
+    Ok(list)
+}
+
+// Appends the states from which a symbol leads to a state.
+fn push_predecessors(
+    alloc: Global,
+    text: &mut String,
+    question: &Question<'_>,
+    graph: &StateGraph,
+    state: StateIndex,
+) -> Result<(), QuestionError> {
+    let Some(symbol) = symbol_of(alloc, question.argument(3)?)? else {
+        return Err(QuestionError::Argument(3));
+    };
+    let mut list = Vec::new(alloc);
+    for source in graph.predecessors(state, &symbol) {
+        list.push(source)?;
+    }
+    push_state_list(text, &list)?;
+    Ok(())
+}

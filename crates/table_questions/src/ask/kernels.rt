@@ -1,0 +1,88 @@
+//! Questions of kernels, without lookahead.
+use super::items::item_of;
+use crate::question::{Question, QuestionError};
+use crate::show::words::push_item;
+use grammar_text::symbols::pieces;
+use lalrpop_base::kernel_set::{self, KernelSet};
+use lalrpop_base::lookahead::nil::Nil;
+use lalrpop_base::lr1_core::item::{Item, Lr0Item};
+use lalrpop_base::memory::OutOfMemory;
+use lalrpop_base::repr::Production;
+use lalrpop_base::repr::grammar::Grammar;
+use lalrpop_base::sequence::Sequence;
+use lalrpop_tables::build::Kernel;
+use std::alloc::Global;
+
+/// The answer to a question of kernels, where the call is one.
+pub fn answer(
+    alloc: Global,
+    question: &Question<'_>,
+    grammar: &Grammar,
+) -> Result<Option<String>, QuestionError> {
+    match question.call {
+        "kernel_set" => Ok(Some(kernels(alloc, question, grammar)?)),
+        _ => Ok(None),
+    }
+}
+
+// The numbers of kernels that are added, and those that are handed out between.
+fn kernels(
+    alloc: Global,
+    question: &Question<'_>,
+    grammar: &Grammar,
+) -> Result<String, QuestionError> {
+    let mut text = String::new(alloc);
+    let mut set = KernelSet::new(alloc);
+    for (place, word) in question.arguments.iter().enumerate() {
+        if *word == "next" {
+            push_next(&mut text, set.next(), grammar)?;
+        } else if let Some(kernel) = kernel_of(alloc, grammar, word)? {
+            let copy = kernel_set::Kernel::copy(&kernel, alloc)?;
+            let number = set.add_state(copy)?;
+            write!(text, "added {number}\n")?;
+        } else {
+            return Err(QuestionError::Argument(place.saturating_add(1)));
+        }
+    }
+    Ok(text)
+}
+
+// Appends the kernel that is handed out, if there is one.
+fn push_next(
+    text: &mut String,
+    next: Option<Kernel<'_, Nil>>,
+    grammar: &Grammar,
+) -> Result<(), OutOfMemory> {
+    let Some(kernel) = next else {
+        return Ok(text.push_str("next none\n")?);
+    };
+    text.push_str("next")?;
+    for (place, item) in kernel.as_slice().iter().enumerate() {
+        text.push_str(if place > 0 { " | " } else { " " })?;
+        push_item(text, item, &grammar.terminals)?;
+    }
+    text.push_str("\n")?;
+    Ok(())
+}
+
+// The kernel of the items that a word names, where all dots stand first or none does.
+fn kernel_of<'grammar>(
+    alloc: Global,
+    grammar: &'grammar Grammar,
+    word: &str,
+) -> Result<Option<Kernel<'grammar, Nil>>, OutOfMemory> {
+    let mut items = Sequence::new(alloc);
+    for piece in pieces(alloc, word, ';')? {
+        match item_of(grammar, piece, 1) {
+            Ok(item) => items.push(item)?,
+            Err(_) => return Ok(None),
+        }
+    }
+    if items.as_slice().iter().all(|item| item.index == 0) {
+        return Ok(Some(Kernel::start(items)));
+    }
+    if items.as_slice().iter().all(|item| item.index > 0) {
+        return Ok(Some(Kernel::shifted(items)));
+    }
+    Ok(None)
+}

@@ -1,0 +1,257 @@
+//! Questions of lane tables.
+ghost use Rattle.std.specs.Prelude.{IfOk, IsTrue};
+ghost use Rattle.lalrpop_base.specs.WellFormed.{IsWellFormed, productions};
+ghost use Rattle.table_questions.specs.Traces.{AreReady, IsTracing};
+ghost use Rattle.lalrpop_tables.specs.LaneTraces.{ReducesOwn};
+
+use super::arguments::{piece_end, tokens_between};
+use super::context_sets::actions_of;
+use super::graphs::lr0_states;
+use super::states::start_of;
+use crate::question::{Question, QuestionError};
+use crate::show::context_set::column_of;
+use crate::show::lane_table::{push_actions, push_lane_table};
+use crate::show::words::push_tokens;
+use lalrpop_base::collections::Set;
+use lalrpop_base::exact::contains;
+use lalrpop_base::first::FirstSets;
+use lalrpop_base::lookahead::nil::Nil;
+use lalrpop_base::lr1_core::lr0::Lr0State;
+use lalrpop_base::lr1_core::state::{Action, StateIndex};
+use lalrpop_base::memory::OutOfMemory;
+use lalrpop_base::repr::NonterminalString;
+use lalrpop_base::repr::grammar::Grammar;
+use lalrpop_base::repr::terminals::TerminalSet;
+use lalrpop_tables::lane_table::context_set::ConflictIndex;
+use lalrpop_tables::lane_table::lane::LaneTracer;
+use lalrpop_tables::lane_table::table::LaneTable;
+use lalrpop_tables::state_graph::StateGraph;
+use std::alloc::Global;
+
+/// The answer to a question of lane tables, where the call is one.
+pub fn answer(
+    alloc: Global,
+    question: &Question<'_>,
+    grammar: &Grammar,
+) -> Result<Option<String>, QuestionError>
+    requires { IsWellFormed grammar.now }
+{
+    match question.call {
+        "lane_table" => Ok(Some(traced_table(alloc, question, grammar)?)),
+        "lane_table_of" => Ok(Some(made_table(alloc, question, grammar)?)),
+        _ => Ok(None),
+    }
+}
+
+// The table that tracing the actions of a state leaves.
+fn traced_table(
+    alloc: Global,
+    question: &Question<'_>,
+    grammar: &Grammar,
+) -> Result<String, QuestionError>
+    requires { IsWellFormed grammar.now }
+{
+    let traces = traces_of(alloc, question, grammar)?;
+    let mut text = String::new(alloc);
+    push_actions(&mut text, &traces.actions)?;
+    push_cells(alloc, &mut text, &traces)?;
+    let table = traced(alloc, &traces, 0, traces.actions.len())?;
+    let count = traces.states.len();
+    push_lane_table(alloc, &mut text, &table, count, &grammar.terminals)?;
+    Ok(text)
+}
+
+/// The actions of an LR(0) state that are traced.
+#[derive(Drop)]
+pub struct Traces<'grammar> {
+    pub grammar: &'grammar Grammar,
+    pub start: NonterminalString,
+    pub states: Vec<Lr0State<'grammar>>,
+    pub state: usize,
+    pub actions: Set<Action<'grammar>>,
+}
+
+/// The actions of the state that the second argument names.
+#[tactic(auto, using(crate::proofs::OwnItems::ready_traces))]
+pub fn traces_of<'grammar>(
+    alloc: Global,
+    question: &Question<'_>,
+    grammar: &'grammar Grammar,
+) -> Result<Traces<'grammar>, QuestionError>
+    requires { IsWellFormed grammar.now }
+    ensures { IfOk result AreReady }
+{
+    let start = start_of(alloc, question, 1)?;
+    let state = question.number(2)?;
+    let copy = start.clone(alloc)?;
+    let states = lr0_states(alloc, grammar, copy)?;
+    if state >= states.len() {
+        return Err(QuestionError::Argument(2));
+    }
+    let actions = actions_of(alloc, &states[state])?;
+    Ok(Traces {
+        grammar,
+        start,
+        states,
+        state,
+        actions,
+    })
+}
+
+// Appends the tokens of each action in the row of each state, as tracing that action alone leaves them.
+fn push_cells(alloc: Global, text: &mut String, traces: &Traces<'_>) -> Result<(), QuestionError>
+    requires { AreReady traces.now }
+{
+    let mut tables = Vec::new(alloc);
+    for place in 0..traces.actions.len() {
+        tables.push(traced(alloc, traces, place, place.saturating_add(1))?)?;
+    }
+    for state in 0..traces.states.len() {
+        push_cells_of(alloc, text, &tables, state, &traces.grammar.terminals)?;
+    }
+    Ok(())
+}
+
+// Appends the tokens that tables, of one action each, have in the row of a state.
+fn push_cells_of(
+    alloc: Global,
+    text: &mut String,
+    tables: &[LaneTable<'_>],
+    state: usize,
+    terminals: &TerminalSet,
+) -> Result<(), QuestionError> {
+    for (place, table) in tables.iter().enumerate() {
+        let Ok(row) = table.context_set(alloc, StateIndex(state)) else {
+            return Err(QuestionError::Memory);
+        };
+        if place < table.column_count() {
+            let tokens = column_of(alloc, &row, place, terminals)?;
+            if tokens.len() > 0 {
+                write!(text, "cell {state} {place}")?;
+                push_tokens(text, &tokens, terminals)?;
+                text.push_str("\n")?;
+            }
+        }
+    }
+    Ok(())
+}
+
+/// The table that tracing the actions from one number to before another leaves.
+#[tactic(auto, using(crate::proofs::OwnItems::coherent_there, crate::proofs::OwnItems::own_there, crate::proofs::OwnItems::tracing_start))]
+pub fn traced<'grammar>(
+    alloc: Global,
+    traces: &Traces<'grammar>,
+    from: usize,
+    to: usize,
+) -> Result<LaneTable<'grammar>, QuestionError>
+    requires { AreReady traces.now }
+{
+    let grammar = traces.grammar;
+    let first_sets = FirstSets::new(alloc, grammar)?;
+    let graph = StateGraph::new(alloc, &traces.states)?;
+    let count = traces.actions.len();
+    let start = traces.start.clone(alloc)?;
+    let mut tracer = LaneTracer::new(
+        alloc,
+        grammar,
+        start,
+        &traces.states,
+        &first_sets,
+        &graph,
+        count,
+    );
+    let mut place: usize = 0;
+    for action in traces.actions.iter() {
+        trace(alloc, &mut tracer, traces, from, to, place, action)?;
+        place = place.saturating_add(1);
+    }
+    Ok(tracer.into_table())
+}
+
+// Traces an action where its number is from one to before another.
+#[tactic(auto, using(crate::proofs::OwnItems::tracing_more, crate::proofs::OwnItems::action_own, crate::proofs::OwnItems::state_listed, crate::proofs::OwnItems::column_there))]
+fn trace<'grammar>(
+    alloc: Global,
+    tracer: &mut LaneTracer<'_, 'grammar, Nil>,
+    traces: &Traces<'grammar>,
+    from: usize,
+    to: usize,
+    place: usize,
+    action: &Action<'grammar>,
+) -> Result<(), OutOfMemory>
+    requires ready { AreReady traces.now }
+    requires tracing { IsTracing traces.now tracer.old }
+    ensures { IsTracing traces.now tracer.new }
+{
+    if place < from || place >= to || place >= traces.actions.len() {
+        return Ok(());
+    }
+    if !is_own(traces.grammar, action) {
+        return Ok(());
+    }
+    let copy = action.clone(alloc)?;
+    let state = StateIndex(traces.state);
+    tracer.start_trace(alloc, state, ConflictIndex::new(place), copy)
+}
+
+// Whether an action is no reduction by a production of another grammar.
+#[tactic(auto, using(crate::proofs::OwnItems::own_production))]
+fn is_own(grammar: &Grammar, action: &Action<'_>) -> bool
+    ensures { IsTrue result → ReducesOwn (productions grammar.now) action.now }
+{
+    match action {
+        Action::Shift(..) => true,
+        Action::Reduce(production) => contains(
+            grammar.productions_for(&production.nonterminal),
+            *production,
+        ),
+    }
+}
+
+// A table with the cells and successors that arguments name.
+fn made_table(
+    alloc: Global,
+    question: &Question<'_>,
+    grammar: &Grammar,
+) -> Result<String, QuestionError> {
+    let columns = question.number(1)?;
+    let count = question.number(2)?;
+    let mut table = LaneTable::new(alloc, grammar, columns);
+    let after = question.arguments.len().saturating_add(1);
+    let mut begin: usize = 3;
+    for number in 3..after {
+        if number == begin {
+            let end = piece_end(question, begin, after);
+            add(alloc, &mut table, question, begin, end, &grammar.terminals)?;
+            begin = end.saturating_add(1);
+        }
+    }
+    let mut text = String::new(alloc);
+    push_lane_table(alloc, &mut text, &table, count, &grammar.terminals)?;
+    Ok(text)
+}
+
+// Adds a cell or a successor, by the arguments from one number to before another.
+fn add(
+    alloc: Global,
+    table: &mut LaneTable<'_>,
+    question: &Question<'_>,
+    from: usize,
+    to: usize,
+    terminals: &TerminalSet,
+) -> Result<(), QuestionError> {
+    let state = StateIndex(question.number(from)?);
+    let second = from.saturating_add(1);
+    let third = second.saturating_add(1);
+    if question.argument(second)? == ">" {
+        table.add_successor(state, StateIndex(question.number(third)?))?;
+        return Ok(());
+    }
+    let column = question.number(second)?;
+    if column >= table.column_count() {
+        return Err(QuestionError::Argument(second));
+    }
+    let tokens = tokens_between(alloc, question, third, to, terminals)?;
+    table.add_lookahead(state, ConflictIndex::new(column), &tokens)?;
+    Ok(())
+}

@@ -1,0 +1,164 @@
+//! Questions of states.
+ghost use Rattle.lalrpop_base.specs.WellFormed.{IsWellFormed};
+
+use super::arguments::{method_at, options_from};
+use super::changes::change_states;
+use crate::question::{Question, QuestionError};
+use crate::show::states::{push_counts, push_result};
+use crate::show::words::ShownLookahead;
+use grammar_text::symbols::{is_a_name, name_of};
+use lalrpop_base::lr1_core::collapsible::are_collapsible;
+use lalrpop_base::lr1_core::state::{BuildError, Lr1State, LrResult, TableConstructionError};
+use lalrpop_base::repr::NonterminalString;
+use lalrpop_base::repr::grammar::Grammar;
+use lalrpop_base::repr::terminals::TerminalSet;
+use lalrpop_tables::build::{Method, Options, build_lr0_states, build_lr1_states};
+use lalrpop_tables::build_lalr::{build_lalr_states, collapse_to_lalr_states};
+use lalrpop_tables::lane_table::build_lane_table_states;
+use lalrpop_tables::lr1::build_states;
+use std::alloc::Global;
+
+/// The answer to a question of states, where the call is one.
+pub fn answer(
+    alloc: Global,
+    question: &Question<'_>,
+    grammar: &Grammar,
+) -> Result<Option<String>, QuestionError>
+    requires { IsWellFormed grammar.now }
+{
+    match question.call {
+        "build_lr0_states" => Ok(Some(lr0_states(alloc, question, grammar)?)),
+        "build_states" | "build_lr1_states" | "build_lalr_states" => {
+            Ok(Some(lr1_states(alloc, question, grammar)?))
+        }
+        "build_lane_table_states" => Ok(Some(lane_states(alloc, question, grammar)?)),
+        "collapse_to_lalr_states" => Ok(Some(collapsed_states(alloc, question, grammar)?)),
+        _ => Ok(None),
+    }
+}
+
+/// The start symbol that the argument with a number names.
+pub fn start_of(
+    alloc: Global,
+    question: &Question<'_>,
+    number: usize,
+) -> Result<NonterminalString, QuestionError> {
+    let word = question.argument(number)?;
+    if !is_a_name(word) {
+        return Err(QuestionError::Argument(number));
+    }
+    Ok(name_of(alloc, word)?)
+}
+
+// The LR(0) states of a grammar.
+fn lr0_states(
+    alloc: Global,
+    question: &Question<'_>,
+    grammar: &Grammar,
+) -> Result<String, QuestionError>
+    requires { IsWellFormed grammar.now }
+{
+    let start = start_of(alloc, question, 1)?;
+    let answer = build_lr0_states(alloc, grammar, start);
+    let mut text = String::new(alloc);
+    push_answer(&mut text, question, &answer, &grammar.terminals)?;
+    Ok(text)
+}
+
+// The LR(1) states of a grammar by a method.
+fn lr1_states(
+    alloc: Global,
+    question: &Question<'_>,
+    grammar: &Grammar,
+) -> Result<String, QuestionError>
+    requires { IsWellFormed grammar.now }
+{
+    let start = start_of(alloc, question, 1)?;
+    let method = method_at(question, 2)?;
+    let options = options_from(question, 3, method)?;
+    let answer = match question.call {
+        "build_lr1_states" => build_lr1_states(alloc, grammar, start, &options),
+        "build_lalr_states" => build_lalr_states(alloc, grammar, start, &options),
+        _ => build_states(alloc, grammar, start, &options),
+    };
+    let mut text = String::new(alloc);
+    push_answer(&mut text, question, &answer, &grammar.terminals)?;
+    Ok(text)
+}
+
+// The lane tables of a grammar.
+fn lane_states(
+    alloc: Global,
+    question: &Question<'_>,
+    grammar: &Grammar,
+) -> Result<String, QuestionError>
+    requires { IsWellFormed grammar.now }
+{
+    let start = start_of(alloc, question, 1)?;
+    let max_copies = question.number(2)?;
+    let answer = build_lane_table_states(alloc, grammar, start, max_copies);
+    let mut text = String::new(alloc);
+    push_answer(&mut text, question, &answer, &grammar.terminals)?;
+    Ok(text)
+}
+
+/// The canonical states by their construction numbers, with or without conflicts.
+pub fn canonical_states<'grammar>(
+    alloc: Global,
+    grammar: &'grammar Grammar,
+    start: NonterminalString,
+) -> Result<Vec<Lr1State<'grammar>>, QuestionError>
+    requires { IsWellFormed grammar.now }
+{
+    let options = Options {
+        method: Method::Canonical,
+        ..Options::default()
+    };
+    match build_lr1_states(alloc, grammar, start, &options) {
+        Ok(states) => Ok(states),
+        Err(BuildError::Conflicts(error)) => {
+            let TableConstructionError {
+                states,
+                conflicts: _,
+            } = error;
+            Ok(states)
+        }
+        Err(BuildError::Memory) => Err(QuestionError::Memory),
+    }
+}
+
+// The canonical states of a grammar, which may be changed first, merged.
+fn collapsed_states(
+    alloc: Global,
+    question: &Question<'_>,
+    grammar: &Grammar,
+) -> Result<String, QuestionError>
+    requires { IsWellFormed grammar.now }
+{
+    let start = start_of(alloc, question, 1)?;
+    let mut states = canonical_states(alloc, grammar, start)?;
+    let from = if question.is(2, "count") { 3 } else { 2 };
+    change_states(alloc, question, from, &mut states, &grammar.terminals)?;
+    if !are_collapsible(&states) {
+        return Ok(String::from_str(alloc, "collapsible false\n")?);
+    }
+    let mut text = String::from_str(alloc, "collapsible true\n")?;
+    let answer = collapse_to_lalr_states(alloc, states, &grammar.terminals);
+    push_answer(&mut text, question, &answer, &grammar.terminals)?;
+    Ok(text)
+}
+
+// Appends what a construction answers, or its counts alone where the question asks for these.
+fn push_answer<L: ShownLookahead>(
+    text: &mut String,
+    question: &Question<'_>,
+    answer: &LrResult<'_, L>,
+    terminals: &TerminalSet,
+) -> Result<(), QuestionError> {
+    if question.has("count") {
+        push_counts(text, answer)?;
+    } else {
+        push_result(text, answer, terminals)?;
+    }
+    Ok(())
+}

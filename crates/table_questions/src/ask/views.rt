@@ -1,0 +1,69 @@
+//! Questions of what states show of the stack.
+ghost use Rattle.lalrpop_base.specs.WellFormed.{IsWellFormed};
+
+use super::states::start_of;
+use crate::question::{Question, QuestionError};
+use crate::show::words::push_list;
+use lalrpop_base::lookahead::nil::Nil;
+use lalrpop_base::lr1_core::state::{BuildError, State};
+use lalrpop_base::repr::grammar::Grammar;
+use lalrpop_tables::build::build_lr0_states;
+use std::alloc::Global;
+
+/// The answer to a question of views, where the call is one.
+pub fn answer(
+    alloc: Global,
+    question: &Question<'_>,
+    grammar: &Grammar,
+) -> Result<Option<String>, QuestionError>
+    requires { IsWellFormed grammar.now }
+{
+    match question.call {
+        "views" => Ok(Some(views(alloc, question, grammar)?)),
+        _ => Ok(None),
+    }
+}
+
+// The views of the LR(0) states.
+fn views(alloc: Global, question: &Question<'_>, grammar: &Grammar) -> Result<String, QuestionError>
+    requires { IsWellFormed grammar.now }
+{
+    let start = start_of(alloc, question, 1)?;
+    match build_lr0_states(alloc, grammar, start) {
+        Ok(states) => views_of(alloc, &states),
+        Err(BuildError::Conflicts(error)) => views_of(alloc, &error.states),
+        Err(BuildError::Memory) => Err(QuestionError::Memory),
+    }
+}
+
+// The views of states.
+fn views_of(alloc: Global, states: &[State<'_, Nil>]) -> Result<String, QuestionError> {
+    let mut text = String::new(alloc);
+    for state in states {
+        push_views(alloc, &mut text, state)?;
+    }
+    Ok(text)
+}
+
+// Appends the views of a state.
+fn push_views(
+    alloc: Global,
+    text: &mut String,
+    state: &State<'_, Nil>,
+) -> Result<(), QuestionError> {
+    write!(text, "state {}\n  max_prefix", state.index)?;
+    if state.items.vec.is_empty() {
+        text.push_str(" -")?;
+    } else {
+        push_list(text, state.max_prefix())?;
+    }
+    text.push_str("\n  will_pop")?;
+    push_list(text, state.will_pop())?;
+    text.push_str("\n  will_push")?;
+    push_list(text, state.will_push())?;
+    match state.will_produce(alloc)? {
+        Some(name) => write!(text, "\n  will_produce {name}\n")?,
+        None => text.push_str("\n  will_produce -\n")?,
+    }
+    Ok(())
+}

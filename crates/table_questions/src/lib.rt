@@ -1,0 +1,6 @@
+//! Questions of FIRST sets, states, lanes and checks, as words, and the texts that answer them.
+#![tactic(auto)]
+
+pub mod ask;
+pub mod question;
+pub mod show;
