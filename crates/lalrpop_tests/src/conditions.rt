@@ -46,17 +46,23 @@ fn grammars_that_are_not_well_formed(rt: HostRuntime) -> Result<(), Fail> {
     Ok(())
 }
 
+// The graph of one edge, from S to the beginning of its first production.
+fn one_edge<'g>(alloc: Global, grammar: &'g Grammar) -> Result<TraceGraph<'g>, Fail> {
+    let item = Item::lr0(first_production(alloc, grammar, "S")?, 0);
+    let from = TraceGraphNode::from(name_of(alloc, "S")?);
+    let mut graph = TraceGraph::new(alloc);
+    graph.add_edge(from, TraceGraphNode::from(&item), item.symbol_sets())?;
+    Ok(graph)
+}
+
 #[test]
 fn terminals_of_a_trace_graph(rt: HostRuntime) -> Result<(), Fail> {
     let alloc = rt.alloc();
-    let grammar = grammar(alloc, ONE)?;
+    let known = TerminalSet::new(alloc, literals(alloc, &["x"])?)?;
     let others = TerminalSet::new(alloc, literals(alloc, &["y"])?)?;
-    let item = Item::lr0(first_production(alloc, &grammar, "S")?, 0);
-    let mut graph = TraceGraph::new(alloc);
-    assert!(rt; graph.is_known(&others));
-    let from = TraceGraphNode::from(name_of(alloc, "S")?);
-    graph.add_edge(from, TraceGraphNode::from(&item), item.symbol_sets())?;
-    assert!(rt; graph.is_known(&grammar.terminals));
+    let grammar = grammar(alloc, ONE)?;
+    let graph = one_edge(alloc, &grammar)?;
+    assert!(rt; graph.is_known(&known));
     assert!(rt; !graph.is_known(&others));
     Ok(())
 }
