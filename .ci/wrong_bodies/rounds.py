@@ -1,18 +1,28 @@
-"""Tries the wrong bodies of one crate, many by one check.
+"""Tries the wrong bodies of one crate, many by one run of `rt check`.
 
 The proof of a function rests on the contracts of what it calls, and not on their bodies, so each edited function has a
-verdict of its own. A function of which another edit is tried, or which calls one that is refused, waits for the next check.
-So most edits go by the first check alone, as functions beside the edited ones, which stay as they are.
+verdict of its own. Most edits are tried as functions beside the edited ones, which stay as they are, and the others in their
+place, one of each function by one run. Where a function has no answers by hand, the start of its proof tells the verdict: that
+is one search, nothing else is proved, and a file of answers is written where a goal stays open. The other functions are checked;
+there a function which calls one that is refused waits for the next check.
 """
+import os
 import time
 
 from copies import put_beside, take_away
 from edits import apply, edits_of, restore
-from scratch import NotProved, checked
-from verdicts import PROVED, REFUSED, UNSAID, WAITS, blamed, errors_of, has_ended, told, verdict
+from scratch import NotProved, said_of
+from verdicts import PROVED, REFUSED, UNSAID, WAITS, blamed, errors_of, has_ended, told, verdict, verdict_of_start
 
+# What names a function whose proof is started, and one that is checked.
+START, ONLY = "--start", "--only"
 # So much of what a check says is shown where it tells nothing.
 SHOWN = 3000
+
+
+def has_answers(crate, function):
+    """Whether the proof of the function has answers by hand."""
+    return os.path.exists(f"{crate}/proofs/{function.replace('::', '/')}/Answers.antt")
 
 
 class Trial:
@@ -37,15 +47,36 @@ class Trial:
     def settle(self, edits):
         self.left = [it for it in self.left if it not in edits]
 
-    def check(self, edits):
-        """Checks the crate with these edits, or those of them that go together, and returns them and what the check says."""
+    def judge(self, edit, found):
+        """Settles an edit that is refused or let through."""
+        if found == PROVED:
+            self.complain(edit, "NOT REFUSED")
+        if found in (PROVED, REFUSED):
+            self.settle([edit])
+
+    def said_of(self, flag, functions):
+        """What `rt check` says with the flag before each of these functions; what it takes is counted."""
+        said, used = said_of(self.crate, flag, functions)
+        self.checks, self.used = self.checks + 1, self.used + used
+        return said
+
+    def edited(self, flag, edits):
+        """Has a run with these edits in their place, or those of them that go together, and returns them and what it says."""
         taken, were = apply(self.crate, edits)
         try:
-            said, used = checked(self.crate, sorted({it.function for it in taken}))
+            return taken, self.said_of(flag, {it.function for it in taken})
         finally:
             restore(were)
-        self.checks, self.used = self.checks + 1, self.used + used
-        return taken, said
+
+    def verdicts_of(self, functions):
+        """The verdicts on these functions, by starts and by a check."""
+        answered, found = {it for it in functions if has_answers(self.crate, it)}, {}
+        for flag, some, read in ((START, functions - answered, verdict_of_start), (ONLY, answered, verdict)):
+            said = self.said_of(flag, some) if some else ""
+            if some and not has_ended(said):
+                print(f"{self.name}: no copies, since their check did not come to its end: {errors_of(said)[:1]}", flush=True)
+            found.update({it: read(self.name, it, said) if has_ended(said) else UNSAID for it in some})
+        return found
 
     def read(self, taken, said):
         """Settles each edit of which the check says something, and returns whether there was one."""
@@ -69,7 +100,7 @@ class Trial:
 
     def turn(self):
         """Has one check, and returns whether it settled an edit."""
-        taken, said = self.check(self.left)
+        taken, said = self.edited(ONLY, self.left)
         is_whole = has_ended(said)
         if self.read(taken, said) if is_whole else self.drop(taken, said):
             return True
@@ -79,42 +110,42 @@ class Trial:
         return False
 
     def try_copies(self):
-        """Tries by one check those edits that can be had as functions beside the edited ones; the others are left."""
+        """Tries those edits that can be had as functions beside the edited ones; the others are left."""
         copies, were, folders = put_beside(self.crate, self.name, self.left)
-        if not copies:
-            return
         try:
-            said, used = checked(self.crate, sorted(it.function for it in copies))
+            found = self.verdicts_of({it.function for it in copies})
         finally:
             take_away(were, folders)
-        self.checks, self.used = self.checks + 1, self.used + used
-        if not has_ended(said):
-            print(f"{self.name}: no copies, since their check did not come to its end: {errors_of(said)[:1]}", flush=True)
-            return
         for it in copies:
-            found = verdict(self.name, it.function, said)
-            if found == PROVED:
-                self.complain(it.edit, "NOT REFUSED")
-            if found in (PROVED, REFUSED):
-                self.settle([it.edit])
+            self.judge(it.edit, found[it.function])
+
+    def try_starts(self):
+        """Tries in their place those edits of functions without answers by hand that are left."""
+        waiting = [it for it in self.left if not has_answers(self.crate, it.function)]
+        while waiting:
+            taken, said = self.edited(START, waiting)
+            waiting = [it for it in waiting if it not in taken]
+            for it in taken if has_ended(said) else []:
+                self.judge(it, verdict_of_start(self.name, it.function, said))
 
     def try_unedited(self):
-        """Checks one copy of each function as it stands: each must be proved, so that a copy is refused for its edit alone."""
+        """Tries one copy of each function as it stands: each must be proved, so that a copy is refused for its edit alone."""
         first = {it.function: it for it in reversed(self.left)}
         copies, were, folders = put_beside(self.crate, self.name, [*first.values()], is_edited=False)
         try:
-            said, self.used = checked(self.crate, sorted(it.function for it in copies))
+            found = self.verdicts_of({it.function for it in copies})
         finally:
             take_away(were, folders)
-        self.count, self.checks = len(copies), 1
+        self.count = len(copies)
         for it in copies:
-            if verdict(self.name, it.function, said) != PROVED:
-                self.complain(it.edit, f"a copy of {it.edit.function} as it stands is not proved: {told(self.name, it.function, said)}")
+            if found[it.function] != PROVED:
+                self.complain(it.edit, f"a copy of {it.edit.function} as it stands is not proved")
 
     def run(self):
         began = time.time()
-        self.try_copies()
-        self.tell()
+        for tries in (self.try_copies, self.try_starts):
+            tries()
+            self.tell()
         while self.left and self.turn():
             self.tell()
         self.seconds = time.time() - began

@@ -90,16 +90,24 @@ def prepared(name, root, room, keeps):
     return f"{room}/crates/{name}"
 
 
-def checked(crate, functions):
-    """What a check of these functions of the crate in this folder says, and the processor time that it took, in seconds."""
-    words = ["rt", "check", "--jobs", str(JOBS)]
-    for it in functions:
-        words += ["--only", it]
+def proofs_of(crate):
+    """The files of the crate's proofs."""
+    return {f"{at}/{it}" for at, _, files in os.walk(f"{crate}/proofs") for it in files}
+
+
+def said_of(crate, flag, functions):
+    """What `rt check` says of the crate in this folder with the flag before each of these functions, and the processor time that
+    it took, in seconds. The files of proofs that it writes are taken away."""
+    words, were = ["rt", "check", "--jobs", str(JOBS)], proofs_of(crate)
+    for it in sorted(functions):
+        words += [flag, it]
     how = {"stdin": subprocess.DEVNULL, "stdout": subprocess.PIPE, "stderr": subprocess.STDOUT, "text": True, "errors": "replace"}
     with subprocess.Popen(words, cwd=crate, **how) as ran:
         said = ran.stdout.read()
         _, status, used = os.wait4(ran.pid, 0)
         ran.returncode = os.waitstatus_to_exitcode(status)
+    for it in proofs_of(crate) - were:
+        os.remove(it)
     return said, used.ru_utime + used.ru_stime
 
 

@@ -1,4 +1,4 @@
-"""What a check says of an edited function."""
+"""What a check, or the start of a proof, says of an edited function."""
 import re
 
 REFUSED, PROVED, WAITS, UNSAID = "refused", "proved", "waits", "unsaid"
@@ -28,9 +28,18 @@ def verdict(crate, function, said):
     return REFUSED if line.startswith("not proved") else UNSAID
 
 
+def verdict_of_start(crate, function, said):
+    """REFUSED where the start of the function's proof leaves goals for answers by hand and no loop for an invariant, PROVED where
+    it leaves nothing, and else UNSAID."""
+    wrote = re.findall(rf"(?m)^wrote \./proofs/{re.escape(function.replace('::', '/'))}/(\w+)\.antt$", said)
+    if wrote:
+        return REFUSED if wrote == ["Answers"] else UNSAID
+    return PROVED if f"note: `{crate}::{function}` needs no file: " in said else UNSAID
+
+
 def has_ended(said):
-    """Whether the check of named functions came to its end, so that its lines count."""
-    return re.search(r"(?m)^only=\d+ proved=\d+$", said) is not None
+    """Whether the check of named functions came to its end, or the starts of their proofs, so that its lines count."""
+    return re.search(r"(?m)^(only=\d+ proved|started)=\d+$", said) is not None
 
 
 def errors_of(said):
