@@ -45,8 +45,11 @@ impl Collected {
 
     /// Adds a line.
     pub fn add(&mut self, alloc: Global, line: PlacedLine) -> Result<(), ReadError>
-        ensures ok { OnOk result ((lines : List PlacedLine) → IsCollected lines self.old → IsCollected (lines ++ line ∷ []) self.new) }
-        ensures few { OnOk result (vec_len self.old.action_fn_defns ≤ 2 ^ 32 → vec_len self.new.action_fn_defns ≤ 2 ^ 32) }
+        ensures ok { OnOk result ((lines : List PlacedLine) →
+            IsCollected lines self.old →
+            IsCollected (lines ++ line ∷ []) self.new) }
+        ensures few { OnOk result (vec_len self.old.action_fn_defns ≤ 2 ^ 32 →
+            vec_len self.new.action_fn_defns ≤ 2 ^ 32) }
         ensures err { IfErr result (IsFull self.old line) }
     {
         let PlacedLine { line, span } = line;
@@ -136,7 +139,8 @@ fn add_terminals(
     symbols: &[Symbol],
 ) -> Result<(), OutOfMemory>
     ensures { OnOk result ((t : TerminalString) → contains terminal_cmp terminals.new t
-        ≡ (contains terminal_cmp terminals.old t || list_any (λ x. is_same x t) (terminals_of symbols.now))) }
+        ≡ (contains terminal_cmp terminals.old t
+        || list_any (λ x. is_same x t) (terminals_of symbols.now))) }
 {
     for symbol in symbols {
         add_terminal(alloc, terminals, symbol)?;
@@ -151,7 +155,8 @@ fn add_terminal(
     symbol: &Symbol,
 ) -> Result<(), OutOfMemory>
     ensures { OnOk result ((t : TerminalString) → contains terminal_cmp terminals.new t
-        ≡ (contains terminal_cmp terminals.old t || list_any (λ x. is_same x t) (terminals_of (symbol.now ∷ [])))) }
+        ≡ (contains terminal_cmp terminals.old t
+        || list_any (λ x. is_same x t) (terminals_of (symbol.now ∷ [])))) }
 {
     if let Symbol::Terminal(terminal) = symbol {
         terminals.insert(terminal.clone(alloc)?)?;
@@ -166,8 +171,11 @@ fn add_to_entry(
     name: NonterminalString,
     production: Production,
 ) -> Result<(), OutOfMemory>
-    ensures entries { OnOk result ((a : NonterminalString) → option_map entry_view (get name_cmp nonterminals.new a)
-        ≡ (if bytes_eq name.text a.text then with_production (option_map entry_view (get name_cmp nonterminals.old name)) production
+    ensures entries { OnOk result ((a : NonterminalString) →
+        option_map entry_view (get name_cmp nonterminals.new a)
+        ≡ (if bytes_eq name.text a.text
+        then with_production
+        (option_map entry_view (get name_cmp nonterminals.old name)) production
         else option_map entry_view (get name_cmp nonterminals.old a))) }
     ensures ordered { OnOk result (IsOrdered name_cmp nonterminals.new) }
 {
@@ -183,7 +191,8 @@ fn grown_entry(
     entry: Option<NonterminalData>,
     production: Production,
 ) -> Result<NonterminalData, OutOfMemory>
-    ensures { IfOk result (λ grown. Some (entry_view grown) ≡ with_production (option_map entry_view entry) production) }
+    ensures { IfOk result (λ grown. Some (entry_view grown) ≡ with_production
+        (option_map entry_view entry) production) }
 {
     let mut grown = match entry {
         Some(entry) => entry,
@@ -203,7 +212,8 @@ fn marked_entry(
     entry: Option<NonterminalData>,
     span: Span,
 ) -> Result<NonterminalData, OutOfMemory>
-    ensures { IfOk result (λ marked. Some (entry_view marked) ≡ with_mark (option_map entry_view entry) span) }
+    ensures { IfOk result
+        (λ marked. Some (entry_view marked) ≡ with_mark (option_map entry_view entry) span) }
 {
     let mut marked = match entry {
         Some(entry) => entry,

@@ -48,7 +48,8 @@ fn line_of_words(alloc: Global, words: &[&str]) -> Result<Line, OutOfMemory>
 
 // What a line says that is no production.
 fn marked_line(alloc: Global, first: &str, second: &str, rest: &[&str]) -> Result<Line, OutOfMemory>
-    ensures { IfOk result (λ line. line ≡ marked_line first.now second.now (map (λ w. w.now) rest.now)) }
+    ensures { IfOk result
+        (λ line. line ≡ marked_line first.now second.now (map (λ w. w.now) rest.now)) }
 {
     if rest.is_empty() && first == "inline" && is_a_name(second) {
         return Ok(Line::Inline(name_of(alloc, second)?));
@@ -71,7 +72,8 @@ fn words_in<'a>(alloc: Global, line: &'a str) -> Result<Vec<&'a str>, OutOfMemor
 // Adds the words between the tabs of a piece.
 fn push_words<'a>(alloc: Global, words: &mut Vec<&'a str>, part: &'a str) -> Result<(), OutOfMemory>
     ensures { OnOk result (map (λ w. w.now) words.new.items
-        ≡ map (λ w. w.now) words.old.items ++ filter (λ w. not (is_empty w)) (slice_split (λ b. b == 9) part.now)) }
+        ≡ map (λ w. w.now) words.old.items
+        ++ filter (λ w. not (is_empty w)) (slice_split (λ b. b == 9) part.now)) }
 {
     let found = pieces(alloc, part, '\t')?;
     for word in &found {

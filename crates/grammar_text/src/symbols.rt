@@ -12,7 +12,8 @@ use std::alloc::Global;
 /// The pieces of a text between the places of an ASCII character.
 pub fn pieces<'a>(alloc: Global, text: &'a str, by: char) -> Result<Vec<&'a str>, OutOfMemory>
     requires { by < 128 }
-    ensures { IfOk result (λ all. map (λ p. p.now) all.items ≡ slice_split (λ b. b == by) text.now) }
+    ensures { IfOk result
+        (λ all. map (λ p. p.now) all.items ≡ slice_split (λ b. b == by) text.now) }
 {
     let mut all = Vec::new(alloc);
     let mut rest = text;
@@ -57,7 +58,8 @@ fn all_continue(bytes: &[u8]) -> bool
 
 /// The text of a literal.
 pub fn unquoted(word: &str) -> Option<&str>
-    ensures { MatchOption result (quoted word.now ≡ None) (λ text. quoted word.now ≡ Some text.now) }
+    ensures { MatchOption result (quoted word.now ≡ None)
+        (λ text. quoted word.now ≡ Some text.now) }
 {
     match word.strip_prefix('"') {
         None => None,
@@ -67,7 +69,8 @@ pub fn unquoted(word: &str) -> Option<&str>
 
 // What stands before the quote that ends a word, and holds no other.
 fn before_last_quote(body: &str) -> Option<&str>
-    ensures { MatchOption result (up_to_quote body.now ≡ None) (λ text. up_to_quote body.now ≡ Some text.now) }
+    ensures { MatchOption result (up_to_quote body.now ≡ None)
+        (λ text. up_to_quote body.now ≡ Some text.now) }
 {
     let (text, after) = body.split_once('"')?;
     if text.is_empty() || !after.is_empty() {

@@ -36,7 +36,8 @@ pub trait Collection {
     /// Pushes an item, and answers whether the collection changed.
     fn push(&mut self, item: Self::Item) -> Result<bool, OutOfMemory>
         ensures pushed { IfOk result (λ _. pushes self.old item self.new) }
-        ensures told { IfOk result (λ changed. MatchBool changed (¬ same self.old self.new) (same self.old self.new)) }
+        ensures told { IfOk result
+            (λ changed. MatchBool changed (¬ same self.old self.new) (same self.old self.new)) }
         ensures err { OnErr result (same self.old self.new) };
 
     ghost same_itself: { (a : Self) → same a a };

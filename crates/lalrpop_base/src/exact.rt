@@ -30,9 +30,21 @@ impl Exact for NonterminalString {
 
 impl Exact for TerminalString {
     ghost exact = { elim [
-      | Literal a ↦ elim [ Literal b ↦ λ h. ap Literal (text_exact a b h) | Bare b ↦ λ h. absurd (true≢false (sym h)) | Error ↦ λ h. absurd (true≢false (sym h)) ]
-      | Bare a ↦ elim [ Bare b ↦ λ h. ap Bare (text_exact a b h) | Literal b ↦ λ h. absurd (true≢false (sym h)) | Error ↦ λ h. absurd (true≢false (sym h)) ]
-      | Error ↦ elim [ Error ↦ λ h. refl | Literal b ↦ λ h. absurd (true≢false (sym h)) | Bare b ↦ λ h. absurd (true≢false (sym h)) ]
+      | Literal a ↦ elim [
+        | Literal b ↦ λ h. ap Literal (text_exact a b h)
+        | Bare b ↦ λ h. absurd (true≢false (sym h))
+        | Error ↦ λ h. absurd (true≢false (sym h))
+      ]
+      | Bare a ↦ elim [
+        | Bare b ↦ λ h. ap Bare (text_exact a b h)
+        | Literal b ↦ λ h. absurd (true≢false (sym h))
+        | Error ↦ λ h. absurd (true≢false (sym h))
+      ]
+      | Error ↦ elim [
+        | Error ↦ λ h. refl
+        | Literal b ↦ λ h. absurd (true≢false (sym h))
+        | Bare b ↦ λ h. absurd (true≢false (sym h))
+      ]
     ] };
 }
 
@@ -40,8 +52,14 @@ impl Exact for Symbol {
     ghost use Rattle.lalrpop_base.specs.contracts.exact.TerminalStringExact.TheImpl.Laws.{exact-law as terminal_exact};
 
     ghost exact = { elim [
-      | Nonterminal a ↦ elim [ Nonterminal b ↦ λ h. ap Nonterminal (name_exact a b h) | Terminal b ↦ λ h. absurd (true≢false (sym h)) ]
-      | Terminal a ↦ elim [ Terminal b ↦ λ h. ap Terminal (terminal_exact a b h) | Nonterminal b ↦ λ h. absurd (true≢false (sym h)) ]
+      | Nonterminal a ↦ elim [
+        | Nonterminal b ↦ λ h. ap Nonterminal (name_exact a b h)
+        | Terminal b ↦ λ h. absurd (true≢false (sym h))
+      ]
+      | Terminal a ↦ elim [
+        | Terminal b ↦ λ h. ap Terminal (terminal_exact a b h)
+        | Nonterminal b ↦ λ h. absurd (true≢false (sym h))
+      ]
     ] };
 }
 

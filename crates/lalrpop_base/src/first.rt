@@ -45,7 +45,8 @@ impl<'grammar> FirstSets<'grammar> {
         Ok(FirstSets { grammar, sets })
     }
 
-    /// FIRST of the symbols, with `Eof` where they are nullable. A name without an entry has the empty set.
+    /// FIRST of the symbols, with `Eof` where they are nullable. A name without an entry has the
+    /// empty set.
     pub fn first0(&self, alloc: Global, symbols: &[Symbol]) -> Result<TokenSet, OutOfMemory>
         requires known { HasKnownTerminals self.now.terminals symbols.now }
         ensures first { IfOk result (λ set. IsFirstSet self.now symbols.now set) }
@@ -62,7 +63,8 @@ impl<'grammar> FirstSets<'grammar> {
     ) -> Result<TokenSet, OutOfMemory>
         requires known { HasKnownTerminals self.now.terminals symbols.now }
         ensures first { IfOk result (λ set. IsFirstSetBefore self.now symbols.now follow.now set) }
-        ensures fits { IfOk result (λ set. FitsTokens self.now.terminals follow.now → FitsTokens self.now.terminals set) }
+        ensures fits { IfOk result
+            (λ set. FitsTokens self.now.terminals follow.now → FitsTokens self.now.terminals set) }
     {
         let mut set = self.first0(alloc, symbols)?;
         if set.take_eof(&self.grammar.terminals) {

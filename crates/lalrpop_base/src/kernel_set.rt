@@ -45,7 +45,10 @@ impl<K: Ord> Model for KernelSet<K> {
 
     ghost Value = { Kernels K };
 
-    ghost view = { λ s. record { list = by_number s.numbers.entries; handed = length s.numbers.entries - length s.pending.items } };
+    ghost view = { λ s. record {
+      list = by_number s.numbers.entries;
+      handed = length s.numbers.entries - length s.pending.items;
+    } };
 
     ghost invariant = { λ s. IsNumbering K.cmp s.numbers s.pending.items };
 }
@@ -65,7 +68,8 @@ impl<K: Kernel> KernelSet<K> {
     /// The number of an equal kernel, or the next number.
     pub fn add_state(&mut self, kernel: K) -> Result<K::Index, OutOfMemory>
         ensures added { OnOk result (AddsOnce self.old.list self.new.list kernel) }
-        ensures numbered { IfOk result (λ index. (n : ℕ) × (index ≡ K.numbered n) × (slice_get self.new.list n ≡ Some kernel)) }
+        ensures numbered { IfOk result (λ index. (n : ℕ) × (index ≡ K.numbered n) ×
+            (slice_get self.new.list n ≡ Some kernel)) }
         ensures differ { OnOk result (AllDiffer self.new.list) }
         ensures handed { self.new.handed ≡ self.old.handed }
         ensures err { OnErr result (self.new ≡ self.old) }
@@ -84,8 +88,10 @@ impl<K: Kernel> KernelSet<K> {
 
     /// Hands out the next kernel by number.
     pub fn next(&mut self) -> Option<K>
-        ensures next { IfSome result (λ kernel. slice_get self.old.list self.old.handed ≡ Some kernel) }
-        ensures some { IfSome result (λ _. self.new ≡ record { list = self.old.list; handed = self.old.handed + 1 }) }
+        ensures next { IfSome result
+            (λ kernel. slice_get self.old.list self.old.handed ≡ Some kernel) }
+        ensures some { IfSome result
+            (λ _. self.new ≡ record { list = self.old.list; handed = self.old.handed + 1 }) }
         ensures none { IfNone result (self.new ≡ self.old) }
         ensures all { IfNone result (self.old.handed ≡ length self.old.list) }
     {

@@ -1,4 +1,5 @@
-//! Grammars, sets of tokens, items and states: what the construction of LR(1) tables and the parser share.
+//! Grammars, sets of tokens, items and states: what the construction of LR(1) tables and the parser
+//! share.
 #![tactic(auto)]
 
 pub mod collections;

@@ -13,6 +13,9 @@ ghost use Rattle.lalrpop_base.specs.declared.lr1_core.state.State.{State};
 ghost use Rattle.lalrpop_base.specs.declared.lr1_core.state.Conflict.{Conflict};
 ghost use Rattle.lalrpop_base.specs.declared.repr.TerminalString.{TerminalString};
 
+pub use self::nil::Nil;
+pub use self::token::{Token, TokenRef, TokenSetIter};
+pub use self::token_set::TokenSet;
 use crate::collections::Collection;
 use crate::lr1_core::state::{Conflict, State};
 use crate::memory::OutOfMemory;
@@ -57,13 +60,16 @@ pub trait Lookahead: fmt::Debug + Eq + Ord + Hash + Drop + Collection<Item = Sel
     ghost empty_is_empty: { (e : Self) → Self.Collection.is_empty e → meaning e ≡ no_bits };
 
     // A push is the join.
-    ghost push_is_join: { (a b c : Self) → Self.Collection.pushes a b c → meaning c ≡ joined (meaning a) (meaning b) };
+    ghost push_is_join: { (a b c : Self) → Self.Collection.pushes a b c →
+        meaning c ≡ joined (meaning a) (meaning b) };
 }
 
 /// Joins a value into another, and tells whether it changed.
 pub fn join<L: Lookahead>(alloc: Global, into: &mut L, from: &L) -> Result<bool, OutOfMemory>
-    ensures joined { OnOk result (L.meaning into.new ≡ joined (L.meaning into.old) (L.meaning from.now)) }
-    ensures told { IfOk result (λ changed. MatchBool changed (into.new ≢ into.old) (into.new ≡ into.old)) }
+    ensures joined { OnOk result
+        (L.meaning into.new ≡ joined (L.meaning into.old) (L.meaning from.now)) }
+    ensures told { IfOk result
+        (λ changed. MatchBool changed (into.new ≢ into.old) (into.new ≡ into.old)) }
     ensures err { OnErr result (into.new ≡ into.old) }
 {
     let copy = from.copy(alloc)?;

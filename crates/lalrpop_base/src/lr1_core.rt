@@ -11,3 +11,14 @@ pub mod lr0;
 pub mod state;
 pub mod symbol_sets;
 mod views;
+
+pub use self::coherent::are_coherent;
+pub use self::collapsible::are_collapsible;
+pub use self::conflict::conflicts;
+pub use self::item::{Item, Lr0Item, Lr1Item};
+pub use self::lr0::{Lr0Conflict, Lr0Items, Lr0State, Lr0TableConstructionError};
+pub use self::state::{
+    Action, BuildError, Conflict, Items, Lr1Conflict, Lr1Items, Lr1Result, Lr1State,
+    Lr1TableConstructionError, LrResult, State, StateIndex, TableConstructionError,
+};
+pub use self::symbol_sets::SymbolSets;

@@ -9,6 +9,12 @@ ghost use Rattle.std.specs.Prelude.{◌≡◌, ◌<◌, ◌↔◌, IsTrue, IfOk,
 ghost use Rattle.std.specs.Coded.{coded_ℕ};
 ghost use Rattle.lalrpop_base.specs.Names.{nonterminal_text, terminal_text, symbol_text};
 
+pub use self::grammar::{
+    ActionFnDefn, ActionFnDefnKind, Algorithm, Attribute, Grammar, NonterminalData, is_well_formed,
+};
+pub use self::inlined::{InlineActionFnDefn, InlinedSymbol};
+pub use self::norm_error::{NormError, NormResult};
+pub use self::terminals::{TerminalSet, TerminalSetError};
 use crate::memory::OutOfMemory;
 use crate::sequence::Sequence;
 use crate::text::Text;

@@ -1,5 +1,6 @@
 //! Calls by their names: each answers a text.
 mod any_start;
+mod error_texts;
 mod grammars;
 mod reports;
 mod runs;
@@ -32,7 +33,8 @@ pub(crate) fn answer(
     }
 }
 
-// The answer to a question of a grammar, whose marked nonterminals are inlined first where the call asks for it.
+// The answer to a question of a grammar, whose marked nonterminals are inlined first where the call
+// asks for it.
 fn answer_of_grammar(
     alloc: Global,
     question: &Question<'_>,
@@ -117,6 +119,9 @@ fn answer_of_runs(
         return Ok(Some(text));
     }
     if let Some(text) = runs::answer(alloc, question, grammar)? {
+        return Ok(Some(text));
+    }
+    if let Some(text) = error_texts::answer(alloc, question)? {
         return Ok(Some(text));
     }
     traces::answer(alloc, question, grammar)

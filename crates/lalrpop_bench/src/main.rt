@@ -1,5 +1,6 @@
-//! `lalrpop_bench FILE..` asks the libraries' public calls what case files ask, and compares the answers with what
-//! the files owe. `lalrpop_bench time FILE START` tells how long each part of the way to the tables of a grammar takes.
+//! `lalrpop_bench FILE..` asks the libraries' public calls what case files ask, and compares the
+//! answers with what the files owe. `lalrpop_bench time FILE START` tells how long each part of the
+//! way to the tables of a grammar takes.
 #![tactic(auto)]
 
 mod ask;

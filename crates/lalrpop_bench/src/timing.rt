@@ -14,8 +14,8 @@ use lalrpop_lr1::inline::inline;
 use parts::{time_canonical, time_first, time_lanes, time_lr0};
 use std::{fs, io};
 
-/// Tells the time of each part for a file and a start symbol, and answers the status: 2 where there is no grammar. None
-/// where the start symbol is no name.
+/// Tells the time of each part for a file and a start symbol, and answers the status: 2 where there
+/// is no grammar. None where the start symbol is no name.
 pub(crate) fn time_file(rt: &HostRuntime, name: &str, start: &str) -> anyhow::Result<Option<u8>> {
     if !is_a_name(start) {
         return Ok(None);

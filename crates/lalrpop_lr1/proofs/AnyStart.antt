@@ -24,12 +24,13 @@ use Rattle.lalrpop_base.proofs.NewStart.{Entry, listed, is_augmented}
 use Rattle.lalrpop_base.proofs.theory.Augmented.{alone, from_old, one_more, augmented_trees, same_wrong}
 use Rattle.lalrpop_base.proofs.theory.Lists.{contains_head, contains_tail, some≢none}
 use Rattle.lalrpop_tables.specs.declared.build.options.Options.{Options}
-use Rattle.lalrpop_lr1.specs.AnyStart.{productions_but, seen_over, IsAboveOld, IsTreeBelow, IsToldBelow, TellsTreesBelow, above, IsToldByTablesAbove}
-use Rattle.lalrpop_lr1.specs.FaithfulAnswers.{IsTreeWithin}
-use Rattle.lalrpop_lr1.specs.Headline.{IfRefusedAt, IsToldFor, TellsTrees, IsOutcomeTold, IsToldByTables}
+use Rattle.lalrpop_lr1.specs.AnyStart.{productions_but, seen_over, IsAboveOld, IsTreeBelow, IsOutcomeBelow, TellsTreesBelow, above, IsToldByTablesAbove}
+use Rattle.lalrpop_lr1.specs.FaithfulAnswers.{IsTreeWithin, IsOutcomeFor}
+use Rattle.lalrpop_lr1.specs.Headline.{IsToldByTables}
+use Rattle.lalrpop_lr1.specs.ParseAnswers.{IfRefusedAt, TellsTrees, IsOutcomeTold}
 use Rattle.lalrpop_lr1.specs.ParseTrees.{tree_of}
-use Rattle.lalrpop_lr1.specs.declared.headline.ParseError.{ParseError}
-use Rattle.lalrpop_lr1.specs.declared.headline.ParseError.TheVariants.{Conflicts, Refused, Limit, Memory}
+use Rattle.lalrpop_lr1.specs.declared.headline.parse_error.ParseError.{ParseError}
+use Rattle.lalrpop_lr1.specs.declared.headline.parse_error.ParseError.TheVariants.{Conflicts, Refused, Limit, Memory}
 use Rattle.lalrpop_lr1.specs.declared.interpret.tree.ParseTree.{ParseTree}
 
 -- ---- without the new start symbol's production the old ones are left
@@ -124,8 +125,8 @@ module _ (g h : List Production) (start f : NonterminalString) (aug : IsAugmente
   pub error_told : (e : ParseError) → TellsTrees limit w (Err e) h f → TellsTreesBelow limit w (Err e) g start
   error_told e told t parse = go e (told (Node f (beside t no_trees)) (from_old g h start f aug w t parse))
     where
-      go : (e : ParseError) → IsToldFor (Node f (beside t no_trees)) limit (Err e) → IsToldBelow t limit (Err e)
-      go (Conflicts error) k = k
+      go : (e : ParseError) → IsOutcomeTold (IsOutcomeFor (Node f (beside t no_trees)) limit) (Err e) → IsOutcomeTold (IsOutcomeBelow t limit) (Err e)
+      go (Conflicts error) k = tt
       go (Refused token) k = k
       go Limit k = let count = one_more g h start f aug t in omega (arith, k, count)
       go Memory k = tt
@@ -141,18 +142,16 @@ module _ (h : Grammar) (options : Options) (f : NonterminalString) (w : List Ter
   pub run_of_child : (tree child : ParseTree) → tree_of tree ≡ Node f (beside (tree_of child) no_trees) → IsToldByTables h options f w limit (Ok tree) → IsToldByTablesAbove h options f w limit (Ok child)
   run_of_child tree child is run = record {
     tables = run.tables;
-    canonical = run.canonical;
-    lanes = λ method lalr. run.lanes method is_alone lalr;
-    faithful = run.faithful;
+    made = run.made;
+    alone = is_alone;
     told = subst (λ (t : Tree). HasOutcome (contents h.terminals run.tables) w limit (Parsed t)) is run.told;
   }
 
   pub run_of_error : (e : ParseError) → IsToldByTables h options f w limit (Err e) → IsToldByTablesAbove h options f w limit (Err e)
   run_of_error e run = record {
     tables = run.tables;
-    canonical = run.canonical;
-    lanes = λ method lalr. run.lanes method is_alone lalr;
-    faithful = run.faithful;
+    made = run.made;
+    alone = is_alone;
     told = go e run.told;
   }
     where

@@ -20,7 +20,7 @@ use Rattle.lalrpop_base.specs.declared.lr1_core.state.StateIndex.{StateIndex}
 use Rattle.lalrpop_lr1.specs.Answers.{IsAnswer, IsPartialAnswer}
 use Rattle.lalrpop_lr1.specs.Reading.{StopsReading, PartialOutcome, Stack, Stop, HasPartialOutcome, all_read, stopped}
 use Rattle.lalrpop_lr1.proofs.Outcomes.{stop_outcome, whole_outcome}
-use Rattle.lalrpop_lr1.specs.FaithfulAnswers.{ForEachGrammar, ForEachCanonical, HasOneTree, IsTreeWithin, IsCutOff, IsAnswerFor, AnswersTrees, IfRefused, IfLimit, IsLimit}
+use Rattle.lalrpop_lr1.specs.FaithfulAnswers.{ForEachGrammar, ForEachCanonical, HasOneTree, IsTreeWithin, IsCutOff, IsOutcomeFor, AnswersTrees, IfRefused, IfLimit, IsLimit}
 use Rattle.lalrpop_lr1.specs.ParseTrees.{tree_of}
 use Rattle.lalrpop_lr1.specs.declared.interpret.error.InterpretError.{InterpretError}
 use Rattle.lalrpop_lr1.specs.declared.interpret.error.InterpretError.TheVariants.{Refused as RefusedBy, Limit as LimitPassed, Memory}
@@ -94,20 +94,22 @@ module _ {L : Type 0} (table : ℕ → Contents) (states : List (State L)) (w : 
               let k : Stands ≡ Ends (t ∷ []) = sym e ∙ ends in
               cc
 
-  answer_within : (t : Tree) → nodes (beside t no_trees) ≤ limit → HasOutcome table w limit (Parsed t) → (answer : Result ParseTree (InterpretError L)) → IsAnswer (HasOutcome table w limit) states answer → IsAnswerFor t limit answer
+  answer_within : (t : Tree) → nodes (beside t no_trees) ≤ limit → HasOutcome table w limit (Parsed t) → (answer : Result ParseTree (InterpretError L)) → IsAnswer (HasOutcome table w limit) states answer →
+      IsAnswer (IsOutcomeFor t limit) states answer
   answer_within t l k (Ok tree) h = let e = same_outcome (Parsed (tree_of tree)) (Parsed t) h k in (cc, l)
-  answer_within t l k (Err (RefusedBy state token)) h = let e = same_outcome (Refused h.0 token) (Parsed t) h.2 k in cc
+  answer_within t l k (Err (RefusedBy state token)) h = absurd (let e = same_outcome (Refused h.0 token) (Parsed t) h.2 k in cc)
   answer_within t l k (Err LimitPassed) h = absurd (let e = same_outcome Limit (Parsed t) h k in cc)
   answer_within t l k (Err Memory) h = tt
 
-  answer_beyond : (t : Tree) → limit < nodes (beside t no_trees) → HasOutcome table w limit Limit → (answer : Result ParseTree (InterpretError L)) → IsAnswer (HasOutcome table w limit) states answer → IsAnswerFor t limit answer
+  answer_beyond : (t : Tree) → limit < nodes (beside t no_trees) → HasOutcome table w limit Limit → (answer : Result ParseTree (InterpretError L)) → IsAnswer (HasOutcome table w limit) states answer →
+      IsAnswer (IsOutcomeFor t limit) states answer
   answer_beyond t l k (Ok tree) h = absurd (let e = same_outcome (Parsed (tree_of tree)) Limit h k in cc)
-  answer_beyond t l k (Err (RefusedBy state token)) h = let e = same_outcome (Refused h.0 token) Limit h.2 k in cc
+  answer_beyond t l k (Err (RefusedBy state token)) h = absurd (let e = same_outcome (Refused h.0 token) Limit h.2 k in cc)
   answer_beyond t l k (Err LimitPassed) h = l
   answer_beyond t l k (Err Memory) h = tt
 
   -- a list with a parse tree has its answer
-  pub answers_trees : (answer : Result ParseTree (InterpretError L)) → IsAnswer (HasOutcome table w limit) states answer → ForEachGrammar table (AnswersTrees limit w answer)
+  pub answers_trees : (answer : Result ParseTree (InterpretError L)) → IsAnswer (HasOutcome table w limit) states answer → ForEachGrammar table (AnswersTrees limit w states answer)
   answers_trees answer h g start faithful alone t parse = elim (less_or_not limit (nodes (beside t no_trees))) [
     | inl l ↦ answer_beyond t l (cut_off_before g start faithful alone t parse l) answer h
     | inr l ↦ answer_within t l (tree_parsed g start table faithful alone w t limit parse l) answer h

@@ -37,6 +37,8 @@ pub mod Spelling
 pub mod Stacks
 pub mod ToldByTables
 pub mod TraceGraphs
+pub mod TraceOrder
+pub mod TraceOrderOne
 pub mod Traces
 pub mod TracedRightSides
 pub mod TreeViews

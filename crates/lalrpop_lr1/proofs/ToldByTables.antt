@@ -1,43 +1,109 @@
 -- What is told by tables, of the grammar to which they are faithful.
-use Rattle.std.proofs.Common.{◌≡◌, ℕ, List, sym, subst}
+use Rattle.std.proofs.Common.{◌≡◌, ℕ, ◌≤◌, List, sym, subst}
 use Rattle.std.specs.Prelude.{Result, Ok, Err, IfOk, IfErr}
 use Rattle.lalrpop_base.specs.Bits.{Bits}
 use Rattle.lalrpop_base.specs.Contents.{contents}
 use Rattle.lalrpop_base.specs.Grammar.{IsOnNoRightSide}
-use Rattle.lalrpop_base.specs.Runs.{IsFirstWrong}
-use Rattle.lalrpop_base.specs.States.{Contents, AreFaithful}
+use Rattle.lalrpop_base.specs.Runs.{Outcome, HasOutcome, IsFirstWrong}
+use Rattle.lalrpop_base.specs.States.{Contents}
+use Rattle.lalrpop_base.specs.Trees.{beside, no_trees, leaves, nodes}
 use Rattle.lalrpop_base.specs.WellFormed.{productions}
 use Rattle.lalrpop_base.specs.declared.lr1_core.state.State.{State}
 use Rattle.lalrpop_base.specs.declared.repr.NonterminalString.{NonterminalString}
-use Rattle.lalrpop_base.specs.declared.repr.Production.{Production}
 use Rattle.lalrpop_base.specs.declared.repr.TerminalString.{TerminalString}
 use Rattle.lalrpop_base.specs.declared.repr.grammar.Grammar.{Grammar}
-use Rattle.lalrpop_lr1.specs.FaithfulAnswers.{ForEachGrammar, IsTreeWithin, IsCutOff}
-use Rattle.lalrpop_lr1.specs.Headline.{IfRefusedAt, IfLimitTold, IsCutOffByTables}
+use Rattle.lalrpop_tables.specs.Lalr.{Collapses}
+use Rattle.lalrpop_tables.specs.Lr1Answers.{AreTablesOf}
+use Rattle.lalrpop_tables.specs.declared.build.options.Options.{Options}
+use Rattle.lalrpop_lr1.specs.Answers.{IsAnswer}
+use Rattle.lalrpop_lr1.specs.FaithfulAnswers.{ForEachGrammar, IsTreeWithin, IsCutOff, IsCutOffByTables, IsOutcomeFor, AnswersTrees, IfRefused, IfLimit}
+use Rattle.lalrpop_lr1.specs.Headline.{IsAccepted, IsToldByTables}
+use Rattle.lalrpop_lr1.specs.ParseAnswers.{HadTablesWhere, IfRefusedAt, IfLimitTold, IsOutcomeTold, TellsTrees, told_by}
 use Rattle.lalrpop_lr1.specs.ParseTrees.{tree_of}
-use Rattle.lalrpop_lr1.specs.declared.headline.ParseError.{ParseError}
-use Rattle.lalrpop_lr1.specs.declared.headline.ParseError.TheVariants.{Conflicts, Refused, Limit, Memory}
+use Rattle.lalrpop_lr1.specs.declared.headline.parse_error.ParseError.{ParseError}
+use Rattle.lalrpop_lr1.specs.declared.interpret.error.InterpretError.{InterpretError}
+use Rattle.lalrpop_lr1.specs.declared.interpret.error.InterpretError.TheVariants.{Refused as RefusedBy, Limit as LimitPassed, Memory as NoMemory}
 use Rattle.lalrpop_lr1.specs.declared.interpret.tree.ParseTree.{ParseTree}
 
--- the same states under another name
-pub faithful_of : (g : Grammar) (start : NonterminalString) (states others : List (State Bits)) → others ≡ states → AreFaithful (productions g) start (contents g.terminals states) → AreFaithful (productions g) start (contents g.terminals others)
-faithful_of g start states others e h = subst (λ (l : List (State Bits)). AreFaithful (productions g) start (contents g.terminals l)) (sym e) h
+-- ---- without the state that refuses the same is told
+outcome_told : (R : Outcome → Type 0) (states : List (State Bits)) (answer : Result ParseTree (InterpretError Bits)) → IsAnswer R states answer → IsOutcomeTold R (told_by answer)
+outcome_told R states (Ok tree) h = h
+outcome_told R states (Err (RefusedBy state token)) h = (h.0, h.2)
+outcome_told R states (Err LimitPassed) h = h
+outcome_told R states (Err NoMemory) h = tt
 
-module _ (g : List Production) (start : NonterminalString) (table : ℕ → Contents) (faithful : AreFaithful g start table) (w : List TerminalString) (limit : ℕ) where
-  pub parsed_by_tables : (answer : Result ParseTree ParseError) → IfOk answer (λ tree. ForEachGrammar table (IsTreeWithin limit w (tree_of tree))) → IfOk answer (λ tree. IsOnNoRightSide g start → IsTreeWithin limit w (tree_of tree) g start)
-  parsed_by_tables (Ok tree) h = h g start faithful
-  parsed_by_tables (Err e) h = tt
+tree_told : (P : ParseTree → Type 0) (answer : Result ParseTree (InterpretError Bits)) → IfOk answer P → IfOk (told_by answer) P
+tree_told P (Ok tree) h = h
+tree_told P (Err (RefusedBy state token)) h = tt
+tree_told P (Err LimitPassed) h = tt
+tree_told P (Err NoMemory) h = tt
 
-  pub cut_off_by_tables : (answer : Result ParseTree ParseError) → IfErr answer (IfLimitTold (IsCutOff table w limit)) → IfErr answer (IfLimitTold (IsCutOffByTables g start w limit))
-  cut_off_by_tables (Ok tree) h = tt
-  cut_off_by_tables (Err (Conflicts error)) h = tt
-  cut_off_by_tables (Err (Refused token)) h = tt
-  cut_off_by_tables (Err Limit) h = record { states = table; faithful = faithful; cut_off = h }
-  cut_off_by_tables (Err Memory) h = tt
+limit_told : (P : Type 0) (answer : Result ParseTree (InterpretError Bits)) → IfErr answer (IfLimit P) → IfErr (told_by answer) (IfLimitTold P)
+limit_told P (Ok tree) h = tt
+limit_told P (Err (RefusedBy state token)) h = tt
+limit_told P (Err LimitPassed) h = h
+limit_told P (Err NoMemory) h = tt
 
-  pub refused_by_tables : (answer : Result ParseTree ParseError) → IfErr answer (IfRefusedAt (λ token. ForEachGrammar table (λ g start. IsFirstWrong g start w token))) → IfErr answer (IfRefusedAt (λ token. IsOnNoRightSide g start → IsFirstWrong g start w token))
-  refused_by_tables (Ok tree) h = tt
-  refused_by_tables (Err (Conflicts error)) h = tt
-  refused_by_tables (Err (Refused token)) h = h g start faithful
-  refused_by_tables (Err Limit) h = tt
-  refused_by_tables (Err Memory) h = tt
+had_tables : (P : Type 0) → P → (answer : Result ParseTree (InterpretError Bits)) → HadTablesWhere P (told_by answer)
+had_tables P p (Ok tree) = p
+had_tables P p (Err (RefusedBy state token)) = p
+had_tables P p (Err LimitPassed) = p
+had_tables P p (Err NoMemory) = tt
+
+-- ---- and of the grammar, since its tables are faithful
+module _ (g : Grammar) (options : Options) (start : NonterminalString) (tables states : List (State Bits)) (same : states ≡ tables) (made : AreTablesOf (Collapses g options) options.method g start tables) where
+  abbrev pub table : ℕ → Contents
+  table = contents g.terminals states
+
+  here : AreTablesOf (Collapses g options) options.method g start states
+  here = subst (AreTablesOf (Collapses g options) options.method g start) (sym same) made
+
+  module _ (w : List TerminalString) (limit : ℕ) (answer : Result ParseTree (InterpretError Bits)) (told : Result ParseTree ParseError) (is : told ≡ told_by answer) where
+    pub decided : HadTablesWhere (IsAccepted (Collapses g options) g start) told
+    decided = subst (HadTablesWhere (IsAccepted (Collapses g options) g start)) (sym is)
+        (had_tables (IsAccepted (Collapses g options) g start) (record { lr1 = λ _. here.lr1; lalr1 = here.lalr1 }) answer)
+
+    pub parsed : IfOk answer (λ tree. ForEachGrammar table (IsTreeWithin limit w (tree_of tree))) →
+        IfOk told (λ tree. IsOnNoRightSide (productions g) start → IsTreeWithin limit w (tree_of tree) (productions g) start)
+    parsed h = subst (λ (t : Result ParseTree ParseError). IfOk t (λ tree. IsOnNoRightSide (productions g) start → IsTreeWithin limit w (tree_of tree) (productions g) start)) (sym is)
+        (tree_told (λ tree. IsOnNoRightSide (productions g) start → IsTreeWithin limit w (tree_of tree) (productions g) start) answer (go answer h))
+      where
+        go : (answer : Result ParseTree (InterpretError Bits)) → IfOk answer (λ tree. ForEachGrammar table (IsTreeWithin limit w (tree_of tree))) →
+            IfOk answer (λ tree. IsOnNoRightSide (productions g) start → IsTreeWithin limit w (tree_of tree) (productions g) start)
+        go (Ok tree) h = h (productions g) start here.faithful
+        go (Err e) h = tt
+
+    pub refused : IfErr answer (IfRefused (λ _ token. ForEachGrammar table (λ g start. IsFirstWrong g start w token)) states) →
+        IfErr told (IfRefusedAt (λ token. IsOnNoRightSide (productions g) start → IsFirstWrong (productions g) start w token))
+    refused h = subst (λ (t : Result ParseTree ParseError). IfErr t (IfRefusedAt (λ token. IsOnNoRightSide (productions g) start → IsFirstWrong (productions g) start w token))) (sym is) (go answer h)
+      where
+        go : (answer : Result ParseTree (InterpretError Bits)) → IfErr answer (IfRefused (λ _ token. ForEachGrammar table (λ g start. IsFirstWrong g start w token)) states) →
+            IfErr (told_by answer) (IfRefusedAt (λ token. IsOnNoRightSide (productions g) start → IsFirstWrong (productions g) start w token))
+        go (Ok tree) h = tt
+        go (Err (RefusedBy state token)) h = h.2 (productions g) start here.faithful
+        go (Err LimitPassed) h = tt
+        go (Err NoMemory) h = tt
+
+    pub limited : IfErr answer (IfLimit (IsCutOff table w limit)) → IfErr told (IfLimitTold (IsCutOffByTables (productions g) start w limit))
+    limited h = subst (λ (t : Result ParseTree ParseError). IfErr t (IfLimitTold (IsCutOffByTables (productions g) start w limit))) (sym is) (go answer h)
+      where
+        go : (answer : Result ParseTree (InterpretError Bits)) → IfErr answer (IfLimit (IsCutOff table w limit)) → IfErr (told_by answer) (IfLimitTold (IsCutOffByTables (productions g) start w limit))
+        go (Ok tree) h = tt
+        go (Err (RefusedBy state token)) h = tt
+        go (Err LimitPassed) h = record { states = table; faithful = here.faithful; cut_off = h }
+        go (Err NoMemory) h = tt
+
+    pub trees_told : ForEachGrammar table (AnswersTrees limit w states answer) → IsOnNoRightSide (productions g) start → TellsTrees limit w told (productions g) start
+    trees_told h alone = subst (λ (t : Result ParseTree ParseError). TellsTrees limit w t (productions g) start) (sym is)
+        (λ t parse. outcome_told (IsOutcomeFor t limit) states answer (h (productions g) start here.faithful alone t parse))
+
+    pub run_told : IsAnswer (HasOutcome table w limit) states answer → IfOk answer (λ tree. leaves (beside (tree_of tree) no_trees) ≡ w) → IfOk answer (λ tree. nodes (beside (tree_of tree) no_trees) ≤ limit) →
+        IfErr answer (IfLimit (IsCutOff table w limit)) → IsToldByTables g options start w limit told
+    run_told outcome of_list within cut_off = subst (IsToldByTables g options start w limit) (sym is) (record {
+      tables = states;
+      made = here;
+      told = outcome_told (HasOutcome table w limit) states answer outcome;
+      of_list = tree_told (λ tree. leaves (beside (tree_of tree) no_trees) ≡ w) answer of_list;
+      within = tree_told (λ tree. nodes (beside (tree_of tree) no_trees) ≤ limit) answer within;
+      cut_off = limit_told (IsCutOff table w limit) answer cut_off;
+    })

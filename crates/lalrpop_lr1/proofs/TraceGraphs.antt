@@ -324,7 +324,7 @@ adds_both old middle newer new from to a b is_from is_to same first second =
     (middle, subst (AddsOnce old middle) is_from first, let P : List TraceGraphNode → Type 0 = λ xs. AddsOnce middle xs to in subst P (sym same) (subst (AddsOnce middle newer) is_to second))
 
 -- ---- which nodes were added
-decided_node : Decided TraceGraphNode
+pub decided_node : Decided TraceGraphNode
 decided_node = decided node_eq.ghosts.eq node_exactly.Laws.exact-law (λ x. node_equality.Laws.laws-law.refl x)
 
 -- a node more is no other than the one that was added

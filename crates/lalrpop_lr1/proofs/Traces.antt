@@ -96,7 +96,7 @@ end_is_node graph n is end =
       | inr t ↦ subst (Contains graph.nodes) (ap (λ (q : PlainEdge). q.to) at.3 ∙ t) both_ends.1
     ]
 
-dot_same : (from to from_is to_is : TraceGraphNode) (p : Production) (index : ℕ) → from ≡ from_is → to ≡ to_is → dot_edge from to p index ≡ dot_edge from_is to_is p index
+pub dot_same : (from to from_is to_is : TraceGraphNode) (p : Production) (index : ℕ) → from ≡ from_is → to ≡ to_is → dot_edge from to p index ≡ dot_edge from_is to_is p index
 dot_same from to from_is to_is p index f t = ap (λ (x : TraceGraphNode). dot_edge x to p index) f ∙ ap (λ (x : TraceGraphNode). dot_edge from_is x p index) t
 
 -- the edge to an item from its nonterminal

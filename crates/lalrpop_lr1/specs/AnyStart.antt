@@ -6,11 +6,10 @@ use Rattle.std.specs.List.{filter}
 use Rattle.lalrpop_base.specs.Augmented.{IsAugmented}
 use Rattle.lalrpop_base.specs.Bits.{Bits}
 use Rattle.lalrpop_base.specs.Contents.{contents}
+use Rattle.lalrpop_base.specs.Grammar.{IsOnNoRightSide}
 use Rattle.lalrpop_base.specs.Runs.{Outcome, Parsed, HasOutcome, Refused as RefusedIn, Limit as CutOff}
-use Rattle.lalrpop_base.specs.States.{AreFaithful}
 use Rattle.lalrpop_base.specs.Trees.{Tree, Node, beside, no_trees, nodes, IsParseTree}
-use Rattle.lalrpop_base.specs.Validity.{IsLALR1}
-use Rattle.lalrpop_base.specs.WellFormed.{IsWellFormed, name_cmp, productions, rules_of}
+use Rattle.lalrpop_base.specs.WellFormed.{IsWellFormed, name_cmp, productions}
 use Rattle.lalrpop_base.specs.contracts.repr.NonterminalString as name
 use Rattle.lalrpop_base.specs.contracts.repr.Production as production
 use Rattle.lalrpop_base.specs.contracts.repr.grammar.Grammar as whole
@@ -19,15 +18,11 @@ use Rattle.lalrpop_base.specs.declared.repr.NonterminalString.{NonterminalString
 use Rattle.lalrpop_base.specs.declared.repr.Production.{Production}
 use Rattle.lalrpop_base.specs.declared.repr.TerminalString.{TerminalString}
 use Rattle.lalrpop_base.specs.declared.repr.grammar.Grammar.{Grammar}
-use Rattle.lalrpop_tables.specs.Canonical.{AreCanonicalStates}
 use Rattle.lalrpop_tables.specs.Lalr.{Collapses}
-use Rattle.lalrpop_tables.specs.RenumberedTables.{AreRenumberedLaneTables}
-use Rattle.lalrpop_tables.specs.declared.build.options.Method.TheVariants.{Lane, Canonical}
+use Rattle.lalrpop_tables.specs.Lr1Answers.{AreTablesOf}
 use Rattle.lalrpop_tables.specs.declared.build.options.Options.{Options}
-use Rattle.lalrpop_lr1.specs.Headline.{IsOutcomeTold}
-use Rattle.lalrpop_lr1.specs.ParseTrees.{tree_of}
-use Rattle.lalrpop_lr1.specs.declared.headline.ParseError.{ParseError}
-use Rattle.lalrpop_lr1.specs.declared.headline.ParseError.TheVariants.{Conflicts, Refused, Limit, Memory}
+use Rattle.lalrpop_lr1.specs.ParseAnswers.{IsOutcomeTold}
+use Rattle.lalrpop_lr1.specs.declared.headline.parse_error.ParseError.{ParseError}
 use Rattle.lalrpop_lr1.specs.declared.interpret.tree.ParseTree.{ParseTree}
 
 -- a grammar with a new start symbol, and what it was before: its productions, and the start symbol that the new one is above
@@ -61,17 +56,16 @@ pub record IsTreeBelow (limit : ℕ) (w : List TerminalString) (t : Tree) (g : L
   pub parse : IsParseTree g start w t
   pub below : nodes (beside t no_trees) < limit
 
--- the answer for a list with a parse tree: the tree, if its nodes are fewer than the limit, and else `Limit`. Want of memory tells nothing
-abbrev pub IsToldBelow : Tree → ℕ → Result ParseTree ParseError → Type 0
-IsToldBelow t limit (Ok tree) = (tree_of tree ≡ t) × (nodes (beside t no_trees) < limit)
-IsToldBelow t limit (Err (Conflicts error)) = ⊥
-IsToldBelow t limit (Err (Refused token)) = ⊥
-IsToldBelow t limit (Err Limit) = limit ≤ nodes (beside t no_trees)
-IsToldBelow t limit (Err Memory) = Unit {0}
+-- the outcome for a list with a parse tree: the tree, if its nodes are fewer than the limit, and else the limit
+abbrev pub IsOutcomeBelow : Tree → ℕ → Outcome → Type 0
+IsOutcomeBelow t limit (Parsed u) = (u ≡ t) × (nodes (beside t no_trees) < limit)
+IsOutcomeBelow t limit (RefusedIn n token) = ⊥
+IsOutcomeBelow t limit CutOff = limit ≤ nodes (beside t no_trees)
 
 -- each list with a parse tree has its answer
 abbrev pub TellsTreesBelow : ℕ → List TerminalString → Result ParseTree ParseError → List Production → NonterminalString → Type 0
-TellsTreesBelow limit w answer g start = (t : Tree) → IsParseTree g start w t → IsToldBelow t limit answer
+TellsTreesBelow limit w answer g start =
+    (t : Tree) → IsParseTree g start w t → IsOutcomeTold (IsOutcomeBelow t limit) answer
 
 -- the outcome with a node of the new start symbol above its tree
 abbrev pub above : NonterminalString → Outcome → Outcome
@@ -79,10 +73,9 @@ above f (Parsed t) = Parsed (Node f (beside t no_trees))
 above f (RefusedIn n token) = RefusedIn n token
 above f CutOff = CutOff
 
--- the answer tells what the run over some faithful states comes to, but for the node above: the canonical ones by the canonical method where they are not collapsed, and by the lane way, for an LALR(1) grammar, lane tables, as many as its LR(0) states
+-- the answer tells what the run by the grammar's tables comes to, but for the node above; the start symbol is on no right side
 pub record IsToldByTablesAbove (g : Grammar) (options : Options) (f : NonterminalString) (w : List TerminalString) (limit : ℕ) (answer : Result ParseTree ParseError) : Type 0 where
   pub tables : List (State Bits)
-  pub canonical : options.method ≡ Canonical → ¬ Collapses g options → AreCanonicalStates (rules_of g) f tables
-  pub lanes : options.method ≡ Lane → IsLALR1 (productions g) f → AreRenumberedLaneTables (rules_of g) f tables
-  pub faithful : AreFaithful (productions g) f (contents g.terminals tables)
+  pub made : AreTablesOf (Collapses g options) options.method g f tables
+  pub alone : IsOnNoRightSide (productions g) f
   pub told : IsOutcomeTold (λ o. HasOutcome (contents g.terminals tables) w limit (above f o)) answer

@@ -2,7 +2,7 @@
 use Rattle.std.specs.Prelude.{◌≡◌, ◌≢◌, ℕ, ◌<◌, ◌≤◌, Bool, List, slice_get, Some, Result, Ok, Err}
 use Rattle.lalrpop_base.specs.Grammar.{IsBeginning, IsOnNoRightSide}
 use Rattle.lalrpop_base.specs.Laws.{AreCanonicalWith}
-use Rattle.lalrpop_base.specs.Runs.{Configuration, Stands, move, Reaches, begin}
+use Rattle.lalrpop_base.specs.Runs.{Configuration, Stands, move, Reaches, begin, Outcome, Parsed, Refused as RefusedIn, Limit as CutOff}
 use Rattle.lalrpop_base.specs.States.{Contents, AreFaithful}
 use Rattle.lalrpop_base.specs.Trees.{Tree, beside, no_trees, nodes, IsParseTree}
 use Rattle.lalrpop_base.specs.Validity.{IsLR1}
@@ -11,7 +11,7 @@ use Rattle.lalrpop_base.specs.declared.lr1_core.state.State.{State}
 use Rattle.lalrpop_base.specs.declared.repr.NonterminalString.{NonterminalString}
 use Rattle.lalrpop_base.specs.declared.repr.Production.{Production}
 use Rattle.lalrpop_base.specs.declared.repr.TerminalString.{TerminalString}
-use Rattle.lalrpop_lr1.specs.ParseTrees.{tree_of}
+use Rattle.lalrpop_lr1.specs.Answers.{IsAnswer}
 use Rattle.lalrpop_lr1.specs.declared.interpret.error.InterpretError.{InterpretError}
 use Rattle.lalrpop_lr1.specs.declared.interpret.error.InterpretError.TheVariants.{Refused, Limit, Memory}
 use Rattle.lalrpop_lr1.specs.declared.interpret.tree.ParseTree.{ParseTree}
@@ -39,16 +39,23 @@ pub record IsCutOff (states : ℕ → Contents) (w : List TerminalString) (limit
   pub reached : Reaches states limit (begin w) last
   pub another : move states last ≢ Stands
 
--- the answer for a list with a parse tree: the tree, if its nodes are within the limit, and else `Limit`. Want of memory tells nothing
-abbrev pub IsAnswerFor : {L : Type 0} → Tree → ℕ → Result ParseTree (InterpretError L) → Type 0
-IsAnswerFor t limit (Ok tree) = (tree_of tree ≡ t) × (nodes (beside t no_trees) ≤ limit)
-IsAnswerFor t limit (Err (Refused state token)) = ⊥
-IsAnswerFor t limit (Err Limit) = limit < nodes (beside t no_trees)
-IsAnswerFor t limit (Err Memory) = Unit {0}
+-- over some faithful tables that many steps can be made, none of them final, and there is another
+pub record IsCutOffByTables (g : List Production) (start : NonterminalString) (w : List TerminalString) (limit : ℕ) : Type 0 where
+  pub states : ℕ → Contents
+  pub faithful : AreFaithful g start states
+  pub cut_off : IsCutOff states w limit
+
+-- the outcome for a list with a parse tree: the tree, if its nodes are within the limit, and else the limit
+abbrev pub IsOutcomeFor : Tree → ℕ → Outcome → Type 0
+IsOutcomeFor t limit (Parsed u) = (u ≡ t) × (nodes (beside t no_trees) ≤ limit)
+IsOutcomeFor t limit (RefusedIn n token) = ⊥
+IsOutcomeFor t limit CutOff = limit < nodes (beside t no_trees)
 
 -- each list with a parse tree has its answer
-abbrev pub AnswersTrees : {L : Type 0} → ℕ → List TerminalString → Result ParseTree (InterpretError L) → List Production → NonterminalString → Type 0
-AnswersTrees limit w answer g start = (t : Tree) → IsParseTree g start w t → IsAnswerFor t limit answer
+abbrev pub AnswersTrees : {L : Type 0} → ℕ → List TerminalString → List (State L) → Result ParseTree (InterpretError L) →
+    List Production → NonterminalString → Type 0
+AnswersTrees limit w states answer g start =
+    (t : Tree) → IsParseTree g start w t → IsAnswer (IsOutcomeFor t limit) states answer
 
 -- a refusal is by a state of the list and at a token for which something holds
 abbrev pub IfRefused : {L : Type 0} → (ℕ → Token → Type 0) → List (State L) → InterpretError L → Type 0

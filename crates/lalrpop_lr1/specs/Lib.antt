@@ -13,6 +13,7 @@ pub mod Inlined
 pub mod Machines
 pub mod Meetings
 pub mod NodeItems
+pub mod ParseAnswers
 pub mod ParseTrees
 pub mod Paths
 pub mod Reading
@@ -23,5 +24,6 @@ pub mod ReportSinks
 pub mod ReportStates
 pub mod Steps
 pub mod TraceGraphs
+pub mod TraceOrder
 pub mod Traces
 pub mod Walks

@@ -1,5 +1,5 @@
 -- What a trace has met, what it can still meet, and what is done with what it met.
-use Rattle.std.specs.Prelude.{◌≡◌, ◌↔◌, ◌⊎◌, ℕ, Bool, true, not, List, map, filter, length, Contains}
+use Rattle.std.specs.Prelude.{◌≡◌, ◌↔◌, ◌⊎◌, ℕ, Bool, true, not, List, ◌++◌, map, filter, length, Contains}
 use Rattle.std.specs.List.{flat_map, range_with_len}
 use Rattle.std.specs.BTreeSet.{BTreeSet, contains}
 use Rattle.std.specs.declared.cmp.Ordering.{Ordering}
@@ -11,6 +11,7 @@ use Rattle.lalrpop_base.specs.declared.repr.NonterminalString.{NonterminalString
 use Rattle.lalrpop_base.specs.declared.lr1_core.state.State.{State}
 use Rattle.lalrpop_tables.specs.StateGraph.{state_cmp}
 use Rattle.lalrpop_lr1.specs.TraceGraphs.{Graph, PlainEdge, plain_edges, IsEnd, IsGraph}
+use Rattle.lalrpop_lr1.specs.TraceOrder.{AddsInTurn, ends_of, Duty, Walks}
 use Rattle.lalrpop_lr1.specs.Traces.{Backtrace, Meeting, Takes, GoesOn, IsSource, IsMet, Gives, IsTraced}
 use Rattle.lalrpop_lr1.specs.declared.trace.ground.Trace.{Trace}
 use Rattle.lalrpop_lr1.specs.declared.trace.meeting.Met.{Met}
@@ -81,3 +82,24 @@ pub record Advances (b : Backtrace) (old new : Met) : Type 0 where
   pub edges : (e : PlainEdge) → HasEdge old e → HasEdge new e
   pub finished : (m : Meeting) → HasMet new m → HasMet old m ⊎ IsFinished b new m
   pub sound : IsSound b new
+
+-- to the edges of a graph these were added in turn, and to its nodes their ends, each once
+pub record AddsInOrder (old new : Graph) (given : List PlainEdge) : Type 0 where
+  pub edges : AddsInTurn (plain_edges old) given (plain_edges new)
+  pub nodes : AddsInTurn old.nodes (ends_of given) new.nodes
+
+-- the list has exactly what was met
+abbrev pub AreMet : List Meeting → Met → Type 0
+AreMet list met = (m : Meeting) → Contains list m ↔ HasMet met m
+
+-- a trace did the duties: it added the edges that a walk gives which has them before others, and met what that walk then has met
+pub record WalksFrom (b : Backtrace) (list : List Meeting) (duties : List Duty) (old new : Met) : Type 0 where
+  pub after : List Meeting
+  pub are_met : AreMet after new
+  pub given : List PlainEdge
+  pub added : AddsInOrder old.trace_graph new.trace_graph given
+  pub walk : (others : List Duty) (es : List PlainEdge) → Walks b after others es → Walks b list (duties ++ others) (given ++ es)
+
+-- this is so from each list of what it had met
+abbrev pub WalksOn : Backtrace → List Duty → Met → Met → Type 0
+WalksOn b duties old new = (list : List Meeting) → AreMet list old → WalksFrom b list duties old new

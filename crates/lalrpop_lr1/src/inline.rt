@@ -21,8 +21,9 @@ use lalrpop_base::repr::grammar::Grammar;
 use lalrpop_base::repr::norm_error::NormResult;
 use std::alloc::Global;
 
-/// The marked nonterminals in an order to inline them. They are visited in the order of their names, and what one mentions from the last
-/// mention to the first. A refusal names the nonterminal at which the walk came to one that it was in.
+/// The marked nonterminals in an order to inline them. They are visited in the order of their
+/// names, and what one mentions from the last mention to the first. A refusal names the nonterminal
+/// at which the walk came to one that it was in.
 pub fn inline_order(alloc: Global, grammar: &Grammar) -> NormResult<Vec<NonterminalString>>
     ensures order { IfOk result (λ order. IsInlineOrder grammar.now order.items) }
     ensures acyclic { OnOk result ((a : NonterminalString) → IsOnRing grammar.now a → ⊥) }
@@ -31,16 +32,22 @@ pub fn inline_order(alloc: Global, grammar: &Grammar) -> NormResult<Vec<Nontermi
     ordered(alloc, grammar)
 }
 
-/// The grammar with its marked nonterminals inlined. They keep their entries; new actions are numbered entry by entry, in the order of the
-/// names, as each nonterminal is inlined.
+/// The grammar with its marked nonterminals inlined. They keep their entries; new actions are
+/// numbered entry by entry, in the order of the names, as each nonterminal is inlined.
 pub fn inline(alloc: Global, grammar: Grammar) -> NormResult<Grammar>
     requires { IsWellFormed grammar }
     ensures inlined { IfOk result (IsInlined grammar) }
     ensures well_formed { IfOk result IsWellFormed }
-    ensures unmentioned { IfOk result (λ h. (a c : NonterminalString) → IsMarked grammar c → Mentions h a c → ⊥) }
-    ensures terminal_lists { IfOk result (λ h. (a : NonterminalString) (w : List TerminalString) → IsSentence (productions grammar) a w ↔ IsSentence (productions h) a w) }
-    ensures kept { IfOk result (λ h. (more : List ActionFnDefn) × (h.action_fn_defns.items ≡ grammar.action_fn_defns.items ++ more)) }
-    ensures laid_out { IfOk result (λ h. (p : Production) → Contains (productions h) p → length grammar.action_fn_defns.items ≤ p.action.0 → IsLaidOut h.action_fn_defns.items p) }
+    ensures unmentioned { IfOk result
+        (λ h. (a c : NonterminalString) → IsMarked grammar c → Mentions h a c → ⊥) }
+    ensures terminal_lists { IfOk result (λ h. (a : NonterminalString) (w : List TerminalString) →
+        IsSentence (productions grammar) a w ↔ IsSentence (productions h) a w) }
+    ensures kept { IfOk result (λ h. (more : List ActionFnDefn) ×
+        (h.action_fn_defns.items ≡ grammar.action_fn_defns.items ++ more)) }
+    ensures laid_out { IfOk result (λ h. (p : Production) →
+        Contains (productions h) p →
+        length grammar.action_fn_defns.items ≤ p.action.0 →
+        IsLaidOut h.action_fn_defns.items p) }
     ensures acyclic { OnOk result ((a : NonterminalString) → IsOnRing grammar a → ⊥) }
     ensures refused { IfErr result (IsRefusalOf grammar) }
 {

@@ -35,29 +35,46 @@ pub fn interpret<'a, 'grammar, L: LookaheadInterpret>(
 ) -> Result<ParseTree, InterpretError<'a, 'grammar, L>>
     requires coherent { AreCoherent states.now }
     requires some { 0 < length states.now }
-    ensures outcome { IsAnswer (HasOutcome (contents_in (L.holds terminals.now) states.now) tokens.items limit) states.now result }
-    ensures of_productions { IfOk result (λ tree. AreOfGrammar (reduced_productions states.now) (beside (tree_of tree) no_trees)) }
+    ensures outcome { IsAnswer
+        (HasOutcome (contents_in (L.holds terminals.now) states.now) tokens.items limit) states.now
+        result }
+    ensures of_productions { IfOk result
+        (λ tree. AreOfGrammar (reduced_productions states.now) (beside (tree_of tree) no_trees)) }
     ensures of_list { IfOk result (λ tree. leaves (beside (tree_of tree) no_trees) ≡ tokens.items) }
-    ensures steps { IfOk result (λ tree. IsParsedIn (contents_in (L.holds terminals.now) states.now) tokens.items (nodes (beside (tree_of tree) no_trees)) (tree_of tree)) }
+    ensures steps { IfOk result (λ tree. IsParsedIn (contents_in (L.holds terminals.now) states.now)
+        tokens.items (nodes (beside (tree_of tree) no_trees)) (tree_of tree)) }
     ensures within { IfOk result (λ tree. nodes (beside (tree_of tree) no_trees) ≤ limit) }
 
     // The limit is told exactly where that many steps were made and there is another.
-    ensures limit { IfErr result (IfLimit (IsCutOff (contents_in (L.holds terminals.now) states.now) tokens.items limit)) }
-    ensures cut_off { IsCutOff (contents_in (L.holds terminals.now) states.now) tokens.items limit → IsLimit result }
+    ensures limit { IfErr result
+        (IfLimit (IsCutOff (contents_in (L.holds terminals.now) states.now) tokens.items limit)) }
+    ensures cut_off { IsCutOff (contents_in (L.holds terminals.now) states.now) tokens.items limit →
+        IsLimit result }
 
-    // Where the states are faithful to a grammar, its parse trees within the limit are answered, and no others.
-    ensures one_tree { ForEachGrammar (contents_in (L.holds terminals.now) states.now) (HasOneTree tokens.items) }
-    ensures parsed { IfOk result (λ tree. ForEachGrammar (contents_in (L.holds terminals.now) states.now) (IsTreeWithin limit tokens.items (tree_of tree))) }
-    ensures parses { ForEachGrammar (contents_in (L.holds terminals.now) states.now) (AnswersTrees limit tokens.items result) }
+    // Where the states are faithful to a grammar, its parse trees within the limit are answered,
+    // and no others.
+    ensures one_tree { ForEachGrammar (contents_in (L.holds terminals.now) states.now)
+        (HasOneTree tokens.items) }
+    ensures parsed { IfOk result (λ tree. ForEachGrammar
+        (contents_in (L.holds terminals.now) states.now)
+        (IsTreeWithin limit tokens.items (tree_of tree))) }
+    ensures parses { ForEachGrammar (contents_in (L.holds terminals.now) states.now)
+        (AnswersTrees limit tokens.items states.now result) }
 
-    // A refusal names the first wrong token; over canonical states it comes right behind the last right one.
-    ensures refused { IfErr result (IfRefused (λ _ token. ForEachGrammar (contents_in (L.holds terminals.now) states.now) (λ g start. IsFirstWrong g start tokens.items token)) states.now) }
-    ensures prompt { IfErr result (IfRefused (λ state token. ForEachCanonical (contents_in (L.holds terminals.now) states.now) (λ g start. IsPromptRefusal g start (contents_in (L.holds terminals.now) states.now) tokens.items state token)) states.now) }
+    // A refusal names the first wrong token; over canonical states it comes right behind the last
+    // right one.
+    ensures refused { IfErr result (IfRefused (λ _ token. ForEachGrammar
+        (contents_in (L.holds terminals.now) states.now)
+        (λ g start. IsFirstWrong g start tokens.items token)) states.now) }
+    ensures prompt { IfErr result (IfRefused (λ state token. ForEachCanonical
+        (contents_in (L.holds terminals.now) states.now) (λ g start. IsPromptRefusal g start
+        (contents_in (L.holds terminals.now) states.now) tokens.items state token)) states.now) }
 {
     Machine::new(alloc, limit).run(alloc, states, terminals, tokens)
 }
 
-/// The stack of states once all terminals are shifted, the newest last. The end of the input is not fed.
+/// The stack of states once all terminals are shifted, the newest last. The end of the input is not
+/// fed.
 pub fn interpret_partial<'a, 'grammar, L: LookaheadInterpret>(
     alloc: Global,
     states: &'a [State<'grammar, L>],
@@ -67,13 +84,22 @@ pub fn interpret_partial<'a, 'grammar, L: LookaheadInterpret>(
 ) -> Result<Vec<StateIndex>, InterpretError<'a, 'grammar, L>>
     requires coherent { AreCoherent states.now }
     requires some { 0 < length states.now }
-    ensures outcome { IsPartialAnswer (HasPartialOutcome (contents_in (L.holds terminals.now) states.now) (begin tokens.items) limit) states.now result }
+    ensures outcome { IsPartialAnswer (HasPartialOutcome
+        (contents_in (L.holds terminals.now) states.now) (begin tokens.items) limit) states.now
+        result }
 
-    // As of `interpret`; and where the states are faithful to a grammar, its beginnings are taken, and no other lists.
-    ensures limit { IfErr result (IfLimit (IsCutOff (contents_in (L.holds terminals.now) states.now) tokens.items limit)) }
-    ensures refused { IfErr result (IfRefused (λ _ token. ForEachGrammar (contents_in (L.holds terminals.now) states.now) (λ g start. IsFirstWrong g start tokens.items token)) states.now) }
-    ensures begun { IfOk result (λ _. ForEachGrammar (contents_in (L.holds terminals.now) states.now) (λ g start. IsBeginning g start tokens.items)) }
-    ensures begins { ForEachGrammar (contents_in (L.holds terminals.now) states.now) (TakesBeginning tokens.items result) }
+    // As of `interpret`; and where the states are faithful to a grammar, its beginnings are taken,
+    // and no other lists.
+    ensures limit { IfErr result
+        (IfLimit (IsCutOff (contents_in (L.holds terminals.now) states.now) tokens.items limit)) }
+    ensures refused { IfErr result (IfRefused (λ _ token. ForEachGrammar
+        (contents_in (L.holds terminals.now) states.now)
+        (λ g start. IsFirstWrong g start tokens.items token)) states.now) }
+    ensures begun { IfOk result (λ _. ForEachGrammar
+        (contents_in (L.holds terminals.now) states.now)
+        (λ g start. IsBeginning g start tokens.items)) }
+    ensures begins { ForEachGrammar (contents_in (L.holds terminals.now) states.now)
+        (TakesBeginning tokens.items result) }
 {
     let mut machine = Machine::new(alloc, limit);
     machine.shift_all(alloc, states, terminals, tokens)?;

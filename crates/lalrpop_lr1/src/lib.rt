@@ -1,4 +1,5 @@
-//! What stands on tables: the parser, whose trees are printed and counted, traces that explain conflicts, the report and the inliner.
+//! What stands on tables: the parser, whose trees are printed and counted, traces that explain
+//! conflicts, the report and the inliner.
 #![tactic(auto)]
 
 pub mod headline;

@@ -1,4 +1,5 @@
-//! The report of a construction: a text that tells of its states, and of its conflicts where there are some.
+//! The report of a construction: a text that tells of its states, and of its conflicts where there
+//! are some.
 mod conflicts;
 pub mod error;
 mod lines;
@@ -23,7 +24,8 @@ pub use sink::{Counted, Sink};
 use std::alloc::Global;
 pub use whole::report_text;
 
-/// Writes the report of what a construction answers. The text is made whole before its first byte goes out.
+/// Writes the report of what a construction answers. The text is made whole before its first byte
+/// goes out.
 pub fn generate_report<W: Sink>(
     alloc: Global,
     out: &mut W,
@@ -31,13 +33,19 @@ pub fn generate_report<W: Sink>(
     outcome: &Lr1Result<'_>,
 ) -> Result<(), ReportError>
     requires { W.fault_count out.old < 2 ^ 64 - 1 }
-    ensures whole { OnOk result (IsSomeAnd (report_text (λ (set : Bits). set) terminals.now outcome.now) (Appends (W.contents out.old) (W.contents out.new))) }
+    ensures whole { OnOk result (IsSomeAnd
+        (report_text (λ (set : Bits). set) terminals.now outcome.now)
+        (Appends (W.contents out.old) (W.contents out.new))) }
     ensures no_fault { OnOk result (W.fault_count out.new ≡ W.fault_count out.old) }
-    ensures part { IfErr result (λ e. IfWriteFault e (IsSomeAnd (report_text (λ (set : Bits). set) terminals.now outcome.now) (WroteBeginning (W.contents out.old) (W.contents out.new)))) }
-    ensures fault { IfErr result (λ e. IfWriteFault e (W.fault_count out.new ≡ W.fault_count out.old + 1)) }
+    ensures part { IfErr result (λ e. IfWriteFault e (IsSomeAnd
+        (report_text (λ (set : Bits). set) terminals.now outcome.now)
+        (WroteBeginning (W.contents out.old) (W.contents out.new)))) }
+    ensures fault { IfErr result
+        (λ e. IfWriteFault e (W.fault_count out.new ≡ W.fault_count out.old + 1)) }
     ensures last { IfErr result (TellsLastFault (W.last_was_zero out.new)) }
     ensures untouched { IfErr result (λ e. IfNothingOffered e (out.new ≡ out.old)) }
-    ensures tables { IfErr result (TellsOfText (report_text (λ (set : Bits). set) terminals.now outcome.now)) }
+    ensures tables { IfErr result
+        (TellsOfText (report_text (λ (set : Bits). set) terminals.now outcome.now)) }
 {
     report(alloc, out, terminals, outcome)
 }
@@ -50,10 +58,14 @@ fn report<W: Sink, L: LookaheadPrinter<String>>(
     outcome: &LrResult<'_, L>,
 ) -> Result<(), ReportError>
     requires { W.fault_count out.old < 2 ^ 64 - 1 }
-    ensures whole { OnOk result (IsSomeAnd (report_text L.meaning terminals.now outcome.now) (Appends (W.contents out.old) (W.contents out.new))) }
+    ensures whole { OnOk result (IsSomeAnd (report_text L.meaning terminals.now outcome.now)
+        (Appends (W.contents out.old) (W.contents out.new))) }
     ensures no_fault { OnOk result (W.fault_count out.new ≡ W.fault_count out.old) }
-    ensures part { IfErr result (λ e. IfWriteFault e (IsSomeAnd (report_text L.meaning terminals.now outcome.now) (WroteBeginning (W.contents out.old) (W.contents out.new)))) }
-    ensures fault { IfErr result (λ e. IfWriteFault e (W.fault_count out.new ≡ W.fault_count out.old + 1)) }
+    ensures part { IfErr result (λ e. IfWriteFault e (IsSomeAnd
+        (report_text L.meaning terminals.now outcome.now)
+        (WroteBeginning (W.contents out.old) (W.contents out.new)))) }
+    ensures fault { IfErr result
+        (λ e. IfWriteFault e (W.fault_count out.new ≡ W.fault_count out.old + 1)) }
     ensures last { IfErr result (TellsLastFault (W.last_was_zero out.new)) }
     ensures untouched { IfErr result (λ e. IfNothingOffered e (out.new ≡ out.old)) }
     ensures tables { IfErr result (TellsOfText (report_text L.meaning terminals.now outcome.now)) }
@@ -87,13 +99,21 @@ impl<'report, W: Sink> ReportGenerator<'report, W> {
         requires { W.fault_count self.old.out.now < 2 ^ 64 - 1 }
         ensures same_sink { self.new.out.ghost_name ≡ self.old.out.ghost_name }
         ensures same_terminals { self.new.terminals ≡ self.old.terminals }
-        ensures whole { OnOk result (IsSomeAnd (report_text L.meaning self.old.terminals.now outcome.now) (Appends (W.contents self.old.out.now) (W.contents self.new.out.now))) }
-        ensures no_fault { OnOk result (W.fault_count self.new.out.now ≡ W.fault_count self.old.out.now) }
-        ensures part { IfErr result (λ e. IfWriteFault e (IsSomeAnd (report_text L.meaning self.old.terminals.now outcome.now) (WroteBeginning (W.contents self.old.out.now) (W.contents self.new.out.now)))) }
-        ensures fault { IfErr result (λ e. IfWriteFault e (W.fault_count self.new.out.now ≡ W.fault_count self.old.out.now + 1)) }
+        ensures whole { OnOk result (IsSomeAnd
+            (report_text L.meaning self.old.terminals.now outcome.now)
+            (Appends (W.contents self.old.out.now) (W.contents self.new.out.now))) }
+        ensures no_fault { OnOk result
+            (W.fault_count self.new.out.now ≡ W.fault_count self.old.out.now) }
+        ensures part { IfErr result (λ e. IfWriteFault e (IsSomeAnd
+            (report_text L.meaning self.old.terminals.now outcome.now)
+            (WroteBeginning (W.contents self.old.out.now) (W.contents self.new.out.now)))) }
+        ensures fault { IfErr result (λ e. IfWriteFault e
+            (W.fault_count self.new.out.now ≡ W.fault_count self.old.out.now + 1)) }
         ensures last { IfErr result (TellsLastFault (W.last_was_zero self.new.out.now)) }
-        ensures untouched { IfErr result (λ e. IfNothingOffered e (self.new.out.now ≡ self.old.out.now)) }
-        ensures tables { IfErr result (TellsOfText (report_text L.meaning self.old.terminals.now outcome.now)) }
+        ensures untouched { IfErr result
+            (λ e. IfNothingOffered e (self.new.out.now ≡ self.old.out.now)) }
+        ensures tables { IfErr result
+            (TellsOfText (report_text L.meaning self.old.terminals.now outcome.now)) }
     {
         report(alloc, self.out, self.terminals, outcome)
     }

@@ -15,6 +15,7 @@ ghost use Rattle.std.specs.Prelude.{◌≡◌, IfOk};
 ghost use Rattle.lalrpop_lr1.specs.Meetings.{asked};
 ghost use Rattle.lalrpop_lr1.specs.Examples.{CarryRightSides};
 ghost use Rattle.lalrpop_lr1.specs.TraceGraphs.{AreKnownEdges};
+ghost use Rattle.lalrpop_lr1.specs.TraceOrder.{IsInOrder};
 ghost use Rattle.lalrpop_lr1.specs.Traces.{HasOwnProductions, HasOwnTerminals, IsTraceOf, shift_traced, reduction_traced};
 
 pub use enumerator::PathEnumerator;
@@ -64,9 +65,20 @@ impl<'trace, 'grammar> Tracer<'trace, 'grammar> {
         state: StateIndex,
         item: Lr0Item<'grammar>,
     ) -> Result<TraceGraph<'grammar>, OutOfMemory>
-        ensures traced { IfOk result (IsTraceOf (shift_traced self.now.ground.first_sets.now.productions self.now.ground.states.now state item.entry)) }
-        ensures right_sides { IfOk result (λ graph. HasOwnProductions (shift_traced self.now.ground.first_sets.now.productions self.now.ground.states.now state item.entry) → CarryRightSides self.now.ground.first_sets.now.productions graph.edges) }
-        ensures known { IfOk result (λ graph. HasOwnTerminals self.now.ground.first_sets.now → HasOwnProductions (shift_traced self.now.ground.first_sets.now.productions self.now.ground.states.now state item.entry) → AreKnownEdges self.now.ground.first_sets.now.terminals graph.edges) }
+        ensures traced { IfOk result (IsTraceOf (shift_traced
+            self.now.ground.first_sets.now.productions self.now.ground.states.now state
+            item.entry)) }
+        ensures ordered { IfOk result (IsInOrder (shift_traced
+            self.now.ground.first_sets.now.productions self.now.ground.states.now state
+            item.entry)) }
+        ensures right_sides { IfOk result (λ graph. HasOwnProductions (shift_traced
+            self.now.ground.first_sets.now.productions self.now.ground.states.now state
+            item.entry) →
+            CarryRightSides self.now.ground.first_sets.now.productions graph.edges) }
+        ensures known { IfOk result (λ graph. HasOwnTerminals self.now.ground.first_sets.now →
+            HasOwnProductions (shift_traced self.now.ground.first_sets.now.productions
+            self.now.ground.states.now state item.entry) →
+            AreKnownEdges self.now.ground.first_sets.now.terminals graph.edges) }
     {
         let trace = Trace {
             traced: Traced::Shift,
@@ -77,16 +89,28 @@ impl<'trace, 'grammar> Tracer<'trace, 'grammar> {
         graph_of(alloc, &trace)
     }
 
-    /// How a state came to have an item that is or will be reduced: back to the items behind which more is to come.
+    /// How a state came to have an item that is or will be reduced: back to the items behind which
+    /// more is to come.
     pub fn backtrace_reduce(
         &self,
         alloc: Global,
         state: StateIndex,
         item: Lr0Item<'grammar>,
     ) -> Result<TraceGraph<'grammar>, OutOfMemory>
-        ensures traced { IfOk result (IsTraceOf (reduction_traced self.now.ground.first_sets.now.productions self.now.ground.states.now state item.entry)) }
-        ensures right_sides { IfOk result (λ graph. HasOwnProductions (reduction_traced self.now.ground.first_sets.now.productions self.now.ground.states.now state item.entry) → CarryRightSides self.now.ground.first_sets.now.productions graph.edges) }
-        ensures known { IfOk result (λ graph. HasOwnTerminals self.now.ground.first_sets.now → HasOwnProductions (reduction_traced self.now.ground.first_sets.now.productions self.now.ground.states.now state item.entry) → AreKnownEdges self.now.ground.first_sets.now.terminals graph.edges) }
+        ensures traced { IfOk result (IsTraceOf (reduction_traced
+            self.now.ground.first_sets.now.productions self.now.ground.states.now state
+            item.entry)) }
+        ensures ordered { IfOk result (IsInOrder (reduction_traced
+            self.now.ground.first_sets.now.productions self.now.ground.states.now state
+            item.entry)) }
+        ensures right_sides { IfOk result (λ graph. HasOwnProductions (reduction_traced
+            self.now.ground.first_sets.now.productions self.now.ground.states.now state
+            item.entry) →
+            CarryRightSides self.now.ground.first_sets.now.productions graph.edges) }
+        ensures known { IfOk result (λ graph. HasOwnTerminals self.now.ground.first_sets.now →
+            HasOwnProductions (reduction_traced self.now.ground.first_sets.now.productions
+            self.now.ground.states.now state item.entry) →
+            AreKnownEdges self.now.ground.first_sets.now.terminals graph.edges) }
     {
         let trace = Trace {
             traced: Traced::Reduce,
@@ -104,8 +128,12 @@ fn graph_of<'grammar>(
     trace: &Trace<'_, '_, 'grammar>,
 ) -> Result<TraceGraph<'grammar>, OutOfMemory>
     ensures traced { IfOk result (IsTraceOf (asked trace.now)) }
-    ensures right_sides { IfOk result (λ graph. HasOwnProductions (asked trace.now) → CarryRightSides trace.now.ground.now.first_sets.now.productions graph.edges) }
-    ensures known { IfOk result (λ graph. HasOwnTerminals trace.now.ground.now.first_sets.now → HasOwnProductions (asked trace.now) → AreKnownEdges trace.now.ground.now.first_sets.now.terminals graph.edges) }
+    ensures ordered { IfOk result (IsInOrder (asked trace.now)) }
+    ensures right_sides { IfOk result (λ graph. HasOwnProductions (asked trace.now) →
+        CarryRightSides trace.now.ground.now.first_sets.now.productions graph.edges) }
+    ensures known { IfOk result (λ graph. HasOwnTerminals trace.now.ground.now.first_sets.now →
+        HasOwnProductions (asked trace.now) →
+        AreKnownEdges trace.now.ground.now.first_sets.now.terminals graph.edges) }
 {
     let mut met = Met {
         trace_graph: TraceGraph::new(alloc),

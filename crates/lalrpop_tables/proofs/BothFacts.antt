@@ -11,11 +11,6 @@ pub MatchResult-both : {T E : Type 0} (r : Result T E) (P : T → Type 0) (Q : E
 MatchResult-both (Ok x) P Q p q = p
 MatchResult-both (Err e) P Q p q = q
 
--- a fact of the error with another, where the value has a third
-pub IfErr-with : {T E : Type 0} (r : Result T E) (A : T → Type 0) (P Q : E → Type 0) → IfErr r P → MatchResult r A Q → IfErr r (λ e. P e × Q e)
-IfErr-with (Ok x) A P Q p q = tt
-IfErr-with (Err e) A P Q p q = (p, q)
-
 -- what an error says under a premise
 pub IfErr-given : {T E Z : Type 0} (r : Result T E) (P : E → Type 0) → (Z → IfErr r P) → IfErr r (λ e. Z → P e)
 IfErr-given (Ok x) P h = tt

@@ -1,5 +1,5 @@
 -- The conflicts of canonical states are the canonical conflicts of the prefixes that lead to them.
-use Rattle.std.proofs.Common.{◌≡◌, ℕ, ◌+◌, List, [], ◌∷◌, length, map, refl, sym, ◌∙◌, ap, subst, arith, Bool, true, false, cond, ◌==◌, Option, Some, None, inl, inr}
+use Rattle.std.proofs.Common.{◌≡◌, ℕ, ◌+◌, ◌<◌, List, [], ◌∷◌, length, map, refl, sym, ◌∙◌, ap, subst, arith, Bool, true, false, cond, ◌==◌, Option, Some, None, inl, inr}
 use Rattle.std.specs.Prelude.{Contains, slice_get, option_map}
 use Rattle.std.specs.declared.cmp.Ordering.{Ordering}
 use Rattle.std.specs.BTreeMap.{keys, IsOrdered}
@@ -8,6 +8,7 @@ use Rattle.std.specs.Ordering.{ordering_reverse}
 use Rattle.std.specs.List.{flat_map}
 use Rattle.std.proofs.lemmas.Map.Entries.{btree_map_get_place}
 use Rattle.std.proofs.lemmas.Map.Lookups.{CmpEqualImpliesEq}
+use Rattle.std.proofs.lemmas.Option.{slice_get_within}
 use Rattle.lalrpop_base.specs.Bits.{Bits}
 use Rattle.lalrpop_base.specs.Closures.{AreCanonical}
 use Rattle.lalrpop_base.specs.Conflicts.{IsOrder, AreConflictsOf, AreCanonicalConflicts, ReducesInOrder, HasNoConflict}
@@ -119,6 +120,12 @@ module _ (g : Grammar) (start : NonterminalString) (states : List (State Bits)) 
       subst (λ (cs : List (Conflict Bits)). AreCanonicalConflicts terminal_order production_ord.ghosts.cmp (productions g) start u (conflicts_of g.terminals cs)) (sym here)
       ((canonical_conflicts terminal_order production_ord.ghosts.cmp productions_ordered (productions g) start (contents g.terminals states) tokens canonical u n at (ascend n) (conflicts_of g.terminals (conflicts_at g.terminals (slice_get states n)))).0 (listed n (slice_get states n) refl))
 
+  within : (c : Conflict Bits) → Contains all c → c.state.0 < length states
+  within c i =
+      let r = Listed-from g.terminals 0 states numbered c i in
+      let place : r.0 ≡ c.state.0 = let e = r.3 in omega arith in
+      slice_get_within states c.state.0 r.1 (subst (λ (n : ℕ). slice_get states n ≡ Some r.1) place r.2)
+
   lead : (c : Conflict Bits) (t : TerminalString) (target : StateIndex) → Contains all c → c.action ≡ Shift t target → (contents g.terminals states c.state.0).shift t ≡ Some target.0
   lead c t target i a =
       let r = Listed-from g.terminals 0 states numbered c i in
@@ -129,7 +136,7 @@ module _ (g : Grammar) (start : NonterminalString) (states : List (State Bits)) 
       ap (λ (o : Option (State Bits)). (contents_at (holds_token g.terminals) o).shift t) there ∙ ap (option_map number_of) found
 
   pub conflicts_are_canonical : (conflicts : List (Conflict Bits)) → conflicts ≡ all → AreCanonicalConflictsOf g start states conflicts
-  conflicts_are_canonical conflicts e = subst (AreCanonicalConflictsOf g start states) (sym e) (record { each = each; ascend = Listed-ascend g.terminals 0 states numbered; lead = lead })
+  conflicts_are_canonical conflicts e = subst (AreCanonicalConflictsOf g start states) (sym e) (record { each = each; only = within; ascend = Listed-ascend g.terminals 0 states numbered; lead = lead })
 
 -- ---- the list of the construction's states
 pub canonical_failure : (g : Grammar) (start : NonterminalString) (states : List (State Bits)) (conflicts : List (Conflict Bits)) (tokens : ℕ → Production → ℕ → Token → Type 0) → IsWellFormed g → AllDiffer g.terminals →

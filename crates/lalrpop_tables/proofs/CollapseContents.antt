@@ -10,7 +10,6 @@ use Rattle.lalrpop_base.specs.Closures.{IsReached, at_zero, over_edge, items_of}
 use Rattle.lalrpop_base.specs.Collapse.{HoldsInGroup, LeadsInGroup, IsCollapse}
 use Rattle.lalrpop_base.specs.Contents.{number_of, contents, contents_of, contents_at, holds_token, reduction_of}
 use Rattle.lalrpop_base.specs.States.{Contents, Reduction, leads, HasNoRepeat, ReducesFinished}
-use Rattle.lalrpop_base.specs.WellFormed.{rules_of}
 use Rattle.lalrpop_base.specs.declared.lookahead.token.Token.{Token}
 use Rattle.lalrpop_base.specs.declared.lr1_core.state.State.{State}
 use Rattle.lalrpop_base.specs.declared.lr1_core.state.StateIndex.{StateIndex}
@@ -21,11 +20,9 @@ use Rattle.lalrpop_base.specs.declared.repr.Symbol.TheVariants.{Nonterminal, Ter
 use Rattle.lalrpop_base.specs.declared.repr.grammar.Grammar.{Grammar}
 use Rattle.lalrpop_base.proofs.ContentsViews.{some_of_map, contains_of_map, contains_map, lead_as_items_say}
 use Rattle.lalrpop_tables.specs.Ascending.{production_order}
-use Rattle.lalrpop_tables.specs.Canonical.{AreCanonicalStates}
-use Rattle.lalrpop_tables.specs.Closure.{IsClosureOf}
+use Rattle.lalrpop_tables.specs.Canonical.{AreOrderedCanonical}
 use Rattle.lalrpop_tables.specs.Collapsed.{dots_in, ReducesBy, IsNumbered, IsCollapsed}
 use Rattle.lalrpop_tables.specs.Renumbered.{retargeted}
-use Rattle.lalrpop_tables.specs.Results.{AreStatesOf, canonical_of}
 use Rattle.lalrpop_tables.proofs.Ascending.{less_apart}
 use Rattle.lalrpop_tables.proofs.CanonicalContents.{nothing_reduced}
 use Rattle.lalrpop_tables.proofs.CollapseDots.{same_dots, group, merged_of, first_group}
@@ -40,7 +37,7 @@ CodeReduction = Bits × Bor Production
 abbrev production_in : CodeReduction → Production
 production_in r = r.1.now
 
-module _ (g : Grammar) (start : NonterminalString) (before after : List (State Bits)) (made : AreStatesOf (canonical_of g start) before) (canonical : AreCanonicalStates (rules_of g) start before) (c : IsCollapsed before after) where
+module _ (g : Grammar) (start : NonterminalString) (before after : List (State Bits)) (ordered : AreOrderedCanonical g start before) (c : IsCollapsed before after) where
   abbrev pub holds : Bits → Token → Bool
   holds = holds_token g.terminals
 
@@ -59,8 +56,8 @@ module _ (g : Grammar) (start : NonterminalString) (before after : List (State B
 
   -- ---- states that are reached
   reached_within : {n : ℕ} → IsReached old n → n < length before
-  reached_within at_zero = made.some
-  reached_within (over_edge {n} m x r e) = ((lead_as_items_say holds before made.coherent).edges n m x e).within
+  reached_within at_zero = ordered.some
+  reached_within (over_edge {n} m x r e) = ((lead_as_items_say holds before ordered.coherent).edges n m x e).within
 
   record IsState (n : ℕ) : Type 0 where
     pub state : State Bits
@@ -76,16 +73,13 @@ module _ (g : Grammar) (start : NonterminalString) (before after : List (State B
       record { state = s.0; at = s.1; merged = m.0; there = m.1; same = m.2 }
 
   reached_at : (n : ℕ) (s : State Bits) → slice_get before n ≡ Some s → IsReached old n
-  reached_at n s at = canonical.reached n (slice_get_within before n s at)
+  reached_at n s at = ordered.canonical.reached n (slice_get_within before n s at)
 
   old_at : (n : ℕ) (s : State Bits) → slice_get before n ≡ Some s → old n ≡ contents_of holds s
   old_at n s at = ap (contents_at holds) at
 
   now_at : (k : ℕ) (s : State Bits) → slice_get after k ≡ Some s → now k ≡ contents_of holds s
   now_at k s at = ap (contents_at holds) at
-
-  closure_of : (n : ℕ) (s : State Bits) (at : slice_get before n ≡ Some s) → IsClosureOf (rules_of g) (made.built.each n s at).kernel s.items.vec.items
-  closure_of n s at = (made.built.each n s at).built.closure
 
   -- ---- the same dotted productions have one number
   listed_in : (n : ℕ) (s : State Bits) → slice_get before n ≡ Some s → (p : Production) (dot : ℕ) → items_of old n p dot ↔ Contains (dots_in s) (p, dot)
@@ -99,7 +93,7 @@ module _ (g : Grammar) (start : NonterminalString) (before after : List (State B
       let a = state_of n r in
       let b = state_of m q in
       c.one n m a.state b.state a.at b.at
-      (same_dots a.state.items.vec.items b.state.items.vec.items (closure_of n a.state a.at).ascend (closure_of m b.state b.at).ascend
+      (same_dots a.state.items.vec.items b.state.items.vec.items (ordered.ascend n a.state a.at) (ordered.ascend m b.state b.at)
       (λ d h. (listed_in m b.state b.at d.0 d.1).0 ((same d.0 d.1).0 ((listed_in n a.state a.at d.0 d.1).1 h)))
       (λ d h. (listed_in n a.state a.at d.0 d.1).0 ((same d.0 d.1).1 ((listed_in m b.state b.at d.0 d.1).1 h))))
 
@@ -167,7 +161,7 @@ module _ (g : Grammar) (start : NonterminalString) (before after : List (State B
 
   finished_in : (n : ℕ) (s : State Bits) → slice_get before n ≡ Some s → (p : Production) → ReducesBy p s ↔ Contains (dots_in s) (p, length p.symbols)
   finished_in n s at p =
-      let f = subst ReducesFinished (old_at n s at) (canonical.canonical.reductions n) in (
+      let f = subst ReducesFinished (old_at n s at) (ordered.canonical.canonical.reductions n) in (
         λ h. (f.finished p).0 ((reduces_by s p).1 h),
         λ h. (reduces_by s p).0 ((f.finished p).1 h),
       )
@@ -257,7 +251,7 @@ module _ (g : Grammar) (start : NonterminalString) (before after : List (State B
   -- ---- all of it
   pub is_collapse : IsCollapse number old now
   is_collapse = record {
-    first = first_group before after c made.some;
+    first = first_group before after c ordered.some;
     one = one_number;
     items = items_same;
     edges = edges_go;

@@ -1,5 +1,5 @@
 -- What the answer of a collapse says, from what it is.
-use Rattle.std.proofs.Common.{[], sym, subst, ◌≡◌, ◌<◌, List, length, inr}
+use Rattle.std.proofs.Common.{[], sym, subst, ◌≡◌, ◌<◌, List, length}
 use Rattle.std.specs.Prelude.{MatchResult, IfOk, IfErr}
 use Rattle.std.specs.declared.result.Result.{Result}
 use Rattle.std.specs.declared.result.Result.TheVariants.{Ok, Err}
@@ -9,12 +9,10 @@ use Rattle.lalrpop_base.specs.declared.lr1_core.state.BuildError.{BuildError}
 use Rattle.lalrpop_base.specs.declared.lr1_core.state.BuildError.TheVariants.{Conflicts, Memory}
 use Rattle.lalrpop_base.specs.declared.lr1_core.state.Conflict.{Conflict}
 use Rattle.lalrpop_base.specs.declared.lr1_core.state.State.{State}
-use Rattle.lalrpop_base.specs.declared.repr.NonterminalString.{NonterminalString}
 use Rattle.lalrpop_base.specs.declared.repr.TerminalString.{TerminalString}
-use Rattle.lalrpop_base.specs.declared.repr.grammar.Grammar.{Grammar}
 use Rattle.lalrpop_tables.specs.Collapsed.{AreOrdered, AreCollapsedTables, FailsByCollapse}
-use Rattle.lalrpop_tables.specs.Lalr.{HasCoherentStates, HasOrderedStates, AreMergedTables, FailsAsLalr}
-use Rattle.lalrpop_tables.specs.Results.{FailWith, AreTables, canonical_of}
+use Rattle.lalrpop_tables.specs.Lalr.{HasCoherentStates, HasOrderedStates}
+use Rattle.lalrpop_tables.specs.Results.{FailWith}
 use Rattle.lalrpop_tables.proofs.CollapseCoherent.{Collapsed-coherent}
 use Rattle.lalrpop_tables.proofs.CollapseDots.{Collapsed-some}
 
@@ -33,12 +31,6 @@ module _ {T : Type 0} (items : T → List (State Bits)) (terminals : List Termin
   pub Collapse-some : 0 < length before → (r : Result T (BuildError Bits)) → Merges r → IfOk r (λ t. 0 < length (items t))
   Collapse-some some (Ok t) m = Collapsed-some before (items t) m.collapsed some
   Collapse-some some (Err e) m = tt
-
--- the collapse of a grammar's tables
-pub Collapse-merged : {T : Type 0} (items : T → List (State Bits)) (g : Grammar) (start : NonterminalString) (stop_after : _) (before : List (State Bits)) → AreTables (canonical_of g start) before → (r : Result T (BuildError Bits)) →
-    MatchResult r (λ t. AreCollapsedTables g.terminals before (items t)) (FailsByCollapse g.terminals before) → MatchResult r (λ t. AreMergedTables g start (items t)) (FailsAsLalr g start stop_after)
-Collapse-merged items g start stop_after before tables (Ok t) m = record { before = before; canonical = tables; merged = m }
-Collapse-merged items g start stop_after before tables (Err e) m = inr (record { before = before; canonical = tables; merged = m })
 
 -- ---- the states that a collapse answers, with or without conflicts
 ordered_error : (after : List (State Bits)) (conflicts : List (Conflict Bits)) → AreOrdered after → (error : BuildError Bits) → FailWith after conflicts error → HasOrderedStates error

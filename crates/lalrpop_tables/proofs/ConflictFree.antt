@@ -10,7 +10,6 @@ use Rattle.lalrpop_base.specs.Contents.{contents_of, holds_token, no_contents, r
 use Rattle.lalrpop_base.specs.Places.{AllDiffer}
 use Rattle.lalrpop_base.specs.StateConflicts.{state_conflicts, HasNoConflict}
 use Rattle.lalrpop_base.specs.States.{Reduction}
-use Rattle.lalrpop_base.specs.Tokens.{FitsTokens}
 use Rattle.lalrpop_base.specs.declared.lookahead.token.Token.{Token}
 use Rattle.lalrpop_base.specs.declared.lookahead.token.Token.TheVariants.{Terminal as TokenOf}
 use Rattle.lalrpop_base.specs.declared.lr1_core.state.State.{State}
@@ -19,6 +18,7 @@ use Rattle.lalrpop_base.specs.declared.repr.Symbol.TheVariants.{Terminal}
 use Rattle.lalrpop_base.specs.declared.repr.TerminalString.{TerminalString}
 use Rattle.lalrpop_base.proofs.ConflictLemmas.{none_exactly}
 use Rattle.lalrpop_base.proofs.ContentsViews.{some_of_map, contains_of_map, contains_map, at_contains}
+use Rattle.lalrpop_tables.specs.Canonical.{FitReductions}
 use Rattle.lalrpop_tables.proofs.CanonicalStates.{leads_transition}
 use Rattle.lalrpop_tables.proofs.ItemTokens.{token_with}
 use Rattle.lalrpop_tables.proofs.KnownTerminals.{held_bit, bit_held}
@@ -28,10 +28,6 @@ use Rattle.lalrpop_tables.proofs.StateEdges.{transition_leads}
 
 abbrev CodeReduction : Type 0
 CodeReduction = Bits × Bor Production
-
--- the tokens of each reduction are those that the terminals number
-abbrev pub FitReductions : List TerminalString → State Bits → Type 0
-FitReductions terminals s = (r : CodeReduction) → Contains s.reductions.items r → FitsTokens terminals r.0
 
 -- a place that has no state has no conflict
 pub nowhere_conflict : HoldsNoConflict no_contents

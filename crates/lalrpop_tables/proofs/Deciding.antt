@@ -1,11 +1,10 @@
 -- The answer of the construction decides whether the grammar is LR(1).
-use Rattle.std.proofs.Common.{◌≡◌, ℕ, true, List, refl, sym, subst, Option, Some, None}
-use Rattle.std.specs.Prelude.{slice_get, IfErr, MatchResult}
-use Rattle.std.specs.declared.result.Result.{Result}
-use Rattle.std.proofs.lemmas.Result.{IfErr-weaker}
+use Rattle.std.proofs.Common.{◌≡◌, ℕ, true, List, refl, arith, Option, Some, None}
+use Rattle.std.specs.Prelude.{slice_get}
 use Rattle.lalrpop_base.specs.Bits.{Bits}
 use Rattle.lalrpop_base.specs.Conflicts.{HasNoConflict as HoldsNoConflict}
 use Rattle.lalrpop_base.specs.Contents.{contents, contents_at, holds_token}
+use Rattle.lalrpop_base.specs.Items.{Dotted}
 use Rattle.lalrpop_base.specs.Places.{AllDiffer}
 use Rattle.lalrpop_base.specs.States.{Contents, AreFaithful}
 use Rattle.lalrpop_base.specs.Validity.{IsLR1}
@@ -20,11 +19,14 @@ use Rattle.lalrpop_base.proofs.theory.RightStates.{faithful_lr1}
 use Rattle.lalrpop_tables.specs.Canonical.{tokens_of, AreCanonicalStates, HasCanonicalStates}
 use Rattle.lalrpop_tables.specs.CanonicalConflicts.{ListsCanonicalConflicts}
 use Rattle.lalrpop_tables.specs.Closing.{AreOwn}
+use Rattle.lalrpop_tables.specs.Closure.{IsClosureOf}
+use Rattle.lalrpop_tables.specs.EarlyStop.{ArePartlyBuiltBy, AreSomeCanonicalStates}
 use Rattle.lalrpop_tables.specs.Results.{HaveNoConflict, Construction, AreStatesOf, AreTables, EndsWithEof, FailsBy, canonical_of}
+use Rattle.lalrpop_tables.specs.States.{AreBuiltBy}
 use Rattle.lalrpop_tables.proofs.CanonicalContents.{are_canonical}
-use Rattle.lalrpop_tables.proofs.BothFacts.{IfErr-with}
 use Rattle.lalrpop_tables.proofs.CanonicalConflicts.{canonical_failure}
 use Rattle.lalrpop_tables.proofs.ConflictFree.{nowhere_conflict, free_contents}
+use Rattle.lalrpop_tables.proofs.StoppedStates.{first_kernel, some_canonical_states}
 
 module _ (g : Grammar) (start : NonterminalString) (well : IsWellFormed g) (own : AreOwn g) (differ : AllDiffer g.terminals) (states : List (State Bits)) (made : AreStatesOf (canonical_of g start) states) where
   abbrev now : ℕ → Contents
@@ -43,6 +45,17 @@ module _ (g : Grammar) (start : NonterminalString) (well : IsWellFormed g) (own 
   pub free_lr1 : HaveNoConflict g.terminals states → IsLR1 (productions g) start
   free_lr1 free = faithful_lr1 (productions g) start now (free_faithful free)
 
+-- states of all kernels are states of the first kernels
+whole_partly : (C : List (Dotted Bits) → List (Dotted Bits) → Type 0) (first : List (Dotted Bits)) (states : List (State Bits)) → AreBuiltBy C first states → ArePartlyBuiltBy C first states
+whole_partly C first states b = record {
+  kernels = b.kernels;
+  fewer = let c = b.counted in omega arith;
+  differ = b.differ;
+  start = b.start;
+  each = b.each;
+  led = b.led;
+}
+
 -- ---- what the answers say
 module _ (g : Grammar) (start : NonterminalString) (well : IsWellFormed g) (own : AreOwn g) (differ : AllDiffer g.terminals) where
   pub tables_canonical : (tables : List (State Bits)) → AreTables (canonical_of g start) tables → AreCanonicalStates (rules_of g) start tables
@@ -55,6 +68,9 @@ module _ (g : Grammar) (start : NonterminalString) (well : IsWellFormed g) (own 
   pub tables_faithful : (tables : List (State Bits)) → AreTables (canonical_of g start) tables → AreFaithful (productions g) start (contents g.terminals tables)
   tables_faithful tables t = free_faithful g start well own differ tables t.made t.free
 
+  pub tables_valid : (tables : List (State Bits)) → AreTables (canonical_of g start) tables → AreSomeCanonicalStates (rules_of g) start tables
+  tables_valid tables t = some_canonical_states g start well own tables (whole_partly (IsClosureOf (rules_of g)) (first_kernel g start) tables t.made.built) differ
+
   pub tables_lr1 : (tables : List (State Bits)) → AreTables (canonical_of g start) tables → IsLR1 (productions g) start
   tables_lr1 tables t = free_lr1 g start well own differ tables t.made t.free
 
@@ -63,13 +79,3 @@ failure_lists g start well differ (Conflicts error) f h =
     let states = error.states.items in
     canonical_failure g start states error.conflicts.items (λ n p dot t. tokens_of g.terminals states n p dot t ≡ true) well differ f.0 (λ n s at. (f.0.built.each n s at).built.ascend) h.canonical h.ascend f.1
 failure_lists g start well differ Memory f h = tt
-
--- the answer of a construction that is not to stop early
-pub result_lists : {T : Type 0} (g : Grammar) (start : NonterminalString) (c : Construction Bits) (stop_after : ℕ) (r : Result T (BuildError Bits)) (A : T → Type 0) → IsWellFormed g → AllDiffer g.terminals → c ≡ canonical_of g start → stop_after ≡ 0 →
-    (stop_after ≡ 0 → IfErr r (FailsBy c)) → (EndsWithEof c → MatchResult r A (λ e. stop_after ≡ 0 → HasCanonicalStates c.rules c.start e)) → IfErr r (ListsCanonicalConflicts g start)
-result_lists g start c stop_after r A well differ same none failure canonical =
-    let eof : EndsWithEof c = subst EndsWithEof (sym same) refl in
-    let states : MatchResult r A (λ e. stop_after ≡ 0 → HasCanonicalStates (rules_of g) start e) = subst (λ (k : Construction Bits). MatchResult r A (λ e. stop_after ≡ 0 → HasCanonicalStates k.rules k.start e)) same (canonical eof) in
-    IfErr-weaker r (λ e. FailsBy c e × (stop_after ≡ 0 → HasCanonicalStates (rules_of g) start e)) (ListsCanonicalConflicts g start)
-    (λ e h. failure_lists g start well differ e (subst (λ (k : Construction Bits). FailsBy k e) same h.0) (h.1 none))
-    (IfErr-with r A (FailsBy c) (λ e. stop_after ≡ 0 → HasCanonicalStates (rules_of g) start e) (failure none) states)

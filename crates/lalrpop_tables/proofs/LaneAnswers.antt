@@ -1,5 +1,5 @@
 -- What the construction of lane tables answers: tables that hold their lane tokens, or states of which one has two actions that meet.
-use Rattle.std.proofs.Common.{◌≡◌, ◌↔◌, ℕ, zero, suc, ◌<◌, ◌≤◌, Bool, true, false, List, [], ◌∷◌, drop, length, refl, subst, arith, Option, Some, None, MatchBool}
+use Rattle.std.proofs.Common.{◌≡◌, ◌↔◌, ℕ, zero, suc, ◌<◌, ◌≤◌, Bool, true, false, List, [], ◌∷◌, drop, length, refl, sym, subst, arith, Option, Some, None, MatchBool}
 use Rattle.std.specs.Prelude.{Contains, slice_get}
 use Rattle.std.specs.Borrow.{Bor}
 use Rattle.std.proofs.lemmas.Option.{slice_get_within}
@@ -61,7 +61,7 @@ module _ (g : Grammar) (start : NonterminalString) (well : IsWellFormed g) (diff
   rest_drop (suc n) [] after x e = cc
   rest_drop (suc n) (y ∷ symbols) after x e = rest_drop n symbols after x e
 
-  given_bit : {s : ℕ} {p : Production} {dot : ℕ} {t : Token} → Gives (productions g) start here s p dot t → (bit : ℕ) × IsBitOf g.terminals t bit
+  pub given_bit : {s : ℕ} {p : Production} {dot : ℕ} {t : Token} → Gives (productions g) start here s p dot t → (bit : ℕ) × IsBitOf g.terminals t bit
   given_bit (behind_parent s p q dot after t c e f) =
       let own = item_listed s q dot (slice_get states s) refl c in
       let known = known_rest g.terminals (suc dot) q.symbols after (known_symbols g q well own) (rest_drop dot q.symbols after (Nonterminal p.nonterminal) e) in
@@ -149,6 +149,13 @@ all_done g start graph count index states past h n state at =
     let counted = h.counted in
     h.done n state (omega arith) at
 
-pub were_met : (g : Rules) (start : NonterminalString) (index : ℕ) (old new : List (State Bits)) → IsStep index old new → (b : Bool) (A : Type 0) → b ≡ false → MatchBool b A (LanesMeet g.productions start (contents g.terminals new) index) → HaveMeetingLanes g start new
-were_met g start index old new step true A e h = cc
-were_met g start index old new step false A e h = record { number = index; listed = slice_get_within new index step.after step.is; meet = h }
+pub were_met : (g : Rules) (start : NonterminalString) (graph : StateGraph) (count index : ℕ) (old new : List (State Bits)) → AreResolvedTo g start graph count index old → IsStep index old new → (b : Bool) (A : Type 0) → b ≡ false →
+    MatchBool b A (LanesMeet g.productions start (contents g.terminals new) index × (new ≡ old)) → HaveMeetingLanes g start new
+were_met g start graph count index old new h step true A e m = cc
+were_met g start graph count index old new h step false A e m = subst (HaveMeetingLanes g start) (sym m.1) (record {
+  number = index;
+  listed = slice_get_within old index step.before step.was;
+  meet = subst (λ (xs : List (State Bits)). LanesMeet g.productions start (contents g.terminals xs) index) m.1 m.0;
+  before = λ n l state at. h.done n state l at;
+  from = h.left;
+})

@@ -1,13 +1,15 @@
 -- States are resolved one after the other; the lanes stay what they were, since only reductions change.
 use Rattle.std.proofs.Common.{◌≡◌, ◌⊎◌, inl, inr, ℕ, ◌+◌, ◌<◌, true, List, length, refl, sym, ◌∙◌, ap, subst, arith, Some, slice_set}
-use Rattle.std.specs.Prelude.{slice_get}
+use Rattle.std.specs.Prelude.{Contains, slice_get}
 use Rattle.std.proofs.lemmas.Option.{slice_get_within}
 use Rattle.lalrpop_base.specs.Bits.{Bits}
 use Rattle.lalrpop_base.specs.States.{Contents}
 use Rattle.lalrpop_base.specs.WellFormed.{Rules}
+use Rattle.lalrpop_base.specs.declared.lr1_core.state.Items.{Items}
 use Rattle.lalrpop_base.specs.declared.lr1_core.state.State.{State}
 use Rattle.lalrpop_base.specs.declared.repr.NonterminalString.{NonterminalString}
-use Rattle.lalrpop_tables.specs.LaneStates.{HasSamePlace, HaveSamePlaces, AreLaneStates, HoldAllFrom, IsResolved, IsResolvedAt, IsStep}
+use Rattle.lalrpop_base.specs.declared.repr.TerminalString.{TerminalString}
+use Rattle.lalrpop_tables.specs.LaneStates.{HasSamePlace, HaveSamePlaces, AreLaneStates, HaveFullItems, HoldAllFrom, IsResolved, IsResolvedAt, IsStep}
 use Rattle.lalrpop_tables.specs.LaneTraces.{places_in}
 use Rattle.lalrpop_tables.specs.StateGraph.{edges, IsGraphOf}
 use Rattle.lalrpop_tables.specs.declared.state_graph.StateGraph.{StateGraph}
@@ -20,6 +22,12 @@ use Rattle.lalrpop_tables.proofs.Places.{same_some, places_apart}
 -- places of places
 pub place_on : {K L M : Type 0} (a : State K) (b : State L) (c : State M) → HasSamePlace a b → HasSamePlace b c → HasSamePlace a c
 place_on a b c p q = record { index = q.index ∙ p.index; dots = q.dots ∙ p.dots; shifts = q.shifts ∙ p.shifts; gotos = q.gotos ∙ p.gotos; reduced = q.reduced ∙ p.reduced }
+
+apart_or : (n m : ℕ) → (n ≡ m) ⊎ (n ≡ m → ⊥)
+apart_or n m = elim (places_apart n m) [
+  | inl l ↦ inr (λ e. omega arith)
+  | inr later ↦ elim later [ inl l ↦ inr (λ e. omega arith) | inr e ↦ inl e ]
+]
 
 -- a step keeps the places
 pub step_places : (index : ℕ) (old new : List (State Bits)) → IsStep index old new → HaveSamePlaces old new
@@ -35,16 +43,10 @@ step_places index old new s = record {
         (place_itself old).each n before after at_old (at_old ∙ ap (λ (x : State Bits). Some x) (sym e))
   ];
 }
-  where
-    apart_or : (n m : ℕ) → (n ≡ m) ⊎ (n ≡ m → ⊥)
-    apart_or n m = elim (places_apart n m) [
-      | inl l ↦ inr (λ e. omega arith)
-      | inr later ↦ elim later [ inl l ↦ inr (λ e. omega arith) | inr e ↦ inl e ]
-    ]
 
 -- the one state was written
-pub set_step : (index : ℕ) (old new : List (State Bits)) (before after : State Bits) → slice_get old index ≡ Some before → new ≡ slice_set old index after → HasSamePlace before after → IsStep index old new
-set_step index old new before after was written same = record {
+pub set_step : (index : ℕ) (old new : List (State Bits)) (before after : State Bits) → slice_get old index ≡ Some before → new ≡ slice_set old index after → HasSamePlace before after → after.items ≡ before.items → IsStep index old new
+set_step index old new before after was written same items = record {
   before = before;
   after = after;
   was = was;
@@ -52,24 +54,36 @@ set_step index old new before after was written same = record {
   counted = ap length written ∙ set_length old index after;
   others = λ k other. ap (λ (xs : List (State Bits)). slice_get xs k) written ∙ set_elsewhere old index k after other;
   same = same;
+  items = items;
 }
 
 -- nothing changed
 pub idle_step : (index : ℕ) (states : List (State Bits)) (state : State Bits) → slice_get states index ≡ Some state → IsStep index states states
-idle_step index states state at = record { before = state; after = state; was = at; is = at; counted = refl; others = λ k other. refl; same = record { index = refl; dots = refl; shifts = refl; gotos = refl; reduced = refl } }
+idle_step index states state at = record { before = state; after = state; was = at; is = at; counted = refl; others = λ k other. refl; same = record { index = refl; dots = refl; shifts = refl; gotos = refl; reduced = refl }; items = refl }
 
 -- ---- what stays
-pub lane_states_on : (g : Rules) (start : NonterminalString) (old new : List (State Bits)) → HaveSamePlaces old new → AreLaneStates g start old → AreLaneStates g start new
-lane_states_on g start old new same made = record {
-  bare = made.bare;
-  lr0 = made.lr0;
-  same = record {
-    counted = same.counted ∙ made.same.counted;
-    each = λ n before after at_bare at_new.
-        let o = old_at old new same n after at_new in
-        place_on before o.0 after (made.same.each n before o.0 at_bare o.1) o.2;
-  };
-}
+step_items : (terminals : List TerminalString) (index : ℕ) (old new : List (State Bits)) → IsStep index old new → HaveFullItems terminals old → HaveFullItems terminals new
+step_items terminals index old new s full n state item at among = elim (apart_or n index) [
+  | inl same ↦
+      let is : state ≡ s.after = same_some state s.after (sym at ∙ ap (slice_get new) same ∙ s.is) in
+      full index s.before item s.was (subst (λ (items : Items Bits). Contains items.vec.items item) (ap (λ (x : State Bits). x.items) is ∙ s.items) among)
+  | inr other ↦ full n state item (sym (s.others n other) ∙ at) among
+]
+
+pub lane_states_on : (g : Rules) (start : NonterminalString) (index : ℕ) (old new : List (State Bits)) → IsStep index old new → AreLaneStates g start old → AreLaneStates g start new
+lane_states_on g start index old new step made =
+    let same = step_places index old new step in
+    record {
+      bare = made.bare;
+      lr0 = made.lr0;
+      same = record {
+        counted = same.counted ∙ made.same.counted;
+        each = λ n before after at_bare at_new.
+            let o = old_at old new same n after at_new in
+            place_on before o.0 after (made.same.each n before o.0 at_bare o.1) o.2;
+      };
+      items = step_items g.terminals index old new step made.items;
+    }
 
 pub graph_on : (old new : List (State Bits)) (graph : StateGraph) → HaveSamePlaces old new → IsGraphOf (edges old) graph → IsGraphOf (edges new) graph
 graph_on old new graph same h = subst (λ es. IsGraphOf es graph) (sym (edges_there old new same)) h
@@ -96,7 +110,7 @@ resolved_more g start graph count index old new h step resolved =
     let same = step_places index old new step in
     let places : AreSamePlaces (places_in old) (places_in new) = places_same (λ lookahead t. true) (λ lookahead t. true) old new same in
     record {
-      lanes = lane_states_on g start old new same h.lanes;
+      lanes = lane_states_on g start index old new step h.lanes;
       graph_of = graph_on old new graph same h.graph_of;
       counted = step.counted ∙ h.counted;
       done = λ n state below at. elim (places_apart n index) [

@@ -1,7 +1,7 @@
 -- Promoted states are the LR(0) states with all tokens.
-use Rattle.std.proofs.Common.{◌≡◌, ℕ, zero, suc, List, [], ◌∷◌, ◌++◌, length, map, refl, ◌∙◌, ap, subst, Some}
+use Rattle.std.proofs.Common.{◌≡◌, ℕ, zero, suc, List, [], ◌∷◌, ◌++◌, length, map, refl, sym, ◌∙◌, ap, subst, Some}
 use Rattle.std.specs.Prelude.{slice_get, Contains, nat_le}
-use Rattle.std.proofs.lemmas.Bool.{le-leb}
+use Rattle.std.proofs.lemmas.Bool.{le-leb, leb-true}
 use Rattle.std.specs.Borrow.{Bor}
 use Rattle.std.specs.List.{AllZip}
 use Rattle.lalrpop_base.specs.Bits.{Bits, has}
@@ -13,7 +13,7 @@ use Rattle.lalrpop_base.specs.declared.repr.NonterminalString.{NonterminalString
 use Rattle.lalrpop_base.specs.declared.repr.Production.{Production}
 use Rattle.lalrpop_base.specs.declared.repr.TerminalString.{TerminalString}
 use Rattle.lalrpop_base.proofs.ContentsViews.{contains_of_map}
-use Rattle.lalrpop_tables.specs.LaneStates.{dot_of, by, HasSamePlace, HaveSamePlaces, AreLaneStates, IsFull, HoldsAll, promoted_item, promoted_reduction, IsPromoted}
+use Rattle.lalrpop_tables.specs.LaneStates.{dot_of, by, HasSamePlace, HaveSamePlaces, AreLaneStates, IsFull, HaveFullItems, HoldsAll, promoted_item, promoted_reduction, IsPromoted}
 use Rattle.lalrpop_tables.specs.Lr0.{AreLr0States}
 use Rattle.lalrpop_tables.proofs.Places.{same_some}
 
@@ -60,9 +60,6 @@ promoted_places all old new z = record {
   each = λ n before after at_old at_new. promoted_place all before after (zip_at (IsPromoted all) old new z n before after at_old at_new);
 }
 
-pub promoted_lanes : (g : Rules) (start : NonterminalString) (all : Bits) (old : List (State Nil)) (new : List (State Bits)) → AreLr0States g start old → AllZip (IsPromoted all) old new → AreLaneStates g start new
-promoted_lanes g start all old new lr0 z = record { bare = old; lr0 = lr0; same = promoted_places all old new z }
-
 -- the old state at a place
 zip_old : {A B : Type 0} (R : A → B → Type 0) (xs : List A) (ys : List B) → AllZip R xs ys → (n : ℕ) (y : B) → slice_get ys n ≡ Some y → (x : A) × R x y
 zip_old R [] [] h n y at = cc
@@ -78,6 +75,16 @@ promoted_full terminals all full old new z n state at r among =
     let (q, there, same) = contains_of_map (promoted_reduction all) before.reductions.items r (subst (λ (rs : List (Bits × Bor Production)). Contains rs r) p.reductions among) in
     subst (λ (x : Bits × Bor Production). IsFull terminals x.0) same full
 
+-- and each item
+promoted_items : (terminals : List TerminalString) (all : Bits) → IsFull terminals all → (old : List (State Nil)) (new : List (State Bits)) → AllZip (IsPromoted all) old new → HaveFullItems terminals new
+promoted_items terminals all full old new z n state item at among =
+    let (before, p) = zip_old (IsPromoted all) old new z n state at in
+    let (origin, there, same) = contains_of_map (promoted_item all) before.items.vec.items item (subst (λ (is : List (Dotted Bits)). Contains is item) p.items among) in
+    subst (λ (x : Dotted Bits). IsFull terminals x.lookahead) same full
+
 -- the set of all tokens is full
 pub full_set : (terminals : List TerminalString) (all : Bits) → ((bit : ℕ) → has all bit ≡ nat_le bit (length terminals)) → IsFull terminals all
-full_set terminals all is bit l = is bit ∙ le-leb bit (length terminals) l
+full_set terminals all is bit = (λ h. leb-true bit (length terminals) (sym (is bit) ∙ h), λ l. is bit ∙ le-leb bit (length terminals) l)
+
+pub promoted_lanes : (g : Rules) (start : NonterminalString) (all : Bits) → IsFull g.terminals all → (old : List (State Nil)) (new : List (State Bits)) → AreLr0States g start old → AllZip (IsPromoted all) old new → AreLaneStates g start new
+promoted_lanes g start all full old new lr0 z = record { bare = old; lr0 = lr0; same = promoted_places all old new z; items = promoted_items g.terminals all full old new z }

@@ -137,7 +137,7 @@ module _ (g : Rules) (start : NonterminalString) (states : List (State Bits)) (m
   shift_place : HoldsAll g.terminals state → (t : TerminalString) (target : StateIndex) (bit : ℕ) (r : CodeReduction) → Contains state.shifts.entries (t, target) → place_in g.terminals t ≡ Some bit → Contains reductions r → (k : ℕ) × (to : StateIndex) × (slice_get actions k ≡ Some (Shift t to))
   shift_place full t target bit r entry place among =
       let within = slice_get_within g.terminals bit t (place_there g.terminals t bit place) in
-      let f = asked.all (Shift t target) (shift_asked g.terminals state t target bit r entry place among (full r among bit (omega arith))) in
+      let f = asked.all (Shift t target) (shift_asked g.terminals state t target bit r entry place among ((full r among bit).1 (omega arith))) in
       let s = tied_shift t target f.0 f.2 in
       let k = contains_at actions f.0 f.1 in
       (k.0, s.0, k.1 ∙ ap (λ (a : Action). Some a) s.1)

@@ -51,8 +51,8 @@ module _ (g : Rules) (start : NonterminalString) (states : List (State Bits)) (m
       Told new done = MatchBool done (IsAttempted actions table state new) (ColumnsOverlap table × (new ≡ state))
 
       step_told : (new : State Bits) (written : List (State Bits)) → written ≡ slice_set states n new → (done : Bool) → Told new done → IsStep n states written
-      step_told new written set true h = set_step n states written state new at set (applied_place g start states made n state at actions asked_here table traced (full n state (omega arith) at) new h)
-      step_told new written set false h = set_step n states written state new at set (subst (λ (s : State Bits). HasSamePlace state s) (sym h.1) (record { index = refl; dots = refl; shifts = refl; gotos = refl; reduced = refl }))
+      step_told new written set true h = set_step n states written state new at set (applied_place g start states made n state at actions asked_here table traced (full n state (omega arith) at) new h) h.applied.items
+      step_told new written set false h = set_step n states written state new at set (subst (λ (s : State Bits). HasSamePlace state s) (sym h.1) (record { index = refl; dots = refl; shifts = refl; gotos = refl; reduced = refl })) (ap (λ (s : State Bits). s.items) h.1)
 
       pub attempt_step : {E : Type 0} (r : Result Bool E) (new : State Bits) (written : List (State Bits)) → written ≡ slice_set states n new → IfOk r (Told new) → IfOk r (λ _. IsStep n states written)
       attempt_step (Ok done) new written set h = step_told new written set done h
@@ -63,7 +63,7 @@ module _ (g : Rules) (start : NonterminalString) (states : List (State Bits)) (m
         ordered_here = subst (λ (s : State Bits). IsOrdered terminal_ord.ghosts.cmp s.shifts) (same_some seen state (sym at_seen ∙ at)) ordered_seen
 
         abbrev Resolves : List (State Bits) → Bool → Type 0
-        Resolves written done = MatchBool done (IsResolvedAt g start states n written) (LanesMeet g.productions start (contents g.terminals written) n)
+        Resolves written done = MatchBool done (IsResolvedAt g start states n written) (LanesMeet g.productions start (contents g.terminals written) n × (written ≡ states))
 
         resolves : (new : State Bits) (written : List (State Bits)) → written ≡ slice_set states n new → (done : Bool) → Told new done → Resolves written done
         resolves new written set true h = λ other there.
@@ -71,7 +71,7 @@ module _ (g : Rules) (start : NonterminalString) (states : List (State Bits)) (m
             subst (IsResolved g start (places_in states) n) same (resolved g start states made n state at actions asked_here table traced (full n state (omega arith) at) new h)
         resolves new written set false h =
             let unchanged : written ≡ states = set ∙ ap (slice_set states n) h.1 ∙ set_same states n state at in
-            subst (λ (xs : List (State Bits)). LanesMeet g.productions start (contents g.terminals xs) n) (sym unchanged) (overlap_meets g start states made n state at actions asked_here table traced sorted ordered_here h.0)
+            (subst (λ (xs : List (State Bits)). LanesMeet g.productions start (contents g.terminals xs) n) (sym unchanged) (overlap_meets g start states made n state at actions asked_here table traced sorted ordered_here h.0), unchanged)
 
         pub attempt_resolves : {E : Type 0} (r : Result Bool E) (new : State Bits) (written : List (State Bits)) → written ≡ slice_set states n new → IfOk r (Told new) → IfOk r (Resolves written)
         attempt_resolves (Ok done) new written set h = resolves new written set done h

@@ -1,9 +1,11 @@
+pub mod AnyLookahead
 pub mod Ascending
 pub mod BothFacts
 pub mod Bounded
 pub mod Building
 pub mod ByLanes
 pub mod Canonical
+pub mod CanonicalAnswers
 pub mod CanonicalConflicts
 pub mod CanonicalContents
 pub mod CanonicalStates
@@ -44,6 +46,7 @@ pub mod LaneActions
 pub mod LaneAnswers
 pub mod LaneAsked
 pub mod LaneCoherent
+pub mod LaneConflicts
 pub mod LaneCopies
 pub mod LaneColumns
 pub mod LaneLoop
@@ -63,6 +66,7 @@ pub mod ListedConflicts
 pub mod Lists
 pub mod Lookaheads
 pub mod Lr0States
+pub mod Lr1Answers
 pub mod MadeUntil
 pub mod MergeableStates
 pub mod MergedCollapse
@@ -76,6 +80,7 @@ pub mod Moved
 pub mod Moves
 pub mod NewCopies
 pub mod NumberedConflicts
+pub mod OrderedCanonical
 pub mod Orders
 pub mod Partitions
 pub mod Places
@@ -84,6 +89,7 @@ pub mod Reductions
 pub mod Renumbered
 pub mod RenumberedCanonical
 pub mod RenumberedTables
+pub mod RenumberedValid
 pub mod SameKernels
 pub mod Shifting
 pub mod SomeOf

@@ -121,3 +121,8 @@ module _ {L : Type 0} (meaning : L → Bits) (begins : Rules → List Symbol →
     λ free. f.2 (sym f.1 ∙ free),
   )
   made_stopped Memory f = tt
+
+-- where it does not stop early, an error has all states and conflicts
+pub Stops-fail : {L : Type 0} (meaning : L → Bits) (begins : Rules → List Symbol → Token → Type 0) (passes : Rules → List Symbol → Type 0) (lists : State L → List TerminalString → List (Conflict L) → Type 0) (s : Settings L) (error : BuildError L) → s.stop_after ≡ 0 → StopsFor meaning begins passes lists s error → FailsFor meaning begins passes lists s.construction error
+Stops-fail meaning begins passes lists s (Conflicts error) unset f = made_failure meaning begins passes lists s error.states.items error.conflicts.items f.0 unset (Conflicts error) (refl, refl, f.1)
+Stops-fail meaning begins passes lists s Memory unset f = tt

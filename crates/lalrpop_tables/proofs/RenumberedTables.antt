@@ -1,6 +1,6 @@
 -- Renumbered tables have a state and no conflict, as before, and stay faithful; lane tables stay as many as the LR(0) states.
 use Rattle.std.proofs.Common.{◌≡◌, ◌⊎◌, ◌<◌, ℕ, inl, inr, ⊎_elim, List, length, sym, ◌∙◌, ap, subst, arith, Some}
-use Rattle.std.specs.Prelude.{slice_get}
+use Rattle.std.specs.Prelude.{Contains, slice_get}
 use Rattle.std.proofs.lemmas.Bool.{cases_lt}
 use Rattle.std.proofs.lemmas.Option.{slice_get_within}
 use Rattle.lalrpop_base.specs.Bits.{Bits}
@@ -8,6 +8,7 @@ use Rattle.lalrpop_base.specs.Contents.{contents}
 use Rattle.lalrpop_base.specs.StateConflicts.{HasNoConflict}
 use Rattle.lalrpop_base.specs.States.{AreFaithful}
 use Rattle.lalrpop_base.specs.WellFormed.{Rules, rules_of}
+use Rattle.lalrpop_base.specs.declared.lr1_core.state.Items.{Items}
 use Rattle.lalrpop_base.specs.declared.lr1_core.state.State.{State}
 use Rattle.lalrpop_base.specs.declared.repr.NonterminalString.{NonterminalString}
 use Rattle.lalrpop_base.specs.declared.repr.Production.{Production}
@@ -15,7 +16,7 @@ use Rattle.lalrpop_base.specs.declared.repr.TerminalString.{TerminalString}
 use Rattle.lalrpop_base.specs.declared.repr.grammar.Grammar.{Grammar}
 use Rattle.lalrpop_base.proofs.theory.Renumbering.{faithful-renumbered}
 use Rattle.lalrpop_tables.specs.Lalr.{AreMergedTables, AreRenumberedMerged}
-use Rattle.lalrpop_tables.specs.LaneStates.{AreLaneTables}
+use Rattle.lalrpop_tables.specs.LaneStates.{AreLaneTables, HaveFullItems}
 use Rattle.lalrpop_tables.specs.Renumbered.{IsRenumberedState, AreRenumbered}
 use Rattle.lalrpop_tables.specs.RenumberedTables.{AreRenumberedTables, AreRenumberedLaneTables}
 use Rattle.lalrpop_tables.specs.Results.{Construction, AreTables, HaveNoConflict, canonical_of}
@@ -34,18 +35,21 @@ no_conflict_after new terminals before after r h = record {
 
 module _ (terminals : List TerminalString) (before after : List (State Bits)) (r : AreRenumbered terminals before after) where
   -- each state was one under its old number
-  state_before : (k : ℕ) (state : State Bits) → slice_get after k ≡ Some state → (n : ℕ) × (old : State Bits) × (slice_get before n ≡ Some old) × IsRenumberedState r.new old state
+  pub state_before : (k : ℕ) (state : State Bits) → slice_get after k ≡ Some state → (old : State Bits) × (slice_get before (r.old k) ≡ Some old) × IsRenumberedState r.new old state
   state_before k state at = elim (cases_lt (r.old k) (length before)) [
     | inl inside ↦
         let x = slice_get_inside before (r.old k) inside in
         let t = r.each (r.old k) x.0 x.1 in
         let same : t.0 ≡ state = same_some t.0 state (sym t.1 ∙ ap (slice_get after) (r.renumbering.back k) ∙ at) in
-        (r.old k, x.0, x.1, subst (IsRenumberedState r.new x.0) same t.2)
+        (x.0, x.1, subst (IsRenumberedState r.new x.0) same t.2)
     | inr past ↦ absurd (let o = r.outside (r.old k) past in let b = r.renumbering.back k in let c = r.counted in let w = slice_get_within after k state at in omega arith)
   ]
 
   pub Free-renumbered : HaveNoConflict terminals before → HaveNoConflict terminals after
-  Free-renumbered free k state at = let x = state_before k state at in no_conflict_after r.new terminals x.1 state x.3 (free x.0 x.1 x.2)
+  Free-renumbered free k state at = let x = state_before k state at in no_conflict_after r.new terminals x.0 state x.2 (free (r.old k) x.0 x.1)
+
+  pub Items-renumbered : HaveFullItems terminals before → HaveFullItems terminals after
+  Items-renumbered full k state item at among = let x = state_before k state at in full (r.old k) x.0 item x.1 (subst (λ (items : Items Bits). Contains items.vec.items item) (x.2).items among)
 
   pub Some-renumbered : 0 < length before → 0 < length after
   Some-renumbered some = let k = r.counted in omega arith
@@ -76,6 +80,7 @@ Lanes-renumbered g start built tables lanes r = record {
   lanes = lanes;
   renumbered = r;
   free = Free-renumbered g.terminals built tables r lanes.free;
+  items = Items-renumbered g.terminals built tables r lanes.made.items;
   bare = lanes.made.bare;
   lr0 = lanes.made.lr0;
   counted = r.counted ∙ lanes.made.same.counted;

@@ -60,7 +60,7 @@ module _ (g : Grammar) (start : NonterminalString) (well : IsWellFormed g) (own 
     listed : conflicts ≡ flat_map (state_conflicts g.terminals) states
     listed = All-listed state_conflicts g.terminals m.listed
 
-    not_lr1 : ¬ IsLR1 (productions g) start
+    pub not_lr1 : ¬ IsLR1 (productions g) start
     not_lr1 = conflict_not_lr1 g start well own differ states built (λ none. some (listed ∙ none))
 
     goes_on : GoesOnBeforeLast g.terminals stop_after states
@@ -74,7 +74,7 @@ module _ (g : Grammar) (start : NonterminalString) (well : IsWellFormed g) (own 
     enough_or_all (inl positive) (inl few) = inr (all (λ h. let a = h.1 in omega arith))
     enough_or_all (inr none) d = inr (all (λ h. let a = h.0 in omega arith))
 
-    stops : StopsAfter (rules_of g) start stop_after states conflicts
+    pub stops : StopsAfter (rules_of g) start stop_after states conflicts
     stops = record {
       states_are = some_canonical_states g start well own states built differ;
       made = (first_kernel g start, built);

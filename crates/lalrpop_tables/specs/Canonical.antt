@@ -1,16 +1,19 @@
 -- The canonical states of a grammar (Knuth 1965; Aho, Sethi and Ullman, section 4.7), as the code's states.
-use Rattle.std.specs.Prelude.{◌≡◌, ◌<◌, ◌==◌, ◌&&◌, ℕ, Bool, true, false, List, length, slice_get, Option, Some, None}
+use Rattle.std.specs.Prelude.{◌≡◌, ◌<◌, ◌==◌, ◌&&◌, ℕ, Bool, true, false, List, length, slice_get, Option, Some, None, Contains}
+use Rattle.std.specs.Borrow.{Bor}
 use Rattle.std.specs.List.{list_any}
 use Rattle.lalrpop_base.specs.Bits.{Bits}
 use Rattle.lalrpop_base.specs.Closures.{IsReached, TokenKernelsDiffer}
+use Rattle.lalrpop_base.specs.Coherent.{AreCoherent}
 use Rattle.lalrpop_base.specs.Conflicts.{ReducesInOrder}
 use Rattle.lalrpop_base.specs.Contents.{contents, holds_token}
 use Rattle.lalrpop_base.specs.Failures.{IfConflicts}
 use Rattle.lalrpop_base.specs.Items.{Dotted}
 use Rattle.lalrpop_base.specs.Laws.{AreCanonicalWith}
 use Rattle.lalrpop_base.specs.Places.{AllDiffer}
+use Rattle.lalrpop_base.specs.Tokens.{FitsTokens}
 use Rattle.lalrpop_base.specs.Validity.{IsLR1}
-use Rattle.lalrpop_base.specs.WellFormed.{Rules}
+use Rattle.lalrpop_base.specs.WellFormed.{Rules, rules_of}
 use Rattle.lalrpop_base.specs.contracts.repr.ProductionPartialEq.TheImpl as production_eq
 use Rattle.lalrpop_base.specs.declared.lookahead.token.Token.{Token}
 use Rattle.lalrpop_base.specs.declared.lr1_core.state.BuildError.{BuildError}
@@ -18,7 +21,8 @@ use Rattle.lalrpop_base.specs.declared.lr1_core.state.State.{State}
 use Rattle.lalrpop_base.specs.declared.repr.NonterminalString.{NonterminalString}
 use Rattle.lalrpop_base.specs.declared.repr.Production.{Production}
 use Rattle.lalrpop_base.specs.declared.repr.TerminalString.{TerminalString}
-use Rattle.lalrpop_tables.specs.Ascending.{production_order}
+use Rattle.lalrpop_base.specs.declared.repr.grammar.Grammar.{Grammar}
+use Rattle.lalrpop_tables.specs.Ascending.{Ascend, production_order}
 
 -- ---- the tokens of the states' items
 module _ {L : Type 0} (holds : L → Token → Bool) where
@@ -55,3 +59,16 @@ HasCanonicalStates g start = IfConflicts (λ error. AreCanonicalStates g start e
 -- an error with conflicts comes of a grammar that is not LR(1); want of memory says nothing
 abbrev pub TellsNotLR1 : List Production → NonterminalString → BuildError Bits → Type 0
 TellsNotLR1 g start = IfConflicts (λ error. ¬ IsLR1 g start)
+
+-- ---- what a collapse asks of them
+-- the tokens of the state's reductions are tokens of the terminals
+abbrev pub FitReductions : List TerminalString → State Bits → Type 0
+FitReductions terminals s = (r : Bits × Bor Production) → Contains s.reductions.items r → FitsTokens terminals r.0
+
+-- the canonical states of the grammar under any numbers, at least one: they lead to one another, items ascend, and reductions hold tokens of the terminals alone
+pub record AreOrderedCanonical (g : Grammar) (start : NonterminalString) (states : List (State Bits)) : Type 0 where
+  pub canonical : AreCanonicalStates (rules_of g) start states
+  pub coherent : AreCoherent states
+  pub some : 0 < length states
+  pub ascend : (n : ℕ) (s : State Bits) → slice_get states n ≡ Some s → Ascend s.items.vec.items
+  pub fit : (n : ℕ) (s : State Bits) → slice_get states n ≡ Some s → FitReductions g.terminals s

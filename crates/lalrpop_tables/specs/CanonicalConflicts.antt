@@ -1,5 +1,5 @@
 -- Lists of conflicts that are, state by state, the canonical conflicts of the prefixes that lead to the state.
-use Rattle.std.specs.Prelude.{◌≡◌, ◌≢◌, ◌≤◌, ◌==◌, ℕ, List, [], Some, Contains}
+use Rattle.std.specs.Prelude.{◌≡◌, ◌≢◌, ◌<◌, ◌≤◌, ◌==◌, ℕ, List, [], length, Some, Contains}
 use Rattle.std.specs.List.{filter}
 use Rattle.lalrpop_base.specs.Bits.{Bits}
 use Rattle.lalrpop_base.specs.ConflictLists.{Ordered}
@@ -33,9 +33,10 @@ StatesAscend conflicts = Ordered (λ c d. c.state.0 ≤ d.state.0) conflicts
 abbrev pub ShiftsLead : List TerminalString → List (State Bits) → List (Conflict Bits) → Type 0
 ShiftsLead terminals states conflicts = (c : Conflict Bits) (t : TerminalString) (target : StateIndex) → Contains conflicts c → c.action ≡ Shift t target → (contents terminals states c.state.0).shift t ≡ Some target.0
 
--- the conflicts listed of the state after a prefix are exactly the prefix's canonical conflicts, in their order, and the states ascend
+-- the conflicts listed of the state after a prefix are exactly the prefix's canonical conflicts, in their order, and none is listed of a state that is not there; the states ascend
 pub record AreCanonicalConflictsOf (g : Grammar) (start : NonterminalString) (states : List (State Bits)) (conflicts : List (Conflict Bits)) : Type 0 where
   pub each : (u : List Symbol) (n : ℕ) → state_after (contents g.terminals states) u ≡ Some n → AreCanonicalConflicts terminal_ord.ghosts.cmp production_ord.ghosts.cmp (productions g) start u (conflicts_of g.terminals (listed_of n conflicts))
+  pub only : (c : Conflict Bits) → Contains conflicts c → c.state.0 < length states
   pub ascend : StatesAscend conflicts
   pub lead : ShiftsLead g.terminals states conflicts
 

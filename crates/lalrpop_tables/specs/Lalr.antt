@@ -12,11 +12,10 @@ use Rattle.lalrpop_base.specs.declared.lr1_core.state.State.{State}
 use Rattle.lalrpop_base.specs.declared.repr.NonterminalString.{NonterminalString}
 use Rattle.lalrpop_base.specs.declared.repr.Production.{Production}
 use Rattle.lalrpop_base.specs.declared.repr.grammar.Grammar.{Grammar}
-use Rattle.lalrpop_tables.specs.Canonical.{AreCanonicalStates}
 use Rattle.lalrpop_tables.specs.Collapsed.{AreOrdered, AreCollapsedTables, FailsByCollapse}
 use Rattle.lalrpop_tables.specs.EarlyStop.{FailsAfter}
 use Rattle.lalrpop_tables.specs.Renumbered.{AreRenumbered}
-use Rattle.lalrpop_tables.specs.Results.{HaveNoConflict, AreStatesOf, AreTables, canonical_of}
+use Rattle.lalrpop_tables.specs.Results.{HaveNoConflict, AreTables, canonical_of}
 use Rattle.lalrpop_tables.specs.declared.build.options.Method.TheVariants.{Canonical}
 use Rattle.lalrpop_tables.specs.declared.build.options.Options.{Options}
 
@@ -24,11 +23,6 @@ use Rattle.lalrpop_tables.specs.declared.build.options.Options.{Options}
 pub record Collapses (g : Grammar) (options : Options) : Type 0 where
   pub asked : IsTrue g.algorithm.lalr
   pub canonical : options.method ≡ Canonical
-
--- the canonical states of the grammar, as their construction makes them
-pub record AreBuiltCanonical (g : Grammar) (start : NonterminalString) (states : List (State Bits)) : Type 0 where
-  pub made : AreStatesOf (canonical_of g start) states
-  pub canonical : AreCanonicalStates (rules_of g) start states
 
 -- the grammar is LALR(1), and the tables are faithful to it
 pub record AreLalrTables (g : Grammar) (start : NonterminalString) (tables : List (State Bits)) : Type 0 where

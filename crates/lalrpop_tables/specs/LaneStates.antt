@@ -59,11 +59,20 @@ pub record HaveSamePlaces {K L : Type 0} (old : List (State K)) (new : List (Sta
   pub counted : length new ≡ length old
   pub each : (n : ℕ) (before : State K) (after : State L) → slice_get old n ≡ Some before → slice_get new n ≡ Some after → HasSamePlace before after
 
--- the LR(0) states of the grammar with some tokens
+-- the set has exactly the bits of the terminals, and that of the end
+abbrev pub IsFull : List TerminalString → Bits → Type 0
+IsFull terminals set = (bit : ℕ) → (has set bit ≡ true) ↔ (bit ≤ length terminals)
+
+-- each item of each state holds exactly the terminals and the end
+abbrev pub HaveFullItems : List TerminalString → List (State Bits) → Type 0
+HaveFullItems terminals states = (n : ℕ) (state : State Bits) (item : Dotted Bits) → slice_get states n ≡ Some state → Contains state.items.vec.items item → IsFull terminals item.lookahead
+
+-- the LR(0) states of the grammar with all tokens on the items, and some on the reductions
 pub record AreLaneStates (g : Rules) (start : NonterminalString) (states : List (State Bits)) : Type 0 where
   pub bare : List (State Nil)
   pub lr0 : AreLr0States g start bare
   pub same : HaveSamePlaces bare states
+  pub items : HaveFullItems g.terminals states
 
 -- what follows of them, in the words of the definitions
 pub record AreLr0Tables (g : Rules) (start : NonterminalString) (states : List (State Bits)) : Type 0 where
@@ -78,13 +87,13 @@ abbrev pub HasLr0Tables : Rules → NonterminalString → BuildError Bits → Ty
 HasLr0Tables g start = IfConflicts (λ error. AreLr0Tables g start error.states.items)
 
 -- ---- promoted states
--- the set has each bit of a terminal, and that of the end
-abbrev pub IsFull : List TerminalString → Bits → Type 0
-IsFull terminals set = (bit : ℕ) → bit ≤ length terminals → has set bit ≡ true
-
--- each reduction of the state holds all tokens
+-- each reduction of the state holds exactly the terminals and the end
 abbrev pub HoldsAll : List TerminalString → State Bits → Type 0
 HoldsAll terminals state = (r : Bits × Bor Production) → Contains state.reductions.items r → IsFull terminals r.0
+
+-- the states from a place on hold all tokens
+abbrev pub HoldAllFrom : List TerminalString → ℕ → List (State Bits) → Type 0
+HoldAllFrom terminals from states = (n : ℕ) (state : State Bits) → from ≤ n → slice_get states n ≡ Some state → HoldsAll terminals state
 
 -- an item, and a reduction, with the tokens
 abbrev pub promoted_item : Bits → Dotted Nil → Dotted Bits
@@ -158,6 +167,10 @@ module _ (g : Rules) (start : NonterminalString) (places : ℕ → Contents) (s 
     pub holds : (r : Bits × Bor Production) → Contains state.reductions.items r → HasLaneBits r.0 r.1.now
     pub free : HasNoConflict g.terminals state
 
+-- the state at the place is resolved, by the lanes over the states
+abbrev pub IsResolvedAt : Rules → NonterminalString → List (State Bits) → ℕ → List (State Bits) → Type 0
+IsResolvedAt g start states n new = (state : State Bits) → slice_get new n ≡ Some state → IsResolved g start (places_in states) n state
+
 -- ---- where actions meet
 module _ (g : List Production) (start : NonterminalString) (states : ℕ → Contents) (n : ℕ) where
   -- an action of the state, and one of its tokens: a shift of that terminal, or a finished production with a lane token
@@ -181,17 +194,20 @@ pub record AreLaneTables (g : Rules) (start : NonterminalString) (states : List 
   pub holds : HoldLaneTokens g.productions start (contents g.terminals states)
   pub free : HaveNoConflict g.terminals states
 
--- one of the states has two actions that share a token
+-- one of the states has two actions that share a token; the states before it are resolved, and the reductions of it and of those behind it hold all tokens
 pub record HaveMeetingLanes (g : Rules) (start : NonterminalString) (states : List (State Bits)) : Type 0 where
   pub number : ℕ
   pub listed : number < length states
   pub meet : LanesMeet g.productions start (contents g.terminals states) number
+  pub before : (n : ℕ) → n < number → IsResolvedAt g start states n states
+  pub from : HoldAllFrom g.terminals number states
 
--- LR(0) states of which one has two actions that share a token, and the conflicts of each, states ascending
+-- LR(0) states of which one has two actions that share a token, and the conflicts of each, states ascending; there is one
 pub record AreLaneConflicts (g : Rules) (start : NonterminalString) (states : List (State Bits)) (conflicts : List (Conflict Bits)) : Type 0 where
   pub made : AreLaneStates g start states
   pub met : HaveMeetingLanes g start states
   pub all : conflicts ≡ flat_map (state_conflicts g.terminals) states
+  pub some : 0 < length conflicts
 
 -- an error has such; want of memory says nothing
 abbrev pub FailsByLanes : Rules → NonterminalString → BuildError Bits → Type 0
@@ -216,7 +232,7 @@ pub record IsAttempted (actions : List CodeAction) (table : LaneTable) (old new 
   pub disjoint : AreDisjoint columns
   pub applied : IsApplied actions columns old new
 
--- the state at the place became the other, with the same place, and no other state changed
+-- the state at the place became the other, with the same place and the same items, and no other state changed
 pub record IsStep (index : ℕ) (old new : List (State Bits)) : Type 0 where
   pub before : State Bits
   pub after : State Bits
@@ -225,11 +241,4 @@ pub record IsStep (index : ℕ) (old new : List (State Bits)) : Type 0 where
   pub counted : length new ≡ length old
   pub others : (k : ℕ) → (k ≡ index → ⊥) → slice_get new k ≡ slice_get old k
   pub same : HasSamePlace before after
-
--- the states from a place on hold all tokens
-abbrev pub HoldAllFrom : List TerminalString → ℕ → List (State Bits) → Type 0
-HoldAllFrom terminals from states = (n : ℕ) (state : State Bits) → from ≤ n → slice_get states n ≡ Some state → HoldsAll terminals state
-
--- the state at the place is resolved, by the lanes over the states
-abbrev pub IsResolvedAt : Rules → NonterminalString → List (State Bits) → ℕ → List (State Bits) → Type 0
-IsResolvedAt g start states n new = (state : State Bits) → slice_get new n ≡ Some state → IsResolved g start (places_in states) n state
+  pub items : after.items ≡ before.items

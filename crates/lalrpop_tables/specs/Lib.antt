@@ -23,8 +23,10 @@ pub mod LaneSteps
 pub mod LaneTableStates
 pub mod LaneTables
 pub mod LaneTraces
+pub mod Laws
 pub mod ListedConflicts
 pub mod Lr0
+pub mod Lr1Answers
 pub mod Merges
 pub mod Merging
 pub mod Moved

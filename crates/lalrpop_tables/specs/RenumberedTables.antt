@@ -5,7 +5,7 @@ use Rattle.lalrpop_base.specs.WellFormed.{Rules}
 use Rattle.lalrpop_base.specs.declared.lookahead.nil.Nil.{Nil}
 use Rattle.lalrpop_base.specs.declared.lr1_core.state.State.{State}
 use Rattle.lalrpop_base.specs.declared.repr.NonterminalString.{NonterminalString}
-use Rattle.lalrpop_tables.specs.LaneStates.{AreLaneTables}
+use Rattle.lalrpop_tables.specs.LaneStates.{AreLaneTables, HaveFullItems}
 use Rattle.lalrpop_tables.specs.Lr0.{AreLr0States}
 use Rattle.lalrpop_tables.specs.Renumbered.{AreRenumbered}
 use Rattle.lalrpop_tables.specs.Results.{Construction, AreTables, HaveNoConflict}
@@ -18,12 +18,13 @@ pub record AreRenumberedTables (c : Construction Bits) (tables : List (State Bit
   pub some : 0 < length tables
   pub free : HaveNoConflict c.rules.terminals tables
 
--- the lane tables of a grammar, renumbered; none has a conflict, and there are as many as its LR(0) states
+-- the lane tables of a grammar, renumbered; none has a conflict, each item holds all tokens, and there are as many as its LR(0) states
 pub record AreRenumberedLaneTables (g : Rules) (start : NonterminalString) (tables : List (State Bits)) : Type 0 where
   pub built : List (State Bits)
   pub lanes : AreLaneTables g start built
   pub renumbered : AreRenumbered g.terminals built tables
   pub free : HaveNoConflict g.terminals tables
+  pub items : HaveFullItems g.terminals tables
   pub bare : List (State Nil)
   pub lr0 : AreLr0States g start bare
   pub counted : length tables ≡ length bare

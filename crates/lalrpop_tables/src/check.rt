@@ -30,7 +30,8 @@ fn hold_carried<'grammar>(
     states: &[Lr1State<'grammar>],
 ) -> Result<bool, OutOfMemory>
     requires well_formed { IsWellFormed grammar.now }
-    requires closed { AreClosed (productions grammar.now) start.now (contents grammar.now.terminals states.now) }
+    requires closed { AreClosed (productions grammar.now) start.now
+        (contents grammar.now.terminals states.now) }
     ensures { IfOk result (λ yes. IsTrue yes ↔ HoldCarried grammar.now start.now states.now) }
 {
     let _terminals = grammar.terminals.all();
@@ -40,10 +41,11 @@ fn hold_carried<'grammar>(
     Ok(held)
 }
 
-/// Whether states are tables of a grammar: state 0 holds the closure of the start's productions, each target that of
-/// what was moved, transitions and reductions are what the items say, the tokens that are carried over the states'
-/// own edges lie inside those of the reductions, and no state has a conflict. Each item of a state is visited a small
-/// constant number of times for each token.
+/// Whether states are tables of a grammar: state 0 holds the closure of the start's productions,
+/// each target that of what was moved, transitions and reductions are what the items say, the
+/// tokens that are carried over the states' own edges lie inside those of the reductions, and no
+/// state has a conflict. Each item of a state is visited a small constant number of times for each
+/// token.
 pub fn check_tables<'grammar>(
     alloc: Global,
     grammar: &'grammar Grammar,
@@ -54,8 +56,10 @@ pub fn check_tables<'grammar>(
     requires coherent { AreCoherent states.now }
     requires some { 0 < length states.now }
     ensures exact { IfOk result (λ yes. IsTrue yes ↔ PassCheck grammar.now start states.now) }
-    ensures checked { IfOk result (λ yes. IsTrue yes → AreChecked (productions grammar.now) start (contents grammar.now.terminals states.now)) }
-    ensures faithful { IfOk result (λ yes. IsTrue yes → AreFaithful (productions grammar.now) start (contents grammar.now.terminals states.now)) }
+    ensures checked { IfOk result (λ yes. IsTrue yes →
+        AreChecked (productions grammar.now) start (contents grammar.now.terminals states.now)) }
+    ensures faithful { IfOk result (λ yes. IsTrue yes →
+        AreFaithful (productions grammar.now) start (contents grammar.now.terminals states.now)) }
 {
     let listed = listed_states(alloc, states)?;
     let targets = targets(alloc, states)?;

@@ -16,7 +16,8 @@ pub(crate) fn conflicts_of<'grammar>(
     states: &[Lr1State<'grammar>],
     terminals: &TerminalSet,
 ) -> Result<Vec<Lr1Conflict<'grammar>>, OutOfMemory>
-    ensures { IfOk result (λ conflicts. conflicts.items ≡ flat_map (state_conflicts terminals.now) states.now) }
+    ensures { IfOk result
+        (λ conflicts. conflicts.items ≡ flat_map (state_conflicts terminals.now) states.now) }
 {
     let mut conflicts = Vec::new(alloc);
     for state in states {

@@ -1,4 +1,5 @@
-//! The lane way: LR(0) states whose reductions get the tokens that tracing back over the states finds.
+//! The lane way: LR(0) states whose reductions get the tokens that tracing back over the states
+//! finds.
 pub mod construct;
 pub mod context_set;
 pub mod lane;
@@ -24,12 +25,17 @@ pub fn build_lane_table_states<'grammar>(
     max_copies: usize,
 ) -> Lr1Result<'grammar>
     requires { IsWellFormed grammar.now }
-    ensures tables { IfOk result (λ tables. AreLaneTables (rules_of grammar.now) start tables.items) }
+    ensures tables { IfOk result
+        (λ tables. AreLaneTables (rules_of grammar.now) start tables.items) }
     ensures failure { IfErr result (FailsByLanes (rules_of grammar.now) start) }
-    ensures shape { MatchResult result (λ tables. AreLr0Tables (rules_of grammar.now) start tables.items) (HasLr0Tables (rules_of grammar.now) start) }
+    ensures shape { MatchResult result
+        (λ tables. AreLr0Tables (rules_of grammar.now) start tables.items)
+        (HasLr0Tables (rules_of grammar.now) start) }
 
     // Where the start symbol stands on no right side: tables exactly where the grammar is LALR(1).
-    ensures lalr { IsOnNoRightSide (productions grammar.now) start → MatchResult result (λ tables. AreLalrLaneTables (rules_of grammar.now) start tables.items) (TellsNotLALR1 (productions grammar.now) start) }
+    ensures lalr { IsOnNoRightSide (productions grammar.now) start →
+        MatchResult result (λ tables. AreLalrLaneTables (rules_of grammar.now) start tables.items)
+        (TellsNotLALR1 (productions grammar.now) start) }
 {
     let construct = LaneTableConstruct::new(alloc, grammar, start, max_copies)?;
     construct.construct(alloc)

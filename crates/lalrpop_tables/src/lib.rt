@@ -6,6 +6,7 @@ pub mod build_lalr;
 pub mod check;
 mod conflicts;
 pub mod lane_table;
+pub mod laws;
 pub mod lr1;
 mod place;
 mod renumber;

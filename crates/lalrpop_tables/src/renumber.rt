@@ -1,4 +1,5 @@
-//! The numbers of the states of a table: state 0 first, then the states with a goto, then the others.
+//! The numbers of the states of a table: state 0 first, then the states with a goto, then the
+//! others.
 ghost use Rattle.std.specs.Prelude.{◌≡◌, ◌+◌, ◌<◌, ◌^◌, ◌++◌, ◌∷◌, [], ℕ, List, length, cond, count_by, IfOk, OnOk};
 ghost use Rattle.lalrpop_base.specs.Coherent.{AreCoherent};
 ghost use Rattle.lalrpop_base.specs.declared.repr.TerminalString.{TerminalString as Terminal};
@@ -34,8 +35,10 @@ fn push_number(
 ) -> Result<(), OutOfMemory>
     requires front_room { front.old < 2 ^ 63 }
     requires back_room { back.old < 2 ^ 63 }
-    ensures number { OnOk result (numbers.new.items ≡ numbers.old.items ++ cond (stands_first state.now) front.old back.old ∷ []) }
-    ensures front { OnOk result (front.new ≡ cond (stands_first state.now) (front.old + 1) front.old) }
+    ensures number { OnOk result (numbers.new.items ≡ numbers.old.items ++ cond
+        (stands_first state.now) front.old back.old ∷ []) }
+    ensures front { OnOk result
+        (front.new ≡ cond (stands_first state.now) (front.old + 1) front.old) }
     ensures back { OnOk result (back.new ≡ cond (stands_first state.now) back.old (back.old + 1)) }
 {
     if is_first(state) {
@@ -50,7 +53,8 @@ fn push_number(
 
 // The new number of each state.
 fn new_numbers(alloc: Global, states: &[Lr1State]) -> Result<Vec<usize>, OutOfMemory>
-    ensures { IfOk result (λ numbers. ArePlaces stands_first states.now (length states.now) numbers.items) }
+    ensures { IfOk result
+        (λ numbers. ArePlaces stands_first states.now (length states.now) numbers.items) }
 {
     let mut numbers = Vec::new(alloc);
     let mut front = 0;
@@ -101,8 +105,10 @@ fn push_state<'grammar>(
     front: &mut Vec<Lr1State<'grammar>>,
     back: &mut Vec<Lr1State<'grammar>>,
 ) -> Result<(), OutOfMemory>
-    ensures front { OnOk result (GrowsBy (number_in numbers.now) (stands_first state.entry) state.entry front.old.items front.new.items) }
-    ensures back { OnOk result (GrowsBy (number_in numbers.now) (fails stands_first state.entry) state.entry back.old.items back.new.items) }
+    ensures front { OnOk result (GrowsBy (number_in numbers.now) (stands_first state.entry)
+        state.entry front.old.items front.new.items) }
+    ensures back { OnOk result (GrowsBy (number_in numbers.now) (fails stands_first state.entry)
+        state.entry back.old.items back.new.items) }
 {
     if is_first(&state) {
         front.push(renumber_state(state, numbers))?;
@@ -118,7 +124,8 @@ fn move_states<'grammar>(
     states: Vec<Lr1State<'grammar>>,
     numbers: &[usize],
 ) -> Result<Vec<Lr1State<'grammar>>, OutOfMemory>
-    ensures { IfOk result (λ moved. AreMoved (number_in numbers.now) (parted stands_first states.entry.items) moved.items) }
+    ensures { IfOk result (λ moved. AreMoved (number_in numbers.now)
+        (parted stands_first states.entry.items) moved.items) }
 {
     let mut front = Vec::new(alloc);
     let mut back = Vec::new(alloc);
@@ -129,14 +136,15 @@ fn move_states<'grammar>(
     Ok(front)
 }
 
-/// The states with state 0 first, then those with a goto, then the others, each part in its old order, and
-/// with the numbers of their places. Linear in the size of the states.
+/// The states with state 0 first, then those with a goto, then the others, each part in its old
+/// order, and with the numbers of their places. Linear in the size of the states.
 pub(crate) fn renumber<'grammar>(
     alloc: Global,
     states: Vec<Lr1State<'grammar>>,
 ) -> Result<Vec<Lr1State<'grammar>>, OutOfMemory>
     requires { AreCoherent states.items }
-    ensures { IfOk result (λ renumbered. (terminals : List Terminal) → AreRenumbered terminals states.entry.items renumbered.items) }
+    ensures { IfOk result (λ renumbered. (terminals : List Terminal) →
+        AreRenumbered terminals states.entry.items renumbered.items) }
 {
     let numbers = new_numbers(alloc, &states)?;
     move_states(alloc, states, &numbers)

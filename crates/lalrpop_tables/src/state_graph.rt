@@ -15,7 +15,8 @@ use lalrpop_base::repr::{NonterminalString, Symbol, TerminalString};
 use std::alloc::Global;
 use std::collections::BTreeMap;
 
-/// The shifts and gotos of a list of states. A target that is not in the list is a state without successors.
+/// The shifts and gotos of a list of states. A target that is not in the list is a state without
+/// successors.
 #[derive(Drop)]
 pub struct StateGraph {
     successors: Multimap<StateIndex, Vec<StateIndex>>,
@@ -87,7 +88,8 @@ impl StateGraph {
         Ok(())
     }
 
-    /// The targets of the edges of a state: of its gotos and then of its shifts, each by descending symbol.
+    /// The targets of the edges of a state: of its gotos and then of its shifts, each by descending
+    /// symbol.
     pub fn successors(&self, state: StateIndex) -> Successors<'_>
         ensures targets { targets_left result ≡ reverse (targets_of self.now state) }
     {
@@ -120,7 +122,10 @@ impl StateGraph {
         symbols: &[Symbol],
     ) -> Result<Vec<StateIndex>, OutOfMemory>
         ensures ascending { IfOk result (λ found. IsStrictlySortedBy state_cmp found.items) }
-        ensures exactly { IfOk result (λ found. (es : List Edge) → IsGraphOf es self.now → (r : StateIndex) → Contains found.items r ↔ LeadsTo es r symbols.now state) }
+        ensures exactly { IfOk result (λ found. (es : List Edge) →
+            IsGraphOf es self.now →
+            (r : StateIndex) →
+            Contains found.items r ↔ LeadsTo es r symbols.now state) }
     {
         let mut found = Vec::new(alloc);
         found.push(state)?;
@@ -139,7 +144,8 @@ impl StateGraph {
         states: &[StateIndex],
         symbol: &Symbol,
     ) -> Result<Vec<StateIndex>, OutOfMemory>
-        ensures sources { IfOk result (λ sources. IsStepBack self.now symbol.now states.now sources.items) }
+        ensures sources { IfOk result
+            (λ sources. IsStepBack self.now symbol.now states.now sources.items) }
         ensures ascending { IfOk result (λ sources. IsStrictlySortedBy state_cmp sources.items) }
     {
         let mut sources = Vec::new(alloc);
@@ -156,7 +162,8 @@ impl StateGraph {
         symbol: &Symbol,
         sources: &mut Vec<StateIndex>,
     ) -> Result<(), OutOfMemory>
-        ensures { OnOk result (AddsStates (sources_over self.now symbol.now state) sources.old.items sources.new.items) }
+        ensures { OnOk result (AddsStates (sources_over self.now symbol.now state) sources.old.items
+            sources.new.items) }
     {
         for source in self.predecessors(state, symbol) {
             sources.push(source)?;

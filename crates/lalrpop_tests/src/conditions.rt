@@ -1,4 +1,5 @@
-// Conditions of calls, each where it fails; and views that stay when what they were taken from is gone.
+// Conditions of calls, each where it fails; and views that stay when what they were taken from is
+// gone.
 ghost use Rattle.lalrpop_base.specs.WellFormed.{IsWellFormed};
 
 use crate::fixtures::{first_production, grammar, literal, literals};
@@ -67,8 +68,8 @@ fn terminals_of_a_trace_graph(rt: HostRuntime) -> Result<(), Fail> {
     Ok(())
 }
 
-// The states of X = "c" "d"; a second one behind "c", to which nothing leads, and which leads to a number over "d"; and
-// a second one behind "d", which may list its item twice.
+// The states of X = "c" "d"; a second one behind "c", to which nothing leads, and which leads to a
+// number over "d"; and a second one behind "d", which may list its item twice.
 fn states_with_twins<'g>(
     alloc: Global,
     grammar: &'g Grammar,
@@ -131,7 +132,8 @@ fn sets_of_more_terminals_do_not_fit(rt: HostRuntime) -> Result<(), Fail> {
     Ok(())
 }
 
-// Slices of a production, by an item and by a state that are gone; the whole of a production that is shorter than two.
+// Slices of a production, by an item and by a state that are gone; the whole of a production that
+// is shorter than two.
 fn slices<'g>(
     alloc: Global,
     production: &'g Production,

@@ -1,4 +1,5 @@
-// States merged by a lane table that is filled by hand, over the crossed ends: S1, behind "a", leads to S5 over "c".
+// States merged by a lane table that is filled by hand, over the crossed ends: S1, behind "a",
+// leads to S5 over "c".
 ghost use Rattle.std.specs.Prelude.{IfOk};
 ghost use Rattle.lalrpop_base.specs.WellFormed.{IsWellFormed};
 ghost use Rattle.lalrpop_tables.specs.Merges.{IsMerging};
@@ -78,7 +79,8 @@ fn start(alloc: Global, merge: &mut Merge, state: usize) -> Result<Result<(), Me
     Ok(merge.start(alloc, state))
 }
 
-// What stands behind a state is joined with its own tokens where they agree, and is apart where they do not.
+// What stands behind a state is joined with its own tokens where they agree, and is apart where
+// they do not.
 #[test]
 fn successors_are_joined_or_apart(rt: HostRuntime) -> Result<(), Fail> {
     let alloc = rt.alloc();

@@ -1,5 +1,5 @@
-//! Tests of the libraries' public calls where no case file can ask: a lookahead of a user's own, values that a text
-//! does not make, conditions that fail, and writers that stop.
+//! Tests of the libraries' public calls where no case file can ask: a lookahead of a user's own,
+//! values that a text does not make, conditions that fail, and writers that stop.
 #![tactic(auto)]
 
 #[cfg(test)]

@@ -10,7 +10,8 @@ use lalrpop_tables::build::lr::Lr;
 use std::alloc::Global;
 use std::test::Fail;
 
-// How many states and conflicts there are where a construction is told after how many conflicts it stops.
+// How many states and conflicts there are where a construction is told after how many conflicts it
+// stops.
 fn counts(alloc: Global, grammar: &Grammar, stop_after: usize) -> Result<(usize, usize), Fail>
     requires { IsWellFormed grammar.now }
 {

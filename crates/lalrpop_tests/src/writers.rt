@@ -44,7 +44,8 @@ State 1 {
 }
 ";
 
-// A writer that takes at most `step` bytes a call and `left` bytes in all, and then fails, or answers 0.
+// A writer that takes at most `step` bytes a call and `left` bytes in all, and then fails, or
+// answers 0.
 #[derive(Drop)]
 struct Taking {
     taken: Vec<u8>,
@@ -99,7 +100,8 @@ fn sent(
     (told(&answer), faults, out.into_inner().taken)
 }
 
-// What went out is a beginning of the text, so that a writer that takes ten bytes holds `Lalrpop Re`.
+// What went out is a beginning of the text, so that a writer that takes ten bytes holds `Lalrpop
+// Re`.
 #[test]
 fn writers_that_stop(rt: HostRuntime) -> Result<(), Fail> {
     let alloc = rt.alloc();

@@ -1,4 +1,5 @@
-//! `lrtab` reads a grammar text, and parses words with its tables, reports these or explains its conflicts.
+//! `lrtab` reads a grammar text, and parses words with its tables, reports these or explains its
+//! conflicts.
 #![tactic(auto)]
 
 use lalrpop_base::memory::OutOfMemory;
@@ -38,7 +39,8 @@ fn out_of_memory(rt: &HostRuntime) -> ExitCode {
     ExitCode::from(3)
 }
 
-/// The method that the environment asks for. Where there is no word, or one that is not UTF-8, it is the lane way.
+/// The method that the environment asks for. Where there is no word, or one that is not UTF-8, it
+/// is the lane way.
 fn given_method(rt: &HostRuntime) -> Result<Method, OutOfMemory> {
     match env::var(rt, "LALRPOP_LANE_TABLE") {
         Ok(word) => Ok(method_of(word.as_str())),

@@ -1,9 +1,26 @@
--- A grammar that is not marked for a collapse is not collapsed.
-use Rattle.std.proofs.Common.{◌≡◌, false, sym, ◌∙◌}
+-- A grammar that is not marked for a collapse is not collapsed, and what is said of its tables holds without that condition.
+use Rattle.std.proofs.Common.{◌≡◌, ℕ, List, false, sym, subst, ◌∙◌, Result, Ok, Err}
 use mathlib.Core.Bool.{true≢false}
+use Rattle.std.specs.Prelude.{IfOk, IfErr}
+use Rattle.std.specs.declared.vec.Vec.{Vec}
+use Rattle.lalrpop_base.specs.Bits.{Bits}
+use Rattle.lalrpop_base.specs.declared.lr1_core.state.BuildError.{BuildError}
+use Rattle.lalrpop_base.specs.declared.lr1_core.state.BuildError.TheVariants.{Conflicts, Memory}
+use Rattle.lalrpop_base.specs.declared.lr1_core.state.State.{State}
+use Rattle.lalrpop_base.specs.declared.lr1_core.state.TableConstructionError.{TableConstructionError}
+use Rattle.lalrpop_base.specs.declared.repr.NonterminalString.{NonterminalString}
 use Rattle.lalrpop_base.specs.declared.repr.grammar.Grammar.{Grammar}
 use Rattle.lalrpop_tables.specs.Lalr.{Collapses}
+use Rattle.lalrpop_tables.specs.Lr1Answers.{AreTablesOf, HasConflictsOf, FailsOn}
 use Rattle.lalrpop_tables.specs.declared.build.options.Options.{Options}
+use Rattle.lalrpop_tables.proofs.Lr1Answers.{Tables-where, Failure-where}
 
-pub not_collapsed : (g : Grammar) (options : Options) → g.algorithm.lalr ≡ false → ¬ Collapses g options
-not_collapsed g options plain c = true≢false (sym c.asked ∙ plain)
+module _ (g : Grammar) (options : Options) (plain : g.algorithm.lalr ≡ false) (start : NonterminalString) where
+  not_collapsed : ¬ Collapses g options
+  not_collapsed c = true≢false (sym c.asked ∙ plain)
+
+  pub plain_tables : (tables : List (State Bits)) → AreTablesOf (Collapses g options) options.method g start tables → AreTablesOf ⊥ options.method g start tables
+  plain_tables tables t = Tables-where g start tables (Collapses g options) ⊥ options.method not_collapsed (λ x. absurd x) t
+
+  pub plain_conflicts : options.stop_after ≡ 0 → (error : TableConstructionError Bits) → HasConflictsOf (Collapses g options) options.stop_after g start error → HasConflictsOf ⊥ 0 g start error
+  plain_conflicts whole error f = subst (λ (n : ℕ). HasConflictsOf ⊥ n g start error) whole (Failure-where g start options.stop_after (Collapses g options) ⊥ not_collapsed (λ x. absurd x) (Conflicts error) f)

@@ -1,79 +1,91 @@
--- What is shown of a parser's answer.
-use Rattle.std.proofs.Common.{◌≡◌, ℕ, ◌≤◌, List, map, Result, Ok, Err, refl, sym, subst, inl}
+-- What is shown of the answer of a parse.
+use Rattle.std.proofs.Common.{◌≡◌, ◌⊎◌, ℕ, List, Result, Ok, Err, refl, subst, inl, inr, map, false}
 use Rattle.std.specs.Prelude.{IfOk, IfErr, string_bytes}
 use Rattle.std.specs.declared.string.String.{String}
-use Rattle.lalrpop_base.specs.Bits.{Bits}
 use Rattle.lalrpop_base.specs.Contents.{contents}
-use Rattle.lalrpop_base.specs.Runs.{Parsed, Refused, Limit, HasOutcome, IsFirstWrong}
-use Rattle.lalrpop_base.specs.States.{Contents, AreFaithful}
-use Rattle.lalrpop_base.specs.Trees.{beside, no_trees, leaves, nodes}
+use Rattle.lalrpop_base.specs.Grammar.{IsOnNoRightSide}
+use Rattle.lalrpop_base.specs.Runs.{Parsed, Refused, Limit, IsFirstWrong}
 use Rattle.lalrpop_base.specs.WellFormed.{productions}
-use Rattle.lalrpop_base.specs.declared.lr1_core.state.State.{State}
 use Rattle.lalrpop_base.specs.declared.memory.OutOfMemory.{OutOfMemory}
 use Rattle.lalrpop_base.specs.declared.repr.NonterminalString.{NonterminalString}
-use Rattle.lalrpop_base.specs.declared.repr.Production.{Production}
 use Rattle.lalrpop_base.specs.declared.repr.TerminalString.{TerminalString}
 use Rattle.lalrpop_base.specs.declared.repr.TerminalString.TheVariants.{Literal}
 use Rattle.lalrpop_base.specs.declared.repr.grammar.Grammar.{Grammar}
-use Rattle.lalrpop_tables.specs.declared.build.options.Method.{Method}
-use Rattle.lalrpop_lr1.specs.Answers.{IsAnswer}
-use Rattle.lalrpop_lr1.specs.FaithfulAnswers.{ForEachGrammar, IsTreeWithin, IsCutOff, AnswersTrees, IfRefused, IfLimit}
+use Rattle.lalrpop_tables.specs.Lalr.{Collapses}
+use Rattle.lalrpop_tables.specs.Lr1Answers.{HasConflictsOf}
+use Rattle.lalrpop_tables.specs.declared.build.options.Options.{Options}
+use Rattle.lalrpop_lr1.specs.FaithfulAnswers.{IsTreeWithin}
+use Rattle.lalrpop_lr1.specs.Headline.{IsToldByTables}
+use Rattle.lalrpop_lr1.specs.ParseAnswers.{HadTables, IfConflicts, IfRefusedAt, TellsTrees}
 use Rattle.lalrpop_lr1.specs.ParseTrees.{tree_of}
-use Rattle.lalrpop_lr1.specs.declared.interpret.error.InterpretError.{InterpretError}
-use Rattle.lalrpop_lr1.specs.declared.interpret.error.InterpretError.TheVariants.{Refused as RefusedBy, Limit as LimitPassed, Memory}
+use Rattle.lalrpop_lr1.specs.declared.headline.parse_error.ParseError.{ParseError}
+use Rattle.lalrpop_lr1.specs.declared.headline.parse_error.ParseError.TheVariants.{Conflicts, Refused as RefusedAt, Limit as LimitTold, Memory}
 use Rattle.lalrpop_lr1.specs.declared.interpret.tree.ParseTree.{ParseTree}
 use Rattle.lrtab_run.specs.Words.{Parse}
-use Rattle.lrtab_run.specs.Shown.{AreTablesOf, IsTextOf, IsRunShown, IsTaskShown}
+use Rattle.lrtab_run.specs.Shown.{IsTextOf, IsParseShown, IsCountShown, IsTaskShown}
+use Rattle.lrtab_run.proofs.Plain.{plain_tables, plain_conflicts}
 
--- what the parser promises of its answer
-pub record IsPromised (table : ℕ → Contents) (states : List (State Bits)) (w : List TerminalString) (limit : ℕ) (answer : Result ParseTree (InterpretError Bits)) : Type 0 where
-  pub outcome : IsAnswer (HasOutcome table w limit) states answer
-  pub of_list : IfOk answer (λ tree. leaves (beside (tree_of tree) no_trees) ≡ w)
-  pub within : IfOk answer (λ tree. nodes (beside (tree_of tree) no_trees) ≤ limit)
-  pub limited : IfErr answer (IfLimit (IsCutOff table w limit))
-  pub parsed : IfOk answer (λ tree. ForEachGrammar table (IsTreeWithin limit w (tree_of tree)))
-  pub parses : ForEachGrammar table (AnswersTrees limit w answer)
-  pub refused : IfErr answer (IfRefused (λ _ token. ForEachGrammar table (λ g start. IsFirstWrong g start w token)) states)
+module _ (g : Grammar) (options : Options) (plain : g.algorithm.lalr ≡ false) (whole : options.stop_after ≡ 0) (start : NonterminalString) (w : List TerminalString) (limit : ℕ) where
+  -- what the page of the promise says of an answer
+  pub record IsPromised (answer : Result ParseTree ParseError) : Type 0 where
+    pub parses : IfOk answer (λ tree. IsOnNoRightSide (productions g) start → IsTreeWithin limit w (tree_of tree) (productions g) start)
+    pub refuses : IfErr answer (IfRefusedAt (λ token. IsOnNoRightSide (productions g) start → IsFirstWrong (productions g) start w token))
+    pub one_tree : IsOnNoRightSide (productions g) start → TellsTrees limit w answer (productions g) start
+    pub run : HadTables answer → IsToldByTables g options start w limit answer
+    pub conflicts : IfErr answer (IfConflicts (HasConflictsOf (Collapses g options) options.stop_after g start))
 
-module _ (table : ℕ → Contents) (states : List (State Bits)) (w : List TerminalString) (limit : ℕ) (g : List Production) (start : NonterminalString) (faithful : AreFaithful g start table) where
-  answer_shown : (answer : Result ParseTree (InterpretError Bits)) (status : ℕ) (text : List ℕ) → IsPromised table states w limit answer → IsTextOf answer status text → IsRunShown g start table w limit status text
-  answer_shown (Ok tree) status text h shown = record {
-    outcome = Parsed (tree_of tree);
-    run = h.outcome;
-    shown = (shown.0, tree, refl, shown.1);
-    of_tokens = (h.of_list, h.within);
-    of_grammar = λ apart. (h.parsed g start faithful apart).parse;
-    of_trees = λ apart t is_tree. h.parses g start faithful apart t is_tree;
-  }
-  answer_shown (Err (RefusedBy state token)) status text h shown = record {
-    outcome = Refused h.outcome.0 token;
-    run = h.outcome.2;
-    shown = shown;
-    of_tokens = tt;
-    of_grammar = λ apart. h.refused.2 g start faithful apart;
-    of_trees = λ apart t is_tree. h.parses g start faithful apart t is_tree;
-  }
-  answer_shown (Err LimitPassed) status text h shown = record {
-    outcome = Limit;
-    run = h.outcome;
-    shown = shown;
-    of_tokens = h.limited;
-    of_grammar = λ apart. tt;
-    of_trees = λ apart t is_tree. h.parses g start faithful apart t is_tree;
-  }
+  answer_shown : (answer : Result ParseTree ParseError) (status : ℕ) (text : List ℕ) → IsPromised answer → IsTextOf answer status text →
+      IsParseShown options.method g start w limit status text ⊎ IsCountShown g start status text
+  answer_shown (Ok tree) status text h shown =
+      let r : IsToldByTables g options start w limit (Ok tree) = h.run tt in
+      inl (record {
+        states = r.tables;
+        tables = plain_tables g options plain start r.tables r.made;
+        run = record {
+          outcome = Parsed (tree_of tree);
+          run = r.told;
+          shown = (shown.0, tree, refl, shown.1);
+          of_tokens = (r.of_list, r.within);
+          of_grammar = λ alone. (h.parses alone).parse;
+          of_trees = h.one_tree;
+        };
+      })
+  answer_shown (Err (RefusedAt token)) status text h shown =
+      let r : IsToldByTables g options start w limit (Err (RefusedAt token)) = h.run tt in
+      inl (record {
+        states = r.tables;
+        tables = plain_tables g options plain start r.tables r.made;
+        run = record {
+          outcome = Refused r.told.0 token;
+          run = r.told.1;
+          shown = shown;
+          of_tokens = tt;
+          of_grammar = h.refuses;
+          of_trees = λ alone t parse. (h.one_tree alone t parse).1;
+        };
+      })
+  answer_shown (Err LimitTold) status text h shown =
+      let r : IsToldByTables g options start w limit (Err LimitTold) = h.run tt in
+      inl (record {
+        states = r.tables;
+        tables = plain_tables g options plain start r.tables r.made;
+        run = record {
+          outcome = Limit;
+          run = r.told;
+          shown = shown;
+          of_tokens = r.cut_off;
+          of_grammar = λ alone. tt;
+          of_trees = h.one_tree;
+        };
+      })
+  answer_shown (Err (Conflicts error)) status text h shown =
+      inr (record { error = error; no_tables = plain_conflicts g options plain start whole error h.conflicts; ended = shown.0; shown = shown.1 })
   answer_shown (Err Memory) status text h shown = absurd shown
 
-  -- the text of an answer is that of the run, also under another name of the tokens
-  pub run_shown : {A : Type 0} (named : List TerminalString) → w ≡ named → (answer : Result ParseTree (InterpretError Bits)) (r : Result (ℕ × String A) OutOfMemory) → IsPromised table states w limit answer →
-      IfOk r (λ o. IsTextOf answer o.0 (string_bytes o.1)) → IfOk r (λ o. IsRunShown g start table named limit o.0 (string_bytes o.1))
-  run_shown named same answer (Ok o) h shown = subst (λ (tokens : List TerminalString). IsRunShown g start table tokens limit o.0 (string_bytes o.1)) same (answer_shown answer o.0 (string_bytes o.1) h shown)
-  run_shown named same answer (Err e) h shown = tt
-
--- what is shown of a run by the tables of a grammar is shown of a parse
-pub parse_shown : {A : Type 0} (method : Method) (g : Grammar) (start : NonterminalString) (limit : ℕ) (words : List (List ℕ)) (tables states : List (State Bits)) → states ≡ tables → AreTablesOf method g start tables → (r : Result (ℕ × String A) OutOfMemory) →
-    (AreFaithful (productions g) start (contents g.terminals states) → IfOk r (λ o. IsRunShown (productions g) start (contents g.terminals states) (map Literal words) limit o.0 (string_bytes o.1))) →
-    IfOk r (λ o. IsTaskShown method g start (Parse limit words) o.0 (string_bytes o.1))
-parse_shown method g start limit words tables states same made (Ok o) run =
-    let here : AreTablesOf method g start states = subst (AreTablesOf method g start) (sym same) made in
-    inl (record { states = states; tables = here; run = run here.faithful })
-parse_shown method g start limit words tables states same made (Err e) run = tt
+  -- the text of an answer is what a parse shows, also under another name of the tokens
+  pub parse_shown : {A : Type 0} (words : List (List ℕ)) → w ≡ map Literal words → (answer : Result ParseTree ParseError) (r : Result (ℕ × String A) OutOfMemory) → IsPromised answer →
+      IfOk r (λ o. IsTextOf answer o.0 (string_bytes o.1)) → IfOk r (λ o. IsTaskShown options.method g start (Parse limit words) o.0 (string_bytes o.1))
+  parse_shown words same answer (Ok o) h shown =
+      subst (λ (tokens : List TerminalString). IsParseShown options.method g start tokens limit o.0 (string_bytes o.1) ⊎ IsCountShown g start o.0 (string_bytes o.1)) same
+      (answer_shown answer o.0 (string_bytes o.1) h shown)
+  parse_shown words same answer (Err e) h shown = tt

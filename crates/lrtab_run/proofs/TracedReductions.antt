@@ -9,6 +9,7 @@ use Rattle.lalrpop_base.specs.declared.lr1_core.state.State.{State}
 use Rattle.lalrpop_base.specs.declared.lr1_core.state.StateIndex.{StateIndex}
 use Rattle.lalrpop_lr1.specs.Paths.{item_node, paths}
 use Rattle.lalrpop_lr1.specs.TraceGraphs.{Graph, AreKnownEdges}
+use Rattle.lalrpop_lr1.specs.TraceOrder.{IsInOrder}
 use Rattle.lalrpop_lr1.specs.Traces.{HasOwnProductions, HasOwnTerminals, IsTraceOf, StandsIn, dotted, reduction_traced}
 use Rattle.lalrpop_lr1.specs.Walks.{to_come}
 use Rattle.lalrpop_lr1.specs.declared.trace.filtered.FilteredPathEnumerator.{FilteredPathEnumerator}
@@ -32,20 +33,23 @@ module _ (g h : Rules) (states made : List (State Bits)) (same_rules : h ≡ g) 
       subst (λ (r : Rules). AreKnownEdges r.terminals edges) same_rules (known own_terminals (own_productions own c))
 
   -- what a walk over the graph shows are the first examples of the item
-  pub traced_shown : (graph : Graph) (walk : FilteredPathEnumerator) (old new : List ℕ) → IsTraceOf (reduction_traced h.productions made state begun) graph →
+  pub traced_shown : (graph : Graph) (walk : FilteredPathEnumerator) (old new : List ℕ) → IsTraceOf (reduction_traced h.productions made state begun) graph → IsInOrder (reduction_traced h.productions made state begun) graph →
       walk.base.graph.now ≡ graph → walk.first_sets.now ≡ g → walk.lookahead ≡ item.lookahead → to_come walk.base ≡ paths graph (item_node item) → Grows (AreFirstLines walk) old new → Grows (AreReduceExamples g states state item) old new
-  traced_shown graph walk old new trace over sets lookahead come grows =
+  traced_shown graph walk old new trace order over sets lookahead come grows =
       let lines = grows.holds in
       let by_rules : AreFirst (GoesOnWith g walk.base.graph.now walk.lookahead) 3 (to_come walk.base) lines.first = subst (λ (r : Rules). AreFirst (GoesOnWith r walk.base.graph.now walk.lookahead) 3 (to_come walk.base) lines.first) sets lines.are_first in
       let by_graph : AreFirst (GoesOnWith g graph walk.lookahead) 3 (to_come walk.base) lines.first = subst (λ (x : Graph). AreFirst (GoesOnWith g x walk.lookahead) 3 (to_come walk.base) lines.first) over by_rules in
       let by_tokens : AreFirst (GoesOnWith g graph item.lookahead) 3 (to_come walk.base) lines.first = subst (λ (s : Bits). AreFirst (GoesOnWith g graph s) 3 (to_come walk.base) lines.first) lookahead by_graph in
       let of_rules = subst (λ (r : Rules). IsTraceOf (reduction_traced r.productions made state begun) graph) same_rules trace in
       let of_states = subst (λ (xs : List (State Bits)). IsTraceOf (reduction_traced g.productions xs state begun) graph) same_states of_rules in
+      let order_of_rules = subst (λ (r : Rules). IsInOrder (reduction_traced r.productions made state begun) graph) same_rules order in
+      let order_of_states = subst (λ (xs : List (State Bits)). IsInOrder (reduction_traced g.productions xs state begun) graph) same_states order_of_rules in
       record {
         added = grows.added;
         holds = record {
           graph = graph;
           traced = subst (λ (i : Dotted Nil). IsTraceOf (reduction_traced g.productions states state i) graph) is of_states;
+          ordered = subst (λ (i : Dotted Nil). IsInOrder (reduction_traced g.productions states state i) graph) is order_of_states;
           first = lines.first;
           are_first = subst (λ (all : List (List ℕ)). AreFirst (GoesOnWith g graph item.lookahead) 3 all lines.first) come by_tokens;
           shown = subst (λ (x : Graph). grows.added ≡ path_lines x lines.first) over lines.shown;

@@ -20,6 +20,7 @@ use Rattle.lalrpop_lr1.specs.Examples.{prefixes, following, spelled}
 use Rattle.lalrpop_lr1.specs.Paths.{item_node, paths}
 use Rattle.lalrpop_lr1.specs.ReportLines.{production_line, tokens_in, tokens_text}
 use Rattle.lalrpop_lr1.specs.TraceGraphs.{Graph}
+use Rattle.lalrpop_lr1.specs.TraceOrder.{IsInOrder}
 use Rattle.lalrpop_lr1.specs.Traces.{IsTraceOf, dotted, shift_traced, reduction_traced}
 use Rattle.lalrpop_lr1.specs.declared.trace.example.ExampleSymbol.{ExampleSymbol}
 use Rattle.lalrpop_lr1.specs.declared.trace.example.ExampleSymbol.TheVariants.{Symbol as SymbolOf, Epsilon}
@@ -76,12 +77,14 @@ module _ (g : Rules) (states : List (State Bits)) where
   pub record AreShiftExamples (state : StateIndex) (item : Dotted Bits) (text : List ℕ) : Type 0 where
     pub graph : Graph
     pub traced : IsTraceOf (shift_traced g.productions states state (dotted item.production item.index)) graph
+    pub ordered : IsInOrder (shift_traced g.productions states state (dotted item.production item.index)) graph
     pub shown : text ≡ path_lines graph (take 3 (paths graph (item_node item)))
 
   -- the first three examples of a finished item that can go on with a token of its lookahead
   pub record AreReduceExamples (state : StateIndex) (item : Dotted Bits) (text : List ℕ) : Type 0 where
     pub graph : Graph
     pub traced : IsTraceOf (reduction_traced g.productions states state (dotted item.production item.index)) graph
+    pub ordered : IsInOrder (reduction_traced g.productions states state (dotted item.production item.index)) graph
     pub first : List (List ℕ)
     pub are_first : AreFirst (GoesOnWith g graph item.lookahead) 3 (paths graph (item_node item)) first
     pub shown : text ≡ path_lines graph first

@@ -6,30 +6,25 @@ use Rattle.lalrpop_base.specs.Contents.{contents}
 use Rattle.lalrpop_base.specs.Grammar.{IsSentence, IsOnNoRightSide}
 use Rattle.lalrpop_base.specs.Names.{token_text}
 use Rattle.lalrpop_base.specs.Runs.{Outcome, Parsed, Refused, Limit, HasOutcome, IsFirstWrong}
-use Rattle.lalrpop_base.specs.States.{Contents, AreFaithful}
+use Rattle.lalrpop_base.specs.States.{Contents}
 use Rattle.lalrpop_base.specs.Trees.{Tree, beside, no_trees, leaves, nodes, IsParseTree}
-use Rattle.lalrpop_base.specs.Validity.{IsLR1, IsLALR1}
 use Rattle.lalrpop_base.specs.WellFormed.{IsWellFormed, productions, rules_of}
-use Rattle.lalrpop_base.specs.declared.lr1_core.state.Conflict.{Conflict}
 use Rattle.lalrpop_base.specs.declared.lr1_core.state.State.{State}
+use Rattle.lalrpop_base.specs.declared.lr1_core.state.TableConstructionError.{TableConstructionError}
 use Rattle.lalrpop_base.specs.declared.repr.NonterminalString.{NonterminalString}
 use Rattle.lalrpop_base.specs.declared.repr.Production.{Production}
 use Rattle.lalrpop_base.specs.declared.repr.TerminalString.{TerminalString}
 use Rattle.lalrpop_base.specs.declared.repr.TerminalString.TheVariants.{Literal}
 use Rattle.lalrpop_base.specs.declared.repr.grammar.Grammar.{Grammar}
-use Rattle.lalrpop_tables.specs.Canonical.{AreCanonicalStates}
-use Rattle.lalrpop_tables.specs.CanonicalConflicts.{FailByCanonicalConflicts}
-use Rattle.lalrpop_tables.specs.RenumberedTables.{AreRenumberedTables, AreRenumberedLaneTables}
-use Rattle.lalrpop_tables.specs.Results.{AreStatesOf, AreAllConflicts, canonical_of}
+use Rattle.lalrpop_tables.specs.Lr1Answers.{AreTablesOf, HasConflictsOf}
 use Rattle.lalrpop_tables.specs.declared.build.options.Method.{Method}
-use Rattle.lalrpop_tables.specs.declared.build.options.Method.TheVariants.{Lane, Canonical}
-use Rattle.lalrpop_lr1.specs.FaithfulAnswers.{IsCutOff}
+use Rattle.lalrpop_lr1.specs.FaithfulAnswers.{IsCutOff, IsOutcomeFor}
 use Rattle.lalrpop_lr1.specs.InlineOrder.{IsMarked, Mentions}
 use Rattle.lalrpop_lr1.specs.Inlined.{IsInlined}
 use Rattle.lalrpop_lr1.specs.ParseTrees.{tree_of, tree_text}
 use Rattle.lalrpop_lr1.specs.Report.{tables_report, failure_report}
-use Rattle.lalrpop_lr1.specs.declared.interpret.error.InterpretError.{InterpretError}
-use Rattle.lalrpop_lr1.specs.declared.interpret.error.InterpretError.TheVariants.{Refused as RefusedBy, Limit as LimitPassed, Memory}
+use Rattle.lalrpop_lr1.specs.declared.headline.parse_error.ParseError.{ParseError}
+use Rattle.lalrpop_lr1.specs.declared.headline.parse_error.ParseError.TheVariants.{Conflicts, Refused as RefusedAt, Limit as LimitTold, Memory}
 use Rattle.lalrpop_lr1.specs.declared.interpret.tree.ParseTree.{ParseTree}
 use Rattle.grammar_text.specs.Symbols.{name_of}
 use Rattle.lrtab_run.specs.Explained.{IsExplanation}
@@ -46,24 +41,6 @@ pub record IsInlining (g h : Grammar) : Type 0 where
   pub unmentioned : (a c : NonterminalString) → IsMarked g c → Mentions h a c → ⊥
   pub terminal_lists : (a : NonterminalString) (w : List TerminalString) → IsSentence (productions g) a w ↔ IsSentence (productions h) a w
 
--- ---- tables and conflicts
--- the tables of a grammar for a start symbol, for which no prefix and token have two valid actions: faithful ones, under the numbers that tables have. By the canonical method they are the canonical states; by the lane way lane tables or those, and the former, as many as the LR(0) states, where the grammar is LALR(1) and the start symbol on no right side
-pub record AreTablesOf (method : Method) (g : Grammar) (start : NonterminalString) (states : List (State Bits)) : Type 0 where
-  pub lr1 : IsLR1 (productions g) start
-  pub faithful : AreFaithful (productions g) start (contents g.terminals states)
-  pub canonical : method ≡ Canonical → AreCanonicalStates (rules_of g) start states
-  pub numbered : method ≡ Canonical → AreRenumberedTables (canonical_of g start) states
-  pub either : method ≡ Lane → AreRenumberedLaneTables (rules_of g) start states ⊎ AreRenumberedTables (canonical_of g start) states
-  pub lanes : method ≡ Lane → IsOnNoRightSide (productions g) start → IsLALR1 (productions g) start → AreRenumberedLaneTables (rules_of g) start states
-
--- a grammar and start symbol for which some prefix and token have two valid actions: its canonical states, under the numbers of their construction, and its canonical conflicts, of which there are some
-pub record AreConflictsOf (g : Grammar) (start : NonterminalString) (states : List (State Bits)) (conflicts : List (Conflict Bits)) : Type 0 where
-  pub not_lr1 : ¬ IsLR1 (productions g) start
-  pub canonical : AreCanonicalStates (rules_of g) start states
-  pub built : AreStatesOf (canonical_of g start) states
-  pub all : AreAllConflicts g.terminals states conflicts
-  pub canonical_conflicts : FailByCanonicalConflicts g start states conflicts
-
 -- ---- a parse
 -- the status and text of an outcome: 0 and a tree, or 1 and a refusal or the limit
 abbrev pub IsOutcomeText : Outcome → ℕ → List ℕ → Type 0
@@ -71,11 +48,13 @@ IsOutcomeText (Parsed t) status text = (status ≡ 0) × (tree : ParseTree) × (
 IsOutcomeText (Refused n token) status text = (status ≡ 1) × (text ≡ line (codes "refused at " ++ token_text token))
 IsOutcomeText Limit status text = (status ≡ 1) × (text ≡ line (codes "limit"))
 
--- the same of a parser's answer; there is no text where memory was refused
-abbrev pub IsTextOf : {L : Type 0} → Result ParseTree (InterpretError L) → ℕ → List ℕ → Type 0
+-- the same of an answer, or how many conflicts there are, with status 1; there is no text where memory was refused
+abbrev pub IsTextOf : Result ParseTree ParseError → ℕ → List ℕ → Type 0
 IsTextOf (Ok tree) status text = (status ≡ 0) × (text ≡ line (tree_text tree))
-IsTextOf (Err (RefusedBy state token)) status text = (status ≡ 1) × (text ≡ line (codes "refused at " ++ token_text token))
-IsTextOf (Err LimitPassed) status text = (status ≡ 1) × (text ≡ line (codes "limit"))
+IsTextOf (Err (Conflicts error)) status text =
+    (status ≡ 1) × (text ≡ line (codes "conflicts: " ++ decimal (length error.conflicts.items)))
+IsTextOf (Err (RefusedAt token)) status text = (status ≡ 1) × (text ≡ line (codes "refused at " ++ token_text token))
+IsTextOf (Err LimitTold) status text = (status ≡ 1) × (text ≡ line (codes "limit"))
 IsTextOf (Err Memory) status text = ⊥
 
 -- what an outcome says of the tokens: the leaves of a tree are the tokens, and its nodes are within the limit; at the limit that many steps were made and there is another
@@ -90,12 +69,6 @@ SaysOfGrammar g start tokens (Parsed t) = IsParseTree g start tokens t
 SaysOfGrammar g start tokens (Refused n token) = IsFirstWrong g start tokens token
 SaysOfGrammar g start tokens Limit = Unit {0}
 
--- the outcome of a list with a parse tree: the tree, if its nodes are within the limit, and else the limit
-abbrev pub IsOutcomeFor : Tree → ℕ → Outcome → Type 0
-IsOutcomeFor t limit (Parsed u) = (u ≡ t) × (nodes (beside t no_trees) ≤ limit)
-IsOutcomeFor t limit (Refused n token) = ⊥
-IsOutcomeFor t limit Limit = limit < nodes (beside t no_trees)
-
 -- what a run by states comes to is shown. Of a grammar it says something where the start symbol is on no right side: then, too, each list with a parse tree has its outcome
 pub record IsRunShown (g : List Production) (start : NonterminalString) (states : ℕ → Contents) (tokens : List TerminalString) (limit status : ℕ) (text : List ℕ) : Type 0 where
   pub outcome : Outcome
@@ -108,48 +81,45 @@ pub record IsRunShown (g : List Production) (start : NonterminalString) (states 
 -- the tables that the method gives a grammar for a start symbol, and what is shown of a run by them
 pub record IsParseShown (method : Method) (g : Grammar) (start : NonterminalString) (tokens : List TerminalString) (limit status : ℕ) (text : List ℕ) : Type 0 where
   pub states : List (State Bits)
-  pub tables : AreTablesOf method g start states
+  pub tables : AreTablesOf ⊥ method g start states
   pub run : IsRunShown (productions g) start (contents g.terminals states) tokens limit status text
 
 -- or, for want of tables, how many canonical conflicts there are, with status 1
 pub record IsCountShown (g : Grammar) (start : NonterminalString) (status : ℕ) (text : List ℕ) : Type 0 where
-  pub states : List (State Bits)
-  pub conflicts : List (Conflict Bits)
-  pub no_tables : AreConflictsOf g start states conflicts
+  pub error : TableConstructionError Bits
+  pub no_tables : HasConflictsOf ⊥ 0 g start error
   pub ended : status ≡ 1
-  pub shown : text ≡ line (codes "conflicts: " ++ decimal (length conflicts))
+  pub shown : text ≡ line (codes "conflicts: " ++ decimal (length error.conflicts.items))
 
 -- ---- a report
 -- the report of the tables, with status 0
 pub record IsTablesShown (method : Method) (g : Grammar) (start : NonterminalString) (status : ℕ) (text : List ℕ) : Type 0 where
   pub states : List (State Bits)
-  pub tables : AreTablesOf method g start states
+  pub tables : AreTablesOf ⊥ method g start states
   pub ended : status ≡ 0
   pub shown : text ≡ tables_report (λ (set : Bits). set) g.terminals states
 
 -- or, for want of tables, the report of the canonical states and conflicts, with status 1
 pub record AreConflictsShown (g : Grammar) (start : NonterminalString) (status : ℕ) (text : List ℕ) : Type 0 where
-  pub states : List (State Bits)
-  pub conflicts : List (Conflict Bits)
-  pub no_tables : AreConflictsOf g start states conflicts
+  pub error : TableConstructionError Bits
+  pub no_tables : HasConflictsOf ⊥ 0 g start error
   pub ended : status ≡ 1
-  pub shown : text ≡ failure_report (λ (set : Bits). set) g.terminals states conflicts
+  pub shown : text ≡ failure_report (λ (set : Bits). set) g.terminals error.states.items error.conflicts.items
 
 -- ---- an explanation
 -- there are tables, with status 0
 pub record IsFreeShown (method : Method) (g : Grammar) (start : NonterminalString) (status : ℕ) (text : List ℕ) : Type 0 where
   pub states : List (State Bits)
-  pub tables : AreTablesOf method g start states
+  pub tables : AreTablesOf ⊥ method g start states
   pub ended : status ≡ 0
   pub shown : text ≡ line (codes "no conflicts")
 
 -- or, for want of tables, the explanation of the canonical conflicts, with status 1
 pub record IsExplanationShown (g : Grammar) (start : NonterminalString) (status : ℕ) (text : List ℕ) : Type 0 where
-  pub states : List (State Bits)
-  pub conflicts : List (Conflict Bits)
-  pub no_tables : AreConflictsOf g start states conflicts
+  pub error : TableConstructionError Bits
+  pub no_tables : HasConflictsOf ⊥ 0 g start error
   pub ended : status ≡ 1
-  pub shown : IsExplanation (rules_of g) states conflicts text
+  pub shown : IsExplanation (rules_of g) error.states.items error.conflicts.items text
 
 -- ---- what is asked
 -- the status and text that a task shows, by the method, of a grammar and start symbol. The tokens are literals

@@ -1,32 +1,26 @@
 //! What the program has to tell.
-ghost use Rattle.std.specs.Prelude.{◌≡◌, ◌++◌, IfOk, IfSome, Some, Option, map, option_map, string_bytes, codes, List, ℕ, ◌<◌, length, false, is_ok, if◌then◌else◌};
+ghost use Rattle.std.specs.Prelude.{◌≡◌, ◌++◌, IfOk, IfSome, Some, Option, map, option_map, string_bytes, codes, List, ℕ, false, is_ok, if◌then◌else◌};
 ghost use Rattle.std.specs.Fmt.{decimal};
-ghost use Rattle.lalrpop_base.specs.Coherent.{AreCoherent};
-ghost use Rattle.lalrpop_base.specs.Contents.{contents};
-ghost use Rattle.lalrpop_base.specs.States.{AreFaithful};
 ghost use Rattle.lalrpop_base.specs.WellFormed.{IsWellFormed};
-ghost use Rattle.lalrpop_base.specs.declared.repr.NonterminalString.{NonterminalString};
-ghost use Rattle.lalrpop_base.specs.declared.repr.Production.{Production};
 ghost use Rattle.lalrpop_base.specs.declared.repr.TerminalString.TheVariants.{Literal};
 ghost use Rattle.lrtab_run.specs.Words.{Parse, Report, Explain, request_of, request_view};
 ghost use Rattle.lrtab_run.specs.Answers.{file_name, IsAnswer, IsAnswerTo, IsAnswerToGrammar};
-ghost use Rattle.lrtab_run.specs.Shown.{line, IsShown, IsTaskShown, IsRunShown, IsTextOf};
+ghost use Rattle.lrtab_run.specs.Shown.{line, IsShown, IsTaskShown, IsTextOf};
 
 use crate::explain::explanation;
 use crate::words::{Request, Task, request_of};
 use grammar_text::grammar::read;
 use grammar_text::read_error::ReadError;
 use grammar_text::symbols::name_of;
-use lalrpop_base::lookahead::token_set::TokenSet;
-use lalrpop_base::lr1_core::state::{BuildError, Lr1Result, Lr1State};
+use lalrpop_base::lr1_core::state::{BuildError, Lr1Result};
 use lalrpop_base::memory::OutOfMemory;
 use lalrpop_base::repr::grammar::Grammar;
 use lalrpop_base::repr::norm_error::NormError;
-use lalrpop_base::repr::terminals::TerminalSet;
 use lalrpop_base::repr::{NonterminalString, TerminalString};
 use lalrpop_base::text::Text;
+use lalrpop_lr1::headline::{self, ParseError};
 use lalrpop_lr1::inline::inline;
-use lalrpop_lr1::interpret::{InterpretError, ParseTree, interpret};
+use lalrpop_lr1::interpret::ParseTree;
 use lalrpop_lr1::report::report_text;
 use lalrpop_tables::build::{Method, Options};
 use lalrpop_tables::lr1::build_states;
@@ -52,7 +46,8 @@ pub fn answer_of<R: Read + Drop>(
     method: Method,
     file: Option<R>,
 ) -> Answer
-    ensures { IsAnswer method (request_of (map string_bytes words.now)) (file_name (map string_bytes words.now)) (option_map R.remaining file) result }
+    ensures { IsAnswer method (request_of (map string_bytes words.now))
+        (file_name (map string_bytes words.now)) (option_map R.remaining file) result }
 {
     let Some(request) = request_of(words) else {
         return Answer::Usage;
@@ -81,7 +76,8 @@ fn answer_to<R: Read + Drop>(
     method: Method,
     file: Option<R>,
 ) -> Result<Answer, OutOfMemory>
-    ensures { IfOk result (IsAnswerTo method (request_view request.now) name.now (option_map R.remaining file)) }
+    ensures { IfOk result
+        (IsAnswerTo method (request_view request.now) name.now (option_map R.remaining file)) }
 {
     let Some(reader) = file else {
         return Ok(Answer::Fault(cannot_read(alloc, name)?));
@@ -101,14 +97,16 @@ fn cannot_read(alloc: Global, name: &str) -> Result<String, OutOfMemory>
 
 // The message of a faulty line.
 fn faulty_line(alloc: Global, number: usize) -> Result<String, OutOfMemory>
-    ensures { IfOk result (λ text. string_bytes text ≡ line (codes "line " ++ decimal number ++ codes ": not a grammar line")) }
+    ensures { IfOk result (λ text. string_bytes text ≡ line
+        (codes "line " ++ decimal number ++ codes ": not a grammar line")) }
 {
     Ok(format!(in alloc; "line {number}: not a grammar line\n")?)
 }
 
 // The text of a file, where it can be read and is UTF-8.
 fn text_of<R: Read + Drop>(alloc: Global, mut reader: R) -> Result<Option<String>, OutOfMemory>
-    ensures { IfOk result (λ text. IfSome text (λ t. IfSome (R.remaining reader) (λ bytes. string_bytes t ≡ bytes))) }
+    ensures { IfOk result
+        (λ text. IfSome text (λ t. IfSome (R.remaining reader) (λ bytes. string_bytes t ≡ bytes))) }
 {
     let mut bytes = Vec::new(alloc);
     if let Err(e) = reader.read_to_end(&mut bytes) {
@@ -130,7 +128,8 @@ fn answer_to_text(
     method: Method,
     text: &str,
 ) -> Result<Answer, OutOfMemory>
-    ensures { (name : List ℕ) → IfOk result (IsAnswerTo method (request_view request.now) name (Some (Some text.now))) }
+    ensures { (name : List ℕ) →
+        IfOk result (IsAnswerTo method (request_view request.now) name (Some (Some text.now))) }
 {
     match read(alloc, text) {
         Ok(grammar) => answer_to_grammar(alloc, request, method, grammar),
@@ -164,7 +163,8 @@ fn answer_to_grammar(
 
 // The message of a nonterminal that would have to be inlined into itself.
 fn cyclic_inline(alloc: Global, name: &NonterminalString) -> Result<String, OutOfMemory>
-    ensures { IfOk result (λ text. string_bytes text ≡ line (codes "cyclic inline of " ++ name.now.text)) }
+    ensures { IfOk result
+        (λ text. string_bytes text ≡ line (codes "cyclic inline of " ++ name.now.text)) }
 {
     Ok(format!(in alloc; "cyclic inline of {name}\n")?)
 }
@@ -178,7 +178,8 @@ fn shown(
 ) -> Result<(u8, String), OutOfMemory>
     requires well_formed { IsWellFormed grammar.now }
     requires canonical { grammar.now.algorithm.lalr ≡ false }
-    ensures { IfOk result (λ o. IsShown method grammar.now (request_view request.now) o.0 (string_bytes o.1)) }
+    ensures { IfOk result
+        (λ o. IsShown method grammar.now (request_view request.now) o.0 (string_bytes o.1)) }
 {
     let start = name_of(alloc, request.start)?;
     let options = Options {
@@ -204,16 +205,12 @@ fn parse(
     requires well_formed { IsWellFormed grammar.now }
     requires canonical { grammar.now.algorithm.lalr ≡ false }
     requires whole { options.now.stop_after ≡ 0 }
-    ensures { IfOk result (λ o. IsTaskShown options.now.method grammar.now start (Parse limit (map string_bytes words.now)) o.0 (string_bytes o.1)) }
+    ensures { IfOk result (λ o. IsTaskShown options.now.method grammar.now start
+        (Parse limit (map string_bytes words.now)) o.0 (string_bytes o.1)) }
 {
-    match build_states(alloc, grammar, start, options) {
-        Ok(states) => parse_by(alloc, limit, words, &states, &grammar.terminals),
-        Err(BuildError::Conflicts(error)) => {
-            let count = error.conflicts.len();
-            Ok((1, format!(in alloc; "conflicts: {count}\n")?))
-        }
-        Err(BuildError::Memory) => Err(OutOfMemory),
-    }
+    let tokens = tokens_of(alloc, words)?;
+    let answer = headline::parse(alloc, grammar, start, options, tokens, limit);
+    text_of_answer(alloc, answer)
 }
 
 // A status, and the report of the tables of a grammar or of its conflicts.
@@ -226,7 +223,8 @@ fn report(
     requires well_formed { IsWellFormed grammar.now }
     requires canonical { grammar.now.algorithm.lalr ≡ false }
     requires whole { options.now.stop_after ≡ 0 }
-    ensures { IfOk result (λ o. IsTaskShown options.now.method grammar.now start Report o.0 (string_bytes o.1)) }
+    ensures { IfOk result
+        (λ o. IsTaskShown options.now.method grammar.now start Report o.0 (string_bytes o.1)) }
 {
     let outcome = build_states(alloc, grammar, start, options);
     let status = status_of(&outcome);
@@ -253,7 +251,8 @@ fn explain(
     requires well_formed { IsWellFormed grammar.now }
     requires canonical { grammar.now.algorithm.lalr ≡ false }
     requires whole { options.now.stop_after ≡ 0 }
-    ensures { IfOk result (λ o. IsTaskShown options.now.method grammar.now start Explain o.0 (string_bytes o.1)) }
+    ensures { IfOk result
+        (λ o. IsTaskShown options.now.method grammar.now start Explain o.0 (string_bytes o.1)) }
 {
     match build_states(alloc, grammar, start, options) {
         Ok(_) => Ok((0, String::from_str(alloc, "no conflicts\n")?)),
@@ -262,39 +261,22 @@ fn explain(
     }
 }
 
-// A status, and what a parse by states shows.
-fn parse_by<'grammar>(
-    alloc: Global,
-    limit: usize,
-    words: &[String],
-    states: &[Lr1State<'grammar>],
-    terminals: &TerminalSet,
-) -> Result<(u8, String), OutOfMemory>
-    requires coherent { AreCoherent states.now }
-    requires some { 0 < length states.now }
-    ensures { (g : List Production) (start : NonterminalString) → AreFaithful g start (contents terminals.now states.now) →
-        IfOk result (λ o. IsRunShown g start (contents terminals.now states.now) (map Literal (map string_bytes words.now)) limit o.0 (string_bytes o.1)) }
-{
-    let tokens = tokens_of(alloc, words)?;
-    let answer = interpret(alloc, states, terminals, tokens, limit);
-    text_of_answer(alloc, answer)
-}
-
-// A status, and the text of a parser's answer.
+// A status, and the text of the answer of a parse.
 fn text_of_answer(
     alloc: Global,
-    answer: Result<ParseTree, InterpretError<'_, '_, TokenSet>>,
+    answer: Result<ParseTree, ParseError<'_>>,
 ) -> Result<(u8, String), OutOfMemory>
     ensures { IfOk result (λ o. IsTextOf answer.entry o.0 (string_bytes o.1)) }
 {
     match answer {
         Ok(tree) => Ok((0, format!(in alloc; "{tree}\n")?)),
-        Err(InterpretError::Refused(_, token)) => Ok((
-            1,
-            format!(in alloc; "refused at {token}\n")?,
-        )),
-        Err(InterpretError::Limit) => Ok((1, String::from_str(alloc, "limit\n")?)),
-        Err(InterpretError::Memory) => Err(OutOfMemory),
+        Err(ParseError::Conflicts(error)) => {
+            let count = error.conflicts.len();
+            Ok((1, format!(in alloc; "conflicts: {count}\n")?))
+        }
+        Err(ParseError::Refused(token)) => Ok((1, format!(in alloc; "refused at {token}\n")?)),
+        Err(ParseError::Limit) => Ok((1, String::from_str(alloc, "limit\n")?)),
+        Err(ParseError::Memory) => Err(OutOfMemory),
     }
 }
 

@@ -31,8 +31,11 @@ pub fn explanation<'grammar>(
 ) -> Result<String, OutOfMemory>
     requires well_formed { IsWellFormed grammar.now }
     requires states { AreOwnStates (rules_of grammar.now) error.now.states.items }
-    requires conflicts { (c : Conflict Bits) → Contains error.now.conflicts.items c → IsOwnConflict (productions grammar.now) c }
-    ensures { IfOk result (λ text. IsExplanation (rules_of grammar.now) error.now.states.items error.now.conflicts.items (string_bytes text)) }
+    requires conflicts { (c : Conflict Bits) →
+        Contains error.now.conflicts.items c →
+        IsOwnConflict (productions grammar.now) c }
+    ensures { IfOk result (λ text. IsExplanation (rules_of grammar.now) error.now.states.items
+        error.now.conflicts.items (string_bytes text)) }
 {
     let first_sets = FirstSets::new(alloc, grammar)?;
     let tracer = Tracer::new(alloc, &first_sets, &error.states)?;
@@ -55,8 +58,12 @@ fn push_conflicts<'grammar>(
     conflicts: &[Lr1Conflict<'grammar>],
 ) -> Result<(), OutOfMemory>
     requires states { AreOwnStates ground.now.first_sets.now ground.now.states.now }
-    requires conflicts { (c : Conflict Bits) → Contains conflicts.now c → IsOwnConflict ground.now.first_sets.now.productions c }
-    ensures { OnOk result (Grows (IsExplanation ground.now.first_sets.now ground.now.states.now conflicts.now) (string_bytes text.old) (string_bytes text.new)) }
+    requires conflicts { (c : Conflict Bits) →
+        Contains conflicts.now c →
+        IsOwnConflict ground.now.first_sets.now.productions c }
+    ensures { OnOk result (Grows
+        (IsExplanation ground.now.first_sets.now ground.now.states.now conflicts.now)
+        (string_bytes text.old) (string_bytes text.new)) }
 {
     for (place, conflict) in conflicts.iter().enumerate() {
         push_conflict(alloc, text, ground, place + 1, conflict)?;
@@ -74,7 +81,9 @@ fn push_conflict<'grammar>(
 ) -> Result<(), OutOfMemory>
     requires states { AreOwnStates ground.now.first_sets.now ground.now.states.now }
     requires conflict { IsOwnConflict ground.now.first_sets.now.productions conflict.now }
-    ensures { OnOk result (Grows (IsConflictPart ground.now.first_sets.now ground.now.states.now number conflict.now) (string_bytes text.old) (string_bytes text.new)) }
+    ensures { OnOk result (Grows
+        (IsConflictPart ground.now.first_sets.now ground.now.states.now number conflict.now)
+        (string_bytes text.old) (string_bytes text.new)) }
 {
     push_head(text, number, conflict, ground.terminals)?;
     push_reduction(alloc, text, ground, conflict, conflict.production)?;
@@ -91,7 +100,9 @@ fn push_action<'grammar>(
 ) -> Result<(), OutOfMemory>
     requires states { AreOwnStates ground.now.first_sets.now ground.now.states.now }
     requires action { IsOwnAction ground.now.first_sets.now.productions conflict.now.action }
-    ensures { OnOk result (Grows (IsActionPart ground.now.first_sets.now ground.now.states.now conflict.now.state conflict.now.lookahead conflict.now.action) (string_bytes text.old) (string_bytes text.new)) }
+    ensures { OnOk result (Grows (IsActionPart ground.now.first_sets.now ground.now.states.now
+        conflict.now.state conflict.now.lookahead conflict.now.action) (string_bytes text.old)
+        (string_bytes text.new)) }
 {
     match &conflict.action {
         Action::Shift(terminal, _) => push_shift(alloc, text, ground, conflict.state, terminal),
@@ -99,7 +110,8 @@ fn push_action<'grammar>(
     }
 }
 
-// Appends the part of a reduction of a conflict: its production, and examples that go on with a token of the conflict.
+// Appends the part of a reduction of a conflict: its production, and examples that go on with a
+// token of the conflict.
 fn push_reduction<'grammar>(
     alloc: Global,
     text: &mut String,
@@ -109,7 +121,9 @@ fn push_reduction<'grammar>(
 ) -> Result<(), OutOfMemory>
     requires states { AreOwnStates ground.now.first_sets.now ground.now.states.now }
     requires production { Contains ground.now.first_sets.now.productions production.now }
-    ensures { OnOk result (Grows (IsReducePart ground.now.first_sets.now ground.now.states.now conflict.now.state conflict.now.lookahead production.now) (string_bytes text.old) (string_bytes text.new)) }
+    ensures { OnOk result (Grows (IsReducePart ground.now.first_sets.now ground.now.states.now
+        conflict.now.state conflict.now.lookahead production.now) (string_bytes text.old)
+        (string_bytes text.new)) }
 {
     text.push_str("  reduce ")?;
     push_production(text, production)?;
@@ -122,7 +136,8 @@ fn push_reduction<'grammar>(
     Ok(())
 }
 
-// Appends the part of a shift: its terminal, and examples for each item of the state that shifts it.
+// Appends the part of a shift: its terminal, and examples for each item of the state that shifts
+// it.
 fn push_shift<'grammar>(
     alloc: Global,
     text: &mut String,
@@ -130,7 +145,9 @@ fn push_shift<'grammar>(
     state: StateIndex,
     terminal: &TerminalString,
 ) -> Result<(), OutOfMemory>
-    ensures { OnOk result (Grows (IsShiftPart ground.now.first_sets.now ground.now.states.now state terminal.now) (string_bytes text.old) (string_bytes text.new)) }
+    ensures { OnOk result (Grows
+        (IsShiftPart ground.now.first_sets.now ground.now.states.now state terminal.now)
+        (string_bytes text.old) (string_bytes text.new)) }
 {
     write!(text, "  shift {terminal}\n")?;
     let items = items_in(ground.states, state);
@@ -147,7 +164,9 @@ fn push_items<'grammar>(
     terminal: &TerminalString,
     items: &[Lr1Item<'grammar>],
 ) -> Result<(), OutOfMemory>
-    ensures { OnOk result (Grows (HasParts (λ _ item. IsItemPart ground.now.first_sets.now ground.now.states.now state terminal.now item) 0 items.now) (string_bytes text.old) (string_bytes text.new)) }
+    ensures { OnOk result (Grows (HasParts (λ _ item. IsItemPart ground.now.first_sets.now
+        ground.now.states.now state terminal.now item) 0 items.now) (string_bytes text.old)
+        (string_bytes text.new)) }
 {
     for item in items {
         push_item(alloc, text, ground, state, terminal, item)?;
@@ -164,7 +183,9 @@ fn push_item<'grammar>(
     terminal: &TerminalString,
     item: &Lr1Item<'grammar>,
 ) -> Result<(), OutOfMemory>
-    ensures { OnOk result (Grows (IsItemPart ground.now.first_sets.now ground.now.states.now state terminal.now item.now) (string_bytes text.old) (string_bytes text.new)) }
+    ensures { OnOk result (Grows
+        (IsItemPart ground.now.first_sets.now ground.now.states.now state terminal.now item.now)
+        (string_bytes text.old) (string_bytes text.new)) }
 {
     if shifts(item, terminal) {
         push_first(alloc, text, ground, state, item)?;
@@ -174,7 +195,8 @@ fn push_item<'grammar>(
 
 // Whether the terminal stands behind the dot.
 fn shifts(item: &Lr1Item<'_>, terminal: &TerminalString) -> bool
-    ensures { IsTrue result ↔ (slice_get item.now.production.symbols item.now.index ≡ Some (Symbol.Terminal terminal.now)) }
+    ensures { IsTrue result ↔ (slice_get item.now.production.symbols item.now.index ≡ Some
+        (Symbol.Terminal terminal.now)) }
 {
     match item.shift_symbol() {
         Some((symbol, _)) => is_terminal(symbol, terminal),

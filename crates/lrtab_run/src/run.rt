@@ -12,7 +12,8 @@ use lalrpop_tables::build::Method;
 use std::alloc::Global;
 use std::io::{Read, Write};
 
-/// Runs the program on its words, and answers its status. Nothing goes to `out` before the whole text is made.
+/// Runs the program on its words, and answers its status. Nothing goes to `out` before the whole
+/// text is made.
 pub fn run<R: Read, O: Write, E: Write>(
     alloc: Global,
     words: &[String],
@@ -24,8 +25,10 @@ pub fn run<R: Read, O: Write, E: Write>(
 where
     R: Drop,
     ensures { (answer : Answer)
-        × IsAnswer method (request_of (map string_bytes words.now)) (file_name (map string_bytes words.now)) (option_map R.remaining file) answer
-        × IsTold answer result (O.contents out.old) (O.contents out.new) (E.contents err.old) (E.contents err.new) }
+        × IsAnswer method (request_of (map string_bytes words.now))
+        (file_name (map string_bytes words.now)) (option_map R.remaining file) answer
+        × IsTold answer result
+        (O.contents out.old) (O.contents out.new) (E.contents err.old) (E.contents err.new) }
 {
     let answer = answer_of(alloc, words, method, file);
     tell(&answer, out, err)
@@ -33,7 +36,8 @@ where
 
 // Tells an answer, and answers the status.
 fn tell<O: Write, E: Write>(answer: &Answer, out: &mut O, err: &mut E) -> u8
-    ensures { IsTold answer.now result (O.contents out.old) (O.contents out.new) (E.contents err.old) (E.contents err.new) }
+    ensures { IsTold answer.now result (O.contents out.old) (O.contents out.new)
+        (E.contents err.old) (E.contents err.new) }
 {
     match answer {
         Answer::Output(status, text) => {

@@ -22,7 +22,8 @@ pub struct Request<'a> {
     pub task: Task<'a>,
 }
 
-/// The method that the environment's word asks for: the canonical one where it is "disabled", else the lane way.
+/// The method that the environment's word asks for: the canonical one where it is "disabled", else
+/// the lane way.
 pub fn method_of(word: &str) -> Method
     ensures { result ≡ method_of word.now }
 {

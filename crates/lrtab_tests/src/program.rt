@@ -1,4 +1,5 @@
-//! Runs of the program `lrtab` that no stored case can ask: readers that fail, outputs that close, growths that are refused.
+//! Runs of the program `lrtab` that no stored case can ask: readers that fail, outputs that close,
+//! growths that are refused.
 mod explanations;
 mod refused_growth;
 mod reports;
@@ -125,7 +126,8 @@ fn files_that_cannot_be_read(rt: HostRuntime) -> Result<(), Fail> {
     Ok(())
 }
 
-// By the canonical method, since by the lane way each item holds all tokens, which takes some GB here.
+// By the canonical method, since by the lane way each item holds all tokens, which takes some GB
+// here.
 #[test]
 fn ten_thousand_productions(rt: HostRuntime) -> Result<(), Fail> {
     let alloc = rt.alloc();

@@ -64,7 +64,8 @@ fn answer_of_states(
     augment::answer(alloc, question, grammar)
 }
 
-// The answer to a question of lane tables, checks, graphs, kernels and token sets, where the call is one.
+// The answer to a question of lane tables, checks, graphs, kernels and token sets, where the call
+// is one.
 fn answer_of_lanes(
     alloc: Global,
     question: &Question<'_>,

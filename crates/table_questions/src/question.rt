@@ -7,7 +7,8 @@ use std::alloc::{AllocError, AllocFailed, Global};
 pub enum QuestionError {
     /// No call has the name.
     Call,
-    /// The argument with this number, counted from 1, is missing or not of the form that the call asks for.
+    /// The argument with this number, counted from 1, is missing or not of the form that the call
+    /// asks for.
     Argument(usize),
     Memory,
 }

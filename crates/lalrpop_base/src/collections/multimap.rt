@@ -6,10 +6,11 @@ ghost use Rattle.std.specs.List.Sorted.{IsStrictlySortedBy};
 ghost use Rattle.std.specs.Map.{keys_of};
 ghost use Rattle.lalrpop_base.specs.Multimaps.{collection_at, PushesAt, SameAt, AreSame, at_itself, IsCollected, values_at};
 
-use crate::collections::Collection;
+pub use crate::collections::{Collection, Map, Set};
 use crate::memory::OutOfMemory;
 use std::alloc::Global;
 use std::collections::{BTreeMap, btree_map};
+use std::fmt;
 use std::marker::Model;
 
 /// A map whose values are collections.
@@ -25,6 +26,12 @@ impl<K: Ord, C> Model for Multimap<K, C> {
     ghost Value = { List (K × C) };
 
     ghost view = { λ m. m.map.entries };
+}
+
+impl<K: Ord + fmt::Debug, C: fmt::Debug> fmt::Debug for Multimap<K, C> {
+    fn fmt<W: fmt::Write>(&self, f: &mut fmt::Formatter<W>) -> fmt::Result {
+        fmt::Debug::fmt(&self.map, f)
+    }
 }
 
 impl<K: Ord + Drop, C: Collection + Drop> Multimap<K, C> {
@@ -69,16 +76,23 @@ impl<K: Ord + Drop, C: Collection + Drop> Multimap<K, C> {
         map.into_iter()
     }
 
-    /// Pushes a value into the collection of a key, which is empty where there is none yet. A new key is a change.
+    /// Pushes a value into the collection of a key, which is empty where there is none yet. A new
+    /// key is a change.
     pub fn push(&mut self, key: K, value: C::Item) -> Result<bool, OutOfMemory>
-        ensures pushed { OnOk result (PushesAt C.is_empty C.pushes (collection_at K.cmp self.old key) value (collection_at K.cmp self.new key)) }
-        ensures others { (q : K) → is_eq (K.cmp key q) ≡ false → collection_at K.cmp self.new q ≡ collection_at K.cmp self.old q }
+        ensures pushed { OnOk result (PushesAt C.is_empty C.pushes
+            (collection_at K.cmp self.old key) value (collection_at K.cmp self.new key)) }
+        ensures others { (q : K) →
+            is_eq (K.cmp key q) ≡ false →
+            collection_at K.cmp self.new q ≡ collection_at K.cmp self.old q }
         ensures told { IfOk result (λ changed. MatchBool changed
             (¬ SameAt C.same (collection_at K.cmp self.old key) (collection_at K.cmp self.new key))
             (SameAt C.same (collection_at K.cmp self.old key) (collection_at K.cmp self.new key))) }
-        ensures err { OnErr result (SameAt C.same (collection_at K.cmp self.old key) (collection_at K.cmp self.new key)) }
-        ensures fresh { collection_at K.cmp self.old key ≡ None → IfOk result (λ changed. IsTrue changed) }
-        ensures no_key { collection_at K.cmp self.old key ≡ None → OnErr result (self.new ≡ self.old) }
+        ensures err { OnErr result
+            (SameAt C.same (collection_at K.cmp self.old key) (collection_at K.cmp self.new key)) }
+        ensures fresh { collection_at K.cmp self.old key ≡ None →
+            IfOk result (λ changed. IsTrue changed) }
+        ensures no_key { collection_at K.cmp self.old key ≡ None →
+            OnErr result (self.new ≡ self.old) }
     {
         if let Some(collection) = self.map.get_mut(&key) {
             return collection.push(value);
@@ -97,7 +111,8 @@ impl<K: Ord + Drop, C: Collection + Drop> Multimap<K, C> {
         requires can { I.can_next pairs }
         requires finite { IsFinite (I.remaining pairs) }
         ensures { IfOk result (λ map. (given : List (K × C.Item)) × Drains I.next_gives pairs given
-            × ((q : K) → IsCollected C.is_empty C.pushes (values_at K.cmp q given) (collection_at K.cmp map q))) }
+            × ((q : K) → IsCollected C.is_empty C.pushes (values_at K.cmp q given)
+            (collection_at K.cmp map q))) }
     {
         let mut map = Multimap::new(alloc);
         for (key, value) in pairs {
@@ -114,8 +129,11 @@ impl<K: Ord + Drop, C: Collection + Drop> Collection for Multimap<K, C> {
 
     ghost is_empty = { λ m. m ≡ [] };
 
-    ghost pushes = { λ m item n. PushesAt C.is_empty C.pushes (collection_at K.cmp m item.0) item.1 (collection_at K.cmp n item.0)
-        × ((q : K) → is_eq (K.cmp item.0 q) ≡ false → collection_at K.cmp n q ≡ collection_at K.cmp m q) };
+    ghost pushes = { λ m item n.
+        PushesAt C.is_empty C.pushes
+        (collection_at K.cmp m item.0) item.1 (collection_at K.cmp n item.0)
+        × ((q : K) → is_eq (K.cmp item.0 q) ≡ false →
+        collection_at K.cmp n q ≡ collection_at K.cmp m q) };
 
     fn empty(alloc: Global) -> Self {
         Multimap::new(alloc)

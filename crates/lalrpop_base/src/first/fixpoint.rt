@@ -29,7 +29,8 @@ pub(super) fn first_table(alloc: Global, grammar: &Grammar) -> Result<Table, Out
 
 // An empty set for each name.
 fn empty_table(alloc: Global, grammar: &Grammar) -> Result<Table, OutOfMemory>
-    ensures sets { IfOk result (λ table. table.entries ≡ empty_sets grammar.now.nonterminals.entries) }
+    ensures sets { IfOk result
+        (λ table. table.entries ≡ empty_sets grammar.now.nonterminals.entries) }
     ensures ordered { IfOk result (λ table. IsOrdered name_cmp table) }
 {
     let mut table = BTreeMap::new(alloc);
@@ -43,7 +44,8 @@ fn empty_table(alloc: Global, grammar: &Grammar) -> Result<Table, OutOfMemory>
 // Adds what each production gives, and tells whether the table grew.
 fn pass(alloc: Global, grammar: &Grammar, table: &mut Table) -> Result<bool, OutOfMemory>
     requires { AreReady grammar.now.terminals table.old.entries (productions grammar.now) }
-    ensures { IfOk result (λ grew. IsPass grammar.now.terminals (productions grammar.now) grew table.old.entries table.new.entries) }
+    ensures { IfOk result (λ grew. IsPass grammar.now.terminals (productions grammar.now) grew
+        table.old.entries table.new.entries) }
 {
     let mut changed = false;
     for (_name, entry) in grammar.nonterminals.iter() {
@@ -62,7 +64,8 @@ fn add_productions(
     table: &mut Table,
 ) -> Result<bool, OutOfMemory>
     requires { AreReady terminals.now table.old.entries productions.now }
-    ensures { IfOk result (λ grew. IsPass terminals.now productions.now grew table.old.entries table.new.entries) }
+    ensures { IfOk result
+        (λ grew. IsPass terminals.now productions.now grew table.old.entries table.new.entries) }
 {
     let mut changed = false;
     for production in productions {
@@ -81,7 +84,8 @@ fn add_production(
     table: &mut Table,
 ) -> Result<bool, OutOfMemory>
     requires { IsReady terminals.now table.old.entries production.now }
-    ensures { IfOk result (λ grew. IsPass terminals.now (production.now ∷ []) grew table.old.entries table.new.entries) }
+    ensures { IfOk result (λ grew. IsPass terminals.now (production.now ∷ []) grew table.old.entries
+        table.new.entries) }
 {
     let set = first_by(alloc, table, terminals, production.symbols.as_slice())?;
     join_at(table, &production.nonterminal, &set)

@@ -23,7 +23,8 @@ pub(super) fn first_by(
     symbols: &[Symbol],
 ) -> Result<TokenSet, OutOfMemory>
     requires { HasKnownTerminals terminals.now symbols.now }
-    ensures { IfOk result (λ set. (bit : ℕ) → (has set bit ≡ true) ↔ Gives terminals.now table.now.entries symbols.now bit) }
+    ensures { IfOk result (λ set. (bit : ℕ) →
+        (has set bit ≡ true) ↔ Gives terminals.now table.now.entries symbols.now bit) }
 {
     let mut set = TokenSet::new(alloc, terminals);
     for symbol in symbols {
@@ -52,7 +53,8 @@ fn join_name(
     set: &mut TokenSet,
 ) -> Result<bool, OutOfMemory>
     requires { has set.old (length terminals.now) ≡ false }
-    ensures { IfOk result (λ told. IsNameJoined told terminals.now table.now.entries name.now set.old set.new) }
+    ensures { IfOk result
+        (λ told. IsNameJoined told terminals.now table.now.entries name.now set.old set.new) }
 {
     match table.get(name) {
         Some(found) => {
@@ -70,7 +72,8 @@ pub(super) fn join_at(
     set: &TokenSet,
 ) -> Result<bool, OutOfMemory>
     requires { IsSome (lookup (is_at (name_cmp name.now)) table.old.entries) }
-    ensures { IfOk result (λ grew. IsJoinedAt grew name.now set.now table.old.entries table.new.entries) }
+    ensures { IfOk result
+        (λ grew. IsJoinedAt grew name.now set.now table.old.entries table.new.entries) }
 {
     match table.get_mut(name) {
         Some(found) => found.union_with(set),

@@ -40,8 +40,10 @@ impl TokenSet {
     /// Adds a token, and tells whether the set grew.
     pub fn insert(&mut self, token: Token, terminals: &TerminalSet) -> Result<bool, OutOfMemory>
         requires { IsKnown terminals.now token }
-        ensures inserted { OnOk result ((bit : ℕ) → IsBitOf terminals.now token bit → self.new ≡ with_bit self.old bit) }
-        ensures told { IfOk result (λ grew. MatchBool grew (self.new ≢ self.old) (self.new ≡ self.old)) }
+        ensures inserted { OnOk result
+            ((bit : ℕ) → IsBitOf terminals.now token bit → self.new ≡ with_bit self.old bit) }
+        ensures told { IfOk result
+            (λ grew. MatchBool grew (self.new ≢ self.old) (self.new ≡ self.old)) }
         ensures err { OnErr result (self.new ≡ self.old) }
     {
         let bit = bit_of(&token, terminals).unwrap();
@@ -73,7 +75,8 @@ impl TokenSet {
 
     /// The tokens by rising bit.
     pub fn iter<'a>(&'a self, terminals: &'a TerminalSet) -> TokenSetIter<'a>
-        ensures { map (token_of result.terminals.now) result.bits.now ≡ map (token_of terminals.now) (rising self.now) }
+        ensures { map (token_of result.terminals.now) result.bits.now ≡ map (token_of terminals.now)
+            (rising self.now) }
     {
         TokenSetIter {
             bits: self.bits(),
@@ -92,7 +95,8 @@ impl TokenSet {
     /// A set of one token.
     pub fn of(alloc: Global, token: Token, terminals: &TerminalSet) -> Result<TokenSet, OutOfMemory>
         requires { IsKnown terminals.now token }
-        ensures { IfOk result (λ set. (bit : ℕ) → IsBitOf terminals.now token bit → set ≡ with_bit no_bits bit) }
+        ensures { IfOk result
+            (λ set. (bit : ℕ) → IsBitOf terminals.now token bit → set ≡ with_bit no_bits bit) }
     {
         let mut set = TokenSet::new(alloc, terminals);
         set.insert(token, terminals)?;
@@ -109,7 +113,8 @@ impl TokenSet {
     /// Takes the end out of the set, and tells whether it was there.
     pub fn take_eof(&mut self, terminals: &TerminalSet) -> bool
         ensures was { result ≡ has self.old (length terminals.now) }
-        ensures left { (bit : ℕ) → has self.new bit ≡ (has self.old bit && not (bit == length terminals.now)) }
+        ensures left { (bit : ℕ) →
+            has self.new bit ≡ (has self.old bit && not (bit == length terminals.now)) }
     {
         self.take_bit(terminals.all().len())
     }
@@ -124,7 +129,8 @@ impl TokenSet {
     /// Adds the end, and tells whether the set grew.
     pub fn insert_eof(&mut self, terminals: &TerminalSet) -> Result<bool, OutOfMemory>
         ensures inserted { OnOk result (self.new ≡ with_bit self.old (length terminals.now)) }
-        ensures told { IfOk result (λ grew. MatchBool grew (self.new ≢ self.old) (self.new ≡ self.old)) }
+        ensures told { IfOk result
+            (λ grew. MatchBool grew (self.new ≢ self.old) (self.new ≡ self.old)) }
         ensures err { OnErr result (self.new ≡ self.old) }
     {
         self.insert_bit(terminals.all().len())
@@ -137,8 +143,10 @@ impl TokenSet {
         terminals: &TerminalSet,
     ) -> Result<bool, OutOfMemory>
         requires { IsKnown terminals.now token }
-        ensures inserted { OnOk result ((bit : ℕ) → IsBitOf terminals.now token bit → self.new ≡ with_bit self.old bit) }
-        ensures told { IfOk result (λ grew. MatchBool grew (self.new ≢ self.old) (self.new ≡ self.old)) }
+        ensures inserted { OnOk result
+            ((bit : ℕ) → IsBitOf terminals.now token bit → self.new ≡ with_bit self.old bit) }
+        ensures told { IfOk result
+            (λ grew. MatchBool grew (self.new ≢ self.old) (self.new ≡ self.old)) }
         ensures err { OnErr result (self.new ≡ self.old) }
     {
         self.insert(token, terminals)

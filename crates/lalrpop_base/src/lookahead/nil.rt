@@ -94,7 +94,8 @@ fn push_shift_conflicts<'grammar>(
     target: StateIndex,
     reductions: &[(Nil, &'grammar Production)],
 ) -> Result<(), OutOfMemory>
-    ensures { OnOk result (list.new.items ≡ list.old.items ++ map (nil_conflict index (Action.Shift terminal.now target)) reductions.now) }
+    ensures { OnOk result (list.new.items ≡ list.old.items ++ map
+        (nil_conflict index (Action.Shift terminal.now target)) reductions.now) }
 {
     for reduction in reductions {
         list.push(Conflict {
@@ -113,7 +114,8 @@ fn push_reduce_conflicts<'grammar>(
     index: StateIndex,
     reductions: &[(Nil, &'grammar Production)],
 ) -> Result<(), OutOfMemory>
-    ensures { OnOk result (list.new.items ≡ list.old.items ++ nil_reduce_conflicts index reductions.now) }
+    ensures { OnOk result
+        (list.new.items ≡ list.old.items ++ nil_reduce_conflicts index reductions.now) }
 {
     if let Some((first, others)) = reductions.split_first() {
         for reduction in others {

@@ -46,8 +46,13 @@ fn stands_at(bits: &[usize], place: usize, bit: usize) -> bool
 pub(crate) fn have_common(left: &[usize], right: &[usize]) -> bool
     requires left { IsRising left.now }
     requires right { IsRising right.now }
-    ensures yes { IsTrue result → (bit : ℕ) × IsTrue (has (bits_of left.now) bit) × IsTrue (has (bits_of right.now) bit) }
-    ensures no { IsFalse result → (bit : ℕ) → IsTrue (has (bits_of left.now) bit) → IsTrue (has (bits_of right.now) bit) → ⊥ }
+    ensures yes { IsTrue result →
+        (bit : ℕ) × IsTrue (has (bits_of left.now) bit) × IsTrue (has (bits_of right.now) bit) }
+    ensures no { IsFalse result →
+        (bit : ℕ) →
+        IsTrue (has (bits_of left.now) bit) →
+        IsTrue (has (bits_of right.now) bit) →
+        ⊥ }
 {
     let mut place = 0;
     for bit in left {
@@ -63,8 +68,12 @@ pub(crate) fn have_common(left: &[usize], right: &[usize]) -> bool
 pub(crate) fn has_all(whole: &[usize], part: &[usize]) -> bool
     requires whole { IsRising whole.now }
     requires part { IsRising part.now }
-    ensures yes { IsTrue result → (bit : ℕ) → IsTrue (has (bits_of part.now) bit) → IsTrue (has (bits_of whole.now) bit) }
-    ensures no { IsFalse result → (bit : ℕ) × IsTrue (has (bits_of part.now) bit) × IsFalse (has (bits_of whole.now) bit) }
+    ensures yes { IsTrue result →
+        (bit : ℕ) →
+        IsTrue (has (bits_of part.now) bit) →
+        IsTrue (has (bits_of whole.now) bit) }
+    ensures no { IsFalse result →
+        (bit : ℕ) × IsTrue (has (bits_of part.now) bit) × IsFalse (has (bits_of whole.now) bit) }
 {
     let mut place = 0;
     for bit in part {
@@ -84,7 +93,8 @@ pub(crate) fn common(
 ) -> Result<Vec<usize>, OutOfMemory>
     requires left { IsRising left.now }
     requires right { IsRising right.now }
-    ensures { IfOk result (λ both. both.items ≡ filter (λ bit. has (bits_of right.now) bit) left.now) }
+    ensures { IfOk result
+        (λ both. both.items ≡ filter (λ bit. has (bits_of right.now) bit) left.now) }
 {
     let mut both = Vec::new(alloc);
     let mut place = 0;
@@ -101,7 +111,8 @@ pub(crate) fn common(
 fn merge_step(left: &[usize], i: usize, right: &[usize], j: usize) -> (usize, usize, usize)
     requires left { i < length left.now }
     requires right { j < length right.now }
-    ensures step { merge (drop i left.now) (drop j right.now) ≡ result.0 ∷ merge (drop result.1 left.now) (drop result.2 right.now) }
+    ensures step { merge (drop i left.now) (drop j right.now) ≡ result.0 ∷ merge
+        (drop result.1 left.now) (drop result.2 right.now) }
     ensures further { i + j < result.1 + result.2 }
     ensures left { result.1 ≤ length left.now }
     ensures right { result.2 ≤ length right.now }
@@ -140,7 +151,8 @@ pub(crate) fn merged(
 /// The numbers below a count.
 pub(crate) fn numbers_below(alloc: Global, count: usize) -> Result<Vec<usize>, OutOfMemory>
     ensures rising { IfOk result (λ numbers. IsRising numbers.items) }
-    ensures each { IfOk result (λ numbers. (q : ℕ) → has (bits_of numbers.items) q ≡ nat_lt q count) }
+    ensures each { IfOk result
+        (λ numbers. (q : ℕ) → has (bits_of numbers.items) q ≡ nat_lt q count) }
 {
     let mut numbers = Vec::new(alloc);
     for number in 0..count {

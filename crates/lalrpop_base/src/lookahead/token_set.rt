@@ -66,7 +66,8 @@ impl TokenSet {
     pub(crate) fn insert_bit(&mut self, bit: usize) -> Result<bool, OutOfMemory>
         ensures inserted { OnOk result (self.new ≡ with_bit self.old bit) }
         ensures grew { IfOk result (λ grew. grew ≡ not (has self.old bit)) }
-        ensures told { IfOk result (λ grew. MatchBool grew (self.new ≢ self.old) (self.new ≡ self.old)) }
+        ensures told { IfOk result
+            (λ grew. MatchBool grew (self.new ≢ self.old) (self.new ≡ self.old)) }
         ensures err { OnErr result (self.new ≡ self.old) }
     {
         match search(&self.bits, bit) {
@@ -95,7 +96,8 @@ impl TokenSet {
     /// Adds the bits of another set, and tells whether this one grew.
     pub fn union_with(&mut self, other: &TokenSet) -> Result<bool, OutOfMemory>
         ensures joined { OnOk result (self.new ≡ join self.old other.now) }
-        ensures told { IfOk result (λ grew. MatchBool grew (self.new ≢ self.old) (self.new ≡ self.old)) }
+        ensures told { IfOk result
+            (λ grew. MatchBool grew (self.new ≢ self.old) (self.new ≡ self.old)) }
         ensures err { OnErr result (self.new ≡ self.old) }
     {
         if has_all(self.bits(), other.bits()) {
@@ -117,16 +119,26 @@ impl TokenSet {
 
     /// Whether no bit is in both sets.
     pub fn is_disjoint(&self, other: &TokenSet) -> bool
-        ensures yes { IsTrue result → (bit : ℕ) → IsTrue (has self.now bit) → IsTrue (has other.now bit) → ⊥ }
-        ensures no { IsFalse result → (bit : ℕ) × IsTrue (has self.now bit) × IsTrue (has other.now bit) }
+        ensures yes { IsTrue result →
+            (bit : ℕ) →
+            IsTrue (has self.now bit) →
+            IsTrue (has other.now bit) →
+            ⊥ }
+        ensures no { IsFalse result →
+            (bit : ℕ) × IsTrue (has self.now bit) × IsTrue (has other.now bit) }
     {
         !have_common(self.bits(), other.bits())
     }
 
     /// Whether a bit is in both sets.
     pub fn is_intersecting(&self, other: &TokenSet) -> bool
-        ensures yes { IsTrue result → (bit : ℕ) × IsTrue (has self.now bit) × IsTrue (has other.now bit) }
-        ensures no { IsFalse result → (bit : ℕ) → IsTrue (has self.now bit) → IsTrue (has other.now bit) → ⊥ }
+        ensures yes { IsTrue result →
+            (bit : ℕ) × IsTrue (has self.now bit) × IsTrue (has other.now bit) }
+        ensures no { IsFalse result →
+            (bit : ℕ) →
+            IsTrue (has self.now bit) →
+            IsTrue (has other.now bit) →
+            ⊥ }
     {
         !self.is_disjoint(other)
     }
@@ -201,7 +213,8 @@ impl Ord for TokenSet {
 impl PartialOrd for TokenSet {
     ghost partial_cmp = { as_partial_cmp (on rising (slice_cmp nat_cmp)) };
 
-    ghost laws = { partial_order_from_own_ties (Prim.search (comparing, rules)) (Prim.search (comparing, rules)) };
+    ghost laws = { partial_order_from_own_ties (Prim.search (comparing, rules))
+        (Prim.search (comparing, rules)) };
 
     fn partial_cmp(&self, other: &TokenSet) -> Option<Ordering> {
         Some(self.cmp(other))

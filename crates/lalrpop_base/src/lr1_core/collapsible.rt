@@ -9,8 +9,9 @@ use super::state::{State, StateIndex};
 use crate::exact::equal;
 use std::collections::BTreeMap;
 
-/// Whether coherent states with equal lists of dotted productions lead by the same symbols to states with equal
-/// lists. Lists are compared as they stand. Each two states are compared, since nothing is allocated.
+/// Whether coherent states with equal lists of dotted productions lead by the same symbols to
+/// states with equal lists. Lists are compared as they stand. Each two states are compared, since
+/// nothing is allocated.
 pub fn are_collapsible<'grammar, L>(states: &[State<'grammar, L>]) -> bool
     ensures { IsTrue result ↔ AreCollapsible states.now }
 {
@@ -19,7 +20,8 @@ pub fn are_collapsible<'grammar, L>(states: &[State<'grammar, L>]) -> bool
 
 // Whether each state is alike to each.
 fn are_all_alike<'grammar, L>(states: &[State<'grammar, L>]) -> bool
-    ensures { IsTrue result ↔ EachItem (λ a. EachItem (IsAlikeTo states.now a) states.now) states.now }
+    ensures { IsTrue result ↔ EachItem (λ a. EachItem (IsAlikeTo states.now a) states.now)
+        states.now }
 {
     for state in states {
         if !is_alike_to_all(states, state) {
@@ -124,7 +126,8 @@ fn have_same_dots<'grammar, L>(a: &[Item<'grammar, L>], b: &[Item<'grammar, L>])
 
 // Whether two items are of one dotted production.
 fn is_same_dot<'grammar, L>(a: &Item<'grammar, L>, b: &Item<'grammar, L>) -> bool
-    ensures { IsTrue result ↔ ((a.now.production ≡ b.now.production) × (a.now.index ≡ b.now.index)) }
+    ensures { IsTrue result ↔
+        ((a.now.production ≡ b.now.production) × (a.now.index ≡ b.now.index)) }
 {
     a.index == b.index && equal(a.production, b.production)
 }

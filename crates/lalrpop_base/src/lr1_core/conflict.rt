@@ -11,8 +11,8 @@ use crate::repr::{Production, TerminalString};
 use std::alloc::Global;
 use std::collections::BTreeMap;
 
-/// The conflicts of a state: for each terminal that is shifted, ascending, each reduction that holds it; then each
-/// two reductions that share a token.
+/// The conflicts of a state: for each terminal that is shifted, ascending, each reduction that
+/// holds it; then each two reductions that share a token.
 pub fn conflicts<'grammar>(
     alloc: Global,
     state: &Lr1State<'grammar>,
@@ -55,7 +55,8 @@ fn add_shift_conflicts<'grammar>(
     reductions: &[(TokenSet, &'grammar Production)],
     terminals: &TerminalSet,
 ) -> Result<(), OutOfMemory>
-    ensures { OnOk result (list.new.items ≡ list.old.items ++ flat_map (shift_conflicts terminals.now state reductions.now) shifts.now.entries) }
+    ensures { OnOk result (list.new.items ≡ list.old.items ++ flat_map
+        (shift_conflicts terminals.now state reductions.now) shifts.now.entries) }
 {
     for (terminal, target) in shifts.iter() {
         let bit = terminals.bit(terminal);
@@ -74,7 +75,8 @@ fn add_conflicts_on<'grammar>(
     reductions: &[(TokenSet, &'grammar Production)],
     bit: Option<usize>,
 ) -> Result<(), OutOfMemory>
-    ensures { OnOk result (list.new.items ≡ list.old.items ++ conflicts_on_place state terminal.now target reductions.now bit) }
+    ensures { OnOk result (list.new.items ≡ list.old.items ++ conflicts_on_place state terminal.now
+        target reductions.now bit) }
 {
     let Some(bit) = bit else {
         return Ok(());
@@ -95,7 +97,8 @@ fn add_conflict_on<'grammar>(
     reduction: &(TokenSet, &'grammar Production),
     bit: usize,
 ) -> Result<(), OutOfMemory>
-    ensures { OnOk result (list.new.items ≡ list.old.items ++ conflicts_on_bit state terminal.now target (reduction.now ∷ []) bit) }
+    ensures { OnOk result (list.new.items ≡ list.old.items ++ conflicts_on_bit state terminal.now
+        target (reduction.now ∷ []) bit) }
 {
     if !reduction.0.contains_bit(bit) {
         return Ok(());
@@ -116,7 +119,8 @@ fn add_reduce_conflicts<'grammar>(
     state: StateIndex,
     reductions: &[(TokenSet, &'grammar Production)],
 ) -> Result<(), OutOfMemory>
-    ensures { OnOk result (list.new.items ≡ list.old.items ++ reduce_conflicts state reductions.now) }
+    ensures { OnOk result
+        (list.new.items ≡ list.old.items ++ reduce_conflicts state reductions.now) }
 {
     for place in 0..reductions.len() {
         let later = &reductions[place + 1..];
@@ -133,7 +137,8 @@ fn add_later_conflicts<'grammar>(
     reduction: &(TokenSet, &'grammar Production),
     later: &[(TokenSet, &'grammar Production)],
 ) -> Result<(), OutOfMemory>
-    ensures { OnOk result (list.new.items ≡ list.old.items ++ later_conflicts state reduction.now later.now) }
+    ensures { OnOk result
+        (list.new.items ≡ list.old.items ++ later_conflicts state reduction.now later.now) }
 {
     for other in later {
         add_conflict_of(alloc, list, state, reduction, other)?;
@@ -149,7 +154,8 @@ fn add_conflict_of<'grammar>(
     first: &(TokenSet, &'grammar Production),
     second: &(TokenSet, &'grammar Production),
 ) -> Result<(), OutOfMemory>
-    ensures { OnOk result (list.new.items ≡ list.old.items ++ later_conflicts state first.now (second.now ∷ [])) }
+    ensures { OnOk result
+        (list.new.items ≡ list.old.items ++ later_conflicts state first.now (second.now ∷ [])) }
 {
     if first.0.is_disjoint(&second.0) {
         return Ok(());

@@ -24,7 +24,8 @@ impl<'grammar, L> Model for Item<'grammar, L> {
 
     ghost Value = { Dotted L };
 
-    ghost view = { λ i. record { production = i.production.now; index = i.index; lookahead = i.lookahead } };
+    ghost view = { λ i. record
+        { production = i.production.now; index = i.index; lookahead = i.lookahead } };
 
     ghost invariant = { λ i. i.index ≤ length i.production.now.symbols };
 }
@@ -53,7 +54,8 @@ impl<'grammar, L> Item<'grammar, L> {
     /// The symbols before the dot, the one behind it and those that follow.
     pub fn symbol_sets(&self) -> SymbolSets<'grammar>
         ensures prefix { result.prefix.now ≡ take self.now.index self.now.production.symbols }
-        ensures cursor { option_copied result.cursor ≡ slice_get self.now.production.symbols self.now.index }
+        ensures cursor { option_copied result.cursor ≡ slice_get self.now.production.symbols
+            self.now.index }
         ensures suffix { result.suffix.now ≡ drop (self.now.index + 1) self.now.production.symbols }
     {
         match self.shift_symbol() {
@@ -85,7 +87,8 @@ impl<'grammar, L> Item<'grammar, L> {
 
     /// Whether the nonterminal stands behind the dot.
     pub fn can_shift_nonterminal(&self, nonterminal: &NonterminalString) -> bool
-        ensures { IsTrue result ↔ (slice_get self.now.production.symbols self.now.index ≡ Some (Symbol.Nonterminal nonterminal.now)) }
+        ensures { IsTrue result ↔ (slice_get self.now.production.symbols self.now.index ≡ Some
+            (Symbol.Nonterminal nonterminal.now)) }
     {
         match self.shift_symbol() {
             Some((symbol, _)) => is_nonterminal(symbol, nonterminal),
@@ -116,8 +119,10 @@ impl<'grammar, L> Item<'grammar, L> {
 
     /// The symbol behind the dot, and those behind it.
     pub fn shift_symbol(&self) -> Option<(&'grammar Symbol, &'grammar [Symbol])>
-        ensures next { IfSome result (λ next. slice_get self.now.production.symbols self.now.index ≡ Some next.0.now) }
-        ensures rest { IfSome result (λ next. next.1.now ≡ drop (self.now.index + 1) self.now.production.symbols) }
+        ensures next { IfSome result
+            (λ next. slice_get self.now.production.symbols self.now.index ≡ Some next.0.now) }
+        ensures rest { IfSome result
+            (λ next. next.1.now ≡ drop (self.now.index + 1) self.now.production.symbols) }
         ensures none { IsNone result → self.now.index ≡ length self.now.production.symbols }
     {
         let symbols = self.production.symbols.as_slice();

@@ -22,7 +22,8 @@ impl<'grammar> Item<'grammar, Nil> {
     /// The production with its dot at the index.
     pub fn lr0(production: &'grammar Production, index: usize) -> Self
         requires { index ≤ length production.now.symbols }
-        ensures { result ≡ record { production = production.now; index = index; lookahead = record {} } }
+        ensures { result ≡ record
+            { production = production.now; index = index; lookahead = record {} } }
     {
         Item {
             production,

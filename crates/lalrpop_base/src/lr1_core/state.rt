@@ -31,8 +31,9 @@ impl fmt::Display for StateIndex {
 }
 
 /// The items of a state.
-#[derive(Drop)]
+#[derive(Drop, PartialEq, Eq, Ord, Hash)]
 #[derive_where(Debug; L: fmt::Debug)]
+#[derive_where(PartialOrd; L: Ord)]
 pub struct Items<'grammar, L> {
     pub vec: Vec<Item<'grammar, L>>,
 }

@@ -26,7 +26,8 @@ impl<'grammar, L> State<'grammar, L> {
 
     /// The first shortest prefix of the items whose dot is past the start, else nothing.
     pub fn will_pop(&self) -> &'grammar [Symbol]
-        ensures shortest { IsFirstShortestOrEmpty (map prefix_of (moved self.now.items.vec.items)) result.now }
+        ensures shortest { IsFirstShortestOrEmpty (map prefix_of (moved self.now.items.vec.items))
+            result.now }
     {
         let mut best: Option<&'grammar [Symbol]> = None;
         for item in self.items.vec.iter() {
@@ -40,9 +41,11 @@ impl<'grammar, L> State<'grammar, L> {
         }
     }
 
-    /// The first shortest rest behind the dot of the items whose dot is past the start, else nothing.
+    /// The first shortest rest behind the dot of the items whose dot is past the start, else
+    /// nothing.
     pub fn will_push(&self) -> &'grammar [Symbol]
-        ensures shortest { IsFirstShortestOrEmpty (map rest_of (moved self.now.items.vec.items)) result.now }
+        ensures shortest { IsFirstShortestOrEmpty (map rest_of (moved self.now.items.vec.items))
+            result.now }
     {
         let mut best: Option<&'grammar [Symbol]> = None;
         for item in self.items.vec.iter() {
@@ -98,7 +101,8 @@ fn shorter<'a>(best: Option<&'a [Symbol]>, next: &'a [Symbol]) -> Option<&'a [Sy
 
 // The first item whose dot is past the start.
 fn first_moved<'a, 'grammar, L>(items: &'a [Item<'grammar, L>]) -> Option<&'a Item<'grammar, L>>
-    ensures found { IfSome result (λ item. (k : ℕ) × (slice_get items.now k ≡ Some item.now) × (0 < item.now.index)) }
+    ensures found { IfSome result
+        (λ item. (k : ℕ) × (slice_get items.now k ≡ Some item.now) × (0 < item.now.index)) }
     ensures none { IsNone result → EachItem (λ item. item.index ≡ 0) items.now }
 {
     for item in items {
@@ -111,7 +115,8 @@ fn first_moved<'a, 'grammar, L>(items: &'a [Item<'grammar, L>]) -> Option<&'a It
 
 // Whether all items whose dot is past the start produce one nonterminal.
 fn have_name<'grammar, L>(items: &[Item<'grammar, L>], name: &NonterminalString) -> bool
-    ensures { IsTrue result ↔ EachItem (λ item. 0 < item.index → item.production.nonterminal ≡ name.now) items.now }
+    ensures { IsTrue result ↔ EachItem
+        (λ item. 0 < item.index → item.production.nonterminal ≡ name.now) items.now }
 {
     for item in items {
         if item.index > 0 && !equal(&item.production.nonterminal, name) {

@@ -19,9 +19,10 @@ use crate::sequence::Sequence;
 use crate::text::Text;
 use std::alloc::Global;
 
-/// The grammar with a new start symbol, and its name. Tables of that grammar for that name parse the same lists, each tree with one node
-/// more at its root, wherever the old start symbol stands. A grammar may lose its tables: `S = S | "a"` has tables for `S`, and a conflict
-/// at the end of input for a symbol above it.
+/// The grammar with a new start symbol, and its name. Tables of that grammar for that name parse
+/// the same lists, each tree with one node more at its root, wherever the old start symbol stands.
+/// A grammar may lose its tables: `S = S | "a"` has tables for `S`, and a conflict at the end of
+/// input for a symbol above it.
 pub fn augment(
     alloc: Global,
     grammar: Grammar,
@@ -31,10 +32,16 @@ pub fn augment(
     ensures added { IfOk result (λ r. HasNewStart grammar start r.0 r.1) }
     ensures well_formed { IfOk result (λ r. IsWellFormed r.0) }
     ensures alone { IfOk result (λ r. IsOnNoRightSide (productions r.0) r.1) }
-    ensures trees { IfOk result (λ r. (w : List TerminalString) (t : Tree) → IsParseTree (productions r.0) r.1 w t ↔ IsAboveParseTree (productions grammar) start r.1 w t) }
-    ensures sentences { IfOk result (λ r. (w : List TerminalString) → IsSentence (productions r.0) r.1 w ↔ IsSentence (productions grammar) start w) }
-    ensures beginnings { IfOk result (λ r. (w : List TerminalString) → IsBeginning (productions r.0) r.1 w ↔ IsBeginning (productions grammar) start w) }
-    ensures wrong { IfOk result (λ r. (w : List TerminalString) (t : Token) → IsFirstWrong (productions r.0) r.1 w t → IsFirstWrong (productions grammar) start w t) }
+    ensures trees { IfOk result (λ r. (w : List TerminalString) (t : Tree) →
+        IsParseTree (productions r.0) r.1 w t ↔ IsAboveParseTree (productions grammar) start r.1 w
+        t) }
+    ensures sentences { IfOk result (λ r. (w : List TerminalString) →
+        IsSentence (productions r.0) r.1 w ↔ IsSentence (productions grammar) start w) }
+    ensures beginnings { IfOk result (λ r. (w : List TerminalString) →
+        IsBeginning (productions r.0) r.1 w ↔ IsBeginning (productions grammar) start w) }
+    ensures wrong { IfOk result (λ r. (w : List TerminalString) (t : Token) →
+        IsFirstWrong (productions r.0) r.1 w t →
+        IsFirstWrong (productions grammar) start w t) }
     ensures refused { IfErr result (IsRefusedStart grammar) }
 {
     let action = next_action(&grammar)?;
@@ -187,9 +194,11 @@ fn with_entry(
     name: NonterminalString,
     entry: NonterminalData,
 ) -> Result<Grammar, OutOfMemory>
-    ensures entries { IfOk result (λ h. h.nonterminals.entries ≡ insert_entry name_cmp grammar.nonterminals.entries name entry) }
+    ensures entries { IfOk result (λ h. h.nonterminals.entries ≡ insert_entry name_cmp
+        grammar.nonterminals.entries name entry) }
     ensures terminals { IfOk result (λ h. h.terminals ≡ grammar.terminals) }
-    ensures actions { IfOk result (λ h. h.action_fn_defns.items ≡ grammar.action_fn_defns.items ++ start_action ∷ []) }
+    ensures actions { IfOk result
+        (λ h. h.action_fn_defns.items ≡ grammar.action_fn_defns.items ++ start_action ∷ []) }
     ensures algorithm { IfOk result (λ h. h.algorithm ≡ grammar.algorithm) }
 {
     let Grammar {

@@ -3,7 +3,8 @@ use lalrpop_base::memory::OutOfMemory;
 use lalrpop_lr1::trace::{Example, ExampleSymbol, Reduction};
 use std::alloc::Global;
 
-/// Appends an example behind a word: its symbols, the place of its cursor and its reductions. Copies of its parts are shown.
+/// Appends an example behind a word: its symbols, the place of its cursor and its reductions.
+/// Copies of its parts are shown.
 pub(crate) fn push_example(
     alloc: Global,
     text: &mut String,
@@ -18,7 +19,8 @@ pub(crate) fn push_example(
     push_reductions(alloc, text, &example.reductions)
 }
 
-// Appends a symbol of an example behind a space. The place of a right side without symbols is a pair of parentheses.
+// Appends a symbol of an example behind a space. The place of a right side without symbols is a
+// pair of parentheses.
 fn push_symbol(text: &mut String, symbol: &ExampleSymbol) -> Result<(), OutOfMemory> {
     match symbol {
         ExampleSymbol::Symbol(symbol) => write!(text, " {symbol}")?,

@@ -1,4 +1,5 @@
-//! The parts that are timed. Each tells how many states it had to do with, FIRST how many nonterminals, and its milliseconds.
+//! The parts that are timed. Each tells how many states it had to do with, FIRST how many
+//! nonterminals, and its milliseconds.
 ghost use Rattle.lalrpop_base.specs.WellFormed.{IsWellFormed};
 
 use lalrpop_base::first::FirstSets;

@@ -1,17 +1,17 @@
-//! The promise for any start symbol: by a grammar with a new one above it, exactly the parse trees of the old.
+//! The promise for any start symbol: by a grammar with a new one above it, exactly the parse trees
+//! of the old.
 ghost use Rattle.std.specs.Prelude.{◌≡◌, IfOk, IfErr};
 ghost use Rattle.lalrpop_base.specs.NewStart.{HasNewStart, IsRefusedStart};
 ghost use Rattle.lalrpop_base.specs.Runs.{IsFirstWrong};
 ghost use Rattle.lalrpop_base.specs.Trees.{Tree, Node, beside, no_trees};
-ghost use Rattle.lalrpop_base.specs.Validity.{IsLR1, IsLALR1};
-ghost use Rattle.lalrpop_base.specs.WellFormed.{IsWellFormed, productions, rules_of};
+ghost use Rattle.lalrpop_base.specs.WellFormed.{IsWellFormed, productions};
 ghost use Rattle.lalrpop_base.specs.declared.repr.NonterminalString.{NonterminalString};
-ghost use Rattle.lalrpop_tables.specs.Canonical.{AreCanonicalStates};
-ghost use Rattle.lalrpop_tables.specs.CanonicalConflicts.{FailByCanonicalConflicts};
-ghost use Rattle.lalrpop_tables.specs.EarlyStop.{StopsAfter};
 ghost use Rattle.lalrpop_tables.specs.Lalr.{Collapses};
+ghost use Rattle.lalrpop_tables.specs.Lr1Answers.{HasConflictsOf};
 ghost use Rattle.lalrpop_lr1.specs.AnyStart.{IsTreeBelow, TellsTreesBelow, IsToldByTablesAbove};
-ghost use Rattle.lalrpop_lr1.specs.Headline.{HadTables, IfConflicts, IfRefusedAt, IfLimitTold, IsCutOffByTables};
+ghost use Rattle.lalrpop_lr1.specs.FaithfulAnswers.{IsCutOffByTables};
+ghost use Rattle.lalrpop_lr1.specs.Headline.{IsAccepted};
+ghost use Rattle.lalrpop_lr1.specs.ParseAnswers.{HadTables, HadTablesWhere, IfConflicts, IfRefusedAt, IfLimitTold};
 ghost use Rattle.lalrpop_lr1.specs.ParseTrees.{tree_of};
 
 use super::{ParseError, parse};
@@ -24,7 +24,8 @@ use lalrpop_tables::build::options::Options;
 use std::alloc::Global;
 use std::marker::Model;
 
-/// A grammar with a new start symbol above an old one. Clauses see it with the productions that it had before.
+/// A grammar with a new start symbol above an old one. Clauses see it with the productions that it
+/// had before.
 #[derive(Debug, Drop)]
 pub struct AugmentedGrammar {
     old_start: NonterminalString,
@@ -85,8 +86,9 @@ impl AugmentedGrammar {
     }
 }
 
-/// Builds the tables of an augmented grammar, and parses a list of terminals for the old start symbol by them, in
-/// at most so many steps. The node of the new start symbol takes one of them, and is no part of the tree.
+/// Builds the tables of an augmented grammar, and parses a list of terminals for the old start
+/// symbol by them, in at most so many steps. The node of the new start symbol takes one of them,
+/// and is no part of the tree.
 pub fn parse_from_any<'grammar>(
     alloc: Global,
     augmented: &'grammar AugmentedGrammar,
@@ -94,24 +96,32 @@ pub fn parse_from_any<'grammar>(
     tokens: Vec<TerminalString>,
     limit: usize,
 ) -> Result<ParseTree, ParseError<'grammar>>
-    // There are tables exactly where the augmented grammar is LR(1), and else its canonical conflicts; under early stop, those of the states that are made by then. Where the states are collapsed, there are tables exactly where it is LALR(1).
-    ensures tables { HadTables result → IsLR1 (productions augmented.now.grammar) augmented.now.start }
-    ensures no_tables { ¬ Collapses augmented.now.grammar options.now → IfErr result (IfConflicts (λ error. ¬ IsLR1 (productions augmented.now.grammar) augmented.now.start)) }
-    ensures canonical_states { ¬ Collapses augmented.now.grammar options.now → options.now.stop_after ≡ 0 → IfErr result (IfConflicts (λ error. AreCanonicalStates (rules_of augmented.now.grammar) augmented.now.start error.states.items)) }
-    ensures canonical_conflicts { ¬ Collapses augmented.now.grammar options.now → options.now.stop_after ≡ 0 → IfErr result (IfConflicts (λ error. FailByCanonicalConflicts augmented.now.grammar augmented.now.start error.states.items error.conflicts.items)) }
-    ensures stopped { ¬ Collapses augmented.now.grammar options.now → IfErr result (IfConflicts (λ error. StopsAfter (rules_of augmented.now.grammar) augmented.now.start options.now.stop_after error.states.items error.conflicts.items)) }
-    ensures collapsed_tables { Collapses augmented.now.grammar options.now → HadTables result → IsLALR1 (productions augmented.now.grammar) augmented.now.start }
-    ensures no_collapsed_tables { Collapses augmented.now.grammar options.now → IfErr result (IfConflicts (λ error. ¬ IsLALR1 (productions augmented.now.grammar) augmented.now.start)) }
+    // There are tables exactly where the augmented grammar is accepted.
+    ensures decides { HadTablesWhere
+        (IsAccepted (Collapses augmented.now.grammar options.now)
+        augmented.now.grammar augmented.now.start) result }
 
-    // The answer is what the run by the tables comes to. By the canonical method they are the canonical states, by the lane way as few as the LR(0) states where the augmented grammar is LALR(1).
-    ensures run { HadTables result → IsToldByTablesAbove augmented.now.grammar options.now augmented.now.start tokens.items limit result }
+    // By them, wherever the old start symbol stands: a tree is its parse tree with fewer nodes than
+    // the limit,
+    ensures parses { IfOk result (λ tree. IsTreeBelow limit tokens.items (tree_of tree)
+        augmented.now.old_productions augmented.now.old_start) }
+    // and a refusal names its first wrong token.
+    ensures refuses { IfErr result (IfRefusedAt (λ token.
+        IsFirstWrong augmented.now.old_productions augmented.now.old_start tokens.items token)) }
+    // The limit is told where that many steps were made and there is another.
+    ensures limit { IfErr result (IfLimitTold (IsCutOffByTables
+        (productions augmented.now.grammar) augmented.now.start tokens.items limit)) }
+    // A list with a parse tree has that tree as its answer, or the limit, and so it has one alone.
+    ensures one_tree { TellsTreesBelow limit tokens.items result
+        augmented.now.old_productions augmented.now.old_start }
 
-    // Wherever the old start symbol stands, the trees are exactly its parse trees with fewer nodes than the limit, and a refusal names its first wrong token.
-    ensures parsed { IfOk result (λ tree. IsTreeBelow limit tokens.items (tree_of tree) augmented.now.old_productions augmented.now.old_start) }
-    ensures parses { ¬ Collapses augmented.now.grammar options.now → IsLR1 (productions augmented.now.grammar) augmented.now.start → TellsTreesBelow limit tokens.items result augmented.now.old_productions augmented.now.old_start }
-    ensures collapsed_parses { Collapses augmented.now.grammar options.now → IsLALR1 (productions augmented.now.grammar) augmented.now.start → TellsTreesBelow limit tokens.items result augmented.now.old_productions augmented.now.old_start }
-    ensures limit { IfErr result (IfLimitTold (IsCutOffByTables (productions augmented.now.grammar) augmented.now.start tokens.items limit)) }
-    ensures refused { IfErr result (IfRefusedAt (λ token. IsFirstWrong augmented.now.old_productions augmented.now.old_start tokens.items token)) }
+    // By which tables, whose start symbol is on no right side; and where there are none, by which
+    // conflicts.
+    ensures run { HadTables result → IsToldByTablesAbove
+        augmented.now.grammar options.now augmented.now.start tokens.items limit result }
+    ensures conflicts { IfErr result (IfConflicts (HasConflictsOf
+        (Collapses augmented.now.grammar options.now) options.now.stop_after
+        augmented.now.grammar augmented.now.start)) }
 {
     let Ok(start) = augmented.start.clone(alloc) else {
         return Err(ParseError::Memory);
@@ -125,7 +135,9 @@ pub fn parse_from_any<'grammar>(
 // The child of a node that has one.
 fn only_child(tree: ParseTree) -> ParseTree
     requires { (a : NonterminalString) × (t : Tree) × (tree_of tree ≡ Node a (beside t no_trees)) }
-    ensures { (a : NonterminalString) (t : Tree) → tree_of tree ≡ Node a (beside t no_trees) → tree_of result ≡ t }
+    ensures { (a : NonterminalString) (t : Tree) →
+        tree_of tree ≡ Node a (beside t no_trees) →
+        tree_of result ≡ t }
 {
     match tree {
         ParseTree::Nonterminal(_, mut children) => match children.pop() {

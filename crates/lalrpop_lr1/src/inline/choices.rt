@@ -25,7 +25,8 @@ pub fn mentions(name: &NonterminalString, symbols: &[Symbol]) -> bool
     symbols.iter().any(|symbol| is_named(name, symbol))
 }
 
-/// All choices of an alternative for each occurrence of a nonterminal, the leftmost varying slowest.
+/// All choices of an alternative for each occurrence of a nonterminal, the leftmost varying
+/// slowest.
 pub fn choices(
     alloc: Global,
     name: &NonterminalString,
@@ -51,7 +52,8 @@ fn choose(
     made: &mut Vec<Sequence<InlinedSymbol>>,
 ) -> Result<(), OutOfMemory>
     ensures kept { OnOk result (chosen.new.items ≡ chosen.old.items) }
-    ensures more { OnOk result (made.new.items ≡ made.old.items ++ behind chosen.old.items (choices name.now alternatives.now symbols.now)) }
+    ensures more { OnOk result (made.new.items ≡ made.old.items ++ behind chosen.old.items
+        (choices name.now alternatives.now symbols.now)) }
 {
     match symbols.split_first() {
         None => {
@@ -86,7 +88,8 @@ fn choose_part(
 ) -> Result<(), OutOfMemory>
     ensures kept { OnOk result (chosen.new.items ≡ chosen.old.items) }
     ensures more { OnOk result (made.new.items
-        ≡ made.old.items ++ behind chosen.old.items (behind (part ∷ []) (choices name.now alternatives.now symbols.now))) }
+        ≡ made.old.items ++ behind chosen.old.items
+        (behind (part ∷ []) (choices name.now alternatives.now symbols.now))) }
 {
     let count = chosen.len();
     chosen.push(part)?;

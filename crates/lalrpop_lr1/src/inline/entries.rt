@@ -35,8 +35,10 @@ fn replace_entry(
     entry: NonterminalData,
     defns: &mut Vec<ActionFnDefn>,
 ) -> NormResult<NonterminalData>
-    ensures ok { IfOk result (λ made. IsEntryReplaced name.now alternatives.now entry defns.old.items made defns.new.items) }
-    ensures err { IfErr result (λ e. IsPastLast (length (replaced_all name.now alternatives.now entry.productions.items defns.old.items).defns) e) }
+    ensures ok { IfOk result (λ made. IsEntryReplaced name.now alternatives.now entry
+        defns.old.items made defns.new.items) }
+    ensures err { IfErr result (λ e. IsPastLast (length
+        (replaced_all name.now alternatives.now entry.productions.items defns.old.items).defns) e) }
 {
     let NonterminalData {
         productions,
@@ -71,8 +73,10 @@ fn replace_entries(
     nonterminals: BTreeMap<NonterminalString, NonterminalData>,
     defns: &mut Vec<ActionFnDefn>,
 ) -> NormResult<BTreeMap<NonterminalString, NonterminalData>>
-    ensures ok { IfOk result (λ made. view_with made.entries defns.new.items ≡ replaced_entries name.now alternatives.now (map entry_view nonterminals.entries) defns.old.items) }
-    ensures err { IfErr result (λ e. IsPastLast (length (replaced_entries name.now alternatives.now (map entry_view nonterminals.entries) defns.old.items).defns) e) }
+    ensures ok { IfOk result (λ made. view_with made.entries defns.new.items ≡ replaced_entries
+        name.now alternatives.now (map entry_view nonterminals.entries) defns.old.items) }
+    ensures err { IfErr result (λ e. IsPastLast (length (replaced_entries
+        name.now alternatives.now (map entry_view nonterminals.entries) defns.old.items).defns) e) }
 {
     let mut made = BTreeMap::new(alloc);
     for (key, entry) in nonterminals {
@@ -91,7 +95,8 @@ pub fn inline_nonterminal(
     ensures view { IfOk result (λ h. view_of h ≡ inlined_of name.now (view_of grammar)) }
     ensures terminals { IfOk result (λ h. h.terminals ≡ grammar.terminals) }
     ensures algorithm { IfOk result (λ h. h.algorithm ≡ grammar.algorithm) }
-    ensures err { IfErr result (λ e. IsPastLast (length (inlined_of name.now (view_of grammar)).defns) e) }
+    ensures err { IfErr result
+        (λ e. IsPastLast (length (inlined_of name.now (view_of grammar)).defns) e) }
 {
     let alternatives = clone_productions(alloc, grammar.productions_for(name))?;
     let Grammar {

@@ -16,7 +16,8 @@ use lalrpop_base::repr::{NonterminalString, Production, Span, Symbol};
 use std::alloc::Global;
 use std::collections::BTreeSet;
 
-/// How far a walk has come: the nonterminals to which it has not come, those that it is in, and those that it has left, in this order.
+/// How far a walk has come: the nonterminals to which it has not come, those that it is in, and
+/// those that it has left, in this order.
 #[derive(Drop)]
 pub struct Walk {
     pub pending: BTreeSet<NonterminalString>,
@@ -76,7 +77,8 @@ fn mentioned(
 
 // The marked nonterminals, in the order of their names.
 fn marked(alloc: Global, grammar: &Grammar) -> Result<Vec<NonterminalString>, OutOfMemory>
-    ensures found { IfOk result (λ names. (a : NonterminalString) → Contains names.items a ↔ IsMarked grammar.now a) }
+    ensures found { IfOk result
+        (λ names. (a : NonterminalString) → Contains names.items a ↔ IsMarked grammar.now a) }
     ensures ordered { OnOk result (IsOrdered name_cmp grammar.now.nonterminals) }
 {
     let mut names = Vec::new(alloc);
@@ -93,7 +95,8 @@ fn set_of(
     alloc: Global,
     names: &[NonterminalString],
 ) -> Result<BTreeSet<NonterminalString>, OutOfMemory>
-    ensures { IfOk result (λ set. (a : NonterminalString) → (contains name_cmp set a ≡ true) ↔ Contains names.now a) }
+    ensures { IfOk result
+        (λ set. (a : NonterminalString) → (contains name_cmp set a ≡ true) ↔ Contains names.now a) }
 {
     let mut set = BTreeSet::new(alloc);
     for name in names {
@@ -104,7 +107,8 @@ fn set_of(
 
 // The span of a nonterminal's entry.
 fn span_of(grammar: &Grammar, name: &NonterminalString) -> Span
-    ensures { IsMarked grammar.now name.now → HasSpan (get name_cmp grammar.now.nonterminals name.now) result }
+    ensures { IsMarked grammar.now name.now →
+        HasSpan (get name_cmp grammar.now.nonterminals name.now) result }
 {
     match grammar.nonterminals.get(name) {
         Some(entry) => entry.span,
@@ -115,7 +119,8 @@ fn span_of(grammar: &Grammar, name: &NonterminalString) -> Span
 // What comes of a nonterminal that is not pending: where the walk is in it, a refusal.
 fn meet(alloc: Global, grammar: &Grammar, name: &NonterminalString, walk: &Walk) -> NormResult<()>
     ensures left { OnOk result (contains name_cmp walk.now.visiting name.now ≡ false) }
-    ensures refused { IfErr result (λ e. LeadTo grammar.now walk.now name.now → IsCycleOf grammar.now e) }
+    ensures refused { IfErr result
+        (λ e. LeadTo grammar.now walk.now name.now → IsCycleOf grammar.now e) }
 {
     if walk.visiting.contains(name) {
         return Err(NormError::Cycle {
@@ -134,8 +139,11 @@ fn walk_from(
     walk: &mut Walk,
 ) -> NormResult<()>
     ensures fewer { length walk.new.pending.keys ≤ length walk.old.pending.keys }
-    ensures walked { OnOk result (IsWalk grammar.now walk.old → IsWalked grammar.now name.now walk.old walk.new) }
-    ensures refused { IfErr result (λ e. IsWalk grammar.now walk.old → LeadTo grammar.now walk.old name.now → IsCycleOf grammar.now e) }
+    ensures walked { OnOk result
+        (IsWalk grammar.now walk.old → IsWalked grammar.now name.now walk.old walk.new) }
+    ensures refused { IfErr result (λ e. IsWalk grammar.now walk.old →
+        LeadTo grammar.now walk.old name.now →
+        IsCycleOf grammar.now e) }
 {
     if !walk.pending.remove(name) {
         return meet(alloc, grammar, name, walk);

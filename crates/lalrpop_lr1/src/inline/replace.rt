@@ -92,7 +92,8 @@ fn add_choice(
     defns: &mut Vec<ActionFnDefn>,
 ) -> NormResult<Production>
     ensures ok { IfOk result (λ p. p ≡ choice_production (length defns.old.items) outer.now parts) }
-    ensures defined { OnOk result (defns.new.items ≡ defns.old.items ++ choice_defn defns.old.items outer.now.action parts ∷ []) }
+    ensures defined { OnOk result (defns.new.items ≡ defns.old.items ++ choice_defn defns.old.items
+        outer.now.action parts ∷ []) }
     ensures err { IfErr result (λ e. IsPastLast (length defns.old.items + 1) e) }
 {
     let action = action_after(defns.len())?;
@@ -115,8 +116,10 @@ fn add_choices(
     made: &mut Vec<Production>,
     defns: &mut Vec<ActionFnDefn>,
 ) -> NormResult<()>
-    ensures ok { OnOk result (made_of made.new.items defns.new.items ≡ in_front made.old.items (chosen outer.now choices.items defns.old.items)) }
-    ensures err { IfErr result (λ e. IsPastLast (length (chosen outer.now choices.items defns.old.items).defns) e) }
+    ensures ok { OnOk result (made_of made.new.items defns.new.items ≡ in_front made.old.items
+        (chosen outer.now choices.items defns.old.items)) }
+    ensures err { IfErr result
+        (λ e. IsPastLast (length (chosen outer.now choices.items defns.old.items).defns) e) }
 {
     for parts in choices {
         made.push(add_choice(alloc, outer, parts, defns)?)?;
@@ -133,8 +136,10 @@ fn replace(
     made: &mut Vec<Production>,
     defns: &mut Vec<ActionFnDefn>,
 ) -> NormResult<()>
-    ensures ok { OnOk result (made_of made.new.items defns.new.items ≡ in_front made.old.items (replaced name.now alternatives.now production defns.old.items)) }
-    ensures err { IfErr result (λ e. IsPastLast (length (replaced name.now alternatives.now production defns.old.items).defns) e) }
+    ensures ok { OnOk result (made_of made.new.items defns.new.items ≡ in_front made.old.items
+        (replaced name.now alternatives.now production defns.old.items)) }
+    ensures err { IfErr result (λ e. IsPastLast
+        (length (replaced name.now alternatives.now production defns.old.items).defns) e) }
 {
     if mentions(name, production.symbols.as_slice()) {
         let all = choices(alloc, name, alternatives, production.symbols.as_slice())?;
@@ -153,8 +158,11 @@ pub fn replace_all(
     productions: Vec<Production>,
     defns: &mut Vec<ActionFnDefn>,
 ) -> NormResult<Vec<Production>>
-    ensures ok { IfOk result (λ made. made_of made.items defns.new.items ≡ replaced_all name.now alternatives.now productions.items defns.old.items) }
-    ensures err { IfErr result (λ e. IsPastLast (length (replaced_all name.now alternatives.now productions.items defns.old.items).defns) e) }
+    ensures ok { IfOk result (λ made. made_of made.items defns.new.items ≡ replaced_all name.now
+        alternatives.now productions.items defns.old.items) }
+    ensures err { IfErr result (λ e. IsPastLast
+        (length (replaced_all name.now alternatives.now productions.items defns.old.items).defns)
+        e) }
 {
     let mut made = Vec::new(alloc);
     for production in productions {

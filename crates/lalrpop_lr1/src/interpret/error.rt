@@ -9,7 +9,8 @@ use std::alloc::{AllocError, AllocFailed};
 use std::fmt;
 use thiserror::Error;
 
-/// A state had no step on a token or ended the parse there, too many steps were asked for, or a growth was refused.
+/// A state had no step on a token or ended the parse there, too many steps were asked for, or a
+/// growth was refused.
 #[derive(Drop, Error)]
 #[derive_where(Debug; L: fmt::Debug)]
 #[error_bound(L: fmt::Debug)]

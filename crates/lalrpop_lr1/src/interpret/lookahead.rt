@@ -24,7 +24,8 @@ pub trait LookaheadInterpret: Lookahead {
         token: &Token,
         terminals: &TerminalSet,
     ) -> Option<&'grammar Production>
-        ensures { option_copied result ≡ reduction_on (contents_of (holds terminals.now) state.now).reductions token.now };
+        ensures { option_copied result ≡ reduction_on
+            (contents_of (holds terminals.now) state.now).reductions token.now };
 }
 
 // Without lookahead every token is held.

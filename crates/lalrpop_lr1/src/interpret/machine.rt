@@ -23,7 +23,8 @@ use lalrpop_base::repr::terminals::TerminalSet;
 use lalrpop_base::repr::{Production, TerminalString};
 use std::alloc::Global;
 
-/// The state on top of the stack and those below it, the trees over them, each newest last, and how many steps are left.
+/// The state on top of the stack and those below it, the trees over them, each newest last, and how
+/// many steps are left.
 #[derive(Drop)]
 pub(crate) struct Machine {
     state: StateIndex,
@@ -70,14 +71,19 @@ impl Machine {
         &states[self.state.0]
     }
 
-    // Gathers the newest trees under a nonterminal, pops their states, and tells the state that is then on top.
+    // Gathers the newest trees under a nonterminal, pops their states, and tells the state that is
+    // then on top.
     fn gather(&mut self, alloc: Global, production: &Production) -> Result<StateIndex, OutOfMemory>
         requires trees { length production.now.symbols ≤ length self.old.trees.items }
         requires states { length production.now.symbols ≤ length self.old.below.items }
-        ensures gathered { OnOk result (trees_on self.new.trees.items ≡ reduced production.now (trees_on self.old.trees.items)) }
-        ensures popped { OnOk result (numbers self.new.below.items ≡ drop (length production.now.symbols) (self.old.state.0 ∷ numbers self.old.below.items)) }
-        ensures top { IfOk result (λ top. (under : List ℕ) × (numbers self.new.below.items ≡ top.0 ∷ under)) }
-        ensures from { IfOk result (λ top. (k : ℕ) × (slice_get (self.old.below.items ++ self.old.state ∷ []) k ≡ Some top)) }
+        ensures gathered { OnOk result (trees_on self.new.trees.items ≡ reduced production.now
+            (trees_on self.old.trees.items)) }
+        ensures popped { OnOk result (numbers self.new.below.items ≡ drop
+            (length production.now.symbols) (self.old.state.0 ∷ numbers self.old.below.items)) }
+        ensures top { IfOk result
+            (λ top. (under : List ℕ) × (numbers self.new.below.items ≡ top.0 ∷ under)) }
+        ensures from { IfOk result (λ top. (k : ℕ) ×
+            (slice_get (self.old.below.items ++ self.old.state ∷ []) k ≡ Some top)) }
         ensures left { self.new.left ≡ self.old.left }
     {
         let count = production.symbols.len();
@@ -97,7 +103,12 @@ impl Machine {
         production: &Production,
     ) -> Result<bool, OutOfMemory>
         requires { CanPop (length states.now) self.old (length production.now.symbols) }
-        ensures made { IfOk result (λ goes_on. (terminals : List TerminalString) (rest : List TerminalString) → received (contents_in (L.holds terminals) states.now) production.now (drop (length production.now.symbols) (self.old.state.0 ∷ numbers self.old.below.items)) (reduced production.now (trees_on self.old.trees.items)) rest ≡ cond goes_on (Goes (configuration self.new rest)) (Ends (trees_on self.new.trees.items))) }
+        ensures made { IfOk result (λ goes_on.
+            (terminals : List TerminalString) (rest : List TerminalString) →
+            received (contents_in (L.holds terminals) states.now) production.now
+            (drop (length production.now.symbols) (self.old.state.0 ∷ numbers self.old.below.items))
+            (reduced production.now (trees_on self.old.trees.items)) rest ≡ cond goes_on
+            (Goes (configuration self.new rest)) (Ends (trees_on self.new.trees.items))) }
         ensures left { self.new.left ≡ self.old.left }
     {
         let receiving = self.gather(alloc, production)?;
@@ -121,8 +132,11 @@ impl Machine {
         requires coherent { AreCoherent states.now }
         requires some { 0 < length states.now }
         requires stacked { IsStacked (contents_in (L.holds terminals.now) states.now) self.old }
-        ensures made { IfOk result (λ progress. (rest : List TerminalString) → IsProgress (contents_in (L.holds terminals.now) states.now) self.old token.now rest self.new progress) }
-        ensures halted { IfErr result (λ e. (rest : List TerminalString) → IsHalted (contents_in (L.holds terminals.now) states.now) self.old token.now rest e) }
+        ensures made { IfOk result (λ progress. (rest : List TerminalString) →
+            IsProgress (contents_in (L.holds terminals.now) states.now) self.old token.now rest
+            self.new progress) }
+        ensures halted { IfErr result (λ e. (rest : List TerminalString) →
+            IsHalted (contents_in (L.holds terminals.now) states.now) self.old token.now rest e) }
     {
         match L::reduction(self.top(states), token, terminals) {
             Some(production) => {
@@ -170,8 +184,12 @@ impl Machine {
         requires coherent { AreCoherent states.now }
         requires some { 0 < length states.now }
         requires stacked { IsStacked (contents_in (L.holds terminals.now) states.now) self.old }
-        ensures shifted { OnOk result ((rest : List TerminalString) → HasRead (contents_in (L.holds terminals.now) states.now) (configuration self.old (terminal ∷ rest)) self.old.left self.new rest) }
-        ensures stopped { IfErr result (λ e. (rest : List TerminalString) → IsFailure (StopsReading (contents_in (L.holds terminals.now) states.now) (configuration self.old (terminal ∷ rest)) self.old.left) states.now e) }
+        ensures shifted { OnOk result ((rest : List TerminalString) →
+            HasRead (contents_in (L.holds terminals.now) states.now)
+            (configuration self.old (terminal ∷ rest)) self.old.left self.new rest) }
+        ensures stopped { IfErr result (λ e. (rest : List TerminalString) →
+            IsFailure (StopsReading (contents_in (L.holds terminals.now) states.now)
+            (configuration self.old (terminal ∷ rest)) self.old.left) states.now e) }
     {
         let token = Token::Terminal(terminal);
         'reducing: loop {
@@ -199,7 +217,9 @@ impl Machine {
         requires coherent { AreCoherent states.now }
         requires some { 0 < length states.now }
         requires start { IsAtStart self }
-        ensures { IsAnswer (HasOutcome (contents_in (L.holds terminals.now) states.now) tokens.items self.left) states.now result }
+        ensures { IsAnswer
+            (HasOutcome (contents_in (L.holds terminals.now) states.now) tokens.items self.left)
+            states.now result }
     {
         self.shift_all(alloc, states, terminals, tokens)?;
         self.finish(alloc, states, terminals)
@@ -216,8 +236,11 @@ impl Machine {
         requires coherent { AreCoherent states.now }
         requires some { 0 < length states.now }
         requires stacked { IsStacked (contents_in (L.holds terminals.now) states.now) self.old }
-        ensures shifted { OnOk result (HasRead (contents_in (L.holds terminals.now) states.now) (configuration self.old tokens.items) self.old.left self.new []) }
-        ensures stopped { IfErr result (λ e. IsFailure (StopsReading (contents_in (L.holds terminals.now) states.now) (configuration self.old tokens.items) self.old.left) states.now e) }
+        ensures shifted { OnOk result (HasRead (contents_in (L.holds terminals.now) states.now)
+            (configuration self.old tokens.items) self.old.left self.new []) }
+        ensures stopped { IfErr result (λ e. IsFailure (StopsReading
+            (contents_in (L.holds terminals.now) states.now) (configuration self.old tokens.items)
+            self.old.left) states.now e) }
     {
         for terminal in tokens {
             self.shift(alloc, states, terminals, terminal)?;
@@ -235,7 +258,8 @@ impl Machine {
         requires coherent { AreCoherent states.now }
         requires some { 0 < length states.now }
         requires stacked { IsStacked (contents_in (L.holds terminals.now) states.now) self }
-        ensures { IsAnswer (HasOutcomeFrom (contents_in (L.holds terminals.now) states.now) (configuration self []) self.left) states.now result }
+        ensures { IsAnswer (HasOutcomeFrom (contents_in (L.holds terminals.now) states.now)
+            (configuration self []) self.left) states.now result }
     {
         'reducing: loop {
             let state = self.top(states);

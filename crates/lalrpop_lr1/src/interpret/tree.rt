@@ -104,7 +104,8 @@ fn push_terminals(
     tree: &ParseTree,
     list: &mut Vec<TerminalString>,
 ) -> Result<(), OutOfMemory>
-    ensures { OnOk result (list.new.items ≡ list.old.items ++ leaves (beside (tree_of tree.now) no_trees)) }
+    ensures { OnOk result
+        (list.new.items ≡ list.old.items ++ leaves (beside (tree_of tree.now) no_trees)) }
 {
     match tree {
         ParseTree::Nonterminal(_, children) => {
@@ -152,7 +153,8 @@ fn show_tree<W: fmt::Write>(tree: &ParseTree, f: &mut fmt::Formatter<W>) -> fmt:
 
 #[cycle(show)]
 fn show_children<W: fmt::Write>(children: &Vec<ParseTree>, f: &mut fmt::Formatter<W>) -> fmt::Result
-    ensures { WritesOnOk W.write_str_gives f.old result (children_text true children.now.items) f.new }
+    ensures { WritesOnOk W.write_str_gives f.old result (children_text true children.now.items)
+        f.new }
 {
     let mut is_first = true;
     'children: for child in children {

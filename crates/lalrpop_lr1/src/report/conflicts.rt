@@ -19,7 +19,8 @@ fn push_shift_action(
     terminal: &TerminalString,
     target: StateIndex,
 ) -> Result<(), OutOfMemory>
-    ensures { OnOk result (string_bytes text.new ≡ string_bytes text.old ++ shift_reduce_lines production.now terminal.now target) }
+    ensures { OnOk result (string_bytes text.new ≡ string_bytes text.old ++ shift_reduce_lines
+        production.now terminal.now target) }
 {
     let width = terminal
         .display_len()
@@ -39,7 +40,8 @@ fn push_reduce_action(
     production: &Production,
     other: &Production,
 ) -> Result<(), OutOfMemory>
-    ensures { OnOk result (string_bytes text.new ≡ string_bytes text.old ++ reduce_reduce_lines production.now other.now) }
+    ensures { OnOk result (string_bytes text.new ≡ string_bytes text.old ++ reduce_reduce_lines
+        production.now other.now) }
 {
     text.push_str("    reduce/reduce conflict\n        reduction ")?;
     push_production(text, production)?;
@@ -55,7 +57,8 @@ fn push_actions(
     production: &Production,
     action: &Action<'_>,
 ) -> Result<(), OutOfMemory>
-    ensures { OnOk result (string_bytes text.new ≡ string_bytes text.old ++ actions_lines production.now action.now) }
+    ensures { OnOk result
+        (string_bytes text.new ≡ string_bytes text.old ++ actions_lines production.now action.now) }
 {
     match action {
         Action::Shift(terminal, target) => {
@@ -76,7 +79,8 @@ fn push_conflict<L: LookaheadPrinter<String>>(
     conflict: &Conflict<'_, L>,
     terminals: &TerminalSet,
 ) -> Result<(), OutOfMemory>
-    ensures { OnOk result (string_bytes text.new ≡ string_bytes text.old ++ conflict_block L.meaning terminals.now conflict.now) }
+    ensures { OnOk result (string_bytes text.new ≡ string_bytes text.old ++ conflict_block L.meaning
+        terminals.now conflict.now) }
 {
     text.push_str("\n")?;
     push_actions(alloc, text, conflict.production, &conflict.action)?;
@@ -92,7 +96,8 @@ fn push_conflict_at<L: LookaheadPrinter<String>>(
     place: usize,
     terminals: &TerminalSet,
 ) -> Result<(), OutOfMemory>
-    ensures { OnOk result (string_bytes text.new ≡ string_bytes text.old ++ block_at L.meaning terminals.now (slice_get conflicts.now place)) }
+    ensures { OnOk result (string_bytes text.new ≡ string_bytes text.old ++ block_at L.meaning
+        terminals.now (slice_get conflicts.now place)) }
 {
     if place < conflicts.len() {
         push_conflict(alloc, text, &conflicts[place], terminals)?;
@@ -108,7 +113,8 @@ pub(crate) fn push_conflicts_at<L: LookaheadPrinter<String>>(
     places: &[usize],
     terminals: &TerminalSet,
 ) -> Result<(), OutOfMemory>
-    ensures { OnOk result (string_bytes text.new ≡ string_bytes text.old ++ flat_map (λ place. block_at L.meaning terminals.now (slice_get conflicts.now place)) places.now) }
+    ensures { OnOk result (string_bytes text.new ≡ string_bytes text.old ++ flat_map
+        (λ place. block_at L.meaning terminals.now (slice_get conflicts.now place)) places.now) }
 {
     for place in places {
         push_conflict_at(alloc, text, conflicts, *place, terminals)?;

@@ -6,7 +6,8 @@ use lalrpop_base::memory::OutOfMemory;
 use std::io;
 use thiserror::Error;
 
-/// The sink answered an error or took nothing, a growth was refused, or there are no tables to report.
+/// The sink answered an error or took nothing, a growth was refused, or there are no tables to
+/// report.
 #[derive(Debug, Drop, Error)]
 pub enum ReportError {
     #[error("cannot write: {0}")]

@@ -12,7 +12,8 @@ use std::alloc::Global;
 
 /// Appends a text, and spaces up to a number of characters.
 pub(crate) fn push_filled(text: &mut String, shown: &str, width: usize) -> Result<(), OutOfMemory>
-    ensures { OnOk result (string_bytes text.new ≡ string_bytes text.old ++ filled width shown.now) }
+    ensures { OnOk result
+        (string_bytes text.new ≡ string_bytes text.old ++ filled width shown.now) }
 {
     let _length = shown.len();
     write!(text, "{shown:width$}")?;
@@ -21,7 +22,8 @@ pub(crate) fn push_filled(text: &mut String, shown: &str, width: usize) -> Resul
 
 // Appends symbols, each behind a space.
 fn push_symbols(text: &mut String, symbols: &[Symbol]) -> Result<(), OutOfMemory>
-    ensures { OnOk result (string_bytes text.new ≡ string_bytes text.old ++ symbols_text symbols.now) }
+    ensures { OnOk result
+        (string_bytes text.new ≡ string_bytes text.old ++ symbols_text symbols.now) }
 {
     for symbol in symbols {
         write!(text, " {symbol}")?;
@@ -31,7 +33,8 @@ fn push_symbols(text: &mut String, symbols: &[Symbol]) -> Result<(), OutOfMemory
 
 /// Appends the line of a production.
 pub(crate) fn push_production(text: &mut String, production: &Production) -> Result<(), OutOfMemory>
-    ensures { OnOk result (string_bytes text.new ≡ string_bytes text.old ++ production_line production.now) }
+    ensures { OnOk result
+        (string_bytes text.new ≡ string_bytes text.old ++ production_line production.now) }
 {
     write!(text, "{} ->", production.nonterminal)?;
     push_symbols(text, production.symbols.as_slice())?;
@@ -45,7 +48,8 @@ pub(crate) fn push_lookahead<L: LookaheadPrinter<String>>(
     lookahead: &L,
     terminals: &TerminalSet,
 ) -> Result<(), OutOfMemory>
-    ensures { OnOk result (string_bytes text.new ≡ string_bytes text.old ++ lookahead_line L.meaning terminals.now lookahead.now) }
+    ensures { OnOk result (string_bytes text.new ≡ string_bytes text.old ++ lookahead_line L.meaning
+        terminals.now lookahead.now) }
 {
     if !lookahead.has_anything_to_print() {
         return Ok(());
@@ -65,7 +69,8 @@ pub(crate) fn push_item<L: LookaheadPrinter<String>>(
     width: usize,
     terminals: &TerminalSet,
 ) -> Result<(), OutOfMemory>
-    ensures { OnOk result (string_bytes text.new ≡ string_bytes text.old ++ item_lines L.meaning terminals.now width item.now) }
+    ensures { OnOk result (string_bytes text.new ≡ string_bytes text.old ++ item_lines L.meaning
+        terminals.now width item.now) }
 {
     text.push_str("\n    ")?;
     push_filled(text, item.production.nonterminal.text.as_str(), width)?;
@@ -84,7 +89,8 @@ pub(crate) fn push_reduction<L: LookaheadPrinter<String>>(
     reduction: &(L, &Production),
     terminals: &TerminalSet,
 ) -> Result<(), OutOfMemory>
-    ensures { OnOk result (string_bytes text.new ≡ string_bytes text.old ++ reduction_lines L.meaning terminals.now reduction.now) }
+    ensures { OnOk result (string_bytes text.new ≡ string_bytes text.old ++ reduction_lines
+        L.meaning terminals.now reduction.now) }
 {
     text.push_str("\n    reduction ")?;
     push_production(text, reduction.1)?;
@@ -100,7 +106,8 @@ pub(crate) fn push_shift(
     target: StateIndex,
     width: usize,
 ) -> Result<(), OutOfMemory>
-    ensures { OnOk result (string_bytes text.new ≡ string_bytes text.old ++ shift_line width (terminal.now, target)) }
+    ensures { OnOk result
+        (string_bytes text.new ≡ string_bytes text.old ++ shift_line width (terminal.now, target)) }
 {
     let shown = format!(in alloc; "{terminal}")?;
     text.push_str("    ")?;
@@ -116,7 +123,8 @@ pub(crate) fn push_goto(
     target: StateIndex,
     width: usize,
 ) -> Result<(), OutOfMemory>
-    ensures { OnOk result (string_bytes text.new ≡ string_bytes text.old ++ goto_line width (nonterminal.now, target)) }
+    ensures { OnOk result (string_bytes text.new ≡ string_bytes text.old ++ goto_line width
+        (nonterminal.now, target)) }
 {
     text.push_str("    ")?;
     push_filled(text, nonterminal.text.as_str(), width)?;

@@ -18,7 +18,8 @@ use std::fmt;
 pub trait LookaheadPrinter<W: fmt::Write>: Lookahead {
     /// Prints the tokens by rising bit, each behind a space.
     fn print(&self, terminals: &TerminalSet, out: &mut W) -> fmt::Result
-        ensures { OnOk result (WritesInCalls W.write_str_gives out.old (tokens_text (tokens_in terminals.now (Self.meaning self.now))) out.new) };
+        ensures { OnOk result (WritesInCalls W.write_str_gives out.old
+            (tokens_text (tokens_in terminals.now (Self.meaning self.now))) out.new) };
 
     /// Whether there is a token.
     fn has_anything_to_print(&self) -> bool
@@ -50,7 +51,8 @@ impl<W: fmt::Write> LookaheadPrinter<W> for TokenSet {
 
 // Prints a token behind a space.
 fn print_token<W: fmt::Write>(token: TokenRef<'_>, out: &mut W) -> fmt::Result
-    ensures { OnOk result (WritesInCalls W.write_str_gives out.old (codes " " ++ token_text (seen token.entry)) out.new) }
+    ensures { OnOk result (WritesInCalls W.write_str_gives out.old
+        (codes " " ++ token_text (seen token.entry)) out.new) }
 {
     match token {
         TokenRef::Eof => write!(out, " Eof"),

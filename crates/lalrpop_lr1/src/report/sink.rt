@@ -17,7 +17,8 @@ pub trait Sink {
     // Whether the last of these calls answered 0, where that is known.
     ghost last_was_zero: { Self → Option Bool } = { λ _. None };
 
-    /// Takes a beginning of the bytes. A call that answers an error or 0 takes nothing, and is a fault.
+    /// Takes a beginning of the bytes. A call that answers an error or 0 takes nothing, and is a
+    /// fault.
     fn put(&mut self, bytes: &[u8]) -> io::Result<usize>
         requires some { 0 < length bytes.now }
         requires below_max { fault_count self.old < 2 ^ 64 - 1 }
@@ -94,12 +95,14 @@ impl<W: io::Write> Sink for Counted<W> {
     }
 }
 
-/// Puts a whole text, a part at a time. It stops at an error of any kind, and where the sink takes nothing.
+/// Puts a whole text, a part at a time. It stops at an error of any kind, and where the sink takes
+/// nothing.
 pub(crate) fn put_all<S: Sink>(out: &mut S, text: &[u8]) -> Result<(), ReportError>
     requires { S.fault_count out.old < 2 ^ 64 - 1 }
     ensures whole { OnOk result (Appends (S.contents out.old) (S.contents out.new) text.now) }
     ensures no_fault { OnOk result (S.fault_count out.new ≡ S.fault_count out.old) }
-    ensures part { OnErr result (WroteBeginning (S.contents out.old) (S.contents out.new) text.now) }
+    ensures part { OnErr result
+        (WroteBeginning (S.contents out.old) (S.contents out.new) text.now) }
     ensures fault { OnErr result (S.fault_count out.new ≡ S.fault_count out.old + 1) }
     ensures kind { IfErr result IsWriteFault }
     ensures last { IfErr result (TellsLastFault (S.last_was_zero out.new)) }

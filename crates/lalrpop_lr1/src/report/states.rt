@@ -20,7 +20,8 @@ use std::collections::BTreeMap;
 
 // The length of the longest nonterminal of items.
 fn widest_nonterminal<L>(items: &[Item<'_, L>]) -> usize
-    ensures { result ≡ longest (map (λ (i : Dotted L). nonterminal_text i.production.nonterminal) items.now) }
+    ensures { result ≡ longest
+        (map (λ (i : Dotted L). nonterminal_text i.production.nonterminal) items.now) }
 {
     let mut width = 0;
     for item in items {
@@ -46,7 +47,8 @@ fn push_items<L: LookaheadPrinter<String>>(
     items: &[Item<'_, L>],
     terminals: &TerminalSet,
 ) -> Result<(), OutOfMemory>
-    ensures { OnOk result (string_bytes text.new ≡ string_bytes text.old ++ items_block L.meaning terminals.now items.now) }
+    ensures { OnOk result (string_bytes text.new ≡ string_bytes text.old ++ items_block L.meaning
+        terminals.now items.now) }
 {
     let width = widest_nonterminal(items);
     for item in items {
@@ -61,7 +63,8 @@ fn push_each_reduction<L: LookaheadPrinter<String>>(
     reductions: &[(L, &Production)],
     terminals: &TerminalSet,
 ) -> Result<(), OutOfMemory>
-    ensures { OnOk result (string_bytes text.new ≡ string_bytes text.old ++ flat_map (reduction_lines L.meaning terminals.now) reductions.now) }
+    ensures { OnOk result (string_bytes text.new ≡ string_bytes text.old ++ flat_map
+        (reduction_lines L.meaning terminals.now) reductions.now) }
 {
     for reduction in reductions {
         push_reduction(text, reduction, terminals)?;
@@ -75,7 +78,8 @@ fn push_reductions<L: LookaheadPrinter<String>>(
     reductions: &[(L, &Production)],
     terminals: &TerminalSet,
 ) -> Result<(), OutOfMemory>
-    ensures { OnOk result (string_bytes text.new ≡ string_bytes text.old ++ reductions_block L.meaning terminals.now reductions.now) }
+    ensures { OnOk result (string_bytes text.new ≡ string_bytes text.old ++ reductions_block
+        L.meaning terminals.now reductions.now) }
 {
     if reductions.is_empty() {
         return Ok(());
@@ -92,7 +96,8 @@ fn push_shifts(
     shifts: &BTreeMap<TerminalString, StateIndex>,
     width: usize,
 ) -> Result<(), OutOfMemory>
-    ensures { OnOk result (string_bytes text.new ≡ string_bytes text.old ++ flat_map (shift_line width) shifts.now.entries) }
+    ensures { OnOk result (string_bytes text.new ≡ string_bytes text.old ++ flat_map
+        (shift_line width) shifts.now.entries) }
 {
     for (terminal, target) in shifts.iter() {
         push_shift(alloc, text, terminal, *target, width)?;
@@ -106,7 +111,8 @@ fn push_gotos(
     gotos: &BTreeMap<NonterminalString, StateIndex>,
     width: usize,
 ) -> Result<(), OutOfMemory>
-    ensures { OnOk result (string_bytes text.new ≡ string_bytes text.old ++ flat_map (goto_line width) gotos.now.entries) }
+    ensures { OnOk result (string_bytes text.new ≡ string_bytes text.old ++ flat_map
+        (goto_line width) gotos.now.entries) }
 {
     for (nonterminal, target) in gotos.iter() {
         push_goto(text, nonterminal, *target, width)?;
@@ -121,7 +127,8 @@ fn push_edges(
     shifts: &BTreeMap<TerminalString, StateIndex>,
     gotos: &BTreeMap<NonterminalString, StateIndex>,
 ) -> Result<(), OutOfMemory>
-    ensures { OnOk result (string_bytes text.new ≡ string_bytes text.old ++ edges_lines shifts.now.entries gotos.now.entries) }
+    ensures { OnOk result (string_bytes text.new ≡ string_bytes text.old ++ edges_lines
+        shifts.now.entries gotos.now.entries) }
 {
     let width = widest_key(shifts).max(widest_key(gotos));
     text.push_str("\n")?;
@@ -140,8 +147,10 @@ pub(crate) fn push_state<L: LookaheadPrinter<String>>(
     places: &[usize],
     terminals: &TerminalSet,
 ) -> Result<(), OutOfMemory>
-    ensures { (own : List (Conflict L)) → map (slice_get conflicts.now) places.now ≡ map (λ (c : Conflict L). Some c) own →
-        OnOk result (string_bytes text.new ≡ string_bytes text.old ++ state_block L.meaning terminals.now own state.now) }
+    ensures { (own : List (Conflict L)) →
+        map (slice_get conflicts.now) places.now ≡ map (λ (c : Conflict L). Some c) own →
+        OnOk result (string_bytes text.new
+        ≡ string_bytes text.old ++ state_block L.meaning terminals.now own state.now) }
 {
     write!(text, "State {} {{\n", state.index)?;
     push_items(text, &state.items.vec, terminals)?;

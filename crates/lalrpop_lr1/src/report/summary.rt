@@ -12,7 +12,8 @@ use std::collections::BTreeSet;
 
 /// Appends the header of a section.
 pub(crate) fn push_section_header(text: &mut String, title: &str) -> Result<(), OutOfMemory>
-    ensures { OnOk result (string_bytes text.new ≡ string_bytes text.old ++ section_header title.now) }
+    ensures { OnOk result
+        (string_bytes text.new ≡ string_bytes text.old ++ section_header title.now) }
 {
     write!(
         text,
@@ -41,7 +42,8 @@ pub(crate) fn push_states_line(text: &mut String, count: usize) -> Result<(), Ou
 
 // Appends the line of a number of conflicts of a kind, if there are some.
 fn push_kind(text: &mut String, label: &str, count: usize) -> Result<(), OutOfMemory>
-    ensures { OnOk result (string_bytes text.new ≡ string_bytes text.old ++ kind_line label.now count) }
+    ensures { OnOk result
+        (string_bytes text.new ≡ string_bytes text.old ++ kind_line label.now count) }
 {
     if count == 0 {
         return Ok(());
@@ -89,7 +91,8 @@ fn numbers_of<L>(
     alloc: Global,
     conflicts: &[Conflict<'_, L>],
 ) -> Result<BTreeSet<usize>, OutOfMemory>
-    ensures { IfOk result (λ numbers. numbers.keys ≡ ascending (map (state_number {L = L}) conflicts.now)) }
+    ensures { IfOk result
+        (λ numbers. numbers.keys ≡ ascending (map (state_number {L = L}) conflicts.now)) }
 {
     let mut numbers = BTreeSet::new(alloc);
     for conflict in conflicts {
@@ -100,7 +103,8 @@ fn numbers_of<L>(
 
 // Appends numbers, each behind a space.
 fn push_numbers(text: &mut String, numbers: &BTreeSet<usize>) -> Result<(), OutOfMemory>
-    ensures { OnOk result (string_bytes text.new ≡ string_bytes text.old ++ flat_map (λ n. codes " " ++ decimal n) numbers.now.keys) }
+    ensures { OnOk result (string_bytes text.new ≡ string_bytes text.old ++ flat_map
+        (λ n. codes " " ++ decimal n) numbers.now.keys) }
 {
     for number in numbers.iter() {
         write!(text, " {number}")?;
@@ -114,7 +118,8 @@ fn push_conflict_states<L>(
     text: &mut String,
     conflicts: &[Conflict<'_, L>],
 ) -> Result<(), OutOfMemory>
-    ensures { OnOk result (string_bytes text.new ≡ string_bytes text.old ++ conflict_states_line conflicts.now) }
+    ensures { OnOk result
+        (string_bytes text.new ≡ string_bytes text.old ++ conflict_states_line conflicts.now) }
 {
     let numbers = numbers_of(alloc, conflicts)?;
     text.push_str("States with conflicts: ")?;
@@ -129,7 +134,8 @@ pub(crate) fn push_conflicts_summary<L>(
     text: &mut String,
     conflicts: &[Conflict<'_, L>],
 ) -> Result<(), OutOfMemory>
-    ensures { OnOk result (string_bytes text.new ≡ string_bytes text.old ++ conflicts_summary conflicts.now) }
+    ensures { OnOk result
+        (string_bytes text.new ≡ string_bytes text.old ++ conflicts_summary conflicts.now) }
 {
     write!(text, "Has {} conflicts\n", conflicts.len())?;
     push_kind(text, "shift/reduce:  ", count_shifts(conflicts))?;

@@ -51,7 +51,8 @@ fn push_next_state<L: LookaheadPrinter<String>>(
     terminals: &TerminalSet,
 ) -> Result<(), OutOfMemory>
     requires { ArePlacesOf conflicts.now conflicts.now places.now }
-    ensures { OnOk result (string_bytes text.new ≡ string_bytes text.old ++ next_state L.meaning terminals.now conflicts.now state.now) }
+    ensures { OnOk result (string_bytes text.new ≡ string_bytes text.old ++ next_state L.meaning
+        terminals.now conflicts.now state.now) }
 {
     text.push_str("\n")?;
     let own = places_in(places, state.index.0);
@@ -69,7 +70,8 @@ fn push_states<L: LookaheadPrinter<String>>(
     terminals: &TerminalSet,
 ) -> Result<(), OutOfMemory>
     requires { ArePlacesOf conflicts.now conflicts.now places.now }
-    ensures { OnOk result (string_bytes text.new ≡ string_bytes text.old ++ flat_map (next_state L.meaning terminals.now conflicts.now) states.now) }
+    ensures { OnOk result (string_bytes text.new ≡ string_bytes text.old ++ flat_map
+        (next_state L.meaning terminals.now conflicts.now) states.now) }
 {
     for state in states {
         push_next_state(alloc, text, state, conflicts, places, terminals)?;
@@ -85,7 +87,8 @@ fn push_states_section<L: LookaheadPrinter<String>>(
     conflicts: &[Conflict<'_, L>],
     terminals: &TerminalSet,
 ) -> Result<(), OutOfMemory>
-    ensures { OnOk result (string_bytes text.new ≡ string_bytes text.old ++ states_section L.meaning terminals.now conflicts.now states.now) }
+    ensures { OnOk result (string_bytes text.new ≡ string_bytes text.old ++ states_section L.meaning
+        terminals.now conflicts.now states.now) }
 {
     let places = places_by_state(alloc, conflicts)?;
     push_section_header(text, "State Table")?;
@@ -99,7 +102,8 @@ fn tables_text<'grammar, L: LookaheadPrinter<String>>(
     terminals: &TerminalSet,
     states: &[State<'grammar, L>],
 ) -> Result<String, OutOfMemory>
-    ensures { IfOk result (λ text. string_bytes text ≡ tables_report L.meaning terminals.now states.now) }
+    ensures { IfOk result
+        (λ text. string_bytes text ≡ tables_report L.meaning terminals.now states.now) }
 {
     let conflicts: Vec<Conflict<'grammar, L>> = Vec::new(alloc);
     let mut text = String::new(alloc);
@@ -116,7 +120,8 @@ fn failure_text<L: LookaheadPrinter<String>>(
     states: &[State<'_, L>],
     conflicts: &[Conflict<'_, L>],
 ) -> Result<String, OutOfMemory>
-    ensures { IfOk result (λ text. string_bytes text ≡ failure_report L.meaning terminals.now states.now conflicts.now) }
+    ensures { IfOk result (λ text. string_bytes text ≡ failure_report L.meaning terminals.now
+        states.now conflicts.now) }
 {
     let mut text = String::new(alloc);
     push_opening(&mut text)?;
@@ -133,7 +138,8 @@ fn error_text<L: LookaheadPrinter<String>>(
     terminals: &TerminalSet,
     error: &BuildError<'_, L>,
 ) -> Result<String, ReportError>
-    ensures text { IfOk result (λ text. error_report L.meaning terminals.now error.now ≡ Some (string_bytes text)) }
+    ensures text { IfOk result
+        (λ text. error_report L.meaning terminals.now error.now ≡ Some (string_bytes text)) }
     ensures offered { IfErr result (λ e. IfWriteFault e ⊥) }
     ensures tables { IfErr result (TellsOfText (error_report L.meaning terminals.now error.now)) }
 {
@@ -154,7 +160,8 @@ pub fn report_text<L: LookaheadPrinter<String>>(
     terminals: &TerminalSet,
     outcome: &LrResult<'_, L>,
 ) -> Result<String, ReportError>
-    ensures text { IfOk result (λ text. report_text L.meaning terminals.now outcome.now ≡ Some (string_bytes text)) }
+    ensures text { IfOk result
+        (λ text. report_text L.meaning terminals.now outcome.now ≡ Some (string_bytes text)) }
     ensures offered { IfErr result (λ e. IfWriteFault e ⊥) }
     ensures tables { IfErr result (TellsOfText (report_text L.meaning terminals.now outcome.now)) }
 {

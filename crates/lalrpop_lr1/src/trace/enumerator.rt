@@ -25,8 +25,8 @@ pub(crate) struct EnumeratorState {
     pub(crate) left: usize,
 }
 
-/// A walk backwards over the edges of a graph, newest first, which stands at a path from an item back to the first
-/// item, or at its end. On the way no nonterminal is passed twice.
+/// A walk backwards over the edges of a graph, newest first, which stands at a path from an item
+/// back to the first item, or at its end. On the way no nonterminal is passed twice.
 #[derive(Drop)]
 pub struct PathEnumerator<'graph, 'grammar> {
     alloc: Global,
@@ -44,7 +44,8 @@ impl<'graph, 'grammar> PathEnumerator<'graph, 'grammar> {
         item: Lr0Item<'grammar>,
     ) -> Result<Self, OutOfMemory>
         ensures graph { IfOk result (λ walk. walk.graph.now ≡ graph.now) }
-        ensures paths { IfOk result (λ walk. to_come walk ≡ paths graph.now (item_node item.entry)) }
+        ensures paths { IfOk result
+            (λ walk. to_come walk ≡ paths graph.now (item_node item.entry)) }
         ensures refused { IfOk result (λ walk. walk.refused ≡ false) }
     {
         let start = TraceGraphNode::Item(item);
@@ -61,7 +62,8 @@ impl<'graph, 'grammar> PathEnumerator<'graph, 'grammar> {
         Ok(walk)
     }
 
-    /// Goes on to the next path, and tells whether there is one. After want of memory the walk is at its end.
+    /// Goes on to the next path, and tells whether there is one. After want of memory the walk is
+    /// at its end.
     pub fn advance(&mut self) -> Result<bool, OutOfMemory>
         ensures graph { self.new.graph.now ≡ self.old.graph.now }
         ensures start { self.new.start ≡ self.old.start }
@@ -109,8 +111,10 @@ impl<'graph, 'grammar> PathEnumerator<'graph, 'grammar> {
         ensures graph { self.new.graph.now ≡ self.old.graph.now }
         ensures refused { self.new.refused ≡ self.old.refused }
         ensures start { self.new.start ≡ self.old.start }
-        ensures taken { IfSome result (λ number. load self.new + edge_weight self.new number ≤ load self.old) }
-        ensures paths { IfSome result (λ number. paths_over self.new number ++ remaining self.new ≡ remaining self.old) }
+        ensures taken { IfSome result
+            (λ number. load self.new + edge_weight self.new number ≤ load self.old) }
+        ensures paths { IfSome result
+            (λ number. paths_over self.new number ++ remaining self.new ≡ remaining self.old) }
         ensures none { IsNone result → remaining self.old ≡ [] }
     {
         loop {
@@ -128,7 +132,8 @@ impl<'graph, 'grammar> PathEnumerator<'graph, 'grammar> {
 
     // The number of the edge at the place of those left.
     fn number(&self) -> Option<usize>
-        ensures { result ≡ slice_get (numbers_at self.now.graph.now self.now.start (frames self.now)) self.now.left }
+        ensures { result ≡ slice_get
+            (numbers_at self.now.graph.now self.now.start (frames self.now)) self.now.left }
     {
         match self.stack.last() {
             Some(state) => self.graph.number_from(state.number, self.left),
@@ -136,15 +141,18 @@ impl<'graph, 'grammar> PathEnumerator<'graph, 'grammar> {
         }
     }
 
-    // Takes an edge, and tells whether it comes from an item. Past a nonterminal that was passed it does not go.
+    // Takes an edge, and tells whether it comes from an item. Past a nonterminal that was passed it
+    // does not go.
     fn take(&mut self, number: usize) -> Result<bool, OutOfMemory>
         ensures graph { self.new.graph.now ≡ self.old.graph.now }
         ensures refused { self.new.refused ≡ self.old.refused }
         ensures start { self.new.start ≡ self.old.start }
         ensures falls { OnOk result (load self.new < load self.old + edge_weight self.old number) }
         ensures standing { IfOk result (λ found. found ≡ true → IsEnded self.new → ⊥) }
-        ensures found { IfOk result (λ found. found ≡ true → paths_over self.old number ++ remaining self.old ≡ to_come self.new) }
-        ensures on { IfOk result (λ found. found ≡ false → paths_over self.old number ++ remaining self.old ≡ remaining self.new) }
+        ensures found { IfOk result (λ found. found ≡ true →
+            paths_over self.old number ++ remaining self.old ≡ to_come self.new) }
+        ensures on { IfOk result (λ found. found ≡ false →
+            paths_over self.old number ++ remaining self.old ≡ remaining self.new) }
         ensures err { OnErr result (IsEnded self.new) }
         ensures err_none { OnErr result (to_come self.new ≡ []) }
         ensures err_behind { OnErr result (remaining self.new ≡ []) }
@@ -164,8 +172,11 @@ impl<'graph, 'grammar> PathEnumerator<'graph, 'grammar> {
     // Whether the source of an edge was passed, or as many nodes as there are.
     fn passes(&self, number: usize) -> bool
         ensures room { result ≡ false → length (frames self.now) < node_count self.now.graph.now }
-        ensures new { result ≡ false → comes_again self.now.graph.now number (path_of (frames self.now)) ≡ false }
-        ensures again { result ≡ true → (node_count self.now.graph.now ≤ length (frames self.now)) ⊎ (comes_again self.now.graph.now number (path_of (frames self.now)) ≡ true) }
+        ensures new { result ≡ false →
+            comes_again self.now.graph.now number (path_of (frames self.now)) ≡ false }
+        ensures again { result ≡ true →
+            (node_count self.now.graph.now ≤ length (frames self.now)) ⊎
+            (comes_again self.now.graph.now number (path_of (frames self.now)) ≡ true) }
     {
         if self.stack.len() >= self.graph.len() {
             return true;
@@ -178,12 +189,14 @@ impl<'graph, 'grammar> PathEnumerator<'graph, 'grammar> {
         false
     }
 
-    // Puts an edge on the stack, with none left behind it. After want of memory the walk is at its end.
+    // Puts an edge on the stack, with none left behind it. After want of memory the walk is at its
+    // end.
     fn enter(&mut self, number: usize) -> Result<(), OutOfMemory>
         ensures graph { self.new.graph.now ≡ self.old.graph.now }
         ensures refused { self.new.refused ≡ self.old.refused }
         ensures start { self.new.start ≡ self.old.start }
-        ensures frames { OnOk result (frames self.new ≡ record { number = number; left = self.old.left } ∷ frames self.old) }
+        ensures frames { OnOk result
+            (frames self.new ≡ record { number = number; left = self.old.left } ∷ frames self.old) }
         ensures left { self.new.left ≡ 0 }
         ensures err { OnErr result (IsEnded self.new) }
         ensures err_none { OnErr result (to_come self.new ≡ []) }
@@ -222,20 +235,26 @@ impl<'graph, 'grammar> PathEnumerator<'graph, 'grammar> {
         first_sets: &FirstSets<'grammar>,
     ) -> Result<TokenSet, OutOfMemory>
         requires known { AreKnownEdges first_sets.now.terminals self.now.graph.now.edges }
-        ensures first { IfOk result (IsFirstSet first_sets.now (following self.now.graph.now (path_of self.now.stack.items))) }
+        ensures first { IfOk result (IsFirstSet first_sets.now
+            (following self.now.graph.now (path_of self.now.stack.items))) }
     {
         first_of(alloc, first_sets, self.graph, &self.stack)
     }
 
     /// The example that the path spells.
     pub fn example(&self, alloc: Global) -> Result<Example, OutOfMemory>
-        ensures spelled { IfOk result (IsExampleOf self.now.graph.now (path_of self.now.stack.items)) }
-        ensures derivation { IfOk result (λ example. (productions : List Production) → CarryRightSides productions self.now.graph.now.edges → IsPath self.now.graph.now self.now.start (path_of self.now.stack.items) → SpellsDerivation productions example) }
+        ensures spelled { IfOk result
+            (IsExampleOf self.now.graph.now (path_of self.now.stack.items)) }
+        ensures derivation { IfOk result (λ example. (productions : List Production) →
+            CarryRightSides productions self.now.graph.now.edges →
+            IsPath self.now.graph.now self.now.start (path_of self.now.stack.items) →
+            SpellsDerivation productions example) }
     {
         example_of(alloc, self.graph, &self.stack)
     }
 
-    /// The next example. A refused growth is told in the place of the first example that it kept from being made.
+    /// The next example. A refused growth is told in the place of the first example that it kept
+    /// from being made.
     pub(crate) fn next_example(&mut self) -> Option<Result<Example, OutOfMemory>>
         ensures graph { self.new.graph.now ≡ self.old.graph.now }
         ensures next { GivesNext self.old result self.new }
@@ -279,7 +298,8 @@ impl<'graph, 'grammar> PathEnumerator<'graph, 'grammar> {
 impl<'graph, 'grammar> Iterator for PathEnumerator<'graph, 'grammar> {
     type Item = Result<Example, OutOfMemory>;
 
-    ghost next_gives = { λ old result new. (new.graph.now ≡ old.graph.now) × GivesNext old result new };
+    ghost next_gives = { λ old result new. (new.graph.now ≡ old.graph.now) × GivesNext old result
+        new };
 
     ghost remaining = { λ walk. at_most (bound walk) };
 

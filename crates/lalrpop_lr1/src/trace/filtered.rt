@@ -32,7 +32,8 @@ impl<'graph, 'grammar> FilteredPathEnumerator<'graph, 'grammar> {
         item: &Lr1Item<'grammar>,
     ) -> Result<Self, OutOfMemory>
         requires known { AreKnownEdges first_sets.now.terminals graph.now.edges }
-        ensures known { IfOk result (λ it. AreKnownEdges it.first_sets.now.terminals it.base.graph.now.edges) }
+        ensures known { IfOk result
+            (λ it. AreKnownEdges it.first_sets.now.terminals it.base.graph.now.edges) }
         ensures graph { IfOk result (λ it. it.base.graph.now ≡ graph.now) }
         ensures first_sets { IfOk result (λ it. it.first_sets.now ≡ first_sets.now) }
         ensures lookahead { IfOk result (λ it. it.lookahead ≡ item.now.lookahead) }
@@ -49,9 +50,12 @@ impl<'graph, 'grammar> FilteredPathEnumerator<'graph, 'grammar> {
 
     // Whether the path can go on with a token of the lookahead.
     fn fits(&self) -> Result<bool, OutOfMemory>
-        requires known { AreKnownEdges self.now.first_sets.now.terminals self.now.base.graph.now.edges }
-        ensures yes { IfOk result (λ fits. IsTrue fits → Meets self.now (path_of self.now.base.stack.items)) }
-        ensures no { IfOk result (λ fits. IsFalse fits → ¬ Meets self.now (path_of self.now.base.stack.items)) }
+        requires known { AreKnownEdges self.now.first_sets.now.terminals
+            self.now.base.graph.now.edges }
+        ensures yes { IfOk result
+            (λ fits. IsTrue fits → Meets self.now (path_of self.now.base.stack.items)) }
+        ensures no { IfOk result
+            (λ fits. IsFalse fits → ¬ Meets self.now (path_of self.now.base.stack.items)) }
     {
         let first = self.base.first0(self.alloc, self.first_sets)?;
         Ok(first.is_intersecting(&self.lookahead))

@@ -1,8 +1,9 @@
 //! The edges that an item gives.
-ghost use Rattle.std.specs.Prelude.{◌≡◌, ◌+◌, ◌↔◌, IsTrue, OnOk, IfOk, drop};
+ghost use Rattle.std.specs.Prelude.{◌≡◌, ◌+◌, ◌↔◌, ◌∷◌, [], IsTrue, true, false, OnOk, IfOk, drop};
 ghost use Rattle.lalrpop_base.specs.Grammar.{IsNullable};
 ghost use Rattle.lalrpop_lr1.specs.Traces.{dotted, dot_edge, own_edge, Gives, GoesOn};
-ghost use Rattle.lalrpop_lr1.specs.Meetings.{asked, AddsEdges};
+ghost use Rattle.lalrpop_lr1.specs.TraceOrder.{stop_edge, onward_edges};
+ghost use Rattle.lalrpop_lr1.specs.Meetings.{asked, AddsEdges, AddsInOrder};
 
 use super::ground::{Trace, Traced};
 use super::node::TraceGraphNode;
@@ -19,7 +20,10 @@ pub(crate) fn add_own<'grammar, L>(
     graph: &mut TraceGraph<'grammar>,
     item: &Item<'grammar, L>,
 ) -> Result<(), OutOfMemory>
-    ensures edges { OnOk result (AddsEdges graph.old graph.new (λ e. e ≡ own_edge item.now.production item.now.index)) }
+    ensures edges { OnOk result
+        (AddsEdges graph.old graph.new (λ e. e ≡ own_edge item.now.production item.now.index)) }
+    ensures in_order { OnOk result
+        (AddsInOrder graph.old graph.new (own_edge item.now.production item.now.index ∷ [])) }
 {
     let from = name_of(alloc, item)?;
     add_dotted(graph, from, node_of(item), item)
@@ -33,8 +37,13 @@ pub(crate) fn add_shifting<'grammar>(
     name: &NonterminalString,
     item: &Lr1Item<'grammar>,
 ) -> Result<bool, OutOfMemory>
-    ensures edges { OnOk result (AddsEdges graph.old graph.new (Gives (asked trace.now) name.now item.now)) }
+    ensures edges { OnOk result
+        (AddsEdges graph.old graph.new (Gives (asked trace.now) name.now item.now)) }
     ensures on { IfOk result (λ on. IsTrue on ↔ GoesOn (asked trace.now) item.now) }
+    ensures onward { IfOk result (λ on. on ≡ true →
+        AddsInOrder graph.old graph.new (onward_edges trace.now.traced name.now item.now)) }
+    ensures stopped { IfOk result
+        (λ on. on ≡ false → AddsInOrder graph.old graph.new (stop_edge name.now item.now ∷ [])) }
 {
     let to = TraceGraphNode::Nonterminal(name.clone(alloc)?);
     if !goes_on(alloc, trace, item)? {
@@ -59,7 +68,10 @@ fn add_dotted<'grammar, L>(
     to: TraceGraphNode<'grammar>,
     item: &Item<'grammar, L>,
 ) -> Result<(), OutOfMemory>
-    ensures edges { OnOk result (AddsEdges graph.old graph.new (λ e. e ≡ dot_edge from.entry to.entry item.now.production item.now.index)) }
+    ensures edges { OnOk result (AddsEdges graph.old graph.new
+        (λ e. e ≡ dot_edge from.entry to.entry item.now.production item.now.index)) }
+    ensures in_order { OnOk result (AddsInOrder graph.old graph.new
+        (dot_edge from.entry to.entry item.now.production item.now.index ∷ [])) }
 {
     graph.add_edge(from, to, item.symbol_sets())
 }
@@ -69,7 +81,8 @@ fn name_of<'grammar, L>(
     alloc: Global,
     item: &Item<'grammar, L>,
 ) -> Result<TraceGraphNode<'grammar>, OutOfMemory>
-    ensures { IfOk result (λ node. node ≡ TraceGraphNode.Nonterminal item.now.production.nonterminal) }
+    ensures { IfOk result
+        (λ node. node ≡ TraceGraphNode.Nonterminal item.now.production.nonterminal) }
 {
     let production = item.production;
     Ok(TraceGraphNode::Nonterminal(production.nonterminal.clone(alloc)?))

@@ -35,7 +35,9 @@ fn is_known_label(terminals: &TerminalSet, labels: SymbolSets) -> bool
 
 // Whether a symbol that is there and a terminal is in the set.
 fn is_known_cursor(terminals: &TerminalSet, cursor: Option<&Symbol>) -> bool
-    ensures { IsTrue result ↔ ((t : TerminalString) → option_copied cursor.entry ≡ Some (Symbol.Terminal t) → Contains terminals.now t) }
+    ensures { IsTrue result ↔ ((t : TerminalString) →
+        option_copied cursor.entry ≡ Some (Symbol.Terminal t) →
+        Contains terminals.now t) }
 {
     match cursor {
         Some(symbol) => is_known(terminals, symbol),

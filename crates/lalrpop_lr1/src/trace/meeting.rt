@@ -1,8 +1,9 @@
 //! The nonterminals that a trace meets in each state.
-ghost use Rattle.std.specs.Prelude.{◌≡◌, ◌≤◌, ◌↔◌, [], IsTrue, Contains, OnOk, IfOk};
+ghost use Rattle.std.specs.Prelude.{◌≡◌, ◌≤◌, ◌↔◌, ◌∷◌, [], IsTrue, Contains, OnOk, IfOk, slice_get};
 ghost use Rattle.lalrpop_lr1.specs.TraceGraphs.{plain_edges};
 ghost use Rattle.lalrpop_lr1.specs.Traces.{Meeting, IsMet, Takes, StandsIn, Gives, GoesOn, IsTraceOf};
-ghost use Rattle.lalrpop_lr1.specs.Meetings.{asked, names_in, unmet, IsInsertedPair, HasMet, AddsEdges, IsDone, IsFinished, IsSound, Advances};
+ghost use Rattle.lalrpop_lr1.specs.TraceOrder.{come_to, take_up, take_up_each, items_at, IsInOrder};
+ghost use Rattle.lalrpop_lr1.specs.Meetings.{asked, names_in, unmet, IsInsertedPair, HasMet, AddsEdges, IsDone, IsFinished, IsSound, Advances, WalksOn};
 
 use super::giving::{add_own, add_shifting};
 use super::ground::Trace;
@@ -21,7 +22,8 @@ pub(crate) struct Met<'grammar> {
     pub(crate) visited_set: BTreeSet<(StateIndex, NonterminalString)>,
 }
 
-/// Adds the edge of the item that is traced, and traces on from its nonterminal in each state where it began.
+/// Adds the edge of the item that is traced, and traces on from its nonterminal in each state where
+/// it began.
 pub(crate) fn trace_item<'grammar>(
     alloc: Global,
     trace: &Trace<'_, '_, 'grammar>,
@@ -30,6 +32,7 @@ pub(crate) fn trace_item<'grammar>(
     requires unmet { (m : Meeting) → HasMet met.old m → ⊥ }
     requires empty { met.old.trace_graph ≡ record { nodes = []; edges = [] } }
     ensures traced { OnOk result (IsTraceOf (asked trace.now) met.new.trace_graph) }
+    ensures ordered { OnOk result (IsInOrder (asked trace.now) met.new.trace_graph) }
 {
     let item = &trace.item;
     let production = item.production;
@@ -56,6 +59,8 @@ fn begin<'grammar>(
     requires sound { IsSound (asked trace.now) met.old }
     ensures advances { OnOk result (Advances (asked trace.now) met.old met.new) }
     ensures there { OnOk result (HasMet met.new (state, name.now)) }
+    ensures walks { OnOk result
+        (WalksOn (asked trace.now) (come_to (state, name.now) ∷ []) met.old met.new) }
 {
     if is_new(alloc, met, state, name)? {
         meet_items(alloc, trace, met, state, name)?;
@@ -70,7 +75,8 @@ fn is_new<'grammar>(
     state: StateIndex,
     name: &NonterminalString,
 ) -> Result<bool, OutOfMemory>
-    ensures inserted { IfOk result (λ fresh. IsInsertedPair fresh (state, name.now) met.old.visited_set met.new.visited_set) }
+    ensures inserted { IfOk result
+        (λ fresh. IsInsertedPair fresh (state, name.now) met.old.visited_set met.new.visited_set) }
     ensures graph { met.new.trace_graph ≡ met.old.trace_graph }
 {
     let fresh = met.visited_set.insert((state, name.clone(alloc)?))?;
@@ -89,9 +95,12 @@ fn meet<'grammar>(
     requires named { Contains (names_in trace.now.ground.now.states.now) name.now }
     requires met { IsMet (asked trace.now) (state, name.now) }
     requires sound { IsSound (asked trace.now) met.old }
-    ensures fewer { OnOk result (unmet trace.now.ground.now.states.now met.new.visited_set ≤ unmet trace.now.ground.now.states.now met.old.visited_set) }
+    ensures fewer { OnOk result (unmet trace.now.ground.now.states.now met.new.visited_set ≤ unmet
+        trace.now.ground.now.states.now met.old.visited_set) }
     ensures advances { OnOk result (Advances (asked trace.now) met.old met.new) }
     ensures there { OnOk result (HasMet met.new (state, name.now)) }
+    ensures walks { OnOk result
+        (WalksOn (asked trace.now) (come_to (state, name.now) ∷ []) met.old met.new) }
 {
     if !is_new(alloc, met, state, name)? {
         return Ok(());
@@ -113,9 +122,12 @@ fn meet_items<'grammar>(
 ) -> Result<(), OutOfMemory>
     requires met { IsMet (asked trace.now) (state, name.now) }
     requires sound { IsSound (asked trace.now) met.old }
-    ensures fewer { OnOk result (unmet trace.now.ground.now.states.now met.new.visited_set ≤ unmet trace.now.ground.now.states.now met.old.visited_set) }
+    ensures fewer { OnOk result (unmet trace.now.ground.now.states.now met.new.visited_set ≤ unmet
+        trace.now.ground.now.states.now met.old.visited_set) }
     ensures advances { OnOk result (Advances (asked trace.now) met.old met.new) }
     ensures finished { OnOk result (IsFinished (asked trace.now) met.new (state, name.now)) }
+    ensures walks { OnOk result (WalksOn (asked trace.now) (take_up_each (state, name.now)
+        (items_at (slice_get trace.now.ground.now.states.now state.0))) met.old met.new) }
 {
     let states = trace.ground.states;
     if state.0 >= states.len() {
@@ -140,9 +152,13 @@ fn meet_item<'grammar>(
     requires stands { StandsIn trace.now.ground.now.states.now state item.now }
     requires met { IsMet (asked trace.now) (state, name.now) }
     requires sound { IsSound (asked trace.now) met.old }
-    ensures fewer { OnOk result (unmet trace.now.ground.now.states.now met.new.visited_set ≤ unmet trace.now.ground.now.states.now met.old.visited_set) }
+    ensures fewer { OnOk result (unmet trace.now.ground.now.states.now met.new.visited_set ≤ unmet
+        trace.now.ground.now.states.now met.old.visited_set) }
     ensures advances { OnOk result (Advances (asked trace.now) met.old met.new) }
-    ensures done { OnOk result (Takes (asked trace.now) (state, name.now) item.now → IsDone (asked trace.now) met.new (state, name.now) item.now) }
+    ensures done { OnOk result (Takes (asked trace.now) (state, name.now) item.now →
+        IsDone (asked trace.now) met.new (state, name.now) item.now) }
+    ensures walks { OnOk result
+        (WalksOn (asked trace.now) (take_up (state, name.now) item.now ∷ []) met.old met.new) }
 {
     if !item.can_shift_nonterminal(name) {
         return Ok(());

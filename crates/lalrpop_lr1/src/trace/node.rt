@@ -38,8 +38,14 @@ impl<'grammar> TraceGraphNode<'grammar> {
 
 impl<'grammar> Exact for TraceGraphNode<'grammar> {
     ghost exact = { elim [
-      | Nonterminal a ↦ elim [ Nonterminal b ↦ λ h. ap Nonterminal (name_exact a b h) | Item b ↦ λ h. absurd (true≢false (sym h)) ]
-      | Item a ↦ elim [ Item b ↦ λ h. ap Item (dotted_exact _ _ production_exact nil_exact a b h) | Nonterminal b ↦ λ h. absurd (true≢false (sym h)) ]
+      | Nonterminal a ↦ elim [
+        | Nonterminal b ↦ λ h. ap Nonterminal (name_exact a b h)
+        | Item b ↦ λ h. absurd (true≢false (sym h))
+      ]
+      | Item a ↦ elim [
+        | Item b ↦ λ h. ap Item (dotted_exact _ _ production_exact nil_exact a b h)
+        | Nonterminal b ↦ λ h. absurd (true≢false (sym h))
+      ]
     ] };
 }
 

@@ -15,7 +15,8 @@ pub(crate) fn is_nullable<'grammar>(
     first_sets: &FirstSets<'grammar>,
     symbols: &[Symbol],
 ) -> Result<bool, OutOfMemory>
-    ensures { IfOk result (λ nullable. IsTrue nullable ↔ IsNullable first_sets.now.productions symbols.now) }
+    ensures { IfOk result
+        (λ nullable. IsTrue nullable ↔ IsNullable first_sets.now.productions symbols.now) }
 {
     let end = first_sets.first0(alloc, &[])?;
     for symbol in symbols {
@@ -34,7 +35,8 @@ fn is_nullable_symbol<'grammar>(
     end: &TokenSet,
 ) -> Result<bool, OutOfMemory>
     requires end { IsFirstSet first_sets.now [] end.now }
-    ensures { IfOk result (λ nullable. IsTrue nullable ↔ IsNullable first_sets.now.productions (symbol.now ∷ [])) }
+    ensures { IfOk result
+        (λ nullable. IsTrue nullable ↔ IsNullable first_sets.now.productions (symbol.now ∷ [])) }
 {
     match symbol {
         Symbol::Terminal(_) => Ok(false),
@@ -50,7 +52,8 @@ fn meets_end<'grammar>(
     end: &TokenSet,
 ) -> Result<bool, OutOfMemory>
     requires end { IsFirstSet first_sets.now [] end.now }
-    ensures { IfOk result (λ nullable. IsTrue nullable ↔ IsNullable first_sets.now.productions (Symbol.Nonterminal name.now ∷ [])) }
+    ensures { IfOk result (λ nullable. IsTrue nullable ↔ IsNullable first_sets.now.productions
+        (Symbol.Nonterminal name.now ∷ [])) }
 {
     let mut symbols = Vec::new(alloc);
     symbols.push(Symbol::Nonterminal(name.clone(alloc)?))?;

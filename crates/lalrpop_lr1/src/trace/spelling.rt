@@ -23,7 +23,8 @@ pub(crate) fn first_of<'grammar>(
     path: &[EnumeratorState],
 ) -> Result<TokenSet, OutOfMemory>
     requires known { AreKnownEdges first_sets.now.terminals graph.now.edges }
-    ensures first { IfOk result (IsFirstSet first_sets.now (following graph.now (path_of path.now))) }
+    ensures first { IfOk result
+        (IsFirstSet first_sets.now (following graph.now (path_of path.now))) }
 {
     let symbols = symbols_behind(alloc, graph, path)?;
     let set = first_sets.first0(alloc, &symbols)?;
@@ -36,8 +37,11 @@ fn symbols_behind<'grammar>(
     graph: &TraceGraph<'grammar>,
     path: &[EnumeratorState],
 ) -> Result<Vec<Symbol>, OutOfMemory>
-    ensures known { IfOk result (λ symbols. (terminals : List TerminalString) → AreKnownEdges terminals graph.now.edges → HasKnownTerminals terminals symbols.items) }
-    ensures following { IfOk result (λ symbols. symbols.items ≡ following graph.now (path_of path.now)) }
+    ensures known { IfOk result (λ symbols. (terminals : List TerminalString) →
+        AreKnownEdges terminals graph.now.edges →
+        HasKnownTerminals terminals symbols.items) }
+    ensures following { IfOk result
+        (λ symbols. symbols.items ≡ following graph.now (path_of path.now)) }
 {
     let mut symbols = innermost_cursor(alloc, graph, path)?;
     let mut left = path;
@@ -54,8 +58,11 @@ fn innermost_cursor<'grammar>(
     graph: &TraceGraph<'grammar>,
     path: &[EnumeratorState],
 ) -> Result<Vec<Symbol>, OutOfMemory>
-    ensures known { IfOk result (λ symbols. (terminals : List TerminalString) → AreKnownEdges terminals graph.now.edges → HasKnownTerminals terminals symbols.items) }
-    ensures innermost { IfOk result (λ symbols. symbols.items ≡ innermost graph.now (path_of path.now)) }
+    ensures known { IfOk result (λ symbols. (terminals : List TerminalString) →
+        AreKnownEdges terminals graph.now.edges →
+        HasKnownTerminals terminals symbols.items) }
+    ensures innermost { IfOk result
+        (λ symbols. symbols.items ≡ innermost graph.now (path_of path.now)) }
 {
     let Some((inner, _)) = path.split_first() else {
         return Ok(Vec::new(alloc));
@@ -67,8 +74,13 @@ fn innermost_cursor<'grammar>(
 
 // A symbol that may be there, as a list.
 fn copy_cursor(alloc: Global, cursor: Option<&Symbol>) -> Result<Vec<Symbol>, OutOfMemory>
-    ensures known { IfOk result (λ symbols. (terminals : List TerminalString) → ((t : TerminalString) → option_copied cursor.entry ≡ Some (Symbol.Terminal t) → Contains terminals t) → HasKnownTerminals terminals symbols.items) }
-    ensures copied { IfOk result (λ symbols. symbols.items ≡ cursor_list (option_copied cursor.entry)) }
+    ensures known { IfOk result (λ symbols. (terminals : List TerminalString) →
+        ((t : TerminalString) →
+        option_copied cursor.entry ≡ Some (Symbol.Terminal t) →
+        Contains terminals t) →
+        HasKnownTerminals terminals symbols.items) }
+    ensures copied { IfOk result
+        (λ symbols. symbols.items ≡ cursor_list (option_copied cursor.entry)) }
 {
     let mut symbols = Vec::new(alloc);
     if let Some(symbol) = cursor {
@@ -116,7 +128,8 @@ fn push_symbols(
     list: &[Symbol],
     symbols: &mut Vec<ExampleSymbol>,
 ) -> Result<(), OutOfMemory>
-    ensures { OnOk result (symbols.new.items ≡ symbols.old.items ++ map ExampleSymbol.Symbol list.now) }
+    ensures { OnOk result
+        (symbols.new.items ≡ symbols.old.items ++ map ExampleSymbol.Symbol list.now) }
 {
     for symbol in list {
         symbols.push(ExampleSymbol::Symbol(symbol.clone(alloc)?))?;
@@ -131,7 +144,8 @@ fn push_prefixes<'grammar>(
     path: &[EnumeratorState],
     symbols: &mut Vec<ExampleSymbol>,
 ) -> Result<(), OutOfMemory>
-    ensures { OnOk result (symbols.new.items ≡ symbols.old.items ++ map ExampleSymbol.Symbol (prefixes graph.now (path_of path.now))) }
+    ensures { OnOk result (symbols.new.items ≡ symbols.old.items ++ map ExampleSymbol.Symbol
+        (prefixes graph.now (path_of path.now))) }
 {
     let mut left = path;
     while let Some((outermost, inner)) = left.split_last() {
@@ -148,7 +162,8 @@ fn push_place<'grammar>(
     path: &[EnumeratorState],
     symbols: &mut Vec<ExampleSymbol>,
 ) -> Result<(), OutOfMemory>
-    ensures { OnOk result (symbols.new.items ≡ symbols.old.items ++ place graph.now (path_of path.now)) }
+    ensures { OnOk result
+        (symbols.new.items ≡ symbols.old.items ++ place graph.now (path_of path.now)) }
 {
     let Some((innermost, _)) = path.split_first() else {
         return Ok(());
@@ -165,7 +180,8 @@ fn push_cursor(
     prefix: &[Symbol],
     symbols: &mut Vec<ExampleSymbol>,
 ) -> Result<(), OutOfMemory>
-    ensures { OnOk result (symbols.new.items ≡ symbols.old.items ++ place_of (option_copied cursor.entry) prefix.now) }
+    ensures { OnOk result (symbols.new.items ≡ symbols.old.items ++ place_of
+        (option_copied cursor.entry) prefix.now) }
 {
     match cursor {
         Some(symbol) => {
@@ -188,7 +204,8 @@ fn push_suffixes<'grammar>(
     path: &[EnumeratorState],
     symbols: &mut Vec<ExampleSymbol>,
 ) -> Result<(), OutOfMemory>
-    ensures { OnOk result (symbols.new.items ≡ symbols.old.items ++ map ExampleSymbol.Symbol (suffixes graph.now (path_of path.now))) }
+    ensures { OnOk result (symbols.new.items ≡ symbols.old.items ++ map ExampleSymbol.Symbol
+        (suffixes graph.now (path_of path.now))) }
 {
     let mut left = path;
     while let Some((innermost, outer)) = left.split_first() {
@@ -198,8 +215,8 @@ fn push_suffixes<'grammar>(
     Ok(())
 }
 
-// The reductions, innermost first, of an example of `count` symbols: so many stand before the innermost cursor, and so
-// many behind it.
+// The reductions, innermost first, of an example of `count` symbols: so many stand before the
+// innermost cursor, and so many behind it.
 fn reductions_of<'grammar>(
     alloc: Global,
     graph: &TraceGraph<'grammar>,
@@ -243,7 +260,8 @@ fn push_reduction<'grammar>(
     end: usize,
     reductions: &mut Vec<Reduction>,
 ) -> Result<(), OutOfMemory>
-    ensures { OnOk result (reductions.new.items ≡ reductions.old.items ++ reduced_at (slice_get graph.now.edges edge) start end) }
+    ensures { OnOk result (reductions.new.items ≡ reductions.old.items ++ reduced_at
+        (slice_get graph.now.edges edge) start end) }
 {
     if let Some(nonterminal) = graph.reduced_name(alloc, edge)? {
         reductions.push(Reduction {

@@ -54,7 +54,8 @@ impl<'grammar> Model for TraceGraph<'grammar> {
 
     ghost view = { λ g. record { nodes = by_number g.indices.entries; edges = g.edges.items } };
 
-    ghost invariant = { λ g. IsKept g.indices (by_number g.indices.entries) g.edges.items g.incoming };
+    ghost invariant = { λ g. IsKept g.indices (by_number g.indices.entries) g.edges.items
+        g.incoming };
 }
 
 impl<'grammar> TraceGraph<'grammar> {
@@ -74,7 +75,8 @@ impl<'grammar> TraceGraph<'grammar> {
     pub fn add_node(&mut self, node: TraceGraphNode<'grammar>) -> Result<NodeIndex, OutOfMemory>
         ensures graph { IsGraph self.new }
         ensures added { OnOk result (AddsOnce self.old.nodes self.new.nodes node.entry) }
-        ensures numbered { IfOk result (λ index. slice_get self.new.nodes index.0 ≡ Some node.entry) }
+        ensures numbered { IfOk result
+            (λ index. slice_get self.new.nodes index.0 ≡ Some node.entry) }
         ensures stay { KeepPlaces self.old.nodes self.new.nodes }
         ensures edges { self.new.edges ≡ self.old.edges }
         ensures err { OnErr result (self.new ≡ self.old) }
@@ -87,7 +89,8 @@ impl<'grammar> TraceGraph<'grammar> {
         Ok(NodeIndex(index))
     }
 
-    /// Adds an edge where there is no equal one, and its nodes. After want of memory nodes may stand, the edge does not.
+    /// Adds an edge where there is no equal one, and its nodes. After want of memory nodes may
+    /// stand, the edge does not.
     pub fn add_edge(
         &mut self,
         from: TraceGraphNode<'grammar>,
@@ -97,7 +100,8 @@ impl<'grammar> TraceGraph<'grammar> {
         ensures graph { IsGraph self.new }
         ensures nodes { OnOk result (AddsBoth self.old.nodes self.new.nodes from.entry to.entry) }
         ensures no_other { AddsNoOther self.old.nodes self.new.nodes from.entry to.entry }
-        ensures added { OnOk result (AddsEdge self.old.edges self.new.edges (record { from = from.entry; to = to.entry; symbol_sets = labels.entry })) }
+        ensures added { OnOk result (AddsEdge self.old.edges self.new.edges
+            (record { from = from.entry; to = to.entry; symbol_sets = labels.entry })) }
         ensures stay { KeepPlaces self.old.nodes self.new.nodes }
         ensures err { OnErr result (self.new.edges ≡ self.old.edges) }
     {
@@ -129,7 +133,8 @@ impl<'grammar> TraceGraph<'grammar> {
         requires to { Contains self.old.nodes edge.to }
         requires fresh { ¬ Contains (map plain self.old.edges) (plain edge) }
         ensures graph { IsGraph self.new }
-        ensures pushed { OnOk result (self.new ≡ record { nodes = self.old.nodes; edges = self.old.edges ++ edge.entry ∷ [] }) }
+        ensures pushed { OnOk result (self.new ≡ record
+            { nodes = self.old.nodes; edges = self.old.edges ++ edge.entry ∷ [] }) }
         ensures err { OnErr result (self.new ≡ self.old) }
     {
         let number = self.edges.len();
@@ -146,7 +151,8 @@ impl<'grammar> TraceGraph<'grammar> {
         to: &TraceGraphNode<'grammar>,
         labels: &SymbolSets<'grammar>,
     ) -> bool
-        ensures { IsTrue result ↔ Contains (map plain self.now.edges) (plain_edge from.now to.now labels.now) }
+        ensures { IsTrue result ↔ Contains (map plain self.now.edges)
+            (plain_edge from.now to.now labels.now) }
     {
         for number in self.numbers_to(to) {
             if self.is_edge(*number, from, labels) {
@@ -163,7 +169,9 @@ impl<'grammar> TraceGraph<'grammar> {
         from: &TraceGraphNode<'grammar>,
         labels: &SymbolSets<'grammar>,
     ) -> bool
-        ensures there { (e : TraceGraphEdge) → slice_get self.now.edges number ≡ Some e → IsTrue result ↔ IsFrom from.now labels.now e }
+        ensures there { (e : TraceGraphEdge) →
+            slice_get self.now.edges number ≡ Some e →
+            IsTrue result ↔ IsFrom from.now labels.now e }
         ensures none { slice_get self.now.edges number ≡ None → result ≡ false }
     {
         let edges = self.edges();
@@ -198,9 +206,15 @@ impl<'grammar> TraceGraph<'grammar> {
     ) -> Result<PathEnumerator<'graph, 'grammar>, OutOfMemory>
         ensures graph { IfOk result (λ walk. walk.graph.now ≡ self.now) }
         ensures paths { IfOk result (λ walk. to_come walk ≡ paths self.now (item_node item.entry)) }
-        ensures exact { IfOk result (λ walk. (path : List ℕ) → Contains (to_come walk) path ↔ IsPath self.now (item_node item.entry) path) }
+        ensures exact { IfOk result (λ walk. (path : List ℕ) →
+            Contains (to_come walk) path ↔ IsPath self.now (item_node item.entry) path) }
         ensures once { IfOk result (λ walk. AllDiffer (to_come walk)) }
-        ensures derivations { IfOk result (λ walk. (productions : List Production) → CarryRightSides productions self.now.edges → (path : List ℕ) (example : Example) → Contains (to_come walk) path → IsExampleOf self.now path example → SpellsDerivation productions example) }
+        ensures derivations { IfOk result (λ walk. (productions : List Production) →
+            CarryRightSides productions self.now.edges →
+            (path : List ℕ) (example : Example) →
+            Contains (to_come walk) path →
+            IsExampleOf self.now path example →
+            SpellsDerivation productions example) }
         ensures refused { IfOk result (λ walk. walk.refused ≡ false) }
     {
         // A field is read, so that what is kept of a graph is known.
@@ -216,14 +230,21 @@ impl<'grammar> TraceGraph<'grammar> {
         item: &Lr1Item<'grammar>,
     ) -> Result<FilteredPathEnumerator<'graph, 'grammar>, OutOfMemory>
         requires known { AreKnownEdges first_sets.now.terminals self.now.edges }
-        ensures known { IfOk result (λ it. AreKnownEdges it.first_sets.now.terminals it.base.graph.now.edges) }
+        ensures known { IfOk result
+            (λ it. AreKnownEdges it.first_sets.now.terminals it.base.graph.now.edges) }
         ensures graph { IfOk result (λ it. it.base.graph.now ≡ self.now) }
         ensures first_sets { IfOk result (λ it. it.first_sets.now ≡ first_sets.now) }
         ensures lookahead { IfOk result (λ it. it.lookahead ≡ item.now.lookahead) }
         ensures paths { IfOk result (λ it. to_come it.base ≡ paths self.now (item_node item.now)) }
-        ensures exact { IfOk result (λ it. (path : List ℕ) → Contains (to_come it.base) path ↔ IsPath self.now (item_node item.now) path) }
+        ensures exact { IfOk result (λ it. (path : List ℕ) →
+            Contains (to_come it.base) path ↔ IsPath self.now (item_node item.now) path) }
         ensures once { IfOk result (λ it. AllDiffer (to_come it.base)) }
-        ensures derivations { IfOk result (λ it. (productions : List Production) → CarryRightSides productions self.now.edges → (path : List ℕ) (example : Example) → Contains (to_come it.base) path → IsExampleOf self.now path example → SpellsDerivation productions example) }
+        ensures derivations { IfOk result (λ it. (productions : List Production) →
+            CarryRightSides productions self.now.edges →
+            (path : List ℕ) (example : Example) →
+            Contains (to_come it.base) path →
+            IsExampleOf self.now path example →
+            SpellsDerivation productions example) }
         ensures refused { IfOk result (λ it. it.base.refused ≡ false) }
     {
         // A field is read, so that what is kept of a graph is known.
@@ -311,8 +332,12 @@ impl<'grammar> TraceGraph<'grammar> {
 
     /// The labels of an edge.
     pub(crate) fn labels(&self, edge: usize) -> SymbolSets<'grammar>
-        ensures there { (e : TraceGraphEdge) → slice_get self.now.edges edge ≡ Some e → result ≡ e.symbol_sets }
-        ensures known { (terminals : List TerminalString) → AreKnownEdges terminals self.now.edges → IsKnownLabel terminals result }
+        ensures there { (e : TraceGraphEdge) →
+            slice_get self.now.edges edge ≡ Some e →
+            result ≡ e.symbol_sets }
+        ensures known { (terminals : List TerminalString) →
+            AreKnownEdges terminals self.now.edges →
+            IsKnownLabel terminals result }
         ensures prefix { result.prefix.now ≡ prefix_of (slice_get self.now.edges edge) }
         ensures cursor { option_copied result.cursor ≡ cursor_of (slice_get self.now.edges edge) }
         ensures suffix { result.suffix.now ≡ suffix_of (slice_get self.now.edges edge) }

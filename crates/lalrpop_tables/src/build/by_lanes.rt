@@ -17,8 +17,8 @@ use lalrpop_base::repr::NonterminalString;
 use lalrpop_base::repr::grammar::Grammar;
 use std::alloc::Global;
 
-/// The lane tables of a grammar, where there are such and they pass the check. Those of an LALR(1) grammar whose
-/// start symbol stands on no right side do.
+/// The lane tables of a grammar, where there are such and they pass the check. Those of an LALR(1)
+/// grammar whose start symbol stands on no right side do.
 pub fn lane_tables<'grammar>(
     alloc: Global,
     grammar: &'grammar Grammar,
@@ -26,10 +26,15 @@ pub fn lane_tables<'grammar>(
     max_copies: usize,
 ) -> Result<Option<Vec<Lr1State<'grammar>>>, OutOfMemory>
     requires { IsWellFormed grammar.now }
-    ensures lanes { IfOk result (λ answer. IfSome answer (λ tables. AreLaneTables (rules_of grammar.now) start.now tables.items)) }
-    ensures shape { IfOk result (λ answer. IfSome answer (λ tables. AreLr0Tables (rules_of grammar.now) start.now tables.items)) }
-    ensures faithful { IfOk result (λ answer. IfSome answer (λ tables. AreFaithful (productions grammar.now) start.now (contents grammar.now.terminals tables.items))) }
-    ensures lalr { IsOnNoRightSide (productions grammar.now) start.now → IsLALR1 (productions grammar.now) start.now → IfOk result (λ answer. is_some answer ≡ true) }
+    ensures lanes { IfOk result (λ answer. IfSome answer
+        (λ tables. AreLaneTables (rules_of grammar.now) start.now tables.items)) }
+    ensures shape { IfOk result (λ answer. IfSome answer
+        (λ tables. AreLr0Tables (rules_of grammar.now) start.now tables.items)) }
+    ensures faithful { IfOk result (λ answer. IfSome answer (λ tables. AreFaithful
+        (productions grammar.now) start.now (contents grammar.now.terminals tables.items))) }
+    ensures lalr { IsOnNoRightSide (productions grammar.now) start.now →
+        IsLALR1 (productions grammar.now) start.now →
+        IfOk result (λ answer. is_some answer ≡ true) }
 {
     let first = start.clone(alloc)?;
     match build_lane_table_states(alloc, grammar, first, max_copies) {
@@ -50,8 +55,10 @@ fn where_checked<'grammar>(
     requires coherent { AreCoherent tables.items }
     requires some { 0 < length tables.items }
     ensures kept { IfOk result (λ answer. IfSome answer (λ kept. kept.items ≡ tables.entry.items)) }
-    ensures faithful { IfOk result (λ answer. IfSome answer (λ kept. AreFaithful (productions grammar.now) start (contents grammar.now.terminals kept.items))) }
-    ensures passing { PassCheck grammar.now start tables.entry.items → IfOk result (λ answer. is_some answer ≡ true) }
+    ensures faithful { IfOk result (λ answer. IfSome answer (λ kept. AreFaithful
+        (productions grammar.now) start (contents grammar.now.terminals kept.items))) }
+    ensures passing { PassCheck grammar.now start tables.entry.items →
+        IfOk result (λ answer. is_some answer ≡ true) }
 {
     if !check_tables(alloc, grammar, start, &tables)? {
         return Ok(None);

@@ -1,13 +1,8 @@
 //! LR(1) states by the canonical construction.
-ghost use Rattle.std.specs.Prelude.{◌≡◌, IfOk, IfErr, MatchResult};
-ghost use Rattle.lalrpop_base.specs.Contents.{contents};
-ghost use Rattle.lalrpop_base.specs.States.{AreFaithful};
-ghost use Rattle.lalrpop_base.specs.Validity.{IsLR1};
-ghost use Rattle.lalrpop_base.specs.WellFormed.{IsWellFormed, productions, rules_of};
-ghost use Rattle.lalrpop_tables.specs.Canonical.{AreCanonicalStates, HasCanonicalStates, TellsNotLR1};
-ghost use Rattle.lalrpop_tables.specs.CanonicalConflicts.{ListsCanonicalConflicts};
-ghost use Rattle.lalrpop_tables.specs.EarlyStop.{FailsAfter};
-ghost use Rattle.lalrpop_tables.specs.Results.{AreTables, FailsBy, canonical_of};
+ghost use Rattle.std.specs.Prelude.{IfOk, IfErr};
+ghost use Rattle.lalrpop_base.specs.WellFormed.{IsWellFormed};
+ghost use Rattle.lalrpop_tables.specs.Lr1Answers.{AreBuiltTablesOf, FailsOn};
+ghost use Rattle.lalrpop_tables.specs.declared.build.options.Method.TheVariants.{Canonical};
 
 use super::lr::Lr;
 use lalrpop_base::lookahead::token_set::TokenSet;
@@ -25,13 +20,9 @@ pub fn build_canonical_states<'grammar>(
     stop_after: usize,
 ) -> Lr1Result<'grammar>
     requires { IsWellFormed grammar.now }
-    ensures tables { IfOk result (λ tables. AreTables (canonical_of grammar.now start) tables.items) }
-    ensures failure { stop_after ≡ 0 → IfErr result (FailsBy (canonical_of grammar.now start)) }
-    ensures canonical { MatchResult result (λ tables. AreCanonicalStates (rules_of grammar.now) start tables.items) (λ error. stop_after ≡ 0 → HasCanonicalStates (rules_of grammar.now) start error) }
-    ensures conflicts { stop_after ≡ 0 → IfErr result (ListsCanonicalConflicts grammar.now start) }
-    ensures stopped { IfErr result (FailsAfter (rules_of grammar.now) start stop_after) }
-    ensures lr1 { MatchResult result (λ _. IsLR1 (productions grammar.now) start) (TellsNotLR1 (productions grammar.now) start) }
-    ensures faithful { IfOk result (λ tables. AreFaithful (productions grammar.now) start (contents grammar.now.terminals tables.items)) }
+    ensures tables { IfOk result
+        (λ tables. AreBuiltTablesOf ⊥ Canonical grammar.now start tables.items) }
+    ensures no_tables { IfErr result (FailsOn ⊥ stop_after grammar.now start) }
 {
     let _terminals = grammar.terminals.all();
     let eof = TokenSet::eof(alloc, &grammar.terminals)?;

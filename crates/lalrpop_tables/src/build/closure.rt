@@ -26,7 +26,9 @@ fn add_item<'grammar, L: Lookahead>(
     table: &mut Table<'grammar, L>,
     queue: &mut VecDeque<Lr0Item<'grammar>>,
 ) -> Result<(), OutOfMemory>
-    ensures { OnOk result (IsQueued item.entry (L.meaning tokens.now) (readings L.meaning table.old.entries) (readings L.meaning table.new.entries) queue.old.items queue.new.items) }
+    ensures { OnOk result (IsQueued item.entry (L.meaning tokens.now)
+        (readings L.meaning table.old.entries) (readings L.meaning table.new.entries)
+        queue.old.items queue.new.items) }
 {
     let copy = item.to_lr0();
     if add_tokens(alloc, table, copy, tokens)? {
@@ -42,7 +44,9 @@ fn add_moves<'grammar, L: Lookahead>(
     table: &mut Table<'grammar, L>,
     queue: &mut VecDeque<Lr0Item<'grammar>>,
 ) -> Result<(), OutOfMemory>
-    ensures { OnOk result (SpreadAll (map (meant L.meaning) moves.now) (readings L.meaning table.old.entries) (readings L.meaning table.new.entries) queue.old.items queue.new.items) }
+    ensures { OnOk result (SpreadAll (map (meant L.meaning) moves.now)
+        (readings L.meaning table.old.entries) (readings L.meaning table.new.entries)
+        queue.old.items queue.new.items) }
 {
     for item in moves {
         add_item(alloc, item.to_lr0(), &item.lookahead, table, queue)?;
@@ -60,8 +64,12 @@ fn expand<'grammar, L: LookaheadBuild>(
 ) -> Result<(), OutOfMemory>
     requires known { Contains lr.now.construction.rules.productions item.production }
     requires found { Contains (keys_of table.old.entries) item }
-    ensures expanded { OnOk result (IsExpanded lr.now.construction.rules item.entry (readings L.meaning table.old.entries) (readings L.meaning table.new.entries) queue.old.items queue.new.items) }
-    ensures tokens { OnOk result (ExpandsFound L.begins L.passes lr.now.construction.rules item.entry (readings L.meaning table.old.entries) (readings L.meaning table.new.entries) queue.old.items queue.new.items) }
+    ensures expanded { OnOk result (IsExpanded lr.now.construction.rules item.entry
+        (readings L.meaning table.old.entries) (readings L.meaning table.new.entries)
+        queue.old.items queue.new.items) }
+    ensures tokens { OnOk result (ExpandsFound L.begins L.passes lr.now.construction.rules
+        item.entry (readings L.meaning table.old.entries) (readings L.meaning table.new.entries)
+        queue.old.items queue.new.items) }
 {
     let Some((symbol, rest)) = item.shift_symbol() else {
         return Ok(());
@@ -108,8 +116,10 @@ fn start<'grammar, L: Lookahead>(
     requires kernel { AreItemsBy L.meaning lr.now.construction.rules kernel.now }
     requires table { table.old.entries ≡ [] }
     requires queue { queue.old.items ≡ [] }
-    ensures closing { OnOk result (IsClosing lr.now.construction.rules (map (meant L.meaning) kernel.now) (readings L.meaning table.new.entries) queue.new.items) }
-    ensures started { OnOk result (IsStarted (map (meant L.meaning) kernel.now) (readings L.meaning table.new.entries) queue.new.items) }
+    ensures closing { OnOk result (IsClosing lr.now.construction.rules
+        (map (meant L.meaning) kernel.now) (readings L.meaning table.new.entries) queue.new.items) }
+    ensures started { OnOk result (IsStarted (map (meant L.meaning) kernel.now)
+        (readings L.meaning table.new.entries) queue.new.items) }
 {
     let _ = lr;
     for item in kernel {
@@ -125,7 +135,8 @@ pub fn closure<'grammar, L: LookaheadBuild>(
     kernel: &[Item<'grammar, L>],
 ) -> Result<Vec<Item<'grammar, L>>, OutOfMemory>
     requires kernel { AreItemsBy L.meaning lr.now.construction.rules kernel.now }
-    ensures { IfOk result (λ items. IsClosureBy L.meaning L.begins L.passes lr.now.construction.rules kernel.now items.items) }
+    ensures { IfOk result (λ items. IsClosureBy L.meaning L.begins L.passes
+        lr.now.construction.rules kernel.now items.items) }
 {
     let mut table = BTreeMap::new(alloc);
     let mut queue = VecDeque::new(alloc);

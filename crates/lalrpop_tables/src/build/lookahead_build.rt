@@ -20,8 +20,8 @@ pub trait LookaheadBuild: Lookahead {
     // The symbols let the tokens pass that stand behind them.
     ghost passes: { Rules → List Symbol → Type 0 };
 
-    /// The productions of a nonterminal, dot first, with what may follow it where it stands before the remainder of
-    /// an item with the lookahead.
+    /// The productions of a nonterminal, dot first, with what may follow it where it stands before
+    /// the remainder of an item with the lookahead.
     fn epsilon_moves<'grammar>(
         alloc: Global,
         lr: &Lr<'grammar, Self>,
@@ -30,5 +30,6 @@ pub trait LookaheadBuild: Lookahead {
         lookahead: &Self,
     ) -> Result<Vec<Item<'grammar, Self>>, OutOfMemory>
         requires known { HasKnownTerminals lr.now.construction.rules.terminals remainder.now }
-        ensures moves { IfOk result (λ moves. AreEpsilonMoves Self.meaning begins passes lr.now.construction.rules nonterminal.now remainder.now lookahead.now moves.items) };
+        ensures moves { IfOk result (λ moves. AreEpsilonMoves Self.meaning begins passes
+            lr.now.construction.rules nonterminal.now remainder.now lookahead.now moves.items) };
 }

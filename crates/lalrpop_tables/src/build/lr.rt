@@ -7,7 +7,7 @@ ghost use Rattle.lalrpop_base.specs.Validity.{IsLR1};
 ghost use Rattle.lalrpop_base.specs.WellFormed.{IsWellFormed, rules_of, productions_of};
 ghost use Rattle.lalrpop_tables.specs.Canonical.{AreCanonicalStates, HasCanonicalStates, TellsNotLR1};
 ghost use Rattle.lalrpop_tables.specs.Closure.{AreItemsBy};
-ghost use Rattle.lalrpop_tables.specs.EarlyStop.{FailsAfter, FailsAfterLr0, StopsFor};
+ghost use Rattle.lalrpop_tables.specs.EarlyStop.{AreSomeCanonicalStates, FailsAfter, FailsAfterLr0, StopsFor};
 ghost use Rattle.lalrpop_tables.specs.EpsilonMoves.{AreBegunWith};
 ghost use Rattle.lalrpop_tables.specs.Lr0.{AreLr0States, HasLr0States, HaveNoNilConflict, ListsNilConflicts};
 ghost use Rattle.lalrpop_tables.specs.Results.{AreTables, AreTablesFor, EndsWithEof, FailsBy, FailsFor};
@@ -47,7 +47,15 @@ impl<'grammar, L: Lookahead> Model for Lr<'grammar, L> {
 
     ghost Value = { Settings L };
 
-    ghost view = { λ l. record { construction = record { rules = rules_of l.grammar.now; start = l.start; first = productions_of l.grammar.now l.start; lookahead = l.lookahead }; stop_after = l.stop_after } };
+    ghost view = { λ l. record {
+      construction = record {
+        rules = rules_of l.grammar.now;
+        start = l.start;
+        first = productions_of l.grammar.now l.start;
+        lookahead = l.lookahead;
+      };
+      stop_after = l.stop_after;
+    } };
 
     ghost use Rattle.lalrpop_tables.specs.Ready.{IsReady};
 
@@ -64,7 +72,15 @@ impl<'grammar, L: Lookahead> Lr<'grammar, L> {
     ) -> Result<Self, OutOfMemory>
         requires well_formed { IsWellFormed grammar.now }
         requires fits { FitsTokens grammar.now.terminals (L.meaning lookahead) }
-        ensures { IfOk result (λ lr. lr ≡ record { construction = record { rules = rules_of grammar.now; start = start; first = productions_of grammar.now start; lookahead = lookahead }; stop_after = 0 }) }
+        ensures { IfOk result (λ lr. lr ≡ record {
+          construction = record {
+            rules = rules_of grammar.now;
+            start = start;
+            first = productions_of grammar.now start;
+            lookahead = lookahead;
+          };
+          stop_after = 0;
+        }) }
     {
         let _names = grammar.nonterminals.len();
         let first_sets = FirstSets::new(alloc, grammar)?;
@@ -79,7 +95,8 @@ impl<'grammar, L: Lookahead> Lr<'grammar, L> {
 
     /// After how many conflicts to stop; 0 for no early stop.
     pub fn set_stop_after(&mut self, stop_after: usize)
-        ensures { self.new ≡ record { construction = self.old.construction; stop_after = stop_after } }
+        ensures { self.new ≡ record
+            { construction = self.old.construction; stop_after = stop_after } }
     {
         self.stop_after = stop_after;
     }
@@ -113,7 +130,8 @@ impl<'grammar, L: Lookahead> Lr<'grammar, L> {
         nonterminal: &NonterminalString,
         lookahead: &L,
     ) -> Result<Vec<Item<'grammar, L>>, OutOfMemory>
-        ensures { IfOk result (λ items. AreBegunWith self.now.construction.rules nonterminal.now lookahead.now items.items) }
+        ensures { IfOk result (λ items. AreBegunWith self.now.construction.rules nonterminal.now
+            lookahead.now items.items) }
     {
         let grammar = self.grammar;
         begun_items(alloc, grammar, nonterminal, lookahead)
@@ -121,8 +139,10 @@ impl<'grammar, L: Lookahead> Lr<'grammar, L> {
 
     /// The productions of the start symbol, dot first, with its lookahead.
     pub(super) fn start_kernel(&self, alloc: Global) -> Result<Kernel<'grammar, L>, OutOfMemory>
-        ensures kernel { IfOk result (λ kernel. kernel ≡ map (begun self.now.construction.lookahead) self.now.construction.first) }
-        ensures items { IfOk result (λ kernel. AreItemsBy L.meaning self.now.construction.rules kernel) }
+        ensures kernel { IfOk result (λ kernel. kernel ≡ map (begun self.now.construction.lookahead)
+            self.now.construction.first) }
+        ensures items { IfOk result
+            (λ kernel. AreItemsBy L.meaning self.now.construction.rules kernel) }
     {
         let grammar = self.grammar;
         let items = begun_items(alloc, grammar, &self.start, &self.lookahead)?;
@@ -133,9 +153,13 @@ impl<'grammar, L: Lookahead> Lr<'grammar, L> {
 impl<'grammar, L: LookaheadBuild> Lr<'grammar, L> {
     /// The states, or their conflicts. A refused growth is answered by `Memory`.
     pub fn build_states(self, alloc: Global) -> LrResult<'grammar, L>
-        ensures tables { IfOk result (λ tables. AreTablesFor L.meaning L.begins L.passes L.lists_conflicts self.entry.construction tables.items) }
-        ensures failure { self.entry.stop_after ≡ 0 → IfErr result (FailsFor L.meaning L.begins L.passes L.lists_conflicts self.entry.construction) }
-        ensures stopped { IfErr result (StopsFor L.meaning L.begins L.passes L.lists_conflicts self.entry) }
+        ensures tables { IfOk result (λ tables. AreTablesFor L.meaning L.begins L.passes
+            L.lists_conflicts self.entry.construction tables.items) }
+        ensures failure { self.entry.stop_after ≡ 0 →
+            IfErr result
+            (FailsFor L.meaning L.begins L.passes L.lists_conflicts self.entry.construction) }
+        ensures stopped { IfErr result
+            (StopsFor L.meaning L.begins L.passes L.lists_conflicts self.entry) }
     {
         let (states, conflicts) = build_states(alloc, &self)?;
         tables_or_conflicts(states, conflicts)
@@ -146,11 +170,26 @@ impl<'grammar> Lr<'grammar, TokenSet> {
     /// The states with sets of tokens, or their conflicts.
     pub fn build_lr1_states(self, alloc: Global) -> Lr1Result<'grammar>
         ensures tables { IfOk result (λ tables. AreTables self.entry.construction tables.items) }
-        ensures failure { self.entry.stop_after ≡ 0 → IfErr result (FailsBy self.entry.construction) }
-        ensures canonical { EndsWithEof self.entry.construction → MatchResult result (λ tables. AreCanonicalStates self.entry.construction.rules self.entry.construction.start tables.items) (λ error. self.entry.stop_after ≡ 0 → HasCanonicalStates self.entry.construction.rules self.entry.construction.start error) }
-        ensures stopped { EndsWithEof self.entry.construction → IfErr result (FailsAfter self.entry.construction.rules self.entry.construction.start self.entry.stop_after) }
-        ensures lr1 { EndsWithEof self.entry.construction → MatchResult result (λ _. IsLR1 self.entry.construction.rules.productions self.entry.construction.start) (TellsNotLR1 self.entry.construction.rules.productions self.entry.construction.start) }
-        ensures faithful { EndsWithEof self.entry.construction → IfOk result (λ tables. AreFaithful self.entry.construction.rules.productions self.entry.construction.start (contents self.entry.construction.rules.terminals tables.items)) }
+        ensures failure { self.entry.stop_after ≡ 0 →
+            IfErr result (FailsBy self.entry.construction) }
+        ensures canonical { EndsWithEof self.entry.construction →
+            MatchResult result (λ tables. AreCanonicalStates self.entry.construction.rules
+            self.entry.construction.start tables.items) (λ error. self.entry.stop_after ≡ 0 →
+            HasCanonicalStates self.entry.construction.rules self.entry.construction.start error) }
+        ensures valid { EndsWithEof self.entry.construction →
+            IfOk result (λ tables. AreSomeCanonicalStates self.entry.construction.rules
+            self.entry.construction.start tables.items) }
+        ensures stopped { EndsWithEof self.entry.construction →
+            IfErr result (FailsAfter self.entry.construction.rules self.entry.construction.start
+            self.entry.stop_after) }
+        ensures lr1 { EndsWithEof self.entry.construction →
+            MatchResult result
+            (λ _. IsLR1 self.entry.construction.rules.productions self.entry.construction.start)
+            (TellsNotLR1 self.entry.construction.rules.productions self.entry.construction.start) }
+        ensures faithful { EndsWithEof self.entry.construction →
+            IfOk result (λ tables. AreFaithful self.entry.construction.rules.productions
+            self.entry.construction.start
+            (contents self.entry.construction.rules.terminals tables.items)) }
     {
         let grammar = self.grammar;
         let _terminals = grammar.terminals.all();
@@ -161,8 +200,11 @@ impl<'grammar> Lr<'grammar, TokenSet> {
 impl<'grammar> Lr<'grammar, Nil> {
     /// The states without lookahead, or their conflicts.
     pub fn build_lr0_states(self, alloc: Global) -> LrResult<'grammar, Nil>
-        ensures states { MatchResult result (λ tables. AreLr0States self.entry.construction.rules self.entry.construction.start tables.items) (λ error. self.entry.stop_after ≡ 0 → HasLr0States self.entry.construction.rules self.entry.construction.start error) }
-        ensures stopped { IfErr result (FailsAfterLr0 self.entry.construction.rules self.entry.construction.start self.entry.stop_after) }
+        ensures states { MatchResult result (λ tables. AreLr0States self.entry.construction.rules
+            self.entry.construction.start tables.items) (λ error. self.entry.stop_after ≡ 0 →
+            HasLr0States self.entry.construction.rules self.entry.construction.start error) }
+        ensures stopped { IfErr result (FailsAfterLr0 self.entry.construction.rules
+            self.entry.construction.start self.entry.stop_after) }
         ensures free { IfOk result (λ tables. HaveNoNilConflict tables.items) }
         ensures conflicts { IfErr result ListsNilConflicts }
     {
@@ -178,7 +220,8 @@ fn begun_items<'grammar, L: Lookahead>(
     nonterminal: &NonterminalString,
     lookahead: &L,
 ) -> Result<Vec<Item<'grammar, L>>, OutOfMemory>
-    ensures { IfOk result (λ items. items.items ≡ map (begun lookahead.now) (productions_of grammar.now nonterminal.now)) }
+    ensures { IfOk result (λ items. items.items ≡ map (begun lookahead.now)
+        (productions_of grammar.now nonterminal.now)) }
 {
     let mut items = Vec::new(alloc);
     for production in grammar.productions_for(nonterminal) {

@@ -18,7 +18,9 @@ pub fn build_lr0_states<'grammar>(
     start: NonterminalString,
 ) -> LrResult<'grammar, Nil>
     requires { IsWellFormed grammar.now }
-    ensures states { MatchResult result (λ tables. AreLr0States (rules_of grammar.now) start tables.items) (HasLr0States (rules_of grammar.now) start) }
+    ensures states { MatchResult result
+        (λ tables. AreLr0States (rules_of grammar.now) start tables.items)
+        (HasLr0States (rules_of grammar.now) start) }
     ensures free { IfOk result (λ tables. HaveNoNilConflict tables.items) }
     ensures conflicts { IfErr result ListsNilConflicts }
 {

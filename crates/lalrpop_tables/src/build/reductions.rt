@@ -14,7 +14,8 @@ fn push_finished<'grammar, L: Lookahead>(
     item: &Item<'grammar, L>,
     reductions: &mut Vec<(L, &'grammar Production)>,
 ) -> Result<(), OutOfMemory>
-    ensures { OnOk result (map seen reductions.new.items ≡ map seen reductions.old.items ++ reductions_of (item.now ∷ [])) }
+    ensures { OnOk result (map seen reductions.new.items ≡ map seen reductions.old.items ++
+        reductions_of (item.now ∷ [])) }
 {
     if item.can_reduce() {
         let tokens = item.lookahead.copy(alloc)?;

@@ -18,7 +18,8 @@ pub fn push_conflicts<'grammar, L: Lookahead>(
     state: &State<'grammar, L>,
     list: &mut Vec<Conflict<'grammar, L>>,
 ) -> Result<(), OutOfMemory>
-    ensures { OnOk result ((own : List (Conflict L)) × L.lists_conflicts state.now lr.now.construction.rules.terminals own × (list.new.items ≡ list.old.items ++ own)) }
+    ensures { OnOk result ((own : List (Conflict L)) × L.lists_conflicts state.now
+        lr.now.construction.rules.terminals own × (list.new.items ≡ list.old.items ++ own)) }
 {
     let grammar = lr.grammar();
     let mut more = L::conflicts(alloc, state, &grammar.terminals)?;
@@ -31,7 +32,8 @@ pub fn tables_or_conflicts<'grammar, L: Lookahead>(
     states: Vec<State<'grammar, L>>,
     conflicts: Vec<Conflict<'grammar, L>>,
 ) -> LrResult<'grammar, L>
-    ensures ok { IfOk result (λ tables. (tables.items ≡ states.entry.items) × (conflicts.entry.items ≡ [])) }
+    ensures ok { IfOk result
+        (λ tables. (tables.items ≡ states.entry.items) × (conflicts.entry.items ≡ [])) }
     ensures failure { IfErr result (FailWith states.entry.items conflicts.entry.items) }
 {
     if conflicts.is_empty() {

@@ -28,8 +28,11 @@ fn build_state<'grammar, L: LookaheadBuild>(
     kernels: &mut KernelSet<Kernel<'grammar, L>>,
 ) -> Result<State<'grammar, L>, OutOfMemory>
     requires kernel { AreItemsBy L.meaning lr.now.construction.rules kernel.now }
-    ensures built { IfOk result (λ state. IsBuiltBy (IsClosureBy L.meaning L.begins L.passes lr.now.construction.rules) kernels.new.list kernel.now number state) }
-    ensures extends { OnOk result (Extends L.meaning lr.now.construction.rules kernels.old kernels.new) }
+    ensures built { IfOk result (λ state. IsBuiltBy
+        (IsClosureBy L.meaning L.begins L.passes lr.now.construction.rules) kernels.new.list
+        kernel.now number state) }
+    ensures extends { OnOk result
+        (Extends L.meaning lr.now.construction.rules kernels.old kernels.new) }
     ensures led { IfOk result (LeadsToAdded kernels.old kernels.new) }
 {
     let items = closure(alloc, lr, kernel.as_slice())?;
@@ -53,12 +56,14 @@ fn are_enough(stop_after: usize, found: usize) -> bool
     stop_after > 0 && stop_after <= found
 }
 
-/// The states, numbered as their kernels first appear, and their conflicts, until enough are listed.
+/// The states, numbered as their kernels first appear, and their conflicts, until enough are
+/// listed.
 pub fn build_states<'grammar, L: LookaheadBuild>(
     alloc: Global,
     lr: &Lr<'grammar, L>,
 ) -> Result<States<'grammar, L>, OutOfMemory>
-    ensures { IfOk result (λ made. AreMadeFor L.meaning L.begins L.passes L.lists_conflicts lr.now made.0.items made.1.items) }
+    ensures { IfOk result (λ made. AreMadeFor L.meaning L.begins L.passes L.lists_conflicts lr.now
+        made.0.items made.1.items) }
 {
     let mut kernels = KernelSet::new(alloc);
     let mut states = Vec::new(alloc);

@@ -17,7 +17,8 @@ pub fn add_tokens<K: Ord + Exact + Drop, L: Lookahead>(
     key: K,
     tokens: &L,
 ) -> Result<bool, OutOfMemory>
-    ensures joined { IfOk result (λ told. IsJoinedAt key (L.meaning tokens.now) told (readings L.meaning map.old.entries) (readings L.meaning map.new.entries)) }
+    ensures joined { IfOk result (λ told. IsJoinedAt key (L.meaning tokens.now) told
+        (readings L.meaning map.old.entries) (readings L.meaning map.new.entries)) }
     ensures differ { OnOk result (AllDiffer (keys map.new)) }
 {
     let mut grown = match map.get(&key) {

@@ -33,7 +33,8 @@ fn push_moved<'grammar, L: Lookahead>(
     item: Item<'grammar, L>,
     moves: &mut Moves<'grammar, L>,
 ) -> Result<(), OutOfMemory>
-    ensures pushed { OnOk result (IsPushedAt symbol.now item.entry moves.old.entries moves.new.entries) }
+    ensures pushed { OnOk result
+        (IsPushedAt symbol.now item.entry moves.old.entries moves.new.entries) }
     ensures differ { OnOk result (AllDiffer (keys moves.new)) }
 {
     if let Some(items) = moves.get_mut(symbol) {

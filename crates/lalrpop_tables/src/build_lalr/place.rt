@@ -45,7 +45,8 @@ pub(super) fn number_states<'grammar>(
     states: Vec<Lr1State<'grammar>>,
     numbers: &[usize],
 ) -> Result<Vec<Lr1State<'grammar>>, OutOfMemory>
-    ensures { IfOk result (λ numbered. AreMoved (number_in numbers.now) states.entry.items numbered.items) }
+    ensures { IfOk result
+        (λ numbered. AreMoved (number_in numbers.now) states.entry.items numbered.items) }
 {
     let mut numbered = Vec::new(alloc);
     for state in states {

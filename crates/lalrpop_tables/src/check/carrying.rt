@@ -35,7 +35,8 @@ fn send<'grammar>(
     table: &mut Table<'grammar>,
     queue: &mut VecDeque<Place<'grammar>>,
 ) -> Result<(), OutOfMemory>
-    ensures { OnOk result (IsSent place.entry tokens.now table.old.entries table.new.entries queue.old.items queue.new.items) }
+    ensures { OnOk result (IsSent place.entry tokens.now table.old.entries table.new.entries
+        queue.old.items queue.new.items) }
 {
     let copy = place.copy();
     if add_tokens(alloc, table, copy, tokens)? {
@@ -54,7 +55,8 @@ fn send_productions<'grammar>(
     table: &mut Table<'grammar>,
     queue: &mut VecDeque<Place<'grammar>>,
 ) -> Result<(), OutOfMemory>
-    ensures { OnOk result (Sends (IsBegunAt state (productions_of grammar.now name.now)) tokens.now table.old.entries table.new.entries queue.old.items queue.new.items) }
+    ensures { OnOk result (Sends (IsBegunAt state (productions_of grammar.now name.now)) tokens.now
+        table.old.entries table.new.entries queue.old.items queue.new.items) }
 {
     for production in grammar.productions_for(name) {
         let item = Item {
@@ -91,7 +93,8 @@ fn send_over<'grammar>(
     table: &mut Table<'grammar>,
     queue: &mut VecDeque<Place<'grammar>>,
 ) -> Result<(), OutOfMemory>
-    ensures { OnOk result (Sends (IsOver states.now place.now) tokens.now table.old.entries table.new.entries queue.old.items queue.new.items) }
+    ensures { OnOk result (Sends (IsOver states.now place.now) tokens.now table.old.entries
+        table.new.entries queue.old.items queue.new.items) }
 {
     let Some((symbol, item)) = place.item.shifted_item(alloc)? else {
         return Ok(());
@@ -134,7 +137,8 @@ fn send_on<'grammar>(
     requires known { Contains (productions grammar.now) place.now.item.production }
     requires found { Contains (keys_of table.old.entries) place.now }
     requires differ { AllDiffer (keys_of table.old.entries) }
-    ensures { OnOk result (Gives grammar.now states.now place.now table.old.entries table.new.entries queue.old.items queue.new.items) }
+    ensures { OnOk result (Gives grammar.now states.now place.now table.old.entries
+        table.new.entries queue.old.items queue.new.items) }
 {
     let tokens = tokens_at(alloc, table, place)?;
     send_over(alloc, states, place, &tokens, table, queue)?;
@@ -159,7 +163,8 @@ pub fn carried<'grammar>(
 ) -> Result<Table<'grammar>, OutOfMemory>
     requires well_formed { IsWellFormed grammar.now }
     requires firsts { first_sets.now ≡ rules_of grammar.now }
-    requires closed { AreClosed (productions grammar.now) start.now (contents grammar.now.terminals states.now) }
+    requires closed { AreClosed (productions grammar.now) start.now
+        (contents grammar.now.terminals states.now) }
     ensures { IfOk result (λ table. AreCarried grammar.now start.now states.now table.entries) }
 {
     let _names = grammar.nonterminals.len();
@@ -203,7 +208,8 @@ fn have_carried<'grammar>(
     reductions: &[(TokenSet, &'grammar Production)],
 ) -> Result<bool, OutOfMemory>
     requires { AllDiffer (keys_of table.now.entries) }
-    ensures { IfOk result (λ yes. IsTrue yes ↔ EachItem (HoldsCarried table.now.entries state) reductions.now) }
+    ensures { IfOk result
+        (λ yes. IsTrue yes ↔ EachItem (HoldsCarried table.now.entries state) reductions.now) }
 {
     for reduction in reductions {
         if !holds_carried(alloc, table, state, reduction)? {

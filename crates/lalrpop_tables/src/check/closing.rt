@@ -23,7 +23,8 @@ fn find<'grammar>(
     found: &mut Set<'grammar>,
     stack: &mut Vec<Lr0Item<'grammar>>,
 ) -> Result<(), OutOfMemory>
-    ensures { OnOk result (Widens (λ k. item.entry ≡ k) found.old.keys found.new.keys stack.old.items stack.new.items) }
+    ensures { OnOk result (Widens (λ k. item.entry ≡ k) found.old.keys found.new.keys
+        stack.old.items stack.new.items) }
 {
     let copy = item.to_lr0();
     if add_key(found, copy)? {
@@ -39,7 +40,8 @@ fn find_productions<'grammar>(
     found: &mut Set<'grammar>,
     stack: &mut Vec<Lr0Item<'grammar>>,
 ) -> Result<(), OutOfMemory>
-    ensures { OnOk result (Widens (IsBegun (productions_of grammar.now name.now)) found.old.keys found.new.keys stack.old.items stack.new.items) }
+    ensures { OnOk result (Widens (IsBegun (productions_of grammar.now name.now)) found.old.keys
+        found.new.keys stack.old.items stack.new.items) }
 {
     for production in grammar.productions_for(name) {
         let item = Item {
@@ -59,7 +61,8 @@ fn find_expansions<'grammar>(
     found: &mut Set<'grammar>,
     stack: &mut Vec<Lr0Item<'grammar>>,
 ) -> Result<(), OutOfMemory>
-    ensures { OnOk result (Widens (IsExpansionOf grammar.now item.now) found.old.keys found.new.keys stack.old.items stack.new.items) }
+    ensures { OnOk result (Widens (IsExpansionOf grammar.now item.now) found.old.keys found.new.keys
+        stack.old.items stack.new.items) }
 {
     let Some((symbol, _)) = item.shift_symbol() else {
         return Ok(());
@@ -79,7 +82,8 @@ fn close<'grammar>(
 ) -> Result<(), OutOfMemory>
     requires well_formed { IsWellFormed grammar.now }
     requires waiting { AllWait found.old.keys stack.items }
-    ensures { OnOk result (AreClosure grammar.now (λ p dot. Contains found.old.keys (record { production = p; index = dot; lookahead = record {} })) found.new.keys) }
+    ensures { OnOk result (AreClosure grammar.now (λ p dot. Contains found.old.keys
+        (record { production = p; index = dot; lookahead = record {} })) found.new.keys) }
 {
     let _names = grammar.nonterminals.len();
     while let Some(item) = stack.pop() {
@@ -95,7 +99,8 @@ pub fn start_closure<'grammar>(
     start: &NonterminalString,
 ) -> Result<Set<'grammar>, OutOfMemory>
     requires { IsWellFormed grammar.now }
-    ensures { IfOk result (λ set. AreClosure grammar.now (IsAtStart (productions grammar.now) start.now) set.keys) }
+    ensures { IfOk result
+        (λ set. AreClosure grammar.now (IsAtStart (productions grammar.now) start.now) set.keys) }
 {
     let mut found = BTreeSet::new(alloc);
     let mut stack = Vec::new(alloc);
@@ -111,7 +116,8 @@ fn find_moved<'grammar>(
     found: &mut Set<'grammar>,
     stack: &mut Vec<Lr0Item<'grammar>>,
 ) -> Result<(), OutOfMemory>
-    ensures { OnOk result (Widens (IsMovedOf items.now) found.old.keys found.new.keys stack.old.items stack.new.items) }
+    ensures { OnOk result (Widens (IsMovedOf items.now) found.old.keys found.new.keys
+        stack.old.items stack.new.items) }
 {
     for item in items {
         find_if_moved(item, found, stack)?;
@@ -125,7 +131,8 @@ fn find_if_moved<'grammar>(
     found: &mut Set<'grammar>,
     stack: &mut Vec<Lr0Item<'grammar>>,
 ) -> Result<(), OutOfMemory>
-    ensures { OnOk result (Widens (IsMovedOf (item.now ∷ [])) found.old.keys found.new.keys stack.old.items stack.new.items) }
+    ensures { OnOk result (Widens (IsMovedOf (item.now ∷ [])) found.old.keys found.new.keys
+        stack.old.items stack.new.items) }
 {
     if item.index > 0 {
         find(item.to_lr0(), found, stack)?;
@@ -140,7 +147,8 @@ pub fn moved_closure<'grammar>(
     items: &[Lr1Item<'grammar>],
 ) -> Result<Set<'grammar>, OutOfMemory>
     requires { IsWellFormed grammar.now }
-    ensures { IfOk result (λ set. AreClosure grammar.now (IsMovedIn (map dotted_of items.now)) set.keys) }
+    ensures { IfOk result
+        (λ set. AreClosure grammar.now (IsMovedIn (map dotted_of items.now)) set.keys) }
 {
     let mut found = BTreeSet::new(alloc);
     let mut stack = Vec::new(alloc);

@@ -14,7 +14,9 @@ use std::collections::{BTreeMap, BTreeSet};
 /// Adds a key, and tells whether it is new.
 pub fn add_key<K: Ord + Exact + Drop>(set: &mut BTreeSet<K>, key: K) -> Result<bool, OutOfMemory>
     ensures added { OnOk result (IsAdded key set.old.keys set.new.keys) }
-    ensures told { IfOk result (λ told. MatchBool told ((length set.new.keys ≡ length set.old.keys + 1) × ¬ Contains set.old.keys key) ((length set.new.keys ≡ length set.old.keys) × Contains set.old.keys key)) }
+    ensures told { IfOk result (λ told. MatchBool told
+        ((length set.new.keys ≡ length set.old.keys + 1) × ¬ Contains set.old.keys key)
+        ((length set.new.keys ≡ length set.old.keys) × Contains set.old.keys key)) }
     ensures differ { OnOk result (AllDiffer set.new.keys) }
 {
     Ok(set.insert(key)?)
@@ -39,8 +41,13 @@ pub fn find_tokens<'map, K: Ord + Exact>(
     map: &'map BTreeMap<K, TokenSet>,
     key: &K,
 ) -> Option<&'map TokenSet>
-    ensures found { (set : Bits) → option_copied result ≡ Some set → Contains map.now.entries (key.now, set) }
-    ensures all { AllDiffer (keys map.now) → (set : Bits) → Contains map.now.entries (key.now, set) → option_copied result ≡ Some set }
+    ensures found { (set : Bits) →
+        option_copied result ≡ Some set →
+        Contains map.now.entries (key.now, set) }
+    ensures all { AllDiffer (keys map.now) →
+        (set : Bits) →
+        Contains map.now.entries (key.now, set) →
+        option_copied result ≡ Some set }
 {
     tokens_of(map, key)
 }

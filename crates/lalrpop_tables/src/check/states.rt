@@ -31,7 +31,8 @@ fn add_targets<K: Ord>(
     edges: &BTreeMap<K, StateIndex>,
     targets: &mut BTreeSet<usize>,
 ) -> Result<(), OutOfMemory>
-    ensures { OnOk result ((m : ℕ) → Contains targets.new.keys m ↔ (Contains targets.old.keys m ⊎ LeadsBy K.cmp edges.now m)) }
+    ensures { OnOk result ((m : ℕ) →
+        Contains targets.new.keys m ↔ (Contains targets.old.keys m ⊎ LeadsBy K.cmp edges.now m)) }
 {
     let _count = edges.len();
     for (_, target) in edges.iter() {
@@ -45,7 +46,8 @@ fn add_targets_of<'grammar>(
     state: &Lr1State<'grammar>,
     targets: &mut BTreeSet<usize>,
 ) -> Result<(), OutOfMemory>
-    ensures { OnOk result ((m : ℕ) → Contains targets.new.keys m ↔ (Contains targets.old.keys m ⊎ LeadsFrom state.now m)) }
+    ensures { OnOk result ((m : ℕ) →
+        Contains targets.new.keys m ↔ (Contains targets.old.keys m ⊎ LeadsFrom state.now m)) }
 {
     add_targets(&state.shifts, targets)?;
     add_targets(&state.gotos, targets)?;
@@ -116,7 +118,9 @@ fn leads_on<'grammar>(
     state: &Lr1State<'grammar>,
     item: &Lr1Item<'grammar>,
 ) -> bool
-    ensures { IsTrue result ↔ ((x : Symbol) → slice_get item.now.production.symbols item.now.index ≡ Some x → LeadsOn listed.now state.now item.now x) }
+    ensures { IsTrue result ↔ ((x : Symbol) →
+        slice_get item.now.production.symbols item.now.index ≡ Some x →
+        LeadsOn listed.now state.now item.now x) }
 {
     let production = item.production;
     let symbols = production.symbols.as_slice();
@@ -145,8 +149,11 @@ fn is_right_item<'grammar>(
     reductions: &Set<'grammar>,
     item: &Lr1Item<'grammar>,
 ) -> bool
-    requires { (p : Production) → Contains reductions.now.keys (finished p) ↔ Contains (reduced state.now.reductions.items) p }
-    ensures { IsTrue result ↔ IsRightItem listed.now state.now (reduced state.now.reductions.items) item.now }
+    requires { (p : Production) →
+        Contains reductions.now.keys (finished p) ↔ Contains (reduced state.now.reductions.items)
+        p }
+    ensures { IsTrue result ↔ IsRightItem listed.now state.now (reduced state.now.reductions.items)
+        item.now }
 {
     if !leads_on(listed, state, item) {
         return false;
@@ -163,8 +170,12 @@ fn are_right_items<'grammar>(
     state: &Lr1State<'grammar>,
     reductions: &Set<'grammar>,
 ) -> bool
-    requires { (p : Production) → Contains reductions.now.keys (finished p) ↔ Contains (reduced state.now.reductions.items) p }
-    ensures { IsTrue result ↔ ((i : Dotted Bits) → Contains state.now.items.vec.items i → IsRightItem listed.now state.now (reduced state.now.reductions.items) i) }
+    requires { (p : Production) →
+        Contains reductions.now.keys (finished p) ↔ Contains (reduced state.now.reductions.items)
+        p }
+    ensures { IsTrue result ↔ ((i : Dotted Bits) →
+        Contains state.now.items.vec.items i →
+        IsRightItem listed.now state.now (reduced state.now.reductions.items) i) }
 {
     for item in state.items.vec.iter() {
         if !is_right_item(listed, state, reductions, item) {
@@ -179,7 +190,9 @@ fn reduced_items<'grammar>(
     alloc: Global,
     reductions: &[(TokenSet, &'grammar Production)],
 ) -> Result<Option<Set<'grammar>>, OutOfMemory>
-    ensures { IfOk result (λ found. MatchOption found (¬ AllDiffer (reduced reductions.now)) (λ set. AllDiffer (reduced reductions.now) × ((p : Production) → Contains set.keys (finished p) ↔ Contains (reduced reductions.now) p))) }
+    ensures { IfOk result (λ found. MatchOption found (¬ AllDiffer (reduced reductions.now))
+        (λ set. AllDiffer (reduced reductions.now) × ((p : Production) →
+        Contains set.keys (finished p) ↔ Contains (reduced reductions.now) p))) }
 {
     let mut set = BTreeSet::new(alloc);
     for reduction in reductions {
@@ -201,7 +214,8 @@ fn is_right_first<'grammar>(
     here: &Set<'grammar>,
 ) -> Result<bool, OutOfMemory>
     requires { IsWellFormed grammar.now }
-    ensures { IfOk result (λ yes. IsTrue yes ↔ (number ≡ 0 → AreClosure grammar.now (IsAtStart (productions grammar.now) start.now) here.now.keys)) }
+    ensures { IfOk result (λ yes. IsTrue yes ↔ (number ≡ 0 →
+        AreClosure grammar.now (IsAtStart (productions grammar.now) start.now) here.now.keys)) }
 {
     if number > 0 {
         return Ok(true);
@@ -220,7 +234,8 @@ fn is_right_target<'grammar>(
     here: &Set<'grammar>,
 ) -> Result<bool, OutOfMemory>
     requires { IsWellFormed grammar.now }
-    ensures { IfOk result (λ yes. IsTrue yes ↔ (Contains targets.now.keys number → IsRightTarget grammar.now items.now here.now.keys)) }
+    ensures { IfOk result (λ yes. IsTrue yes ↔
+        (Contains targets.now.keys number → IsRightTarget grammar.now items.now here.now.keys)) }
 {
     if !targets.contains(&number) {
         return Ok(true);
@@ -244,13 +259,17 @@ fn has_no_conflict<'grammar>(
     Ok(list.is_empty())
 }
 
-// Whether the reductions of a state are its finished items, once each, and the symbols behind its dots lead on.
+// Whether the reductions of a state are its finished items, once each, and the symbols behind its
+// dots lead on.
 fn has_right_actions<'grammar>(
     alloc: Global,
     listed: &[Set<'grammar>],
     state: &Lr1State<'grammar>,
 ) -> Result<bool, OutOfMemory>
-    ensures { IfOk result (λ yes. IsTrue yes ↔ (((i : Dotted Bits) → Contains state.now.items.vec.items i → IsRightItem listed.now state.now (reduced state.now.reductions.items) i) × AllDiffer (reduced state.now.reductions.items))) }
+    ensures { IfOk result (λ yes. IsTrue yes ↔ (((i : Dotted Bits) →
+        Contains state.now.items.vec.items i →
+        IsRightItem listed.now state.now (reduced state.now.reductions.items) i) × AllDiffer
+        (reduced state.now.reductions.items))) }
 {
     let Some(reductions) = reduced_items(alloc, &state.reductions)? else {
         return Ok(false);
@@ -270,7 +289,8 @@ fn is_right_state<'grammar>(
     here: &Set<'grammar>,
 ) -> Result<bool, OutOfMemory>
     requires { IsWellFormed grammar.now }
-    ensures { IfOk result (λ yes. IsTrue yes ↔ IsRightState grammar.now start.now listed.now targets.now.keys number here.now.keys state.now) }
+    ensures { IfOk result (λ yes. IsTrue yes ↔ IsRightState grammar.now start.now listed.now
+        targets.now.keys number here.now.keys state.now) }
 {
     if !is_right_first(alloc, grammar, start, number, here)? {
         return Ok(false);
@@ -296,7 +316,8 @@ pub fn are_right_states<'grammar>(
 ) -> Result<bool, OutOfMemory>
     requires well_formed { IsWellFormed grammar.now }
     requires counted { length listed.now ≡ length states.now }
-    ensures { IfOk result (λ yes. IsTrue yes ↔ AreRightStates grammar.now start.now listed.now targets.now.keys states.now) }
+    ensures { IfOk result (λ yes. IsTrue yes ↔ AreRightStates grammar.now start.now listed.now
+        targets.now.keys states.now) }
 {
     for (number, state) in states.iter().enumerate() {
         if !is_right_state(

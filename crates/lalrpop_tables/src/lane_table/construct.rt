@@ -41,7 +41,8 @@ impl<'grammar> LaneTableConstruct<'grammar> {
     ) -> Result<Self, OutOfMemory>
         requires well_formed { IsWellFormed grammar.now }
         ensures ready { IfOk result IsReadyToConstruct }
-        ensures over { IfOk result (λ construct. (construct.grammar.now ≡ grammar.now) × (construct.start ≡ start) × (construct.max_copies ≡ max_copies)) }
+        ensures over { IfOk result (λ construct. (construct.grammar.now ≡ grammar.now) ×
+            (construct.start ≡ start) × (construct.max_copies ≡ max_copies)) }
     {
         let first_sets = FirstSets::new(alloc, grammar)?;
         Ok(LaneTableConstruct {
@@ -52,13 +53,21 @@ impl<'grammar> LaneTableConstruct<'grammar> {
         })
     }
 
-    /// The LR(0) states with the tokens of their lanes, or their conflicts where two actions share a token.
+    /// The LR(0) states with the tokens of their lanes, or their conflicts where two actions share
+    /// a token.
     pub fn construct(self, alloc: Global) -> Lr1Result<'grammar>
         requires ready { IsReadyToConstruct self }
-        ensures tables { IfOk result (λ tables. AreLaneTables (rules_of self.entry.grammar.now) self.entry.start tables.items) }
-        ensures failure { IfErr result (FailsByLanes (rules_of self.entry.grammar.now) self.entry.start) }
-        ensures shape { MatchResult result (λ tables. AreLr0Tables (rules_of self.entry.grammar.now) self.entry.start tables.items) (HasLr0Tables (rules_of self.entry.grammar.now) self.entry.start) }
-        ensures lalr { IsOnNoRightSide (productions self.entry.grammar.now) self.entry.start → MatchResult result (λ tables. AreLalrLaneTables (rules_of self.entry.grammar.now) self.entry.start tables.items) (TellsNotLALR1 (productions self.entry.grammar.now) self.entry.start) }
+        ensures tables { IfOk result (λ tables. AreLaneTables (rules_of self.entry.grammar.now)
+            self.entry.start tables.items) }
+        ensures failure { IfErr result
+            (FailsByLanes (rules_of self.entry.grammar.now) self.entry.start) }
+        ensures shape { MatchResult result
+            (λ tables. AreLr0Tables (rules_of self.entry.grammar.now) self.entry.start tables.items)
+            (HasLr0Tables (rules_of self.entry.grammar.now) self.entry.start) }
+        ensures lalr { IsOnNoRightSide (productions self.entry.grammar.now) self.entry.start →
+            MatchResult result (λ tables. AreLalrLaneTables (rules_of self.entry.grammar.now)
+            self.entry.start tables.items)
+            (TellsNotLALR1 (productions self.entry.grammar.now) self.entry.start) }
     {
         let grammar = self.grammar;
         let _terminals = grammar.terminals.all();

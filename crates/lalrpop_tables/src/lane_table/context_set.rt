@@ -70,7 +70,8 @@ impl ContextSet {
     /// Columns without tokens.
     pub fn new(alloc: Global, count: usize) -> Result<ContextSet, OutOfMemory>
         ensures counted { IfOk result (λ set. length set ≡ count) }
-        ensures empty { IfOk result (λ set. (k : ℕ) (column : Bits) → slice_get set k ≡ Some column → column ≡ no_bits) }
+        ensures empty { IfOk result
+            (λ set. (k : ℕ) (column : Bits) → slice_get set k ≡ Some column → column ≡ no_bits) }
     {
         let mut values = Vec::new(alloc);
         for _column in 0..count {
@@ -88,7 +89,8 @@ impl ContextSet {
         requires counted { length first.now ≡ length second.now }
         ensures joined { IfOk result (IsUnion first.now second.now) }
         ensures apart { IfOk result (λ _. ¬ MeetInUnion first.now second.now) }
-        ensures overlapping { IfErr result (λ error. error ≡ Overlapping → MeetInUnion first.now second.now) }
+        ensures overlapping { IfErr result
+            (λ error. error ≡ Overlapping → MeetInUnion first.now second.now) }
     {
         let mut union = first.clone(alloc)?;
         for (index, column) in second.values.iter().enumerate() {
@@ -97,7 +99,8 @@ impl ContextSet {
         Ok(union)
     }
 
-    /// Joins tokens to a column, unless another column has one of them; tells whether the column grew.
+    /// Joins tokens to a column, unless another column has one of them; tells whether the column
+    /// grew.
     pub fn insert(
         &mut self,
         index: ConflictIndex,
@@ -106,9 +109,11 @@ impl ContextSet {
         requires there { index.index < length self.old }
         ensures joined { OnOk result (IsJoinedIn index.index tokens.now self.old self.new) }
         ensures counted { length self.new ≡ length self.old }
-        ensures told { IfOk result (λ grew. MatchBool grew (self.new ≢ self.old) (self.new ≡ self.old)) }
+        ensures told { IfOk result
+            (λ grew. MatchBool grew (self.new ≢ self.old) (self.new ≡ self.old)) }
         ensures apart { OnOk result (¬ MeetsOther self.old index.index tokens.now) }
-        ensures overlapping { IfErr result (λ error. error ≡ Overlapping → MeetsOther self.old index.index tokens.now) }
+        ensures overlapping { IfErr result
+            (λ error. error ≡ Overlapping → MeetsOther self.old index.index tokens.now) }
         ensures err { OnErr result (self.new ≡ self.old) }
     {
         if self.meets_other(index, tokens) {
@@ -131,7 +136,8 @@ impl ContextSet {
         false
     }
 
-    /// Gives each reduction of a state the tokens of its action, of which there is one for each column.
+    /// Gives each reduction of a state the tokens of its action, of which there is one for each
+    /// column.
     pub fn apply<'grammar>(
         &self,
         alloc: Global,
@@ -157,7 +163,8 @@ impl ContextSet {
     ) -> Result<Vec<(TokenSet, &'grammar Production)>, OutOfMemory>
         requires counted { length self.now ≡ length actions.now.keys }
         requires among { AreReducedAmong actions.now.keys reductions.now }
-        ensures { IfOk result (λ given. TookColumns actions.now.keys self.now reductions.now given.items) }
+        ensures { IfOk result
+            (λ given. TookColumns actions.now.keys self.now reductions.now given.items) }
     {
         let mut given = Vec::new(alloc);
         for (_tokens, production) in reductions {

@@ -56,7 +56,8 @@ impl<'trace, 'grammar, L> LaneTracer<'trace, 'grammar, L> {
         requires firsts { first_sets.now ≡ rules_of grammar.now }
         requires graph { IsGraphOf (edges states.now) state_graph.now }
         ensures ready { IsReadyToTrace result }
-        ensures over { (result.grammar.now ≡ grammar.now) × (result.start ≡ start) × (result.states.now ≡ states.now) }
+        ensures over { (result.grammar.now ≡ grammar.now) × (result.start ≡ start) ×
+            (result.states.now ≡ states.now) }
         ensures empty { IsEmptyTable result.table }
         ensures columns { result.table.conflicts ≡ conflicts }
     {
@@ -70,8 +71,8 @@ impl<'trace, 'grammar, L> LaneTracer<'trace, 'grammar, L> {
         }
     }
 
-    /// Traces an action of a state into a column: a shift has its terminal there, a reduction the tokens of its lane.
-    /// After want of memory the table may hold a part of the lane.
+    /// Traces an action of a state into a column: a shift has its terminal there, a reduction the
+    /// tokens of its lane. After want of memory the table may hold a part of the lane.
     pub fn start_trace(
         &mut self,
         alloc: Global,
@@ -83,9 +84,13 @@ impl<'trace, 'grammar, L> LaneTracer<'trace, 'grammar, L> {
         requires there { conflict.index < self.old.table.conflicts }
         requires own { ReducesOwn (productions self.old.grammar.now) action }
         requires listed { state.0 < length self.old.states.now }
-        ensures traced { OnOk result (TakesAction (rules_of self.old.grammar.now) self.old.start (places_in self.old.states.now) state conflict.index action.entry self.old.table self.new.table) }
+        ensures traced { OnOk result (TakesAction (rules_of self.old.grammar.now) self.old.start
+            (places_in self.old.states.now) state conflict.index action.entry self.old.table
+            self.new.table) }
         ensures ready { IsReadyToTrace self.new }
-        ensures over { (self.new.grammar.now ≡ self.old.grammar.now) × (self.new.start ≡ self.old.start) × (self.new.states.now ≡ self.old.states.now) × (self.new.table.conflicts ≡ self.old.table.conflicts) }
+        ensures over { (self.new.grammar.now ≡ self.old.grammar.now) ×
+            (self.new.start ≡ self.old.start) × (self.new.states.now ≡ self.old.states.now) ×
+            (self.new.table.conflicts ≡ self.old.table.conflicts) }
     {
         match action {
             Action::Shift(terminal, _) => {
@@ -122,7 +127,8 @@ fn shifted(
     terminals: &TerminalSet,
     terminal: TerminalString,
 ) -> Result<TokenSet, OutOfMemory>
-    ensures { IfOk result (λ set. (bit : ℕ) → (has set bit ≡ true) ↔ (slice_get terminals.now bit ≡ Some terminal)) }
+    ensures { IfOk result
+        (λ set. (bit : ℕ) → (has set bit ≡ true) ↔ (slice_get terminals.now bit ≡ Some terminal)) }
 {
     match terminals.bit(&terminal) {
         Some(_) => Ok(TokenSet::of(alloc, Token::Terminal(terminal), terminals)?),

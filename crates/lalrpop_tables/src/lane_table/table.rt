@@ -1,4 +1,5 @@
-//! The lane table: a row for each state that a trace goes through, a column for each action that is traced.
+//! The lane table: a row for each state that a trace goes through, a column for each action that is
+//! traced.
 mod beachheads;
 mod closed;
 pub mod rows;
@@ -21,6 +22,7 @@ use lalrpop_base::memory::OutOfMemory;
 use lalrpop_base::repr::grammar::Grammar;
 use std::alloc::Global;
 use std::collections::BTreeMap;
+use std::fmt;
 
 /// The tokens that each state contributes to each action, and the states behind which these stand.
 #[derive(Drop)]
@@ -31,6 +33,16 @@ pub struct LaneTable<'grammar> {
     successors: Multimap<StateIndex, Set<StateIndex>>,
     alloc: Global,
     ghost in_range: { AreBelow conflicts lookaheads.entries },
+}
+
+impl<'grammar> fmt::Debug for LaneTable<'grammar> {
+    fn fmt<W: fmt::Write>(&self, f: &mut fmt::Formatter<W>) -> fmt::Result {
+        write!(
+            f,
+            "cells {:?}, successors {:?}",
+            self.lookaheads, self.successors
+        )
+    }
 }
 
 impl<'grammar> LaneTable<'grammar> {
@@ -90,7 +102,8 @@ impl<'grammar> LaneTable<'grammar> {
     pub fn columns(&self, alloc: Global) -> Result<ContextSet, OverlappingLookahead>
         ensures columns { IfOk result (AreColumns self.now) }
         ensures disjoint { IfOk result AreDisjoint }
-        ensures overlapping { IfErr result (λ error. error ≡ Overlapping → ColumnsOverlap self.now) }
+        ensures overlapping { IfErr result
+            (λ error. error ≡ Overlapping → ColumnsOverlap self.now) }
     {
         let mut columns = ContextSet::new(alloc, self.conflicts)?;
         for ((_state, conflict), tokens) in self.lookaheads.iter() {
@@ -101,7 +114,8 @@ impl<'grammar> LaneTable<'grammar> {
 
     /// The successors of a state that has an entry.
     pub fn successors(&self, state: StateIndex) -> Option<&Set<StateIndex>>
-        ensures exactly { IfSome result (λ set. (right : State) → Contains set.now.keys right ↔ IsSuccessor self.now state right) }
+        ensures exactly { IfSome result (λ set. (right : State) →
+            Contains set.now.keys right ↔ IsSuccessor self.now state right) }
         ensures none { IsNone result → (right : State) → ¬ IsSuccessor self.now state right }
         ensures entry { IsSome result ↔ Contains (keys_of self.now.successors) state }
     {
@@ -117,7 +131,8 @@ impl<'grammar> LaneTable<'grammar> {
     ) -> Result<ContextSet, OverlappingLookahead>
         ensures row { IfOk result (IsRow self.now state) }
         ensures disjoint { IfOk result AreDisjoint }
-        ensures overlapping { IfErr result (λ error. error ≡ Overlapping → RowOverlaps self.now state) }
+        ensures overlapping { IfErr result
+            (λ error. error ≡ Overlapping → RowOverlaps self.now state) }
     {
         let mut columns = ContextSet::new(alloc, self.conflicts)?;
         for ((row, conflict), tokens) in self.lookaheads.iter() {
@@ -136,7 +151,8 @@ fn join_at(
     cell: (StateIndex, ConflictIndex),
     tokens: &TokenSet,
 ) -> Result<bool, OutOfMemory>
-    ensures joined { IfOk result (λ told. IsJoinedAt cell tokens.now told cells.old.entries cells.new.entries) }
+    ensures joined { IfOk result
+        (λ told. IsJoinedAt cell tokens.now told cells.old.entries cells.new.entries) }
     ensures err { OnErr result (cells.new.entries ≡ cells.old.entries) }
 {
     if let Some(known) = cells.get_mut(&cell) {

@@ -1,4 +1,5 @@
-//! Words in the construction of states: what follows an item, of the tokens whose bits are below 64.
+//! Words in the construction of states: what follows an item, of the tokens whose bits are below
+//! 64.
 ghost use Rattle.std.specs.Prelude.{◌≡◌, ◌^◌, ◌<◌, ◌≤◌, bit_or, length, IfOk, IfSome, MatchBool, slice_get, None, Some};
 ghost use Rattle.lalrpop_base.specs.Bits.{has};
 ghost use Rattle.lalrpop_base.specs.Grammar.{IsNullable};
@@ -27,7 +28,8 @@ fn with_terminal(
 ) -> Result<Word, OutOfMemory>
     requires place { slice_get terminals.now bit ≡ Some terminal.now }
     requires low { bit < 64 }
-    ensures { IfOk result (λ new. MatchBool (has set.now bit) (new.bits ≡ bit_or word.bits (2 ^ bit)) (new ≡ word)) }
+    ensures { IfOk result
+        (λ new. MatchBool (has set.now bit) (new.bits ≡ bit_or word.bits (2 ^ bit)) (new ≡ word)) }
 {
     let _all = terminals.all();
     let token = Token::Terminal(terminal.clone(alloc)?);
@@ -54,7 +56,8 @@ fn word_of(alloc: Global, set: &TokenSet, terminals: &TerminalSet) -> Result<Wor
     Ok(word)
 }
 
-// What follows where the symbols are nullable and the lookahead stands behind them, else the symbols' own.
+// What follows where the symbols are nullable and the lookahead stands behind them, else the
+// symbols' own.
 fn followed(word: Word, nullable: bool, lookahead: Word) -> Word
     ensures { MatchBool nullable (result.bits ≡ bit_or word.bits lookahead.bits) (result ≡ word) }
 {

@@ -41,7 +41,8 @@ fn add_shift_conflicts<'grammar>(
     reductions: &[(Word, &'grammar Production)],
     terminals: &TerminalSet,
 ) -> Result<(), OutOfMemory>
-    ensures { OnOk result (list.new.items ≡ list.old.items ++ flat_map (shift_conflicts terminals.now state reductions.now) shifts.now.entries) }
+    ensures { OnOk result (list.new.items ≡ list.old.items ++ flat_map
+        (shift_conflicts terminals.now state reductions.now) shifts.now.entries) }
 {
     for (terminal, target) in shifts.iter() {
         let bit = terminals.bit(terminal);
@@ -60,7 +61,8 @@ fn add_conflicts_on<'grammar>(
     reductions: &[(Word, &'grammar Production)],
     bit: Option<usize>,
 ) -> Result<(), OutOfMemory>
-    ensures { OnOk result (list.new.items ≡ list.old.items ++ conflicts_on_place state terminal.now target reductions.now bit) }
+    ensures { OnOk result (list.new.items ≡ list.old.items ++ conflicts_on_place state terminal.now
+        target reductions.now bit) }
 {
     let Some(bit) = bit else {
         return Ok(());
@@ -81,7 +83,8 @@ fn add_conflict_on<'grammar>(
     reduction: &(Word, &'grammar Production),
     bit: usize,
 ) -> Result<(), OutOfMemory>
-    ensures { OnOk result (list.new.items ≡ list.old.items ++ conflicts_on_bit state terminal.now target (reduction.now ∷ []) bit) }
+    ensures { OnOk result (list.new.items ≡ list.old.items ++ conflicts_on_bit state terminal.now
+        target (reduction.now ∷ []) bit) }
 {
     if !reduction.0.holds(bit) {
         return Ok(());
@@ -101,7 +104,8 @@ fn add_reduce_conflicts<'grammar>(
     state: StateIndex,
     reductions: &[(Word, &'grammar Production)],
 ) -> Result<(), OutOfMemory>
-    ensures { OnOk result (list.new.items ≡ list.old.items ++ reduce_conflicts state reductions.now) }
+    ensures { OnOk result
+        (list.new.items ≡ list.old.items ++ reduce_conflicts state reductions.now) }
 {
     for place in 0..reductions.len() {
         let later = &reductions[place + 1..];
@@ -117,7 +121,8 @@ fn add_later_conflicts<'grammar>(
     reduction: &(Word, &'grammar Production),
     later: &[(Word, &'grammar Production)],
 ) -> Result<(), OutOfMemory>
-    ensures { OnOk result (list.new.items ≡ list.old.items ++ later_conflicts state reduction.now later.now) }
+    ensures { OnOk result
+        (list.new.items ≡ list.old.items ++ later_conflicts state reduction.now later.now) }
 {
     for other in later {
         add_conflict_of(list, state, reduction, other)?;
@@ -132,7 +137,8 @@ fn add_conflict_of<'grammar>(
     first: &(Word, &'grammar Production),
     second: &(Word, &'grammar Production),
 ) -> Result<(), OutOfMemory>
-    ensures { OnOk result (list.new.items ≡ list.old.items ++ later_conflicts state first.now (second.now ∷ [])) }
+    ensures { OnOk result
+        (list.new.items ≡ list.old.items ++ later_conflicts state first.now (second.now ∷ [])) }
 {
     let shared = first.0.intersection(second.0);
     if shared.bits == 0 {

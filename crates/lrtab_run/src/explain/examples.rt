@@ -24,7 +24,9 @@ pub(crate) fn push_first<'grammar>(
     state: StateIndex,
     item: &Lr1Item<'grammar>,
 ) -> Result<(), OutOfMemory>
-    ensures { OnOk result (Grows (AreShiftExamples ground.now.first_sets.now ground.now.states.now state item.now) (string_bytes text.old) (string_bytes text.new)) }
+    ensures { OnOk result (Grows
+        (AreShiftExamples ground.now.first_sets.now ground.now.states.now state item.now)
+        (string_bytes text.old) (string_bytes text.new)) }
 {
     let begun = Item::lr0(item.production, item.index);
     let graph = ground.tracer.backtrace_shift(alloc, state, begun)?;
@@ -33,7 +35,8 @@ pub(crate) fn push_first<'grammar>(
     Ok(())
 }
 
-/// Appends the first examples of a finished item in a state that go on with a token of its lookahead.
+/// Appends the first examples of a finished item in a state that go on with a token of its
+/// lookahead.
 pub(crate) fn push_meeting<'grammar>(
     alloc: Global,
     text: &mut String,
@@ -43,7 +46,9 @@ pub(crate) fn push_meeting<'grammar>(
 ) -> Result<(), OutOfMemory>
     requires states { AreOwnStates ground.now.first_sets.now ground.now.states.now }
     requires item { Contains ground.now.first_sets.now.productions item.now.production }
-    ensures { OnOk result (Grows (AreReduceExamples ground.now.first_sets.now ground.now.states.now state item.now) (string_bytes text.old) (string_bytes text.new)) }
+    ensures { OnOk result (Grows
+        (AreReduceExamples ground.now.first_sets.now ground.now.states.now state item.now)
+        (string_bytes text.old) (string_bytes text.new)) }
 {
     let finished = Item::lr0(item.production, item.index);
     let graph = ground.tracer.backtrace_reduce(alloc, state, finished)?;
@@ -55,7 +60,8 @@ pub(crate) fn push_meeting<'grammar>(
 // Appends the first examples of a walk.
 fn push_walk(text: &mut String, mut walk: PathEnumerator<'_, '_>) -> Result<(), OutOfMemory>
     requires { walk.refused ≡ false }
-    ensures { OnOk result (string_bytes text.new ≡ string_bytes text.old ++ path_lines walk.entry.graph.now (take 3 (to_come walk.entry))) }
+    ensures { OnOk result (string_bytes text.new ≡ string_bytes text.old ++ path_lines
+        walk.entry.graph.now (take 3 (to_come walk.entry))) }
 {
     let mut left = MOST;
     while left > 0 {
@@ -75,7 +81,8 @@ fn push_filtered(
 ) -> Result<(), OutOfMemory>
     requires known { AreKnownEdges walk.first_sets.now.terminals walk.base.graph.now.edges }
     requires refused { walk.base.refused ≡ false }
-    ensures { OnOk result (Grows (AreFirstLines walk.entry) (string_bytes text.old) (string_bytes text.new)) }
+    ensures { OnOk result
+        (Grows (AreFirstLines walk.entry) (string_bytes text.old) (string_bytes text.new)) }
 {
     let mut left = MOST;
     while left > 0 {

@@ -18,7 +18,8 @@ pub(crate) fn push_head(
     conflict: &Lr1Conflict<'_>,
     terminals: &TerminalSet,
 ) -> Result<(), OutOfMemory>
-    ensures { OnOk result (string_bytes text.new ≡ string_bytes text.old ++ head_line number conflict.now.state (tokens_in terminals.now conflict.now.lookahead)) }
+    ensures { OnOk result (string_bytes text.new ≡ string_bytes text.old ++ head_line number
+        conflict.now.state (tokens_in terminals.now conflict.now.lookahead)) }
 {
     let state = conflict.state;
     write!(text, "conflict {number} in state {state} on")?;
@@ -33,7 +34,8 @@ fn push_tokens(
     set: &TokenSet,
     terminals: &TerminalSet,
 ) -> Result<(), OutOfMemory>
-    ensures { OnOk result (string_bytes text.new ≡ string_bytes text.old ++ tokens_text (tokens_in terminals.now set.now)) }
+    ensures { OnOk result (string_bytes text.new ≡ string_bytes text.old ++ tokens_text
+        (tokens_in terminals.now set.now)) }
 {
     if set.print(terminals, text).is_err() {
         return Err(OutOfMemory);
@@ -43,7 +45,8 @@ fn push_tokens(
 
 /// Appends the line of a production.
 pub(crate) fn push_production(text: &mut String, production: &Production) -> Result<(), OutOfMemory>
-    ensures { OnOk result (string_bytes text.new ≡ string_bytes text.old ++ production_line production.now) }
+    ensures { OnOk result
+        (string_bytes text.new ≡ string_bytes text.old ++ production_line production.now) }
 {
     write!(text, "{} ->", production.nonterminal)?;
     push_symbols(text, production.symbols.as_slice())?;
@@ -53,7 +56,8 @@ pub(crate) fn push_production(text: &mut String, production: &Production) -> Res
 
 // Appends symbols, each behind a space.
 fn push_symbols(text: &mut String, symbols: &[Symbol]) -> Result<(), OutOfMemory>
-    ensures { OnOk result (string_bytes text.new ≡ string_bytes text.old ++ symbols_text symbols.now) }
+    ensures { OnOk result
+        (string_bytes text.new ≡ string_bytes text.old ++ symbols_text symbols.now) }
 {
     for symbol in symbols {
         write!(text, " {symbol}")?;
@@ -64,7 +68,8 @@ fn push_symbols(text: &mut String, symbols: &[Symbol]) -> Result<(), OutOfMemory
 /// Appends the line of an example.
 pub(crate) fn push_example(text: &mut String, example: &Example) -> Result<(), OutOfMemory>
     requires { example.now.cursor ≤ length example.now.symbols.items }
-    ensures { OnOk result (string_bytes text.new ≡ string_bytes text.old ++ marked_line example.now.symbols.items example.now.cursor) }
+    ensures { OnOk result (string_bytes text.new ≡ string_bytes text.old ++ marked_line
+        example.now.symbols.items example.now.cursor) }
 {
     let (before, behind) = example.symbols.split_at(example.cursor);
     text.push_str("   ")?;
@@ -77,7 +82,8 @@ pub(crate) fn push_example(text: &mut String, example: &Example) -> Result<(), O
 
 // Appends the symbols of an example, each behind a space.
 fn push_words(text: &mut String, symbols: &[ExampleSymbol]) -> Result<(), OutOfMemory>
-    ensures { OnOk result (string_bytes text.new ≡ string_bytes text.old ++ words_text symbols.now) }
+    ensures { OnOk result
+        (string_bytes text.new ≡ string_bytes text.old ++ words_text symbols.now) }
 {
     for symbol in symbols {
         push_word(text, symbol)?;
@@ -85,7 +91,8 @@ fn push_words(text: &mut String, symbols: &[ExampleSymbol]) -> Result<(), OutOfM
     Ok(())
 }
 
-// Appends a symbol of an example behind a space. The place of a right side without symbols isn't shown.
+// Appends a symbol of an example behind a space. The place of a right side without symbols isn't
+// shown.
 fn push_word(text: &mut String, symbol: &ExampleSymbol) -> Result<(), OutOfMemory>
     ensures { OnOk result (string_bytes text.new ≡ string_bytes text.old ++ word_text symbol.now) }
 {

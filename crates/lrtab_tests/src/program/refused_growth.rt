@@ -9,8 +9,9 @@ use std::alloc::Global;
 use std::process::Abort;
 use std::test::Fail;
 
-// Runs the program over and over on a text, where each run is refused a growth later than the one before, up to the first that does
-// not tell of it. That one answers `wanted` and the status; each before it tells `out of memory` and nothing else.
+// Runs the program over and over on a text, where each run is refused a growth later than the one
+// before, up to the first that does not tell of it. That one answers `wanted` and the status; each
+// before it tells `out of memory` and nothing else.
 fn each_growth_refused(
     rt: &impl Abort,
     alloc: Global,

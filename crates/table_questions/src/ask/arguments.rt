@@ -62,7 +62,8 @@ fn set_number(place: &mut usize, digits: &str) -> bool {
     }
 }
 
-/// The symbols that words stand for, whose terminals are of the set. The first word is the argument with a number.
+/// The symbols that words stand for, whose terminals are of the set. The first word is the argument
+/// with a number.
 pub fn known_symbols(
     alloc: Global,
     words: &[&str],
@@ -110,7 +111,8 @@ fn have_known_terminals(symbols: &[Symbol], terminals: &TerminalSet) -> bool
     true
 }
 
-// The token that a word stands for: `Eof`, `Error`, or a literal of the set. The word is the argument with a number.
+// The token that a word stands for: `Eof`, `Error`, or a literal of the set. The word is the
+// argument with a number.
 fn known_token(
     alloc: Global,
     word: &str,
@@ -135,8 +137,8 @@ fn known_token(
     }
 }
 
-/// The set of the tokens that arguments name, from one number to before another. `All` is each terminal and `Eof`, and
-/// the option `collapsed` is none.
+/// The set of the tokens that arguments name, from one number to before another. `All` is each
+/// terminal and `Eof`, and the option `collapsed` is none.
 pub fn tokens_between(
     alloc: Global,
     question: &Question<'_>,
@@ -157,7 +159,8 @@ pub fn tokens_between(
     Ok(tokens)
 }
 
-/// The number of the first argument, from one number to before another, that is a comma; else the latter.
+/// The number of the first argument, from one number to before another, that is a comma; else the
+/// latter.
 pub fn piece_end(question: &Question<'_>, from: usize, to: usize) -> usize {
     for number in from..to {
         if let Ok(word) = question.argument(number)

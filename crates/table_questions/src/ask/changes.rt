@@ -8,7 +8,8 @@ use lalrpop_base::repr::terminals::TerminalSet;
 use std::alloc::Global;
 use std::collections::BTreeMap;
 
-/// Makes the changes that the arguments from a number on name, in turn. A comma stands between two of them.
+/// Makes the changes that the arguments from a number on name, in turn. A comma stands between two
+/// of them.
 pub fn change_states(
     alloc: Global,
     question: &Question<'_>,
@@ -66,8 +67,8 @@ fn state_at<'states, 'grammar>(
     }
 }
 
-// Adds a state without anything, with the items of another, or with all of it. Answers the number behind its words, as
-// do the functions below.
+// Adds a state without anything, with the items of another, or with all of it. Answers the number
+// behind its words, as do the functions below.
 fn add(
     alloc: Global,
     question: &Question<'_>,
@@ -130,7 +131,8 @@ fn change_edge(
     Ok(fourth)
 }
 
-// Takes the reductions or the last item of a state away, or has its reductions or items stand twice.
+// Takes the reductions or the last item of a state away, or has its reductions or items stand
+// twice.
 fn change_list(
     alloc: Global,
     question: &Question<'_>,

@@ -54,8 +54,8 @@ fn check(alloc: Global, question: &Question<'_>, grammar: &Grammar) -> Result<St
     }
 }
 
-// The start symbol that the check is asked for, and the number of the first argument behind it: another than that of the
-// tables where `for` stands before it.
+// The start symbol that the check is asked for, and the number of the first argument behind it:
+// another than that of the tables where `for` stands before it.
 fn start_asked(
     alloc: Global,
     question: &Question<'_>,
@@ -84,7 +84,8 @@ fn passes<'grammar>(
     Ok(Some(check_tables(alloc, grammar, start, states)?))
 }
 
-/// The states that a way of construction makes, also those of an error. The way is the second argument.
+/// The states that a way of construction makes, also those of an error. The way is the second
+/// argument.
 pub fn states_by<'grammar>(
     alloc: Global,
     grammar: &'grammar Grammar,

@@ -4,7 +4,8 @@ use lalrpop_base::lr1_core::item::{Item, Lr0Item};
 use lalrpop_base::repr::Production;
 use lalrpop_base::repr::grammar::Grammar;
 
-/// The item that an argument, or a part of it, names: the number of an action, a point and the place of the dot.
+/// The item that an argument, or a part of it, names: the number of an action, a point and the
+/// place of the dot.
 pub fn item_of<'grammar>(
     grammar: &'grammar Grammar,
     word: &str,

@@ -98,7 +98,8 @@ pub fn traces_of<'grammar>(
     })
 }
 
-// Appends the tokens of each action in the row of each state, as tracing that action alone leaves them.
+// Appends the tokens of each action in the row of each state, as tracing that action alone leaves
+// them.
 fn push_cells(alloc: Global, text: &mut String, traces: &Traces<'_>) -> Result<(), QuestionError>
     requires { AreReady traces.now }
 {

@@ -55,7 +55,8 @@ fn merge(alloc: Global, question: &Question<'_>, grammar: &Grammar) -> Result<St
     Ok(text)
 }
 
-// Appends how many states there are, and the reductions of the state that was traced and of all copies.
+// Appends how many states there are, and the reductions of the state that was traced and of all
+// copies.
 fn push_merged(
     text: &mut String,
     states: &[Lr1State<'_>],
@@ -98,7 +99,8 @@ fn merge_of<'table, 'grammar>(
     Ok(merge)
 }
 
-// Walks from each state where lanes begin, up to the first that is refused, and tells whether none is.
+// Walks from each state where lanes begin, up to the first that is refused, and tells whether none
+// is.
 fn start_all(
     alloc: Global,
     text: &mut String,

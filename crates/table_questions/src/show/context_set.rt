@@ -1,4 +1,5 @@
-//! Context sets: the tokens of each column. A column is seen by what an insertion into a copy answers.
+//! Context sets: the tokens of each column. A column is seen by what an insertion into a copy
+//! answers.
 ghost use Rattle.std.specs.Prelude.{◌≡◌, ◌<◌, length};
 
 use super::words::push_tokens;

@@ -14,7 +14,8 @@ pub fn push_state_list(text: &mut String, states: &[StateIndex]) -> Result<(), O
     Ok(())
 }
 
-/// Appends the numbers of a set of states, ascending, each behind a space, and a hyphen where there are none.
+/// Appends the numbers of a set of states, ascending, each behind a space, and a hyphen where there
+/// are none.
 pub fn push_state_set(text: &mut String, states: &Set<StateIndex>) -> Result<(), OutOfMemory> {
     if states.is_empty() {
         text.push_str(" -")?;

@@ -28,8 +28,8 @@ pub fn push_actions(text: &mut String, actions: &Set<Action<'_>>) -> Result<(), 
     Ok(())
 }
 
-/// Appends what the calls of a lane table tell: successors, columns, rows, the states where lanes begin, and whether
-/// the table is closed over so many states.
+/// Appends what the calls of a lane table tell: successors, columns, rows, the states where lanes
+/// begin, and whether the table is closed over so many states.
 pub fn push_lane_table(
     alloc: Global,
     text: &mut String,

@@ -23,7 +23,8 @@ pub fn push_list(text: &mut String, symbols: &[Symbol]) -> Result<(), OutOfMemor
     push_symbols(text, symbols)
 }
 
-/// Appends the tokens of a set by rising bit, each behind a space, and a hyphen where there are none.
+/// Appends the tokens of a set by rising bit, each behind a space, and a hyphen where there are
+/// none.
 pub fn push_tokens(
     text: &mut String,
     set: &TokenSet,

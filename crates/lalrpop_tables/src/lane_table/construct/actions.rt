@@ -18,7 +18,9 @@ fn add_conflicts<'grammar>(
     conflicts: Vec<Lr1Conflict<'grammar>>,
     actions: &mut Set<Action<'grammar>>,
 ) -> Result<(), OutOfMemory>
-    ensures { OnOk result ((asked : List TheAction) → AreActions asked actions.old.keys → AreActions (asked ++ flat_map conflict_actions conflicts.entry.items) actions.new.keys) }
+    ensures { OnOk result ((asked : List TheAction) →
+        AreActions asked actions.old.keys →
+        AreActions (asked ++ flat_map conflict_actions conflicts.entry.items) actions.new.keys) }
 {
     for conflict in conflicts {
         let Conflict {
@@ -37,7 +39,9 @@ fn add_reductions<'grammar>(
     reductions: &[(TokenSet, &'grammar Production)],
     actions: &mut Set<Action<'grammar>>,
 ) -> Result<(), OutOfMemory>
-    ensures { OnOk result ((asked : List TheAction) → AreActions asked actions.old.keys → AreActions (asked ++ map reduce_action reductions.now) actions.new.keys) }
+    ensures { OnOk result ((asked : List TheAction) →
+        AreActions asked actions.old.keys →
+        AreActions (asked ++ map reduce_action reductions.now) actions.new.keys) }
 {
     for reduction in reductions {
         actions.insert(Action::Reduce(reduction.1))?;
@@ -51,7 +55,8 @@ pub(super) fn actions_of<'grammar>(
     state: &Lr1State<'grammar>,
     terminals: &TerminalSet,
 ) -> Result<Set<Action<'grammar>>, OutOfMemory>
-    ensures actions { IfOk result (λ actions. AreActions (asked_actions terminals.now state.now) actions.keys) }
+    ensures actions { IfOk result
+        (λ actions. AreActions (asked_actions terminals.now state.now) actions.keys) }
     ensures ascend { IfOk result (λ actions. ActionsAscend actions.keys) }
 {
     let mut actions = Set::new(alloc);

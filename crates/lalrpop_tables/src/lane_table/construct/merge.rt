@@ -1,5 +1,5 @@
-//! The merging of states: those of a lane table are joined along its successors where their tokens agree, and
-//! copied where they do not.
+//! The merging of states: those of a lane table are joined along its successors where their tokens
+//! agree, and copied where they do not.
 mod context_sets;
 mod copies;
 mod walk;
@@ -48,8 +48,8 @@ impl From<OutOfMemory> for MergeError {
     }
 }
 
-/// The states of a table while those of a lane table are merged. The number of a copy stands behind those of all
-/// states before it.
+/// The states of a table while those of a lane table are merged. The number of a copy stands behind
+/// those of all states before it.
 #[derive(Drop)]
 pub struct Merge<'table, 'grammar> {
     table: &'table LaneTable<'grammar>,
@@ -73,12 +73,18 @@ impl<'table, 'grammar> Merge<'table, 'grammar> {
     ) -> Result<Self, OutOfMemory>
         requires coherent { AreCoherent states.items }
         requires closed { IsClosed (length states.items) table.now }
-        requires rows { (state : Number) → Contains (keys_of rows.entries) state ↔ HasRow table.now state }
-        requires each { (state : Number) (row : List Bits) → Contains rows.entries (state, row) → IsRow table.now state row × AreDisjoint row }
+        requires rows { (state : Number) →
+            Contains (keys_of rows.entries) state ↔ HasRow table.now state }
+        requires each { (state : Number) (row : List Bits) →
+            Contains rows.entries (state, row) →
+            IsRow table.now state row × AreDisjoint row }
         requires start { HasRow table.now inconsistent_state }
         ensures ready { IfOk result IsMerging }
-        ensures over { IfOk result (λ merge. (merge.table.now ≡ table.now) × (merge.inconsistent_state ≡ inconsistent_state) × (merge.copies_left ≡ copies_left) × (merge.states ≡ states.entry)) }
-        ensures copies { IfOk result (λ merge. AreCopies true states.entry.items merge.originals.items merge.states.items) }
+        ensures over { IfOk result (λ merge. (merge.table.now ≡ table.now) ×
+            (merge.inconsistent_state ≡ inconsistent_state) × (merge.copies_left ≡ copies_left) ×
+            (merge.states ≡ states.entry)) }
+        ensures copies { IfOk result
+            (λ merge. AreCopies true states.entry.items merge.originals.items merge.states.items) }
     {
         let count = states.len();
         let context_sets = ContextSets::new(alloc, rows)?;
@@ -102,7 +108,8 @@ impl<'table, 'grammar> Merge<'table, 'grammar> {
         self.table.has_row(state)
     }
 
-    /// Whether there is an action for each column, and each reduction of the inconsistent state is among them.
+    /// Whether there is an action for each column, and each reduction of the inconsistent state is
+    /// among them.
     pub fn is_patchable(&self, actions: &Set<Action<'grammar>>) -> bool
         requires { IsMerging self.now }
         ensures { IsTrue result ↔ IsPatchable actions.now.keys self.now }
@@ -113,8 +120,8 @@ impl<'table, 'grammar> Merge<'table, 'grammar> {
         are_among(actions, &self.states[self.inconsistent_state.0].reductions)
     }
 
-    /// Walks from a state with a row, which was not joined to others yet. After an error the copies that were made
-    /// stay, as do changed edges.
+    /// Walks from a state with a row, which was not joined to others yet. After an error the copies
+    /// that were made stay, as do changed edges.
     pub fn start(&mut self, alloc: Global, beachhead_state: StateIndex) -> Result<(), MergeError>
         requires ready { IsMerging self.old }
         requires row { HasRow self.old.table.now beachhead_state }
@@ -126,8 +133,8 @@ impl<'table, 'grammar> Merge<'table, 'grammar> {
         self.walk(alloc, beachhead_state)
     }
 
-    /// Gives each reduction of the inconsistent state, and of its copies, the tokens of its action in the set of its
-    /// state. After want of memory some of these states are patched.
+    /// Gives each reduction of the inconsistent state, and of its copies, the tokens of its action
+    /// in the set of its state. After want of memory some of these states are patched.
     pub fn patch_target_starts(
         &mut self,
         alloc: Global,
@@ -137,11 +144,16 @@ impl<'table, 'grammar> Merge<'table, 'grammar> {
         requires patchable { IsPatchable actions.now.keys self.old }
         ensures ready { IsMerging self.new }
         ensures coherent { AreCoherent self.new.states.items }
-        ensures copies { (exact : Bool) (handed : List (State Bits)) → AreCopies exact handed self.old.originals.items self.old.states.items → AreCopies false handed self.new.originals.items self.new.states.items }
-        ensures others { (n : ℕ) → (slice_get self.old.originals.items n ≡ Some self.old.inconsistent_state.0 → ⊥) → slice_get self.new.states.items n ≡ slice_get self.old.states.items n }
+        ensures copies { (exact : Bool) (handed : List (State Bits)) →
+            AreCopies exact handed self.old.originals.items self.old.states.items →
+            AreCopies false handed self.new.originals.items self.new.states.items }
+        ensures others { (n : ℕ) →
+            (slice_get self.old.originals.items n ≡ Some self.old.inconsistent_state.0 → ⊥) →
+            slice_get self.new.states.items n ≡ slice_get self.old.states.items n }
         ensures same { self.new ≡ record self.old { states = self.new.states } }
         ensures counted { length self.new.states.items ≡ length self.old.states.items }
-        ensures taken { OnOk result ((n : ℕ) → TookOwnColumns actions.now.keys self.old self.new n) }
+        ensures taken { OnOk result
+            ((n : ℕ) → TookOwnColumns actions.now.keys self.old self.new n) }
         ensures resolved { OnOk result ((n : ℕ) → IsResolvedCopy self.new n) }
     {
         let count = self.states.len();
@@ -154,7 +166,10 @@ impl<'table, 'grammar> Merge<'table, 'grammar> {
     /// The states, copies behind all others.
     pub fn into_states(self) -> Vec<Lr1State<'grammar>>
         ensures states { result ≡ self.entry.states }
-        ensures copying { (exact : Bool) (handed : List (State Bits)) (terminals : List Terminal) → AreCopies exact handed self.entry.originals.items result.items → IsCopying (number_in self.entry.originals.items) (contents terminals handed) (contents terminals result.items) }
+        ensures copying { (exact : Bool) (handed : List (State Bits)) (terminals : List Terminal) →
+            AreCopies exact handed self.entry.originals.items result.items →
+            IsCopying (number_in self.entry.originals.items) (contents terminals handed)
+            (contents terminals result.items) }
     {
         let Merge { states, .. } = self;
         states

@@ -97,7 +97,8 @@ pub(super) fn promote_states<'grammar>(
     states: Vec<Lr0State<'grammar>>,
     all: &TokenSet,
 ) -> Result<Vec<Lr1State<'grammar>>, OutOfMemory>
-    ensures { IfOk result (λ promoted. AllZip (IsPromoted all.now) states.entry.items promoted.items) }
+    ensures { IfOk result
+        (λ promoted. AllZip (IsPromoted all.now) states.entry.items promoted.items) }
 {
     let mut promoted = Vec::new(alloc);
     for state in states {

@@ -18,7 +18,8 @@ use lalrpop_base::lr1_core::state::{Action, Lr1State, StateIndex};
 use lalrpop_base::memory::OutOfMemory;
 use std::alloc::Global;
 
-// Gives each reduction its column, and tells whether no two columns share a token; else the state stays.
+// Gives each reduction its column, and tells whether no two columns share a token; else the state
+// stays.
 fn attempt_lalr<'grammar>(
     alloc: Global,
     state: &mut Lr1State<'grammar>,
@@ -28,7 +29,9 @@ fn attempt_lalr<'grammar>(
     requires in_range { AreInRange table.now }
     requires counted { table.now.conflicts ≡ length actions.now.keys }
     requires among { AreAmong actions.now.keys state.old }
-    ensures attempted { IfOk result (λ done. MatchBool done (IsAttempted actions.now.keys table.now state.old state.new) (ColumnsOverlap table.now × (state.new ≡ state.old))) }
+    ensures attempted { IfOk result (λ done. MatchBool done
+        (IsAttempted actions.now.keys table.now state.old state.new)
+        (ColumnsOverlap table.now × (state.new ≡ state.old))) }
     ensures err { OnErr result (state.new ≡ state.old) }
 {
     match table.columns(alloc) {
@@ -42,8 +45,8 @@ fn attempt_lalr<'grammar>(
 }
 
 impl<'grammar> LaneTableConstruct<'grammar> {
-    /// Gives the reductions of a state the tokens of their lanes, and tells whether no two of its actions share
-    /// one; else the state stays.
+    /// Gives the reductions of a state the tokens of their lanes, and tells whether no two of its
+    /// actions share one; else the state stays.
     pub(super) fn resolve_inconsistencies(
         &self,
         alloc: Global,
@@ -52,12 +55,19 @@ impl<'grammar> LaneTableConstruct<'grammar> {
         inconsistent_state: usize,
     ) -> Result<bool, OutOfMemory>
         requires ready { IsReadyToConstruct self.now }
-        requires lanes { AreLaneStates (rules_of self.now.grammar.now) self.now.start states.old.items }
+        requires lanes { AreLaneStates (rules_of self.now.grammar.now) self.now.start
+            states.old.items }
         requires graph { IsGraphOf (edges states.old.items) graph.now }
         requires listed { inconsistent_state < length states.old.items }
-        requires full { HoldAllFrom self.now.grammar.now.terminals inconsistent_state states.old.items }
-        ensures step { IfOk result (λ _. IsStep inconsistent_state states.old.items states.new.items) }
-        ensures resolved { IfOk result (λ done. MatchBool done (IsResolvedAt (rules_of self.now.grammar.now) self.now.start states.old.items inconsistent_state states.new.items) (LanesMeet (productions self.now.grammar.now) self.now.start (contents self.now.grammar.now.terminals states.new.items) inconsistent_state)) }
+        requires full { HoldAllFrom self.now.grammar.now.terminals inconsistent_state
+            states.old.items }
+        ensures step { IfOk result
+            (λ _. IsStep inconsistent_state states.old.items states.new.items) }
+        ensures resolved { IfOk result (λ done. MatchBool done (IsResolvedAt
+            (rules_of self.now.grammar.now) self.now.start states.old.items inconsistent_state
+            states.new.items) (LanesMeet (productions self.now.grammar.now) self.now.start
+            (contents self.now.grammar.now.terminals states.new.items) inconsistent_state ×
+            (states.new.items ≡ states.old.items))) }
     {
         let grammar = self.grammar;
         let _terminals = grammar.terminals.all();

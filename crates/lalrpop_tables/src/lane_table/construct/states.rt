@@ -19,8 +19,10 @@ impl<'grammar> LaneTableConstruct<'grammar> {
         alloc: Global,
     ) -> Result<Vec<Lr1State<'grammar>>, OutOfMemory>
         requires ready { IsReadyToConstruct self.now }
-        ensures lanes { IfOk result (λ states. AreLaneStates (rules_of self.now.grammar.now) self.now.start states.items) }
-        ensures full { IfOk result (λ states. HoldAllFrom self.now.grammar.now.terminals 0 states.items) }
+        ensures lanes { IfOk result
+            (λ states. AreLaneStates (rules_of self.now.grammar.now) self.now.start states.items) }
+        ensures full { IfOk result
+            (λ states. HoldAllFrom self.now.grammar.now.terminals 0 states.items) }
     {
         let grammar = self.grammar;
         let all = TokenSet::all(alloc, &grammar.terminals)?;
@@ -36,11 +38,15 @@ impl<'grammar> LaneTableConstruct<'grammar> {
         graph: &StateGraph,
     ) -> Result<bool, OutOfMemory>
         requires ready { IsReadyToConstruct self.now }
-        requires lanes { AreLaneStates (rules_of self.now.grammar.now) self.now.start states.old.items }
+        requires lanes { AreLaneStates (rules_of self.now.grammar.now) self.now.start
+            states.old.items }
         requires graph { IsGraphOf (edges states.old.items) graph.now }
         requires full { HoldAllFrom self.now.grammar.now.terminals 0 states.old.items }
-        ensures lanes { OnOk result (AreLaneStates (rules_of self.now.grammar.now) self.now.start states.new.items) }
-        ensures resolved { IfOk result (λ done. MatchBool done (AreLaneTables (rules_of self.now.grammar.now) self.now.start states.new.items) (HaveMeetingLanes (rules_of self.now.grammar.now) self.now.start states.new.items)) }
+        ensures lanes { OnOk result
+            (AreLaneStates (rules_of self.now.grammar.now) self.now.start states.new.items) }
+        ensures resolved { IfOk result (λ done. MatchBool done
+            (AreLaneTables (rules_of self.now.grammar.now) self.now.start states.new.items)
+            (HaveMeetingLanes (rules_of self.now.grammar.now) self.now.start states.new.items)) }
     {
         let grammar = self.grammar;
         let _terminals = grammar.terminals.all();

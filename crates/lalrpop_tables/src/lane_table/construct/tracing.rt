@@ -33,10 +33,13 @@ impl<'grammar> LaneTableConstruct<'grammar> {
         requires own { HaveOwnItems (productions self.now.grammar.now) states.now }
         requires graph { IsGraphOf (edges states.now) graph.now }
         requires listed { inconsistent_state.0 < length states.now }
-        requires reduces { (a : TheAction) → Contains actions.now.keys a → ReducesOwn (productions self.now.grammar.now) a }
+        requires reduces { (a : TheAction) →
+            Contains actions.now.keys a →
+            ReducesOwn (productions self.now.grammar.now) a }
         ensures columns { IfOk result (λ table. table.conflicts ≡ length actions.now.keys) }
         ensures in_range { IfOk result AreInRange }
-        ensures traced { IfOk result (AreTraced (rules_of self.now.grammar.now) self.now.start (places_in states.now) inconsistent_state.0 actions.now.keys) }
+        ensures traced { IfOk result (AreTraced (rules_of self.now.grammar.now) self.now.start
+            (places_in states.now) inconsistent_state.0 actions.now.keys) }
     {
         let grammar = self.grammar;
         let start = self.start.clone(alloc)?;

@@ -55,7 +55,8 @@ fn trace_back<'grammar, L>(
     requires there { conflict.index < table.old.conflicts }
     requires ground { IsGround ground.now }
     requires end { IsEndPlace ground.now first }
-    ensures gains { OnOk result (GainsAll ground.now first.entry conflict.index table.old table.new) }
+    ensures gains { OnOk result
+        (GainsAll ground.now first.entry conflict.index table.old table.new) }
     ensures columns { table.new.conflicts ≡ table.old.conflicts }
     ensures in_range { AreInRange table.old → AreInRange table.new }
 {
@@ -67,7 +68,8 @@ fn trace_back<'grammar, L>(
     Ok(())
 }
 
-/// Takes the lane of a reduction from a state into a column. The cell of the state itself is made first.
+/// Takes the lane of a reduction from a state into a column. The cell of the state itself is made
+/// first.
 pub(crate) fn take_lane<'grammar, L>(
     alloc: Global,
     ground: &Ground<'_, 'grammar, L>,
@@ -80,7 +82,8 @@ pub(crate) fn take_lane<'grammar, L>(
     requires ground { IsGround ground.now }
     requires own { Contains (productions ground.now.grammar.now) production.now }
     requires listed { state.0 < length ground.now.states.now }
-    ensures taken { OnOk result (TakesLane (rules_of ground.now.grammar.now) ground.now.start.now (places_in ground.now.states.now) state production.now conflict.index table.old table.new) }
+    ensures taken { OnOk result (TakesLane (rules_of ground.now.grammar.now) ground.now.start.now
+        (places_in ground.now.states.now) state production.now conflict.index table.old table.new) }
     ensures columns { table.new.conflicts ≡ table.old.conflicts }
     ensures in_range { AreInRange table.old → AreInRange table.new }
 {

@@ -27,7 +27,9 @@ fn add_end<'grammar, L>(
     table: &mut LaneTable<'grammar>,
 ) -> Result<(), OutOfMemory>
     requires { conflict.index < table.old.conflicts }
-    ensures gains { OnOk result (Gains conflict.index (IsEnd ground.now.start.now name.now state) (IsEndBit (rules_of ground.now.grammar.now) ground.now.start.now name.now state) Nothing table.old table.new) }
+    ensures gains { OnOk result (Gains conflict.index (IsEnd ground.now.start.now name.now state)
+        (IsEndBit (rules_of ground.now.grammar.now) ground.now.start.now name.now state) Nothing
+        table.old table.new) }
     ensures columns { table.new.conflicts ≡ table.old.conflicts }
     ensures in_range { AreInRange table.old → AreInRange table.new }
 {
@@ -69,8 +71,12 @@ fn follow<'grammar, L>(
     requires there { conflict.index < table.old.conflicts }
     requires ground { IsGround ground.now }
     requires own { Contains (productions ground.now.grammar.now) item.now.production }
-    ensures gains { OnOk result (Gains conflict.index (IsHere state (IsParent name.now item.now)) (λ row bit. IsHere state (IsFollowBit (rules_of ground.now.grammar.now) name.now item.now bit) row) Nothing table.old table.new) }
-    ensures visits { OnOk result (Visits (IsPassedOn (rules_of ground.now.grammar.now) name.now state item.now) walk.old walk.new) }
+    ensures gains { OnOk result (Gains conflict.index (IsHere state (IsParent name.now item.now))
+        (λ row bit. IsHere state
+        (IsFollowBit (rules_of ground.now.grammar.now) name.now item.now bit) row) Nothing table.old
+        table.new) }
+    ensures visits { OnOk result (Visits
+        (IsPassedOn (rules_of ground.now.grammar.now) name.now state item.now) walk.old walk.new) }
     ensures columns { table.new.conflicts ≡ table.old.conflicts }
     ensures in_range { AreInRange table.old → AreInRange table.new }
 {
@@ -85,7 +91,8 @@ fn follow<'grammar, L>(
     Ok(())
 }
 
-/// Steps back from a place at the start of its production to the items of its state that expand to it.
+/// Steps back from a place at the start of its production to the items of its state that expand to
+/// it.
 pub(crate) fn unepsilon<'grammar, L>(
     alloc: Global,
     ground: &Ground<'_, 'grammar, L>,

@@ -39,8 +39,11 @@ fn step_back<'grammar>(
     walk: &mut Walk<'grammar>,
 ) -> Result<(), OutOfMemory>
     requires { 0 < place.now.item.index }
-    ensures gains { OnOk result ((k : ℕ) → Gains k Nowhere Nothing (IsPair source.0 place.now.state) table.old table.new) }
-    ensures visits { OnOk result (Visits (λ k. at_place source.0 place.now.item.production (place.now.item.index - 1) ≡ k) walk.old walk.new) }
+    ensures gains { OnOk result
+        ((k : ℕ) → Gains k Nowhere Nothing (IsPair source.0 place.now.state) table.old table.new) }
+    ensures visits { OnOk result (Visits
+        (λ k. at_place source.0 place.now.item.production (place.now.item.index - 1) ≡ k) walk.old
+        walk.new) }
     ensures columns { table.new.conflicts ≡ table.old.conflicts }
     ensures in_range { AreInRange table.old → AreInRange table.new }
 {

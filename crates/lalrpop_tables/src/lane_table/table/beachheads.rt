@@ -14,7 +14,8 @@ use std::collections::BTreeSet;
 impl<'grammar> LaneTable<'grammar> {
     /// The states with cells that are nobody's successors.
     pub fn beachhead_states(&self, alloc: Global) -> Result<Set<StateIndex>, OutOfMemory>
-        ensures { IfOk result (λ states. (state : State) → Contains states.keys state ↔ IsBeachhead self.now state) }
+        ensures { IfOk result
+            (λ states. (state : State) → Contains states.keys state ↔ IsBeachhead self.now state) }
     {
         let reached = self.reached_states(alloc)?;
         let mut states = BTreeSet::new(alloc);

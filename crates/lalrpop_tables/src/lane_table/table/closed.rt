@@ -31,7 +31,9 @@ impl<'grammar> LaneTable<'grammar> {
 
     // Whether all edges are closed.
     fn has_closed_edges(&self, count: usize) -> bool
-        ensures { IsTrue result ↔ ((left right : State) → IsSuccessor self.now left right → IsClosedEdge count self.now left right) }
+        ensures { IsTrue result ↔ ((left right : State) →
+            IsSuccessor self.now left right →
+            IsClosedEdge count self.now left right) }
     {
         for (state, successors) in self.successors.iter() {
             if !self.are_closed(count, *state, successors) {
@@ -43,7 +45,9 @@ impl<'grammar> LaneTable<'grammar> {
 
     // Whether the edges of a state are closed.
     fn are_closed(&self, count: usize, state: StateIndex, successors: &Set<StateIndex>) -> bool
-        ensures { IsTrue result ↔ ((right : State) → Contains successors.now.keys right → IsClosedEdge count self.now state right) }
+        ensures { IsTrue result ↔ ((right : State) →
+            Contains successors.now.keys right →
+            IsClosedEdge count self.now state right) }
     {
         for successor in successors.iter() {
             if !self.is_closed_edge(count, state, *successor) {

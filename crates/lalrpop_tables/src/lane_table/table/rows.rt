@@ -37,10 +37,14 @@ impl From<OutOfMemory> for RowsError {
 }
 
 impl<'grammar> LaneTable<'grammar> {
-    /// The row of each state that has a cell or a successor, or the first state in whose row two actions share a token.
+    /// The row of each state that has a cell or a successor, or the first state in whose row two
+    /// actions share a token.
     pub fn rows(&self, alloc: Global) -> Result<Map<StateIndex, ContextSet>, RowsError>
-        ensures states { IfOk result (λ rows. (state : Number) → Contains (keys_of rows.entries) state ↔ HasRow self.now state) }
-        ensures each { IfOk result (λ rows. (state : Number) (row : List Bits) → Contains rows.entries (state, row) → IsRow self.now state row × AreDisjoint row) }
+        ensures states { IfOk result (λ rows. (state : Number) →
+            Contains (keys_of rows.entries) state ↔ HasRow self.now state) }
+        ensures each { IfOk result (λ rows. (state : Number) (row : List Bits) →
+            Contains rows.entries (state, row) →
+            IsRow self.now state row × AreDisjoint row) }
         ensures first { IfErr result (IsFirstOverlap self.now) }
     {
         let mut rows = self.rows_of_cells(alloc)?;
@@ -51,7 +55,8 @@ impl<'grammar> LaneTable<'grammar> {
 
     // The rows of the states with cells.
     fn rows_of_cells(&self, alloc: Global) -> Result<Map<StateIndex, ContextSet>, RowsError>
-        ensures rows { IfOk result (λ rows. AreRowsOf self.now.conflicts self.now.lookaheads.entries rows.entries) }
+        ensures rows { IfOk result
+            (λ rows. AreRowsOf self.now.conflicts self.now.lookaheads.entries rows.entries) }
         ensures first { IfErr result (IsFirstOverlap self.now) }
     {
         let mut rows = BTreeMap::new(alloc);
@@ -71,7 +76,8 @@ impl<'grammar> LaneTable<'grammar> {
         alloc: Global,
         rows: &mut Map<StateIndex, ContextSet>,
     ) -> Result<(), OutOfMemory>
-        ensures { OnOk result (AddsRows self.now.conflicts self.now.successors rows.old.entries rows.new.entries) }
+        ensures { OnOk result
+            (AddsRows self.now.conflicts self.now.successors rows.old.entries rows.new.entries) }
     {
         for (state, successors) in self.successors.iter() {
             if !successors.is_empty() {
@@ -109,9 +115,13 @@ fn join_to_row(
     tokens: &TokenSet,
 ) -> Result<(), OverlappingLookahead>
     requires within { conflict.index < count }
-    requires counted { (row : List Bits) → row_at rows.old.entries state ≡ Some row → length row ≡ count }
-    ensures joined { OnOk result (JoinsRow count state conflict.index tokens.now rows.old.entries rows.new.entries) }
-    ensures overlapping { IfErr result (λ error. error ≡ Overlapping → MeetsRow count state conflict.index tokens.now rows.old.entries) }
+    requires counted { (row : List Bits) →
+        row_at rows.old.entries state ≡ Some row →
+        length row ≡ count }
+    ensures joined { OnOk result
+        (JoinsRow count state conflict.index tokens.now rows.old.entries rows.new.entries) }
+    ensures overlapping { IfErr result (λ error. error ≡ Overlapping →
+        MeetsRow count state conflict.index tokens.now rows.old.entries) }
 {
     make_row(alloc, count, rows, state)?;
     match rows.get_mut(&state) {

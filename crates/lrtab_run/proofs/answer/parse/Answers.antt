@@ -1,18 +1,11 @@
-use Rattle.lalrpop_base.specs.WellFormed.{productions}
-use Rattle.lrtab_run.specs.Shown.{AreTablesOf}
-use Rattle.lrtab_run.proofs.Plain.{not_collapsed}
-use Rattle.lrtab_run.proofs.RunShown.{parse_shown}
+use Rattle.lrtab_run.proofs.RunShown.{IsPromised, parse_shown}
 use Rattle.lrtab_run.proofs.answer.parse.Goals as goal
 
-pub parse_by-requires-clause-coherent : goal.parse_by-requires-clause-coherent
-parse_by-requires-clause-coherent c = rw c.deref.ensures.value c.in-Ok.ensures.coherent
-
-pub parse_by-requires-clause-some : goal.parse_by-requires-clause-some
-parse_by-requires-clause-some c = rw c.deref.ensures.value c.in-Ok.ensures.some
-
-pub returns-in-Ok : goal.returns-in-Ok
-returns-in-Ok c =
-    let e = c.in-Ok.ensures in
-    let n = not_collapsed c.args.grammar.now c.args.options.now c.requires.canonical in
-    let tables : AreTablesOf c.args.options.now.method c.args.grammar.now c.args.start c.in-Ok.states.items = record { lr1 = e.lr1 n; faithful = e.faithful; canonical = e.canonical n; numbered = e.tables n; either = e.either; lanes = e.lane } in
-    parse_shown c.args.options.now.method c.args.grammar.now c.args.start c.args.limit _ c.in-Ok.states.items c.deref.result.now c.deref.ensures.value tables c.parse_by.result (c.parse_by.ensures (productions c.args.grammar.now) c.args.start)
+pub returns : goal.returns
+returns c =
+    let g = c.args.grammar.now in
+    let options = c.args.options.now in
+    let e = c.parse-answer.ensures in
+    let h : IsPromised g options c.requires.canonical c.requires.whole c.args.start c.in_ok-tokens.tokens.items c.args.limit c.parse-answer.result =
+    record { parses = e.parses; refuses = e.refuses; one_tree = e.one_tree; run = e.run; conflicts = e.conflicts } in
+    parse_shown g options c.requires.canonical c.requires.whole c.args.start c.in_ok-tokens.tokens.items c.args.limit _ c.in_ok-tokens.ensures c.parse-answer.result c.text_of_answer.result h c.text_of_answer.ensures

@@ -1,10 +1,13 @@
-use Rattle.std.proofs.Common.{◌≡◌, sym, ap, ◌∙◌}
+use Rattle.std.proofs.Common.{◌≡◌, [], ◌∷◌, sym, ap, ◌∙◌, subst}
 use mathlib.Core.Bool.{true≢false}
 use Rattle.lalrpop_lr1.specs.TraceGraphs.{PlainEdge}
-use Rattle.lalrpop_lr1.specs.Traces.{dot_edge, own_edge, Gives}
-use Rattle.lalrpop_lr1.specs.Meetings.{asked}
-use Rattle.lalrpop_lr1.specs.declared.trace.node.TraceGraphNode.TheVariants.{Nonterminal}
-use Rattle.lalrpop_lr1.proofs.Traces.{adds_as, adds_both_edges, gives_stop, gives_shift, gives_reduce}
+use Rattle.lalrpop_lr1.specs.TraceOrder.{stop_edge, onward_edge, onward_edges}
+use Rattle.lalrpop_lr1.specs.Traces.{dotted, dot_edge, own_edge, Gives}
+use Rattle.lalrpop_lr1.specs.declared.trace.ground.Traced.{Traced}
+use Rattle.lalrpop_lr1.specs.Meetings.{asked, AddsInOrder}
+use Rattle.lalrpop_lr1.specs.declared.trace.node.TraceGraphNode.TheVariants.{Nonterminal, Item}
+use Rattle.lalrpop_lr1.proofs.TraceOrder.{order_as, order_append}
+use Rattle.lalrpop_lr1.proofs.Traces.{adds_as, adds_both_edges, dot_same, gives_stop, gives_shift, gives_reduce}
 use Rattle.lalrpop_lr1.proofs.trace.giving.add_shifting.Goals as goal
 
 pub returns-then-not-branch-clause-edges : goal.returns-then-not-branch-clause-edges
@@ -34,3 +37,38 @@ returns-in_ok-add_own-in-Reduce-clause-edges c =
     let Q : PlainEdge → Type 0 = λ e. e ≡ own_edge item.production item.index in
     adds_both_edges c.args.graph.now c.add_dotted-2.new.graph c.add_own.new.graph P Q (Gives b c.args.name.now item) c.in_ok-add_dotted-2.ensures.edges c.in_ok-add_own-in-Reduce.ensures.edges
     (gives_reduce b c.args.name.now item c.in_ok-from.from to (c.in_ok-goes_on.ensures.0 c.if-not-branch.false) c.in-Reduce.is c.in_ok-from.ensures (ap Nonterminal c.in_ok-clone.ensures))
+
+-- ---- in order
+pub returns-then-not-branch-clause-onward : goal.returns-then-not-branch-clause-onward
+returns-then-not-branch-clause-onward c = λ h. absurd (true≢false (sym h))
+
+pub returns-then-not-branch-clause-stopped : goal.returns-then-not-branch-clause-stopped
+returns-then-not-branch-clause-stopped c = λ h.
+    let item = c.args.item.now in
+    let to = Nonterminal c.in_ok-clone.field-0 in
+    order_as c.args.graph.now c.add_dotted.new.graph (dot_edge c.node_of.result to item.production item.index ∷ []) (stop_edge c.args.name.now item ∷ []) c.in_ok-add_dotted.ensures.in_order
+    (ap (λ (e : PlainEdge). e ∷ []) (dot_same c.node_of.result to (Item (dotted item.production item.index)) (Nonterminal c.args.name.now) item.production item.index c.node_of.ensures (ap Nonterminal c.in_ok-clone.ensures)))
+
+pub returns-in-Shift-clause-onward : goal.returns-in-Shift-clause-onward
+returns-in-Shift-clause-onward c = λ h.
+    let onward : AddsInOrder c.args.graph.now c.add_dotted-2.new.graph (onward_edge c.args.name.now c.args.item.now ∷ []) = order_as c.args.graph.now c.add_dotted-2.new.graph (dot_edge c.in_ok-from.from (Nonterminal c.in_ok-clone.field-0) c.args.item.now.production c.args.item.now.index ∷ []) (onward_edge c.args.name.now c.args.item.now ∷ []) c.in_ok-add_dotted-2.ensures.in_order
+    (ap (λ (e : PlainEdge). e ∷ []) (dot_same c.in_ok-from.from (Nonterminal c.in_ok-clone.field-0) (Nonterminal c.args.item.now.production.nonterminal) (Nonterminal c.args.name.now) c.args.item.now.production c.args.item.now.index c.in_ok-from.ensures (ap Nonterminal c.in_ok-clone.ensures))) in
+    order_as c.args.graph.now c.add_dotted-2.new.graph (onward_edge c.args.name.now c.args.item.now ∷ []) (onward_edges c.args.trace.now.traced c.args.name.now c.args.item.now) onward
+    (ap (λ (t : Traced). onward_edges t c.args.name.now c.args.item.now) (sym c.in-Shift.is))
+
+pub returns-in-Shift-clause-stopped : goal.returns-in-Shift-clause-stopped
+returns-in-Shift-clause-stopped c = λ h. absurd (true≢false h)
+
+pub returns-in_ok-add_own-in-Reduce-clause-onward : goal.returns-in_ok-add_own-in-Reduce-clause-onward
+returns-in_ok-add_own-in-Reduce-clause-onward c = λ h.
+    let onward : AddsInOrder c.args.graph.now c.add_dotted-2.new.graph (onward_edge c.args.name.now c.args.item.now ∷ []) = order_as c.args.graph.now c.add_dotted-2.new.graph (dot_edge c.in_ok-from.from (Nonterminal c.in_ok-clone.field-0) c.args.item.now.production c.args.item.now.index ∷ []) (onward_edge c.args.name.now c.args.item.now ∷ []) c.in_ok-add_dotted-2.ensures.in_order
+    (ap (λ (e : PlainEdge). e ∷ []) (dot_same c.in_ok-from.from (Nonterminal c.in_ok-clone.field-0) (Nonterminal c.args.item.now.production.nonterminal) (Nonterminal c.args.name.now) c.args.item.now.production c.args.item.now.index c.in_ok-from.ensures (ap Nonterminal c.in_ok-clone.ensures))) in
+    let item = c.args.item.now in
+    let first = onward_edge c.args.name.now item in
+    let own = own_edge item.production item.index in
+    order_as c.args.graph.now c.add_own.new.graph (first ∷ own ∷ []) (onward_edges c.args.trace.now.traced c.args.name.now item)
+    (order_append c.args.graph.now c.add_dotted-2.new.graph c.add_own.new.graph (first ∷ []) (own ∷ []) onward c.in_ok-add_own-in-Reduce.ensures.in_order)
+    (ap (λ (t : Traced). onward_edges t c.args.name.now item) (sym c.in-Reduce.is))
+
+pub returns-in_ok-add_own-in-Reduce-clause-stopped : goal.returns-in_ok-add_own-in-Reduce-clause-stopped
+returns-in_ok-add_own-in-Reduce-clause-stopped c = λ h. absurd (true≢false h)

@@ -66,8 +66,11 @@ impl ContextSets {
     ) -> Result<bool, OutOfMemory>
         requires source { HasSet self.old source }
         requires target { HasSet self.old target }
-        requires counted { length (context_of self.old source) ≡ length (context_of self.old target) }
-        ensures joined { IfOk result (λ joined. MatchBool joined (AreJoined source target self.old self.new) (MeetInUnion (context_of self.old source) (context_of self.old target) × (self.new ≡ self.old))) }
+        requires counted { length (context_of self.old source) ≡ length
+            (context_of self.old target) }
+        ensures joined { IfOk result (λ joined. MatchBool joined
+            (AreJoined source target self.old self.new) (MeetInUnion (context_of self.old source)
+            (context_of self.old target) × (self.new ≡ self.old))) }
         ensures err { OnErr result (self.new ≡ self.old) }
     {
         let first = self.state_set(source);

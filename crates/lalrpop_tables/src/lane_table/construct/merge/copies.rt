@@ -18,7 +18,8 @@ use std::collections::BTreeMap;
 /// The numbers below a count.
 pub(super) fn own_numbers(alloc: Global, count: usize) -> Result<Vec<usize>, OutOfMemory>
     ensures counted { IfOk result (λ numbers. length numbers.items ≡ count) }
-    ensures own { IfOk result (λ numbers. (n : ℕ) → n < count → slice_get numbers.items n ≡ Some n) }
+    ensures own { IfOk result
+        (λ numbers. (n : ℕ) → n < count → slice_get numbers.items n ≡ Some n) }
 {
     let mut numbers = Vec::new(alloc);
     for number in 0..count {
@@ -107,11 +108,14 @@ impl<'table, 'grammar> Merge<'table, 'grammar> {
     )
         requires ready { IsMerging self.old }
         requires walked { IsWalked self.old predecessor }
-        requires own { slice_get self.old.originals.items original_successor.0 ≡ Some original_successor.0 }
-        requires copy { slice_get self.old.originals.items cloned_successor.0 ≡ Some original_successor.0 }
+        requires own { slice_get self.old.originals.items original_successor.0 ≡ Some
+            original_successor.0 }
+        requires copy { slice_get self.old.originals.items cloned_successor.0 ≡ Some
+            original_successor.0 }
         ensures advances { Advances self.old self.new }
         ensures marks { HaveNoNewMarks self.old self.new }
-        ensures relinked { IsRelinked predecessor.0 original_successor.0 cloned_successor.0 self.old.states.items self.new.states.items }
+        ensures relinked { IsRelinked predecessor.0 original_successor.0 cloned_successor.0
+            self.old.states.items self.new.states.items }
         ensures same { self.new ≡ record self.old { states = self.new.states } }
     {
         let state = &mut self.states[predecessor.0];
@@ -119,7 +123,8 @@ impl<'table, 'grammar> Merge<'table, 'grammar> {
         replace_targets(&mut state.gotos, original_successor, cloned_successor);
     }
 
-    /// Gives the reductions of a state the columns of its set, where it is a copy of the inconsistent state.
+    /// Gives the reductions of a state the columns of its set, where it is a copy of the
+    /// inconsistent state.
     pub(super) fn patch_target_start(
         &mut self,
         alloc: Global,
@@ -131,8 +136,13 @@ impl<'table, 'grammar> Merge<'table, 'grammar> {
         requires counted { self.old.table.now.conflicts ≡ length actions.now.keys }
         requires among { AreTargetsAmong actions.now.keys self.old }
         ensures same { self.new ≡ record self.old { states = self.new.states } }
-        ensures taken { OnOk result (slice_get self.old.originals.items index ≡ Some self.old.inconsistent_state.0 → IsTaken actions.now.keys (context_of self.old.context_sets (index_of index)) index self.old.states.items self.new.states.items) }
-        ensures left { OnOk result ((slice_get self.old.originals.items index ≡ Some self.old.inconsistent_state.0 → ⊥) → self.new.states.items ≡ self.old.states.items) }
+        ensures taken { OnOk result (
+            slice_get self.old.originals.items index ≡ Some self.old.inconsistent_state.0 →
+            IsTaken actions.now.keys (context_of self.old.context_sets (index_of index)) index
+            self.old.states.items self.new.states.items) }
+        ensures left { OnOk result (
+            (slice_get self.old.originals.items index ≡ Some self.old.inconsistent_state.0 → ⊥) →
+            self.new.states.items ≡ self.old.states.items) }
         ensures err { OnErr result (self.new.states.items ≡ self.old.states.items) }
     {
         if self.originals[index] != self.inconsistent_state.0 {

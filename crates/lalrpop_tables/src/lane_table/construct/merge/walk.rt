@@ -35,7 +35,8 @@ impl<'table, 'grammar> Merge<'table, 'grammar> {
         self.context_sets.union(alloc, source, target)
     }
 
-    // Joins a state to the state with an index, if that is a copy of its successor and the tokens allow it.
+    // Joins a state to the state with an index, if that is a copy of its successor and the tokens
+    // allow it.
     fn joins_copy(
         &mut self,
         alloc: Global,
@@ -49,7 +50,8 @@ impl<'table, 'grammar> Merge<'table, 'grammar> {
         requires there { index < length self.old.originals.items }
         ensures advances { Advances self.old self.new }
         ensures marks { HaveNoNewMarks self.old self.new }
-        ensures joined { IfOk result (λ joined. IsTrue joined → IsJoinedCopy state successor (index_of index) self.new) }
+        ensures joined { IfOk result
+            (λ joined. IsTrue joined → IsJoinedCopy state successor (index_of index) self.new) }
         ensures same { self.new ≡ record self.old { context_sets = self.new.context_sets } }
     {
         if index == successor.0 || self.originals[index] != successor.0 {
@@ -153,7 +155,8 @@ impl<'table, 'grammar> Merge<'table, 'grammar> {
         Ok(copy)
     }
 
-    /// Joins a state to its successors, one after the other, and walks on from each, unless this was done before.
+    /// Joins a state to its successors, one after the other, and walks on from each, unless this
+    /// was done before.
     pub(super) fn walk(&mut self, alloc: Global, state: StateIndex) -> Result<(), MergeError>
         requires ready { IsMerging self.old }
         requires walked { IsWalked self.old state }

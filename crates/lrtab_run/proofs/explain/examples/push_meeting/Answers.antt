@@ -18,4 +18,4 @@ returns c =
     let ground = c.args.ground.now in
     let walk = c.in_ok-walk in
     traced_shown ground.first_sets.now ground.tracer.now.ground.first_sets.now ground.states.now ground.tracer.now.ground.states.now ground.traced_rules ground.traced_states c.args.state c.lr0-finished.result c.args.item.now
-    (c.lr0-finished.ensures ∙ ap (λ (i : Dotted Bits). dotted i.production i.index) c.item.view_is) c.in_ok-graph.graph walk.walk (string_bytes c.args.text.now) (string_bytes c.push_filtered.new.text) c.in_ok-graph.ensures.traced walk.ensures.graph walk.ensures.first_sets walk.ensures.lookahead walk.ensures.paths c.in_ok-push_filtered.ensures
+    (c.lr0-finished.ensures ∙ ap (λ (i : Dotted Bits). dotted i.production i.index) c.item.view_is) c.in_ok-graph.graph walk.walk (string_bytes c.args.text.now) (string_bytes c.push_filtered.new.text) c.in_ok-graph.ensures.traced c.in_ok-graph.ensures.ordered walk.ensures.graph walk.ensures.first_sets walk.ensures.lookahead walk.ensures.paths c.in_ok-push_filtered.ensures

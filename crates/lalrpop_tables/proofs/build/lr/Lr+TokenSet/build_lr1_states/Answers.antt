@@ -9,7 +9,7 @@ use Rattle.lalrpop_tables.specs.Closure.{itself}
 use Rattle.lalrpop_tables.specs.EarlyStop.{StopsFor}
 use Rattle.lalrpop_tables.specs.Results.{Construction, Settings, EndsWithEof, AreTables, FailsBy, canonical_of}
 use Rattle.lalrpop_tables.proofs.BothFacts.{MatchResult-both, IfErr-given}
-use Rattle.lalrpop_tables.proofs.Deciding.{tables_canonical, failure_canonical, tables_faithful, tables_lr1}
+use Rattle.lalrpop_tables.proofs.Deciding.{tables_canonical, failure_canonical, tables_faithful, tables_valid, tables_lr1}
 use Rattle.lalrpop_tables.proofs.StoppedAnswers.{stopping, stopped_after, stopped_not_lr1}
 use Rattle.lalrpop_tables.proofs.TokenTables.{Passes, Lists, Tables-of, Fails-of}
 use Rattle.lalrpop_tables.proofs.build.lr.Lr+TokenSet.build_lr1_states.Goals as goal
@@ -89,3 +89,17 @@ returns-clause-faithful c =
     let same : c.args.self ≡ stopping g start stop = with_eof g start stop c.self.inside.lookahead c.args.self c.self.view_is eof in
     let canonical : c.args.self.construction ≡ canonical_of g start = ap (λ (s : Settings Bits). s.construction) same in
     rw same (IfOk-weaker r _ _ (λ tables t. tables_faithful g start well own differ tables.items (subst (λ (k : Construction Bits). AreTables k tables.items) canonical (Tables-of c.args.self.construction tables.items t))) c.build_states.ensures.tables)
+
+pub returns-clause-valid : goal.returns-clause-valid
+returns-clause-valid c =
+    let g = c.self.inside.grammar.now in
+    let start = c.self.inside.start in
+    let stop = c.self.inside.stop_after in
+    let well = c.self.invariant.well_formed in
+    let own = c.self.invariant.own in
+    let differ = c.all-terminals.ensures.distinct in
+    let r = c.build_states.result in
+    λ eof.
+    let same : c.args.self ≡ stopping g start stop = with_eof g start stop c.self.inside.lookahead c.args.self c.self.view_is eof in
+    let canonical : c.args.self.construction ≡ canonical_of g start = ap (λ (s : Settings Bits). s.construction) same in
+    rw same (IfOk-weaker r _ _ (λ tables t. tables_valid g start well own differ tables.items (subst (λ (k : Construction Bits). AreTables k tables.items) canonical (Tables-of c.args.self.construction tables.items t))) c.build_states.ensures.tables)

@@ -9,7 +9,7 @@ pub returns-clause-lanes : goal.returns-clause-lanes
 returns-clause-lanes c =
     let g = rules_of c.args.self.now.grammar.now in
     let lr0 = subst (λ start. AreLr0States g start c.in_ok-states.states.items) c.in_ok-clone.ensures c.in_ok-states.ensures in
-    IfOk-weaker c.promote_states.result _ _ (λ states z. promoted_lanes g c.args.self.now.start _ c.in_ok-states.states.items states.items lr0 z) c.promote_states.ensures
+    IfOk-weaker c.promote_states.result _ _ (λ states z. promoted_lanes g c.args.self.now.start _ (full_set g.terminals _ c.in_ok-all.ensures) c.in_ok-states.states.items states.items lr0 z) c.promote_states.ensures
 
 pub returns-clause-full : goal.returns-clause-full
 returns-clause-full c =

@@ -2,7 +2,7 @@ use Rattle.std.proofs.Common.{List}
 use Rattle.lalrpop_base.specs.Bits.{Bits}
 use Rattle.lalrpop_base.specs.WellFormed.{rules_of}
 use Rattle.lalrpop_base.specs.declared.lr1_core.state.State.{State}
-use Rattle.lalrpop_tables.proofs.LaneLoop.{lane_states_on, step_places, resolved_more}
+use Rattle.lalrpop_tables.proofs.LaneLoop.{lane_states_on, resolved_more}
 use Rattle.lalrpop_tables.proofs.LaneAnswers.{lane_tables, all_done, was_resolved, were_met}
 use Rattle.lalrpop_tables.proofs.lane_table.construct.LaneTableConstruct.resolve_states.Goals as goal
 
@@ -10,13 +10,13 @@ pub returns-then-not-branch-clause-lanes : goal.returns-then-not-branch-clause-l
 returns-then-not-branch-clause-lanes c =
     let old : List (State Bits) = c.loop-index.states.items in
     let new : List (State Bits) = c.resolve_inconsistencies.new.states.items in
-    lane_states_on (rules_of c.args.self.now.grammar.now) c.args.self.now.start old new (step_places c.loop-index.index old new c.in_ok-resolve_inconsistencies.ensures.step) c.loop-index.invariant.lanes
+    lane_states_on (rules_of c.args.self.now.grammar.now) c.args.self.now.start c.loop-index.index old new c.in_ok-resolve_inconsistencies.ensures.step c.loop-index.invariant.lanes
 
 pub returns-then-not-branch-clause-resolved : goal.returns-then-not-branch-clause-resolved
 returns-then-not-branch-clause-resolved c =
     let old : List (State Bits) = c.loop-index.states.items in
     let new : List (State Bits) = c.resolve_inconsistencies.new.states.items in
-    were_met (rules_of c.args.self.now.grammar.now) c.args.self.now.start c.loop-index.index old new c.in_ok-resolve_inconsistencies.ensures.step c.in_ok-resolve_inconsistencies.field-0 _ c.if-not-branch.true c.in_ok-resolve_inconsistencies.ensures.resolved
+    were_met (rules_of c.args.self.now.grammar.now) c.args.self.now.start c.args.graph.now c.len-count.result c.loop-index.index old new c.loop-index.invariant c.in_ok-resolve_inconsistencies.ensures.step c.in_ok-resolve_inconsistencies.field-0 _ c.if-not-branch.true c.in_ok-resolve_inconsistencies.ensures.resolved
 
 pub loop-index-preserved : goal.loop-index-preserved
 loop-index-preserved c =

@@ -1,0 +1,101 @@
+//! The texts of errors.
+use lalrpop_base::lookahead::token::Token;
+use lalrpop_base::lookahead::token_set::TokenSet;
+use lalrpop_base::lr1_core::state::{BuildError, StateIndex, TableConstructionError};
+use lalrpop_base::memory::OutOfMemory;
+use lalrpop_base::repr::norm_error::NormError;
+use lalrpop_base::repr::terminals::TerminalSetError;
+use lalrpop_base::repr::{NonterminalString, Span, TerminalString};
+use lalrpop_base::text::Text;
+use lalrpop_lr1::headline::ParseError;
+use lalrpop_lr1::interpret::InterpretError;
+use lalrpop_lr1::report::ReportError;
+use lalrpop_tables::lane_table::construct::merge::MergeError;
+use lalrpop_tables::lane_table::context_set::OverlappingLookahead;
+use lalrpop_tables::lane_table::table::rows::RowsError;
+use std::alloc::Global;
+use std::io::{self, ErrorKind};
+use table_questions::question::{Question, QuestionError};
+
+/// The answer to a question of the texts of errors, where the call is one.
+pub(crate) fn answer(
+    alloc: Global,
+    question: &Question<'_>,
+) -> Result<Option<String>, QuestionError> {
+    match question.call {
+        "error_texts" => {
+            let mut text = String::new(alloc);
+            push_of_grammars(alloc, &mut text)?;
+            push_of_tables(alloc, &mut text)?;
+            push_of_parses(alloc, &mut text)?;
+            push_of_reports(&mut text)?;
+            Ok(Some(text))
+        }
+        _ => Ok(None),
+    }
+}
+
+// Those of grammars.
+fn push_of_grammars(alloc: Global, text: &mut String) -> Result<(), QuestionError> {
+    let terminal = TerminalString::Literal(Text::new(alloc, "a")?);
+    let name = NonterminalString {
+        text: Text::new(alloc, "A")?,
+    };
+    let span = Span(0, 1);
+    write!(text, "{OutOfMemory}\n")?;
+    write!(text, "{}\n", TerminalSetError::Repeated(terminal))?;
+    write!(text, "{}\n", TerminalSetError::Memory)?;
+    write!(text, "{}\n", NormError::Cycle { span, name })?;
+    write!(text, "{}\n", NormError::TooManyActions)?;
+    write!(text, "{}\n", NormError::Memory)?;
+    Ok(())
+}
+
+// Those of tables.
+fn push_of_tables(alloc: Global, text: &mut String) -> Result<(), QuestionError> {
+    let error: TableConstructionError<'static, TokenSet> = TableConstructionError {
+        states: Vec::new(alloc),
+        conflicts: Vec::new(alloc),
+    };
+    write!(text, "{}\n", BuildError::Conflicts(error))?;
+    let memory: BuildError<'static, TokenSet> = BuildError::Memory;
+    write!(text, "{memory}\n")?;
+    write!(text, "{}\n", RowsError::State(StateIndex(3)))?;
+    write!(text, "{}\n", RowsError::Memory)?;
+    write!(text, "{}\n", OverlappingLookahead::Overlapping)?;
+    write!(text, "{}\n", OverlappingLookahead::Memory)?;
+    write!(
+        text,
+        "{}\n",
+        MergeError::Apart(StateIndex(1), StateIndex(2))
+    )?;
+    write!(text, "{}\n", MergeError::CopyLimit)?;
+    write!(text, "{}\n", MergeError::Memory)?;
+    Ok(())
+}
+
+// Those of parses.
+fn push_of_parses(alloc: Global, text: &mut String) -> Result<(), QuestionError> {
+    let limit: InterpretError<'_, '_, TokenSet> = InterpretError::Limit;
+    let memory: InterpretError<'_, '_, TokenSet> = InterpretError::Memory;
+    write!(text, "{limit}\n{memory}\n")?;
+    let error: TableConstructionError<'static, TokenSet> = TableConstructionError {
+        states: Vec::new(alloc),
+        conflicts: Vec::new(alloc),
+    };
+    write!(text, "{}\n", ParseError::Conflicts(error))?;
+    write!(text, "{}\n", ParseError::Refused(Token::Eof))?;
+    write!(text, "{}\n", ParseError::Limit)?;
+    write!(text, "{}\n", ParseError::Memory)?;
+    Ok(())
+}
+
+// Those of reports.
+fn push_of_reports(text: &mut String) -> Result<(), QuestionError> {
+    let fault = io::Error::from(ErrorKind::BrokenPipe);
+    write!(text, "{}\n", ReportError::Write(fault))?;
+    write!(text, "{}\n", ReportError::WriteZero)?;
+    write!(text, "{}\n", ReportError::Memory)?;
+    write!(text, "{}\n", ReportError::NoTables)?;
+    Ok(())
+}

@@ -1,0 +1,36 @@
+//! Why a parse by the tables of a grammar has no tree.
+ghost use Rattle.std.specs.Prelude.{◌≡◌};
+ghost use Rattle.lalrpop_lr1.specs.ParseAnswers.{told_by};
+
+use crate::interpret::{InterpretError, ParseTree};
+use lalrpop_base::lookahead::token::Token;
+use lalrpop_base::lookahead::token_set::TokenSet;
+use lalrpop_base::lr1_core::state::Lr1TableConstructionError;
+use thiserror::Error;
+
+/// Why there is no tree: the grammar has conflicts in the place of tables, or as the parser says.
+#[derive(Debug, Drop, Error)]
+pub enum ParseError<'grammar> {
+    #[error("conflicts")]
+    Conflicts(Lr1TableConstructionError<'grammar>),
+    #[error("refused at {0}")]
+    Refused(Token),
+    #[error("limit")]
+    Limit,
+    #[error("out of memory")]
+    Memory,
+}
+
+// What the parser answers, without the state that refuses.
+pub(super) fn told_by<'grammar>(
+    answer: Result<ParseTree, InterpretError<'_, '_, TokenSet>>,
+) -> Result<ParseTree, ParseError<'grammar>>
+    ensures { result ≡ told_by answer.entry }
+{
+    match answer {
+        Ok(tree) => Ok(tree),
+        Err(InterpretError::Refused(_, token)) => Err(ParseError::Refused(token)),
+        Err(InterpretError::Limit) => Err(ParseError::Limit),
+        Err(InterpretError::Memory) => Err(ParseError::Memory),
+    }
+}

@@ -1,0 +1,19 @@
+//! What the construction of states says with one lookahead. Each function does nothing, and its
+//! contract is the law.
+ghost use Rattle.lalrpop_tables.specs.Laws.{SetTablesAreCanonical, SetErrorsAreCanonical};
+ghost use Rattle.lalrpop_tables.specs.Laws.{NilTablesAreLr0, NilTablesAreFree, NilErrorsHaveLr0, NilErrorsStop, NilErrorsListConflicts};
+
+/// States with sets of tokens, where Eof follows the start symbol.
+pub fn states_with_sets()
+    ensures tables { SetTablesAreCanonical }
+    ensures errors { SetErrorsAreCanonical }
+{}
+
+/// States without lookahead.
+pub fn states_without_lookahead()
+    ensures tables { NilTablesAreLr0 }
+    ensures free { NilTablesAreFree }
+    ensures errors { NilErrorsHaveLr0 }
+    ensures stopped { NilErrorsStop }
+    ensures conflicts { NilErrorsListConflicts }
+{}
