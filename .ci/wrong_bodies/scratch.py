@@ -112,13 +112,14 @@ def said_of(crate, flag, functions):
 
 
 def wait_for(names, beside):
-    """Waits until the `rt ci` that runs beside has proved the crates. Its words go to the file `said` of the folder, and `status` is there once it has ended."""
+    """Waits until the `rt ci` that runs beside has proved the crates, or has taken what an earlier run proved of the same files. Its words go to the
+    file `said` of the folder, and `status` is there once it has ended."""
     while True:
         has_ended = os.path.exists(f"{beside}/status")
         # (so that its last words have reached the file)
         time.sleep(1)
         said = read(f"{beside}/said") if os.path.exists(f"{beside}/said") else ""
-        lacking = [it for it in names if not re.search(rf"(?m)^rt: {re.escape(it)} proved$", said)]
+        lacking = [it for it in names if not re.search(rf"(?m)^rt: {re.escape(it)} (proved$|is kept: )", said)]
         failed = [it for it in lacking if has_ended or re.search(rf"(?m)^rt: {re.escape(it)} NOT PROVED", said)]
         if failed:
             raise NotProved(f"rt ci has not proved {failed[0]}")
