@@ -6,11 +6,10 @@ use Rattle.std.specs.Cmp.Lexicographic.{slice_cmp}
 use Rattle.std.specs.Str.{bytes_eq}
 use Rattle.std.specs.BTreeMap.{BTreeMap, get, is_at}
 use Rattle.std.proofs.lemmas.Map.Text.{is_eq-slice_cmp}
-use Rattle.lalrpop_base.specs.WellFormed.{name_cmp}
+use Rattle.lalrpop_base.specs.Words.{name_cmp, name_exact}
 use Rattle.lalrpop_base.specs.declared.repr.NonterminalString.{NonterminalString}
 use Rattle.lalrpop_base.specs.declared.repr.TerminalString.{TerminalString}
 use Rattle.lalrpop_base.specs.declared.repr.Symbol.{Symbol}
-use Rattle.lalrpop_base.specs.declared.repr.Symbol.TheVariants.{Nonterminal, Terminal}
 use Rattle.lalrpop_base.specs.declared.repr.Production.{Production}
 use Rattle.lalrpop_base.specs.declared.repr.grammar.NonterminalData.{NonterminalData}
 use Rattle.std.proofs.lemmas.List.{map-append, append-nil, length-map}
@@ -18,7 +17,6 @@ use Rattle.std.proofs.lemmas.List.Folds.{list_any-append}
 use Rattle.std.proofs.lemmas.Grind.{flat_map-append}
 use Rattle.std.specs.BTreeMap.{IsOrdered}
 use Rattle.std.specs.BTreeSet.{contains}
-use Rattle.lalrpop_base.specs.Exact.{name_exact}
 use Rattle.lalrpop_base.specs.declared.repr.ActionFn.{ActionFn}
 use Rattle.lalrpop_base.specs.declared.repr.Span.{Span}
 use Rattle.grammar_text.specs.declared.lines.Line.TheVariants.{Blank, Fault}
@@ -27,20 +25,6 @@ use Rattle.grammar_text.specs.declared.collected.Collected.{Collected}
 use Rattle.grammar_text.specs.Grammar.{Entry, entry_view, with_production, with_mark, terminals_of, terminals_in, terminal_cmp, user_action, entry_of, productions_in, production_of, names, line_names}
 use Rattle.grammar_text.specs.Collected.{IsCollected, is_same, production_at, inline_at}
 use Rattle.grammar_text.proofs.Numbered.{productions_in-more, entry_of-more, entry_of-marked, entry_of-same}
-
-or_more : (b q rest new all : Bool) → new ≡ (b || (q || false)) → (b || (q || rest)) ≡ all → (new || rest) ≡ all
-or_more true q rest new all e f = rw e f
-or_more false true rest new all e f = rw e f
-or_more false false rest new all e f = rw e f
-
-or_same : (b rest new all : Bool) → new ≡ (b || false) → (b || rest) ≡ all → (new || rest) ≡ all
-or_same true rest new all e f = rw e f
-or_same false rest new all e f = rw e f
-
--- a symbol more, and those that are left
-pub any_more : (p : TerminalString → Bool) (x : Symbol) (xs : List Symbol) (old new all : Bool) → new ≡ (old || list_any p (terminals_of (x ∷ []))) → (old || list_any p (terminals_of (x ∷ xs))) ≡ all → (new || list_any p (terminals_of xs)) ≡ all
-any_more p (Nonterminal a) xs old new all e f = or_same old _ new all e f
-any_more p (Terminal t) xs old new all e f = or_more old (p t) _ new all e f
 
 grown_at : (b : Bool) (grown : NonterminalData) (old without new : Option NonterminalData) (w : Option Entry) → without ≡ cond b None old → new ≡ cond b (Some grown) without → Some (entry_view grown) ≡ w
     → option_map entry_view new ≡ cond b w (option_map entry_view old)

@@ -13,7 +13,7 @@ use Rattle.grammar_text.specs.declared.lines.Line.{Line}
 use Rattle.grammar_text.specs.declared.lines.Line.TheVariants.{Blank, Production as production_line, Inline, Fault}
 use Rattle.grammar_text.specs.declared.lines.PlacedLine.{PlacedLine}
 use Rattle.std.proofs.lemmas.Grind.{flat_map-append}
-use Rattle.lalrpop_base.specs.Marks.{inline_mark}
+use Rattle.lalrpop_base.specs.Words.{inline_mark}
 use Rattle.grammar_text.specs.Grammar.{production_of, productions_from, productions_in, has_name, names, line_names, line_marks, marks_in, Entry, entry_of, with_production, with_mark}
 
 -- the productions of lines, and of those after them

@@ -1,12 +1,10 @@
 -- Pieces of a text, and words between quotes.
-use Rattle.std.proofs.Common.{◌≡◌, ◌≢◌, ◌≤◌, ◌==◌, ◌<◌, ℕ, Bool, true, false, List, [], ◌∷◌, ◌++◌, length, Option, None, Some, cond, refl, ap, arith, append_assoc}
+use Rattle.std.proofs.Common.{◌≡◌, ◌≢◌, ◌≤◌, ◌==◌, ◌<◌, ℕ, Bool, true, false, List, [], ◌∷◌, ◌++◌, length, Option, None, cond, refl, ap, arith}
 use Rattle.std.proofs.lemmas.Bool.{eqb-true}
 use Rattle.std.proofs.lemmas.List.Splits.{slice_split_first, slice_split_none}
 use Rattle.std.proofs.lemmas.List.Sums.{fails_before_first}
 use Rattle.std.specs.List.{slice_split, position_or_len, before_first, after_first}
-use Rattle.std.specs.Option.{option_map}
-use Rattle.lalrpop_base.specs.declared.repr.Symbol.{Symbol}
-use Rattle.grammar_text.specs.Symbols.{quoted, symbol_of, symbols_of, prepend}
+use Rattle.grammar_text.specs.Symbols.{quoted}
 use Rattle.grammar_text.specs.Lines.{without_cr}
 
 -- a piece is cut off at the first such byte
@@ -26,19 +24,6 @@ cond_none false x h = refl
 pub not_quoted : (w : List ℕ) → ((rest : List ℕ) → w ≢ 34 ∷ rest) → quoted w ≡ None
 not_quoted [] h = refl
 not_quoted (b ∷ bs) h = cond_none (b == 34) _ (λ e. h bs (ap (λ c. c ∷ bs) (eqb-true b 34 e)))
-
--- a symbol more, and those of the words that are left
-pub symbols_more : (done : List Symbol) (p : Symbol) (w : List ℕ) (ws : List (List ℕ)) → symbol_of w ≡ Some p
-    → option_map (λ ps. (done ++ p ∷ []) ++ ps) (symbols_of ws) ≡ option_map (λ ps. done ++ ps) (symbols_of (w ∷ ws))
-symbols_more done p w ws e = rw e (more_at (symbols_of ws))
-  where
-    more_at : (o : Option (List Symbol)) → option_map (λ ps. (done ++ p ∷ []) ++ ps) o ≡ option_map (λ ps. done ++ ps) (prepend (Some p) o)
-    more_at None = refl
-    more_at (Some ps) = ap Some (append_assoc done (p ∷ []) ps)
-
--- a word that stands for no symbol
-pub symbols_none : (done : List Symbol) (w : List ℕ) (ws : List (List ℕ)) → symbol_of w ≡ None → option_map (λ ps. done ++ ps) (symbols_of (w ∷ ws)) ≡ None
-symbols_none done w ws e = rw e refl
 
 -- a CR at the end is cut off
 pub cr_cut : (front : List ℕ) → without_cr (front ++ 13 ∷ []) ≡ front

@@ -17,9 +17,7 @@ use Rattle.std.proofs.lemmas.Option.{slice_get_within, get_or_from_slice_get, sl
 use Rattle.std.proofs.lemmas.Map.Entries.{btree_map_get_place}
 use Rattle.std.proofs.lemmas.Map.Lookups.{CmpEqualImpliesEq, exact_bytes}
 use Rattle.std.proofs.lemmas.Map.Views.{btree_set_contains_iff}
-use Rattle.lalrpop_base.specs.Places.{AllDiffer, IsFirstRepeat}
-use Rattle.lalrpop_base.specs.Exact.{name_exact}
-use Rattle.lalrpop_base.specs.WellFormed.{IsWellFormed, IsWellFormedEntry, IsWellFormedProduction, name_cmp}
+use Rattle.lalrpop_base.specs.Words.{AllDiffer, IsFirstRepeat, name_exact, IsWellFormed, IsWellFormedEntry, IsWellFormedProduction, name_cmp}
 use Rattle.lalrpop_base.specs.contracts.repr.NonterminalStringOrd.TheImpl.Laws as name_order
 use Rattle.lalrpop_base.specs.contracts.repr.TerminalStringOrd.TheImpl.Laws as terminal_order
 use Rattle.lalrpop_base.specs.declared.repr.NonterminalString.{NonterminalString}

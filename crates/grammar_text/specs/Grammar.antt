@@ -5,8 +5,7 @@ use Rattle.std.specs.List.Sorted.{IsStrictlySortedBy}
 use Rattle.std.specs.Str.{bytes_eq}
 use Rattle.std.specs.BTreeMap.{get, IsOrdered}
 use Rattle.std.specs.declared.cmp.Ordering.{Ordering}
-use Rattle.lalrpop_base.specs.Marks.{inline_mark}
-use Rattle.lalrpop_base.specs.WellFormed.{name_cmp}
+use Rattle.lalrpop_base.specs.Words.{inline_mark, name_cmp}
 use Rattle.lalrpop_base.specs.contracts.repr.TerminalStringOrd.TheImpl as terminal
 use Rattle.lalrpop_base.specs.declared.repr.NonterminalString.{NonterminalString}
 use Rattle.lalrpop_base.specs.declared.repr.TerminalString.{TerminalString}

@@ -4,7 +4,7 @@ ghost use Rattle.std.specs.List.{list_any};
 ghost use Rattle.std.specs.Str.{bytes_eq};
 ghost use Rattle.std.specs.BTreeMap.{get, IsOrdered};
 ghost use Rattle.std.specs.BTreeSet.{contains};
-ghost use Rattle.lalrpop_base.specs.WellFormed.{name_cmp};
+ghost use Rattle.lalrpop_base.specs.Words.{name_cmp};
 ghost use Rattle.grammar_text.specs.declared.lines.PlacedLine.{PlacedLine};
 ghost use Rattle.lalrpop_base.specs.declared.repr.TerminalString.{TerminalString};
 ghost use Rattle.lalrpop_base.specs.declared.repr.NonterminalString.{NonterminalString};

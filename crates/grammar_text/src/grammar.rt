@@ -1,7 +1,7 @@
 //! Reading a grammar text.
 ghost use Rattle.std.specs.Prelude.{◌≡◌, None, position, IfOk, OnOk, IfErr, ◌<◌, ◌≤◌, ◌^◌, length};
 ghost use Rattle.std.specs.List.Sorted.{IsStrictlySortedBy};
-ghost use Rattle.lalrpop_base.specs.WellFormed.{IsWellFormed};
+ghost use Rattle.lalrpop_base.specs.Words.{IsWellFormed};
 ghost use Rattle.grammar_text.specs.declared.read_error.ReadError.TheVariants.{Memory};
 ghost use Rattle.grammar_text.specs.Lines.{lines_of, is_fault};
 ghost use Rattle.grammar_text.specs.Grammar.{StandsFor, productions_in, terminal_cmp};

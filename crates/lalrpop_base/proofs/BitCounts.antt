@@ -6,7 +6,7 @@ use Rattle.std.specs.FinMap as finite
 use Rattle.std.specs.List.{list_any}
 use Rattle.std.proofs.lemmas.Bool.{cases_Bool, cases_order, cond-false, or_left, or_right, true≢false}
 use Rattle.std.proofs.lemmas.List.{length-map}
-use Rattle.lalrpop_base.specs.Bits.{Bits, has, rising, no_bits, with_bit, join, has-no_bits, has-with_bit, has-join, has-rising, same_bits}
+use Rattle.lalrpop_base.specs.Words.{Bits, has, rising, no_bits, with_bit, join, has-no_bits, has-with_bit, has-join, has-rising, same_bits}
 use Rattle.lalrpop_base.proofs.BitLemmas.{with_bit-there}
 
 abbrev count : Bits → ℕ

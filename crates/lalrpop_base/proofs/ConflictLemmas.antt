@@ -1,14 +1,15 @@
 -- The conflicts of a state, one shift or reduction at a time.
-use Rattle.std.proofs.Common.{◌≡◌, ℕ, zero, suc, ◌+◌, ◌<◌, ◌≤◌, ⊎_elim, Bool, true, false, ◌&&◌, List, [], ◌∷◌, ◌++◌, map, length, take, drop, get_or, refl, sym, ◌∙◌, ap, arith, append_assoc}
+use Rattle.std.proofs.Common.{◌≡◌, ℕ, zero, suc, ◌+◌, ◌<◌, ◌≤◌, ⊎_elim, Bool, true, false, ◌&&◌, List, [], ◌∷◌, ◌++◌, map, length, get_or, refl, sym, ◌∙◌, ap, arith, append_assoc}
 use Rattle.std.specs.Prelude.{cond, slice_get, Option, Some, None, unwrap_or, is_some, nat_lt, IfSome, ◌↔◌}
 use Rattle.std.specs.List.{filter, flat_map, list_any}
-use Rattle.std.proofs.lemmas.List.{append-nil, take_more, take_all, drop_more, drop_all}
+use Rattle.std.proofs.lemmas.List.{append-nil}
 use Rattle.std.proofs.lemmas.List.Folds.{list_any_at}
 use Rattle.std.proofs.lemmas.Bool.{cases_Bool, or_cases, lt-ltb}
 use Rattle.std.proofs.lemmas.Option.{slice_get_read, slice_get_within, get_or_from_slice_get}
 use Rattle.std.proofs.lemmas.List.Sums.{position_or_len_is}
 use Rattle.std.specs.List.{position_or_len}
-use Rattle.lalrpop_base.specs.TerminalPlaces.{place_in}
+use Rattle.lalrpop_base.specs.Words.{place_in, Bits, has, rising, has-at, has-place, same_bits, meet, share, conflicts_on_place, shift_conflicts}
+use Rattle.lalrpop_base.specs.Words.{reduce_conflicts, later_conflicts, reduce_conflict, shift_conflict, state_conflicts}
 use Rattle.lalrpop_base.proofs.HeldTokens.{place_there}
 use mathlib.Core.Bool.{true≢false}
 use Rattle.lalrpop_base.specs.declared.repr.TerminalString.{TerminalString}
@@ -19,8 +20,7 @@ use Rattle.lalrpop_base.specs.declared.lr1_core.state.Action.TheVariants.{Reduce
 use Rattle.lalrpop_base.specs.contracts.repr.TerminalStringPartialEq.TheImpl as terminal
 use Rattle.lalrpop_base.specs.contracts.repr.TerminalStringEq.TheImpl.Laws as equality
 use Rattle.lalrpop_base.specs.contracts.exact.TerminalStringExact.TheImpl.Laws.{exact-law}
-use Rattle.lalrpop_base.specs.Bits.{Bits, has, rising, has-at, has-place, same_bits}
-use Rattle.lalrpop_base.specs.StateConflicts.{Reduction, meet, share, conflicts_on_place, shift_conflicts, reduce_conflicts, later_conflicts, reduce_conflict, shift_conflict, state_conflicts, HasNoConflict}
+use Rattle.lalrpop_base.specs.StateConflicts.{Reduction, HasNoConflict}
 use Rattle.lalrpop_base.proofs.RisingLemmas.{filter_bits}
 
 -- the bit that a set of terminals answers is the place
@@ -53,25 +53,6 @@ bit_is_place xs t (Some bit) found only = first_place xs t bit found (λ j at. s
 bit_is_place xs t None found only = no_place xs t (λ j at. none_some j None refl (only j at)) (place_in xs t) refl
 
 module _ {X Y : Type 0} (f : X → Y) (p : X → Bool) where
-  kept-append : (xs ys : List X) → map f (filter p (xs ++ ys)) ≡ map f (filter p xs) ++ map f (filter p ys)
-  kept-append [] ys = refl
-  kept-append (x ∷ xs) ys =
-      elim (p x) as (λ t. map f (cond t (x ∷ filter p (xs ++ ys)) (filter p (xs ++ ys))) ≡ map f (cond t (x ∷ filter p xs) (filter p xs)) ++ map f (filter p ys)) [
-        | true ↦ ap (λ zs. f x ∷ zs) (kept-append xs ys)
-        | false ↦ kept-append xs ys
-      ]
-
-  -- a list that has grown by what is kept of one more
-  pub kept_more : (list new start : List Y) (xs : List X) (i : ℕ) (x : X) → i < length xs → x ≡ get_or xs i x → list ≡ start ++ map f (filter p (take i xs)) → new ≡ list ++ map f (filter p (x ∷ [])) →
-      new ≡ start ++ map f (filter p (take (i + 1) xs))
-  kept_more list new start xs i x l is so_far grown =
-      let longer : take (i + 1) xs ≡ take i xs ++ x ∷ [] = take_more xs i x l ∙ ap (λ y. take i xs ++ y ∷ []) (sym is) in
-      grown ∙ ap (λ ys. ys ++ map f (filter p (x ∷ []))) so_far ∙ append_assoc start (map f (filter p (take i xs))) (map f (filter p (x ∷ [])))
-      ∙ ap (λ ys. start ++ ys) (sym (ap (λ ys. map f (filter p ys)) longer ∙ kept-append (take i xs) (x ∷ [])))
-
-  pub kept_end : (list start : List Y) (xs : List X) (i : ℕ) → length xs ≤ i → list ≡ start ++ map f (filter p (take i xs)) → list ≡ start ++ map f (filter p xs)
-  kept_end list start xs i l so_far = so_far ∙ ap (λ ys. start ++ map f (filter p ys)) (take_all i xs l)
-
   kept_none : (xs : List X) → ((k : ℕ) (x : X) → slice_get xs k ≡ Some x → p x ≡ false) → map f (filter p xs) ≡ []
   kept_none [] out = refl
   kept_none (x ∷ xs) out = ap (λ t. map f (cond t (x ∷ filter p xs) (filter p xs))) (out 0 x refl) ∙ kept_none xs (λ k y at. out (suc k) y at)
@@ -117,19 +98,6 @@ later_one state r s list new both some meets grown =
     let one : Bits → Conflict Bits = λ l. record { state = state; lookahead = l; production = r.1; action = Reduce s.1 } in
     grown ∙ ap (λ l. list ++ one l ∷ []) (meet_is r.0 s.0 both meets)
     ∙ sym (ap (λ t. list ++ map (reduce_conflict state r) (cond t (s ∷ []) [])) (shared r.0 s.0 some.0 some.1 some.2))
-
--- one reduction with each later one, then the rest
-pub reduce_more : (state : StateIndex) (list new start : List (Conflict Bits)) (rs : List Reduction) (i : ℕ) (r : Reduction) → i < length rs → r ≡ get_or rs i r →
-    list ++ reduce_conflicts state (drop i rs) ≡ start ++ reduce_conflicts state rs → new ≡ list ++ later_conflicts state r (drop (i + 1) rs) →
-    new ++ reduce_conflicts state (drop (i + 1) rs) ≡ start ++ reduce_conflicts state rs
-reduce_more state list new start rs i r l is so_far grown =
-    let rest : drop i rs ≡ r ∷ drop (i + 1) rs = drop_more rs i r l ∙ ap (λ x. x ∷ drop (i + 1) rs) (sym is) in
-    ap (λ ys. ys ++ reduce_conflicts state (drop (i + 1) rs)) grown ∙ append_assoc list (later_conflicts state r (drop (i + 1) rs)) (reduce_conflicts state (drop (i + 1) rs))
-    ∙ ap (λ ys. list ++ ys) (sym (ap (λ ys. reduce_conflicts state ys) rest)) ∙ so_far
-
-pub reduce_end : (state : StateIndex) (list start : List (Conflict Bits)) (rs : List Reduction) (i : ℕ) → length rs ≤ i → list ++ reduce_conflicts state (drop i rs) ≡ start ++ reduce_conflicts state rs →
-    list ≡ start ++ reduce_conflicts state rs
-reduce_end state list start rs i l so_far = sym (ap (λ ys. list ++ reduce_conflicts state ys) (drop_all i rs l) ∙ append-nil list) ∙ so_far
 
 -- one shift, then the rest
 pub shift_more : (terminals : List TerminalString) (state : StateIndex) (rs : List Reduction) (list new start : List (Conflict Bits)) (whole before rest : List (TerminalString × StateIndex)) (e : TerminalString × StateIndex) →

@@ -6,8 +6,8 @@ use Rattle.std.specs.Cmp.{IsTotalOrder}
 use Rattle.std.proofs.lemmas.Map.Lookups.{CmpEqualImpliesEq}
 use Rattle.std.specs.declared.cmp.Ordering.{Ordering}
 use Rattle.std.specs.Ordering.{is_eq}
-use Rattle.lalrpop_base.specs.Exact.{Exactly, name_exact}
-use Rattle.lalrpop_base.specs.Ties.{Ties}
+use Rattle.lalrpop_base.specs.Words.{Exactly, name_exact, Ties, EachEntry, Dotted, AreCoherent, IsCoherentStep, HasItem, Contents, leads, number_of, dotted_of}
+use Rattle.lalrpop_base.specs.Words.{reduction_of, contents_of, contents_at, contents_in}
 use Rattle.lalrpop_base.specs.contracts.repr.TerminalStringOrd.TheImpl as terminal_ord
 use Rattle.lalrpop_base.specs.contracts.repr.NonterminalStringOrd.TheImpl as name_ord
 use Rattle.lalrpop_base.specs.contracts.repr.TerminalStringPartialEq.TheImpl as terminal_eq
@@ -15,11 +15,7 @@ use Rattle.lalrpop_base.specs.contracts.repr.NonterminalStringPartialEq.TheImpl 
 use Rattle.lalrpop_base.specs.contracts.exact.TerminalStringExact.TheImpl as terminal_exact
 use Rattle.std.proofs.lemmas.Option.{slice_get_read, slice_get_within, get_or_from_slice_get, slice_get-map}
 use Rattle.std.proofs.lemmas.Map.Views.{IfSome-get}
-use Rattle.lalrpop_base.specs.Each.{EachEntry}
-use Rattle.lalrpop_base.specs.Items.{Dotted}
-use Rattle.lalrpop_base.specs.Coherent.{AreCoherent, IsCoherentStep, HasItem}
-use Rattle.lalrpop_base.specs.States.{Contents, Reduction, leads}
-use Rattle.lalrpop_base.specs.Contents.{number_of, dotted_of, reduction_of, contents_of, contents_at, contents_in}
+use Rattle.lalrpop_base.specs.States.{Reduction}
 use Rattle.lalrpop_base.specs.declared.repr.Production.{Production}
 use Rattle.lalrpop_base.specs.declared.repr.Symbol.{Symbol}
 use Rattle.lalrpop_base.specs.declared.repr.Symbol.TheVariants.{Nonterminal, Terminal}

@@ -1,11 +1,9 @@
 -- Lists of dotted productions, one more.
 use Rattle.std.proofs.Common.{◌≡◌, ℕ, zero, suc, ◌+◌, ◌<◌, List, [], ◌∷◌, length, get_or, refl, sym, ◌∙◌, ap, arith, ⊎_elim}
 use Rattle.std.specs.Prelude.{slice_get, Some}
-use Rattle.std.proofs.lemmas.List.{length-map}
 use Rattle.std.proofs.lemmas.Bool.{cases_lt}
 use Rattle.lalrpop_base.proofs.EachLemmas.{same_at}
-use Rattle.lalrpop_base.specs.Collapsible.{dots}
-use Rattle.lalrpop_base.specs.Items.{Dotted}
+use Rattle.lalrpop_base.specs.Words.{dots, Dotted}
 use Rattle.lalrpop_base.specs.declared.repr.Production.{Production}
 
 -- items that agree at each place below a number
@@ -58,6 +56,3 @@ module _ {L : Type 0} where
       let index : u.index ≡ v.index = ap (λ (d : Production × ℕ). d.1) heads in
       (rw (← same_a, ← same_b) production, rw (← same_a, ← same_b) index)
   agree_of_dots (u ∷ us) (v ∷ vs) e (suc k) x y at_a at_b = let rest : dots us ≡ dots vs = cc in agree_of_dots us vs rest k x y at_a at_b
-
-  pub dots_length : (a b : List (Dotted L)) → dots a ≡ dots b → length a ≡ length b
-  dots_length a b e = sym (length-map a (λ (i : Dotted L). (i.production, i.index))) ∙ ap length e ∙ length-map b (λ (i : Dotted L). (i.production, i.index))

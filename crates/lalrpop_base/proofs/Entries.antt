@@ -4,12 +4,9 @@ use Rattle.std.specs.Prelude.{Option, unwrap_or}
 use Rattle.lalrpop_base.specs.declared.repr.NonterminalString.{NonterminalString}
 use Rattle.lalrpop_base.specs.declared.repr.TerminalString.{TerminalString}
 use Rattle.lalrpop_base.specs.declared.repr.grammar.NonterminalData.{NonterminalData}
-use Rattle.lalrpop_base.specs.WellFormed.{IsWellFormedEntry, AreWellFormedEntries}
+use Rattle.lalrpop_base.specs.Words.{IsWellFormedEntry, AreWellFormedEntries}
 
 module _ (terminals : List TerminalString) (actions : ℕ) where
-  abbrev Good : NonterminalString → NonterminalData → Type 0
-  Good name entry = IsWellFormedEntry terminals actions name entry.productions.items
-
   pub entries_cons : (name : NonterminalString) (entry : NonterminalData) (rest whole : List (NonterminalString × NonterminalData)) → whole ≡ (name, entry) ∷ rest →
       IsWellFormedEntry terminals actions name entry.productions.items → AreWellFormedEntries terminals actions rest → AreWellFormedEntries terminals actions whole
   entries_cons name entry rest whole e good goods = rw e (cons_at name entry rest good goods)

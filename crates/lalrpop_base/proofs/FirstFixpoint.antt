@@ -16,11 +16,9 @@ use Rattle.lalrpop_base.specs.declared.repr.Symbol.TheVariants.{Nonterminal, Ter
 use Rattle.lalrpop_base.specs.declared.repr.Production.{Production}
 use Rattle.lalrpop_base.specs.declared.repr.grammar.NonterminalData.{NonterminalData}
 use Rattle.lalrpop_base.specs.declared.repr.grammar.Grammar.{Grammar}
-use Rattle.lalrpop_base.specs.Bits.{has, no_bits, has-no_bits}
-use Rattle.lalrpop_base.specs.FirstSets.{NullableBy, FirstBy, AreFirstSets}
-use Rattle.lalrpop_base.specs.WellFormed.{name_cmp, productions, HasKnownTerminals, IsWellFormed, rules_of}
-use Rattle.lalrpop_base.specs.First.{AreFirstSetsOf}
-use Rattle.lalrpop_base.specs.FirstTables.{Table, set_of, is_in, Gives, IsRight, IsClosed, IsPass, AreReady, weight, empty_sets}
+use Rattle.lalrpop_base.specs.Words.{has, no_bits, has-no_bits, NullableBy, FirstBy, AreFirstSets, name_cmp, productions, HasKnownTerminals, IsWellFormed}
+use Rattle.lalrpop_base.specs.Words.{rules_of, AreFirstSetsOf, Table, set_of, is_in, IsRight, IsClosed, IsPass, AreReady, weight, empty_sets}
+use Rattle.lalrpop_base.specs.FirstTables.{Gives}
 use Rattle.lalrpop_base.proofs.theory.FirstSets.{nullable_by, first_by}
 use Rattle.lalrpop_base.proofs.FirstMeaning.{at_end}
 use Rattle.lalrpop_base.proofs.FirstNames.{has_set, has_own}

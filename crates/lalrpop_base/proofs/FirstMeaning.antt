@@ -8,12 +8,9 @@ use Rattle.lalrpop_base.specs.declared.repr.TerminalString.{TerminalString}
 use Rattle.lalrpop_base.specs.declared.repr.Symbol.{Symbol}
 use Rattle.lalrpop_base.specs.declared.repr.Symbol.TheVariants.{Nonterminal, Terminal}
 use Rattle.lalrpop_base.specs.declared.repr.Production.{Production}
-use Rattle.lalrpop_base.specs.Bits.{Bits, has, join, has-join}
-use Rattle.lalrpop_base.specs.Grammar.{as_it_is, IsFirst, IsNullable}
-use Rattle.lalrpop_base.specs.WellFormed.{Rules}
-use Rattle.lalrpop_base.specs.Tokens.{FitsTokens}
-use Rattle.lalrpop_base.specs.First.{IsFirstSet, IsFirstSetBefore, AreFirstSetsOf}
-use Rattle.lalrpop_base.specs.FirstTables.{Table, Gives, IsRight}
+use Rattle.lalrpop_base.specs.Words.{Bits, has, join, has-join, as_it_is, IsFirst, IsNullable, Rules, FitsTokens, IsFirstSet, IsFirstSetBefore, AreFirstSetsOf}
+use Rattle.lalrpop_base.specs.Words.{Table, IsRight}
+use Rattle.lalrpop_base.specs.FirstTables.{Gives}
 use Rattle.lalrpop_base.proofs.theory.Forests.{nullable-cons, first-cons, first-nil, forest-terminal, derives_forest}
 
 -- ---- what a right table gives is right

@@ -15,10 +15,9 @@ use Rattle.lalrpop_base.specs.declared.repr.NonterminalString.{NonterminalString
 use Rattle.lalrpop_base.specs.declared.repr.TerminalString.{TerminalString}
 use Rattle.lalrpop_base.specs.declared.repr.Symbol.TheVariants.{Nonterminal}
 use Rattle.lalrpop_base.specs.declared.repr.Production.{Production}
-use Rattle.lalrpop_base.specs.Bits.{Bits, has, rising, no_bits, join, has-join}
-use Rattle.lalrpop_base.specs.Grammar.{IsFirst, IsNullable}
-use Rattle.lalrpop_base.specs.WellFormed.{name_cmp}
-use Rattle.lalrpop_base.specs.FirstTables.{Table, set_of, is_in, Gives, IsRight, IsJoinedAt, IsPass, weight}
+use Rattle.lalrpop_base.specs.Words.{Bits, has, rising, no_bits, join, has-join, IsFirst, IsNullable, name_cmp, Table, set_of, is_in, IsRight, IsJoinedAt}
+use Rattle.lalrpop_base.specs.Words.{IsPass, weight}
+use Rattle.lalrpop_base.specs.FirstTables.{Gives}
 use Rattle.lalrpop_base.proofs.BitCounts.{join_larger, rising_small}
 use Rattle.lalrpop_base.proofs.theory.Derivations.{Derives-trans, Derives-production}
 use Rattle.lalrpop_base.proofs.FirstMeaning.{Gives-first, Gives-nullable, Gives-fits}

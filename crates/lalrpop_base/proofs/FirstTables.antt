@@ -3,15 +3,14 @@ use Rattle.std.proofs.Common.{◌≡◌, ◌≢◌, ℕ, ◌+◌, ◌<◌, ◌�
 use Rattle.std.specs.Prelude.{slice_get}
 use Rattle.std.specs.BTreeMap.{is_at}
 use Rattle.std.specs.Map.{lookup}
-use Rattle.std.proofs.lemmas.Bool.{false≢true, and_parts, and_from, or_cases, or_left, or_right, ne_eqb, not_from_false, not-true, cases_Bool, eqb-false}
+use Rattle.std.proofs.lemmas.Bool.{false≢true, or_cases, or_left, or_right, cases_Bool}
 use Rattle.std.proofs.lemmas.List.{drop_more, drop_all}
 use Rattle.lalrpop_base.specs.declared.repr.NonterminalString.{NonterminalString}
 use Rattle.lalrpop_base.specs.declared.repr.TerminalString.{TerminalString}
 use Rattle.lalrpop_base.specs.declared.repr.Symbol.{Symbol}
-use Rattle.lalrpop_base.specs.declared.repr.Symbol.TheVariants.{Nonterminal, Terminal}
-use Rattle.lalrpop_base.specs.Bits.{Bits, has, no_bits, with_bit, join, has-no_bits, has-with_bit, has-join}
-use Rattle.lalrpop_base.specs.WellFormed.{name_cmp}
-use Rattle.lalrpop_base.specs.FirstTables.{Table, set_of, is_in, Gives, IsNameJoined}
+use Rattle.lalrpop_base.specs.declared.repr.Symbol.TheVariants.{Terminal}
+use Rattle.lalrpop_base.specs.Words.{Bits, has, no_bits, with_bit, join, has-no_bits, has-with_bit, has-join, name_cmp, Table, set_of, is_in, IsNameJoined}
+use Rattle.lalrpop_base.specs.FirstTables.{Gives}
 
 -- ---- one name
 or_false : (a : Bool) → (a || false) ≡ a
@@ -45,15 +44,6 @@ Name-absent terminals table name old out at =
       nullable = sym (none (length terminals));
       members = λ bit. end_is_out old (length terminals) bit out ∙ sym (ap (λ b. b && not (bit == length terminals)) (ap (λ b. has old bit || b) (none bit) ∙ or_false (has old bit)));
     }
-
--- a bit of the new set is of the old one or of the name's, and is not Eof
-from_joined : (told : Bool) (terminals : List TerminalString) (table : Table) (name : NonterminalString) (old new : Bits) → IsNameJoined told terminals table name old new → (bit : ℕ) → has new bit ≡ true → (bit ≢ length terminals) × ((has old bit ≡ true) ⊎ (is_in table name bit ≡ true))
-from_joined told terminals table name old new j bit h =
-    let parts = and_parts (has old bit || is_in table name bit) (not (bit == length terminals)) (sym (j.members bit) ∙ h) in
-    (eqb-false bit (length terminals) (not-true _ parts.1), or_cases (has old bit) (is_in table name bit) parts.0)
-
-to_joined : (told : Bool) (terminals : List TerminalString) (table : Table) (name : NonterminalString) (old new : Bits) → IsNameJoined told terminals table name old new → (bit : ℕ) → bit ≢ length terminals → (has old bit || is_in table name bit) ≡ true → has new bit ≡ true
-to_joined told terminals table name old new j bit apart h = j.members bit ∙ and_from _ _ h (not_from_false _ (ne_eqb bit (length terminals) apart))
 
 -- ---- a list of symbols, up to a place
 pub record FirstSoFar (terminals : List TerminalString) (table : Table) (l : List Symbol) (set : Bits) (index : ℕ) : Type 0 where
@@ -102,42 +92,3 @@ First-end terminals table l index i bit =
       λ g. let given : Gives terminals table [] bit = subst (λ (m : List Symbol). Gives terminals table m bit) none g in given,
       λ same. let given : Gives terminals table [] bit = same in subst (λ (m : List Symbol). Gives terminals table m bit) (sym none) given,
     )
-
--- a name whose set has no Eof is the last one read
-pub First-last : (terminals : List TerminalString) (table : Table) (l : List Symbol) (set new : Bits) (index : ℕ) (x : Symbol) (a : NonterminalString) → FirstSoFar terminals table l set index → index < length l → x ≡ get_or l index x → x ≡ Nonterminal a → IsNameJoined false terminals table a set new → (bit : ℕ) → (has new bit ≡ true) ↔ Gives terminals table l bit
-First-last terminals table l set new index x a h i e is j bit =
-    let front : drop index l ≡ Nonterminal a ∷ drop (index + 1) l = head_at l index x i e ∙ ap (λ (y : Symbol). y ∷ drop (index + 1) l) is in (
-      λ t. let r = from_joined false terminals table a set new j bit t in elim r.1 [
-        | inl there ↦ h.right bit there
-        | inr there ↦ h.onward bit (let given : Gives terminals table (Nonterminal a ∷ drop (index + 1) l) bit = inl (there, r.0) in subst (λ (m : List Symbol). Gives terminals table m bit) (sym front) given)
-      ],
-      λ g. elim (h.all bit g) [
-        | inl there ↦ to_joined false terminals table a set new j bit (λ same. false≢true (sym h.apart ∙ subst (λ k. has set k ≡ true) same there)) (or_left (has set bit) (is_in table a bit) there)
-        | inr rest ↦
-            let given : Gives terminals table (Nonterminal a ∷ drop (index + 1) l) bit = subst (λ (m : List Symbol). Gives terminals table m bit) front rest in
-            elim given [ inl r ↦ to_joined false terminals table a set new j bit r.1 (or_right (has set bit) (is_in table a bit) r.0) | inr r ↦ absurd (false≢true (j.nullable ∙ r.0)) ]
-      ],
-    )
-
--- past a name whose set has Eof the reading goes on
-pub First-more : (terminals : List TerminalString) (table : Table) (l : List Symbol) (set new : Bits) (index : ℕ) (x : Symbol) (a : NonterminalString) → FirstSoFar terminals table l set index → index < length l → x ≡ get_or l index x → x ≡ Nonterminal a → IsNameJoined true terminals table a set new → FirstSoFar terminals table l new (index + 1)
-First-more terminals table l set new index x a h i e is j =
-    let front : drop index l ≡ Nonterminal a ∷ drop (index + 1) l = head_at l index x i e ∙ ap (λ (y : Symbol). y ∷ drop (index + 1) l) is in
-    let into : (bit : ℕ) → Gives terminals table (Nonterminal a ∷ drop (index + 1) l) bit → Gives terminals table l bit = λ bit given. h.onward bit (subst (λ (m : List Symbol). Gives terminals table m bit) (sym front) given) in
-    record {
-      apart = end_taken;
-      right = λ bit t. let r = from_joined true terminals table a set new j bit t in elim r.1 [ inl there ↦ h.right bit there | inr there ↦ into bit (inl (there, r.0)) ];
-      onward = λ bit g. into bit (inr (sym j.nullable, g));
-      all = λ bit g. elim (h.all bit g) [
-        | inl there ↦ inl (to_joined true terminals table a set new j bit (λ same. false≢true (sym h.apart ∙ subst (λ k. has set k ≡ true) same there)) (or_left (has set bit) (is_in table a bit) there))
-        | inr rest ↦
-            let given : Gives terminals table (Nonterminal a ∷ drop (index + 1) l) bit = subst (λ (m : List Symbol). Gives terminals table m bit) front rest in
-            elim given [ inl r ↦ inl (to_joined true terminals table a set new j bit r.1 (or_right (has set bit) (is_in table a bit) r.0)) | inr r ↦ inr r.1 ]
-      ];
-    }
-  where
-    end_taken : has new (length terminals) ≡ false
-    end_taken = elim (cases_Bool (has new (length terminals))) [
-      | inl t ↦ absurd ((from_joined true terminals table a set new j (length terminals) t).0 refl)
-      | inr f ↦ f
-    ]

@@ -6,11 +6,7 @@ use Rattle.std.proofs.lemmas.List.Quantifiers.{position-Some}
 use Rattle.std.proofs.lemmas.List.Sums.{position_or_len_is}
 use Rattle.std.specs.List.{position_or_len}
 use Rattle.std.proofs.lemmas.Bool.{lt-ltb}
-use Rattle.lalrpop_base.specs.Bits.{Bits, has}
-use Rattle.lalrpop_base.specs.Places.{AllDiffer}
-use Rattle.lalrpop_base.specs.TerminalPlaces.{place_in}
-use Rattle.lalrpop_base.specs.Tokens.{HasToken}
-use Rattle.lalrpop_base.specs.Contents.{has_at, holds_token}
+use Rattle.lalrpop_base.specs.Words.{Bits, has, AllDiffer, place_in, HasToken, has_at, holds_token}
 use Rattle.lalrpop_base.specs.contracts.repr.TerminalStringPartialEq.TheImpl as terminal_eq
 use Rattle.lalrpop_base.specs.contracts.repr.TerminalStringEq.TheImpl as terminal_laws
 use Rattle.lalrpop_base.specs.contracts.exact.TerminalStringExact.TheImpl as terminal_exact

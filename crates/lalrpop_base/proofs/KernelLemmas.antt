@@ -11,9 +11,7 @@ use Rattle.std.specs.BTreeMap.{BTreeMap, get, is_at, insert_entry, Updates}
 use Rattle.std.proofs.lemmas.Option.{slice_get_within, get_or_from_slice_get}
 use Rattle.std.proofs.lemmas.Bool.{cases_lt, cases_Bool, ne_eqb}
 use Rattle.std.proofs.lemmas.List.{drop-append-le}
-use Rattle.lalrpop_base.specs.Exact.{Exactly}
-use Rattle.lalrpop_base.specs.Places.{AllDiffer}
-use Rattle.lalrpop_base.specs.Kernels.{key_numbered, keys_below, by_number, IsNumbering, AddsOnce}
+use Rattle.lalrpop_base.specs.Words.{Exactly, AllDiffer, key_numbered, keys_below, by_number, IsNumbering, AddsOnce}
 
 -- ---- an entry more
 

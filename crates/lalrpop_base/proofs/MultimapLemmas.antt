@@ -8,7 +8,7 @@ use Rattle.std.specs.Cmp.{IsTotalOrder, Equal-is, eq_by_cmp_equiv}
 use Rattle.std.specs.Map.{lookup}
 use Rattle.std.specs.BTreeMap.{is_at}
 use Rattle.std.proofs.lemmas.Bool.{cases_Bool}
-use Rattle.lalrpop_base.specs.Multimaps.{collection_at, PushesAt, PushesAll, IsCollected, values_at, SameAt, AreSame, at_itself}
+use Rattle.lalrpop_base.specs.Words.{collection_at, PushesAt, PushesAll, IsCollected, values_at, SameAt, AreSame, at_itself}
 
 -- equal keys have one collection
 pub tied_at : {K C : Type 0} {cmp : K → K → Ordering} → IsTotalOrder cmp → (k q : K) → cmp k q ≡ Equal → (es : List (K × C)) → collection_at cmp es q ≡ collection_at cmp es k

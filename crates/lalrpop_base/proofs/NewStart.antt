@@ -4,7 +4,7 @@ use Rattle.std.specs.Prelude.{slice_get, Contains, vec_len}
 use Rattle.std.specs.declared.cmp.Ordering.{Ordering}
 use Rattle.std.specs.declared.cmp.Ordering.TheVariants.{Less, Equal, Greater}
 use Rattle.std.specs.Ordering.{is_eq, match_ordering}
-use Rattle.std.specs.BTreeMap.{is_at, insert_entry, get}
+use Rattle.std.specs.BTreeMap.{is_at, insert_entry}
 use Rattle.std.specs.Map.{lookup}
 use Rattle.std.specs.List.{flat_map}
 use Rattle.std.proofs.lemmas.List.Elements.{Contains-append_cases, Contains-append_left, Contains-append_right}
@@ -15,10 +15,8 @@ use Rattle.lalrpop_base.specs.declared.repr.Symbol.TheVariants.{Nonterminal, Ter
 use Rattle.lalrpop_base.specs.declared.repr.Production.{Production}
 use Rattle.lalrpop_base.specs.declared.repr.grammar.NonterminalData.{NonterminalData}
 use Rattle.lalrpop_base.specs.declared.repr.grammar.Grammar.{Grammar}
-use Rattle.lalrpop_base.specs.Grammar.{IsOnNoRightSide}
-use Rattle.lalrpop_base.specs.WellFormed.{name_cmp, productions, IsWellFormed, IsWellFormedEntry, IsWellFormedProduction}
-use Rattle.lalrpop_base.specs.Augmented.{IsAugmented}
-use Rattle.lalrpop_base.specs.NewStart.{underscored, IsUnused, IsNewName, start_production, start_action, HasNewStart}
+use Rattle.lalrpop_base.specs.Words.{IsOnNoRightSide, name_cmp, productions, IsWellFormed, IsWellFormedEntry, IsWellFormedProduction, IsAugmented, underscored}
+use Rattle.lalrpop_base.specs.Words.{IsUnused, start_production, start_action, HasNewStart}
 use Rattle.lalrpop_base.proofs.FirstNames.{name_same, has_own}
 use Rattle.lalrpop_base.proofs.theory.Lists.{same_some, some≢none, contains-cons, contains-nil, contains_head, contains_tail, contains_place, place_contains, not_both, length-more}
 
@@ -281,9 +279,6 @@ pub record IsTried (g : Grammar) (start f : NonterminalString) : Type 0 where
   pub name : f ≡ underscored (suc (suc more)) start
   pub first : (fewer : ℕ) → fewer < more → IsUnused g (underscored (suc (suc fewer)) start) → ⊥
 
-pub Tried-begin : (g : Grammar) (start one two : NonterminalString) → one ≡ underscored 1 start → two ≡ underscored 1 one → IsTried g start two
-Tried-begin g start one two a b = record { more = 0; name = b ∙ ap (underscored 1) a; first = λ fewer less free. absurd (omega (arith, less)) }
-
 pub Tried-more : (g : Grammar) (start f next : NonterminalString) → IsTried g start f → (IsUnused g f → ⊥) → next ≡ underscored 1 f → IsTried g start next
 Tried-more g start f next so_far used is = record {
   more = suc so_far.more;
@@ -293,9 +288,6 @@ Tried-more g start f next so_far used is = record {
     | inr same ↦ used (subst (IsUnused g) (ap (λ n. underscored (suc (suc n)) start) same ∙ sym so_far.name) free)
   ];
 }
-
-pub Tried-end : (g : Grammar) (start f : NonterminalString) → IsTried g start f → IsUnused g f → IsNewName g start f
-Tried-end g start f so_far free = record { more = so_far.more; name = so_far.name; unused = free; first = so_far.first }
 
 -- and each is longer than the one before, up to the longest
 pub Tried-falls : (g : Grammar) (f next : NonterminalString) → (IsUnused g f → ⊥) → next ≡ underscored 1 f → suc (names_size g) - length next.text < suc (names_size g) - length f.text

@@ -9,8 +9,7 @@ use Rattle.lalrpop_base.specs.declared.repr.TerminalString.{TerminalString}
 use Rattle.lalrpop_base.specs.contracts.repr.TerminalStringOrd.TheImpl as terminal
 use Rattle.lalrpop_base.specs.contracts.repr.TerminalStringOrd.TheImpl.Laws as order
 use Rattle.lalrpop_base.specs.contracts.exact.TerminalStringExact.TheImpl.Laws.{exact-law}
-use Rattle.lalrpop_base.specs.Places.{AllDiffer, DifferBelow, IsFirstRepeat}
-use Rattle.lalrpop_base.specs.TerminalPlaces.{HasPlaces}
+use Rattle.lalrpop_base.specs.Words.{AllDiffer, DifferBelow, IsFirstRepeat, HasPlaces}
 
 -- terminals that tie in order are one
 pub tied_terminals : (x y : TerminalString) → is_at (terminal.ghosts.cmp x) y ≡ true → x ≡ y

@@ -9,8 +9,8 @@ use Rattle.std.specs.List.{list_any, filter}
 use Rattle.std.proofs.lemmas.List.{drop_all, append-nil}
 use Rattle.std.proofs.lemmas.List.Folds.{list_any_at}
 use Rattle.std.proofs.lemmas.Bool.{cases_Bool, cases_order, cases_lt, or_cases, lt-ltb, le-ltb}
-use Rattle.lalrpop_base.specs.Bits.{Bits, has, rising, bits_of, join, IsRising, has-bits_of, has-rising, has-join, same_bits, bits_of-rising}
-use Rattle.lalrpop_base.specs.Rising.{merge, merge_head, lesser_first, IsFoundAt, IsGapAt}
+use Rattle.lalrpop_base.specs.Words.{Bits, has, rising, bits_of, join, IsRising, has-bits_of, has-rising, has-join, same_bits, bits_of-rising, merge}
+use Rattle.lalrpop_base.specs.Words.{merge_head, lesser_first, IsFoundAt, IsGapAt}
 
 -- the list rises, from a number on
 abbrev pub RisesFrom : ℕ → List ℕ → Type 0

@@ -3,12 +3,10 @@ use Rattle.std.proofs.Common.{◌≡◌, ℕ, zero, suc, ◌<◌, ◌≤◌, ◌
 use Rattle.std.specs.Prelude.{cond, nat_lt, slice_get, Option, Some, None, unwrap_or}
 use Rattle.std.proofs.lemmas.List.{append-nil, drop_all}
 use Rattle.std.proofs.lemmas.Bool.{cases_Bool, ltb-true, ltb-false, lt-ltb}
-use Rattle.lalrpop_base.specs.Items.{Dotted}
+use Rattle.lalrpop_base.specs.Words.{Dotted, IsLastLongest, IsFirstShortest, IsFirstShortestOrEmpty, prefix_of, name_of, has_moved, moved, AreAll, shorter_of}
+use Rattle.lalrpop_base.specs.Words.{longer_of, shortest_from, longest_from, EachItem}
 use Rattle.lalrpop_base.specs.declared.repr.Symbol.{Symbol}
 use Rattle.lalrpop_base.specs.declared.repr.NonterminalString.{NonterminalString}
-use Rattle.lalrpop_base.specs.Views.{IsLastLongest, IsFirstShortest, IsFirstShortestOrEmpty, prefix_of, name_of, has_moved, moved, AreAll}
-use Rattle.lalrpop_base.specs.ViewFolds.{shorter_of, longer_of, shortest_from, longest_from}
-use Rattle.lalrpop_base.specs.Each.{EachItem}
 
 module _ {X : Type 0} where
   -- what stands in a list with one more at its end

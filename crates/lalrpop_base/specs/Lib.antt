@@ -20,8 +20,8 @@ pub mod Kernels
 pub mod Lanes
 pub mod Laws
 pub mod Marks
-pub mod Names
 pub mod Multimaps
+pub mod Names
 pub mod NewStart
 pub mod NilConflicts
 pub mod Places
@@ -41,3 +41,4 @@ pub mod Validity
 pub mod ViewFolds
 pub mod Views
 pub mod WellFormed
+pub mod Words

@@ -7,7 +7,7 @@ mod runs;
 mod trace_graphs;
 mod traces;
 
-ghost use Rattle.lalrpop_base.specs.WellFormed.{IsWellFormed};
+ghost use Rattle.lalrpop_base.specs.Words.{IsWellFormed};
 
 use grammar_text::grammar::read;
 use grammar_text::read_error::ReadError;

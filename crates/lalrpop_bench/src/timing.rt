@@ -1,7 +1,7 @@
 //! How long each part of the way to the tables of a grammar takes.
 mod parts;
 
-ghost use Rattle.lalrpop_base.specs.WellFormed.{IsWellFormed};
+ghost use Rattle.lalrpop_base.specs.Words.{IsWellFormed};
 
 use grammar_text::grammar::read;
 use grammar_text::read_error::ReadError;

@@ -7,13 +7,8 @@ use Rattle.std.specs.Ordering.{is_eq, match_ordering}
 use Rattle.std.specs.BTreeMap.{is_at, insert_entry}
 use Rattle.std.specs.Map.{lookup}
 use Rattle.std.proofs.lemmas.List.Elements.{filter-append}
-use Rattle.lalrpop_base.specs.Augmented.{IsAugmented}
-use Rattle.lalrpop_base.specs.Contents.{contents}
-use Rattle.lalrpop_base.specs.Grammar.{IsOnNoRightSide}
-use Rattle.lalrpop_base.specs.NewStart.{start_production, HasNewStart}
-use Rattle.lalrpop_base.specs.Runs.{Outcome, Parsed, HasOutcome, IsFirstWrong}
-use Rattle.lalrpop_base.specs.Trees.{Tree, Node, no_trees, beside, trees_of, nodes, IsParseTree}
-use Rattle.lalrpop_base.specs.WellFormed.{IsWellFormed, name_cmp, productions}
+use Rattle.lalrpop_base.specs.Words.{IsAugmented, contents, IsOnNoRightSide, start_production, HasNewStart, Outcome, Parsed, HasOutcome, IsFirstWrong, Tree}
+use Rattle.lalrpop_base.specs.Words.{Node, no_trees, beside, trees_of, nodes, IsParseTree, IsWellFormed, name_cmp, productions}
 use Rattle.lalrpop_base.specs.declared.repr.NonterminalString.{NonterminalString}
 use Rattle.lalrpop_base.specs.declared.repr.Production.{Production}
 use Rattle.lalrpop_base.specs.declared.repr.TerminalString.{TerminalString}
@@ -24,11 +19,9 @@ use Rattle.lalrpop_base.proofs.NewStart.{Entry, listed, is_augmented}
 use Rattle.lalrpop_base.proofs.theory.Augmented.{alone, from_old, one_more, augmented_trees, same_wrong}
 use Rattle.lalrpop_base.proofs.theory.Lists.{contains_head, contains_tail, some≢none}
 use Rattle.lalrpop_tables.specs.declared.build.options.Options.{Options}
-use Rattle.lalrpop_lr1.specs.AnyStart.{productions_but, seen_over, IsAboveOld, IsTreeBelow, IsOutcomeBelow, TellsTreesBelow, above, IsToldByTablesAbove}
-use Rattle.lalrpop_lr1.specs.FaithfulAnswers.{IsTreeWithin, IsOutcomeFor}
-use Rattle.lalrpop_lr1.specs.Headline.{IsToldByTables}
-use Rattle.lalrpop_lr1.specs.ParseAnswers.{IfRefusedAt, TellsTrees, IsOutcomeTold}
-use Rattle.lalrpop_lr1.specs.ParseTrees.{tree_of}
+use Rattle.lalrpop_lr1.specs.Words.{productions_but, seen_over, IsAboveOld, IsTreeBelow, IsOutcomeBelow, TellsTreesBelow, IsToldByTablesAbove, IsTreeWithin}
+use Rattle.lalrpop_lr1.specs.Words.{IsOutcomeFor, IsToldByTables, IfRefusedAt, TellsTrees, IsOutcomeTold, tree_of}
+use Rattle.lalrpop_lr1.specs.AnyStart.{above}
 use Rattle.lalrpop_lr1.specs.declared.headline.parse_error.ParseError.{ParseError}
 use Rattle.lalrpop_lr1.specs.declared.headline.parse_error.ParseError.TheVariants.{Conflicts, Refused, Limit, Memory}
 use Rattle.lalrpop_lr1.specs.declared.interpret.tree.ParseTree.{ParseTree}

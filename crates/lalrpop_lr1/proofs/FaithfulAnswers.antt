@@ -1,10 +1,8 @@
 -- From the outcome of a run, what an answer says of a grammar to which the states are faithful.
 use Rattle.std.proofs.Common.{◌≡◌, ℕ, zero, suc, ◌<◌, ◌≤◌, ◌⊎◌, inl, inr, List, [], ◌∷◌, ◌+◌, true, refl, sym, ap, subst, ◌∙◌, arith}
 use Rattle.std.specs.Prelude.{Result, Ok, Err, IfOk, IfErr}
-use Rattle.lalrpop_base.specs.Runs.{Configuration, begin, Stands, Ends, move, Reaches, here, Outcome, Parsed, Refused, Limit, HasOutcome, cut_off, IsFirstWrong, IsPromptRefusal}
-use Rattle.lalrpop_base.specs.States.{Contents, AreFaithful}
-use Rattle.lalrpop_base.specs.Grammar.{IsOnNoRightSide}
-use Rattle.lalrpop_base.specs.Trees.{Tree, beside, no_trees, nodes, IsParseTree}
+use Rattle.lalrpop_base.specs.Words.{Configuration, begin, Stands, Ends, move, Reaches, here, Outcome, Parsed, Refused, Limit, HasOutcome, cut_off}
+use Rattle.lalrpop_base.specs.Words.{IsFirstWrong, IsPromptRefusal, Contents, AreFaithful, IsOnNoRightSide, Tree, beside, no_trees, nodes, IsParseTree}
 use Rattle.lalrpop_base.specs.declared.lr1_core.state.State.{State}
 use Rattle.lalrpop_base.specs.declared.repr.NonterminalString.{NonterminalString}
 use Rattle.lalrpop_base.specs.declared.repr.Production.{Production}
@@ -17,11 +15,9 @@ use Rattle.lalrpop_base.proofs.theory.Sentences.{EndsWith, one_tree, tree_parsed
 use Rattle.lalrpop_base.proofs.theory.Steps.{ends_halts, stands_halts, together}
 use Rattle.std.specs.declared.vec.Vec.{Vec}
 use Rattle.lalrpop_base.specs.declared.lr1_core.state.StateIndex.{StateIndex}
-use Rattle.lalrpop_lr1.specs.Answers.{IsAnswer, IsPartialAnswer}
-use Rattle.lalrpop_lr1.specs.Reading.{StopsReading, PartialOutcome, Stack, Stop, HasPartialOutcome, all_read, stopped}
+use Rattle.lalrpop_lr1.specs.Words.{IsAnswer, IsPartialAnswer, StopsReading, PartialOutcome, Stack, Stop, HasPartialOutcome, all_read, stopped, ForEachGrammar}
+use Rattle.lalrpop_lr1.specs.Words.{ForEachCanonical, HasOneTree, IsTreeWithin, IsCutOff, IsOutcomeFor, AnswersTrees, IfRefused, IfLimit, IsLimit, tree_of}
 use Rattle.lalrpop_lr1.proofs.Outcomes.{stop_outcome, whole_outcome}
-use Rattle.lalrpop_lr1.specs.FaithfulAnswers.{ForEachGrammar, ForEachCanonical, HasOneTree, IsTreeWithin, IsCutOff, IsOutcomeFor, AnswersTrees, IfRefused, IfLimit, IsLimit}
-use Rattle.lalrpop_lr1.specs.ParseTrees.{tree_of}
 use Rattle.lalrpop_lr1.specs.declared.interpret.error.InterpretError.{InterpretError}
 use Rattle.lalrpop_lr1.specs.declared.interpret.error.InterpretError.TheVariants.{Refused as RefusedBy, Limit as LimitPassed, Memory}
 use Rattle.lalrpop_lr1.specs.declared.interpret.tree.ParseTree.{ParseTree}

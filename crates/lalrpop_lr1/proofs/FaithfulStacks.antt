@@ -3,10 +3,8 @@ use Rattle.std.proofs.Common.{◌≡◌, ℕ, List, [], ◌∷◌, ◌++◌, map
 use Rattle.std.specs.Prelude.{Result, Ok, Err, IfOk}
 use Rattle.std.specs.declared.vec.Vec.{Vec}
 use Rattle.std.proofs.lemmas.List.{map-append}
-use Rattle.lalrpop_base.specs.Contents.{number_of}
-use Rattle.lalrpop_base.specs.Grammar.{IsBeginning, symbols_of, Derives}
-use Rattle.lalrpop_base.specs.Runs.{Configuration, begin, Reaches, Outcome, Refused, IsFirstWrong, at_terminal, at_end}
-use Rattle.lalrpop_base.specs.States.{Contents, AreFaithful}
+use Rattle.lalrpop_base.specs.Words.{number_of, IsBeginning, symbols_of, Derives, Configuration, begin, Reaches, Outcome, Refused, IsFirstWrong, at_terminal}
+use Rattle.lalrpop_base.specs.Words.{at_end, Contents, AreFaithful}
 use Rattle.lalrpop_base.specs.declared.lookahead.token.Token.{Token}
 use Rattle.lalrpop_base.specs.declared.lookahead.token.Token.TheVariants.{Eof, Terminal as TokenOf}
 use Rattle.lalrpop_base.specs.declared.lr1_core.state.State.{State}
@@ -18,9 +16,8 @@ use Rattle.lalrpop_base.specs.declared.repr.TerminalString.{TerminalString}
 use Rattle.lalrpop_base.proofs.theory.Refusals.{stack_begins, refused_wrong}
 use Rattle.lalrpop_base.proofs.theory.Runs.{Tracks, run_tracks, begin_tracks}
 use Rattle.lalrpop_base.proofs.theory.Stacks.{spelled}
-use Rattle.lalrpop_lr1.specs.Answers.{IsPartialAnswer}
-use Rattle.lalrpop_lr1.specs.FaithfulAnswers.{ForEachGrammar, TakesBeginning}
-use Rattle.lalrpop_lr1.specs.Reading.{StopsReading, stuck, early_end, cut_off, PartialOutcome, Stack, Stop, HasPartialOutcome, all_read, stopped}
+use Rattle.lalrpop_lr1.specs.Words.{IsPartialAnswer, ForEachGrammar, TakesBeginning, StopsReading, stuck, early_end, cut_off, PartialOutcome, Stack, Stop}
+use Rattle.lalrpop_lr1.specs.Words.{HasPartialOutcome, all_read, stopped}
 use Rattle.lalrpop_lr1.specs.declared.interpret.error.InterpretError.{InterpretError}
 use Rattle.lalrpop_lr1.specs.declared.interpret.error.InterpretError.TheVariants.{Refused as RefusedBy, Limit as LimitPassed, Memory}
 use Rattle.lalrpop_lr1.proofs.FaithfulAnswers.{stop_same, stop_is_outcome}

@@ -5,13 +5,10 @@ use Rattle.std.specs.declared.result.Result.{Result}
 use Rattle.std.proofs.lemmas.List.Elements.{Contains-push_cases}
 use mathlib.Core.Bool.{true≢false}
 use mathlib.Core.List.{head-eq_of_cons-eq, nil≢cons}
-use Rattle.lalrpop_base.proofs.theory.Lists.{contains-nil}
-use Rattle.lalrpop_base.specs.Bits.{Bits, has}
-use Rattle.lalrpop_base.specs.First.{IsFirstSet}
-use Rattle.lalrpop_base.specs.WellFormed.{Rules}
+use Rattle.lalrpop_base.specs.Words.{Bits, has, IsFirstSet, Rules}
 use Rattle.lalrpop_base.specs.declared.memory.OutOfMemory.{OutOfMemory}
-use Rattle.lalrpop_lr1.specs.Examples.{path_of, following, IsExampleOf}
-use Rattle.lalrpop_lr1.specs.Walks.{IsEnded, remaining, and_behind, to_come, GoesTo, GivesNext, Meets, NoneMeets, IsSameFilter, GivesNextMeeting, HasSkipped}
+use Rattle.lalrpop_lr1.specs.Words.{path_of, following, IsExampleOf, IsEnded, remaining, and_behind, to_come, GoesTo, GivesNext, Meets, NoneMeets, IsSameFilter}
+use Rattle.lalrpop_lr1.specs.Words.{GivesNextMeeting, HasSkipped}
 use Rattle.lalrpop_lr1.specs.declared.trace.enumerator.EnumeratorState.{EnumeratorState}
 use Rattle.lalrpop_lr1.specs.declared.trace.example.Example.{Example}
 use Rattle.lalrpop_lr1.specs.declared.trace.filtered.FilteredPathEnumerator.{FilteredPathEnumerator}
@@ -33,9 +30,6 @@ same_meets old new same path m = (
 
 same_again : (a b c : FilteredPathEnumerator) → IsSameFilter a b → IsSameFilter b c → IsSameFilter a c
 same_again a b c h k = record { graph = k.graph ∙ h.graph; first_sets = k.first_sets ∙ h.first_sets; lookahead = k.lookahead ∙ h.lookahead }
-
-pub skipped_none : (walk : FilteredPathEnumerator) → HasSkipped walk walk
-skipped_none walk = record { same = record { graph = refl; first_sets = refl; lookahead = refl }; told = λ e. e; skipped = []; before = λ p c. absurd (contains-nil c); left = inl refl }
 
 -- one path more is passed over
 pub skipped_more : (old mid new : FilteredPathEnumerator) → HasSkipped old mid → IsSameFilter mid new → mid.base.refused ≡ false → (IsEnded mid.base → ⊥) → ¬ Meets mid (path_of mid.base.stack.items) → GoesTo (remaining mid.base) new.base → HasSkipped old new

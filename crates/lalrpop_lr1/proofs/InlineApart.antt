@@ -2,14 +2,13 @@
 use Rattle.std.proofs.Common.{ℕ, zero, suc, ◌≤◌, ◌<◌, inl, inr, Bool, true, false, cond, List, [], ◌∷◌, ◌++◌, length, refl, sym, subst, arith, length-append}
 use Rattle.std.specs.Prelude.{Contains}
 use Rattle.std.proofs.lemmas.List.Elements.{Contains-append_cases}
-use Rattle.lalrpop_base.specs.Places.{AllDiffer}
+use Rattle.lalrpop_base.specs.Words.{AllDiffer}
 use Rattle.lalrpop_base.specs.declared.repr.NonterminalString.{NonterminalString}
 use Rattle.lalrpop_base.specs.declared.repr.Production.{Production}
 use Rattle.lalrpop_base.specs.declared.repr.inlined.InlinedSymbol.{InlinedSymbol}
 use Rattle.lalrpop_base.specs.declared.repr.grammar.ActionFnDefn.{ActionFnDefn}
 use Rattle.lalrpop_base.proofs.theory.Lists.{contains-cons, contains-nil, contains_head, contains_tail, contains_place, place_contains, same_some, some≢none}
-use Rattle.lalrpop_lr1.specs.InlineChoices.{mentions, choices}
-use Rattle.lalrpop_lr1.specs.InlineSteps.{choice_defn, choice_production, Made, made_of, chosen, replaced, replaced_all}
+use Rattle.lalrpop_lr1.specs.Words.{mentions, choices, choice_defn, choice_production, Made, made_of, chosen, replaced, replaced_all}
 use Rattle.lalrpop_lr1.proofs.InlineSteps.{more_longer, replaced_more}
 use Rattle.lalrpop_lr1.proofs.InlineArising.{chosen_sound, Arises, kept, made, replaced_by_sound, replaced_all_sound}
 

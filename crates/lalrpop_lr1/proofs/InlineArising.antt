@@ -9,8 +9,8 @@ use Rattle.lalrpop_base.specs.declared.repr.inlined.InlinedSymbol.{InlinedSymbol
 use Rattle.lalrpop_base.specs.declared.repr.inlined.InlinedSymbol.TheVariants.{Original}
 use Rattle.lalrpop_base.specs.declared.repr.grammar.ActionFnDefn.{ActionFnDefn}
 use Rattle.lalrpop_base.proofs.theory.Lists.{contains-cons, contains-nil, contains_head, contains_tail}
-use Rattle.lalrpop_lr1.specs.InlineChoices.{is_named, mentions, inlined, choices, laid_out}
-use Rattle.lalrpop_lr1.specs.InlineSteps.{choice_defn, choice_production, Made, made_of, chosen, replaced, replaced_all}
+use Rattle.lalrpop_lr1.specs.Words.{is_named, mentions, inlined, choices, laid_out, choice_defn, choice_production, Made, made_of, chosen, replaced}
+use Rattle.lalrpop_lr1.specs.Words.{replaced_all}
 use Rattle.lalrpop_lr1.proofs.InlineForests.{choice_cons, first_part, which_part}
 use Rattle.lalrpop_lr1.proofs.InlineSteps.{more_longer, chosen_more, replaced_more, replaced_all_more}
 

@@ -4,7 +4,7 @@ use Rattle.std.proofs.lemmas.List.{drop_more}
 use Rattle.std.specs.List.{flat_map}
 use Rattle.lalrpop_base.specs.declared.repr.Production.{Production}
 use Rattle.lalrpop_base.specs.declared.repr.inlined.InlinedSymbol.{InlinedSymbol}
-use Rattle.lalrpop_lr1.specs.InlineChoices.{inlined, behind}
+use Rattle.lalrpop_lr1.specs.Words.{inlined, behind}
 
 -- each part in front of each choice
 abbrev pub with_parts : List InlinedSymbol → List (List InlinedSymbol) → List (List InlinedSymbol)

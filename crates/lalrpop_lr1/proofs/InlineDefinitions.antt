@@ -11,9 +11,8 @@ use Rattle.lalrpop_base.specs.declared.repr.inlined.InlinedSymbol.{InlinedSymbol
 use Rattle.lalrpop_base.specs.declared.repr.inlined.InlinedSymbol.TheVariants.{Original, Inlined}
 use Rattle.lalrpop_base.specs.declared.repr.grammar.ActionFnDefn.{ActionFnDefn}
 use Rattle.lalrpop_base.proofs.theory.Lists.{contains-cons, contains-nil, contains_head, contains_tail}
-use Rattle.lalrpop_lr1.specs.InlineChoices.{is_named, mentions, inlined, choices}
-use Rattle.lalrpop_lr1.specs.InlineSteps.{is_fallible, is_fallible_part, fallible_of, choice_defn, choice_production, Made, made_of, chosen, replaced, replaced_all, Entry, View, productions_in, replaced_entries}
-use Rattle.lalrpop_lr1.specs.Inlined.{IsLaidOut}
+use Rattle.lalrpop_lr1.specs.Words.{is_named, mentions, inlined, choices, is_fallible, is_fallible_part, fallible_of, choice_defn, choice_production, Made}
+use Rattle.lalrpop_lr1.specs.Words.{made_of, chosen, replaced, replaced_all, Entry, View, productions_in, replaced_entries, IsLaidOut}
 use Rattle.lalrpop_lr1.proofs.InlineForests.{first_part, which_part}
 use Rattle.lalrpop_lr1.proofs.InlineSteps.{IsMore, more_longer, chosen_more, replaced_more, replaced_all_more, replaced_entries_more}
 

@@ -9,7 +9,7 @@ use Rattle.std.specs.List.Sorted.{IsStrictlySortedBy}
 use Rattle.std.specs.BTreeMap.{insert_entry, is_at}
 use Rattle.std.specs.Map.{keys_of, lookup}
 use Rattle.std.proofs.lemmas.Map.Keys.{sorted_head, sorted_tail}
-use Rattle.lalrpop_base.specs.WellFormed.{name_cmp, listed_productions, productions_of}
+use Rattle.lalrpop_base.specs.Words.{name_cmp, listed_productions, productions_of}
 use Rattle.lalrpop_base.specs.declared.repr.NonterminalString.{NonterminalString}
 use Rattle.lalrpop_base.specs.declared.repr.Production.{Production}
 use Rattle.lalrpop_base.specs.declared.repr.Span.{Span}
@@ -18,8 +18,8 @@ use Rattle.lalrpop_base.specs.declared.repr.grammar.ActionFnDefn.{ActionFnDefn}
 use Rattle.lalrpop_base.specs.declared.repr.grammar.NonterminalData.{NonterminalData}
 use Rattle.lalrpop_base.specs.declared.repr.grammar.Grammar.{Grammar}
 use Rattle.lalrpop_base.specs.declared.repr.norm_error.NormError.{NormError}
-use Rattle.lalrpop_lr1.specs.InlineSteps.{Made, replaced_all, Entry, View, entry_view, view_of, listed, alternatives_in, entry_with, replaced_entries, IsEntryReplaced}
-use Rattle.lalrpop_lr1.specs.InlineRefusals.{IsPastLast}
+use Rattle.lalrpop_lr1.specs.Words.{Made, replaced_all, Entry, View, entry_view, view_of, listed, alternatives_in, entry_with, replaced_entries}
+use Rattle.lalrpop_lr1.specs.Words.{IsEntryReplaced, IsPastLast}
 use Rattle.lalrpop_lr1.proofs.InlineSteps.{past_more, more_longer, replaced_entries_more}
 
 less_than : {K : Type 0} (P : K → Type 0) (ks : List K) (k : K) (rest : List K) → AllByRecursion P (ks ++ k ∷ rest) → P k

@@ -10,11 +10,11 @@ use Rattle.lalrpop_base.specs.declared.repr.Symbol.{Symbol}
 use Rattle.lalrpop_base.specs.declared.repr.Symbol.TheVariants.{Nonterminal}
 use Rattle.lalrpop_base.specs.declared.repr.inlined.InlinedSymbol.{InlinedSymbol}
 use Rattle.lalrpop_base.specs.declared.repr.inlined.InlinedSymbol.TheVariants.{Original}
-use Rattle.lalrpop_base.specs.Grammar.{Derives, as_it_is, replace, symbols_of, IsSentence}
+use Rattle.lalrpop_base.specs.Words.{Derives, as_it_is, replace, symbols_of, IsSentence}
 use Rattle.lalrpop_base.proofs.theory.Lists.{same_nonterminal, terminal_parts, contains-cons, contains-nil, contains_head}
 use Rattle.lalrpop_base.proofs.theory.Derivations.{Derives-from, Derives-to, Derives-trans, Derives-left, Derives-right, Derives-append, Derives-production}
 use Rattle.lalrpop_base.proofs.theory.Forests.{Forest, empty, leaf, node, Forest-from, Forest-append, forest_derives, derives_forest}
-use Rattle.lalrpop_lr1.specs.InlineChoices.{is_named, inlined, behind, parts, choices, laid_out}
+use Rattle.lalrpop_lr1.specs.Words.{is_named, inlined, behind, parts, choices, laid_out}
 use Rattle.lalrpop_lr1.proofs.InlineMembers.{in_map, from_map, in_flat_map, from_flat_map, named_exactly}
 
 module _ (b : NonterminalString) (alternatives : List Production) where

@@ -4,14 +4,13 @@ use Rattle.std.specs.Prelude.{Contains}
 use Rattle.std.specs.BTreeMap.{get, is_at, IsOrdered}
 use Rattle.std.proofs.lemmas.List.Elements.{Contains-append_left, Contains-push, Contains-push_cases}
 use Rattle.std.proofs.lemmas.Map.Entries.{place_from_lookup, btree_map_get_place}
-use Rattle.lalrpop_base.specs.WellFormed.{name_cmp}
+use Rattle.lalrpop_base.specs.Words.{name_cmp, inline_mark}
 use Rattle.lalrpop_base.specs.contracts.repr.NonterminalStringOrd.TheImpl.Laws as name_order
 use Rattle.lalrpop_base.specs.declared.repr.NonterminalString.{NonterminalString}
 use Rattle.lalrpop_base.specs.declared.repr.grammar.NonterminalData.{NonterminalData}
 use Rattle.lalrpop_base.specs.declared.repr.grammar.Grammar.{Grammar}
-use Rattle.lalrpop_base.proofs.theory.Lists.{contains-nil, contains_place, place_contains}
-use Rattle.lalrpop_base.specs.Marks.{inline_mark}
-use Rattle.lalrpop_lr1.specs.InlineOrder.{IsMarkedEntry, IsMarked}
+use Rattle.lalrpop_base.proofs.theory.Lists.{contains_place, place_contains}
+use Rattle.lalrpop_lr1.specs.Words.{IsMarkedEntry, IsMarked}
 use Rattle.std.specs.BTreeSet.{BTreeSet, contains}
 use Rattle.std.proofs.lemmas.Bool.{cases_Bool}
 use Rattle.std.proofs.lemmas.List.{take_more}
@@ -21,9 +20,6 @@ use Rattle.lalrpop_lr1.proofs.InlineWalks.{tied_names, ties_itself, Sets, set_at
 -- names are those of the marked ones among entries
 abbrev pub AreMarkedOf : List (NonterminalString × NonterminalData) → List NonterminalString → Type 0
 AreMarkedOf es names = (a : NonterminalString) → Contains names a ↔ ((d : NonterminalData) × Contains es (a, d) × Contains d.attributes.items inline_mark)
-
-pub marked_none : AreMarkedOf [] []
-marked_none a = (λ c. absurd (contains-nil c), λ d. absurd (contains-nil d.1))
 
 -- a marked entry more
 pub marked_more : (es : List (NonterminalString × NonterminalData)) (names grown : List NonterminalString) (a copy : NonterminalString) (d : NonterminalData) → AreMarkedOf es names → Contains d.attributes.items inline_mark → copy ≡ a → grown ≡ names ++ copy ∷ [] → AreMarkedOf (es ++ (a, d) ∷ []) grown

@@ -9,9 +9,9 @@ use mathlib.Core.Bool.{true≢false}
 use Rattle.lalrpop_base.specs.declared.repr.NonterminalString.{NonterminalString}
 use Rattle.lalrpop_base.specs.declared.repr.Symbol.{Symbol}
 use Rattle.lalrpop_base.specs.declared.repr.Symbol.TheVariants.{Nonterminal, Terminal}
-use Rattle.lalrpop_base.specs.Exact.{name_exact}
+use Rattle.lalrpop_base.specs.Words.{name_exact}
 use Rattle.lalrpop_base.proofs.theory.Lists.{contains-cons, contains-nil, contains_head, contains_tail}
-use Rattle.lalrpop_lr1.specs.InlineChoices.{is_named, mentions}
+use Rattle.lalrpop_lr1.specs.Words.{is_named, mentions}
 
 -- what is made of an element is among what is made of all
 pub in_map : {A B : Type 0} (f : A → B) (xs : List A) (x : A) → Contains xs x → Contains (map f xs) (f x)

@@ -7,8 +7,7 @@ use Rattle.std.specs.BTreeMap.{IsOrdered}
 use Rattle.std.specs.Map.{keys_of}
 use Rattle.std.proofs.lemmas.Bool.{cases_Bool}
 use mathlib.Core.Bool.{true≢false}
-use Rattle.lalrpop_base.specs.Grammar.{IsSentence}
-use Rattle.lalrpop_base.specs.WellFormed.{name_cmp, IsWellFormed, IsWellFormedEntry, productions, productions_of}
+use Rattle.lalrpop_base.specs.Words.{IsSentence, name_cmp, IsWellFormed, IsWellFormedEntry, productions, productions_of}
 use Rattle.lalrpop_base.specs.declared.repr.NonterminalString.{NonterminalString}
 use Rattle.lalrpop_base.specs.declared.repr.TerminalString.{TerminalString}
 use Rattle.lalrpop_base.specs.declared.repr.Symbol.TheVariants.{Nonterminal}
@@ -16,14 +15,11 @@ use Rattle.lalrpop_base.specs.declared.repr.Production.{Production}
 use Rattle.lalrpop_base.specs.declared.repr.grammar.NonterminalData.{NonterminalData}
 use Rattle.lalrpop_base.specs.declared.repr.grammar.Grammar.{Grammar}
 use Rattle.lalrpop_base.proofs.theory.Lists.{contains-cons, contains-nil, contains_head, contains_tail, contains_place, place_contains}
-use Rattle.lalrpop_lr1.specs.InlineChoices.{is_named, mentions}
-use Rattle.lalrpop_lr1.specs.InlineSteps.{Entry, View, entry_view, view_of, alternatives_in, productions_in, inlined_of, inlined_by}
+use Rattle.lalrpop_lr1.specs.Words.{is_named, mentions, Entry, View, entry_view, view_of, alternatives_in, productions_in, inlined_of, inlined_by, IsMarked}
+use Rattle.lalrpop_lr1.specs.Words.{Mentions, IsInlineOrder, IsPastLast, IsRefusalOf, IsLaidOut}
 use Rattle.std.proofs.lemmas.List.{drop_more}
 use Rattle.lalrpop_base.specs.declared.repr.norm_error.NormError.{NormError}
 use Rattle.lalrpop_base.specs.declared.repr.norm_error.NormError.TheVariants.{Cycle, TooManyActions, Memory}
-use Rattle.lalrpop_lr1.specs.InlineOrder.{IsMarked, Mentions, IsInlineOrder, IsCycleOf}
-use Rattle.lalrpop_lr1.specs.InlineRefusals.{IsPastLast}
-use Rattle.lalrpop_lr1.specs.Inlined.{IsRefusalOf, IsLaidOut}
 use Rattle.lalrpop_lr1.proofs.InlineDefinitions.{laid_out_more, entries_laid_out}
 use Rattle.lalrpop_lr1.proofs.InlineMembers.{in_map, from_map, mentioned_stands, names_itself}
 use Rattle.lalrpop_lr1.proofs.InlineSteps.{IsMore, more_none, more_twice, more_longer, past_more, replaced_entries_more}
@@ -229,9 +225,3 @@ pub refusal_past : (g : Grammar) (order : List NonterminalString) (e : NormError
 refusal_past g order (Cycle span name) is h = absurd h
 refusal_past g order TooManyActions is h = record { order = order; in_order = is; past = h }
 refusal_past g order Memory is h = tt
-
--- and so is a ring
-pub refusal_cycle : (g : Grammar) (e : NormError) → IsCycleOf g e → IsRefusalOf g e
-refusal_cycle g (Cycle span name) h = h
-refusal_cycle g TooManyActions h = absurd h
-refusal_cycle g Memory h = tt

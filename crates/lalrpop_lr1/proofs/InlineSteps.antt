@@ -1,5 +1,5 @@
 -- Inlining, one production and one choice at a time.
-use Rattle.std.proofs.Common.{◌≡◌, ℕ, ◌+◌, ◌≤◌, ◌<◌, ◌^◌, Bool, true, false, cond, List, [], ◌∷◌, ◌++◌, length, refl, sym, ◌∙◌, ap, ap₂, append_assoc, arith, length-append}
+use Rattle.std.proofs.Common.{◌≡◌, ℕ, ◌+◌, ◌≤◌, ◌<◌, ◌^◌, Bool, true, false, cond, List, [], ◌∷◌, ◌++◌, length, refl, sym, ◌∙◌, ap, append_assoc, arith, length-append}
 use Rattle.std.proofs.lemmas.List.{append-nil}
 use Rattle.lalrpop_base.specs.declared.repr.NonterminalString.{NonterminalString}
 use Rattle.lalrpop_base.specs.declared.repr.Production.{Production}
@@ -7,17 +7,8 @@ use Rattle.lalrpop_base.specs.declared.repr.inlined.InlinedSymbol.{InlinedSymbol
 use Rattle.lalrpop_base.specs.declared.repr.grammar.ActionFnDefn.{ActionFnDefn}
 use Rattle.lalrpop_base.specs.declared.repr.norm_error.NormError.{NormError}
 use Rattle.lalrpop_base.specs.declared.repr.norm_error.NormError.TheVariants.{Cycle, TooManyActions, Memory}
-use Rattle.lalrpop_lr1.specs.InlineChoices.{mentions, choices}
-use Rattle.lalrpop_lr1.specs.InlineSteps.{choice_defn, choice_production, Made, made_of, in_front, chosen, replaced, replaced_all, Entry, replaced_entries}
-use Rattle.lalrpop_lr1.specs.InlineRefusals.{IsPastLast}
-
--- productions in front of others
-pub in_front_twice : (ps qs : List Production) (m : Made) → in_front ps (in_front qs m) ≡ in_front (ps ++ qs) m
-in_front_twice ps qs m = ap (λ (rs : List Production). made_of rs m.defns) (sym (append_assoc ps qs m.productions))
-
--- productions in front of none
-pub in_front_of_none : (ps : List Production) (defns : List ActionFnDefn) → in_front ps (made_of [] defns) ≡ made_of ps defns
-in_front_of_none ps defns = ap (λ (rs : List Production). made_of rs defns) (append-nil ps)
+use Rattle.lalrpop_lr1.specs.Words.{mentions, choices, choice_defn, Made, made_of, in_front, chosen, replaced, replaced_all, Entry, replaced_entries}
+use Rattle.lalrpop_lr1.specs.Words.{IsPastLast}
 
 -- definitions behind definitions
 abbrev pub IsMore : List ActionFnDefn → List ActionFnDefn → Type 0
@@ -65,15 +56,6 @@ past_more m n (Cycle span name) l h = h
 past_more m n TooManyActions l h = let g : 2 ^ 32 < m = h in omega arith
 past_more m n Memory l h = h
 
--- a choice more was added
-pub choice_added : (p : Production) (c : List InlinedSymbol) (cs all : List (List InlinedSymbol)) (made more : List Production) (defns all_defns : List ActionFnDefn) (q : Production) (d : Made) → all ≡ c ∷ cs →
-    in_front made (chosen p all defns) ≡ d → q ≡ choice_production (length defns) p c → more ≡ made ++ q ∷ [] → all_defns ≡ defns ++ choice_defn defns p.action c ∷ [] → in_front more (chosen p cs all_defns) ≡ d
-choice_added p c cs all made more defns all_defns q d parted so_far made_q pushed defined =
-    ap₂ (λ (ps : List Production) (ds : List ActionFnDefn). in_front ps (chosen p cs ds)) (pushed ∙ ap (λ (x : Production). made ++ x ∷ []) made_q) defined
-    ∙ sym (in_front_twice made (choice_production (length defns) p c ∷ []) (chosen p cs (defns ++ choice_defn defns p.action c ∷ [])))
-    ∙ ap (λ (xs : List (List InlinedSymbol)). in_front made (chosen p xs defns)) (sym parted)
-    ∙ so_far
-
 -- there was no number for a choice
 pub choice_past : (p : Production) (c : List InlinedSymbol) (cs all : List (List InlinedSymbol)) (made : List Production) (defns : List ActionFnDefn) (d : Made) (e : NormError) → all ≡ c ∷ cs →
     in_front made (chosen p all defns) ≡ d → IsPastLast (length defns + 1) e → IsPastLast (length d.defns) e
@@ -87,16 +69,6 @@ module _ (b : NonterminalString) (alternatives : List Production) where
   pub replaced_by_choices : (p : Production) (all : List (List InlinedSymbol)) (defns : List ActionFnDefn) → mentions b p.symbols ≡ true → all ≡ choices b alternatives p.symbols → chosen p all defns ≡ replaced b alternatives p defns
   replaced_by_choices p all defns m e =
       ap (λ (xs : List (List InlinedSymbol)). chosen p xs defns) e ∙ ap (λ (x : Bool). cond x (chosen p (choices b alternatives p.symbols) defns) (made_of (p ∷ []) defns)) (sym m)
-
-  -- a production more was replaced
-  pub production_replaced : (p : Production) (ps all : List Production) (made more : List Production) (defns all_defns : List ActionFnDefn) (d : Made) → all ≡ p ∷ ps →
-      in_front made (replaced_all b alternatives all defns) ≡ d → made_of more all_defns ≡ in_front made (replaced b alternatives p defns) → in_front more (replaced_all b alternatives ps all_defns) ≡ d
-  production_replaced p ps all made more defns all_defns d parted so_far step =
-      let r : Made = replaced b alternatives p defns in
-      ap (λ (m : Made). in_front m.productions (replaced_all b alternatives ps m.defns)) step
-      ∙ sym (in_front_twice made r.productions (replaced_all b alternatives ps r.defns))
-      ∙ ap (λ (xs : List Production). in_front made (replaced_all b alternatives xs defns)) (sym parted)
-      ∙ so_far
 
   -- there was no number for a choice of a production
   pub production_past : (p : Production) (ps all : List Production) (made : List Production) (defns : List ActionFnDefn) (d : Made) (e : NormError) → all ≡ p ∷ ps →

@@ -10,10 +10,7 @@ use Rattle.std.proofs.lemmas.List.Elements.{Contains-append_cases}
 use Rattle.std.proofs.lemmas.Map.Entries.{place_from_lookup, lookup_from_place}
 use Rattle.std.proofs.lemmas.Map.Keys.{IsDistinct-from_sorted}
 use Rattle.std.proofs.lemmas.Map.Text.{is_eq-slice_cmp}
-use Rattle.lalrpop_base.specs.Exact.{name_exact}
-use Rattle.lalrpop_base.specs.Places.{AllDiffer}
-use Rattle.lalrpop_base.specs.Grammar.{IsSentence}
-use Rattle.lalrpop_base.specs.WellFormed.{name_cmp, HasKnownTerminals, IsWellFormedProduction, IsWellFormedEntry}
+use Rattle.lalrpop_base.specs.Words.{name_exact, AllDiffer, IsSentence, name_cmp, HasKnownTerminals, IsWellFormedProduction, IsWellFormedEntry}
 use Rattle.lalrpop_base.specs.contracts.repr.NonterminalStringOrd.TheImpl.Laws as name_order
 use Rattle.lalrpop_base.specs.declared.repr.NonterminalString.{NonterminalString}
 use Rattle.lalrpop_base.specs.declared.repr.TerminalString.{TerminalString}
@@ -24,8 +21,8 @@ use Rattle.lalrpop_base.specs.declared.repr.inlined.InlinedSymbol.{InlinedSymbol
 use Rattle.lalrpop_base.specs.declared.repr.inlined.InlinedSymbol.TheVariants.{Original}
 use Rattle.lalrpop_base.specs.declared.repr.grammar.ActionFnDefn.{ActionFnDefn}
 use Rattle.lalrpop_base.proofs.theory.Lists.{contains-cons, contains-nil, contains_head, contains_tail, contains_place, place_contains}
-use Rattle.lalrpop_lr1.specs.InlineChoices.{is_named, mentions, choices, part_symbols, laid_out}
-use Rattle.lalrpop_lr1.specs.InlineSteps.{Made, replaced_all, Entry, View, listed, alternatives_in, productions_in, entry_with, replaced_entries, inlined_of}
+use Rattle.lalrpop_lr1.specs.Words.{is_named, mentions, choices, part_symbols, laid_out, Made, replaced_all, Entry, View, listed, alternatives_in}
+use Rattle.lalrpop_lr1.specs.Words.{productions_in, entry_with, replaced_entries, inlined_of}
 use Rattle.lalrpop_lr1.proofs.InlineMembers.{in_flat_map, from_flat_map, unmentioned}
 use Rattle.lalrpop_lr1.proofs.InlineForests.{first_part, which_part, IsReplaced, same_terminal_lists}
 use Rattle.lalrpop_lr1.proofs.InlineSteps.{more_longer, replaced_all_more, replaced_entries_more}

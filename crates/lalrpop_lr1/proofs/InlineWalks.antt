@@ -11,9 +11,7 @@ use Rattle.std.proofs.lemmas.List.Sorted.{Contains-permutation, IsPermutation-re
 use Rattle.std.proofs.lemmas.Map.Text.{is_eq-slice_cmp}
 use Rattle.std.proofs.lemmas.Slice.Eq.{bytes_eq-Decides}
 use mathlib.Core.Bool.{true≢false}
-use Rattle.lalrpop_base.specs.Exact.{name_exact}
-use Rattle.lalrpop_base.specs.Places.{AllDiffer}
-use Rattle.lalrpop_base.specs.WellFormed.{name_cmp, productions_of}
+use Rattle.lalrpop_base.specs.Words.{name_exact, AllDiffer, name_cmp, productions_of}
 use Rattle.lalrpop_base.specs.declared.repr.NonterminalString.{NonterminalString}
 use Rattle.lalrpop_base.specs.declared.repr.Production.{Production}
 use Rattle.lalrpop_base.specs.declared.repr.Symbol.{Symbol}
@@ -21,8 +19,7 @@ use Rattle.lalrpop_base.specs.declared.repr.Symbol.TheVariants.{Nonterminal, Ter
 use Rattle.lalrpop_base.specs.declared.repr.grammar.Grammar.{Grammar}
 use Rattle.lalrpop_base.proofs.theory.Lists.{contains-cons, contains-nil, contains_head, contains_tail, Ended, nothing, last, ended, same_last}
 use Rattle.lalrpop_lr1.specs.declared.inline.graph.Walk.{Walk}
-use Rattle.lalrpop_lr1.specs.InlineOrder.{IsMarked, Mentions, Leads, one, more, IsInlineOrder}
-use Rattle.lalrpop_lr1.specs.InlineWalks.{names_of, mentioned_in, IsWalk, IsWalked, LeadTo}
+use Rattle.lalrpop_lr1.specs.Words.{IsMarked, Mentions, Leads, one, more, IsInlineOrder, names_of, mentioned_in, IsWalk, IsWalked, LeadTo}
 use Rattle.lalrpop_lr1.proofs.InlineMembers.{in_flat_map, from_flat_map}
 use Rattle.lalrpop_lr1.proofs.InlineApart.{apart_from, apart_to, Apart-append}
 
@@ -207,43 +204,6 @@ module _ (g : Grammar) where
         | inl t ↦ subst (λ (b : NonterminalString). Leads g b other) (tied_names name a t) (one marked mentioned)
         | inr t ↦ more (lead a (sym (set_off true name a old.visiting mid.visiting into t) ∙ before)) marked mentioned
       ]
-
-  -- a nonterminal that is neither pending nor visiting was left, if it is marked
-  pub walked_past : (w n : Walk) (name : NonterminalString) → contains name_cmp w.pending name ≡ false → contains name_cmp w.visiting name ≡ false → Sets name false w.pending n.pending
-      → ((a : NonterminalString) → contains name_cmp n.visiting a ≡ contains name_cmp w.visiting a) → n.order.items ≡ w.order.items → IsWalk g w → IsWalked g name w n
-  walked_past w n name p o out same list is = record {
-    walk = record {
-      marked = λ a. (λ h. forward a ((is.marked a).0 h), λ h. (is.marked a).1 (back a h));
-      pending = λ a h. let r = is.pending a (sym (still a) ∙ h) in (same a ∙ r.0, λ c. r.1 (subst (λ (l : List NonterminalString). Contains l a) list c));
-      visiting = λ a h c. is.visiting a (sym (same a) ∙ h) (subst (λ (l : List NonterminalString). Contains l a) list c);
-      once = subst (λ (l : List NonterminalString). AllDiffer l) (sym list) is.once;
-      behind = λ before after a c e. is.behind before after a c (sym list ∙ e);
-    };
-    visiting = same;
-    kept = λ a c. subst (λ (l : List NonterminalString). Contains l a) (sym list) c;
-    listed = λ marked. subst (λ (l : List NonterminalString). Contains l name) (sym list) (go ((is.marked name).0 marked));
-  }
-    where
-      still : (a : NonterminalString) → contains name_cmp n.pending a ≡ contains name_cmp w.pending a
-      still a = elim (cases_Bool (is_at (name_cmp name) a)) [
-        | inl t ↦ set_at false name a w.pending n.pending out t ∙ sym (ap (contains name_cmp w.pending) (sym (tied_names name a t)) ∙ p)
-        | inr t ↦ set_off false name a w.pending n.pending out t
-      ]
-
-      forward : (a : NonterminalString) → (contains name_cmp w.pending a ≡ true) ⊎ (contains name_cmp w.visiting a ≡ true) ⊎ Contains w.order.items a → (contains name_cmp n.pending a ≡ true) ⊎ (contains name_cmp n.visiting a ≡ true) ⊎ Contains n.order.items a
-      forward a (inl h) = inl (still a ∙ h)
-      forward a (inr (inl h)) = inr (inl (same a ∙ h))
-      forward a (inr (inr c)) = inr (inr (subst (λ (l : List NonterminalString). Contains l a) (sym list) c))
-
-      back : (a : NonterminalString) → (contains name_cmp n.pending a ≡ true) ⊎ (contains name_cmp n.visiting a ≡ true) ⊎ Contains n.order.items a → (contains name_cmp w.pending a ≡ true) ⊎ (contains name_cmp w.visiting a ≡ true) ⊎ Contains w.order.items a
-      back a (inl h) = inl (sym (still a) ∙ h)
-      back a (inr (inl h)) = inr (inl (sym (same a) ∙ h))
-      back a (inr (inr c)) = inr (inr (subst (λ (l : List NonterminalString). Contains l a) list c))
-
-      go : (contains name_cmp w.pending name ≡ true) ⊎ (contains name_cmp w.visiting name ≡ true) ⊎ Contains w.order.items name → Contains w.order.items name
-      go (inl h) = absurd (true≢false (sym h ∙ p))
-      go (inr (inl h)) = absurd (true≢false (sym h ∙ o))
-      go (inr (inr c)) = c
 
   -- nothing was walked yet
   pub nothing_walked : (w : Walk) (names : List NonterminalString) → ((a : NonterminalString) → Contains names a ↔ IsMarked g a) → ((a : NonterminalString) → (contains name_cmp w.pending a ≡ true) ↔ Contains names a) → ((a : NonterminalString) → contains name_cmp w.visiting a ≡ false) → w.order.items ≡ [] → IsWalk g w

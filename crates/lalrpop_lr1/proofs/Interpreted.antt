@@ -2,20 +2,15 @@
 use Rattle.std.proofs.Common.{Bool, ◌≡◌, ℕ, ◌+◌, ◌≤◌, List, [], ◌∷◌, ◌++◌, length, map, reverse, refl, sym, ap, subst, ◌∙◌, arith}
 use Rattle.std.specs.Prelude.{Result, Ok, Err, IfOk}
 use Rattle.std.proofs.lemmas.List.{reverse-reverse}
-use Rattle.lalrpop_base.specs.Coherent.{AreCoherent}
-use Rattle.lalrpop_base.specs.Contents.{number_of, contents_in, reduced_productions}
-use Rattle.lalrpop_base.specs.States.{Contents}
-use Rattle.lalrpop_base.specs.Trees.{beside, no_trees, leaves, nodes, AreOfGrammar}
-use Rattle.lalrpop_base.specs.Runs.{here, begin, HasOutcome}
+use Rattle.lalrpop_base.specs.Words.{AreCoherent, number_of, contents_in, reduced_productions, Contents, beside, no_trees, leaves, nodes, AreOfGrammar, here}
+use Rattle.lalrpop_base.specs.Words.{begin, HasOutcome}
 use Rattle.lalrpop_base.specs.declared.lookahead.token.Token.{Token}
 use Rattle.lalrpop_base.specs.declared.repr.TerminalString.{TerminalString}
 use Rattle.lalrpop_base.specs.declared.lr1_core.state.State.{State}
 use Rattle.lalrpop_base.specs.declared.lr1_core.state.StateIndex.{StateIndex}
-use Rattle.lalrpop_lr1.specs.Answers.{IsFailure, IsAnswer}
-use Rattle.lalrpop_lr1.specs.Machines.{numbers, trees_on, configuration, bottom, IsAtStart, IsStacked, HasRead}
-use Rattle.lalrpop_lr1.specs.ParseTrees.{tree_of}
-use Rattle.lalrpop_lr1.specs.Reading.{Reads, read, StopsReading, HasPartialOutcome, Stack, Stop, all_read, stopped}
-use Rattle.lalrpop_lr1.specs.Steps.{HasOutcomeFrom, IsParsedIn}
+use Rattle.lalrpop_lr1.specs.Words.{IsFailure, IsAnswer, numbers, trees_on, configuration, bottom, IsAtStart, IsStacked, HasRead, tree_of, Reads, StopsReading}
+use Rattle.lalrpop_lr1.specs.Words.{HasPartialOutcome, Stack, Stop, all_read, stopped, HasOutcomeFrom, IsParsedIn}
+use Rattle.lalrpop_lr1.specs.Reading.{read}
 use Rattle.lalrpop_lr1.specs.declared.interpret.error.InterpretError.{InterpretError}
 use Rattle.lalrpop_lr1.specs.declared.interpret.machine.Machine.{Machine}
 use Rattle.lalrpop_lr1.specs.declared.interpret.tree.ParseTree.{ParseTree}

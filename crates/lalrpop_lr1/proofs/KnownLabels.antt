@@ -3,7 +3,7 @@ use Rattle.std.proofs.Common.{◌≡◌, ℕ, true, List, [], ◌∷◌, ◌++�
 use mathlib.Core.Bool.{true≢false}
 use Rattle.lalrpop_base.proofs.ContentsViews.{at_contains}
 use Rattle.std.specs.Prelude.{Contains, IfSome, Option, Some, None, IsNone, is_some, slice_get}
-use Rattle.lalrpop_base.specs.WellFormed.{HasKnownTerminals}
+use Rattle.lalrpop_base.specs.Words.{HasKnownTerminals}
 use Rattle.lalrpop_base.specs.declared.repr.Symbol.{Symbol}
 use Rattle.lalrpop_base.specs.declared.repr.Symbol.TheVariants.{Terminal}
 use Rattle.lalrpop_base.specs.declared.repr.TerminalString.{TerminalString}
@@ -15,11 +15,6 @@ known_append terminals (x ∷ xs) ys a b (suc k) t at = known_append terminals x
 
 pub known_more : (terminals : List TerminalString) (xs ys new : List Symbol) → new ≡ xs ++ ys → HasKnownTerminals terminals xs → HasKnownTerminals terminals ys → HasKnownTerminals terminals new
 known_more terminals xs ys new e a b = let P : List Symbol → Type 0 = HasKnownTerminals terminals in subst P (sym e) (known_append terminals xs ys a b)
-
--- symbols among others whose terminals are in a list
-pub known_at : (terminals : List TerminalString) (xs : List Symbol) (i : ℕ) (x : Symbol) → slice_get xs i ≡ Some x → HasKnownTerminals terminals xs → HasKnownTerminals terminals (x ∷ [])
-known_at terminals xs i x at all zero t e = all i t (at ∙ e)
-known_at terminals xs i x at all (suc k) t e = cc
 
 -- a bit that is not missing is there
 pub there_is : (o : Option ℕ) → (IsNone o → ⊥) → is_some o ≡ true

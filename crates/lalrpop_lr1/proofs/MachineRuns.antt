@@ -1,5 +1,5 @@
 -- A machine over coherent states makes the steps of a run.
-use Rattle.std.proofs.Common.{Bool, ◌≡◌, ◌≢◌, ℕ, suc, ◌+◌, ◌-◌, ◌<◌, ◌≤◌, List, [], ◌∷◌, ◌++◌, length, drop, map, reverse, get_or, Option, Some, None, refl, sym, ap, ap₂, subst, ◌∙◌, arith}
+use Rattle.std.proofs.Common.{Bool, ◌≡◌, ◌≢◌, ℕ, suc, ◌+◌, ◌-◌, ◌<◌, ◌≤◌, List, [], ◌∷◌, ◌++◌, length, map, reverse, get_or, Option, Some, None, refl, sym, ap, ap₂, subst, ◌∙◌, arith}
 use Rattle.std.specs.Prelude.{slice_get, option_map, Result, Ok, Err, OnOk, IfErr, IfSome, IsNone, IsErrAnd, ◌⊎◌, ok_or}
 use Rattle.std.specs.Borrow.{Bor}
 use Rattle.std.specs.declared.vec.Vec.{Vec}
@@ -7,11 +7,8 @@ use Rattle.std.proofs.Common.{⊎_elim}
 use Rattle.std.specs.BTreeMap.{get}
 use Rattle.std.proofs.lemmas.List.{get_or-reverse, length-map, length-reverse}
 use Rattle.std.proofs.lemmas.Option.{slice_get_read, slice_get_within, get_or_from_slice_get, slice_get-map}
-use Rattle.lalrpop_base.specs.Coherent.{AreCoherent}
-use Rattle.lalrpop_base.specs.Contents.{number_of, contents_of, contents_at, contents_in}
-use Rattle.lalrpop_base.specs.States.{Contents}
-use Rattle.lalrpop_base.specs.Trees.{Tree, Leaf}
-use Rattle.lalrpop_base.specs.Runs.{Configuration, reduction_on, reduces, received, reduced, Stands, Goes, Ends, shifts_or, move, Reaches, here, further, Outcome, Parsed, Refused, Limit}
+use Rattle.lalrpop_base.specs.Words.{AreCoherent, number_of, contents_of, contents_at, contents_in, Contents, Tree, Leaf, Configuration, reduction_on, Stands}
+use Rattle.lalrpop_base.specs.Words.{Goes, Ends, shifts_or, move, Reaches, here, further, Outcome, Parsed, Refused, Limit}
 use Rattle.lalrpop_base.specs.contracts.repr.TerminalStringOrd.TheImpl as terminal_ord
 use Rattle.lalrpop_base.specs.declared.repr.Production.{Production}
 use Rattle.lalrpop_base.specs.declared.repr.TerminalString.{TerminalString}
@@ -20,12 +17,11 @@ use Rattle.lalrpop_base.specs.declared.lookahead.token.Token.TheVariants.{Eof, T
 use Rattle.lalrpop_base.specs.declared.lr1_core.state.State.{State}
 use Rattle.lalrpop_base.specs.declared.lr1_core.state.StateIndex.{StateIndex}
 use Rattle.lalrpop_base.proofs.ContentsViews.{LeadAsItemsSay, lead_as_items_say}
-use Rattle.lalrpop_lr1.specs.Machines.{numbers, trees_on, configuration, IsStacked, CanPop, reduction_move, IsProgress, IsHalted, IsSpent, IsShifted, HasRead}
-use Rattle.lalrpop_lr1.specs.Reading.{Reads, read, before, StopsReading, stuck, early_end, cut_off, PartialOutcome, Stop}
-use Rattle.lalrpop_lr1.specs.ParseTrees.{tree_of}
+use Rattle.lalrpop_lr1.specs.Words.{numbers, trees_on, configuration, IsStacked, CanPop, reduction_move, IsProgress, IsHalted, IsSpent, IsShifted, HasRead}
+use Rattle.lalrpop_lr1.specs.Words.{Reads, before, StopsReading, stuck, early_end, cut_off, PartialOutcome, Stop, tree_of, HasOutcomeFrom, parsed_from}
+use Rattle.lalrpop_lr1.specs.Words.{stuck_from, other_end_from, cut_off_from, IsFailure, IsAnswer, IsPartialAnswer}
+use Rattle.lalrpop_lr1.specs.Reading.{read}
 use Rattle.lalrpop_lr1.specs.declared.interpret.tree.ParseTree.{ParseTree}
-use Rattle.lalrpop_lr1.specs.Steps.{HasOutcomeFrom, parsed_from, stuck_from, other_end_from, cut_off_from}
-use Rattle.lalrpop_lr1.specs.Answers.{IsFailure, IsAnswer, IsPartialAnswer}
 use Rattle.lalrpop_lr1.specs.declared.interpret.error.InterpretError.{InterpretError}
 use Rattle.lalrpop_lr1.specs.declared.interpret.error.InterpretError.TheVariants.{Refused as RefusedBy, Limit as LimitPassed, Memory}
 use Rattle.lalrpop_lr1.specs.declared.interpret.machine.Machine.{Machine}
@@ -33,7 +29,7 @@ use Rattle.lalrpop_lr1.specs.declared.interpret.machine.Progress.TheVariants.{St
 use Rattle.lalrpop_lr1.specs.declared.interpret.machine.Progress.{Progress}
 use Rattle.lalrpop_lr1.proofs.Outcomes.{Reads-append, Reaches-append, stop_later, failure_follows}
 use Rattle.lalrpop_lr1.proofs.Popping.{numbers_more}
-use Rattle.lalrpop_lr1.proofs.Stacks.{Found, found, on_stack, stack_length, received_moves, step_keeps}
+use Rattle.lalrpop_lr1.proofs.Stacks.{Found, found, on_stack, stack_length, step_keeps}
 
 -- a state that lies newest last has its number among those that lie newest first
 number_there : (xs : List StateIndex) (k : ℕ) (x : StateIndex) → slice_get xs k ≡ Some x → (j : ℕ) × (slice_get (numbers xs) j ≡ Some x.0)
@@ -51,22 +47,6 @@ module _ {L : Type 0} (holds : L → Token → Bool) (states : List (State L)) w
   -- what the top state holds
   pub top_is : (m : Machine) (top : State L) → slice_get states m.state.0 ≡ Some top → contents_in holds states m.state.0 ≡ contents_of holds top
   top_is m top there = ap (contents_at holds) there
-
-  pub by_production : (m : Machine) (top : State L) (token : Token) (p : Production) (rest : List TerminalString) → slice_get states m.state.0 ≡ Some top → Some p ≡ reduction_on (contents_of holds top).reductions token →
-      reduction_move (contents_in holds states) (configuration m rest) token ≡ received (contents_in holds states) p (drop (length p.symbols) (m.state.0 ∷ numbers m.below.items)) (reduced p (trees_on m.trees.items)) rest
-  by_production m top token p rest there e =
-      ap (reduces (contents_in holds states) (configuration m rest)) (ap (λ (s : Contents). reduction_on s.reductions token) (top_is m top there) ∙ sym e)
-
-  pub by_nothing : (m : Machine) (top : State L) (token : Token) (rest : List TerminalString) → slice_get states m.state.0 ≡ Some top → None ≡ reduction_on (contents_of holds top).reductions token →
-      reduction_move (contents_in holds states) (configuration m rest) token ≡ Stands
-  by_nothing m top token rest there e =
-      ap (reduces (contents_in holds states) (configuration m rest)) (ap (λ (s : Contents). reduction_on s.reductions token) (top_is m top there) ∙ sym e)
-
-  -- a reduction is a step
-  pub is_a_step : (m : Machine) (top : State L) (token : Token) (p : Production) (rest : List TerminalString) → slice_get states m.state.0 ≡ Some top → Some p ≡ reduction_on (contents_of holds top).reductions token →
-      reduction_move (contents_in holds states) (configuration m rest) token ≢ Stands
-  is_a_step m top token p rest there e h =
-      received_moves (contents_in holds states) p (drop (length p.symbols) (m.state.0 ∷ numbers m.below.items)) (reduced p (trees_on m.trees.items)) rest (sym (by_production m top token p rest there e) ∙ h)
 
   pub lead : AreCoherent states → LeadAsItemsSay (contents_in holds states) (length states)
   lead coherent = lead_as_items_say holds states coherent

@@ -4,14 +4,12 @@ use Rattle.std.specs.Prelude.{Contains, not}
 use Rattle.std.specs.List.{range_with_len}
 use Rattle.std.specs.BTreeSet.{BTreeSet, contains}
 use mathlib.Core.Bool.{true≢false}
-use Rattle.lalrpop_base.specs.Bits.{Bits}
-use Rattle.lalrpop_base.specs.Items.{Dotted}
+use Rattle.lalrpop_base.specs.Words.{Bits, Dotted}
 use Rattle.lalrpop_base.specs.declared.repr.NonterminalString.{NonterminalString}
 use Rattle.lalrpop_base.specs.declared.lr1_core.state.State.{State}
 use Rattle.lalrpop_base.specs.declared.lr1_core.state.StateIndex.{StateIndex}
 use Rattle.lalrpop_tables.proofs.Lists.{Contains-map, Contains-range}
-use Rattle.lalrpop_lr1.specs.Traces.{Meeting}
-use Rattle.lalrpop_lr1.specs.Meetings.{names_in, meetings, meeting_cmp, unmet, IsInsertedPair}
+use Rattle.lalrpop_lr1.specs.Words.{Meeting, names_in, meetings, meeting_cmp, unmet, IsInsertedPair}
 use Rattle.lalrpop_tables.proofs.Bounded.{in_flat_map}
 use Rattle.lalrpop_lr1.proofs.Counting.{count_le, count_less}
 

@@ -3,18 +3,17 @@ use Rattle.std.proofs.Common.{◌≡◌, ℕ, Bool, zero, suc, ◌+◌, ◌<◌,
 use Rattle.std.specs.Prelude.{Contains, slice_get}
 use Rattle.std.specs.List.{flat_map}
 use Rattle.std.specs.Borrow.{Bor}
-use Rattle.lalrpop_base.specs.Contents.{contents_in, contents_at, reduction_of, reduced_productions}
-use Rattle.lalrpop_base.specs.States.{Contents, Reduction}
-use Rattle.lalrpop_base.specs.Trees.{Tree, Leaf, Node, Trees, no_trees, beside, trees_of, leaves, nodes, IsNode, AreOfGrammar}
-use Rattle.lalrpop_base.specs.Runs.{Configuration, reduction_on, Goes, Ends, goes_on, reduces, shifts_or, moves_on, move, Reaches, here, further, begin, Parsed, HasOutcome, parsed}
+use Rattle.lalrpop_base.specs.Words.{contents_in, contents_at, reduction_of, reduced_productions, Contents, Tree, Leaf, Node, Trees, no_trees, beside, trees_of}
+use Rattle.lalrpop_base.specs.Words.{leaves, nodes, IsNode, AreOfGrammar, Configuration, reduction_on, Goes, Ends, goes_on, reduces, shifts_or, moves_on, move}
+use Rattle.lalrpop_base.specs.Words.{Reaches, here, further, begin, Parsed, HasOutcome, parsed}
+use Rattle.lalrpop_base.specs.States.{Reduction}
 use Rattle.lalrpop_base.specs.declared.repr.Production.{Production}
 use Rattle.lalrpop_base.specs.declared.repr.TerminalString.{TerminalString}
 use Rattle.lalrpop_base.specs.declared.lookahead.token.Token.{Token}
 use Rattle.lalrpop_base.specs.declared.lookahead.token.Token.TheVariants.{Eof, Terminal as TokenOf}
 use Rattle.lalrpop_base.specs.declared.lr1_core.state.State.{State}
 use Rattle.lalrpop_base.proofs.ContentsViews.{LeadAsItemsSay, contains_at, at_contains, contains_map, contains_of_map}
-use Rattle.lalrpop_lr1.specs.Machines.{bottom}
-use Rattle.lalrpop_lr1.specs.Steps.{IsParsedIn}
+use Rattle.lalrpop_lr1.specs.Words.{bottom, IsParsedIn}
 use Rattle.lalrpop_lr1.proofs.TreeViews.{leaves_cons}
 use Rattle.lalrpop_lr1.proofs.Stacks.{onto, Found, found, IsStackOf, step_keeps, same_goes, same_ends}
 

@@ -7,8 +7,7 @@ use Rattle.lalrpop_base.proofs.theory.Lists.{contains-cons, contains-nil, contai
 use Rattle.lalrpop_lr1.proofs.InlineApart.{Apart}
 use Rattle.lalrpop_lr1.proofs.InlineMembers.{from_flat_map, in_flat_map}
 use Rattle.lalrpop_lr1.proofs.PathLists.{in_reverse, from_reverse, apart_one, apart_reverse, apart_flat_map, same_behind, reverse_more}
-use Rattle.lalrpop_lr1.specs.TraceGraphs.{numbers_from}
-use Rattle.lalrpop_lr1.specs.Paths.{source, is_item, comes_again, over}
+use Rattle.lalrpop_lr1.specs.Words.{numbers_from, source, is_item, comes_again, over}
 use Rattle.lalrpop_lr1.specs.declared.trace.trace_graph.TraceGraph.{TraceGraph}
 
 -- what stands in a list that is made by a test

@@ -4,8 +4,7 @@ use Rattle.std.specs.Prelude.{Contains, Option, Some, None, Ok, Err, IfOk}
 use Rattle.std.specs.declared.result.Result.{Result}
 use Rattle.std.proofs.lemmas.Bool.{or_cases}
 use mathlib.Core.Bool.{true≢false}
-use Rattle.lalrpop_base.specs.Exact.{Exactly}
-use Rattle.lalrpop_base.specs.Places.{AllDiffer}
+use Rattle.lalrpop_base.specs.Words.{Exactly, AllDiffer}
 use Rattle.lalrpop_base.proofs.theory.Lists.{contains-cons, contains-nil, contains_head, contains_tail, contains_place, place_contains, same_some, some≢none}
 use Rattle.lalrpop_tables.proofs.Lists.{pigeonhole}
 use Rattle.lalrpop_tables.proofs.Places.{apart_from_differ}
@@ -17,9 +16,8 @@ use Rattle.lalrpop_lr1.proofs.TraceGraphs.{place_sound, place_complete}
 use Rattle.lalrpop_lr1.specs.contracts.trace.node.TraceGraphNodeEq.TheImpl as node_equality
 use Rattle.lalrpop_lr1.specs.contracts.trace.node.TraceGraphNodeExact.TheImpl as node_exactly
 use Rattle.lalrpop_lr1.specs.contracts.trace.node.TraceGraphNodePartialEq.TheImpl as node_eq
-use Rattle.lalrpop_lr1.specs.TraceGraphs.{IsGraph, places_from, node_count, numbers_to, numbers_to_source, numbers_from}
-use Rattle.lalrpop_lr1.specs.Examples.{edge_of}
-use Rattle.lalrpop_lr1.specs.Paths.{source_of, target_of, source, target, are_one, comes_again, over, paths, passed, GoesBack, IsPath}
+use Rattle.lalrpop_lr1.specs.Words.{IsGraph, places_from, node_count, numbers_to, numbers_to_source, numbers_from, edge_of, source_of, target_of, source}
+use Rattle.lalrpop_lr1.specs.Words.{target, are_one, comes_again, over, paths, passed, GoesBack, IsPath}
 use Rattle.lalrpop_lr1.specs.declared.trace.node.TraceGraphNode.{TraceGraphNode}
 use Rattle.lalrpop_lr1.specs.declared.trace.trace_graph.TraceGraph.{TraceGraph}
 use Rattle.lalrpop_lr1.specs.declared.trace.trace_graph.TraceGraphEdge.{TraceGraphEdge}

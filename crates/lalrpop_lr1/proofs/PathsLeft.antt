@@ -2,13 +2,11 @@
 use Rattle.std.proofs.Common.{◌≡◌, inl, inr, get_or, ℕ, zero, suc, ◌-◌, ◌<◌, Bool, true, false, ◌||◌, cond, List, [], ◌∷◌, ◌++◌, length, take, reverse, refl, sym, ◌∙◌, ap, subst, arith, append_assoc, append-nil}
 use Rattle.std.specs.Prelude.{Contains, slice_get, Some, None}
 use Rattle.std.specs.List.{flat_map}
-use Rattle.std.proofs.lemmas.List.{take_all, reverse-append, reverse-reverse, map-append}
+use Rattle.std.proofs.lemmas.List.{reverse-append, reverse-reverse, map-append}
 use Rattle.std.proofs.lemmas.Option.{slice_get_within, slice_get-get_or}
 use Rattle.lalrpop_base.proofs.theory.Lists.{same_some, some≢none, contains-nil, contains-cons, place_contains}
-use Rattle.lalrpop_lr1.specs.Examples.{path_of}
-use Rattle.lalrpop_lr1.specs.Paths.{source, is_item, are_one, comes_again, over, left_over, paths}
-use Rattle.lalrpop_lr1.specs.TraceGraphs.{node_count, numbers_to, numbers_from}
-use Rattle.lalrpop_lr1.specs.Walks.{numbers_at, frames, remaining, and_behind, paths_over}
+use Rattle.lalrpop_lr1.specs.Words.{path_of, source, is_item, are_one, comes_again, over, left_over, node_count, numbers_to, numbers_from, numbers_at, frames}
+use Rattle.lalrpop_lr1.specs.Words.{remaining, and_behind, paths_over}
 use Rattle.lalrpop_lr1.proofs.InlineMembers.{in_map}
 use Rattle.lalrpop_lr1.proofs.PathLists.{in_reverse}
 use Rattle.lalrpop_lr1.specs.declared.trace.enumerator.EnumeratorState.{EnumeratorState}
@@ -35,26 +33,7 @@ module _ (g : TraceGraph) where
   pub over_item : (m : ℕ) (taken : List ℕ) (k : ℕ) → is_item (source g k) ≡ true → over g m taken k ≡ reverse (k ∷ taken) ∷ []
   over_item zero taken k e = ap (λ b. cond b (reverse (k ∷ taken) ∷ []) []) e
   over_item (suc m) taken k e = ap (λ b. cond b (reverse (k ∷ taken) ∷ []) (cond (comes_again g k taken) [] (flat_map (over g m (k ∷ taken)) (reverse (numbers_from g k))))) e
-
-  pub over_again : (m : ℕ) (taken : List ℕ) (k : ℕ) → is_item (source g k) ≡ false → comes_again g k taken ≡ true → over g m taken k ≡ []
-  over_again zero taken k e f = ap (λ b. cond b (reverse (k ∷ taken) ∷ []) []) e
-  over_again (suc m) taken k e f =
-      ap (λ b. cond b (reverse (k ∷ taken) ∷ []) (cond (comes_again g k taken) [] (flat_map (over g m (k ∷ taken)) (reverse (numbers_from g k))))) e
-      ∙ ap (λ b. cond b [] (flat_map (over g m (k ∷ taken)) (reverse (numbers_from g k)))) f
-
-  pub over_full : (m : ℕ) (taken : List ℕ) (k : ℕ) → m ≡ 0 → is_item (source g k) ≡ false → over g m taken k ≡ []
-  over_full zero taken k z e = ap (λ b. cond b (reverse (k ∷ taken) ∷ []) []) e
-  over_full (suc m) taken k z e = absurd (omega (arith, z))
-
-  over_into : (m : ℕ) (taken : List ℕ) (k : ℕ) → is_item (source g k) ≡ false → comes_again g k taken ≡ false → over g (suc m) taken k ≡ flat_map (over g m (k ∷ taken)) (reverse (numbers_from g k))
-  over_into m taken k e f =
-      ap (λ b. cond b (reverse (k ∷ taken) ∷ []) (cond (comes_again g k taken) [] (flat_map (over g m (k ∷ taken)) (reverse (numbers_from g k))))) e
-      ∙ ap (λ b. cond b [] (flat_map (over g m (k ∷ taken)) (reverse (numbers_from g k)))) f
-
   -- ---- whether the source was passed
-  pub again_more : (k : ℕ) (states : List EnumeratorState) (i : ℕ) (s : EnumeratorState) → slice_get states i ≡ Some s → comes_again g k (path_of (reverse (take (suc i) states))) ≡ comes_again g k (s.number ∷ path_of (reverse (take i states)))
-  again_more k states i s e =
-      ap (λ (xs : List EnumeratorState). comes_again g k (path_of (reverse xs))) (take_more states i s e) ∙ ap (λ (xs : List EnumeratorState). comes_again g k (path_of xs)) (reverse-append (take i states) (s ∷ []))
 
 module _ (g : TraceGraph) (start : TraceGraphNode) where
   below : List EnumeratorState → List (List ℕ)
@@ -80,23 +59,6 @@ module _ (g : TraceGraph) (start : TraceGraphNode) where
       let f = over g (node_count g - length fs) (path_of fs) in
       left_split fs (suc left) ∙ ap (λ (xs : List ℕ). flat_map f (reverse xs) ++ below fs) (take_none (numbers_at g start fs) left at) ∙ sym (left_split fs left)
 
-  -- a nonterminal is entered with all its edges
-  pub entered_left : (s : EnumeratorState) (fs : List EnumeratorState) → length fs < node_count g → is_item (source g s.number) ≡ false → comes_again g s.number (path_of fs) ≡ false → over g (node_count g - length fs) (path_of fs) s.number ++ left_over g start fs s.left ≡ left_over g start (s ∷ fs) (length (numbers_from g s.number))
-  entered_left s fs room e f =
-      let n = node_count g in
-      let rest = left_over g start fs s.left in
-      let fuel : n - length fs ≡ suc (n - suc (length fs)) = omega (arith, room) in
-      ap (λ m. over g m (path_of fs) s.number ++ rest) fuel
-      ∙ ap (λ xs. xs ++ rest) (over_into g (n - suc (length fs)) (path_of fs) s.number e f)
-      ∙ ap (λ (ks : List ℕ). flat_map (over g (n - suc (length fs)) (s.number ∷ path_of fs)) (reverse ks) ++ rest) (sym (take_all (length (numbers_from g s.number)) (numbers_from g s.number) (omega arith)))
-
-  -- all of them are left before the first is taken
-  pub left_at_first : left_over g start [] (length (numbers_to g start)) ≡ paths g start
-  left_at_first = ap (λ (ks : List ℕ). flat_map (over g (node_count g) []) (reverse ks)) (take_all (length (numbers_to g start)) (numbers_to g start) (omega arith))
-
-  pub left_popped : (s : EnumeratorState) (fs : List EnumeratorState) → left_over g start (s ∷ fs) 0 ≡ left_over g start fs s.left
-  left_popped s fs = refl
-
 -- ---- walks
 path_reverse : (xs : List EnumeratorState) → path_of (reverse xs) ≡ reverse (path_of xs)
 path_reverse [] = refl
@@ -110,24 +72,6 @@ path_back stack fs e = ap (λ (xs : List EnumeratorState). reverse (path_of xs))
 standing : (stack : List EnumeratorState) (rest : List (List ℕ)) (s : EnumeratorState) (fs : List EnumeratorState) → reverse stack ≡ s ∷ fs → and_behind stack rest ≡ path_of stack ∷ rest
 standing [] rest s fs e = absurd (omega (arith, ap length e))
 standing (t ∷ stack) rest s fs e = refl
-
--- a walk that took no edge has nothing left
-pub ended_none : (stack : List EnumeratorState) (rest : List (List ℕ)) → stack ≡ [] → and_behind stack rest ≡ []
-ended_none stack rest e = ap (λ (xs : List EnumeratorState). and_behind xs rest) e
-
--- a walk that entered a nonterminal
-pub entered_walk : (old : PathEnumerator) (graph : TraceGraph) (start : TraceGraphNode) (fs : List EnumeratorState) (left number : ℕ) → graph ≡ old.graph.now → start ≡ old.start → fs ≡ record { number = number; left = old.left } ∷ frames old → left ≡ length (numbers_from graph number) → length (frames old) < node_count old.graph.now
-    → is_item (source old.graph.now number) ≡ false → comes_again old.graph.now number (path_of (frames old)) ≡ false → paths_over old number ++ remaining old ≡ left_over graph start fs left
-entered_walk old graph start fs left number same_graph same_start same_frames count room e f =
-    let s : EnumeratorState = record { number = number; left = old.left } in
-    let g = old.graph.now in
-    entered_left g old.start s (frames old) room e f
-    ∙ sym (
-    ap (λ (h : TraceGraph). left_over h start fs left) same_graph
-    ∙ ap (λ (p : TraceGraphNode). left_over g p fs left) same_start
-    ∙ ap (λ (es : List EnumeratorState). left_over g old.start es left) same_frames
-    ∙ ap (λ (m : ℕ). left_over g old.start (s ∷ frames old) m) (count ∙ ap (λ (h : TraceGraph). length (numbers_from h number)) same_graph)
-    )
 
 -- a walk that entered an item, at which it stops
 pub stopped_walk : (old : PathEnumerator) (graph : TraceGraph) (start : TraceGraphNode) (stack : List EnumeratorState) (left number : ℕ) → graph ≡ old.graph.now → start ≡ old.start → reverse stack ≡ record { number = number; left = old.left } ∷ frames old → left ≡ 0

@@ -5,17 +5,13 @@ use Rattle.std.specs.BTreeMap.{get}
 use Rattle.std.proofs.lemmas.List.{reverse-append, reverse-reverse, length-reverse, take-map, drop-map, length-map, map-append, take-append-drop}
 use Rattle.std.proofs.Math.ListN.{length-drop}
 use Rattle.std.proofs.Math.Seq.{take-append_seam, drop-append_seam}
-use Rattle.lalrpop_base.specs.Contents.{number_of, contents_at, contents_in}
-use Rattle.lalrpop_base.specs.Runs.{Goes, Ends, reduced, goes_on, received}
-use Rattle.lalrpop_base.specs.Trees.{Tree, Node, trees_of}
-use Rattle.lalrpop_base.specs.WellFormed.{name_cmp}
+use Rattle.lalrpop_base.specs.Words.{number_of, contents_at, contents_in, Goes, Ends, reduced, goes_on, received, Tree, Node, trees_of, name_cmp}
 use Rattle.lalrpop_base.specs.declared.repr.Production.{Production}
 use Rattle.lalrpop_base.specs.declared.repr.TerminalString.{TerminalString}
 use Rattle.lalrpop_base.specs.declared.lookahead.token.Token.{Token}
 use Rattle.lalrpop_base.specs.declared.lr1_core.state.State.{State}
 use Rattle.lalrpop_base.specs.declared.lr1_core.state.StateIndex.{StateIndex}
-use Rattle.lalrpop_lr1.specs.Machines.{numbers, trees_on}
-use Rattle.lalrpop_lr1.specs.ParseTrees.{tree_of}
+use Rattle.lalrpop_lr1.specs.Words.{numbers, trees_on, tree_of}
 use Rattle.lalrpop_lr1.specs.declared.interpret.tree.ParseTree.{ParseTree}
 
 -- a list from its last element back is that of its last n elements and then that of the others

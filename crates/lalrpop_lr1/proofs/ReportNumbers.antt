@@ -5,9 +5,9 @@ use Rattle.std.specs.Ordering.{nat_cmp, eq_by_cmp}
 use Rattle.std.specs.Cmp.{unsigned_tied}
 use Rattle.std.specs.BTreeSet.{BTreeSet, IsOrdered, Updates, contains}
 use Rattle.std.proofs.lemmas.Map.Keys.{below_from_sorted}
-use Rattle.lalrpop_base.specs.Bits.{rising, bits_of, has-bits_of, same_bits}
+use Rattle.lalrpop_base.specs.Words.{rising, bits_of, has-bits_of, same_bits}
 use Rattle.lalrpop_base.proofs.BitLemmas.{rising-bits_of}
-use Rattle.lalrpop_lr1.specs.Report.{ascending}
+use Rattle.lalrpop_lr1.specs.Words.{ascending}
 
 -- whether the number is in the list
 abbrev pub is_in : List ℕ → ℕ → Bool
@@ -19,10 +19,6 @@ tied_in q (n ∷ numbers) = ap (λ x. x || list_any (eq_by_cmp nat_cmp q) number
 
 flip : (x y : ℕ) → (x == y) ≡ (y == x)
 flip x y = grind arith
-
-or_last : (b : Bool) → cond b true false ≡ b
-or_last true = refl
-or_last false = refl
 
 is_in-push : (numbers : List ℕ) (k q : ℕ) → is_in (numbers ++ k ∷ []) q ≡ cond (k == q) true (is_in numbers q)
 is_in-push [] k q = ap (λ x. x || false) (flip q k) ∙ (elim (k == q) as (λ b. (b || false) ≡ cond b true false) [ true ↦ refl | false ↦ refl ])

@@ -7,10 +7,9 @@ use Rattle.std.proofs.lemmas.Option.{slice_get_read}
 use Rattle.std.specs.Ordering.{nat_cmp, is_eq}
 use Rattle.std.specs.Cmp.{unsigned_tied}
 use Rattle.std.specs.declared.vec.Vec.{Vec}
-use Rattle.lalrpop_base.specs.Multimaps.{collection_at, PushesAt}
+use Rattle.lalrpop_base.specs.Words.{collection_at, PushesAt}
 use Rattle.lalrpop_base.specs.declared.lr1_core.state.Conflict.{Conflict}
-use Rattle.lalrpop_lr1.specs.Report.{conflicts_in}
-use Rattle.lalrpop_lr1.specs.ReportPlaces.{places_of, ArePlacesOf}
+use Rattle.lalrpop_lr1.specs.Words.{conflicts_in, places_of, ArePlacesOf}
 
 -- a push lists a place behind the others
 abbrev Pushed : {A : Type 0} → Option (Vec ℕ A) → ℕ → Option (Vec ℕ A) → Type 0

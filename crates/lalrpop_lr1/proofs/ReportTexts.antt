@@ -1,11 +1,10 @@
 -- Facts on the texts of a report.
 use Rattle.std.proofs.Common.{◌≡◌, ◌≢◌, ℕ, ◌++◌, Bool, true, false, List, [], ◌∷◌, map, refl, sym, ap, ◌∙◌, append_assoc, arith, codes, Result, Ok, Err, OnOk, is_ok, String, string_bytes, take, length, get_or, ◌+◌, ◌<◌, Option, Some, slice_get}
-use Rattle.lalrpop_base.specs.Bits.{Bits, rising, no_bits}
-use Rattle.lalrpop_base.specs.Tokens.{token_of}
+use Rattle.lalrpop_base.specs.Words.{Bits, rising, no_bits, token_of}
 use Rattle.lalrpop_base.specs.declared.repr.TerminalString.{TerminalString}
 use Rattle.lalrpop_base.specs.declared.lookahead.token.Token.{Token}
 use Rattle.lalrpop_base.proofs.BitLemmas.{rising-bits_of}
-use Rattle.lalrpop_lr1.specs.ReportLines.{tokens_line, tokens_text, tokens_in}
+use Rattle.lalrpop_lr1.specs.Words.{tokens_line, tokens_text, tokens_in}
 use Rattle.std.specs.List.{flat_map}
 use Rattle.std.proofs.lemmas.List.{flat_map_more, take_more, map-append}
 use mathlib.Core.Bool.{true≢false}

@@ -7,8 +7,10 @@ use Rattle.lalrpop_base.specs.declared.repr.Production.{Production}
 use Rattle.lalrpop_base.specs.declared.repr.Symbol.{Symbol}
 use Rattle.lalrpop_base.specs.declared.repr.Symbol.TheVariants.{Nonterminal as NonterminalOf}
 use Rattle.lalrpop_base.proofs.theory.Lists.{same_some, some≢none}
-use Rattle.lalrpop_lr1.specs.Examples.{edge_of, prefix_of, cursor_of, suffix_of, name_of, cursor_list, place_of, prefixes, suffixes, place, spelled, reduced, reduced_at, IsExampleOf, read, between, IsRightSide, ReduceAround, ReduceAll, SpellsDerivation, CarryRightSides}
-use Rattle.lalrpop_lr1.specs.Paths.{source_of, target_of, source, is_item, GoesBack, IsPath}
+use Rattle.lalrpop_lr1.specs.Words.{edge_of, prefix_of, cursor_of, suffix_of, name_of, cursor_list, place_of, prefixes, suffixes, place, spelled, reduced}
+use Rattle.lalrpop_lr1.specs.Words.{reduced_at, IsExampleOf, between, IsRightSide, ReduceAround, ReduceAll, SpellsDerivation, CarryRightSides, source_of}
+use Rattle.lalrpop_lr1.specs.Words.{target_of, source, is_item, GoesBack, IsPath}
+use Rattle.lalrpop_lr1.specs.Examples.{read}
 use Rattle.lalrpop_lr1.specs.declared.trace.example.Example.{Example}
 use Rattle.lalrpop_lr1.specs.declared.trace.example.ExampleSymbol.{ExampleSymbol}
 use Rattle.lalrpop_lr1.specs.declared.trace.example.ExampleSymbol.TheVariants.{Symbol as SymbolOf, Epsilon}

@@ -8,12 +8,13 @@ use Rattle.lalrpop_base.specs.declared.repr.Production.{Production}
 use Rattle.lalrpop_base.specs.declared.repr.Symbol.{Symbol}
 use Rattle.lalrpop_base.specs.declared.repr.TerminalString.{TerminalString}
 use Rattle.lalrpop_base.specs.declared.lookahead.token.Token.{Token}
-use Rattle.lalrpop_base.specs.States.{Contents, Reduction}
-use Rattle.lalrpop_base.specs.Trees.{Tree, Leaf, Node, Trees, no_trees, beside, trees_of, root, roots}
+use Rattle.lalrpop_base.specs.Words.{Contents, Tree, Leaf, Node, Trees, no_trees, beside, trees_of, root, roots, Configuration, reduction_on, Move, Stands}
+use Rattle.lalrpop_base.specs.Words.{Goes, Ends, reduced, goes_on, received, reduces, shifts_or, moves_on, move, Reaches, here, further}
+use Rattle.lalrpop_base.specs.States.{Reduction}
 use Rattle.lalrpop_base.specs.declared.lookahead.token.Token.TheVariants.{Eof, Terminal as TokenOf}
-use Rattle.lalrpop_base.specs.Runs.{Configuration, reduction_on, Move, Stands, Goes, Ends, reduced, goes_on, received, reduces, shifts_or, moves_on, move, Reaches, here, further}
 use Rattle.lalrpop_base.proofs.ContentsViews.{LeadAsItemsSay, IsEdge}
-use Rattle.lalrpop_lr1.specs.Machines.{IsStack, bottom, above}
+use Rattle.lalrpop_lr1.specs.Words.{IsStack, bottom}
+use Rattle.lalrpop_lr1.specs.Machines.{above}
 
 -- the trees of a forest go onto the stack from the left
 abbrev pub list_of : Trees → List Tree
@@ -155,14 +156,6 @@ ending_with trees (Ends us) = us
 
 pub same_ends : {ts us : List Tree} → Ends ts ≡ Ends us → ts ≡ us
 same_ends {ts} e = ap (ending_with ts) e
-
-pub received_moves : (states : ℕ → Contents) (p : Production) (stack : List ℕ) (trees : List Tree) (rest : List TerminalString) → received states p stack trees rest ≡ Stands → ⊥
-received_moves states p [] trees rest e = cc
-received_moves states p (s ∷ below) trees rest e = go ((states s).goto p.nonterminal) e
-  where
-    go : (o : Option ℕ) → goes_on o s below trees rest ≡ Stands → ⊥
-    go None k = cc
-    go (Some n) k = cc
 
 abbrev pub IsStackOf : (ℕ → Contents) → Configuration → Type 0
 IsStackOf states c = IsStack states c.state c.below c.trees

@@ -1,25 +1,15 @@
 -- What is told by tables, of the grammar to which they are faithful.
 use Rattle.std.proofs.Common.{◌≡◌, ℕ, ◌≤◌, List, sym, subst}
 use Rattle.std.specs.Prelude.{Result, Ok, Err, IfOk, IfErr}
-use Rattle.lalrpop_base.specs.Bits.{Bits}
-use Rattle.lalrpop_base.specs.Contents.{contents}
-use Rattle.lalrpop_base.specs.Grammar.{IsOnNoRightSide}
-use Rattle.lalrpop_base.specs.Runs.{Outcome, HasOutcome, IsFirstWrong}
-use Rattle.lalrpop_base.specs.States.{Contents}
-use Rattle.lalrpop_base.specs.Trees.{beside, no_trees, leaves, nodes}
-use Rattle.lalrpop_base.specs.WellFormed.{productions}
+use Rattle.lalrpop_base.specs.Words.{Bits, contents, IsOnNoRightSide, Outcome, HasOutcome, IsFirstWrong, Contents, beside, no_trees, leaves, nodes, productions}
 use Rattle.lalrpop_base.specs.declared.lr1_core.state.State.{State}
 use Rattle.lalrpop_base.specs.declared.repr.NonterminalString.{NonterminalString}
 use Rattle.lalrpop_base.specs.declared.repr.TerminalString.{TerminalString}
 use Rattle.lalrpop_base.specs.declared.repr.grammar.Grammar.{Grammar}
-use Rattle.lalrpop_tables.specs.Lalr.{Collapses}
-use Rattle.lalrpop_tables.specs.Lr1Answers.{AreTablesOf}
+use Rattle.lalrpop_tables.specs.Words.{Collapses, AreTablesOf}
 use Rattle.lalrpop_tables.specs.declared.build.options.Options.{Options}
-use Rattle.lalrpop_lr1.specs.Answers.{IsAnswer}
-use Rattle.lalrpop_lr1.specs.FaithfulAnswers.{ForEachGrammar, IsTreeWithin, IsCutOff, IsCutOffByTables, IsOutcomeFor, AnswersTrees, IfRefused, IfLimit}
-use Rattle.lalrpop_lr1.specs.Headline.{IsAccepted, IsToldByTables}
-use Rattle.lalrpop_lr1.specs.ParseAnswers.{HadTablesWhere, IfRefusedAt, IfLimitTold, IsOutcomeTold, TellsTrees, told_by}
-use Rattle.lalrpop_lr1.specs.ParseTrees.{tree_of}
+use Rattle.lalrpop_lr1.specs.Words.{IsAnswer, ForEachGrammar, IsTreeWithin, IsCutOff, IsCutOffByTables, IsOutcomeFor, AnswersTrees, IfRefused, IfLimit}
+use Rattle.lalrpop_lr1.specs.Words.{IsAccepted, IsToldByTables, HadTablesWhere, IfRefusedAt, IfLimitTold, IsOutcomeTold, TellsTrees, told_by, tree_of}
 use Rattle.lalrpop_lr1.specs.declared.headline.parse_error.ParseError.{ParseError}
 use Rattle.lalrpop_lr1.specs.declared.interpret.error.InterpretError.{InterpretError}
 use Rattle.lalrpop_lr1.specs.declared.interpret.error.InterpretError.TheVariants.{Refused as RefusedBy, Limit as LimitPassed, Memory as NoMemory}

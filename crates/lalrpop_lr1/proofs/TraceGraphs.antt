@@ -16,11 +16,7 @@ use Rattle.std.proofs.lemmas.List.Elements.{Contains-append_left, Contains-push_
 use Rattle.std.proofs.lemmas.Option.{slice_get_within}
 use mathlib.Core.Bool.{true≢false}
 use lib.Pointwise.{pointwise}
-use Rattle.lalrpop_base.specs.Exact.{list_exact, both}
-use Rattle.lalrpop_base.specs.Items.{Dotted}
-use Rattle.lalrpop_base.specs.Kernels.{IsNumbering, by_number, key_numbered, AddsOnce}
-use Rattle.lalrpop_base.specs.Multimaps.{collection_at, PushesAt, SameAt}
-use Rattle.lalrpop_base.specs.Places.{AllDiffer}
+use Rattle.lalrpop_base.specs.Words.{list_exact, both, Dotted, IsNumbering, by_number, key_numbered, AddsOnce, collection_at, PushesAt, SameAt, AllDiffer}
 use Rattle.lalrpop_base.specs.contracts.exact.SymbolExact.TheImpl as symbol_exactly
 use Rattle.lalrpop_base.specs.contracts.repr.SymbolEq.TheImpl.Laws as symbol_equality
 use Rattle.lalrpop_base.specs.contracts.repr.SymbolPartialEq.TheImpl as symbol_eq
@@ -29,11 +25,12 @@ use Rattle.lalrpop_base.specs.declared.lr1_core.symbol_sets.SymbolSets.{SymbolSe
 use Rattle.lalrpop_base.specs.declared.repr.Symbol.{Symbol}
 use Rattle.lalrpop_base.proofs.KernelLemmas.{IsNext, all_differ, list_grows, next_numbering, exact_by_cmp}
 use Rattle.lalrpop_base.proofs.MultimapLemmas.{tied_at, everywhere}
-use Rattle.lalrpop_tables.specs.StateGraph.{listed}
+use Rattle.lalrpop_tables.specs.Words.{listed}
 use Rattle.lalrpop_tables.proofs.Contained.{Decided, decided, added_or_not}
 use Rattle.lalrpop_tables.proofs.Lists.{Contains-map, place}
 use Rattle.lalrpop_tables.proofs.Places.{push_cases, contains_at, same_some}
-use Rattle.lalrpop_lr1.specs.TraceGraphs.{Graph, PlainEdge, plain, plain_edge, IsGraph, IsKept, IsFrom, SameLabels, HaveEnds, KeepPlaces, AddsBoth, AddsNoOther, AddsEdge, places_from}
+use Rattle.lalrpop_lr1.specs.Words.{Graph, PlainEdge, plain, plain_edge, IsGraph, IsKept, IsFrom, SameLabels, HaveEnds, KeepPlaces, AddsBoth, AddsNoOther}
+use Rattle.lalrpop_lr1.specs.Words.{AddsEdge, places_from}
 use Rattle.lalrpop_lr1.specs.contracts.trace.node.TraceGraphNodeOrd.TheImpl as node_ord
 use Rattle.lalrpop_lr1.specs.contracts.trace.node.TraceGraphNodeEq.TheImpl as node_equality
 use Rattle.lalrpop_lr1.specs.contracts.trace.node.TraceGraphNodePartialEq.TheImpl as node_eq

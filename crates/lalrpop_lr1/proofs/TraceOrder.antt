@@ -1,29 +1,26 @@
 -- A trace adds edges in the order in which a walk gives them.
-use Rattle.std.proofs.Common.{◌≡◌, ◌≢◌, ◌↔◌, ◌⊎◌, inl, inr, ℕ, ◌<◌, ◌≤◌, ◌+◌, Bool, true, false, List, [], ◌∷◌, ◌++◌, map, length, take, get_or, refl, sym, ◌∙◌, ap, subst, arith, append_assoc, ⊎_elim}
-use Rattle.std.specs.Prelude.{slice_get, Option, Some, None, Contains, not}
-use Rattle.std.specs.List.{flat_map}
+use Rattle.std.proofs.Common.{◌≡◌, ◌≢◌, ◌↔◌, ◌⊎◌, inl, inr, ℕ, ◌<◌, ◌≤◌, ◌+◌, Bool, true, false, List, [], ◌∷◌, ◌++◌, map, length, take, get_or, refl, sym, ◌∙◌, ap, subst, append_assoc, ⊎_elim}
+use Rattle.std.specs.Prelude.{slice_get, Option, Some, Contains, not}
 use Rattle.std.specs.List.Sorted.{IsStrictlySortedBy}
 use Rattle.std.specs.BTreeSet.{BTreeSet, contains}
 use Rattle.std.proofs.lemmas.List.{append-nil, map-append, take_more, take_all}
 use Rattle.std.proofs.lemmas.List.Concat.{flat_map-append}
 use Rattle.std.proofs.lemmas.Option.{slice_get_past}
 use mathlib.Core.Bool.{true≢false}
-use Rattle.lalrpop_base.specs.Bits.{Bits}
-use Rattle.lalrpop_base.specs.Items.{Dotted}
-use Rattle.lalrpop_base.specs.Kernels.{AddsOnce}
-use Rattle.lalrpop_base.specs.declared.repr.NonterminalString.{NonterminalString}
+use Rattle.lalrpop_base.specs.Words.{Bits, Dotted, AddsOnce}
 use Rattle.lalrpop_base.specs.declared.repr.Production.{Production}
 use Rattle.lalrpop_base.specs.declared.repr.Symbol.{Symbol}
 use Rattle.lalrpop_base.specs.declared.repr.Symbol.TheVariants.{Nonterminal}
 use Rattle.lalrpop_base.specs.declared.lr1_core.state.State.{State}
 use Rattle.lalrpop_base.specs.declared.lr1_core.state.StateIndex.{StateIndex}
-use Rattle.lalrpop_tables.specs.StateGraph.{edges, LeadsTo, state_cmp}
+use Rattle.lalrpop_tables.specs.Words.{edges, state_cmp}
+use Rattle.lalrpop_tables.specs.StateGraph.{LeadsTo}
 use Rattle.lalrpop_tables.proofs.Contained.{Decided}
 use Rattle.lalrpop_tables.proofs.Lists.{Contains-none, Contains-here, Contains-there, Contains-cases}
-use Rattle.lalrpop_lr1.specs.TraceGraphs.{Graph, PlainEdge, plain, plain_edges, AddsBoth, AddsEdge}
-use Rattle.lalrpop_lr1.specs.TraceOrder.{AddsInTurn, all_added, left_out, put_behind, ends_of, stop_edge, onward_edges, Duty, come_to, take_up, come_to_each, take_up_each, items_at, AreSources, Walks, ends, known, meets, passes, stops, goes_on, IsInOrder}
-use Rattle.lalrpop_lr1.specs.Traces.{Backtrace, Meeting, GoesOn, own_edge}
-use Rattle.lalrpop_lr1.specs.Meetings.{meeting_cmp, IsInsertedPair, HasMet, AddsInOrder, AreMet, WalksFrom, WalksOn}
+use Rattle.lalrpop_lr1.specs.Words.{Graph, PlainEdge, plain, plain_edges, AddsBoth, AddsEdge, AddsInTurn, all_added, left_out, put_behind, ends_of, stop_edge}
+use Rattle.lalrpop_lr1.specs.Words.{onward_edges, Duty, come_to, take_up, come_to_each, take_up_each, items_at, AreSources, Walks, ends, known, meets, passes}
+use Rattle.lalrpop_lr1.specs.Words.{IsInOrder, Backtrace, Meeting, GoesOn, own_edge, meeting_cmp, IsInsertedPair, HasMet, AddsInOrder, AreMet, WalksOn}
+use Rattle.lalrpop_lr1.specs.TraceOrder.{stops, goes_on}
 use Rattle.lalrpop_lr1.specs.declared.trace.meeting.Met.{Met}
 use Rattle.lalrpop_lr1.specs.declared.trace.node.TraceGraphNode.{TraceGraphNode}
 use Rattle.lalrpop_lr1.specs.declared.trace.trace_graph.TraceGraphEdge.{TraceGraphEdge}

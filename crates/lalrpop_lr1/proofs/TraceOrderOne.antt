@@ -1,21 +1,20 @@
 -- A backtrace has one list of edges, and one of nodes, that are in order.
-use Rattle.std.proofs.Common.{◌≡◌, ◌≢◌, ◌↔◌, ◌⊎◌, inl, inr, ℕ, ◌<◌, Bool, true, false, cond, List, [], ◌∷◌, ◌++◌, refl, sym, ◌∙◌, ap, subst, arith, ⊎_elim}
+use Rattle.std.proofs.Common.{◌≡◌, ◌≢◌, ◌↔◌, ◌⊎◌, inl, inr, ℕ, ◌<◌, Bool, true, false, cond, List, [], ◌∷◌, ◌++◌, refl, sym, ◌∙◌, ap, subst, arith}
 use Rattle.std.specs.Prelude.{slice_get, Some, Contains, nat_lt, ◌==◌}
 use Rattle.std.proofs.lemmas.Bool.{ltb-true}
 use Rattle.std.specs.List.{AllByRecursion}
 use Rattle.std.specs.List.Sorted.{IsStrictlySortedBy}
 use Rattle.std.specs.declared.cmp.Ordering.TheVariants.{Less, Equal, Greater}
-use Rattle.lalrpop_base.specs.Bits.{Bits}
-use Rattle.lalrpop_base.specs.Items.{Dotted}
+use Rattle.lalrpop_base.specs.Words.{Bits, Dotted}
 use Rattle.lalrpop_base.specs.declared.repr.Production.{Production}
 use Rattle.lalrpop_base.specs.declared.repr.Symbol.TheVariants.{Nonterminal}
 use Rattle.lalrpop_base.specs.declared.lr1_core.state.StateIndex.{StateIndex}
-use Rattle.lalrpop_tables.specs.StateGraph.{state_cmp}
+use Rattle.lalrpop_tables.specs.Words.{state_cmp}
 use Rattle.lalrpop_tables.proofs.Lists.{Contains-none, Contains-here, Contains-there, Contains-cases}
-use Rattle.lalrpop_lr1.specs.TraceGraphs.{Graph, PlainEdge, plain_edges}
-use Rattle.lalrpop_lr1.specs.TraceOrder.{AddsInTurn, all_added, left_out, put_behind, ends_of, stop_edge, onward_edges, Duty, come_to, take_up, come_to_each, take_up_each, items_at, AreSources, Walks, ends, known, meets, passes, stops, goes_on, IsInOrder}
-use Rattle.lalrpop_lr1.specs.Traces.{Backtrace, Meeting, GoesOn, own_edge}
-use Rattle.lalrpop_lr1.specs.declared.trace.node.TraceGraphNode.{TraceGraphNode}
+use Rattle.lalrpop_lr1.specs.Words.{Graph, PlainEdge, plain_edges, AddsInTurn, all_added, left_out, put_behind, ends_of, stop_edge, onward_edges, Duty, come_to}
+use Rattle.lalrpop_lr1.specs.Words.{take_up, come_to_each, take_up_each, items_at, AreSources, Walks, ends, known, meets, passes, IsInOrder, Backtrace, Meeting}
+use Rattle.lalrpop_lr1.specs.Words.{GoesOn, own_edge}
+use Rattle.lalrpop_lr1.specs.TraceOrder.{stops, goes_on}
 
 -- ---- values added in turn
 

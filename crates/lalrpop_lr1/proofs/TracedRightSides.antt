@@ -3,7 +3,7 @@ use Rattle.std.proofs.Common.{◌≡◌, ℕ, zero, suc, ◌+◌, ◌<◌, ◌�
 use Rattle.std.specs.Prelude.{Contains, Option, Some, None, option_copied, slice_get}
 use Rattle.std.proofs.lemmas.List.{take-append-drop, drop_all}
 use Rattle.std.proofs.lemmas.Option.{slice_get_cases}
-use Rattle.lalrpop_base.specs.WellFormed.{Rules, HasKnownTerminals}
+use Rattle.lalrpop_base.specs.Words.{Rules, HasKnownTerminals}
 use Rattle.lalrpop_base.specs.declared.repr.NonterminalString.{NonterminalString}
 use Rattle.lalrpop_base.specs.declared.repr.Production.{Production}
 use Rattle.lalrpop_base.specs.declared.repr.Symbol.{Symbol}
@@ -11,9 +11,9 @@ use Rattle.lalrpop_base.specs.declared.repr.Symbol.TheVariants.{Nonterminal as N
 use Rattle.lalrpop_base.specs.declared.repr.TerminalString.{TerminalString}
 use Rattle.lalrpop_base.proofs.ContentsViews.{contains_map, at_contains}
 use Rattle.lalrpop_tables.proofs.Closing.{drop_split}
-use Rattle.lalrpop_lr1.specs.Examples.{name_of, cursor_list, IsRightSide, CarryRightSides}
-use Rattle.lalrpop_lr1.specs.TraceGraphs.{Graph, PlainEdge, plain, AreKnownEdges}
-use Rattle.lalrpop_lr1.specs.Traces.{Backtrace, IsTraced, first, given, Gives, onward, itself, stops, IsTraceOf, dot_edge, dotted, HasOwnProductions, HasOwnTerminals}
+use Rattle.lalrpop_lr1.specs.Words.{name_of, cursor_list, IsRightSide, CarryRightSides, Graph, PlainEdge, plain, AreKnownEdges, Backtrace, IsTraced, first}
+use Rattle.lalrpop_lr1.specs.Words.{given, Gives, onward, itself, IsTraceOf, dot_edge, dotted, HasOwnProductions, HasOwnTerminals}
+use Rattle.lalrpop_lr1.specs.Traces.{stops}
 use Rattle.lalrpop_lr1.specs.declared.trace.node.TraceGraphNode.{TraceGraphNode}
 use Rattle.lalrpop_lr1.specs.declared.trace.node.TraceGraphNode.TheVariants.{Nonterminal as NameNode, Item as ItemNode}
 use Rattle.lalrpop_lr1.specs.declared.trace.trace_graph.TraceGraphEdge.{TraceGraphEdge}

@@ -11,23 +11,23 @@ use Rattle.std.proofs.lemmas.List.Elements.{Contains-get_or, Contains-append_lef
 use Rattle.std.proofs.lemmas.Option.{slice_get_within, get_or_from_slice_get}
 use Rattle.std.proofs.lemmas.Bool.{cases_lt}
 use mathlib.Core.Bool.{true≢false}
-use Rattle.lalrpop_base.specs.Bits.{Bits}
-use Rattle.lalrpop_base.specs.Items.{Dotted}
-use Rattle.lalrpop_base.specs.WellFormed.{name_cmp}
+use Rattle.lalrpop_base.specs.Words.{Bits, Dotted, name_cmp}
 use Rattle.lalrpop_base.specs.contracts.exact.NonterminalStringExact.TheImpl as name_exactly
 use Rattle.lalrpop_base.specs.contracts.repr.NonterminalStringOrd.TheImpl as name_ord
 use Rattle.lalrpop_base.specs.declared.repr.NonterminalString.{NonterminalString}
 use Rattle.lalrpop_base.specs.declared.repr.Production.{Production}
 use Rattle.lalrpop_base.specs.declared.lr1_core.state.State.{State}
 use Rattle.lalrpop_base.specs.declared.lr1_core.state.StateIndex.{StateIndex}
-use Rattle.lalrpop_tables.specs.StateGraph.{edges, LeadsTo}
+use Rattle.lalrpop_tables.specs.Words.{edges}
+use Rattle.lalrpop_tables.specs.StateGraph.{LeadsTo}
 use Rattle.lalrpop_tables.proofs.Lists.{Contains-none, place}
 use Rattle.lalrpop_tables.proofs.Places.{same_some}
 use Rattle.lalrpop_base.specs.declared.lr1_core.symbol_sets.SymbolSets.{SymbolSets}
 use Rattle.lalrpop_base.specs.declared.repr.Symbol.{Symbol}
-use Rattle.lalrpop_lr1.specs.TraceGraphs.{Graph, PlainEdge, plain, plain_edge, plain_edges, IsEnd, IsGraph, AddsNoOther, AddsEdge}
-use Rattle.lalrpop_lr1.specs.Traces.{Backtrace, Meeting, dotted, dot_edge, own_edge, Takes, GoesOn, IsSource, IsMet, begins, goes_on, Gives, onward, itself, stops, IsTraced, first, given, IsTraceOf}
-use Rattle.lalrpop_lr1.specs.Meetings.{meeting_cmp, IsInsertedPair, AreEnds, AddsEdges, HasMet, HasEdge, IsDone, IsFinished, IsSound, Advances}
+use Rattle.lalrpop_lr1.specs.Words.{Graph, PlainEdge, plain, plain_edge, plain_edges, IsEnd, IsGraph, AddsNoOther, AddsEdge, Backtrace, Meeting, dotted}
+use Rattle.lalrpop_lr1.specs.Words.{dot_edge, own_edge, Takes, GoesOn, IsSource, IsMet, begins, Gives, onward, itself, IsTraced, first, given, IsTraceOf}
+use Rattle.lalrpop_lr1.specs.Words.{meeting_cmp, IsInsertedPair, AreEnds, AddsEdges, HasMet, HasEdge, IsDone, IsFinished, IsSound, Advances}
+use Rattle.lalrpop_lr1.specs.Traces.{goes_on, stops}
 use Rattle.lalrpop_lr1.specs.declared.trace.ground.Traced.TheVariants.{Shift, Reduce}
 use Rattle.lalrpop_lr1.specs.declared.trace.meeting.Met.{Met}
 use Rattle.lalrpop_lr1.specs.declared.trace.node.TraceGraphNode.{TraceGraphNode}

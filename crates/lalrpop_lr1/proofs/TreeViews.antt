@@ -1,14 +1,13 @@
 -- Trees of the code, and the trees that they are.
 use Rattle.std.proofs.Common.{◌≡◌, ◌↔◌, Bool, true, List, [], ◌∷◌, ◌++◌, map, refl, ap, ap₂, sym, ◌∙◌, append-nil}
 use Rattle.lalrpop_base.proofs.HeldTokens.{same_test}
-use Rattle.lalrpop_base.specs.Trees.{Tree, Leaf, Node, Trees, no_trees, beside, trees_of, leaves}
+use Rattle.lalrpop_base.specs.Words.{Tree, Leaf, Node, Trees, no_trees, beside, trees_of, leaves}
 use Rattle.lalrpop_base.specs.declared.repr.NonterminalString.{NonterminalString}
-use Rattle.lalrpop_lr1.specs.EqualTrees.{equal_tree, tree_exact, tree_same}
-use Rattle.lalrpop_lr1.specs.ParseTrees.{tree_of, tree_step}
+use Rattle.lalrpop_lr1.specs.Words.{equal_tree, tree_exact, tree_same, tree_of, tree_step}
 use Rattle.lalrpop_lr1.specs.declared.interpret.tree.ParseTree.{ParseTree}
 use Rattle.lalrpop_lr1.specs.declared.interpret.tree.ParseTree.TheOpen as Open
-use Rattle.lalrpop_lr1.specs.declared.interpret.tree.ParseTree.TheViews.{out-ParseTree, roll-ParseTree}
-use Rattle.lalrpop_lr1.specs.declared.interpret.tree.ParseTree.TheFolds.{map-ParseTree, fold-roll-ParseTree, fold_out-ParseTree}
+use Rattle.lalrpop_lr1.specs.declared.interpret.tree.ParseTree.TheViews.{roll-ParseTree}
+use Rattle.lalrpop_lr1.specs.declared.interpret.tree.ParseTree.TheFolds.{fold-roll-ParseTree}
 
 -- one node, with the trees of its children
 abbrev pub tree_from : Open.ParseTree-F ParseTree → Tree
@@ -18,13 +17,6 @@ tree_from (Open.Terminal t) = Leaf t
 pub tree_of_roll : (x : Open.ParseTree-F ParseTree) → tree_of (roll-ParseTree x) ≡ tree_from x
 tree_of_roll (Open.Nonterminal name children) = fold-roll-ParseTree Tree tree_step (Open.Nonterminal name children)
 tree_of_roll (Open.Terminal t) = fold-roll-ParseTree Tree tree_step (Open.Terminal t)
-
-pub tree_of_out : (t : ParseTree) → tree_of t ≡ tree_from (out-ParseTree t)
-tree_of_out t = fold_out-ParseTree Tree tree_step t ∙ go (out-ParseTree t)
-  where
-    go : (x : Open.ParseTree-F ParseTree) → tree_step (map-ParseTree ParseTree Tree tree_of x) ≡ tree_from x
-    go (Open.Nonterminal name children) = refl
-    go (Open.Terminal u) = refl
 
 -- the leaves of trees are those of the first and those of the others
 pub leaves_cons : (t : Tree) (ts : Trees) → leaves (beside t ts) ≡ leaves (beside t no_trees) ++ leaves ts

@@ -5,8 +5,7 @@ use Rattle.std.proofs.lemmas.List.{take_all, reverse-append, reverse-reverse, le
 use Rattle.lalrpop_tables.proofs.Places.{slice_get-push_at, same_some}
 use Rattle.std.proofs.lemmas.Option.{slice_get_within}
 use Rattle.lalrpop_lr1.proofs.PathsLeft.{take_none}
-use Rattle.lalrpop_lr1.specs.TraceGraphs.{node_count, numbers_from}
-use Rattle.lalrpop_lr1.specs.Walks.{total, weight, numbers_at, load_of, load, frames, edge_weight, bound, bound_of, IsEnded}
+use Rattle.lalrpop_lr1.specs.Words.{node_count, numbers_from, total, weight, numbers_at, load_of, load, frames, edge_weight, bound, bound_of, IsEnded}
 use Rattle.lalrpop_lr1.specs.declared.trace.enumerator.PathEnumerator.{PathEnumerator}
 use Rattle.lalrpop_lr1.specs.declared.trace.node.TraceGraphNode.{TraceGraphNode}
 use Rattle.lalrpop_lr1.specs.declared.trace.trace_graph.TraceGraph.{TraceGraph}
@@ -33,10 +32,6 @@ module _ (g : TraceGraph) (start : TraceGraphNode) (n : ℕ) where
   pub taken : (fs : List EnumeratorState) (left k : ℕ) → slice_get (numbers_at g start fs) left ≡ Some k → load_of g start n fs left + weight g (n - length fs) k ≡ load_of g start n fs (suc left)
   taken fs left k at = omega (arith, load_split fs left, load_split fs (suc left), total_more (weight g (n - length fs)) (numbers_at g start fs) left k at)
 
-  -- a node with nothing left is left for the one below
-  pub popped : (s : EnumeratorState) (fs : List EnumeratorState) → load_of g start n (s ∷ fs) 0 ≡ suc (load_of g start n fs s.left)
-  popped s fs = omega arith
-
   -- a nonterminal is entered with all its edges
   pub entered : (s : EnumeratorState) (fs : List EnumeratorState) → length fs < n → load_of g start n (s ∷ fs) (length (numbers_from g s.number)) < load_of g start n fs s.left + weight g (n - length fs) s.number
   entered s fs room =
@@ -44,10 +39,6 @@ module _ (g : TraceGraph) (start : TraceGraphNode) (n : ℕ) where
       let w : weight g (n - length fs) s.number ≡ 2 + total (weight g (n - suc (length fs))) (numbers_from g s.number) = ap (λ q. weight g q s.number) e in
       let t : total (weight g (n - suc (length fs))) (take (length (numbers_from g s.number)) (numbers_from g s.number)) ≡ total (weight g (n - suc (length fs))) (numbers_from g s.number) = ap (total (weight g (n - suc (length fs)))) (take_all (length (numbers_from g s.number)) (numbers_from g s.number) (omega arith)) in
       omega (arith, w, t)
-
-pub weight-some : (g : TraceGraph) (n k : ℕ) → 2 ≤ weight g n k
-weight-some g zero k = omega arith
-weight-some g (suc n) k = omega arith
 
 -- a walk that entered a nonterminal has less left than before with the edge to it
 pub entered_load : (old : PathEnumerator) (graph : TraceGraph) (start : TraceGraphNode) (fs : List EnumeratorState) (left number : ℕ) → graph ≡ old.graph.now → start ≡ old.start → fs ≡ record { number = number; left = old.left } ∷ frames old → left ≡ length (numbers_from graph number) → length (frames old) < node_count old.graph.now → load_of graph start (node_count graph) fs left < load old + edge_weight old number
@@ -60,17 +51,6 @@ entered_load old graph start fs left number same_graph same_start same_frames co
     ∙ ap (λ (es : List EnumeratorState). load_of g old.start (node_count g) es left) same_frames
     ∙ ap (λ (m : ℕ). load_of g old.start (node_count g) (s ∷ frames old) m) (count ∙ ap (λ (h : TraceGraph). length (numbers_from h number)) same_graph) in
     omega (arith, is, entered g old.start (node_count g) s (frames old) room)
-
--- the same of a walk that entered an item, at which it stops
-pub stopped_load : (old new : PathEnumerator) (number : ℕ) → new.graph.now ≡ old.graph.now → new.start ≡ old.start → frames new ≡ record { number = number; left = old.left } ∷ frames old → new.left ≡ 0 → load new ≡ suc (load old)
-stopped_load old new number same_graph same_start same_frames none =
-    let s : EnumeratorState = record { number = number; left = old.left } in
-    let g = old.graph.now in
-    ap (λ (h : TraceGraph). load_of h new.start (node_count h) (frames new) new.left) same_graph
-    ∙ ap (λ (p : TraceGraphNode). load_of g p (node_count g) (frames new) new.left) same_start
-    ∙ ap (λ (fs : List EnumeratorState). load_of g old.start (node_count g) fs new.left) same_frames
-    ∙ ap (λ (left : ℕ). load_of g old.start (node_count g) (s ∷ frames old) left) none
-    ∙ popped g old.start (node_count g) s (frames old)
 
 -- a walk that took an edge has its weight less left
 pub taken_load : (g : TraceGraph) (start : TraceGraphNode) (n : ℕ) (fs : List EnumeratorState) (after left most k : ℕ) → left ≡ suc after → load_of g start n fs left ≤ most → slice_get (numbers_at g start fs) after ≡ Some k → load_of g start n fs after + weight g (n - length fs) k ≤ most
@@ -111,9 +91,6 @@ pub standing_bound : (walk : PathEnumerator) → (IsEnded walk → ⊥) → 2 �
 standing_bound walk standing =
     let long : 0 < length (frames walk) = omega (arith, standing_long walk.stack.items standing, length-reverse walk.stack.items) in
     omega (arith, standing_at walk.stack.items (load walk) standing, load_some walk.graph.now walk.start (node_count walk.graph.now) (frames walk) walk.left long)
-
-pub ended_bound : (walk : PathEnumerator) → IsEnded walk → bound walk ≡ cond walk.refused 1 0
-ended_bound walk ended = ap (λ (stack : List EnumeratorState). cond walk.refused 1 0 + bound_of stack (load walk)) ended ∙ omega arith
 
 -- a walk at its end with a refused growth to tell has one answer to give
 pub refused_less : (stack : List EnumeratorState) (n most : ℕ) → stack ≡ [] → 2 ≤ most → cond true 1 0 + bound_of stack n < most

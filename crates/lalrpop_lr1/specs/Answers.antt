@@ -1,7 +1,6 @@
 -- What an answer says of a run.
 use Rattle.std.specs.Prelude.{◌≡◌, ℕ, List, slice_get, Some, map, Result, Ok, Err}
-use Rattle.lalrpop_base.specs.Contents.{number_of}
-use Rattle.lalrpop_base.specs.Runs.{Outcome, Parsed, Refused, Limit}
+use Rattle.lalrpop_base.specs.Words.{number_of, Outcome, Parsed, Refused, Limit}
 use Rattle.lalrpop_base.specs.declared.lr1_core.state.State.{State}
 use Rattle.lalrpop_base.specs.declared.lr1_core.state.StateIndex.{StateIndex}
 use Rattle.lalrpop_lr1.specs.ParseTrees.{tree_of}

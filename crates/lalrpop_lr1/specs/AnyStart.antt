@@ -3,13 +3,8 @@ use Rattle.std.specs.Prelude.{◌≡◌, ℕ, ◌<◌, ◌≤◌, List, not, Res
 use Rattle.std.specs.BTreeMap.{is_at}
 use Rattle.std.specs.Coded.{Coded, code_by, coded×, coded_list}
 use Rattle.std.specs.List.{filter}
-use Rattle.lalrpop_base.specs.Augmented.{IsAugmented}
-use Rattle.lalrpop_base.specs.Bits.{Bits}
-use Rattle.lalrpop_base.specs.Contents.{contents}
-use Rattle.lalrpop_base.specs.Grammar.{IsOnNoRightSide}
-use Rattle.lalrpop_base.specs.Runs.{Outcome, Parsed, HasOutcome, Refused as RefusedIn, Limit as CutOff}
-use Rattle.lalrpop_base.specs.Trees.{Tree, Node, beside, no_trees, nodes, IsParseTree}
-use Rattle.lalrpop_base.specs.WellFormed.{IsWellFormed, name_cmp, productions}
+use Rattle.lalrpop_base.specs.Words.{IsAugmented, Bits, contents, IsOnNoRightSide, Outcome, Parsed, HasOutcome, Refused as RefusedIn, Limit as CutOff, Tree}
+use Rattle.lalrpop_base.specs.Words.{Node, beside, no_trees, nodes, IsParseTree, IsWellFormed, name_cmp, productions}
 use Rattle.lalrpop_base.specs.contracts.repr.NonterminalString as name
 use Rattle.lalrpop_base.specs.contracts.repr.Production as production
 use Rattle.lalrpop_base.specs.contracts.repr.grammar.Grammar as whole
@@ -18,8 +13,7 @@ use Rattle.lalrpop_base.specs.declared.repr.NonterminalString.{NonterminalString
 use Rattle.lalrpop_base.specs.declared.repr.Production.{Production}
 use Rattle.lalrpop_base.specs.declared.repr.TerminalString.{TerminalString}
 use Rattle.lalrpop_base.specs.declared.repr.grammar.Grammar.{Grammar}
-use Rattle.lalrpop_tables.specs.Lalr.{Collapses}
-use Rattle.lalrpop_tables.specs.Lr1Answers.{AreTablesOf}
+use Rattle.lalrpop_tables.specs.Words.{Collapses, AreTablesOf}
 use Rattle.lalrpop_tables.specs.declared.build.options.Options.{Options}
 use Rattle.lalrpop_lr1.specs.ParseAnswers.{IsOutcomeTold}
 use Rattle.lalrpop_lr1.specs.declared.headline.parse_error.ParseError.{ParseError}

@@ -2,8 +2,7 @@
 use Rattle.std.specs.Prelude.{◌≡◌, Bool, true, false, ◌&&◌, refl}
 use Rattle.std.proofs.Common.{sym, ap, ap₂, ◌∙◌}
 use Rattle.std.specs.Cmp.{IsEquivalence, decided}
-use Rattle.lalrpop_base.specs.Exact.{Exactly, both, name_exact}
-use Rattle.lalrpop_base.specs.Trees.{Tree, Leaf, Node, Trees, no_trees, beside}
+use Rattle.lalrpop_base.specs.Words.{Exactly, both, name_exact, Tree, Leaf, Node, Trees, no_trees, beside}
 use Rattle.lalrpop_base.specs.contracts.exact.TerminalStringExact.TheImpl as terminal_exact
 use Rattle.lalrpop_base.specs.contracts.repr.NonterminalStringEq.TheImpl as name_laws
 use Rattle.lalrpop_base.specs.contracts.repr.NonterminalStringPartialEq.TheImpl as name_eq

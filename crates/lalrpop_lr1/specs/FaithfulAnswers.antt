@@ -1,11 +1,7 @@
 -- What an answer says where the states are faithful to a grammar: the correctness of an LR parser (Knuth 1965; Aho, Sethi and Ullman, section 4.7), with this library's limit. The parser is handed no grammar, so each holds of whatever grammar the states are faithful to.
 use Rattle.std.specs.Prelude.{◌≡◌, ◌≢◌, ℕ, ◌<◌, ◌≤◌, Bool, List, slice_get, Some, Result, Ok, Err}
-use Rattle.lalrpop_base.specs.Grammar.{IsBeginning, IsOnNoRightSide}
-use Rattle.lalrpop_base.specs.Laws.{AreCanonicalWith}
-use Rattle.lalrpop_base.specs.Runs.{Configuration, Stands, move, Reaches, begin, Outcome, Parsed, Refused as RefusedIn, Limit as CutOff}
-use Rattle.lalrpop_base.specs.States.{Contents, AreFaithful}
-use Rattle.lalrpop_base.specs.Trees.{Tree, beside, no_trees, nodes, IsParseTree}
-use Rattle.lalrpop_base.specs.Validity.{IsLR1}
+use Rattle.lalrpop_base.specs.Words.{IsBeginning, IsOnNoRightSide, AreCanonicalWith, Configuration, Stands, move, Reaches, begin, Outcome, Parsed}
+use Rattle.lalrpop_base.specs.Words.{Refused as RefusedIn, Limit as CutOff, Contents, AreFaithful, Tree, beside, no_trees, nodes, IsParseTree, IsLR1}
 use Rattle.lalrpop_base.specs.declared.lookahead.token.Token.{Token}
 use Rattle.lalrpop_base.specs.declared.lr1_core.state.State.{State}
 use Rattle.lalrpop_base.specs.declared.repr.NonterminalString.{NonterminalString}

@@ -1,17 +1,11 @@
 -- What is promised from a grammar to its trees: that LR(1) grammars have deterministic parsers (Knuth 1965), in this library's words.
 use Rattle.std.specs.Prelude.{◌≡◌, ℕ, ◌≤◌, List, Result, IfOk, IfErr}
-use Rattle.lalrpop_base.specs.Bits.{Bits}
-use Rattle.lalrpop_base.specs.Contents.{contents}
-use Rattle.lalrpop_base.specs.Runs.{HasOutcome}
-use Rattle.lalrpop_base.specs.Trees.{beside, no_trees, leaves, nodes}
-use Rattle.lalrpop_base.specs.Validity.{IsLR1, IsLALR1}
-use Rattle.lalrpop_base.specs.WellFormed.{productions}
+use Rattle.lalrpop_base.specs.Words.{Bits, contents, HasOutcome, beside, no_trees, leaves, nodes, IsLR1, IsLALR1, productions}
 use Rattle.lalrpop_base.specs.declared.lr1_core.state.State.{State}
 use Rattle.lalrpop_base.specs.declared.repr.NonterminalString.{NonterminalString}
 use Rattle.lalrpop_base.specs.declared.repr.TerminalString.{TerminalString}
 use Rattle.lalrpop_base.specs.declared.repr.grammar.Grammar.{Grammar}
-use Rattle.lalrpop_tables.specs.Lalr.{Collapses}
-use Rattle.lalrpop_tables.specs.Lr1Answers.{AreTablesOf}
+use Rattle.lalrpop_tables.specs.Words.{Collapses, AreTablesOf}
 use Rattle.lalrpop_tables.specs.declared.build.options.Options.{Options}
 use Rattle.lalrpop_lr1.specs.FaithfulAnswers.{IsCutOff}
 use Rattle.lalrpop_lr1.specs.ParseAnswers.{IsOutcomeTold, IfLimitTold}

@@ -1,9 +1,7 @@
 -- The order in which marked nonterminals are inlined, and why there may be none.
 use Rattle.std.specs.Prelude.{◌≡◌, ◌↔◌, List, ◌∷◌, ◌++◌, Contains, Option, None, Some}
 use Rattle.std.specs.BTreeMap.{get}
-use Rattle.lalrpop_base.specs.Marks.{inline_mark}
-use Rattle.lalrpop_base.specs.Places.{AllDiffer}
-use Rattle.lalrpop_base.specs.WellFormed.{name_cmp, productions_of}
+use Rattle.lalrpop_base.specs.Words.{inline_mark, AllDiffer, name_cmp, productions_of}
 use Rattle.lalrpop_base.specs.declared.repr.NonterminalString.{NonterminalString}
 use Rattle.lalrpop_base.specs.declared.repr.Span.{Span}
 use Rattle.lalrpop_base.specs.declared.repr.Production.{Production}

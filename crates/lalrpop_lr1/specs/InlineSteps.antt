@@ -3,7 +3,7 @@ use Rattle.std.specs.Prelude.{◌≡◌, ◌||◌, ℕ, Bool, false, cond, List,
 use Rattle.std.specs.List.{flat_map, list_any}
 use Rattle.std.specs.BTreeMap.{is_at}
 use Rattle.std.specs.Map.{lookup}
-use Rattle.lalrpop_base.specs.WellFormed.{name_cmp}
+use Rattle.lalrpop_base.specs.Words.{name_cmp}
 use Rattle.lalrpop_base.specs.declared.repr.NonterminalString.{NonterminalString}
 use Rattle.lalrpop_base.specs.declared.repr.ActionFn.{ActionFn}
 use Rattle.lalrpop_base.specs.declared.repr.Span.{Span}

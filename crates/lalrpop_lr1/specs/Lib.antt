@@ -27,3 +27,6 @@ pub mod TraceGraphs
 pub mod TraceOrder
 pub mod Traces
 pub mod Walks
+pub mod Words
+pub use Rattle.lalrpop_base.specs.Words as BaseWords
+pub use Rattle.lalrpop_tables.specs.Words as TablesWords

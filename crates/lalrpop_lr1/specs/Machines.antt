@@ -1,11 +1,7 @@
 -- The code's stack, as a configuration.
 use Rattle.std.specs.Prelude.{◌≡◌, ◌≢◌, ℕ, suc, ◌+◌, ◌<◌, ◌≤◌, List, [], ◌∷◌, ◌++◌, length, map, reverse, Option, Some, None}
 use Rattle.std.specs.BTreeMap.{get}
-use Rattle.lalrpop_base.specs.Contents.{number_of}
-use Rattle.lalrpop_base.specs.Each.{EachItem}
-use Rattle.lalrpop_base.specs.States.{Contents, leads}
-use Rattle.lalrpop_base.specs.Trees.{Tree, Leaf, root}
-use Rattle.lalrpop_base.specs.Runs.{Configuration, reduction_on, reduces, Move, Stands, Goes, Ends}
+use Rattle.lalrpop_base.specs.Words.{number_of, EachItem, Contents, leads, Tree, Leaf, root, Configuration, reduction_on, reduces, Move, Stands, Goes, Ends}
 use Rattle.lalrpop_base.specs.declared.repr.TerminalString.{TerminalString}
 use Rattle.lalrpop_base.specs.declared.lookahead.token.Token.{Token}
 use Rattle.lalrpop_base.specs.contracts.repr.TerminalStringOrd.TheImpl as terminal_ord

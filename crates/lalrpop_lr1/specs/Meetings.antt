@@ -4,12 +4,10 @@ use Rattle.std.specs.List.{flat_map, range_with_len}
 use Rattle.std.specs.BTreeSet.{BTreeSet, contains}
 use Rattle.std.specs.declared.cmp.Ordering.{Ordering}
 use Rattle.std.specs.Ordering.{then_cmp, on}
-use Rattle.lalrpop_base.specs.Bits.{Bits}
-use Rattle.lalrpop_base.specs.Items.{Dotted}
-use Rattle.lalrpop_base.specs.WellFormed.{name_cmp}
+use Rattle.lalrpop_base.specs.Words.{Bits, Dotted, name_cmp}
 use Rattle.lalrpop_base.specs.declared.repr.NonterminalString.{NonterminalString}
 use Rattle.lalrpop_base.specs.declared.lr1_core.state.State.{State}
-use Rattle.lalrpop_tables.specs.StateGraph.{state_cmp}
+use Rattle.lalrpop_tables.specs.Words.{state_cmp}
 use Rattle.lalrpop_lr1.specs.TraceGraphs.{Graph, PlainEdge, plain_edges, IsEnd, IsGraph}
 use Rattle.lalrpop_lr1.specs.TraceOrder.{AddsInTurn, ends_of, Duty, Walks}
 use Rattle.lalrpop_lr1.specs.Traces.{Backtrace, Meeting, Takes, GoesOn, IsSource, IsMet, Gives, IsTraced}

@@ -1,5 +1,5 @@
 -- Items as nodes of a trace graph.
-use Rattle.lalrpop_base.specs.Items.{Dotted}
+use Rattle.lalrpop_base.specs.Words.{Dotted}
 use Rattle.lalrpop_base.specs.declared.lookahead.nil.Nil.{Nil}
 
 -- the same production and dot without a lookahead

@@ -1,8 +1,6 @@
 -- What an answer of the parse by a grammar's tables says: a tree, a refusal, the limit, or conflicts in the place of tables. Want of memory says nothing.
 use Rattle.std.specs.Prelude.{ℕ, List, Result, Ok, Err}
-use Rattle.lalrpop_base.specs.Bits.{Bits}
-use Rattle.lalrpop_base.specs.Runs.{Outcome, Parsed, Refused as RefusedIn, Limit as CutOff}
-use Rattle.lalrpop_base.specs.Trees.{Tree, IsParseTree}
+use Rattle.lalrpop_base.specs.Words.{Bits, Outcome, Parsed, Refused as RefusedIn, Limit as CutOff, Tree, IsParseTree}
 use Rattle.lalrpop_base.specs.declared.lookahead.token.Token.{Token}
 use Rattle.lalrpop_base.specs.declared.lr1_core.state.TableConstructionError.{TableConstructionError}
 use Rattle.lalrpop_base.specs.declared.repr.NonterminalString.{NonterminalString}

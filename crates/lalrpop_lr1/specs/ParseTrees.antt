@@ -1,7 +1,6 @@
 -- What a parse tree is without where it lies in memory, and what it prints as.
 use Rattle.std.specs.Prelude.{ℕ, Bool, true, false, List, [], ◌∷◌, ◌++◌, map, codes}
-use Rattle.lalrpop_base.specs.Names.{terminal_text, nonterminal_text}
-use Rattle.lalrpop_base.specs.Trees.{Tree, Leaf, Node, trees_of}
+use Rattle.lalrpop_base.specs.Words.{terminal_text, nonterminal_text, Tree, Leaf, Node, trees_of}
 use Rattle.lalrpop_lr1.specs.declared.interpret.tree.ParseTree.{ParseTree, fold-ParseTree}
 use Rattle.lalrpop_lr1.specs.declared.interpret.tree.ParseTree.TheOpen as Open
 

@@ -1,8 +1,7 @@
 -- The example paths of a trace graph, and what a walk over them has left. A path lists the numbers of its edges, innermost first.
 use Rattle.std.specs.Prelude.{◌≡◌, ℕ, zero, suc, ◌-◌, Bool, true, false, ◌||◌, cond, List, [], ◌∷◌, ◌++◌, length, take, reverse, Option, Some, None}
 use Rattle.std.specs.List.{flat_map}
-use Rattle.lalrpop_base.specs.Items.{Dotted}
-use Rattle.lalrpop_base.specs.Places.{AllDiffer}
+use Rattle.lalrpop_base.specs.Words.{Dotted, AllDiffer}
 use Rattle.lalrpop_lr1.specs.contracts.trace.node.TraceGraphNodePartialEq.TheImpl as node_eq
 use Rattle.lalrpop_lr1.specs.Examples.{edge_of, path_of}
 use Rattle.lalrpop_lr1.specs.TraceGraphs.{node_count, numbers_to, numbers_from}

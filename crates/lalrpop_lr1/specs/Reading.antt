@@ -2,9 +2,7 @@
 use Rattle.std.specs.Prelude.{◌≡◌, ◌≢◌, ℕ, suc, ◌<◌, ◌≤◌, List, [], ◌∷◌, reverse}
 use Rattle.lalrpop_base.specs.declared.repr.TerminalString.{TerminalString}
 use Rattle.lalrpop_base.specs.declared.lookahead.token.Token.TheVariants.{Terminal as TokenOf}
-use Rattle.lalrpop_base.specs.States.{Contents}
-use Rattle.lalrpop_base.specs.Trees.{Tree}
-use Rattle.lalrpop_base.specs.Runs.{Configuration, Stands, Goes, Ends, move, Outcome, Refused, Limit}
+use Rattle.lalrpop_base.specs.Words.{Contents, Tree, Configuration, Stands, Goes, Ends, move, Outcome, Refused, Limit}
 
 -- n steps, none of them final and each before a terminal, lead from one configuration to another
 pub data Reads (states : ℕ → Contents) : ℕ → Configuration → Configuration → Type 0 where

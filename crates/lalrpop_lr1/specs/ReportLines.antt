@@ -3,11 +3,7 @@ use Rattle.std.specs.Prelude.{ℕ, ◌-◌, List, [], ◌∷◌, ◌++◌, lengt
 use Rattle.std.specs.Fmt.{char_count, decimal}
 use Rattle.std.specs.List.{flat_map}
 use Rattle.std.specs.Borrow.{Bor}
-use Rattle.lalrpop_base.specs.Bits.{Bits, rising}
-use Rattle.lalrpop_base.specs.Items.{Dotted}
-use Rattle.lalrpop_base.specs.Names.{nonterminal_text, terminal_text, symbol_text, token_text}
-use Rattle.lalrpop_base.specs.Tokens.{token_of}
-use Rattle.lalrpop_base.specs.Views.{prefix_of, rest_of}
+use Rattle.lalrpop_base.specs.Words.{Bits, rising, Dotted, nonterminal_text, terminal_text, symbol_text, token_text, token_of, prefix_of, rest_of}
 use Rattle.lalrpop_base.specs.declared.repr.NonterminalString.{NonterminalString}
 use Rattle.lalrpop_base.specs.declared.repr.TerminalString.{TerminalString}
 use Rattle.lalrpop_base.specs.declared.repr.Symbol.{Symbol}

@@ -2,7 +2,7 @@
 use Rattle.std.specs.Prelude.{◌≡◌, ℕ, List, [], map, slice_get, Option, Some, None}
 use Rattle.std.specs.Ordering.{nat_cmp}
 use Rattle.std.specs.declared.vec.Vec.{Vec}
-use Rattle.lalrpop_base.specs.Multimaps.{collection_at}
+use Rattle.lalrpop_base.specs.Words.{collection_at}
 use Rattle.lalrpop_base.specs.declared.lr1_core.state.Conflict.{Conflict}
 use Rattle.lalrpop_lr1.specs.Report.{conflicts_in}
 

@@ -1,9 +1,7 @@
 -- Runs from any configuration, and how many steps a parse takes.
 use Rattle.std.specs.Prelude.{◌≡◌, ◌≢◌, ℕ, suc, ◌<◌, ◌≤◌, List, [], ◌∷◌}
 use Rattle.lalrpop_base.specs.declared.repr.TerminalString.{TerminalString}
-use Rattle.lalrpop_base.specs.States.{Contents}
-use Rattle.lalrpop_base.specs.Trees.{Tree}
-use Rattle.lalrpop_base.specs.Runs.{Configuration, next_token, Stands, Ends, move, Reaches, begin, Outcome, Parsed, Refused, Limit, IsParse}
+use Rattle.lalrpop_base.specs.Words.{Contents, Tree, Configuration, next_token, Stands, Ends, move, Reaches, begin, Outcome, Parsed, Refused, Limit, IsParse}
 
 -- the outcome of what is left of a run, from a configuration with so many steps left
 pub data HasOutcomeFrom (states : ℕ → Contents) (b : Configuration) (left : ℕ) : Outcome → Type 0 where

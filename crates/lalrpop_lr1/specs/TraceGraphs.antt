@@ -3,15 +3,12 @@ use Rattle.std.specs.Prelude.{◌≡◌, ℕ, suc, List, [], ◌∷◌, ◌++◌
 use Rattle.std.specs.BTreeMap.{BTreeMap}
 use Rattle.std.specs.declared.alloc.Global.{Global}
 use Rattle.std.specs.declared.vec.Vec.{Vec}
-use Rattle.lalrpop_base.specs.Kernels.{IsNumbering, AddsOnce}
-use Rattle.lalrpop_base.specs.Multimaps.{collection_at}
-use Rattle.lalrpop_base.specs.Places.{AllDiffer}
-use Rattle.lalrpop_base.specs.WellFormed.{HasKnownTerminals}
+use Rattle.lalrpop_base.specs.Words.{IsNumbering, AddsOnce, collection_at, AllDiffer, HasKnownTerminals}
 use Rattle.lalrpop_base.specs.declared.repr.TerminalString.{TerminalString}
 use Rattle.lalrpop_base.specs.declared.repr.Symbol.{Symbol}
 use Rattle.lalrpop_base.specs.declared.repr.Symbol.TheVariants.{Terminal}
 use Rattle.lalrpop_base.specs.declared.lr1_core.symbol_sets.SymbolSets.{SymbolSets}
-use Rattle.lalrpop_tables.specs.StateGraph.{listed}
+use Rattle.lalrpop_tables.specs.Words.{listed}
 use Rattle.lalrpop_lr1.specs.contracts.trace.node.TraceGraphNodeOrd.TheImpl as node_ord
 use Rattle.lalrpop_lr1.specs.contracts.trace.node.TraceGraphNodePartialEq.TheImpl as node_eq
 use Rattle.lalrpop_lr1.specs.declared.trace.node.TraceGraphNode.{TraceGraphNode}

@@ -2,14 +2,14 @@
 use Rattle.std.specs.Prelude.{◌≡◌, ◌≢◌, ◌↔◌, ℕ, List, [], ◌∷◌, ◌++◌, map, take, slice_get, Option, Some, None, Contains}
 use Rattle.std.specs.List.{flat_map}
 use Rattle.std.specs.List.Sorted.{IsStrictlySortedBy}
-use Rattle.lalrpop_base.specs.Bits.{Bits}
-use Rattle.lalrpop_base.specs.Items.{Dotted}
+use Rattle.lalrpop_base.specs.Words.{Bits, Dotted}
 use Rattle.lalrpop_base.specs.declared.repr.NonterminalString.{NonterminalString}
 use Rattle.lalrpop_base.specs.declared.repr.Production.{Production}
 use Rattle.lalrpop_base.specs.declared.repr.Symbol.TheVariants.{Nonterminal}
 use Rattle.lalrpop_base.specs.declared.lr1_core.state.State.{State}
 use Rattle.lalrpop_base.specs.declared.lr1_core.state.StateIndex.{StateIndex}
-use Rattle.lalrpop_tables.specs.StateGraph.{edges, LeadsTo, state_cmp}
+use Rattle.lalrpop_tables.specs.Words.{edges, state_cmp}
+use Rattle.lalrpop_tables.specs.StateGraph.{LeadsTo}
 use Rattle.lalrpop_lr1.specs.TraceGraphs.{Graph, PlainEdge, plain_edges}
 use Rattle.lalrpop_lr1.specs.Traces.{Backtrace, Meeting, GoesOn, dotted, dot_edge, own_edge}
 use Rattle.lalrpop_lr1.specs.declared.trace.ground.Traced.{Traced}

@@ -1,16 +1,14 @@
 -- Backtraces: the nonterminals that are met on the way back from an item, and the edges that the items on the way give.
 use Rattle.std.specs.Prelude.{◌≡◌, ◌↔◌, ℕ, ◌+◌, List, take, drop, slice_get, Some, Contains}
-use Rattle.lalrpop_base.specs.Bits.{Bits}
-use Rattle.lalrpop_base.specs.Grammar.{IsNullable}
-use Rattle.lalrpop_base.specs.Items.{Dotted}
-use Rattle.lalrpop_base.specs.WellFormed.{Rules, HasKnownTerminals}
+use Rattle.lalrpop_base.specs.Words.{Bits, IsNullable, Dotted, Rules, HasKnownTerminals}
 use Rattle.lalrpop_base.specs.declared.lookahead.nil.Nil.{Nil}
 use Rattle.lalrpop_base.specs.declared.repr.NonterminalString.{NonterminalString}
 use Rattle.lalrpop_base.specs.declared.repr.Production.{Production}
 use Rattle.lalrpop_base.specs.declared.repr.Symbol.TheVariants.{Nonterminal}
 use Rattle.lalrpop_base.specs.declared.lr1_core.state.State.{State}
 use Rattle.lalrpop_base.specs.declared.lr1_core.state.StateIndex.{StateIndex}
-use Rattle.lalrpop_tables.specs.StateGraph.{edges, LeadsTo}
+use Rattle.lalrpop_tables.specs.Words.{edges}
+use Rattle.lalrpop_tables.specs.StateGraph.{LeadsTo}
 use Rattle.lalrpop_lr1.specs.TraceGraphs.{Graph, PlainEdge, plain_edges, IsEnd, IsGraph}
 use Rattle.lalrpop_lr1.specs.declared.trace.ground.Traced.{Traced}
 use Rattle.lalrpop_lr1.specs.declared.trace.ground.Traced.TheVariants.{Shift, Reduce}

@@ -1,8 +1,7 @@
 -- Which paths a walk over a trace graph has left, and how far it can still go.
 use Rattle.std.specs.Prelude.{◌≡◌, ◌⊎◌, ℕ, zero, suc, ◌+◌, ◌-◌, true, false, IsTrue, List, [], ◌∷◌, ◌++◌, length, take, reverse, cond, Contains, Option, Some, None, Ok, Err}
 use Rattle.std.specs.declared.result.Result.{Result}
-use Rattle.lalrpop_base.specs.Bits.{Bits, has}
-use Rattle.lalrpop_base.specs.First.{IsFirstSet}
+use Rattle.lalrpop_base.specs.Words.{Bits, has, IsFirstSet}
 use Rattle.lalrpop_base.specs.declared.memory.OutOfMemory.{OutOfMemory}
 use Rattle.lalrpop_lr1.specs.Examples.{path_of, following, IsExampleOf}
 use Rattle.lalrpop_lr1.specs.Paths.{over, left_over}

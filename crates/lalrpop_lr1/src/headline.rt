@@ -3,11 +3,8 @@ pub mod any_start;
 mod parse_error;
 
 ghost use Rattle.std.specs.Prelude.{IfOk, IfErr};
-ghost use Rattle.lalrpop_base.specs.Grammar.{IsOnNoRightSide};
-ghost use Rattle.lalrpop_base.specs.Runs.{IsFirstWrong};
-ghost use Rattle.lalrpop_base.specs.WellFormed.{IsWellFormed, productions};
-ghost use Rattle.lalrpop_tables.specs.Lalr.{Collapses};
-ghost use Rattle.lalrpop_tables.specs.Lr1Answers.{HasConflictsOf};
+ghost use Rattle.lalrpop_base.specs.Words.{IsOnNoRightSide, IsFirstWrong, IsWellFormed, productions};
+ghost use Rattle.lalrpop_tables.specs.Words.{Collapses, HasConflictsOf};
 ghost use Rattle.lalrpop_lr1.specs.FaithfulAnswers.{IsTreeWithin, IsCutOffByTables};
 ghost use Rattle.lalrpop_lr1.specs.Headline.{IsAccepted, IsToldByTables};
 ghost use Rattle.lalrpop_lr1.specs.ParseAnswers.{HadTables, HadTablesWhere, IfConflicts, IfRefusedAt, IfLimitTold, TellsTrees};

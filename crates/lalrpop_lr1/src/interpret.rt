@@ -5,11 +5,8 @@ mod machine;
 pub mod tree;
 
 ghost use Rattle.std.specs.Prelude.{◌≡◌, ◌<◌, ◌≤◌, length, IfOk, IfErr};
-ghost use Rattle.lalrpop_base.specs.Coherent.{AreCoherent};
-ghost use Rattle.lalrpop_base.specs.Contents.{contents_in, reduced_productions};
-ghost use Rattle.lalrpop_base.specs.Grammar.{IsBeginning};
-ghost use Rattle.lalrpop_base.specs.Runs.{begin, HasOutcome, IsFirstWrong, IsPromptRefusal};
-ghost use Rattle.lalrpop_base.specs.Trees.{beside, no_trees, leaves, nodes, AreOfGrammar};
+ghost use Rattle.lalrpop_base.specs.Words.{AreCoherent, contents_in, reduced_productions, IsBeginning, begin, HasOutcome, IsFirstWrong, IsPromptRefusal};
+ghost use Rattle.lalrpop_base.specs.Words.{beside, no_trees, leaves, nodes, AreOfGrammar};
 ghost use Rattle.lalrpop_lr1.specs.Answers.{IsAnswer, IsPartialAnswer};
 ghost use Rattle.lalrpop_lr1.specs.FaithfulAnswers.{ForEachGrammar, ForEachCanonical, HasOneTree, IsTreeWithin, IsCutOff, AnswersTrees, IfRefused, IfLimit, IsLimit, TakesBeginning};
 ghost use Rattle.lalrpop_lr1.specs.ParseTrees.{tree_of};

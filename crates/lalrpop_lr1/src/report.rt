@@ -11,7 +11,7 @@ mod whole;
 
 ghost use Rattle.std.specs.Prelude.{◌≡◌, ◌+◌, ◌-◌, ◌^◌, ◌<◌, OnOk, IfErr, IsSomeAnd};
 ghost use Rattle.std.specs.Io.KnownBytes.{Appends};
-ghost use Rattle.lalrpop_base.specs.Bits.{Bits};
+ghost use Rattle.lalrpop_base.specs.Words.{Bits};
 ghost use Rattle.lalrpop_lr1.specs.Report.{report_text};
 ghost use Rattle.lalrpop_lr1.specs.ReportSinks.{IfNothingOffered, IfWriteFault, TellsLastFault, TellsOfText, WroteBeginning};
 

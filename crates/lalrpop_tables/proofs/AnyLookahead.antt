@@ -1,17 +1,13 @@
 -- The laws that lead from what the construction says with any lookahead to canonical states and to LR(0) states.
 use Rattle.std.proofs.Common.{ℕ, List, refl}
-use Rattle.lalrpop_base.specs.Bits.{Bits}
-use Rattle.lalrpop_base.specs.WellFormed.{rules_of}
+use Rattle.lalrpop_base.specs.Words.{Bits, rules_of}
 use Rattle.lalrpop_base.specs.declared.lookahead.nil.Nil.{Nil}
 use Rattle.lalrpop_base.specs.declared.lr1_core.state.BuildError.{BuildError}
 use Rattle.lalrpop_base.specs.declared.lr1_core.state.State.{State}
 use Rattle.lalrpop_base.specs.declared.repr.NonterminalString.{NonterminalString}
 use Rattle.lalrpop_base.specs.declared.repr.grammar.Grammar.{Grammar}
-use Rattle.lalrpop_tables.specs.Closing.{AreOwn}
-use Rattle.lalrpop_tables.specs.EarlyStop.{FailsAfterLr0}
-use Rattle.lalrpop_tables.specs.Laws.{IsKeptGrammar, AreSetTables, StopsWithSets, AreNilTables, StopsWithNil, lr0_of}
-use Rattle.lalrpop_tables.specs.Lr0.{AreLr0States, HasLr0States}
-use Rattle.lalrpop_tables.specs.Lr1Answers.{AreBuiltTablesOf, FailsOn}
+use Rattle.lalrpop_tables.specs.Words.{AreOwn, FailsAfterLr0, IsKeptGrammar, AreSetTables, StopsWithSets, AreNilTables, StopsWithNil, lr0_of, AreLr0States}
+use Rattle.lalrpop_tables.specs.Words.{HasLr0States, AreBuiltTablesOf, FailsOn}
 use Rattle.lalrpop_tables.specs.declared.build.options.Method.TheVariants.{Canonical}
 use Rattle.lalrpop_tables.proofs.CanonicalAnswers.{Set-tables, Set-fails}
 use Rattle.lalrpop_tables.proofs.Grammars.{productions_own}

@@ -11,9 +11,7 @@ use Rattle.std.proofs.lemmas.Bool.{ltb-true}
 use Rattle.std.proofs.lemmas.Map.Keys.{Less-from_sorted}
 use Rattle.std.proofs.lemmas.Map.Lookups.{CmpEqualImpliesEq}
 use Rattle.std.proofs.lemmas.Option.{slice_get_within, get_or_from_slice_get, slice_get-map}
-use Rattle.lalrpop_base.specs.Bits.{Bits}
-use Rattle.lalrpop_base.specs.ConflictLists.{Ordered}
-use Rattle.lalrpop_base.specs.Items.{Dotted}
+use Rattle.lalrpop_base.specs.Words.{Bits, Ordered, Dotted}
 use Rattle.lalrpop_base.specs.contracts.exact.ProductionExact.TheImpl as production_exactly
 use Rattle.lalrpop_base.specs.contracts.lookahead.nil.NilOrd.TheImpl as nil_ord
 use Rattle.lalrpop_base.specs.contracts.repr.ProductionOrd.TheImpl as production_ord
@@ -21,9 +19,7 @@ use Rattle.lalrpop_base.specs.contracts.repr.ProductionPartialEq.TheImpl as prod
 use Rattle.lalrpop_base.specs.declared.lookahead.nil.Nil.{Nil}
 use Rattle.lalrpop_base.specs.declared.repr.Production.{Production}
 use Rattle.lalrpop_base.proofs.ContentsViews.{some_of_map}
-use Rattle.lalrpop_tables.specs.Ascending.{production_order, Precedes, Ascend}
-use Rattle.lalrpop_tables.specs.Closure.{item_of}
-use Rattle.lalrpop_tables.specs.Entries.{readings}
+use Rattle.lalrpop_tables.specs.Words.{production_order, Precedes, Ascend, item_of, readings}
 use Rattle.lalrpop_tables.proofs.Lists.{less-apart, place}
 use Rattle.lalrpop_tables.proofs.Places.{contains_at, same_some}
 use Rattle.lalrpop_tables.proofs.Updates.{exact_order, key_stands}

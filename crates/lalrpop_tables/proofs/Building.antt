@@ -4,14 +4,9 @@ use Rattle.std.specs.Prelude.{Contains, slice_get, Some}
 use Rattle.std.proofs.lemmas.List.Elements.{Contains-append_cases}
 use Rattle.std.proofs.lemmas.Bool.{cases_lt}
 use Rattle.std.proofs.lemmas.Option.{slice_get_within}
-use Rattle.lalrpop_base.specs.Bits.{Bits}
-use Rattle.lalrpop_base.specs.Items.{Dotted}
-use Rattle.lalrpop_base.specs.Places.{AllDiffer}
-use Rattle.lalrpop_base.specs.WellFormed.{Rules}
+use Rattle.lalrpop_base.specs.Words.{Bits, Dotted, AllDiffer, Rules, Kernels, AddsOnce}
 use Rattle.lalrpop_base.specs.declared.lr1_core.state.State.{State}
-use Rattle.lalrpop_tables.specs.Closure.{AreItemsBy}
-use Rattle.lalrpop_base.specs.Kernels.{Kernels, AddsOnce}
-use Rattle.lalrpop_tables.specs.States.{IsBuiltBy, IsBuiltOfBy, Extends, LeadsToAdded, IsLedTo, AreBuiltBy}
+use Rattle.lalrpop_tables.specs.Words.{AreItemsBy, IsBuiltBy, IsBuiltOfBy, Extends, LeadsToAdded, IsLedTo, AreBuiltBy}
 use Rattle.lalrpop_tables.proofs.Lists.{Contains-none, Contains-cases}
 use Rattle.lalrpop_tables.proofs.Places.{slice_get-longer, slice_get-push_at, push_cases}
 pub use Rattle.lalrpop_tables.proofs.Universe.{kernels_limit}

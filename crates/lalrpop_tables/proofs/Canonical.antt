@@ -3,11 +3,9 @@ use Rattle.std.proofs.Common.{◌≡◌, ◌↔◌, ℕ, suc, ◌+◌, inl, inr,
 use Rattle.std.specs.Prelude.{Contains}
 use Rattle.std.proofs.lemmas.Bool.{or_cases, false≢true}
 use Rattle.std.proofs.lemmas.Option.{slice_get_within}
-use Rattle.lalrpop_base.specs.Bits.{Bits, has, no_bits, with_bit, has-no_bits, has-with_bit}
-use Rattle.lalrpop_base.specs.Closures.{InClosure, in_kernel, expanded, InTokenClosure, with_token, begins_rest, inherits, IsAtStart, IsAtStartWith, IsMoved, IsMovedWith}
-use Rattle.lalrpop_base.specs.Contents.{holds_token}
-use Rattle.lalrpop_base.specs.Items.{Dotted}
-use Rattle.lalrpop_base.specs.WellFormed.{productions, productions_of, IsWellFormed}
+use Rattle.lalrpop_base.specs.Words.{Bits, has, no_bits, with_bit, has-no_bits, has-with_bit, InClosure, in_kernel, expanded, InTokenClosure, with_token}
+use Rattle.lalrpop_base.specs.Words.{begins_rest, inherits, IsAtStart, IsAtStartWith, IsMoved, IsMovedWith, holds_token, Dotted, productions, productions_of}
+use Rattle.lalrpop_base.specs.Words.{IsWellFormed}
 use Rattle.lalrpop_base.specs.declared.lookahead.token.Token.{Token}
 use Rattle.lalrpop_base.specs.declared.lookahead.token.Token.TheVariants.{Eof, Error, Terminal as TokenOf}
 use Rattle.lalrpop_base.specs.declared.repr.NonterminalString.{NonterminalString}
@@ -16,10 +14,7 @@ use Rattle.lalrpop_base.specs.declared.repr.Symbol.{Symbol}
 use Rattle.lalrpop_base.specs.declared.repr.TerminalString.{TerminalString}
 use Rattle.lalrpop_base.specs.declared.repr.grammar.Grammar.{Grammar}
 use Rattle.lalrpop_base.proofs.HeldTokens.{place_there}
-use Rattle.lalrpop_tables.specs.Closing.{AreOwn}
-use Rattle.lalrpop_tables.specs.Closure.{dotted_of, InKernel, HasItemToken}
-use Rattle.lalrpop_tables.specs.States.{begun}
-use Rattle.lalrpop_tables.specs.Transitions.{IsBehind, moved, Shifts}
+use Rattle.lalrpop_tables.specs.Words.{AreOwn, dotted_of, InKernel, HasItemToken, begun, IsBehind, moved, Shifts}
 use Rattle.lalrpop_tables.specs.Transitions.Shifts.{none, moves, stays}
 use Rattle.lalrpop_tables.proofs.Closing.{drop_split, split_drop}
 use Rattle.lalrpop_tables.proofs.Grammars.{productions_among, productions_named}

@@ -1,19 +1,13 @@
 -- What the construction says with sets of tokens, where Eof follows the start symbol: the tables of the canonical method, or the canonical conflicts.
 use Rattle.std.proofs.Common.{◌≡◌, ℕ, List, true}
-use Rattle.lalrpop_base.specs.Bits.{Bits}
-use Rattle.lalrpop_base.specs.Places.{AllDiffer}
-use Rattle.lalrpop_base.specs.WellFormed.{rules_of, IsWellFormed}
+use Rattle.lalrpop_base.specs.Words.{Bits, AllDiffer, rules_of, IsWellFormed}
 use Rattle.lalrpop_base.specs.declared.lr1_core.state.BuildError.{BuildError}
 use Rattle.lalrpop_base.specs.declared.lr1_core.state.BuildError.TheVariants.{Conflicts, Memory}
 use Rattle.lalrpop_base.specs.declared.lr1_core.state.State.{State}
 use Rattle.lalrpop_base.specs.declared.repr.NonterminalString.{NonterminalString}
 use Rattle.lalrpop_base.specs.declared.repr.grammar.Grammar.{Grammar}
-use Rattle.lalrpop_tables.specs.Canonical.{AreCanonicalStates, tokens_of}
-use Rattle.lalrpop_tables.specs.Closing.{AreOwn, Begins}
-use Rattle.lalrpop_tables.specs.Closure.{itself}
-use Rattle.lalrpop_tables.specs.EarlyStop.{StopsFor}
-use Rattle.lalrpop_tables.specs.Lr1Answers.{AreBuiltTablesOf, FailsOn}
-use Rattle.lalrpop_tables.specs.Results.{AreTables, AreTablesFor, FailsBy, canonical_of}
+use Rattle.lalrpop_tables.specs.Words.{AreCanonicalStates, tokens_of, AreOwn, Begins, itself, StopsFor, AreBuiltTablesOf, FailsOn, AreTables, AreTablesFor}
+use Rattle.lalrpop_tables.specs.Words.{FailsBy, canonical_of}
 use Rattle.lalrpop_tables.specs.declared.build.options.Method.TheVariants.{Canonical}
 use Rattle.lalrpop_tables.proofs.CanonicalConflicts.{canonical_failure}
 use Rattle.lalrpop_tables.proofs.CanonicalContents.{are_canonical}

@@ -9,16 +9,10 @@ use Rattle.std.specs.List.{flat_map}
 use Rattle.std.proofs.lemmas.Map.Entries.{btree_map_get_place}
 use Rattle.std.proofs.lemmas.Map.Lookups.{CmpEqualImpliesEq}
 use Rattle.std.proofs.lemmas.Option.{slice_get_within}
-use Rattle.lalrpop_base.specs.Bits.{Bits}
-use Rattle.lalrpop_base.specs.Closures.{AreCanonical}
-use Rattle.lalrpop_base.specs.Conflicts.{IsOrder, AreConflictsOf, AreCanonicalConflicts, ReducesInOrder, HasNoConflict}
-use Rattle.lalrpop_base.specs.Contents.{holds_token, number_of, no_contents, contents_of, contents_at, contents}
-use Rattle.lalrpop_base.specs.Items.{Dotted}
-use Rattle.lalrpop_base.specs.Places.{AllDiffer}
-use Rattle.lalrpop_base.specs.StateConflicts.{state_conflicts}
-use Rattle.lalrpop_base.specs.States.{HasNoRepeat, LeadsOverDots, state_after}
-use Rattle.lalrpop_base.specs.Tokens.{FitsTokens}
-use Rattle.lalrpop_base.specs.WellFormed.{Rules, rules_of, productions, IsWellFormed}
+use Rattle.lalrpop_base.specs.Words.{Bits, AreCanonical, IsOrder, AreConflictsOf, AreCanonicalConflicts, ReducesInOrder, holds_token, number_of, no_contents}
+use Rattle.lalrpop_base.specs.Words.{contents_of, contents_at, contents, Dotted, AllDiffer, state_conflicts, HasNoRepeat, LeadsOverDots, state_after}
+use Rattle.lalrpop_base.specs.Words.{FitsTokens, Rules, rules_of, productions, IsWellFormed}
+use Rattle.lalrpop_base.specs.Conflicts.{HasNoConflict}
 use Rattle.lalrpop_base.specs.contracts.exact.ProductionExact.TheImpl as production_exactly
 use Rattle.lalrpop_base.specs.contracts.repr.ProductionOrd.TheImpl as production_ord
 use Rattle.lalrpop_base.specs.contracts.repr.ProductionPartialEq.TheImpl as production_eq
@@ -35,11 +29,8 @@ use Rattle.lalrpop_base.specs.declared.repr.TerminalString.{TerminalString}
 use Rattle.lalrpop_base.specs.declared.repr.grammar.Grammar.{Grammar}
 use Rattle.lalrpop_base.proofs.ContentsViews.{contains_at}
 use Rattle.lalrpop_base.proofs.theory.Conflicts.{state_conflicts as canonical_conflicts, empty_list}
-use Rattle.lalrpop_tables.specs.CanonicalConflicts.{listed_of, AreCanonicalConflictsOf, FailByCanonicalConflicts}
-use Rattle.lalrpop_tables.specs.Closure.{AreItems}
-use Rattle.lalrpop_tables.specs.ListedConflicts.{conflicts_of}
-use Rattle.lalrpop_tables.specs.Results.{AreAllConflicts, AreStatesOf, canonical_of}
-use Rattle.lalrpop_tables.specs.Transitions.{reductions_of, seen}
+use Rattle.lalrpop_tables.specs.Words.{listed_of, AreCanonicalConflictsOf, FailByCanonicalConflicts, AreItems, conflicts_of, AreAllConflicts, AreStatesOf}
+use Rattle.lalrpop_tables.specs.Words.{canonical_of, reductions_of, seen}
 use Rattle.lalrpop_tables.proofs.Closing.{split_drop}
 use Rattle.lalrpop_tables.proofs.Grammars.{known_symbols}
 use Rattle.lalrpop_tables.proofs.ListedConflicts.{CodeReduction, keys_shifted, conflicts_are_listed}

@@ -1,25 +1,19 @@
 -- The states of the construction, as the definitions speak of states, are the canonical ones.
 use Rattle.std.proofs.Common.{◌≡◌, ◌↔◌, ℕ, suc, Bool, true, List, length, map, refl, sym, ◌∙◌, ap, subst, arith, Option, Some, None}
 use Rattle.std.specs.Prelude.{Contains, slice_get}
-use Rattle.lalrpop_base.specs.Bits.{Bits}
-use Rattle.lalrpop_base.specs.Closures.{InClosure, InTokenClosure, IsAtStart, IsAtStartWith, IsMoved, IsMovedWith, items_of, TokenKernelsDiffer}
-use Rattle.lalrpop_base.specs.Conflicts.{ReducesInOrder}
-use Rattle.lalrpop_base.specs.Contents.{contents, contents_at, no_contents, holds_token}
-use Rattle.lalrpop_base.specs.Items.{Dotted}
-use Rattle.lalrpop_base.specs.Places.{AllDiffer}
-use Rattle.lalrpop_base.specs.States.{Contents, Reduction, leads, LeadsOverDots, ReducesFinished}
-use Rattle.lalrpop_base.specs.WellFormed.{productions, rules_of, IsWellFormed}
+use Rattle.lalrpop_base.specs.Words.{Bits, InClosure, InTokenClosure, IsAtStart, IsAtStartWith, IsMoved, IsMovedWith, items_of, TokenKernelsDiffer}
+use Rattle.lalrpop_base.specs.Words.{ReducesInOrder, contents, contents_at, no_contents, holds_token, Dotted, AllDiffer, Contents, leads, LeadsOverDots}
+use Rattle.lalrpop_base.specs.Words.{ReducesFinished, productions, rules_of, IsWellFormed}
+use Rattle.lalrpop_base.specs.States.{Reduction}
 use Rattle.lalrpop_base.specs.declared.lookahead.token.Token.{Token}
 use Rattle.lalrpop_base.specs.declared.lr1_core.state.State.{State}
 use Rattle.lalrpop_base.specs.declared.repr.NonterminalString.{NonterminalString}
 use Rattle.lalrpop_base.specs.declared.repr.Production.{Production}
 use Rattle.lalrpop_base.specs.declared.repr.Symbol.{Symbol}
 use Rattle.lalrpop_base.specs.declared.repr.grammar.Grammar.{Grammar}
-use Rattle.lalrpop_tables.specs.Ascending.{production_order}
-use Rattle.lalrpop_tables.specs.Canonical.{tokens_at, tokens_of, AreCanonicalStates}
-use Rattle.lalrpop_tables.specs.Closing.{AreOwn}
-use Rattle.lalrpop_tables.specs.Closure.{dotted_of, itself, HasItemToken, IsClosureOf}
-use Rattle.lalrpop_tables.specs.Results.{AreStatesOf, canonical_of}
+use Rattle.lalrpop_tables.specs.Words.{production_order, tokens_of, AreCanonicalStates, AreOwn, dotted_of, itself, HasItemToken, IsClosureOf, AreStatesOf}
+use Rattle.lalrpop_tables.specs.Words.{canonical_of}
+use Rattle.lalrpop_tables.specs.Canonical.{tokens_at}
 use Rattle.lalrpop_tables.proofs.Canonical.{InTokenClosure-more}
 use Rattle.lalrpop_tables.proofs.CanonicalStates.{IsTarget, target_of, target_items, target_tokens, first_items, first_tokens}
 use Rattle.lalrpop_tables.proofs.ItemTokens.{test_exact, one_item}

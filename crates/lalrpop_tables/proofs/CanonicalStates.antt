@@ -7,12 +7,8 @@ use Rattle.std.specs.declared.cmp.Ordering.{Ordering}
 use Rattle.std.proofs.lemmas.Map.Lookups.{CmpEqualImpliesEq}
 use Rattle.std.proofs.lemmas.Map.Views.{IfSome-get}
 use Rattle.std.proofs.lemmas.Option.{slice_get_within}
-use Rattle.lalrpop_base.specs.Bits.{Bits, no_bits, with_bit}
-use Rattle.lalrpop_base.specs.Closures.{InClosure, InTokenClosure, IsAtStart, IsAtStartWith, IsMoved, IsMovedWith}
-use Rattle.lalrpop_base.specs.Contents.{number_of, contents_of, holds_token}
-use Rattle.lalrpop_base.specs.Items.{Dotted}
-use Rattle.lalrpop_base.specs.States.{leads}
-use Rattle.lalrpop_base.specs.WellFormed.{productions, productions_of, rules_of, IsWellFormed}
+use Rattle.lalrpop_base.specs.Words.{Bits, no_bits, with_bit, InClosure, InTokenClosure, IsAtStart, IsAtStartWith, IsMoved, IsMovedWith, number_of, contents_of}
+use Rattle.lalrpop_base.specs.Words.{holds_token, Dotted, leads, productions, productions_of, rules_of, IsWellFormed}
 use Rattle.lalrpop_base.specs.contracts.repr.TerminalStringOrd.TheImpl as terminal_ord
 use Rattle.lalrpop_base.specs.contracts.repr.NonterminalStringOrd.TheImpl as name_ord
 use Rattle.lalrpop_base.specs.declared.lookahead.token.Token.{Token}
@@ -24,11 +20,7 @@ use Rattle.lalrpop_base.specs.declared.repr.Symbol.{Symbol}
 use Rattle.lalrpop_base.specs.declared.repr.Symbol.TheVariants.{Nonterminal, Terminal}
 use Rattle.lalrpop_base.specs.declared.repr.grammar.Grammar.{Grammar}
 use Rattle.lalrpop_base.proofs.ContentsViews.{some_of_map, terminals_ordered, names_ordered}
-use Rattle.lalrpop_tables.specs.Closing.{AreOwn}
-use Rattle.lalrpop_tables.specs.Closure.{dotted_of, InKernel, HasItemToken, IsClosureOf}
-use Rattle.lalrpop_tables.specs.Results.{AreStatesOf, canonical_of}
-use Rattle.lalrpop_tables.specs.States.{begun, HasTransition}
-use Rattle.lalrpop_tables.specs.Transitions.{Shifts}
+use Rattle.lalrpop_tables.specs.Words.{AreOwn, dotted_of, InKernel, HasItemToken, IsClosureOf, AreStatesOf, canonical_of, begun, HasTransition, Shifts}
 use Rattle.lalrpop_tables.proofs.Canonical.{InClosure-more, InTokenClosure-more, start_items, start_tokens, moved_items, moved_tokens}
 use Rattle.lalrpop_tables.proofs.Places.{same_some, filled}
 

@@ -2,20 +2,14 @@
 use Rattle.std.proofs.Common.{◌↔◌, ◌<◌, ℕ, List, length}
 use Rattle.std.specs.Prelude.{Contains}
 use Rattle.std.specs.BTreeSet.{BTreeSet}
-use Rattle.lalrpop_base.specs.Bits.{Bits}
-use Rattle.lalrpop_base.specs.Closures.{AreChecked}
-use Rattle.lalrpop_base.specs.Coherent.{AreCoherent}
-use Rattle.lalrpop_base.specs.Contents.{contents}
-use Rattle.lalrpop_base.specs.Items.{Dotted}
-use Rattle.lalrpop_base.specs.States.{AreFaithful}
-use Rattle.lalrpop_base.specs.WellFormed.{productions}
+use Rattle.lalrpop_base.specs.Words.{Bits, AreChecked, AreCoherent, contents, Dotted, AreFaithful, productions}
 use Rattle.lalrpop_base.specs.declared.lookahead.nil.Nil.{Nil}
 use Rattle.lalrpop_base.specs.declared.lr1_core.state.State.{State}
 use Rattle.lalrpop_base.specs.declared.repr.NonterminalString.{NonterminalString}
 use Rattle.lalrpop_base.specs.declared.repr.grammar.Grammar.{Grammar}
 use Rattle.lalrpop_base.proofs.theory.Closures.{checked_faithful}
-use Rattle.lalrpop_tables.specs.Check.{HoldCarried, PassCheck}
-use Rattle.lalrpop_tables.specs.CheckStates.{IsTarget, AreRightStates, AreListed}
+use Rattle.lalrpop_tables.specs.Words.{HoldCarried, PassCheck, IsTarget, AreRightStates}
+use Rattle.lalrpop_tables.specs.CheckStates.{AreListed}
 use Rattle.lalrpop_tables.proofs.CheckTables.{Right-closed, Right-reductions, Right-free, Closed-right, free_states}
 
 module _ (g : Grammar) (start : NonterminalString) (states : List (State Bits)) (coherent : AreCoherent states) (listed : List (BTreeSet (Dotted Nil))) (lists : AreListed states listed) (targets : List ℕ) (are_targets : (m : ℕ) → Contains targets m ↔ IsTarget states m) where

@@ -3,12 +3,11 @@ use Rattle.std.proofs.Common.{◌≡◌, ◌<◌, ◌≤◌, ◌+◌, ℕ, zero,
 use Rattle.std.specs.Prelude.{Contains, slice_get}
 use Rattle.std.specs.Borrow.{Bor}
 use Rattle.std.proofs.lemmas.Bool.{cases_lt}
-use Rattle.lalrpop_base.specs.Bits.{Bits, has}
-use Rattle.lalrpop_base.specs.Closures.{InClosure, in_kernel, expanded, IsAtStart, IsMoved, items_of, AreClosed, IsReached, at_zero, over_edge, IsCarried, eof_at_start, over, first_of_rest, through_rest}
-use Rattle.lalrpop_base.specs.Contents.{contents, contents_at, holds_token, reduction_of}
-use Rattle.lalrpop_base.specs.Places.{AllDiffer}
-use Rattle.lalrpop_base.specs.States.{Contents, Reduction, leads}
-use Rattle.lalrpop_base.specs.WellFormed.{productions}
+use Rattle.lalrpop_base.specs.Words.{Bits, has, InClosure, in_kernel, expanded, IsAtStart, IsMoved, items_of, AreClosed, IsReached, at_zero, IsCarried}
+use Rattle.lalrpop_base.specs.Words.{eof_at_start, over, first_of_rest, through_rest, contents, contents_at, holds_token, reduction_of, AllDiffer, Contents}
+use Rattle.lalrpop_base.specs.Words.{leads, productions}
+use Rattle.lalrpop_base.specs.Closures.{over_edge}
+use Rattle.lalrpop_base.specs.States.{Reduction}
 use Rattle.lalrpop_base.specs.declared.lookahead.token.Token.{Token}
 use Rattle.lalrpop_base.specs.declared.lookahead.token.Token.TheVariants.{Eof, Error, Terminal as TokenOf}
 use Rattle.lalrpop_base.specs.declared.lr1_core.state.State.{State}
@@ -19,8 +18,7 @@ use Rattle.lalrpop_base.specs.declared.repr.TerminalString.{TerminalString}
 use Rattle.lalrpop_base.specs.declared.repr.grammar.Grammar.{Grammar}
 use Rattle.lalrpop_base.proofs.ContentsViews.{contains_of_map}
 use Rattle.lalrpop_base.proofs.HeldTokens.{place_is}
-use Rattle.lalrpop_tables.specs.Check.{HoldCarried}
-use Rattle.lalrpop_tables.specs.CheckCarrying.{Carried, at_place, HasAll, AreCarried, AllHoldCarried}
+use Rattle.lalrpop_tables.specs.Words.{HoldCarried, Carried, at_place, IsFound, AreCarried, AllHoldCarried}
 use Rattle.lalrpop_tables.proofs.CheckCarrying.{leads_in}
 use Rattle.lalrpop_tables.proofs.Closing.{split_drop}
 use Rattle.lalrpop_tables.proofs.KnownTerminals.{token_bit, held_bit, bit_held, holds_more}
@@ -49,10 +47,10 @@ module _ (g : Grammar) (start : NonterminalString) (states : List (State Bits)) 
   abbrev Has : ℕ → Production → ℕ → Type 0
   Has n p dot = (s : Bits) × Contains table (at_place n p dot, s)
 
-  moved_all : (n m : ℕ) (p : Production) (dot : ℕ) (x : Symbol) (after : List Symbol) (s : Bits) → Contains table (at_place n p dot, s) → leads (S n) x ≡ Some m → drop dot p.symbols ≡ x ∷ after → HasAll table (at_place m p (suc dot)) s
+  moved_all : (n m : ℕ) (p : Production) (dot : ℕ) (x : Symbol) (after : List Symbol) (s : Bits) → Contains table (at_place n p dot, s) → leads (S n) x ≡ Some m → drop dot p.symbols ≡ x ∷ after → IsFound table (at_place m p (suc dot)) s
   moved_all n m p dot x after s c e behind =
       let one : dot + 1 ≡ suc dot = omega arith in
-      subst (λ (k : ℕ). HasAll table (at_place m p k) s) one
+      subst (λ (k : ℕ). IsFound table (at_place m p k) s) one
       ((are.settled (at_place n p dot, s) c).over (at_place m p (dot + 1)) (record { symbol = x; behind = split_drop dot p.symbols x after behind; to = m; edge = sym (leads_in g start states n x) ∙ e; is = refl }))
 
   from_closure : (n : ℕ) (K : Production → ℕ → Type 0) → ((p : Production) (dot : ℕ) → K p dot → Has n p dot) → {p : Production} {dot : ℕ} → InClosure (productions g) K p dot → Has n p dot

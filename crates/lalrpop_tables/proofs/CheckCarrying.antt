@@ -5,15 +5,11 @@ use Rattle.std.specs.Map.{keys_of}
 use Rattle.std.proofs.lemmas.List.{length-map}
 use Rattle.std.proofs.lemmas.List.Elements.{Contains-append_left, Contains-append_right}
 use Rattle.std.proofs.lemmas.List.Sums.{sum_by-cons}
-use Rattle.lalrpop_base.specs.Bits.{Bits, has, no_bits, with_bit, has-with_bit}
-use Rattle.lalrpop_base.specs.Closures.{InClosure, in_kernel, expanded, IsAtStart, IsMoved, items_of, AreClosed, IsReached, at_zero, over_edge, IsCarried, eof_at_start, over, first_of_rest, through_rest}
-use Rattle.lalrpop_base.specs.Contents.{contents, contents_at, holds_token}
-use Rattle.lalrpop_base.specs.First.{IsFirstSetBefore}
-use Rattle.lalrpop_base.specs.Grammar.{IsNullable}
-use Rattle.lalrpop_base.specs.Places.{AllDiffer}
-use Rattle.lalrpop_base.specs.States.{Contents, leads}
-use Rattle.lalrpop_base.specs.Tokens.{FitsTokens}
-use Rattle.lalrpop_base.specs.WellFormed.{Rules, IsWellFormed, productions, productions_of, rules_of, HasKnownTerminals}
+use Rattle.lalrpop_base.specs.Words.{Bits, has, no_bits, with_bit, has-with_bit, InClosure, in_kernel, expanded, IsAtStart, IsMoved, items_of, AreClosed}
+use Rattle.lalrpop_base.specs.Words.{IsReached, at_zero, IsCarried, eof_at_start, over, first_of_rest, through_rest, contents, contents_at, holds_token}
+use Rattle.lalrpop_base.specs.Words.{IsFirstSetBefore, IsNullable, AllDiffer, Contents, leads, FitsTokens, Rules, IsWellFormed, productions, productions_of}
+use Rattle.lalrpop_base.specs.Words.{rules_of, HasKnownTerminals}
+use Rattle.lalrpop_base.specs.Closures.{over_edge}
 use Rattle.lalrpop_base.specs.declared.lookahead.token.Token.{Token}
 use Rattle.lalrpop_base.specs.declared.lookahead.token.Token.TheVariants.{Eof, Error, Terminal as TokenOf}
 use Rattle.lalrpop_base.specs.declared.lr1_core.state.State.{State}
@@ -23,17 +19,16 @@ use Rattle.lalrpop_base.specs.declared.repr.Symbol.{Symbol}
 use Rattle.lalrpop_base.specs.declared.repr.Symbol.TheVariants.{Nonterminal, Terminal}
 use Rattle.lalrpop_base.specs.declared.repr.grammar.Grammar.{Grammar}
 use Rattle.lalrpop_base.proofs.HeldTokens.{place_there}
-use Rattle.lalrpop_tables.specs.Closing.{AreOwn, Begins}
-use Rattle.lalrpop_tables.specs.Counts.{count}
-use Rattle.lalrpop_tables.specs.CheckStates.{dots}
-use Rattle.lalrpop_tables.specs.CheckCarrying.{Carried, at_place, target_from, target_in, HasAll, burden, AreBelow, AllBelow, Sends, IsBegunAt, IsOver, IsInto, Gives, IsCarriedTo, AreCarriedTo, HasBegun, IsSettled, HasStarted, AreCarried}
+use Rattle.lalrpop_tables.specs.Words.{AreOwn, Begins, count, dots, Carried, at_place, target_from, target_in, IsFound, burden, AllBelow, Sends, IsBegunAt, IsBelow}
+use Rattle.lalrpop_tables.specs.Words.{IsOver, IsInto, Gives, IsCarriedTo, AreCarriedTo, HasBegun, HasStarted, AreCarried, begun}
+use Rattle.lalrpop_tables.specs.CheckCarrying.{IsSettled}
 use Rattle.lalrpop_tables.specs.declared.place.Place.{Place}
-use Rattle.lalrpop_tables.specs.States.{begun}
 use Rattle.lalrpop_tables.proofs.Canonical.{start_tokens}
-use Rattle.lalrpop_tables.proofs.CheckSending.{Entry, entry_key, key_entry, all_kept, bit_kept, same_place}
+use Rattle.lalrpop_tables.proofs.CheckSending.{Entry, same_place}
 use Rattle.lalrpop_tables.proofs.Closing.{drop_split, split_drop}
 use Rattle.lalrpop_tables.proofs.Grammars.{productions_among, productions_named, known_symbols, known_rest}
 use Rattle.lalrpop_tables.proofs.KnownTerminals.{token_bit, held_bit, bit_held, holds_more, begun_bit}
+use Rattle.lalrpop_tables.proofs.Growth.{entry_key, key_entry, found_kept, bit_kept}
 use Rattle.lalrpop_tables.proofs.Lists.{Contains-none, Contains-there, Contains-cases, Contains-map, pigeonhole}
 use Rattle.lalrpop_tables.proofs.Lookaheads.{eof_fits}
 use Rattle.lalrpop_tables.proofs.Places.{apart_from_differ, same_some}
@@ -130,7 +125,7 @@ module _ (g : Grammar) (start : NonterminalString) (states : List (State Bits)) 
   pub work : Carried → List Place → ℕ
   work table queue = limit + length queue - burden (length g.terminals + 2) table
 
-  below : (s : Bits) → FitsTokens g.terminals s → AreBelow (length g.terminals + 2) s
+  below : (s : Bits) → FitsTokens g.terminals s → IsBelow (length g.terminals + 2) s
   below s f q h = let l = f q h in omega arith
 
   all_below : (table : Carried) → AreCarriedTo g start states table → AllBelow (length g.terminals + 2) table
@@ -139,15 +134,15 @@ module _ (g : Grammar) (start : NonterminalString) (states : List (State Bits)) 
   -- ---- what is sent is sound
   sends_sound : (Such : Place → Type 0) (tokens : Bits) (old new : Carried) (queue pushed : List Place) → Sends Such tokens old new queue pushed → ((k : Place) → Such k → IsCarriedTo g start states k tokens) → AreCarriedTo g start states old → AreCarriedTo g start states new
   sends_sound Such tokens old new queue pushed s such sound e c = record {
-    reached = elim (s.keys e c) [ inl o ↦ (let f = key_entry old e.0 o in (sound (e.0, f.0) f.1).reached) | inr n ↦ (such e.0 n).reached ];
-    listed = elim (s.keys e c) [ inl o ↦ (let f = key_entry old e.0 o in (sound (e.0, f.0) f.1).listed) | inr n ↦ (such e.0 n).listed ];
+    reached = elim (s.adds.keys e c) [ inl o ↦ (let f = key_entry old e.0 o in (sound (e.0, f.0) f.1).reached) | inr n ↦ (such e.0 n).reached ];
+    listed = elim (s.adds.keys e c) [ inl o ↦ (let f = key_entry old e.0 o in (sound (e.0, f.0) f.1).listed) | inr n ↦ (such e.0 n).listed ];
     carried = λ t h.
         let b = held_bit g.terminals e.1 t h in
-        elim (s.bits e b.0 c b.2) [
+        elim (s.adds.bits e b.0 c b.2) [
           | inl o ↦ (sound (e.0, o.set) o.entry).carried t (bit_held g.terminals o.set t b.0 b.1 o.there)
           | inr n ↦ (such e.0 n.0).carried t (bit_held g.terminals tokens t b.0 b.1 n.1)
         ];
-    fits = λ bit h. elim (s.bits e bit c h) [ inl o ↦ (sound (e.0, o.set) o.entry).fits bit o.there | inr n ↦ (such e.0 n.0).fits bit n.1 ];
+    fits = λ bit h. elim (s.adds.bits e bit c h) [ inl o ↦ (sound (e.0, o.set) o.entry).fits bit o.there | inr n ↦ (such e.0 n.0).fits bit n.1 ];
   }
 
   module _ (well : IsWellFormed g) (own : AreOwn g) (closed : AreClosed (productions g) start S) where
@@ -205,7 +200,7 @@ module _ (g : Grammar) (start : NonterminalString) (states : List (State Bits)) 
       settles_into old new queue pushed s known q after behind among =
           let b = split_drop place.item.index place.item.production.symbols (Nonterminal q.nonterminal) after behind in
           let same : after ≡ rest = same_rest q.nonterminal q.nonterminal after rest (sym behind ∙ rest_behind q.nonterminal b) in
-          let there = s.there (at_place place.state q 0) (record { name = q.nonterminal; behind = b; begun = record { state = refl; start = refl; among = own q among } }) in
+          let there = s.adds.there (at_place place.state q 0) (record { name = q.nonterminal; behind = b; begun = record { state = refl; start = refl; among = own q among } }) in
           let all_known : (p : Production) → Contains (productions g) p → HasKnownTerminals g.terminals p.symbols = λ p c. known_symbols g p well c in
           let rest_known = known_rest g.terminals (place.item.index + 1) place.item.production.symbols rest (all_known place.item.production known) refl in
           record {
@@ -221,9 +216,9 @@ module _ (g : Grammar) (start : NonterminalString) (states : List (State Bits)) 
           }
 
     -- ---- the loop
-    settled_kept : (old new : Carried) → ((e : Entry) → Contains old e → HasAll new e.0 e.1) → (place : Place) (tokens : Bits) → IsSettled g states old place tokens → IsSettled g states new place tokens
+    settled_kept : (old new : Carried) → ((e : Entry) → Contains old e → IsFound new e.0 e.1) → (place : Place) (tokens : Bits) → IsSettled g states old place tokens → IsSettled g states new place tokens
     settled_kept old new kept place tokens s = record {
-      over = λ k o. all_kept old new kept k tokens (s.over k o);
+      over = λ k o. found_kept old new kept k tokens (s.over k o);
       into = λ q after behind among.
           let b = s.into q after behind among in
           let f = kept (at_place place.state q 0, b.set) b.entry in
@@ -245,18 +240,18 @@ module _ (g : Grammar) (start : NonterminalString) (states : List (State Bits)) 
       new_sound : AreCarriedTo g start states new
       new_sound = sends_sound (IsInto g place) v.given v.middle new v.waiting pushed v.into (sound_into place v.tokens v.given here v.first v.fits) middle_sound
 
-      kept_on : (e : Entry) → Contains old e → HasAll new e.0 e.1
-      kept_on e o = all_kept v.middle new v.into.kept e.0 e.1 (v.over.kept e o)
+      kept_on : (e : Entry) → Contains old e → IsFound new e.0 e.1
+      kept_on e o = found_kept v.middle new v.into.adds.grows.kept e.0 e.1 (v.over.adds.grows.kept e o)
 
       settled_here : IsSettled g states new place v.tokens
       settled_here = record {
-        over = λ k o. all_kept v.middle new v.into.kept k v.tokens (v.over.there k o);
+        over = λ k o. found_kept v.middle new v.into.adds.grows.kept k v.tokens (v.over.adds.there k o);
         into = settles_into place v.tokens v.given here v.first v.fits v.middle new v.waiting pushed v.into known;
       }
 
       popped : (e : Entry) → Contains old e → Contains (place ∷ queue) e.0 → Contains pushed e.0 ⊎ IsSettled g states new e.0 e.1
       popped e o on = elim (Contains-cases place queue e.0 on) [
-        | inr s ↦ inl (v.into.stays e.0 (v.over.stays e.0 s))
+        | inr s ↦ inl (v.into.adds.grows.stays e.0 (v.over.adds.grows.stays e.0 s))
         | inl same ↦
             let tokens : v.tokens ≡ e.1 = one_value old c.differ place v.tokens e.1 v.entry (subst (λ (x : Place). Contains old (x, e.1)) (sym same) o) in
             inr (subst (λ (x : Place). IsSettled g states new x e.1) same (subst (IsSettled g states new place) tokens settled_here))
@@ -266,10 +261,10 @@ module _ (g : Grammar) (start : NonterminalString) (states : List (State Bits)) 
       Carrying-step = record {
         sound = new_sound;
         started = λ p among named. bit_kept old new kept_on (at_place 0 p 0) (length g.terminals) (c.started p among named);
-        done = λ e n. elim (v.into.changed e n) [
+        done = λ e n. elim (v.into.adds.grows.changed e n) [
           | inl p ↦ inl p
-          | inr m ↦ elim (v.over.changed e m) [
-            | inl w ↦ inl (v.into.stays e.0 w)
+          | inr m ↦ elim (v.over.adds.grows.changed e m) [
+            | inl w ↦ inl (v.into.adds.grows.stays e.0 w)
             | inr o ↦ elim (c.done e o) [ inl on ↦ popped e o on | inr s ↦ inr (settled_kept old new kept_on e.0 e.1 s) ]
           ]
         ];
@@ -277,7 +272,7 @@ module _ (g : Grammar) (start : NonterminalString) (states : List (State Bits)) 
           | inr key ↦ key
           | inl w ↦ elim (v.over.found k w) [
             | inl s ↦ (let e = key_entry old k (c.found k (Contains-there place queue k s)) in let f = kept_on (k, e.0) e.1 in entry_key new (k, f.set) f.entry)
-            | inr m ↦ (let e = key_entry v.middle k m in let f = v.into.kept (k, e.0) e.1 in entry_key new (k, f.set) f.entry)
+            | inr m ↦ (let e = key_entry v.middle k m in let f = v.into.adds.grows.kept (k, e.0) e.1 in entry_key new (k, f.set) f.entry)
           ]
         ];
         differ = v.into.differ (v.over.differ c.differ);
@@ -318,10 +313,10 @@ module _ (g : Grammar) (start : NonterminalString) (states : List (State Bits)) 
         record {
           sound = sends_sound (IsBegunAt 0 (productions_of g start)) tokens empty table none queue s (λ k b. subst (IsCarriedTo g start states k) (sym e) (start_carried k b)) (λ x c. absurd (nothing x c));
           started = λ p among named.
-              let t = s.there (at_place 0 p 0) (record { state = refl; start = refl; among = subst (λ (a : NonterminalString). Contains (productions_of g a) p) named (own p among) }) in
+              let t = s.adds.there (at_place 0 p 0) (record { state = refl; start = refl; among = subst (λ (a : NonterminalString). Contains (productions_of g a) p) named (own p among) }) in
               let own_bit : has eof (length g.terminals) ≡ true = has-with_bit no_bits (length g.terminals) (length g.terminals) ∙ ap (λ b. b || has no_bits (length g.terminals)) (eq-eqb (length g.terminals) (length g.terminals) refl) in
               record { set = t.set; entry = t.entry; there = t.all (length g.terminals) (subst (λ (x : Bits). has x (length g.terminals) ≡ true) (sym e) own_bit) };
-          done = λ x c. elim (s.changed x c) [ inl p ↦ inl p | inr o ↦ absurd (nothing x o) ];
+          done = λ x c. elim (s.adds.grows.changed x c) [ inl p ↦ inl p | inr o ↦ absurd (nothing x o) ];
           found = λ k c. elim (s.found k c) [ inl o ↦ absurd (Contains-none k (subst (λ (xs : List Place). Contains xs k) h o)) | inr n ↦ n ];
           differ = s.differ (λ i j x l at. let gone = ap (λ (xs : Carried). slice_get (keys_of xs) i) (sym f) ∙ at in cc);
         }

@@ -2,21 +2,14 @@
 use Rattle.std.proofs.Common.{◌≡◌, ◌<◌, ◌≤◌, ◌+◌, ◌-◌, ℕ, suc, ◌⊎◌, inl, inr, List, [], ◌∷◌, ◌++◌, length, map, drop, refl, sym, ◌∙◌, ap, subst, arith, length-append, Some}
 use Rattle.std.specs.Prelude.{Contains, slice_get}
 use Rattle.std.proofs.lemmas.List.Elements.{Contains-append_left, Contains-append_right, Contains-append_cases}
-use Rattle.lalrpop_base.specs.Bits.{Bits}
-use Rattle.lalrpop_base.specs.Closures.{InClosure, in_kernel, expanded, IsAtStart}
-use Rattle.lalrpop_base.specs.Items.{Dotted}
-use Rattle.lalrpop_base.specs.Places.{AllDiffer}
-use Rattle.lalrpop_base.specs.WellFormed.{IsWellFormed, productions, productions_of}
+use Rattle.lalrpop_base.specs.Words.{Bits, InClosure, in_kernel, expanded, IsAtStart, Dotted, AllDiffer, IsWellFormed, productions, productions_of}
 use Rattle.lalrpop_base.specs.declared.lookahead.nil.Nil.{Nil}
 use Rattle.lalrpop_base.specs.declared.repr.NonterminalString.{NonterminalString}
 use Rattle.lalrpop_base.specs.declared.repr.Production.{Production}
 use Rattle.lalrpop_base.specs.declared.repr.Symbol.{Symbol}
 use Rattle.lalrpop_base.specs.declared.repr.Symbol.TheVariants.{Nonterminal}
 use Rattle.lalrpop_base.specs.declared.repr.grammar.Grammar.{Grammar}
-use Rattle.lalrpop_tables.specs.CheckSets.{IsAdded}
-use Rattle.lalrpop_tables.specs.CheckClosing.{Widens, IsBegun, IsExpansionOf, IsMovedOf, AreClosure, AllWait}
-use Rattle.lalrpop_tables.specs.Closing.{AreOwn}
-use Rattle.lalrpop_tables.specs.Closure.{dotted_of, begun_of}
+use Rattle.lalrpop_tables.specs.Words.{IsAdded, Widens, IsBegun, IsExpansionOf, IsMovedOf, AreClosure, AllWait, AreOwn, dotted_of, begun_of}
 use Rattle.lalrpop_tables.proofs.Canonical.{InClosure-more}
 use Rattle.lalrpop_tables.proofs.Closing.{drop_split, split_drop}
 use Rattle.lalrpop_tables.proofs.Grammars.{productions_among, productions_named}

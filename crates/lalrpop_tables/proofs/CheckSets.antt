@@ -7,8 +7,8 @@ use Rattle.std.specs.BTreeSet.{BTreeSet, insert_key, contains, IsSubset}
 use Rattle.std.specs.List.Sorted.{IsStrictlySortedBy}
 use Rattle.std.proofs.lemmas.Map.Lookups.{CmpEqualImpliesEq}
 use Rattle.std.proofs.lemmas.Map.Views.{btree_set_contains_iff}
-use Rattle.lalrpop_base.specs.Places.{AllDiffer}
-use Rattle.lalrpop_tables.specs.CheckSets.{IsAdded, HaveSame}
+use Rattle.lalrpop_base.specs.Words.{AllDiffer}
+use Rattle.lalrpop_tables.specs.Words.{IsAdded, HaveSame}
 use Rattle.lalrpop_tables.proofs.Lists.{insert_key-has, insert_key-kept, insert_key-from, apart-from_sorted}
 use Rattle.lalrpop_tables.proofs.Places.{differ_from_apart}
 

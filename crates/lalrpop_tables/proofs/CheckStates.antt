@@ -11,19 +11,15 @@ use Rattle.std.specs.BTreeSet.{insert_key, contains}
 use Rattle.std.specs.Prelude.{IsTrue}
 use Rattle.std.proofs.lemmas.Map.Lookups.{CmpEqualImpliesEq}
 use Rattle.std.proofs.lemmas.Map.Views.{btree_set_contains_iff}
-use Rattle.lalrpop_base.specs.WellFormed.{name_cmp}
+use Rattle.lalrpop_base.specs.Words.{name_cmp, Bits, number_of, Dotted, AllDiffer}
 use Rattle.lalrpop_base.specs.contracts.repr.TerminalStringOrd.TheImpl as terminal_ord
 use Rattle.lalrpop_base.specs.declared.repr.grammar.Grammar.{Grammar}
-use Rattle.lalrpop_tables.specs.CheckClosing.{AreClosure}
+use Rattle.lalrpop_tables.specs.Words.{AreClosure, dotted_of, IsAdded, HaveSame, LeadsBy, LeadsFrom, IsTarget, lr0, Lists, LeadsOn, reduced, finished, dots}
 use Rattle.lalrpop_tables.proofs.CheckSets.{inserted}
 use Rattle.std.specs.declared.cmp.Ordering.{Ordering}
 use Rattle.std.proofs.lemmas.List.Elements.{Contains-append_left, Contains-append_right, Contains-append_cases}
 use Rattle.std.proofs.lemmas.Map.Entries.{place_from_lookup, btree_map_get_place}
 use Rattle.std.proofs.lemmas.Option.{slice_get_within}
-use Rattle.lalrpop_base.specs.Bits.{Bits}
-use Rattle.lalrpop_base.specs.Contents.{number_of}
-use Rattle.lalrpop_base.specs.Items.{Dotted}
-use Rattle.lalrpop_base.specs.Places.{AllDiffer}
 use Rattle.lalrpop_base.specs.declared.lookahead.nil.Nil.{Nil}
 use Rattle.lalrpop_base.specs.declared.lr1_core.state.State.{State}
 use Rattle.lalrpop_base.specs.declared.lr1_core.state.StateIndex.{StateIndex}
@@ -31,9 +27,7 @@ use Rattle.lalrpop_base.specs.declared.repr.Production.{Production}
 use Rattle.lalrpop_base.specs.declared.repr.Symbol.{Symbol}
 use Rattle.lalrpop_base.specs.declared.repr.Symbol.TheVariants.{Nonterminal, Terminal}
 use Rattle.lalrpop_base.proofs.ContentsViews.{some_of_map, contains_of_map}
-use Rattle.lalrpop_tables.specs.Closure.{dotted_of}
-use Rattle.lalrpop_tables.specs.CheckSets.{IsAdded, HaveSame}
-use Rattle.lalrpop_tables.specs.CheckStates.{LeadsBy, LeadsFrom, IsTarget, target_of, lr0, Lists, LeadsOn, reduced, finished, AreListed, dots}
+use Rattle.lalrpop_tables.specs.CheckStates.{target_of, AreListed}
 use Rattle.lalrpop_tables.proofs.Lists.{Contains-none, Contains-here, Contains-there, Contains-cases, Contains-map, place}
 use Rattle.lalrpop_tables.proofs.Places.{contains_at, same_some, push_cases, slice_get-longer, slice_get-push_at}
 use Rattle.lalrpop_tables.proofs.Tables.{same_lr0}

@@ -4,16 +4,12 @@ use Rattle.std.specs.Prelude.{Contains, slice_get}
 use Rattle.std.specs.Borrow.{Bor}
 use Rattle.std.specs.BTreeSet.{BTreeSet}
 use Rattle.std.proofs.lemmas.Option.{slice_get_within, slice_get-map}
-use Rattle.lalrpop_base.specs.Bits.{Bits, has}
-use Rattle.lalrpop_base.specs.Closures.{InClosure, in_kernel, expanded, IsMoved, items_of, AreClosed}
-use Rattle.lalrpop_base.specs.Coherent.{AreCoherent}
+use Rattle.lalrpop_base.specs.Words.{Bits, has, InClosure, in_kernel, expanded, IsMoved, items_of, AreClosed, AreCoherent, contents, contents_at, contents_of}
+use Rattle.lalrpop_base.specs.Words.{no_contents, reduction_of, holds_token, Dotted, AllDiffer, Contents, leads, IsBehindDot, LeadsOverDots, HasNoRepeat}
+use Rattle.lalrpop_base.specs.Words.{ReducesFinished, productions}
 use Rattle.lalrpop_base.specs.Conflicts.{HasNoConflict as HoldsNoConflict}
-use Rattle.lalrpop_base.specs.Contents.{contents, contents_at, contents_of, no_contents, reduction_of, holds_token}
-use Rattle.lalrpop_base.specs.Items.{Dotted}
-use Rattle.lalrpop_base.specs.Places.{AllDiffer}
 use Rattle.lalrpop_base.specs.StateConflicts.{HasNoConflict}
-use Rattle.lalrpop_base.specs.States.{Contents, Reduction, leads, IsBehindDot, LeadsOverDots, HasNoRepeat, ReducesFinished}
-use Rattle.lalrpop_base.specs.WellFormed.{productions}
+use Rattle.lalrpop_base.specs.States.{Reduction}
 use Rattle.lalrpop_base.specs.declared.lookahead.nil.Nil.{Nil}
 use Rattle.lalrpop_base.specs.declared.lookahead.token.Token.{Token}
 use Rattle.lalrpop_base.specs.declared.lookahead.token.Token.TheVariants.{Terminal as TokenOf}
@@ -25,11 +21,9 @@ use Rattle.lalrpop_base.specs.declared.repr.Symbol.TheVariants.{Nonterminal, Ter
 use Rattle.lalrpop_base.specs.declared.repr.TerminalString.{TerminalString}
 use Rattle.lalrpop_base.specs.declared.repr.grammar.Grammar.{Grammar}
 use Rattle.lalrpop_base.proofs.ContentsViews.{LeadAsItemsSay, lead_as_items_say, some_of_map, contains_of_map}
-use Rattle.lalrpop_tables.specs.Closure.{dotted_of}
-use Rattle.lalrpop_tables.specs.Results.{HaveNoConflict}
-use Rattle.lalrpop_tables.specs.CheckClosing.{IsMovedIn}
-use Rattle.lalrpop_tables.specs.CheckStates.{dots, lr0, target_of, IsTarget, reduced, IsRightItem, IsRightTarget, IsRightState, AreRightStates, AreListed}
-use Rattle.lalrpop_tables.specs.CheckCarrying.{target_from}
+use Rattle.lalrpop_tables.specs.Words.{dotted_of, HaveNoConflict, IsMovedIn, dots, lr0, IsTarget, reduced, IsRightItem, IsRightTarget, IsRightState}
+use Rattle.lalrpop_tables.specs.Words.{AreRightStates, target_from}
+use Rattle.lalrpop_tables.specs.CheckStates.{target_of, AreListed}
 use Rattle.lalrpop_tables.proofs.Canonical.{InClosure-more}
 use Rattle.lalrpop_tables.proofs.CanonicalStates.{leads_transition}
 use Rattle.lalrpop_tables.proofs.CheckCarrying.{leads_in}
@@ -140,10 +134,6 @@ module _ (g : Grammar) (start : NonterminalString) (states : List (State Bits)) 
     where
       target_here : (o : Option (State Bits)) → o ≡ Some h.state → target_from o x ≡ target_of h.state x
       target_here o e = ap (λ (q : Option (State Bits)). target_from q x) e
-
-  -- what is outside holds nothing
-  outside : (n : ℕ) (P : Type 0) → slice_get states n ≡ None → S n ≡ no_contents
-  outside n P e = ap (contents_at holds_of) e
 
   abbrev numbered : ℕ → Type 0
   numbered n = IsHere n ⊎ (S n ≡ no_contents)

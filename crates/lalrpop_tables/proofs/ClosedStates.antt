@@ -2,20 +2,14 @@
 use Rattle.std.proofs.Common.{◌≡◌, ◌↔◌, ℕ, suc, ◌<◌, ◌⊎◌, Bool, List, length, map, refl, sym, ◌∙◌, ap, subst, arith, Option, Some, None}
 use Rattle.std.specs.Prelude.{Contains, slice_get}
 use Rattle.std.proofs.lemmas.Option.{slice_get_within}
-use Rattle.lalrpop_base.specs.Closures.{InClosure, in_kernel, IsAtStart, IsMoved, items_of, AreClosed, IsReached, KernelsDiffer}
-use Rattle.lalrpop_base.specs.Contents.{contents_of, contents_at, contents_in, no_contents}
-use Rattle.lalrpop_base.specs.Items.{Dotted}
-use Rattle.lalrpop_base.specs.States.{Contents, leads, LeadsOverDots, ReducesFinished}
-use Rattle.lalrpop_base.specs.WellFormed.{Rules}
+use Rattle.lalrpop_base.specs.Words.{InClosure, in_kernel, IsAtStart, IsMoved, items_of, AreClosed, IsReached, KernelsDiffer, contents_of, contents_at}
+use Rattle.lalrpop_base.specs.Words.{contents_in, no_contents, Dotted, Contents, leads, LeadsOverDots, ReducesFinished, Rules}
 use Rattle.lalrpop_base.specs.declared.lookahead.token.Token.{Token}
 use Rattle.lalrpop_base.specs.declared.lr1_core.state.State.{State}
 use Rattle.lalrpop_base.specs.declared.repr.NonterminalString.{NonterminalString}
 use Rattle.lalrpop_base.specs.declared.repr.Production.{Production}
 use Rattle.lalrpop_base.specs.declared.repr.Symbol.{Symbol}
-use Rattle.lalrpop_tables.specs.Ascending.{Ascend}
-use Rattle.lalrpop_tables.specs.Closure.{dotted_of, InKernel}
-use Rattle.lalrpop_tables.specs.States.{AreBuiltBy}
-use Rattle.lalrpop_tables.specs.Transitions.{Shifts}
+use Rattle.lalrpop_tables.specs.Words.{Ascend, dotted_of, InKernel, AreBuiltBy, Shifts}
 use Rattle.lalrpop_tables.proofs.Canonical.{InClosure-more, moved_items}
 use Rattle.lalrpop_tables.proofs.CanonicalStates.{leads_transition}
 use Rattle.lalrpop_tables.proofs.Coherence.{Built-some}

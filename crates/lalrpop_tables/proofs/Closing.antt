@@ -3,12 +3,7 @@ use Rattle.std.proofs.Common.{◌≡◌, ◌↔◌, ℕ, zero, suc, ◌+◌, ◌
 use Rattle.std.specs.Prelude.{Contains, slice_get}
 use Rattle.std.specs.Map.{keys_of}
 use Rattle.std.proofs.lemmas.List.Elements.{Contains-append_left, Contains-append_right, Contains-append_cases}
-use Rattle.lalrpop_base.specs.Bits.{Bits}
-use Rattle.lalrpop_base.specs.Closures.{InClosure, in_kernel, expanded}
-use Rattle.lalrpop_base.specs.Contents.{holds_token}
-use Rattle.lalrpop_base.specs.Items.{Dotted}
-use Rattle.lalrpop_base.specs.Places.{AllDiffer}
-use Rattle.lalrpop_base.specs.WellFormed.{Rules}
+use Rattle.lalrpop_base.specs.Words.{Bits, InClosure, in_kernel, expanded, holds_token, Dotted, AllDiffer, Rules}
 use Rattle.std.proofs.lemmas.List.{map-append}
 use Rattle.lalrpop_base.specs.declared.lookahead.nil.Nil.{Nil}
 use Rattle.lalrpop_base.specs.declared.lookahead.token.Token.{Token}
@@ -17,12 +12,13 @@ use Rattle.lalrpop_base.specs.declared.repr.Production.{Production}
 use Rattle.lalrpop_base.specs.declared.repr.Symbol.{Symbol}
 use Rattle.lalrpop_base.specs.declared.repr.Symbol.TheVariants.{Nonterminal}
 use Rattle.lalrpop_base.proofs.ContentsViews.{contains_of_map}
-use Rattle.lalrpop_tables.specs.Closure.{dotted_of, InKernel, HasItemToken, InTokenClosureBy, own_token, from_rest, from_parent, Found, item_of, IsQueued}
-use Rattle.lalrpop_tables.specs.Closing.{IsFound, HasFoundToken, Adds, IsBegunBy, IsExpandedTo, HasGiven, IsTokenSettled, Expands, IsStarted, IsTokenClosing}
+use Rattle.lalrpop_tables.specs.Words.{dotted_of, InKernel, HasItemToken, InTokenClosureBy, own_token, from_rest, from_parent, Found, item_of, IsQueued}
+use Rattle.lalrpop_tables.specs.Words.{IsFound, HasFoundToken, Adds, IsBegunBy, IsExpandedTo, HasGiven, IsTokenSettled, Expands, IsStarted, IsTokenClosing}
 use Rattle.lalrpop_tables.proofs.KnownTerminals.{held_bit, bit_held, holds_more}
 use Rattle.lalrpop_tables.proofs.Lists.{Contains-here, Contains-cases, Contains-none, Contains-map}
 use Rattle.lalrpop_tables.proofs.Places.{same_some}
-use Rattle.lalrpop_tables.proofs.Growth.{Grows-none, Adds-one, entry_key, key_entry, same_set, found_kept}
+use Rattle.lalrpop_tables.proofs.Growth.{Grows-none, Adds-one, entry_key, key_entry, found_kept}
+use Rattle.lalrpop_tables.proofs.Updates.{one_value}
 
 abbrev Entry : Type 0
 Entry = Dotted Nil × Bits
@@ -101,7 +97,7 @@ module _ (begins : Rules → List Symbol → Token → Type 0) (passes : Rules �
       tokens = token_cases;
       settled = λ differ s c q after behind among.
           let both : Nonterminal q.nonterminal ∷ after ≡ Nonterminal name ∷ rest = sym behind ∙ there_behind in
-          settles s (same_set old differ item s tokens c entry) q after (same_rest q.nonterminal name after rest both) (same_name q.nonterminal name after rest both) among;
+          settles s (one_value old differ item s tokens c entry) q after (same_rest q.nonterminal name after rest both) (same_name q.nonterminal name after rest both) among;
     }
 
   -- ---- the loop
@@ -161,7 +157,7 @@ module _ (begins : Rules → List Symbol → Token → Type 0) (passes : Rules �
 
       pub Tokens-step : IsTokenClosing begins passes g kernel new pushed
       Tokens-step = record {
-        all = λ i c. let a = before.all i c in (a.0, a.1, found_kept old new queue pushed x.grows a.0 i.lookahead a.2);
+        all = λ i c. let a = before.all i c in (a.0, a.1, found_kept old new x.grows.kept a.0 i.lookahead a.2);
         keys = λ e c. elim (x.keys e c) [ inl o ↦ key_reached e.0 o | inr n ↦ expanded_reached e.0 n.0 n.1 ];
         tokens = λ e t c h. elim (x.tokens e t c h) [
           | inl f ↦ found_reached e.0 t f
@@ -203,12 +199,6 @@ module _ (begins : Rules → List Symbol → Token → Type 0) (passes : Rules �
           let e = listed p dot (all_listed c) in
           let h = settled_at e.0 e.1 q after (entry_behind e.0 p dot (Nonterminal q.nonterminal ∷ after) e.2 behind) among in
           entry_listed (h.key, h.set) q 0 h.entry (given_dotted e.0.1 q after h)
-
-      listed_reached : (p : Production) (dot : ℕ) → InKernel (map item_of table) p dot → Reached p dot
-      listed_reached p dot h = let e = listed p dot h in subst (λ (d : Production × ℕ). Reached d.0 d.1) e.2 (end.keys e.0 e.1)
-
-      pub Tokens-items : (p : Production) (dot : ℕ) → InKernel (map item_of table) p dot ↔ Reached p dot
-      Tokens-items p dot = (listed_reached p dot, all_listed)
 
       abbrev HeldWith : Production → ℕ → Token → Type 0
       HeldWith = HasItemToken g.terminals (map item_of table)
@@ -263,7 +253,7 @@ Started-tokens-more first i key old new queue pushed same s t =
     let a = Adds-one key i.lookahead old new queue pushed s in
     record {
       all = λ j c. elim (Contains-append_cases first (i ∷ []) j c) [
-        | inl f ↦ let h = t.all j f in (h.0, h.1, found_kept old new queue pushed a.grows h.0 j.lookahead h.2)
+        | inl f ↦ let h = t.all j f in (h.0, h.1, found_kept old new a.grows.kept h.0 j.lookahead h.2)
         | inr l ↦ elim (Contains-cases i [] j l) [
           | inl e ↦ subst (λ (x : Dotted Bits). (k : Dotted Nil) × (dotted_of k ≡ dotted_of x) × IsFound new k x.lookahead) e (key, same, a.there key refl)
           | inr none ↦ absurd (Contains-none j none)
@@ -272,10 +262,10 @@ Started-tokens-more first i key old new queue pushed same s t =
       waiting = λ e c. elim (a.grows.changed e c) [ inl p ↦ p | inr o ↦ a.grows.stays e.0 (t.waiting e o) ];
       keys = λ e c. elim (a.keys e c) [
         | inl o ↦ let h = key_entry old e.0 o in subst (λ (xs : List (Production × ℕ)). Contains xs (dotted_of e.0)) (sym (map-append dotted_of first (i ∷ []))) (Contains-append_left (map dotted_of first) (dotted_of i ∷ []) (dotted_of e.0) (t.keys (e.0, h.0) h.1))
-        | inr is ↦ subst (Contains (map dotted_of (first ++ i ∷ []))) (sym same ∙ ap (λ (k : Dotted Nil). dotted_of k) (sym is)) (Contains-map dotted_of (first ++ i ∷ []) i (Contains-append_right first (i ∷ []) i (Contains-here i [])))
+        | inr is ↦ subst (Contains (map dotted_of (first ++ i ∷ []))) (sym same ∙ ap (λ (k : Dotted Nil). dotted_of k) is) (Contains-map dotted_of (first ++ i ∷ []) i (Contains-append_right first (i ∷ []) i (Contains-here i [])))
       ];
       bits = λ e bit c h. elim (a.bits e bit c h) [
         | inl o ↦ let j = t.bits (e.0, o.set) bit o.entry o.there in (j.0, Contains-append_left first (i ∷ []) j.0 j.1, j.2, j.3)
-        | inr n ↦ (i, Contains-append_right first (i ∷ []) i (Contains-here i []), sym same ∙ ap (λ (k : Dotted Nil). dotted_of k) (sym n.0), n.1)
+        | inr n ↦ (i, Contains-append_right first (i ∷ []) i (Contains-here i []), sym same ∙ ap (λ (k : Dotted Nil). dotted_of k) n.0, n.1)
       ];
     }

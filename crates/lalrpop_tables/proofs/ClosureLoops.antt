@@ -4,23 +4,21 @@ use Rattle.std.specs.Prelude.{Contains, slice_get, drop}
 use Rattle.std.specs.Map.{keys_of}
 use Rattle.std.proofs.lemmas.List.Elements.{Contains-append_cases}
 use Rattle.std.proofs.lemmas.List.{map-append}
-use Rattle.lalrpop_base.specs.Bits.{Bits}
-use Rattle.lalrpop_base.specs.Items.{Dotted}
-use Rattle.lalrpop_base.specs.WellFormed.{Rules}
-use Rattle.lalrpop_base.specs.Closures.{InClosure}
+use Rattle.lalrpop_base.specs.Words.{Bits, Dotted, Rules, InClosure, FitsTokens}
 use Rattle.lalrpop_base.specs.declared.lookahead.token.Token.{Token}
 use Rattle.lalrpop_base.specs.Closures.InClosure.{in_kernel, expanded}
 use Rattle.lalrpop_base.specs.declared.repr.Symbol.{Symbol}
 use Rattle.lalrpop_base.specs.declared.repr.NonterminalString.{NonterminalString}
 use Rattle.lalrpop_base.specs.declared.repr.Symbol.TheVariants.{Nonterminal}
-use Rattle.lalrpop_base.specs.Tokens.{FitsTokens}
 use Rattle.lalrpop_base.specs.declared.lookahead.nil.Nil.{Nil}
 use Rattle.lalrpop_base.specs.declared.repr.Production.{Production}
-use Rattle.lalrpop_tables.specs.Ascending.{Ascend}
-use Rattle.lalrpop_tables.specs.Closure.{dotted_of, InKernel, HasItemToken, AreItems, IsClosureBy, InTokenClosureBy, itself, Found, item_of, IsQueued, IsTable, AreBegun, begun_of, Spreads, IsSettled, IsExpanded, IsClosing}
+use Rattle.lalrpop_tables.specs.Words.{Ascend, dotted_of, InKernel, HasItemToken, AreItems, IsClosureBy, InTokenClosureBy, itself, Found, item_of, IsQueued}
+use Rattle.lalrpop_tables.specs.Words.{IsTable, AreBegun, begun_of, Spreads, IsExpanded, IsClosing}
+use Rattle.lalrpop_tables.specs.Closure.{IsSettled}
 use Rattle.lalrpop_tables.proofs.Lists.{Contains-none, Contains-here, Contains-there, Contains-cases}
 use Rattle.lalrpop_tables.proofs.Places.{same_some}
-use Rattle.lalrpop_tables.proofs.Tables.{same_lr0, joined_keys, joined_from, joined_there, queued_more, queued_last, queued_of, key_entry, weight_few, work, table_popped, lr0, Table-items, Started-more, Started-none}
+use Rattle.lalrpop_tables.proofs.Tables.{same_lr0, weight_few, work, table_popped, lr0, Table-items, Started-more, Started-none}
+use Rattle.lalrpop_tables.proofs.Growth.{Adds-one, known_kept, entry_key, queued_among, known_from, key_entry}
 
 -- ---- the loop
 module _ (g : Rules) where
@@ -84,7 +82,7 @@ module _ (g : Rules) (i : Dotted Nil) (old : Found) (queue : List (Dotted Nil)) 
   Expanded-over name tokens ps new pushed behind named among all fits s =
       let at = drop_at i.production.symbols i.index (Nonterminal name) behind in
       let begun : (kernel : List (Dotted Bits)) → Contains (keys_of old) i → IsTable g kernel old queue → AreBegun g kernel ps = λ kernel found t p c.
-      let e = key_entry g old i found in
+      let e = key_entry old i found in
       expanded p (drop (i.index + 1) i.production.symbols) (t.sound (i, e.0) e.1) (at ∙ ap (λ (a : NonterminalString). Nonterminal a ∷ drop (i.index + 1) i.production.symbols) (sym (named p c))) (among p c) in
       record {
         kept = λ kernel found t. s.kept kernel (fits kernel t) (begun kernel found t) t;
@@ -129,24 +127,20 @@ Start-none g kernel table queue e f = record {
 
 pub Start-more : (g : Rules) (kernel first : List (Dotted Bits)) (i : Dotted Bits) (key : Dotted Nil) (old new : Found) (queue pushed : List (Dotted Nil)) → AreItems g kernel → Contains kernel i → key.production ≡ i.production → key.index ≡ i.index →
     IsQueued key i.lookahead old new queue pushed → AreStarted g kernel first old queue → AreStarted g kernel (first ++ i ∷ []) new pushed
-Start-more g kernel first i key old new queue pushed a c p d s t =
+Start-more g kernel first i key old new queue pushed items c p d s t =
+    let a = Adds-one key i.lookahead old new queue pushed s in
     let same : dotted_of i ≡ dotted_of key = ap (λ q. (q, i.index)) (sym p) ∙ ap (λ n. (key.production, n)) (sym d) in
     record {
-      is_table = Started-more g kernel i key old new queue pushed a c p d s t.is_table;
-      on_queue = λ k m. elim (joined_from key i.lookahead s.told old new s.joined k m) [
-        | inl h ↦ queued_more s.told key queue pushed s.grown k (t.on_queue k h)
-        | inr h ↦ subst (Contains pushed) h.1 (queued_last s.told key queue pushed s.grown h.0)
-      ];
-      found = λ k m. elim (queued_of s.told key queue pushed s.grown k m) [
-        | inl h ↦ joined_keys key i.lookahead s.told old new s.joined k (t.found k h)
-        | inr h ↦ subst (Contains (keys_of new)) h (joined_there key i.lookahead s.told old new s.joined)
-      ];
+      is_table = Started-more g kernel i key old new queue pushed items c p d s t.is_table;
+      on_queue = λ k m. elim (known_from old new queue pushed a.grows k m) [ inl h ↦ a.grows.stays k (t.on_queue k h) | inr h ↦ h ];
+      found = λ k m. elim (queued_among key i.lookahead old new queue pushed s k m) [ inl h ↦ known_kept old new queue pushed a.grows k (t.found k h) | inr h ↦ h ];
       has = λ k m. elim (Contains-append_cases (map dotted_of first) (dotted_of i ∷ []) (dotted_of k) (subst (λ (ds : List (Production × ℕ)). Contains ds (dotted_of k)) (map-append dotted_of first (i ∷ [])) m)) [
-        | inl h ↦ joined_keys key i.lookahead s.told old new s.joined k (t.has k h)
+        | inl h ↦ known_kept old new queue pushed a.grows k (t.has k h)
         | inr h ↦ elim (Contains-cases (dotted_of i) [] (dotted_of k) h) [
           | inl e ↦
               let is : dotted_of key ≡ dotted_of k = sym same ∙ e in
-              subst (Contains (keys_of new)) (same_lr0 key k (ap (λ (x : Production × ℕ). x.0) is) (ap (λ (x : Production × ℕ). x.1) is)) (joined_there key i.lookahead s.told old new s.joined)
+              let f = a.there k (same_lr0 key k (ap (λ (x : Production × ℕ). x.0) is) (ap (λ (x : Production × ℕ). x.1) is)) in
+              entry_key new (k, f.set) f.entry
           | inr n ↦ absurd (Contains-none (dotted_of k) n)
         ]
       ];

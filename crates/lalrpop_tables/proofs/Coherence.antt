@@ -3,24 +3,19 @@ use Rattle.std.proofs.Common.{◌≡◌, ℕ, ◌+◌, ◌-◌, ◌<◌, ◌⊎�
 use Rattle.std.specs.Prelude.{Contains, slice_get, ◌==◌}
 use Rattle.std.specs.BTreeMap.{BTreeMap, IsOrdered}
 use Rattle.std.proofs.lemmas.Option.{slice_get_within, slice_get-get_or, slice_get-map}
-use Rattle.lalrpop_base.specs.Bits.{Bits}
-use Rattle.lalrpop_base.specs.Coherent.{HasItem, IsShifted, IsCoherentStep, AreFinished, AreCoherent}
-use Rattle.lalrpop_base.specs.Items.{Dotted}
-use Rattle.lalrpop_base.specs.WellFormed.{Rules}
+use Rattle.lalrpop_base.specs.Words.{Bits, HasItem, IsShifted, IsCoherentStep, AreFinished, AreCoherent, Dotted, Rules, Kernels}
 use Rattle.lalrpop_base.specs.declared.lr1_core.state.State.{State}
 use Rattle.lalrpop_base.specs.declared.lr1_core.state.StateIndex.{StateIndex}
 use Rattle.lalrpop_base.specs.declared.repr.Production.{Production}
 use Rattle.lalrpop_base.specs.declared.repr.Symbol.{Symbol}
 use Rattle.lalrpop_base.specs.declared.repr.Symbol.TheVariants.{Nonterminal, Terminal}
-use Rattle.lalrpop_tables.specs.Closure.{dotted_of, InKernel, AreItemsBy}
+use Rattle.lalrpop_tables.specs.Words.{dotted_of, InKernel, AreItemsBy, begun, HasTransition, Leads, IsBuiltBy, IsBuiltOfBy, Extends, LeadsToAdded, AreBuiltBy}
+use Rattle.lalrpop_tables.specs.Words.{IsBehindOne, Shifts, Groups, AreMoves, HasEdge, AreEdges, reductions_of, seen, moved}
 use Rattle.lalrpop_base.specs.contracts.repr.TerminalStringOrd.TheImpl as terminal_ord
 use Rattle.lalrpop_base.specs.declared.repr.TerminalString.{TerminalString}
-use Rattle.lalrpop_base.specs.Kernels.{Kernels}
-use Rattle.lalrpop_tables.specs.States.{begun, HasTransition, Leads, IsBuiltBy, IsBuiltOfBy, Extends, LeadsToAdded, AreBuiltBy}
-use Rattle.lalrpop_tables.specs.Transitions.{IsBehindOne, Shifts, Groups, AreMoves, HasEdge, AreEdges, IsReached, reductions_of, seen}
+use Rattle.lalrpop_tables.specs.Transitions.{IsReached}
 use Rattle.lalrpop_tables.specs.declared.build.transitions.Edges.{Edges}
 use Rattle.lalrpop_tables.proofs.Lists.{Contains-none, Contains-here, Contains-there, Contains-cases, place}
-use Rattle.lalrpop_tables.specs.Transitions.{moved}
 use Rattle.lalrpop_tables.specs.Transitions.Shifts.{none, moves, stays}
 use Rattle.lalrpop_tables.proofs.Places.{contains_at, same_some, one_place, in_added}
 use Rattle.lalrpop_tables.proofs.Shifting.{Shifts-from, Shifts-items, of_dotted, begun_zero}

@@ -7,10 +7,7 @@ use Rattle.std.specs.declared.cmp.Ordering.{Ordering}
 use Rattle.std.proofs.lemmas.Map.Lookups.{CmpEqualImpliesEq}
 use Rattle.std.proofs.lemmas.Map.Views.{IfSome-get}
 use Rattle.std.proofs.lemmas.Option.{slice_get_within}
-use Rattle.lalrpop_base.specs.Bits.{Bits}
-use Rattle.lalrpop_base.specs.Collapsible.{dots, dots_of, dots_at, IsAlikeTo, AreCollapsible}
-use Rattle.lalrpop_base.specs.Items.{Dotted}
-use Rattle.lalrpop_base.specs.WellFormed.{rules_of, productions}
+use Rattle.lalrpop_base.specs.Words.{Bits, dots, dots_of, dots_at, IsAlikeTo, AreCollapsible, Dotted, rules_of, productions}
 use Rattle.lalrpop_base.specs.contracts.repr.NonterminalStringOrd.TheImpl as name_ord
 use Rattle.lalrpop_base.specs.contracts.repr.TerminalStringOrd.TheImpl as terminal_ord
 use Rattle.lalrpop_base.specs.declared.lr1_core.state.State.{State}
@@ -21,11 +18,7 @@ use Rattle.lalrpop_base.specs.declared.repr.Symbol.{Symbol}
 use Rattle.lalrpop_base.specs.declared.repr.Symbol.TheVariants.{Nonterminal, Terminal}
 use Rattle.lalrpop_base.specs.declared.repr.grammar.Grammar.{Grammar}
 use Rattle.lalrpop_base.proofs.ContentsViews.{terminals_ordered, names_ordered}
-use Rattle.lalrpop_tables.specs.Closure.{InKernel, IsClosureOf}
-use Rattle.lalrpop_tables.specs.Collapsed.{dots_in}
-use Rattle.lalrpop_tables.specs.Results.{AreStatesOf, canonical_of}
-use Rattle.lalrpop_tables.specs.States.{HasTransition}
-use Rattle.lalrpop_tables.specs.Transitions.{IsBehind, Shifts}
+use Rattle.lalrpop_tables.specs.Words.{InKernel, IsClosureOf, dots_in, AreStatesOf, canonical_of, HasTransition, IsBehind, Shifts}
 use Rattle.lalrpop_tables.specs.Transitions.Shifts.{none, moves, stays}
 use Rattle.lalrpop_tables.proofs.Canonical.{InClosure-more}
 use Rattle.lalrpop_tables.proofs.CollapseDots.{same_dots}

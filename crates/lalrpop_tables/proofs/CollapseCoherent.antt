@@ -8,8 +8,7 @@ use Rattle.std.proofs.lemmas.Map.Entries.{btree_map_get_place}
 use Rattle.std.proofs.lemmas.Map.Lookups.{CmpEqualImpliesEq}
 use Rattle.std.proofs.lemmas.Map.Views.{IfSome-get}
 use Rattle.std.proofs.lemmas.Option.{slice_get_within}
-use Rattle.lalrpop_base.specs.Bits.{Bits}
-use Rattle.lalrpop_base.specs.Coherent.{HasItem, IsCoherentStep, StartsAtZero, AreFinished, AreCoherent}
+use Rattle.lalrpop_base.specs.Words.{Bits, HasItem, IsCoherentStep, StartsAtZero, AreFinished, AreCoherent}
 use Rattle.lalrpop_base.specs.contracts.repr.NonterminalStringOrd.TheImpl as name_ord
 use Rattle.lalrpop_base.specs.contracts.repr.TerminalStringOrd.TheImpl as terminal_ord
 use Rattle.lalrpop_base.specs.declared.lr1_core.state.State.{State}
@@ -18,8 +17,7 @@ use Rattle.lalrpop_base.specs.declared.repr.Production.{Production}
 use Rattle.lalrpop_base.specs.declared.repr.Symbol.{Symbol}
 use Rattle.lalrpop_base.specs.declared.repr.Symbol.TheVariants.{Nonterminal, Terminal}
 use Rattle.lalrpop_base.proofs.ContentsViews.{terminals_ordered, names_ordered}
-use Rattle.lalrpop_tables.specs.Collapsed.{dots_in, IsCollapsed, AreOrdered}
-use Rattle.lalrpop_tables.specs.Renumbered.{retargeted}
+use Rattle.lalrpop_tables.specs.Words.{dots_in, IsCollapsed, AreOrdered, retargeted}
 use Rattle.lalrpop_tables.proofs.CollapseDots.{item_at, has_item_over, edge_over, group, merged_of, first_group}
 use Rattle.lalrpop_tables.proofs.Lists.{place}
 use Rattle.lalrpop_tables.proofs.Places.{contains_at, filled}

@@ -5,11 +5,10 @@ use Rattle.std.specs.Borrow.{Bor}
 use Rattle.std.specs.declared.cmp.Ordering.TheVariants.{Less}
 use Rattle.std.proofs.lemmas.Map.Keys.{Less-from_sorted}
 use Rattle.std.proofs.lemmas.Option.{slice_get_within, slice_get-map, get_or_from_slice_get}
-use Rattle.lalrpop_base.specs.Bits.{Bits, has}
-use Rattle.lalrpop_base.specs.Closures.{IsReached, at_zero, over_edge, items_of}
-use Rattle.lalrpop_base.specs.Collapse.{HoldsInGroup, LeadsInGroup, IsCollapse}
-use Rattle.lalrpop_base.specs.Contents.{number_of, contents, contents_of, contents_at, holds_token, reduction_of}
-use Rattle.lalrpop_base.specs.States.{Contents, Reduction, leads, HasNoRepeat, ReducesFinished}
+use Rattle.lalrpop_base.specs.Words.{Bits, has, IsReached, at_zero, items_of, HoldsInGroup, LeadsInGroup, IsCollapse, number_of, contents, contents_of}
+use Rattle.lalrpop_base.specs.Words.{contents_at, holds_token, reduction_of, Contents, leads, HasNoRepeat, ReducesFinished}
+use Rattle.lalrpop_base.specs.Closures.{over_edge}
+use Rattle.lalrpop_base.specs.States.{Reduction}
 use Rattle.lalrpop_base.specs.declared.lookahead.token.Token.{Token}
 use Rattle.lalrpop_base.specs.declared.lr1_core.state.State.{State}
 use Rattle.lalrpop_base.specs.declared.lr1_core.state.StateIndex.{StateIndex}
@@ -19,10 +18,7 @@ use Rattle.lalrpop_base.specs.declared.repr.Symbol.{Symbol}
 use Rattle.lalrpop_base.specs.declared.repr.Symbol.TheVariants.{Nonterminal, Terminal}
 use Rattle.lalrpop_base.specs.declared.repr.grammar.Grammar.{Grammar}
 use Rattle.lalrpop_base.proofs.ContentsViews.{some_of_map, contains_of_map, contains_map, lead_as_items_say}
-use Rattle.lalrpop_tables.specs.Ascending.{production_order}
-use Rattle.lalrpop_tables.specs.Canonical.{AreOrderedCanonical}
-use Rattle.lalrpop_tables.specs.Collapsed.{dots_in, ReducesBy, IsNumbered, IsCollapsed}
-use Rattle.lalrpop_tables.specs.Renumbered.{retargeted}
+use Rattle.lalrpop_tables.specs.Words.{production_order, AreOrderedCanonical, dots_in, ReducesBy, IsCollapsed, retargeted}
 use Rattle.lalrpop_tables.proofs.Ascending.{less_apart}
 use Rattle.lalrpop_tables.proofs.CanonicalContents.{nothing_reduced}
 use Rattle.lalrpop_tables.proofs.CollapseDots.{same_dots, group, merged_of, first_group}
@@ -49,10 +45,6 @@ module _ (g : Grammar) (start : NonterminalString) (before after : List (State B
 
   abbrev pub number : ℕ → ℕ
   number = group before after c
-
-  -- what is merged under a number
-  abbrev Member : ℕ → State Bits → Type 0
-  Member k = IsNumbered number before k
 
   -- ---- states that are reached
   reached_within : {n : ℕ} → IsReached old n → n < length before

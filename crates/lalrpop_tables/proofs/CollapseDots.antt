@@ -2,21 +2,13 @@
 use Rattle.std.proofs.Common.{◌≡◌, ℕ, zero, suc, ◌-◌, ◌<◌, List, length, map, refl, sym, ◌∙◌, ap, subst, arith, Some, option_map}
 use Rattle.std.specs.Prelude.{Contains, slice_get, unwrap_or}
 use Rattle.std.proofs.lemmas.Option.{slice_get_within, slice_get-map}
-use Rattle.lalrpop_base.specs.Bits.{Bits}
-use Rattle.lalrpop_base.specs.Coherent.{HasItem, IsShifted, IsCoherentEdge}
-use Rattle.lalrpop_base.specs.Collapsible.{dots}
-use Rattle.lalrpop_base.specs.ConflictLists.{Ordered}
-use Rattle.lalrpop_base.specs.Items.{Dotted}
+use Rattle.lalrpop_base.specs.Words.{Bits, HasItem, IsShifted, IsCoherentEdge, dots, Ordered, Dotted}
 use Rattle.lalrpop_base.specs.declared.lr1_core.state.State.{State}
 use Rattle.lalrpop_base.specs.declared.repr.Production.{Production}
 use Rattle.lalrpop_base.specs.declared.repr.Symbol.{Symbol}
 use Rattle.lalrpop_base.proofs.ContentsViews.{some_of_map}
 use Rattle.lalrpop_base.proofs.theory.Ascending.{ascending_same}
-use Rattle.lalrpop_tables.specs.Ascending.{Precedes, Ascend}
-use Rattle.lalrpop_tables.specs.CheckStates.{lr0}
-use Rattle.lalrpop_tables.specs.Closure.{dotted_of}
-use Rattle.lalrpop_tables.specs.Collapsed.{dots_in, IsCollapsed}
-use Rattle.lalrpop_tables.specs.Renumbered.{number_in}
+use Rattle.lalrpop_tables.specs.Words.{Precedes, Ascend, lr0, dotted_of, dots_in, IsCollapsed, number_in}
 use Rattle.lalrpop_tables.proofs.Ascending.{precedes_asymmetric}
 use Rattle.lalrpop_tables.proofs.Places.{filled}
 

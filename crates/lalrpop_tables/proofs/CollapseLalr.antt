@@ -4,14 +4,9 @@ use Rattle.std.specs.Prelude.{slice_get, MatchResult}
 use Rattle.std.specs.declared.result.Result.{Result}
 use Rattle.std.specs.declared.result.Result.TheVariants.{Ok, Err}
 use Rattle.std.proofs.lemmas.Option.{slice_get_within}
-use Rattle.lalrpop_base.specs.Bits.{Bits}
+use Rattle.lalrpop_base.specs.Words.{Bits, contents_at, AreLr0, HoldLalrTokens, AllDiffer, Contents, state_after, IsLive, Action, Shift, Reduce, IsValidAction}
+use Rattle.lalrpop_base.specs.Words.{IsLalrAction, IsLR1, IsLALR1, productions}
 use Rattle.lalrpop_base.specs.Conflicts.{HasNoConflict as HoldsNoConflict}
-use Rattle.lalrpop_base.specs.Contents.{contents_at}
-use Rattle.lalrpop_base.specs.Lanes.{AreLr0, HoldLalrTokens}
-use Rattle.lalrpop_base.specs.Places.{AllDiffer}
-use Rattle.lalrpop_base.specs.States.{Contents, state_after}
-use Rattle.lalrpop_base.specs.Validity.{IsLive, Action, Shift, Reduce, IsValidAction, IsLalrAction, IsLR1, IsLALR1}
-use Rattle.lalrpop_base.specs.WellFormed.{productions, rules_of}
 use Rattle.lalrpop_base.specs.declared.lookahead.token.Token.{Token}
 use Rattle.lalrpop_base.specs.declared.lr1_core.state.BuildError.{BuildError}
 use Rattle.lalrpop_base.specs.declared.lr1_core.state.BuildError.TheVariants.{Conflicts, Memory}
@@ -28,10 +23,8 @@ use Rattle.lalrpop_base.proofs.theory.LalrStates.{lalr_faithful, no_conflict_lal
 use Rattle.lalrpop_base.proofs.theory.Lists.{Grown, from_nothing, more, grown}
 use Rattle.lalrpop_base.proofs.theory.Steps.{state_from-more}
 use Rattle.lalrpop_base.proofs.theory.Valid.{valid}
-use Rattle.lalrpop_tables.specs.Canonical.{tokens_of, FitReductions, AreOrderedCanonical}
-use Rattle.lalrpop_tables.specs.Collapsed.{IsCollapsed, AreCollapsedTables, FailsByCollapse}
-use Rattle.lalrpop_tables.specs.Lalr.{AreLalrTables, TellsNotLALR1}
-use Rattle.lalrpop_tables.specs.Results.{HaveNoConflict, AreAllConflicts}
+use Rattle.lalrpop_tables.specs.Words.{tokens_of, FitReductions, AreOrderedCanonical, IsCollapsed, AreCollapsedTables, FailsByCollapse, AreLalrTables}
+use Rattle.lalrpop_tables.specs.Words.{TellsNotLALR1, HaveNoConflict, AreAllConflicts}
 use Rattle.lalrpop_tables.proofs.CollapseContents.{holds, old, now, number, is_collapse}
 use Rattle.lalrpop_tables.proofs.ConflictFree.{nowhere_conflict, free_contents, contents_free, none_listed}
 use Rattle.lalrpop_tables.proofs.Places.{same_some}

@@ -3,16 +3,13 @@ use Rattle.std.proofs.Common.{[], sym, subst, ◌≡◌, ◌<◌, List, length}
 use Rattle.std.specs.Prelude.{MatchResult, IfOk, IfErr}
 use Rattle.std.specs.declared.result.Result.{Result}
 use Rattle.std.specs.declared.result.Result.TheVariants.{Ok, Err}
-use Rattle.lalrpop_base.specs.Bits.{Bits}
-use Rattle.lalrpop_base.specs.Coherent.{AreCoherent}
+use Rattle.lalrpop_base.specs.Words.{Bits, AreCoherent}
 use Rattle.lalrpop_base.specs.declared.lr1_core.state.BuildError.{BuildError}
 use Rattle.lalrpop_base.specs.declared.lr1_core.state.BuildError.TheVariants.{Conflicts, Memory}
 use Rattle.lalrpop_base.specs.declared.lr1_core.state.Conflict.{Conflict}
 use Rattle.lalrpop_base.specs.declared.lr1_core.state.State.{State}
 use Rattle.lalrpop_base.specs.declared.repr.TerminalString.{TerminalString}
-use Rattle.lalrpop_tables.specs.Collapsed.{AreOrdered, AreCollapsedTables, FailsByCollapse}
-use Rattle.lalrpop_tables.specs.Lalr.{HasCoherentStates, HasOrderedStates}
-use Rattle.lalrpop_tables.specs.Results.{FailWith}
+use Rattle.lalrpop_tables.specs.Words.{AreOrdered, AreCollapsedTables, FailsByCollapse, HasCoherentStates, HasOrderedStates, FailWith}
 use Rattle.lalrpop_tables.proofs.CollapseCoherent.{Collapsed-coherent}
 use Rattle.lalrpop_tables.proofs.CollapseDots.{Collapsed-some}
 

@@ -4,11 +4,9 @@ use Rattle.std.specs.Prelude.{Contains, slice_get}
 use Rattle.std.specs.Borrow.{Bor}
 use Rattle.std.specs.List.{flat_map}
 use Rattle.std.proofs.lemmas.Option.{slice_get-map}
-use Rattle.lalrpop_base.specs.Bits.{Bits, has}
+use Rattle.lalrpop_base.specs.Words.{Bits, has, contents_of, holds_token, no_contents, reduction_of, AllDiffer, state_conflicts}
 use Rattle.lalrpop_base.specs.Conflicts.{HasNoConflict as HoldsNoConflict}
-use Rattle.lalrpop_base.specs.Contents.{contents_of, holds_token, no_contents, reduction_of}
-use Rattle.lalrpop_base.specs.Places.{AllDiffer}
-use Rattle.lalrpop_base.specs.StateConflicts.{state_conflicts, HasNoConflict}
+use Rattle.lalrpop_base.specs.StateConflicts.{HasNoConflict}
 use Rattle.lalrpop_base.specs.States.{Reduction}
 use Rattle.lalrpop_base.specs.declared.lookahead.token.Token.{Token}
 use Rattle.lalrpop_base.specs.declared.lookahead.token.Token.TheVariants.{Terminal as TokenOf}
@@ -18,7 +16,7 @@ use Rattle.lalrpop_base.specs.declared.repr.Symbol.TheVariants.{Terminal}
 use Rattle.lalrpop_base.specs.declared.repr.TerminalString.{TerminalString}
 use Rattle.lalrpop_base.proofs.ConflictLemmas.{none_exactly}
 use Rattle.lalrpop_base.proofs.ContentsViews.{some_of_map, contains_of_map, contains_map, at_contains}
-use Rattle.lalrpop_tables.specs.Canonical.{FitReductions}
+use Rattle.lalrpop_tables.specs.Words.{FitReductions}
 use Rattle.lalrpop_tables.proofs.CanonicalStates.{leads_transition}
 use Rattle.lalrpop_tables.proofs.ItemTokens.{token_with}
 use Rattle.lalrpop_tables.proofs.KnownTerminals.{held_bit, bit_held}

@@ -3,16 +3,14 @@ use Rattle.std.proofs.Common.{◌≡◌, List, [], ◌∷◌, ◌++◌, map, ref
 use Rattle.std.specs.List.{flat_map}
 use Rattle.std.proofs.lemmas.List.{append-nil}
 use Rattle.std.proofs.lemmas.Grind.{flat_map-append}
-use Rattle.lalrpop_base.specs.Bits.{Bits}
-use Rattle.lalrpop_base.specs.WellFormed.{Rules}
+use Rattle.lalrpop_base.specs.Words.{Bits, Rules}
 use Rattle.lalrpop_base.specs.declared.lookahead.token.Token.{Token}
 use Rattle.lalrpop_base.specs.declared.lr1_core.state.Conflict.{Conflict}
 use Rattle.lalrpop_base.specs.declared.lr1_core.state.State.{State}
 use Rattle.lalrpop_base.specs.declared.repr.Symbol.{Symbol}
 use Rattle.lalrpop_base.specs.declared.repr.TerminalString.{TerminalString}
-use Rattle.lalrpop_tables.specs.Closure.{IsClosureBy}
-use Rattle.lalrpop_tables.specs.Results.{ListsAll, none, more, Construction, AreStatesFor}
-use Rattle.lalrpop_tables.specs.States.{begun, AreBuiltBy}
+use Rattle.lalrpop_tables.specs.Words.{IsClosureBy, ListsAll, more, Construction, AreStatesFor, begun, AreBuiltBy}
+use Rattle.lalrpop_tables.specs.Results.{none}
 use Rattle.lalrpop_tables.proofs.Coherence.{Built-coherent, Built-some, begun_zeros}
 
 module _ {L : Type 0} (lists : State L → List TerminalString → List (Conflict L) → Type 0) (terminals : List TerminalString) where

@@ -4,11 +4,11 @@ use Rattle.std.specs.Prelude.{slice_get, option_map, Contains}
 use Rattle.std.specs.Borrow.{Bor}
 use Rattle.std.proofs.lemmas.Bool.{cases_Bool, cases_lt, or_cases}
 use Rattle.std.proofs.lemmas.Option.{slice_get_within}
-use Rattle.lalrpop_base.specs.Bits.{Bits, has, join, has-join}
+use Rattle.lalrpop_base.specs.Words.{Bits, has, join, has-join}
 use Rattle.lalrpop_base.specs.declared.lr1_core.state.Action.{Action}
 use Rattle.lalrpop_base.specs.declared.lr1_core.state.Action.TheVariants.{Reduce}
 use Rattle.lalrpop_base.specs.declared.repr.Production.{Production}
-use Rattle.lalrpop_tables.specs.Contexts.{HasAt, MeetsOther, IsJoinedIn, IsUnion, MeetInUnion, AreDisjoint, IsReductionAt, TookColumn, Reduces}
+use Rattle.lalrpop_tables.specs.Words.{HasAt, MeetsOther, IsJoinedIn, IsUnion, MeetInUnion, AreDisjoint, IsReductionAt, TookColumn, Reduces}
 use Rattle.lalrpop_tables.proofs.Lists.{place}
 use Rattle.lalrpop_tables.proofs.Places.{same_some, contains_at, filled, places_apart, push_cases}
 
@@ -87,15 +87,6 @@ pub record IsUnionUntil (a b union : List Bits) (n : ℕ) : Type 0 where
   pub kept : (k : ℕ) → n ≤ k → slice_get union k ≡ slice_get a k
   pub apart_first : (i other bit : ℕ) → i < n → (other ≡ i → ⊥) → HasAt b i bit → HasAt a other bit → ⊥
   pub apart_earlier : (i other bit : ℕ) → i < n → other < i → HasAt b i bit → HasAt b other bit → ⊥
-
-pub union_start : (a b : List Bits) → IsUnionUntil a b a 0
-union_start a b = record {
-  counted = refl;
-  joined = λ k s t l. absurd (omega (arith, l));
-  kept = λ k l. refl;
-  apart_first = λ i other bit l. absurd (omega (arith, l));
-  apart_earlier = λ i other bit l. absurd (omega (arith, l));
-}
 
 module _ (a b union : List Bits) (n : ℕ) (u : IsUnionUntil a b union n) (same : length a ≡ length b) where
   pub in_union : (k bit : ℕ) → HasAt union k bit → HasAt a k bit ⊎ HasAt b k bit
@@ -185,9 +176,6 @@ pub record TookUntil (actions : List Action) (columns : List Bits) (old new : Li
 pub record IsNotBefore (actions rest : List Action) (n : ℕ) (p : Production) : Type 0 where
   pub is : rest ≡ drop n actions
   pub before : (k : ℕ) → k < n → IsReductionAt actions k p → ⊥
-
-pub not_before_start : (actions : List Action) (p : Production) → IsNotBefore actions actions 0 p
-not_before_start actions p = record { is = refl; before = λ k l. absurd (omega (arith, l)) }
 
 -- the head of the rest is the action at the place
 pub stands_at : (actions rest left : List Action) (n : ℕ) (action : Action) → rest ≡ drop n actions → rest ≡ action ∷ left → slice_get actions n ≡ Some action

@@ -7,9 +7,7 @@ use Rattle.std.specs.declared.cmp.Ordering.{Ordering}
 use Rattle.std.proofs.lemmas.List.Elements.{Contains-append_left, Contains-append_right, Contains-append_cases}
 use Rattle.std.proofs.lemmas.Map.Entries.{btree_map_get_place}
 use Rattle.std.proofs.lemmas.Option.{slice_get_within}
-use Rattle.lalrpop_base.specs.Contents.{number_of, contents_at}
-use Rattle.lalrpop_base.specs.States.{leads}
-use Rattle.lalrpop_base.specs.WellFormed.{name_cmp}
+use Rattle.lalrpop_base.specs.Words.{number_of, contents_at, leads, name_cmp}
 use Rattle.lalrpop_base.specs.contracts.repr.TerminalStringOrd.TheImpl as terminal_ord
 use Rattle.lalrpop_base.specs.contracts.repr.NonterminalStringOrd.TheImpl as name_ord
 use Rattle.lalrpop_base.specs.declared.lookahead.token.Token.{Token}
@@ -20,9 +18,7 @@ use Rattle.lalrpop_base.specs.declared.repr.Symbol.{Symbol}
 use Rattle.lalrpop_base.specs.declared.repr.Symbol.TheVariants.{Nonterminal, Terminal}
 use Rattle.lalrpop_base.specs.declared.repr.TerminalString.{TerminalString}
 use Rattle.lalrpop_base.proofs.ContentsViews.{contains_of_map}
-use Rattle.lalrpop_tables.specs.LaneTraces.{places_in}
-use Rattle.lalrpop_tables.specs.StateGraph.{Edge, edge, edges, edges_of, edges_from, shift_edges, goto_edges}
-use Rattle.lalrpop_tables.specs.States.{HasTransition}
+use Rattle.lalrpop_tables.specs.Words.{places_in, Edge, edge, edges, edges_of, edges_from, shift_edges, goto_edges, HasTransition}
 use Rattle.lalrpop_tables.proofs.CanonicalStates.{leads_transition}
 use Rattle.lalrpop_tables.proofs.Lists.{Contains-none, Contains-map, place}
 

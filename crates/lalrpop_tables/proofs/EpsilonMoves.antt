@@ -2,12 +2,8 @@
 use Rattle.std.proofs.Common.{◌≡◌, ◌↔◌, ℕ, ◌+◌, ◌⊎◌, inl, inr, List, length, map, sym, ◌∙◌, subst, arith, true, Some, refl}
 use Rattle.std.specs.Prelude.{Contains}
 use Rattle.std.proofs.lemmas.Bool.{false≢true}
-use Rattle.lalrpop_base.specs.Bits.{Bits, has, no_bits, has-no_bits}
-use Rattle.lalrpop_base.specs.Contents.{holds_token}
-use Rattle.lalrpop_base.specs.First.{IsFirstSetBefore}
-use Rattle.lalrpop_base.specs.Grammar.{IsNullable}
-use Rattle.lalrpop_base.specs.Items.{Dotted}
-use Rattle.lalrpop_base.specs.WellFormed.{Rules, rules_of, IsWellFormed, productions_of, HasKnownTerminals}
+use Rattle.lalrpop_base.specs.Words.{Bits, has, no_bits, has-no_bits, holds_token, IsFirstSetBefore, IsNullable, Dotted, Rules, rules_of, IsWellFormed}
+use Rattle.lalrpop_base.specs.Words.{productions_of, HasKnownTerminals}
 use Rattle.lalrpop_base.specs.declared.lookahead.token.Token.{Token}
 use Rattle.lalrpop_base.specs.declared.lookahead.token.Token.TheVariants.{Eof, Error, Terminal as TokenOf}
 use Rattle.lalrpop_base.specs.declared.repr.NonterminalString.{NonterminalString}
@@ -16,10 +12,7 @@ use Rattle.lalrpop_base.specs.declared.repr.Symbol.{Symbol}
 use Rattle.lalrpop_base.specs.declared.repr.TerminalString.{TerminalString}
 use Rattle.lalrpop_base.specs.declared.repr.grammar.Grammar.{Grammar}
 use Rattle.lalrpop_base.proofs.HeldTokens.{place_there}
-use Rattle.lalrpop_tables.specs.Closing.{AreOwn, Begins}
-use Rattle.lalrpop_tables.specs.Closure.{dotted_of}
-use Rattle.lalrpop_tables.specs.EpsilonMoves.{IsBegunWith, AreBegunWith}
-use Rattle.lalrpop_tables.specs.States.{begun}
+use Rattle.lalrpop_tables.specs.Words.{AreOwn, Begins, dotted_of, IsBegunWith, AreBegunWith, begun}
 use Rattle.lalrpop_tables.proofs.Grammars.{productions_among, productions_named}
 use Rattle.lalrpop_tables.proofs.KnownTerminals.{token_bit, held_bit, bit_held, begun_bit}
 use Rattle.lalrpop_tables.proofs.Lists.{Contains-map}

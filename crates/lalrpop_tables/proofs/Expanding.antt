@@ -1,10 +1,9 @@
 -- An item is expanded, by what its lookahead gives.
-use Rattle.std.proofs.Common.{◌≡◌, ℕ, suc, List, [], ◌∷◌, ◌++◌, map, drop, sym, ◌∙◌, ap, subst, Some}
+use Rattle.std.proofs.Common.{◌≡◌, ℕ, suc, ◌⊎◌, inl, inr, List, [], ◌∷◌, ◌++◌, map, drop, sym, ◌∙◌, ap, subst, Some}
 use Rattle.std.specs.Prelude.{Contains, slice_get}
+use Rattle.std.proofs.lemmas.List.Elements.{Contains-append_left, Contains-append_right, Contains-append_cases}
 use Rattle.std.proofs.lemmas.List.{map-append}
-use Rattle.lalrpop_base.specs.Bits.{Bits}
-use Rattle.lalrpop_base.specs.Items.{Dotted}
-use Rattle.lalrpop_base.specs.WellFormed.{Rules}
+use Rattle.lalrpop_base.specs.Words.{Bits, Dotted, Rules}
 use Rattle.lalrpop_base.specs.declared.lookahead.nil.Nil.{Nil}
 use Rattle.lalrpop_base.specs.declared.lookahead.token.Token.{Token}
 use Rattle.lalrpop_base.specs.declared.repr.NonterminalString.{NonterminalString}
@@ -12,16 +11,29 @@ use Rattle.lalrpop_base.specs.declared.repr.Production.{Production}
 use Rattle.lalrpop_base.specs.declared.repr.Symbol.{Symbol}
 use Rattle.lalrpop_base.specs.declared.repr.Symbol.TheVariants.{Nonterminal}
 use Rattle.lalrpop_base.proofs.ContentsViews.{contains_of_map}
-use Rattle.lalrpop_tables.specs.Closing.{AreAllBegun, production_of, SpreadFirst, SpreadAll, ExpandsFound, IsBegunOf, IsBegunBy, Adds}
-use Rattle.lalrpop_tables.specs.Closure.{dotted_of, meant, Found, IsQueued, IsExpanded, Spreads}
-use Rattle.lalrpop_tables.specs.Entries.{readings}
-use Rattle.lalrpop_tables.specs.EpsilonMoves.{AreEpsilonMoves}
+use Rattle.lalrpop_tables.specs.Words.{AreAllBegun, production_of, SpreadFirst, SpreadAll, ExpandsFound, IsBegunOf, IsBegunBy, Adds, dotted_of, meant, Found}
+use Rattle.lalrpop_tables.specs.Words.{IsQueued, IsExpanded, Spreads, readings, AreEpsilonMoves}
 use Rattle.lalrpop_tables.proofs.Closing.{Expands-given}
 use Rattle.lalrpop_tables.proofs.ClosureLoops.{Expanded-over}
-use Rattle.lalrpop_tables.proofs.Growth.{Adds-same, Begun-none, Begun-more}
-use Rattle.lalrpop_tables.proofs.Lists.{Contains-map}
+use Rattle.lalrpop_tables.proofs.Growth.{Adds-none, Adds-one, Adds-then, Adds-same}
+use Rattle.lalrpop_tables.proofs.Lists.{Contains-here, Contains-none, Contains-cases, Contains-map}
 use Rattle.lalrpop_tables.proofs.Readings.{readings_there}
-use Rattle.lalrpop_tables.proofs.Tables.{Spreads-none, Spreads-then, Spreads-one}
+use Rattle.lalrpop_tables.proofs.Tables.{same_lr0, Spreads-none, Spreads-then, Spreads-one}
+
+-- ---- the productions of a list, one more
+Begun-none : (tokens : Bits) (table : Found) (queue : List (Dotted Nil)) → Adds (IsBegunOf []) tokens table table queue queue
+Begun-none tokens table queue = Adds-none (IsBegunOf []) tokens table queue (λ k b. Contains-none k.production b.among)
+
+Begun-more : (ps : List Production) (p : Production) (key : Dotted Nil) (tokens : Bits) (a b c : Found) (s t u : List (Dotted Nil)) → key.production ≡ p → key.index ≡ 0 → Adds (IsBegunOf ps) tokens a b s t → IsQueued key tokens b c t u → Adds (IsBegunOf (ps ++ p ∷ [])) tokens a c s u
+Begun-more ps p key tokens a b c s t u is zero_at x y =
+    Adds-then (IsBegunOf ps) (λ k. key ≡ k) (IsBegunOf (ps ++ p ∷ [])) tokens
+    (λ k h. record { start = h.start; among = Contains-append_left ps (p ∷ []) k.production h.among })
+    (λ k e. record { start = sym (ap (λ (d : Dotted Nil). d.index) e) ∙ zero_at; among = subst (Contains (ps ++ p ∷ [])) (sym is ∙ ap (λ (d : Dotted Nil). d.production) e) (Contains-append_right ps (p ∷ []) p (Contains-here p [])) })
+    (λ k h. elim (Contains-append_cases ps (p ∷ []) k.production h.among) [
+      | inl f ↦ inl (record { start = h.start; among = f })
+      | inr l ↦ elim (Contains-cases p [] k.production l) [ inl e ↦ inr (same_lr0 key k (is ∙ e) (zero_at ∙ sym h.start)) | inr none ↦ absurd (Contains-none k.production none) ]
+    ])
+    a b c s t u x (Adds-one key tokens b c t u y)
 
 -- ---- items go to the table, one after the other
 pub Spread-none : (all : List (Dotted Bits)) (table : Found) (queue : List (Dotted Nil)) → SpreadFirst all [] table table queue queue

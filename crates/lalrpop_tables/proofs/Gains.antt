@@ -1,10 +1,9 @@
 -- A table gains what several steps add.
 use Rattle.std.proofs.Common.{◌≡◌, ℕ, ◌⊎◌, inl, inr, sym, ◌∙◌, ap, refl, true}
 use Rattle.std.specs.Prelude.{◌↔◌}
-use Rattle.lalrpop_base.specs.Bits.{Bits, has}
+use Rattle.lalrpop_base.specs.Words.{Bits, has}
 use Rattle.lalrpop_base.specs.declared.lr1_core.state.StateIndex.{StateIndex}
-use Rattle.lalrpop_tables.specs.LaneSteps.{Gains, Nowhere, Nothing, IsPair}
-use Rattle.lalrpop_tables.specs.LaneTables.{AddsTokens, AddsSuccessor}
+use Rattle.lalrpop_tables.specs.Words.{Gains, Nowhere, Nothing, IsPair, AddsTokens, AddsSuccessor}
 use Rattle.lalrpop_tables.specs.declared.lane_table.table.LaneTable.{LaneTable}
 
 pub same_index : (a b : StateIndex) → a.0 ≡ b.0 → a ≡ b

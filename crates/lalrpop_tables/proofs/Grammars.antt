@@ -9,7 +9,8 @@ use Rattle.std.proofs.lemmas.Map.Entries.{place_from_lookup, btree_map_get_place
 use Rattle.std.proofs.lemmas.Map.Lookups.{exact_bytes}
 use Rattle.lalrpop_base.specs.contracts.repr.NonterminalStringOrd.TheImpl as name_ord
 use Rattle.std.proofs.lemmas.List.Elements.{Contains-append_left, Contains-append_right, Contains-append_cases}
-use Rattle.lalrpop_base.specs.WellFormed.{IsWellFormed, AreWellFormedEntries, IsWellFormedEntry, HasKnownTerminals, productions, productions_of, listed_productions, name_cmp}
+use Rattle.lalrpop_base.specs.Words.{IsWellFormed, AreWellFormedEntries, IsWellFormedEntry, HasKnownTerminals, productions, productions_of, listed_productions}
+use Rattle.lalrpop_base.specs.Words.{name_cmp}
 use Rattle.lalrpop_base.specs.declared.repr.NonterminalString.{NonterminalString}
 use Rattle.lalrpop_base.specs.declared.repr.TerminalString.{TerminalString}
 use Rattle.lalrpop_base.specs.declared.repr.Symbol.{Symbol}

@@ -5,11 +5,7 @@ use Rattle.std.specs.List.{list_any}
 use Rattle.std.proofs.lemmas.Bool.{or_cases, and_parts, cases_lt}
 use Rattle.std.proofs.lemmas.List.Folds.{list_any_at}
 use Rattle.std.proofs.lemmas.Option.{slice_get-map}
-use Rattle.lalrpop_base.specs.Bits.{Bits, has, same_bits}
-use Rattle.lalrpop_base.specs.Contents.{holds_token}
-use Rattle.lalrpop_base.specs.Items.{Dotted}
-use Rattle.lalrpop_base.specs.Places.{AllDiffer}
-use Rattle.lalrpop_base.specs.Tokens.{FitsTokens}
+use Rattle.lalrpop_base.specs.Words.{Bits, has, same_bits, holds_token, Dotted, AllDiffer, FitsTokens}
 use Rattle.lalrpop_base.specs.contracts.exact.ProductionExact.TheImpl as production_exactly
 use Rattle.lalrpop_base.specs.contracts.repr.ProductionEq.TheImpl as production_laws
 use Rattle.lalrpop_base.specs.contracts.repr.ProductionPartialEq.TheImpl as production_eq
@@ -18,8 +14,7 @@ use Rattle.lalrpop_base.specs.declared.lookahead.token.Token.TheVariants.{Eof, E
 use Rattle.lalrpop_base.specs.declared.repr.Production.{Production}
 use Rattle.lalrpop_base.specs.declared.repr.TerminalString.{TerminalString}
 use Rattle.lalrpop_base.proofs.HeldTokens.{place_is, same_test}
-use Rattle.lalrpop_tables.specs.Canonical.{is_with_token}
-use Rattle.lalrpop_tables.specs.Closure.{dotted_of, HasItemToken}
+use Rattle.lalrpop_tables.specs.Words.{is_with_token, dotted_of, HasItemToken}
 use Rattle.lalrpop_tables.proofs.KnownTerminals.{token_bit, held_bit, bit_held}
 use Rattle.lalrpop_tables.proofs.Lists.{Contains-here, Contains-there, place}
 use Rattle.lalrpop_tables.proofs.Places.{same_some, filled, one_place}

@@ -2,11 +2,10 @@
 use Rattle.std.proofs.Common.{◌≡◌, List, [], ◌∷◌, map, refl, sym, subst, arith}
 use Rattle.std.specs.Prelude.{All, ◌<◌}
 use Rattle.std.proofs.lemmas.List.Elements.{All-nil, All-cons}
-use Rattle.lalrpop_base.specs.Items.{Dotted}
+use Rattle.lalrpop_base.specs.Words.{Dotted}
 use Rattle.lalrpop_base.specs.declared.repr.Production.{Production}
 use Rattle.lalrpop_base.specs.declared.repr.Symbol.{Symbol}
-use Rattle.lalrpop_tables.specs.States.{begun}
-use Rattle.lalrpop_tables.specs.Transitions.{moved, Shifts, Groups, AreMoves, AreShifted}
+use Rattle.lalrpop_tables.specs.Words.{begun, moved, Shifts, Groups, AreMoves, AreShifted}
 use Rattle.lalrpop_tables.specs.Transitions.Shifts.{none, moves, stays}
 
 module _ {L : Type 0} where

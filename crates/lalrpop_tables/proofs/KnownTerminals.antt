@@ -5,11 +5,7 @@ use Rattle.std.proofs.lemmas.List.Elements.{Contains-append_left, Contains-appen
 use Rattle.std.proofs.lemmas.List.Sums.{fails_before_first}
 use Rattle.std.specs.List.{position_or_len}
 use Rattle.std.proofs.lemmas.Bool.{lt-ltb, cases_lt, false≢true}
-use Rattle.lalrpop_base.specs.Bits.{Bits, has}
-use Rattle.lalrpop_base.specs.Contents.{has_at, holds_token}
-use Rattle.lalrpop_base.specs.Grammar.{IsFirst, Derives, as_it_is, replace}
-use Rattle.lalrpop_base.specs.TerminalPlaces.{place_in}
-use Rattle.lalrpop_base.specs.WellFormed.{Rules, HasKnownTerminals}
+use Rattle.lalrpop_base.specs.Words.{Bits, has, has_at, holds_token, IsFirst, Derives, as_it_is, replace, place_in, Rules, HasKnownTerminals}
 use Rattle.lalrpop_base.specs.declared.lookahead.token.Token.{Token}
 use Rattle.lalrpop_base.specs.declared.lookahead.token.Token.TheVariants.{Eof, Error, Terminal as TokenOf}
 use Rattle.lalrpop_base.specs.declared.repr.Production.{Production}
@@ -18,7 +14,7 @@ use Rattle.lalrpop_base.specs.declared.repr.Symbol.TheVariants.{Nonterminal, Ter
 use Rattle.lalrpop_base.specs.declared.repr.TerminalString.{TerminalString}
 use Rattle.lalrpop_base.specs.contracts.repr.TerminalStringPartialEq.TheImpl as terminal_eq
 use Rattle.lalrpop_base.specs.contracts.repr.TerminalStringEq.TheImpl as terminal_laws
-use Rattle.lalrpop_tables.specs.Closing.{Begins}
+use Rattle.lalrpop_tables.specs.Words.{Begins}
 use Rattle.lalrpop_tables.proofs.Lists.{Contains-here, place}
 use Rattle.lalrpop_tables.proofs.Places.{same_some}
 

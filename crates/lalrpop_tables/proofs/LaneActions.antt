@@ -9,11 +9,11 @@ use Rattle.std.specs.declared.cmp.Ordering.{Ordering}
 use Rattle.std.specs.declared.cmp.Ordering.TheVariants.{Less, Equal, Greater}
 use Rattle.std.proofs.lemmas.List.Elements.{Contains-append_left, Contains-append_right, Contains-append_cases}
 use Rattle.lalrpop_base.specs.contracts.lr1_core.state.ActionOrd.TheImpl as action_ord
-use Rattle.lalrpop_base.specs.Bits.{Bits}
+use Rattle.lalrpop_base.specs.Words.{Bits}
 use Rattle.lalrpop_base.specs.declared.lr1_core.state.Action.{Action}
 use Rattle.lalrpop_base.specs.declared.lr1_core.state.Action.TheVariants.{Reduce}
 use Rattle.lalrpop_base.specs.declared.lr1_core.state.Conflict.{Conflict}
-use Rattle.lalrpop_tables.specs.LaneStates.{action_order, conflict_actions, AreActions}
+use Rattle.lalrpop_tables.specs.Words.{action_order, conflict_actions, AreActions}
 use Rattle.lalrpop_tables.proofs.Lists.{Contains-none, Contains-here, Contains-there, Contains-cases}
 
 -- ---- a key goes into a set

@@ -3,16 +3,12 @@ use Rattle.std.proofs.Common.{◌≡◌, ◌↔◌, ℕ, zero, suc, ◌<◌, ◌
 use Rattle.std.specs.Prelude.{Contains, slice_get}
 use Rattle.std.specs.Borrow.{Bor}
 use Rattle.std.proofs.lemmas.Option.{slice_get_within}
-use Rattle.lalrpop_base.specs.Bits.{Bits}
+use Rattle.lalrpop_base.specs.Words.{Bits, contents, contents_at, holds_token, reduction_of, IsOnNoRightSide, behind_parent, of_start, IsLaneToken}
+use Rattle.lalrpop_base.specs.Words.{HoldLaneTokens, HoldLalrTokens, AllDiffer, Contents, state_after, HasRightItems, IsBitOf, Action, Shift, Reduce}
+use Rattle.lalrpop_base.specs.Words.{IsLalrAction, IsLALR1, Rules, rules_of, productions, IsWellFormed}
 use Rattle.lalrpop_base.specs.Conflicts.{HasNoConflict as HoldsNoConflict}
-use Rattle.lalrpop_base.specs.Contents.{contents, contents_at, holds_token, reduction_of}
-use Rattle.lalrpop_base.specs.Grammar.{IsOnNoRightSide}
-use Rattle.lalrpop_base.specs.Lanes.{Gives, behind_parent, of_start, IsLaneToken, HoldLaneTokens, HoldLalrTokens}
-use Rattle.lalrpop_base.specs.Places.{AllDiffer}
-use Rattle.lalrpop_base.specs.States.{Contents, Reduction, state_after, HasRightItems}
-use Rattle.lalrpop_base.specs.Tokens.{IsBitOf}
-use Rattle.lalrpop_base.specs.Validity.{Action, Shift, Reduce, IsLalrAction, IsLALR1}
-use Rattle.lalrpop_base.specs.WellFormed.{Rules, rules_of, productions, IsWellFormed}
+use Rattle.lalrpop_base.specs.Lanes.{Gives}
+use Rattle.lalrpop_base.specs.States.{Reduction}
 use Rattle.lalrpop_base.specs.declared.lookahead.token.Token.{Token}
 use Rattle.lalrpop_base.specs.declared.lookahead.token.Token.TheVariants.{Terminal as TokenOf}
 use Rattle.lalrpop_base.specs.declared.lr1_core.state.State.{State}
@@ -28,9 +24,8 @@ use Rattle.lalrpop_base.proofs.theory.LalrStates.{no_conflict_lalr}
 use Rattle.lalrpop_base.proofs.theory.LaneTables.{lanes_checked}
 use Rattle.lalrpop_base.proofs.theory.RightStates.{edges_awaited, reductions_valid}
 use Rattle.lalrpop_base.proofs.theory.Lanes.{items_at}
-use Rattle.lalrpop_tables.specs.LaneStates.{AreLaneStates, HasLaneBits, IsResolved, IsLaneAction, LanesMeet, HaveMeetingLanes, IsStep, AreLaneTables, AreLalrLaneTables}
-use Rattle.lalrpop_tables.specs.LaneTraces.{places_in}
-use Rattle.lalrpop_tables.specs.Results.{HaveNoConflict}
+use Rattle.lalrpop_tables.specs.Words.{AreLaneStates, HasLaneBits, IsResolved, IsLaneAction, LanesMeet, HaveMeetingLanes, IsStep, AreLaneTables}
+use Rattle.lalrpop_tables.specs.Words.{AreLalrLaneTables, places_in, HaveNoConflict}
 use Rattle.lalrpop_tables.specs.declared.state_graph.StateGraph.{StateGraph}
 use Rattle.lalrpop_tables.proofs.LaneLoop.{AreResolvedTo}
 use Rattle.lalrpop_tables.proofs.ConflictFree.{nowhere_conflict, free_contents}

@@ -7,9 +7,8 @@ use Rattle.std.specs.Ordering.{ordering_then}
 use Rattle.std.specs.declared.cmp.Ordering.{Ordering}
 use Rattle.std.specs.declared.cmp.Ordering.TheVariants.{Less, Equal, Greater}
 use Rattle.std.proofs.lemmas.List.Elements.{Contains-append_left, Contains-append_right, Contains-append_cases}
-use Rattle.lalrpop_base.specs.Bits.{Bits, has}
-use Rattle.lalrpop_base.specs.StateConflicts.{state_conflicts, shift_conflicts, shift_conflict, conflicts_on_place, reduce_conflicts, reduce_conflict, later_conflicts, share}
-use Rattle.lalrpop_base.specs.TerminalPlaces.{place_in}
+use Rattle.lalrpop_base.specs.Words.{Bits, has, state_conflicts, shift_conflicts, shift_conflict, conflicts_on_place, reduce_conflicts, reduce_conflict}
+use Rattle.lalrpop_base.specs.Words.{later_conflicts, share, place_in}
 use Rattle.lalrpop_base.specs.declared.lr1_core.state.Action.{Action}
 use Rattle.lalrpop_base.specs.declared.lr1_core.state.Action.TheVariants.{Shift, Reduce}
 use Rattle.lalrpop_base.specs.declared.lr1_core.state.Conflict.{Conflict}
@@ -18,7 +17,7 @@ use Rattle.lalrpop_base.specs.declared.lr1_core.state.StateIndex.{StateIndex}
 use Rattle.lalrpop_base.specs.declared.repr.Production.{Production}
 use Rattle.lalrpop_base.specs.declared.repr.TerminalString.{TerminalString}
 use Rattle.lalrpop_base.proofs.ContentsViews.{contains_of_map, contains_map}
-use Rattle.lalrpop_tables.specs.LaneStates.{action_order, conflict_actions, reduce_action, asked_actions}
+use Rattle.lalrpop_tables.specs.Words.{action_order, conflict_actions, reduce_action, asked_actions}
 use Rattle.lalrpop_tables.proofs.Ascending.{production_exact}
 use Rattle.lalrpop_tables.proofs.Lists.{Contains-none, Contains-here, Contains-there, Contains-cases}
 use Rattle.lalrpop_tables.proofs.Orders.{terminal_exact}
@@ -55,9 +54,6 @@ of_flat f (x ∷ xs) y c = elim (Contains-append_cases (f x) (flat_map f xs) y c
   | inl here ↦ (x, Contains-here x xs, here)
   | inr later ↦ let r = of_flat f xs y later in (r.0, Contains-there x xs r.0 r.1, r.2)
 ]
-
-in_flat_at : {X Y : Type 0} (f : X → List Y) (x : X) (xs : List X) (y : Y) → Contains (f x) y → Contains (flat_map f (x ∷ xs)) y
-in_flat_at f x xs y c = Contains-append_left (f x) (flat_map f xs) y c
 
 in_flat : {X Y : Type 0} (f : X → List Y) (xs : List X) (x : X) (y : Y) → Contains xs x → Contains (f x) y → Contains (flat_map f xs) y
 in_flat f [] x y among c = absurd (Contains-none x among)

@@ -3,8 +3,7 @@ use Rattle.std.proofs.Common.{◌≡◌, ℕ, suc, ◌-◌, ◌<◌, List, [], �
 use Rattle.std.specs.Prelude.{slice_get}
 use Rattle.std.specs.BTreeMap.{BTreeMap}
 use Rattle.std.proofs.lemmas.Option.{slice_get_within, slice_get-map}
-use Rattle.lalrpop_base.specs.Coherent.{HasItem, IsShifted, IsCoherentStep, IsCoherentState, AreFinished, AreCoherent}
-use Rattle.lalrpop_base.specs.Items.{Dotted}
+use Rattle.lalrpop_base.specs.Words.{HasItem, IsShifted, IsCoherentStep, IsCoherentState, AreFinished, AreCoherent, Dotted}
 use Rattle.lalrpop_base.specs.declared.lr1_core.state.State.{State}
 use Rattle.lalrpop_base.specs.declared.lr1_core.state.StateIndex.{StateIndex}
 use Rattle.lalrpop_base.specs.declared.repr.NonterminalString.{NonterminalString}
@@ -13,8 +12,7 @@ use Rattle.lalrpop_base.specs.declared.repr.Symbol.{Symbol}
 use Rattle.lalrpop_base.specs.declared.repr.Symbol.TheVariants.{Nonterminal, Terminal}
 use Rattle.lalrpop_base.specs.declared.repr.TerminalString.{TerminalString}
 use Rattle.lalrpop_base.proofs.ContentsViews.{some_of_map}
-use Rattle.lalrpop_tables.specs.LaneStates.{dot_of, by, HasSamePlace, HaveSamePlaces}
-use Rattle.lalrpop_tables.specs.StateGraph.{Edge, edges_of, edges_from, edges, shift_edges, goto_edges}
+use Rattle.lalrpop_tables.specs.Words.{dot_of, by, HasSamePlace, HaveSamePlaces, Edge, edges_of, edges_from, edges, shift_edges, goto_edges}
 use Rattle.lalrpop_tables.proofs.Places.{filled}
 
 -- what stands in the second list stands in the first, where their images are one

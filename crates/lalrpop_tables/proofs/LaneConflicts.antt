@@ -4,14 +4,10 @@ use Rattle.std.specs.Prelude.{Contains, slice_get}
 use Rattle.std.specs.Borrow.{Bor}
 use Rattle.std.specs.List.{flat_map}
 use Rattle.std.proofs.lemmas.Option.{slice_get_within}
-use Rattle.lalrpop_base.specs.Bits.{Bits, has}
-use Rattle.lalrpop_base.specs.Contents.{contents, contents_at, contents_of, holds_token, reduction_of}
-use Rattle.lalrpop_base.specs.Lanes.{IsLaneToken}
-use Rattle.lalrpop_base.specs.Places.{AllDiffer}
-use Rattle.lalrpop_base.specs.StateConflicts.{state_conflicts, HasNoConflict}
-use Rattle.lalrpop_base.specs.States.{Contents, Reduction}
-use Rattle.lalrpop_base.specs.Validity.{Action, Shift, Reduce}
-use Rattle.lalrpop_base.specs.WellFormed.{IsWellFormed, productions, rules_of}
+use Rattle.lalrpop_base.specs.Words.{Bits, has, contents, contents_at, contents_of, holds_token, reduction_of, IsLaneToken, AllDiffer, state_conflicts}
+use Rattle.lalrpop_base.specs.Words.{Contents, Action, Shift, Reduce, IsWellFormed, productions, rules_of}
+use Rattle.lalrpop_base.specs.StateConflicts.{HasNoConflict}
+use Rattle.lalrpop_base.specs.States.{Reduction}
 use Rattle.lalrpop_base.specs.declared.lookahead.token.Token.{Token}
 use Rattle.lalrpop_base.specs.declared.lookahead.token.Token.TheVariants.{Terminal as TokenOf}
 use Rattle.lalrpop_base.specs.declared.lr1_core.state.Conflict.{Conflict}
@@ -24,7 +20,7 @@ use Rattle.lalrpop_base.specs.declared.repr.grammar.Grammar.{Grammar}
 use Rattle.lalrpop_base.proofs.ConflictLemmas.{none_exactly}
 use Rattle.lalrpop_base.proofs.ContentsViews.{contains_at, contains_of_map}
 use Rattle.lalrpop_base.proofs.HeldTokens.{place_is}
-use Rattle.lalrpop_tables.specs.LaneStates.{AreLaneStates, HoldsAll, IsLaneAction, HaveMeetingLanes}
+use Rattle.lalrpop_tables.specs.Words.{AreLaneStates, HoldsAll, IsLaneAction, HaveMeetingLanes}
 use Rattle.lalrpop_tables.proofs.CanonicalStates.{leads_transition}
 use Rattle.lalrpop_tables.proofs.LaneAnswers.{given_bit}
 use Rattle.lalrpop_tables.proofs.LaneShape.{here_reduces}

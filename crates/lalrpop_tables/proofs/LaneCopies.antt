@@ -7,14 +7,8 @@ use Rattle.std.specs.Map.{lookup}
 use Rattle.std.proofs.lemmas.Bool.{cases_lt, cases_eq, cases_Bool}
 use Rattle.std.proofs.lemmas.Map.Made.{lookup-map_values}
 use Rattle.std.proofs.lemmas.Option.{slice_get_past, slice_get_within, slice_get_cases, slice_get-map}
-use Rattle.lalrpop_base.specs.Bits.{Bits}
-use Rattle.lalrpop_base.specs.Coherent.{IsCoherentEdge, IsCoherentStep, StartsAtZero, HasItem, AreFinished, AreCoherent}
-use Rattle.lalrpop_base.specs.Contents.{holds_token, number_of, contents_of, contents_at, contents}
-use Rattle.lalrpop_base.specs.Copies.{IsCopying}
-use Rattle.lalrpop_base.specs.Each.{EachEntry}
-use Rattle.lalrpop_base.specs.Items.{Dotted}
-use Rattle.lalrpop_base.specs.States.{Contents, leads}
-use Rattle.lalrpop_base.specs.WellFormed.{name_cmp}
+use Rattle.lalrpop_base.specs.Words.{Bits, IsCoherentEdge, IsCoherentStep, StartsAtZero, HasItem, AreFinished, AreCoherent, holds_token, number_of, contents_of}
+use Rattle.lalrpop_base.specs.Words.{contents_at, contents, IsCopying, EachEntry, Dotted, Contents, leads, name_cmp}
 use Rattle.lalrpop_base.specs.declared.lr1_core.state.Action.{Action}
 use Rattle.lalrpop_base.specs.declared.lr1_core.state.State.{State}
 use Rattle.lalrpop_base.specs.declared.lr1_core.state.StateIndex.{StateIndex}
@@ -23,9 +17,7 @@ use Rattle.lalrpop_base.specs.declared.repr.Symbol.{Symbol}
 use Rattle.lalrpop_base.specs.declared.repr.Symbol.TheVariants.{Nonterminal, Terminal}
 use Rattle.lalrpop_base.specs.declared.repr.TerminalString.{TerminalString}
 use Rattle.lalrpop_base.proofs.ContentsViews.{some_of_map}
-use Rattle.lalrpop_tables.specs.LaneStates.{by}
-use Rattle.lalrpop_tables.specs.Merges.{index, AreReductionsOf, IsCopyOf, AreCopies, replaced, IsTaken}
-use Rattle.lalrpop_tables.specs.Renumbered.{number_in, retargeted, retargeted_all}
+use Rattle.lalrpop_tables.specs.Words.{by, index, AreReductionsOf, IsCopyOf, AreCopies, replaced, IsTaken, number_in, retargeted, retargeted_all}
 use Rattle.lalrpop_tables.proofs.LaneResolved.{by_all}
 use Rattle.lalrpop_tables.proofs.Merging.{set_here, set_elsewhere, set_length}
 use Rattle.lalrpop_tables.proofs.Orders.{terminal_order}

@@ -2,16 +2,13 @@
 use Rattle.std.proofs.Common.{◌≡◌, ◌⊎◌, inl, inr, ℕ, ◌+◌, ◌<◌, true, List, length, refl, sym, ◌∙◌, ap, subst, arith, Some, slice_set}
 use Rattle.std.specs.Prelude.{Contains, slice_get}
 use Rattle.std.proofs.lemmas.Option.{slice_get_within}
-use Rattle.lalrpop_base.specs.Bits.{Bits}
-use Rattle.lalrpop_base.specs.States.{Contents}
-use Rattle.lalrpop_base.specs.WellFormed.{Rules}
+use Rattle.lalrpop_base.specs.Words.{Bits, Contents, Rules}
 use Rattle.lalrpop_base.specs.declared.lr1_core.state.Items.{Items}
 use Rattle.lalrpop_base.specs.declared.lr1_core.state.State.{State}
 use Rattle.lalrpop_base.specs.declared.repr.NonterminalString.{NonterminalString}
 use Rattle.lalrpop_base.specs.declared.repr.TerminalString.{TerminalString}
-use Rattle.lalrpop_tables.specs.LaneStates.{HasSamePlace, HaveSamePlaces, AreLaneStates, HaveFullItems, HoldAllFrom, IsResolved, IsResolvedAt, IsStep}
-use Rattle.lalrpop_tables.specs.LaneTraces.{places_in}
-use Rattle.lalrpop_tables.specs.StateGraph.{edges, IsGraphOf}
+use Rattle.lalrpop_tables.specs.Words.{HasSamePlace, HaveSamePlaces, AreLaneStates, HaveFullItems, HoldAllFrom, IsResolved, IsResolvedAt, IsStep, places_in}
+use Rattle.lalrpop_tables.specs.Words.{edges, IsGraphOf}
 use Rattle.lalrpop_tables.specs.declared.state_graph.StateGraph.{StateGraph}
 use Rattle.lalrpop_tables.proofs.LaneCoherent.{edges_there, old_at}
 use Rattle.lalrpop_tables.proofs.LanePlaces.{AreSamePlaces, same_turned, places_same, lane_there}

@@ -3,12 +3,11 @@ use Rattle.std.proofs.Common.{◌≡◌, ℕ, Bool, List, [], ◌∷◌, length,
 use Rattle.std.specs.Prelude.{Contains, slice_get}
 use Rattle.std.specs.Borrow.{Bor}
 use Rattle.std.proofs.lemmas.Option.{slice_get_within, slice_get-map}
-use Rattle.lalrpop_base.specs.Closures.{AreClosed}
-use Rattle.lalrpop_base.specs.Contents.{number_of, reduction_of, contents_of, contents_at, contents_in}
-use Rattle.lalrpop_base.specs.Copies.{IsCopying}
-use Rattle.lalrpop_base.specs.Items.{Dotted}
-use Rattle.lalrpop_base.specs.Lanes.{AreLr0, LeadsBack, over_edge, to_parent, Gives, behind_parent, of_start, IsTracedTo, itself, back, IsLaneToken}
-use Rattle.lalrpop_base.specs.States.{Contents, Reduction, leads, onward, state_from, state_after, IsBehindDot, LeadsOverDots, HasNoRepeat, ReducesFinished, HasRightItems}
+use Rattle.lalrpop_base.specs.Words.{AreClosed, number_of, reduction_of, contents_of, contents_at, contents_in, IsCopying, AreLr0, LeadsBack, to_parent}
+use Rattle.lalrpop_base.specs.Words.{behind_parent, of_start, IsTracedTo, itself, back, IsLaneToken, Contents, leads, onward, state_from, state_after}
+use Rattle.lalrpop_base.specs.Words.{IsBehindDot, LeadsOverDots, HasNoRepeat, ReducesFinished, HasRightItems, name_cmp}
+use Rattle.lalrpop_base.specs.Lanes.{over_edge, Gives}
+use Rattle.lalrpop_base.specs.States.{Reduction}
 use Rattle.lalrpop_base.specs.declared.lookahead.token.Token.{Token}
 use Rattle.lalrpop_base.specs.declared.lr1_core.state.State.{State}
 use Rattle.lalrpop_base.specs.declared.lr1_core.state.StateIndex.{StateIndex}
@@ -17,12 +16,11 @@ use Rattle.lalrpop_base.specs.declared.repr.Production.{Production}
 use Rattle.lalrpop_base.specs.declared.repr.Symbol.{Symbol}
 use Rattle.lalrpop_base.specs.declared.repr.Symbol.TheVariants.{Nonterminal, Terminal}
 use Rattle.lalrpop_base.specs.declared.repr.TerminalString.{TerminalString}
-use Rattle.lalrpop_base.specs.WellFormed.{name_cmp}
 use Rattle.lalrpop_base.specs.contracts.repr.TerminalStringOrd.TheImpl as terminal_ord
 use Rattle.std.specs.BTreeMap.{BTreeMap, get}
 use Rattle.lalrpop_base.proofs.ContentsViews.{some_of_map, contains_of_map, contains_map}
 use Rattle.lalrpop_base.proofs.theory.Copies.{copies_closed}
-use Rattle.lalrpop_tables.specs.LaneStates.{dot_of, by, HasSamePlace, HaveSamePlaces}
+use Rattle.lalrpop_tables.specs.Words.{by, HasSamePlace, HaveSamePlaces}
 use Rattle.lalrpop_tables.proofs.Places.{filled}
 
 abbrev pub produced : Reduction → Production
@@ -39,9 +37,6 @@ AreSamePlaces a b = (n : ℕ) → IsSamePlace (a n) (b n)
 
 pub same_turned : (a b : ℕ → Contents) → AreSamePlaces a b → AreSamePlaces b a
 same_turned a b same n = record { items = sym (same n).items; edges = λ x. sym ((same n).edges x); reduced = sym (same n).reduced }
-
-pub same_on : (a b c : ℕ → Contents) → AreSamePlaces a b → AreSamePlaces b c → AreSamePlaces a c
-same_on a b c s t n = record { items = (t n).items ∙ (s n).items; edges = λ x. (t n).edges x ∙ (s n).edges x; reduced = (t n).reduced ∙ (s n).reduced }
 
 -- ---- lanes
 module _ (g : List Production) (start : NonterminalString) (a b : ℕ → Contents) (same : AreSamePlaces a b) where
@@ -151,9 +146,6 @@ module _ (g : List Production) (start : NonterminalString) (a b : ℕ → Conten
 
 -- ---- the code's states
 module _ {L : Type 0} (holds : L → Token → Bool) where
-  contents_dots : (items : List (Dotted L)) → map (λ (i : Dotted L). (i.production, i.index)) items ≡ map dot_of items
-  contents_dots items = refl
-
   produced_by : (rs : List (L × Bor Production)) → map produced (map (reduction_of holds) rs) ≡ map by rs
   produced_by [] = refl
   produced_by (r ∷ rs) = ap (λ (ps : List Production). by r ∷ ps) (produced_by rs)

@@ -8,15 +8,9 @@ use Rattle.std.specs.List.Sorted.{IsStrictlySortedBy}
 use Rattle.std.specs.declared.cmp.Ordering.TheVariants.{Less, Equal}
 use Rattle.std.proofs.lemmas.Map.Entries.{btree_map_get_place}
 use Rattle.std.proofs.lemmas.Option.{slice_get_within, get_or_from_slice_get}
-use Rattle.lalrpop_base.specs.Bits.{Bits, has}
-use Rattle.lalrpop_base.specs.Contents.{contents, contents_at, contents_of, holds_token}
-use Rattle.lalrpop_base.specs.Lanes.{IsLaneToken}
+use Rattle.lalrpop_base.specs.Words.{Bits, has, contents, contents_at, contents_of, holds_token, IsLaneToken, Contents, place_in, IsBitOf, Action as TheAction}
+use Rattle.lalrpop_base.specs.Words.{Shift as TheShift, Reduce as TheReduce, Rules}
 use Rattle.lalrpop_base.specs.StateConflicts.{HasNoConflict}
-use Rattle.lalrpop_base.specs.States.{Contents}
-use Rattle.lalrpop_base.specs.TerminalPlaces.{place_in}
-use Rattle.lalrpop_base.specs.Tokens.{IsBitOf}
-use Rattle.lalrpop_base.specs.Validity.{Action as TheAction, Shift as TheShift, Reduce as TheReduce}
-use Rattle.lalrpop_base.specs.WellFormed.{Rules}
 use Rattle.lalrpop_base.specs.contracts.repr.TerminalStringOrd.TheImpl as terminal_ord
 use Rattle.lalrpop_base.specs.declared.lookahead.token.Token.{Token}
 use Rattle.lalrpop_base.specs.declared.lookahead.token.Token.TheVariants.{Eof, Error, Terminal as TokenOf}
@@ -31,12 +25,10 @@ use Rattle.lalrpop_base.specs.declared.repr.Symbol.TheVariants.{Terminal}
 use Rattle.lalrpop_base.specs.declared.repr.TerminalString.{TerminalString}
 use Rattle.lalrpop_base.proofs.ContentsViews.{contains_at, at_contains}
 use Rattle.lalrpop_base.proofs.HeldTokens.{place_there}
-use Rattle.lalrpop_tables.specs.Contexts.{HasAt, IsReductionAt, TookColumn, AreAmong}
-use Rattle.lalrpop_tables.specs.LaneStates.{dot_of, by, HasSamePlace, HaveSamePlaces, AreLaneStates, HoldsAll, IsTokenOf, HasActionBit, IsBitAt, AreTraced, HasLaneBits, IsResolved, IsLaneAction, LanesMeet, asked_actions, action_order, AreActions, IsAttempted}
-use Rattle.lalrpop_tables.specs.LaneTables.{ColumnsOverlap}
-use Rattle.lalrpop_tables.specs.LaneTraces.{ReducesOwn, places_in}
+use Rattle.lalrpop_tables.specs.Words.{HasAt, IsReductionAt, TookColumn, AreAmong, dot_of, by, HasSamePlace, HaveSamePlaces, AreLaneStates, HoldsAll, IsTokenOf}
+use Rattle.lalrpop_tables.specs.Words.{HasActionBit, IsBitAt, AreTraced, HasLaneBits, IsResolved, IsLaneAction, LanesMeet, asked_actions, action_order}
+use Rattle.lalrpop_tables.specs.Words.{AreActions, IsAttempted, ColumnsOverlap, ReducesOwn, places_in, production_order}
 use Rattle.lalrpop_tables.specs.declared.lane_table.table.LaneTable.{LaneTable}
-use Rattle.lalrpop_tables.specs.Ascending.{production_order}
 use Rattle.lalrpop_tables.proofs.Ascending.{production_total}
 use Rattle.lalrpop_tables.proofs.CanonicalContents.{then_both}
 use Rattle.lalrpop_tables.proofs.LaneActions.{action_total}

@@ -4,17 +4,13 @@ use Rattle.std.specs.Prelude.{Contains, slice_get}
 use Rattle.std.specs.BTreeMap.{IsOrdered}
 use Rattle.std.proofs.lemmas.List.{set-get_or}
 use Rattle.std.proofs.lemmas.Option.{slice_get_within, get_or_from_slice_get}
-use Rattle.lalrpop_base.specs.Bits.{Bits}
-use Rattle.lalrpop_base.specs.Contents.{contents}
-use Rattle.lalrpop_base.specs.WellFormed.{Rules}
+use Rattle.lalrpop_base.specs.Words.{Bits, contents, Rules}
 use Rattle.lalrpop_base.specs.contracts.repr.TerminalStringOrd.TheImpl as terminal_ord
 use Rattle.lalrpop_base.specs.declared.lr1_core.state.Action.{Action}
 use Rattle.lalrpop_base.specs.declared.lr1_core.state.State.{State}
 use Rattle.lalrpop_base.specs.declared.repr.NonterminalString.{NonterminalString}
-use Rattle.lalrpop_tables.specs.Contexts.{AreAmong}
-use Rattle.lalrpop_tables.specs.LaneStates.{HasSamePlace, AreLaneStates, HoldAllFrom, AreActions, ActionsAscend, asked_actions, AreTraced, IsAttempted, IsResolved, IsResolvedAt, IsStep, LanesMeet}
-use Rattle.lalrpop_tables.specs.LaneTables.{ColumnsOverlap}
-use Rattle.lalrpop_tables.specs.LaneTraces.{places_in}
+use Rattle.lalrpop_tables.specs.Words.{AreAmong, HasSamePlace, AreLaneStates, HoldAllFrom, AreActions, ActionsAscend, asked_actions, AreTraced, IsAttempted}
+use Rattle.lalrpop_tables.specs.Words.{IsResolved, IsResolvedAt, IsStep, LanesMeet, ColumnsOverlap, places_in}
 use Rattle.lalrpop_tables.specs.declared.lane_table.table.LaneTable.{LaneTable}
 use Rattle.lalrpop_tables.proofs.LaneLoop.{set_step}
 use Rattle.lalrpop_tables.proofs.LaneResolved.{resolved, applied_place, overlap_meets, reductions_among}

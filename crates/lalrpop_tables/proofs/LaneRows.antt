@@ -1,5 +1,5 @@
 -- Rows to which cells are joined one by one, and rows for states with successors.
-use Rattle.std.proofs.Common.{◌≡◌, ℕ, suc, ◌<◌, ◌⊎◌, inl, inr, ⊎_elim, true, false, List, [], ◌∷◌, ◌++◌, length, refl, sym, ap, subst, ◌∙◌, arith, append_assoc, append-nil}
+use Rattle.std.proofs.Common.{◌≡◌, ℕ, suc, ◌<◌, ◌⊎◌, inl, inr, ⊎_elim, true, false, List, [], ◌∷◌, ◌++◌, length, refl, sym, ap, subst, ◌∙◌, arith, append_assoc}
 use Rattle.std.specs.Prelude.{Contains, Option, Some, None, ◌↔◌, IsSome, is_some}
 use Rattle.std.specs.declared.cmp.Ordering.{Ordering}
 use Rattle.std.specs.declared.cmp.Ordering.TheVariants.{Less, Equal, Greater}
@@ -14,12 +14,10 @@ use Rattle.std.proofs.lemmas.Map.Keys.{sorted_tail, Less-from_sorted}
 use Rattle.std.proofs.lemmas.List.{map-append}
 use Rattle.std.proofs.lemmas.Grind.{common_steps}
 use Rattle.std.specs.BTreeSet.{BTreeSet as SortedSet}
-use Rattle.lalrpop_base.specs.Bits.{Bits}
+use Rattle.lalrpop_base.specs.Words.{Bits}
 use Rattle.lalrpop_base.specs.declared.lr1_core.state.StateIndex.{StateIndex}
-use Rattle.lalrpop_tables.specs.Contexts.{AreDisjoint}
-use Rattle.lalrpop_tables.specs.LaneRows.{Cells, AreGathered, ThisRow, Rows, row_at, StandsFor, MakesRow, JoinsRow, MeetsRow, HasCells, AreRowsOf, Successors, HasNext, AddsRows}
-use Rattle.lalrpop_tables.specs.LaneTables.{column, IsRow, RowOverlaps, HasRow}
-use Rattle.lalrpop_tables.specs.StateGraph.{state_cmp}
+use Rattle.lalrpop_tables.specs.Words.{AreDisjoint, Cells, AreGathered, ThisRow, Rows, row_at, StandsFor, MakesRow, JoinsRow, MeetsRow, HasCells, AreRowsOf}
+use Rattle.lalrpop_tables.specs.Words.{Successors, HasNext, AddsRows, column, IsRow, RowOverlaps, HasRow, state_cmp}
 use Rattle.lalrpop_tables.specs.declared.lane_table.context_set.ConflictIndex.{ConflictIndex}
 use Rattle.lalrpop_tables.specs.declared.lane_table.table.LaneTable.{LaneTable}
 use Rattle.lalrpop_tables.proofs.LaneColumns.{CellsOverlap, gathered_none, gathered_past, gathered_more, gathering_overlap, row_of, row_overlaps, in_last, last_in, IsGathering}
@@ -46,9 +44,6 @@ rows_start count = record {
 }
 
 module _ (count : ℕ) (done : Cells) (rows new : Rows) (state : StateIndex) (index : ConflictIndex) (tokens : Bits) (are : AreRowsOf count done rows) (j : JoinsRow count state index.index tokens rows new) (within : index.index < count) where
-  Last : Cell × Bits
-  Last = ((state, index), tokens)
-
   old_row : (length j.before ≡ count) × AreGathered (ThisRow state) done j.before
   old_row = are.each state j.before j.was
 
@@ -93,9 +88,6 @@ pub record AreTaken (count : ℕ) (left all : Cells) (rows : Rows) : Type 0 wher
 
 pub taken_start : (count : ℕ) (all : Cells) → AreTaken count all all []
 taken_start count all = record { done = []; whole = refl; are = rows_start count }
-
-pub taken_end : (count : ℕ) (left all : Cells) (rows : Rows) → left ≡ [] → AreTaken count left all rows → AreRowsOf count all rows
-taken_end count left all rows none t = subst (λ (es : Cells). AreRowsOf count es rows) (sym (append-nil t.done) ∙ ap (λ es. t.done ++ es) (sym none) ∙ t.whole) t.are
 
 pub taken_counted : (count : ℕ) (left all : Cells) (rows : Rows) → AreTaken count left all rows → (state : StateIndex) (row : List Bits) → row_at rows state ≡ Some row → length row ≡ count
 taken_counted count left all rows t state row e = (t.are.each state row (subst (λ (o : Option (List Bits)). StandsFor count o row) (sym e) refl)).0
@@ -162,12 +154,6 @@ none_smaller count before left all rows t state index tokens first rises table e
     o.apart (g.disjoint o.first o.second o.bit ((g.tokens o.first o.bit).1 (smaller, refl, (o.here.0, at_first, o.here.2))) ((g.tokens o.second o.bit).1 (smaller, refl, (o.there.0, at_second, o.there.2))))
 
 -- ---- rows for states with successors
-pub adds_start : (count : ℕ) (rows : Rows) → AddsRows count [] rows rows
-adds_start count rows = record {
-  kept = λ state row e. e;
-  from = λ state row e. (subst (λ (o : Option (List Bits)). StandsFor count o row) (sym e) refl, inl e);
-  all = λ left right h. absurd (Contains-none _ h.1);
-}
 
 pub next_more : (done : Successors) (e : StateIndex × SortedSet StateIndex) (left right : StateIndex) → HasNext done left right → HasNext (done ++ e ∷ []) left right
 next_more done e left right h = (h.0, Contains-append_left done (e ∷ []) _ h.1, h.2)
@@ -231,12 +217,6 @@ pub record AreAdding (count : ℕ) (left all : Successors) (old new : Rows) : Ty
   pub done : Successors
   pub whole : done ++ left ≡ all
   pub adds : AddsRows count done old new
-
-pub adding_start : (count : ℕ) (all : Successors) (rows : Rows) → AreAdding count all all rows rows
-adding_start count all rows = record { done = []; whole = refl; adds = adds_start count rows }
-
-pub adding_end : (count : ℕ) (left all : Successors) (old new : Rows) → left ≡ [] → AreAdding count left all old new → AddsRows count all old new
-adding_end count left all old new none a = subst (λ (es : Successors). AddsRows count es old new) (sym (append-nil a.done) ∙ ap (λ es. a.done ++ es) (sym none) ∙ a.whole) a.adds
 
 module _ (count : ℕ) (before left all : Successors) (old rows : Rows) (a : AreAdding count before all old rows) (state : StateIndex) (set : SortedSet StateIndex) (first : before ≡ (state, set) ∷ left) where
   adding_whole : (a.done ++ (state, set) ∷ []) ++ left ≡ all

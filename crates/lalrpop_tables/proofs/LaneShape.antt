@@ -3,13 +3,9 @@ use Rattle.std.proofs.Common.{◌≡◌, ℕ, ◌<◌, Bool, List, length, refl,
 use Rattle.std.specs.Prelude.{Contains, slice_get}
 use Rattle.std.specs.Borrow.{Bor}
 use Rattle.std.proofs.lemmas.Option.{slice_get_within, slice_get-map}
-use Rattle.lalrpop_base.specs.Bits.{Bits}
-use Rattle.lalrpop_base.specs.Closures.{AreClosed, IsReached}
-use Rattle.lalrpop_base.specs.Contents.{contents_of, contents_at, contents_in, holds_token, reduction_of}
-use Rattle.lalrpop_base.specs.Lanes.{AreLr0}
-use Rattle.lalrpop_base.specs.States.{Contents, Reduction, state_after, ReducesFinished, HasRightItems}
-use Rattle.lalrpop_base.specs.Validity.{IsLive}
-use Rattle.lalrpop_base.specs.WellFormed.{Rules}
+use Rattle.lalrpop_base.specs.Words.{Bits, AreClosed, IsReached, contents_of, contents_at, contents_in, holds_token, reduction_of, AreLr0, Contents}
+use Rattle.lalrpop_base.specs.Words.{state_after, ReducesFinished, HasRightItems, IsLive, Rules}
+use Rattle.lalrpop_base.specs.States.{Reduction}
 use Rattle.lalrpop_base.specs.declared.lookahead.nil.Nil.{Nil}
 use Rattle.lalrpop_base.specs.declared.lookahead.token.Token.{Token}
 use Rattle.lalrpop_base.specs.declared.lr1_core.state.State.{State}
@@ -21,9 +17,7 @@ use Rattle.lalrpop_base.proofs.theory.Closures.{reached_at}
 use Rattle.lalrpop_base.proofs.theory.Lanes.{items_at}
 use Rattle.lalrpop_base.proofs.theory.Lists.{grown}
 use Rattle.lalrpop_base.proofs.theory.Valid.{of_grammar}
-use Rattle.lalrpop_tables.specs.LaneStates.{dot_of, AreLaneStates, AreLr0Tables}
-use Rattle.lalrpop_tables.specs.LaneTraces.{HaveOwnItems}
-use Rattle.lalrpop_tables.specs.Lr0.{on_any, lr0_contents}
+use Rattle.lalrpop_tables.specs.Words.{dot_of, AreLaneStates, AreLr0Tables, HaveOwnItems, on_any, lr0_contents}
 use Rattle.lalrpop_tables.proofs.CanonicalContents.{nothing_reduced}
 use Rattle.lalrpop_tables.proofs.LaneCoherent.{coherent_there}
 use Rattle.lalrpop_tables.proofs.LanePlaces.{AreSamePlaces, places_same, after_same, lr0_there, closed_there, reduces_there}

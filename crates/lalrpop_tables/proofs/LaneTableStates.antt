@@ -3,12 +3,10 @@ use Rattle.std.proofs.Common.{◌≡◌, ℕ, ◌<◌, ◌⊎◌, inl, inr, ⊎_
 use Rattle.std.specs.Prelude.{Contains, ◌↔◌}
 use Rattle.std.specs.BTreeSet.{BTreeSet as SortedSet, insert_key}
 use Rattle.std.proofs.lemmas.List.Elements.{Contains-append_left, Contains-append_right, Contains-append_cases}
-use Rattle.lalrpop_base.specs.Bits.{Bits}
+use Rattle.lalrpop_base.specs.Words.{Bits}
 use Rattle.lalrpop_base.specs.declared.lr1_core.state.StateIndex.{StateIndex}
-use Rattle.lalrpop_tables.specs.LaneRows.{Cells, HasCells, Successors, HasNext}
-use Rattle.lalrpop_tables.specs.LaneTableStates.{AddsKeys, AreReached, HasCellsBelow, IsClosedEdge}
-use Rattle.lalrpop_tables.specs.LaneTables.{column, HasRow, IsBeachhead, IsClosed, IsSuccessor}
-use Rattle.lalrpop_tables.specs.StateGraph.{state_cmp}
+use Rattle.lalrpop_tables.specs.Words.{Cells, HasCells, Successors, HasNext, AddsKeys, AreReached, HasCellsBelow, IsClosedEdge, column, HasRow, IsBeachhead}
+use Rattle.lalrpop_tables.specs.Words.{IsClosed, IsSuccessor, state_cmp}
 use Rattle.lalrpop_tables.specs.declared.lane_table.table.LaneTable.{LaneTable}
 use Rattle.lalrpop_tables.proofs.LaneColumns.{in_last, last_in}
 use Rattle.lalrpop_tables.proofs.LaneRows.{next_more, next_last}
@@ -20,9 +18,6 @@ pub record HoldsSoFar {X : Type 0} (P : List X → Type 0) (left all : List X) :
   pub done : List X
   pub whole : done ++ left ≡ all
   pub holds : P done
-
-pub far_start : {X : Type 0} (P : List X → Type 0) (all : List X) → P [] → HoldsSoFar P all all
-far_start P all p = record { done = []; whole = refl; holds = p }
 
 pub far_more : {X : Type 0} (P Q : List X → Type 0) (before left all : List X) (e : X) → HoldsSoFar P before all → before ≡ e ∷ left → ((done : List X) → P done → Q (done ++ e ∷ [])) → HoldsSoFar Q left all
 far_more P Q before left all e h first step = record { done = h.done ++ e ∷ []; whole = append_assoc h.done (e ∷ []) left ∙ ap (λ es. h.done ++ es) (sym first) ∙ h.whole; holds = step h.done h.holds }
@@ -40,9 +35,6 @@ either done e x c = ⊎_elim (λ a. inl a) (λ b. ⊎_elim (λ s. inr s) (λ n. 
 abbrev pub AddedSoFar : List StateIndex → List StateIndex → List StateIndex → Type 0
 AddedSoFar old new done = AddsKeys done old new
 
-pub added_none : (old : List StateIndex) → AddedSoFar old old []
-added_none old r = (λ c. inl c, λ h. ⊎_elim (λ c. c) (λ n. absurd (Contains-none r n)) h)
-
 pub added_more : (old mid new : List StateIndex) (key : StateIndex) → new ≡ insert_key state_cmp mid key → (done : List StateIndex) → AddedSoFar old mid done → AddedSoFar old new (done ++ key ∷ [])
 added_more old mid new key e done a r = (
   λ c. ⊎_elim
@@ -59,9 +51,6 @@ added_more old mid new key e done a r = (
 abbrev pub ReachedSoFar : List StateIndex → Successors → Type 0
 ReachedSoFar keys done = (right : StateIndex) → Contains keys right ↔ ((left : StateIndex) × HasNext done left right)
 
-pub reached_none : ReachedSoFar [] []
-reached_none right = (λ c. absurd (Contains-none right c), λ h. absurd (Contains-none _ h.1.1))
-
 pub reached_more : (keys new : List StateIndex) (state : StateIndex) (set : SortedSet StateIndex) → AddsKeys set.keys keys new → (done : Successors) → ReachedSoFar keys done → ReachedSoFar new (done ++ (state, set) ∷ [])
 reached_more keys new state set a done r right = (
   λ c. ⊎_elim
@@ -74,9 +63,6 @@ reached_more keys new state set a done r right = (
 -- ---- states with cells that are not reached
 abbrev pub BeachSoFar : List StateIndex → List StateIndex → Cells → Type 0
 BeachSoFar reached keys done = (s : StateIndex) → Contains keys s ↔ (HasCells done s × ¬ Contains reached s)
-
-pub beach_none : (reached : List StateIndex) → BeachSoFar reached [] []
-beach_none reached s = (λ c. absurd (Contains-none s c), λ h. absurd (Contains-none _ h.0.1.1))
 
 cells_more : (done : Cells) (e : Cell × Bits) (s : StateIndex) → HasCells done s → HasCells (done ++ e ∷ []) s
 cells_more done e s h = (h.0, (h.1.0, Contains-append_left done (e ∷ []) _ h.1.1))
@@ -111,9 +97,6 @@ beachheads table reached keys r b s = (
 -- ---- each entry passed is good
 abbrev pub EachSoFar : {X : Type 0} → (X → Type 0) → List X → Type 0
 EachSoFar {X} Good done = (x : X) → Contains done x → Good x
-
-pub each_none : {X : Type 0} (Good : X → Type 0) → EachSoFar Good []
-each_none Good x c = absurd (Contains-none x c)
 
 pub each_more : {X : Type 0} (Good : X → Type 0) (e : X) → Good e → (done : List X) → EachSoFar Good done → EachSoFar Good (done ++ e ∷ [])
 each_more Good e good done each x c = ⊎_elim (λ was. each x was) (λ same. subst Good same good) (either done e x c)

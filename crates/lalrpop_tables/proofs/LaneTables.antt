@@ -13,16 +13,13 @@ use Rattle.std.proofs.lemmas.Bool.{cases_Bool}
 use Rattle.std.proofs.lemmas.Map.Keys.{IsDistinct-from_sorted}
 use Rattle.std.proofs.lemmas.Map.Lookups.{CmpEqualImpliesEq, exact_unsigned, exact_pairs}
 use Rattle.std.proofs.lemmas.Map.Views.{Contains-from_lookup, lookup-from_Contains, IsSome-lookup_from_Contains, tells_apart}
-use Rattle.lalrpop_base.specs.Bits.{Bits, has, join, has-join}
+use Rattle.lalrpop_base.specs.Words.{Bits, has, join, has-join, collection_at, PushesAt, SameAt}
 use Rattle.std.proofs.lemmas.Bool.{or_cases}
-use Rattle.lalrpop_base.specs.Multimaps.{collection_at, PushesAt, SameAt}
 use Rattle.lalrpop_base.specs.declared.lr1_core.state.StateIndex.{StateIndex}
 use Rattle.lalrpop_base.specs.declared.memory.OutOfMemory.{OutOfMemory}
-use Rattle.lalrpop_tables.specs.Entries.{IsJoinedAt}
+use Rattle.lalrpop_tables.specs.Words.{IsJoinedAt, column, AreSameTables, AddsTokens, AddsSuccessor, AreInRange, state_cmp}
 use Rattle.lalrpop_tables.specs.Entries.IsJoinedAt.{fresh, known}
 use Rattle.lalrpop_tables.specs.LaneCells.{AreBelow}
-use Rattle.lalrpop_tables.specs.LaneTables.{column, AreSameTables, AddsTokens, AddsSuccessor, AreInRange}
-use Rattle.lalrpop_tables.specs.StateGraph.{state_cmp}
 use Rattle.lalrpop_tables.specs.declared.lane_table.context_set.ConflictIndex.{ConflictIndex}
 use Rattle.lalrpop_tables.specs.declared.lane_table.table.LaneTable.{LaneTable}
 use Rattle.lalrpop_tables.proofs.Lists.{Contains-none, Contains-map, insert_key-has, insert_key-kept, insert_key-from}
@@ -165,9 +162,6 @@ still_below count cell tokens old new (Ok told) joined err within below row col 
     ((entries_joined cell tokens told old new joined (row, col)).0 (set, h))
 still_below count cell tokens old new (Err e) joined err within below row col set h = below row col set (subst (λ (es : List (Cell × Bits)). Contains es ((row, col), set)) err h)
 
-pub in_range_alike : (old new : LaneTable) → new.conflicts ≡ old.conflicts → new.lookaheads.entries ≡ old.lookaheads.entries → AreInRange old → AreInRange new
-in_range_alike old new c l in_range row k h = subst (λ n. k < n) (sym c) (in_range row k (h.0, subst (λ (es : List (Cell × Bits)). Contains es ((row, column k), h.0)) l h.1))
-
 module _ (row : StateIndex) (k : ℕ) (tokens : Bits) (told : Bool) (old new : LaneTable) (c : new.conflicts ≡ old.conflicts) (s : new.successors ≡ old.successors) (j : IsJoinedAt (row, column k) tokens told old.lookaheads.entries new.lookaheads.entries) where
   abbrev IsSame : Cell → Cell → Type 0
   IsSame a b = a ≡ b
@@ -194,12 +188,6 @@ module _ (row : StateIndex) (k : ℕ) (tokens : Bits) (told : Bool) (old new : L
       λ h. (h.0, subst (λ (es : List (StateIndex × SortedSet StateIndex)). Contains es (left, h.0)) (sym s) h.1, h.2),
     );
   }
-
-  pub still_in_range : k < old.conflicts → AreInRange old → AreInRange new
-  still_in_range within in_range r i h = ⊎_elim
-      (λ was. subst (λ n. i < n) (sym c) (in_range r i was))
-      (λ same. subst (λ n. n < new.conflicts) (sym same.1) (subst (λ n. k < n) (sym c) within))
-      ((adds_tokens.cells r i).0 h)
 
 -- ---- successors
 abbrev pub Entries : Type 0

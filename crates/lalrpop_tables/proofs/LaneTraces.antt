@@ -3,16 +3,12 @@ use Rattle.std.proofs.Common.{◌≡◌, ℕ, suc, ◌+◌, ◌-◌, ◌<◌, �
 use Rattle.std.specs.Prelude.{Contains, slice_get}
 use Rattle.std.specs.List.{flat_map, range_with_len}
 use Rattle.std.proofs.lemmas.Option.{slice_get_within, get_or_from_slice_get}
-use Rattle.lalrpop_base.specs.Lanes.{LeadsBack, IsTracedTo, itself, back}
-use Rattle.lalrpop_base.specs.Places.{AllDiffer}
-use Rattle.lalrpop_base.specs.States.{Contents}
-use Rattle.lalrpop_base.specs.WellFormed.{Rules, productions, rules_of}
+use Rattle.lalrpop_base.specs.Words.{LeadsBack, IsTracedTo, itself, back, AllDiffer, Contents, Rules, productions, rules_of}
 use Rattle.lalrpop_base.specs.declared.repr.Production.{Production}
 use Rattle.lalrpop_base.specs.declared.repr.Symbol.TheVariants.{Nonterminal}
-use Rattle.lalrpop_tables.specs.CheckCarrying.{at_place}
-use Rattle.lalrpop_tables.specs.LaneSteps.{IsGround, Gains, Visits, Some_of, GivesCell, GivesBit, GivesSuccessor, LeadsTo, GainsOf, VisitsOf, IsReached, Reaches, GainsAll, IsEndPlace}
-use Rattle.lalrpop_tables.specs.LaneTables.{AreInRange}
-use Rattle.lalrpop_tables.specs.LaneTraces.{places_in}
+use Rattle.lalrpop_tables.specs.Words.{at_place, IsGround, Gains, Visits, Some_of, GivesCell, GivesBit, GivesSuccessor, GainsOf, VisitsOf, Reaches, GainsAll}
+use Rattle.lalrpop_tables.specs.Words.{IsEndPlace, AreInRange, places_in}
+use Rattle.lalrpop_tables.specs.LaneSteps.{LeadsTo, IsReached}
 use Rattle.lalrpop_tables.specs.declared.lane_table.lane.ground.Ground.{Ground}
 use Rattle.lalrpop_tables.specs.declared.lane_table.lane.walk.Walk.{Walk}
 use Rattle.lalrpop_tables.specs.declared.lane_table.table.LaneTable.{LaneTable}

@@ -1,10 +1,7 @@
 -- Actions are traced one by one, each into its column.
 use Rattle.std.proofs.Common.{◌≡◌, ◌↔◌, ◌⊎◌, inl, inr, ℕ, suc, ◌+◌, ◌<◌, List, [], ◌∷◌, ◌++◌, length, refl, sym, ◌∙◌, ap, subst, arith, length-append, append_assoc, append-nil}
 use Rattle.std.specs.Prelude.{slice_get}
-use Rattle.lalrpop_base.specs.Bits.{Bits}
-use Rattle.lalrpop_base.specs.States.{Contents}
-use Rattle.lalrpop_base.specs.Tokens.{IsBitOf}
-use Rattle.lalrpop_base.specs.WellFormed.{Rules, rules_of}
+use Rattle.lalrpop_base.specs.Words.{Bits, Contents, IsBitOf, Rules, rules_of}
 use Rattle.lalrpop_base.specs.declared.lookahead.token.Token.TheVariants.{Terminal as TokenOf}
 use Rattle.lalrpop_base.specs.declared.lr1_core.state.Action.{Action}
 use Rattle.lalrpop_base.specs.declared.lr1_core.state.Action.TheVariants.{Shift, Reduce}
@@ -12,9 +9,7 @@ use Rattle.lalrpop_base.specs.declared.lr1_core.state.State.{State}
 use Rattle.lalrpop_base.specs.declared.lr1_core.state.StateIndex.{StateIndex}
 use Rattle.lalrpop_base.specs.declared.repr.NonterminalString.{NonterminalString}
 use Rattle.lalrpop_base.specs.declared.repr.grammar.Grammar.{Grammar}
-use Rattle.lalrpop_tables.specs.LaneStates.{HasActionBit, AreTraced}
-use Rattle.lalrpop_tables.specs.LaneTables.{InColumn, IsEmptyTable}
-use Rattle.lalrpop_tables.specs.LaneTraces.{IsReadyToTrace, TakesAction, places_in}
+use Rattle.lalrpop_tables.specs.Words.{HasActionBit, AreTraced, InColumn, IsEmptyTable, IsReadyToTrace, TakesAction, places_in}
 use Rattle.lalrpop_tables.specs.declared.lane_table.construct.LaneTableConstruct.{LaneTableConstruct}
 use Rattle.lalrpop_tables.specs.declared.lane_table.lane.LaneTracer.{LaneTracer}
 use Rattle.lalrpop_tables.specs.declared.lane_table.table.LaneTable.{LaneTable}

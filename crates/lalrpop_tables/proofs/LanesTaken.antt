@@ -1,16 +1,11 @@
 -- The lane of a reduction: the cell where it starts, and what the places give to which it leads back.
 use Rattle.std.proofs.Common.{◌≡◌, ℕ, suc, ◌⊎◌, inl, inr, length, refl, sym, ◌∙◌, ap, subst, true}
 use mathlib.Core.Bool.{true≢false}
-use Rattle.lalrpop_base.specs.Bits.{Bits, has, no_bits, has-no_bits}
-use Rattle.lalrpop_base.specs.Lanes.{IsTracedTo, IsLaneSuccessor}
-use Rattle.lalrpop_base.specs.States.{Contents}
-use Rattle.lalrpop_base.specs.WellFormed.{Rules, rules_of}
+use Rattle.lalrpop_base.specs.Words.{Bits, has, no_bits, has-no_bits, IsTracedTo, IsLaneSuccessor, Contents, Rules, rules_of}
 use Rattle.lalrpop_base.specs.declared.lr1_core.state.StateIndex.{StateIndex}
 use Rattle.lalrpop_base.specs.declared.repr.Production.{Production}
-use Rattle.lalrpop_tables.specs.CheckCarrying.{at_place}
-use Rattle.lalrpop_tables.specs.LaneSteps.{Gains, Nothing, GivesCell, GivesBit, GivesSuccessor, Reaches, GainsAll}
-use Rattle.lalrpop_tables.specs.LaneTables.{AddsTokens}
-use Rattle.lalrpop_tables.specs.LaneTraces.{places_in, GivesAt, IsLaneBit, TakesLane}
+use Rattle.lalrpop_tables.specs.Words.{at_place, Gains, Nothing, GivesCell, GivesBit, GivesSuccessor, Reaches, GainsAll, AddsTokens, places_in, GivesAt}
+use Rattle.lalrpop_tables.specs.Words.{IsLaneBit, TakesLane}
 use Rattle.lalrpop_tables.specs.declared.lane_table.lane.ground.Ground.{Ground}
 use Rattle.lalrpop_tables.specs.declared.lane_table.table.LaneTable.{LaneTable}
 use Rattle.lalrpop_tables.specs.declared.place.Place.{Place}

@@ -90,6 +90,7 @@ pub mod Renumbered
 pub mod RenumberedCanonical
 pub mod RenumberedTables
 pub mod RenumberedValid
+pub mod SameConstruction
 pub mod SameKernels
 pub mod Shifting
 pub mod SomeOf

@@ -12,15 +12,12 @@ use Rattle.std.proofs.lemmas.Map.Entries.{btree_map_get_place}
 use Rattle.std.proofs.lemmas.Map.Keys.{Less-from_sorted}
 use Rattle.std.proofs.lemmas.Map.Views.{IfSome-get}
 use Rattle.std.proofs.lemmas.Option.{slice_get_within, slice_get_cases, get_or_from_slice_get}
-use Rattle.lalrpop_base.specs.Bits.{Bits, has, no_bits, with_bit, has-no_bits, has-with_bit}
-use Rattle.lalrpop_base.specs.ConflictLists.{Ordered, ShiftPart, no_more, in_conflict, apart, ShiftParts, no_shifts, shift_first, LaterPart, no_later, with_later, shares_none, ReduceParts, no_reductions, reduce_first}
-use Rattle.lalrpop_base.specs.Conflicts.{IsLess, ConflictContents, AreConflictsOf, HasNoConflict}
-use Rattle.lalrpop_base.specs.Contents.{holds_token, number_of, reduction_of, contents_of}
-use Rattle.lalrpop_base.specs.Places.{AllDiffer}
-use Rattle.lalrpop_base.specs.StateConflicts.{meet, share, shift_conflict, conflicts_on_bit, conflicts_on_place, shift_conflicts, reduce_conflict, later_conflicts, reduce_conflicts, state_conflicts}
-use Rattle.lalrpop_base.specs.States.{Reduction, Contents, HasNoRepeat}
-use Rattle.lalrpop_base.specs.TerminalPlaces.{place_in}
-use Rattle.lalrpop_base.specs.Tokens.{FitsTokens}
+use Rattle.lalrpop_base.specs.Words.{Bits, has, no_bits, with_bit, has-no_bits, has-with_bit, Ordered, ShiftPart, no_more, in_conflict, apart, ShiftParts}
+use Rattle.lalrpop_base.specs.Words.{no_shifts, shift_first, LaterPart, no_later, with_later, shares_none, ReduceParts, no_reductions, reduce_first, IsLess}
+use Rattle.lalrpop_base.specs.Words.{ConflictContents, AreConflictsOf, holds_token, number_of, reduction_of, contents_of, AllDiffer, meet, share}
+use Rattle.lalrpop_base.specs.Words.{shift_conflict, conflicts_on_bit, conflicts_on_place, shift_conflicts, reduce_conflict, later_conflicts, reduce_conflicts}
+use Rattle.lalrpop_base.specs.Words.{state_conflicts, HasNoRepeat, place_in, FitsTokens}
+use Rattle.lalrpop_base.specs.States.{Reduction}
 use Rattle.lalrpop_base.specs.declared.lookahead.token.Token.{Token}
 use Rattle.lalrpop_base.specs.declared.lookahead.token.Token.TheVariants.{Eof, Error, Terminal as TokenOf}
 use Rattle.lalrpop_base.specs.declared.lr1_core.state.Conflict.{Conflict}
@@ -33,10 +30,9 @@ use Rattle.lalrpop_base.proofs.ContentsViews.{contains_of_map, contains_map, som
 use Rattle.lalrpop_base.proofs.HeldTokens.{place_there, place_is}
 use Rattle.lalrpop_base.proofs.RisingLemmas.{filter_bits}
 use Rattle.lalrpop_base.proofs.theory.ConflictLists.{conflict_list}
-use Rattle.lalrpop_base.proofs.theory.Conflicts.{empty_list}
-use Rattle.lalrpop_tables.specs.ListedConflicts.{conflict_of, conflicts_of}
+use Rattle.lalrpop_tables.specs.Words.{conflict_of, conflicts_of}
 use Rattle.lalrpop_tables.proofs.KnownTerminals.{token_bit, held_bit, bit_held}
-use Rattle.lalrpop_tables.proofs.Lists.{Contains-none, Contains-here, Contains-there}
+use Rattle.lalrpop_tables.proofs.Lists.{Contains-here, Contains-there}
 use Rattle.lalrpop_tables.proofs.Orders.{terminal_order, terminal_exact, terminal_total}
 use Rattle.lalrpop_tables.proofs.Places.{same_some}
 
@@ -211,22 +207,3 @@ module _ (terminals : List TerminalString) (differ : AllDiffer terminals) where
       (conflict_list terminal_order s once (keys state.shifts) (keys_ascend state.shifts ordered) (keys_shifted state.shifts ordered) (conflicts_of terminals with_shifts) (conflicts_of terminals of_reductions)
       (shift_parts state.index state.reductions.items state.shifts.entries known)
       (reduce_parts state.index state.reductions.items fits))
-
-  -- a list that is that of a state without a conflict is empty
-  nothing : (s : Contents) → AreConflictsOf terminal_order s [] → (cs : List (Conflict Bits)) → AreConflictsOf terminal_order s (conflicts_of terminals cs) → cs ≡ []
-  nothing s none [] h = refl
-  nothing s none (c ∷ cs) h =
-      let view = conflict_of terminals c in
-      let is = h.each view (Contains-here view (conflicts_of terminals cs)) in
-      absurd (Contains-none _ (none.all view.production view.action (is.some).0 ((is.exact (is.some).0).0 (is.some).1)).1)
-
-  -- the list is empty exactly where no reduction holds a terminal that is shifted, and no two share a token
-  pub no_conflicts_are_listed : (state : State Bits) → IsOrdered terminal_order state.shifts → ((t : TerminalString) → Contains (keys state.shifts) t → Contains terminals t) → ((r : CodeReduction) → Contains state.reductions.items r → FitsTokens terminals r.0) →
-      HasNoRepeat (contents_of (holds_token terminals) state).reductions → (state_conflicts terminals state ≡ []) ↔ HasNoConflict (contents_of (holds_token terminals) state)
-  no_conflicts_are_listed state ordered known fits once =
-      let s = contents_of (holds_token terminals) state in
-      let all = conflicts_are_listed state ordered known fits once in
-      let empty = empty_list terminal_order s once in (
-        λ e. empty.0 (subst (λ (cs : List (Conflict Bits)). AreConflictsOf terminal_order s (conflicts_of terminals cs)) e all),
-        λ none. nothing s (empty.1 none) (state_conflicts terminals state) all,
-      )

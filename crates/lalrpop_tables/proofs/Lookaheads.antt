@@ -3,8 +3,7 @@ use Rattle.std.proofs.Common.{List, length, sym, ◌∙◌, arith, ⊎_elim, eqb
 use Rattle.std.specs.Prelude.{◌==◌}
 use Rattle.std.proofs.lemmas.Bool.{or_cases}
 use mathlib.Core.Bool.{true≢false}
-use Rattle.lalrpop_base.specs.Bits.{has, no_bits, with_bit, has-with_bit, has-no_bits}
-use Rattle.lalrpop_base.specs.Tokens.{FitsTokens}
+use Rattle.lalrpop_base.specs.Words.{has, no_bits, with_bit, has-with_bit, has-no_bits, FitsTokens}
 use Rattle.lalrpop_base.specs.declared.repr.TerminalString.{TerminalString}
 
 -- Eof is a token

@@ -1,10 +1,7 @@
 -- The states that the construction makes without lookahead are the LR(0) states.
 use Rattle.std.proofs.Common.{◌≡◌, ◌↔◌, ℕ, suc, List, map, sym, ◌∙◌, ap, subst}
 use Rattle.std.specs.Prelude.{Contains}
-use Rattle.lalrpop_base.specs.Bits.{Bits, no_bits}
-use Rattle.lalrpop_base.specs.Items.{Dotted}
-use Rattle.lalrpop_base.specs.NilConflicts.{nil_conflicts}
-use Rattle.lalrpop_base.specs.WellFormed.{Rules, rules_of, productions, productions_of, IsWellFormed}
+use Rattle.lalrpop_base.specs.Words.{Bits, no_bits, Dotted, nil_conflicts, Rules, rules_of, productions, productions_of, IsWellFormed}
 use Rattle.lalrpop_base.specs.declared.lookahead.nil.Nil.{Nil}
 use Rattle.lalrpop_base.specs.declared.lookahead.token.Token.{Token}
 use Rattle.lalrpop_base.specs.declared.lr1_core.state.BuildError.{BuildError}
@@ -19,14 +16,8 @@ use Rattle.lalrpop_base.specs.declared.repr.grammar.Grammar.{Grammar}
 use Rattle.lalrpop_base.proofs.theory.Ascending.{ascending_same}
 use Rattle.lalrpop_base.proofs.theory.Closures.{reached_live}
 use Rattle.lalrpop_base.proofs.theory.Lr0.{closed_lr0}
-use Rattle.lalrpop_tables.specs.Ascending.{Precedes, Ascend}
-use Rattle.lalrpop_tables.specs.Closing.{AreOwn}
-use Rattle.lalrpop_tables.specs.Closure.{dotted_of, InKernel, IsClosureBy}
-use Rattle.lalrpop_tables.specs.Lr0.{on_any, AreLr0States, HasLr0States, HaveNoNilConflict, ListsNilConflicts}
-use Rattle.lalrpop_tables.specs.EarlyStop.{StopsFor}
-use Rattle.lalrpop_tables.specs.Results.{Construction, Settings, AreStatesFor, AreTablesFor, FailsFor}
-use Rattle.lalrpop_tables.specs.States.{begun}
-use Rattle.lalrpop_tables.specs.Transitions.{Shifts}
+use Rattle.lalrpop_tables.specs.Words.{Precedes, Ascend, AreOwn, dotted_of, InKernel, IsClosureBy, on_any, AreLr0States, HasLr0States, HaveNoNilConflict}
+use Rattle.lalrpop_tables.specs.Words.{ListsNilConflicts, StopsFor, Construction, Settings, AreStatesFor, AreTablesFor, FailsFor, begun, Shifts}
 use Rattle.lalrpop_tables.proofs.Ascending.{precedes_asymmetric}
 use Rattle.lalrpop_tables.proofs.Canonical.{start_items}
 use Rattle.lalrpop_tables.proofs.ClosedStates.{IsExactClosure, closed, reduces, reached, source_reached, kernels_differ}

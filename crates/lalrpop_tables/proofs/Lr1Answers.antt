@@ -1,16 +1,9 @@
 -- The answers of a construction of LR(1) tables, put together from what its parts say.
-use Rattle.std.proofs.Common.{◌≡◌, ◌⊎◌, ℕ, ◌<◌, inl, inr, List, length, refl, sym, subst}
+use Rattle.std.proofs.Common.{◌≡◌, ◌⊎◌, ℕ, ◌<◌, inl, inr, List, length, refl}
 use Rattle.std.specs.Prelude.{IfOk, IfErr, MatchResult}
 use Rattle.std.specs.declared.result.Result.{Result}
 use Rattle.std.specs.declared.result.Result.TheVariants.{Ok, Err}
-use Rattle.lalrpop_base.specs.Bits.{Bits}
-use Rattle.lalrpop_base.specs.Contents.{contents}
-use Rattle.lalrpop_base.specs.Coherent.{AreCoherent}
-use Rattle.lalrpop_base.specs.Grammar.{IsOnNoRightSide}
-use Rattle.lalrpop_base.specs.Places.{AllDiffer}
-use Rattle.lalrpop_base.specs.States.{AreFaithful}
-use Rattle.lalrpop_base.specs.Validity.{IsLALR1}
-use Rattle.lalrpop_base.specs.WellFormed.{productions, rules_of, IsWellFormed}
+use Rattle.lalrpop_base.specs.Words.{Bits, contents, AreCoherent, AreFaithful, IsLALR1, productions, rules_of}
 use Rattle.lalrpop_base.specs.declared.lr1_core.state.BuildError.{BuildError}
 use Rattle.lalrpop_base.specs.declared.lr1_core.state.BuildError.TheVariants.{Conflicts, Memory}
 use Rattle.lalrpop_base.specs.declared.lr1_core.state.State.{State}
@@ -18,19 +11,12 @@ use Rattle.lalrpop_base.specs.declared.lr1_core.state.TableConstructionError.{Ta
 use Rattle.lalrpop_base.specs.declared.repr.NonterminalString.{NonterminalString}
 use Rattle.lalrpop_base.specs.declared.repr.grammar.Grammar.{Grammar}
 use Rattle.lalrpop_base.proofs.theory.RightStates.{faithful_lr1}
-use Rattle.lalrpop_tables.specs.Canonical.{AreCanonicalStates, HasCanonicalStates, TellsNotLR1}
-use Rattle.lalrpop_tables.specs.CanonicalConflicts.{ListsCanonicalConflicts}
-use Rattle.lalrpop_tables.specs.Collapsed.{AreCollapsedTables, FailsByCollapse}
-use Rattle.lalrpop_tables.specs.EarlyStop.{AreSomeCanonicalStates, FailsAfter}
-use Rattle.lalrpop_tables.specs.Lalr.{AreLalrTables, TellsNotLALR1, HasCoherentStates, FailsAsLalr}
-use Rattle.lalrpop_tables.specs.LaneStates.{AreLaneTables, AreLr0Tables}
-use Rattle.lalrpop_tables.specs.Lr1Answers.{AreTablesBy, AreTablesOf, AreBuiltTablesOf, HasConflictsOf, FailsOn}
-use Rattle.lalrpop_tables.specs.Renumbered.{AreRenumbered}
-use Rattle.lalrpop_tables.specs.Results.{Construction, AreTables, EndsWithEof, FailsBy, canonical_of}
+use Rattle.lalrpop_tables.specs.Words.{AreCanonicalStates, AreCollapsedTables, FailsByCollapse, AreSomeCanonicalStates, AreLalrTables, TellsNotLALR1}
+use Rattle.lalrpop_tables.specs.Words.{HasCoherentStates, FailsAsLalr, AreLaneTables, AreLr0Tables, AreTablesBy, AreTablesOf, AreBuiltTablesOf, HasConflictsOf}
+use Rattle.lalrpop_tables.specs.Words.{FailsOn, AreRenumbered, AreTables, canonical_of}
 use Rattle.lalrpop_tables.specs.declared.build.options.Method.{Method}
 use Rattle.lalrpop_tables.specs.declared.build.options.Method.TheVariants.{Lane, Canonical}
 use Rattle.lalrpop_tables.proofs.CollapseLalr.{lalr_lr1}
-use Rattle.lalrpop_tables.proofs.Deciding.{failure_lists}
 use Rattle.lalrpop_tables.proofs.OrderedCanonical.{Ordered-canonical, Ordered-renumbered}
 use Rattle.lalrpop_tables.proofs.RenumberedTables.{Faithful-renumbered, Tables-renumbered, Lanes-renumbered, Either-renumbered, Merged-renumbered, Some-renumbered}
 use Rattle.lalrpop_tables.proofs.RenumberedValid.{Valid-renumbered}
@@ -50,22 +36,6 @@ module _ (g : Grammar) (start : NonterminalString) (tables : List (State Bits)) 
     merged = λ c. absurd c;
     either = λ _. inr made;
     lanes = λ e. cc;
-  }
-
-  -- by the lane way, where there are no lane tables
-  pub Else-answer : (method : Method) → (method ≡ Lane → IsOnNoRightSide (productions g) start → IsLALR1 (productions g) start → ⊥) → AreBuiltTablesOf ⊥ Canonical g start tables → AreBuiltTablesOf ⊥ method g start tables
-  Else-answer method none t = record {
-    coherent = t.coherent;
-    some = t.some;
-    lr1 = t.lr1;
-    faithful = t.faithful;
-    valid = λ n _. t.valid n refl;
-    canonical = λ n _. t.canonical n refl;
-    built = λ n _. t.built n refl;
-    lalr1 = t.lalr1;
-    merged = t.merged;
-    either = λ _. inr (t.built (λ c. c) refl);
-    lanes = λ m alone lalr. absurd (none m alone lalr);
   }
 
   pub Lane-answer : AreLaneTables (rules_of g) start tables → AreLr0Tables (rules_of g) start tables → AreFaithful (productions g) start (contents g.terminals tables) → AreBuiltTablesOf ⊥ Lane g start tables
@@ -132,19 +102,6 @@ Answer-renumbered collapsed method g start built tables r t = record {
 
 -- ---- errors
 module _ (g : Grammar) (start : NonterminalString) (stop_after : ℕ) where
-  pub Canonical-failure : (error : BuildError Bits) → (stop_after ≡ 0 → FailsBy (canonical_of g start) error) → (stop_after ≡ 0 → HasCanonicalStates (rules_of g) start error) → (stop_after ≡ 0 → ListsCanonicalConflicts g start error) → FailsAfter (rules_of g) start stop_after error → TellsNotLR1 (productions g) start error → FailsOn ⊥ stop_after g start error
-  Canonical-failure (Conflicts error) failure states conflicts stopped not_lr1 = record {
-    not_lr1 = λ _. not_lr1;
-    not_lalr1 = λ c. absurd c;
-    canonical = λ _ z. states z;
-    built = λ _ z. (failure z).0;
-    all = λ _ z. (failure z).1;
-    conflicts = λ _ z. conflicts z;
-    stopped = λ _. stopped;
-    merged = λ c. absurd c;
-  }
-  Canonical-failure Memory failure states conflicts stopped not_lr1 = tt
-
   -- an error of the canonical construction, or of the collapse of what it makes
   merged_error : (collapsed : Type 0) → collapsed → (error : TableConstructionError Bits) → FailsAsLalr g start stop_after (Conflicts error) → ¬ IsLALR1 (productions g) start → HasConflictsOf collapsed stop_after g start error
   merged_error collapsed is error merged not_lalr1 = record {
@@ -162,10 +119,6 @@ module _ (g : Grammar) (start : NonterminalString) (stop_after : ℕ) where
   Merged-failure collapsed is before canonical (Conflicts error) merged not_lalr1 = merged_error collapsed is error (inr (record { before = before; canonical = canonical; merged = merged })) not_lalr1
   Merged-failure collapsed is before canonical Memory merged not_lalr1 = tt
 
-  pub Failure-collapsed : (collapsed : Type 0) → collapsed → (error : BuildError Bits) → FailsOn ⊥ stop_after g start error → FailsOn collapsed stop_after g start error
-  Failure-collapsed collapsed is (Conflicts error) f = merged_error collapsed is error (inl (f.stopped (λ c. c))) (λ lalr. f.not_lr1 (λ c. c) (lalr_lr1 (productions g) start lalr))
-  Failure-collapsed collapsed is Memory f = tt
-
   pub Failure-where : (c d : Type 0) → (c → d) → (d → c) → (error : BuildError Bits) → FailsOn c stop_after g start error → FailsOn d stop_after g start error
   Failure-where c d to from (Conflicts error) f = record {
     not_lr1 = λ n. f.not_lr1 (λ x. n (to x));
@@ -178,6 +131,10 @@ module _ (g : Grammar) (start : NonterminalString) (stop_after : ℕ) where
     merged = λ x. f.merged (from x);
   }
   Failure-where c d to from Memory f = tt
+
+  pub Failure-collapsed : (collapsed : Type 0) → collapsed → (error : BuildError Bits) → FailsOn ⊥ stop_after g start error → FailsOn collapsed stop_after g start error
+  Failure-collapsed collapsed is (Conflicts error) f = merged_error collapsed is error (inl (f.stopped (λ c. c))) (λ lalr. f.not_lr1 (λ c. c) (lalr_lr1 (productions g) start lalr))
+  Failure-collapsed collapsed is Memory f = tt
 
 -- states are collapsed exactly by the canonical method
 pub Failure_by_method : (g : Grammar) (start : NonterminalString) (stop_after : ℕ) (method : Method) (error : BuildError Bits) → FailsOn ⊥ stop_after g start error → FailsOn (method ≡ Canonical) stop_after g start error
@@ -196,28 +153,3 @@ module _ {T : Type 0} (items : T → List (State Bits)) (g : Grammar) (start : N
       IfErr r (FailsOn (method ≡ Canonical) stop_after g start)
   Collapse-fails (Ok x) merged lalr = tt
   Collapse-fails (Err e) merged lalr = Merged-failure g start stop_after (method ≡ Canonical) by before (t.built (λ c. c) by) e merged lalr
-
--- of the canonical construction, where it makes tables
-pub Canonical-makes : {T : Type 0} (items : T → List (State Bits)) (g : Grammar) (start : NonterminalString) (c : Construction Bits) (r : Result T (BuildError Bits)) (Q : BuildError Bits → Type 0) → c ≡ canonical_of g start →
-    IfOk r (λ t. AreTables c (items t)) → (EndsWithEof c → MatchResult r (λ t. AreCanonicalStates c.rules c.start (items t)) Q) → (EndsWithEof c → IfOk r (λ t. AreSomeCanonicalStates c.rules c.start (items t))) →
-    (EndsWithEof c → IfOk r (λ t. AreFaithful c.rules.productions c.start (contents c.rules.terminals (items t)))) → IfOk r (λ t. AreBuiltTablesOf ⊥ Canonical g start (items t))
-Canonical-makes items g start c (Ok t) Q same tables states valid faithful =
-    let eof : EndsWithEof c = subst EndsWithEof (sym same) refl in
-    Canonical-answer g start (items t) (subst (λ (k : Construction Bits). AreTables k (items t)) same tables)
-    (subst (λ (k : Construction Bits). AreCanonicalStates k.rules k.start (items t)) same (states eof))
-    (subst (λ (k : Construction Bits). AreSomeCanonicalStates k.rules k.start (items t)) same (valid eof))
-    (subst (λ (k : Construction Bits). AreFaithful k.rules.productions k.start (contents k.rules.terminals (items t))) same (faithful eof))
-Canonical-makes items g start c (Err e) Q same tables states valid faithful = tt
-
--- and of its error
-pub Canonical-fails : {T : Type 0} (g : Grammar) (start : NonterminalString) (c : Construction Bits) (stop_after : ℕ) (r : Result T (BuildError Bits)) (A B : T → Type 0) → IsWellFormed g → AllDiffer g.terminals → c ≡ canonical_of g start →
-    (stop_after ≡ 0 → IfErr r (FailsBy c)) → (EndsWithEof c → MatchResult r A (λ e. stop_after ≡ 0 → HasCanonicalStates c.rules c.start e)) → (EndsWithEof c → IfErr r (FailsAfter c.rules c.start stop_after)) → (EndsWithEof c → MatchResult r B (TellsNotLR1 c.rules.productions c.start)) → IfErr r (FailsOn ⊥ stop_after g start)
-Canonical-fails g start c stop_after (Ok t) A B well differ same failure states stopped not_lr1 = tt
-Canonical-fails g start c stop_after (Err e) A B well differ same failure states stopped not_lr1 =
-    let eof : EndsWithEof c = subst EndsWithEof (sym same) refl in
-    let by : stop_after ≡ 0 → FailsBy (canonical_of g start) e = λ z. subst (λ (k : Construction Bits). FailsBy k e) same (failure z) in
-    let canonical : stop_after ≡ 0 → HasCanonicalStates (rules_of g) start e = λ z. subst (λ (k : Construction Bits). HasCanonicalStates k.rules k.start e) same (states eof z) in
-    Canonical-failure g start stop_after e by canonical
-    (λ z. failure_lists g start well differ e (by z) (canonical z))
-    (subst (λ (k : Construction Bits). FailsAfter k.rules k.start stop_after e) same (stopped eof))
-    (subst (λ (k : Construction Bits). TellsNotLR1 k.rules.productions k.start e) same (not_lr1 eof))

@@ -1,10 +1,7 @@
 -- The loop that makes states until enough conflicts are listed, and what its states and conflicts are as an answer.
 use Rattle.std.proofs.Common.{◌≡◌, ℕ, ◌+◌, ◌-◌, ◌<◌, inl, inr, List, [], ◌∷◌, ◌++◌, length, take, refl, sym, ◌∙◌, ap, subst, arith, length-append}
 use Rattle.std.proofs.lemmas.Bool.{cases_lt}
-use Rattle.lalrpop_base.specs.Bits.{Bits}
-use Rattle.lalrpop_base.specs.Items.{Dotted}
-use Rattle.lalrpop_base.specs.Kernels.{Kernels}
-use Rattle.lalrpop_base.specs.WellFormed.{Rules}
+use Rattle.lalrpop_base.specs.Words.{Bits, Dotted, Kernels, Rules}
 use Rattle.lalrpop_base.specs.declared.lookahead.token.Token.{Token}
 use Rattle.lalrpop_base.specs.declared.lr1_core.state.BuildError.{BuildError}
 use Rattle.lalrpop_base.specs.declared.lr1_core.state.BuildError.TheVariants.{Conflicts, Memory}
@@ -12,8 +9,9 @@ use Rattle.lalrpop_base.specs.declared.lr1_core.state.Conflict.{Conflict}
 use Rattle.lalrpop_base.specs.declared.lr1_core.state.State.{State}
 use Rattle.lalrpop_base.specs.declared.repr.Symbol.{Symbol}
 use Rattle.lalrpop_base.specs.declared.repr.TerminalString.{TerminalString}
-use Rattle.lalrpop_tables.specs.EarlyStop.{ArePartlyBuiltBy, AreEnough, ListFewer, AreMadeUntilBy, AreMadeFor, StopsFor}
-use Rattle.lalrpop_tables.specs.Results.{FailWith, ListsAll, none, more, Settings, AreStatesFor, AreTablesFor, FailsFor}
+use Rattle.lalrpop_tables.specs.Words.{ArePartlyBuiltBy, AreEnough, ListFewer, AreMadeUntilBy, AreMadeFor, StopsFor, FailWith, ListsAll, more, Settings}
+use Rattle.lalrpop_tables.specs.Words.{AreStatesFor, AreTablesFor, FailsFor}
+use Rattle.lalrpop_tables.specs.Results.{none}
 use Rattle.lalrpop_tables.proofs.Building.{Building, Building-all}
 use Rattle.lalrpop_tables.proofs.ConflictLists.{States-of}
 

@@ -10,16 +10,12 @@ use Rattle.std.proofs.lemmas.Map.Entries.{place_from_lookup}
 use Rattle.std.proofs.lemmas.Map.Lookups.{CmpEqualImpliesEq}
 use Rattle.std.proofs.lemmas.Map.Made.{lookup-map_values}
 use Rattle.std.proofs.lemmas.Option.{slice_get_within, slice_get-map}
-use Rattle.lalrpop_base.specs.Bits.{Bits}
-use Rattle.lalrpop_base.specs.Collapsible.{dots, dots_at, dots_of, LeadAlike, AreAlike, AreCollapsible}
-use Rattle.lalrpop_base.specs.WellFormed.{name_cmp}
+use Rattle.lalrpop_base.specs.Words.{Bits, dots, dots_at, dots_of, LeadAlike, AreAlike, AreCollapsible, name_cmp}
 use Rattle.lalrpop_base.specs.contracts.repr.TerminalStringOrd.TheImpl as terminal_ord
 use Rattle.lalrpop_base.specs.declared.lr1_core.state.State.{State}
 use Rattle.lalrpop_base.specs.declared.lr1_core.state.StateIndex.{StateIndex}
-use Rattle.lalrpop_tables.specs.Collapsed.{dots_in, LeadsTo}
-use Rattle.lalrpop_tables.specs.Merging.{AreFirstNumbers}
-use Rattle.lalrpop_tables.specs.Moved.{AreMoved}
-use Rattle.lalrpop_tables.specs.Renumbered.{number_in, retargeted, retargeted_all, IsRenumberedState}
+use Rattle.lalrpop_tables.specs.Words.{dots_in, AreFirstNumbers, AreMoved, number_in, retargeted, retargeted_all, IsRenumberedState}
+use Rattle.lalrpop_tables.specs.Collapsed.{LeadsTo}
 use Rattle.lalrpop_tables.proofs.MergedStates.{Agree, CanJoin, CanMerge}
 use Rattle.lalrpop_tables.proofs.Moved.{Moved-length, Moved-at}
 use Rattle.lalrpop_tables.proofs.Orders.{name_exact, terminal_exact}

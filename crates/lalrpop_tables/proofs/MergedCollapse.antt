@@ -5,10 +5,8 @@ use Rattle.std.specs.Borrow.{Bor}
 use Rattle.std.specs.BTreeMap.{get}
 use Rattle.std.specs.List.{AllZip, flat_map}
 use Rattle.std.proofs.lemmas.Option.{slice_get_within}
-use Rattle.lalrpop_base.specs.Bits.{Bits}
-use Rattle.lalrpop_base.specs.Collapsible.{dots, AreCollapsible}
-use Rattle.lalrpop_base.specs.StateConflicts.{state_conflicts, HasNoConflict}
-use Rattle.lalrpop_base.specs.WellFormed.{name_cmp}
+use Rattle.lalrpop_base.specs.Words.{Bits, dots, AreCollapsible, state_conflicts, name_cmp}
+use Rattle.lalrpop_base.specs.StateConflicts.{HasNoConflict}
 use Rattle.lalrpop_base.specs.contracts.repr.TerminalStringOrd.TheImpl as terminal_ord
 use Rattle.lalrpop_base.specs.declared.lr1_core.state.BuildError.{BuildError}
 use Rattle.lalrpop_base.specs.declared.lr1_core.state.BuildError.TheVariants.{Conflicts, Memory}
@@ -19,11 +17,9 @@ use Rattle.lalrpop_base.specs.declared.repr.NonterminalString.{NonterminalString
 use Rattle.lalrpop_base.specs.declared.repr.Production.{Production}
 use Rattle.lalrpop_base.specs.declared.repr.TerminalString.{TerminalString}
 use Rattle.lalrpop_base.proofs.ConflictLemmas.{none_exactly}
-use Rattle.lalrpop_tables.specs.Collapsed.{dots_in, HoldsAt, ReducesBy, ReducesOn, LeadsTo, OfMember, IsMerge, IsNumbered, IsCollapsed, AreCollapsedTables, FailsByCollapse}
-use Rattle.lalrpop_tables.specs.Merging.{AreFirstNumbers, ArePlaced, IsReduced}
-use Rattle.lalrpop_tables.specs.Moved.{AreMoved}
-use Rattle.lalrpop_tables.specs.Renumbered.{number_in, IsRenumberedState}
-use Rattle.lalrpop_tables.specs.Results.{HaveNoConflict, FailWith}
+use Rattle.lalrpop_tables.specs.Words.{dots_in, HoldsAt, ReducesBy, ReducesOn, OfMember, IsMerge, IsNumbered, IsCollapsed, AreCollapsedTables, FailsByCollapse}
+use Rattle.lalrpop_tables.specs.Words.{AreFirstNumbers, ArePlaced, IsReduced, AreMoved, number_in, IsRenumberedState, HaveNoConflict, FailWith}
+use Rattle.lalrpop_tables.specs.Collapsed.{LeadsTo}
 use Rattle.lalrpop_tables.proofs.MergeableStates.{was, goes, as_many, moved_to, came_from, number_of_place, index_there, same_number, dots_moved, Numbered-merge}
 use Rattle.lalrpop_tables.proofs.MergedStates.{Merges, HasNumber, AreMerged, Placed-merged}
 use Rattle.lalrpop_tables.proofs.Places.{same_some, filled}

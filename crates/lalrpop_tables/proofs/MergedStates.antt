@@ -8,18 +8,15 @@ use Rattle.std.specs.declared.cmp.Ordering.{Ordering}
 use Rattle.std.proofs.lemmas.Bool.{or_cases, cases_eq, cases_lt}
 use Rattle.std.proofs.lemmas.List.Elements.{Contains-append_left, Contains-append_right, Contains-append_cases}
 use Rattle.std.proofs.lemmas.Option.{slice_get_within}
-use Rattle.lalrpop_base.specs.Bits.{Bits, has, has-join}
-use Rattle.lalrpop_base.specs.Collapsible.{dots}
-use Rattle.lalrpop_base.specs.Items.{Dotted}
-use Rattle.lalrpop_base.specs.WellFormed.{name_cmp}
+use Rattle.lalrpop_base.specs.Words.{Bits, has, has-join, dots, Dotted, name_cmp}
 use Rattle.lalrpop_base.specs.contracts.repr.TerminalStringOrd.TheImpl as terminal_ord
 use Rattle.lalrpop_base.specs.declared.lr1_core.state.State.{State}
 use Rattle.lalrpop_base.specs.declared.lr1_core.state.StateIndex.{StateIndex}
 use Rattle.lalrpop_base.specs.declared.repr.NonterminalString.{NonterminalString}
 use Rattle.lalrpop_base.specs.declared.repr.Production.{Production}
 use Rattle.lalrpop_base.specs.declared.repr.TerminalString.{TerminalString}
-use Rattle.lalrpop_tables.specs.Collapsed.{dots_in, HoldsAt, OfMember}
-use Rattle.lalrpop_tables.specs.Merging.{joined_item, joined_items, IsJoined, IsPlacedAt, ArePlaced, none, pushed, joined}
+use Rattle.lalrpop_tables.specs.Words.{dots_in, HoldsAt, OfMember, joined_item, joined_items, IsJoined, IsPlacedAt, ArePlaced, pushed, joined}
+use Rattle.lalrpop_tables.specs.Merging.{none}
 use Rattle.lalrpop_tables.proofs.Places.{same_some, push_cases, slice_get-longer, slice_get-push_at}
 
 abbrev Reduction : Type 0

@@ -7,19 +7,17 @@ use Rattle.std.specs.declared.vec.Vec.{Vec}
 use Rattle.std.specs.Vec.{with_item}
 use Rattle.std.proofs.lemmas.Bool.{cases_lt, cases_eq}
 use Rattle.std.proofs.lemmas.Option.{slice_get_within}
-use Rattle.lalrpop_base.specs.Bits.{Bits, has, join, has-join}
-use Rattle.lalrpop_base.specs.Coherent.{AreCoherent}
+use Rattle.lalrpop_base.specs.Words.{Bits, has, join, has-join, AreCoherent}
 use Rattle.lalrpop_base.specs.declared.lr1_core.state.State.{State}
 use Rattle.lalrpop_base.specs.declared.lr1_core.state.StateIndex.{StateIndex}
 use Rattle.std.proofs.lemmas.Bool.{or_cases}
 use Rattle.std.specs.Map.{keys_of}
 use mathlib.Core.Bool.{true≢false}
 use Rattle.lalrpop_base.proofs.ContentsViews.{contains_of_map}
-use Rattle.lalrpop_tables.specs.Contexts.{AreDisjoint, HasAt, IsUnion, MeetInUnion}
-use Rattle.lalrpop_tables.specs.LaneRows.{Rows}
-use Rattle.lalrpop_tables.specs.LaneTables.{ColumnsOverlap, HasRow, IsClosed, IsRow, IsSuccessor, RowOverlaps}
-use Rattle.lalrpop_tables.specs.Merges.{index, IsVisited, HaveNoNewMarks, HasJoined, HasWalked, AreCopies, IsContext, IsMerging, IsWalked, Advances, unset, unvisited, AreUnited, IsJoinedCopy, LeadsTo, IsApart}
-use Rattle.lalrpop_tables.specs.StateSets.{set_of, context_of, HasSet, AreJoined, OwnSets}
+use Rattle.lalrpop_tables.specs.Words.{AreDisjoint, HasAt, IsUnion, MeetInUnion, Rows, ColumnsOverlap, HasRow, IsClosed, IsRow, IsSuccessor, RowOverlaps, index}
+use Rattle.lalrpop_tables.specs.Words.{IsVisited, HaveNoNewMarks, HasJoined, HasWalked, AreCopies, IsContext, IsMerging, IsWalked, Advances, unset, unvisited}
+use Rattle.lalrpop_tables.specs.Words.{AreUnited, IsJoinedCopy, IsApart, set_of, context_of, HasSet, AreJoined, OwnSets}
+use Rattle.lalrpop_tables.specs.Merges.{LeadsTo}
 use Rattle.lalrpop_tables.specs.declared.lane_table.construct.merge.Merge.{Merge}
 use Rattle.lalrpop_tables.specs.declared.lane_table.construct.merge.context_sets.ContextSets.{ContextSets}
 use Rattle.lalrpop_tables.specs.declared.lane_table.table.LaneTable.{LaneTable}
@@ -124,9 +122,6 @@ advances_on a b c x y = record {
 pub row_on : (old new : Merge) → Advances old new → (s : StateIndex) → HasRow old.table.now s → HasRow new.table.now s
 row_on old new a s row = subst (λ (t : Bor LaneTable). HasRow t.now s) (sym a.table) row
 
-pub overlap_on : (old new : Merge) → Advances old new → ColumnsOverlap old.table.now → ColumnsOverlap new.table.now
-overlap_on old new a o = subst (λ (t : Bor LaneTable). ColumnsOverlap t.now) (sym a.table) o
-
 pub walked_on : (old new : Merge) → Advances old new → (s : StateIndex) → IsWalked old s → IsWalked new s
 walked_on old new a s w = record { original = w.original; there = a.originals s.0 w.original w.there; row = row_on old new a (index w.original) w.row }
 
@@ -219,9 +214,6 @@ module _ (old : Merge) (ready : IsMerging old) (sets : ContextSets) where
 
     same_advance : sets ≡ old.context_sets → Advances old with_sets
     same_advance e = subst (λ (s : ContextSets). Advances old (record old { context_sets = s })) (sym e) (advances_none old ready)
-
-    Told : Bool → Type 0
-    Told b = MatchBool b (AreJoined source target old.context_sets sets) (MeetInUnion (context_of old.context_sets source) (context_of old.context_sets target) × (sets ≡ old.context_sets))
 
     pub union_advances : {E : Type 0} (r : Result Bool E) → IfOk r (λ b. MatchBool b (AreJoined source target old.context_sets sets) (MeetInUnion (context_of old.context_sets source) (context_of old.context_sets target) × (sets ≡ old.context_sets))) → OnErr r (sets ≡ old.context_sets) → Advances old with_sets
     union_advances (Ok true) j e = joined_advance j

@@ -1,9 +1,9 @@
 -- States placed by their numbers: a state more.
 use Rattle.std.proofs.Common.{◌≡◌, ℕ, zero, suc, ◌<◌, ◌≤◌, List, [], ◌∷◌, ◌++◌, length, refl, sym, ap, ◌∙◌, arith, append_assoc, Some, slice_set}
 use Rattle.std.specs.Prelude.{slice_get}
-use Rattle.lalrpop_base.specs.Bits.{Bits}
+use Rattle.lalrpop_base.specs.Words.{Bits}
 use Rattle.lalrpop_base.specs.declared.lr1_core.state.State.{State}
-use Rattle.lalrpop_tables.specs.Merging.{IsJoined, Places, pushed, joined}
+use Rattle.lalrpop_tables.specs.Words.{IsJoined, Places, pushed, joined}
 
 -- ---- what a loop over a list has taken, and what is left
 pub taken : {X : Type 0} (all rest yielded left : List X) (x : X) → yielded ++ rest ≡ all → rest ≡ x ∷ left → (yielded ++ x ∷ []) ++ left ≡ all

@@ -1,9 +1,8 @@
 -- Items joined place by place.
 use Rattle.std.proofs.Common.{◌≡◌, ℕ, zero, suc, ◌<◌, List, [], ◌∷◌, ◌++◌, length, refl, sym, ap, Some, slice_set, arith}
 use Rattle.std.specs.Prelude.{slice_get}
-use Rattle.lalrpop_base.specs.Bits.{Bits}
-use Rattle.lalrpop_base.specs.Items.{Dotted}
-use Rattle.lalrpop_tables.specs.Merging.{joined_item, joined_at, joined_items}
+use Rattle.lalrpop_base.specs.Words.{Bits, Dotted}
+use Rattle.lalrpop_tables.specs.Words.{joined_item, joined_at, joined_items}
 use Rattle.lalrpop_tables.proofs.Places.{same_some}
 
 pub joined_there : (is : List (Dotted Bits)) (n : ℕ) (i j : Dotted Bits) → slice_get is n ≡ Some i → slice_set is n (joined_item i j) ≡ joined_at is n j

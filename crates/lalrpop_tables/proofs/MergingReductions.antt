@@ -15,12 +15,11 @@ use Rattle.std.proofs.lemmas.Map.Entries.{place_from_lookup, lookup_from_place}
 use Rattle.std.proofs.lemmas.Map.Keys.{IsDistinct-from_sorted}
 use Rattle.std.proofs.lemmas.Option.{slice_get-map}
 use mathlib.Core.Bool.{true≢false}
-use Rattle.lalrpop_base.specs.Bits.{Bits, has, no_bits, join, has-join, has-no_bits}
-use Rattle.lalrpop_base.specs.Multimaps.{PushesAt}
+use Rattle.lalrpop_base.specs.Words.{Bits, has, no_bits, join, has-join, has-no_bits, PushesAt}
 use Rattle.lalrpop_base.specs.declared.repr.Production.{Production}
 use Rattle.lalrpop_base.proofs.ContentsViews.{some_of_map}
-use Rattle.lalrpop_tables.specs.Ascending.{production_order}
-use Rattle.lalrpop_tables.specs.Merging.{HasReduction, HasReductionOn, AreTokensOf, tokens_at, HasTokensOf, AreListed, AreJoinedReductions}
+use Rattle.lalrpop_tables.specs.Words.{production_order, HasReduction, HasReductionOn, AreTokensOf, HasTokensOf, AreJoinedReductions}
+use Rattle.lalrpop_tables.specs.Merging.{tokens_at, AreListed}
 use Rattle.lalrpop_tables.proofs.Ascending.{production_total, production_exact}
 use Rattle.lalrpop_tables.proofs.Lists.{place}
 use Rattle.lalrpop_tables.proofs.Places.{contains_at}

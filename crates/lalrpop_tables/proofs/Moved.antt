@@ -4,10 +4,9 @@ use Rattle.std.specs.Prelude.{slice_get}
 use Rattle.std.specs.List.{filter}
 use Rattle.std.proofs.lemmas.List.{append-nil}
 use Rattle.std.proofs.lemmas.List.Elements.{filter-append}
-use Rattle.lalrpop_base.specs.Bits.{Bits}
+use Rattle.lalrpop_base.specs.Words.{Bits}
 use Rattle.lalrpop_base.specs.declared.lr1_core.state.State.{State}
-use Rattle.lalrpop_tables.specs.Moved.{AreMoved, no_more, and_one, GrowsBy}
-use Rattle.lalrpop_tables.specs.Renumbered.{IsRenumberedState}
+use Rattle.lalrpop_tables.specs.Words.{AreMoved, no_more, and_one, GrowsBy, IsRenumberedState}
 use Rattle.lalrpop_tables.proofs.Places.{same_some}
 
 module _ (new : ℕ → ℕ) where
@@ -37,7 +36,3 @@ module _ (new : ℕ → ℕ) where
   pub Grows-taken : (takes : Bool) (state renumbered : State Bits) (old grown : List (State Bits)) → takes ≡ true → IsRenumberedState new state renumbered → grown ≡ old ++ renumbered ∷ [] → GrowsBy new takes state old grown
   Grows-taken true state renumbered old grown e r g = (renumbered, r, g)
   Grows-taken false state renumbered old grown e r g = cc
-
-  pub Grows-left : (takes : Bool) (state : State Bits) (old : List (State Bits)) → takes ≡ false → GrowsBy new takes state old old
-  Grows-left true state old e = cc
-  Grows-left false state old e = refl

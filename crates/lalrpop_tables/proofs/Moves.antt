@@ -3,8 +3,7 @@ use Rattle.std.proofs.Common.{◌≡◌, ℕ, suc, ◌⊎◌, inl, inr, List, []
 use Rattle.std.specs.Prelude.{Contains, slice_get, ◌==◌}
 use Rattle.std.specs.Map.{keys_of}
 use Rattle.std.proofs.lemmas.List.Elements.{Contains-append_left, Contains-append_right, Contains-append_cases}
-use Rattle.lalrpop_base.specs.Items.{Dotted}
-use Rattle.lalrpop_base.specs.Places.{AllDiffer}
+use Rattle.lalrpop_base.specs.Words.{Dotted, AllDiffer, Kernels}
 use Rattle.lalrpop_base.specs.declared.lr1_core.state.StateIndex.{StateIndex}
 use Rattle.lalrpop_base.specs.declared.repr.Symbol.{Symbol}
 use Rattle.lalrpop_base.specs.declared.repr.Symbol.TheVariants.{Nonterminal, Terminal}
@@ -12,11 +11,11 @@ use Rattle.lalrpop_base.specs.declared.repr.NonterminalString.{NonterminalString
 use Rattle.lalrpop_base.specs.declared.repr.TerminalString.{TerminalString}
 use Rattle.lalrpop_base.specs.declared.repr.Production.{Production}
 use Rattle.lalrpop_base.specs.contracts.repr.TerminalStringOrd.TheImpl as terminal_ord
-use Rattle.lalrpop_tables.specs.Entries.{IsPushedAt}
+use Rattle.lalrpop_tables.specs.Words.{IsPushedAt, IsBehind, IsBehindOne, moved, Shifts, Groups, HasNoGroup, AreMoves, IsMoveAdded, HasEdge, ShiftsAscend}
+use Rattle.lalrpop_tables.specs.Words.{IsEdgeAdded, AreEdges, reductions_of}
 use Rattle.lalrpop_tables.specs.Entries.IsPushedAt.{fresh, known}
-use Rattle.lalrpop_base.specs.Kernels.{Kernels}
 use Rattle.lalrpop_tables.specs.declared.build.transitions.Edges.{Edges}
-use Rattle.lalrpop_tables.specs.Transitions.{IsBehind, IsBehindOne, moved, Shifts, Groups, HasNoGroup, AreMoves, IsMoveAdded, HasEdge, ShiftsAscend, IsEdgeAdded, LeadsTo, AreEdges, IsReached, reductions_of}
+use Rattle.lalrpop_tables.specs.Transitions.{LeadsTo, IsReached}
 use Rattle.lalrpop_tables.specs.Transitions.Shifts.{none, moves, stays}
 use Rattle.lalrpop_tables.specs.Transitions.IsMoveAdded.{over, at_end}
 use Rattle.lalrpop_tables.proofs.Lists.{Contains-none, Contains-here, Contains-there, Contains-cases, Contains-map, place}

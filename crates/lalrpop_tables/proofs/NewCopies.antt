@@ -2,13 +2,11 @@
 use Rattle.std.proofs.Common.{◌≡◌, ℕ, ◌<◌, ◌≤◌, inl, inr, Bool, true, false, List, [], ◌∷◌, ◌++◌, length, Some, sym, ap, subst, ◌∙◌, arith, length-append}
 use Rattle.std.specs.Prelude.{slice_get}
 use Rattle.std.specs.Borrow.{Bor}
-use Rattle.lalrpop_base.specs.Bits.{Bits}
+use Rattle.lalrpop_base.specs.Words.{Bits}
 use Rattle.lalrpop_base.specs.declared.lr1_core.state.State.{State}
 use Rattle.lalrpop_base.specs.declared.lr1_core.state.StateIndex.{StateIndex}
-use Rattle.lalrpop_tables.specs.Contexts.{AreDisjoint}
-use Rattle.lalrpop_tables.specs.LaneTables.{HasRow, IsRow, IsSuccessor, RowOverlaps}
-use Rattle.lalrpop_tables.specs.Merges.{index, IsVisited, HaveNoNewMarks, AreCopies, IsContext, IsMerging, Advances, unset, IsPushed, IsLonger, IsFresh}
-use Rattle.lalrpop_tables.specs.StateSets.{set_of, context_of, HasSet, IsMade, AddsColumns}
+use Rattle.lalrpop_tables.specs.Words.{AreDisjoint, HasRow, IsRow, IsSuccessor, RowOverlaps, index, IsVisited, HaveNoNewMarks, AreCopies, IsContext, IsMerging}
+use Rattle.lalrpop_tables.specs.Words.{Advances, unset, IsPushed, IsLonger, IsFresh, set_of, context_of, HasSet, IsMade, AddsColumns}
 use Rattle.lalrpop_tables.specs.declared.lane_table.construct.merge.Merge.{Merge}
 use Rattle.lalrpop_tables.specs.declared.lane_table.construct.merge.context_sets.ContextSets.{ContextSets}
 use Rattle.lalrpop_tables.specs.declared.lane_table.table.LaneTable.{LaneTable}

@@ -4,9 +4,8 @@ use Rattle.std.specs.Prelude.{Contains, slice_get}
 use Rattle.std.specs.List.{filter, flat_map}
 use Rattle.std.proofs.lemmas.List.{append-nil}
 use Rattle.std.proofs.lemmas.List.Elements.{filter-append, Contains-append_cases}
-use Rattle.lalrpop_base.specs.Bits.{Bits, has}
-use Rattle.lalrpop_base.specs.StateConflicts.{share, shift_conflict, conflicts_on_place, shift_conflicts, reduce_conflict, later_conflicts, reduce_conflicts, state_conflicts}
-use Rattle.lalrpop_base.specs.TerminalPlaces.{place_in}
+use Rattle.lalrpop_base.specs.Words.{Bits, has, share, shift_conflict, conflicts_on_place, shift_conflicts, reduce_conflict, later_conflicts, reduce_conflicts}
+use Rattle.lalrpop_base.specs.Words.{state_conflicts, place_in}
 use Rattle.lalrpop_base.specs.declared.lr1_core.state.Action.TheVariants.{Shift}
 use Rattle.lalrpop_base.specs.declared.lr1_core.state.Conflict.{Conflict}
 use Rattle.lalrpop_base.specs.declared.lr1_core.state.State.{State}
@@ -14,7 +13,7 @@ use Rattle.lalrpop_base.specs.declared.lr1_core.state.StateIndex.{StateIndex}
 use Rattle.lalrpop_base.specs.declared.repr.TerminalString.{TerminalString}
 use Rattle.lalrpop_base.proofs.ContentsViews.{contains_of_map, at_contains}
 use Rattle.lalrpop_base.proofs.theory.ConflictLists.{ordered-nil, ordered-append}
-use Rattle.lalrpop_tables.specs.CanonicalConflicts.{listed_of, StatesAscend}
+use Rattle.lalrpop_tables.specs.Words.{listed_of, StatesAscend}
 use Rattle.lalrpop_tables.proofs.ListedConflicts.{CodeReduction}
 use Rattle.lalrpop_tables.proofs.Lists.{Contains-none, Contains-here, Contains-there}
 

@@ -1,18 +1,13 @@
 -- Canonical states as their construction makes them, and under other numbers, can be merged.
-use Rattle.std.proofs.Common.{◌≡◌, ℕ, List, sym, subst, Some}
-use Rattle.std.specs.Prelude.{slice_get, Contains}
+use Rattle.std.proofs.Common.{◌≡◌, List, sym, subst}
+use Rattle.std.specs.Prelude.{Contains}
 use Rattle.std.specs.Borrow.{Bor}
-use Rattle.lalrpop_base.specs.Bits.{Bits}
-use Rattle.lalrpop_base.specs.Tokens.{FitsTokens}
-use Rattle.lalrpop_base.specs.WellFormed.{rules_of}
+use Rattle.lalrpop_base.specs.Words.{Bits, FitsTokens, rules_of}
 use Rattle.lalrpop_base.specs.declared.lr1_core.state.State.{State}
 use Rattle.lalrpop_base.specs.declared.repr.NonterminalString.{NonterminalString}
 use Rattle.lalrpop_base.specs.declared.repr.Production.{Production}
 use Rattle.lalrpop_base.specs.declared.repr.grammar.Grammar.{Grammar}
-use Rattle.lalrpop_tables.specs.Ascending.{Ascend}
-use Rattle.lalrpop_tables.specs.Canonical.{AreCanonicalStates, AreOrderedCanonical}
-use Rattle.lalrpop_tables.specs.Renumbered.{AreRenumbered}
-use Rattle.lalrpop_tables.specs.Results.{AreStatesOf, canonical_of}
+use Rattle.lalrpop_tables.specs.Words.{Ascend, AreCanonicalStates, AreOrderedCanonical, AreRenumbered, AreStatesOf, canonical_of}
 use Rattle.lalrpop_tables.proofs.CanonicalConflicts.{reductions_fit}
 use Rattle.lalrpop_tables.proofs.RenumberedCanonical.{Canonical-renumbered}
 use Rattle.lalrpop_tables.proofs.RenumberedTables.{state_before, Some-renumbered}

@@ -6,7 +6,7 @@ use Rattle.std.proofs.lemmas.Bool.{cases_Bool, cases_lt, cases_order}
 use Rattle.std.proofs.lemmas.List.{take_all}
 use Rattle.std.proofs.lemmas.List.Filters.{length-filter_both, length-filter_more}
 use Rattle.std.proofs.lemmas.Option.{slice_get_within, slice_get_past, slice_get_cases, get_or_from_slice_get}
-use Rattle.lalrpop_tables.specs.Partitions.{rank, fails, parted, parted_place, new_place, ArePlaces}
+use Rattle.lalrpop_tables.specs.Words.{rank, fails, parted, parted_place, new_place, ArePlaces}
 use Rattle.lalrpop_tables.proofs.Places.{same_some, slice_get-longer, slice_get-append_before, slice_get-push_at}
 
 -- ---- how many of the first elements pass

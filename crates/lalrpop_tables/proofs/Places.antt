@@ -4,7 +4,7 @@ use Rattle.std.specs.Prelude.{slice_get, Some, Contains, unwrap_or, AllPairs}
 use Rattle.std.proofs.lemmas.Option.{slice_get_within, get_or_from_slice_get, slice_get-get_or, slice_get_read}
 use Rattle.std.proofs.lemmas.Bool.{cases_lt}
 use Rattle.std.proofs.lemmas.List.Elements.{Contains-append_left, Contains-append_right, Contains-append_cases}
-use Rattle.lalrpop_base.specs.Places.{AllDiffer}
+use Rattle.lalrpop_base.specs.Words.{AllDiffer}
 use Rattle.lalrpop_tables.proofs.Lists.{Contains-here, Contains-there, Contains-cases}
 
 pub slice_get-append_before : {X : Type 0} (xs ys : List X) (k : ℕ) → k < length xs → slice_get (xs ++ ys) k ≡ slice_get xs k

@@ -4,18 +4,13 @@ use Rattle.std.specs.Prelude.{Contains, slice_get}
 use Rattle.std.specs.Borrow.{Bor}
 use Rattle.std.specs.declared.cmp.Ordering.TheVariants.{Less}
 use Rattle.std.proofs.lemmas.Option.{slice_get-map}
-use Rattle.lalrpop_base.specs.ConflictLists.{Ordered}
-use Rattle.lalrpop_base.specs.Conflicts.{ReducesInOrder}
-use Rattle.lalrpop_base.specs.Contents.{reduction_of, contents_of}
-use Rattle.lalrpop_base.specs.Items.{Dotted}
-use Rattle.lalrpop_base.specs.States.{Reduction, ReducesFinished}
+use Rattle.lalrpop_base.specs.Words.{Ordered, ReducesInOrder, reduction_of, contents_of, Dotted, ReducesFinished}
+use Rattle.lalrpop_base.specs.States.{Reduction}
 use Rattle.lalrpop_base.specs.declared.lookahead.token.Token.{Token}
 use Rattle.lalrpop_base.specs.declared.lr1_core.state.State.{State}
 use Rattle.lalrpop_base.specs.declared.repr.Production.{Production}
 use Rattle.lalrpop_base.proofs.ContentsViews.{some_of_map, contains_of_map, contains_map}
-use Rattle.lalrpop_tables.specs.Ascending.{production_order, Precedes, Ascend}
-use Rattle.lalrpop_tables.specs.Closure.{dotted_of}
-use Rattle.lalrpop_tables.specs.Transitions.{reductions_of, seen}
+use Rattle.lalrpop_tables.specs.Words.{production_order, Precedes, Ascend, dotted_of, reductions_of, seen}
 use Rattle.lalrpop_tables.proofs.Ascending.{ordered_tail, ordered_head, ordered_cons, ordered_none, less_apart}
 use Rattle.lalrpop_tables.proofs.Lists.{Contains-none, Contains-here, Contains-there, Contains-cases, Contains-map}
 use Rattle.lalrpop_tables.proofs.Shifting.{of_dotted}

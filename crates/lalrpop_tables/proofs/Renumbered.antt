@@ -10,14 +10,9 @@ use Rattle.std.specs.declared.cmp.Ordering.TheVariants.{Less, Equal, Greater}
 use Rattle.std.proofs.lemmas.Bool.{cases_lt, cases_Bool, or_cases}
 use Rattle.std.proofs.lemmas.Map.Made.{lookup-map_values}
 use Rattle.std.proofs.lemmas.Option.{slice_get_past, slice_get_within, slice_get_cases, slice_get-map}
-use Rattle.lalrpop_base.specs.Bits.{Bits}
-use Rattle.lalrpop_base.specs.Coherent.{IsCoherentEdge, IsCoherentStep, StartsAtZero, AreFinished, AreCoherent}
-use Rattle.lalrpop_base.specs.Contents.{holds_token, number_of, reduction_of, contents_of, contents_at, contents}
-use Rattle.lalrpop_base.specs.Each.{EachEntry}
-use Rattle.lalrpop_base.specs.Items.{Dotted}
-use Rattle.lalrpop_base.specs.Renumbering.{renumbered, IsRenumbering, HasGoto, PutsGotosFirst}
-use Rattle.lalrpop_base.specs.States.{Contents, leads}
-use Rattle.lalrpop_base.specs.WellFormed.{name_cmp}
+use Rattle.lalrpop_base.specs.Words.{Bits, IsCoherentEdge, IsCoherentStep, StartsAtZero, AreFinished, AreCoherent, holds_token, number_of, reduction_of}
+use Rattle.lalrpop_base.specs.Words.{contents_of, contents_at, contents, EachEntry, Dotted, renumbered, IsRenumbering, HasGoto, PutsGotosFirst, Contents, leads}
+use Rattle.lalrpop_base.specs.Words.{name_cmp}
 use Rattle.lalrpop_base.specs.declared.lr1_core.state.State.{State}
 use Rattle.lalrpop_base.specs.declared.lr1_core.state.StateIndex.{StateIndex}
 use Rattle.lalrpop_base.specs.declared.repr.NonterminalString.{NonterminalString}
@@ -26,9 +21,8 @@ use Rattle.lalrpop_base.specs.declared.repr.Symbol.TheVariants.{Nonterminal, Ter
 use Rattle.lalrpop_base.specs.declared.repr.TerminalString.{TerminalString}
 use Rattle.lalrpop_base.proofs.ContentsViews.{some_of_map}
 use Rattle.lalrpop_base.proofs.HeldTokens.{same_test}
-use Rattle.lalrpop_tables.specs.Moved.{AreMoved}
-use Rattle.lalrpop_tables.specs.Partitions.{parted, new_place, ArePlaces}
-use Rattle.lalrpop_tables.specs.Renumbered.{retargeted, retargeted_all, IsRenumberedState, KeepsOrder, AreRenumbered, stands_first, number_in}
+use Rattle.lalrpop_tables.specs.Words.{AreMoved, parted, new_place, ArePlaces, retargeted, retargeted_all, IsRenumberedState, KeepsOrder, AreRenumbered}
+use Rattle.lalrpop_tables.specs.Words.{stands_first, number_in}
 use Rattle.lalrpop_tables.proofs.Moved.{Moved-length, Moved-at}
 use Rattle.lalrpop_tables.proofs.Orders.{name_total, terminal_order}
 use Rattle.lalrpop_tables.proofs.Partitions.{front_place, past_place, parted_length, stands_there, front_before_back, parts_keep_order, places_differ, place_taken}

@@ -4,21 +4,18 @@ use Rattle.std.specs.Prelude.{Contains, slice_get}
 use Rattle.std.specs.List.{list_any}
 use Rattle.std.proofs.lemmas.Bool.{cases_lt}
 use Rattle.std.proofs.lemmas.Option.{slice_get_past, slice_get_cases}
-use Rattle.lalrpop_base.specs.Bits.{Bits}
-use Rattle.lalrpop_base.specs.Closures.{InClosure, InTokenClosure, IsAtStart, IsAtStartWith, IsMoved, IsMovedWith, AreClosed, IsReached, at_zero, over_edge, TokenKernelsDiffer}
-use Rattle.lalrpop_base.specs.Contents.{contents, holds_token}
-use Rattle.lalrpop_base.specs.Laws.{AreCanonicalWith}
-use Rattle.lalrpop_base.specs.Places.{AllDiffer}
-use Rattle.lalrpop_base.specs.Renumbering.{renumbered, IsRenumbering}
-use Rattle.lalrpop_base.specs.States.{Contents, Reduction, leads, IsBehindDot, LeadsOverDots, HasNoRepeat, ReducesFinished}
-use Rattle.lalrpop_base.specs.WellFormed.{Rules}
+use Rattle.lalrpop_base.specs.Words.{Bits, InClosure, InTokenClosure, IsAtStart, IsAtStartWith, IsMoved, IsMovedWith, AreClosed, IsReached, at_zero}
+use Rattle.lalrpop_base.specs.Words.{TokenKernelsDiffer, contents, holds_token, AreCanonicalWith, AllDiffer, renumbered, IsRenumbering, Contents, leads}
+use Rattle.lalrpop_base.specs.Words.{IsBehindDot, LeadsOverDots, HasNoRepeat, ReducesFinished, Rules}
+use Rattle.lalrpop_base.specs.Closures.{over_edge}
+use Rattle.lalrpop_base.specs.States.{Reduction}
 use Rattle.lalrpop_base.specs.declared.lookahead.token.Token.{Token}
 use Rattle.lalrpop_base.specs.declared.lr1_core.state.State.{State}
 use Rattle.lalrpop_base.specs.declared.repr.NonterminalString.{NonterminalString}
 use Rattle.lalrpop_base.specs.declared.repr.Production.{Production}
 use Rattle.lalrpop_base.specs.declared.repr.Symbol.{Symbol}
-use Rattle.lalrpop_tables.specs.Canonical.{is_with_token, tokens_at, tokens_of, AreCanonicalStates}
-use Rattle.lalrpop_tables.specs.Renumbered.{AreRenumbered}
+use Rattle.lalrpop_tables.specs.Words.{is_with_token, tokens_of, AreCanonicalStates, AreRenumbered}
+use Rattle.lalrpop_tables.specs.Canonical.{tokens_at}
 
 -- tests of the tokens of dotted productions
 abbrev TokenTests : Type 0

@@ -3,11 +3,8 @@ use Rattle.std.proofs.Common.{◌≡◌, ◌⊎◌, ◌<◌, ℕ, inl, inr, ⊎_
 use Rattle.std.specs.Prelude.{Contains, slice_get}
 use Rattle.std.proofs.lemmas.Bool.{cases_lt}
 use Rattle.std.proofs.lemmas.Option.{slice_get_within}
-use Rattle.lalrpop_base.specs.Bits.{Bits}
-use Rattle.lalrpop_base.specs.Contents.{contents}
+use Rattle.lalrpop_base.specs.Words.{Bits, contents, AreFaithful, Rules, rules_of}
 use Rattle.lalrpop_base.specs.StateConflicts.{HasNoConflict}
-use Rattle.lalrpop_base.specs.States.{AreFaithful}
-use Rattle.lalrpop_base.specs.WellFormed.{Rules, rules_of}
 use Rattle.lalrpop_base.specs.declared.lr1_core.state.Items.{Items}
 use Rattle.lalrpop_base.specs.declared.lr1_core.state.State.{State}
 use Rattle.lalrpop_base.specs.declared.repr.NonterminalString.{NonterminalString}
@@ -15,11 +12,8 @@ use Rattle.lalrpop_base.specs.declared.repr.Production.{Production}
 use Rattle.lalrpop_base.specs.declared.repr.TerminalString.{TerminalString}
 use Rattle.lalrpop_base.specs.declared.repr.grammar.Grammar.{Grammar}
 use Rattle.lalrpop_base.proofs.theory.Renumbering.{faithful-renumbered}
-use Rattle.lalrpop_tables.specs.Lalr.{AreMergedTables, AreRenumberedMerged}
-use Rattle.lalrpop_tables.specs.LaneStates.{AreLaneTables, HaveFullItems}
-use Rattle.lalrpop_tables.specs.Renumbered.{IsRenumberedState, AreRenumbered}
-use Rattle.lalrpop_tables.specs.RenumberedTables.{AreRenumberedTables, AreRenumberedLaneTables}
-use Rattle.lalrpop_tables.specs.Results.{Construction, AreTables, HaveNoConflict, canonical_of}
+use Rattle.lalrpop_tables.specs.Words.{AreMergedTables, AreRenumberedMerged, AreLaneTables, HaveFullItems, IsRenumberedState, AreRenumbered}
+use Rattle.lalrpop_tables.specs.Words.{AreRenumberedTables, AreRenumberedLaneTables, Construction, AreTables, HaveNoConflict, canonical_of}
 use Rattle.lalrpop_tables.proofs.Places.{same_some}
 use Rattle.lalrpop_tables.proofs.Renumbered.{entry_from, slice_get_inside}
 

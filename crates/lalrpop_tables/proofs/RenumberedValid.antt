@@ -2,18 +2,12 @@
 use Rattle.std.proofs.Common.{◌≡◌, ◌↔◌, ℕ, ◌<◌, inl, inr, List, [], sym, ◌∙◌, ap, subst, arith, Some}
 use Rattle.std.specs.Prelude.{Contains, slice_get, map}
 use Rattle.std.proofs.lemmas.Bool.{cases_lt}
-use Rattle.lalrpop_base.specs.Bits.{Bits}
-use Rattle.lalrpop_base.specs.Validity.{Valid, ValidToken}
-use Rattle.lalrpop_base.specs.WellFormed.{Rules}
-use Rattle.lalrpop_base.specs.declared.lookahead.token.Token.{Token}
+use Rattle.lalrpop_base.specs.Words.{Bits, Valid, ValidToken, Rules}
 use Rattle.lalrpop_base.specs.declared.lr1_core.state.State.{State}
 use Rattle.lalrpop_base.specs.declared.repr.NonterminalString.{NonterminalString}
-use Rattle.lalrpop_base.specs.declared.repr.Production.{Production}
 use Rattle.lalrpop_base.specs.declared.repr.Symbol.{Symbol}
 use Rattle.lalrpop_base.specs.declared.repr.TerminalString.{TerminalString}
-use Rattle.lalrpop_tables.specs.Closure.{dotted_of, HasItemToken}
-use Rattle.lalrpop_tables.specs.EarlyStop.{IsStateFor, HaveSameContents, AreSomeCanonicalStates}
-use Rattle.lalrpop_tables.specs.Renumbered.{AreRenumbered}
+use Rattle.lalrpop_tables.specs.Words.{dotted_of, HasItemToken, IsStateFor, HaveSameContents, AreSomeCanonicalStates, AreRenumbered}
 use Rattle.lalrpop_tables.proofs.CanonicalContents.{turned_both}
 use Rattle.lalrpop_tables.proofs.RenumberedTables.{state_before}
 

@@ -1,19 +1,13 @@
 -- Kernels with the same dotted productions and tokens are one, since their items stand in one order.
 use Rattle.std.proofs.Common.{◌≡◌, ◌↔◌, ℕ, suc, ◌+◌, inl, inr, true, List, map, refl, sym, ◌∙◌, ap, subst, arith}
 use Rattle.std.specs.Prelude.{Contains}
-use Rattle.lalrpop_base.specs.Bits.{Bits}
-use Rattle.lalrpop_base.specs.Closures.{InClosure, in_kernel, expanded, InTokenClosure, with_token, begins_rest, inherits}
-use Rattle.lalrpop_base.specs.Contents.{holds_token}
-use Rattle.lalrpop_base.specs.Items.{Dotted}
-use Rattle.lalrpop_base.specs.Places.{AllDiffer}
-use Rattle.lalrpop_base.specs.WellFormed.{Rules}
+use Rattle.lalrpop_base.specs.Words.{Bits, InClosure, in_kernel, expanded, InTokenClosure, with_token, begins_rest, inherits, holds_token, Dotted, AllDiffer}
+use Rattle.lalrpop_base.specs.Words.{Rules}
 use Rattle.lalrpop_base.specs.declared.lookahead.token.Token.{Token}
 use Rattle.lalrpop_base.specs.declared.repr.Production.{Production}
 use Rattle.lalrpop_base.specs.declared.repr.Symbol.{Symbol}
 use Rattle.lalrpop_base.proofs.theory.Ascending.{ascending_same}
-use Rattle.lalrpop_tables.specs.Ascending.{Precedes, Ascend}
-use Rattle.lalrpop_tables.specs.Closure.{dotted_of, InKernel, HasItemToken, AreItems, IsClosureOf}
-use Rattle.lalrpop_tables.specs.Transitions.{moved, Shifts}
+use Rattle.lalrpop_tables.specs.Words.{Precedes, Ascend, dotted_of, InKernel, HasItemToken, AreItems, IsClosureOf, moved, Shifts}
 use Rattle.lalrpop_tables.specs.Transitions.Shifts.{none, moves, stays}
 use Rattle.lalrpop_tables.proofs.Ascending.{ordered_tail, ordered_head, ordered_cons, precedes_asymmetric}
 use Rattle.lalrpop_tables.proofs.ItemTokens.{one_item, same_tokens}

@@ -5,19 +5,13 @@ use Rattle.std.specs.Map.{lookup}
 use Rattle.std.specs.BTreeMap.{is_at}
 use Rattle.std.proofs.lemmas.Option.{slice_get_within}
 use Rattle.std.proofs.lemmas.Map.Entries.{place_from_lookup}
-use Rattle.lalrpop_base.specs.Bits.{Bits}
-use Rattle.lalrpop_base.specs.Items.{Dotted}
-use Rattle.lalrpop_base.specs.Places.{AllDiffer}
-use Rattle.lalrpop_base.specs.Tokens.{FitsTokens}
-use Rattle.lalrpop_base.specs.WellFormed.{Rules, rules_of, IsWellFormed, productions_of, listed_productions, name_cmp}
+use Rattle.lalrpop_base.specs.Words.{Bits, Dotted, AllDiffer, FitsTokens, Rules, rules_of, IsWellFormed, productions_of, listed_productions, name_cmp}
 use Rattle.lalrpop_base.specs.declared.repr.NonterminalString.{NonterminalString}
 use Rattle.lalrpop_base.specs.declared.repr.Production.{Production}
 use Rattle.lalrpop_base.specs.declared.repr.Symbol.{Symbol}
 use Rattle.lalrpop_base.specs.declared.repr.grammar.Grammar.{Grammar}
 use Rattle.lalrpop_base.specs.declared.repr.grammar.NonterminalData.{NonterminalData}
-use Rattle.lalrpop_tables.specs.Closure.{dotted_of, IsItemBy, AreItemsBy}
-use Rattle.lalrpop_tables.specs.States.{begun}
-use Rattle.lalrpop_tables.specs.Transitions.{IsBehind, moved, Shifts}
+use Rattle.lalrpop_tables.specs.Words.{dotted_of, IsItemBy, AreItemsBy, begun, IsBehind, moved, Shifts}
 use Rattle.lalrpop_tables.specs.Transitions.Shifts.{none, moves, stays}
 use Rattle.lalrpop_tables.proofs.Grammars.{productions_among}
 use Rattle.lalrpop_tables.proofs.Lists.{Contains-none, Contains-here, Contains-there, Contains-cases, Contains-map}

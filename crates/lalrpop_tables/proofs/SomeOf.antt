@@ -1,7 +1,7 @@
 -- One of a list is of a kind: the list grows by one.
 use Rattle.std.proofs.Common.{◌≡◌, ◌⊎◌, inl, inr, List, [], ◌∷◌, ◌++◌, subst}
 use Rattle.std.proofs.lemmas.List.Elements.{Contains-append_left, Contains-append_right, Contains-append_cases}
-use Rattle.lalrpop_tables.specs.LaneSteps.{Some_of}
+use Rattle.lalrpop_tables.specs.Words.{Some_of}
 use Rattle.lalrpop_tables.proofs.Lists.{Contains-none, Contains-here, Contains-cases}
 
 module _ {X : Type 0} (P : X → Type 0) where

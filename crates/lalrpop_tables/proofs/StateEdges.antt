@@ -7,10 +7,9 @@ use Rattle.std.specs.declared.cmp.Ordering.{Ordering}
 use Rattle.std.proofs.lemmas.Map.Lookups.{CmpEqualImpliesEq}
 use Rattle.std.proofs.lemmas.Map.Views.{IsSome-lookup_from_Contains}
 use Rattle.std.proofs.lemmas.Option.{slice_get_within}
-use Rattle.lalrpop_base.specs.Closures.{IsReached, at_zero, over_edge}
-use Rattle.lalrpop_base.specs.Contents.{number_of, contents_of, contents_at, contents_in, no_contents}
-use Rattle.lalrpop_base.specs.Items.{Dotted}
-use Rattle.lalrpop_base.specs.States.{leads, IsBehindDot, LeadsOverDots}
+use Rattle.lalrpop_base.specs.Words.{IsReached, at_zero, number_of, contents_of, contents_at, contents_in, no_contents, Dotted, leads, IsBehindDot}
+use Rattle.lalrpop_base.specs.Words.{LeadsOverDots}
+use Rattle.lalrpop_base.specs.Closures.{over_edge}
 use Rattle.lalrpop_base.specs.contracts.repr.TerminalStringOrd.TheImpl as terminal_ord
 use Rattle.lalrpop_base.specs.contracts.repr.NonterminalStringOrd.TheImpl as name_ord
 use Rattle.lalrpop_base.specs.declared.lookahead.token.Token.{Token}
@@ -20,9 +19,7 @@ use Rattle.lalrpop_base.specs.declared.repr.Production.{Production}
 use Rattle.lalrpop_base.specs.declared.repr.Symbol.{Symbol}
 use Rattle.lalrpop_base.specs.declared.repr.Symbol.TheVariants.{Nonterminal, Terminal}
 use Rattle.lalrpop_base.proofs.ContentsViews.{terminals_ordered, names_ordered}
-use Rattle.lalrpop_tables.specs.Closure.{dotted_of}
-use Rattle.lalrpop_tables.specs.States.{HasTransition, IsBuiltBy, AreBuiltBy}
-use Rattle.lalrpop_tables.specs.Transitions.{IsBehind}
+use Rattle.lalrpop_tables.specs.Words.{dotted_of, HasTransition, IsBuiltBy, AreBuiltBy, IsBehind}
 use Rattle.lalrpop_tables.proofs.CanonicalStates.{entry_of, leads_transition}
 use Rattle.lalrpop_tables.proofs.Closing.{drop_split, split_drop}
 use Rattle.lalrpop_tables.proofs.Coherence.{one_kernel}

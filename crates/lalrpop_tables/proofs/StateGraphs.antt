@@ -10,7 +10,7 @@ use Rattle.std.specs.Cmp.{IsTotalOrder, Equal-is, nat_cmp_total, unsigned_tied}
 use Rattle.std.proofs.lemmas.Bool.{cases_Bool}
 use Rattle.std.proofs.lemmas.List.{map-append, reverse-append, length-take-le, take_more}
 use Rattle.std.proofs.lemmas.List.Elements.{filter-append}
-use Rattle.lalrpop_base.specs.Multimaps.{collection_at, PushesAt}
+use Rattle.lalrpop_base.specs.Words.{collection_at, PushesAt}
 use Rattle.lalrpop_base.specs.declared.repr.Symbol.{Symbol}
 use Rattle.lalrpop_base.specs.declared.lr1_core.state.State.{State}
 use Rattle.lalrpop_base.specs.declared.lr1_core.state.StateIndex.{StateIndex}
@@ -18,7 +18,9 @@ use Rattle.lalrpop_base.specs.contracts.repr.SymbolPartialEq.TheImpl as symbol_e
 use Rattle.lalrpop_base.specs.contracts.repr.SymbolEq.TheImpl.Laws as symbol_equality
 use Rattle.lalrpop_base.specs.contracts.exact.SymbolExact.TheImpl as symbol_exactly
 use Rattle.lalrpop_base.proofs.MultimapLemmas.{tied_at}
-use Rattle.lalrpop_tables.specs.StateGraph.{Edge, edges, edges_of, edges_from, targets_from, origins, target_of, origin_of, listed, state_cmp, targets_of, origins_of, with_symbol, IsGrown, IsGraphOf}
+use Rattle.lalrpop_tables.specs.Words.{Edge, edges, edges_of, edges_from, targets_from, origins, origin_of, listed, state_cmp, targets_of, origins_of}
+use Rattle.lalrpop_tables.specs.Words.{with_symbol, IsGrown, IsGraphOf}
+use Rattle.lalrpop_tables.specs.StateGraph.{target_of}
 use Rattle.lalrpop_tables.specs.declared.state_graph.StateGraph.{StateGraph}
 
 pub state_total : IsTotalOrder state_cmp

@@ -10,11 +10,10 @@ use Rattle.std.proofs.lemmas.List.Elements.{Contains-append_left, Contains-appen
 use Rattle.std.proofs.lemmas.Bool.{cases_Bool, cases_eq}
 use Rattle.std.proofs.lemmas.Map.Made.{lookup-map_values}
 use Rattle.std.proofs.lemmas.Option.{slice_get_within}
-use Rattle.lalrpop_base.specs.Bits.{Bits}
+use Rattle.lalrpop_base.specs.Words.{Bits}
 use Rattle.lalrpop_base.specs.declared.lr1_core.state.StateIndex.{StateIndex}
-use Rattle.lalrpop_tables.specs.LaneRows.{Rows}
-use Rattle.lalrpop_tables.specs.StateGraph.{state_cmp}
-use Rattle.lalrpop_tables.specs.StateSets.{set_of, columns_of, context_of, HasSet, IsJoint, AreJoined, IsMade, AddsColumns, OwnSets, replaced_set, replaced_entry}
+use Rattle.lalrpop_tables.specs.Words.{Rows, state_cmp, set_of, columns_of, context_of, HasSet, IsJoint, AreJoined, IsMade, AddsColumns, OwnSets, replaced_set}
+use Rattle.lalrpop_tables.specs.Words.{replaced_entry}
 use Rattle.lalrpop_tables.specs.declared.lane_table.construct.merge.context_sets.ContextSets.{ContextSets}
 use Rattle.lalrpop_tables.specs.declared.lane_table.construct.state_set.StateSet.{StateSet}
 use Rattle.lalrpop_tables.proofs.LaneTables.{state_exact}
@@ -71,10 +70,6 @@ module _ (source target : StateIndex) (old new : ContextSets) (first second : St
       | inr other ↦ inl (sym (ap (λ xs. slice_get xs k) written ∙ set_elsewhere old.contexts.items first.index k union other) ∙ at)
     ];
   }
-
--- two states of one set
-pub sets_one : (source target : StateIndex) (sets : ContextSets) → set_of sets source ≡ set_of sets target → AreJoined source target sets sets
-sets_one source target sets same = record { counted = refl; same = same; kept = λ n m e. e; has = λ n h. h; columns = λ k columns at. inl at }
 
 -- ---- a set of one state
 other_state : (n m : StateIndex) → (n ≡ m → ⊥) → is_eq (state_cmp m n) ≡ false

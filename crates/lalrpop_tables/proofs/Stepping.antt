@@ -18,7 +18,9 @@ use Rattle.lalrpop_base.specs.contracts.repr.SymbolPartialEq.TheImpl as symbol_e
 use Rattle.lalrpop_base.specs.contracts.repr.SymbolEq.TheImpl.Laws as symbol_equality
 use Rattle.lalrpop_base.specs.contracts.exact.SymbolExact.TheImpl as symbol_exactly
 use Rattle.lalrpop_tables.specs.declared.state_graph.StateGraph.{StateGraph}
-use Rattle.lalrpop_tables.specs.StateGraph.{Edge, edge, state_cmp, AddsStates, HaveSameStates, IsStepBack, sources_over, origins_of, origins, origin_of, IsGraphOf, LeadsTo, nowhere, over}
+use Rattle.lalrpop_tables.specs.Words.{Edge, edge, state_cmp, AddsStates, HaveSameStates, IsStepBack, sources_over, origins_of, origins, origin_of, IsGraphOf}
+use Rattle.lalrpop_tables.specs.Words.{nowhere, over}
+use Rattle.lalrpop_tables.specs.StateGraph.{LeadsTo}
 use Rattle.lalrpop_tables.proofs.Lists.{Contains-none, Contains-here, Contains-there, Contains-cases}
 
 -- a state of all is in the set or left, exactly if it is in the set so far or left now

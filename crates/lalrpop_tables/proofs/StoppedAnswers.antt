@@ -2,23 +2,13 @@
 use Rattle.std.proofs.Common.{◌≡◌, ◌≢◌, ℕ, ◌<◌, ◌≤◌, ◌⊎◌, inl, inr, List, [], length, ◌∙◌, subst, arith}
 use Rattle.std.specs.List.{flat_map}
 use Rattle.std.proofs.lemmas.Bool.{cases_lt}
-use Rattle.lalrpop_base.specs.Bits.{Bits}
-use Rattle.lalrpop_base.specs.Items.{Dotted}
-use Rattle.lalrpop_base.specs.Places.{AllDiffer}
-use Rattle.lalrpop_base.specs.StateConflicts.{state_conflicts}
-use Rattle.lalrpop_base.specs.Validity.{IsLR1}
-use Rattle.lalrpop_base.specs.WellFormed.{rules_of, productions, IsWellFormed}
-use Rattle.lalrpop_base.specs.declared.lr1_core.state.BuildError.{BuildError}
-use Rattle.lalrpop_base.specs.declared.lr1_core.state.BuildError.TheVariants.{Conflicts, Memory}
+use Rattle.lalrpop_base.specs.Words.{Bits, Dotted, AllDiffer, state_conflicts, IsLR1, rules_of, productions, IsWellFormed}
 use Rattle.lalrpop_base.specs.declared.lr1_core.state.Conflict.{Conflict}
 use Rattle.lalrpop_base.specs.declared.lr1_core.state.State.{State}
 use Rattle.lalrpop_base.specs.declared.repr.NonterminalString.{NonterminalString}
 use Rattle.lalrpop_base.specs.declared.repr.grammar.Grammar.{Grammar}
-use Rattle.lalrpop_tables.specs.Canonical.{AreCanonicalStates, TellsNotLR1}
-use Rattle.lalrpop_tables.specs.Closing.{AreOwn, Begins}
-use Rattle.lalrpop_tables.specs.Closure.{itself, IsClosureOf, IsClosureBy}
-use Rattle.lalrpop_tables.specs.EarlyStop.{ArePartlyBuiltBy, ArePartlyBuilt, AreEnough, GoesOnBeforeLast, AreMadeFor, StopsFor, StopsAfter, FailsAfter}
-use Rattle.lalrpop_tables.specs.Results.{Settings, canonical_of}
+use Rattle.lalrpop_tables.specs.Words.{AreCanonicalStates, AreOwn, Begins, itself, IsClosureOf, IsClosureBy, ArePartlyBuiltBy, ArePartlyBuilt, AreEnough}
+use Rattle.lalrpop_tables.specs.Words.{GoesOnBeforeLast, AreMadeFor, StopsAfter, Settings, canonical_of}
 use Rattle.lalrpop_tables.proofs.CanonicalContents.{are_canonical}
 use Rattle.lalrpop_tables.proofs.ConflictLists.{All-listed, States-of}
 use Rattle.lalrpop_tables.proofs.StoppedConflicts.{conflict_not_lr1}
@@ -82,11 +72,3 @@ module _ (g : Grammar) (start : NonterminalString) (well : IsWellFormed g) (own 
       goes_on = goes_on;
       either = enough_or_all (cases_lt 0 stop_after) (cases_lt (length conflicts) stop_after);
     }
-
-  pub stopped_not_lr1 : (error : BuildError Bits) → StopsFor itself Begins Passes Lists (stopping g start stop_after) error → TellsNotLR1 (productions g) start error
-  stopped_not_lr1 (Conflicts error) f = not_lr1 error.states.items error.conflicts.items f.0 f.1
-  stopped_not_lr1 Memory f = tt
-
-  pub stopped_after : (error : BuildError Bits) → StopsFor itself Begins Passes Lists (stopping g start stop_after) error → FailsAfter (rules_of g) start stop_after error
-  stopped_after (Conflicts error) f = stops error.states.items error.conflicts.items f.0 f.1
-  stopped_after Memory f = tt

@@ -2,14 +2,10 @@
 use Rattle.std.proofs.Common.{◌≡◌, ℕ, List, [], length, refl, ◌∙◌, ap, subst, true, Some}
 use Rattle.std.specs.Prelude.{Contains}
 use Rattle.std.specs.List.{flat_map}
-use Rattle.lalrpop_base.specs.Bits.{Bits}
-use Rattle.lalrpop_base.specs.Contents.{holds_token, contents_of}
-use Rattle.lalrpop_base.specs.Items.{Dotted}
-use Rattle.lalrpop_base.specs.Places.{AllDiffer}
-use Rattle.lalrpop_base.specs.StateConflicts.{HasNoConflict, state_conflicts}
-use Rattle.lalrpop_base.specs.States.{Contents, Reduction}
-use Rattle.lalrpop_base.specs.Validity.{Action, Shift, Reduce, IsValidAction, IsLR1}
-use Rattle.lalrpop_base.specs.WellFormed.{rules_of, productions, IsWellFormed}
+use Rattle.lalrpop_base.specs.Words.{Bits, holds_token, contents_of, Dotted, AllDiffer, state_conflicts, Contents, Action, Shift, Reduce, IsValidAction, IsLR1}
+use Rattle.lalrpop_base.specs.Words.{rules_of, productions, IsWellFormed}
+use Rattle.lalrpop_base.specs.StateConflicts.{HasNoConflict}
+use Rattle.lalrpop_base.specs.States.{Reduction}
 use Rattle.lalrpop_base.specs.declared.lookahead.token.Token.{Token}
 use Rattle.lalrpop_base.specs.declared.lookahead.token.Token.TheVariants.{Terminal as TokenOf}
 use Rattle.lalrpop_base.specs.declared.lr1_core.state.State.{State}
@@ -20,10 +16,7 @@ use Rattle.lalrpop_base.specs.declared.repr.Symbol.TheVariants.{Terminal}
 use Rattle.lalrpop_base.specs.declared.repr.TerminalString.{TerminalString}
 use Rattle.lalrpop_base.specs.declared.repr.grammar.Grammar.{Grammar}
 use Rattle.lalrpop_base.proofs.theory.Lists.{place_contains}
-use Rattle.lalrpop_tables.specs.Closing.{AreOwn}
-use Rattle.lalrpop_tables.specs.Closure.{dotted_of, HasItemToken, IsClosureOf}
-use Rattle.lalrpop_tables.specs.EarlyStop.{ArePartlyBuilt, IsStateFor}
-use Rattle.lalrpop_tables.specs.States.{IsBuilt}
+use Rattle.lalrpop_tables.specs.Words.{AreOwn, dotted_of, HasItemToken, IsClosureOf, ArePartlyBuilt, IsStateFor, IsBuilt}
 use Rattle.lalrpop_tables.proofs.CanonicalConflicts.{reductions_fit}
 use Rattle.lalrpop_tables.proofs.ConflictFree.{contents_free, none_listed}
 use Rattle.lalrpop_tables.proofs.Reductions.{reduction_from, reduces_finished}

@@ -3,11 +3,8 @@ use Rattle.std.proofs.Common.{◌≡◌, ◌≢◌, ◌↔◌, ◌⊎◌, ℕ, z
 use Rattle.std.specs.Prelude.{Contains, slice_get}
 use Rattle.std.proofs.lemmas.Bool.{cases_lt}
 use Rattle.std.proofs.lemmas.Option.{slice_get_within}
-use Rattle.lalrpop_base.specs.Closures.{InClosure, in_kernel, IsAtStart, IsMoved}
-use Rattle.lalrpop_base.specs.Items.{Dotted}
-use Rattle.lalrpop_base.specs.NilConflicts.{nil_conflicts}
-use Rattle.lalrpop_base.specs.Validity.{Valid, shifts}
-use Rattle.lalrpop_base.specs.WellFormed.{Rules, rules_of, productions, productions_of, IsWellFormed}
+use Rattle.lalrpop_base.specs.Words.{InClosure, in_kernel, IsAtStart, IsMoved, Dotted, nil_conflicts, Valid, shifts, Rules, rules_of, productions}
+use Rattle.lalrpop_base.specs.Words.{productions_of, IsWellFormed}
 use Rattle.lalrpop_base.specs.declared.lookahead.nil.Nil.{Nil}
 use Rattle.lalrpop_base.specs.declared.lr1_core.state.BuildError.{BuildError}
 use Rattle.lalrpop_base.specs.declared.lr1_core.state.BuildError.TheVariants.{Conflicts, Memory}
@@ -18,14 +15,8 @@ use Rattle.lalrpop_base.specs.declared.repr.NonterminalString.{NonterminalString
 use Rattle.lalrpop_base.specs.declared.repr.Production.{Production}
 use Rattle.lalrpop_base.specs.declared.repr.Symbol.{Symbol}
 use Rattle.lalrpop_base.specs.declared.repr.grammar.Grammar.{Grammar}
-use Rattle.lalrpop_tables.specs.Ascending.{Ascend}
-use Rattle.lalrpop_tables.specs.Closing.{AreOwn}
-use Rattle.lalrpop_tables.specs.Closure.{dotted_of, InKernel}
-use Rattle.lalrpop_tables.specs.EarlyStop.{ArePartlyBuiltBy, HasDotted, IsLr0StateFor, AreSomeLr0States, AreEnough, AreMadeFor, StopsFor, Lr0StopsAfter, FailsAfterLr0}
-use Rattle.lalrpop_tables.specs.Lr0.{AreLr0States}
-use Rattle.lalrpop_tables.specs.Results.{Settings}
-use Rattle.lalrpop_tables.specs.States.{begun, HasTransition}
-use Rattle.lalrpop_tables.specs.Transitions.{Shifts, moved}
+use Rattle.lalrpop_tables.specs.Words.{Ascend, AreOwn, dotted_of, InKernel, ArePartlyBuiltBy, HasDotted, IsLr0StateFor, AreSomeLr0States, AreEnough, AreMadeFor}
+use Rattle.lalrpop_tables.specs.Words.{StopsFor, Lr0StopsAfter, FailsAfterLr0, AreLr0States, Settings, begun, HasTransition, Shifts, moved}
 use Rattle.lalrpop_tables.proofs.Canonical.{start_items, moved_items, Shifts-onto}
 use Rattle.lalrpop_tables.proofs.CanonicalContents.{then_both, turned_both}
 use Rattle.lalrpop_tables.proofs.ClosedStates.{IsExactClosure}

@@ -2,12 +2,8 @@
 use Rattle.std.proofs.Common.{◌≡◌, ◌↔◌, ℕ, zero, suc, ◌<◌, inl, inr, List, [], ◌∷◌, ◌++◌, length, map, drop, refl, sym, ◌∙◌, ap, subst, arith, Some}
 use Rattle.std.specs.Prelude.{Contains, slice_get}
 use Rattle.std.proofs.lemmas.Option.{slice_get_within}
-use Rattle.lalrpop_base.specs.Bits.{Bits, no_bits, with_bit}
-use Rattle.lalrpop_base.specs.Closures.{InClosure, InTokenClosure, IsAtStart, IsAtStartWith, IsMoved, IsMovedWith}
-use Rattle.lalrpop_base.specs.Items.{Dotted}
-use Rattle.lalrpop_base.specs.Places.{AllDiffer}
-use Rattle.lalrpop_base.specs.Validity.{Valid, shifts, ValidToken}
-use Rattle.lalrpop_base.specs.WellFormed.{rules_of, productions, productions_of, IsWellFormed}
+use Rattle.lalrpop_base.specs.Words.{Bits, no_bits, with_bit, InClosure, InTokenClosure, IsAtStart, IsAtStartWith, IsMoved, IsMovedWith, Dotted, AllDiffer}
+use Rattle.lalrpop_base.specs.Words.{Valid, shifts, ValidToken, rules_of, productions, productions_of, IsWellFormed}
 use Rattle.lalrpop_base.specs.declared.lookahead.token.Token.{Token}
 use Rattle.lalrpop_base.specs.declared.lr1_core.state.State.{State}
 use Rattle.lalrpop_base.specs.declared.lr1_core.state.StateIndex.{StateIndex}
@@ -15,11 +11,8 @@ use Rattle.lalrpop_base.specs.declared.repr.NonterminalString.{NonterminalString
 use Rattle.lalrpop_base.specs.declared.repr.Production.{Production}
 use Rattle.lalrpop_base.specs.declared.repr.Symbol.{Symbol}
 use Rattle.lalrpop_base.specs.declared.repr.grammar.Grammar.{Grammar}
-use Rattle.lalrpop_tables.specs.Closing.{AreOwn}
-use Rattle.lalrpop_tables.specs.Closure.{itself, dotted_of, InKernel, HasItemToken, IsClosureOf}
-use Rattle.lalrpop_tables.specs.EarlyStop.{ArePartlyBuilt, HasDotted, IsStateFor, HaveSameContents, AreSomeCanonicalStates}
-use Rattle.lalrpop_tables.specs.States.{begun, HasTransition}
-use Rattle.lalrpop_tables.specs.Transitions.{moved}
+use Rattle.lalrpop_tables.specs.Words.{AreOwn, itself, dotted_of, InKernel, HasItemToken, IsClosureOf, ArePartlyBuilt, HasDotted, IsStateFor, HaveSameContents}
+use Rattle.lalrpop_tables.specs.Words.{AreSomeCanonicalStates, begun, HasTransition, moved}
 use Rattle.lalrpop_tables.proofs.Canonical.{start_items, start_tokens, moved_items, moved_tokens, Shifts-onto}
 use Rattle.lalrpop_tables.proofs.CanonicalContents.{then_both, turned_both}
 use Rattle.lalrpop_tables.proofs.Closing.{drop_split}

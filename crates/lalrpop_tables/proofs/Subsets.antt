@@ -4,13 +4,9 @@ use Rattle.std.specs.Prelude.{Contains, ◌||◌, ◌==◌}
 use Rattle.std.proofs.lemmas.List.Elements.{Contains-append_left, Contains-append_right}
 use Rattle.std.proofs.lemmas.Bool.{or_cases, cases_eq, cases_lt}
 use Rattle.std.proofs.Common.{⊎_elim}
-use Rattle.lalrpop_base.specs.Bits.{Bits, has, no_bits, with_bit, join, has-no_bits, has-with_bit, has-join, same_bits}
+use Rattle.lalrpop_base.specs.Words.{Bits, has, no_bits, with_bit, join, has-no_bits, has-with_bit, has-join, same_bits}
 use Rattle.lalrpop_tables.proofs.Lists.{Contains-here, Contains-map}
-use Rattle.lalrpop_tables.specs.Counts.{one_if, count}
-
--- each bit of the set is below the number
-abbrev pub AreBelow : ℕ → Bits → Type 0
-AreBelow m s = (q : ℕ) → has s q ≡ true → q < m
+use Rattle.lalrpop_tables.specs.Counts.{one_if, count, IsBelow}
 
 one_few : (b : Bool) → one_if b ≤ 1
 one_few true = omega arith
@@ -49,37 +45,27 @@ count_same (suc m) s t h l q b =
     subst (λ (n : ℕ). has s n ≡ has t n) here (one_same (has s m) (has t m) (h m) (omega arith)))
     (cases_lt q m)
 
-has_none : (m : ℕ) (s : Bits) → AreBelow m s → (q : ℕ) → m ≤ q → (b : Bool) → has s q ≡ b → b ≡ false
+has_none : (m : ℕ) (s : Bits) → IsBelow m s → (q : ℕ) → m ≤ q → (b : Bool) → has s q ≡ b → b ≡ false
 has_none m s below q l true e = let less = below q e in absurd (omega arith)
 has_none m s below q l false e = refl
 
 join_more : (s t : Bits) (q : ℕ) → has s q ≡ true → has (join s t) q ≡ true
 join_more s t q h = has-join s t q ∙ ap (λ b. b || has t q) h
 
-pub join_has_left : (s t : Bits) (q : ℕ) → has s q ≡ true → has (join s t) q ≡ true
-join_has_left s t q h = join_more s t q h
-
-or_right : (a b : Bool) → b ≡ true → (a || b) ≡ true
-or_right true b h = refl
-or_right false b h = h
-
-pub join_has_right : (s t : Bits) (q : ℕ) → has t q ≡ true → has (join s t) q ≡ true
-join_has_right s t q h = has-join s t q ∙ or_right (has s q) (has t q) h
-
 pub join_has_cases : (s t : Bits) (q : ℕ) → has (join s t) q ≡ true → (has s q ≡ true) ⊎ (has t q ≡ true)
 join_has_cases s t q h = or_cases (has s q) (has t q) (sym (has-join s t q) ∙ h)
 
-pub join_below : (m : ℕ) (s t : Bits) → AreBelow m s → AreBelow m t → AreBelow m (join s t)
+pub join_below : (m : ℕ) (s t : Bits) → IsBelow m s → IsBelow m t → IsBelow m (join s t)
 join_below m s t a b q h = ⊎_elim (λ l. a q l) (λ r. b q r) (join_has_cases s t q h)
 
-join_same : (m : ℕ) (s t : Bits) → AreBelow m s → AreBelow m t → count m (join s t) ≤ count m s → s ≡ join s t
+join_same : (m : ℕ) (s t : Bits) → IsBelow m s → IsBelow m t → count m (join s t) ≤ count m s → s ≡ join s t
 join_same m s t a b most = same_bits s (join s t) (λ q.
     ⊎_elim (λ low. count_same m s (join s t) (join_more s t) most q low)
     (λ high. has_none m s a q high (has s q) refl ∙ sym (has_none m (join s t) (join_below m s t a b) q high (has (join s t) q) refl))
     (cases_lt q m))
 
 -- a join that is another set counts more
-pub join_counts : (m : ℕ) (s t : Bits) → AreBelow m s → AreBelow m t → join s t ≢ s → count m s < count m (join s t)
+pub join_counts : (m : ℕ) (s t : Bits) → IsBelow m s → IsBelow m t → join s t ≢ s → count m s < count m (join s t)
 join_counts m s t a b other =
     ⊎_elim (λ less. less)
     (λ most. absurd (other (sym (join_same m s t a b most))))
@@ -103,9 +89,6 @@ in_subsets : (m : ℕ) (s : Bits) → Contains (subsets m) (part m s)
 unfolding subsets part
 in_subsets zero s = Contains-here no_bits []
 in_subsets (suc m) s = in_subsets_at m s (has s m) (in_subsets m s)
-
-or_false : (a : Bool) → (false || a) ≡ a
-or_false a = refl
 
 has_part_at : (m : ℕ) (s : Bits) (q : ℕ) (b : Bool) → has s m ≡ b → (q < m → has (part m s) q ≡ has s q) → q < suc m → (m ≤ q → has (part m s) q ≡ false) → has (cond b (with_bit (part m s) m) (part m s)) q ≡ has s q
 has_part_at m s q true e low l high =
@@ -145,7 +128,7 @@ has_part zero s q l = absurd (omega arith)
 has_part (suc m) s q l = has_part_at m s q (has s m) refl (has_part m s q) l (part_high m s q)
 
 -- a set of bits below the number is the whole of its part, and so in the list
-pub among_subsets : (m : ℕ) (s : Bits) → AreBelow m s → Contains (subsets m) s
+pub among_subsets : (m : ℕ) (s : Bits) → IsBelow m s → Contains (subsets m) s
 among_subsets m s below =
     let whole : part m s ≡ s = same_bits (part m s) s (λ q. ⊎_elim (λ low. has_part m s q low) (λ high. part_high m s q high ∙ sym (has_none m s below q high (has s q) refl)) (cases_lt q m)) in
     subst (Contains (subsets m)) whole (in_subsets m s)

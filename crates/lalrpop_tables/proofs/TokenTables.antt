@@ -2,12 +2,7 @@
 use Rattle.std.proofs.Common.{◌≡◌, ℕ, zero, suc, List, [], ◌∷◌, ◌++◌, map, refl, sym, subst}
 use Rattle.std.specs.Prelude.{Contains, slice_get, drop, Some}
 use Rattle.std.specs.List.{flat_map}
-use Rattle.lalrpop_base.specs.Bits.{Bits}
-use Rattle.lalrpop_base.specs.Closures.{InTokenClosure, with_token, begins_rest, inherits}
-use Rattle.lalrpop_base.specs.Grammar.{IsNullable}
-use Rattle.lalrpop_base.specs.Items.{Dotted}
-use Rattle.lalrpop_base.specs.StateConflicts.{state_conflicts}
-use Rattle.lalrpop_base.specs.WellFormed.{Rules}
+use Rattle.lalrpop_base.specs.Words.{Bits, InTokenClosure, with_token, begins_rest, inherits, IsNullable, Dotted, state_conflicts, Rules}
 use Rattle.lalrpop_base.specs.declared.lookahead.token.Token.{Token}
 use Rattle.lalrpop_base.specs.declared.lookahead.token.Token.TheVariants.{Eof, Error, Terminal as TokenOf}
 use Rattle.lalrpop_base.specs.declared.lr1_core.state.BuildError.{BuildError}
@@ -19,10 +14,8 @@ use Rattle.lalrpop_base.specs.declared.repr.Symbol.{Symbol}
 use Rattle.lalrpop_base.specs.declared.repr.Symbol.TheVariants.{Nonterminal}
 use Rattle.lalrpop_base.specs.declared.repr.TerminalString.{TerminalString}
 use Rattle.lalrpop_base.proofs.ConflictLemmas.{none_exactly}
-use Rattle.lalrpop_tables.specs.Closing.{Begins}
-use Rattle.lalrpop_tables.specs.Closure.{itself, IsClosureOf, IsClosureBy, InTokenClosureBy, own_token, from_rest, from_parent}
-use Rattle.lalrpop_tables.specs.Results.{HaveNoConflict, ListsAll, Construction, AreStatesOf, AreStatesFor, AreTables, AreTablesFor, FailsBy, FailsFor}
-use Rattle.lalrpop_tables.specs.States.{begun, AreBuiltBy}
+use Rattle.lalrpop_tables.specs.Words.{Begins, itself, IsClosureOf, IsClosureBy, InTokenClosureBy, own_token, from_rest, from_parent, HaveNoConflict, ListsAll}
+use Rattle.lalrpop_tables.specs.Words.{Construction, AreStatesOf, AreStatesFor, AreTables, AreTablesFor, FailsBy, FailsFor, begun, AreBuiltBy}
 use Rattle.lalrpop_tables.proofs.ConflictLists.{All-listed}
 use Rattle.lalrpop_tables.proofs.Places.{same_some}
 

@@ -1,13 +1,9 @@
 -- Steps back to the items of a state that expand to a nonterminal, and what a place at its production's start gives.
 use Rattle.std.proofs.Common.{◌≡◌, ℕ, suc, ◌+◌, ◌⊎◌, inl, inr, List, [], ◌∷◌, ◌++◌, drop, refl, sym, ◌∙◌, ap, subst, arith, true, Some, Option}
 use Rattle.std.specs.Prelude.{Contains, slice_get}
-use Rattle.lalrpop_base.specs.Contents.{contents_at}
-use Rattle.lalrpop_base.specs.Grammar.{IsFirst, IsNullable}
-use Rattle.lalrpop_base.specs.Items.{Dotted}
-use Rattle.lalrpop_base.specs.Lanes.{LeadsBack, to_parent, Gives, behind_parent, of_start}
-use Rattle.lalrpop_base.specs.States.{Contents, IsBehindDot}
-use Rattle.lalrpop_base.specs.Tokens.{IsBitOf}
-use Rattle.lalrpop_base.specs.WellFormed.{Rules, rules_of}
+use Rattle.lalrpop_base.specs.Words.{contents_at, IsFirst, IsNullable, Dotted, LeadsBack, to_parent, behind_parent, of_start, Contents, IsBehindDot, IsBitOf}
+use Rattle.lalrpop_base.specs.Words.{Rules, rules_of}
+use Rattle.lalrpop_base.specs.Lanes.{Gives}
 use Rattle.lalrpop_base.specs.declared.lookahead.token.Token.{Token}
 use Rattle.lalrpop_base.specs.declared.lookahead.token.Token.TheVariants.{Eof, Terminal as TokenOf}
 use Rattle.lalrpop_base.specs.declared.lr1_core.state.State.{State}
@@ -17,10 +13,9 @@ use Rattle.lalrpop_base.specs.declared.repr.Symbol.{Symbol}
 use Rattle.lalrpop_base.specs.declared.repr.Symbol.TheVariants.{Nonterminal}
 use Rattle.lalrpop_base.specs.declared.repr.TerminalString.{TerminalString}
 use Rattle.lalrpop_base.proofs.ContentsViews.{contains_of_map}
-use Rattle.lalrpop_tables.specs.CheckCarrying.{at_place}
-use Rattle.lalrpop_tables.specs.LaneSteps.{Gains, Nothing, Visits, IsHere, IsEnd, IsEndBit, IsParent, IsFollowBit, IsPassedOn, rest_of, Some_of, GivesCell, GivesBit, GivesSuccessor, LeadsTo, GainsOf, VisitsOf}
-use Rattle.lalrpop_tables.specs.LaneTables.{AreInRange}
-use Rattle.lalrpop_tables.specs.LaneTraces.{places_in}
+use Rattle.lalrpop_tables.specs.Words.{at_place, Gains, Nothing, Visits, IsHere, IsEnd, IsEndBit, IsParent, IsFollowBit, IsPassedOn, rest_of, Some_of}
+use Rattle.lalrpop_tables.specs.Words.{GivesCell, GivesBit, GivesSuccessor, GainsOf, VisitsOf, AreInRange, places_in}
+use Rattle.lalrpop_tables.specs.LaneSteps.{LeadsTo}
 use Rattle.lalrpop_tables.specs.declared.lane_table.lane.ground.Ground.{Ground}
 use Rattle.lalrpop_tables.specs.declared.lane_table.lane.walk.Walk.{Walk}
 use Rattle.lalrpop_tables.specs.declared.lane_table.table.LaneTable.{LaneTable}

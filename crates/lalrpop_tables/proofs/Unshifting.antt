@@ -3,21 +3,17 @@ use Rattle.std.proofs.Common.{◌≡◌, ℕ, suc, ◌-◌, ◌<◌, ◌⊎◌, 
 use Rattle.std.specs.Prelude.{Contains, slice_get}
 use Rattle.std.proofs.lemmas.List.{reverse-append, reverse-reverse}
 use Rattle.std.proofs.lemmas.List.Elements.{Contains-append_left, Contains-append_right, Contains-append_cases}
-use Rattle.lalrpop_base.specs.Grammar.{IsNullable}
-use Rattle.lalrpop_base.specs.Lanes.{LeadsBack, over_edge, to_parent, Gives, behind_parent, of_start}
-use Rattle.lalrpop_base.specs.States.{Contents, leads}
-use Rattle.lalrpop_base.specs.WellFormed.{rules_of}
+use Rattle.lalrpop_base.specs.Words.{IsNullable, LeadsBack, to_parent, behind_parent, of_start, Contents, leads, rules_of}
+use Rattle.lalrpop_base.specs.Lanes.{over_edge, Gives}
 use Rattle.lalrpop_base.specs.declared.lookahead.token.Token.{Token}
 use Rattle.lalrpop_base.specs.declared.lr1_core.state.StateIndex.{StateIndex}
 use Rattle.lalrpop_base.specs.declared.repr.NonterminalString.{NonterminalString}
 use Rattle.lalrpop_base.specs.declared.repr.Production.{Production}
 use Rattle.lalrpop_base.specs.declared.repr.Symbol.{Symbol}
 use Rattle.lalrpop_base.specs.declared.repr.Symbol.TheVariants.{Nonterminal}
-use Rattle.lalrpop_tables.specs.CheckCarrying.{at_place}
-use Rattle.lalrpop_tables.specs.LaneSteps.{IsGround, Gains, Nowhere, Nothing, IsPair, Visits, Some_of, GivesCell, GivesBit, GivesSuccessor, LeadsTo, GainsOf, VisitsOf}
-use Rattle.lalrpop_tables.specs.LaneTables.{AreInRange}
-use Rattle.lalrpop_tables.specs.LaneTraces.{places_in}
-use Rattle.lalrpop_tables.specs.StateGraph.{edge, edges, sources_over}
+use Rattle.lalrpop_tables.specs.Words.{at_place, IsGround, Gains, Nowhere, Nothing, IsPair, Visits, Some_of, GivesCell, GivesBit, GivesSuccessor, GainsOf}
+use Rattle.lalrpop_tables.specs.Words.{VisitsOf, AreInRange, places_in, edge, edges, sources_over}
+use Rattle.lalrpop_tables.specs.LaneSteps.{LeadsTo}
 use Rattle.lalrpop_tables.specs.declared.lane_table.lane.ground.Ground.{Ground}
 use Rattle.lalrpop_tables.specs.declared.lane_table.lane.walk.Walk.{Walk}
 use Rattle.lalrpop_tables.specs.declared.lane_table.table.LaneTable.{LaneTable}

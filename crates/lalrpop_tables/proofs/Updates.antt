@@ -18,17 +18,13 @@ use Rattle.std.proofs.lemmas.Map.Keys.{sorted_tail}
 use Rattle.std.proofs.lemmas.Map.Lookups.{CmpEqualImpliesEq}
 use Rattle.std.specs.Prelude.{◌≢◌, Contains}
 use Rattle.std.proofs.Common.{◌⊎◌, inl, inr, subst}
-use Rattle.lalrpop_base.specs.Places.{AllDiffer}
+use Rattle.lalrpop_base.specs.Words.{AllDiffer}
 use Rattle.lalrpop_tables.proofs.Lists.{apart-from_sorted}
 use Rattle.lalrpop_tables.proofs.Places.{differ_from_apart, midst, around, at_midst}
-use Rattle.lalrpop_tables.specs.Entries.{IsPushedAt}
+use Rattle.lalrpop_tables.specs.Words.{IsPushedAt}
 use Rattle.lalrpop_tables.specs.Entries.IsPushedAt.{fresh as push_fresh, known as push_known}
 
 module _ {K V : Type 0} where
-  -- the list is others with an entry in their midst
-  pub record HasInMidst (k : K) (v : V) (es : List (K × V)) (front back : List (K × V)) : Type 0 where
-    pub is : es ≡ front ++ (k, v) ∷ back
-
   pub record IsInserted (k : K) (v : V) (old new : List (K × V)) : Type 0 where
     pub front : List (K × V)
     pub back : List (K × V)

@@ -1,7 +1,7 @@
 -- What is valid for a prefix is the closure of the start, or of what was moved over the prefix's last symbol.
 use Rattle.std.proofs.Common.{◌≡◌, ◌+◌, ℕ, List, [], ◌∷◌, ◌++◌, length, refl, sym, ◌∙◌, ap, subst, arith, length-append}
-use Rattle.lalrpop_base.specs.Closures.{InClosure, in_kernel, expanded, InTokenClosure, with_token, begins_rest, inherits, IsAtStart, IsAtStartWith, IsMoved, IsMovedWith}
-use Rattle.lalrpop_base.specs.Validity.{Valid, starts, shifts, expands, ValidToken, at_start, kept, begins_behind, passed_on}
+use Rattle.lalrpop_base.specs.Words.{InClosure, in_kernel, expanded, InTokenClosure, with_token, begins_rest, inherits, IsAtStart, IsAtStartWith, IsMoved}
+use Rattle.lalrpop_base.specs.Words.{IsMovedWith, Valid, starts, shifts, expands, ValidToken, at_start, kept, begins_behind, passed_on}
 use Rattle.lalrpop_base.specs.declared.lookahead.token.Token.{Token}
 use Rattle.lalrpop_base.specs.declared.lookahead.token.Token.TheVariants.{Eof}
 use Rattle.lalrpop_base.specs.declared.repr.NonterminalString.{NonterminalString}

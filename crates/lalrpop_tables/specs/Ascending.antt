@@ -1,9 +1,7 @@
 -- The order of items: by production, then by the dot.
 use Rattle.std.specs.Prelude.{◌≡◌, ◌<◌, ◌⊎◌, List}
 use Rattle.std.specs.declared.cmp.Ordering.{Ordering}
-use Rattle.lalrpop_base.specs.ConflictLists.{Ordered}
-use Rattle.lalrpop_base.specs.Conflicts.{IsLess}
-use Rattle.lalrpop_base.specs.Items.{Dotted}
+use Rattle.lalrpop_base.specs.Words.{Ordered, IsLess, Dotted}
 use Rattle.lalrpop_base.specs.contracts.repr.ProductionOrd.TheImpl as production_ord
 use Rattle.lalrpop_base.specs.declared.repr.Production.{Production}
 

@@ -2,21 +2,10 @@
 use Rattle.std.specs.Prelude.{◌≡◌, ◌<◌, ◌==◌, ◌&&◌, ℕ, Bool, true, false, List, length, slice_get, Option, Some, None, Contains}
 use Rattle.std.specs.Borrow.{Bor}
 use Rattle.std.specs.List.{list_any}
-use Rattle.lalrpop_base.specs.Bits.{Bits}
-use Rattle.lalrpop_base.specs.Closures.{IsReached, TokenKernelsDiffer}
-use Rattle.lalrpop_base.specs.Coherent.{AreCoherent}
-use Rattle.lalrpop_base.specs.Conflicts.{ReducesInOrder}
-use Rattle.lalrpop_base.specs.Contents.{contents, holds_token}
-use Rattle.lalrpop_base.specs.Failures.{IfConflicts}
-use Rattle.lalrpop_base.specs.Items.{Dotted}
-use Rattle.lalrpop_base.specs.Laws.{AreCanonicalWith}
-use Rattle.lalrpop_base.specs.Places.{AllDiffer}
-use Rattle.lalrpop_base.specs.Tokens.{FitsTokens}
-use Rattle.lalrpop_base.specs.Validity.{IsLR1}
-use Rattle.lalrpop_base.specs.WellFormed.{Rules, rules_of}
+use Rattle.lalrpop_base.specs.Words.{Bits, IsReached, TokenKernelsDiffer, AreCoherent, ReducesInOrder, contents, holds_token, Dotted, AreCanonicalWith}
+use Rattle.lalrpop_base.specs.Words.{AllDiffer, FitsTokens, Rules, rules_of}
 use Rattle.lalrpop_base.specs.contracts.repr.ProductionPartialEq.TheImpl as production_eq
 use Rattle.lalrpop_base.specs.declared.lookahead.token.Token.{Token}
-use Rattle.lalrpop_base.specs.declared.lr1_core.state.BuildError.{BuildError}
 use Rattle.lalrpop_base.specs.declared.lr1_core.state.State.{State}
 use Rattle.lalrpop_base.specs.declared.repr.NonterminalString.{NonterminalString}
 use Rattle.lalrpop_base.specs.declared.repr.Production.{Production}
@@ -51,14 +40,6 @@ pub record AreCanonicalStates (g : Rules) (start : NonterminalString) (states : 
   pub differ : TokenKernelsDiffer (contents g.terminals states) (λ n p dot t. tokens_of g.terminals states n p dot t ≡ true)
   pub reached : (n : ℕ) → n < length states → IsReached (contents g.terminals states) n
   pub ascend : (n : ℕ) → ReducesInOrder production_order (contents g.terminals states n)
-
--- the states of an error are; want of memory says nothing
-abbrev pub HasCanonicalStates : Rules → NonterminalString → BuildError Bits → Type 0
-HasCanonicalStates g start = IfConflicts (λ error. AreCanonicalStates g start error.states.items)
-
--- an error with conflicts comes of a grammar that is not LR(1); want of memory says nothing
-abbrev pub TellsNotLR1 : List Production → NonterminalString → BuildError Bits → Type 0
-TellsNotLR1 g start = IfConflicts (λ error. ¬ IsLR1 g start)
 
 -- ---- what a collapse asks of them
 -- the tokens of the state's reductions are tokens of the terminals

@@ -1,17 +1,10 @@
 -- Lists of conflicts that are, state by state, the canonical conflicts of the prefixes that lead to the state.
 use Rattle.std.specs.Prelude.{◌≡◌, ◌≢◌, ◌<◌, ◌≤◌, ◌==◌, ℕ, List, [], length, Some, Contains}
 use Rattle.std.specs.List.{filter}
-use Rattle.lalrpop_base.specs.Bits.{Bits}
-use Rattle.lalrpop_base.specs.ConflictLists.{Ordered}
-use Rattle.lalrpop_base.specs.Conflicts.{AreCanonicalConflicts}
-use Rattle.lalrpop_base.specs.Contents.{contents}
-use Rattle.lalrpop_base.specs.Failures.{IfConflicts}
-use Rattle.lalrpop_base.specs.States.{state_after}
-use Rattle.lalrpop_base.specs.WellFormed.{productions}
+use Rattle.lalrpop_base.specs.Words.{Bits, Ordered, AreCanonicalConflicts, contents, state_after, productions}
 use Rattle.lalrpop_base.specs.contracts.repr.ProductionOrd.TheImpl as production_ord
 use Rattle.lalrpop_base.specs.contracts.repr.TerminalStringOrd.TheImpl as terminal_ord
 use Rattle.lalrpop_base.specs.declared.lr1_core.state.Action.TheVariants.{Shift}
-use Rattle.lalrpop_base.specs.declared.lr1_core.state.BuildError.{BuildError}
 use Rattle.lalrpop_base.specs.declared.lr1_core.state.Conflict.{Conflict}
 use Rattle.lalrpop_base.specs.declared.lr1_core.state.State.{State}
 use Rattle.lalrpop_base.specs.declared.lr1_core.state.StateIndex.{StateIndex}
@@ -44,7 +37,3 @@ pub record AreCanonicalConflictsOf (g : Grammar) (start : NonterminalString) (st
 pub record FailByCanonicalConflicts (g : Grammar) (start : NonterminalString) (states : List (State Bits)) (conflicts : List (Conflict Bits)) : Type 0 where
   pub canonical : AreCanonicalConflictsOf g start states conflicts
   pub some : conflicts ≢ []
-
--- the conflicts of an error are; want of memory says nothing
-abbrev pub ListsCanonicalConflicts : Grammar → NonterminalString → BuildError Bits → Type 0
-ListsCanonicalConflicts g start = IfConflicts (λ error. FailByCanonicalConflicts g start error.states.items error.conflicts.items)

@@ -1,10 +1,7 @@
 -- The check of tables.
 use Rattle.std.specs.Prelude.{◌≡◌, true, ℕ, List, length, Contains}
-use Rattle.lalrpop_base.specs.Bits.{Bits}
-use Rattle.lalrpop_base.specs.Closures.{AreClosed, IsCarried}
-use Rattle.lalrpop_base.specs.Contents.{contents}
-use Rattle.lalrpop_base.specs.States.{Reduction, ReducesFinished}
-use Rattle.lalrpop_base.specs.WellFormed.{productions}
+use Rattle.lalrpop_base.specs.Words.{Bits, AreClosed, IsCarried, contents, ReducesFinished, productions}
+use Rattle.lalrpop_base.specs.States.{Reduction}
 use Rattle.lalrpop_base.specs.declared.lookahead.token.Token.{Token}
 use Rattle.lalrpop_base.specs.declared.lr1_core.state.State.{State}
 use Rattle.lalrpop_base.specs.declared.repr.NonterminalString.{NonterminalString}

@@ -1,16 +1,9 @@
 -- Tokens carried over the edges of states, as a worklist finds them.
-use Rattle.std.specs.Prelude.{◌≡◌, ◌+◌, ◌<◌, ◌≤◌, ◌⊎◌, ℕ, Bool, true, cond, List, [], ◌∷◌, ◌++◌, length, drop, slice_get, Contains, sum_by, Option, Some, None}
+use Rattle.std.specs.Prelude.{◌≡◌, ◌+◌, ◌<◌, ◌≤◌, ◌⊎◌, ℕ, true, List, [], ◌∷◌, ◌++◌, length, drop, slice_get, Contains, Option, Some, None}
 use Rattle.std.specs.Borrow.{Bor}
 use Rattle.std.specs.Map.{keys_of}
-use Rattle.lalrpop_base.specs.Bits.{Bits, has}
-use Rattle.lalrpop_base.specs.Closures.{IsReached, IsCarried, items_of}
-use Rattle.lalrpop_base.specs.Contents.{contents, holds_token}
-use Rattle.lalrpop_base.specs.Each.{EachItem}
-use Rattle.lalrpop_base.specs.First.{IsFirstSetBefore}
-use Rattle.lalrpop_base.specs.Grammar.{IsNullable}
-use Rattle.lalrpop_base.specs.Places.{AllDiffer}
-use Rattle.lalrpop_base.specs.Tokens.{FitsTokens}
-use Rattle.lalrpop_base.specs.WellFormed.{productions, productions_of, rules_of}
+use Rattle.lalrpop_base.specs.Words.{Bits, has, IsReached, IsCarried, items_of, contents, holds_token, EachItem, IsFirstSetBefore, IsNullable, AllDiffer}
+use Rattle.lalrpop_base.specs.Words.{FitsTokens, productions, productions_of, rules_of}
 use Rattle.lalrpop_base.specs.declared.lookahead.token.Token.{Token}
 use Rattle.lalrpop_base.specs.declared.lr1_core.state.State.{State}
 use Rattle.lalrpop_base.specs.declared.repr.NonterminalString.{NonterminalString}
@@ -20,8 +13,8 @@ use Rattle.lalrpop_base.specs.declared.repr.Symbol.TheVariants.{Nonterminal}
 use Rattle.lalrpop_base.specs.declared.repr.grammar.Grammar.{Grammar}
 use Rattle.lalrpop_tables.specs.Closing.{Begins}
 use Rattle.lalrpop_tables.specs.CheckStates.{lr0, target_of}
-use Rattle.lalrpop_tables.specs.Counts.{count}
-use Rattle.lalrpop_tables.specs.Entries.{IsJoinedAt}
+use Rattle.lalrpop_tables.specs.Counts.{IsBelow}
+use Rattle.lalrpop_tables.specs.Entries.{IsFound, IsFoundWith, Adds, burden, AllBelow}
 use Rattle.lalrpop_tables.specs.declared.place.Place.{Place}
 
 -- what is carried to each place
@@ -40,48 +33,12 @@ target_from (Some s) x = target_of s x
 abbrev pub target_in : List (State Bits) → ℕ → Symbol → Option ℕ
 target_in states n x = target_from (slice_get states n) x
 
--- the tokens went to the place, which waits in the queue where it has something new
-pub record IsSent (place : Place) (tokens : Bits) (old new : Carried) (queue pushed : List Place) : Type 0 where
-  pub told : Bool
-  pub joined : IsJoinedAt place tokens told old new
-  pub grown : pushed ≡ cond told (queue ++ place ∷ []) queue
-  pub differ : AllDiffer (keys_of new)
-
--- the place has at least these tokens
-pub record HasAll (table : Carried) (place : Place) (tokens : Bits) : Type 0 where
-  pub set : Bits
-  pub entry : Contains table (place, set)
-  pub all : (bit : ℕ) → has tokens bit ≡ true → has set bit ≡ true
-
--- the place has the bit
-pub record HasBit (table : Carried) (place : Place) (bit : ℕ) : Type 0 where
-  pub set : Bits
-  pub entry : Contains table (place, set)
-  pub there : has set bit ≡ true
-
--- how much is carried: places, and tokens of them
-abbrev pub burden : ℕ → Carried → ℕ
-burden n table = sum_by (λ e. 1 + count n e.1) table
-
--- each bit of the set is below the number
-abbrev pub AreBelow : ℕ → Bits → Type 0
-AreBelow n s = (q : ℕ) → has s q ≡ true → q < n
-
--- and of the table
-abbrev pub AllBelow : ℕ → Carried → Type 0
-AllBelow n table = (e : Place × Bits) → Contains table e → AreBelow n e.1
-
--- all such places take the tokens, and no other takes any; what is new or has new tokens waits in the queue, and nothing else came there
+-- all such places take the tokens, and no other takes any; nothing else came into the queue, and what came there is weighed
 pub record Sends (Such : Place → Type 0) (tokens : Bits) (old new : Carried) (queue pushed : List Place) : Type 0 where
-  pub kept : (e : Place × Bits) → Contains old e → HasAll new e.0 e.1
-  pub stays : (k : Place) → Contains queue k → Contains pushed k
-  pub changed : (e : Place × Bits) → Contains new e → Contains pushed e.0 ⊎ Contains old e
+  pub adds : Adds Such tokens old new queue pushed
   pub found : (k : Place) → Contains pushed k → Contains queue k ⊎ Contains (keys_of new) k
-  pub keys : (e : Place × Bits) → Contains new e → Contains (keys_of old) e.0 ⊎ Such e.0
-  pub bits : (e : Place × Bits) (bit : ℕ) → Contains new e → has e.1 bit ≡ true → HasBit old e.0 bit ⊎ (Such e.0 × (has tokens bit ≡ true))
-  pub there : (k : Place) → Such k → HasAll new k tokens
   pub differ : AllDiffer (keys_of old) → AllDiffer (keys_of new)
-  pub weighed : (n : ℕ) → AreBelow n tokens → AllBelow n old → burden n old + length pushed ≤ burden n new + length queue
+  pub weighed : (n : ℕ) → IsBelow n tokens → AllBelow n old → burden n old + length pushed ≤ burden n new + length queue
 
 -- a production among these, with the dot at the start, in the state
 pub record IsBegunAt (n : ℕ) (ps : List Production) (k : Place) : Type 0 where
@@ -135,12 +92,12 @@ pub record HasBegun (g : Grammar) (table : Carried) (n : ℕ) (q : Production) (
 
 -- what a place with these tokens leads to has them
 pub record IsSettled (g : Grammar) (states : List (State Bits)) (table : Carried) (place : Place) (tokens : Bits) : Type 0 where
-  pub over : (k : Place) → IsOver states place k → HasAll table k tokens
+  pub over : (k : Place) → IsOver states place k → IsFound table k tokens
   pub into : (q : Production) (after : List Symbol) → drop place.item.index place.item.production.symbols ≡ Nonterminal q.nonterminal ∷ after → Contains (productions g) q → HasBegun g table place.state q after tokens
 
 -- the productions of the start symbol hold Eof
 abbrev pub HasStarted : Grammar → NonterminalString → Carried → Type 0
-HasStarted g start table = (p : Production) → Contains (productions g) p → p.nonterminal ≡ start → HasBit table (at_place 0 p 0) (length g.terminals)
+HasStarted g start table = (p : Production) → Contains (productions g) p → p.nonterminal ≡ start → IsFoundWith table (at_place 0 p 0) (length g.terminals)
 
 -- all that is carried, and no more
 pub record AreCarried (g : Grammar) (start : NonterminalString) (states : List (State Bits)) (table : Carried) : Type 0 where

@@ -1,8 +1,7 @@
 -- `==` of places is exact.
 use Rattle.std.specs.Prelude.{◌≡◌, ℕ, Bool, true, ◌==◌, ◌&&◌}
 use Rattle.std.proofs.Common.{ap, ◌∙◌, eqb-true}
-use Rattle.lalrpop_base.specs.Exact.{Exactly, both}
-use Rattle.lalrpop_base.specs.Items.{Dotted}
+use Rattle.lalrpop_base.specs.Words.{Exactly, both, Dotted}
 use Rattle.lalrpop_base.specs.declared.lookahead.nil.Nil.{Nil}
 use Rattle.lalrpop_tables.specs.declared.place.Place.{Place}
 

@@ -1,13 +1,7 @@
 -- The steps by which a closure finds what a kernel leads to, and when it has found all of it.
 use Rattle.std.specs.Prelude.{◌≡◌, ℕ, true, ◌⊎◌, List, ◌∷◌, map, drop, Contains}
 use Rattle.std.specs.Map.{keys_of}
-use Rattle.lalrpop_base.specs.Bits.{Bits, has}
-use Rattle.lalrpop_base.specs.Closures.{InClosure}
-use Rattle.lalrpop_base.specs.Contents.{holds_token}
-use Rattle.lalrpop_base.specs.Grammar.{IsFirst}
-use Rattle.lalrpop_base.specs.Items.{Dotted}
-use Rattle.lalrpop_base.specs.Places.{AllDiffer}
-use Rattle.lalrpop_base.specs.WellFormed.{Rules, productions, productions_of}
+use Rattle.lalrpop_base.specs.Words.{Bits, has, InClosure, holds_token, IsFirst, Dotted, AllDiffer, Rules, productions, productions_of}
 use Rattle.lalrpop_base.specs.declared.lookahead.nil.Nil.{Nil}
 use Rattle.lalrpop_base.specs.declared.lookahead.token.Token.{Token}
 use Rattle.lalrpop_base.specs.declared.lookahead.token.Token.TheVariants.{Eof, Error, Terminal as TokenOf}
@@ -17,37 +11,13 @@ use Rattle.lalrpop_base.specs.declared.repr.grammar.Grammar.{Grammar}
 use Rattle.lalrpop_base.specs.declared.repr.Symbol.{Symbol}
 use Rattle.lalrpop_base.specs.declared.repr.Symbol.TheVariants.{Nonterminal}
 use Rattle.lalrpop_tables.specs.Closure.{Found, dotted_of, InKernel, HasItemToken, InTokenClosureBy, Spreads}
-
--- the dotted production is found, with at least these tokens
-pub record IsFound (table : Found) (key : Dotted Nil) (tokens : Bits) : Type 0 where
-  pub set : Bits
-  pub entry : Contains table (key, set)
-  pub all : (bit : ℕ) → has tokens bit ≡ true → has set bit ≡ true
-
--- the dotted production is found with the bit
-pub record HasBit (table : Found) (key : Dotted Nil) (bit : ℕ) : Type 0 where
-  pub set : Bits
-  pub entry : Contains table (key, set)
-  pub there : has set bit ≡ true
+use Rattle.lalrpop_tables.specs.Entries.{IsFound, Grows, Adds}
 
 -- the dotted production is found with the token
 pub record HasFoundToken (g : Rules) (table : Found) (key : Dotted Nil) (t : Token) : Type 0 where
   pub set : Bits
   pub entry : Contains table (key, set)
   pub there : holds_token g.terminals set t ≡ true
-
--- nothing is lost, and what is new or has new tokens is in the queue
-pub record Grows (old new : Found) (queue pushed : List (Dotted Nil)) : Type 0 where
-  pub kept : (e : Dotted Nil × Bits) → Contains old e → IsFound new e.0 e.1
-  pub stays : (k : Dotted Nil) → Contains queue k → Contains pushed k
-  pub changed : (e : Dotted Nil × Bits) → Contains new e → Contains pushed e.0 ⊎ Contains old e
-
--- all such dotted productions take the tokens, and no other takes any
-pub record Adds (Such : Dotted Nil → Type 0) (tokens : Bits) (old new : Found) (queue pushed : List (Dotted Nil)) : Type 0 where
-  pub grows : Grows old new queue pushed
-  pub keys : (e : Dotted Nil × Bits) → Contains new e → Contains (keys_of old) e.0 ⊎ Such e.0
-  pub bits : (e : Dotted Nil × Bits) (bit : ℕ) → Contains new e → has e.1 bit ≡ true → HasBit old e.0 bit ⊎ (Such e.0 × (has tokens bit ≡ true))
-  pub there : (k : Dotted Nil) → Such k → IsFound new k tokens
 
 -- the production is among these, and the dot is at its start
 pub record IsBegunOf (ps : List Production) (k : Dotted Nil) : Type 0 where

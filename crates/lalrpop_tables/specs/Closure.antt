@@ -1,22 +1,15 @@
 -- Items of a grammar, and the closure of a kernel.
-use Rattle.std.specs.Prelude.{◌≡◌, ◌≤◌, ◌+◌, ◌⊎◌, ◌↔◌, ℕ, Bool, cond, true, List, [], ◌∷◌, ◌++◌, length, drop, Contains, sum_by, map}
+use Rattle.std.specs.Prelude.{◌≡◌, ◌≤◌, ◌+◌, ◌⊎◌, ◌↔◌, ℕ, true, List, [], ◌∷◌, ◌++◌, length, drop, Contains, map}
 use Rattle.std.specs.Map.{keys_of}
-use Rattle.lalrpop_base.specs.Bits.{Bits}
-use Rattle.lalrpop_base.specs.Items.{Dotted}
-use Rattle.lalrpop_base.specs.Places.{AllDiffer}
-use Rattle.lalrpop_base.specs.Tokens.{FitsTokens}
-use Rattle.lalrpop_base.specs.WellFormed.{Rules}
+use Rattle.lalrpop_base.specs.Words.{Bits, Dotted, AllDiffer, FitsTokens, Rules, InClosure, InTokenClosure, holds_token}
 use Rattle.lalrpop_base.specs.declared.lookahead.nil.Nil.{Nil}
-use Rattle.lalrpop_base.specs.Closures.{InClosure, InTokenClosure}
-use Rattle.lalrpop_base.specs.Contents.{holds_token}
 use Rattle.lalrpop_base.specs.declared.lookahead.token.Token.{Token}
 use Rattle.lalrpop_base.specs.declared.repr.TerminalString.{TerminalString}
 use Rattle.lalrpop_base.specs.declared.repr.Production.{Production}
 use Rattle.lalrpop_base.specs.declared.repr.Symbol.{Symbol}
 use Rattle.lalrpop_base.specs.declared.repr.Symbol.TheVariants.{Nonterminal}
 use Rattle.lalrpop_tables.specs.Ascending.{Ascend}
-use Rattle.lalrpop_tables.specs.Counts.{count}
-use Rattle.lalrpop_tables.specs.Entries.{IsJoinedAt}
+use Rattle.lalrpop_tables.specs.Entries.{burden}
 
 -- an item without its lookahead
 abbrev pub dotted_of : {L : Type 0} → Dotted L → Production × ℕ
@@ -94,13 +87,6 @@ Found = List (Dotted Nil × Bits)
 abbrev pub item_of : {L : Type 0} → Dotted Nil × L → Dotted L
 item_of e = record { production = e.0.production; index = e.0.index; lookahead = e.1 }
 
--- the tokens went to the dotted production, which was put into the queue where it has something new
-pub record IsQueued (key : Dotted Nil) (tokens : Bits) (old new : Found) (queue pushed : List (Dotted Nil)) : Type 0 where
-  pub told : Bool
-  pub joined : IsJoinedAt key tokens told old new
-  pub grown : pushed ≡ cond told (queue ++ key ∷ []) queue
-  pub differ : AllDiffer (keys_of new)
-
 -- what is found is of the grammar, each once, and was in the kernel or has the dot at the start; what is in the queue is of the grammar
 pub record IsTable (g : Rules) (kernel : List (Dotted Bits)) (table : Found) (queue : List (Dotted Nil)) : Type 0 where
   pub each : (e : Dotted Nil × Bits) → Contains table e → IsItemOf g (item_of e)
@@ -111,7 +97,7 @@ pub record IsTable (g : Rules) (kernel : List (Dotted Bits)) (table : Found) (qu
 
 -- how much is found: dotted productions, and tokens of them
 abbrev pub weight : Rules → Found → ℕ
-weight g table = sum_by (λ e. 1 + count (length g.terminals + 2) e.1) table
+weight g table = burden (length g.terminals + 2) table
 
 -- productions are in the closure of a kernel, with the dot at the start
 abbrev pub AreBegun : Rules → List (Dotted Bits) → List Production → Type 0

@@ -1,7 +1,7 @@
 -- Context sets: for each action that is traced, the tokens on which it is to be taken (Pager 1977).
 use Rattle.std.specs.Prelude.{◌≡◌, ◌==◌, ◌⊎◌, ℕ, true, cond, List, length, slice_get, option_map, Some}
 use Rattle.std.specs.Borrow.{Bor}
-use Rattle.lalrpop_base.specs.Bits.{Bits, has, join}
+use Rattle.lalrpop_base.specs.Words.{Bits, has, join}
 use Rattle.lalrpop_base.specs.declared.lr1_core.state.Action.{Action}
 use Rattle.lalrpop_base.specs.declared.lr1_core.state.Action.TheVariants.{Reduce}
 use Rattle.lalrpop_base.specs.declared.lr1_core.state.State.{State}

@@ -1,14 +1,7 @@
 -- Canonical states of which some may be left out, since the construction stopped early.
 use Rattle.std.specs.Prelude.{◌⊎◌, ◌-◌, take, ◌≡◌, ◌≢◌, [], ◌↔◌, ◌<◌, ◌≤◌, ℕ, List, length, map, slice_get, Some, Contains}
 use Rattle.std.specs.List.{flat_map}
-use Rattle.lalrpop_base.specs.Bits.{Bits, no_bits}
-use Rattle.lalrpop_base.specs.Failures.{IfConflicts}
-use Rattle.lalrpop_base.specs.Items.{Dotted}
-use Rattle.lalrpop_base.specs.NilConflicts.{nil_conflicts}
-use Rattle.lalrpop_base.specs.Places.{AllDiffer}
-use Rattle.lalrpop_base.specs.StateConflicts.{state_conflicts}
-use Rattle.lalrpop_base.specs.Validity.{Valid, ValidToken, IsLive}
-use Rattle.lalrpop_base.specs.WellFormed.{Rules}
+use Rattle.lalrpop_base.specs.Words.{Bits, no_bits, IfConflicts, Dotted, nil_conflicts, AllDiffer, state_conflicts, Valid, ValidToken, IsLive, Rules}
 use Rattle.lalrpop_base.specs.declared.lookahead.nil.Nil.{Nil}
 use Rattle.lalrpop_base.specs.declared.lookahead.token.Token.{Token}
 use Rattle.lalrpop_base.specs.declared.lr1_core.state.BuildError.{BuildError}

@@ -1,12 +1,6 @@
 -- LALR(1) tables: what the collapse of a grammar's canonical states tells of the grammar.
 use Rattle.std.specs.Prelude.{◌≡◌, ◌⊎◌, ℕ, List, IsTrue}
-use Rattle.lalrpop_base.specs.Bits.{Bits}
-use Rattle.lalrpop_base.specs.Coherent.{AreCoherent}
-use Rattle.lalrpop_base.specs.Contents.{contents}
-use Rattle.lalrpop_base.specs.Failures.{IfConflicts}
-use Rattle.lalrpop_base.specs.States.{AreFaithful}
-use Rattle.lalrpop_base.specs.Validity.{IsLALR1}
-use Rattle.lalrpop_base.specs.WellFormed.{productions, rules_of}
+use Rattle.lalrpop_base.specs.Words.{Bits, AreCoherent, contents, IfConflicts, AreFaithful, IsLALR1, productions, rules_of}
 use Rattle.lalrpop_base.specs.declared.lr1_core.state.BuildError.{BuildError}
 use Rattle.lalrpop_base.specs.declared.lr1_core.state.State.{State}
 use Rattle.lalrpop_base.specs.declared.repr.NonterminalString.{NonterminalString}

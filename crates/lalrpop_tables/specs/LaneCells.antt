@@ -1,6 +1,6 @@
 -- The cells of a lane table.
 use Rattle.std.specs.Prelude.{◌<◌, ℕ, List, Contains}
-use Rattle.lalrpop_base.specs.Bits.{Bits}
+use Rattle.lalrpop_base.specs.Words.{Bits}
 use Rattle.lalrpop_base.specs.declared.lr1_core.state.StateIndex.{StateIndex}
 use Rattle.lalrpop_tables.specs.declared.lane_table.context_set.ConflictIndex.{ConflictIndex}
 

@@ -4,7 +4,7 @@ use Rattle.std.specs.Ordering.{is_eq}
 use Rattle.std.specs.BTreeMap.{is_at}
 use Rattle.std.specs.BTreeSet.{BTreeSet as SortedSet}
 use Rattle.std.specs.Map.{lookup}
-use Rattle.lalrpop_base.specs.Bits.{Bits, has, no_bits}
+use Rattle.lalrpop_base.specs.Words.{Bits, has, no_bits}
 use Rattle.lalrpop_base.specs.declared.lr1_core.state.StateIndex.{StateIndex}
 use Rattle.lalrpop_tables.specs.Contexts.{HasAt, MeetsOther, IsJoinedIn, AreDisjoint}
 use Rattle.lalrpop_tables.specs.LaneTables.{column, RowOverlaps}

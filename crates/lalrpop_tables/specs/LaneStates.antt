@@ -5,18 +5,10 @@ use Rattle.std.specs.declared.cmp.Ordering.TheVariants.{Equal}
 use Rattle.std.specs.Borrow.{Bor}
 use Rattle.std.specs.List.{flat_map}
 use Rattle.std.specs.List.Sorted.{IsStrictlySortedBy}
-use Rattle.lalrpop_base.specs.Bits.{Bits, has}
-use Rattle.lalrpop_base.specs.Closures.{AreClosed, AreChecked}
-use Rattle.lalrpop_base.specs.Coherent.{AreCoherent}
-use Rattle.lalrpop_base.specs.Contents.{contents}
-use Rattle.lalrpop_base.specs.Failures.{IfConflicts}
-use Rattle.lalrpop_base.specs.Items.{Dotted}
-use Rattle.lalrpop_base.specs.Lanes.{AreLr0, IsLaneToken, HoldLaneTokens}
-use Rattle.lalrpop_base.specs.StateConflicts.{HasNoConflict, state_conflicts}
-use Rattle.lalrpop_base.specs.States.{Contents, ReducesFinished, AreFaithful}
-use Rattle.lalrpop_base.specs.Tokens.{IsBitOf}
-use Rattle.lalrpop_base.specs.Validity.{Action, Shift, Reduce, IsLALR1}
-use Rattle.lalrpop_base.specs.WellFormed.{Rules, IsWellFormed, rules_of}
+use Rattle.lalrpop_base.specs.Words.{Bits, has, AreClosed, AreChecked, AreCoherent, contents, IfConflicts, Dotted, AreLr0, IsLaneToken, HoldLaneTokens}
+use Rattle.lalrpop_base.specs.Words.{state_conflicts, Contents, ReducesFinished, AreFaithful, IsBitOf, Action, Shift, Reduce, IsLALR1, Rules, IsWellFormed}
+use Rattle.lalrpop_base.specs.Words.{rules_of}
+use Rattle.lalrpop_base.specs.StateConflicts.{HasNoConflict}
 use Rattle.lalrpop_base.specs.contracts.lr1_core.state.ActionOrd.TheImpl as action_ord
 use Rattle.lalrpop_base.specs.declared.lookahead.nil.Nil.{Nil}
 use Rattle.lalrpop_base.specs.declared.lookahead.token.Token.{Token}

@@ -1,12 +1,8 @@
 -- What the steps of a trace add to a lane table, and to the places that it visits.
 use Rattle.std.specs.Prelude.{◌≡◌, ◌⊎◌, ◌+◌, ◌↔◌, ◌<◌, ℕ, suc, Bool, true, List, ◌∷◌, drop, length, slice_get, Some, Contains}
-use Rattle.lalrpop_base.specs.Grammar.{IsFirst, IsNullable}
-use Rattle.lalrpop_base.specs.Items.{Dotted}
-use Rattle.lalrpop_base.specs.Lanes.{LeadsBack, Gives, IsTracedTo}
-use Rattle.lalrpop_base.specs.Places.{AllDiffer}
-use Rattle.lalrpop_base.specs.States.{Contents, IsBehindDot, leads}
-use Rattle.lalrpop_base.specs.Tokens.{IsBitOf}
-use Rattle.lalrpop_base.specs.WellFormed.{Rules, IsWellFormed, productions, rules_of}
+use Rattle.lalrpop_base.specs.Words.{IsFirst, IsNullable, Dotted, LeadsBack, IsTracedTo, AllDiffer, Contents, IsBehindDot, leads, IsBitOf, Rules, IsWellFormed}
+use Rattle.lalrpop_base.specs.Words.{productions, rules_of}
+use Rattle.lalrpop_base.specs.Lanes.{Gives}
 use Rattle.lalrpop_base.specs.declared.lookahead.token.Token.{Token}
 use Rattle.lalrpop_base.specs.declared.lr1_core.state.StateIndex.{StateIndex}
 use Rattle.lalrpop_base.specs.declared.repr.NonterminalString.{NonterminalString}

@@ -1,13 +1,7 @@
 -- What tracing a reduction back leaves in a lane table: the lanes of Pager 1977.
 use Rattle.std.specs.Prelude.{◌≡◌, ◌⊎◌, ◌↔◌, ℕ, true, List, length, slice_get, Some, Contains}
-use Rattle.lalrpop_base.specs.Bits.{Bits, has}
-use Rattle.lalrpop_base.specs.Coherent.{AreCoherent}
-use Rattle.lalrpop_base.specs.Contents.{contents_in}
-use Rattle.lalrpop_base.specs.Items.{Dotted}
-use Rattle.lalrpop_base.specs.Lanes.{IsTracedTo, IsLaneTokenAt, IsLaneSuccessor}
-use Rattle.lalrpop_base.specs.States.{Contents, IsBehindDot}
-use Rattle.lalrpop_base.specs.Tokens.{IsBitOf}
-use Rattle.lalrpop_base.specs.WellFormed.{Rules, IsWellFormed, productions, rules_of}
+use Rattle.lalrpop_base.specs.Words.{Bits, has, AreCoherent, contents_in, Dotted, IsTracedTo, IsLaneTokenAt, IsLaneSuccessor, Contents, IsBehindDot, IsBitOf}
+use Rattle.lalrpop_base.specs.Words.{Rules, IsWellFormed, productions, rules_of}
 use Rattle.lalrpop_base.specs.declared.lookahead.token.Token.{Token}
 use Rattle.lalrpop_base.specs.declared.lr1_core.state.Action.{Action}
 use Rattle.lalrpop_base.specs.declared.lr1_core.state.Action.TheVariants.{Shift, Reduce}

@@ -1,9 +1,7 @@
 -- What the construction of states says with any lookahead, read with sets of tokens and without lookahead. Public functions state these laws.
 use Rattle.std.specs.Prelude.{◌≡◌, ℕ, List}
 use Rattle.std.specs.BTreeMap.{IsOrdered}
-use Rattle.lalrpop_base.specs.Bits.{Bits}
-use Rattle.lalrpop_base.specs.Places.{AllDiffer}
-use Rattle.lalrpop_base.specs.WellFormed.{IsWellFormed, name_cmp, rules_of, productions_of}
+use Rattle.lalrpop_base.specs.Words.{Bits, AllDiffer, IsWellFormed, name_cmp, rules_of, productions_of}
 use Rattle.lalrpop_base.specs.contracts.lookahead.nil.NilLookahead.TheImpl as nil_lookahead
 use Rattle.lalrpop_base.specs.contracts.lookahead.token_lookahead.TokenSetLookahead.TheImpl as set_lookahead
 use Rattle.lalrpop_base.specs.declared.lookahead.nil.Nil.{Nil}
@@ -14,7 +12,7 @@ use Rattle.lalrpop_base.specs.declared.repr.grammar.Grammar.{Grammar}
 use Rattle.lalrpop_tables.specs.EarlyStop.{FailsAfterLr0, StopsFor}
 use Rattle.lalrpop_tables.specs.Lr0.{AreLr0States, HasLr0States, HaveNoNilConflict, ListsNilConflicts}
 use Rattle.lalrpop_tables.specs.Lr1Answers.{AreBuiltTablesOf, FailsOn}
-use Rattle.lalrpop_tables.specs.Results.{AreTablesFor, Construction, Settings, canonical_of}
+use Rattle.lalrpop_tables.specs.Results.{AreTablesFor, Construction, canonical_of}
 use Rattle.lalrpop_tables.specs.contracts.build.epsilon_moves.NilLookaheadBuild.TheImpl as nil_build
 use Rattle.lalrpop_tables.specs.contracts.build.epsilon_moves.TokenSetLookaheadBuild.TheImpl as set_build
 use Rattle.lalrpop_tables.specs.declared.build.options.Method.TheVariants.{Canonical}

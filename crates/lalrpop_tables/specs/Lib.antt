@@ -40,3 +40,5 @@ pub mod StateGraph
 pub mod StateSets
 pub mod States
 pub mod Transitions
+pub mod Words
+pub use Rattle.lalrpop_base.specs.Words as BaseWords

@@ -1,9 +1,6 @@
 -- The code's conflicts, as the definitions speak of conflicts.
 use Rattle.std.specs.Prelude.{List, map}
-use Rattle.lalrpop_base.specs.Bits.{Bits}
-use Rattle.lalrpop_base.specs.Conflicts.{ConflictContents}
-use Rattle.lalrpop_base.specs.Contents.{holds_token}
-use Rattle.lalrpop_base.specs.Validity.{Action, Shift, Reduce}
+use Rattle.lalrpop_base.specs.Words.{Bits, ConflictContents, holds_token, Action, Shift, Reduce}
 use Rattle.lalrpop_base.specs.declared.lr1_core.state.Action.{Action as StateAction}
 use Rattle.lalrpop_base.specs.declared.lr1_core.state.Action.TheVariants.{Shift as ShiftTo, Reduce as ReduceBy}
 use Rattle.lalrpop_base.specs.declared.lr1_core.state.Conflict.{Conflict}

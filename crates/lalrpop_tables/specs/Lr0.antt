@@ -1,15 +1,7 @@
 -- The LR(0) states of a grammar (DeRemer 1971; Aho, Sethi and Ullman, section 4.7), as the code's states without lookahead.
 use Rattle.std.specs.Prelude.{◌≡◌, ◌≢◌, ◌<◌, ℕ, Bool, true, List, [], length, slice_get, Some}
 use Rattle.std.specs.List.{flat_map}
-use Rattle.lalrpop_base.specs.Closures.{AreClosed}
-use Rattle.lalrpop_base.specs.Coherent.{AreCoherent}
-use Rattle.lalrpop_base.specs.Contents.{contents_in}
-use Rattle.lalrpop_base.specs.Failures.{IfConflicts}
-use Rattle.lalrpop_base.specs.Lanes.{AreLr0}
-use Rattle.lalrpop_base.specs.NilConflicts.{nil_conflicts}
-use Rattle.lalrpop_base.specs.States.{Contents, state_after}
-use Rattle.lalrpop_base.specs.Validity.{IsLive}
-use Rattle.lalrpop_base.specs.WellFormed.{Rules}
+use Rattle.lalrpop_base.specs.Words.{AreClosed, AreCoherent, contents_in, IfConflicts, AreLr0, nil_conflicts, Contents, state_after, IsLive, Rules}
 use Rattle.lalrpop_base.specs.declared.lookahead.nil.Nil.{Nil}
 use Rattle.lalrpop_base.specs.declared.lookahead.token.Token.{Token}
 use Rattle.lalrpop_base.specs.declared.lr1_core.state.BuildError.{BuildError}

@@ -1,13 +1,6 @@
 -- What a construction of LR(1) tables answers for a grammar and a start symbol: tables, or states with their conflicts (Knuth 1965; DeRemer and Pennello 1982 for LALR(1)).
 use Rattle.std.specs.Prelude.{◌≡◌, ◌⊎◌, ℕ, ◌<◌, List, length}
-use Rattle.lalrpop_base.specs.Bits.{Bits}
-use Rattle.lalrpop_base.specs.Coherent.{AreCoherent}
-use Rattle.lalrpop_base.specs.Contents.{contents}
-use Rattle.lalrpop_base.specs.Failures.{IfConflicts}
-use Rattle.lalrpop_base.specs.Grammar.{IsOnNoRightSide}
-use Rattle.lalrpop_base.specs.States.{AreFaithful}
-use Rattle.lalrpop_base.specs.Validity.{IsLR1, IsLALR1}
-use Rattle.lalrpop_base.specs.WellFormed.{productions, rules_of}
+use Rattle.lalrpop_base.specs.Words.{Bits, AreCoherent, contents, IfConflicts, IsOnNoRightSide, AreFaithful, IsLR1, IsLALR1, productions, rules_of}
 use Rattle.lalrpop_base.specs.declared.lr1_core.state.BuildError.{BuildError}
 use Rattle.lalrpop_base.specs.declared.lr1_core.state.BuildError.TheVariants.{Conflicts}
 use Rattle.lalrpop_base.specs.declared.lr1_core.state.State.{State}

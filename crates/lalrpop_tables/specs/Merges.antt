@@ -1,8 +1,7 @@
 -- States of a lane table joined into sets whose tokens agree, and copies of those that do not (Pager 1977, "A practical general method for constructing LR(k) parsers").
 use Rattle.std.specs.Prelude.{◌≡◌, ◌≤◌, ◌<◌, ◌+◌, ◌⊎◌, ◌==◌, ◌++◌, ◌∷◌, ℕ, cond, Bool, true, false, List, [], length, map, slice_get, Option, None, Some}
 use Rattle.std.specs.Borrow.{Bor}
-use Rattle.lalrpop_base.specs.Bits.{Bits, has}
-use Rattle.lalrpop_base.specs.Coherent.{AreCoherent}
+use Rattle.lalrpop_base.specs.Words.{Bits, has, AreCoherent}
 use Rattle.lalrpop_base.specs.declared.lr1_core.state.Action.{Action}
 use Rattle.lalrpop_base.specs.declared.lr1_core.state.State.{State}
 use Rattle.lalrpop_base.specs.declared.lr1_core.state.StateIndex.{StateIndex}

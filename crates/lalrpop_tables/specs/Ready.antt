@@ -1,8 +1,6 @@
 -- What a construction keeps.
 use Rattle.std.specs.Prelude.{◌≡◌}
-use Rattle.lalrpop_base.specs.Bits.{Bits}
-use Rattle.lalrpop_base.specs.Tokens.{FitsTokens}
-use Rattle.lalrpop_base.specs.WellFormed.{Rules, rules_of, IsWellFormed}
+use Rattle.lalrpop_base.specs.Words.{Bits, FitsTokens, Rules, rules_of, IsWellFormed}
 use Rattle.lalrpop_base.specs.declared.repr.grammar.Grammar.{Grammar}
 use Rattle.lalrpop_tables.specs.Closing.{AreOwn}
 

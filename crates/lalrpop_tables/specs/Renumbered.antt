@@ -1,10 +1,7 @@
 -- The states of a table under other numbers: state 0 first, then the states with a goto, then the others, each part in its old order.
 use Rattle.std.specs.Prelude.{◌≡◌, ◌<◌, ◌≤◌, ◌↔◌, ◌==◌, ◌||◌, ℕ, Bool, not, List, map, length, slice_get, Some, unwrap_or}
 use Rattle.std.specs.BTreeMap.{btree_map_len}
-use Rattle.lalrpop_base.specs.Bits.{Bits}
-use Rattle.lalrpop_base.specs.Coherent.{AreCoherent}
-use Rattle.lalrpop_base.specs.Contents.{contents}
-use Rattle.lalrpop_base.specs.Renumbering.{IsRenumbering, HasGoto, PutsGotosFirst}
+use Rattle.lalrpop_base.specs.Words.{Bits, AreCoherent, contents, IsRenumbering, HasGoto, PutsGotosFirst}
 use Rattle.lalrpop_base.specs.declared.lr1_core.state.State.{State}
 use Rattle.lalrpop_base.specs.declared.lr1_core.state.StateIndex.{StateIndex}
 use Rattle.lalrpop_base.specs.declared.repr.TerminalString.{TerminalString}

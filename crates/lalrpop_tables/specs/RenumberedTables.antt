@@ -1,7 +1,6 @@
 -- What the construction of tables answers, with the numbers of a table.
 use Rattle.std.specs.Prelude.{◌≡◌, ◌<◌, List, length}
-use Rattle.lalrpop_base.specs.Bits.{Bits}
-use Rattle.lalrpop_base.specs.WellFormed.{Rules}
+use Rattle.lalrpop_base.specs.Words.{Bits, Rules}
 use Rattle.lalrpop_base.specs.declared.lookahead.nil.Nil.{Nil}
 use Rattle.lalrpop_base.specs.declared.lr1_core.state.State.{State}
 use Rattle.lalrpop_base.specs.declared.repr.NonterminalString.{NonterminalString}

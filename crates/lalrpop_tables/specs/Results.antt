@@ -1,12 +1,8 @@
 -- What a construction answers: tables, or states with their conflicts.
 use Rattle.std.specs.Prelude.{◌≡◌, ◌≢◌, ℕ, ◌<◌, ◌++◌, ◌∷◌, List, [], map, length, slice_get, Some}
 use Rattle.std.specs.List.{flat_map}
-use Rattle.lalrpop_base.specs.Bits.{Bits, no_bits, with_bit}
-use Rattle.lalrpop_base.specs.Coherent.{AreCoherent}
-use Rattle.lalrpop_base.specs.Failures.{IfConflicts}
-use Rattle.lalrpop_base.specs.StateConflicts.{state_conflicts, HasNoConflict}
-use Rattle.lalrpop_base.specs.Items.{Dotted}
-use Rattle.lalrpop_base.specs.WellFormed.{Rules, rules_of, productions_of}
+use Rattle.lalrpop_base.specs.Words.{Bits, no_bits, with_bit, AreCoherent, IfConflicts, state_conflicts, Dotted, Rules, rules_of, productions_of}
+use Rattle.lalrpop_base.specs.StateConflicts.{HasNoConflict}
 use Rattle.lalrpop_base.specs.declared.lookahead.token.Token.{Token}
 use Rattle.lalrpop_base.specs.declared.lr1_core.state.BuildError.{BuildError}
 use Rattle.lalrpop_base.specs.declared.lr1_core.state.Conflict.{Conflict}
@@ -67,10 +63,6 @@ pub record AreTables (c : Construction Bits) (states : List (State Bits)) : Type
 -- an error has such states and all their conflicts, of which there are some
 abbrev pub FailsBy : Construction Bits → BuildError Bits → Type 0
 FailsBy c = IfConflicts (λ error. AreStatesOf c error.states.items × AreAllConflicts c.rules.terminals error.states.items error.conflicts.items)
-
--- nothing but Eof follows the start symbol
-abbrev pub EndsWithEof : Construction Bits → Type 0
-EndsWithEof c = c.lookahead ≡ with_bit no_bits (length c.rules.terminals)
 
 -- the canonical construction for a start symbol, which Eof follows
 abbrev pub canonical_of : Grammar → NonterminalString → Construction Bits

@@ -2,7 +2,7 @@
 use Rattle.std.specs.Prelude.{◌≡◌, ◌≤◌, ◌<◌, ◌⊎◌, ◌==◌, ℕ, cond, List, [], length, slice_get, unwrap_or, Option, Some, None, Contains}
 use Rattle.std.specs.BTreeMap.{get}
 use Rattle.std.specs.Map.{keys_of}
-use Rattle.lalrpop_base.specs.Bits.{Bits}
+use Rattle.lalrpop_base.specs.Words.{Bits}
 use Rattle.lalrpop_base.specs.declared.lr1_core.state.StateIndex.{StateIndex}
 use Rattle.lalrpop_tables.specs.Contexts.{IsUnion, MeetInUnion}
 use Rattle.lalrpop_tables.specs.LaneRows.{Rows}

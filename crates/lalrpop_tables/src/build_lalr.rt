@@ -6,9 +6,7 @@ mod place;
 mod reductions;
 
 ghost use Rattle.std.specs.Prelude.{◌≡◌, ◌<◌, length, IfOk, IfErr, MatchResult};
-ghost use Rattle.lalrpop_base.specs.Coherent.{AreCoherent};
-ghost use Rattle.lalrpop_base.specs.Collapsible.{AreCollapsible};
-ghost use Rattle.lalrpop_base.specs.WellFormed.{IsWellFormed, productions};
+ghost use Rattle.lalrpop_base.specs.Words.{AreCoherent, AreCollapsible, IsWellFormed, productions};
 ghost use Rattle.lalrpop_base.specs.declared.repr.NonterminalString.{NonterminalString as Start};
 ghost use Rattle.lalrpop_base.specs.declared.repr.grammar.Grammar.{Grammar as Rules};
 ghost use Rattle.lalrpop_tables.specs.Canonical.{AreOrderedCanonical};

@@ -5,11 +5,7 @@ pub(crate) mod sets;
 mod states;
 
 ghost use Rattle.std.specs.Prelude.{◌≡◌, ◌↔◌, ◌<◌, IfOk, IsTrue, Contains, ℕ, length};
-ghost use Rattle.lalrpop_base.specs.Closures.{AreClosed, AreChecked};
-ghost use Rattle.lalrpop_base.specs.Coherent.{AreCoherent};
-ghost use Rattle.lalrpop_base.specs.Contents.{contents};
-ghost use Rattle.lalrpop_base.specs.States.{AreFaithful};
-ghost use Rattle.lalrpop_base.specs.WellFormed.{IsWellFormed, productions};
+ghost use Rattle.lalrpop_base.specs.Words.{AreClosed, AreChecked, AreCoherent, contents, AreFaithful, IsWellFormed, productions};
 ghost use Rattle.lalrpop_tables.specs.Check.{PassCheck, HoldCarried};
 ghost use Rattle.lalrpop_tables.specs.CheckStates.{AreListed, AreRightStates, IsTarget};
 

@@ -1,7 +1,7 @@
 //! The conflicts of states.
 ghost use Rattle.std.specs.Prelude.{◌≡◌, IfOk};
 ghost use Rattle.std.specs.List.{flat_map};
-ghost use Rattle.lalrpop_base.specs.StateConflicts.{state_conflicts};
+ghost use Rattle.lalrpop_base.specs.Words.{state_conflicts};
 
 use lalrpop_base::lookahead::Lookahead;
 use lalrpop_base::lookahead::token_set::TokenSet;

@@ -6,8 +6,7 @@ pub mod lane;
 pub mod table;
 
 ghost use Rattle.std.specs.Prelude.{IfOk, IfErr, MatchResult};
-ghost use Rattle.lalrpop_base.specs.Grammar.{IsOnNoRightSide};
-ghost use Rattle.lalrpop_base.specs.WellFormed.{IsWellFormed, productions, rules_of};
+ghost use Rattle.lalrpop_base.specs.Words.{IsOnNoRightSide, IsWellFormed, productions, rules_of};
 ghost use Rattle.lalrpop_tables.specs.Lalr.{TellsNotLALR1};
 ghost use Rattle.lalrpop_tables.specs.LaneStates.{AreLalrLaneTables, AreLaneTables, AreLr0Tables, FailsByLanes, HasLr0Tables};
 

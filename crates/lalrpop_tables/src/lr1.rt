@@ -1,6 +1,6 @@
 //! LR(1) tables of a grammar.
 ghost use Rattle.std.specs.Prelude.{IfOk, IfErr};
-ghost use Rattle.lalrpop_base.specs.WellFormed.{IsWellFormed};
+ghost use Rattle.lalrpop_base.specs.Words.{IsWellFormed};
 ghost use Rattle.lalrpop_tables.specs.Lalr.{Collapses};
 ghost use Rattle.lalrpop_tables.specs.Lr1Answers.{AreTablesOf, AreBuiltTablesOf, FailsOn};
 

@@ -16,7 +16,7 @@ pub(crate) struct Place<'grammar> {
 
 impl<'grammar> Exact for Place<'grammar> {
     ghost use Rattle.lalrpop_tables.specs.CheckPlaces.{place_exact};
-    ghost use Rattle.lalrpop_base.specs.Items.{dotted_exact};
+    ghost use Rattle.lalrpop_base.specs.Words.{dotted_exact};
     ghost use Rattle.lalrpop_base.specs.contracts.exact.ProductionExact.TheImpl.Laws.{exact-law as production_exact};
     ghost use Rattle.lalrpop_base.specs.contracts.lookahead.nil.NilExact.TheImpl.Laws.{exact-law as nil_exact};
 

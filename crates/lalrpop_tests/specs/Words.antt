@@ -4,7 +4,7 @@ use Rattle.std.specs.Int.{bit_at}
 use Rattle.std.proofs.Common.{sym, ◌∙◌, ap, arith, ⊎_elim, eq-eqb, ne_eqb, lt-ltb, le-ltb, pow-suc}
 use Rattle.std.proofs.lemmas.Bool.{cases_Bool, cases_lt}
 use Rattle.std.proofs.lemmas.Nat.Bits.{bit_at_or, bit_at-lt, bit_at_above, same_from_bits}
-use Rattle.lalrpop_base.specs.Bits.{Bits, has, no_bits, with_bit, join, same_bits, has-no_bits, has-with_bit, has-join}
+use Rattle.lalrpop_base.specs.Words.{Bits, has, no_bits, with_bit, join, same_bits, has-no_bits, has-with_bit, has-join}
 
 -- whether the word has the bit
 abbrev pub has_bit : ℕ → ℕ → Bool

@@ -1,6 +1,6 @@
 // Conditions of calls, each where it fails; and views that stay when what they were taken from is
 // gone.
-ghost use Rattle.lalrpop_base.specs.WellFormed.{IsWellFormed};
+ghost use Rattle.lalrpop_base.specs.Words.{IsWellFormed};
 
 use crate::fixtures::{first_production, grammar, literal, literals};
 use grammar_text::symbols::name_of;

@@ -1,6 +1,6 @@
 //! Grammars, terminals, sets of tokens and productions, from texts.
 ghost use Rattle.std.specs.Prelude.{IfOk};
-ghost use Rattle.lalrpop_base.specs.WellFormed.{IsWellFormed};
+ghost use Rattle.lalrpop_base.specs.Words.{IsWellFormed};
 
 use grammar_text::grammar::read;
 use grammar_text::symbols::name_of;

@@ -1,5 +1,5 @@
 // Graphs of states that are not all built, and nodes of traces.
-ghost use Rattle.lalrpop_base.specs.WellFormed.{IsWellFormed};
+ghost use Rattle.lalrpop_base.specs.Words.{IsWellFormed};
 
 use crate::fixtures::{EMPTY_FIRST, first_production, grammar, literal};
 use grammar_text::symbols::name_of;

@@ -1,8 +1,8 @@
 // States merged by a lane table that is filled by hand, over the crossed ends: S1, behind "a",
 // leads to S5 over "c".
 ghost use Rattle.std.specs.Prelude.{IfOk};
-ghost use Rattle.lalrpop_base.specs.WellFormed.{IsWellFormed};
-ghost use Rattle.lalrpop_tables.specs.Merges.{IsMerging};
+ghost use Rattle.lalrpop_base.specs.Words.{IsWellFormed};
+ghost use Rattle.lalrpop_tables.specs.Words.{IsMerging};
 
 use crate::fixtures::{CROSSED, SUMS, grammar, only};
 use grammar_text::symbols::name_of;

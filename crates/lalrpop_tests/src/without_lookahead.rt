@@ -1,5 +1,5 @@
 // Constructions without lookahead that stop early.
-ghost use Rattle.lalrpop_base.specs.WellFormed.{IsWellFormed};
+ghost use Rattle.lalrpop_base.specs.Words.{IsWellFormed};
 
 use crate::fixtures::{EMPTY_FIRST, SUMS, grammar};
 use grammar_text::symbols::name_of;

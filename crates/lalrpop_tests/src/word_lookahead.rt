@@ -4,7 +4,7 @@ mod conflicts;
 
 ghost use Rattle.std.specs.Prelude.{◌≡◌, ◌==◌, ◌<◌, ◌^◌, bit_or, bit_and, IsTrue, refl};
 ghost use Rattle.std.proofs.Common.{ap, ◌∙◌, eqb-true};
-ghost use Rattle.lalrpop_base.specs.Bits.{no_bits};
+ghost use Rattle.lalrpop_base.specs.Words.{no_bits};
 ghost use Rattle.lalrpop_tests.specs.WordConflicts.{word_conflicts};
 ghost use Rattle.lalrpop_tests.specs.Words.{bits_of_word, holds_bit, same_word, word-zero, word-or};
 

@@ -1,5 +1,5 @@
 // States whose lookaheads are words, made by the one construction.
-ghost use Rattle.lalrpop_base.specs.WellFormed.{IsWellFormed};
+ghost use Rattle.lalrpop_base.specs.Words.{IsWellFormed};
 
 use crate::fixtures::{CROSSED, EMPTY_FIRST, SUMS, grammar};
 use crate::word_lookahead::Word;

@@ -2,10 +2,7 @@
 use Rattle.std.proofs.Common.{◌≡◌, ℕ, ◌+◌, ◌<◌, ◌≤◌, List, [], ◌∷◌, ◌++◌, length, drop, get_or, refl, sym, ◌∙◌, ap, subst, arith, append_assoc}
 use Rattle.std.proofs.lemmas.List.{append-nil, drop_all, drop_more}
 use Rattle.std.specs.Prelude.{slice_get, codes}
-use Rattle.lalrpop_base.specs.Bits.{Bits}
-use Rattle.lalrpop_base.specs.Items.{Dotted}
-use Rattle.lalrpop_base.specs.Names.{terminal_text}
-use Rattle.lalrpop_base.specs.WellFormed.{Rules}
+use Rattle.lalrpop_base.specs.Words.{Bits, Dotted, terminal_text, Rules}
 use Rattle.lalrpop_base.specs.declared.lr1_core.state.State.{State}
 use Rattle.lalrpop_base.specs.declared.lr1_core.state.StateIndex.{StateIndex}
 use Rattle.lalrpop_base.specs.declared.repr.TerminalString.{TerminalString}
@@ -18,13 +15,6 @@ module _ {X : Type 0} (IsPart : ℕ → X → List ℕ → Type 0) where
     pub done : List ℕ
     pub grown : now ≡ old ++ done
     pub whole : (rest : List ℕ) → HasParts IsPart (count + first) (drop count xs) rest → HasParts IsPart first xs (done ++ rest)
-
-  pub done_none : (first : ℕ) (xs : List X) (text : List ℕ) → AreDone first xs 0 text text
-  done_none first xs text = record {
-    done = [];
-    grown = sym (append-nil text);
-    whole = λ rest h. let e : 0 + first ≡ first = omega arith in subst (λ (n : ℕ). HasParts IsPart n xs rest) e h;
-  }
 
   pub done_more : (first : ℕ) (xs : List X) (count : ℕ) (x : X) (old now new : List ℕ) → AreDone first xs count old now → count < length xs → x ≡ get_or xs count x → Grows (IsPart (count + first) x) now new → AreDone first xs (count + 1) old new
   done_more first xs count x old now new d l is g = record {

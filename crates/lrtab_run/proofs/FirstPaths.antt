@@ -1,32 +1,21 @@
 -- The first paths of a walk, found one by one.
-use Rattle.std.proofs.Common.{◌≡◌, ℕ, zero, suc, ◌+◌, ◌-◌, ◌<◌, ◌≤◌, ◌⊎◌, inl, inr, true, false, List, [], ◌∷◌, ◌++◌, length, map, take, refl, sym, ◌∙◌, ap, subst, arith, append_assoc, length-append}
-use Rattle.std.specs.Prelude.{Contains, IsTrue, Option, Some, None, Ok}
-use Rattle.std.specs.declared.result.Result.{Result}
-use Rattle.std.proofs.lemmas.List.{append-nil, length-map}
+use Rattle.std.proofs.Common.{◌≡◌, ℕ, zero, suc, ◌+◌, ◌-◌, ◌<◌, ◌≤◌, ◌⊎◌, inl, inr, false, List, [], ◌∷◌, ◌++◌, length, take, refl, sym, ◌∙◌, ap, subst, arith, append_assoc}
+use Rattle.std.specs.Prelude.{Contains, IsTrue}
+use Rattle.std.proofs.lemmas.List.{append-nil}
 use Rattle.std.proofs.lemmas.Grind.{flat_map-append}
 use mathlib.Core.Bool.{true≢false}
 use mathlib.Core.List.{nil≢cons}
-use Rattle.lalrpop_base.specs.Bits.{Bits, has}
-use Rattle.lalrpop_base.specs.First.{IsFirstSet}
-use Rattle.lalrpop_base.specs.WellFormed.{Rules}
+use Rattle.lalrpop_base.specs.Words.{Bits, has, IsFirstSet, Rules}
 use Rattle.lalrpop_tables.proofs.Lists.{Contains-here, Contains-there}
-use Rattle.lalrpop_lr1.specs.Examples.{IsExampleOf, following, prefixes, suffixes, place, spelled}
-use Rattle.lalrpop_lr1.specs.TraceGraphs.{Graph, AreKnownEdges}
-use Rattle.lalrpop_lr1.specs.Walks.{to_come, GoesTo, IsOfFirst, Meets, NoneMeets, IsSameFilter, IsOfFirstMeeting}
+use Rattle.lalrpop_lr1.specs.Words.{IsExampleOf, following, prefixes, place, spelled, Graph, AreKnownEdges, to_come, GoesTo, IsOfFirst, Meets}
+use Rattle.lalrpop_lr1.specs.Words.{NoneMeets, IsSameFilter, IsOfFirstMeeting}
 use Rattle.lalrpop_lr1.specs.declared.trace.enumerator.PathEnumerator.{PathEnumerator}
 use Rattle.lalrpop_lr1.specs.declared.trace.example.Example.{Example}
 use Rattle.lalrpop_lr1.specs.declared.trace.filtered.FilteredPathEnumerator.{FilteredPathEnumerator}
-use Rattle.lalrpop_lr1.specs.declared.trace.example.ExampleSymbol.TheVariants.{Symbol as SymbolOf}
 use Rattle.lrtab_run.specs.Explained.{AreFirst, enough, none, skip, keep, marked_line, path_line, path_lines}
 use Rattle.lrtab_run.specs.Explaining.{Grows, AreFirstLines}
 
 -- ---- the place of an example is within it
-place_within : (graph : Graph) (path : List ℕ) → length (prefixes graph path) ≤ length (spelled graph path)
-place_within graph path =
-    omega (arith, length-append (map SymbolOf (prefixes graph path)) (place graph path ++ map SymbolOf (suffixes graph path)), length-map (prefixes graph path) SymbolOf)
-
-pub cursor_within : (graph : Graph) (path : List ℕ) (example : Example) → IsExampleOf graph path example → example.cursor ≤ length example.symbols.items
-cursor_within graph path example h = rw (h.cursor, h.symbols) (place_within graph path)
 
 -- the line of an example is that of its path
 line_of_path : (graph : Graph) (path : List ℕ) (example : Example) → IsExampleOf graph path example → marked_line example.symbols.items example.cursor ≡ path_line graph path

@@ -1,13 +1,11 @@
 -- The items of constructed states, and the reductions of their conflicts, are of the grammar's productions.
-use Rattle.std.proofs.Common.{◌≡◌, ℕ, inl, inr, Bool, true, false, cond, ◌==◌, List, [], ◌∷◌, length, map, refl, sym, ap, subst, Option, Some, None}
+use Rattle.std.proofs.Common.{◌≡◌, ℕ, inl, inr, Bool, true, false, cond, ◌==◌, List, [], ◌∷◌, length, ap, subst, Option, Some, None}
 use Rattle.std.specs.Prelude.{Contains, slice_get}
 use Rattle.std.specs.List.{filter, flat_map}
 use Rattle.std.proofs.lemmas.List.Elements.{Contains-append_cases}
-use Rattle.lalrpop_base.specs.Bits.{Bits, has}
-use Rattle.lalrpop_base.specs.Items.{Dotted}
-use Rattle.lalrpop_base.specs.StateConflicts.{Reduction, share, shift_conflict, conflicts_on_place, shift_conflicts, reduce_conflict, later_conflicts, reduce_conflicts, state_conflicts}
-use Rattle.lalrpop_base.specs.TerminalPlaces.{place_in}
-use Rattle.lalrpop_base.specs.WellFormed.{productions, IsWellFormed, rules_of}
+use Rattle.lalrpop_base.specs.Words.{Bits, has, Dotted, share, shift_conflict, conflicts_on_place, shift_conflicts, reduce_conflict, later_conflicts}
+use Rattle.lalrpop_base.specs.Words.{reduce_conflicts, state_conflicts, place_in, productions, IsWellFormed, rules_of}
+use Rattle.lalrpop_base.specs.StateConflicts.{Reduction}
 use Rattle.lalrpop_base.specs.declared.lr1_core.state.Conflict.{Conflict}
 use Rattle.lalrpop_base.specs.declared.lr1_core.state.State.{State}
 use Rattle.lalrpop_base.specs.declared.lr1_core.state.StateIndex.{StateIndex}
@@ -16,9 +14,7 @@ use Rattle.lalrpop_base.specs.declared.repr.Production.{Production}
 use Rattle.lalrpop_base.specs.declared.repr.TerminalString.{TerminalString}
 use Rattle.lalrpop_base.specs.declared.repr.grammar.Grammar.{Grammar}
 use Rattle.lalrpop_base.proofs.ContentsViews.{contains_at, contains_of_map, contains_map}
-use Rattle.lalrpop_tables.specs.Closure.{AreItems}
-use Rattle.lalrpop_tables.specs.Results.{AreStatesOf, AreAllConflicts, canonical_of}
-use Rattle.lalrpop_tables.specs.Transitions.{reductions_of, seen}
+use Rattle.lalrpop_tables.specs.Words.{AreStatesOf, AreAllConflicts, canonical_of, reductions_of, seen}
 use Rattle.lalrpop_tables.proofs.Grammars.{known_symbols}
 use Rattle.lalrpop_tables.proofs.Lists.{Contains-none, Contains-here, Contains-there, Contains-cases}
 use Rattle.lalrpop_lr1.proofs.InlineMembers.{from_flat_map}

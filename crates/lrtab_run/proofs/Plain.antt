@@ -1,17 +1,13 @@
 -- A grammar that is not marked for a collapse is not collapsed, and what is said of its tables holds without that condition.
-use Rattle.std.proofs.Common.{◌≡◌, ℕ, List, false, sym, subst, ◌∙◌, Result, Ok, Err}
+use Rattle.std.proofs.Common.{◌≡◌, ℕ, List, false, sym, subst, ◌∙◌}
 use mathlib.Core.Bool.{true≢false}
-use Rattle.std.specs.Prelude.{IfOk, IfErr}
-use Rattle.std.specs.declared.vec.Vec.{Vec}
-use Rattle.lalrpop_base.specs.Bits.{Bits}
-use Rattle.lalrpop_base.specs.declared.lr1_core.state.BuildError.{BuildError}
-use Rattle.lalrpop_base.specs.declared.lr1_core.state.BuildError.TheVariants.{Conflicts, Memory}
+use Rattle.lalrpop_base.specs.Words.{Bits}
+use Rattle.lalrpop_base.specs.declared.lr1_core.state.BuildError.TheVariants.{Conflicts}
 use Rattle.lalrpop_base.specs.declared.lr1_core.state.State.{State}
 use Rattle.lalrpop_base.specs.declared.lr1_core.state.TableConstructionError.{TableConstructionError}
 use Rattle.lalrpop_base.specs.declared.repr.NonterminalString.{NonterminalString}
 use Rattle.lalrpop_base.specs.declared.repr.grammar.Grammar.{Grammar}
-use Rattle.lalrpop_tables.specs.Lalr.{Collapses}
-use Rattle.lalrpop_tables.specs.Lr1Answers.{AreTablesOf, HasConflictsOf, FailsOn}
+use Rattle.lalrpop_tables.specs.Words.{Collapses, AreTablesOf, HasConflictsOf}
 use Rattle.lalrpop_tables.specs.declared.build.options.Options.{Options}
 use Rattle.lalrpop_tables.proofs.Lr1Answers.{Tables-where, Failure-where}
 

@@ -2,22 +2,15 @@
 use Rattle.std.proofs.Common.{◌≡◌, ◌⊎◌, ℕ, List, Result, Ok, Err, refl, subst, inl, inr, map, false}
 use Rattle.std.specs.Prelude.{IfOk, IfErr, string_bytes}
 use Rattle.std.specs.declared.string.String.{String}
-use Rattle.lalrpop_base.specs.Contents.{contents}
-use Rattle.lalrpop_base.specs.Grammar.{IsOnNoRightSide}
-use Rattle.lalrpop_base.specs.Runs.{Parsed, Refused, Limit, IsFirstWrong}
-use Rattle.lalrpop_base.specs.WellFormed.{productions}
+use Rattle.lalrpop_base.specs.Words.{IsOnNoRightSide, Parsed, Refused, Limit, IsFirstWrong, productions}
 use Rattle.lalrpop_base.specs.declared.memory.OutOfMemory.{OutOfMemory}
 use Rattle.lalrpop_base.specs.declared.repr.NonterminalString.{NonterminalString}
 use Rattle.lalrpop_base.specs.declared.repr.TerminalString.{TerminalString}
 use Rattle.lalrpop_base.specs.declared.repr.TerminalString.TheVariants.{Literal}
 use Rattle.lalrpop_base.specs.declared.repr.grammar.Grammar.{Grammar}
-use Rattle.lalrpop_tables.specs.Lalr.{Collapses}
-use Rattle.lalrpop_tables.specs.Lr1Answers.{HasConflictsOf}
+use Rattle.lalrpop_tables.specs.Words.{Collapses, HasConflictsOf}
 use Rattle.lalrpop_tables.specs.declared.build.options.Options.{Options}
-use Rattle.lalrpop_lr1.specs.FaithfulAnswers.{IsTreeWithin}
-use Rattle.lalrpop_lr1.specs.Headline.{IsToldByTables}
-use Rattle.lalrpop_lr1.specs.ParseAnswers.{HadTables, IfConflicts, IfRefusedAt, TellsTrees}
-use Rattle.lalrpop_lr1.specs.ParseTrees.{tree_of}
+use Rattle.lalrpop_lr1.specs.Words.{IsTreeWithin, IsToldByTables, HadTables, IfConflicts, IfRefusedAt, TellsTrees, tree_of}
 use Rattle.lalrpop_lr1.specs.declared.headline.parse_error.ParseError.{ParseError}
 use Rattle.lalrpop_lr1.specs.declared.headline.parse_error.ParseError.TheVariants.{Conflicts, Refused as RefusedAt, Limit as LimitTold, Memory}
 use Rattle.lalrpop_lr1.specs.declared.interpret.tree.ParseTree.{ParseTree}

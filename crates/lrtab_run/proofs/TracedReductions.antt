@@ -1,17 +1,12 @@
 -- The graph of a reduction that is traced: its edges have terminals with bits, and its first examples are what is shown.
 use Rattle.std.proofs.Common.{◌≡◌, ℕ, List, sym, ap, subst}
 use Rattle.std.specs.Prelude.{Contains}
-use Rattle.lalrpop_base.specs.Bits.{Bits}
-use Rattle.lalrpop_base.specs.Items.{Dotted}
-use Rattle.lalrpop_base.specs.WellFormed.{Rules}
+use Rattle.lalrpop_base.specs.Words.{Bits, Dotted, Rules}
 use Rattle.lalrpop_base.specs.declared.lookahead.nil.Nil.{Nil}
 use Rattle.lalrpop_base.specs.declared.lr1_core.state.State.{State}
 use Rattle.lalrpop_base.specs.declared.lr1_core.state.StateIndex.{StateIndex}
-use Rattle.lalrpop_lr1.specs.Paths.{item_node, paths}
-use Rattle.lalrpop_lr1.specs.TraceGraphs.{Graph, AreKnownEdges}
-use Rattle.lalrpop_lr1.specs.TraceOrder.{IsInOrder}
-use Rattle.lalrpop_lr1.specs.Traces.{HasOwnProductions, HasOwnTerminals, IsTraceOf, StandsIn, dotted, reduction_traced}
-use Rattle.lalrpop_lr1.specs.Walks.{to_come}
+use Rattle.lalrpop_lr1.specs.Words.{item_node, paths, Graph, AreKnownEdges, IsInOrder, HasOwnProductions, HasOwnTerminals, IsTraceOf, StandsIn, dotted}
+use Rattle.lalrpop_lr1.specs.Words.{reduction_traced, to_come}
 use Rattle.lalrpop_lr1.specs.declared.trace.filtered.FilteredPathEnumerator.{FilteredPathEnumerator}
 use Rattle.lalrpop_lr1.specs.declared.trace.trace_graph.TraceGraphEdge.{TraceGraphEdge}
 use Rattle.lrtab_run.specs.Explained.{AreFirst, GoesOnWith, AreReduceExamples, path_lines}

@@ -1,7 +1,7 @@
 -- A text that is written a part at a time.
 use Rattle.std.proofs.Common.{◌≡◌, ℕ, ◌-◌, List, ◌++◌, length, take, drop, Option, None, Some, ap, ◌∙◌, arith, append_assoc}
 use Rattle.std.proofs.lemmas.List.{take_all, length-drop, take-append-drop}
-use Rattle.std.specs.Io.KnownBytes.{Appends, Keeps}
+use Rattle.std.specs.Io.KnownBytes.{Appends}
 
 -- what is left of a slice
 pub left_of : (k : ℕ) (rest : List ℕ) → take (length rest - k) (drop k rest) ≡ drop k rest
@@ -12,12 +12,6 @@ appends_more None mid new a b p q = tt
 appends_more (Some xs) None new a b p q = absurd p
 appends_more (Some xs) (Some ys) None a b p q = absurd q
 appends_more (Some xs) (Some ys) (Some zs) a b p q = q ∙ ap (λ l. l ++ b) p ∙ append_assoc xs a b
-
-pub appends_kept : (old mid new : Option (List ℕ)) (a : List ℕ) → Appends old mid a → Keeps mid new → Appends old new a
-appends_kept None mid new a p q = tt
-appends_kept (Some xs) None new a p q = absurd p
-appends_kept (Some xs) (Some ys) None a p q = absurd q
-appends_kept (Some xs) (Some ys) (Some zs) a p q = q ∙ p
 
 -- a part more
 pub parted_more : (text done rest : List ℕ) (k : ℕ) → done ++ rest ≡ text → (done ++ take k rest) ++ take (length rest - k) (drop k rest) ≡ text

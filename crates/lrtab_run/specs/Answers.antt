@@ -13,8 +13,7 @@ use Rattle.grammar_text.specs.Grammar.{StandsFor}
 use Rattle.lalrpop_base.specs.declared.repr.NonterminalString.{NonterminalString}
 use Rattle.lalrpop_base.specs.declared.repr.grammar.Grammar.{Grammar}
 use Rattle.lalrpop_tables.specs.declared.build.options.Method.{Method}
-use Rattle.lalrpop_lr1.specs.InlineOrder.{IsOnRing}
-use Rattle.lalrpop_lr1.specs.Inlined.{HasTooMany}
+use Rattle.lalrpop_lr1.specs.Words.{IsOnRing, HasTooMany}
 use Rattle.lrtab_run.specs.Words.{Asked}
 use Rattle.lrtab_run.specs.Shown.{line, IsShownInlined}
 use Rattle.lrtab_run.specs.Output.{AppendsBeginning}

@@ -2,11 +2,7 @@
 use Rattle.std.specs.Prelude.{◌≡◌, ◌≢◌, ℕ, suc, ◌+◌, List, [], ◌∷◌, ◌++◌, length, take, drop, slice_get, Option, Some, None, IsTrue, codes}
 use Rattle.std.specs.Fmt.{decimal}
 use Rattle.std.specs.List.{flat_map}
-use Rattle.lalrpop_base.specs.Bits.{Bits, has}
-use Rattle.lalrpop_base.specs.First.{IsFirstSet}
-use Rattle.lalrpop_base.specs.Items.{Dotted}
-use Rattle.lalrpop_base.specs.Names.{symbol_text, terminal_text}
-use Rattle.lalrpop_base.specs.WellFormed.{Rules}
+use Rattle.lalrpop_base.specs.Words.{Bits, has, IsFirstSet, Dotted, symbol_text, terminal_text, Rules}
 use Rattle.lalrpop_base.specs.declared.lookahead.token.Token.{Token}
 use Rattle.lalrpop_base.specs.declared.lr1_core.state.Action.{Action}
 use Rattle.lalrpop_base.specs.declared.lr1_core.state.Action.TheVariants.{Shift, Reduce}
@@ -16,12 +12,8 @@ use Rattle.lalrpop_base.specs.declared.lr1_core.state.StateIndex.{StateIndex}
 use Rattle.lalrpop_base.specs.declared.repr.Production.{Production}
 use Rattle.lalrpop_base.specs.declared.repr.Symbol.TheVariants.{Terminal}
 use Rattle.lalrpop_base.specs.declared.repr.TerminalString.{TerminalString}
-use Rattle.lalrpop_lr1.specs.Examples.{prefixes, following, spelled}
-use Rattle.lalrpop_lr1.specs.Paths.{item_node, paths}
-use Rattle.lalrpop_lr1.specs.ReportLines.{production_line, tokens_in, tokens_text}
-use Rattle.lalrpop_lr1.specs.TraceGraphs.{Graph}
-use Rattle.lalrpop_lr1.specs.TraceOrder.{IsInOrder}
-use Rattle.lalrpop_lr1.specs.Traces.{IsTraceOf, dotted, shift_traced, reduction_traced}
+use Rattle.lalrpop_lr1.specs.Words.{prefixes, following, spelled, item_node, paths, production_line, tokens_in, tokens_text, Graph, IsInOrder, IsTraceOf}
+use Rattle.lalrpop_lr1.specs.Words.{dotted, shift_traced, reduction_traced}
 use Rattle.lalrpop_lr1.specs.declared.trace.example.ExampleSymbol.{ExampleSymbol}
 use Rattle.lalrpop_lr1.specs.declared.trace.example.ExampleSymbol.TheVariants.{Symbol as SymbolOf, Epsilon}
 

@@ -1,14 +1,8 @@
 -- What the program shows of a grammar, which a text stands for and whose marked nonterminals are inlined: what a parse by its tables comes to, the report of its tables, its conflicts or their explanation.
 use Rattle.std.specs.Prelude.{◌≡◌, ◌↔◌, ◌⊎◌, ℕ, ◌<◌, ◌≤◌, List, [], ◌∷◌, ◌++◌, length, map, codes, Result, Ok, Err}
 use Rattle.std.specs.Fmt.{decimal}
-use Rattle.lalrpop_base.specs.Bits.{Bits}
-use Rattle.lalrpop_base.specs.Contents.{contents}
-use Rattle.lalrpop_base.specs.Grammar.{IsSentence, IsOnNoRightSide}
-use Rattle.lalrpop_base.specs.Names.{token_text}
-use Rattle.lalrpop_base.specs.Runs.{Outcome, Parsed, Refused, Limit, HasOutcome, IsFirstWrong}
-use Rattle.lalrpop_base.specs.States.{Contents}
-use Rattle.lalrpop_base.specs.Trees.{Tree, beside, no_trees, leaves, nodes, IsParseTree}
-use Rattle.lalrpop_base.specs.WellFormed.{IsWellFormed, productions, rules_of}
+use Rattle.lalrpop_base.specs.Words.{Bits, contents, IsSentence, IsOnNoRightSide, token_text, Outcome, Parsed, Refused, Limit, HasOutcome, IsFirstWrong}
+use Rattle.lalrpop_base.specs.Words.{Contents, Tree, beside, no_trees, leaves, nodes, IsParseTree, IsWellFormed, productions, rules_of}
 use Rattle.lalrpop_base.specs.declared.lr1_core.state.State.{State}
 use Rattle.lalrpop_base.specs.declared.lr1_core.state.TableConstructionError.{TableConstructionError}
 use Rattle.lalrpop_base.specs.declared.repr.NonterminalString.{NonterminalString}
@@ -16,13 +10,9 @@ use Rattle.lalrpop_base.specs.declared.repr.Production.{Production}
 use Rattle.lalrpop_base.specs.declared.repr.TerminalString.{TerminalString}
 use Rattle.lalrpop_base.specs.declared.repr.TerminalString.TheVariants.{Literal}
 use Rattle.lalrpop_base.specs.declared.repr.grammar.Grammar.{Grammar}
-use Rattle.lalrpop_tables.specs.Lr1Answers.{AreTablesOf, HasConflictsOf}
+use Rattle.lalrpop_tables.specs.Words.{AreTablesOf, HasConflictsOf}
 use Rattle.lalrpop_tables.specs.declared.build.options.Method.{Method}
-use Rattle.lalrpop_lr1.specs.FaithfulAnswers.{IsCutOff, IsOutcomeFor}
-use Rattle.lalrpop_lr1.specs.InlineOrder.{IsMarked, Mentions}
-use Rattle.lalrpop_lr1.specs.Inlined.{IsInlined}
-use Rattle.lalrpop_lr1.specs.ParseTrees.{tree_of, tree_text}
-use Rattle.lalrpop_lr1.specs.Report.{tables_report, failure_report}
+use Rattle.lalrpop_lr1.specs.Words.{IsCutOff, IsOutcomeFor, IsMarked, Mentions, IsInlined, tree_of, tree_text, tables_report, failure_report}
 use Rattle.lalrpop_lr1.specs.declared.headline.parse_error.ParseError.{ParseError}
 use Rattle.lalrpop_lr1.specs.declared.headline.parse_error.ParseError.TheVariants.{Conflicts, Refused as RefusedAt, Limit as LimitTold, Memory}
 use Rattle.lalrpop_lr1.specs.declared.interpret.tree.ParseTree.{ParseTree}

@@ -1,7 +1,7 @@
 //! What the program has to tell.
 ghost use Rattle.std.specs.Prelude.{◌≡◌, ◌++◌, IfOk, IfSome, Some, Option, map, option_map, string_bytes, codes, List, ℕ, false, is_ok, if◌then◌else◌};
 ghost use Rattle.std.specs.Fmt.{decimal};
-ghost use Rattle.lalrpop_base.specs.WellFormed.{IsWellFormed};
+ghost use Rattle.lalrpop_base.specs.Words.{IsWellFormed};
 ghost use Rattle.lalrpop_base.specs.declared.repr.TerminalString.TheVariants.{Literal};
 ghost use Rattle.lrtab_run.specs.Words.{Parse, Report, Explain, request_of, request_view};
 ghost use Rattle.lrtab_run.specs.Answers.{file_name, IsAnswer, IsAnswerTo, IsAnswerToGrammar};

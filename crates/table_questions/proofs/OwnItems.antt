@@ -2,11 +2,7 @@
 use Rattle.std.proofs.Common.{◌≡◌, ◌∙◌, ◌<◌, ℕ, List, length, sym, ap, subst, arith, Some}
 use Rattle.std.specs.Prelude.{Contains, slice_get}
 use Rattle.std.proofs.lemmas.Option.{slice_get_within}
-use Rattle.lalrpop_base.specs.Coherent.{AreCoherent}
-use Rattle.lalrpop_base.specs.Contents.{contents_at}
-use Rattle.lalrpop_base.specs.Items.{Dotted}
-use Rattle.lalrpop_base.specs.States.{Contents}
-use Rattle.lalrpop_base.specs.WellFormed.{Rules, IsWellFormed, productions, productions_of, rules_of}
+use Rattle.lalrpop_base.specs.Words.{AreCoherent, contents_at, Dotted, Contents, Rules, IsWellFormed, productions, productions_of, rules_of}
 use Rattle.lalrpop_base.specs.declared.lookahead.nil.Nil.{Nil}
 use Rattle.lalrpop_base.specs.declared.lr1_core.state.Action.{Action}
 use Rattle.lalrpop_base.specs.declared.lr1_core.state.State.{State}
@@ -19,9 +15,7 @@ use Rattle.lalrpop_base.proofs.theory.Valid.{of_grammar}
 use Rattle.table_questions.specs.Traces.{AreReady, IsTracing}
 use Rattle.table_questions.specs.declared.ask.lane_tables.Traces.{Traces}
 use Rattle.lalrpop_tables.proofs.Grammars.{productions_among}
-use Rattle.lalrpop_tables.specs.LaneStates.{dot_of}
-use Rattle.lalrpop_tables.specs.LaneTraces.{HaveOwnItems, IsReadyToTrace, ReducesOwn}
-use Rattle.lalrpop_tables.specs.Lr0.{AreLr0States, on_any, lr0_contents}
+use Rattle.lalrpop_tables.specs.Words.{dot_of, HaveOwnItems, IsReadyToTrace, ReducesOwn, AreLr0States, on_any, lr0_contents}
 use Rattle.lalrpop_tables.specs.declared.lane_table.lane.LaneTracer.{LaneTracer}
 
 pub own_items : (g : Rules) (start : NonterminalString) (states : List (State Nil)) → AreLr0States g start states → HaveOwnItems g.productions states

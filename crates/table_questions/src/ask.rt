@@ -14,7 +14,7 @@ pub mod states;
 pub mod token_sets;
 pub mod views;
 
-ghost use Rattle.lalrpop_base.specs.WellFormed.{IsWellFormed};
+ghost use Rattle.lalrpop_base.specs.Words.{IsWellFormed};
 
 use crate::question::{Question, QuestionError};
 use lalrpop_base::repr::grammar::Grammar;

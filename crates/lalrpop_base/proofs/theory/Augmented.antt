@@ -7,12 +7,10 @@ use Rattle.lalrpop_base.specs.declared.repr.TerminalString.{TerminalString}
 use Rattle.lalrpop_base.specs.declared.repr.Production.{Production}
 use Rattle.lalrpop_base.specs.declared.repr.Symbol.{Symbol}
 use Rattle.lalrpop_base.specs.declared.repr.Symbol.TheVariants.{Nonterminal, Terminal}
-use Rattle.lalrpop_base.specs.Grammar.{Derives, as_it_is, replace, symbols_of, IsSentence, IsBeginning, IsOnNoRightSide}
-use Rattle.lalrpop_base.specs.Trees.{Tree, Leaf, Node, Trees, no_trees, beside, root, roots, leaves, nodes, IsNode, AreOfGrammar, IsParseTree}
-use Rattle.lalrpop_base.specs.Augmented.{IsAugmented}
+use Rattle.lalrpop_base.specs.Words.{Derives, as_it_is, replace, symbols_of, IsSentence, IsBeginning, IsOnNoRightSide, Tree, Leaf, Node, Trees, no_trees}
+use Rattle.lalrpop_base.specs.Words.{beside, root, roots, leaves, nodes, IsNode, AreOfGrammar, IsParseTree, IsAugmented, Contents, AreFaithful, HasOutcome}
+use Rattle.lalrpop_base.specs.Words.{Parsed, Refused, IsFirstWrong, at_terminal, at_end}
 use Rattle.lalrpop_base.specs.declared.lookahead.token.Token.{Token}
-use Rattle.lalrpop_base.specs.States.{Contents, AreFaithful}
-use Rattle.lalrpop_base.specs.Runs.{HasOutcome, Parsed, Refused, IsFirstWrong, at_terminal, at_end}
 use Rattle.lalrpop_base.proofs.theory.Lists.{same_nonterminal, not_both, contains-cons, contains-nil, contains_head, contains_tail}
 use Rattle.lalrpop_base.proofs.theory.Derivations.{Derives-to, Derives-from, Derives-trans, Derives-production}
 use Rattle.lalrpop_base.proofs.theory.Forests.{Forest, empty, leaf, node, Forest-from, forest_derives, derives_forest, forest-nil}

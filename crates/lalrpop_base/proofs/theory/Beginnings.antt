@@ -7,11 +7,9 @@ use Rattle.lalrpop_base.specs.declared.repr.NonterminalString.{NonterminalString
 use Rattle.lalrpop_base.specs.declared.repr.Symbol.{Symbol}
 use Rattle.lalrpop_base.specs.declared.repr.Symbol.TheVariants.{Nonterminal, Terminal}
 use Rattle.lalrpop_base.specs.declared.repr.TerminalString.{TerminalString}
-use Rattle.lalrpop_base.specs.Grammar.{Derives, symbols_of, IsBeginning}
-use Rattle.lalrpop_base.specs.Validity.{Valid, starts, shifts, expands, ValidToken, begins_behind, IsAwaited}
-use Rattle.lalrpop_base.specs.States.{Contents, state_after, AreFaithful}
-use Rattle.lalrpop_base.specs.Trees.{Tree, Leaf, Node, leaves, nodes, IsNode}
-use Rattle.lalrpop_base.specs.Runs.{Configuration, next_token, shifts_or, Reaches, here, further, begin}
+use Rattle.lalrpop_base.specs.Words.{Derives, symbols_of, IsBeginning, Valid, starts, shifts, expands, ValidToken, begins_behind, IsAwaited, Contents}
+use Rattle.lalrpop_base.specs.Words.{state_after, AreFaithful, Tree, Leaf, Node, leaves, nodes, IsNode, Configuration, next_token, shifts_or, Reaches, here}
+use Rattle.lalrpop_base.specs.Words.{further, begin}
 use Rattle.lalrpop_base.proofs.theory.Lists.{drop_past, same_nonterminal, not_both, inside, behind, place, symbols_of-append}
 use Rattle.lalrpop_base.proofs.theory.Derivations.{Derives-to}
 use Rattle.lalrpop_base.proofs.theory.Forests.{Forest, empty, leaf, node, forest_derives, derives_forest, forest-nil, Forest-from}

@@ -7,10 +7,9 @@ use Rattle.lalrpop_base.specs.declared.repr.Symbol.TheVariants.{Nonterminal, Ter
 use Rattle.lalrpop_base.specs.declared.repr.TerminalString.{TerminalString}
 use Rattle.lalrpop_base.specs.declared.lookahead.token.Token.{Token}
 use Rattle.lalrpop_base.specs.declared.lookahead.token.Token.TheVariants.{Eof, Terminal as TokenOf}
-use Rattle.lalrpop_base.specs.Grammar.{Derives, replace}
-use Rattle.lalrpop_base.specs.Validity.{IsLR1, Action, Shift, Reduce, IsValidAction, Valid, ValidToken, at_start, kept, begins_behind, passed_on, IsLive}
-use Rattle.lalrpop_base.specs.States.{Contents, state_after, Allows, HasRightItems, AreFaithful}
-use Rattle.lalrpop_base.specs.Closures.{InTokenClosure, with_token, begins_rest, inherits, IsAtStartWith, IsMovedWith, items_of, AreCanonical}
+use Rattle.lalrpop_base.specs.Words.{Derives, replace, IsLR1, Action, Shift, Reduce, IsValidAction, Valid, ValidToken, at_start, kept, begins_behind, passed_on}
+use Rattle.lalrpop_base.specs.Words.{IsLive, Contents, state_after, Allows, HasRightItems, AreFaithful, InTokenClosure, with_token, begins_rest, inherits}
+use Rattle.lalrpop_base.specs.Words.{IsAtStartWith, IsMovedWith, items_of, AreCanonical}
 use Rattle.lalrpop_base.proofs.theory.Lists.{drop_past, Grown, from_nothing, more, grown, same_some}
 use Rattle.lalrpop_base.proofs.theory.Closures.{state_from-last, items_valid, right_items, live_state}
 use Rattle.lalrpop_base.proofs.theory.RightStates.{edges_awaited, reductions_valid, no_conflict_one, one_no_conflict}

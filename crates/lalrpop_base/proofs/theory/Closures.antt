@@ -6,9 +6,11 @@ use Rattle.lalrpop_base.specs.declared.repr.NonterminalString.{NonterminalString
 use Rattle.lalrpop_base.specs.declared.repr.Symbol.{Symbol}
 use Rattle.lalrpop_base.specs.declared.repr.Symbol.TheVariants.{Nonterminal, Terminal}
 use Rattle.lalrpop_base.specs.declared.lookahead.token.Token.{Token}
-use Rattle.lalrpop_base.specs.Validity.{Valid, starts, shifts, expands, ValidToken, at_start, kept, begins_behind, passed_on, IsLive, Action, Shift, Reduce, IsValidAction}
-use Rattle.lalrpop_base.specs.States.{Contents, leads, onward, state_from, state_after, Allows, ReducesFinished, HasRightItems, HaveRightItems, AreFaithful}
-use Rattle.lalrpop_base.specs.Closures.{InClosure, in_kernel, expanded, IsAtStart, IsMoved, AreClosed, IsReached, at_zero, over_edge, IsCarried, eof_at_start, over, first_of_rest, through_rest, items_of, AreChecked}
+use Rattle.lalrpop_base.specs.Words.{Valid, starts, shifts, expands, ValidToken, at_start, kept, begins_behind, passed_on, IsLive, Action, Shift, Reduce}
+use Rattle.lalrpop_base.specs.Words.{IsValidAction, Contents, leads, onward, state_from, state_after, Allows, ReducesFinished, HasRightItems, HaveRightItems}
+use Rattle.lalrpop_base.specs.Words.{AreFaithful, InClosure, in_kernel, expanded, IsAtStart, IsMoved, AreClosed, IsReached, at_zero, IsCarried, eof_at_start}
+use Rattle.lalrpop_base.specs.Words.{over, first_of_rest, through_rest, items_of, AreChecked}
+use Rattle.lalrpop_base.specs.Closures.{over_edge}
 use Rattle.lalrpop_base.proofs.theory.Lists.{Grown, from_nothing, more, grown, same_some, some≢none}
 use Rattle.lalrpop_base.proofs.theory.Valid.{valid, awaited_live}
 use Rattle.lalrpop_base.proofs.theory.RightStates.{awaited_edges, edges_awaited, reductions_valid, no_conflict_one}

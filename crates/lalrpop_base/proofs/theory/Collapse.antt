@@ -4,11 +4,8 @@ use Rattle.lalrpop_base.specs.declared.repr.NonterminalString.{NonterminalString
 use Rattle.lalrpop_base.specs.declared.repr.Production.{Production}
 use Rattle.lalrpop_base.specs.declared.repr.Symbol.{Symbol}
 use Rattle.lalrpop_base.specs.declared.lookahead.token.Token.{Token}
-use Rattle.lalrpop_base.specs.Validity.{HaveSameItems, IsLalrToken}
-use Rattle.lalrpop_base.specs.States.{Contents, state_after, IsBehindDot, LeadsOverDots, HasRightItems}
-use Rattle.lalrpop_base.specs.Closures.{items_of, IsReached, AreCanonical}
-use Rattle.lalrpop_base.specs.Collapse.{HoldsInGroup, LeadsInGroup, IsCollapse}
-use Rattle.lalrpop_base.specs.Lanes.{AreLr0, HoldLalrTokens}
+use Rattle.lalrpop_base.specs.Words.{HaveSameItems, IsLalrToken, Contents, state_after, IsBehindDot, LeadsOverDots, HasRightItems, items_of, IsReached}
+use Rattle.lalrpop_base.specs.Words.{AreCanonical, HoldsInGroup, LeadsInGroup, IsCollapse, AreLr0, HoldLalrTokens}
 use Rattle.lalrpop_base.proofs.theory.Lists.{Grown, from_nothing, more, grown, same_some}
 use Rattle.lalrpop_base.proofs.theory.Steps.{state_from-more}
 use Rattle.lalrpop_base.proofs.theory.Valid.{valid}

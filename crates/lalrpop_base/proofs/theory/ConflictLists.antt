@@ -8,10 +8,10 @@ use Rattle.lalrpop_base.specs.declared.repr.Production.{Production}
 use Rattle.lalrpop_base.specs.declared.repr.TerminalString.{TerminalString}
 use Rattle.lalrpop_base.specs.declared.lookahead.token.Token.{Token}
 use Rattle.lalrpop_base.specs.declared.lookahead.token.Token.TheVariants.{Terminal as TokenOf}
-use Rattle.lalrpop_base.specs.Validity.{Action, Shift, Reduce}
-use Rattle.lalrpop_base.specs.States.{Contents, Reduction, HasNoRepeat, Allows}
-use Rattle.lalrpop_base.specs.Conflicts.{IsInConflict, ConflictContents, IsConflict, ActionPrecedes, IsLess, StandsBefore, AreConflictsOf}
-use Rattle.lalrpop_base.specs.ConflictLists.{Ordered, IsShiftConflict, ShiftPart, no_more, in_conflict, apart, ShiftParts, no_shifts, shift_first, IsReduceConflict, LaterPart, no_later, with_later, shares_none, ReduceParts, no_reductions, reduce_first}
+use Rattle.lalrpop_base.specs.Words.{Action, Shift, Reduce, Contents, HasNoRepeat, Allows, IsInConflict, ConflictContents, IsConflict, ActionPrecedes, IsLess}
+use Rattle.lalrpop_base.specs.Words.{StandsBefore, AreConflictsOf, Ordered, IsShiftConflict, ShiftPart, no_more, in_conflict, apart, ShiftParts, no_shifts}
+use Rattle.lalrpop_base.specs.Words.{shift_first, IsReduceConflict, LaterPart, no_later, with_later, shares_none, ReduceParts, no_reductions, reduce_first}
+use Rattle.lalrpop_base.specs.States.{Reduction}
 use Rattle.lalrpop_base.proofs.theory.Lists.{same_some, some≢none, contains-cons, contains-nil, contains_head, contains_tail, contains_place, place_contains}
 
 -- a list with a head that precedes the others, which are ordered, is ordered

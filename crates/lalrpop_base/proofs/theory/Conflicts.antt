@@ -10,10 +10,11 @@ use Rattle.lalrpop_base.specs.declared.repr.Symbol.{Symbol}
 use Rattle.lalrpop_base.specs.declared.repr.TerminalString.{TerminalString}
 use Rattle.lalrpop_base.specs.declared.lookahead.token.Token.{Token}
 use Rattle.lalrpop_base.specs.declared.lookahead.token.Token.TheVariants.{Terminal as TokenOf}
-use Rattle.lalrpop_base.specs.Validity.{Action, Shift, Reduce, IsValidAction, IsLR1}
-use Rattle.lalrpop_base.specs.States.{Contents, Reduction, HasNoRepeat, state_after, Allows}
-use Rattle.lalrpop_base.specs.Closures.{AreCanonical}
-use Rattle.lalrpop_base.specs.Conflicts.{IsInConflict, ConflictContents, IsConflict, ActionPrecedes, AreConflicts, IsLess, IsOrder, StandsBefore, AreConflictsOf, AreCanonicalConflicts, ReducesInOrder, HasNoConflict, HasNoCanonicalConflict}
+use Rattle.lalrpop_base.specs.Words.{Action, Shift, Reduce, IsValidAction, IsLR1, Contents, HasNoRepeat, state_after, Allows, AreCanonical, IsInConflict}
+use Rattle.lalrpop_base.specs.Words.{ConflictContents, IsConflict, ActionPrecedes, AreConflicts, IsLess, IsOrder, StandsBefore, AreConflictsOf}
+use Rattle.lalrpop_base.specs.Words.{AreCanonicalConflicts, ReducesInOrder, HasNoCanonicalConflict}
+use Rattle.lalrpop_base.specs.States.{Reduction}
+use Rattle.lalrpop_base.specs.Conflicts.{HasNoConflict}
 use Rattle.lalrpop_base.proofs.theory.Lists.{same_some, some≢none, contains-nil, contains_place, place_contains}
 use Rattle.lalrpop_base.proofs.theory.Valid.{action_live}
 use Rattle.lalrpop_base.proofs.theory.RightStates.{terminal_in}

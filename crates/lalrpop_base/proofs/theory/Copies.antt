@@ -3,9 +3,7 @@ use Rattle.std.proofs.Common.{◌↔◌, ℕ, List, sym, subst}
 use Rattle.lalrpop_base.specs.declared.repr.NonterminalString.{NonterminalString}
 use Rattle.lalrpop_base.specs.declared.repr.Production.{Production}
 use Rattle.lalrpop_base.specs.declared.repr.Symbol.{Symbol}
-use Rattle.lalrpop_base.specs.States.{Contents, IsBehindDot}
-use Rattle.lalrpop_base.specs.Closures.{InClosure, in_kernel, expanded, IsMoved, items_of, AreClosed}
-use Rattle.lalrpop_base.specs.Copies.{IsCopying}
+use Rattle.lalrpop_base.specs.Words.{Contents, IsBehindDot, InClosure, in_kernel, expanded, IsMoved, items_of, AreClosed, IsCopying}
 use Rattle.lalrpop_base.proofs.theory.LeastClosures.{closure_within}
 
 -- a larger kernel has a larger closure

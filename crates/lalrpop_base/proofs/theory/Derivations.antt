@@ -4,7 +4,7 @@ use Rattle.std.specs.Prelude.{Contains}
 use Rattle.lalrpop_base.specs.declared.repr.Production.{Production}
 use Rattle.lalrpop_base.specs.declared.repr.Symbol.{Symbol}
 use Rattle.lalrpop_base.specs.declared.repr.Symbol.TheVariants.{Nonterminal}
-use Rattle.lalrpop_base.specs.Grammar.{Derives, as_it_is, replace}
+use Rattle.lalrpop_base.specs.Words.{Derives, as_it_is, replace}
 
 -- from an equal list, and to one
 pub Derives-from : {g : List Production} {l k m : List Symbol} → l ≡ k → Derives g l m → Derives g k m

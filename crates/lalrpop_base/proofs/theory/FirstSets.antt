@@ -6,8 +6,7 @@ use Rattle.lalrpop_base.specs.declared.repr.TerminalString.{TerminalString}
 use Rattle.lalrpop_base.specs.declared.repr.Production.{Production}
 use Rattle.lalrpop_base.specs.declared.repr.Symbol.{Symbol}
 use Rattle.lalrpop_base.specs.declared.repr.Symbol.TheVariants.{Nonterminal, Terminal}
-use Rattle.lalrpop_base.specs.Grammar.{Derives, as_it_is, IsFirst, IsNullable}
-use Rattle.lalrpop_base.specs.FirstSets.{NullableBy, FirstBy, AreFirstSets}
+use Rattle.lalrpop_base.specs.Words.{Derives, as_it_is, IsFirst, IsNullable, NullableBy, FirstBy, AreFirstSets}
 use Rattle.lalrpop_base.proofs.theory.Lists.{same_terminal, not_both}
 use Rattle.lalrpop_base.proofs.theory.Forests.{Forest, empty, leaf, node, derives_forest, nil_parts, nullable-cons, first-cons}
 

@@ -9,8 +9,9 @@ use Rattle.lalrpop_base.specs.declared.repr.TerminalString.{TerminalString}
 use Rattle.lalrpop_base.specs.declared.repr.TerminalString.TheVariants.{Literal, Bare, Error}
 use Rattle.lalrpop_base.specs.declared.lookahead.token.Token.{Token}
 use Rattle.lalrpop_base.specs.declared.lookahead.token.Token.TheVariants.{Eof, Terminal as TokenOf, Error as ErrorToken}
-use Rattle.lalrpop_base.specs.States.{Contents, Reduction, leads, IsBehindDot, LeadsOverDots, ReducesFinished}
-use Rattle.lalrpop_base.specs.Closures.{InClosure, in_kernel, expanded, IsAtStart, IsMoved, items_of, AreClosed}
+use Rattle.lalrpop_base.specs.Words.{Contents, leads, IsBehindDot, LeadsOverDots, ReducesFinished, InClosure, in_kernel, expanded, IsAtStart, IsMoved, items_of}
+use Rattle.lalrpop_base.specs.Words.{AreClosed}
+use Rattle.lalrpop_base.specs.States.{Reduction}
 use Rattle.lalrpop_base.proofs.theory.Lists.{not_both}
 use Rattle.lalrpop_base.proofs.theory.Rows.{each_at, same_text, Row, state_of, edge_at, row_edges, row_closure, row_moved, row_reductions, none_repeats, one_repeats}
 

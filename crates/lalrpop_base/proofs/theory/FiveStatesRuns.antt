@@ -9,12 +9,10 @@ use Rattle.lalrpop_base.specs.declared.repr.TerminalString.{TerminalString}
 use Rattle.lalrpop_base.specs.declared.repr.TerminalString.TheVariants.{Literal, Bare, Error}
 use Rattle.lalrpop_base.specs.declared.lookahead.token.Token.{Token}
 use Rattle.lalrpop_base.specs.declared.lookahead.token.Token.TheVariants.{Eof, Terminal as TokenOf}
-use Rattle.lalrpop_base.specs.Grammar.{IsFirst, IsOnNoRightSide}
-use Rattle.lalrpop_base.specs.States.{Reduction, leads, AreFaithful}
+use Rattle.lalrpop_base.specs.Words.{IsFirst, IsOnNoRightSide, leads, AreFaithful, IsCarried, eof_at_start, over, first_of_rest, through_rest, AreChecked, Tree}
+use Rattle.lalrpop_base.specs.Words.{Leaf, Node, no_trees, beside, here, further, HasOutcome, Parsed, parsed}
+use Rattle.lalrpop_base.specs.States.{Reduction}
 use Rattle.lalrpop_base.specs.Conflicts.{HasNoConflict}
-use Rattle.lalrpop_base.specs.Closures.{IsCarried, eof_at_start, over, first_of_rest, through_rest, AreChecked}
-use Rattle.lalrpop_base.specs.Trees.{Tree, Leaf, Node, no_trees, beside}
-use Rattle.lalrpop_base.specs.Runs.{here, further, HasOutcome, Parsed, parsed}
 use Rattle.lalrpop_base.proofs.theory.Lists.{not_both, same_terminal, same_nonterminal, contains-cons, contains-nil, some≢none, same_some}
 use Rattle.lalrpop_base.proofs.theory.Forests.{Forest, empty, leaf, node, Forest-from, derives_forest, forest-nil, first-nil, forest-terminal}
 use Rattle.lalrpop_base.proofs.theory.Closures.{checked_faithful}

@@ -6,7 +6,7 @@ use Rattle.lalrpop_base.specs.declared.repr.Production.{Production}
 use Rattle.lalrpop_base.specs.declared.repr.Symbol.{Symbol}
 use Rattle.lalrpop_base.specs.declared.repr.Symbol.TheVariants.{Nonterminal, Terminal}
 use Rattle.lalrpop_base.specs.declared.repr.TerminalString.{TerminalString}
-use Rattle.lalrpop_base.specs.Grammar.{Derives, as_it_is, replace, IsNullable, IsFirst}
+use Rattle.lalrpop_base.specs.Words.{Derives, as_it_is, replace, IsNullable, IsFirst}
 use Rattle.lalrpop_base.proofs.theory.Derivations.{Derives-to, Derives-append}
 
 -- trees beside one another, with the symbols at their roots and at their leaves, which may be any symbols
@@ -80,10 +80,6 @@ pub Derives-parts : {g : List Production} (l m n : List Symbol) → Derives g (l
 Derives-parts l m n d =
     let r = split l (derives_forest d) in
     record { first = r.first; second = r.second; joined = r.joined; left = forest_derives r.left; right = forest_derives r.right }
-
--- and they can be joined
-pub Derives-join : {g : List Production} (l m n : List Symbol) → DerivesParts g l m n → Derives g (l ++ m) n
-Derives-join l m n r = Derives-to (sym r.joined) (Derives-append r.left r.right)
 
 -- nullable, by cases on a list
 pub nullable-nil : {g : List Production} → IsNullable g []

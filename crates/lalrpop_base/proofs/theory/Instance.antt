@@ -11,10 +11,11 @@ use Rattle.lalrpop_base.specs.declared.repr.TerminalString.{TerminalString}
 use Rattle.lalrpop_base.specs.declared.repr.TerminalString.TheVariants.{Literal, Bare, Error}
 use Rattle.lalrpop_base.specs.declared.lookahead.token.Token.{Token}
 use Rattle.lalrpop_base.specs.declared.lookahead.token.Token.TheVariants.{Eof, Terminal as TokenOf, Error as ErrorToken}
-use Rattle.lalrpop_base.specs.Grammar.{IsOnNoRightSide}
-use Rattle.lalrpop_base.specs.States.{Contents, Reduction, leads, IsBehindDot, LeadsOverDots, HasNoRepeat, ReducesFinished, AreFaithful}
+use Rattle.lalrpop_base.specs.Words.{IsOnNoRightSide, Contents, leads, IsBehindDot, LeadsOverDots, HasNoRepeat, ReducesFinished, AreFaithful, InClosure}
+use Rattle.lalrpop_base.specs.Words.{in_kernel, expanded, IsAtStart, IsMoved, items_of, AreClosed, IsCarried, eof_at_start, over, first_of_rest, through_rest}
+use Rattle.lalrpop_base.specs.Words.{AreChecked}
+use Rattle.lalrpop_base.specs.States.{Reduction}
 use Rattle.lalrpop_base.specs.Conflicts.{HasNoConflict}
-use Rattle.lalrpop_base.specs.Closures.{InClosure, in_kernel, expanded, IsAtStart, IsMoved, items_of, AreClosed, IsCarried, eof_at_start, over, first_of_rest, through_rest, AreChecked}
 use Rattle.lalrpop_base.proofs.theory.Lists.{not_both, contains-nil, contains-cons, contains_head, some≢none, same_some}
 use Rattle.lalrpop_base.proofs.theory.Closures.{checked_faithful}
 

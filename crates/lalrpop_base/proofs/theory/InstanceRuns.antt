@@ -1,8 +1,8 @@
 -- The runs of S = "x" on the list x: its tree at limit 2, and Limit at 1 and 0; and on the empty list a refusal: by computing the steps.
 use Rattle.std.proofs.Common.{◌≡◌, [], ◌∷◌, subst, refl, arith}
 use Rattle.lalrpop_base.specs.declared.lookahead.token.Token.TheVariants.{Eof, Terminal}
-use Rattle.lalrpop_base.specs.Trees.{Tree, Leaf, Node, no_trees, beside, nodes, IsParseTree}
-use Rattle.lalrpop_base.specs.Runs.{Configuration, here, further, begin, HasOutcome, Parsed, Refused, Limit, parsed, stuck, cut_off}
+use Rattle.lalrpop_base.specs.Words.{Tree, Leaf, Node, no_trees, beside, nodes, IsParseTree, Configuration, here, further, begin, HasOutcome, Parsed, Refused}
+use Rattle.lalrpop_base.specs.Words.{Limit, parsed, stuck, cut_off}
 use Rattle.lalrpop_base.proofs.theory.Lists.{contains_head}
 use Rattle.lalrpop_base.proofs.theory.Steps.{IsEnding, IsGoing}
 use Rattle.lalrpop_base.proofs.theory.Instance.{S, x, P, g, states}

@@ -8,10 +8,10 @@ use Rattle.lalrpop_base.specs.declared.repr.Symbol.TheVariants.{Nonterminal, Ter
 use Rattle.lalrpop_base.specs.declared.repr.TerminalString.TheVariants.{Literal, Bare, Error}
 use Rattle.lalrpop_base.specs.declared.lookahead.token.Token.{Token}
 use Rattle.lalrpop_base.specs.declared.lookahead.token.Token.TheVariants.{Eof, Terminal as TokenOf, Error as ErrorToken}
-use Rattle.lalrpop_base.specs.Validity.{Valid, starts, shifts, expands, ValidToken, at_start, kept, begins_behind, passed_on, IsLR1, IsLALR1, IsLalrToken}
+use Rattle.lalrpop_base.specs.Words.{Valid, starts, shifts, expands, ValidToken, at_start, kept, begins_behind, passed_on, IsLR1, IsLALR1, IsLalrToken}
+use Rattle.lalrpop_base.specs.Words.{InTokenClosure, with_token, begins_rest, inherits, IsAtStartWith, IsMovedWith, items_of, IsReached, at_zero, AreCanonical}
+use Rattle.lalrpop_base.specs.Words.{KernelsDiffer, TokenKernelsDiffer, AreLr0, IsLaneToken, HoldLaneTokens, HoldLalrTokens}
 use Rattle.lalrpop_base.specs.States.{Reduction}
-use Rattle.lalrpop_base.specs.Closures.{InTokenClosure, with_token, begins_rest, inherits, IsAtStartWith, IsMovedWith, items_of, IsReached, at_zero, AreCanonical, KernelsDiffer, TokenKernelsDiffer}
-use Rattle.lalrpop_base.specs.Lanes.{AreLr0, IsLaneToken, HoldLaneTokens, HoldLalrTokens}
 use Rattle.lalrpop_base.proofs.theory.Lists.{contains-nil, contains_head}
 use Rattle.lalrpop_base.proofs.theory.Valid.{of_grammar}
 use Rattle.lalrpop_base.proofs.theory.RightStates.{faithful_lr1}

@@ -5,9 +5,8 @@ use Rattle.lalrpop_base.specs.declared.repr.Production.{Production}
 use Rattle.lalrpop_base.specs.declared.repr.Symbol.{Symbol}
 use Rattle.lalrpop_base.specs.declared.repr.Symbol.TheVariants.{Terminal}
 use Rattle.lalrpop_base.specs.declared.lookahead.token.Token.{Token}
-use Rattle.lalrpop_base.specs.Validity.{IsLive, Action, Shift, Reduce, IsValidAction, IsLalrToken, IsLalrAction, IsLALR1}
-use Rattle.lalrpop_base.specs.States.{Contents, state_after, Allows, HasRightItems, CanStandNext, AreFaithful}
-use Rattle.lalrpop_base.specs.Lanes.{AreLr0, HoldLalrTokens}
+use Rattle.lalrpop_base.specs.Words.{IsLive, Action, Shift, Reduce, IsValidAction, IsLalrToken, IsLalrAction, IsLALR1, Contents, state_after, Allows}
+use Rattle.lalrpop_base.specs.Words.{HasRightItems, CanStandNext, AreFaithful, AreLr0, HoldLalrTokens}
 use Rattle.lalrpop_base.proofs.theory.Valid.{valid}
 use Rattle.lalrpop_base.proofs.theory.RightStates.{edges_awaited, reductions_valid, token_stands, no_conflict_one, one_no_conflict}
 use Rattle.lalrpop_base.proofs.theory.Lists.{same_some}

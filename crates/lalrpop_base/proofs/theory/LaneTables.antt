@@ -6,12 +6,13 @@ use Rattle.lalrpop_base.specs.declared.repr.Production.{Production}
 use Rattle.lalrpop_base.specs.declared.repr.Symbol.{Symbol}
 use Rattle.lalrpop_base.specs.declared.repr.Symbol.TheVariants.{Nonterminal, Terminal}
 use Rattle.lalrpop_base.specs.declared.lookahead.token.Token.{Token}
-use Rattle.lalrpop_base.specs.Grammar.{IsOnNoRightSide}
-use Rattle.lalrpop_base.specs.Validity.{Action, Shift, Reduce, IsLALR1, IsLalrAction}
-use Rattle.lalrpop_base.specs.States.{Contents, Reduction, state_after, ReducesFinished, HasRightItems, Allows}
+use Rattle.lalrpop_base.specs.Words.{IsOnNoRightSide, Action, Shift, Reduce, IsLALR1, IsLalrAction, Contents, state_after, ReducesFinished, HasRightItems}
+use Rattle.lalrpop_base.specs.Words.{Allows, in_kernel, items_of, AreClosed, IsReached, at_zero, IsCarried, eof_at_start, over, first_of_rest, through_rest}
+use Rattle.lalrpop_base.specs.Words.{AreChecked, AreLr0, to_parent, behind_parent, of_start, IsLaneToken, HoldLaneTokens}
+use Rattle.lalrpop_base.specs.States.{Reduction}
 use Rattle.lalrpop_base.specs.Conflicts.{HasNoConflict}
-use Rattle.lalrpop_base.specs.Closures.{in_kernel, items_of, AreClosed, IsReached, at_zero, over_edge, IsCarried, eof_at_start, over, first_of_rest, through_rest, AreChecked}
-use Rattle.lalrpop_base.specs.Lanes.{AreLr0, over_edge as back_over_edge, to_parent, behind_parent, of_start, IsLaneToken, HoldLaneTokens}
+use Rattle.lalrpop_base.specs.Closures.{over_edge}
+use Rattle.lalrpop_base.specs.Lanes.{over_edge as back_over_edge}
 use Rattle.lalrpop_base.proofs.theory.Lists.{grown, place_contains}
 use Rattle.lalrpop_base.proofs.theory.RightStates.{edges_awaited, reductions_valid, one_no_conflict}
 use Rattle.lalrpop_base.proofs.theory.Closures.{holds_expanded, right_items, reached_live}

@@ -5,10 +5,10 @@ use Rattle.lalrpop_base.specs.declared.repr.NonterminalString.{NonterminalString
 use Rattle.lalrpop_base.specs.declared.repr.Symbol.{Symbol}
 use Rattle.lalrpop_base.specs.declared.repr.Symbol.TheVariants.{Nonterminal, Terminal}
 use Rattle.lalrpop_base.specs.declared.lookahead.token.Token.{Token}
-use Rattle.lalrpop_base.specs.Grammar.{IsOnNoRightSide}
-use Rattle.lalrpop_base.specs.Validity.{IsLALR1, IsLalrAction, Action, Shift, Reduce, IsValidAction, Valid, shifts, ValidToken, at_start, kept, begins_behind, passed_on, IsLive, IsLalrToken}
-use Rattle.lalrpop_base.specs.States.{Contents, state_after, Allows, HasRightItems, AreFaithful}
-use Rattle.lalrpop_base.specs.Lanes.{AreLr0, LeadsBack, over_edge, to_parent, Gives, behind_parent, of_start, IsTracedTo, itself, back, IsLaneToken, HoldLaneTokens}
+use Rattle.lalrpop_base.specs.Words.{IsOnNoRightSide, IsLALR1, IsLalrAction, Action, Shift, Reduce, IsValidAction, Valid, shifts, ValidToken, at_start, kept}
+use Rattle.lalrpop_base.specs.Words.{begins_behind, passed_on, IsLive, IsLalrToken, Contents, state_after, Allows, HasRightItems, AreFaithful, AreLr0}
+use Rattle.lalrpop_base.specs.Words.{LeadsBack, to_parent, behind_parent, of_start, IsTracedTo, itself, back, IsLaneToken, HoldLaneTokens}
+use Rattle.lalrpop_base.specs.Lanes.{over_edge, Gives}
 use Rattle.lalrpop_base.proofs.theory.Lists.{same_last, same_some}
 use Rattle.lalrpop_base.proofs.theory.Valid.{valid, of_grammar, at_the_start, awaited_live}
 use Rattle.lalrpop_base.proofs.theory.RightStates.{edges_awaited, reductions_valid}

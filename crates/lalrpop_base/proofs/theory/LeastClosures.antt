@@ -8,9 +8,8 @@ use Rattle.lalrpop_base.specs.declared.repr.Symbol.TheVariants.{Nonterminal}
 use Rattle.lalrpop_base.specs.declared.repr.TerminalString.{TerminalString}
 use Rattle.lalrpop_base.specs.declared.lookahead.token.Token.{Token}
 use Rattle.lalrpop_base.specs.declared.lookahead.token.Token.TheVariants.{Eof, Terminal as TokenOf}
-use Rattle.lalrpop_base.specs.Grammar.{IsFirst, IsNullable}
-use Rattle.lalrpop_base.specs.States.{Contents, leads}
-use Rattle.lalrpop_base.specs.Closures.{InClosure, in_kernel, expanded, InTokenClosure, with_token, begins_rest, inherits, items_of, IsReached, at_zero, over_edge, IsCarried, eof_at_start, over, first_of_rest, through_rest}
+use Rattle.lalrpop_base.specs.Words.{IsFirst, IsNullable, Contents, leads, InClosure, in_kernel, expanded, InTokenClosure, with_token, begins_rest, inherits}
+use Rattle.lalrpop_base.specs.Words.{items_of, IsReached, IsCarried, eof_at_start, over, first_of_rest, through_rest}
 
 -- what holds the kernel and the productions of each nonterminal behind a dot holds the closure
 pub closure_within :
@@ -27,11 +26,6 @@ pub token_closure_within :
 token_closure_within held kernels begins passes {p} {dot} {t} (with_token k) = kernels p dot t k
 token_closure_within held kernels begins passes (begins_rest {p} {dot} {t} q after i e h f) = begins p q dot after t i e h f
 token_closure_within held kernels begins passes (inherits {p} {dot} {t} q after c e h n) = passes p q dot after t (token_closure_within held kernels begins passes c) e h n
-
--- what holds of state 0 and goes over edges holds of each reached state
-pub reached_within : {states : ℕ → Contents} (held : ℕ → Type 0) → held 0 → ((n m : ℕ) (x : Symbol) → held n → leads (states n) x ≡ Some m → held m) → {n : ℕ} → IsReached states n → held n
-reached_within held first goes at_zero = first
-reached_within held first goes (over_edge {n} m x r e) = goes n m x (reached_within held first goes r) e
 
 -- what holds Eof at the start, and keeps what is carried, holds it
 pub carried_within :

@@ -6,7 +6,7 @@ use Rattle.lalrpop_base.specs.declared.repr.Symbol.{Symbol}
 use Rattle.lalrpop_base.specs.declared.repr.Symbol.TheVariants.{Nonterminal, Terminal}
 use Rattle.lalrpop_base.specs.declared.repr.TerminalString.{TerminalString}
 use Rattle.lalrpop_base.specs.declared.repr.NonterminalString.{NonterminalString}
-use Rattle.lalrpop_base.specs.Grammar.{symbols_of}
+use Rattle.lalrpop_base.specs.Words.{symbols_of}
 
 -- behind x stands what is left after one more
 pub drop_past : {A : Type 0} (n : ℕ) (xs : List A) {x : A} {after : List A} → drop n xs ≡ x ∷ after → drop (suc n) xs ≡ after

@@ -4,10 +4,8 @@ use Rattle.lalrpop_base.specs.declared.repr.NonterminalString.{NonterminalString
 use Rattle.lalrpop_base.specs.declared.repr.Production.{Production}
 use Rattle.lalrpop_base.specs.declared.repr.Symbol.{Symbol}
 use Rattle.lalrpop_base.specs.declared.lookahead.token.Token.{Token}
-use Rattle.lalrpop_base.specs.Validity.{Valid, ValidToken, HaveSameItems, HaveSameTokens}
-use Rattle.lalrpop_base.specs.States.{Contents, leads, state_after, ReducesFinished}
-use Rattle.lalrpop_base.specs.Lanes.{AreLr0}
-use Rattle.lalrpop_base.specs.Closures.{InClosure, in_kernel, expanded, IsAtStart, items_of, AreClosed, IsReached, AreCanonical, KernelsDiffer, TokenKernelsDiffer}
+use Rattle.lalrpop_base.specs.Words.{Valid, ValidToken, HaveSameItems, HaveSameTokens, Contents, leads, state_after, ReducesFinished, AreLr0, InClosure}
+use Rattle.lalrpop_base.specs.Words.{in_kernel, expanded, IsAtStart, items_of, AreClosed, IsReached, AreCanonical, KernelsDiffer, TokenKernelsDiffer}
 use Rattle.lalrpop_base.proofs.theory.Lists.{Grown, from_nothing, more, grown, same_some}
 use Rattle.lalrpop_base.proofs.theory.Closures.{state_from-last, items_valid, have_right_items, reached_live}
 use Rattle.lalrpop_base.proofs.theory.Canonical.{tokens_exact}

@@ -3,9 +3,8 @@ use Rattle.std.proofs.Common.{ap, ap₂, ◌≤◌, ◌≡◌, ℕ, zero, suc, �
 use mathlib.Core.List.{tail-eq_of_cons-eq, nil≢cons, cons≢nil}
 use Rattle.lalrpop_base.specs.declared.repr.TerminalString.{TerminalString}
 use Rattle.lalrpop_base.specs.declared.lookahead.token.Token.{Token}
-use Rattle.lalrpop_base.specs.States.{Contents}
-use Rattle.lalrpop_base.specs.Trees.{Tree}
-use Rattle.lalrpop_base.specs.Runs.{Configuration, next_token, Move, Stands, Goes, Ends, move, Reaches, here, further, begin, Outcome, Parsed, Refused, Limit, HasOutcome, parsed, stuck, other_end, cut_off, IsParse}
+use Rattle.lalrpop_base.specs.Words.{Contents, Tree, Configuration, next_token, Move, Stands, Goes, Ends, move, Reaches, here, further, begin, Outcome, Parsed}
+use Rattle.lalrpop_base.specs.Words.{Refused, Limit, HasOutcome, parsed, stuck, other_end, cut_off, IsParse}
 use Rattle.lalrpop_base.proofs.theory.Steps.{IsGoing, IsEnding, Halts, ends_halts, stands_halts, goes_on_from, together, no_longer, same_length}
 
 -- an end is a parse, or it is none

@@ -6,8 +6,7 @@ use Rattle.lalrpop_base.specs.declared.repr.NonterminalString.{NonterminalString
 use Rattle.lalrpop_base.specs.declared.repr.Symbol.{Symbol}
 use Rattle.lalrpop_base.specs.declared.repr.Symbol.TheVariants.{Nonterminal}
 use Rattle.lalrpop_base.specs.declared.repr.TerminalString.{TerminalString}
-use Rattle.lalrpop_base.specs.Grammar.{Derives, symbols_of, IsSentence}
-use Rattle.lalrpop_base.specs.Trees.{Tree, Leaf, Node, Trees, no_trees, beside, roots, leaves, AreOfGrammar, IsParseTree}
+use Rattle.lalrpop_base.specs.Words.{Derives, symbols_of, IsSentence, Tree, Leaf, Node, Trees, no_trees, beside, roots, leaves, AreOfGrammar, IsParseTree}
 use Rattle.lalrpop_base.proofs.theory.Lists.{TerminalParts, terminal_parts}
 use Rattle.lalrpop_base.proofs.theory.Derivations.{Derives-from, Derives-to}
 use Rattle.lalrpop_base.proofs.theory.Forests.{Forest, empty, leaf, node, derives_forest}

@@ -7,12 +7,9 @@ use Rattle.lalrpop_base.specs.declared.repr.Symbol.{Symbol}
 use Rattle.lalrpop_base.specs.declared.repr.Symbol.TheVariants.{Nonterminal, Terminal}
 use Rattle.lalrpop_base.specs.declared.repr.TerminalString.{TerminalString}
 use Rattle.lalrpop_base.specs.declared.lookahead.token.Token.{Token}
-use Rattle.lalrpop_base.specs.Grammar.{Derives, symbols_of, IsSentence, IsOnNoRightSide}
-use Rattle.lalrpop_base.specs.Validity.{ValidToken, IsLR1, Reduce}
-use Rattle.lalrpop_base.specs.States.{Contents, AreFaithful}
-use Rattle.lalrpop_base.specs.Closures.{AreCanonical}
-use Rattle.lalrpop_base.specs.Trees.{Tree, Leaf}
-use Rattle.lalrpop_base.specs.Runs.{Configuration, next_token, Move, Stands, Goes, goes_on, received, moves_on, shifts_or, move, Reaches, here, further, begin, Refused, Limit, IsRightNext, HasOutcome, stuck, other_end, cut_off, IsPromptRefusal, before_all, behind_shift}
+use Rattle.lalrpop_base.specs.Words.{Derives, symbols_of, IsSentence, IsOnNoRightSide, ValidToken, IsLR1, Reduce, Contents, AreFaithful, AreCanonical, Tree}
+use Rattle.lalrpop_base.specs.Words.{Leaf, Configuration, next_token, Move, Stands, Goes, goes_on, received, moves_on, shifts_or, move, Reaches, here, further}
+use Rattle.lalrpop_base.specs.Words.{begin, Refused, Limit, IsRightNext, HasOutcome, stuck, other_end, cut_off, IsPromptRefusal, before_all, behind_shift}
 use Rattle.lalrpop_base.proofs.theory.Lists.{symbols_of-append, drop_all}
 use Rattle.lalrpop_base.proofs.theory.Derivations.{Derives-to, Derives-trans, Derives-right}
 use Rattle.lalrpop_base.proofs.theory.Parses.{sentence_tree}
@@ -53,10 +50,6 @@ module _ (g : List Production) (start : NonterminalString) (states : ℕ → Con
           let f = token_follows v in
           inr (on_token c.rest f.0 f.1
           (Derives-trans (Derives-to (ap (λ l. tr.prefix ++ (l ++ f.0)) (drop_all p.symbols)) f.2) (Derives-right f.0 (stacked_derives tr.stack))))
-
-  -- so a wrong token is refused before any reduction
-  pub wrong_stands : (w : List TerminalString) (c : Configuration) → Tracks g states w c → (IsRightNext g start (spelled c.trees) c.rest → ⊥) → move states c ≡ Stands
-  wrong_stands w c tr wrong = elim (steps_right w c tr) [ inl e ↦ e | inr h ↦ absurd (wrong h) ]
 
   -- each run ends
   pub finishes : IsOnNoRightSide g start → (w : List TerminalString) → Finishes states w

@@ -8,11 +8,10 @@ use Rattle.lalrpop_base.specs.declared.repr.Symbol.TheVariants.{Nonterminal, Ter
 use Rattle.lalrpop_base.specs.declared.repr.TerminalString.{TerminalString}
 use Rattle.lalrpop_base.specs.declared.lookahead.token.Token.{Token}
 use Rattle.lalrpop_base.specs.declared.lookahead.token.Token.TheVariants.{Eof, Terminal as TokenOf}
-use Rattle.lalrpop_base.specs.Grammar.{Derives, as_it_is, replace, symbols_of}
-use Rattle.lalrpop_base.specs.Validity.{ValidToken, kept, begins_behind, passed_on, IsAwaited, IsLive, Action, Shift, Reduce}
-use Rattle.lalrpop_base.specs.States.{Contents, leads, state_after, IsRightFor, AreFaithful}
-use Rattle.lalrpop_base.specs.Trees.{Tree, Leaf, Node, Trees, no_trees, beside, roots, leaves, nodes, IsNode, AreOfGrammar}
-use Rattle.lalrpop_base.specs.Runs.{Configuration, next_token, reduction_on, Goes, reduced, goes_on, received, reduces, shifts_or, moves_on, move, Reaches, here, further}
+use Rattle.lalrpop_base.specs.Words.{Derives, as_it_is, replace, symbols_of, ValidToken, kept, begins_behind, passed_on, IsAwaited, IsLive, Action, Shift}
+use Rattle.lalrpop_base.specs.Words.{Reduce, Contents, leads, state_after, IsRightFor, AreFaithful, Tree, Leaf, Node, Trees, no_trees, beside, roots, leaves}
+use Rattle.lalrpop_base.specs.Words.{nodes, IsNode, AreOfGrammar, Configuration, next_token, reduction_on, Goes, reduced, goes_on, received, reduces, shifts_or}
+use Rattle.lalrpop_base.specs.Words.{moves_on, move, Reaches, here, further}
 use Rattle.lalrpop_base.proofs.theory.Lists.{drop_past, symbols_of-append, same_some}
 use Rattle.lalrpop_base.proofs.theory.Derivations.{Derives-from, Derives-to, Derives-append}
 use Rattle.lalrpop_base.proofs.theory.Valid.{valid, shifted_whole}

@@ -6,11 +6,9 @@ use Rattle.lalrpop_base.specs.declared.repr.Symbol.{Symbol}
 use Rattle.lalrpop_base.specs.declared.repr.Symbol.TheVariants.{Nonterminal}
 use Rattle.lalrpop_base.specs.declared.repr.TerminalString.{TerminalString}
 use Rattle.lalrpop_base.specs.declared.lookahead.token.Token.{Token}
-use Rattle.lalrpop_base.specs.Grammar.{as_it_is, symbols_of, IsSentence, IsBeginning, IsOnNoRightSide}
-use Rattle.lalrpop_base.specs.Validity.{IsLive}
-use Rattle.lalrpop_base.specs.States.{Contents, AreFaithful}
-use Rattle.lalrpop_base.specs.Trees.{Tree, Leaf}
-use Rattle.lalrpop_base.specs.Runs.{Configuration, next_token, Move, Goes, Ends, received, goes_on, shifts_or, moves_on, move, Reaches, here, further, begin, Refused, HasOutcome, stuck, other_end, IsFirstWrong, at_terminal, at_end, IsRightNext}
+use Rattle.lalrpop_base.specs.Words.{as_it_is, symbols_of, IsSentence, IsBeginning, IsOnNoRightSide, IsLive, Contents, AreFaithful, Tree, Leaf, Configuration}
+use Rattle.lalrpop_base.specs.Words.{next_token, Move, Goes, Ends, received, goes_on, shifts_or, moves_on, move, Reaches, here, further, begin, Refused}
+use Rattle.lalrpop_base.specs.Words.{HasOutcome, stuck, other_end, IsFirstWrong, at_terminal, at_end, IsRightNext}
 use Rattle.lalrpop_base.proofs.theory.Derivations.{Derives-to, Derives-trans, Derives-right}
 use Rattle.lalrpop_base.proofs.theory.Valid.{extends}
 use Rattle.lalrpop_base.proofs.theory.Parses.{sentence_tree}

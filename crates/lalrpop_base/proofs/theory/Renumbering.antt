@@ -6,9 +6,8 @@ use Rattle.lalrpop_base.specs.declared.repr.Production.{Production}
 use Rattle.lalrpop_base.specs.declared.repr.Symbol.{Symbol}
 use Rattle.lalrpop_base.specs.declared.repr.Symbol.TheVariants.{Terminal}
 use Rattle.lalrpop_base.specs.declared.lookahead.token.Token.{Token}
-use Rattle.lalrpop_base.specs.Validity.{Action, Shift, Reduce}
-use Rattle.lalrpop_base.specs.States.{Contents, leads, onward, state_from, Allows, IsBehindDot, HasNoRepeat, ReducesFinished, IsRightFor, AreFaithful}
-use Rattle.lalrpop_base.specs.Renumbering.{renumbered, IsRenumbering}
+use Rattle.lalrpop_base.specs.Words.{Action, Shift, Reduce, Contents, leads, onward, state_from, Allows, IsBehindDot, HasNoRepeat, ReducesFinished, IsRightFor}
+use Rattle.lalrpop_base.specs.Words.{AreFaithful, renumbered, IsRenumbering}
 use Rattle.lalrpop_base.proofs.theory.Lists.{some≢none}
 
 module _ (new old : ℕ → ℕ) (before after : ℕ → Contents) (r : IsRenumbering new old before after) where

@@ -8,10 +8,10 @@ use Rattle.lalrpop_base.specs.declared.repr.Symbol.{Symbol}
 use Rattle.lalrpop_base.specs.declared.repr.TerminalString.{TerminalString}
 use Rattle.lalrpop_base.specs.declared.lookahead.token.Token.{Token}
 use Rattle.lalrpop_base.specs.declared.lookahead.token.Token.TheVariants.{Terminal as TokenOf}
-use Rattle.lalrpop_base.specs.Validity.{Valid, ValidToken, at_start, kept, begins_behind, passed_on, IsAwaited, Action, Shift, Reduce, IsValidAction, IsLR1}
-use Rattle.lalrpop_base.specs.States.{Contents, Reduction, leads, Allows, LeadsOverDots, HasRightItems, CanStandNext, HasNoRepeat, AreFaithful}
+use Rattle.lalrpop_base.specs.Words.{Valid, ValidToken, at_start, kept, begins_behind, passed_on, IsAwaited, Action, Shift, Reduce, IsValidAction, IsLR1}
+use Rattle.lalrpop_base.specs.Words.{Contents, leads, Allows, LeadsOverDots, HasRightItems, CanStandNext, HasNoRepeat, AreFaithful}
+use Rattle.lalrpop_base.specs.States.{Reduction}
 use Rattle.lalrpop_base.specs.Conflicts.{HasNoConflict}
-use Rattle.lalrpop_base.specs.Runs.{next_token}
 use Rattle.lalrpop_base.proofs.theory.Lists.{same_some, contains_place, place_contains}
 use Rattle.lalrpop_base.proofs.theory.Valid.{action_live}
 
@@ -44,11 +44,6 @@ token_stands (passed_on q after v e h n) = token_stands v
 pub action_stands : (g : List Production) (start : NonterminalString) (u : List Symbol) (t : Token) (a : Action) → IsValidAction g start u t a → CanStandNext t
 action_stands g start u t (Shift x) h = subst CanStandNext (sym h.0) tt
 action_stands g start u t (Reduce p) h = token_stands h
-
--- what stands next in an input can
-pub next_stands : (rest : List TerminalString) → CanStandNext (next_token rest)
-next_stands [] = tt
-next_stands (t ∷ rest) = tt
 
 -- the terminal of a token, else the one given
 abbrev pub terminal_in : TerminalString → Token → TerminalString

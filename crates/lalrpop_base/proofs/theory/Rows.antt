@@ -7,8 +7,8 @@ use Rattle.lalrpop_base.specs.declared.repr.Symbol.{Symbol}
 use Rattle.lalrpop_base.specs.declared.repr.Symbol.TheVariants.{Nonterminal, Terminal}
 use Rattle.lalrpop_base.specs.declared.repr.TerminalString.{TerminalString}
 use Rattle.lalrpop_base.specs.declared.repr.TerminalString.TheVariants.{Literal, Bare, Error}
-use Rattle.lalrpop_base.specs.States.{Contents, Reduction, leads, IsBehindDot, LeadsOverDots, HasNoRepeat, ReducesFinished}
-use Rattle.lalrpop_base.specs.Closures.{InClosure, in_kernel, expanded, IsMoved}
+use Rattle.lalrpop_base.specs.Words.{Contents, leads, IsBehindDot, LeadsOverDots, HasNoRepeat, ReducesFinished, InClosure, in_kernel, expanded, IsMoved}
+use Rattle.lalrpop_base.specs.States.{Reduction}
 use Rattle.lalrpop_base.proofs.theory.Lists.{contains-cons, contains-nil, some≢none, same_some, contains_head, contains_tail}
 
 -- a fact of each element

@@ -8,11 +8,10 @@ use Rattle.lalrpop_base.specs.declared.repr.Symbol.TheVariants.{Nonterminal, Ter
 use Rattle.lalrpop_base.specs.declared.repr.TerminalString.{TerminalString}
 use Rattle.lalrpop_base.specs.declared.lookahead.token.Token.{Token}
 use Rattle.lalrpop_base.specs.declared.lookahead.token.Token.TheVariants.{Eof, Terminal as TokenOf}
-use Rattle.lalrpop_base.specs.Grammar.{symbols_of, IsBeginning, IsOnNoRightSide}
-use Rattle.lalrpop_base.specs.Validity.{Valid, IsAwaited}
-use Rattle.lalrpop_base.specs.States.{Contents, Reduction, IsRightFor, AreFaithful}
-use Rattle.lalrpop_base.specs.Trees.{Tree, Leaf, Node, no_trees, beside, root, leaves, nodes, AreOfGrammar, IsParseTree}
-use Rattle.lalrpop_base.specs.Runs.{Configuration, next_token, reduction_on, Move, Stands, Goes, Ends, reduced, goes_on, received, reduces, shifts_or, moves_on, move, Reaches, here, further, begin, Parsed, HasOutcome, parsed}
+use Rattle.lalrpop_base.specs.Words.{symbols_of, IsBeginning, IsOnNoRightSide, Valid, IsAwaited, Contents, IsRightFor, AreFaithful, Tree, Leaf, Node, no_trees}
+use Rattle.lalrpop_base.specs.Words.{beside, root, leaves, nodes, AreOfGrammar, IsParseTree, Configuration, next_token, reduction_on, Move, Stands, Goes, Ends}
+use Rattle.lalrpop_base.specs.Words.{reduced, goes_on, received, reduces, shifts_or, moves_on, move, Reaches, here, further, begin, Parsed, HasOutcome, parsed}
+use Rattle.lalrpop_base.specs.States.{Reduction}
 use Rattle.lalrpop_base.proofs.theory.Lists.{symbols_of-append, take_all, same_some, some≢none}
 use Rattle.lalrpop_base.proofs.theory.Derivations.{Derives-to, Derives-trans, Derives-right}
 use Rattle.lalrpop_base.proofs.theory.Valid.{Unshifted, unshifted, of_grammar, at_the_start, extends}

@@ -7,11 +7,8 @@ use Rattle.lalrpop_base.specs.declared.repr.NonterminalString.{NonterminalString
 use Rattle.lalrpop_base.specs.declared.repr.Symbol.TheVariants.{Nonterminal}
 use Rattle.lalrpop_base.specs.declared.repr.TerminalString.{TerminalString}
 use Rattle.lalrpop_base.specs.declared.lookahead.token.Token.TheVariants.{Eof}
-use Rattle.lalrpop_base.specs.Grammar.{IsOnNoRightSide}
-use Rattle.lalrpop_base.specs.Validity.{ValidToken, at_start}
-use Rattle.lalrpop_base.specs.States.{Contents, state_after, IsRightFor, AreFaithful}
-use Rattle.lalrpop_base.specs.Trees.{Tree, Leaf, Node, no_trees, beside, nodes, IsParseTree}
-use Rattle.lalrpop_base.specs.Runs.{Configuration, Ends, reduced, goes_on, received, move, Reaches, begin, Parsed, HasOutcome, parsed}
+use Rattle.lalrpop_base.specs.Words.{IsOnNoRightSide, ValidToken, at_start, Contents, state_after, IsRightFor, AreFaithful, Tree, Leaf, Node, no_trees, beside}
+use Rattle.lalrpop_base.specs.Words.{nodes, IsParseTree, Configuration, Ends, reduced, goes_on, received, move, Reaches, begin, Parsed, HasOutcome, parsed}
 use Rattle.lalrpop_base.proofs.theory.Lists.{same_nonterminal, not_both}
 use Rattle.lalrpop_base.proofs.theory.Valid.{shifted_whole, of_grammar}
 use Rattle.lalrpop_base.proofs.theory.Steps.{onto, reduced_is, Reaches-from, together, ends_halts, same_ends}

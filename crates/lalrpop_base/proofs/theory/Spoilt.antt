@@ -4,8 +4,8 @@ use mathlib.Core.List.{nil≢cons}
 use Rattle.lalrpop_base.specs.declared.repr.Production.{Production}
 use Rattle.lalrpop_base.specs.declared.repr.Symbol.TheVariants.{Terminal}
 use Rattle.lalrpop_base.specs.declared.lookahead.token.Token.TheVariants.{Eof}
-use Rattle.lalrpop_base.specs.Validity.{starts, shifts, ValidToken, at_start, kept, IsLive, Reduce}
-use Rattle.lalrpop_base.specs.States.{Contents, Reduction, AreFaithful, IsRightFor}
+use Rattle.lalrpop_base.specs.Words.{starts, shifts, ValidToken, at_start, kept, IsLive, Reduce, Contents, AreFaithful, IsRightFor}
+use Rattle.lalrpop_base.specs.States.{Reduction}
 use Rattle.lalrpop_base.proofs.theory.Lists.{contains-nil, contains_head, same_some}
 use Rattle.lalrpop_base.proofs.theory.Instance.{S, x, P, g, only, reduction, states, one_of}
 

@@ -4,10 +4,8 @@ use Rattle.lalrpop_base.specs.declared.repr.Production.{Production}
 use Rattle.lalrpop_base.specs.declared.repr.NonterminalString.{NonterminalString}
 use Rattle.lalrpop_base.specs.declared.repr.Symbol.{Symbol}
 use Rattle.lalrpop_base.specs.declared.repr.TerminalString.{TerminalString}
-use Rattle.lalrpop_base.specs.Grammar.{Derives, as_it_is, symbols_of}
-use Rattle.lalrpop_base.specs.Validity.{IsLive}
-use Rattle.lalrpop_base.specs.States.{Contents, leads, state_after, AreFaithful}
-use Rattle.lalrpop_base.specs.Trees.{Tree, Leaf, Node, Trees, no_trees, beside, root, roots, leaves, AreOfGrammar}
+use Rattle.lalrpop_base.specs.Words.{Derives, as_it_is, symbols_of, IsLive, Contents, leads, state_after, AreFaithful, Tree, Leaf, Node, Trees, no_trees}
+use Rattle.lalrpop_base.specs.Words.{beside, root, roots, leaves, AreOfGrammar}
 use Rattle.lalrpop_base.proofs.theory.Lists.{Ended, nothing, last, ended, same_last, nil≢more, length-more, symbols_of-append}
 use Rattle.lalrpop_base.proofs.theory.Derivations.{Derives-to, Derives-append}
 use Rattle.lalrpop_base.proofs.theory.Valid.{awaited_live}

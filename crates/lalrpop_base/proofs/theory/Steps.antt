@@ -7,9 +7,9 @@ use mathlib.Core.List.{reverse_aux, reverse_aux-eq}
 use Rattle.lalrpop_base.specs.declared.repr.Production.{Production}
 use Rattle.lalrpop_base.specs.declared.repr.Symbol.{Symbol}
 use Rattle.lalrpop_base.specs.declared.lookahead.token.Token.{Token}
-use Rattle.lalrpop_base.specs.States.{Contents, Reduction, leads, onward, state_from}
-use Rattle.lalrpop_base.specs.Trees.{Tree, Node, Trees, no_trees, beside, trees_of, roots}
-use Rattle.lalrpop_base.specs.Runs.{Configuration, reduction_on, Move, Stands, Goes, Ends, reduced, move, Reaches, here, further}
+use Rattle.lalrpop_base.specs.Words.{Contents, leads, onward, state_from, Tree, Node, Trees, no_trees, beside, trees_of, roots, Configuration, reduction_on}
+use Rattle.lalrpop_base.specs.Words.{Move, Stands, Goes, Ends, reduced, move, Reaches, here, further}
+use Rattle.lalrpop_base.specs.States.{Reduction}
 use Rattle.lalrpop_base.proofs.theory.Lists.{same_some, some≢none, contains-cons, contains-nil}
 
 -- the state after one symbol more
@@ -153,10 +153,6 @@ no_longer {states} (further {n} {d = c} {e = z} e r) h (further {d = d} f s) =
 pub same_length : {states : ℕ → Contents} {n : ℕ} {b c d : Configuration} → Reaches states n b c → Reaches states n b d → c ≡ d
 same_length here here = refl
 same_length {states} (further {n} {d = c} {e = z} e r) (further f s) = same_length (subst (λ x. Reaches states n x z) (same_goes (sym e ∙ f)) r) s
-
--- a run goes on by one step
-pub Reaches-more : {states : ℕ → Contents} {n : ℕ} {b c d : Configuration} → Reaches states n b c → move states c ≡ Goes d → Reaches states (n + 1) b d
-Reaches-more r e = Reaches-append r (further e here)
 
 -- how a run came where it is: it stands where it began, or made a last step
 pub data LastStep (states : ℕ → Contents) (n : ℕ) (b c : Configuration) : Type 0 where

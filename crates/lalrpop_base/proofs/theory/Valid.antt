@@ -6,8 +6,8 @@ use Rattle.lalrpop_base.specs.declared.repr.NonterminalString.{NonterminalString
 use Rattle.lalrpop_base.specs.declared.repr.Symbol.{Symbol}
 use Rattle.lalrpop_base.specs.declared.repr.Symbol.TheVariants.{Nonterminal}
 use Rattle.lalrpop_base.specs.declared.lookahead.token.Token.{Token}
-use Rattle.lalrpop_base.specs.Grammar.{Derives, as_it_is, replace}
-use Rattle.lalrpop_base.specs.Validity.{Valid, starts, shifts, expands, ValidToken, at_start, kept, begins_behind, passed_on, IsAwaited, IsLive, Action, Shift, Reduce, IsValidAction}
+use Rattle.lalrpop_base.specs.Words.{Derives, as_it_is, replace, Valid, starts, shifts, expands, ValidToken, at_start, kept, begins_behind, passed_on}
+use Rattle.lalrpop_base.specs.Words.{IsAwaited, IsLive, Action, Shift, Reduce, IsValidAction}
 use Rattle.lalrpop_base.proofs.theory.Lists.{drop_past, take_past}
 use Rattle.lalrpop_base.proofs.theory.Derivations.{Derives-from, Derives-to, Derives-trans, Derives-production}
 
@@ -23,10 +23,6 @@ pub of_grammar : {g : List Production} {start : NonterminalString} {u : List Sym
 of_grammar (starts p h e) = h
 of_grammar (shifts x after v e) = of_grammar v
 of_grammar (expands q after v e h) = h
-
--- at an equal prefix
-pub Valid-at : {g : List Production} {start : NonterminalString} {u v : List Symbol} {p : Production} {dot : ℕ} → u ≡ v → Valid g start u p dot → Valid g start v p dot
-Valid-at {g} {start} {p = p} {dot = dot} e h = subst (λ u. Valid g start u p dot) e h
 
 -- also with its tokens
 pub ValidToken-at : {g : List Production} {start : NonterminalString} {u v : List Symbol} {p : Production} {dot : ℕ} {t : Token} → u ≡ v → ValidToken g start u p dot t → ValidToken g start v p dot t
@@ -55,19 +51,6 @@ pub record UnshiftedToken (g : List Production) (start : NonterminalString) (u :
   pub prefix : List Symbol
   pub ends : u ≡ prefix ++ take dot p.symbols
   pub valid : ValidToken g start prefix p 0 t
-
--- and so can each with its token
-pub unshifted_token : {g : List Production} {start : NonterminalString} {u : List Symbol} {p : Production} {dot : ℕ} {t : Token} → ValidToken g start u p dot t → UnshiftedToken g start u p dot t
-unshifted_token (at_start p h e) = record { prefix = []; ends = refl; valid = at_start p h e }
-unshifted_token (begins_behind {u} q after v e h f) = record { prefix = u; ends = sym (append-nil u); valid = begins_behind q after v e h f }
-unshifted_token (passed_on {u} q after v e h f) = record { prefix = u; ends = sym (append-nil u); valid = passed_on q after v e h f }
-unshifted_token (kept {u} {p} {dot} x after v e) =
-    let r = unshifted_token v in
-    record {
-      prefix = r.prefix;
-      ends = ap (λ w. w ++ x ∷ []) r.ends ∙ append_assoc r.prefix (take dot p.symbols) (x ∷ []) ∙ ap (λ w. r.prefix ++ w) (sym (take_past dot p.symbols e));
-      valid = r.valid;
-    }
 
 -- a dot at the start comes of the start symbol, or of an expansion
 pub at_the_start : {g : List Production} {start : NonterminalString} {u : List Symbol} {p : Production} → Valid g start u p 0 → ((u ≡ []) × (p.nonterminal ≡ start)) ⊎ IsAwaited g start u (Nonterminal p.nonterminal)

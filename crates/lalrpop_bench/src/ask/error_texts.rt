@@ -51,15 +51,30 @@ fn push_of_grammars(alloc: Global, text: &mut String) -> Result<(), QuestionErro
     Ok(())
 }
 
-// Those of tables.
-fn push_of_tables(alloc: Global, text: &mut String) -> Result<(), QuestionError> {
-    let error: TableConstructionError<'static, TokenSet> = TableConstructionError {
+// No states, and no conflicts.
+fn no_conflicts<'grammar>(alloc: Global) -> TableConstructionError<'grammar, TokenSet> {
+    TableConstructionError {
         states: Vec::new(alloc),
         conflicts: Vec::new(alloc),
-    };
-    write!(text, "{}\n", BuildError::Conflicts(error))?;
-    let memory: BuildError<'static, TokenSet> = BuildError::Memory;
-    write!(text, "{memory}\n")?;
+    }
+}
+
+// That of a construction.
+fn push_of_build(text: &mut String, error: &BuildError<'_, TokenSet>) -> Result<(), QuestionError> {
+    write!(text, "{error}\n")?;
+    Ok(())
+}
+
+// That of a parse by the tables of a grammar.
+fn push_of_parse(text: &mut String, error: &ParseError<'_>) -> Result<(), QuestionError> {
+    write!(text, "{error}\n")?;
+    Ok(())
+}
+
+// Those of tables.
+fn push_of_tables(alloc: Global, text: &mut String) -> Result<(), QuestionError> {
+    push_of_build(text, &BuildError::Conflicts(no_conflicts(alloc)))?;
+    push_of_build(text, &BuildError::Memory)?;
     write!(text, "{}\n", RowsError::State(StateIndex(3)))?;
     write!(text, "{}\n", RowsError::Memory)?;
     write!(text, "{}\n", OverlappingLookahead::Overlapping)?;
@@ -79,14 +94,10 @@ fn push_of_parses(alloc: Global, text: &mut String) -> Result<(), QuestionError>
     let limit: InterpretError<'_, '_, TokenSet> = InterpretError::Limit;
     let memory: InterpretError<'_, '_, TokenSet> = InterpretError::Memory;
     write!(text, "{limit}\n{memory}\n")?;
-    let error: TableConstructionError<'static, TokenSet> = TableConstructionError {
-        states: Vec::new(alloc),
-        conflicts: Vec::new(alloc),
-    };
-    write!(text, "{}\n", ParseError::Conflicts(error))?;
-    write!(text, "{}\n", ParseError::Refused(Token::Eof))?;
-    write!(text, "{}\n", ParseError::Limit)?;
-    write!(text, "{}\n", ParseError::Memory)?;
+    push_of_parse(text, &ParseError::Conflicts(no_conflicts(alloc)))?;
+    push_of_parse(text, &ParseError::Refused(Token::Eof))?;
+    push_of_parse(text, &ParseError::Limit)?;
+    push_of_parse(text, &ParseError::Memory)?;
     Ok(())
 }
 

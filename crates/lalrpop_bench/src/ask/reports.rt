@@ -1,5 +1,5 @@
 //! Questions of reports.
-ghost use Rattle.lalrpop_base.specs.WellFormed.{IsWellFormed};
+ghost use Rattle.lalrpop_base.specs.Words.{IsWellFormed};
 
 use lalrpop_base::lr1_core::state::{BuildError, Lr1Result};
 use lalrpop_base::repr::NonterminalString;

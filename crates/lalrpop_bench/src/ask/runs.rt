@@ -1,5 +1,5 @@
 //! Questions of runs: trees, stacks and refusals.
-ghost use Rattle.lalrpop_base.specs.WellFormed.{IsWellFormed};
+ghost use Rattle.lalrpop_base.specs.Words.{IsWellFormed};
 
 use grammar_text::symbols::unquoted;
 use lalrpop_base::lr1_core::coherent::are_coherent;

@@ -1,6 +1,6 @@
 //! Questions of traces: how a state came to have an item, and examples of input.
-ghost use Rattle.lalrpop_base.specs.WellFormed.{IsWellFormed};
-ghost use Rattle.lalrpop_lr1.specs.TraceGraphs.{AreKnownEdges};
+ghost use Rattle.lalrpop_base.specs.Words.{IsWellFormed};
+ghost use Rattle.lalrpop_lr1.specs.Words.{AreKnownEdges};
 
 use super::trace_graphs::graph_of_words;
 use crate::show::example::push_example;

@@ -1,6 +1,6 @@
 //! The parts that are timed. Each tells how many states it had to do with, FIRST how many
 //! nonterminals, and its milliseconds.
-ghost use Rattle.lalrpop_base.specs.WellFormed.{IsWellFormed};
+ghost use Rattle.lalrpop_base.specs.Words.{IsWellFormed};
 
 use lalrpop_base::first::FirstSets;
 use lalrpop_base::lr1_core::coherent::are_coherent;

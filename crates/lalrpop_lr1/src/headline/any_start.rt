@@ -1,13 +1,9 @@
 //! The promise for any start symbol: by a grammar with a new one above it, exactly the parse trees
 //! of the old.
 ghost use Rattle.std.specs.Prelude.{◌≡◌, IfOk, IfErr};
-ghost use Rattle.lalrpop_base.specs.NewStart.{HasNewStart, IsRefusedStart};
-ghost use Rattle.lalrpop_base.specs.Runs.{IsFirstWrong};
-ghost use Rattle.lalrpop_base.specs.Trees.{Tree, Node, beside, no_trees};
-ghost use Rattle.lalrpop_base.specs.WellFormed.{IsWellFormed, productions};
+ghost use Rattle.lalrpop_base.specs.Words.{HasNewStart, IsRefusedStart, IsFirstWrong, Tree, Node, beside, no_trees, IsWellFormed, productions};
 ghost use Rattle.lalrpop_base.specs.declared.repr.NonterminalString.{NonterminalString};
-ghost use Rattle.lalrpop_tables.specs.Lalr.{Collapses};
-ghost use Rattle.lalrpop_tables.specs.Lr1Answers.{HasConflictsOf};
+ghost use Rattle.lalrpop_tables.specs.Words.{Collapses, HasConflictsOf};
 ghost use Rattle.lalrpop_lr1.specs.AnyStart.{IsTreeBelow, TellsTreesBelow, IsToldByTablesAbove};
 ghost use Rattle.lalrpop_lr1.specs.FaithfulAnswers.{IsCutOffByTables};
 ghost use Rattle.lalrpop_lr1.specs.Headline.{IsAccepted};

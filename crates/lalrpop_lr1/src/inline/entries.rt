@@ -1,7 +1,7 @@
 //! Inlines one nonterminal into all entries of a grammar.
 ghost use Rattle.std.specs.Prelude.{◌≡◌, IfOk, OnOk, IfErr, length, map};
 ghost use Rattle.std.specs.BTreeMap.{insert_entry};
-ghost use Rattle.lalrpop_base.specs.WellFormed.{name_cmp};
+ghost use Rattle.lalrpop_base.specs.Words.{name_cmp};
 ghost use Rattle.lalrpop_lr1.specs.InlineSteps.{replaced_all, entry_view, view_with, view_of, replaced_entries, IsEntryReplaced, inlined_of};
 ghost use Rattle.lalrpop_lr1.specs.InlineRefusals.{IsPastLast};
 

@@ -3,9 +3,8 @@ ghost use Rattle.std.specs.Prelude.{◌≡◌, ◌↔◌, ◌≤◌, ◌++◌, t
 ghost use Rattle.std.specs.BTreeMap.{get, IsOrdered};
 ghost use Rattle.std.specs.List.{flat_map};
 ghost use Rattle.std.specs.BTreeSet.{contains};
-ghost use Rattle.lalrpop_base.specs.WellFormed.{name_cmp};
+ghost use Rattle.lalrpop_base.specs.Words.{name_cmp, inline_mark};
 ghost use Rattle.lalrpop_base.specs.declared.repr.NonterminalString.{NonterminalString};
-ghost use Rattle.lalrpop_base.specs.Marks.{inline_mark};
 ghost use Rattle.lalrpop_lr1.specs.InlineOrder.{IsMarked, IsInlineOrder, IsOnRing, IsCycleOf, HasSpan};
 ghost use Rattle.lalrpop_lr1.specs.InlineWalks.{mentioned_in, names_of, IsWalk, IsWalked, LeadTo};
 

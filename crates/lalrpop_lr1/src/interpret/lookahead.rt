@@ -1,7 +1,6 @@
 //! How a state chooses its reduction.
 ghost use Rattle.std.specs.Prelude.{◌≡◌, Bool, true, List, option_copied};
-ghost use Rattle.lalrpop_base.specs.Contents.{holds_token, contents_of};
-ghost use Rattle.lalrpop_base.specs.Runs.{reduction_on};
+ghost use Rattle.lalrpop_base.specs.Words.{holds_token, contents_of, reduction_on};
 ghost use Rattle.lalrpop_base.specs.declared.lookahead.token.Token.{Token};
 ghost use Rattle.lalrpop_base.specs.declared.repr.TerminalString.{TerminalString};
 

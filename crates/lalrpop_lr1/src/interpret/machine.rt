@@ -1,10 +1,6 @@
 //! A run of the parser.
 ghost use Rattle.std.specs.Prelude.{◌≡◌, ◌+◌, ◌<◌, ◌≤◌, ℕ, suc, List, [], ◌∷◌, ◌++◌, length, drop, slice_get, Some, cond, OnOk, IfOk, IfErr, IfSome, IsNone};
-ghost use Rattle.lalrpop_base.specs.Coherent.{AreCoherent};
-ghost use Rattle.lalrpop_base.specs.Contents.{contents_in};
-ghost use Rattle.lalrpop_base.specs.Runs.{received, reduced, Goes, Ends, HasOutcome};
-ghost use Rattle.lalrpop_base.specs.Tokens.{IsTerminal};
-ghost use Rattle.lalrpop_base.specs.Trees.{Tree, Leaf};
+ghost use Rattle.lalrpop_base.specs.Words.{AreCoherent, contents_in, received, reduced, Goes, Ends, HasOutcome, IsTerminal, Tree, Leaf};
 ghost use Rattle.lalrpop_base.specs.declared.repr.TerminalString.{TerminalString};
 ghost use Rattle.lalrpop_base.specs.declared.lookahead.token.Token.{Token};
 ghost use Rattle.lalrpop_lr1.specs.Answers.{IsAnswer, IsFailure};

@@ -1,7 +1,7 @@
 //! Parse trees.
 ghost use Rattle.std.specs.Prelude.{◌≡◌, ◌↔◌, ◌++◌, map, Some, true, IsTrue, IfOk, OnOk};
 ghost use Rattle.std.specs.Fmt.{WritesOnOk};
-ghost use Rattle.lalrpop_base.specs.Trees.{leaves, beside, no_trees};
+ghost use Rattle.lalrpop_base.specs.Words.{leaves, beside, no_trees};
 ghost use Rattle.lalrpop_lr1.specs.ParseTrees.{tree_of, tree_text, children_text, separator_text};
 
 use lalrpop_base::exact::equal;

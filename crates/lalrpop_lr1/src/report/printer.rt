@@ -1,9 +1,7 @@
 //! What prints in a report: tokens, and names whose length counts.
 ghost use Rattle.std.specs.Prelude.{◌≡◌, ◌≢◌, ◌++◌, ◌↔◌, [], ℕ, List, length, IsTrue, OnOk, codes};
 ghost use Rattle.std.specs.Fmt.{WritesInCalls};
-ghost use Rattle.lalrpop_base.specs.Bits.{rising};
-ghost use Rattle.lalrpop_base.specs.Names.{nonterminal_text, terminal_text, token_text};
-ghost use Rattle.lalrpop_base.specs.Tokens.{seen};
+ghost use Rattle.lalrpop_base.specs.Words.{rising, nonterminal_text, terminal_text, token_text, seen};
 ghost use Rattle.lalrpop_lr1.specs.ReportLines.{tokens_in, tokens_text};
 
 use lalrpop_base::lookahead::Lookahead;

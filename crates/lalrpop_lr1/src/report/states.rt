@@ -1,9 +1,8 @@
 //! The block of a state.
 ghost use Rattle.std.specs.Prelude.{◌≡◌, ◌++◌, OnOk, string_bytes, map, List, Some, slice_get};
 ghost use Rattle.std.specs.List.{flat_map};
-ghost use Rattle.lalrpop_base.specs.Items.{Dotted};
+ghost use Rattle.lalrpop_base.specs.Words.{Dotted, nonterminal_text};
 ghost use Rattle.lalrpop_base.specs.declared.lr1_core.state.Conflict.{Conflict};
-ghost use Rattle.lalrpop_base.specs.Names.{nonterminal_text};
 ghost use Rattle.lalrpop_lr1.specs.ReportLines.{longest, reduction_lines, shift_line, goto_line};
 ghost use Rattle.lalrpop_lr1.specs.ReportStates.{items_block, reductions_block, edges_lines, state_block};
 

@@ -1,6 +1,6 @@
 //! The edges that an item gives.
 ghost use Rattle.std.specs.Prelude.{◌≡◌, ◌+◌, ◌↔◌, ◌∷◌, [], IsTrue, true, false, OnOk, IfOk, drop};
-ghost use Rattle.lalrpop_base.specs.Grammar.{IsNullable};
+ghost use Rattle.lalrpop_base.specs.Words.{IsNullable};
 ghost use Rattle.lalrpop_lr1.specs.Traces.{dotted, dot_edge, own_edge, Gives, GoesOn};
 ghost use Rattle.lalrpop_lr1.specs.TraceOrder.{stop_edge, onward_edges};
 ghost use Rattle.lalrpop_lr1.specs.Meetings.{asked, AddsEdges, AddsInOrder};

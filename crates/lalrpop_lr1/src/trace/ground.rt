@@ -1,5 +1,5 @@
 //! What a trace goes over.
-ghost use Rattle.lalrpop_tables.specs.StateGraph.{edges, IsGraphOf};
+ghost use Rattle.lalrpop_tables.specs.Words.{edges, IsGraphOf};
 
 use lalrpop_base::first::FirstSets;
 use lalrpop_base::lr1_core::item::Lr0Item;

@@ -1,7 +1,7 @@
 //! Whether the terminals of a trace graph are in a set.
 ghost use Rattle.std.specs.Prelude.{◌≡◌, ◌↔◌, ◌∷◌, [], IsTrue, Some, Contains, option_copied};
 ghost use Rattle.lalrpop_base.specs.declared.repr.TerminalString.{TerminalString};
-ghost use Rattle.lalrpop_base.specs.WellFormed.{HasKnownTerminals};
+ghost use Rattle.lalrpop_base.specs.Words.{HasKnownTerminals};
 ghost use Rattle.lalrpop_lr1.specs.TraceGraphs.{AreKnownEdges, IsKnownLabel};
 
 use super::trace_graph::TraceGraph;

@@ -2,8 +2,7 @@
 ghost use Rattle.std.specs.Prelude.{◌≡◌, IfOk};
 ghost use Rattle.std.proofs.Common.{sym, ap};
 ghost use mathlib.Core.Bool.{true≢false};
-ghost use Rattle.lalrpop_base.specs.Exact.{name_exact};
-ghost use Rattle.lalrpop_base.specs.Items.{dotted_exact};
+ghost use Rattle.lalrpop_base.specs.Words.{name_exact, dotted_exact};
 ghost use Rattle.lalrpop_base.specs.contracts.exact.ProductionExact.TheImpl.Laws.{exact-law as production_exact};
 ghost use Rattle.lalrpop_base.specs.contracts.lookahead.nil.NilExact.TheImpl.Laws.{exact-law as nil_exact};
 ghost use Rattle.lalrpop_lr1.specs.NodeItems.{without_lookahead};

@@ -1,7 +1,6 @@
 //! Whether symbols derive the empty list.
 ghost use Rattle.std.specs.Prelude.{◌↔◌, ◌∷◌, [], IsTrue, IfOk};
-ghost use Rattle.lalrpop_base.specs.First.{IsFirstSet};
-ghost use Rattle.lalrpop_base.specs.Grammar.{IsNullable};
+ghost use Rattle.lalrpop_base.specs.Words.{IsFirstSet, IsNullable};
 
 use lalrpop_base::first::FirstSets;
 use lalrpop_base::lookahead::token_set::TokenSet;

@@ -1,7 +1,6 @@
 //! The graph of a trace.
 ghost use Rattle.std.specs.Prelude.{◌≡◌, ◌∷◌, ◌++◌, ◌↔◌, [], ℕ, List, Some, None, IsTrue, IsNone, IfOk, OnOk, OnErr, false, Contains, map, length, slice_get, option_copied};
-ghost use Rattle.lalrpop_base.specs.Kernels.{AddsOnce};
-ghost use Rattle.lalrpop_base.specs.Places.{AllDiffer};
+ghost use Rattle.lalrpop_base.specs.Words.{AddsOnce, AllDiffer};
 ghost use Rattle.lalrpop_base.specs.declared.repr.Production.{Production};
 ghost use Rattle.lalrpop_base.specs.declared.repr.TerminalString.{TerminalString};
 ghost use Rattle.lalrpop_lr1.specs.Paths.{is_item, item_node, source, are_one, paths, IsPath};
@@ -47,7 +46,7 @@ pub struct TraceGraph<'grammar> {
 }
 
 impl<'grammar> Model for TraceGraph<'grammar> {
-    ghost use Rattle.lalrpop_base.specs.Kernels.{by_number};
+    ghost use Rattle.lalrpop_base.specs.Words.{by_number};
     ghost use Rattle.lalrpop_lr1.specs.TraceGraphs.{Graph, IsKept};
 
     ghost Value = { Graph };

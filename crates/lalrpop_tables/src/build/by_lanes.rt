@@ -1,11 +1,6 @@
 //! LR(1) states by the lane way: lane tables, where they pass the check.
 ghost use Rattle.std.specs.Prelude.{◌≡◌, ◌<◌, length, true, IfOk, IfSome, is_some};
-ghost use Rattle.lalrpop_base.specs.Coherent.{AreCoherent};
-ghost use Rattle.lalrpop_base.specs.Contents.{contents};
-ghost use Rattle.lalrpop_base.specs.Grammar.{IsOnNoRightSide};
-ghost use Rattle.lalrpop_base.specs.States.{AreFaithful};
-ghost use Rattle.lalrpop_base.specs.Validity.{IsLALR1};
-ghost use Rattle.lalrpop_base.specs.WellFormed.{IsWellFormed, productions, rules_of};
+ghost use Rattle.lalrpop_base.specs.Words.{AreCoherent, contents, IsOnNoRightSide, AreFaithful, IsLALR1, IsWellFormed, productions, rules_of};
 ghost use Rattle.lalrpop_tables.specs.Check.{PassCheck};
 ghost use Rattle.lalrpop_tables.specs.LaneStates.{AreLaneTables, AreLr0Tables};
 

@@ -1,6 +1,6 @@
 //! LR(1) states by the canonical construction.
 ghost use Rattle.std.specs.Prelude.{IfOk, IfErr};
-ghost use Rattle.lalrpop_base.specs.WellFormed.{IsWellFormed};
+ghost use Rattle.lalrpop_base.specs.Words.{IsWellFormed};
 ghost use Rattle.lalrpop_tables.specs.Lr1Answers.{AreBuiltTablesOf, FailsOn};
 ghost use Rattle.lalrpop_tables.specs.declared.build.options.Method.TheVariants.{Canonical};
 

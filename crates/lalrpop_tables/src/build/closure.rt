@@ -3,8 +3,8 @@ ghost use Rattle.std.specs.Prelude.{◌≡◌, [], IfOk, OnOk, Contains, map};
 ghost use Rattle.std.specs.Map.{keys_of};
 ghost use Rattle.lalrpop_tables.specs.Ascending.{Ascend};
 ghost use Rattle.lalrpop_tables.specs.Closing.{ExpandsFound, IsStarted, SpreadAll};
-ghost use Rattle.lalrpop_tables.specs.Closure.{AreItemsBy, IsClosureBy, IsQueued, IsExpanded, IsClosing, item_of, meant};
-ghost use Rattle.lalrpop_tables.specs.Entries.{readings};
+ghost use Rattle.lalrpop_tables.specs.Closure.{AreItemsBy, IsClosureBy, IsExpanded, IsClosing, item_of, meant};
+ghost use Rattle.lalrpop_tables.specs.Entries.{IsQueued, readings};
 
 use super::lookahead_build::LookaheadBuild;
 use super::lr::Lr;

@@ -1,5 +1,5 @@
 //! What items give without lookahead, and with sets of tokens.
-ghost use Rattle.lalrpop_base.specs.Grammar.{IsNullable};
+ghost use Rattle.lalrpop_base.specs.Words.{IsNullable};
 ghost use Rattle.lalrpop_tables.specs.Closing.{Begins};
 
 use super::lookahead_build::LookaheadBuild;

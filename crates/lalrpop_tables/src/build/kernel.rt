@@ -1,7 +1,6 @@
 //! The kernels of states.
 ghost use Rattle.std.specs.Prelude.{◌≡◌, ◌<◌, All};
-ghost use Rattle.lalrpop_base.specs.Exact.{list_exact};
-ghost use Rattle.lalrpop_base.specs.Items.{dotted_exact};
+ghost use Rattle.lalrpop_base.specs.Words.{list_exact, dotted_exact};
 ghost use Rattle.lalrpop_base.specs.contracts.exact.ProductionExact.TheImpl.Laws.{exact-law as production_exact};
 
 use lalrpop_base::kernel_set;
@@ -21,7 +20,7 @@ pub struct Kernel<'grammar, L: Lookahead> {
 
 impl<'grammar, L: Lookahead> Model for Kernel<'grammar, L> {
     ghost use Rattle.std.specs.Prelude.{List};
-    ghost use Rattle.lalrpop_base.specs.Items.{Dotted};
+    ghost use Rattle.lalrpop_base.specs.Words.{Dotted};
 
     ghost Value = { List (Dotted L) };
 

@@ -1,6 +1,6 @@
 //! What an item gives to those to which it leads without a symbol.
 ghost use Rattle.std.specs.Prelude.{◌≡◌, IfOk, List};
-ghost use Rattle.lalrpop_base.specs.WellFormed.{HasKnownTerminals, Rules};
+ghost use Rattle.lalrpop_base.specs.Words.{HasKnownTerminals, Rules};
 ghost use Rattle.lalrpop_base.specs.declared.lookahead.token.Token.{Token};
 ghost use Rattle.lalrpop_base.specs.declared.repr.Symbol.{Symbol};
 ghost use Rattle.lalrpop_tables.specs.EpsilonMoves.{AreEpsilonMoves};

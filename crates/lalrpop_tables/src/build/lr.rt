@@ -1,17 +1,16 @@
 //! The construction of states for a start symbol and what may follow it.
 ghost use Rattle.std.specs.Prelude.{◌≡◌, IfOk, IfErr, MatchResult, map};
-ghost use Rattle.lalrpop_base.specs.Contents.{contents};
-ghost use Rattle.lalrpop_base.specs.States.{AreFaithful};
-ghost use Rattle.lalrpop_base.specs.Tokens.{FitsTokens};
-ghost use Rattle.lalrpop_base.specs.Validity.{IsLR1};
-ghost use Rattle.lalrpop_base.specs.WellFormed.{IsWellFormed, rules_of, productions_of};
-ghost use Rattle.lalrpop_tables.specs.Canonical.{AreCanonicalStates, HasCanonicalStates, TellsNotLR1};
+ghost use Rattle.lalrpop_base.specs.Words.{FitsTokens, IsWellFormed, rules_of, productions_of};
+ghost use Rattle.lalrpop_base.specs.declared.repr.NonterminalString.{NonterminalString as Start};
+ghost use Rattle.lalrpop_base.specs.declared.repr.grammar.Grammar.{Grammar as Rules};
 ghost use Rattle.lalrpop_tables.specs.Closure.{AreItemsBy};
-ghost use Rattle.lalrpop_tables.specs.EarlyStop.{AreSomeCanonicalStates, FailsAfter, FailsAfterLr0, StopsFor};
+ghost use Rattle.lalrpop_tables.specs.EarlyStop.{FailsAfterLr0, StopsFor};
 ghost use Rattle.lalrpop_tables.specs.EpsilonMoves.{AreBegunWith};
 ghost use Rattle.lalrpop_tables.specs.Lr0.{AreLr0States, HasLr0States, HaveNoNilConflict, ListsNilConflicts};
-ghost use Rattle.lalrpop_tables.specs.Results.{AreTables, AreTablesFor, EndsWithEof, FailsBy, FailsFor};
+ghost use Rattle.lalrpop_tables.specs.Lr1Answers.{AreBuiltTablesOf, FailsOn};
+ghost use Rattle.lalrpop_tables.specs.Results.{AreTables, AreTablesFor, FailsBy, FailsFor, canonical_of};
 ghost use Rattle.lalrpop_tables.specs.States.{begun};
+ghost use Rattle.lalrpop_tables.specs.declared.build.options.Method.TheVariants.{Canonical};
 
 use super::kernel::Kernel;
 use super::lookahead_build::LookaheadBuild;
@@ -41,7 +40,7 @@ pub struct Lr<'grammar, L: Lookahead> {
 }
 
 impl<'grammar, L: Lookahead> Model for Lr<'grammar, L> {
-    ghost use Rattle.lalrpop_base.specs.WellFormed.{rules_of, productions_of};
+    ghost use Rattle.lalrpop_base.specs.Words.{rules_of, productions_of};
     ghost use Rattle.lalrpop_tables.specs.Lr0.{AreLr0States, HasLr0States, HaveNoNilConflict, ListsNilConflicts};
     ghost use Rattle.lalrpop_tables.specs.Results.{Settings};
 
@@ -111,6 +110,8 @@ impl<'grammar, L: Lookahead> Lr<'grammar, L> {
     /// The grammar whose states are made.
     pub fn grammar(&self) -> &'grammar Grammar
         ensures rules { rules_of result.now ≡ self.now.construction.rules }
+        ensures first { productions_of result.now self.now.construction.start ≡
+            self.now.construction.first }
         ensures well_formed { IsWellFormed result.now }
     {
         self.grammar
@@ -169,27 +170,17 @@ impl<'grammar, L: LookaheadBuild> Lr<'grammar, L> {
 impl<'grammar> Lr<'grammar, TokenSet> {
     /// The states with sets of tokens, or their conflicts.
     pub fn build_lr1_states(self, alloc: Global) -> Lr1Result<'grammar>
-        ensures tables { IfOk result (λ tables. AreTables self.entry.construction tables.items) }
-        ensures failure { self.entry.stop_after ≡ 0 →
-            IfErr result (FailsBy self.entry.construction) }
-        ensures canonical { EndsWithEof self.entry.construction →
-            MatchResult result (λ tables. AreCanonicalStates self.entry.construction.rules
-            self.entry.construction.start tables.items) (λ error. self.entry.stop_after ≡ 0 →
-            HasCanonicalStates self.entry.construction.rules self.entry.construction.start error) }
-        ensures valid { EndsWithEof self.entry.construction →
-            IfOk result (λ tables. AreSomeCanonicalStates self.entry.construction.rules
-            self.entry.construction.start tables.items) }
-        ensures stopped { EndsWithEof self.entry.construction →
-            IfErr result (FailsAfter self.entry.construction.rules self.entry.construction.start
-            self.entry.stop_after) }
-        ensures lr1 { EndsWithEof self.entry.construction →
-            MatchResult result
-            (λ _. IsLR1 self.entry.construction.rules.productions self.entry.construction.start)
-            (TellsNotLR1 self.entry.construction.rules.productions self.entry.construction.start) }
-        ensures faithful { EndsWithEof self.entry.construction →
-            IfOk result (λ tables. AreFaithful self.entry.construction.rules.productions
-            self.entry.construction.start
-            (contents self.entry.construction.rules.terminals tables.items)) }
+        ensures made { MatchResult result
+            (λ tables. AreTables self.entry.construction tables.items)
+            (λ error. self.entry.stop_after ≡ 0 → FailsBy self.entry.construction error) }
+
+        // Where Eof alone follows the start symbol of a grammar, as by the canonical method.
+        ensures tables { (g : Rules) (start : Start) →
+            self.entry.construction ≡ canonical_of g start →
+            IfOk result (λ tables. AreBuiltTablesOf ⊥ Canonical g start tables.items) }
+        ensures no_tables { (g : Rules) (start : Start) →
+            self.entry.construction ≡ canonical_of g start →
+            IfErr result (FailsOn ⊥ self.entry.stop_after g start) }
     {
         let grammar = self.grammar;
         let _terminals = grammar.terminals.all();

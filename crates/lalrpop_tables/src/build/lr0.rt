@@ -1,6 +1,6 @@
 //! LR(0) states.
 ghost use Rattle.std.specs.Prelude.{IfOk, IfErr, MatchResult};
-ghost use Rattle.lalrpop_base.specs.WellFormed.{IsWellFormed, rules_of};
+ghost use Rattle.lalrpop_base.specs.Words.{IsWellFormed, rules_of};
 ghost use Rattle.lalrpop_tables.specs.Lr0.{AreLr0States, HasLr0States, HaveNoNilConflict, ListsNilConflicts};
 
 use super::lr::Lr;

@@ -1,7 +1,7 @@
 //! Lookaheads by key, joined as they come.
 ghost use Rattle.std.specs.Prelude.{◌≡◌, OnOk, IfOk, IsNone, IfSome, Contains};
 ghost use Rattle.std.specs.BTreeMap.{keys};
-ghost use Rattle.lalrpop_base.specs.Places.{AllDiffer};
+ghost use Rattle.lalrpop_base.specs.Words.{AllDiffer};
 ghost use Rattle.lalrpop_tables.specs.Entries.{IsJoinedAt, readings};
 
 use lalrpop_base::exact::Exact;

@@ -1,7 +1,7 @@
 //! The transitions of a state.
 ghost use Rattle.std.specs.Prelude.{◌≡◌, IfOk, OnOk};
 ghost use Rattle.std.specs.BTreeMap.{keys};
-ghost use Rattle.lalrpop_base.specs.Places.{AllDiffer};
+ghost use Rattle.lalrpop_base.specs.Words.{AllDiffer};
 ghost use Rattle.lalrpop_tables.specs.Entries.{IsPushedAt};
 ghost use Rattle.lalrpop_tables.specs.Transitions.{AreMoves, AreShifted, IsMoveAdded, IsEdgeAdded, AreEdges, IsReached};
 

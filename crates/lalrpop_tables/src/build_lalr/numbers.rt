@@ -1,6 +1,6 @@
 //! The numbers of the merged states.
 ghost use Rattle.std.specs.Prelude.{◌≡◌, IfOk, map};
-ghost use Rattle.lalrpop_base.specs.Collapsible.{dots};
+ghost use Rattle.lalrpop_base.specs.Words.{dots};
 ghost use Rattle.lalrpop_tables.specs.Collapsed.{dots_in};
 ghost use Rattle.lalrpop_tables.specs.Merging.{AreFirstNumbers, bare};
 

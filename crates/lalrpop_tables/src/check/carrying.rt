@@ -1,13 +1,9 @@
 //! Tokens carried over the edges of states.
 ghost use Rattle.std.specs.Prelude.{◌≡◌, ◌<◌, ◌+◌, ◌↔◌, ℕ, IfOk, OnOk, Contains, IsTrue, length, slice_get, drop, Some, true};
 ghost use Rattle.std.specs.Map.{keys_of};
-ghost use Rattle.lalrpop_base.specs.Bits.{Bits, has};
-ghost use Rattle.lalrpop_base.specs.Closures.{AreClosed};
-ghost use Rattle.lalrpop_base.specs.Contents.{contents};
-ghost use Rattle.lalrpop_base.specs.Each.{EachItem};
-ghost use Rattle.lalrpop_base.specs.Places.{AllDiffer};
-ghost use Rattle.lalrpop_base.specs.WellFormed.{IsWellFormed, productions, productions_of, rules_of};
-ghost use Rattle.lalrpop_tables.specs.CheckCarrying.{IsSent, Sends, IsBegunAt, IsOver, IsInto, Gives, target_in, AreCarried, HoldsCarried, AllHoldCarried};
+ghost use Rattle.lalrpop_base.specs.Words.{Bits, has, AreClosed, contents, EachItem, AllDiffer, IsWellFormed, productions, productions_of, rules_of};
+ghost use Rattle.lalrpop_tables.specs.CheckCarrying.{Sends, IsBegunAt, IsOver, IsInto, Gives, target_in, AreCarried, HoldsCarried, AllHoldCarried};
+ghost use Rattle.lalrpop_tables.specs.Entries.{IsQueued};
 
 use super::sets::find_tokens;
 use super::states::target;
@@ -35,7 +31,7 @@ fn send<'grammar>(
     table: &mut Table<'grammar>,
     queue: &mut VecDeque<Place<'grammar>>,
 ) -> Result<(), OutOfMemory>
-    ensures { OnOk result (IsSent place.entry tokens.now table.old.entries table.new.entries
+    ensures { OnOk result (IsQueued place.entry tokens.now table.old.entries table.new.entries
         queue.old.items queue.new.items) }
 {
     let copy = place.copy();

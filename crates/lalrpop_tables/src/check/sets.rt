@@ -1,8 +1,7 @@
 //! Ordered sets, by what they contain.
 ghost use Rattle.std.specs.Prelude.{◌≡◌, ◌↔◌, ◌+◌, length, IsTrue, IfOk, OnOk, MatchBool, Contains, Some, option_copied};
 ghost use Rattle.std.specs.BTreeMap.{keys};
-ghost use Rattle.lalrpop_base.specs.Bits.{Bits};
-ghost use Rattle.lalrpop_base.specs.Places.{AllDiffer};
+ghost use Rattle.lalrpop_base.specs.Words.{Bits, AllDiffer};
 ghost use Rattle.lalrpop_tables.specs.CheckSets.{IsAdded, HaveSame};
 
 use crate::build::tokens::tokens_of;

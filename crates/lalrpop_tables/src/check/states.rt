@@ -1,12 +1,8 @@
 //! What the check of tables asks of each state by itself.
 ghost use Rattle.std.specs.Prelude.{◌≡◌, ◌≤◌, ◌↔◌, ◌⊎◌, ◌<◌, ℕ, List, IfOk, OnOk, Contains, IsTrue, MatchOption, length, option_copied, option_map, slice_get, Some};
 ghost use Rattle.std.specs.BTreeSet.{BTreeSet as SortedSet};
-ghost use Rattle.lalrpop_base.specs.Bits.{Bits};
-ghost use Rattle.lalrpop_base.specs.Closures.{IsAtStart};
-ghost use Rattle.lalrpop_base.specs.Items.{Dotted};
-ghost use Rattle.lalrpop_base.specs.Places.{AllDiffer};
+ghost use Rattle.lalrpop_base.specs.Words.{Bits, IsAtStart, Dotted, AllDiffer, IsWellFormed, productions};
 ghost use Rattle.lalrpop_base.specs.StateConflicts.{HasNoConflict};
-ghost use Rattle.lalrpop_base.specs.WellFormed.{IsWellFormed, productions};
 ghost use Rattle.lalrpop_base.specs.declared.lookahead.nil.Nil.{Nil};
 ghost use Rattle.lalrpop_tables.specs.CheckClosing.{AreClosure};
 ghost use Rattle.lalrpop_tables.specs.CheckSets.{HaveSame};

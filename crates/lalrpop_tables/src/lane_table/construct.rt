@@ -8,8 +8,7 @@ mod states;
 mod tracing;
 
 ghost use Rattle.std.specs.Prelude.{◌≡◌, IfOk, IfErr, MatchResult};
-ghost use Rattle.lalrpop_base.specs.Grammar.{IsOnNoRightSide};
-ghost use Rattle.lalrpop_base.specs.WellFormed.{IsWellFormed, productions, rules_of};
+ghost use Rattle.lalrpop_base.specs.Words.{IsOnNoRightSide, IsWellFormed, productions, rules_of};
 ghost use Rattle.lalrpop_tables.specs.Lalr.{TellsNotLALR1};
 ghost use Rattle.lalrpop_tables.specs.LaneStates.{AreLalrLaneTables, AreLaneTables, AreLr0Tables, FailsByLanes, HasLr0Tables, IsReadyToConstruct};
 

@@ -1,6 +1,6 @@
 //! Context sets: for each action that is traced, the tokens on which it is to be taken.
 ghost use Rattle.std.specs.Prelude.{◌≡◌, ◌≢◌, ◌<◌, ◌↔◌, ℕ, List, length, slice_get, Some, IfOk, OnErr, OnOk, IfErr, MatchBool, IsTrue, IsFalse};
-ghost use Rattle.lalrpop_base.specs.Bits.{Bits, no_bits};
+ghost use Rattle.lalrpop_base.specs.Words.{Bits, no_bits};
 ghost use Rattle.lalrpop_tables.specs.Contexts.{MeetsOther, IsJoinedIn, IsUnion, MeetInUnion, IsApplied, AreAmong, AreReducedAmong, IsReductionAt, Reduces, TookColumns};
 ghost use Rattle.lalrpop_tables.specs.declared.lane_table.context_set.OverlappingLookahead.TheVariants.{Overlapping, Memory};
 
@@ -57,7 +57,7 @@ impl Model for ContextSet {
     ghost use Rattle.std.specs.Coded.{coded_list, coded_ℕ};
     ghost use base.Stored.{coded_unit};
     ghost use Rattle.std.specs.FinMap as finite;
-    ghost use Rattle.lalrpop_base.specs.Bits.{Bits};
+    ghost use Rattle.lalrpop_base.specs.Words.{Bits};
 
     ghost Value = { List Bits };
 

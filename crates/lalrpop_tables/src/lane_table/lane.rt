@@ -6,9 +6,7 @@ mod unshift;
 mod walk;
 
 ghost use Rattle.std.specs.Prelude.{◌≡◌, ◌<◌, ◌↔◌, ℕ, true, length, slice_get, Some, IfOk, OnOk};
-ghost use Rattle.lalrpop_base.specs.Bits.{has};
-ghost use Rattle.lalrpop_base.specs.Coherent.{AreCoherent};
-ghost use Rattle.lalrpop_base.specs.WellFormed.{IsWellFormed, productions, rules_of};
+ghost use Rattle.lalrpop_base.specs.Words.{has, AreCoherent, IsWellFormed, productions, rules_of};
 ghost use Rattle.lalrpop_tables.specs.LaneTables.{IsEmptyTable};
 ghost use Rattle.lalrpop_tables.specs.LaneTraces.{HaveOwnItems, IsReadyToTrace, ReducesOwn, places_in, TakesAction};
 ghost use Rattle.lalrpop_tables.specs.StateGraph.{edges, IsGraphOf};

@@ -1,9 +1,7 @@
 //! Words in the construction of states: what follows an item, of the tokens whose bits are below
 //! 64.
 ghost use Rattle.std.specs.Prelude.{◌≡◌, ◌^◌, ◌<◌, ◌≤◌, bit_or, length, IfOk, IfSome, MatchBool, slice_get, None, Some};
-ghost use Rattle.lalrpop_base.specs.Bits.{has};
-ghost use Rattle.lalrpop_base.specs.Grammar.{IsNullable};
-ghost use Rattle.lalrpop_base.specs.Tokens.{FitsTokens};
+ghost use Rattle.lalrpop_base.specs.Words.{has, IsNullable, FitsTokens};
 ghost use Rattle.lalrpop_tests.specs.WordMoves.{BeginsLow, IsWordOf};
 ghost use Rattle.lalrpop_tests.specs.Words.{bits_of_word};
 

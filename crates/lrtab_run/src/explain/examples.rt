@@ -1,7 +1,6 @@
 //! The first examples of an item.
 ghost use Rattle.std.specs.Prelude.{◌≡◌, ◌++◌, false, take, OnOk, Contains, string_bytes};
-ghost use Rattle.lalrpop_lr1.specs.TraceGraphs.{AreKnownEdges};
-ghost use Rattle.lalrpop_lr1.specs.Walks.{to_come};
+ghost use Rattle.lalrpop_lr1.specs.Words.{AreKnownEdges, to_come};
 ghost use Rattle.lrtab_run.specs.Explained.{AreShiftExamples, AreReduceExamples, path_lines};
 ghost use Rattle.lrtab_run.specs.Explaining.{Grows, AreFirstLines, AreOwnStates};
 

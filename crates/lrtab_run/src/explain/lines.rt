@@ -1,6 +1,6 @@
 //! The lines of an explanation.
 ghost use Rattle.std.specs.Prelude.{◌≡◌, ◌≤◌, ◌++◌, OnOk, length, string_bytes};
-ghost use Rattle.lalrpop_lr1.specs.ReportLines.{symbols_text, production_line, tokens_in, tokens_text};
+ghost use Rattle.lalrpop_lr1.specs.Words.{symbols_text, production_line, tokens_in, tokens_text};
 ghost use Rattle.lrtab_run.specs.Explained.{head_line, marked_line, word_text, words_text};
 
 use lalrpop_base::lookahead::token_set::TokenSet;

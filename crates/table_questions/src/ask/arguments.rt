@@ -1,7 +1,6 @@
 //! Words of questions: methods, options, symbols, tokens.
 ghost use Rattle.std.specs.Prelude.{IfOk, IsTrue};
-ghost use Rattle.lalrpop_base.specs.WellFormed.{HasKnownTerminals};
-ghost use Rattle.lalrpop_base.specs.Tokens.{IsKnown};
+ghost use Rattle.lalrpop_base.specs.Words.{HasKnownTerminals, IsKnown};
 
 use crate::question::{Question, QuestionError};
 use grammar_text::symbols::{symbol_of, symbols_of, unquoted};

@@ -1,5 +1,5 @@
 //! Questions of new start symbols.
-ghost use Rattle.lalrpop_base.specs.WellFormed.{IsWellFormed};
+ghost use Rattle.lalrpop_base.specs.Words.{IsWellFormed};
 
 use super::refusal;
 use super::states::start_of;

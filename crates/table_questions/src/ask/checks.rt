@@ -1,5 +1,5 @@
 //! Questions of the checks of tables.
-ghost use Rattle.lalrpop_base.specs.WellFormed.{IsWellFormed};
+ghost use Rattle.lalrpop_base.specs.Words.{IsWellFormed};
 
 use super::changes::change_states;
 use super::states::start_of;

@@ -1,6 +1,6 @@
 //! Questions of context sets.
 ghost use Rattle.std.specs.Prelude.{◌≡◌, length, IfOk};
-ghost use Rattle.lalrpop_base.specs.WellFormed.{IsWellFormed};
+ghost use Rattle.lalrpop_base.specs.Words.{IsWellFormed};
 
 use super::arguments::{piece_end, tokens_between};
 use super::checks::states_by;

@@ -1,5 +1,5 @@
 //! Questions of first sets.
-ghost use Rattle.lalrpop_base.specs.WellFormed.{IsWellFormed};
+ghost use Rattle.lalrpop_base.specs.Words.{IsWellFormed};
 
 use super::arguments::{known_symbols, tokens_between};
 use crate::question::{Question, QuestionError};

@@ -1,8 +1,8 @@
 //! Questions of lane tables.
 ghost use Rattle.std.specs.Prelude.{IfOk, IsTrue};
-ghost use Rattle.lalrpop_base.specs.WellFormed.{IsWellFormed, productions};
+ghost use Rattle.lalrpop_base.specs.Words.{IsWellFormed, productions};
 ghost use Rattle.table_questions.specs.Traces.{AreReady, IsTracing};
-ghost use Rattle.lalrpop_tables.specs.LaneTraces.{ReducesOwn};
+ghost use Rattle.lalrpop_tables.specs.Words.{ReducesOwn};
 
 use super::arguments::{piece_end, tokens_between};
 use super::context_sets::actions_of;

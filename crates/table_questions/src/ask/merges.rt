@@ -1,7 +1,7 @@
 //! Questions of the merging of states.
 ghost use Rattle.std.specs.Prelude.{IfOk};
-ghost use Rattle.lalrpop_base.specs.WellFormed.{IsWellFormed};
-ghost use Rattle.lalrpop_tables.specs.Merges.{IsMerging};
+ghost use Rattle.lalrpop_base.specs.Words.{IsWellFormed};
+ghost use Rattle.lalrpop_tables.specs.Words.{IsMerging};
 
 use super::checks::states_by;
 use super::context_sets::push_reductions;

@@ -1,5 +1,5 @@
 //! Questions of states.
-ghost use Rattle.lalrpop_base.specs.WellFormed.{IsWellFormed};
+ghost use Rattle.lalrpop_base.specs.Words.{IsWellFormed};
 
 use super::arguments::{method_at, options_from};
 use super::changes::change_states;

@@ -1,5 +1,5 @@
 //! Questions of what states show of the stack.
-ghost use Rattle.lalrpop_base.specs.WellFormed.{IsWellFormed};
+ghost use Rattle.lalrpop_base.specs.Words.{IsWellFormed};
 
 use super::states::start_of;
 use crate::question::{Question, QuestionError};

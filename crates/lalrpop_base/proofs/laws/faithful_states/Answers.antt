@@ -1,6 +1,6 @@
 use Rattle.std.proofs.Common.{[], sym, subst, ◌∙◌, ap, ◌++◌, ◌∷◌}
 use Rattle.std.proofs.lemmas.List.{append_cancel_right}
-use Rattle.lalrpop_base.specs.Grammar.{IsBeginning}
+use Rattle.lalrpop_base.specs.Words.{IsBeginning}
 use Rattle.lalrpop_base.proofs.theory.Sentences.{one_tree, tree_parsed, tree_run}
 use Rattle.lalrpop_base.proofs.theory.Runs.{answered_is_tree, answered_within, run_tracks, begin_tracks, shift_begins, Tracks}
 use Rattle.lalrpop_base.proofs.theory.Refusals.{refused_wrong}

@@ -1,5 +1,5 @@
 use Rattle.std.proofs.Common.{zero, suc, List, [], ◌∷◌, refl}
-use Rattle.lalrpop_base.specs.Laws.{DifferInReductions}
+use Rattle.lalrpop_base.specs.Words.{DifferInReductions}
 use Rattle.lalrpop_base.specs.States.{Reduction}
 use Rattle.lalrpop_base.proofs.theory.Instance.{S, x, g, states, alone, checked, faithful, reduction}
 use Rattle.lalrpop_base.proofs.theory.InstanceTokens.{tokens, canonical, token_kernels, lr0, lane_tokens_held, lalr_tokens_held, lr1, lalr1}

@@ -1,6 +1,5 @@
 use Rattle.std.proofs.Common.{◌<◌, List, length, sym, subst}
-use Rattle.lalrpop_base.specs.Bits.{Bits}
-use Rattle.lalrpop_base.specs.Coherent.{AreCoherent}
+use Rattle.lalrpop_base.specs.Words.{Bits, AreCoherent}
 use Rattle.lalrpop_base.specs.declared.lr1_core.state.State.{State}
 use Rattle.lalrpop_lr1.proofs.ToldByTables.{decided, parsed, refused, limited, trees_told, run_told}
 use Rattle.lalrpop_lr1.proofs.headline.parse.Goals as goal

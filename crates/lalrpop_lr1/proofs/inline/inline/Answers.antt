@@ -1,8 +1,6 @@
 use Rattle.std.proofs.Common.{rules, List, arith, sym, ◌∙◌, subst}
 use Rattle.lalrpop_base.specs.declared.repr.NonterminalString.{NonterminalString}
-use Rattle.lalrpop_lr1.specs.InlineOrder.{IsInlineOrder}
-use Rattle.lalrpop_lr1.specs.InlineSteps.{view_of, inlined_by}
-use Rattle.lalrpop_lr1.specs.Inlined.{IsRefusalOf}
+use Rattle.lalrpop_lr1.specs.Words.{IsInlineOrder, view_of, inlined_by, IsRefusalOf}
 use Rattle.lalrpop_lr1.proofs.InlineStages.{one_inlined, inlined_past, all_inlined, refusal_past, inlined_well_formed, inlined_unmentioned, inlined_lists, inlined_kept, inlined_laid_out}
 use Rattle.lalrpop_lr1.proofs.inline.inline.Goals as goal
 

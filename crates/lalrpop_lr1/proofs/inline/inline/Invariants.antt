@@ -1,5 +1,5 @@
 use Rattle.std.proofs.Common.{◌≡◌, drop}
-use Rattle.lalrpop_lr1.specs.InlineSteps.{view_of, inlined_by}
+use Rattle.lalrpop_lr1.specs.Words.{view_of, inlined_by}
 use Rattle.lalrpop_lr1.proofs.inline.inline.Given as goal
 
 -- with those that are left inlined, the grammar is the old one with all inlined

@@ -1,8 +1,7 @@
 use Rattle.std.proofs.Common.{[]}
 use Rattle.std.specs.Prelude.{Ok}
-use Rattle.lalrpop_base.specs.Contents.{contents_in}
-use Rattle.lalrpop_base.specs.Runs.{begin}
-use Rattle.lalrpop_lr1.specs.Reading.{HasPartialOutcome}
+use Rattle.lalrpop_base.specs.Words.{contents_in, begin}
+use Rattle.lalrpop_lr1.specs.Words.{HasPartialOutcome}
 use Rattle.lalrpop_lr1.proofs.FaithfulAnswers.{stop_limit, stop_wrong}
 use Rattle.lalrpop_lr1.proofs.FaithfulStacks.{stack_begun, takes_beginning}
 use Rattle.lalrpop_lr1.proofs.Interpreted.{start_stacked, read_from_start, stop_partial, stack_answer}

@@ -1,4 +1,4 @@
-use Rattle.lalrpop_lr1.specs.Meetings.{asked}
+use Rattle.lalrpop_lr1.specs.Words.{asked}
 use Rattle.lalrpop_lr1.proofs.TracedRightSides.{traced_right_sides, known_edges}
 use Rattle.lalrpop_lr1.proofs.trace.graph_of.Goals as goal
 

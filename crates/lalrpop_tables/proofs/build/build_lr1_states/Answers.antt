@@ -1,6 +1,6 @@
 use Rattle.std.proofs.Common.{◌≡◌, sym, subst, rules, arith}
 use Rattle.std.proofs.lemmas.Grind.{common_steps}
-use Rattle.lalrpop_tables.specs.Lr1Answers.{AreBuiltTablesOf}
+use Rattle.lalrpop_tables.specs.Words.{AreBuiltTablesOf}
 use Rattle.lalrpop_tables.specs.declared.build.options.Method.{Method}
 use Rattle.lalrpop_tables.specs.declared.build.options.Method.TheVariants.{Lane}
 use Rattle.lalrpop_tables.proofs.Lr1Answers.{Lane-answer}

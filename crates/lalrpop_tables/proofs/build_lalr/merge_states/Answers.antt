@@ -1,13 +1,9 @@
 use Rattle.std.proofs.Common.{◌≡◌, ◌∙◌, List, ℕ, map, subst, ap}
 use Rattle.std.specs.List.{flat_map}
 use Rattle.std.proofs.lemmas.Result.{IfOk-weaker, IfErr-weaker}
-use Rattle.lalrpop_base.specs.Bits.{Bits}
-use Rattle.lalrpop_base.specs.StateConflicts.{state_conflicts}
+use Rattle.lalrpop_base.specs.Words.{Bits, state_conflicts}
 use Rattle.lalrpop_base.specs.declared.lr1_core.state.State.{State}
-use Rattle.lalrpop_tables.specs.Collapsed.{dots_in, IsCollapsed, AreOrdered}
-use Rattle.lalrpop_tables.specs.Merging.{AreFirstNumbers}
-use Rattle.lalrpop_tables.specs.Moved.{AreMoved}
-use Rattle.lalrpop_tables.specs.Renumbered.{number_in}
+use Rattle.lalrpop_tables.specs.Words.{dots_in, IsCollapsed, AreOrdered, AreFirstNumbers, AreMoved, number_in}
 use Rattle.lalrpop_tables.proofs.BothFacts.{MatchResult-both}
 use Rattle.lalrpop_tables.proofs.CollapseTold.{Answer-ordered}
 use Rattle.lalrpop_tables.proofs.MergedCollapse.{Merged-collapsed, Collapse-tables, Collapse-failure}

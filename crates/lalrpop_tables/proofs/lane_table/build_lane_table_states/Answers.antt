@@ -1,11 +1,9 @@
 use Rattle.std.proofs.Common.{subst}
 use Rattle.std.specs.Prelude.{IfErr, MatchResult}
-use Rattle.lalrpop_base.specs.Grammar.{IsOnNoRightSide}
-use Rattle.lalrpop_base.specs.WellFormed.{productions, rules_of}
+use Rattle.lalrpop_base.specs.Words.{IsOnNoRightSide, productions, rules_of}
 use Rattle.lalrpop_base.specs.declared.repr.NonterminalString.{NonterminalString}
 use Rattle.lalrpop_base.specs.declared.repr.grammar.Grammar.{Grammar}
-use Rattle.lalrpop_tables.specs.Lalr.{TellsNotLALR1}
-use Rattle.lalrpop_tables.specs.LaneStates.{AreLalrLaneTables, FailsByLanes}
+use Rattle.lalrpop_tables.specs.Words.{TellsNotLALR1, AreLalrLaneTables, FailsByLanes}
 use Rattle.lalrpop_tables.proofs.lane_table.build_lane_table_states.Goals as goal
 
 pub returns-clause-failure : goal.returns-clause-failure

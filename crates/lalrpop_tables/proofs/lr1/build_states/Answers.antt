@@ -1,4 +1,4 @@
-use Rattle.lalrpop_tables.specs.Lalr.{Collapses}
+use Rattle.lalrpop_tables.specs.Words.{Collapses}
 use Rattle.lalrpop_tables.proofs.Lr1Answers.{Answer-renumbered}
 use Rattle.lalrpop_tables.proofs.lr1.build_states.Goals as goal
 

@@ -1,9 +1,7 @@
 use Rattle.std.proofs.Common.{◌≡◌, List, [], ◌∷◌, ◌++◌, length, sym, subst, ap, ◌∙◌, append_assoc, append-nil, refl, arith}
-use Rattle.lalrpop_base.specs.Bits.{Bits}
+use Rattle.lalrpop_base.specs.Words.{Bits}
 use Rattle.lalrpop_base.specs.declared.lr1_core.state.State.{State}
-use Rattle.lalrpop_tables.specs.Moved.{AreMoved, no_more}
-use Rattle.lalrpop_tables.specs.Partitions.{fails, parted}
-use Rattle.lalrpop_tables.specs.Renumbered.{stands_first, number_in}
+use Rattle.lalrpop_tables.specs.Words.{AreMoved, no_more, fails, parted, stands_first, number_in}
 use Rattle.lalrpop_tables.proofs.Moved.{Moved-append, Moved-grows}
 use Rattle.lalrpop_tables.proofs.renumber.move_states.Goals as goal
 

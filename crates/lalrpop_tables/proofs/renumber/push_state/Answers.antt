@@ -1,6 +1,5 @@
 use Rattle.std.proofs.Common.{sym, ◌∙◌, ap, not}
-use Rattle.lalrpop_tables.specs.Partitions.{fails}
-use Rattle.lalrpop_tables.specs.Renumbered.{stands_first, number_in}
+use Rattle.lalrpop_tables.specs.Words.{fails, stands_first, number_in}
 use Rattle.lalrpop_tables.proofs.Moved.{Grows-taken}
 use Rattle.lalrpop_tables.proofs.renumber.push_state.Goals as goal
 

@@ -6,10 +6,7 @@ mod walk;
 
 ghost use Rattle.std.specs.Prelude.{◌≡◌, ◌<◌, ◌↔◌, ℕ, Bool, true, false, List, length, slice_get, Some, Contains, IfOk, IsTrue, OnOk, IfErr};
 ghost use Rattle.std.specs.Map.{keys_of};
-ghost use Rattle.lalrpop_base.specs.Bits.{Bits};
-ghost use Rattle.lalrpop_base.specs.Coherent.{AreCoherent};
-ghost use Rattle.lalrpop_base.specs.Contents.{contents};
-ghost use Rattle.lalrpop_base.specs.Copies.{IsCopying};
+ghost use Rattle.lalrpop_base.specs.Words.{Bits, AreCoherent, contents, IsCopying};
 ghost use Rattle.lalrpop_base.specs.declared.lr1_core.state.State.{State};
 ghost use Rattle.lalrpop_base.specs.declared.lr1_core.state.StateIndex.{StateIndex as Number};
 ghost use Rattle.lalrpop_base.specs.declared.repr.TerminalString.{TerminalString as Terminal};

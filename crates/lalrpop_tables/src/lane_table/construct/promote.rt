@@ -1,7 +1,7 @@
 //! LR(0) states with all tokens.
 ghost use Rattle.std.specs.Prelude.{◌≡◌, IfOk, List, map};
 ghost use Rattle.std.specs.List.{AllZip};
-ghost use Rattle.lalrpop_base.specs.WellFormed.{IsWellFormed, rules_of};
+ghost use Rattle.lalrpop_base.specs.Words.{IsWellFormed, rules_of};
 ghost use Rattle.lalrpop_tables.specs.LaneStates.{IsPromoted, promoted_item, promoted_reduction};
 ghost use Rattle.lalrpop_tables.specs.Lr0.{AreLr0States};
 

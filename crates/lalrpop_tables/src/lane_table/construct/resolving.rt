@@ -1,8 +1,6 @@
 //! The tokens of the reductions of one state.
 ghost use Rattle.std.specs.Prelude.{◌≡◌, ◌<◌, ℕ, List, length, slice_get, Some, IfOk, OnErr, MatchBool};
-ghost use Rattle.lalrpop_base.specs.Bits.{Bits};
-ghost use Rattle.lalrpop_base.specs.Contents.{contents};
-ghost use Rattle.lalrpop_base.specs.WellFormed.{productions, rules_of};
+ghost use Rattle.lalrpop_base.specs.Words.{Bits, contents, productions, rules_of};
 ghost use Rattle.lalrpop_tables.specs.Contexts.{AreAmong};
 ghost use Rattle.lalrpop_tables.specs.LaneStates.{AreLaneStates, HoldAllFrom, IsAttempted, IsReadyToConstruct, IsResolvedAt, IsStep, LanesMeet};
 ghost use Rattle.lalrpop_tables.specs.LaneTables.{AreInRange, ColumnsOverlap};

@@ -1,6 +1,6 @@
 //! All states of a construction, promoted and then resolved.
 ghost use Rattle.std.specs.Prelude.{◌≡◌, IfOk, OnOk, MatchBool};
-ghost use Rattle.lalrpop_base.specs.WellFormed.{rules_of};
+ghost use Rattle.lalrpop_base.specs.Words.{rules_of};
 ghost use Rattle.lalrpop_tables.specs.LaneStates.{AreLaneStates, AreLaneTables, HaveMeetingLanes, HoldAllFrom, IsReadyToConstruct};
 ghost use Rattle.lalrpop_tables.specs.StateGraph.{edges, IsGraphOf};
 

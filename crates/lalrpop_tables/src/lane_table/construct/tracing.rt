@@ -1,7 +1,6 @@
 //! The lane table of a state.
 ghost use Rattle.std.specs.Prelude.{◌≡◌, ◌<◌, ℕ, List, length, slice_get, Contains, IfOk, OnOk};
-ghost use Rattle.lalrpop_base.specs.Coherent.{AreCoherent};
-ghost use Rattle.lalrpop_base.specs.WellFormed.{productions, rules_of};
+ghost use Rattle.lalrpop_base.specs.Words.{AreCoherent, productions, rules_of};
 ghost use Rattle.lalrpop_base.specs.declared.lr1_core.state.Action.{Action as TheAction};
 ghost use Rattle.lalrpop_tables.specs.LaneStates.{AreTraced, IsReadyToConstruct};
 ghost use Rattle.lalrpop_tables.specs.LaneTables.{AreInRange};

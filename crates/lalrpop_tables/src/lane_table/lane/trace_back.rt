@@ -1,6 +1,6 @@
 //! Traces a place back, over edges and without symbols.
 ghost use Rattle.std.specs.Prelude.{◌≡◌, ◌<◌, OnOk, Contains, length};
-ghost use Rattle.lalrpop_base.specs.WellFormed.{productions, rules_of};
+ghost use Rattle.lalrpop_base.specs.Words.{productions, rules_of};
 ghost use Rattle.lalrpop_tables.specs.LaneSteps.{GainsAll, GainsOf, IsEndPlace, IsGround, VisitsOf};
 ghost use Rattle.lalrpop_tables.specs.LaneTables.{AreInRange};
 ghost use Rattle.lalrpop_tables.specs.LaneTraces.{TakesLane, places_in};

@@ -1,6 +1,6 @@
 //! Steps back without a symbol, from the start of a production.
 ghost use Rattle.std.specs.Prelude.{◌≡◌, ◌<◌, ℕ, OnOk, Contains, length};
-ghost use Rattle.lalrpop_base.specs.WellFormed.{productions, rules_of};
+ghost use Rattle.lalrpop_base.specs.Words.{productions, rules_of};
 ghost use Rattle.lalrpop_tables.specs.LaneSteps.{Gains, GainsOf, IsEnd, IsEndBit, IsFollowBit, IsGround, IsHere, IsParent, IsPassedOn, IsPlaceIf, Nothing, Visits, VisitsOf};
 ghost use Rattle.lalrpop_tables.specs.LaneTables.{AreInRange};
 

@@ -1,6 +1,6 @@
 //! Steps back over edges, from a dot past the start.
 ghost use Rattle.std.specs.Prelude.{◌≡◌, ◌<◌, ◌-◌, ℕ, Some, OnOk, Contains, length};
-ghost use Rattle.lalrpop_base.specs.States.{leads};
+ghost use Rattle.lalrpop_base.specs.Words.{leads};
 ghost use Rattle.lalrpop_tables.specs.CheckCarrying.{at_place};
 ghost use Rattle.lalrpop_tables.specs.LaneSteps.{Gains, GainsOf, IsGround, IsPair, Nothing, Nowhere, Visits, VisitsOf};
 ghost use Rattle.lalrpop_tables.specs.LaneTables.{AreInRange};

@@ -1,7 +1,7 @@
 //! The rows of a lane table.
 ghost use Rattle.std.specs.Prelude.{◌≡◌, ◌<◌, ◌↔◌, List, length, Some, Contains, IfOk, OnOk, IfErr};
 ghost use Rattle.std.specs.Map.{keys_of};
-ghost use Rattle.lalrpop_base.specs.Bits.{Bits};
+ghost use Rattle.lalrpop_base.specs.Words.{Bits};
 ghost use Rattle.lalrpop_base.specs.declared.lr1_core.state.StateIndex.{StateIndex as Number};
 ghost use Rattle.lalrpop_tables.specs.Contexts.{AreDisjoint};
 ghost use Rattle.lalrpop_tables.specs.LaneRows.{AddsRows, AreRowsOf, IsFirstOverlap, JoinsRow, MakesRow, MeetsRow, row_at};

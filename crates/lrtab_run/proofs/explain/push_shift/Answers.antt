@@ -1,5 +1,5 @@
 use Rattle.std.proofs.Common.{◌≡◌, ◌++◌, codes, string_bytes, rules}
-use Rattle.lalrpop_base.specs.Names.{terminal_text}
+use Rattle.lalrpop_base.specs.Words.{terminal_text}
 use Rattle.lrtab_run.proofs.ExplainedParts.{shift_grows}
 use Rattle.lrtab_run.proofs.explain.push_shift.Goals as goal
 

@@ -4,9 +4,7 @@ use Rattle.std.specs.Map.{keys_of}
 use Rattle.std.specs.BTreeMap.{insert_entry}
 use Rattle.lalrpop_base.specs.declared.repr.NonterminalString.{NonterminalString}
 use Rattle.lalrpop_base.specs.declared.repr.grammar.NonterminalData.{NonterminalData}
-use Rattle.lalrpop_base.specs.Bits.{Bits, no_bits}
-use Rattle.lalrpop_base.specs.WellFormed.{name_cmp}
-use Rattle.lalrpop_base.specs.FirstTables.{Table, empty_sets}
+use Rattle.lalrpop_base.specs.Words.{Bits, no_bits, name_cmp, Table, empty_sets}
 use Rattle.lalrpop_base.proofs.FirstNames.{copied}
 use Rattle.lalrpop_base.proofs.FirstFixpoint.{keys-empty}
 use Rattle.lalrpop_base.proofs.first.fixpoint.empty_table.Goals as goal

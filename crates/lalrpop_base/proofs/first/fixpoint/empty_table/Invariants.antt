@@ -1,7 +1,6 @@
 use Rattle.std.proofs.Common.{◌≡◌, ◌++◌}
 use Rattle.std.specs.BTreeMap.{IsOrdered}
-use Rattle.lalrpop_base.specs.WellFormed.{name_cmp}
-use Rattle.lalrpop_base.specs.FirstTables.{empty_sets}
+use Rattle.lalrpop_base.specs.Words.{name_cmp, empty_sets}
 use Rattle.lalrpop_base.proofs.first.fixpoint.empty_table.Given as goal
 
 abbrev pub invariant-loop-name : goal.invariant-loop-name

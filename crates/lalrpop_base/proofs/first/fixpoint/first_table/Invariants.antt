@@ -1,4 +1,4 @@
-use Rattle.lalrpop_base.specs.WellFormed.{productions}
+use Rattle.lalrpop_base.specs.Words.{productions}
 use Rattle.lalrpop_base.proofs.FirstFixpoint.{Growing, left_to_grow}
 use Rattle.lalrpop_base.proofs.first.fixpoint.first_table.Given as goal
 

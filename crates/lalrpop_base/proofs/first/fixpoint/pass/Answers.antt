@@ -5,8 +5,7 @@ use Rattle.lalrpop_base.specs.declared.repr.NonterminalString.{NonterminalString
 use Rattle.lalrpop_base.specs.declared.repr.TerminalString.{TerminalString}
 use Rattle.lalrpop_base.specs.declared.repr.Production.{Production}
 use Rattle.lalrpop_base.specs.declared.repr.grammar.NonterminalData.{NonterminalData}
-use Rattle.lalrpop_base.specs.WellFormed.{productions}
-use Rattle.lalrpop_base.specs.FirstTables.{Table, AreReady}
+use Rattle.lalrpop_base.specs.Words.{productions, Table, AreReady}
 use Rattle.lalrpop_base.proofs.FirstPasses.{Pass-begin, Pass-grew, Pass-same, Pass-end}
 use Rattle.lalrpop_base.proofs.FirstFixpoint.{Ready-kept}
 use Rattle.lalrpop_base.proofs.first.fixpoint.pass.Goals as goal

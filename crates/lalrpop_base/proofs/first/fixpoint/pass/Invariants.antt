@@ -1,8 +1,7 @@
 use Rattle.std.specs.List.{flat_map}
 use Rattle.lalrpop_base.specs.declared.repr.NonterminalString.{NonterminalString}
 use Rattle.lalrpop_base.specs.declared.repr.grammar.NonterminalData.{NonterminalData}
-use Rattle.lalrpop_base.specs.WellFormed.{productions}
-use Rattle.lalrpop_base.specs.FirstTables.{AreReady}
+use Rattle.lalrpop_base.specs.Words.{productions, AreReady}
 use Rattle.lalrpop_base.proofs.FirstPasses.{PassSoFar}
 use Rattle.lalrpop_base.proofs.first.fixpoint.pass.Given as goal
 

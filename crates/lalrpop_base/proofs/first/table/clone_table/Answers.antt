@@ -3,9 +3,7 @@ use Rattle.std.specs.List.Sorted.{IsStrictlySortedBy}
 use Rattle.std.specs.Map.{keys_of}
 use Rattle.std.specs.BTreeMap.{insert_entry}
 use Rattle.lalrpop_base.specs.declared.repr.NonterminalString.{NonterminalString}
-use Rattle.lalrpop_base.specs.Bits.{Bits}
-use Rattle.lalrpop_base.specs.WellFormed.{name_cmp}
-use Rattle.lalrpop_base.specs.FirstTables.{Table}
+use Rattle.lalrpop_base.specs.Words.{Bits, name_cmp, Table}
 use Rattle.lalrpop_base.proofs.FirstNames.{copied}
 use Rattle.lalrpop_base.proofs.first.table.clone_table.Goals as goal
 

@@ -1,6 +1,6 @@
 use Rattle.std.proofs.Common.{◌≡◌, ◌++◌, take, map}
 use Rattle.lalrpop_base.specs.declared.lr1_core.state.Action.TheVariants.{Reduce}
-use Rattle.lalrpop_base.specs.NilConflicts.{nil_conflict}
+use Rattle.lalrpop_base.specs.Words.{nil_conflict}
 use Rattle.lalrpop_base.proofs.lookahead.nil.push_reduce_conflicts.Given as goal
 
 abbrev pub invariant-loop-reduction : goal.invariant-loop-reduction

@@ -1,6 +1,6 @@
 use Rattle.std.proofs.Common.{◌≡◌, ◌++◌, ℕ, ◌<◌, ◌≤◌, slice_index, length, drop}
 use Rattle.std.specs.List.{filter}
-use Rattle.lalrpop_base.specs.Bits.{has, bits_of}
+use Rattle.lalrpop_base.specs.Words.{has, bits_of}
 use Rattle.lalrpop_base.proofs.lookahead.rising.common.Given as goal
 
 abbrev pub invariant-loop-bit : goal.invariant-loop-bit

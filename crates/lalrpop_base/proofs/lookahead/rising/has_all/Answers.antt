@@ -1,5 +1,5 @@
 use Rattle.std.proofs.Common.{◌≡◌, ◌∙◌, true, sym, ap, arith, slice_index}
-use Rattle.lalrpop_base.specs.Bits.{has, bits_of}
+use Rattle.lalrpop_base.specs.Words.{has, bits_of}
 use Rattle.lalrpop_base.proofs.RisingLemmas.{has_found, place_of_has}
 use Rattle.lalrpop_base.proofs.lookahead.rising.has_all.Goals as goal
 

@@ -1,5 +1,5 @@
 use Rattle.std.proofs.Common.{◌≡◌, ℕ, ◌<◌, ◌≤◌, slice_index, length, true}
-use Rattle.lalrpop_base.specs.Bits.{has, bits_of}
+use Rattle.lalrpop_base.specs.Words.{has, bits_of}
 use Rattle.lalrpop_base.proofs.lookahead.rising.has_all.Given as goal
 
 abbrev pub invariant-loop-bit : goal.invariant-loop-bit

@@ -1,5 +1,5 @@
 use Rattle.std.proofs.Common.{◌≡◌, ◌++◌, ◌+◌, ◌-◌, ◌≤◌, length, drop}
-use Rattle.lalrpop_base.specs.Rising.{merge}
+use Rattle.lalrpop_base.specs.Words.{merge}
 use Rattle.lalrpop_base.proofs.lookahead.rising.merged.Given as goal
 
 abbrev pub invariant-loop-i : goal.invariant-loop-i

@@ -1,5 +1,5 @@
 use Rattle.lalrpop_base.specs.declared.lr1_core.state.State.{State}
-use Rattle.lalrpop_base.specs.Coherent.{IsCoherentState}
+use Rattle.lalrpop_base.specs.Words.{IsCoherentState}
 use Rattle.std.proofs.Common.{◌≡◌, ℕ, ◌<◌}
 use Rattle.std.specs.Prelude.{slice_get, Some}
 use Rattle.lalrpop_base.proofs.lr1_core.coherent.are_coherent.Given as goal

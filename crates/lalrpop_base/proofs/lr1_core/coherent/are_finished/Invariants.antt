@@ -1,7 +1,6 @@
 use Rattle.std.proofs.Common.{Bor, length}
 use Rattle.lalrpop_base.specs.declared.repr.Production.{Production}
-use Rattle.lalrpop_base.specs.Coherent.{HasItem}
-use Rattle.lalrpop_base.specs.Each.{EachBelow}
+use Rattle.lalrpop_base.specs.Words.{HasItem, EachBelow}
 use Rattle.lalrpop_base.proofs.lr1_core.coherent.are_finished.Given as goal
 
 abbrev pub invariant-loop-reduction : goal.invariant-loop-reduction

@@ -1,6 +1,4 @@
-use Rattle.lalrpop_base.specs.Items.{Dotted}
-use Rattle.lalrpop_base.specs.Each.{EachBelow}
-use Rattle.lalrpop_base.specs.Coherent.{IsAt}
+use Rattle.lalrpop_base.specs.Words.{Dotted, EachBelow, IsAt}
 use Rattle.lalrpop_base.proofs.lr1_core.coherent.has_item.Given as goal
 
 abbrev pub invariant-loop-item : goal.invariant-loop-item

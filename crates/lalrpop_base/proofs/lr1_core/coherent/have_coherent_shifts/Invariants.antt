@@ -1,7 +1,6 @@
 use Rattle.std.proofs.Common.{◌↔◌}
 use Rattle.lalrpop_base.specs.declared.repr.Symbol.TheVariants.{Terminal}
-use Rattle.lalrpop_base.specs.Each.{EachEntry}
-use Rattle.lalrpop_base.specs.Coherent.{IsCoherentStep}
+use Rattle.lalrpop_base.specs.Words.{EachEntry, IsCoherentStep}
 use Rattle.lalrpop_base.proofs.lr1_core.coherent.have_coherent_shifts.Given as goal
 
 abbrev pub invariant-loop-terminal : goal.invariant-loop-terminal

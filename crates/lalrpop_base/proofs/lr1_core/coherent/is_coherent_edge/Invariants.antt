@@ -1,7 +1,5 @@
 use Rattle.std.proofs.Common.{◌<◌}
-use Rattle.lalrpop_base.specs.Items.{Dotted}
-use Rattle.lalrpop_base.specs.Coherent.{IsShifted, symbol_of}
-use Rattle.lalrpop_base.specs.Each.{EachBelow}
+use Rattle.lalrpop_base.specs.Words.{Dotted, IsShifted, symbol_of, EachBelow}
 use Rattle.lalrpop_base.proofs.lr1_core.coherent.is_coherent_edge.Given as goal
 
 abbrev pub invariant-loop-item : goal.invariant-loop-item

@@ -1,7 +1,6 @@
 use Rattle.std.proofs.Common.{◌≡◌, ◌-◌, sym, ◌∙◌, ap, subst, arith}
 use Rattle.std.specs.Prelude.{Some, unwrap_or}
-use Rattle.lalrpop_base.specs.Items.{Dotted}
-use Rattle.lalrpop_base.specs.Coherent.{HasItem}
+use Rattle.lalrpop_base.specs.Words.{Dotted, HasItem}
 use Rattle.lalrpop_base.proofs.lr1_core.coherent.is_shifted.Goals as goal
 
 pub returns-then-is_symbol : goal.returns-then-is_symbol

@@ -1,5 +1,4 @@
-use Rattle.lalrpop_base.specs.Collapsible.{IsAlikeTo}
-use Rattle.lalrpop_base.specs.Each.{EachItem, EachBelow}
+use Rattle.lalrpop_base.specs.Words.{IsAlikeTo, EachItem, EachBelow}
 use Rattle.lalrpop_base.specs.declared.lr1_core.state.State.{State}
 use Rattle.lalrpop_base.proofs.lr1_core.collapsible.are_all_alike.Given as goal
 

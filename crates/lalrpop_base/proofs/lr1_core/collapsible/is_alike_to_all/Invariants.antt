@@ -1,5 +1,4 @@
-use Rattle.lalrpop_base.specs.Collapsible.{IsAlikeTo}
-use Rattle.lalrpop_base.specs.Each.{EachBelow}
+use Rattle.lalrpop_base.specs.Words.{IsAlikeTo, EachBelow}
 use Rattle.lalrpop_base.proofs.lr1_core.collapsible.is_alike_to_all.Given as goal
 
 abbrev pub invariant-loop-other : goal.invariant-loop-other

@@ -1,5 +1,5 @@
 use Rattle.std.proofs.Common.{◌↔◌}
-use Rattle.lalrpop_base.specs.Collapsible.{LeadAlike}
+use Rattle.lalrpop_base.specs.Words.{LeadAlike}
 use Rattle.lalrpop_base.proofs.lr1_core.collapsible.lead_alike.Given as goal
 
 abbrev pub invariant-loop-key : goal.invariant-loop-key

@@ -1,5 +1,5 @@
 use Rattle.std.proofs.Common.{◌≡◌, ◌++◌, take}
-use Rattle.lalrpop_base.specs.StateConflicts.{conflicts_on_bit}
+use Rattle.lalrpop_base.specs.Words.{conflicts_on_bit}
 use Rattle.lalrpop_base.proofs.lr1_core.conflict.add_conflicts_on.Given as goal
 
 abbrev pub invariant-loop-reduction : goal.invariant-loop-reduction

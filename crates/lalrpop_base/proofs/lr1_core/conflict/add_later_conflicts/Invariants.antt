@@ -1,5 +1,5 @@
 use Rattle.std.proofs.Common.{◌≡◌, ◌++◌, take}
-use Rattle.lalrpop_base.specs.StateConflicts.{later_conflicts}
+use Rattle.lalrpop_base.specs.Words.{later_conflicts}
 use Rattle.lalrpop_base.proofs.lr1_core.conflict.add_later_conflicts.Given as goal
 
 abbrev pub invariant-loop-other : goal.invariant-loop-other

@@ -1,5 +1,5 @@
 use Rattle.std.proofs.Common.{◌≡◌, ◌++◌, drop}
-use Rattle.lalrpop_base.specs.StateConflicts.{reduce_conflicts}
+use Rattle.lalrpop_base.specs.Words.{reduce_conflicts}
 use Rattle.lalrpop_base.proofs.lr1_core.conflict.add_reduce_conflicts.Given as goal
 
 abbrev pub invariant-loop-place : goal.invariant-loop-place

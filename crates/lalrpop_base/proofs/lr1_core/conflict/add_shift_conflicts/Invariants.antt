@@ -1,6 +1,6 @@
 use Rattle.std.proofs.Common.{◌≡◌, ◌++◌}
 use Rattle.std.specs.List.{flat_map}
-use Rattle.lalrpop_base.specs.StateConflicts.{shift_conflicts}
+use Rattle.lalrpop_base.specs.Words.{shift_conflicts}
 use Rattle.lalrpop_base.proofs.lr1_core.conflict.add_shift_conflicts.Given as goal
 
 abbrev pub invariant-loop-terminal : goal.invariant-loop-terminal

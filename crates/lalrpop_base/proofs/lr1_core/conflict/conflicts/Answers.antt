@@ -1,6 +1,6 @@
 use Rattle.std.proofs.Common.{◌≡◌, [], List, sym, subst}
 use Rattle.std.specs.Prelude.{◌↔◌}
-use Rattle.lalrpop_base.specs.Bits.{Bits}
+use Rattle.lalrpop_base.specs.Words.{Bits}
 use Rattle.lalrpop_base.specs.declared.lr1_core.state.Conflict.{Conflict}
 use Rattle.lalrpop_base.specs.StateConflicts.{HasNoConflict}
 use Rattle.lalrpop_base.proofs.ConflictLemmas.{none_exactly}

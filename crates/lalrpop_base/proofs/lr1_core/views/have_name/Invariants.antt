@@ -1,6 +1,5 @@
 use Rattle.std.proofs.Common.{◌≡◌, ◌<◌}
-use Rattle.lalrpop_base.specs.Items.{Dotted}
-use Rattle.lalrpop_base.specs.Each.{EachBelow}
+use Rattle.lalrpop_base.specs.Words.{Dotted, EachBelow}
 use Rattle.lalrpop_base.proofs.lr1_core.views.have_name.Given as goal
 
 abbrev pub invariant-loop-item : goal.invariant-loop-item

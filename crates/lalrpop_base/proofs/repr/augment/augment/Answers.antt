@@ -1,8 +1,6 @@
 use Rattle.std.proofs.Common.{◌≡◌, ℕ, ◌∙◌, ap, subst}
 use Rattle.std.specs.BTreeMap.{insert_entry}
-use Rattle.lalrpop_base.specs.Exact.{same_production}
-use Rattle.lalrpop_base.specs.NewStart.{start_production, IsEntryOf}
-use Rattle.lalrpop_base.specs.WellFormed.{name_cmp, productions}
+use Rattle.lalrpop_base.specs.Words.{same_production, start_production, IsEntryOf, name_cmp, productions}
 use Rattle.lalrpop_base.specs.declared.repr.ActionFn.{ActionFn}
 use Rattle.lalrpop_base.specs.declared.repr.NonterminalString.{NonterminalString}
 use Rattle.lalrpop_base.specs.declared.repr.Production.{Production}

@@ -1,6 +1,6 @@
 use Rattle.std.proofs.Common.{rules, ◌≡◌, refl, sym, subst, List}
 use Rattle.std.specs.List.{flat_map}
-use Rattle.lalrpop_base.specs.Grammar.{IsOnNoRightSide}
+use Rattle.lalrpop_base.specs.Words.{IsOnNoRightSide}
 use Rattle.lalrpop_base.specs.declared.repr.NonterminalString.{NonterminalString}
 use Rattle.lalrpop_base.specs.declared.repr.grammar.NonterminalData.{NonterminalData}
 use Rattle.lalrpop_base.proofs.NewStart.{listed, sides_cons, sides_head, sides_tail}

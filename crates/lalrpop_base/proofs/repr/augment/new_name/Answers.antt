@@ -1,5 +1,5 @@
 use Rattle.std.proofs.Common.{◌≡◌, true}
-use Rattle.lalrpop_base.specs.NewStart.{IsUnused}
+use Rattle.lalrpop_base.specs.Words.{IsUnused}
 use Rattle.lalrpop_base.proofs.NewStart.{Tried-falls, Tried-more}
 use Rattle.lalrpop_base.proofs.repr.augment.new_name.Goals as goal
 

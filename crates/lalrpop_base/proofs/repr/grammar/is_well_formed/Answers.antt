@@ -1,5 +1,5 @@
 use Rattle.std.proofs.Common.{refl}
-use Rattle.lalrpop_base.specs.WellFormed.{IsWellFormedEntry}
+use Rattle.lalrpop_base.specs.Words.{IsWellFormedEntry}
 use Rattle.lalrpop_base.proofs.Entries.{entries_cons, entries_head, entries_tail}
 use Rattle.lalrpop_base.proofs.repr.grammar.is_well_formed.Goals as goal
 

@@ -1,5 +1,5 @@
 use Rattle.std.proofs.Common.{◌↔◌}
-use Rattle.lalrpop_base.specs.WellFormed.{AreWellFormedEntries, IsWellFormed}
+use Rattle.lalrpop_base.specs.Words.{AreWellFormedEntries, IsWellFormed}
 use Rattle.lalrpop_base.proofs.repr.grammar.is_well_formed.Given as goal
 
 abbrev pub invariant-loop-name : goal.invariant-loop-name

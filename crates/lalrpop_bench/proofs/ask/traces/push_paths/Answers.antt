@@ -1,5 +1,5 @@
 use Rattle.std.proofs.Common.{sym, subst}
-use Rattle.lalrpop_lr1.specs.TraceGraphs.{Graph, AreKnownEdges}
+use Rattle.lalrpop_lr1.specs.Words.{Graph, AreKnownEdges}
 use Rattle.lalrpop_bench.proofs.ask.traces.push_paths.Goals as goal
 
 pub paths-preserved : goal.paths-preserved

@@ -1,4 +1,4 @@
-use Rattle.lalrpop_lr1.specs.TraceGraphs.{AreKnownEdges}
+use Rattle.lalrpop_lr1.specs.Words.{AreKnownEdges}
 use Rattle.lalrpop_bench.proofs.ask.traces.push_paths.Given as goal
 
 -- the terminals of the walk's graph stay known

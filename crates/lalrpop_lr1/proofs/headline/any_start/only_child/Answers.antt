@@ -1,6 +1,6 @@
 use Rattle.std.proofs.Common.{◌≡◌, map, sym, ap, ◌∙◌}
-use Rattle.lalrpop_base.specs.Trees.{Node, trees_of}
-use Rattle.lalrpop_lr1.specs.ParseTrees.{tree_of}
+use Rattle.lalrpop_base.specs.Words.{Node, trees_of}
+use Rattle.lalrpop_lr1.specs.Words.{tree_of}
 use Rattle.lalrpop_lr1.specs.declared.interpret.tree.ParseTree.TheOpen as Open
 use Rattle.lalrpop_lr1.specs.declared.interpret.tree.ParseTree.TheViews.{roll-ParseTree}
 use denote.Hole.Carrier.{roll}

@@ -1,5 +1,5 @@
 use Rattle.std.proofs.Common.{◌++◌, ◌∷◌, [], ap, ◌∙◌, refl, arith}
-use Rattle.lalrpop_lr1.specs.InlineChoices.{behind, choices}
+use Rattle.lalrpop_lr1.specs.Words.{behind, choices}
 use Rattle.lalrpop_lr1.proofs.InlineChoices.{one_more, behind_part}
 use Rattle.lalrpop_lr1.proofs.inline.choices.+choose.Goals as goal
 

@@ -1,5 +1,5 @@
 use Rattle.std.proofs.Common.{◌≡◌, ◌++◌, ◌+◌, ◌*◌, length, drop, map}
-use Rattle.lalrpop_lr1.specs.InlineChoices.{inlined, behind, choices}
+use Rattle.lalrpop_lr1.specs.Words.{inlined, behind, choices}
 use Rattle.lalrpop_lr1.proofs.InlineChoices.{with_parts}
 use Rattle.lalrpop_lr1.proofs.inline.choices.+choose.Given as goal
 

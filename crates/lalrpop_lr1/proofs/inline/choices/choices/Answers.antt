@@ -1,5 +1,5 @@
 use Rattle.std.proofs.Common.{◌++◌, ap, ◌∙◌}
-use Rattle.lalrpop_lr1.specs.InlineChoices.{behind, choices}
+use Rattle.lalrpop_lr1.specs.Words.{behind, choices}
 use Rattle.lalrpop_lr1.proofs.InlineChoices.{behind-nil}
 use Rattle.lalrpop_lr1.proofs.inline.choices.choices.Goals as goal
 

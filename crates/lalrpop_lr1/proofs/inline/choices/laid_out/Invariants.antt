@@ -1,5 +1,5 @@
 use Rattle.std.proofs.Common.{◌≡◌, take}
-use Rattle.lalrpop_lr1.specs.InlineChoices.{laid_out}
+use Rattle.lalrpop_lr1.specs.Words.{laid_out}
 use Rattle.lalrpop_lr1.proofs.inline.choices.laid_out.Given as goal
 
 abbrev pub invariant-loop-part : goal.invariant-loop-part

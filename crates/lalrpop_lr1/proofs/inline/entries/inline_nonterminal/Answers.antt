@@ -1,7 +1,6 @@
 use Rattle.std.proofs.Common.{rules, ◌≡◌, List, length, map, sym, ◌∙◌, ap, subst}
 use Rattle.lalrpop_base.specs.declared.repr.Production.{Production}
-use Rattle.lalrpop_lr1.specs.InlineSteps.{entry_view, view_of, alternatives_in, replaced_entries}
-use Rattle.lalrpop_lr1.specs.InlineRefusals.{IsPastLast}
+use Rattle.lalrpop_lr1.specs.Words.{entry_view, view_of, alternatives_in, replaced_entries, IsPastLast}
 use Rattle.lalrpop_lr1.proofs.InlineEntries.{alternatives_view}
 use Rattle.lalrpop_lr1.proofs.inline.entries.inline_nonterminal.Goals as goal
 

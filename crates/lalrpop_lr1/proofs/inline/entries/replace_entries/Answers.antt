@@ -2,11 +2,11 @@ use Rattle.std.proofs.Common.{rules, ◌≡◌, ◌∷◌, ◌++◌, [], List, a
 use Rattle.std.proofs.lemmas.Grind.{common_steps}
 use Rattle.std.specs.List.Sorted.{IsStrictlySortedBy}
 use Rattle.std.specs.Map.{keys_of}
-use Rattle.lalrpop_base.specs.WellFormed.{name_cmp}
+use Rattle.lalrpop_base.specs.Words.{name_cmp}
 use Rattle.lalrpop_base.specs.contracts.repr.NonterminalStringOrd.TheImpl.Laws as name_order
 use Rattle.lalrpop_base.specs.declared.repr.NonterminalString.{NonterminalString}
 use Rattle.lalrpop_base.specs.declared.repr.grammar.NonterminalData.{NonterminalData}
-use Rattle.lalrpop_lr1.specs.InlineSteps.{entry_view, replaced_entries}
+use Rattle.lalrpop_lr1.specs.Words.{entry_view, replaced_entries}
 use Rattle.lalrpop_lr1.proofs.InlineEntries.{entries_in_front, insert_last, rising_more, entry_replaced, entry_past}
 use Rattle.lalrpop_lr1.proofs.inline.entries.replace_entries.Goals as goal
 

@@ -1,8 +1,8 @@
 use Rattle.std.proofs.Common.{◌≡◌, ◌++◌, map}
 use Rattle.std.specs.List.Sorted.{IsStrictlySortedBy}
 use Rattle.std.specs.Map.{keys_of}
-use Rattle.lalrpop_base.specs.WellFormed.{name_cmp}
-use Rattle.lalrpop_lr1.specs.InlineSteps.{entry_view, replaced_entries}
+use Rattle.lalrpop_base.specs.Words.{name_cmp}
+use Rattle.lalrpop_lr1.specs.Words.{entry_view, replaced_entries}
 use Rattle.lalrpop_lr1.proofs.InlineEntries.{entries_in_front}
 use Rattle.lalrpop_lr1.proofs.inline.entries.replace_entries.Given as goal
 

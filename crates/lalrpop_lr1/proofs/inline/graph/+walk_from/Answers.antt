@@ -6,12 +6,11 @@ use Rattle.lalrpop_base.specs.declared.repr.norm_error.NormError.{NormError}
 use Rattle.std.specs.BTreeSet.{contains}
 use Rattle.std.proofs.lemmas.List.{take_all}
 use Rattle.std.proofs.lemmas.List.Elements.{Contains-get_or}
-use Rattle.lalrpop_base.specs.WellFormed.{name_cmp, productions_of}
+use Rattle.lalrpop_base.specs.Words.{name_cmp, productions_of}
 use Rattle.lalrpop_base.specs.declared.repr.NonterminalString.{NonterminalString}
 use Rattle.lalrpop_base.specs.declared.repr.Production.{Production}
 use Rattle.lalrpop_lr1.specs.declared.inline.graph.Walk.{Walk}
-use Rattle.lalrpop_lr1.specs.InlineOrder.{IsCycleOf}
-use Rattle.lalrpop_lr1.specs.InlineWalks.{mentioned_in, IsWalk, LeadTo}
+use Rattle.lalrpop_lr1.specs.Words.{IsCycleOf, mentioned_in, IsWalk, LeadTo}
 use Rattle.lalrpop_lr1.proofs.InlineWalks.{Sets, IsInside, entered, inside_first, inside_more, walked_through, leading}
 use Rattle.lalrpop_lr1.proofs.inline.graph.+walk_from.Goals as goal
 

@@ -1,5 +1,5 @@
 use Rattle.std.proofs.Common.{◌≤◌, length, take}
-use Rattle.lalrpop_lr1.specs.InlineWalks.{IsWalk}
+use Rattle.lalrpop_lr1.specs.Words.{IsWalk}
 use Rattle.lalrpop_lr1.proofs.InlineWalks.{IsInside}
 use Rattle.lalrpop_lr1.proofs.inline.graph.+walk_from.Given as goal
 

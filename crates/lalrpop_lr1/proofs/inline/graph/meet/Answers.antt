@@ -1,6 +1,6 @@
 use Rattle.std.proofs.Common.{◌≡◌, true, sym, ◌∙◌}
 use Rattle.std.specs.BTreeSet.{contains}
-use Rattle.lalrpop_base.specs.WellFormed.{name_cmp}
+use Rattle.lalrpop_base.specs.Words.{name_cmp}
 use Rattle.lalrpop_lr1.proofs.InlineRings.{met}
 use Rattle.lalrpop_lr1.proofs.inline.graph.meet.Goals as goal
 

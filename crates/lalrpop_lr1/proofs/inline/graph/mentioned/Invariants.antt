@@ -1,5 +1,5 @@
 use Rattle.std.proofs.Common.{◌≡◌, take}
-use Rattle.lalrpop_lr1.specs.InlineWalks.{mentioned_in}
+use Rattle.lalrpop_lr1.specs.Words.{mentioned_in}
 use Rattle.lalrpop_lr1.proofs.inline.graph.mentioned.Given as goal
 
 abbrev pub invariant-loop-production : goal.invariant-loop-production

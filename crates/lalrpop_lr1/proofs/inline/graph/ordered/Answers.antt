@@ -5,10 +5,10 @@ use Rattle.std.specs.BTreeMap.{is_at}
 use Rattle.std.specs.BTreeSet.{contains}
 use Rattle.std.proofs.lemmas.List.{take_all}
 use mathlib.Core.Bool.{true≢false}
-use Rattle.lalrpop_base.specs.WellFormed.{name_cmp}
+use Rattle.lalrpop_base.specs.Words.{name_cmp}
 use Rattle.lalrpop_base.specs.declared.repr.NonterminalString.{NonterminalString}
 use Rattle.lalrpop_lr1.specs.declared.inline.graph.Walk.{Walk}
-use Rattle.lalrpop_lr1.specs.InlineOrder.{IsCycleOf}
+use Rattle.lalrpop_lr1.specs.Words.{IsCycleOf}
 use Rattle.lalrpop_lr1.proofs.InlineWalks.{IsInside, inside_first, inside_more, nothing_walked, all_walked}
 use Rattle.lalrpop_lr1.proofs.InlineRings.{no_ring}
 use Rattle.lalrpop_lr1.proofs.inline.graph.ordered.Goals as goal

@@ -1,6 +1,6 @@
 use Rattle.std.proofs.Common.{◌≡◌, ◌++◌, take}
 use Rattle.std.specs.List.{flat_map}
-use Rattle.lalrpop_lr1.specs.InlineWalks.{names_of}
+use Rattle.lalrpop_lr1.specs.Words.{names_of}
 use Rattle.lalrpop_lr1.proofs.inline.graph.push_names.Given as goal
 
 abbrev pub invariant-loop-symbol : goal.invariant-loop-symbol

@@ -1,5 +1,5 @@
 use Rattle.std.proofs.Common.{◌≡◌}
-use Rattle.lalrpop_lr1.specs.InlineSteps.{in_front, chosen}
+use Rattle.lalrpop_lr1.specs.Words.{in_front, chosen}
 use Rattle.lalrpop_lr1.proofs.inline.replace.add_choices.Given as goal
 
 -- what was made, and what the choices that are left make, is what all make

@@ -2,9 +2,7 @@ use Rattle.std.proofs.Common.{◌≡◌, true, length, sym, ◌∙◌, ap, subst
 use Rattle.std.specs.Prelude.{IfErr}
 use Rattle.lalrpop_base.specs.declared.repr.Symbol.{Symbol}
 use Rattle.std.proofs.Common.{List}
-use Rattle.lalrpop_lr1.specs.InlineChoices.{mentions, choices}
-use Rattle.lalrpop_lr1.specs.InlineSteps.{Made}
-use Rattle.lalrpop_lr1.specs.InlineRefusals.{IsPastLast}
+use Rattle.lalrpop_lr1.specs.Words.{mentions, choices, Made, IsPastLast}
 use Rattle.lalrpop_lr1.proofs.InlineSteps.{replaced_by_choices}
 use Rattle.lalrpop_lr1.proofs.inline.replace.replace.Goals as goal
 

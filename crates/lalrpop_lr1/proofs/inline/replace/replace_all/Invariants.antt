@@ -1,5 +1,5 @@
 use Rattle.std.proofs.Common.{◌≡◌}
-use Rattle.lalrpop_lr1.specs.InlineSteps.{in_front, replaced_all}
+use Rattle.lalrpop_lr1.specs.Words.{in_front, replaced_all}
 use Rattle.lalrpop_lr1.proofs.inline.replace.replace_all.Given as goal
 
 -- what was made, and what the productions that are left make, is what all make

@@ -1,5 +1,5 @@
 use Rattle.lalrpop_base.proofs.HeldTokens.{holds_has, same_test}
-use Rattle.lalrpop_base.specs.Contents.{holds_token}
+use Rattle.lalrpop_base.specs.Words.{holds_token}
 use Rattle.lalrpop_lr1.proofs.interpret.lookahead.holds.Goals as goal
 
 pub returns : goal.returns

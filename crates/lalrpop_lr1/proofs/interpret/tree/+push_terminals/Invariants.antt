@@ -1,6 +1,6 @@
 use Rattle.std.proofs.Common.{◌≡◌, ◌++◌, drop, map}
-use Rattle.lalrpop_base.specs.Trees.{leaves, trees_of}
-use Rattle.lalrpop_lr1.specs.ParseTrees.{tree_of}
+use Rattle.lalrpop_base.specs.Words.{leaves, trees_of}
+use Rattle.lalrpop_lr1.specs.Words.{tree_of}
 use Rattle.lalrpop_lr1.proofs.interpret.tree.+push_terminals.Given as goal
 
 -- what was copied, and the leaves of the children that are left, are the leaves of all

@@ -1,7 +1,7 @@
 use Rattle.std.proofs.Common.{◌≡◌, false, ◌∷◌, ◌++◌, ◌+◌, drop, ap, sym, ◌∙◌, rules, arith, append_assoc}
 use Rattle.std.proofs.Output.{has_written_append}
 use Rattle.std.proofs.lemmas.List.{drop_more}
-use Rattle.lalrpop_lr1.specs.ParseTrees.{tree_text, children_text, separator_text}
+use Rattle.lalrpop_lr1.specs.Words.{tree_text, children_text, separator_text}
 use Rattle.lalrpop_lr1.proofs.interpret.tree.+show.Goals as goal
 
 pub show_children-children-preserved : goal.show_children-children-preserved

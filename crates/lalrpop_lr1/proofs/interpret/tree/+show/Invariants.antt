@@ -1,6 +1,6 @@
 use Rattle.std.proofs.Common.{◌≡◌, List, ℕ, true, ◌++◌, drop}
 use Rattle.std.specs.Fmt.{HasWritten, IsPlainFormatter}
-use Rattle.lalrpop_lr1.specs.ParseTrees.{children_text}
+use Rattle.lalrpop_lr1.specs.Words.{children_text}
 use Rattle.lalrpop_lr1.proofs.interpret.tree.+show.Given as goal
 
 -- what was written, and the text of the children that are left, is the text of all

@@ -1,6 +1,6 @@
 use Rattle.std.proofs.Common.{◌≡◌, ◌++◌, string_bytes, take, slice_get}
 use Rattle.std.specs.List.{flat_map}
-use Rattle.lalrpop_lr1.specs.ReportStates.{block_at}
+use Rattle.lalrpop_lr1.specs.Words.{block_at}
 use Rattle.lalrpop_lr1.proofs.report.conflicts.push_conflicts_at.Given as goal
 
 abbrev pub invariant-loop-place : goal.invariant-loop-place

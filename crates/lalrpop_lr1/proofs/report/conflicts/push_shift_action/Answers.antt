@@ -1,5 +1,5 @@
 use Rattle.std.proofs.Common.{◌≡◌, ◌∙◌, max, length, append_assoc}
-use Rattle.lalrpop_base.specs.Names.{terminal_text, nonterminal_text}
+use Rattle.lalrpop_base.specs.Words.{terminal_text, nonterminal_text}
 use Rattle.lalrpop_lr1.proofs.report.conflicts.push_shift_action.Goals as goal
 
 pub returns : goal.returns

@@ -1,5 +1,5 @@
 use Rattle.std.proofs.Common.{◌≡◌, ◌∙◌, append_assoc}
-use Rattle.lalrpop_base.specs.Names.{terminal_text}
+use Rattle.lalrpop_base.specs.Words.{terminal_text}
 use Rattle.lalrpop_lr1.proofs.report.lines.push_shift.Goals as goal
 
 pub returns : goal.returns

@@ -1,5 +1,5 @@
 use Rattle.std.proofs.Common.{◌≡◌, ◌++◌, string_bytes, take}
-use Rattle.lalrpop_lr1.specs.ReportLines.{symbols_text}
+use Rattle.lalrpop_lr1.specs.Words.{symbols_text}
 use Rattle.lalrpop_lr1.proofs.report.lines.push_symbols.Given as goal
 
 abbrev pub invariant-loop-symbol : goal.invariant-loop-symbol

@@ -1,4 +1,4 @@
-use Rattle.lalrpop_lr1.specs.ReportLines.{reduction_lines}
+use Rattle.lalrpop_lr1.specs.Words.{reduction_lines}
 use Rattle.lalrpop_lr1.proofs.ReportTexts.{one_more}
 use Rattle.lalrpop_lr1.proofs.report.states.push_each_reduction.Goals as goal
 

@@ -1,6 +1,6 @@
 use Rattle.std.proofs.Common.{◌≡◌, ◌++◌, string_bytes, take}
 use Rattle.std.specs.List.{flat_map}
-use Rattle.lalrpop_lr1.specs.ReportLines.{reduction_lines}
+use Rattle.lalrpop_lr1.specs.Words.{reduction_lines}
 use Rattle.lalrpop_lr1.proofs.report.states.push_each_reduction.Given as goal
 
 abbrev pub invariant-loop-reduction : goal.invariant-loop-reduction

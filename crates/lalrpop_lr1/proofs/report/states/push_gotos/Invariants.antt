@@ -1,6 +1,6 @@
 use Rattle.std.proofs.Common.{◌≡◌, ◌++◌, string_bytes}
 use Rattle.std.specs.List.{flat_map}
-use Rattle.lalrpop_lr1.specs.ReportLines.{goto_line}
+use Rattle.lalrpop_lr1.specs.Words.{goto_line}
 use Rattle.lalrpop_lr1.proofs.report.states.push_gotos.Given as goal
 
 abbrev pub invariant-loop-nonterminal : goal.invariant-loop-nonterminal

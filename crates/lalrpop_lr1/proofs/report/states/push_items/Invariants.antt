@@ -1,6 +1,6 @@
 use Rattle.std.proofs.Common.{◌≡◌, ◌++◌, string_bytes, take}
 use Rattle.std.specs.List.{flat_map}
-use Rattle.lalrpop_lr1.specs.ReportLines.{item_lines}
+use Rattle.lalrpop_lr1.specs.Words.{item_lines}
 use Rattle.lalrpop_lr1.proofs.report.states.push_items.Given as goal
 
 abbrev pub invariant-loop-item : goal.invariant-loop-item

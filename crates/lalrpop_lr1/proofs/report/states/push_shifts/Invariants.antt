@@ -1,6 +1,6 @@
 use Rattle.std.proofs.Common.{◌≡◌, ◌++◌, string_bytes}
 use Rattle.std.specs.List.{flat_map}
-use Rattle.lalrpop_lr1.specs.ReportLines.{shift_line}
+use Rattle.lalrpop_lr1.specs.Words.{shift_line}
 use Rattle.lalrpop_lr1.proofs.report.states.push_shifts.Given as goal
 
 abbrev pub invariant-loop-terminal : goal.invariant-loop-terminal

@@ -1,5 +1,5 @@
 use Rattle.std.proofs.Common.{◌≡◌, max, map}
-use Rattle.lalrpop_lr1.specs.ReportLines.{longest}
+use Rattle.lalrpop_lr1.specs.Words.{longest}
 use Rattle.lalrpop_lr1.proofs.report.states.widest_key.Given as goal
 
 abbrev pub invariant-loop-key : goal.invariant-loop-key

@@ -1,7 +1,6 @@
 use Rattle.std.proofs.Common.{◌≡◌, max, map, drop}
-use Rattle.lalrpop_base.specs.Items.{Dotted}
-use Rattle.lalrpop_base.specs.Names.{nonterminal_text}
-use Rattle.lalrpop_lr1.specs.ReportLines.{longest}
+use Rattle.lalrpop_base.specs.Words.{Dotted, nonterminal_text}
+use Rattle.lalrpop_lr1.specs.Words.{longest}
 use Rattle.lalrpop_lr1.proofs.report.states.widest_nonterminal.Given as goal
 
 abbrev pub invariant-loop-item : goal.invariant-loop-item

@@ -2,7 +2,7 @@ use Rattle.std.proofs.Common.{ap, ◌∙◌, map, take}
 use Rattle.std.proofs.lemmas.List.{take_all}
 use Rattle.std.specs.List.{list_any}
 use Rattle.std.specs.Ordering.{nat_cmp, eq_by_cmp}
-use Rattle.lalrpop_lr1.specs.Report.{state_number, ascending}
+use Rattle.lalrpop_lr1.specs.Words.{state_number, ascending}
 use Rattle.lalrpop_lr1.proofs.ReportNumbers.{one_number_more, keys_ascend}
 use Rattle.lalrpop_lr1.proofs.ReportTexts.{mapped_more}
 use Rattle.lalrpop_lr1.proofs.report.summary.numbers_of.Goals as goal

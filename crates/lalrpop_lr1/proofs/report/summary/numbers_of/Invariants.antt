@@ -1,5 +1,5 @@
 use Rattle.std.proofs.Common.{map, take}
-use Rattle.lalrpop_lr1.specs.Report.{state_number}
+use Rattle.lalrpop_lr1.specs.Words.{state_number}
 use Rattle.lalrpop_lr1.proofs.ReportNumbers.{HasNumbers}
 use Rattle.lalrpop_lr1.proofs.report.summary.numbers_of.Given as goal
 

@@ -1,5 +1,5 @@
 use Rattle.std.proofs.Common.{◌∙◌, ap, sym, Some}
-use Rattle.lalrpop_lr1.specs.Report.{failure_report, error_report}
+use Rattle.lalrpop_lr1.specs.Words.{failure_report, error_report}
 use Rattle.lalrpop_lr1.proofs.report.whole.error_text.Goals as goal
 
 pub returns-in_ok-failure_text-in-Conflicts-clause-text :

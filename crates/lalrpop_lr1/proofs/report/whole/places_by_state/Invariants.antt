@@ -1,5 +1,5 @@
 use Rattle.std.proofs.Common.{take}
-use Rattle.lalrpop_lr1.specs.ReportPlaces.{ArePlacesOf}
+use Rattle.lalrpop_lr1.specs.Words.{ArePlacesOf}
 use Rattle.lalrpop_lr1.proofs.report.whole.places_by_state.Given as goal
 
 abbrev pub invariant-loop-place : goal.invariant-loop-place

@@ -1,6 +1,6 @@
 use Rattle.std.proofs.Common.{◌≡◌, ◌++◌, string_bytes, take}
 use Rattle.std.specs.List.{flat_map}
-use Rattle.lalrpop_lr1.specs.Report.{next_state}
+use Rattle.lalrpop_lr1.specs.Words.{next_state}
 use Rattle.lalrpop_lr1.proofs.report.whole.push_states.Given as goal
 
 abbrev pub invariant-loop-state : goal.invariant-loop-state

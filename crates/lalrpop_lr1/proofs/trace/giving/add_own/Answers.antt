@@ -1,6 +1,5 @@
 use Rattle.std.proofs.Common.{◌≡◌, [], ◌∷◌, ap}
-use Rattle.lalrpop_lr1.specs.TraceGraphs.{PlainEdge}
-use Rattle.lalrpop_lr1.specs.Traces.{dotted, dot_edge, own_edge}
+use Rattle.lalrpop_lr1.specs.Words.{PlainEdge, dotted, dot_edge, own_edge}
 use Rattle.lalrpop_lr1.specs.declared.trace.node.TraceGraphNode.TheVariants.{Nonterminal, Item}
 use Rattle.lalrpop_lr1.proofs.TraceGraphs.{on_ok}
 use Rattle.lalrpop_lr1.proofs.TraceOrder.{order_as}

@@ -1,10 +1,7 @@
 use Rattle.std.proofs.Common.{◌≡◌, [], ◌∷◌, sym, ap, ◌∙◌, subst}
 use mathlib.Core.Bool.{true≢false}
-use Rattle.lalrpop_lr1.specs.TraceGraphs.{PlainEdge}
-use Rattle.lalrpop_lr1.specs.TraceOrder.{stop_edge, onward_edge, onward_edges}
-use Rattle.lalrpop_lr1.specs.Traces.{dotted, dot_edge, own_edge, Gives}
+use Rattle.lalrpop_lr1.specs.Words.{PlainEdge, stop_edge, onward_edge, onward_edges, dotted, dot_edge, own_edge, Gives, asked, AddsInOrder}
 use Rattle.lalrpop_lr1.specs.declared.trace.ground.Traced.{Traced}
-use Rattle.lalrpop_lr1.specs.Meetings.{asked, AddsInOrder}
 use Rattle.lalrpop_lr1.specs.declared.trace.node.TraceGraphNode.TheVariants.{Nonterminal, Item}
 use Rattle.lalrpop_lr1.proofs.TraceOrder.{order_as, order_append}
 use Rattle.lalrpop_lr1.proofs.Traces.{adds_as, adds_both_edges, dot_same, gives_stop, gives_shift, gives_reduce}

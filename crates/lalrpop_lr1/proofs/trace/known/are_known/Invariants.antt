@@ -1,5 +1,5 @@
 use Rattle.std.proofs.Common.{take}
-use Rattle.lalrpop_base.specs.WellFormed.{HasKnownTerminals}
+use Rattle.lalrpop_base.specs.Words.{HasKnownTerminals}
 use Rattle.lalrpop_lr1.proofs.trace.known.are_known.Given as goal
 
 abbrev pub invariant-loop-symbol : goal.invariant-loop-symbol

@@ -1,17 +1,16 @@
 use Rattle.std.proofs.Common.{◌≡◌, ◌<◌, ◌≤◌, List, length, get_or, inr, refl, sym, ap, ◌∙◌, subst, arith}
 use Rattle.std.specs.Prelude.{Contains, Some, Option}
 use mathlib.Core.Bool.{true≢false}
-use Rattle.lalrpop_base.specs.Bits.{Bits}
-use Rattle.lalrpop_base.specs.Items.{Dotted}
+use Rattle.lalrpop_base.specs.Words.{Bits, Dotted}
 use Rattle.lalrpop_base.specs.declared.repr.Production.{Production}
 use Rattle.lalrpop_base.specs.declared.lr1_core.state.State.{State}
 use Rattle.lalrpop_base.specs.declared.lr1_core.state.StateIndex.{StateIndex}
-use Rattle.lalrpop_tables.specs.StateGraph.{edges}
+use Rattle.lalrpop_tables.specs.Words.{edges}
 use Rattle.std.proofs.lemmas.Option.{slice_get-get_or}
 use Rattle.lalrpop_tables.proofs.Places.{contains_at}
-use Rattle.lalrpop_lr1.specs.Traces.{Meeting, Takes, goes_on, Gives, given}
-use Rattle.lalrpop_lr1.specs.TraceOrder.{come_to, take_up, come_to_each, take_up_each, items_at}
-use Rattle.lalrpop_lr1.specs.Meetings.{unmet, asked, names_in, IsSound, Advances, WalksOn}
+use Rattle.lalrpop_lr1.specs.Words.{Meeting, Takes, Gives, given, come_to, take_up, come_to_each, take_up_each, items_at, unmet, asked, names_in, IsSound}
+use Rattle.lalrpop_lr1.specs.Words.{Advances, WalksOn}
+use Rattle.lalrpop_lr1.specs.Traces.{goes_on}
 use Rattle.lalrpop_lr1.specs.declared.trace.meeting.Met.{Met}
 use Rattle.lalrpop_lr1.proofs.Meetings.{inserted_less, inserted_le, named}
 use Rattle.lalrpop_lr1.proofs.TraceGraphs.{on_ok}

@@ -1,11 +1,8 @@
 use Rattle.std.proofs.Common.{◌≡◌, ℕ, ◌<◌, ◌≤◌, ◌+◌, ◌*◌, take}
 use Rattle.std.specs.Prelude.{slice_get, Some}
-use Rattle.lalrpop_base.specs.Bits.{Bits}
-use Rattle.lalrpop_base.specs.Items.{Dotted}
+use Rattle.lalrpop_base.specs.Words.{Bits, Dotted}
 use Rattle.lalrpop_base.specs.declared.lr1_core.state.StateIndex.{StateIndex}
-use Rattle.lalrpop_lr1.specs.Traces.{Takes}
-use Rattle.lalrpop_lr1.specs.TraceOrder.{come_to_each, take_up_each}
-use Rattle.lalrpop_lr1.specs.Meetings.{unmet, asked, HasMet, IsDone, Advances, WalksOn}
+use Rattle.lalrpop_lr1.specs.Words.{Takes, come_to_each, take_up_each, unmet, asked, HasMet, IsDone, Advances, WalksOn}
 use Rattle.lalrpop_lr1.proofs.trace.meeting.+meeting.Given as goal
 
 abbrev pub decreases-meet : goal.decreases-meet

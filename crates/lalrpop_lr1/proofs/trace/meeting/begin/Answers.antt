@@ -1,4 +1,4 @@
-use Rattle.lalrpop_lr1.specs.Meetings.{asked}
+use Rattle.lalrpop_lr1.specs.Words.{asked}
 use Rattle.lalrpop_lr1.proofs.TraceOrder.{walks_known, walks_met}
 use Rattle.lalrpop_lr1.proofs.Traces.{sound_inserted, advances_known, advances_through}
 use Rattle.lalrpop_lr1.proofs.trace.meeting.begin.Goals as goal

@@ -1,10 +1,9 @@
 use Rattle.std.proofs.Common.{subst, ◌≡◌, Bool, true, false, refl, sym, ap, ◌∙◌, cond}
-use Rattle.lalrpop_lr1.specs.Meetings.{meeting_cmp, IsInsertedPair}
+use Rattle.lalrpop_lr1.specs.Words.{meeting_cmp, IsInsertedPair, Meeting}
 use Rattle.std.proofs.Common.{⊎_elim, inl, inr}
 use Rattle.std.specs.Ordering.{is_eq}
 use Rattle.std.proofs.lemmas.Bool.{cases_Bool}
 use Rattle.lalrpop_base.specs.declared.repr.NonterminalString.{NonterminalString}
-use Rattle.lalrpop_lr1.specs.Traces.{Meeting}
 use Rattle.lalrpop_lr1.proofs.Traces.{tied_meetings}
 use Rattle.lalrpop_lr1.proofs.trace.meeting.is_new.Goals as goal
 

@@ -1,12 +1,10 @@
 use Rattle.std.proofs.Common.{◌≡◌, List, subst, inr, refl, ap, arith}
-use Rattle.lalrpop_base.specs.Items.{Dotted}
+use Rattle.lalrpop_base.specs.Words.{Dotted}
 use Rattle.lalrpop_base.specs.declared.lookahead.nil.Nil.{Nil}
 use Rattle.lalrpop_base.specs.declared.repr.Production.{Production}
 use Rattle.lalrpop_base.specs.declared.lr1_core.state.StateIndex.{StateIndex}
-use Rattle.lalrpop_tables.specs.StateGraph.{edges}
-use Rattle.lalrpop_lr1.specs.Traces.{begins, own_edge}
-use Rattle.lalrpop_lr1.specs.TraceOrder.{Duty, come_to, come_to_each}
-use Rattle.lalrpop_lr1.specs.Meetings.{asked, WalksOn}
+use Rattle.lalrpop_tables.specs.Words.{edges}
+use Rattle.lalrpop_lr1.specs.Words.{begins, own_edge, Duty, come_to, come_to_each, asked, WalksOn}
 use Rattle.lalrpop_lr1.specs.declared.trace.meeting.Met.{Met}
 use Rattle.lalrpop_lr1.proofs.TraceOrder.{walks_none, walks_more, walks_all, are_sources, in_order}
 use Rattle.lalrpop_lr1.proofs.Traces.{advances_none, advances_on, sound_first, is_source, sources_met, met_more, is_trace}

@@ -1,8 +1,7 @@
 use Rattle.std.proofs.Common.{◌≡◌, ℕ, ◌<◌, take}
 use Rattle.std.specs.Prelude.{slice_get, Some}
 use Rattle.lalrpop_base.specs.declared.lr1_core.state.StateIndex.{StateIndex}
-use Rattle.lalrpop_lr1.specs.TraceOrder.{come_to_each}
-use Rattle.lalrpop_lr1.specs.Meetings.{asked, HasMet, Advances, WalksOn}
+use Rattle.lalrpop_lr1.specs.Words.{come_to_each, asked, HasMet, Advances, WalksOn}
 use Rattle.lalrpop_lr1.proofs.trace.meeting.trace_item.Given as goal
 
 abbrev pub invariant-loop-source : goal.invariant-loop-source

@@ -1,5 +1,5 @@
 use Rattle.std.proofs.Common.{◌↔◌, drop}
-use Rattle.lalrpop_base.specs.Grammar.{IsNullable}
+use Rattle.lalrpop_base.specs.Words.{IsNullable}
 use Rattle.lalrpop_lr1.proofs.trace.nullable.is_nullable.Given as goal
 
 abbrev pub invariant-loop-symbol : goal.invariant-loop-symbol

@@ -1,5 +1,5 @@
 use Rattle.std.proofs.Common.{◌≡◌, List, [], ◌∷◌, ◌++◌, ap, ◌∙◌, subst}
-use Rattle.lalrpop_base.specs.First.{IsFirstSet}
+use Rattle.lalrpop_base.specs.Words.{IsFirstSet}
 use Rattle.lalrpop_base.specs.declared.repr.Symbol.{Symbol}
 use Rattle.lalrpop_base.specs.declared.repr.Symbol.TheVariants.{Nonterminal}
 use Rattle.lalrpop_lr1.proofs.Nullable.{nullable_by_end}

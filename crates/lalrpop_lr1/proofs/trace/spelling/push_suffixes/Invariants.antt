@@ -1,5 +1,5 @@
 use Rattle.std.proofs.Common.{◌≡◌, ◌++◌, map, length}
-use Rattle.lalrpop_lr1.specs.Examples.{path_of, suffixes}
+use Rattle.lalrpop_lr1.specs.Words.{path_of, suffixes}
 use Rattle.lalrpop_lr1.specs.declared.trace.example.ExampleSymbol.TheVariants.{Symbol}
 use Rattle.lalrpop_lr1.proofs.trace.spelling.push_suffixes.Given as goal
 

@@ -1,5 +1,5 @@
 use Rattle.std.proofs.Common.{◌≡◌, ◌≤◌, ◌++◌, length}
-use Rattle.lalrpop_lr1.specs.Examples.{path_of, prefixes, suffixes, reduced}
+use Rattle.lalrpop_lr1.specs.Words.{path_of, prefixes, suffixes, reduced}
 use Rattle.lalrpop_lr1.proofs.trace.spelling.reductions_of.Given as goal
 
 abbrev pub invariant-loop-innermost : goal.invariant-loop-innermost

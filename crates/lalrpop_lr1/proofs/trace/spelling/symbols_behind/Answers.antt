@@ -1,5 +1,5 @@
 use Rattle.std.proofs.Common.{◌++◌, ap}
-use Rattle.lalrpop_lr1.specs.Examples.{path_of, suffixes}
+use Rattle.lalrpop_lr1.specs.Words.{path_of, suffixes}
 use Rattle.lalrpop_lr1.proofs.KnownLabels.{known_more}
 use Rattle.lalrpop_lr1.proofs.Spelling.{following_step, following_done}
 use Rattle.lalrpop_lr1.proofs.trace.spelling.symbols_behind.Goals as goal

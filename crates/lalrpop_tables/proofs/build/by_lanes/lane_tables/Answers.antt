@@ -1,12 +1,8 @@
 use Rattle.std.proofs.Common.{◌∙◌, sym, subst}
 use Rattle.std.specs.Prelude.{IfOk, IfSome}
-use Rattle.lalrpop_base.specs.Contents.{contents}
-use Rattle.lalrpop_base.specs.Grammar.{IsOnNoRightSide}
-use Rattle.lalrpop_base.specs.States.{AreFaithful}
-use Rattle.lalrpop_base.specs.Validity.{IsLALR1}
-use Rattle.lalrpop_base.specs.WellFormed.{productions}
+use Rattle.lalrpop_base.specs.Words.{contents, IsOnNoRightSide, AreFaithful, IsLALR1, productions}
 use Rattle.lalrpop_base.specs.declared.repr.NonterminalString.{NonterminalString}
-use Rattle.lalrpop_tables.specs.Check.{PassCheck}
+use Rattle.lalrpop_tables.specs.Words.{PassCheck}
 use Rattle.lalrpop_tables.proofs.ByLanes.{Lanes-pass}
 use Rattle.lalrpop_tables.proofs.build.by_lanes.lane_tables.Goals as goal
 

@@ -1,12 +1,9 @@
 use Rattle.std.proofs.Common.{◌≡◌, ℕ, ◌∙◌, ap, subst}
 use Rattle.std.specs.Prelude.{IfErr}
-use Rattle.lalrpop_base.specs.Bits.{Bits}
-use Rattle.lalrpop_base.specs.WellFormed.{rules_of, productions_of}
+use Rattle.lalrpop_base.specs.Words.{Bits, rules_of, productions_of}
 use Rattle.lalrpop_base.specs.declared.repr.NonterminalString.{NonterminalString}
 use Rattle.lalrpop_base.specs.declared.repr.grammar.Grammar.{Grammar}
-use Rattle.lalrpop_tables.specs.Lr1Answers.{FailsOn}
-use Rattle.lalrpop_tables.specs.Results.{Construction, Settings, canonical_of}
-use Rattle.lalrpop_tables.proofs.Lr1Answers.{Canonical-makes, Canonical-fails}
+use Rattle.lalrpop_tables.specs.Words.{FailsOn, Construction, Settings, canonical_of}
 use Rattle.lalrpop_tables.proofs.build.canonical.build_canonical_states.Goals as goal
 
 abbrev construction : Grammar → NonterminalString → Bits → Construction Bits
@@ -17,9 +14,8 @@ returns-clause-tables c =
     let g = c.args.grammar.now in
     let start = c.args.start in
     let lr = c.set_stop_after.new.self in
-    let says = c.build_lr1_states.ensures in
     let same : lr.construction ≡ canonical_of g start = ap (λ (s : Settings Bits). s.construction) c.set_stop_after.ensures ∙ ap (λ (s : Settings Bits). s.construction) c.in_ok-lr.ensures ∙ ap (λ (s : Bits). construction g start s) c.in_ok-eof.ensures in
-    Canonical-makes (λ tables. tables.items) g start lr.construction c.build_lr1_states.result _ same says.tables says.canonical says.valid says.faithful
+    c.build_lr1_states.ensures.tables g start same
 
 pub returns-clause-no_tables : goal.returns-clause-no_tables
 returns-clause-no_tables c =
@@ -27,7 +23,6 @@ returns-clause-no_tables c =
     let start = c.args.start in
     let lr = c.set_stop_after.new.self in
     let r = c.build_lr1_states.result in
-    let says = c.build_lr1_states.ensures in
     let same : lr.construction ≡ canonical_of g start = ap (λ (s : Settings Bits). s.construction) c.set_stop_after.ensures ∙ ap (λ (s : Settings Bits). s.construction) c.in_ok-lr.ensures ∙ ap (λ (s : Bits). construction g start s) c.in_ok-eof.ensures in
     let stop : lr.stop_after ≡ c.args.stop_after = ap (λ (s : Settings Bits). s.stop_after) c.set_stop_after.ensures in
-    subst (λ (n : ℕ). IfErr r (FailsOn ⊥ n g start)) stop (Canonical-fails g start lr.construction lr.stop_after r _ _ c.requires c.all-terminals.ensures.distinct same says.failure says.canonical says.stopped says.lr1)
+    subst (λ (n : ℕ). IfErr r (FailsOn ⊥ n g start)) stop (c.build_lr1_states.ensures.no_tables g start same)

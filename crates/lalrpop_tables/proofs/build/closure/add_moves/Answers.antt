@@ -1,11 +1,8 @@
 use Rattle.std.proofs.Common.{◌≡◌, ◌∙◌, ◌+◌, ◌++◌, ◌∷◌, [], subst, sym, ap, take, map, List}
 use Rattle.std.specs.Prelude.{Contains}
 use Rattle.std.proofs.lemmas.List.{take_more, take_all, map-append}
-use Rattle.lalrpop_base.specs.Bits.{Bits}
-use Rattle.lalrpop_base.specs.Items.{Dotted}
-use Rattle.lalrpop_tables.specs.Closing.{SpreadFirst}
-use Rattle.lalrpop_tables.specs.Closure.{meant, IsQueued}
-use Rattle.lalrpop_tables.specs.Entries.{readings}
+use Rattle.lalrpop_base.specs.Words.{Bits, Dotted}
+use Rattle.lalrpop_tables.specs.Words.{SpreadFirst, meant, IsQueued, readings}
 use Rattle.lalrpop_tables.proofs.Expanding.{Spread-none, Spread-more}
 use Rattle.lalrpop_tables.proofs.Lists.{Contains-map}
 use Rattle.lalrpop_tables.proofs.build.closure.add_moves.Goals as goal

@@ -1,7 +1,5 @@
 use Rattle.std.proofs.Common.{take, map}
-use Rattle.lalrpop_tables.specs.Closing.{SpreadFirst}
-use Rattle.lalrpop_tables.specs.Closure.{meant}
-use Rattle.lalrpop_tables.specs.Entries.{readings}
+use Rattle.lalrpop_tables.specs.Words.{SpreadFirst, meant, readings}
 use Rattle.lalrpop_tables.proofs.build.closure.add_moves.Given as goal
 
 abbrev pub invariant-loop-item : goal.invariant-loop-item

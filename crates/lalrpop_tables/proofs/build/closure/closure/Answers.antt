@@ -4,12 +4,9 @@ use Rattle.std.proofs.Common.{rules, arith}
 use Rattle.std.specs.Prelude.{Contains}
 use Rattle.std.proofs.lemmas.List.{nil_from_length}
 use Rattle.std.proofs.lemmas.Result.{IfOk-weaker}
-use Rattle.lalrpop_base.specs.Bits.{Bits}
-use Rattle.lalrpop_base.specs.Items.{Dotted}
+use Rattle.lalrpop_base.specs.Words.{Bits, Dotted}
 use Rattle.lalrpop_base.specs.declared.lookahead.nil.Nil.{Nil}
-use Rattle.lalrpop_tables.specs.Ascending.{Ascend}
-use Rattle.lalrpop_tables.specs.Closure.{itself, IsClosureBy, item_of, meant}
-use Rattle.lalrpop_tables.specs.Entries.{readings}
+use Rattle.lalrpop_tables.specs.Words.{Ascend, itself, IsClosureBy, item_of, meant, readings}
 use Rattle.lalrpop_tables.proofs.Ascending.{Read-ascend}
 use Rattle.lalrpop_tables.proofs.BothFacts.{IfOk-both}
 use Rattle.lalrpop_tables.proofs.Closing.{Tokens-start, Tokens-step, Tokens-end}

@@ -1,7 +1,5 @@
 use Rattle.std.proofs.Common.{map}
-use Rattle.lalrpop_tables.specs.Closing.{IsTokenClosing}
-use Rattle.lalrpop_tables.specs.Closure.{IsClosing, meant}
-use Rattle.lalrpop_tables.specs.Entries.{readings}
+use Rattle.lalrpop_tables.specs.Words.{IsTokenClosing, IsClosing, meant, readings}
 use Rattle.lalrpop_tables.proofs.Tables.{work}
 use Rattle.lalrpop_tables.proofs.build.closure.closure.Given as goal
 

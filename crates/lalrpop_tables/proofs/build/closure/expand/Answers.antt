@@ -1,9 +1,9 @@
 use Rattle.std.proofs.Common.{◌+◌, ◌∙◌, sym, refl, ap, arith, subst}
 use Rattle.std.proofs.lemmas.Option.{slice_get_within}
 use Rattle.std.specs.Prelude.{Contains, Some}
-use Rattle.lalrpop_base.specs.WellFormed.{Rules, HasKnownTerminals}
+use Rattle.lalrpop_base.specs.Words.{Rules, HasKnownTerminals}
 use Rattle.lalrpop_base.specs.declared.repr.Symbol.TheVariants.{Nonterminal}
-use Rattle.lalrpop_tables.specs.Entries.{readings}
+use Rattle.lalrpop_tables.specs.Words.{readings}
 use Rattle.lalrpop_tables.proofs.Closing.{Expands-none, split_drop, rest_from}
 use Rattle.lalrpop_tables.proofs.ClosureLoops.{Expanded-none}
 use Rattle.lalrpop_tables.proofs.Expanding.{Given-expanded, Given-tokens}

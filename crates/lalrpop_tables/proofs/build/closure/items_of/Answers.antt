@@ -1,8 +1,7 @@
 use Rattle.std.proofs.Common.{◌≡◌, ◌∙◌, ◌++◌, List, ap, sym, subst, append-nil, map}
-use Rattle.lalrpop_base.specs.Items.{Dotted}
+use Rattle.lalrpop_base.specs.Words.{Dotted}
 use Rattle.lalrpop_base.specs.declared.lookahead.nil.Nil.{Nil}
-use Rattle.lalrpop_tables.specs.Ascending.{Ascend}
-use Rattle.lalrpop_tables.specs.Closure.{item_of}
+use Rattle.lalrpop_tables.specs.Words.{Ascend, item_of}
 use Rattle.lalrpop_tables.proofs.Ascending.{Table-ascend}
 use Rattle.lalrpop_tables.proofs.build.closure.items_of.Goals as goal
 

@@ -1,5 +1,5 @@
 use Rattle.std.proofs.Common.{◌≡◌, ◌++◌, map}
-use Rattle.lalrpop_tables.specs.Closure.{item_of}
+use Rattle.lalrpop_tables.specs.Words.{item_of}
 use Rattle.lalrpop_tables.proofs.build.closure.items_of.Given as goal
 
 abbrev pub invariant-loop-item : goal.invariant-loop-item

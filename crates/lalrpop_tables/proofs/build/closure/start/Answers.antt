@@ -1,12 +1,9 @@
 use Rattle.std.proofs.Common.{◌≡◌, ◌∙◌, ◌+◌, ◌++◌, ◌∷◌, [], ℕ, subst, sym, ap, take, map, List}
 use Rattle.std.specs.Prelude.{Contains}
 use Rattle.std.proofs.lemmas.List.{take_more, take_all, map-append}
-use Rattle.lalrpop_base.specs.Bits.{Bits}
-use Rattle.lalrpop_base.specs.Items.{Dotted}
+use Rattle.lalrpop_base.specs.Words.{Bits, Dotted}
 use Rattle.lalrpop_base.specs.declared.repr.Production.{Production}
-use Rattle.lalrpop_tables.specs.Closing.{IsStarted}
-use Rattle.lalrpop_tables.specs.Closure.{IsQueued, meant}
-use Rattle.lalrpop_tables.specs.Entries.{readings}
+use Rattle.lalrpop_tables.specs.Words.{IsStarted, IsQueued, meant, readings}
 use Rattle.lalrpop_tables.proofs.Closing.{Started-tokens-none, Started-tokens-more}
 use Rattle.lalrpop_tables.proofs.ClosureLoops.{AreStarted, Start-none, Start-more, Start-closing}
 use Rattle.lalrpop_tables.proofs.Lists.{Contains-map}

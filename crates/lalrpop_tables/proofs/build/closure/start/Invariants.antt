@@ -1,7 +1,5 @@
 use Rattle.std.proofs.Common.{take, map}
-use Rattle.lalrpop_tables.specs.Closing.{IsStarted}
-use Rattle.lalrpop_tables.specs.Closure.{meant}
-use Rattle.lalrpop_tables.specs.Entries.{readings}
+use Rattle.lalrpop_tables.specs.Words.{IsStarted, meant, readings}
 use Rattle.lalrpop_tables.proofs.ClosureLoops.{AreStarted}
 use Rattle.lalrpop_tables.proofs.build.closure.start.Given as goal
 

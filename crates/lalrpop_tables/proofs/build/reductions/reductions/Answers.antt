@@ -1,7 +1,7 @@
 use Rattle.std.proofs.Common.{◌≡◌, ◌∙◌, ◌++◌, ◌∷◌, [], ap, sym, take, ◌+◌, List}
 use Rattle.std.proofs.lemmas.List.{take_more}
-use Rattle.lalrpop_base.specs.Items.{Dotted}
-use Rattle.lalrpop_tables.specs.Transitions.{reductions_of}
+use Rattle.lalrpop_base.specs.Words.{Dotted}
+use Rattle.lalrpop_tables.specs.Words.{reductions_of}
 use Rattle.lalrpop_tables.proofs.Moves.{reductions_of-append}
 use Rattle.lalrpop_tables.proofs.build.reductions.reductions.Goals as goal
 

@@ -1,5 +1,5 @@
 use Rattle.std.proofs.Common.{◌≡◌, take, map}
-use Rattle.lalrpop_tables.specs.Transitions.{reductions_of, seen}
+use Rattle.lalrpop_tables.specs.Words.{reductions_of, seen}
 use Rattle.lalrpop_tables.proofs.build.reductions.reductions.Given as goal
 
 abbrev pub invariant-loop-item : goal.invariant-loop-item

@@ -1,5 +1,5 @@
 use Rattle.std.proofs.Common.{sym, subst, refl}
-use Rattle.lalrpop_tables.specs.Closure.{AreItemsBy, IsClosureBy}
+use Rattle.lalrpop_tables.specs.Words.{AreItemsBy, IsClosureBy}
 use Rattle.lalrpop_tables.proofs.Coherence.{Built-made, Reached-extends, Reached-led}
 use Rattle.lalrpop_tables.proofs.KernelDots.{Moves-shifted}
 use Rattle.lalrpop_tables.proofs.build.states.build_state.Goals as goal

@@ -1,9 +1,8 @@
 use Rattle.std.proofs.Common.{◌≡◌, ◌∙◌, ap, subst, refl, sym, List, map, length, arith, ◌∷◌, []}
 use Rattle.std.proofs.lemmas.Bool.{false≢true}
 use Rattle.std.proofs.lemmas.Option.{slice_get_within}
-use Rattle.lalrpop_base.specs.Items.{Dotted}
-use Rattle.lalrpop_tables.specs.Closure.{AreItemsBy, IsClosureBy}
-use Rattle.lalrpop_tables.specs.States.{begun}
+use Rattle.lalrpop_base.specs.Words.{Dotted}
+use Rattle.lalrpop_tables.specs.Words.{AreItemsBy, IsClosureBy, begun}
 use Rattle.lalrpop_tables.proofs.Building.{Building-init, Building-step, Building-smaller, first_added}
 use Rattle.lalrpop_tables.proofs.ConflictLists.{Listed-more}
 use Rattle.lalrpop_tables.proofs.MadeUntil.{nothing_listed, nothing_is_few, enough_for, Made-enough, Made-all}

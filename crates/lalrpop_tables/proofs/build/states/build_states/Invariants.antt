@@ -1,9 +1,8 @@
 use Rattle.std.proofs.Common.{map, ◌-◌}
-use Rattle.lalrpop_tables.specs.Closure.{IsClosureBy}
-use Rattle.lalrpop_tables.specs.States.{begun}
-use Rattle.lalrpop_tables.proofs.Building.{kernels_limit}
+use Rattle.lalrpop_tables.specs.Words.{IsClosureBy, begun}
 use Rattle.lalrpop_tables.proofs.MadeUntil.{Making}
 use Rattle.lalrpop_tables.proofs.build.states.build_states.Given as goal
+use Rattle.lalrpop_tables.proofs.Universe.{kernels_limit}
 
 abbrev pub invariant-loop-kernel : goal.invariant-loop-kernel
 invariant-loop-kernel g l =

@@ -1,9 +1,8 @@
 use Rattle.std.proofs.Common.{◌≡◌, ◌∙◌, ◌++◌, List, Some, ap, sym, subst, append-nil}
 use Rattle.std.specs.Prelude.{slice_get}
-use Rattle.lalrpop_base.specs.Items.{Dotted}
-use Rattle.lalrpop_base.specs.Kernels.{AddsOnce}
+use Rattle.lalrpop_base.specs.Words.{Dotted, AddsOnce}
 use Rattle.lalrpop_base.specs.declared.lr1_core.state.StateIndex.{StateIndex}
-use Rattle.lalrpop_tables.specs.Transitions.{Groups}
+use Rattle.lalrpop_tables.specs.Words.{Groups}
 use Rattle.lalrpop_tables.proofs.Contained.{decided, decided_kernel, added_or_not}
 use Rattle.lalrpop_tables.proofs.Orders.{symbol_order, symbol_total}
 use Rattle.lalrpop_tables.proofs.Updates.{keys_differ}

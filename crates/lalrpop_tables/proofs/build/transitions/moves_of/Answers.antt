@@ -1,8 +1,8 @@
 use Rattle.std.proofs.Common.{◌≡◌, ◌∙◌, ◌+◌, ◌++◌, ◌∷◌, [], ap, sym, subst, take}
 use Rattle.std.proofs.lemmas.List.{take_more}
 use Rattle.std.specs.Prelude.{List}
-use Rattle.lalrpop_base.specs.Items.{Dotted}
-use Rattle.lalrpop_tables.specs.Transitions.{AreMoves}
+use Rattle.lalrpop_base.specs.Words.{Dotted}
+use Rattle.lalrpop_tables.specs.Words.{AreMoves}
 use Rattle.lalrpop_tables.proofs.Moves.{Moves-none, Moves-more}
 use Rattle.lalrpop_tables.proofs.build.transitions.moves_of.Goals as goal
 

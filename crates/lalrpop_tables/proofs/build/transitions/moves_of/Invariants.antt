@@ -1,5 +1,5 @@
 use Rattle.std.proofs.Common.{take}
-use Rattle.lalrpop_tables.specs.Transitions.{AreMoves}
+use Rattle.lalrpop_tables.specs.Words.{AreMoves}
 use Rattle.lalrpop_tables.proofs.build.transitions.moves_of.Given as goal
 
 abbrev pub invariant-loop-item : goal.invariant-loop-item

@@ -1,14 +1,11 @@
 use Rattle.std.proofs.Common.{◌≡◌, ◌∙◌, ◌+◌, ◌++◌, ◌∷◌, [], List, ℕ, Some, ap, sym, subst, take, map, refl, inl}
 use Rattle.std.specs.Prelude.{slice_get}
 use Rattle.std.proofs.lemmas.List.{take_more, take_all, map-append}
-use Rattle.lalrpop_base.specs.Bits.{Bits}
-use Rattle.lalrpop_base.specs.Collapsible.{dots}
-use Rattle.lalrpop_base.specs.Items.{Dotted}
+use Rattle.lalrpop_base.specs.Words.{Bits, dots, Dotted}
 use Rattle.lalrpop_base.specs.declared.lookahead.nil.Nil.{Nil}
 use Rattle.lalrpop_base.specs.declared.lr1_core.state.State.{State}
 use Rattle.lalrpop_base.specs.declared.lr1_core.state.StateIndex.{StateIndex}
-use Rattle.lalrpop_tables.specs.Collapsed.{dots_in}
-use Rattle.lalrpop_tables.specs.Merging.{bare, AreFirstNumbers}
+use Rattle.lalrpop_tables.specs.Words.{dots_in, bare, AreFirstNumbers}
 use Rattle.lalrpop_tables.proofs.Contained.{decided_kernel, added_or_not}
 use Rattle.lalrpop_tables.proofs.MergedNumbers.{AreListed, Listed-none, Listed-more, Listed-numbers, mapped_numbers, bare_apart, no_lookahead}
 use Rattle.lalrpop_tables.proofs.build_lalr.numbers.merged_numbers.Goals as goal

@@ -1,8 +1,7 @@
 use Rattle.std.proofs.Common.{map, take}
-use Rattle.lalrpop_base.specs.Bits.{Bits}
+use Rattle.lalrpop_base.specs.Words.{Bits}
 use Rattle.lalrpop_base.specs.declared.lr1_core.state.State.{State}
-use Rattle.lalrpop_tables.specs.Collapsed.{dots_in}
-use Rattle.lalrpop_tables.specs.Merging.{bare}
+use Rattle.lalrpop_tables.specs.Words.{dots_in, bare}
 use Rattle.lalrpop_tables.proofs.MergedNumbers.{AreListed}
 use Rattle.lalrpop_tables.proofs.build_lalr.numbers.merged_numbers.Given as goal
 

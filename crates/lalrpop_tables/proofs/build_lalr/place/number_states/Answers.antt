@@ -1,8 +1,7 @@
 use Rattle.std.proofs.Common.{List, [], ◌∷◌, ◌++◌, sym, subst, ap, ◌∙◌, append-nil, arith}
-use Rattle.lalrpop_base.specs.Bits.{Bits}
+use Rattle.lalrpop_base.specs.Words.{Bits}
 use Rattle.lalrpop_base.specs.declared.lr1_core.state.State.{State}
-use Rattle.lalrpop_tables.specs.Moved.{AreMoved, no_more, and_one}
-use Rattle.lalrpop_tables.specs.Renumbered.{number_in}
+use Rattle.lalrpop_tables.specs.Words.{AreMoved, no_more, and_one, number_in}
 use Rattle.lalrpop_tables.proofs.Merging.{taken, none_left}
 use Rattle.lalrpop_tables.proofs.Moved.{Moved-append}
 use Rattle.lalrpop_tables.proofs.build_lalr.place.number_states.Goals as goal

@@ -1,7 +1,8 @@
 use Rattle.std.proofs.Common.{List, [], ◌++◌, refl, sym, subst, ap, ◌∙◌, append-nil, arith}
-use Rattle.lalrpop_base.specs.Bits.{Bits}
+use Rattle.lalrpop_base.specs.Words.{Bits}
 use Rattle.lalrpop_base.specs.declared.lr1_core.state.State.{State}
-use Rattle.lalrpop_tables.specs.Merging.{ArePlaced, none}
+use Rattle.lalrpop_tables.specs.Words.{ArePlaced}
+use Rattle.lalrpop_tables.specs.Merging.{none}
 use Rattle.lalrpop_tables.proofs.Merging.{taken, none_left}
 use Rattle.lalrpop_tables.proofs.build_lalr.place.place_states.Goals as goal
 

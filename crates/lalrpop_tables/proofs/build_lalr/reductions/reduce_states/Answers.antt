@@ -1,9 +1,9 @@
 use Rattle.std.proofs.Common.{List, [], ◌∷◌, ◌++◌, sym, subst, ap, ◌∙◌, append-nil, arith}
 use Rattle.std.specs.List.{AllZip}
 use Rattle.std.proofs.lemmas.List.Elements.{AllZip-push}
-use Rattle.lalrpop_base.specs.Bits.{Bits}
+use Rattle.lalrpop_base.specs.Words.{Bits}
 use Rattle.lalrpop_base.specs.declared.lr1_core.state.State.{State}
-use Rattle.lalrpop_tables.specs.Merging.{IsReduced}
+use Rattle.lalrpop_tables.specs.Words.{IsReduced}
 use Rattle.lalrpop_tables.proofs.Merging.{taken, none_left}
 use Rattle.lalrpop_tables.proofs.build_lalr.reductions.reduce_states.Goals as goal
 

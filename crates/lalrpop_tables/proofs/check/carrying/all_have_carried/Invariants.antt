@@ -1,9 +1,8 @@
 use Rattle.std.proofs.Common.{◌≡◌, ℕ, ◌<◌}
 use Rattle.std.specs.Prelude.{slice_get, Some}
-use Rattle.lalrpop_base.specs.Bits.{Bits}
-use Rattle.lalrpop_base.specs.Each.{EachItem}
+use Rattle.lalrpop_base.specs.Words.{Bits, EachItem}
 use Rattle.lalrpop_base.specs.declared.lr1_core.state.State.{State}
-use Rattle.lalrpop_tables.specs.CheckCarrying.{HoldsCarried}
+use Rattle.lalrpop_tables.specs.Words.{HoldsCarried}
 use Rattle.lalrpop_tables.proofs.check.carrying.all_have_carried.Given as goal
 
 abbrev pub invariant-loop-number : goal.invariant-loop-number

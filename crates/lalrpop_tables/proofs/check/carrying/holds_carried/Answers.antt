@@ -1,9 +1,8 @@
 use Rattle.std.proofs.Common.{◌≡◌, sym, subst, true}
 use Rattle.std.specs.Prelude.{Contains}
-use Rattle.lalrpop_base.specs.Bits.{Bits, has}
-use Rattle.lalrpop_base.specs.Items.{Dotted}
+use Rattle.lalrpop_base.specs.Words.{Bits, has, Dotted}
 use Rattle.lalrpop_base.specs.declared.lookahead.nil.Nil.{Nil}
-use Rattle.lalrpop_tables.specs.CheckStates.{finished}
+use Rattle.lalrpop_tables.specs.Words.{finished}
 use Rattle.lalrpop_tables.specs.declared.place.Place.{Place}
 use Rattle.std.proofs.Common.{refl}
 use Rattle.lalrpop_tables.proofs.CheckSending.{holds_joined}

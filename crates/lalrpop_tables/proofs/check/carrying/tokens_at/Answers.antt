@@ -1,7 +1,7 @@
 use Rattle.std.proofs.Common.{◌≡◌, ◌∙◌, sym, subst}
 use Rattle.std.specs.Prelude.{Contains}
-use Rattle.lalrpop_base.specs.Bits.{Bits}
-use Rattle.lalrpop_tables.proofs.CheckSending.{key_entry}
+use Rattle.lalrpop_base.specs.Words.{Bits}
+use Rattle.lalrpop_tables.proofs.Growth.{key_entry}
 use Rattle.lalrpop_tables.proofs.Places.{same_some}
 use Rattle.lalrpop_tables.proofs.check.carrying.tokens_at.Goals as goal
 

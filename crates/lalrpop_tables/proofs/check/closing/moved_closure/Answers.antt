@@ -1,6 +1,5 @@
 use Rattle.std.proofs.Common.{map}
-use Rattle.lalrpop_tables.specs.Closure.{dotted_of}
-use Rattle.lalrpop_tables.specs.CheckClosing.{IsMovedIn}
+use Rattle.lalrpop_tables.specs.Words.{dotted_of, IsMovedIn}
 use Rattle.lalrpop_tables.proofs.CheckClosing.{All-wait, Closure-of}
 use Rattle.lalrpop_tables.proofs.check.closing.moved_closure.Goals as goal
 

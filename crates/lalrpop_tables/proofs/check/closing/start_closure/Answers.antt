@@ -1,5 +1,4 @@
-use Rattle.lalrpop_base.specs.Closures.{IsAtStart}
-use Rattle.lalrpop_base.specs.WellFormed.{productions}
+use Rattle.lalrpop_base.specs.Words.{IsAtStart, productions}
 use Rattle.lalrpop_tables.proofs.Grammars.{productions_own}
 use Rattle.lalrpop_tables.proofs.CheckClosing.{All-wait, Closure-of, Begun-start}
 use Rattle.lalrpop_tables.proofs.check.closing.start_closure.Goals as goal

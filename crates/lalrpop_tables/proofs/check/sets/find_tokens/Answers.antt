@@ -2,8 +2,7 @@ use Rattle.std.proofs.Common.{◌≡◌, ap, subst, List, Option, Some, None}
 use Rattle.std.specs.Prelude.{Contains, IfSome, IsNone, option_copied}
 use Rattle.std.specs.Borrow.{Bor}
 use Rattle.std.specs.Map.{keys_of}
-use Rattle.lalrpop_base.specs.Bits.{Bits}
-use Rattle.lalrpop_base.specs.Places.{AllDiffer}
+use Rattle.lalrpop_base.specs.Words.{Bits, AllDiffer}
 use Rattle.lalrpop_tables.proofs.Lists.{Contains-map}
 use Rattle.lalrpop_tables.proofs.Updates.{one_value}
 use Rattle.lalrpop_tables.proofs.check.sets.find_tokens.Goals as goal

@@ -1,7 +1,6 @@
 use Rattle.std.proofs.Common.{List, refl, sym, subst}
 use Rattle.std.specs.Prelude.{Contains}
-use Rattle.lalrpop_base.specs.Bits.{Bits}
-use Rattle.lalrpop_base.specs.Items.{Dotted}
+use Rattle.lalrpop_base.specs.Words.{Bits, Dotted}
 use Rattle.lalrpop_base.proofs.EachLemmas.{each_below_more, each_of_below}
 use Rattle.lalrpop_tables.proofs.Lists.{place}
 use Rattle.lalrpop_tables.proofs.check.states.are_right_items.Goals as goal

@@ -1,7 +1,5 @@
-use Rattle.lalrpop_base.specs.Bits.{Bits}
-use Rattle.lalrpop_base.specs.Each.{EachBelow}
-use Rattle.lalrpop_base.specs.Items.{Dotted}
-use Rattle.lalrpop_tables.specs.CheckStates.{IsRightItem, reduced}
+use Rattle.lalrpop_base.specs.Words.{Bits, EachBelow, Dotted}
+use Rattle.lalrpop_tables.specs.Words.{IsRightItem, reduced}
 use Rattle.lalrpop_tables.proofs.check.states.are_right_items.Given as goal
 
 abbrev pub invariant-loop-item : goal.invariant-loop-item

@@ -1,6 +1,5 @@
 use Rattle.std.proofs.Common.{◌≡◌, arith}
-use Rattle.lalrpop_base.specs.Closures.{IsAtStart}
-use Rattle.lalrpop_base.specs.WellFormed.{productions}
+use Rattle.lalrpop_base.specs.Words.{IsAtStart, productions}
 use Rattle.lalrpop_tables.proofs.CheckStates.{same_closure}
 use Rattle.lalrpop_tables.proofs.check.states.is_right_first.Goals as goal
 

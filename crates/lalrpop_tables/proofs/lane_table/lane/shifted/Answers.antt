@@ -1,7 +1,7 @@
 use Rattle.std.proofs.Common.{◌≡◌, ℕ, sym, ◌∙◌, ap, subst, true, refl}
 use Rattle.std.specs.Prelude.{slice_get, Some}
 use mathlib.Core.Bool.{true≢false}
-use Rattle.lalrpop_base.specs.Bits.{Bits, has, has-no_bits}
+use Rattle.lalrpop_base.specs.Words.{Bits, has, has-no_bits}
 use Rattle.lalrpop_tables.proofs.Following.{only_bit}
 use Rattle.lalrpop_tables.proofs.lane_table.lane.shifted.Goals as goal
 

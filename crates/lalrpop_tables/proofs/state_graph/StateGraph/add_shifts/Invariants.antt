@@ -1,4 +1,4 @@
-use Rattle.lalrpop_tables.specs.StateGraph.{shift_edges}
+use Rattle.lalrpop_tables.specs.Words.{shift_edges}
 use Rattle.lalrpop_tables.proofs.StateGraphs.{IsAdding}
 use Rattle.lalrpop_tables.proofs.state_graph.StateGraph.add_shifts.Given as goal
 

@@ -1,5 +1,5 @@
 use Rattle.std.proofs.Common.{take}
-use Rattle.lalrpop_tables.specs.StateGraph.{IsGraphOf, edges}
+use Rattle.lalrpop_tables.specs.Words.{IsGraphOf, edges}
 use Rattle.lalrpop_tables.proofs.state_graph.StateGraph.new.Given as goal
 
 -- the graph has the edges of the states so far

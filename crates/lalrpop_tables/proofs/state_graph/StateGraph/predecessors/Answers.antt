@@ -1,5 +1,5 @@
 use Rattle.std.proofs.Common.{reverse, ap, refl}
-use Rattle.lalrpop_tables.specs.StateGraph.{with_symbol}
+use Rattle.lalrpop_tables.specs.Words.{with_symbol}
 use Rattle.lalrpop_tables.proofs.StateGraphs.{got, got_none}
 use Rattle.lalrpop_tables.proofs.state_graph.StateGraph.predecessors.Goals as goal
 use Rattle.lalrpop_tables.proofs.state_graph.StateGraph.predecessors.Goals.{in-Some, in-None}

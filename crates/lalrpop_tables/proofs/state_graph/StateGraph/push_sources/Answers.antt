@@ -1,5 +1,5 @@
 use Rattle.std.proofs.Common.{refl, ap, ◌∙◌}
-use Rattle.lalrpop_tables.specs.Neighbours.{sources_left}
+use Rattle.lalrpop_tables.specs.Words.{sources_left}
 use Rattle.lalrpop_tables.proofs.Stepping.{adding_states, one_more_state, all_added}
 use Rattle.lalrpop_tables.proofs.state_graph.StateGraph.push_sources.Goals as goal
 

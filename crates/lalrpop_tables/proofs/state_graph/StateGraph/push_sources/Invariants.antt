@@ -1,4 +1,4 @@
-use Rattle.lalrpop_tables.specs.Neighbours.{sources_left}
+use Rattle.lalrpop_tables.specs.Words.{sources_left}
 use Rattle.lalrpop_tables.proofs.Stepping.{IsAddingStates}
 use Rattle.lalrpop_tables.proofs.state_graph.StateGraph.push_sources.Given as goal
 

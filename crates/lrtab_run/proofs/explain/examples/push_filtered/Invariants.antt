@@ -1,5 +1,5 @@
 use Rattle.std.proofs.Common.{string_bytes}
-use Rattle.lalrpop_lr1.specs.TraceGraphs.{AreKnownEdges}
+use Rattle.lalrpop_lr1.specs.Words.{AreKnownEdges}
 use Rattle.lrtab_run.proofs.FirstPaths.{IsFiltering}
 use Rattle.lrtab_run.proofs.explain.examples.push_filtered.Given as goal
 

@@ -1,7 +1,6 @@
 use Rattle.std.proofs.Common.{◌∙◌, ap, string_bytes}
-use Rattle.lalrpop_base.specs.Bits.{Bits}
-use Rattle.lalrpop_base.specs.Items.{Dotted}
-use Rattle.lalrpop_lr1.specs.Traces.{dotted}
+use Rattle.lalrpop_base.specs.Words.{Bits, Dotted}
+use Rattle.lalrpop_lr1.specs.Words.{dotted}
 use Rattle.lrtab_run.proofs.TracedReductions.{traced_known, traced_shown}
 use Rattle.lrtab_run.proofs.explain.examples.push_meeting.Goals as goal
 

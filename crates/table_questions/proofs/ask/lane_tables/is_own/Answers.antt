@@ -1,8 +1,8 @@
 use Rattle.std.proofs.Common.{◌≡◌, sym, subst, IsTrue}
-use Rattle.lalrpop_base.specs.WellFormed.{productions}
+use Rattle.lalrpop_base.specs.Words.{productions}
 use Rattle.lalrpop_base.specs.declared.lr1_core.state.Action.{Action}
 use Rattle.table_questions.proofs.OwnItems.{own_production}
-use Rattle.lalrpop_tables.specs.LaneTraces.{ReducesOwn}
+use Rattle.lalrpop_tables.specs.Words.{ReducesOwn}
 use Rattle.table_questions.proofs.ask.lane_tables.is_own.Goals as goal
 
 pub returns-in-Reduce : goal.returns-in-Reduce

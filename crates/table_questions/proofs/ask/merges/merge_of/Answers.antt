@@ -1,5 +1,5 @@
 use Rattle.std.proofs.Common.{subst}
-use Rattle.lalrpop_base.specs.Coherent.{AreCoherent}
+use Rattle.lalrpop_base.specs.Words.{AreCoherent}
 use Rattle.table_questions.proofs.ask.merges.merge_of.Goals as goal
 
 pub new-requires-clause-coherent : goal.new-requires-clause-coherent

@@ -1,4 +1,4 @@
-use Rattle.lalrpop_tables.specs.Merges.{IsMerging}
+use Rattle.lalrpop_tables.specs.Words.{IsMerging}
 use Rattle.table_questions.proofs.ask.merges.start_all.Given as goal
 
 abbrev pub invariant-loop-state : goal.invariant-loop-state

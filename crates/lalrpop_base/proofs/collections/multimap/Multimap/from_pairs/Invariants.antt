@@ -1,4 +1,4 @@
-use Rattle.lalrpop_base.specs.Multimaps.{collection_at, IsCollected, values_at}
+use Rattle.lalrpop_base.specs.Words.{collection_at, IsCollected, values_at}
 use Rattle.lalrpop_base.proofs.collections.multimap.Multimap.from_pairs.Given as goal
 
 abbrev pub invariant-loop-key : goal.invariant-loop-key

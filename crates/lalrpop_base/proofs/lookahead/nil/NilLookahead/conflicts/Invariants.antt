@@ -1,5 +1,5 @@
 use Rattle.std.proofs.Common.{◌≡◌, ◌++◌}
-use Rattle.lalrpop_base.specs.NilConflicts.{nil_shift_conflicts}
+use Rattle.lalrpop_base.specs.Words.{nil_shift_conflicts}
 use Rattle.lalrpop_base.proofs.lookahead.nil.NilLookahead.conflicts.Given as goal
 
 abbrev pub invariant-loop-terminal : goal.invariant-loop-terminal

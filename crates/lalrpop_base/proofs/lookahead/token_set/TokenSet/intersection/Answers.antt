@@ -1,6 +1,6 @@
 use Rattle.std.proofs.Common.{◌∙◌, ap}
 use Rattle.std.specs.List.{filter}
-use Rattle.lalrpop_base.specs.Bits.{has, bits_of, IsRising}
+use Rattle.lalrpop_base.specs.Words.{has, bits_of, IsRising}
 use Rattle.lalrpop_base.proofs.RisingLemmas.{is_rising, filter_rises, rises_from_start, filter_has}
 use Rattle.lalrpop_base.proofs.lookahead.token_set.TokenSet.intersection.Goals as goal
 

@@ -1,5 +1,5 @@
 use Rattle.std.proofs.Common.{◌∙◌, ◌++◌, suc, take, drop, List, ℕ, ap, sym, subst}
-use Rattle.lalrpop_base.specs.Bits.{IsRising, bits_of}
+use Rattle.lalrpop_base.specs.Words.{IsRising, bits_of}
 use Rattle.lalrpop_base.proofs.RisingLemmas.{is_rising, remove_rises, rises_from_start, removed_has}
 use Rattle.lalrpop_base.proofs.lookahead.token_set.TokenSet.take_bit.Goals as goal
 

@@ -1,5 +1,5 @@
 use Rattle.std.proofs.Common.{◌≡◌, drop}
-use Rattle.lalrpop_base.specs.ViewFolds.{longest_from}
+use Rattle.lalrpop_base.specs.Words.{longest_from}
 use Rattle.lalrpop_base.proofs.lr1_core.state.State.max_prefix.Given as goal
 
 abbrev pub invariant-loop-item : goal.invariant-loop-item

@@ -1,7 +1,6 @@
 use Rattle.std.proofs.Common.{◌≡◌, drop, None}
 use Rattle.std.specs.Prelude.{option_copied}
-use Rattle.lalrpop_base.specs.Views.{rest_of}
-use Rattle.lalrpop_base.specs.ViewFolds.{shortest_from}
+use Rattle.lalrpop_base.specs.Words.{rest_of, shortest_from}
 use Rattle.lalrpop_base.proofs.lr1_core.state.State.will_push.Given as goal
 
 abbrev pub invariant-loop-item : goal.invariant-loop-item

@@ -1,6 +1,6 @@
 use Rattle.std.specs.BTreeMap.{BTreeMap}
 use Rattle.lalrpop_base.specs.declared.repr.TerminalString.{TerminalString}
-use Rattle.lalrpop_base.specs.TerminalPlaces.{HasPlaces, ArePlaced}
+use Rattle.lalrpop_base.specs.Words.{HasPlaces, ArePlaced}
 use Rattle.lalrpop_base.proofs.PlaceLemmas.{place_found, place_only}
 use Rattle.std.proofs.lemmas.Option.{slice_get_read}
 use Rattle.std.specs.Prelude.{Option, IsNone}

@@ -4,8 +4,7 @@ use Rattle.std.proofs.Common.{rules, ◌<◌, ◌≡◌, refl, sym, ◌∙◌, a
 use Rattle.std.proofs.lemmas.Option.{slice_get_within, slice_get_read}
 use Rattle.lalrpop_base.specs.declared.repr.terminals.Indexed.{Indexed}
 use Rattle.lalrpop_base.specs.declared.repr.TerminalString.{TerminalString}
-use Rattle.lalrpop_base.specs.TerminalPlaces.{HasPlaces, IsIndexed}
-use Rattle.lalrpop_base.specs.Places.{IsFirstRepeat}
+use Rattle.lalrpop_base.specs.Words.{HasPlaces, IsIndexed, IsFirstRepeat}
 use Rattle.lalrpop_base.proofs.PlaceLemmas.{all_differ}
 use Rattle.lalrpop_base.proofs.repr.terminals.TerminalSet.new.Goals as goal
 

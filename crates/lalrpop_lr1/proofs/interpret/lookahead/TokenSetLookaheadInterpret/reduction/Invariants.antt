@@ -1,6 +1,5 @@
 use Rattle.std.proofs.Common.{◌≡◌, drop, map}
-use Rattle.lalrpop_base.specs.Contents.{holds_token, reduction_of}
-use Rattle.lalrpop_base.specs.Runs.{reduction_on}
+use Rattle.lalrpop_base.specs.Words.{holds_token, reduction_of, reduction_on}
 use Rattle.lalrpop_lr1.proofs.interpret.lookahead.TokenSetLookaheadInterpret.reduction.Given as goal
 
 -- the first reduction among those that are left is the first of all

@@ -1,11 +1,8 @@
 use Rattle.std.proofs.Common.{◌≡◌, ◌<◌, suc, [], length, sym, subst, arith}
 use Rattle.std.specs.Prelude.{Result}
-use Rattle.lalrpop_base.specs.Contents.{contents_in}
-use Rattle.lalrpop_base.specs.Runs.{here}
+use Rattle.lalrpop_base.specs.Words.{contents_in, here}
 use Rattle.lalrpop_base.specs.declared.lookahead.token.Token.TheVariants.{Eof}
-use Rattle.lalrpop_lr1.specs.Answers.{IsAnswer}
-use Rattle.lalrpop_lr1.specs.Machines.{configuration, trees_on, IsProgress}
-use Rattle.lalrpop_lr1.specs.Steps.{HasOutcomeFrom}
+use Rattle.lalrpop_lr1.specs.Words.{IsAnswer, configuration, trees_on, IsProgress, HasOutcomeFrom}
 use Rattle.lalrpop_lr1.specs.declared.interpret.error.InterpretError.{InterpretError}
 use Rattle.lalrpop_lr1.specs.declared.interpret.machine.Progress.{Progress}
 use Rattle.lalrpop_lr1.specs.declared.interpret.machine.Progress.TheVariants.{Stuck, GoesOn, Ended}

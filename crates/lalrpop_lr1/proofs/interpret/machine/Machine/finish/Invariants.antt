@@ -1,6 +1,6 @@
 use Rattle.std.proofs.Common.{[]}
-use Rattle.lalrpop_base.specs.Contents.{contents_in}
-use Rattle.lalrpop_lr1.specs.Machines.{configuration, IsStacked}
+use Rattle.lalrpop_base.specs.Words.{contents_in}
+use Rattle.lalrpop_lr1.specs.Words.{configuration, IsStacked}
 use Rattle.lalrpop_lr1.proofs.MachineRuns.{HasReached}
 use Rattle.lalrpop_lr1.proofs.interpret.machine.Machine.finish.Given as goal
 

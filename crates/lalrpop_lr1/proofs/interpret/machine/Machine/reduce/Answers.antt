@@ -1,12 +1,10 @@
 use Rattle.std.proofs.Common.{◌≡◌, ◌<◌, length, refl, sym, ap, ap₂, ◌∙◌}
 use Rattle.std.proofs.lemmas.Option.{slice_get_read}
 use Rattle.std.specs.Prelude.{slice_get, Some}
-use Rattle.lalrpop_base.specs.Contents.{contents_in}
+use Rattle.lalrpop_base.specs.Words.{contents_in, name_cmp, received}
 use Rattle.std.specs.BTreeMap.{get}
-use Rattle.lalrpop_base.specs.WellFormed.{name_cmp}
 use Rattle.lalrpop_base.specs.declared.lr1_core.state.State.{State}
-use Rattle.lalrpop_base.specs.Runs.{received}
-use Rattle.lalrpop_lr1.specs.Machines.{numbers, trees_on}
+use Rattle.lalrpop_lr1.specs.Words.{numbers, trees_on}
 use Rattle.lalrpop_lr1.proofs.Popping.{goes_to, ends_at}
 use Rattle.lalrpop_lr1.proofs.interpret.machine.Machine.reduce.Goals as goal
 

@@ -1,6 +1,5 @@
 use Rattle.std.proofs.Common.{[], refl}
-use Rattle.lalrpop_base.specs.Contents.{contents_in}
-use Rattle.lalrpop_base.specs.Runs.{HasOutcome}
+use Rattle.lalrpop_base.specs.Words.{contents_in, HasOutcome}
 use Rattle.lalrpop_lr1.proofs.Interpreted.{start_stacked, read_stacked, read_from_start, stop_answer, last_answer}
 use Rattle.lalrpop_lr1.proofs.MachineRuns.{raised_answer}
 use Rattle.lalrpop_lr1.proofs.interpret.machine.Machine.run.Goals as goal

@@ -1,13 +1,11 @@
 use Rattle.std.proofs.Common.{◌≡◌, List, suc, ◌<◌, [], ◌∷◌, refl, sym, ap, subst, ◌∙◌, Some, None, arith}
-use Rattle.lalrpop_base.specs.Contents.{contents_in}
+use Rattle.lalrpop_base.specs.Words.{contents_in, move}
 use Rattle.lalrpop_base.specs.declared.repr.TerminalString.{TerminalString}
-use Rattle.lalrpop_lr1.specs.Machines.{configuration, shift_on, reduction_move, HasRead, IsShifted, IsSpent, IsProgress}
-use Rattle.lalrpop_base.specs.Runs.{move}
+use Rattle.lalrpop_lr1.specs.Words.{configuration, shift_on, reduction_move, HasRead, IsShifted, IsSpent, IsProgress, IsFailure, StopsReading}
 use Rattle.lalrpop_base.specs.declared.lookahead.token.Token.TheVariants.{Terminal}
 use Rattle.lalrpop_lr1.specs.declared.interpret.error.InterpretError.{InterpretError}
 use Rattle.lalrpop_lr1.specs.declared.interpret.machine.Progress.TheVariants.{GoesOn}
-use Rattle.lalrpop_lr1.specs.Answers.{IsFailure}
-use Rattle.lalrpop_lr1.specs.Reading.{StopsReading, read}
+use Rattle.lalrpop_lr1.specs.Reading.{read}
 use Rattle.lalrpop_lr1.proofs.MachineRuns.{top_within, shift_goes, shift_is_a_step, no_shift, reads_on, stops_spent, halted_stops, reduces_on, reduces_stacked, refused_stops, progressed, on_ok, if_err, raised}
 use Rattle.lalrpop_lr1.proofs.interpret.machine.Machine.shift.Goals as goal
 

@@ -1,9 +1,7 @@
 use Rattle.std.proofs.Common.{◌≡◌, ◌∷◌, sym}
 use Rattle.std.specs.Vec.Iter.{into_iter_items}
-use Rattle.lalrpop_base.specs.Contents.{contents_in}
-use Rattle.lalrpop_lr1.specs.Answers.{IsFailure}
-use Rattle.lalrpop_lr1.specs.Machines.{configuration, HasRead}
-use Rattle.lalrpop_lr1.specs.Reading.{StopsReading}
+use Rattle.lalrpop_base.specs.Words.{contents_in}
+use Rattle.lalrpop_lr1.specs.Words.{IsFailure, configuration, HasRead, StopsReading}
 use Rattle.lalrpop_lr1.specs.declared.interpret.error.InterpretError.{InterpretError}
 use Rattle.lalrpop_lr1.proofs.Interpreted.{read_stacked, nothing_read}
 use Rattle.lalrpop_lr1.proofs.MachineRuns.{read_on, fail_later, raised}

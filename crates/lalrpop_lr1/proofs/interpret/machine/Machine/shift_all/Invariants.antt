@@ -1,6 +1,6 @@
-use Rattle.lalrpop_base.specs.Contents.{contents_in}
+use Rattle.lalrpop_base.specs.Words.{contents_in}
 use Rattle.std.specs.Vec.Iter.{into_iter_items}
-use Rattle.lalrpop_lr1.specs.Machines.{configuration, IsStacked, HasRead}
+use Rattle.lalrpop_lr1.specs.Words.{configuration, IsStacked, HasRead}
 use Rattle.lalrpop_lr1.proofs.interpret.machine.Machine.shift_all.Given as goal
 
 abbrev pub invariant-loop-terminal : goal.invariant-loop-terminal

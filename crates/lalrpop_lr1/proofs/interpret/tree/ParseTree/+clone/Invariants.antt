@@ -1,5 +1,5 @@
 use Rattle.std.proofs.Common.{◌≡◌, ◌++◌, drop, map}
-use Rattle.lalrpop_lr1.specs.ParseTrees.{tree_of}
+use Rattle.lalrpop_lr1.specs.Words.{tree_of}
 use Rattle.lalrpop_lr1.proofs.interpret.tree.ParseTree.+clone.Given as goal
 
 -- the copies, and the children that are left, are all of them

@@ -1,4 +1,4 @@
-use Rattle.lalrpop_lr1.specs.ParseTrees.{tree_of}
+use Rattle.lalrpop_lr1.specs.Words.{tree_of}
 use Rattle.lalrpop_lr1.proofs.TreeViews.{same_as_equal}
 use Rattle.lalrpop_lr1.proofs.interpret.tree.ParseTreePartialEq.eq.Goals as goal
 

@@ -2,9 +2,8 @@ use Rattle.std.proofs.Common.{◌++◌, ◌∙◌, [], ℕ, List, ap, sym, subst
 use Rattle.std.proofs.lemmas.List.{append-nil}
 use Rattle.std.specs.Fmt.{WritesInCalls}
 use Rattle.std.proofs.Output.{writes_in_calls_nil, writes_in_calls_append}
-use Rattle.lalrpop_base.specs.Names.{token_text}
-use Rattle.lalrpop_base.specs.Tokens.{seen}
-use Rattle.lalrpop_lr1.specs.ReportLines.{tokens_text}
+use Rattle.lalrpop_base.specs.Words.{token_text, seen}
+use Rattle.lalrpop_lr1.specs.Words.{tokens_text}
 use Rattle.lalrpop_lr1.proofs.report.printer.TokenSetLookaheadPrinter.print.Goals as goal
 
 pub loop-token-init : goal.loop-token-init

@@ -1,7 +1,7 @@
 use Rattle.std.proofs.Common.{◌≡◌, ◌++◌, ℕ, List, map}
 use Rattle.std.specs.Fmt.{WritesInCalls}
-use Rattle.lalrpop_base.specs.Tokens.{token_of}
-use Rattle.lalrpop_lr1.specs.ReportLines.{tokens_in, tokens_text}
+use Rattle.lalrpop_base.specs.Words.{token_of}
+use Rattle.lalrpop_lr1.specs.Words.{tokens_in, tokens_text}
 use Rattle.lalrpop_lr1.proofs.report.printer.TokenSetLookaheadPrinter.print.Given as goal
 
 -- what was printed, and the text of the tokens that are left, is the text of all

@@ -1,5 +1,5 @@
 use Rattle.std.proofs.Common.{◌≡◌, ◌≤◌}
-use Rattle.lalrpop_lr1.specs.Walks.{load, remaining}
+use Rattle.lalrpop_lr1.specs.Words.{load, remaining}
 use Rattle.lalrpop_lr1.proofs.trace.enumerator.PathEnumerator.advance.Given as goal
 
 abbrev pub invariant-loop-number : goal.invariant-loop-number

@@ -1,6 +1,5 @@
 use Rattle.std.proofs.Common.{◌-◌, sym, ◌∙◌, arith}
-use Rattle.lalrpop_lr1.specs.TraceGraphs.{node_count}
-use Rattle.lalrpop_lr1.specs.Walks.{frames}
+use Rattle.lalrpop_lr1.specs.Words.{node_count, frames}
 use Rattle.lalrpop_lr1.proofs.PathsLeft.{taken_paths, none_paths}
 use Rattle.lalrpop_lr1.proofs.Walks.{taken_load, none_load}
 use Rattle.lalrpop_lr1.proofs.trace.enumerator.PathEnumerator.next_edge.Goals as goal

@@ -1,5 +1,5 @@
 use Rattle.std.proofs.Common.{◌≡◌, ◌≤◌}
-use Rattle.lalrpop_lr1.specs.Walks.{load, remaining, steps}
+use Rattle.lalrpop_lr1.specs.Words.{load, remaining, steps}
 use Rattle.lalrpop_lr1.proofs.trace.enumerator.PathEnumerator.next_edge.Given as goal
 
 abbrev pub invariant-loop-self : goal.invariant-loop-self

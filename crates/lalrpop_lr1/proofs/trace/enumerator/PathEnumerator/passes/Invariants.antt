@@ -1,6 +1,5 @@
 use Rattle.std.proofs.Common.{◌≡◌, false, take, reverse}
-use Rattle.lalrpop_lr1.specs.Examples.{path_of}
-use Rattle.lalrpop_lr1.specs.Paths.{comes_again}
+use Rattle.lalrpop_lr1.specs.Words.{path_of, comes_again}
 use Rattle.lalrpop_lr1.proofs.trace.enumerator.PathEnumerator.passes.Given as goal
 
 abbrev pub invariant-loop-state : goal.invariant-loop-state

@@ -1,5 +1,5 @@
 use Rattle.std.proofs.Common.{refl, sym}
-use Rattle.lalrpop_lr1.specs.Walks.{frames}
+use Rattle.lalrpop_lr1.specs.Words.{frames}
 use Rattle.lalrpop_lr1.proofs.PathsLeft.{stopped_walk}
 use Rattle.lalrpop_lr1.proofs.Walks.{entered_load}
 use Rattle.lalrpop_lr1.proofs.trace.enumerator.PathEnumerator.take.Goals as goal

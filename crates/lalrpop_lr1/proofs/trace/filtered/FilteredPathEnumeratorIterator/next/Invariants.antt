@@ -1,5 +1,5 @@
 use Rattle.std.proofs.Common.{◌≡◌, ◌≤◌}
-use Rattle.lalrpop_lr1.specs.Walks.{bound, HasSkipped}
+use Rattle.lalrpop_lr1.specs.Words.{bound, HasSkipped}
 use Rattle.lalrpop_lr1.proofs.trace.filtered.FilteredPathEnumeratorIterator.next.Given as goal
 
 abbrev pub invariant-loop-self : goal.invariant-loop-self

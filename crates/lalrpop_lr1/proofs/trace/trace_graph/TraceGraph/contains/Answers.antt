@@ -1,7 +1,7 @@
 use Rattle.std.proofs.Common.{◌≡◌, IsTrue, ◌↔◌, sym, ap, ◌∙◌, subst}
 use Rattle.std.specs.Prelude.{is_some, Contains}
 use Rattle.std.specs.BTreeMap.{get}
-use Rattle.lalrpop_lr1.specs.TraceGraphs.{Graph}
+use Rattle.lalrpop_lr1.specs.Words.{Graph}
 use Rattle.lalrpop_lr1.specs.contracts.trace.node.TraceGraphNodeOrd.TheImpl as node_ord
 use Rattle.lalrpop_lr1.specs.declared.trace.node.TraceGraphNode.TheVariants.{Item}
 use Rattle.lalrpop_lr1.proofs.TraceGraphs.{kept_node, same_item}

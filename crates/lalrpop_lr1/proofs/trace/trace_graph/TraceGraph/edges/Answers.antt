@@ -1,5 +1,5 @@
 use Rattle.std.proofs.Common.{subst}
-use Rattle.lalrpop_lr1.specs.TraceGraphs.{IsGraph}
+use Rattle.lalrpop_lr1.specs.Words.{IsGraph}
 use Rattle.lalrpop_lr1.proofs.TraceGraphs.{kept_graph}
 use Rattle.lalrpop_lr1.proofs.trace.trace_graph.TraceGraph.edges.Goals as goal
 

@@ -1,6 +1,6 @@
 use Rattle.std.proofs.Common.{◌≡◌, ℕ, ◌<◌}
 use Rattle.std.specs.Prelude.{slice_get, Some}
-use Rattle.lalrpop_lr1.specs.TraceGraphs.{IsFrom}
+use Rattle.lalrpop_lr1.specs.Words.{IsFrom}
 use Rattle.lalrpop_lr1.specs.declared.trace.trace_graph.TraceGraphEdge.{TraceGraphEdge}
 use Rattle.lalrpop_lr1.proofs.trace.trace_graph.TraceGraph.has_edge.Given as goal
 

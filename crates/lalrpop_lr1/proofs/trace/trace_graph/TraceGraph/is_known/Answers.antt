@@ -3,7 +3,7 @@ use Rattle.std.specs.Prelude.{slice_get}
 use Rattle.std.proofs.lemmas.Bool.{cases_lt}
 use Rattle.std.proofs.lemmas.Option.{slice_get_within}
 use Rattle.lalrpop_base.specs.declared.lr1_core.symbol_sets.SymbolSets.{SymbolSets}
-use Rattle.lalrpop_lr1.specs.TraceGraphs.{IsKnownLabel}
+use Rattle.lalrpop_lr1.specs.Words.{IsKnownLabel}
 use Rattle.lalrpop_lr1.proofs.trace.trace_graph.TraceGraph.is_known.Goals as goal
 
 pub loop-number-preserved : goal.loop-number-preserved

@@ -1,7 +1,7 @@
 use Rattle.std.proofs.Common.{◌≡◌, ◌++◌, ◌∷◌, [], map, cond, refl, sym, ap, ◌∙◌, subst, arith}
 use Rattle.std.specs.Prelude.{is_ok, Contains}
-use Rattle.lalrpop_base.specs.Kernels.{by_number}
-use Rattle.lalrpop_lr1.specs.TraceGraphs.{Graph, IsKept, plain}
+use Rattle.lalrpop_base.specs.Words.{by_number}
+use Rattle.lalrpop_lr1.specs.Words.{Graph, IsKept, plain}
 use Rattle.lalrpop_lr1.proofs.TraceGraphs.{kept_graph, kept_refused, kept_pushed, graph_same}
 use Rattle.lalrpop_lr1.proofs.trace.trace_graph.TraceGraph.push_edge.Goals as goal
 

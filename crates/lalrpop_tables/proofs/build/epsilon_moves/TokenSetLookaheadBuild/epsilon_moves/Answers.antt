@@ -1,9 +1,7 @@
 use Rattle.std.proofs.Common.{sym, subst}
 use Rattle.std.specs.Prelude.{Contains}
 use Rattle.std.proofs.lemmas.Result.{IfOk-weaker}
-use Rattle.lalrpop_base.specs.First.{IsFirstSetBefore}
-use Rattle.lalrpop_base.specs.Tokens.{FitsTokens}
-use Rattle.lalrpop_base.specs.WellFormed.{Rules, HasKnownTerminals}
+use Rattle.lalrpop_base.specs.Words.{IsFirstSetBefore, FitsTokens, Rules, HasKnownTerminals}
 use Rattle.lalrpop_base.specs.declared.repr.Production.{Production}
 use Rattle.lalrpop_tables.proofs.EpsilonMoves.{First-holds}
 use Rattle.lalrpop_tables.proofs.Grammars.{known_symbols}

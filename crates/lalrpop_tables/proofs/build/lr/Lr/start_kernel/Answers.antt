@@ -1,6 +1,6 @@
 use Rattle.std.proofs.Common.{◌∙◌, subst, sym}
-use Rattle.lalrpop_base.specs.WellFormed.{rules_of}
-use Rattle.lalrpop_tables.specs.Closure.{AreItemsBy}
+use Rattle.lalrpop_base.specs.Words.{rules_of}
+use Rattle.lalrpop_tables.specs.Words.{AreItemsBy}
 use Rattle.lalrpop_tables.proofs.KernelDots.{Starts-at_zero}
 use Rattle.lalrpop_tables.proofs.Shifting.{Start-items}
 use Rattle.lalrpop_tables.proofs.build.lr.Lr.start_kernel.Goals as goal

@@ -1,5 +1,5 @@
 use Rattle.std.proofs.Common.{◌∙◌, sym, subst}
-use Rattle.lalrpop_tables.specs.LaneTables.{AreInRange}
+use Rattle.lalrpop_tables.specs.Words.{AreInRange}
 use Rattle.lalrpop_tables.proofs.LaneTracing.{tracing_start, tracing_within, tracing_more, tracing_end}
 use Rattle.lalrpop_tables.proofs.lane_table.construct.LaneTableConstruct.build_lane_table.Goals as goal
 

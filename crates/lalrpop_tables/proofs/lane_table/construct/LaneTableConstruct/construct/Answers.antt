@@ -1,8 +1,6 @@
 use Rattle.std.proofs.Common.{List, ◌∙◌, ap}
 use Rattle.std.specs.List.{flat_map}
-use Rattle.lalrpop_base.specs.Bits.{Bits}
-use Rattle.lalrpop_base.specs.StateConflicts.{state_conflicts}
-use Rattle.lalrpop_base.specs.WellFormed.{rules_of}
+use Rattle.lalrpop_base.specs.Words.{Bits, state_conflicts, rules_of}
 use Rattle.lalrpop_base.specs.declared.lr1_core.state.State.{State}
 use Rattle.lalrpop_tables.proofs.LaneAnswers.{tables_lalr, meet_not_lalr, was_resolved, was_met}
 use Rattle.lalrpop_tables.proofs.LaneConflicts.{some_conflict}

@@ -1,11 +1,8 @@
 use Rattle.std.proofs.Common.{◌≡◌, ◌∙◌, List, refl, sym, subst, arith, eqb-true}
 use Rattle.std.specs.Prelude.{vec_len}
-use Rattle.lalrpop_base.specs.Bits.{Bits}
-use Rattle.lalrpop_base.specs.Coherent.{AreCoherent}
-use Rattle.lalrpop_base.specs.WellFormed.{rules_of, productions}
+use Rattle.lalrpop_base.specs.Words.{Bits, AreCoherent, rules_of, productions}
 use Rattle.lalrpop_base.specs.declared.lr1_core.state.State.{State}
-use Rattle.lalrpop_tables.specs.LaneStates.{AreTraced}
-use Rattle.lalrpop_tables.specs.LaneTraces.{HaveOwnItems, places_in}
+use Rattle.lalrpop_tables.specs.Words.{AreTraced, HaveOwnItems, places_in}
 use Rattle.lalrpop_tables.proofs.LaneLoop.{idle_step}
 use Rattle.lalrpop_tables.proofs.LaneResolved.{action_own}
 use Rattle.lalrpop_tables.proofs.LaneResolving.{idle_resolved, among_here, attempt_step, attempt_resolves}

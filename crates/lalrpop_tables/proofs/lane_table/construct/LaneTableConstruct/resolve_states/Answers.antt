@@ -1,6 +1,5 @@
 use Rattle.std.proofs.Common.{List}
-use Rattle.lalrpop_base.specs.Bits.{Bits}
-use Rattle.lalrpop_base.specs.WellFormed.{rules_of}
+use Rattle.lalrpop_base.specs.Words.{Bits, rules_of}
 use Rattle.lalrpop_base.specs.declared.lr1_core.state.State.{State}
 use Rattle.lalrpop_tables.proofs.LaneLoop.{lane_states_on, resolved_more}
 use Rattle.lalrpop_tables.proofs.LaneAnswers.{lane_tables, all_done, was_resolved, were_met}

@@ -1,4 +1,4 @@
-use Rattle.lalrpop_base.specs.WellFormed.{rules_of}
+use Rattle.lalrpop_base.specs.Words.{rules_of}
 use Rattle.lalrpop_tables.proofs.LaneLoop.{AreResolvedTo}
 use Rattle.lalrpop_tables.proofs.lane_table.construct.LaneTableConstruct.resolve_states.Given as goal
 

@@ -1,11 +1,10 @@
 use Rattle.std.proofs.Common.{List, [], ◌++◌, ◌∙◌, ap, map}
 use Rattle.std.specs.Borrow.{Bor}
 use Rattle.std.specs.List.{flat_map}
-use Rattle.lalrpop_base.specs.Bits.{Bits}
-use Rattle.lalrpop_base.specs.StateConflicts.{state_conflicts}
+use Rattle.lalrpop_base.specs.Words.{Bits, state_conflicts}
 use Rattle.lalrpop_base.specs.declared.lr1_core.state.Conflict.{Conflict}
 use Rattle.lalrpop_base.specs.declared.repr.Production.{Production}
-use Rattle.lalrpop_tables.specs.LaneStates.{conflict_actions, reduce_action}
+use Rattle.lalrpop_tables.specs.Words.{conflict_actions, reduce_action}
 use Rattle.lalrpop_tables.proofs.LaneActions.{no_actions, asked_same}
 use Rattle.lalrpop_tables.proofs.lane_table.construct.actions.actions_of.Goals as goal
 

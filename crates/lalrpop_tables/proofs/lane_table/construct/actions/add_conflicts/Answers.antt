@@ -1,9 +1,9 @@
 use Rattle.std.proofs.Common.{List, [], ◌∷◌, ◌++◌, sym, subst, ap, ◌∙◌, append-nil, arith}
 use Rattle.std.specs.List.{flat_map}
-use Rattle.lalrpop_base.specs.Bits.{Bits}
+use Rattle.lalrpop_base.specs.Words.{Bits}
 use Rattle.lalrpop_base.specs.declared.lr1_core.state.Action.TheVariants.{Reduce}
 use Rattle.lalrpop_base.specs.declared.lr1_core.state.Conflict.{Conflict}
-use Rattle.lalrpop_tables.specs.LaneStates.{AreActions, conflict_actions}
+use Rattle.lalrpop_tables.specs.Words.{AreActions, conflict_actions}
 use Rattle.lalrpop_tables.proofs.LaneActions.{asked_same, one_action, asked_more}
 use Rattle.lalrpop_tables.proofs.Merging.{taken, none_left}
 use Rattle.lalrpop_tables.proofs.lane_table.construct.actions.add_conflicts.Goals as goal

@@ -1,6 +1,6 @@
 use Rattle.std.proofs.Common.{◌++◌, List, map, take}
 use Rattle.lalrpop_base.specs.declared.lr1_core.state.Action.{Action as TheAction}
-use Rattle.lalrpop_tables.specs.LaneStates.{AreActions, reduce_action}
+use Rattle.lalrpop_tables.specs.Words.{AreActions, reduce_action}
 use Rattle.lalrpop_tables.proofs.lane_table.construct.actions.add_reductions.Given as goal
 
 abbrev pub invariant-loop-reduction : goal.invariant-loop-reduction

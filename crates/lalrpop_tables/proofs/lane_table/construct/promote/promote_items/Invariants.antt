@@ -1,5 +1,5 @@
 use Rattle.std.proofs.Common.{◌≡◌, map, take}
-use Rattle.lalrpop_tables.specs.LaneStates.{promoted_item}
+use Rattle.lalrpop_tables.specs.Words.{promoted_item}
 use Rattle.lalrpop_tables.proofs.lane_table.construct.promote.promote_items.Given as goal
 
 abbrev pub invariant-loop-item : goal.invariant-loop-item

@@ -1,5 +1,5 @@
 use Rattle.std.proofs.Common.{◌≡◌, map, take}
-use Rattle.lalrpop_tables.specs.LaneStates.{promoted_reduction}
+use Rattle.lalrpop_tables.specs.Words.{promoted_reduction}
 use Rattle.lalrpop_tables.proofs.lane_table.construct.promote.promote_reductions.Given as goal
 
 abbrev pub invariant-loop-reduction : goal.invariant-loop-reduction

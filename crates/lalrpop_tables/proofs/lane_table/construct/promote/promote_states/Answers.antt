@@ -1,6 +1,6 @@
 use Rattle.std.proofs.Common.{[], ◌∷◌, ◌++◌, sym, subst, ap, ◌∙◌, append-nil, arith}
 use Rattle.std.specs.List.{AllZip}
-use Rattle.lalrpop_tables.specs.LaneStates.{IsPromoted}
+use Rattle.lalrpop_tables.specs.Words.{IsPromoted}
 use Rattle.lalrpop_tables.proofs.LanePromoted.{zip_push}
 use Rattle.lalrpop_tables.proofs.Merging.{taken, none_left}
 use Rattle.lalrpop_tables.proofs.lane_table.construct.promote.promote_states.Goals as goal

@@ -1,6 +1,6 @@
 use Rattle.std.proofs.Common.{◌≡◌, ◌++◌}
 use Rattle.std.specs.List.{AllZip}
-use Rattle.lalrpop_tables.specs.LaneStates.{IsPromoted}
+use Rattle.lalrpop_tables.specs.Words.{IsPromoted}
 use Rattle.lalrpop_tables.proofs.lane_table.construct.promote.promote_states.Given as goal
 
 abbrev pub invariant-loop-state : goal.invariant-loop-state

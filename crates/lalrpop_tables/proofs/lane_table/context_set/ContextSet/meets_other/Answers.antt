@@ -1,5 +1,5 @@
 use Rattle.std.proofs.Common.{◌≡◌, refl, length, List, Some, sym, ap, ◌∙◌, arith, slice_get}
-use Rattle.lalrpop_base.specs.Bits.{Bits, has}
+use Rattle.lalrpop_base.specs.Words.{Bits, has}
 use Rattle.lalrpop_tables.proofs.Contexts.{apart_more, apart_all}
 use Rattle.lalrpop_tables.proofs.Places.{slice_get_at, same_some}
 use Rattle.lalrpop_tables.proofs.lane_table.context_set.ContextSet.meets_other.Goals as goal

@@ -1,5 +1,5 @@
 use Rattle.std.proofs.Common.{◌≡◌, ℕ, length, slice_get, Some}
-use Rattle.lalrpop_base.specs.Bits.{Bits, no_bits}
+use Rattle.lalrpop_base.specs.Words.{Bits, no_bits}
 use Rattle.lalrpop_tables.proofs.lane_table.context_set.ContextSet.new.Given as goal
 
 abbrev pub invariant-loop-column : goal.invariant-loop-column

@@ -1,7 +1,7 @@
 use Rattle.std.proofs.Common.{sym, subst}
-use Rattle.lalrpop_base.specs.WellFormed.{rules_of}
+use Rattle.lalrpop_base.specs.Words.{rules_of}
 use Rattle.lalrpop_base.specs.declared.lr1_core.state.Action.{Action}
-use Rattle.lalrpop_tables.specs.LaneTraces.{TakesAction, places_in}
+use Rattle.lalrpop_tables.specs.Words.{TakesAction, places_in}
 use Rattle.lalrpop_tables.proofs.lane_table.lane.LaneTracer.start_trace.Goals as goal
 
 pub returns-in_err-add_lookahead-in-Shift-clause-ready : goal.returns-in_err-add_lookahead-in-Shift-clause-ready

@@ -1,7 +1,7 @@
 use Rattle.std.proofs.Common.{◌≡◌, ap, length}
-use Rattle.lalrpop_base.specs.Items.{Dotted}
+use Rattle.lalrpop_base.specs.Words.{Dotted}
 use Rattle.lalrpop_base.specs.declared.lookahead.nil.Nil.{Nil}
-use Rattle.lalrpop_tables.specs.CheckCarrying.{at_place}
+use Rattle.lalrpop_tables.specs.Words.{at_place}
 use Rattle.lalrpop_tables.specs.declared.place.Place.{Place}
 use Rattle.lalrpop_tables.proofs.LanesTaken.{lane_taken}
 use Rattle.lalrpop_tables.proofs.lane_table.lane.trace_back.take_lane.Goals as goal

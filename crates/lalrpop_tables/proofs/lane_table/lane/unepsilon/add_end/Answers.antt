@@ -1,6 +1,6 @@
 use Rattle.std.proofs.Common.{sym, refl}
 use mathlib.Core.Bool.{true≢false}
-use Rattle.lalrpop_base.specs.WellFormed.{rules_of}
+use Rattle.lalrpop_base.specs.Words.{rules_of}
 use Rattle.lalrpop_tables.proofs.Following.{end_gained, no_end}
 use Rattle.lalrpop_tables.proofs.lane_table.lane.unepsilon.add_end.Goals as goal
 

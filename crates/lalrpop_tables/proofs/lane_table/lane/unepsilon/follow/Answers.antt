@@ -1,7 +1,6 @@
 use Rattle.std.proofs.Common.{◌+◌, sym, ◌∙◌, subst}
 use mathlib.Core.Bool.{true≢false}
-use Rattle.lalrpop_base.specs.First.{IsFirstSet}
-use Rattle.lalrpop_base.specs.WellFormed.{Rules, rules_of, HasKnownTerminals}
+use Rattle.lalrpop_base.specs.Words.{IsFirstSet, Rules, rules_of, HasKnownTerminals}
 use Rattle.lalrpop_tables.proofs.Following.{no_follow, no_passed, follow_gained, follow_passed}
 use Rattle.lalrpop_tables.proofs.Grammars.{known_symbols, known_rest}
 use Rattle.lalrpop_tables.proofs.lane_table.lane.unepsilon.follow.Goals as goal

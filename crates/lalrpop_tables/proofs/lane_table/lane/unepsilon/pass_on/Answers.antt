@@ -1,6 +1,5 @@
 use Rattle.std.proofs.Common.{◌≡◌, sym, ◌∙◌, refl}
-use Rattle.lalrpop_tables.specs.CheckCarrying.{at_place}
-use Rattle.lalrpop_tables.specs.LaneSteps.{IsPlaceIf}
+use Rattle.lalrpop_tables.specs.Words.{at_place, IsPlaceIf}
 use Rattle.lalrpop_tables.specs.declared.place.Place.{Place}
 use Rattle.lalrpop_tables.proofs.CheckSending.{same_place}
 use Rattle.lalrpop_tables.proofs.Walks.{Visits-same}

@@ -2,8 +2,7 @@ use Rattle.std.proofs.Common.{◌≡◌, ◌+◌, ◌++◌, ◌∷◌, [], sym, 
 use Rattle.std.specs.Prelude.{Contains}
 use Rattle.std.proofs.lemmas.List.{take_more, take_all}
 use Rattle.std.proofs.lemmas.Option.{slice_get-get_or}
-use Rattle.lalrpop_base.specs.Items.{Dotted}
-use Rattle.lalrpop_base.specs.WellFormed.{rules_of}
+use Rattle.lalrpop_base.specs.Words.{Dotted, rules_of}
 use Rattle.lalrpop_tables.proofs.Places.{slice_get_at, contains_at}
 use Rattle.lalrpop_tables.proofs.Unepsilon.{IsFollowing, Following-start, Following-more, Unepsilon-gains, Unepsilon-visits}
 use Rattle.lalrpop_tables.proofs.lane_table.lane.unepsilon.unepsilon.Goals as goal

@@ -1,5 +1,5 @@
 use Rattle.std.proofs.Common.{take}
-use Rattle.lalrpop_base.specs.WellFormed.{rules_of}
+use Rattle.lalrpop_base.specs.Words.{rules_of}
 use Rattle.lalrpop_tables.proofs.Unepsilon.{IsFollowing}
 use Rattle.lalrpop_tables.proofs.lane_table.lane.unepsilon.unepsilon.Given as goal
 

@@ -1,5 +1,5 @@
 use Rattle.std.proofs.Common.{◌≡◌, subst}
-use Rattle.lalrpop_tables.specs.LaneSteps.{Visits}
+use Rattle.lalrpop_tables.specs.Words.{Visits}
 use Rattle.lalrpop_tables.specs.declared.place.Place.{Place}
 use Rattle.lalrpop_tables.proofs.Gains.{Gains-successor}
 use Rattle.lalrpop_tables.proofs.lane_table.lane.unshift.step_back.Goals as goal

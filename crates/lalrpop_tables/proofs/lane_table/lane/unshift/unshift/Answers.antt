@@ -1,6 +1,6 @@
 use Rattle.std.proofs.Common.{ap, ◌∙◌}
 use Rattle.std.proofs.lemmas.Option.{slice_get_within}
-use Rattle.lalrpop_tables.specs.Neighbours.{sources_left}
+use Rattle.lalrpop_tables.specs.Words.{sources_left}
 use Rattle.lalrpop_tables.proofs.EdgeLeads.{source_of_edge}
 use Rattle.lalrpop_tables.proofs.Unshifting.{Unshifting-start, Unshifting-more, left_edge, Unshifting-gains, Unshifting-visits}
 use Rattle.lalrpop_tables.proofs.lane_table.lane.unshift.unshift.Goals as goal

@@ -1,4 +1,4 @@
-use Rattle.lalrpop_tables.specs.Neighbours.{sources_left}
+use Rattle.lalrpop_tables.specs.Words.{sources_left}
 use Rattle.lalrpop_tables.proofs.Unshifting.{IsUnshifting}
 use Rattle.lalrpop_tables.proofs.lane_table.lane.unshift.unshift.Given as goal
 

@@ -1,5 +1,5 @@
 use Rattle.std.proofs.Common.{refl}
-use Rattle.lalrpop_tables.specs.LaneTableStates.{IsClosedEdge}
+use Rattle.lalrpop_tables.specs.Words.{IsClosedEdge}
 use Rattle.lalrpop_tables.proofs.LaneTableStates.{EachSoFar, far_in, far_more, far_end, each_more}
 use Rattle.lalrpop_tables.proofs.lane_table.table.LaneTable.are_closed.Goals as goal
 

@@ -1,4 +1,4 @@
-use Rattle.lalrpop_tables.specs.LaneTableStates.{IsClosedEdge}
+use Rattle.lalrpop_tables.specs.Words.{IsClosedEdge}
 use Rattle.lalrpop_tables.proofs.LaneTableStates.{HoldsSoFar, EachSoFar}
 use Rattle.lalrpop_tables.proofs.lane_table.table.LaneTable.are_closed.Given as goal
 

@@ -1,5 +1,5 @@
 use Rattle.lalrpop_tables.proofs.LaneColumns.{IsGathering}
-use Rattle.lalrpop_tables.specs.LaneRows.{ThisRow}
+use Rattle.lalrpop_tables.specs.Words.{ThisRow}
 use Rattle.lalrpop_tables.proofs.lane_table.table.LaneTable.context_set.Given as goal
 
 abbrev pub invariant-loop-row : goal.invariant-loop-row

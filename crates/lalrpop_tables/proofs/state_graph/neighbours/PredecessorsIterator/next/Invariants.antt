@@ -1,5 +1,5 @@
 use Rattle.std.proofs.Common.{◌≡◌, length}
-use Rattle.lalrpop_tables.specs.Neighbours.{sources_left}
+use Rattle.lalrpop_tables.specs.Words.{sources_left}
 use Rattle.lalrpop_tables.proofs.state_graph.neighbours.PredecessorsIterator.next.Given as goal
 
 -- the edges that were passed have another symbol

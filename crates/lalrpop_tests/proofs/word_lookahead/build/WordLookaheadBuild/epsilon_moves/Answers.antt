@@ -1,10 +1,7 @@
 use Rattle.std.proofs.Common.{◌≡◌, length, sym, ◌∙◌, ap, subst}
 use Rattle.std.specs.Prelude.{Contains}
 use Rattle.std.proofs.lemmas.Result.{IfOk-weaker}
-use Rattle.lalrpop_base.specs.Bits.{has}
-use Rattle.lalrpop_base.specs.First.{IsFirstSet}
-use Rattle.lalrpop_base.specs.Places.{AllDiffer}
-use Rattle.lalrpop_base.specs.WellFormed.{Rules, HasKnownTerminals}
+use Rattle.lalrpop_base.specs.Words.{has, IsFirstSet, AllDiffer, Rules, HasKnownTerminals}
 use Rattle.lalrpop_base.specs.declared.repr.Production.{Production}
 use Rattle.lalrpop_tables.proofs.Grammars.{known_symbols}
 use Rattle.lalrpop_tests.specs.WordMoves.{IsWordOf}

@@ -1,8 +1,7 @@
 use Rattle.std.proofs.Common.{◌≡◌, ◌∙◌, ◌+◌, inl, inr, List, Some, ap, refl, sym, subst, arith}
 use Rattle.std.specs.Prelude.{Contains}
 use Rattle.lalrpop_base.specs.declared.lr1_core.state.StateIndex.{StateIndex}
-use Rattle.lalrpop_tables.specs.LaneTables.{IsSuccessor}
-use Rattle.lalrpop_tables.specs.Merges.{index, unvisited}
+use Rattle.lalrpop_tables.specs.Words.{IsSuccessor, index, unvisited}
 use Rattle.lalrpop_tables.proofs.Lists.{Contains-none, Contains-here, Contains-there, Contains-cases}
 use Rattle.lalrpop_tables.proofs.Merges.{IsDone, advances_none, advances_on, copy_on, copy_walked, leads_on, mark_advance, mark_less, mark_listed, marked, row_on, successor_row, walked_all, walked_more, walked_on}
 use Rattle.lalrpop_tables.proofs.Places.{same_some, slice_get_at}

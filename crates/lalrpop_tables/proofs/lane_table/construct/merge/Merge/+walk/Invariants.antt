@@ -1,7 +1,8 @@
 use Rattle.std.proofs.Common.{◌≤◌, ◌⊎◌, ℕ}
 use Rattle.std.specs.Prelude.{Contains}
 use Rattle.lalrpop_base.specs.declared.lr1_core.state.StateIndex.{StateIndex}
-use Rattle.lalrpop_tables.specs.Merges.{Advances, HasJoined, IsVisited, LeadsTo, unvisited}
+use Rattle.lalrpop_tables.specs.Words.{Advances, HasJoined, IsVisited, unvisited}
+use Rattle.lalrpop_tables.specs.Merges.{LeadsTo}
 use Rattle.lalrpop_tables.proofs.Merges.{IsDone}
 use Rattle.lalrpop_tables.proofs.lane_table.construct.merge.Merge.+walk.Given as goal
 

@@ -1,5 +1,5 @@
 use Rattle.std.proofs.Common.{◌≡◌, length, arith}
-use Rattle.lalrpop_tables.specs.Merges.{index}
+use Rattle.lalrpop_tables.specs.Words.{index}
 use Rattle.lalrpop_tables.proofs.Merges.{row_walked, walked_listed}
 use Rattle.lalrpop_tables.proofs.NewCopies.{pushed_advance, pushed_fresh, pushed_marks, unmade_advance, unpushed_advance, unpushed_marks}
 use Rattle.lalrpop_tables.proofs.Places.{slice_get_at}

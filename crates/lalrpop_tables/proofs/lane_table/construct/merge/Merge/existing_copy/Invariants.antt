@@ -1,5 +1,5 @@
 use Rattle.std.proofs.Common.{◌≡◌}
-use Rattle.lalrpop_tables.specs.Merges.{Advances}
+use Rattle.lalrpop_tables.specs.Words.{Advances}
 use Rattle.lalrpop_tables.proofs.lane_table.construct.merge.Merge.existing_copy.Given as goal
 
 abbrev pub invariant-loop-index : goal.invariant-loop-index

@@ -1,5 +1,5 @@
 use Rattle.std.proofs.Common.{subst}
-use Rattle.lalrpop_tables.specs.Merges.{AreUnited}
+use Rattle.lalrpop_tables.specs.Words.{AreUnited}
 use Rattle.lalrpop_tables.proofs.Merges.{advances_on, walked_on, successor_own, successor_walked}
 use Rattle.lalrpop_tables.proofs.lane_table.construct.merge.Merge.join_successor.Goals as goal
 

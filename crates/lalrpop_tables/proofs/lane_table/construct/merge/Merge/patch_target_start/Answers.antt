@@ -1,9 +1,8 @@
 use Rattle.std.proofs.Common.{◌≡◌, ◌∙◌, ap, subst, arith, length, Some}
 use Rattle.std.specs.Prelude.{slice_get}
-use Rattle.lalrpop_base.specs.Bits.{Bits}
+use Rattle.lalrpop_base.specs.Words.{Bits}
 use Rattle.std.proofs.Common.{List}
-use Rattle.lalrpop_tables.specs.Contexts.{IsApplied}
-use Rattle.lalrpop_tables.specs.Merges.{index, IsWalked}
+use Rattle.lalrpop_tables.specs.Words.{IsApplied, index, IsWalked}
 use Rattle.lalrpop_tables.proofs.Merges.{on_ok, walked_context}
 use Rattle.lalrpop_tables.proofs.Merging.{set_here, set_elsewhere, set_length}
 use Rattle.lalrpop_tables.proofs.Places.{slice_get_at}

@@ -1,6 +1,6 @@
 use Rattle.std.proofs.Common.{rules}
 use Rattle.std.proofs.lemmas.Map.Made.{map_same_pairs}
-use Rattle.lalrpop_tables.specs.StateSets.{replaced_set}
+use Rattle.lalrpop_tables.specs.Words.{replaced_set}
 use Rattle.lalrpop_tables.proofs.lane_table.construct.merge.context_sets.replace_sets.Goals as goal
 
 pub returns : goal.returns

@@ -1,7 +1,6 @@
 use Rattle.std.proofs.Common.{rules}
 use Rattle.std.proofs.lemmas.Map.Made.{map_same_pairs}
-use Rattle.lalrpop_tables.specs.Merges.{replaced}
-use Rattle.lalrpop_tables.specs.Renumbered.{retargeted}
+use Rattle.lalrpop_tables.specs.Words.{replaced, retargeted}
 use Rattle.lalrpop_tables.proofs.lane_table.construct.merge.copies.replace_targets.Goals as goal
 
 pub returns : goal.returns

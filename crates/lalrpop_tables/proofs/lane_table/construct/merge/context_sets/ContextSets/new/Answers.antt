@@ -1,6 +1,5 @@
 use Rattle.std.proofs.Common.{◌∙◌, ◌∷◌, ◌++◌, [], ap, sym, subst, append-nil, append_assoc}
-use Rattle.lalrpop_tables.specs.LaneRows.{Rows}
-use Rattle.lalrpop_tables.specs.StateSets.{OwnSets}
+use Rattle.lalrpop_tables.specs.Words.{Rows, OwnSets}
 use Rattle.lalrpop_tables.proofs.StateSets.{own_none, own_more}
 use Rattle.lalrpop_tables.proofs.lane_table.construct.merge.context_sets.ContextSets.new.Goals as goal
 

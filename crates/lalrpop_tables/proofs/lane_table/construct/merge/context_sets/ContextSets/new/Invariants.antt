@@ -1,5 +1,5 @@
 use Rattle.std.proofs.Common.{◌≡◌, ◌++◌}
-use Rattle.lalrpop_tables.specs.StateSets.{OwnSets}
+use Rattle.lalrpop_tables.specs.Words.{OwnSets}
 use Rattle.lalrpop_tables.proofs.lane_table.construct.merge.context_sets.ContextSets.new.Given as goal
 
 abbrev pub invariant-loop-state : goal.invariant-loop-state

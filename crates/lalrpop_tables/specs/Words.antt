@@ -1,0 +1,66 @@
+-- The words of this crate's contracts, by name: where each is defined.
+pub use Rattle.lalrpop_tables.specs.Ascending.{Ascend, Precedes, production_order}
+pub use Rattle.lalrpop_tables.specs.Canonical.{AreCanonicalStates, AreOrderedCanonical, FitReductions, is_with_token, tokens_of}
+pub use Rattle.lalrpop_tables.specs.CanonicalConflicts.{AreCanonicalConflictsOf, FailByCanonicalConflicts, ShiftsLead, StatesAscend, listed_of}
+pub use Rattle.lalrpop_tables.specs.Check.{HoldCarried, PassCheck}
+pub use Rattle.lalrpop_tables.specs.CheckCarrying.{AllHoldCarried, AreCarried, AreCarriedTo, Carried, Gives, HasBegun, HasStarted, HoldsCarried, IsBegunAt}
+pub use Rattle.lalrpop_tables.specs.CheckCarrying.{IsCarriedTo, IsInto, IsOver, Sends, at_place, target_from, target_in}
+pub use Rattle.lalrpop_tables.specs.CheckClosing.{AllWait, AreClosure, IsBegun, IsExpansionOf, IsMovedIn, IsMovedOf, Widens}
+pub use Rattle.lalrpop_tables.specs.CheckSets.{HaveSame, IsAdded}
+pub use Rattle.lalrpop_tables.specs.CheckStates.{AreRightStates, IsRightItem, IsRightState, IsRightTarget, IsTarget, LeadsBy, LeadsFrom, LeadsOn, Lists, dots}
+pub use Rattle.lalrpop_tables.specs.CheckStates.{finished, lr0, reduced}
+pub use Rattle.lalrpop_tables.specs.Closing.{AreAllBegun, AreOwn, Begins, Expands, ExpandsFound, HasFoundToken, HasGiven, IsBegunBy, IsBegunOf, IsExpandedTo}
+pub use Rattle.lalrpop_tables.specs.Closing.{IsStarted, IsTokenClosing, IsTokenSettled, SpreadAll, SpreadFirst, production_of}
+pub use Rattle.lalrpop_tables.specs.Closure.{AreBegun, AreItems, AreItemsBy, Found, HasItemToken, HasItemTokenBy, InKernel, InTokenClosureBy, IsClosing}
+pub use Rattle.lalrpop_tables.specs.Closure.{IsClosureBy, IsClosureOf, IsExpanded, IsItemBy, IsItemOf, IsTable, Spreads, begun_of, dotted_of, from_parent}
+pub use Rattle.lalrpop_tables.specs.Closure.{from_rest, item_of, itself, meant, own_token, weight}
+pub use Rattle.lalrpop_tables.specs.Collapsed.{AreCollapsedTables, AreOrdered, FailsByCollapse, HoldsAt, IsCollapsed, IsMerge, IsNumbered, IsOrderedState}
+pub use Rattle.lalrpop_tables.specs.Collapsed.{OfMember, ReducesBy, ReducesOn, dots_in}
+pub use Rattle.lalrpop_tables.specs.Contexts.{AreAmong, AreDisjoint, AreReducedAmong, HasAt, IsApplied, IsJoinedIn, IsReductionAt, IsUnion, MeetInUnion}
+pub use Rattle.lalrpop_tables.specs.Contexts.{MeetsOther, Reduces, TookColumn}
+pub use Rattle.lalrpop_tables.specs.Counts.{IsBelow, count, one_if}
+pub use Rattle.lalrpop_tables.specs.EarlyStop.{AreEnough, AreMadeFor, AreMadeUntilBy, ArePartlyBuilt, ArePartlyBuiltBy, AreSomeCanonicalStates}
+pub use Rattle.lalrpop_tables.specs.EarlyStop.{AreSomeLr0States, FailsAfterLr0, GoesOnBeforeLast, HasDotted, HaveSameContents, IsLr0StateFor, IsStateFor}
+pub use Rattle.lalrpop_tables.specs.EarlyStop.{ListFewer, Lr0StopsAfter, StopsAfter, StopsFor}
+pub use Rattle.lalrpop_tables.specs.Entries.{Adds, AllBelow, Grows, IsFound, IsFoundWith, IsJoinedAt, IsPushedAt, IsQueued, burden, readings}
+pub use Rattle.lalrpop_tables.specs.EpsilonMoves.{AreBegunWith, AreEpsilonMoves, IsBegunWith}
+pub use Rattle.lalrpop_tables.specs.Lalr.{AreLalrTables, AreMergedTables, AreRenumberedMerged, Collapses, FailsAsLalr, HasCoherentStates, HasOrderedStates}
+pub use Rattle.lalrpop_tables.specs.Lalr.{TellsNotLALR1}
+pub use Rattle.lalrpop_tables.specs.LaneRows.{AddsRows, AreGathered, AreRowsOf, Cells, HasCells, HasIn, HasNext, JoinsRow, MakesRow, MeetsRow, Rows, StandsFor}
+pub use Rattle.lalrpop_tables.specs.LaneRows.{Successors, ThisRow, row_at}
+pub use Rattle.lalrpop_tables.specs.LaneStates.{ActionsAscend, AreActions, AreLalrLaneTables, AreLaneStates, AreLaneTables, AreLr0Tables, AreTraced}
+pub use Rattle.lalrpop_tables.specs.LaneStates.{FailsByLanes, HasActionBit, HasLaneBits, HasSamePlace, HaveFullItems, HaveMeetingLanes, HaveSamePlaces}
+pub use Rattle.lalrpop_tables.specs.LaneStates.{HoldAllFrom, HoldsAll, IsAttempted, IsBitAt, IsFull, IsLaneAction, IsPromoted, IsResolved, IsResolvedAt, IsStep}
+pub use Rattle.lalrpop_tables.specs.LaneStates.{IsTokenOf, LanesMeet, action_order, asked_actions, by, conflict_actions, dot_of, promoted_item}
+pub use Rattle.lalrpop_tables.specs.LaneStates.{promoted_reduction, reduce_action}
+pub use Rattle.lalrpop_tables.specs.LaneSteps.{Gains, GainsAll, GainsOf, GivesBit, GivesCell, GivesSuccessor, IsEnd, IsEndBit, IsEndPlace, IsFollowBit}
+pub use Rattle.lalrpop_tables.specs.LaneSteps.{IsGround, IsHere, IsPair, IsParent, IsPassedOn, IsPlaceIf, Nothing, Nowhere, Reaches, Some_of, Visits, VisitsOf}
+pub use Rattle.lalrpop_tables.specs.LaneSteps.{rest_of}
+pub use Rattle.lalrpop_tables.specs.LaneTableStates.{AddsKeys, AreReached, HasCellsBelow, IsClosedEdge}
+pub use Rattle.lalrpop_tables.specs.LaneTables.{AddsSuccessor, AddsTokens, AreColumns, AreInRange, AreSameTables, ColumnsOverlap, HasRow, InColumn, IsBeachhead}
+pub use Rattle.lalrpop_tables.specs.LaneTables.{IsClosed, IsEmptyTable, IsRow, IsSuccessor, RowOverlaps, column}
+pub use Rattle.lalrpop_tables.specs.LaneTraces.{GivesAt, HaveOwnItems, IsLaneBit, IsReadyToTrace, ReducesOwn, TakesAction, TakesLane, places_in}
+pub use Rattle.lalrpop_tables.specs.Laws.{AreNilTables, AreSetTables, IsKeptGrammar, StopsWithNil, StopsWithSets, lr0_of}
+pub use Rattle.lalrpop_tables.specs.ListedConflicts.{conflict_of, conflicts_of}
+pub use Rattle.lalrpop_tables.specs.Lr0.{AreLr0States, HasLr0States, HaveNoNilConflict, ListsNilConflicts, lr0_contents, on_any}
+pub use Rattle.lalrpop_tables.specs.Lr1Answers.{AreBuiltTablesOf, AreTablesBy, AreTablesOf, FailsOn, HasConflictsOf}
+pub use Rattle.lalrpop_tables.specs.Merges.{Advances, AreApart, AreCopies, AreReductionsOf, AreTargetsAmong, AreUnited, HasJoined, HasWalked, HaveNoNewMarks}
+pub use Rattle.lalrpop_tables.specs.Merges.{IsApart, IsContext, IsCopyOf, IsFresh, IsJoinedCopy, IsLonger, IsMerging, IsPushed, IsResolvedCopy, IsTaken}
+pub use Rattle.lalrpop_tables.specs.Merges.{IsVisited, IsWalked, TookOwnColumns, index, replaced, unset, unvisited}
+pub use Rattle.lalrpop_tables.specs.Merging.{AreFirstNumbers, AreJoinedReductions, ArePlaced, AreTokensOf, HasReduction, HasReductionOn, HasTokensOf, IsJoined}
+pub use Rattle.lalrpop_tables.specs.Merging.{IsPlacedAt, IsReduced, Places, bare, joined, joined_at, joined_item, joined_items, pushed}
+pub use Rattle.lalrpop_tables.specs.Moved.{AreMoved, GrowsBy, and_one, no_more}
+pub use Rattle.lalrpop_tables.specs.Neighbours.{sources_left}
+pub use Rattle.lalrpop_tables.specs.Partitions.{ArePlaces, fails, new_place, parted, parted_place, rank}
+pub use Rattle.lalrpop_tables.specs.Renumbered.{AreRenumbered, IsRenumberedState, KeepsOrder, number_in, retargeted, retargeted_all, stands_first}
+pub use Rattle.lalrpop_tables.specs.RenumberedTables.{AreRenumberedLaneTables, AreRenumberedTables}
+pub use Rattle.lalrpop_tables.specs.Results.{AreAllConflicts, AreStatesFor, AreStatesOf, AreTables, AreTablesFor, Construction, FailWith, FailsBy, FailsFor}
+pub use Rattle.lalrpop_tables.specs.Results.{HaveNoConflict, ListsAll, Settings, canonical_of, more}
+pub use Rattle.lalrpop_tables.specs.StateGraph.{AddsStates, Edge, HaveSameStates, IsGraphOf, IsGrown, IsStepBack, edge, edges, edges_from, edges_of, goto_edges}
+pub use Rattle.lalrpop_tables.specs.StateGraph.{listed, nowhere, origin_of, origins, origins_of, over, shift_edges, sources_over, state_cmp, targets_from}
+pub use Rattle.lalrpop_tables.specs.StateGraph.{targets_of, with_symbol}
+pub use Rattle.lalrpop_tables.specs.StateSets.{AddsColumns, AreJoined, HasSet, IsJoint, IsMade, OwnSets, columns_of, context_of, replaced_entry, replaced_set}
+pub use Rattle.lalrpop_tables.specs.StateSets.{set_of}
+pub use Rattle.lalrpop_tables.specs.States.{AreBuiltBy, Extends, HasTransition, IsBuilt, IsBuiltBy, IsBuiltOfBy, IsLedTo, Leads, LeadsToAdded, begun}
+pub use Rattle.lalrpop_tables.specs.Transitions.{AreEdges, AreMoves, AreShifted, Groups, HasEdge, HasNoGroup, IsBehind, IsBehindOne, IsEdgeAdded, IsMoveAdded}
+pub use Rattle.lalrpop_tables.specs.Transitions.{Shifts, ShiftsAscend, moved, reductions_of, seen}
