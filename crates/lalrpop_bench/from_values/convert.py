@@ -12,7 +12,6 @@ import walked_questions as of_walks
 from questions import Grammar
 
 FOLDER = "model"
-WAITING = "lane_copies.cases"
 
 # Of each case file: the kinds of values it holds, each with what makes questions of it.
 FILES = {
@@ -84,11 +83,11 @@ def questions_of(grammar, kinds):
     return of_states.without_repeats(asked)
 
 
-def blocks_of(grammars, texts, kinds, waits):
-    """The blocks of a case file, of the questions that wait or of the others; and how many cases they are."""
+def blocks_of(grammars, texts, kinds):
+    """The blocks of a case file, and how many cases they are."""
     blocks, count = [], 0
     for grammar in grammars:
-        asked = [q for q in questions_of(grammar, kinds) if q.waits == waits]
+        asked = questions_of(grammar, kinds)
         if asked:
             blocks.append(block(grammar.file, texts[grammar.file], asked))
             count += len(asked)
@@ -115,16 +114,6 @@ def read_texts(grammars, folder):
     return texts
 
 
-def write_waiting(folder, grammars, texts):
-    """Writes the cases that wait for copies of states."""
-    kinds = {kind: ask for file_kinds in FILES.values() for kind, ask in file_kinds.items()}
-    blocks, count = blocks_of(grammars, texts, kinds, waits=True)
-    remark = ("# Cases of the model's values that wait, since the lane way makes no copies of states yet:\n"
-              "# build_lane_table_states answers the error at which it would copy, and build_states the\n"
-              "# canonical states. No run asks them. Made by from_values/convert.py.\n")
-    write_file(folder / WAITING, remark, blocks, count)
-
-
 def main(words):
     """Makes the case files."""
     if len(words) != 3:
@@ -135,11 +124,10 @@ def main(words):
     texts = read_texts(grammars, grammars_folder)
     grammars = [grammar for grammar in grammars if grammar.file in texts]
     for name, kinds in FILES.items():
-        blocks, count = blocks_of(grammars, texts, kinds, waits=False)
+        blocks, count = blocks_of(grammars, texts, kinds)
         what = " ".join(ask.__doc__ for ask in kinds.values())
         remark = f"# {what}\n# Made by from_values/convert.py of the values of a model.\n"
         write_file(data / FOLDER / name, remark, blocks, count)
-    write_waiting(data.parent / "waiting", grammars, texts)
     return 0
 
 

@@ -7,10 +7,9 @@ from shown import counts_line, is_counted, listed, production_text, result_lines
 
 @dataclass
 class Question:
-    """A call with its words, and the lines owed; `waits` where copies of states are needed."""
+    """A call with its words, and the lines owed."""
     words: list
     owed: list
-    waits: bool = False
 
     def line(self):
         return " ".join(["ask", *self.words])
@@ -23,17 +22,6 @@ class Grammar:
     start: str = ""
     productions: list = field(default_factory=list)
     values: dict = field(default_factory=dict)
-
-    def copies(self):
-        """Whether the lane way needs copies of states for its tables."""
-        results = [value for value in self.values.get("lane_tables", []) if value["max_copies"]]
-        return any(not is_without_copies(self, value) and value["ok"] for value in results)
-
-
-def is_without_copies(grammar, value):
-    """Whether a result of lane tables is also that with no copy allowed."""
-    first = next(v for v in grammar.values["lane_tables"] if v["max_copies"] == 0)
-    return {**first, "max_copies": None} == {**value, "max_copies": None}
 
 
 def ask_read(grammar, value):
@@ -101,10 +89,10 @@ def ask_views(grammar, value):
     return [Question(["views", grammar.start], lines)]
 
 
-def asked_result(grammar, words, value, waits=False):
+def asked_result(grammar, words, value):
     """The question whose answer is a result, or its counts alone."""
     counted = ["count"] if is_counted(value) else []
-    return Question([*words, *counted], result_lines(value, grammar.productions), waits)
+    return Question([*words, *counted], result_lines(value, grammar.productions))
 
 
 def ask_lr0(grammar, value):
@@ -125,14 +113,13 @@ def ask_canonical(grammar, value):
 
 def ask_lane(grammar, value):
     """What the lane way answers, the canonical one where it has no tables."""
-    words = ["build_states", grammar.start, "lane"]
-    return [asked_result(grammar, words, value, grammar.copies())]
+    return [asked_result(grammar, ["build_states", grammar.start, "lane"], value)]
 
 
 def ask_lane_tables(grammar, value):
     """Lane tables with a number of copies allowed."""
     words = ["build_lane_table_states", grammar.start, str(value["max_copies"])]
-    return [asked_result(grammar, words, value, not is_without_copies(grammar, value))]
+    return [asked_result(grammar, words, value)]
 
 
 def ask_early_stop(grammar, value):
@@ -157,8 +144,7 @@ def ask_check(grammar, value):
     questions = []
     for way in ["canonical", "collapsed", "lane"]:
         answer = [str(value[way]).lower()]
-        waits = way == "lane" and grammar.copies()
-        questions.append(Question(["check_tables", grammar.start, way], answer, waits))
+        questions.append(Question(["check_tables", grammar.start, way], answer))
     for row in value["canonical_changed"]:
         change = {"emptied": "emptied", "all tokens": "full"}[row["tokens"]]
         words = ["check_tables", grammar.start, "canonical"]

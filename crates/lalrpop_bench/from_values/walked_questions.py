@@ -139,10 +139,8 @@ def ask_runs(grammar, value):
     lanes = [row for row in value if row["method"] == "Lane"]
     canonicals = [row for row in value if row["method"] == "Canonical"]
     for place in range(len(lanes)):
-        by_lane = run_question(grammar, place, lanes)
-        canonical = run_question(grammar, place, canonicals)
-        by_lane.waits = grammar.copies() and by_lane.owed != canonical.owed
-        questions += [by_lane, canonical]
+        questions.append(run_question(grammar, place, lanes))
+        questions.append(run_question(grammar, place, canonicals))
     return without_repeats(questions)
 
 
@@ -152,4 +150,4 @@ def ask_augment(grammar, value):
     lines.append(f"  {value['action']}: {value['start']} -> {grammar.start}")
     lines.append("lane " + counts_line(value["lane"]))
     lines.append("canonical " + counts_line(value["canonical"]))
-    return [Question(["augment", grammar.start], lines, grammar.copies())]
+    return [Question(["augment", grammar.start], lines)]

@@ -41,12 +41,12 @@ had_tables P p (Err LimitPassed) = p
 had_tables P p (Err NoMemory) = tt
 
 -- ---- and of the grammar, since its tables are faithful
-module _ (g : Grammar) (options : Options) (start : NonterminalString) (tables states : List (State Bits)) (same : states ≡ tables) (made : AreTablesOf (Collapses g options) options.method g start tables) where
+module _ (g : Grammar) (options : Options) (start : NonterminalString) (tables states : List (State Bits)) (same : states ≡ tables) (made : AreTablesOf (Collapses g options) options.method options.max_copies g start tables) where
   abbrev pub table : ℕ → Contents
   table = contents g.terminals states
 
-  here : AreTablesOf (Collapses g options) options.method g start states
-  here = subst (AreTablesOf (Collapses g options) options.method g start) (sym same) made
+  here : AreTablesOf (Collapses g options) options.method options.max_copies g start states
+  here = subst (AreTablesOf (Collapses g options) options.method options.max_copies g start) (sym same) made
 
   module _ (w : List TerminalString) (limit : ℕ) (answer : Result ParseTree (InterpretError Bits)) (told : Result ParseTree ParseError) (is : told ≡ told_by answer) where
     pub decided : HadTablesWhere (IsAccepted (Collapses g options) g start) told

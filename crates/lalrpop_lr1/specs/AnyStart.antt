@@ -70,6 +70,6 @@ above f CutOff = CutOff
 -- the answer tells what the run by the grammar's tables comes to, but for the node above; the start symbol is on no right side
 pub record IsToldByTablesAbove (g : Grammar) (options : Options) (f : NonterminalString) (w : List TerminalString) (limit : ℕ) (answer : Result ParseTree ParseError) : Type 0 where
   pub tables : List (State Bits)
-  pub made : AreTablesOf (Collapses g options) options.method g f tables
+  pub made : AreTablesOf (Collapses g options) options.method options.max_copies g f tables
   pub alone : IsOnNoRightSide (productions g) f
   pub told : IsOutcomeTold (λ o. HasOutcome (contents g.terminals tables) w limit (above f o)) answer

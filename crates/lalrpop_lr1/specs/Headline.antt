@@ -21,7 +21,7 @@ pub record IsAccepted (collapsed : Type 0) (g : Grammar) (start : NonterminalStr
 -- the answer tells what the run by the grammar's tables comes to. A tree has the list as its leaves, and its nodes are within the limit
 pub record IsToldByTables (g : Grammar) (options : Options) (start : NonterminalString) (w : List TerminalString) (limit : ℕ) (answer : Result ParseTree ParseError) : Type 0 where
   pub tables : List (State Bits)
-  pub made : AreTablesOf (Collapses g options) options.method g start tables
+  pub made : AreTablesOf (Collapses g options) options.method options.max_copies g start tables
   pub told : IsOutcomeTold (HasOutcome (contents g.terminals tables) w limit) answer
   pub of_list : IfOk answer (λ tree. leaves (beside (tree_of tree) no_trees) ≡ w)
   pub within : IfOk answer (λ tree. nodes (beside (tree_of tree) no_trees) ≤ limit)

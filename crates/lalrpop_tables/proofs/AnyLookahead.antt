@@ -20,7 +20,7 @@ module _ (g : Grammar) (start : NonterminalString) (kept : IsKeptGrammar g) wher
   own = productions_own g kept.well_formed kept.names
 
   -- ---- with sets of tokens
-  pub Law-set-tables : (tables : List (State Bits)) → AreSetTables g start tables → AreBuiltTablesOf ⊥ Canonical g start tables
+  pub Law-set-tables : (tables : List (State Bits)) → AreSetTables g start tables → AreBuiltTablesOf ⊥ Canonical 0 g start tables
   Law-set-tables tables t = Set-tables g start kept.well_formed own kept.terminals tables t
 
   pub Law-set-errors : (stop_after : ℕ) (error : BuildError Bits) → StopsWithSets g start stop_after error → FailsOn ⊥ stop_after g start error

@@ -1,11 +1,27 @@
 -- Lane tables that are answered for LR(1) states.
-use Rattle.std.proofs.Common.{List}
+use Rattle.std.proofs.Common.{◌≡◌, true, List, Option, None, Some, sym, subst}
+use Rattle.std.specs.Prelude.{IfOk, IfSome, IsSomeAnd, is_some}
+use Rattle.std.specs.declared.result.Result.{Result}
+use Rattle.std.specs.declared.result.Result.TheVariants.{Ok, Err}
 use Rattle.lalrpop_base.specs.Words.{Bits, rules_of}
 use Rattle.lalrpop_base.specs.declared.lr1_core.state.State.{State}
 use Rattle.lalrpop_base.specs.declared.repr.NonterminalString.{NonterminalString}
 use Rattle.lalrpop_base.specs.declared.repr.grammar.Grammar.{Grammar}
-use Rattle.lalrpop_tables.specs.Words.{PassCheck, AreLaneTables, AreLalrLaneTables}
+use Rattle.lalrpop_tables.specs.Words.{PassCheck, AreLalrLaneTables}
 
 -- the lane tables of an LALR(1) grammar whose start symbol stands on no right side pass the check
-pub Lanes-pass : (g : Grammar) (start : NonterminalString) (tables : List (State Bits)) → AreLaneTables (rules_of g) start tables → AreLalrLaneTables (rules_of g) start tables → PassCheck g start tables
-Lanes-pass g start tables lanes lalr = record { closed = lalr.checked.closed; reductions = lalr.checked.reductions; carried = lalr.checked.carried; no_conflict = lanes.free }
+pub Lanes-pass : (g : Grammar) (start : NonterminalString) (tables : List (State Bits)) → AreLalrLaneTables (rules_of g) start tables → PassCheck g start tables
+Lanes-pass g start tables lalr = record { closed = lalr.checked.closed; reductions = lalr.checked.reductions; carried = lalr.checked.carried; no_conflict = lalr.lanes.free }
+
+module _ {T E : Type 0} (items : T → List (State Bits)) (checked : List (State Bits)) (Said : List (State Bits) → Type 0) (said : Said checked) where
+  -- what is said of the tables that were checked is said of those that were kept
+  pub Kept-said : (r : Result (Option T) E) → IfOk r (λ answer. IfSome answer (λ kept. items kept ≡ checked)) → IfOk r (λ answer. IfSome answer (λ kept. Said (items kept)))
+  Kept-said (Ok (Some kept)) same = subst Said (sym same) said
+  Kept-said (Ok None) same = tt
+  Kept-said (Err e) same = tt
+
+  -- and where they pass, there are such
+  pub Passing-said : (r : Result (Option T) E) → IfOk r (λ answer. is_some answer ≡ true) → IfOk r (λ answer. IfSome answer (λ kept. items kept ≡ checked)) → IfOk r (λ answer. IsSomeAnd answer (λ kept. Said (items kept)))
+  Passing-said (Ok (Some kept)) passing same = subst Said (sym same) said
+  Passing-said (Ok None) passing same = cc
+  Passing-said (Err e) passing same = tt

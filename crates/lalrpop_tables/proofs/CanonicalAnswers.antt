@@ -18,7 +18,7 @@ use Rattle.lalrpop_tables.proofs.StoppedAnswers.{stopping, stops, not_lr1}
 use Rattle.lalrpop_tables.proofs.TokenTables.{Passes, Lists, Tables-of, Fails-of}
 
 module _ (g : Grammar) (start : NonterminalString) (well : IsWellFormed g) (own : AreOwn g) (differ : AllDiffer g.terminals) where
-  pub Set-tables : (tables : List (State Bits)) → AreTablesFor itself Begins Passes Lists (canonical_of g start) tables → AreBuiltTablesOf ⊥ Canonical g start tables
+  pub Set-tables : (tables : List (State Bits)) → AreTablesFor itself Begins Passes Lists (canonical_of g start) tables → AreBuiltTablesOf ⊥ Canonical 0 g start tables
   Set-tables tables t =
       let made : AreTables (canonical_of g start) tables = Tables-of (canonical_of g start) tables t in
       Canonical-answer g start tables made (tables_canonical g start well own differ tables made) (tables_valid g start well own differ tables made) (tables_faithful g start well own differ tables made)

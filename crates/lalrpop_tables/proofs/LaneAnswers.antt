@@ -1,6 +1,6 @@
 -- What the construction of lane tables answers: tables that hold their lane tokens, or states of which one has two actions that meet.
 use Rattle.std.proofs.Common.{◌≡◌, ◌↔◌, ℕ, zero, suc, ◌<◌, ◌≤◌, Bool, true, false, List, [], ◌∷◌, drop, length, refl, sym, subst, arith, Option, Some, None, MatchBool}
-use Rattle.std.specs.Prelude.{Contains, slice_get}
+use Rattle.std.specs.Prelude.{Contains, MatchOption, slice_get}
 use Rattle.std.specs.Borrow.{Bor}
 use Rattle.std.proofs.lemmas.Option.{slice_get_within}
 use Rattle.lalrpop_base.specs.Words.{Bits, contents, contents_at, holds_token, reduction_of, IsOnNoRightSide, behind_parent, of_start, IsLaneToken}
@@ -33,7 +33,7 @@ use Rattle.lalrpop_tables.proofs.Grammars.{known_symbols, known_rest}
 use Rattle.lalrpop_tables.proofs.KnownTerminals.{begun_bit}
 use Rattle.lalrpop_tables.proofs.LanePlaces.{places_same, lane_there}
 use Rattle.lalrpop_tables.proofs.LaneResolved.{one_token, place_itself}
-use Rattle.lalrpop_tables.proofs.LaneShape.{item_own, right_at, reducing_reached, here_lr0, here_closed, here_reduces}
+use Rattle.lalrpop_tables.proofs.LaneShape.{lane_shape, item_own, right_at, reducing_reached, here_lr0, here_closed, here_reduces}
 
 module _ (g : Grammar) (start : NonterminalString) (well : IsWellFormed g) (differ : AllDiffer g.terminals) (states : List (State Bits)) (made : AreLaneStates (rules_of g) start states) where
   abbrev holds : Bits → Token → Bool
@@ -114,6 +114,8 @@ module _ (g : Grammar) (start : NonterminalString) (well : IsWellFormed g) (diff
         let lr0 = here_lr0 (rules_of g) start states made holds in
         let lalr = no_conflict_lalr (productions g) start here lr0 (lalr_held tables.holds) (λ u n live at. free_at tables.free n (slice_get states n) refl) in
         record {
+          lanes = tables;
+          shape = lane_shape (rules_of g) start states made;
           lalr = lalr;
           checked = lanes_checked (productions g) start here (here_closed (rules_of g) start states made holds) lr0 (here_reduces (rules_of g) start states made holds) (reducing_reached (rules_of g) start states made holds) alone lalr tables.holds;
           faithful = lanes_faithful (productions g) start here lr0 alone lalr tables.holds;
@@ -137,6 +139,14 @@ was_resolved false A B e h = cc
 pub was_met : (b : Bool) (A B : Type 0) → b ≡ false → MatchBool b A B → B
 was_met true A B e h = cc
 was_met false A B e h = h
+
+pub none_told : (o : Option ℕ) (A : Type 0) (B : ℕ → Type 0) → ((n : ℕ) → o ≡ Some n → ⊥) → MatchOption o A B → A
+none_told None A B none h = h
+none_told (Some n) A B none h = absurd (none n refl)
+
+pub some_told : (o : Option ℕ) (n : ℕ) (A : Type 0) (B : ℕ → Type 0) → o ≡ Some n → MatchOption o A B → B n
+some_told None n A B e h = cc
+some_told (Some m) n A B e h = subst (λ (p : Option ℕ). MatchOption p A B) e h
 
 pub all_done : (g : Rules) (start : NonterminalString) (graph : StateGraph) (count index : ℕ) (states : List (State Bits)) → count ≤ index → AreResolvedTo g start graph count index states → (n : ℕ) (state : State Bits) → slice_get states n ≡ Some state → IsResolved g start (places_in states) n state
 all_done g start graph count index states past h n state at =

@@ -1,11 +1,12 @@
 -- The actions that are asked for are the state's: its shifts where it reduces, and its reductions; and where each stands among them.
-use Rattle.std.proofs.Common.{◌≡◌, ℕ, inl, inr, Bool, true, false, cond, List, [], ◌∷◌, map, refl, sym, ◌∙◌, ap, subst, Option, Some, None}
+use Rattle.std.proofs.Common.{◌≡◌, ℕ, inl, inr, Bool, true, false, cond, List, [], ◌∷◌, map, length, ◌<◌, refl, sym, ◌∙◌, ap, subst, arith, Option, Some, None}
 use Rattle.std.specs.Prelude.{Contains}
 use Rattle.std.specs.Borrow.{Bor}
 use Rattle.std.specs.List.{filter, flat_map}
 use Rattle.std.specs.Ordering.{ordering_then}
 use Rattle.std.specs.declared.cmp.Ordering.{Ordering}
 use Rattle.std.specs.declared.cmp.Ordering.TheVariants.{Less, Equal, Greater}
+use Rattle.std.proofs.lemmas.Option.{slice_get_within}
 use Rattle.std.proofs.lemmas.List.Elements.{Contains-append_left, Contains-append_right, Contains-append_cases}
 use Rattle.lalrpop_base.specs.Words.{Bits, has, state_conflicts, shift_conflicts, shift_conflict, conflicts_on_place, reduce_conflicts, reduce_conflict}
 use Rattle.lalrpop_base.specs.Words.{later_conflicts, share, place_in}
@@ -16,8 +17,8 @@ use Rattle.lalrpop_base.specs.declared.lr1_core.state.State.{State}
 use Rattle.lalrpop_base.specs.declared.lr1_core.state.StateIndex.{StateIndex}
 use Rattle.lalrpop_base.specs.declared.repr.Production.{Production}
 use Rattle.lalrpop_base.specs.declared.repr.TerminalString.{TerminalString}
-use Rattle.lalrpop_base.proofs.ContentsViews.{contains_of_map, contains_map}
-use Rattle.lalrpop_tables.specs.Words.{action_order, conflict_actions, reduce_action, asked_actions}
+use Rattle.lalrpop_base.proofs.ContentsViews.{at_contains, contains_at, contains_of_map, contains_map}
+use Rattle.lalrpop_tables.specs.Words.{action_order, AreActions, AreAmong, asked_actions, conflict_actions, IsReductionAt, reduce_action}
 use Rattle.lalrpop_tables.proofs.Ascending.{production_exact}
 use Rattle.lalrpop_tables.proofs.Lists.{Contains-none, Contains-here, Contains-there, Contains-cases}
 use Rattle.lalrpop_tables.proofs.Orders.{terminal_exact}
@@ -138,3 +139,19 @@ tied_reduce p (Reduce q) e = (q, refl, sym (production_exact p.now q.now e))
 pub tied_shift : (t : TerminalString) (target : StateIndex) (b : Action) → action_order (Shift t target) b ≡ Equal → (to : StateIndex) × (b ≡ Shift t to)
 tied_shift t target (Shift u to) e = (to, ap (λ x. Shift x to) (sym (terminal_exact t u (first_equal _ _ e).0)))
 tied_shift t target (Reduce q) e = cc
+
+-- ---- each reduction of the state is among the actions
+module _ (terminals : List TerminalString) (state : State Bits) (actions : List Action) (asked : AreActions (asked_actions terminals state) actions) where
+  pub place_asked : (r : CodeReduction) → Contains state.reductions.items r → (place : ℕ) × IsReductionAt actions place r.1.now
+  place_asked r among =
+      let f = asked.all (Reduce r.1) (reduction_asked terminals state r among) in
+      let t = tied_reduce r.1 f.0 f.2 in
+      let k = contains_at actions f.0 f.1 in
+      (k.0, record { lent = t.0; action = k.1 ∙ ap (λ (a : Action). Some a) t.1; same = t.2 })
+
+  pub among_asked : AreAmong actions state
+  among_asked k r at_k = place_asked r (at_contains state.reductions.items k r at_k)
+
+  -- so there is one where there is a reduction
+  pub asked_some : (r : CodeReduction) → Contains state.reductions.items r → 0 < length actions
+  asked_some r among = let k = (place_asked r among).1.action in let w = slice_get_within actions _ _ k in omega arith

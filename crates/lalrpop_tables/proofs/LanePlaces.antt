@@ -146,7 +146,7 @@ module _ (g : List Production) (start : NonterminalString) (a b : ℕ → Conten
 
 -- ---- the code's states
 module _ {L : Type 0} (holds : L → Token → Bool) where
-  produced_by : (rs : List (L × Bor Production)) → map produced (map (reduction_of holds) rs) ≡ map by rs
+  pub produced_by : (rs : List (L × Bor Production)) → map produced (map (reduction_of holds) rs) ≡ map by rs
   produced_by [] = refl
   produced_by (r ∷ rs) = ap (λ (ps : List Production). by r ∷ ps) (produced_by rs)
 

@@ -25,14 +25,14 @@ use Rattle.lalrpop_base.specs.declared.repr.Symbol.TheVariants.{Terminal}
 use Rattle.lalrpop_base.specs.declared.repr.TerminalString.{TerminalString}
 use Rattle.lalrpop_base.proofs.ContentsViews.{contains_at, at_contains}
 use Rattle.lalrpop_base.proofs.HeldTokens.{place_there}
-use Rattle.lalrpop_tables.specs.Words.{HasAt, IsReductionAt, TookColumn, AreAmong, dot_of, by, HasSamePlace, HaveSamePlaces, AreLaneStates, HoldsAll, IsTokenOf}
+use Rattle.lalrpop_tables.specs.Words.{HasAt, IsApplied, IsReductionAt, TookColumn, AreAmong, dot_of, by, HasSamePlace, HaveSamePlaces, AreLaneStates, HoldsAll, IsTokenOf}
 use Rattle.lalrpop_tables.specs.Words.{HasActionBit, IsBitAt, AreTraced, HasLaneBits, IsResolved, IsLaneAction, LanesMeet, asked_actions, action_order}
 use Rattle.lalrpop_tables.specs.Words.{AreActions, IsAttempted, ColumnsOverlap, ReducesOwn, places_in, production_order}
 use Rattle.lalrpop_tables.specs.declared.lane_table.table.LaneTable.{LaneTable}
 use Rattle.lalrpop_tables.proofs.Ascending.{production_total}
 use Rattle.lalrpop_tables.proofs.CanonicalContents.{then_both}
 use Rattle.lalrpop_tables.proofs.LaneActions.{action_total}
-use Rattle.lalrpop_tables.proofs.LaneAsked.{CodeReduction, IsActionOf, asked_of, reduction_asked, shift_asked, tied_reduce, tied_shift}
+use Rattle.lalrpop_tables.proofs.LaneAsked.{CodeReduction, IsActionOf, among_asked, asked_of, place_asked, shift_asked, tied_shift}
 use Rattle.lalrpop_tables.proofs.LanePlaces.{places_same, lane_there}
 use Rattle.lalrpop_tables.proofs.LaneShape.{item_own, reduced_item, reduced_once}
 use Rattle.std.proofs.lemmas.Map.Keys.{Less-from_sorted}
@@ -71,6 +71,16 @@ by_all [] (q ∷ qs) counted same = absurd (omega arith)
 by_all (r ∷ rs) [] counted same = absurd (omega arith)
 by_all (r ∷ rs) (q ∷ qs) counted same =
     ap (λ (p : Production). p ∷ map by qs) (same 0 r q refl refl) ∙ ap (λ (ps : List Production). r.1.now ∷ ps) (by_all rs qs (omega arith) (λ k a b at_a at_b. same (suc k) a b at_a at_b))
+
+-- a state that took its columns has the same place
+pub applied_same : (actions : List Action) (columns : List Bits) (old new : State Bits) → IsApplied actions columns old new → HasSamePlace old new
+applied_same actions columns old new applied = record {
+  index = applied.index;
+  dots = ap (λ (items : Items Bits). map dot_of items.vec.items) applied.items;
+  shifts = applied.shifts;
+  gotos = applied.gotos;
+  reduced = by_all old.reductions.items new.reductions.items applied.counted (λ k r q at_r at_q. ap (λ (b : Bor Production). b.now) (applied.each k r q at_r at_q).same);
+}
 
 -- an action, whatever it leads to
 abbrev seen_action : Action → TheAction
@@ -117,14 +127,10 @@ module _ (g : Rules) (start : NonterminalString) (states : List (State Bits)) (m
       subst (λ (b : Bor Production). Contains g.productions b.now) h.2 (item_own g start states made holds n state (h.0).1.now (length (h.0).1.now.symbols) at (finished h.0 h.1))
 
   reduction_place : (r : CodeReduction) → Contains reductions r → (place : ℕ) × IsReductionAt actions place r.1.now
-  reduction_place r among =
-      let f = asked.all (Reduce r.1) (reduction_asked g.terminals state r among) in
-      let t = tied_reduce r.1 f.0 f.2 in
-      let k = contains_at actions f.0 f.1 in
-      (k.0, record { lent = t.0; action = k.1 ∙ ap (λ (a : Action). Some a) t.1; same = t.2 })
+  reduction_place r among = place_asked g.terminals state actions asked r among
 
   pub reductions_among : AreAmong actions state
-  reductions_among k r at_k = reduction_place r (at_contains reductions k r at_k)
+  reductions_among = among_asked g.terminals state actions asked
 
   shift_place : HoldsAll g.terminals state → (t : TerminalString) (target : StateIndex) (bit : ℕ) (r : CodeReduction) → Contains state.shifts.entries (t, target) → place_in g.terminals t ≡ Some bit → Contains reductions r → (k : ℕ) × (to : StateIndex) × (slice_get actions k ≡ Some (Shift t to))
   shift_place full t target bit r entry place among =
@@ -197,13 +203,7 @@ module _ (g : Rules) (start : NonterminalString) (states : List (State Bits)) (m
       resolved = record { holds = holds_lanes; free = free }
 
       pub applied_place : HasSamePlace state new
-      applied_place = record {
-        index = attempted.applied.index;
-        dots = ap (λ (items : Items Bits). map dot_of items.vec.items) attempted.applied.items;
-        shifts = attempted.applied.shifts;
-        gotos = attempted.applied.gotos;
-        reduced = by_all reductions new.reductions.items attempted.applied.counted (λ k r q at_r at_q. ap (λ (b : Bor Production). b.now) (attempted.applied.each k r q at_r at_q).same);
-      }
+      applied_place = applied_same actions attempted.columns state new attempted.applied
 
     -- ---- two columns share a token
     module _ (sorted : IsStrictlySortedBy action_order actions) (ordered : IsOrdered terminal_ord.ghosts.cmp state.shifts) where

@@ -21,6 +21,9 @@ use Rattle.lalrpop_tables.proofs.Places.{same_some}
 set_same : (xs : List (State Bits)) (k : ℕ) (x : State Bits) → slice_get xs k ≡ Some x → slice_set xs k x ≡ xs
 set_same xs k x at = ap (slice_set xs k) (sym (get_or_from_slice_get xs k x x at)) ∙ set-get_or xs k x
 
+pub set_back : (xs : List (State Bits)) (k : ℕ) (x y : State Bits) → slice_get xs k ≡ Some x → y ≡ x → slice_set xs k y ≡ xs
+set_back xs k x y at same = ap (slice_set xs k) same ∙ set_same xs k x at
+
 module _ (g : Rules) (start : NonterminalString) (states : List (State Bits)) (made : AreLaneStates g start states) (n : ℕ) where
   -- a state without reductions is resolved as it is
   pub idle_resolved : (state : State Bits) → slice_get states n ≡ Some state → length state.reductions.items ≡ 0 → IsResolvedAt g start states n states
@@ -66,7 +69,7 @@ module _ (g : Rules) (start : NonterminalString) (states : List (State Bits)) (m
             let same : new ≡ other = same_some new other (sym (ap (λ (xs : List (State Bits)). slice_get xs n) set ∙ set_here states n new (slice_get_within states n state at)) ∙ there) in
             subst (IsResolved g start (places_in states) n) same (resolved g start states made n state at actions asked_here table traced (full n state (omega arith) at) new h)
         resolves new written set false h =
-            let unchanged : written ≡ states = set ∙ ap (slice_set states n) h.1 ∙ set_same states n state at in
+            let unchanged : written ≡ states = set ∙ set_back states n state new at h.1 in
             (subst (λ (xs : List (State Bits)). LanesMeet g.productions start (contents g.terminals xs) n) (sym unchanged) (overlap_meets g start states made n state at actions asked_here table traced sorted ordered_here h.0), unchanged)
 
         pub attempt_resolves : {E : Type 0} (r : Result Bool E) (new : State Bits) (written : List (State Bits)) → written ≡ slice_set states n new → IfOk r (Told new) → IfOk r (Resolves written)

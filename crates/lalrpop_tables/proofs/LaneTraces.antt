@@ -7,7 +7,7 @@ use Rattle.lalrpop_base.specs.Words.{LeadsBack, IsTracedTo, itself, back, AllDif
 use Rattle.lalrpop_base.specs.declared.repr.Production.{Production}
 use Rattle.lalrpop_base.specs.declared.repr.Symbol.TheVariants.{Nonterminal}
 use Rattle.lalrpop_tables.specs.Words.{at_place, IsGround, Gains, Visits, Some_of, GivesCell, GivesBit, GivesSuccessor, GainsOf, VisitsOf, Reaches, GainsAll}
-use Rattle.lalrpop_tables.specs.Words.{IsEndPlace, AreInRange, places_in}
+use Rattle.lalrpop_tables.specs.Words.{GainsSomeOf, GainsSomeOfAll, IsEndPlace, AreInRange, places_in}
 use Rattle.lalrpop_tables.specs.LaneSteps.{LeadsTo, IsReached}
 use Rattle.lalrpop_tables.specs.declared.lane_table.lane.ground.Ground.{Ground}
 use Rattle.lalrpop_tables.specs.declared.lane_table.lane.walk.Walk.{Walk}
@@ -18,6 +18,7 @@ use Rattle.lalrpop_tables.proofs.CheckSending.{same_place}
 use Rattle.lalrpop_tables.proofs.Closing.{split_drop}
 use Rattle.lalrpop_tables.proofs.EdgeLeads.{leads_within}
 use Rattle.lalrpop_tables.proofs.Gains.{Gains-none, Gains-then, Gains-same}
+use Rattle.lalrpop_tables.proofs.GainsSome.{GainsSome-last, GainsSome-none}
 use Rattle.lalrpop_tables.proofs.Lists.{Contains-none, Contains-here, Contains-there, Contains-cases, Contains-map, Contains-range, pigeonhole}
 use Rattle.lalrpop_tables.proofs.Places.{apart_from_differ, filled}
 use Rattle.lalrpop_tables.proofs.SomeOf.{some_none, some_kept, some_last, some_cases}
@@ -26,7 +27,7 @@ use Rattle.lalrpop_tables.proofs.Unepsilon.{parent_item}
 use Rattle.lalrpop_tables.proofs.Unshifting.{back_cases}
 
 -- a step more at the end of a trace
-traced_on : {g : List Production} {states : ℕ → Contents} {s r n : ℕ} {p q k : Production} {dot e d : ℕ} → IsTracedTo g states s p dot r q e → LeadsBack g states r q e n k d → IsTracedTo g states s p dot n k d
+pub traced_on : {g : List Production} {states : ℕ → Contents} {s r n : ℕ} {p q k : Production} {dot e d : ℕ} → IsTracedTo g states s p dot r q e → LeadsBack g states r q e n k d → IsTracedTo g states s p dot n k d
 traced_on itself b = back b itself
 traced_on (back a t) b = back a (traced_on t b)
 
@@ -148,6 +149,14 @@ module _ {L : Type 0} (ground : Ground L) (first : Place) (on : IsGround ground)
     pub place_listed : place.state < length ground.states.now
     place_listed = (reached_known place (h.reached place there)).listed
 
+    -- what the places so far gave, and a part of what the next one gives, where its step is refused
+    pub Tracing-part : GainsSomeOf ground place k now next → GainsSomeOfAll ground first k old next
+    Tracing-part part = GainsSome-last k (λ row. Some_of (Cell ground first row) h.done) (λ row. Cell ground first row place) (λ row. Reaches ground first (Cell ground first row)) (λ row bit. Some_of (Bit ground first row bit) h.done) (λ row bit. Bit ground first row bit place) (λ row bit. Reaches ground first (Bit ground first row bit)) (λ l r. Some_of (Step ground first l r) h.done) (λ l r. Step ground first l r place) (λ l r. Reaches ground first (Step ground first l r))
+        (λ row. all_reached (Cell ground first row)) (λ row c. (place, h.reached place there, c)) (λ row bit. all_reached (Bit ground first row bit)) (λ row bit b. (place, h.reached place there, b)) (λ l r. all_reached (Step ground first l r)) (λ l r s. (place, h.reached place there, s)) old now next h.gains part
+      where
+        all_reached : (P : Place → Type 0) → Some_of P h.done → Reaches ground first P
+        all_reached P m = (m.0, h.reached m.0 (h.settled m.0 m.1), m.2)
+
     module _ (gains : GainsOf ground place k now next) (v : VisitsOf ground place popped after) where
       was : (p : Place) → Contains popped.visited.keys p → Contains before.visited.keys p
       was p c = subst (λ (ps : List Place). Contains ps p) same c
@@ -192,6 +201,9 @@ module _ {L : Type 0} (ground : Ground L) (first : Place) (on : IsGround ground)
         columns = columns ∙ h.columns;
         in_range = λ r. in_range (h.in_range r);
       }
+
+  pub nothing_traced : (k : ℕ) (table : LaneTable) → GainsSomeOfAll ground first k table table
+  nothing_traced k table = GainsSome-none k (λ row. Reaches ground first (Cell ground first row)) (λ row bit. Reaches ground first (Bit ground first row bit)) (λ l r. Reaches ground first (Step ground first l r)) table
 
   few : (k : ℕ) (old now : LaneTable) (walk : Walk) → IsTracing ground first k old now walk → length walk.visited.keys ≤ length (all_places ground first)
   few k old now walk h = pigeonhole walk.visited.keys (all_places ground first) (apart_from_differ walk.visited.keys h.differ) (λ p c. in_all p (reached_known p (h.reached p c)))

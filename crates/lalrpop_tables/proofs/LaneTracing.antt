@@ -9,14 +9,15 @@ use Rattle.lalrpop_base.specs.declared.lr1_core.state.State.{State}
 use Rattle.lalrpop_base.specs.declared.lr1_core.state.StateIndex.{StateIndex}
 use Rattle.lalrpop_base.specs.declared.repr.NonterminalString.{NonterminalString}
 use Rattle.lalrpop_base.specs.declared.repr.grammar.Grammar.{Grammar}
-use Rattle.lalrpop_tables.specs.Words.{HasActionBit, AreTraced, InColumn, IsEmptyTable, IsReadyToTrace, TakesAction, places_in}
+use Rattle.lalrpop_tables.specs.Words.{HasActionBit, AreTraced, HasRow, InColumn, IsClosed, IsEmptyTable, IsReadyToTrace, TakesAction, places_in}
 use Rattle.lalrpop_tables.specs.declared.lane_table.construct.LaneTableConstruct.{LaneTableConstruct}
 use Rattle.lalrpop_tables.specs.declared.lane_table.lane.LaneTracer.{LaneTracer}
 use Rattle.lalrpop_tables.specs.declared.lane_table.table.LaneTable.{LaneTable}
+use Rattle.lalrpop_tables.proofs.LaneClosed.{more_closed, none_closed, own_row}
 use Rattle.lalrpop_tables.proofs.Places.{push_cases, slice_get-push_at, slice_get-longer}
 
--- what the loop keeps: the actions done are traced
-pub record IsTracing (construct : LaneTableConstruct) (states : List (State Bits)) (s : ℕ) (actions : List Action) (place : ℕ) (tracer : LaneTracer Bits) (left : List Action) : Type 0 where
+-- what the loop keeps: the actions done are traced, and the table is closed
+pub record IsTracing (construct : LaneTableConstruct) (states : List (State Bits)) (s : StateIndex) (actions : List Action) (place : ℕ) (tracer : LaneTracer Bits) (left : List Action) : Type 0 where
   pub ready : IsReadyToTrace tracer
   pub grammar : tracer.grammar.now ≡ construct.grammar.now
   pub start : tracer.start ≡ construct.start
@@ -25,7 +26,9 @@ pub record IsTracing (construct : LaneTableConstruct) (states : List (State Bits
   pub done : List Action
   pub counted : length done ≡ place
   pub split : done ++ left ≡ actions
-  pub traced : AreTraced (rules_of construct.grammar.now) construct.start (places_in states) s done tracer.table
+  pub traced : AreTraced (rules_of construct.grammar.now) construct.start (places_in states) s.0 done tracer.table
+  pub closed : IsClosed (length states) tracer.table
+  pub row : 0 < place → HasRow tracer.table s
 
 module _ (g : Rules) (start : NonterminalString) (places : ℕ → Contents) (s : StateIndex) where
   -- the column of the action gets its bits
@@ -89,7 +92,7 @@ takes_over g h start first xs states s k action old new same_g same_start same_s
     (subst (λ z. TakesAction (rules_of h) first (places_in z) s k action old new) same_states t))
 
 module _ (construct : LaneTableConstruct) (states : List (State Bits)) (s : StateIndex) (actions : List Action) where
-  pub tracing_start : (tracer : LaneTracer Bits) (left : List Action) (start : NonterminalString) → IsReadyToTrace tracer → (tracer.grammar.now ≡ construct.grammar.now) × (tracer.start ≡ start) × (tracer.states.now ≡ states) → start ≡ construct.start → IsEmptyTable tracer.table → tracer.table.conflicts ≡ length actions → left ≡ actions → IsTracing construct states s.0 actions 0 tracer left
+  pub tracing_start : (tracer : LaneTracer Bits) (left : List Action) (start : NonterminalString) → IsReadyToTrace tracer → (tracer.grammar.now ≡ construct.grammar.now) × (tracer.start ≡ start) × (tracer.states.now ≡ states) → start ≡ construct.start → IsEmptyTable tracer.table → tracer.table.conflicts ≡ length actions → left ≡ actions → IsTracing construct states s actions 0 tracer left
   tracing_start tracer left start ready over same empty columns all = record {
     ready = ready;
     grammar = over.0;
@@ -100,9 +103,11 @@ module _ (construct : LaneTableConstruct) (states : List (State Bits)) (s : Stat
     counted = refl;
     split = all;
     traced = none_traced (rules_of construct.grammar.now) construct.start (places_in states) s tracer.table empty;
+    closed = none_closed (length states) tracer.table empty;
+    row = λ more. absurd (omega (arith, more));
   }
 
-  pub tracing_within : (place : ℕ) (tracer : LaneTracer Bits) (left rest : List Action) (action : Action) → IsTracing construct states s.0 actions place tracer left → left ≡ action ∷ rest → place < tracer.table.conflicts
+  pub tracing_within : (place : ℕ) (tracer : LaneTracer Bits) (left rest : List Action) (action : Action) → IsTracing construct states s actions place tracer left → left ≡ action ∷ rest → place < tracer.table.conflicts
   tracing_within place tracer left rest action h more =
       let all : length h.done + length left ≡ length actions = sym (length-append h.done left) ∙ ap length h.split in
       let one : length left ≡ suc (length rest) = ap length more in
@@ -110,22 +115,32 @@ module _ (construct : LaneTableConstruct) (states : List (State Bits)) (s : Stat
       let d = h.columns in
       omega arith
 
-  pub tracing_more : (place k : ℕ) (tracer next : LaneTracer Bits) (left rest : List Action) (action given : Action) → IsTracing construct states s.0 actions place tracer left → left ≡ action ∷ rest → given ≡ action → k ≡ place → IsReadyToTrace next → IsOver tracer next → TakesAction (rules_of tracer.grammar.now) tracer.start (places_in tracer.states.now) s k given tracer.table next.table → IsTracing construct states s.0 actions (place + 1) next rest
-  tracing_more place k tracer next left rest action given h more same at ready over takes = record {
-    ready = ready;
-    grammar = over.0 ∙ h.grammar;
-    start = over.1 ∙ h.start;
-    over = over.2 ∙ h.over;
-    columns = over.3 ∙ h.columns;
-    done = h.done ++ action ∷ [];
-    counted = length-append h.done (action ∷ []) ∙ ap (λ (n : ℕ). n + 1) h.counted;
-    split = append_assoc h.done (action ∷ []) rest ∙ ap (λ (xs : List Action). h.done ++ xs) (sym more) ∙ h.split;
-    traced = more_traced (rules_of construct.grammar.now) construct.start (places_in states) s h.done action place tracer.table next.table (sym h.counted) h.traced
-        (subst (λ a. TakesAction (rules_of construct.grammar.now) construct.start (places_in states) s place a tracer.table next.table) same
-        (takes_over construct.grammar.now tracer.grammar.now construct.start tracer.start states tracer.states.now s place given tracer.table next.table h.grammar h.start h.over (subst (λ j. TakesAction (rules_of tracer.grammar.now) tracer.start (places_in tracer.states.now) s j given tracer.table next.table) at takes)));
-  }
+  pub tracing_more : (place k : ℕ) (tracer next : LaneTracer Bits) (left rest : List Action) (action given : Action) → s.0 < length states → IsTracing construct states s actions place tracer left → left ≡ action ∷ rest → given ≡ action → k ≡ place → IsReadyToTrace next → IsOver tracer next → TakesAction (rules_of tracer.grammar.now) tracer.start (places_in tracer.states.now) s k given tracer.table next.table → IsTracing construct states s actions (place + 1) next rest
+  tracing_more place k tracer next left rest action given listed h more same at ready over takes =
+      let takes_here : TakesAction (rules_of construct.grammar.now) construct.start (places_in states) s place action tracer.table next.table = subst (λ a. TakesAction (rules_of construct.grammar.now) construct.start (places_in states) s place a tracer.table next.table) same
+      (takes_over construct.grammar.now tracer.grammar.now construct.start tracer.start states tracer.states.now s place given tracer.table next.table h.grammar h.start h.over (subst (λ j. TakesAction (rules_of tracer.grammar.now) tracer.start (places_in tracer.states.now) s j given tracer.table next.table) at takes)) in
+      record {
+        ready = ready;
+        grammar = over.0 ∙ h.grammar;
+        start = over.1 ∙ h.start;
+        over = over.2 ∙ h.over;
+        columns = over.3 ∙ h.columns;
+        done = h.done ++ action ∷ [];
+        counted = length-append h.done (action ∷ []) ∙ ap (λ (n : ℕ). n + 1) h.counted;
+        split = append_assoc h.done (action ∷ []) rest ∙ ap (λ (xs : List Action). h.done ++ xs) (sym more) ∙ h.split;
+        traced = more_traced (rules_of construct.grammar.now) construct.start (places_in states) s h.done action place tracer.table next.table (sym h.counted) h.traced takes_here;
+        closed = more_closed (rules_of construct.grammar.now) construct.start states s place action tracer.table next.table listed takes_here h.closed;
+        row = λ _. own_row (rules_of construct.grammar.now) construct.start states s place action tracer.table next.table takes_here;
+      }
 
-  pub tracing_end : (place : ℕ) (tracer : LaneTracer Bits) (left : List Action) → IsTracing construct states s.0 actions place tracer left → left ≡ [] → AreTraced (rules_of construct.grammar.now) construct.start (places_in states) s.0 actions tracer.table
-  tracing_end place tracer left h none =
-      let all : h.done ≡ actions = sym (append-nil h.done) ∙ ap (λ (xs : List Action). h.done ++ xs) (sym none) ∙ h.split in
-      subst (λ (xs : List Action). AreTraced (rules_of construct.grammar.now) construct.start (places_in states) s.0 xs tracer.table) all h.traced
+  tracing_done : (place : ℕ) (tracer : LaneTracer Bits) (left : List Action) → left ≡ [] → (h : IsTracing construct states s actions place tracer left) → h.done ≡ actions
+  tracing_done place tracer left none h = sym (append-nil h.done) ∙ ap (λ (xs : List Action). h.done ++ xs) (sym none) ∙ h.split
+
+  pub tracing_end : (place : ℕ) (tracer : LaneTracer Bits) (left : List Action) → IsTracing construct states s actions place tracer left → left ≡ [] → AreTraced (rules_of construct.grammar.now) construct.start (places_in states) s.0 actions tracer.table
+  tracing_end place tracer left h none = subst (λ (xs : List Action). AreTraced (rules_of construct.grammar.now) construct.start (places_in states) s.0 xs tracer.table) (tracing_done place tracer left none h) h.traced
+
+  pub tracing_row : (place : ℕ) (tracer : LaneTracer Bits) (left : List Action) → IsTracing construct states s actions place tracer left → left ≡ [] → 0 < length actions → HasRow tracer.table s
+  tracing_row place tracer left h none some =
+      let all : length h.done ≡ length actions = ap length (tracing_done place tracer left none h) in
+      let counted = h.counted in
+      h.row (omega arith)

@@ -1,15 +1,16 @@
--- The lane of a reduction: the cell where it starts, and what the places give to which it leads back.
+-- The lane of a reduction, or a part of it: the cell where it starts, and what the places give to which it leads back.
 use Rattle.std.proofs.Common.{◌≡◌, ℕ, suc, ◌⊎◌, inl, inr, length, refl, sym, ◌∙◌, ap, subst, true}
 use mathlib.Core.Bool.{true≢false}
 use Rattle.lalrpop_base.specs.Words.{Bits, has, no_bits, has-no_bits, IsTracedTo, IsLaneSuccessor, Contents, Rules, rules_of}
 use Rattle.lalrpop_base.specs.declared.lr1_core.state.StateIndex.{StateIndex}
 use Rattle.lalrpop_base.specs.declared.repr.Production.{Production}
-use Rattle.lalrpop_tables.specs.Words.{at_place, Gains, Nothing, GivesCell, GivesBit, GivesSuccessor, Reaches, GainsAll, AddsTokens, places_in, GivesAt}
-use Rattle.lalrpop_tables.specs.Words.{IsLaneBit, TakesLane}
+use Rattle.lalrpop_tables.specs.Words.{at_place, Gains, GainsSomeOfAll, Nothing, GivesCell, GivesBit, GivesSuccessor, Reaches, GainsAll, AddsTokens}
+use Rattle.lalrpop_tables.specs.Words.{AreSameTables, places_in, GivesAt, IsLaneBit, TakesLane, TakesPartOfLane}
 use Rattle.lalrpop_tables.specs.declared.lane_table.lane.ground.Ground.{Ground}
 use Rattle.lalrpop_tables.specs.declared.lane_table.table.LaneTable.{LaneTable}
 use Rattle.lalrpop_tables.specs.declared.place.Place.{Place}
 use Rattle.lalrpop_tables.proofs.Gains.{same_index, as_well, Gains-tokens, Gains-then}
+use Rattle.lalrpop_tables.proofs.GainsSome.{GainsSome-last, same_kept}
 
 module _ {L : Type 0} (ground : Ground L) (s : StateIndex) (p : Production) where
   abbrev R : Rules
@@ -70,6 +71,15 @@ module _ {L : Type 0} (ground : Ground L) (s : StateIndex) (p : Production) wher
   step_lane : (l r : ℕ) → IsLaneSuccessor R.productions S s.0 p (length p.symbols) l r → Reaches ground first (Step l r)
   step_lane l r h = (at_place r h.production (suc h.index), h.traced, record { here = refl; index = h.index; moved = refl; symbol = h.symbol; after = h.after; edge = h.edge; behind = h.behind })
 
+  -- nothing of it
+  pub nothing_taken : (k : ℕ) (old new : LaneTable) → AreSameTables old new → TakesPartOfLane R ground.start.now S s p k old new
+  nothing_taken k old new same = record {
+    kept = same_kept old new same;
+    cells = λ row j c. inl ((same.cells row j).0 c);
+    tokens = λ row j bit h. inl ((same.tokens row j bit).0 h);
+    successors = λ left right n. inl ((same.successors left right).0 n);
+  }
+
   -- ---- all together
   module _ (k : ℕ) (set : Bits) (old middle new : LaneTable) (empty : set ≡ no_bits) (added : AddsTokens s k set old middle) where
     no_bit : (bit : ℕ) → has set bit ≡ true → ⊥
@@ -87,4 +97,16 @@ module _ {L : Type 0} (ground : Ground L) (s : StateIndex) (p : Production) wher
           cells = λ row j. as_well (g.cells row j) (λ h. (h.0, elim h.1 [ inl e ↦ inl (same_index row s (sym e)) | inr m ↦ inr (gives_at row.0 m) ])) (λ h. (h.0, elim h.1 [ inl e ↦ inl (ap (λ (n : StateIndex). n.0) (sym e)) | inr m ↦ inr (at_gives row.0 m) ]));
           tokens = λ row j bit. as_well (g.tokens row j bit) (λ h. (h.0, lane_bit row.0 bit h.1)) (λ h. (h.0, bit_lane row.0 bit h.1));
           successors = λ left right. as_well (g.successors left right) (lane_step left.0 right.0) (step_lane left.0 right.0);
+        }
+
+    -- the first cell, and a part of the rest
+    pub part_taken : (place : Place) → place ≡ first → GainsSomeOfAll ground place k middle new → TakesPartOfLane R ground.start.now S s p k old new
+    part_taken place is gained =
+        let g = GainsSome-last k (λ row. s.0 ≡ row) (λ row. Reaches ground first (Cell row)) (λ row. (s.0 ≡ row) ⊎ Reaches ground first (Cell row)) (λ row bit. (s.0 ≡ row) × (has set bit ≡ true)) (λ row bit. Reaches ground first (Bit row bit)) (λ row bit. Reaches ground first (Bit row bit)) Nothing (λ l r. Reaches ground first (Step l r)) (λ l r. Reaches ground first (Step l r))
+        (λ row h. inl h) (λ row h. inr h) (λ row bit h. absurd (no_bit bit h.1)) (λ row bit h. h) (λ l r n. absurd n) (λ l r h. h) old middle new (Gains-tokens s k set old middle added) (subst (λ (x : Place). GainsSomeOfAll ground x k middle new) is gained) in
+        record {
+          kept = g.kept;
+          cells = λ row j c. elim (g.cells row j c) [ inl o ↦ inl o | inr n ↦ inr (n.0, elim n.1 [ inl e ↦ inl (same_index row s (sym e)) | inr m ↦ inr (gives_at row.0 m) ]) ];
+          tokens = λ row j bit h. elim (g.tokens row j bit h) [ inl o ↦ inl o | inr n ↦ inr (n.0, lane_bit row.0 bit n.1) ];
+          successors = λ left right n. elim (g.successors left right n) [ inl o ↦ inl o | inr m ↦ inr (lane_step left.0 right.0 m) ];
         }

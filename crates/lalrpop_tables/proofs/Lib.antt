@@ -37,6 +37,7 @@ pub mod EpsilonMoves
 pub mod Expanding
 pub mod Following
 pub mod Gains
+pub mod GainsSome
 pub mod Grammars
 pub mod Growth
 pub mod ItemTokens
@@ -45,6 +46,7 @@ pub mod KnownTerminals
 pub mod LaneActions
 pub mod LaneAnswers
 pub mod LaneAsked
+pub mod LaneClosed
 pub mod LaneCoherent
 pub mod LaneConflicts
 pub mod LaneCopies
@@ -65,6 +67,7 @@ pub mod LanesTaken
 pub mod ListedConflicts
 pub mod Lists
 pub mod Lookaheads
+pub mod Lr0Copies
 pub mod Lr0States
 pub mod Lr1Answers
 pub mod MadeUntil
@@ -90,6 +93,7 @@ pub mod Renumbered
 pub mod RenumberedCanonical
 pub mod RenumberedTables
 pub mod RenumberedValid
+pub mod Resolving
 pub mod SameConstruction
 pub mod SameKernels
 pub mod Shifting

@@ -1,9 +1,9 @@
 -- The answers of a construction of LR(1) tables, put together from what its parts say.
-use Rattle.std.proofs.Common.{◌≡◌, ◌⊎◌, ℕ, ◌<◌, inl, inr, List, length, refl}
+use Rattle.std.proofs.Common.{◌≡◌, ℕ, ◌<◌, inl, inr, List, length, refl}
 use Rattle.std.specs.Prelude.{IfOk, IfErr, MatchResult}
 use Rattle.std.specs.declared.result.Result.{Result}
 use Rattle.std.specs.declared.result.Result.TheVariants.{Ok, Err}
-use Rattle.lalrpop_base.specs.Words.{Bits, contents, AreCoherent, AreFaithful, IsLALR1, productions, rules_of}
+use Rattle.lalrpop_base.specs.Words.{Bits, contents, AreCoherent, AreFaithful, IsLALR1, IsOnNoRightSide, productions, rules_of}
 use Rattle.lalrpop_base.specs.declared.lr1_core.state.BuildError.{BuildError}
 use Rattle.lalrpop_base.specs.declared.lr1_core.state.BuildError.TheVariants.{Conflicts, Memory}
 use Rattle.lalrpop_base.specs.declared.lr1_core.state.State.{State}
@@ -12,8 +12,8 @@ use Rattle.lalrpop_base.specs.declared.repr.NonterminalString.{NonterminalString
 use Rattle.lalrpop_base.specs.declared.repr.grammar.Grammar.{Grammar}
 use Rattle.lalrpop_base.proofs.theory.RightStates.{faithful_lr1}
 use Rattle.lalrpop_tables.specs.Words.{AreCanonicalStates, AreCollapsedTables, FailsByCollapse, AreSomeCanonicalStates, AreLalrTables, TellsNotLALR1}
-use Rattle.lalrpop_tables.specs.Words.{HasCoherentStates, FailsAsLalr, AreLaneTables, AreLr0Tables, AreTablesBy, AreTablesOf, AreBuiltTablesOf, HasConflictsOf}
-use Rattle.lalrpop_tables.specs.Words.{FailsOn, AreRenumbered, AreTables, canonical_of}
+use Rattle.lalrpop_tables.specs.Words.{HasCoherentStates, FailsAsLalr, AreLaneTables, AreCopiedTables, AreTablesBy, AreTablesOf, AreBuiltTablesOf}
+use Rattle.lalrpop_tables.specs.Words.{HasConflictsOf, FailsOn, AreRenumbered, AreTables, canonical_of}
 use Rattle.lalrpop_tables.specs.declared.build.options.Method.{Method}
 use Rattle.lalrpop_tables.specs.declared.build.options.Method.TheVariants.{Lane, Canonical}
 use Rattle.lalrpop_tables.proofs.CollapseLalr.{lalr_lr1}
@@ -23,7 +23,7 @@ use Rattle.lalrpop_tables.proofs.RenumberedValid.{Valid-renumbered}
 
 module _ (g : Grammar) (start : NonterminalString) (tables : List (State Bits)) where
   -- ---- each way of making tables
-  pub Canonical-answer : AreTables (canonical_of g start) tables → AreCanonicalStates (rules_of g) start tables → AreSomeCanonicalStates (rules_of g) start tables → AreFaithful (productions g) start (contents g.terminals tables) → AreBuiltTablesOf ⊥ Canonical g start tables
+  pub Canonical-answer : AreTables (canonical_of g start) tables → AreCanonicalStates (rules_of g) start tables → AreSomeCanonicalStates (rules_of g) start tables → AreFaithful (productions g) start (contents g.terminals tables) → AreBuiltTablesOf ⊥ Canonical 0 g start tables
   Canonical-answer made canonical valid faithful = record {
     coherent = made.made.coherent;
     some = made.made.some;
@@ -38,10 +38,10 @@ module _ (g : Grammar) (start : NonterminalString) (tables : List (State Bits)) 
     lanes = λ e. cc;
   }
 
-  pub Lane-answer : AreLaneTables (rules_of g) start tables → AreLr0Tables (rules_of g) start tables → AreFaithful (productions g) start (contents g.terminals tables) → AreBuiltTablesOf ⊥ Lane g start tables
-  Lane-answer lanes shape faithful = record {
-    coherent = shape.coherent;
-    some = shape.some;
+  pub Lane-answer : (copies : ℕ) → AreCopiedTables (rules_of g) start copies tables → AreFaithful (productions g) start (contents g.terminals tables) → (IsOnNoRightSide (productions g) start → IsLALR1 (productions g) start → AreLaneTables (rules_of g) start tables) → AreBuiltTablesOf ⊥ Lane copies g start tables
+  Lane-answer copies copied faithful lanes = record {
+    coherent = copied.closed.coherent;
+    some = copied.closed.some;
     lr1 = faithful_lr1 (productions g) start (contents g.terminals tables) faithful;
     faithful = faithful;
     valid = λ _ e. cc;
@@ -49,12 +49,28 @@ module _ (g : Grammar) (start : NonterminalString) (tables : List (State Bits)) 
     built = λ _ e. cc;
     lalr1 = λ c. absurd c;
     merged = λ c. absurd c;
-    either = λ _. inl lanes;
-    lanes = λ _ _ _. lanes;
+    either = λ _. inl copied;
+    lanes = λ _. lanes;
   }
 
-  pub Merged-answer : (collapsed : Type 0) → collapsed → (method : Method) → method ≡ Canonical → (before : List (State Bits)) → AreTables (canonical_of g start) before → AreCollapsedTables g.terminals before tables → AreCoherent tables → 0 < length tables → AreLalrTables g start tables → AreBuiltTablesOf collapsed method g start tables
-  Merged-answer collapsed is method by before canonical merged coherent some lalr = record {
+  -- canonical tables, by either method; by the lane way only where there are no lane tables of an LALR(1) grammar
+  pub Fallback-answer : (method : Method) (copies : ℕ) → (method ≡ Lane → IsOnNoRightSide (productions g) start → IsLALR1 (productions g) start → AreLaneTables (rules_of g) start tables) → AreBuiltTablesOf ⊥ Canonical 0 g start tables → AreBuiltTablesOf ⊥ method copies g start tables
+  Fallback-answer method copies lanes t = record {
+    coherent = t.coherent;
+    some = t.some;
+    lr1 = t.lr1;
+    faithful = t.faithful;
+    valid = λ n _. t.valid n refl;
+    canonical = λ n _. t.canonical n refl;
+    built = λ n _. t.built n refl;
+    lalr1 = λ c. absurd c;
+    merged = λ c. absurd c;
+    either = λ _. inr (t.built (λ c. c) refl);
+    lanes = lanes;
+  }
+
+  pub Merged-answer : (collapsed : Type 0) → collapsed → (method : Method) → method ≡ Canonical → (copies : ℕ) (before : List (State Bits)) → AreTables (canonical_of g start) before → AreCollapsedTables g.terminals before tables → AreCoherent tables → 0 < length tables → AreLalrTables g start tables → AreBuiltTablesOf collapsed method copies g start tables
+  Merged-answer collapsed is method by copies before canonical merged coherent some lalr = record {
     coherent = coherent;
     some = some;
     lr1 = lalr_lr1 (productions g) start lalr.lalr;
@@ -69,7 +85,7 @@ module _ (g : Grammar) (start : NonterminalString) (tables : List (State Bits)) 
   }
 
   -- ---- said of another condition that holds where the first does
-  pub Tables-where : {Built Lanes Merged : List (State Bits) → Type 0} (c d : Type 0) (method : Method) → (c → d) → (d → c) → AreTablesBy Built Lanes Merged c method g start tables → AreTablesBy Built Lanes Merged d method g start tables
+  pub Tables-where : {Built Copies Lanes Merged : List (State Bits) → Type 0} (c d : Type 0) (method : Method) → (c → d) → (d → c) → AreTablesBy Built Copies Lanes Merged c method g start tables → AreTablesBy Built Copies Lanes Merged d method g start tables
   Tables-where c d method to from t = record {
     coherent = t.coherent;
     some = t.some;
@@ -85,8 +101,8 @@ module _ (g : Grammar) (start : NonterminalString) (tables : List (State Bits)) 
   }
 
 -- ---- under other numbers
-pub Answer-renumbered : (collapsed : Type 0) (method : Method) (g : Grammar) (start : NonterminalString) (built tables : List (State Bits)) → AreRenumbered g.terminals built tables → AreBuiltTablesOf collapsed method g start built → AreTablesOf collapsed method g start tables
-Answer-renumbered collapsed method g start built tables r t = record {
+pub Answer-renumbered : (collapsed : Type 0) (method : Method) (copies : ℕ) (g : Grammar) (start : NonterminalString) (built tables : List (State Bits)) → AreRenumbered g.terminals built tables → AreBuiltTablesOf collapsed method copies g start built → AreTablesOf collapsed method copies g start tables
+Answer-renumbered collapsed method copies g start built tables r t = record {
   coherent = r.coherent;
   some = Some-renumbered g.terminals built tables r t.some;
   lr1 = t.lr1;
@@ -96,7 +112,7 @@ Answer-renumbered collapsed method g start built tables r t = record {
   built = λ n m. Tables-renumbered (canonical_of g start) built tables (t.built n m) r;
   lalr1 = t.lalr1;
   merged = λ c. Merged-renumbered g start built tables (t.merged c) r;
-  either = λ m. Either-renumbered g start built tables (t.either m) r;
+  either = λ m. Either-renumbered g start copies built tables (t.either m) r;
   lanes = λ m alone lalr. Lanes-renumbered (rules_of g) start built tables (t.lanes m alone lalr) r;
 }
 
@@ -142,11 +158,11 @@ Failure_by_method g start stop_after Canonical error f = Failure-collapsed g sta
 Failure_by_method g start stop_after Lane error f = Failure-where g start stop_after ⊥ (Lane ≡ Canonical) (λ x. absurd x) (λ e. cc) error f
 
 -- ---- what a part's answer says
-module _ {T : Type 0} (items : T → List (State Bits)) (g : Grammar) (start : NonterminalString) (stop_after : ℕ) (method : Method) (by : method ≡ Canonical) (before : List (State Bits)) (t : AreBuiltTablesOf ⊥ method g start before) where
+module _ {T : Type 0} (items : T → List (State Bits)) (g : Grammar) (start : NonterminalString) (stop_after : ℕ) (method : Method) (by : method ≡ Canonical) (copies : ℕ) (before : List (State Bits)) (t : AreBuiltTablesOf ⊥ method copies g start before) where
   -- of a collapse of canonical states
   pub Collapse-answers : (r : Result T (BuildError Bits)) → MatchResult r (λ x. AreCollapsedTables g.terminals before (items x)) (FailsByCollapse g.terminals before) → MatchResult r (λ x. AreCoherent (items x)) HasCoherentStates → IfOk r (λ x. 0 < length (items x)) → MatchResult r (λ x. AreLalrTables g start (items x)) (TellsNotLALR1 (productions g) start) →
-      IfOk r (λ x. AreBuiltTablesOf (method ≡ Canonical) method g start (items x))
-  Collapse-answers (Ok x) merged coherent some lalr = Merged-answer g start (items x) (method ≡ Canonical) by method by before (t.built (λ c. c) by) merged coherent some lalr
+      IfOk r (λ x. AreBuiltTablesOf (method ≡ Canonical) method copies g start (items x))
+  Collapse-answers (Ok x) merged coherent some lalr = Merged-answer g start (items x) (method ≡ Canonical) by method by copies before (t.built (λ c. c) by) merged coherent some lalr
   Collapse-answers (Err e) merged coherent some lalr = tt
 
   pub Collapse-fails : (r : Result T (BuildError Bits)) → MatchResult r (λ x. AreCollapsedTables g.terminals before (items x)) (FailsByCollapse g.terminals before) → MatchResult r (λ x. AreLalrTables g start (items x)) (TellsNotLALR1 (productions g) start) →

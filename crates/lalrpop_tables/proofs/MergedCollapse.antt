@@ -164,7 +164,7 @@ none_before : {X : Type 0} (xs ys : List X) → xs ++ ys ≡ [] → (xs ≡ []) 
 none_before [] ys e = (refl, e)
 none_before (x ∷ xs) ys e = cc
 
-free_states : (terminals : List TerminalString) (states : List (State Bits)) → flat_map (state_conflicts terminals) states ≡ [] → HaveNoConflict terminals states
+pub free_states : (terminals : List TerminalString) (states : List (State Bits)) → flat_map (state_conflicts terminals) states ≡ [] → HaveNoConflict terminals states
 free_states terminals [] e k state at = cc
 free_states terminals (s ∷ states) e zero state at =
     let first = none_before (state_conflicts terminals s) (flat_map (state_conflicts terminals) states) e in

@@ -1,5 +1,5 @@
 -- Canonical states as their construction makes them, and under other numbers, can be merged.
-use Rattle.std.proofs.Common.{◌≡◌, List, sym, subst}
+use Rattle.std.proofs.Common.{List, sym, subst}
 use Rattle.std.specs.Prelude.{Contains}
 use Rattle.std.specs.Borrow.{Bor}
 use Rattle.lalrpop_base.specs.Words.{Bits, FitsTokens, rules_of}

@@ -1,4 +1,4 @@
--- Renumbered tables have a state and no conflict, as before, and stay faithful; lane tables stay as many as the LR(0) states.
+-- Renumbered tables have a state and no conflict, as before, and stay faithful; lane tables stay as many as the LR(0) states, or as many as these and their copies.
 use Rattle.std.proofs.Common.{◌≡◌, ◌⊎◌, ◌<◌, ℕ, inl, inr, ⊎_elim, List, length, sym, ◌∙◌, ap, subst, arith, Some}
 use Rattle.std.specs.Prelude.{Contains, slice_get}
 use Rattle.std.proofs.lemmas.Bool.{cases_lt}
@@ -12,8 +12,9 @@ use Rattle.lalrpop_base.specs.declared.repr.Production.{Production}
 use Rattle.lalrpop_base.specs.declared.repr.TerminalString.{TerminalString}
 use Rattle.lalrpop_base.specs.declared.repr.grammar.Grammar.{Grammar}
 use Rattle.lalrpop_base.proofs.theory.Renumbering.{faithful-renumbered}
-use Rattle.lalrpop_tables.specs.Words.{AreMergedTables, AreRenumberedMerged, AreLaneTables, HaveFullItems, IsRenumberedState, AreRenumbered}
-use Rattle.lalrpop_tables.specs.Words.{AreRenumberedTables, AreRenumberedLaneTables, Construction, AreTables, HaveNoConflict, canonical_of}
+use Rattle.lalrpop_tables.specs.Words.{AreMergedTables, AreRenumberedMerged, AreLaneTables, HaveFullItems, AreCopiedTables, AreLr0Copies}
+use Rattle.lalrpop_tables.specs.Words.{IsRenumberedState, AreRenumbered, number_in, AreRenumberedCopies, AreRenumberedTables, AreRenumberedLaneTables}
+use Rattle.lalrpop_tables.specs.Words.{Construction, AreTables, HaveNoConflict, canonical_of}
 use Rattle.lalrpop_tables.proofs.Places.{same_some}
 use Rattle.lalrpop_tables.proofs.Renumbered.{entry_from, slice_get_inside}
 
@@ -80,6 +81,24 @@ Lanes-renumbered g start built tables lanes r = record {
   counted = r.counted ∙ lanes.made.same.counted;
 }
 
-pub Either-renumbered : (g : Grammar) (start : NonterminalString) (built tables : List (State Bits)) → AreLaneTables (rules_of g) start built ⊎ AreTables (canonical_of g start) built → AreRenumbered g.terminals built tables →
-    AreRenumberedLaneTables (rules_of g) start tables ⊎ AreRenumberedTables (canonical_of g start) tables
-Either-renumbered g start built tables either r = ⊎_elim (λ lanes. inl (Lanes-renumbered (rules_of g) start built tables lanes r)) (λ made. inr (Tables-renumbered (canonical_of g start) built tables made r)) either
+-- a copy has the items of its original, which hold all tokens
+pub Copied-items : (g : Rules) (start : NonterminalString) (copies : ℕ) (states : List (State Bits)) → AreLr0Copies g start copies states → HaveFullItems g.terminals states
+Copied-items g start copies states made n state item at among =
+    let copy = made.each.each n state at in
+    made.made.items (number_in made.originals n) copy.0 item copy.1 (subst (λ items. Contains items item) copy.2.items among)
+
+pub Copies-renumbered : (g : Rules) (start : NonterminalString) (copies : ℕ) (built tables : List (State Bits)) → AreCopiedTables g start copies built → AreRenumbered g.terminals built tables → AreRenumberedCopies g start copies tables
+Copies-renumbered g start copies built tables copied r = record {
+  built = built;
+  copied = copied;
+  renumbered = r;
+  free = Free-renumbered g.terminals built tables r copied.free;
+  items = Items-renumbered g.terminals built tables r (Copied-items g start copies built copied.made);
+  bare = copied.made.made.bare;
+  lr0 = copied.made.made.lr0;
+  counted = let k = r.counted in let m = copied.made.counted in let s = copied.made.made.same.counted in omega arith;
+}
+
+pub Either-renumbered : (g : Grammar) (start : NonterminalString) (copies : ℕ) (built tables : List (State Bits)) → AreCopiedTables (rules_of g) start copies built ⊎ AreTables (canonical_of g start) built → AreRenumbered g.terminals built tables →
+    AreRenumberedCopies (rules_of g) start copies tables ⊎ AreRenumberedTables (canonical_of g start) tables
+Either-renumbered g start copies built tables either r = ⊎_elim (λ copied. inl (Copies-renumbered (rules_of g) start copies built tables copied r)) (λ made. inr (Tables-renumbered (canonical_of g start) built tables made r)) either

@@ -24,7 +24,7 @@ module _ (g h : Grammar) (start other : NonterminalString) (same : canonical_of 
     fit = λ n s at. subst (λ (c : Construction Bits). FitReductions c.rules.terminals s) same (o.fit n s at);
   }
 
-  pub Same-tables : (tables : List (State Bits)) → AreBuiltTablesOf ⊥ Canonical g start tables → AreBuiltTablesOf ⊥ Canonical h other tables
+  pub Same-tables : (tables : List (State Bits)) → AreBuiltTablesOf ⊥ Canonical 0 g start tables → AreBuiltTablesOf ⊥ Canonical 0 h other tables
   Same-tables tables t = record {
     coherent = t.coherent;
     some = t.some;

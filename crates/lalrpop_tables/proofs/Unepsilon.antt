@@ -14,7 +14,7 @@ use Rattle.lalrpop_base.specs.declared.repr.Symbol.TheVariants.{Nonterminal}
 use Rattle.lalrpop_base.specs.declared.repr.TerminalString.{TerminalString}
 use Rattle.lalrpop_base.proofs.ContentsViews.{contains_of_map}
 use Rattle.lalrpop_tables.specs.Words.{at_place, Gains, Nothing, Visits, IsHere, IsEnd, IsEndBit, IsParent, IsFollowBit, IsPassedOn, rest_of, Some_of}
-use Rattle.lalrpop_tables.specs.Words.{GivesCell, GivesBit, GivesSuccessor, GainsOf, VisitsOf, AreInRange, places_in}
+use Rattle.lalrpop_tables.specs.Words.{GivesCell, GivesBit, GivesSuccessor, GainsOf, GainsSome, GainsSomeOf, VisitsOf, AreInRange, places_in}
 use Rattle.lalrpop_tables.specs.LaneSteps.{LeadsTo}
 use Rattle.lalrpop_tables.specs.declared.lane_table.lane.ground.Ground.{Ground}
 use Rattle.lalrpop_tables.specs.declared.lane_table.lane.walk.Walk.{Walk}
@@ -23,6 +23,7 @@ use Rattle.lalrpop_tables.specs.declared.place.Place.{Place}
 use Rattle.lalrpop_tables.proofs.CheckSending.{same_place}
 use Rattle.lalrpop_tables.proofs.Closing.{drop_split, split_drop}
 use Rattle.lalrpop_tables.proofs.Gains.{Gains-none, Gains-then}
+use Rattle.lalrpop_tables.proofs.GainsSome.{GainsSome-last, GainsSome-then, GainsSome-all, GainsSome-wider}
 use Rattle.lalrpop_tables.proofs.Lists.{Contains-map}
 use Rattle.lalrpop_tables.proofs.SomeOf.{some_none, some_kept, some_last, some_cases}
 use Rattle.lalrpop_tables.proofs.Unshifting.{back_cases}
@@ -244,3 +245,17 @@ module _ {L : Type 0} (ground : Ground L) (place : Place) (s : State L) (there :
     Unepsilon-visits =
         let v = subst (λ (x : NonterminalString). Visits (λ p. Some_of (λ (i : Dotted L). IsPassedOn R x place.state i p) items) start now) is h.visits in
         Visits-same (λ p. Some_of (λ (i : Dotted L). IsPassedOn R a place.state i p) items) (LeadsTo R ground.start.now S place) led_parent led_cases start now v
+
+  -- the end was added, and what the items so far gave, and a part of what the next one gives, where it is refused
+  module _ (k : ℕ) (name : NonterminalString) (is : name ≡ a) (old middle now new : LaneTable) (start walk : Walk) (done : List (Dotted L)) (item : Dotted L) (among : (i : Dotted L) → Contains done i → Contains items i) (this : Contains items item) where
+    pub Unepsilon-part : Gains k (IsEnd ground.start.now name place.state) (IsEndBit R ground.start.now name place.state) Nothing old middle → IsFollowing R name place.state k done middle now start walk →
+        GainsSome k (IsHere place.state (IsParent name item)) (λ row bit. IsHere place.state (IsFollowBit R name item bit) row) Nothing now new → GainsSomeOf ground place k old new
+    Unepsilon-part ended h part =
+        let first = subst (λ (x : NonterminalString). Gains k (IsEnd ground.start.now x place.state) (IsEndBit R ground.start.now x place.state) Nothing old middle) is ended in
+        let second = subst (λ (x : NonterminalString). Gains k (λ row. Some_of (λ (i : Dotted L). IsHere place.state (IsParent x i) row) done) (λ row bit. Some_of (λ (i : Dotted L). IsHere place.state (IsFollowBit R x i bit) row) done) Nothing middle now) is h.gains in
+        let third = subst (λ (x : NonterminalString). GainsSome k (IsHere place.state (IsParent x item)) (λ row bit. IsHere place.state (IsFollowBit R x item bit) row) Nothing now new) is part in
+        GainsSome-then k (GivesCell R ground.start.now S place) (GivesBit R ground.start.now S place) (GivesSuccessor R ground.start.now S place) old middle new
+        (GainsSome-wider k (IsEnd ground.start.now a place.state) (GivesCell R ground.start.now S place) (IsEndBit R ground.start.now a place.state) (GivesBit R ground.start.now S place) Nothing (GivesSuccessor R ground.start.now S place) cell_end bit_end (λ l r n. absurd n) old middle
+        (GainsSome-all k (IsEnd ground.start.now a place.state) (IsEndBit R ground.start.now a place.state) Nothing old middle first))
+        (GainsSome-last k (λ row. Some_of (λ (i : Dotted L). IsHere place.state (IsParent a i) row) done) (IsHere place.state (IsParent a item)) (GivesCell R ground.start.now S place) (λ row bit. Some_of (λ (i : Dotted L). IsHere place.state (IsFollowBit R a i bit) row) done) (λ row bit. IsHere place.state (IsFollowBit R a item bit) row) (GivesBit R ground.start.now S place) Nothing Nothing (GivesSuccessor R ground.start.now S place)
+        (λ row m. cell_parent row (m.0, among m.0 m.1, m.2)) (λ row c. cell_parent row (item, this, c)) (λ row bit m. bit_parent row bit (m.0, among m.0 m.1, m.2)) (λ row bit b. bit_parent row bit (item, this, b)) (λ l r n. absurd n) (λ l r n. absurd n) middle now new second third)

@@ -11,8 +11,8 @@ use Rattle.lalrpop_base.specs.declared.repr.NonterminalString.{NonterminalString
 use Rattle.lalrpop_base.specs.declared.repr.Production.{Production}
 use Rattle.lalrpop_base.specs.declared.repr.Symbol.{Symbol}
 use Rattle.lalrpop_base.specs.declared.repr.Symbol.TheVariants.{Nonterminal}
-use Rattle.lalrpop_tables.specs.Words.{at_place, IsGround, Gains, Nowhere, Nothing, IsPair, Visits, Some_of, GivesCell, GivesBit, GivesSuccessor, GainsOf}
-use Rattle.lalrpop_tables.specs.Words.{VisitsOf, AreInRange, places_in, edge, edges, sources_over}
+use Rattle.lalrpop_tables.specs.Words.{at_place, IsGround, Gains, GainsSome, Nowhere, Nothing, IsPair, Visits, Some_of, GivesCell, GivesBit, GivesSuccessor}
+use Rattle.lalrpop_tables.specs.Words.{GainsOf, GainsSomeOf, VisitsOf, AreInRange, places_in, edge, edges, sources_over}
 use Rattle.lalrpop_tables.specs.LaneSteps.{LeadsTo}
 use Rattle.lalrpop_tables.specs.declared.lane_table.lane.ground.Ground.{Ground}
 use Rattle.lalrpop_tables.specs.declared.lane_table.lane.walk.Walk.{Walk}
@@ -22,6 +22,7 @@ use Rattle.lalrpop_tables.proofs.CheckSending.{same_place}
 use Rattle.lalrpop_tables.proofs.Closing.{drop_split, split_drop}
 use Rattle.lalrpop_tables.proofs.EdgeLeads.{leads_edge}
 use Rattle.lalrpop_tables.proofs.Gains.{Gains-none, Gains-then, Gains-same}
+use Rattle.lalrpop_tables.proofs.GainsSome.{GainsSome-last}
 use Rattle.lalrpop_tables.proofs.Lists.{Contains-none, Contains-here, Contains-cases}
 use Rattle.lalrpop_tables.proofs.Places.{same_some}
 use Rattle.lalrpop_tables.proofs.SomeOf.{some_none, some_kept, some_last, some_cases}
@@ -131,6 +132,22 @@ module _ {L : Type 0} (ground : Ground L) (place : Place) (x : Symbol) where
     behind : drop dot place.item.production.symbols ≡ x ∷ drop (suc dot) place.item.production.symbols
     behind = drop_split dot place.item.production.symbols x at
 
+    step_gives : (q : StateIndex) → leads (S q.0) x ≡ Some place.state → (l r : ℕ) → IsStep l r q → GivesSuccessor (rules_of ground.grammar.now) ground.start.now S place l r
+    step_gives q edge l r pair = record {
+      here = pair.right;
+      index = dot;
+      moved = next;
+      symbol = x;
+      after = drop (suc dot) place.item.production.symbols;
+      edge = subst (λ (n : ℕ). leads (S l) x ≡ Some n) pair.right (subst (λ (n : ℕ). leads (S n) x ≡ Some place.state) pair.left edge);
+      behind = behind;
+    }
+
+    -- the sources so far gave a part, and so does the next one, where its step is refused
+    pub Unshifting-part : (before all : List StateIndex) (q : StateIndex) (a b c : LaneTable) (t u : Walk) → leads (S q.0) x ≡ Some place.state → ((k : ℕ) → GainsSome k Nowhere Nothing (IsPair q.0 place.state) b c) → IsUnshifting before all a b t u → (k : ℕ) → GainsSomeOf ground place k a c
+    Unshifting-part before all q a b c t u edge part h k = GainsSome-last k Nowhere Nowhere (GivesCell (rules_of ground.grammar.now) ground.start.now S place) Nothing Nothing (GivesBit (rules_of ground.grammar.now) ground.start.now S place) (λ l r. Some_of (IsStep l r) h.done) (IsPair q.0 place.state) (GivesSuccessor (rules_of ground.grammar.now) ground.start.now S place)
+        (λ row n. absurd n) (λ row n. absurd n) (λ row bit n. absurd n) (λ row bit n. absurd n) (λ l r m. step_gives m.0 (h.leading m.0 m.1) l r m.2) (step_gives q edge) a b c (h.gains k) (part k)
+
     module _ (left all : List StateIndex) (old new : LaneTable) (start now : Walk) (none : left ≡ []) (is : all ≡ reverse (sources_over ground.state_graph.now x (record { 0 = place.state }))) (h : IsUnshifting left all old new start now) where
       -- each state from which the symbol leads is done
       reached : (l : ℕ) (e : ℕ) (y : Symbol) (after : List Symbol) → place.item.index ≡ suc e → leads (S l) y ≡ Some place.state → drop e place.item.production.symbols ≡ y ∷ after → Contains h.done (record { 0 = l })
@@ -146,15 +163,7 @@ module _ {L : Type 0} (ground : Ground L) (place : Place) (x : Symbol) where
 
       stepped : (l r : ℕ) → Some_of (IsStep l r) h.done ↔ GivesSuccessor (rules_of ground.grammar.now) ground.start.now S place l r
       stepped l r = (
-        λ m. record {
-          here = (m.2).right;
-          index = dot;
-          moved = next;
-          symbol = x;
-          after = drop (suc dot) place.item.production.symbols;
-          edge = subst (λ (n : ℕ). leads (S l) x ≡ Some n) (m.2).right (subst (λ (n : ℕ). leads (S n) x ≡ Some place.state) (m.2).left (h.leading m.0 m.1));
-          behind = behind;
-        },
+        λ m. step_gives m.0 (h.leading m.0 m.1) l r m.2,
         λ s. (record { 0 = l }, reached l s.index s.symbol s.after s.moved (subst (λ (n : ℕ). leads (S l) s.symbol ≡ Some n) (sym s.here) s.edge) s.behind, record { left = refl; right = s.here }),
       )
 

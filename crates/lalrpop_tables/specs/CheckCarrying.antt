@@ -1,5 +1,5 @@
 -- Tokens carried over the edges of states, as a worklist finds them.
-use Rattle.std.specs.Prelude.{◌≡◌, ◌+◌, ◌<◌, ◌≤◌, ◌⊎◌, ℕ, true, List, [], ◌∷◌, ◌++◌, length, drop, slice_get, Contains, Option, Some, None}
+use Rattle.std.specs.Prelude.{◌≡◌, ◌+◌, ◌≤◌, ◌⊎◌, ℕ, true, List, ◌∷◌, length, drop, slice_get, Contains, Option, Some, None}
 use Rattle.std.specs.Borrow.{Bor}
 use Rattle.std.specs.Map.{keys_of}
 use Rattle.lalrpop_base.specs.Words.{Bits, has, IsReached, IsCarried, items_of, contents, holds_token, EachItem, IsFirstSetBefore, IsNullable, AllDiffer}

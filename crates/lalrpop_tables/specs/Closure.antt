@@ -1,5 +1,5 @@
 -- Items of a grammar, and the closure of a kernel.
-use Rattle.std.specs.Prelude.{◌≡◌, ◌≤◌, ◌+◌, ◌⊎◌, ◌↔◌, ℕ, true, List, [], ◌∷◌, ◌++◌, length, drop, Contains, map}
+use Rattle.std.specs.Prelude.{◌≡◌, ◌≤◌, ◌+◌, ◌⊎◌, ◌↔◌, ℕ, true, List, ◌∷◌, length, drop, Contains, map}
 use Rattle.std.specs.Map.{keys_of}
 use Rattle.lalrpop_base.specs.Words.{Bits, Dotted, AllDiffer, FitsTokens, Rules, InClosure, InTokenClosure, holds_token}
 use Rattle.lalrpop_base.specs.declared.lookahead.nil.Nil.{Nil}

@@ -5,7 +5,7 @@ use Rattle.std.specs.declared.cmp.Ordering.TheVariants.{Equal}
 use Rattle.std.specs.Borrow.{Bor}
 use Rattle.std.specs.List.{flat_map}
 use Rattle.std.specs.List.Sorted.{IsStrictlySortedBy}
-use Rattle.lalrpop_base.specs.Words.{Bits, has, AreClosed, AreChecked, AreCoherent, contents, IfConflicts, Dotted, AreLr0, IsLaneToken, HoldLaneTokens}
+use Rattle.lalrpop_base.specs.Words.{Bits, has, AreClosed, AreChecked, AreCoherent, contents, Dotted, AreLr0, IsLaneToken, HoldLaneTokens}
 use Rattle.lalrpop_base.specs.Words.{state_conflicts, Contents, ReducesFinished, AreFaithful, IsBitOf, Action, Shift, Reduce, IsLALR1, Rules, IsWellFormed}
 use Rattle.lalrpop_base.specs.Words.{rules_of}
 use Rattle.lalrpop_base.specs.StateConflicts.{HasNoConflict}
@@ -15,7 +15,6 @@ use Rattle.lalrpop_base.specs.declared.lookahead.token.Token.{Token}
 use Rattle.lalrpop_base.specs.declared.lookahead.token.Token.TheVariants.{Terminal as TokenOf}
 use Rattle.lalrpop_base.specs.declared.lr1_core.state.Action.{Action as CodeAction}
 use Rattle.lalrpop_base.specs.declared.lr1_core.state.Action.TheVariants.{Shift as CodeShift, Reduce as CodeReduce}
-use Rattle.lalrpop_base.specs.declared.lr1_core.state.BuildError.{BuildError}
 use Rattle.lalrpop_base.specs.declared.lr1_core.state.Conflict.{Conflict}
 use Rattle.lalrpop_base.specs.declared.lr1_core.state.State.{State}
 use Rattle.lalrpop_base.specs.declared.repr.NonterminalString.{NonterminalString}
@@ -73,10 +72,6 @@ pub record AreLr0Tables (g : Rules) (start : NonterminalString) (states : List (
   pub lr0 : AreLr0 g.productions start (contents g.terminals states)
   pub closed : AreClosed g.productions start (contents g.terminals states)
   pub reduces : (n : ℕ) → ReducesFinished (contents g.terminals states n)
-
--- the states of an error are such; want of memory says nothing
-abbrev pub HasLr0Tables : Rules → NonterminalString → BuildError Bits → Type 0
-HasLr0Tables g start = IfConflicts (λ error. AreLr0Tables g start error.states.items)
 
 -- ---- promoted states
 -- each reduction of the state holds exactly the terminals and the end
@@ -194,19 +189,10 @@ pub record HaveMeetingLanes (g : Rules) (start : NonterminalString) (states : Li
   pub before : (n : ℕ) → n < number → IsResolvedAt g start states n states
   pub from : HoldAllFrom g.terminals number states
 
--- LR(0) states of which one has two actions that share a token, and the conflicts of each, states ascending; there is one
-pub record AreLaneConflicts (g : Rules) (start : NonterminalString) (states : List (State Bits)) (conflicts : List (Conflict Bits)) : Type 0 where
-  pub made : AreLaneStates g start states
-  pub met : HaveMeetingLanes g start states
-  pub all : conflicts ≡ flat_map (state_conflicts g.terminals) states
-  pub some : 0 < length conflicts
-
--- an error has such; want of memory says nothing
-abbrev pub FailsByLanes : Rules → NonterminalString → BuildError Bits → Type 0
-FailsByLanes g start = IfConflicts (λ error. AreLaneConflicts g start error.states.items error.conflicts.items)
-
--- tables of an LALR(1) grammar, which pass the check and are faithful
+-- tables of an LALR(1) grammar: its LR(0) states with their lane tokens, which pass the check and are faithful
 pub record AreLalrLaneTables (g : Rules) (start : NonterminalString) (tables : List (State Bits)) : Type 0 where
+  pub lanes : AreLaneTables g start tables
+  pub shape : AreLr0Tables g start tables
   pub lalr : IsLALR1 g.productions start
   pub checked : AreChecked g.productions start (contents g.terminals tables)
   pub faithful : AreFaithful g.productions start (contents g.terminals tables)

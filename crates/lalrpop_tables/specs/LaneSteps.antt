@@ -10,7 +10,7 @@ use Rattle.lalrpop_base.specs.declared.repr.Symbol.{Symbol}
 use Rattle.lalrpop_base.specs.declared.repr.Symbol.TheVariants.{Nonterminal}
 use Rattle.lalrpop_base.specs.declared.repr.TerminalString.{TerminalString}
 use Rattle.lalrpop_tables.specs.CheckCarrying.{at_place}
-use Rattle.lalrpop_tables.specs.LaneTables.{HasCell, HasBit, IsSuccessor}
+use Rattle.lalrpop_tables.specs.LaneTables.{HasCell, HasBit, IsSuccessor, KeepsAll}
 use Rattle.lalrpop_tables.specs.LaneTraces.{HaveOwnItems, places_in}
 use Rattle.lalrpop_tables.specs.StateGraph.{edges, IsGraphOf}
 use Rattle.lalrpop_tables.specs.declared.lane_table.lane.ground.Ground.{Ground}
@@ -31,6 +31,13 @@ pub record Gains (k : ℕ) (Cell : ℕ → Type 0) (Bit Successor : ℕ → ℕ 
   pub cells : (row : StateIndex) (j : ℕ) → HasCell new row j ↔ (HasCell old row j ⊎ ((j ≡ k) × Cell row.0))
   pub tokens : (row : StateIndex) (j bit : ℕ) → HasBit new row j bit ↔ (HasBit old row j bit ⊎ ((j ≡ k) × Bit row.0 bit))
   pub successors : (left right : StateIndex) → IsSuccessor new left right ↔ (IsSuccessor old left right ⊎ Successor left.0 right.0)
+
+-- a table kept what it had, and got, in one column, some of such cells and tokens, and some of such successors, by the numbers of the states, and nothing else
+pub record GainsSome (k : ℕ) (Cell : ℕ → Type 0) (Bit Successor : ℕ → ℕ → Type 0) (old new : LaneTable) : Type 0 where
+  pub kept : KeepsAll old new
+  pub cells : (row : StateIndex) (j : ℕ) → HasCell new row j → HasCell old row j ⊎ ((j ≡ k) × Cell row.0)
+  pub tokens : (row : StateIndex) (j bit : ℕ) → HasBit new row j bit → HasBit old row j bit ⊎ ((j ≡ k) × Bit row.0 bit)
+  pub successors : (left right : StateIndex) → IsSuccessor new left right → IsSuccessor old left right ⊎ Successor left.0 right.0
 
 -- in no row
 abbrev pub Nowhere : ℕ → Type 0
@@ -139,6 +146,10 @@ module _ {L : Type 0} (ground : Ground L) (place : Place) where
   abbrev pub GainsOf : ℕ → LaneTable → LaneTable → Type 0
   GainsOf k = Gains k (GivesCell (rules_of ground.grammar.now) ground.start.now (places_in ground.states.now) place) (GivesBit (rules_of ground.grammar.now) ground.start.now (places_in ground.states.now) place) (GivesSuccessor (rules_of ground.grammar.now) ground.start.now (places_in ground.states.now) place)
 
+  -- the table got, in one column, some of what a place gives
+  abbrev pub GainsSomeOf : ℕ → LaneTable → LaneTable → Type 0
+  GainsSomeOf k = GainsSome k (GivesCell (rules_of ground.grammar.now) ground.start.now (places_in ground.states.now) place) (GivesBit (rules_of ground.grammar.now) ground.start.now (places_in ground.states.now) place) (GivesSuccessor (rules_of ground.grammar.now) ground.start.now (places_in ground.states.now) place)
+
   -- the walk went to all places to which it leads back
   abbrev pub VisitsOf : Walk → Walk → Type 0
   VisitsOf = Visits (LeadsTo (rules_of ground.grammar.now) ground.start.now (places_in ground.states.now) place)
@@ -154,6 +165,10 @@ module _ {L : Type 0} (ground : Ground L) (first : Place) where
 
   abbrev pub GainsAll : ℕ → LaneTable → LaneTable → Type 0
   GainsAll k = Gains k (λ row. Reaches (λ p. GivesCell (rules_of ground.grammar.now) ground.start.now (places_in ground.states.now) p row)) (λ row bit. Reaches (λ p. GivesBit (rules_of ground.grammar.now) ground.start.now (places_in ground.states.now) p row bit)) (λ l r. Reaches (λ p. GivesSuccessor (rules_of ground.grammar.now) ground.start.now (places_in ground.states.now) p l r))
+
+  -- the table got, in one column, some of what the places give to which a place leads back
+  abbrev pub GainsSomeOfAll : ℕ → LaneTable → LaneTable → Type 0
+  GainsSomeOfAll k = GainsSome k (λ row. Reaches (λ p. GivesCell (rules_of ground.grammar.now) ground.start.now (places_in ground.states.now) p row)) (λ row bit. Reaches (λ p. GivesBit (rules_of ground.grammar.now) ground.start.now (places_in ground.states.now) p row bit)) (λ l r. Reaches (λ p. GivesSuccessor (rules_of ground.grammar.now) ground.start.now (places_in ground.states.now) p l r))
 
   -- the place is the end of a production of the grammar, in a state of the list
   pub record IsEndPlace : Type 0 where

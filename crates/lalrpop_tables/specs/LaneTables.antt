@@ -52,6 +52,13 @@ pub record AddsSuccessor (left right : StateIndex) (old new : LaneTable) : Type 
   pub tokens : (row : StateIndex) (k bit : ℕ) → HasBit new row k bit ↔ HasBit old row k bit
   pub successors : (l r : StateIndex) → IsSuccessor new l r ↔ (IsSuccessor old l r ⊎ ((l ≡ left) × (r ≡ right)))
 
+-- a table has the columns, cells, tokens and successors that it had before, and maybe more of these
+pub record KeepsAll (old new : LaneTable) : Type 0 where
+  pub columns : new.conflicts ≡ old.conflicts
+  pub cells : (row : StateIndex) (k : ℕ) → HasCell old row k → HasCell new row k
+  pub tokens : (row : StateIndex) (k bit : ℕ) → HasBit old row k bit → HasBit new row k bit
+  pub successors : (left right : StateIndex) → IsSuccessor old left right → IsSuccessor new left right
+
 -- a table without rows
 pub record IsEmptyTable (table : LaneTable) : Type 0 where
   pub cells : (row : StateIndex) (k : ℕ) → HasCell table row k → ⊥

@@ -10,7 +10,7 @@ use Rattle.lalrpop_base.specs.declared.lr1_core.state.StateIndex.{StateIndex}
 use Rattle.lalrpop_base.specs.declared.repr.NonterminalString.{NonterminalString}
 use Rattle.lalrpop_base.specs.declared.repr.Production.{Production}
 use Rattle.lalrpop_base.specs.declared.repr.Symbol.TheVariants.{Nonterminal}
-use Rattle.lalrpop_tables.specs.LaneTables.{HasCell, HasBit, IsSuccessor, AddsTokens, AreInRange}
+use Rattle.lalrpop_tables.specs.LaneTables.{HasCell, HasBit, IsSuccessor, AddsTokens, AreInRange, AreSameTables, KeepsAll}
 use Rattle.lalrpop_tables.specs.StateGraph.{edges, IsGraphOf}
 use Rattle.lalrpop_tables.specs.declared.lane_table.lane.LaneTracer.{LaneTracer}
 use Rattle.lalrpop_tables.specs.declared.lane_table.table.LaneTable.{LaneTable}
@@ -61,3 +61,15 @@ module _ (g : Rules) (start : NonterminalString) (states : ℕ → Contents) whe
   abbrev pub TakesAction : StateIndex → ℕ → Action → LaneTable → LaneTable → Type 0
   TakesAction s k (Shift t target) old new = (set : Bits) × ((bit : ℕ) → (has set bit ≡ true) ↔ (slice_get g.terminals bit ≡ Some t)) × AddsTokens s k set old new
   TakesAction s k (Reduce p) old new = TakesLane s p.now k old new
+
+  -- the table took a part of the lane of a reduction from a state into a column: it has what it had, and what is new is of the lane
+  pub record TakesPartOfLane (s : StateIndex) (p : Production) (k : ℕ) (old new : LaneTable) : Type 0 where
+    pub kept : KeepsAll old new
+    pub cells : (row : StateIndex) (j : ℕ) → HasCell new row j → HasCell old row j ⊎ ((j ≡ k) × ((row ≡ s) ⊎ GivesAt s.0 p row.0))
+    pub tokens : (row : StateIndex) (j bit : ℕ) → HasBit new row j bit → HasBit old row j bit ⊎ ((j ≡ k) × IsLaneBit s.0 p row.0 bit)
+    pub successors : (left right : StateIndex) → IsSuccessor new left right → IsSuccessor old left right ⊎ IsLaneSuccessor g.productions states s.0 p (length p.symbols) left.0 right.0
+
+  -- of a shift the table took nothing; of a reduction it took a part of the lane
+  abbrev pub TakesPartOfAction : StateIndex → ℕ → Action → LaneTable → LaneTable → Type 0
+  TakesPartOfAction s k (Shift t target) old new = AreSameTables old new
+  TakesPartOfAction s k (Reduce p) old new = TakesPartOfLane s p.now k old new

@@ -1,5 +1,5 @@
 -- What the construction of states says with any lookahead, read with sets of tokens and without lookahead. Public functions state these laws.
-use Rattle.std.specs.Prelude.{◌≡◌, ℕ, List}
+use Rattle.std.specs.Prelude.{ℕ, List}
 use Rattle.std.specs.BTreeMap.{IsOrdered}
 use Rattle.lalrpop_base.specs.Words.{Bits, AllDiffer, IsWellFormed, name_cmp, rules_of, productions_of}
 use Rattle.lalrpop_base.specs.contracts.lookahead.nil.NilLookahead.TheImpl as nil_lookahead
@@ -41,7 +41,7 @@ StopsWithSets g start stop_after =
 abbrev pub SetTablesAreCanonical : Type 0
 SetTablesAreCanonical =
     (g : Grammar) (start : NonterminalString) → IsKeptGrammar g → (tables : List (State Bits)) →
-    AreSetTables g start tables → AreBuiltTablesOf ⊥ Canonical g start tables
+    AreSetTables g start tables → AreBuiltTablesOf ⊥ Canonical 0 g start tables
 
 -- such an error has the states and conflicts of a grammar for which there are no tables
 abbrev pub SetErrorsAreCanonical : Type 0

@@ -26,6 +26,7 @@ pub mod LaneTraces
 pub mod Laws
 pub mod ListedConflicts
 pub mod Lr0
+pub mod Lr0Copies
 pub mod Lr1Answers
 pub mod Merges
 pub mod Merging
@@ -35,6 +36,7 @@ pub mod Partitions
 pub mod Ready
 pub mod Renumbered
 pub mod RenumberedTables
+pub mod Resolving
 pub mod Results
 pub mod StateGraph
 pub mod StateSets

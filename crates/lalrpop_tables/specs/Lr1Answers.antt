@@ -12,13 +12,14 @@ use Rattle.lalrpop_tables.specs.CanonicalConflicts.{FailByCanonicalConflicts}
 use Rattle.lalrpop_tables.specs.EarlyStop.{AreSomeCanonicalStates, StopsAfter}
 use Rattle.lalrpop_tables.specs.Lalr.{AreMergedTables, AreRenumberedMerged, FailsAsLalr}
 use Rattle.lalrpop_tables.specs.LaneStates.{AreLaneTables}
-use Rattle.lalrpop_tables.specs.RenumberedTables.{AreRenumberedTables, AreRenumberedLaneTables}
+use Rattle.lalrpop_tables.specs.Lr0Copies.{AreCopiedTables}
+use Rattle.lalrpop_tables.specs.RenumberedTables.{AreRenumberedCopies, AreRenumberedTables, AreRenumberedLaneTables}
 use Rattle.lalrpop_tables.specs.Results.{AreStatesOf, AreTables, AreAllConflicts, canonical_of}
 use Rattle.lalrpop_tables.specs.declared.build.options.Method.{Method}
 use Rattle.lalrpop_tables.specs.declared.build.options.Method.TheVariants.{Lane, Canonical}
 
--- tables of a grammar, by which method, and whether states were collapsed; the constructed canonical tables, the lane tables and the merged ones are parameters, since tables have other numbers than their construction gave them
-pub record AreTablesBy (Built Lanes Merged : List (State Bits) → Type 0) (collapsed : Type 0) (method : Method) (g : Grammar) (start : NonterminalString) (tables : List (State Bits)) : Type 0 where
+-- tables of a grammar, by which method, and whether states were collapsed; the constructed canonical tables, the lane tables with copies and without, and the merged ones are parameters, since tables have other numbers than their construction gave them
+pub record AreTablesBy (Built Copies Lanes Merged : List (State Bits) → Type 0) (collapsed : Type 0) (method : Method) (g : Grammar) (start : NonterminalString) (tables : List (State Bits)) : Type 0 where
   -- there is a state, and each target is one
   pub coherent : AreCoherent tables
   pub some : 0 < length tables
@@ -32,17 +33,17 @@ pub record AreTablesBy (Built Lanes Merged : List (State Bits) → Type 0) (coll
   -- where states are collapsed the grammar is LALR(1), and the tables are canonical ones merged
   pub lalr1 : collapsed → IsLALR1 (productions g) start
   pub merged : collapsed → Merged tables
-  -- by the lane way they are lane tables or canonical ones, and the former where the grammar is LALR(1) and the start symbol on no right side
-  pub either : method ≡ Lane → Lanes tables ⊎ Built tables
+  -- by the lane way they are LR(0) states with copies, or canonical ones; where the grammar is LALR(1) and the start symbol on no right side they are its LR(0) states
+  pub either : method ≡ Lane → Copies tables ⊎ Built tables
   pub lanes : method ≡ Lane → IsOnNoRightSide (productions g) start → IsLALR1 (productions g) start → Lanes tables
 
--- under the numbers that tables have
-abbrev pub AreTablesOf : Type 0 → Method → Grammar → NonterminalString → List (State Bits) → Type 0
-AreTablesOf collapsed method g start = AreTablesBy (AreRenumberedTables (canonical_of g start)) (AreRenumberedLaneTables (rules_of g) start) (AreRenumberedMerged g start) collapsed method g start
+-- under the numbers that tables have; at most so many copies are made
+abbrev pub AreTablesOf : Type 0 → Method → ℕ → Grammar → NonterminalString → List (State Bits) → Type 0
+AreTablesOf collapsed method copies g start = AreTablesBy (AreRenumberedTables (canonical_of g start)) (AreRenumberedCopies (rules_of g) start copies) (AreRenumberedLaneTables (rules_of g) start) (AreRenumberedMerged g start) collapsed method g start
 
 -- under the numbers of their construction
-abbrev pub AreBuiltTablesOf : Type 0 → Method → Grammar → NonterminalString → List (State Bits) → Type 0
-AreBuiltTablesOf collapsed method g start = AreTablesBy (AreTables (canonical_of g start)) (AreLaneTables (rules_of g) start) (AreMergedTables g start) collapsed method g start
+abbrev pub AreBuiltTablesOf : Type 0 → Method → ℕ → Grammar → NonterminalString → List (State Bits) → Type 0
+AreBuiltTablesOf collapsed method copies g start = AreTablesBy (AreTables (canonical_of g start)) (AreCopiedTables (rules_of g) start copies) (AreLaneTables (rules_of g) start) (AreMergedTables g start) collapsed method g start
 
 -- the states and conflicts of a grammar for which there are no tables: canonical states, all of them where there is no early stop, with exactly the canonical conflicts; or those of the collapse of canonical states without a conflict
 pub record HasConflictsOf (collapsed : Type 0) (stop_after : ℕ) (g : Grammar) (start : NonterminalString) (error : TableConstructionError Bits) : Type 0 where

@@ -1,11 +1,12 @@
 -- What the construction of tables answers, with the numbers of a table.
-use Rattle.std.specs.Prelude.{◌≡◌, ◌<◌, List, length}
+use Rattle.std.specs.Prelude.{◌≡◌, ◌<◌, ◌≤◌, ◌+◌, ℕ, List, length}
 use Rattle.lalrpop_base.specs.Words.{Bits, Rules}
 use Rattle.lalrpop_base.specs.declared.lookahead.nil.Nil.{Nil}
 use Rattle.lalrpop_base.specs.declared.lr1_core.state.State.{State}
 use Rattle.lalrpop_base.specs.declared.repr.NonterminalString.{NonterminalString}
 use Rattle.lalrpop_tables.specs.LaneStates.{AreLaneTables, HaveFullItems}
 use Rattle.lalrpop_tables.specs.Lr0.{AreLr0States}
+use Rattle.lalrpop_tables.specs.Lr0Copies.{AreCopiedTables}
 use Rattle.lalrpop_tables.specs.Renumbered.{AreRenumbered}
 use Rattle.lalrpop_tables.specs.Results.{Construction, AreTables, HaveNoConflict}
 
@@ -27,3 +28,14 @@ pub record AreRenumberedLaneTables (g : Rules) (start : NonterminalString) (tabl
   pub bare : List (State Nil)
   pub lr0 : AreLr0States g start bare
   pub counted : length tables ≡ length bare
+
+-- LR(0) states of a grammar with at most so many copies, renumbered; none has a conflict, and each item holds all tokens
+pub record AreRenumberedCopies (g : Rules) (start : NonterminalString) (copies : ℕ) (tables : List (State Bits)) : Type 0 where
+  pub built : List (State Bits)
+  pub copied : AreCopiedTables g start copies built
+  pub renumbered : AreRenumbered g.terminals built tables
+  pub free : HaveNoConflict g.terminals tables
+  pub items : HaveFullItems g.terminals tables
+  pub bare : List (State Nil)
+  pub lr0 : AreLr0States g start bare
+  pub counted : length tables ≤ length bare + copies

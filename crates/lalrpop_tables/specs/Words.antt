@@ -29,23 +29,25 @@ pub use Rattle.lalrpop_tables.specs.Lalr.{TellsNotLALR1}
 pub use Rattle.lalrpop_tables.specs.LaneRows.{AddsRows, AreGathered, AreRowsOf, Cells, HasCells, HasIn, HasNext, JoinsRow, MakesRow, MeetsRow, Rows, StandsFor}
 pub use Rattle.lalrpop_tables.specs.LaneRows.{Successors, ThisRow, row_at}
 pub use Rattle.lalrpop_tables.specs.LaneStates.{ActionsAscend, AreActions, AreLalrLaneTables, AreLaneStates, AreLaneTables, AreLr0Tables, AreTraced}
-pub use Rattle.lalrpop_tables.specs.LaneStates.{FailsByLanes, HasActionBit, HasLaneBits, HasSamePlace, HaveFullItems, HaveMeetingLanes, HaveSamePlaces}
+pub use Rattle.lalrpop_tables.specs.LaneStates.{HasActionBit, HasLaneBits, HasSamePlace, HaveFullItems, HaveMeetingLanes, HaveSamePlaces}
 pub use Rattle.lalrpop_tables.specs.LaneStates.{HoldAllFrom, HoldsAll, IsAttempted, IsBitAt, IsFull, IsLaneAction, IsPromoted, IsResolved, IsResolvedAt, IsStep}
 pub use Rattle.lalrpop_tables.specs.LaneStates.{IsTokenOf, LanesMeet, action_order, asked_actions, by, conflict_actions, dot_of, promoted_item}
 pub use Rattle.lalrpop_tables.specs.LaneStates.{promoted_reduction, reduce_action}
-pub use Rattle.lalrpop_tables.specs.LaneSteps.{Gains, GainsAll, GainsOf, GivesBit, GivesCell, GivesSuccessor, IsEnd, IsEndBit, IsEndPlace, IsFollowBit}
-pub use Rattle.lalrpop_tables.specs.LaneSteps.{IsGround, IsHere, IsPair, IsParent, IsPassedOn, IsPlaceIf, Nothing, Nowhere, Reaches, Some_of, Visits, VisitsOf}
-pub use Rattle.lalrpop_tables.specs.LaneSteps.{rest_of}
+pub use Rattle.lalrpop_tables.specs.LaneSteps.{Gains, GainsAll, GainsOf, GainsSome, GainsSomeOf, GainsSomeOfAll, GivesBit, GivesCell, GivesSuccessor, IsEnd}
+pub use Rattle.lalrpop_tables.specs.LaneSteps.{IsEndBit, IsEndPlace, IsFollowBit, IsGround, IsHere, IsPair, IsParent, IsPassedOn, IsPlaceIf, Nothing, Nowhere}
+pub use Rattle.lalrpop_tables.specs.LaneSteps.{Reaches, Some_of, Visits, VisitsOf, rest_of}
 pub use Rattle.lalrpop_tables.specs.LaneTableStates.{AddsKeys, AreReached, HasCellsBelow, IsClosedEdge}
-pub use Rattle.lalrpop_tables.specs.LaneTables.{AddsSuccessor, AddsTokens, AreColumns, AreInRange, AreSameTables, ColumnsOverlap, HasRow, InColumn, IsBeachhead}
-pub use Rattle.lalrpop_tables.specs.LaneTables.{IsClosed, IsEmptyTable, IsRow, IsSuccessor, RowOverlaps, column}
-pub use Rattle.lalrpop_tables.specs.LaneTraces.{GivesAt, HaveOwnItems, IsLaneBit, IsReadyToTrace, ReducesOwn, TakesAction, TakesLane, places_in}
+pub use Rattle.lalrpop_tables.specs.LaneTables.{AddsSuccessor, AddsTokens, AreColumns, AreInRange, AreSameTables, ColumnsOverlap, HasCell, HasRow, InColumn}
+pub use Rattle.lalrpop_tables.specs.LaneTables.{IsBeachhead, IsClosed, IsEmptyTable, IsRow, IsSuccessor, KeepsAll, RowOverlaps, column}
+pub use Rattle.lalrpop_tables.specs.LaneTraces.{GivesAt, HaveOwnItems, IsLaneBit, IsReadyToTrace, ReducesOwn, TakesAction, TakesLane, TakesPartOfAction}
+pub use Rattle.lalrpop_tables.specs.LaneTraces.{TakesPartOfLane, places_in}
 pub use Rattle.lalrpop_tables.specs.Laws.{AreNilTables, AreSetTables, IsKeptGrammar, StopsWithNil, StopsWithSets, lr0_of}
 pub use Rattle.lalrpop_tables.specs.ListedConflicts.{conflict_of, conflicts_of}
 pub use Rattle.lalrpop_tables.specs.Lr0.{AreLr0States, HasLr0States, HaveNoNilConflict, ListsNilConflicts, lr0_contents, on_any}
+pub use Rattle.lalrpop_tables.specs.Lr0Copies.{AreClosedTables, AreCopiedConflicts, AreCopiedTables, AreLr0Copies, FailsByCopies}
 pub use Rattle.lalrpop_tables.specs.Lr1Answers.{AreBuiltTablesOf, AreTablesBy, AreTablesOf, FailsOn, HasConflictsOf}
 pub use Rattle.lalrpop_tables.specs.Merges.{Advances, AreApart, AreCopies, AreReductionsOf, AreTargetsAmong, AreUnited, HasJoined, HasWalked, HaveNoNewMarks}
-pub use Rattle.lalrpop_tables.specs.Merges.{IsApart, IsContext, IsCopyOf, IsFresh, IsJoinedCopy, IsLonger, IsMerging, IsPushed, IsResolvedCopy, IsTaken}
+pub use Rattle.lalrpop_tables.specs.Merges.{IsApart, IsContext, IsCopyOf, IsFresh, IsJoinedCopy, IsLonger, IsMerging, IsPatchable, IsPushed, IsResolvedCopy, IsTaken}
 pub use Rattle.lalrpop_tables.specs.Merges.{IsVisited, IsWalked, TookOwnColumns, index, replaced, unset, unvisited}
 pub use Rattle.lalrpop_tables.specs.Merging.{AreFirstNumbers, AreJoinedReductions, ArePlaced, AreTokensOf, HasReduction, HasReductionOn, HasTokensOf, IsJoined}
 pub use Rattle.lalrpop_tables.specs.Merging.{IsPlacedAt, IsReduced, Places, bare, joined, joined_at, joined_item, joined_items, pushed}
@@ -53,7 +55,8 @@ pub use Rattle.lalrpop_tables.specs.Moved.{AreMoved, GrowsBy, and_one, no_more}
 pub use Rattle.lalrpop_tables.specs.Neighbours.{sources_left}
 pub use Rattle.lalrpop_tables.specs.Partitions.{ArePlaces, fails, new_place, parted, parted_place, rank}
 pub use Rattle.lalrpop_tables.specs.Renumbered.{AreRenumbered, IsRenumberedState, KeepsOrder, number_in, retargeted, retargeted_all, stands_first}
-pub use Rattle.lalrpop_tables.specs.RenumberedTables.{AreRenumberedLaneTables, AreRenumberedTables}
+pub use Rattle.lalrpop_tables.specs.RenumberedTables.{AreRenumberedCopies, AreRenumberedLaneTables, AreRenumberedTables}
+pub use Rattle.lalrpop_tables.specs.Resolving.{IsCopied, IsResolving}
 pub use Rattle.lalrpop_tables.specs.Results.{AreAllConflicts, AreStatesFor, AreStatesOf, AreTables, AreTablesFor, Construction, FailWith, FailsBy, FailsFor}
 pub use Rattle.lalrpop_tables.specs.Results.{HaveNoConflict, ListsAll, Settings, canonical_of, more}
 pub use Rattle.lalrpop_tables.specs.StateGraph.{AddsStates, Edge, HaveSameStates, IsGraphOf, IsGrown, IsStepBack, edge, edges, edges_from, edges_of, goto_edges}

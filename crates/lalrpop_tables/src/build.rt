@@ -41,7 +41,8 @@ pub fn build_lr1_states<'grammar>(
 ) -> Lr1Result<'grammar>
     requires { IsWellFormed grammar.now }
     ensures tables { IfOk result
-        (λ tables. AreBuiltTablesOf ⊥ options.now.method grammar.now start tables.items) }
+        (λ tables. AreBuiltTablesOf ⊥ options.now.method options.now.max_copies grammar.now start
+        tables.items) }
     ensures no_tables { IfErr result (FailsOn ⊥ options.now.stop_after grammar.now start) }
 {
     if options.method == Method::Lane {

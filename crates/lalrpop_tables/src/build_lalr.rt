@@ -87,7 +87,7 @@ pub fn build_lalr_states<'grammar>(
 ) -> Lr1Result<'grammar>
     requires { IsWellFormed grammar.now }
     ensures tables { IfOk result (λ tables. AreBuiltTablesOf (options.now.method ≡ Method.Canonical)
-        options.now.method grammar.now start tables.items) }
+        options.now.method options.now.max_copies grammar.now start tables.items) }
     ensures no_tables { IfErr result
         (FailsOn (options.now.method ≡ Method.Canonical) options.now.stop_after grammar.now start) }
 {

@@ -6,9 +6,10 @@ pub mod lane;
 pub mod table;
 
 ghost use Rattle.std.specs.Prelude.{IfOk, IfErr, MatchResult};
-ghost use Rattle.lalrpop_base.specs.Words.{IsOnNoRightSide, IsWellFormed, productions, rules_of};
+ghost use Rattle.lalrpop_base.specs.Words.{IsLALR1, IsOnNoRightSide, IsWellFormed, productions, rules_of};
 ghost use Rattle.lalrpop_tables.specs.Lalr.{TellsNotLALR1};
-ghost use Rattle.lalrpop_tables.specs.LaneStates.{AreLalrLaneTables, AreLaneTables, AreLr0Tables, FailsByLanes, HasLr0Tables};
+ghost use Rattle.lalrpop_tables.specs.LaneStates.{AreLalrLaneTables};
+ghost use Rattle.lalrpop_tables.specs.Lr0Copies.{AreCopiedTables, FailsByCopies};
 
 use self::construct::LaneTableConstruct;
 use lalrpop_base::lr1_core::state::Lr1Result;
@@ -16,7 +17,8 @@ use lalrpop_base::repr::NonterminalString;
 use lalrpop_base::repr::grammar::Grammar;
 use std::alloc::Global;
 
-/// The lane tables of a grammar, as many states as its LR(0) states, or these with their conflicts.
+/// The lane tables of a grammar: its LR(0) states, which are copied at most so often where two
+/// actions share a token; or these with their conflicts, as they stood when no more could be done.
 pub fn build_lane_table_states<'grammar>(
     alloc: Global,
     grammar: &'grammar Grammar,
@@ -25,15 +27,13 @@ pub fn build_lane_table_states<'grammar>(
 ) -> Lr1Result<'grammar>
     requires { IsWellFormed grammar.now }
     ensures tables { IfOk result
-        (λ tables. AreLaneTables (rules_of grammar.now) start tables.items) }
-    ensures failure { IfErr result (FailsByLanes (rules_of grammar.now) start) }
-    ensures shape { MatchResult result
-        (λ tables. AreLr0Tables (rules_of grammar.now) start tables.items)
-        (HasLr0Tables (rules_of grammar.now) start) }
+        (λ tables. AreCopiedTables (rules_of grammar.now) start max_copies tables.items) }
+    ensures failure { IfErr result (FailsByCopies (rules_of grammar.now) start max_copies) }
 
-    // Where the start symbol stands on no right side: tables exactly where the grammar is LALR(1).
+    // Where the start symbol stands on no right side: an LALR(1) grammar has no copies.
     ensures lalr { IsOnNoRightSide (productions grammar.now) start →
-        MatchResult result (λ tables. AreLalrLaneTables (rules_of grammar.now) start tables.items)
+        MatchResult result (λ tables. IsLALR1 (productions grammar.now) start →
+        AreLalrLaneTables (rules_of grammar.now) start tables.items)
         (TellsNotLALR1 (productions grammar.now) start) }
 {
     let construct = LaneTableConstruct::new(alloc, grammar, start, max_copies)?;

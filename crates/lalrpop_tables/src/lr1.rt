@@ -22,7 +22,7 @@ fn build_unnumbered_states<'grammar>(
 ) -> Lr1Result<'grammar>
     requires { IsWellFormed grammar.now }
     ensures tables { IfOk result (λ tables. AreBuiltTablesOf (Collapses grammar.now options.now)
-        options.now.method grammar.now start tables.items) }
+        options.now.method options.now.max_copies grammar.now start tables.items) }
     ensures no_tables { IfErr result
         (FailsOn (Collapses grammar.now options.now) options.now.stop_after grammar.now start) }
 {
@@ -46,7 +46,7 @@ pub fn build_states<'grammar>(
     // Tables exactly where the grammar is LR(1), or LALR(1) where states are collapsed, and else
     // the canonical conflicts.
     ensures tables { IfOk result (λ tables. AreTablesOf (Collapses grammar.now options.now)
-        options.now.method grammar.now start tables.items) }
+        options.now.method options.now.max_copies grammar.now start tables.items) }
     ensures no_tables { IfErr result
         (FailsOn (Collapses grammar.now options.now) options.now.stop_after grammar.now start) }
 {

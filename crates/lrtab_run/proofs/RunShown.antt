@@ -15,10 +15,10 @@ use Rattle.lalrpop_lr1.specs.declared.headline.parse_error.ParseError.{ParseErro
 use Rattle.lalrpop_lr1.specs.declared.headline.parse_error.ParseError.TheVariants.{Conflicts, Refused as RefusedAt, Limit as LimitTold, Memory}
 use Rattle.lalrpop_lr1.specs.declared.interpret.tree.ParseTree.{ParseTree}
 use Rattle.lrtab_run.specs.Words.{Parse}
-use Rattle.lrtab_run.specs.Shown.{IsTextOf, IsParseShown, IsCountShown, IsTaskShown}
+use Rattle.lrtab_run.specs.Shown.{IsTextOf, IsParseShown, IsCountShown, IsTaskShown, most_copies}
 use Rattle.lrtab_run.proofs.Plain.{plain_tables, plain_conflicts}
 
-module _ (g : Grammar) (options : Options) (plain : g.algorithm.lalr ≡ false) (whole : options.stop_after ≡ 0) (start : NonterminalString) (w : List TerminalString) (limit : ℕ) where
+module _ (g : Grammar) (options : Options) (plain : g.algorithm.lalr ≡ false) (whole : options.stop_after ≡ 0) (most : options.max_copies ≡ most_copies) (start : NonterminalString) (w : List TerminalString) (limit : ℕ) where
   -- what the page of the promise says of an answer
   pub record IsPromised (answer : Result ParseTree ParseError) : Type 0 where
     pub parses : IfOk answer (λ tree. IsOnNoRightSide (productions g) start → IsTreeWithin limit w (tree_of tree) (productions g) start)
@@ -33,7 +33,7 @@ module _ (g : Grammar) (options : Options) (plain : g.algorithm.lalr ≡ false) 
       let r : IsToldByTables g options start w limit (Ok tree) = h.run tt in
       inl (record {
         states = r.tables;
-        tables = plain_tables g options plain start r.tables r.made;
+        tables = plain_tables g options plain start most r.tables r.made;
         run = record {
           outcome = Parsed (tree_of tree);
           run = r.told;
@@ -47,7 +47,7 @@ module _ (g : Grammar) (options : Options) (plain : g.algorithm.lalr ≡ false) 
       let r : IsToldByTables g options start w limit (Err (RefusedAt token)) = h.run tt in
       inl (record {
         states = r.tables;
-        tables = plain_tables g options plain start r.tables r.made;
+        tables = plain_tables g options plain start most r.tables r.made;
         run = record {
           outcome = Refused r.told.0 token;
           run = r.told.1;
@@ -61,7 +61,7 @@ module _ (g : Grammar) (options : Options) (plain : g.algorithm.lalr ≡ false) 
       let r : IsToldByTables g options start w limit (Err LimitTold) = h.run tt in
       inl (record {
         states = r.tables;
-        tables = plain_tables g options plain start r.tables r.made;
+        tables = plain_tables g options plain start most r.tables r.made;
         run = record {
           outcome = Limit;
           run = r.told;

@@ -31,6 +31,10 @@ pub record IsInlining (g h : Grammar) : Type 0 where
   pub unmentioned : (a c : NonterminalString) → IsMarked g c → Mentions h a c → ⊥
   pub terminal_lists : (a : NonterminalString) (w : List TerminalString) → IsSentence (productions g) a w ↔ IsSentence (productions h) a w
 
+-- as many states are copied at most
+abbrev pub most_copies : ℕ
+most_copies = 10000
+
 -- ---- a parse
 -- the status and text of an outcome: 0 and a tree, or 1 and a refusal or the limit
 abbrev pub IsOutcomeText : Outcome → ℕ → List ℕ → Type 0
@@ -71,7 +75,7 @@ pub record IsRunShown (g : List Production) (start : NonterminalString) (states 
 -- the tables that the method gives a grammar for a start symbol, and what is shown of a run by them
 pub record IsParseShown (method : Method) (g : Grammar) (start : NonterminalString) (tokens : List TerminalString) (limit status : ℕ) (text : List ℕ) : Type 0 where
   pub states : List (State Bits)
-  pub tables : AreTablesOf ⊥ method g start states
+  pub tables : AreTablesOf ⊥ method most_copies g start states
   pub run : IsRunShown (productions g) start (contents g.terminals states) tokens limit status text
 
 -- or, for want of tables, how many canonical conflicts there are, with status 1
@@ -85,7 +89,7 @@ pub record IsCountShown (g : Grammar) (start : NonterminalString) (status : ℕ)
 -- the report of the tables, with status 0
 pub record IsTablesShown (method : Method) (g : Grammar) (start : NonterminalString) (status : ℕ) (text : List ℕ) : Type 0 where
   pub states : List (State Bits)
-  pub tables : AreTablesOf ⊥ method g start states
+  pub tables : AreTablesOf ⊥ method most_copies g start states
   pub ended : status ≡ 0
   pub shown : text ≡ tables_report (λ (set : Bits). set) g.terminals states
 
@@ -100,7 +104,7 @@ pub record AreConflictsShown (g : Grammar) (start : NonterminalString) (status :
 -- there are tables, with status 0
 pub record IsFreeShown (method : Method) (g : Grammar) (start : NonterminalString) (status : ℕ) (text : List ℕ) : Type 0 where
   pub states : List (State Bits)
-  pub tables : AreTablesOf ⊥ method g start states
+  pub tables : AreTablesOf ⊥ method most_copies g start states
   pub ended : status ≡ 0
   pub shown : text ≡ line (codes "no conflicts")
 

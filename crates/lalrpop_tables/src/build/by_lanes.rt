@@ -1,8 +1,9 @@
 //! LR(1) states by the lane way: lane tables, where they pass the check.
-ghost use Rattle.std.specs.Prelude.{◌≡◌, ◌<◌, length, true, IfOk, IfSome, is_some};
+ghost use Rattle.std.specs.Prelude.{◌≡◌, ◌<◌, length, true, IfOk, IfSome, IsSomeAnd, is_some};
 ghost use Rattle.lalrpop_base.specs.Words.{AreCoherent, contents, IsOnNoRightSide, AreFaithful, IsLALR1, IsWellFormed, productions, rules_of};
 ghost use Rattle.lalrpop_tables.specs.Check.{PassCheck};
-ghost use Rattle.lalrpop_tables.specs.LaneStates.{AreLaneTables, AreLr0Tables};
+ghost use Rattle.lalrpop_tables.specs.LaneStates.{AreLaneTables};
+ghost use Rattle.lalrpop_tables.specs.Lr0Copies.{AreCopiedTables};
 
 use crate::check::check_tables;
 use crate::lane_table::build_lane_table_states;
@@ -21,15 +22,14 @@ pub fn lane_tables<'grammar>(
     max_copies: usize,
 ) -> Result<Option<Vec<Lr1State<'grammar>>>, OutOfMemory>
     requires { IsWellFormed grammar.now }
-    ensures lanes { IfOk result (λ answer. IfSome answer
-        (λ tables. AreLaneTables (rules_of grammar.now) start.now tables.items)) }
-    ensures shape { IfOk result (λ answer. IfSome answer
-        (λ tables. AreLr0Tables (rules_of grammar.now) start.now tables.items)) }
+    ensures copied { IfOk result (λ answer. IfSome answer
+        (λ tables. AreCopiedTables (rules_of grammar.now) start.now max_copies tables.items)) }
     ensures faithful { IfOk result (λ answer. IfSome answer (λ tables. AreFaithful
         (productions grammar.now) start.now (contents grammar.now.terminals tables.items))) }
     ensures lalr { IsOnNoRightSide (productions grammar.now) start.now →
         IsLALR1 (productions grammar.now) start.now →
-        IfOk result (λ answer. is_some answer ≡ true) }
+        IfOk result (λ answer. IsSomeAnd answer
+        (λ tables. AreLaneTables (rules_of grammar.now) start.now tables.items)) }
 {
     let first = start.clone(alloc)?;
     match build_lane_table_states(alloc, grammar, first, max_copies) {

@@ -21,7 +21,7 @@ pub fn build_canonical_states<'grammar>(
 ) -> Lr1Result<'grammar>
     requires { IsWellFormed grammar.now }
     ensures tables { IfOk result
-        (λ tables. AreBuiltTablesOf ⊥ Canonical grammar.now start tables.items) }
+        (λ tables. AreBuiltTablesOf ⊥ Canonical 0 grammar.now start tables.items) }
     ensures no_tables { IfErr result (FailsOn ⊥ stop_after grammar.now start) }
 {
     let _terminals = grammar.terminals.all();

@@ -177,7 +177,7 @@ impl<'grammar> Lr<'grammar, TokenSet> {
         // Where Eof alone follows the start symbol of a grammar, as by the canonical method.
         ensures tables { (g : Rules) (start : Start) →
             self.entry.construction ≡ canonical_of g start →
-            IfOk result (λ tables. AreBuiltTablesOf ⊥ Canonical g start tables.items) }
+            IfOk result (λ tables. AreBuiltTablesOf ⊥ Canonical 0 g start tables.items) }
         ensures no_tables { (g : Rules) (start : Start) →
             self.entry.construction ≡ canonical_of g start →
             IfErr result (FailsOn ⊥ self.entry.stop_after g start) }

@@ -1,6 +1,8 @@
 //! The construction of lane tables.
 mod actions;
+mod copying;
 pub mod merge;
+mod merging;
 mod promote;
 mod resolving;
 pub mod state_set;
@@ -8,9 +10,10 @@ mod states;
 mod tracing;
 
 ghost use Rattle.std.specs.Prelude.{◌≡◌, IfOk, IfErr, MatchResult};
-ghost use Rattle.lalrpop_base.specs.Words.{IsOnNoRightSide, IsWellFormed, productions, rules_of};
+ghost use Rattle.lalrpop_base.specs.Words.{IsLALR1, IsOnNoRightSide, IsWellFormed, productions, rules_of};
 ghost use Rattle.lalrpop_tables.specs.Lalr.{TellsNotLALR1};
-ghost use Rattle.lalrpop_tables.specs.LaneStates.{AreLalrLaneTables, AreLaneTables, AreLr0Tables, FailsByLanes, HasLr0Tables, IsReadyToConstruct};
+ghost use Rattle.lalrpop_tables.specs.LaneStates.{AreLalrLaneTables, IsReadyToConstruct};
+ghost use Rattle.lalrpop_tables.specs.Lr0Copies.{AreCopiedTables, FailsByCopies};
 
 use crate::conflicts::conflicts_of;
 use crate::state_graph::StateGraph;
@@ -31,7 +34,7 @@ pub struct LaneTableConstruct<'grammar> {
 }
 
 impl<'grammar> LaneTableConstruct<'grammar> {
-    /// States are copied at most so often; as yet none is.
+    /// States are copied at most so often.
     pub fn new(
         alloc: Global,
         grammar: &'grammar Grammar,
@@ -52,30 +55,34 @@ impl<'grammar> LaneTableConstruct<'grammar> {
         })
     }
 
-    /// The LR(0) states with the tokens of their lanes, or their conflicts where two actions share
-    /// a token.
+    /// The LR(0) states with the tokens of their lanes, with copies where two actions share a
+    /// token; or these with their conflicts, as they stand at the first state for which no copies
+    /// help.
     pub fn construct(self, alloc: Global) -> Lr1Result<'grammar>
         requires ready { IsReadyToConstruct self }
-        ensures tables { IfOk result (λ tables. AreLaneTables (rules_of self.entry.grammar.now)
-            self.entry.start tables.items) }
-        ensures failure { IfErr result
-            (FailsByLanes (rules_of self.entry.grammar.now) self.entry.start) }
-        ensures shape { MatchResult result
-            (λ tables. AreLr0Tables (rules_of self.entry.grammar.now) self.entry.start tables.items)
-            (HasLr0Tables (rules_of self.entry.grammar.now) self.entry.start) }
+        ensures tables { IfOk result
+            (λ tables. AreCopiedTables (rules_of self.entry.grammar.now) self.entry.start
+            self.entry.max_copies tables.items) }
+        ensures failure { IfErr result (FailsByCopies (rules_of self.entry.grammar.now)
+            self.entry.start self.entry.max_copies) }
         ensures lalr { IsOnNoRightSide (productions self.entry.grammar.now) self.entry.start →
-            MatchResult result (λ tables. AreLalrLaneTables (rules_of self.entry.grammar.now)
-            self.entry.start tables.items)
+            MatchResult result
+            (λ tables. IsLALR1 (productions self.entry.grammar.now) self.entry.start →
+            AreLalrLaneTables (rules_of self.entry.grammar.now) self.entry.start tables.items)
             (TellsNotLALR1 (productions self.entry.grammar.now) self.entry.start) }
     {
         let grammar = self.grammar;
         let _terminals = grammar.terminals.all();
         let mut states = self.promoted_states(alloc)?;
         let graph = StateGraph::new(alloc, &states)?;
-        if self.resolve_states(alloc, &mut states, &graph)? {
+        let Some(first) = self.resolve_states(alloc, &mut states, &graph)? else {
+            return Ok(states);
+        };
+        let states = self.resolve_copied(alloc, states, first)?;
+        let conflicts = conflicts_of(alloc, &states, &grammar.terminals)?;
+        if conflicts.is_empty() {
             return Ok(states);
         }
-        let conflicts = conflicts_of(alloc, &states, &grammar.terminals)?;
         Err(BuildError::Conflicts(TableConstructionError { states, conflicts }))
     }
 }

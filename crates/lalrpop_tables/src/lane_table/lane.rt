@@ -5,10 +5,10 @@ mod unepsilon;
 mod unshift;
 mod walk;
 
-ghost use Rattle.std.specs.Prelude.{◌≡◌, ◌<◌, ◌↔◌, ℕ, true, length, slice_get, Some, IfOk, OnOk};
+ghost use Rattle.std.specs.Prelude.{◌≡◌, ◌<◌, ◌↔◌, ℕ, true, length, slice_get, Some, IfOk, OnErr, OnOk};
 ghost use Rattle.lalrpop_base.specs.Words.{has, AreCoherent, IsWellFormed, productions, rules_of};
 ghost use Rattle.lalrpop_tables.specs.LaneTables.{IsEmptyTable};
-ghost use Rattle.lalrpop_tables.specs.LaneTraces.{HaveOwnItems, IsReadyToTrace, ReducesOwn, places_in, TakesAction};
+ghost use Rattle.lalrpop_tables.specs.LaneTraces.{HaveOwnItems, IsReadyToTrace, ReducesOwn, places_in, TakesAction, TakesPartOfAction};
 ghost use Rattle.lalrpop_tables.specs.StateGraph.{edges, IsGraphOf};
 
 use self::ground::Ground;
@@ -70,7 +70,8 @@ impl<'trace, 'grammar, L> LaneTracer<'trace, 'grammar, L> {
     }
 
     /// Traces an action of a state into a column: a shift has its terminal there, a reduction the
-    /// tokens of its lane. After want of memory the table may hold a part of the lane.
+    /// tokens of its lane. After want of memory the table has what it had, and maybe a part of the
+    /// lane.
     pub fn start_trace(
         &mut self,
         alloc: Global,
@@ -85,6 +86,9 @@ impl<'trace, 'grammar, L> LaneTracer<'trace, 'grammar, L> {
         ensures traced { OnOk result (TakesAction (rules_of self.old.grammar.now) self.old.start
             (places_in self.old.states.now) state conflict.index action.entry self.old.table
             self.new.table) }
+        ensures part { OnErr result (TakesPartOfAction (rules_of self.old.grammar.now)
+            self.old.start (places_in self.old.states.now) state conflict.index action.entry
+            self.old.table self.new.table) }
         ensures ready { IsReadyToTrace self.new }
         ensures over { (self.new.grammar.now ≡ self.old.grammar.now) ×
             (self.new.start ≡ self.old.start) × (self.new.states.now ≡ self.old.states.now) ×

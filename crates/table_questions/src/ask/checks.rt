@@ -6,7 +6,7 @@ use super::states::start_of;
 use crate::question::{Question, QuestionError};
 use lalrpop_base::lr1_core::coherent::are_coherent;
 use lalrpop_base::lr1_core::collapsible::are_collapsible;
-use lalrpop_base::lr1_core::state::{BuildError, Lr1State, TableConstructionError};
+use lalrpop_base::lr1_core::state::{BuildError, Lr1Result, Lr1State, TableConstructionError};
 use lalrpop_base::memory::OutOfMemory;
 use lalrpop_base::repr::NonterminalString;
 use lalrpop_base::repr::grammar::Grammar;
@@ -106,6 +106,11 @@ pub fn states_by<'grammar>(
         "fallback" => build_lr1_states(alloc, grammar, start, &lane),
         _ => return Err(QuestionError::Argument(2)),
     };
+    states_of(built)
+}
+
+/// The states of a construction, also those of an error.
+pub fn states_of(built: Lr1Result<'_>) -> Result<Vec<Lr1State<'_>>, QuestionError> {
     match built {
         Ok(states) => Ok(states),
         Err(BuildError::Conflicts(error)) => {

@@ -3,7 +3,7 @@ ghost use Rattle.std.specs.Prelude.{IfOk};
 ghost use Rattle.lalrpop_base.specs.Words.{IsWellFormed};
 ghost use Rattle.lalrpop_tables.specs.Words.{IsMerging};
 
-use super::checks::states_by;
+use super::checks::states_of;
 use super::context_sets::push_reductions;
 use super::lane_tables::{Traces, traced, traces_of};
 use crate::question::{Question, QuestionError};
@@ -12,6 +12,7 @@ use lalrpop_base::lr1_core::state::{Lr1State, StateIndex};
 use lalrpop_base::memory::OutOfMemory;
 use lalrpop_base::repr::grammar::Grammar;
 use lalrpop_base::repr::terminals::TerminalSet;
+use lalrpop_tables::lane_table::build_lane_table_states;
 use lalrpop_tables::lane_table::construct::merge::{Merge, MergeError};
 use lalrpop_tables::lane_table::table::LaneTable;
 use lalrpop_tables::lane_table::table::rows::RowsError;
@@ -31,7 +32,7 @@ pub fn answer(
     }
 }
 
-// The merging of the LR(0) states by the lane table of one of them.
+// The merging of the LR(0) states, of which none is copied yet, by the lane table of one of them.
 fn merge(alloc: Global, question: &Question<'_>, grammar: &Grammar) -> Result<String, QuestionError>
     requires { IsWellFormed grammar.now }
 {
@@ -43,7 +44,7 @@ fn merge(alloc: Global, question: &Question<'_>, grammar: &Grammar) -> Result<St
         return Ok(text);
     }
     let start = traces.start.clone(alloc)?;
-    let states = states_by(alloc, grammar, start, "lane")?;
+    let states = states_of(build_lane_table_states(alloc, grammar, start, 0))?;
     let mut merge = merge_of(alloc, question, &table, states)?;
     if start_all(alloc, &mut text, &mut merge, &table)? {
         if !merge.is_patchable(&traces.actions) {

@@ -18,7 +18,7 @@ returns-then-eq-clause-tables c =
     let says = c.collapse_to_lalr_states.ensures in
     let method : c.args.options.now.method ≡ Canonical = first_of (search rules, grind (arith, common_steps)) in
     let before = states.ensures.tables.canonical (λ x. x) method in
-    Collapse-answers (λ tables. tables.items) g start c.args.options.now.stop_after c.args.options.now.method method states.states.items states.ensures.tables c.collapse_to_lalr_states.result says.merged says.coherent (says.some states.ensures.tables.some) (says.lalr g start refl before)
+    Collapse-answers (λ tables. tables.items) g start c.args.options.now.stop_after c.args.options.now.method method c.args.options.now.max_copies states.states.items states.ensures.tables c.collapse_to_lalr_states.result says.merged says.coherent (says.some states.ensures.tables.some) (says.lalr g start refl before)
 
 pub returns-then-eq-clause-no_tables : goal.returns-then-eq-clause-no_tables
 returns-then-eq-clause-no_tables c =
@@ -28,4 +28,4 @@ returns-then-eq-clause-no_tables c =
     let says = c.collapse_to_lalr_states.ensures in
     let method : c.args.options.now.method ≡ Canonical = first_of (search rules, grind (arith, common_steps)) in
     let before = states.ensures.tables.canonical (λ x. x) method in
-    Collapse-fails (λ tables. tables.items) g start c.args.options.now.stop_after c.args.options.now.method method states.states.items states.ensures.tables c.collapse_to_lalr_states.result says.merged (says.lalr g start refl before)
+    Collapse-fails (λ tables. tables.items) g start c.args.options.now.stop_after c.args.options.now.method method c.args.options.now.max_copies states.states.items states.ensures.tables c.collapse_to_lalr_states.result says.merged (says.lalr g start refl before)

@@ -160,6 +160,13 @@ impl<'table, 'grammar> Merge<'table, 'grammar> {
         Ok(())
     }
 
+    /// How often a state may still be copied.
+    pub fn copies_left(&self) -> usize
+        ensures { result ≡ self.now.copies_left }
+    {
+        self.copies_left
+    }
+
     /// The states, copies behind all others.
     pub fn into_states(self) -> Vec<Lr1State<'grammar>>
         ensures states { result ≡ self.entry.states }

@@ -16,9 +16,9 @@ use lalrpop_base::lr1_core::state::{Action, Lr1State, StateIndex};
 use lalrpop_base::memory::OutOfMemory;
 use std::alloc::Global;
 
-// Gives each reduction its column, and tells whether no two columns share a token; else the state
-// stays.
-fn attempt_lalr<'grammar>(
+/// Gives each reduction its column, and tells whether no two columns share a token; else the state
+/// stays.
+pub(super) fn attempt_lalr<'grammar>(
     alloc: Global,
     state: &mut Lr1State<'grammar>,
     table: &LaneTable<'grammar>,

@@ -1,5 +1,5 @@
 //! All states of a construction, promoted and then resolved.
-ghost use Rattle.std.specs.Prelude.{◌≡◌, IfOk, OnOk, MatchBool};
+ghost use Rattle.std.specs.Prelude.{◌≡◌, IfOk, OnOk, MatchOption};
 ghost use Rattle.lalrpop_base.specs.Words.{rules_of};
 ghost use Rattle.lalrpop_tables.specs.LaneStates.{AreLaneStates, AreLaneTables, HaveMeetingLanes, HoldAllFrom, IsReadyToConstruct};
 ghost use Rattle.lalrpop_tables.specs.StateGraph.{edges, IsGraphOf};
@@ -30,13 +30,14 @@ impl<'grammar> LaneTableConstruct<'grammar> {
         promote_states(alloc, states, &all)
     }
 
-    /// Resolves the states by rising index, and tells whether each could be.
+    /// Resolves the states by rising index, up to the first of which two actions share a token: the
+    /// index of that one, if there is such a state.
     pub(super) fn resolve_states(
         &self,
         alloc: Global,
         states: &mut Vec<Lr1State<'grammar>>,
         graph: &StateGraph,
-    ) -> Result<bool, OutOfMemory>
+    ) -> Result<Option<usize>, OutOfMemory>
         requires ready { IsReadyToConstruct self.now }
         requires lanes { AreLaneStates (rules_of self.now.grammar.now) self.now.start
             states.old.items }
@@ -44,18 +45,19 @@ impl<'grammar> LaneTableConstruct<'grammar> {
         requires full { HoldAllFrom self.now.grammar.now.terminals 0 states.old.items }
         ensures lanes { OnOk result
             (AreLaneStates (rules_of self.now.grammar.now) self.now.start states.new.items) }
-        ensures resolved { IfOk result (λ done. MatchBool done
+        ensures resolved { IfOk result (λ first. MatchOption first
             (AreLaneTables (rules_of self.now.grammar.now) self.now.start states.new.items)
-            (HaveMeetingLanes (rules_of self.now.grammar.now) self.now.start states.new.items)) }
+            (λ _. HaveMeetingLanes (rules_of self.now.grammar.now) self.now.start
+            states.new.items)) }
     {
         let grammar = self.grammar;
         let _terminals = grammar.terminals.all();
         let count = states.len();
         for index in 0..count {
             if !self.resolve_inconsistencies(alloc, states, graph, index)? {
-                return Ok(false);
+                return Ok(Some(index));
             }
         }
-        Ok(true)
+        Ok(None)
     }
 }

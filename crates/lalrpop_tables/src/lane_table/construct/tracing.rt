@@ -3,7 +3,7 @@ ghost use Rattle.std.specs.Prelude.{◌≡◌, ◌<◌, ℕ, List, length, slice
 ghost use Rattle.lalrpop_base.specs.Words.{AreCoherent, productions, rules_of};
 ghost use Rattle.lalrpop_base.specs.declared.lr1_core.state.Action.{Action as TheAction};
 ghost use Rattle.lalrpop_tables.specs.LaneStates.{AreTraced, IsReadyToConstruct};
-ghost use Rattle.lalrpop_tables.specs.LaneTables.{AreInRange};
+ghost use Rattle.lalrpop_tables.specs.LaneTables.{AreInRange, HasRow, IsClosed};
 ghost use Rattle.lalrpop_tables.specs.LaneTraces.{HaveOwnItems, ReducesOwn, places_in};
 ghost use Rattle.lalrpop_tables.specs.StateGraph.{edges, IsGraphOf};
 
@@ -39,6 +39,9 @@ impl<'grammar> LaneTableConstruct<'grammar> {
         ensures in_range { IfOk result AreInRange }
         ensures traced { IfOk result (AreTraced (rules_of self.now.grammar.now) self.now.start
             (places_in states.now) inconsistent_state.0 actions.now.keys) }
+        ensures closed { IfOk result (IsClosed (length states.now)) }
+        ensures row { 0 < length actions.now.keys →
+            IfOk result (λ table. HasRow table inconsistent_state) }
     {
         let grammar = self.grammar;
         let start = self.start.clone(alloc)?;

@@ -1,9 +1,9 @@
 //! Traces a place back, over edges and without symbols.
-ghost use Rattle.std.specs.Prelude.{◌≡◌, ◌<◌, OnOk, Contains, length};
+ghost use Rattle.std.specs.Prelude.{◌≡◌, ◌<◌, OnErr, OnOk, Contains, length};
 ghost use Rattle.lalrpop_base.specs.Words.{productions, rules_of};
-ghost use Rattle.lalrpop_tables.specs.LaneSteps.{GainsAll, GainsOf, IsEndPlace, IsGround, VisitsOf};
+ghost use Rattle.lalrpop_tables.specs.LaneSteps.{GainsAll, GainsOf, GainsSomeOf, GainsSomeOfAll, IsEndPlace, IsGround, VisitsOf};
 ghost use Rattle.lalrpop_tables.specs.LaneTables.{AreInRange};
-ghost use Rattle.lalrpop_tables.specs.LaneTraces.{TakesLane, places_in};
+ghost use Rattle.lalrpop_tables.specs.LaneTraces.{TakesLane, TakesPartOfLane, places_in};
 
 use super::ground::Ground;
 use super::unepsilon::unepsilon;
@@ -32,6 +32,8 @@ fn step<'grammar, L>(
     requires ground { IsGround ground.now }
     requires listed { place.now.state < length ground.now.states.now }
     ensures gains { OnOk result (GainsOf ground.now place.now conflict.index table.old table.new) }
+    ensures part { OnErr result
+        (GainsSomeOf ground.now place.now conflict.index table.old table.new) }
     ensures visits { OnOk result (VisitsOf ground.now place.now walk.old walk.new) }
     ensures columns { table.new.conflicts ≡ table.old.conflicts }
     ensures in_range { AreInRange table.old → AreInRange table.new }
@@ -57,6 +59,8 @@ fn trace_back<'grammar, L>(
     requires end { IsEndPlace ground.now first }
     ensures gains { OnOk result
         (GainsAll ground.now first.entry conflict.index table.old table.new) }
+    ensures part { OnErr result
+        (GainsSomeOfAll ground.now first.entry conflict.index table.old table.new) }
     ensures columns { table.new.conflicts ≡ table.old.conflicts }
     ensures in_range { AreInRange table.old → AreInRange table.new }
 {
@@ -84,6 +88,9 @@ pub(crate) fn take_lane<'grammar, L>(
     requires listed { state.0 < length ground.now.states.now }
     ensures taken { OnOk result (TakesLane (rules_of ground.now.grammar.now) ground.now.start.now
         (places_in ground.now.states.now) state production.now conflict.index table.old table.new) }
+    ensures part { OnErr result (TakesPartOfLane (rules_of ground.now.grammar.now)
+        ground.now.start.now (places_in ground.now.states.now) state production.now conflict.index
+        table.old table.new) }
     ensures columns { table.new.conflicts ≡ table.old.conflicts }
     ensures in_range { AreInRange table.old → AreInRange table.new }
 {

@@ -1,8 +1,8 @@
 //! Steps back without a symbol, from the start of a production.
-ghost use Rattle.std.specs.Prelude.{◌≡◌, ◌<◌, ℕ, OnOk, Contains, length};
+ghost use Rattle.std.specs.Prelude.{◌≡◌, ◌<◌, ℕ, OnErr, OnOk, Contains, length};
 ghost use Rattle.lalrpop_base.specs.Words.{productions, rules_of};
-ghost use Rattle.lalrpop_tables.specs.LaneSteps.{Gains, GainsOf, IsEnd, IsEndBit, IsFollowBit, IsGround, IsHere, IsParent, IsPassedOn, IsPlaceIf, Nothing, Visits, VisitsOf};
-ghost use Rattle.lalrpop_tables.specs.LaneTables.{AreInRange};
+ghost use Rattle.lalrpop_tables.specs.LaneSteps.{Gains, GainsOf, GainsSome, GainsSomeOf, IsEnd, IsEndBit, IsFollowBit, IsGround, IsHere, IsParent, IsPassedOn, IsPlaceIf, Nothing, Visits, VisitsOf};
+ghost use Rattle.lalrpop_tables.specs.LaneTables.{AreInRange, AreSameTables};
 
 use super::ground::Ground;
 use super::walk::Walk;
@@ -30,6 +30,7 @@ fn add_end<'grammar, L>(
     ensures gains { OnOk result (Gains conflict.index (IsEnd ground.now.start.now name.now state)
         (IsEndBit (rules_of ground.now.grammar.now) ground.now.start.now name.now state) Nothing
         table.old table.new) }
+    ensures err { OnErr result (AreSameTables table.old table.new) }
     ensures columns { table.new.conflicts ≡ table.old.conflicts }
     ensures in_range { AreInRange table.old → AreInRange table.new }
 {
@@ -75,6 +76,10 @@ fn follow<'grammar, L>(
         (λ row bit. IsHere state
         (IsFollowBit (rules_of ground.now.grammar.now) name.now item.now bit) row) Nothing table.old
         table.new) }
+    ensures part { OnErr result (GainsSome conflict.index
+        (IsHere state (IsParent name.now item.now)) (λ row bit. IsHere state
+        (IsFollowBit (rules_of ground.now.grammar.now) name.now item.now bit) row) Nothing table.old
+        table.new) }
     ensures visits { OnOk result (Visits
         (IsPassedOn (rules_of ground.now.grammar.now) name.now state item.now) walk.old walk.new) }
     ensures columns { table.new.conflicts ≡ table.old.conflicts }
@@ -106,6 +111,8 @@ pub(crate) fn unepsilon<'grammar, L>(
     requires begun { place.now.item.index ≡ 0 }
     requires listed { place.now.state < length ground.now.states.now }
     ensures gains { OnOk result (GainsOf ground.now place.now conflict.index table.old table.new) }
+    ensures part { OnErr result
+        (GainsSomeOf ground.now place.now conflict.index table.old table.new) }
     ensures visits { OnOk result (VisitsOf ground.now place.now walk.old walk.new) }
     ensures columns { table.new.conflicts ≡ table.old.conflicts }
     ensures in_range { AreInRange table.old → AreInRange table.new }

@@ -1,8 +1,8 @@
 //! Steps back over edges, from a dot past the start.
-ghost use Rattle.std.specs.Prelude.{◌≡◌, ◌<◌, ◌-◌, ℕ, Some, OnOk, Contains, length};
+ghost use Rattle.std.specs.Prelude.{◌≡◌, ◌<◌, ◌-◌, ℕ, Some, OnErr, OnOk, Contains, length};
 ghost use Rattle.lalrpop_base.specs.Words.{leads};
 ghost use Rattle.lalrpop_tables.specs.CheckCarrying.{at_place};
-ghost use Rattle.lalrpop_tables.specs.LaneSteps.{Gains, GainsOf, IsGround, IsPair, Nothing, Nowhere, Visits, VisitsOf};
+ghost use Rattle.lalrpop_tables.specs.LaneSteps.{Gains, GainsOf, GainsSome, GainsSomeOf, IsGround, IsPair, Nothing, Nowhere, Visits, VisitsOf};
 ghost use Rattle.lalrpop_tables.specs.LaneTables.{AreInRange};
 ghost use Rattle.lalrpop_tables.specs.LaneTraces.{places_in};
 ghost use Rattle.lalrpop_tables.specs.StateGraph.{edge, edges};
@@ -41,6 +41,8 @@ fn step_back<'grammar>(
     requires { 0 < place.now.item.index }
     ensures gains { OnOk result
         ((k : ℕ) → Gains k Nowhere Nothing (IsPair source.0 place.now.state) table.old table.new) }
+    ensures part { OnErr result ((k : ℕ) →
+        GainsSome k Nowhere Nothing (IsPair source.0 place.now.state) table.old table.new) }
     ensures visits { OnOk result (Visits
         (λ k. at_place source.0 place.now.item.production (place.now.item.index - 1) ≡ k) walk.old
         walk.new) }
@@ -62,6 +64,8 @@ pub(crate) fn unshift<'grammar, L>(
     requires moved { 0 < place.now.item.index }
     requires ground { IsGround ground.now }
     ensures gains { OnOk result ((k : ℕ) → GainsOf ground.now place.now k table.old table.new) }
+    ensures part { OnErr result
+        ((k : ℕ) → GainsSomeOf ground.now place.now k table.old table.new) }
     ensures visits { OnOk result (VisitsOf ground.now place.now walk.old walk.new) }
     ensures columns { table.new.conflicts ≡ table.old.conflicts }
     ensures in_range { AreInRange table.old → AreInRange table.new }

@@ -2,4 +2,4 @@ use Rattle.lalrpop_tables.proofs.LaneTracing.{IsTracing}
 use Rattle.lalrpop_tables.proofs.lane_table.construct.LaneTableConstruct.build_lane_table.Given as goal
 
 abbrev pub invariant-loop-action : goal.invariant-loop-action
-invariant-loop-action l = IsTracing l.fn.self l.fn.states l.fn.inconsistent_state.0 l.fn.actions.keys l.place l.tracer l.action-iterator
+invariant-loop-action l = IsTracing l.fn.self l.fn.states l.fn.inconsistent_state l.fn.actions.keys l.place l.tracer l.action-iterator

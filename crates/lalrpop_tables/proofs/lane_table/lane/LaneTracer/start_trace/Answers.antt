@@ -1,7 +1,9 @@
-use Rattle.std.proofs.Common.{sym, subst}
+use Rattle.std.proofs.Common.{refl, sym, subst}
 use Rattle.lalrpop_base.specs.Words.{rules_of}
 use Rattle.lalrpop_base.specs.declared.lr1_core.state.Action.{Action}
-use Rattle.lalrpop_tables.specs.Words.{TakesAction, places_in}
+use Rattle.lalrpop_tables.specs.Words.{TakesAction, TakesPartOfAction, places_in}
+use Rattle.lalrpop_tables.proofs.LaneTables.{same_tables}
+use Rattle.lalrpop_tables.proofs.GainsSome.{on_err}
 use Rattle.lalrpop_tables.proofs.lane_table.lane.LaneTracer.start_trace.Goals as goal
 
 pub returns-in_err-add_lookahead-in-Shift-clause-ready : goal.returns-in_err-add_lookahead-in-Shift-clause-ready
@@ -28,3 +30,11 @@ pub returns-in_ok-add_lookahead-in-Shift-clause-traced : goal.returns-in_ok-add_
 returns-in_ok-add_lookahead-in-Shift-clause-traced g c =
     subst (λ (a : Action). TakesAction (rules_of c.args.self.now.grammar.now) c.args.self.now.start (places_in c.args.self.now.states.now) c.args.state c.args.conflict.index a c.args.self.now.table c.add_lookahead.new.self) (sym c.in-Shift.is)
     (c.in_ok-tokens-in-Shift.tokens, c.in_ok-tokens-in-Shift.ensures, c.in_ok-add_lookahead-in-Shift.ensures.added)
+
+pub returns-in_err-tokens-in-Shift-clause-part : goal.returns-in_err-tokens-in-Shift-clause-part
+returns-in_err-tokens-in-Shift-clause-part g c = on_err _ (subst (λ (a : Action). TakesPartOfAction (rules_of c.args.self.now.grammar.now) c.args.self.now.start (places_in c.args.self.now.states.now) c.args.state c.args.conflict.index a c.args.self.now.table c.args.self.now.table) (sym c.in-Shift.is)
+    (same_tables c.args.self.now.table c.args.self.now.table refl refl refl))
+
+pub returns-in_err-add_lookahead-in-Shift-clause-part : goal.returns-in_err-add_lookahead-in-Shift-clause-part
+returns-in_err-add_lookahead-in-Shift-clause-part g c = on_err _ (subst (λ (a : Action). TakesPartOfAction (rules_of c.args.self.now.grammar.now) c.args.self.now.start (places_in c.args.self.now.states.now) c.args.state c.args.conflict.index a c.args.self.now.table c.add_lookahead.new.self) (sym c.in-Shift.is)
+    c.in_err-add_lookahead-in-Shift.ensures.err)

@@ -3,7 +3,8 @@ use Rattle.lalrpop_base.specs.Words.{Dotted}
 use Rattle.lalrpop_base.specs.declared.lookahead.nil.Nil.{Nil}
 use Rattle.lalrpop_tables.specs.Words.{at_place}
 use Rattle.lalrpop_tables.specs.declared.place.Place.{Place}
-use Rattle.lalrpop_tables.proofs.LanesTaken.{lane_taken}
+use Rattle.lalrpop_tables.proofs.LanesTaken.{lane_taken, nothing_taken, part_taken}
+use Rattle.lalrpop_tables.proofs.GainsSome.{on_err}
 use Rattle.lalrpop_tables.proofs.lane_table.lane.trace_back.take_lane.Goals as goal
 
 pub returns-clause-taken : goal.returns-clause-taken
@@ -17,3 +18,11 @@ returns-in_err-trace_back-clause-in_range g c = λ r. c.in_err-trace_back.ensure
 
 pub returns-clause-in_range : goal.returns-clause-in_range
 returns-clause-in_range g c = λ r. c.in_ok-trace_back.ensures.in_range (c.in_ok-add_lookahead.ensures.in_range r)
+
+pub returns-in_err-add_lookahead-clause-part : goal.returns-in_err-add_lookahead-clause-part
+returns-in_err-add_lookahead-clause-part g c = on_err _ (nothing_taken c.args.ground.now c.args.state c.args.production.now c.args.conflict.index _ _ c.in_err-add_lookahead.ensures.err)
+
+pub returns-in_err-trace_back-clause-part : goal.returns-in_err-trace_back-clause-part
+returns-in_err-trace_back-clause-part g c = on_err _ (let make : Dotted Nil → Place = λ i. record { state = c.args.state.0; item = i } in
+    let first : make c.lr0-item.result ≡ at_place c.args.state.0 c.args.production.now (length c.args.production.now.symbols) = ap make (cc) in
+    part_taken c.args.ground.now c.args.state c.args.production.now c.args.conflict.index _ _ c.add_lookahead.new.self _ (cc) c.in_ok-add_lookahead.ensures.added (make c.lr0-item.result) first c.in_err-trace_back.ensures.part)

@@ -2,7 +2,8 @@ use Rattle.std.proofs.Common.{◌≡◌, [], refl, rules, arith}
 use Rattle.std.proofs.lemmas.Grind.{common_steps}
 use Rattle.std.proofs.lemmas.List.{nil_from_length}
 use Rattle.lalrpop_tables.specs.declared.lane_table.lane.walk.Walk.{Walk}
-use Rattle.lalrpop_tables.proofs.LaneTraces.{Tracing-start, Tracing-step, Tracing-smaller, Tracing-end, place_listed}
+use Rattle.lalrpop_tables.proofs.LaneTraces.{Tracing-start, Tracing-step, Tracing-smaller, Tracing-end, Tracing-part, nothing_traced, place_listed}
+use Rattle.lalrpop_tables.proofs.GainsSome.{on_err}
 use Rattle.lalrpop_tables.proofs.lane_table.lane.trace_back.trace_back.Goals as goal
 
 pub loop-place-init : goal.loop-place-init
@@ -30,3 +31,10 @@ pub returns-clause-gains : goal.returns-clause-gains
 returns-clause-gains g c =
     let none : c.loop-place.walk.waiting.items ≡ [] = first_of (search rules, grind (arith, common_steps), grind (arith, common_steps, nil_from_length c.loop-place.walk.waiting.items)) in
     Tracing-end c.args.ground.now c.args.first c.requires.ground c.requires.end c.args.conflict.index c.args.table.now c.loop-place.table c.loop-place.walk none c.loop-place.invariant
+
+pub returns-in_err-visit-clause-part : goal.returns-in_err-visit-clause-part
+returns-in_err-visit-clause-part g c = on_err _ (nothing_traced c.args.ground.now c.args.first c.requires.ground c.requires.end c.args.conflict.index c.args.table.now)
+
+pub returns-in_err-step-clause-part : goal.returns-in_err-step-clause-part
+returns-in_err-step-clause-part g c = on_err _ (let popped : Walk = record { visited = c.loop-place.walk.visited; waiting = c.pop_front.new.self } in
+    Tracing-part c.args.ground.now c.args.first c.requires.ground c.requires.end c.args.conflict.index c.in-Some.place c.args.table.now c.loop-place.table c.step.new.table c.loop-place.walk popped popped refl c.in-Some.ensures.items c.loop-place.invariant c.in_err-step.ensures.part)

@@ -2,6 +2,7 @@ use Rattle.std.proofs.Common.{◌≡◌, subst}
 use Rattle.lalrpop_tables.specs.Words.{Visits}
 use Rattle.lalrpop_tables.specs.declared.place.Place.{Place}
 use Rattle.lalrpop_tables.proofs.Gains.{Gains-successor}
+use Rattle.lalrpop_tables.proofs.GainsSome.{GainsSome-refused, GainsSome-successor, on_err}
 use Rattle.lalrpop_tables.proofs.lane_table.lane.unshift.step_back.Goals as goal
 
 pub returns-clause-gains : goal.returns-clause-gains
@@ -9,3 +10,9 @@ returns-clause-gains c = λ k. Gains-successor c.args.source (record { 0 = c.arg
 
 pub returns-clause-visits : goal.returns-clause-visits
 returns-clause-visits c = subst (λ (p : Place). Visits (λ k. p ≡ k) c.args.walk.now c.visit.new.self) c.back_in.ensures c.in_ok-visit.ensures
+
+pub returns-in_err-add_successor-clause-part : goal.returns-in_err-add_successor-clause-part
+returns-in_err-add_successor-clause-part c = on_err _ (GainsSome-refused c.args.source (record { 0 = c.args.place.now.state }) _ _ c.in_err-add_successor.ensures.err)
+
+pub returns-in_err-visit-clause-part : goal.returns-in_err-visit-clause-part
+returns-in_err-visit-clause-part c = on_err _ (GainsSome-successor c.args.source (record { 0 = c.args.place.now.state }) _ _ c.in_ok-add_successor.ensures.added)

@@ -2,7 +2,8 @@ use Rattle.std.proofs.Common.{ap, ◌∙◌}
 use Rattle.std.proofs.lemmas.Option.{slice_get_within}
 use Rattle.lalrpop_tables.specs.Words.{sources_left}
 use Rattle.lalrpop_tables.proofs.EdgeLeads.{source_of_edge}
-use Rattle.lalrpop_tables.proofs.Unshifting.{Unshifting-start, Unshifting-more, left_edge, Unshifting-gains, Unshifting-visits}
+use Rattle.lalrpop_tables.proofs.Unshifting.{Unshifting-start, Unshifting-more, left_edge, Unshifting-gains, Unshifting-part, Unshifting-visits}
+use Rattle.lalrpop_tables.proofs.GainsSome.{on_err}
 use Rattle.lalrpop_tables.proofs.lane_table.lane.unshift.unshift.Goals as goal
 
 pub loop-source-init : goal.loop-source-init
@@ -31,3 +32,6 @@ returns-clause-gains g c =
 pub returns-clause-visits : goal.returns-clause-visits
 returns-clause-visits g c =
     Unshifting-visits c.args.ground.now c.args.place.now c.shifted_symbol-symbol.result.now c.requires.ground c.requires.moved c.shifted_symbol-symbol.ensures _ _ _ _ _ _ c.in-None.ensures.steps.0 (ap sources_left c.into_iter-source-iterator.ensures.into_iter_gives ∙ c.predecessors-source-items.ensures.sources) c.loop-source.invariant
+
+pub returns-in_err-step_back-clause-part : goal.returns-in_err-step_back-clause-part
+returns-in_err-step_back-clause-part g c = on_err _ (Unshifting-part c.args.ground.now c.args.place.now c.shifted_symbol-symbol.result.now c.requires.ground c.requires.moved c.shifted_symbol-symbol.ensures _ _ c.in-Some.source _ _ _ _ _ c.read_edge.ensures c.in_err-step_back.ensures.part c.loop-source.invariant)

@@ -1,0 +1,46 @@
+use Rattle.std.proofs.Common.{refl, sym, subst, arith, List}
+use Rattle.lalrpop_base.specs.Words.{Bits, rules_of}
+use Rattle.lalrpop_base.specs.declared.lr1_core.state.State.{State}
+use Rattle.lalrpop_tables.specs.Words.{AreLr0Copies, edges, IsGraphOf}
+use Rattle.lalrpop_tables.specs.declared.lane_table.construct.copying.Copying.{Copying}
+use Rattle.lalrpop_tables.proofs.LaneShape.{lane_shape}
+use Rattle.lalrpop_tables.proofs.Resolving.{no_copies, own_numbers, resolving_copies}
+use Rattle.lalrpop_tables.proofs.lane_table.construct.LaneTableConstruct.resolve_copied.Goals as goal
+use Rattle.lalrpop_tables.proofs.lane_table.construct.LaneTableConstruct.resolve_copied.Goals.{else-loop-index-test, then-loop-index-test+in_ok-next+then-not-resolved}
+
+pub loop-index-init : goal.loop-index-init
+loop-index-init c =
+    let states : List (State Bits) = c.args.states.items in
+    let shape = lane_shape (rules_of c.args.self.now.grammar.now) c.args.self.now.start states c.requires.lanes in
+    record {
+      handed = states;
+      made = c.requires.lanes;
+      originals = own_numbers states;
+      each = no_copies states shape.coherent;
+      counted = refl;
+      graph = subst (λ (xs : List (State Bits)). IsGraphOf (edges xs) c.in_ok-graph.graph) c.deref.ensures.value c.in_ok-graph.ensures.graph;
+    }
+
+pub resolve_one-requires-clause-resolving : goal.resolve_one-requires-clause-resolving
+resolve_one-requires-clause-resolving c = c.loop-index.invariant
+
+pub loop-index-smaller : goal.loop-index-smaller
+loop-index-smaller c =
+    let total = c.in_ok-next.ensures.total in
+    let test = c.loop-index-test.true in
+    let len = c.len.ensures in
+    let ok = c.loop-index.copying.states.ok in
+    omega arith
+
+pub loop-index-preserved : goal.loop-index-preserved
+loop-index-preserved c = c.in_ok-next.ensures.resolving
+
+pub returns : goal.returns
+returns c =
+    let g = rules_of c.args.self.now.grammar.now in
+    let start = c.args.self.now.start in
+    let copies = c.args.self.now.max_copies in
+    elim c.loop-index-test.branch [
+      | else-loop-index-test w ↦ subst (λ (k : Copying). AreLr0Copies g start copies k.states.items) (sym w.copying-is) (resolving_copies g start copies c.loop-index.copying c.loop-index.invariant)
+      | then-loop-index-test+in_ok-next+then-not-resolved w ↦ subst (λ (k : Copying). AreLr0Copies g start copies k.states.items) (sym w.copying-is) (resolving_copies g start copies w.in_ok-next.next w.in_ok-next.ensures.resolving)
+    ]

@@ -1,0 +1,84 @@
+use Rattle.std.proofs.Common.{◌∙◌, List, refl, sym, subst, arith, ap}
+use Rattle.std.specs.Prelude.{slice_get, vec_len}
+use Rattle.lalrpop_base.specs.Words.{Bits, AreCoherent, rules_of, productions}
+use Rattle.lalrpop_base.specs.declared.lr1_core.state.State.{State}
+use Rattle.lalrpop_tables.specs.Words.{AreAmong, edges, HaveOwnItems, IsGraphOf}
+use Rattle.lalrpop_tables.proofs.CheckStates.{some_of}
+use Rattle.lalrpop_tables.proofs.LaneAnswers.{was_met, was_resolved}
+use Rattle.lalrpop_tables.proofs.LaneAsked.{among_asked}
+use Rattle.lalrpop_tables.proofs.LaneResolving.{set_back}
+use Rattle.lalrpop_tables.proofs.Lr0Copies.{asked_own, copied_coherent, copied_own}
+use Rattle.lalrpop_tables.proofs.Places.{same_some, slice_get_at}
+use Rattle.lalrpop_tables.proofs.Resolving.{copied_answers, resolving_same, resolving_taken, some_asked}
+use Rattle.lalrpop_tables.proofs.lane_table.construct.LaneTableConstruct.resolve_one.Goals as goal
+
+pub build_lane_table-requires-clause-coherent : goal.build_lane_table-requires-clause-coherent
+build_lane_table-requires-clause-coherent c =
+    let r = c.requires.resolving in
+    subst AreCoherent (sym c.deref.ensures.value) (copied_coherent (rules_of c.args.self.now.grammar.now) c.args.self.now.start r.handed r.made r.originals c.args.copying.states.items r.each)
+
+pub build_lane_table-requires-clause-own : goal.build_lane_table-requires-clause-own
+build_lane_table-requires-clause-own c =
+    let r = c.requires.resolving in
+    subst (λ (xs : List (State Bits)). HaveOwnItems (productions c.args.self.now.grammar.now) xs) (sym c.deref.ensures.value) (copied_own (rules_of c.args.self.now.grammar.now) c.args.self.now.start r.handed r.made r.originals c.args.copying.states.items r.each)
+
+pub build_lane_table-requires-clause-reduces : goal.build_lane_table-requires-clause-reduces
+build_lane_table-requires-clause-reduces c =
+    let r = c.requires.resolving in
+    let states : List (State Bits) = c.args.copying.states.items in
+    asked_own (rules_of c.args.self.now.grammar.now) c.args.self.now.start r.handed r.made r.originals states r.each c.args.index c.index-state.result.now c.in_ok-actions.actions.keys
+    (slice_get_at states c.args.index c.index-state.result.now c.requires.listed c.index-state.ensures) c.in_ok-actions.ensures.actions
+
+pub attempt_lalr-requires-clause-among : goal.attempt_lalr-requires-clause-among
+attempt_lalr-requires-clause-among c =
+    let states : List (State Bits) = c.args.copying.states.items in
+    let at_seen = slice_get_at states c.args.index c.index-state.result.now c.requires.listed c.index-state.ensures in
+    let at = slice_get_at states c.args.index c.index_mut.result.now c.requires.listed c.index_mut.ensures.value in
+    subst (AreAmong c.in_ok-actions.actions.keys) (same_some c.index-state.result.now c.index_mut.result.now (sym at_seen ∙ at)) (among_asked c.args.self.now.grammar.now.terminals c.index-state.result.now c.in_ok-actions.actions.keys c.in_ok-actions.ensures.actions)
+
+pub returns-then-branch-clause-resolving : goal.returns-then-branch-clause-resolving
+returns-then-branch-clause-resolving c =
+    let states : List (State Bits) = c.args.copying.states.items in
+    let at = slice_get_at states c.args.index c.index_mut.result.now c.requires.listed c.index_mut.ensures.value in
+    let told = was_resolved c.in_ok-attempt_lalr.field-0 _ _ c.if-branch.true c.in_ok-attempt_lalr.ensures.attempted in
+    resolving_taken (rules_of c.args.self.now.grammar.now) c.args.self.now.start c.args.self.now.max_copies c.args.copying _ c.requires.resolving refl refl c.args.index c.index_mut.result.now c.attempt_lalr.new.state at refl c.in_ok-actions.actions.keys c.in_ok-table.table told
+
+pub merge_along-requires-clause-coherent : goal.merge_along-requires-clause-coherent
+merge_along-requires-clause-coherent c =
+    let r = c.requires.resolving in
+    let states : List (State Bits) = c.args.copying.states.items in
+    let at = slice_get_at states c.args.index c.index_mut.result.now c.requires.listed c.index_mut.ensures.value in
+    let told = was_met c.in_ok-attempt_lalr.field-0 _ _ c.if-branch.false c.in_ok-attempt_lalr.ensures.attempted in
+    subst AreCoherent (sym (set_back states c.args.index c.index_mut.result.now c.attempt_lalr.new.state at told.1)) (copied_coherent (rules_of c.args.self.now.grammar.now) c.args.self.now.start r.handed r.made r.originals states r.each)
+
+pub merge_along-requires-clause-graph : goal.merge_along-requires-clause-graph
+merge_along-requires-clause-graph c =
+    let states : List (State Bits) = c.args.copying.states.items in
+    let at = slice_get_at states c.args.index c.index_mut.result.now c.requires.listed c.index_mut.ensures.value in
+    let told = was_met c.in_ok-attempt_lalr.field-0 _ _ c.if-branch.false c.in_ok-attempt_lalr.ensures.attempted in
+    subst (λ (xs : List (State Bits)). IsGraphOf (edges xs) c.args.copying.graph) (sym (set_back states c.args.index c.index_mut.result.now c.attempt_lalr.new.state at told.1)) c.requires.resolving.graph
+
+pub merge_along-requires-clause-row : goal.merge_along-requires-clause-row
+merge_along-requires-clause-row c =
+    let some = some_of (vec_len c.index-state.result.now.reductions) (sym c.is_empty.ensures ∙ c.if-is_empty.false) in
+    c.in_ok-table.ensures.row (some_asked c.args.self.now.grammar.now.terminals c.index-state.result.now c.in_ok-actions.actions.keys c.in_ok-actions.ensures.actions (let k = c.index-state.result.now.reductions.ok in omega arith))
+
+pub merge_along-requires-clause-among : goal.merge_along-requires-clause-among
+merge_along-requires-clause-among c before there =
+    let states : List (State Bits) = c.args.copying.states.items in
+    let at_seen = slice_get_at states c.args.index c.index-state.result.now c.requires.listed c.index-state.ensures in
+    let at = slice_get_at states c.args.index c.index_mut.result.now c.requires.listed c.index_mut.ensures.value in
+    let told = was_met c.in_ok-attempt_lalr.field-0 _ _ c.if-branch.false c.in_ok-attempt_lalr.ensures.attempted in
+    let back = set_back states c.args.index c.index_mut.result.now c.attempt_lalr.new.state at told.1 in
+    subst (AreAmong c.in_ok-actions.actions.keys) (same_some c.index-state.result.now before (sym at_seen ∙ ap (λ (xs : List (State Bits)). slice_get xs c.args.index) (sym back) ∙ there)) (among_asked c.args.self.now.grammar.now.terminals c.index-state.result.now c.in_ok-actions.actions.keys c.in_ok-actions.ensures.actions)
+
+pub returns-clause-resolving : goal.returns-clause-resolving
+returns-clause-resolving c =
+    let g = rules_of c.args.self.now.grammar.now in
+    let start = c.args.self.now.start in
+    let copies = c.args.self.now.max_copies in
+    let states : List (State Bits) = c.args.copying.states.items in
+    let at = slice_get_at states c.args.index c.index_mut.result.now c.requires.listed c.index_mut.ensures.value in
+    let told = was_met c.in_ok-attempt_lalr.field-0 _ _ c.if-branch.false c.in_ok-attempt_lalr.ensures.attempted in
+    let back = set_back states c.args.index c.index_mut.result.now c.attempt_lalr.new.state at told.1 in
+    copied_answers g start copies _ (resolving_same g start copies c.args.copying _ c.requires.resolving refl refl back) c.merge_along.result c.merge_along.ensures.copied

@@ -1,0 +1,12 @@
+use Rattle.std.proofs.Common.{true}
+use Rattle.lalrpop_tables.proofs.Resolving.{copied_weaker, patchable_on}
+use Rattle.lalrpop_tables.proofs.lane_table.construct.merging.walk_and_patch.Goals as goal
+
+pub patch_target_starts-requires-clause-patchable : goal.patch_target_starts-requires-clause-patchable
+patch_target_starts-requires-clause-patchable c = patchable_on c.args.actions.now.keys c.args.merge.now c.walk_all.new.merge c.requires.begun c.requires.ready c.walk_all.ensures.advances c.requires.patchable
+
+pub returns-in_ok-patch_target_starts-in-Ok-clause-copies : goal.returns-in_ok-patch_target_starts-in-Ok-clause-copies
+returns-in_ok-patch_target_starts-in-Ok-clause-copies c = c.patch_target_starts.ensures.copies true c.args.merge.now.states.items (c.walk_all.ensures.advances.copies true c.args.merge.now.states.items c.requires.begun)
+
+pub returns-in-Err : goal.returns-in-Err
+returns-in-Err c = record { copies = copied_weaker c.args.merge.now c.walk_all.new.merge c.requires.begun c.walk_all.ensures.advances; counted = c.walk_all.ensures.advances.counted }
