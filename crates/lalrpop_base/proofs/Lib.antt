@@ -3,6 +3,10 @@ pub mod BitLemmas
 pub mod EachLemmas
 pub mod theory
 pub mod RisingLemmas
+pub mod BitVectorLemmas
+pub mod WordLemmas
+pub mod TokenSetLemmas
+pub mod RisingOrder
 pub mod BitCounts
 pub mod FirstNames
 pub mod FirstTables

@@ -1,4 +1,5 @@
 pub mod Augmented
+pub mod BitVectors
 pub mod Bits
 pub mod Closures
 pub mod Coherent
@@ -27,7 +28,6 @@ pub mod NilConflicts
 pub mod Places
 pub mod Refusals
 pub mod Renumbering
-pub mod Rising
 pub mod Runs
 pub mod SameGrammars
 pub mod StateConflicts

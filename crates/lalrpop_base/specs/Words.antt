@@ -35,7 +35,6 @@ pub use Rattle.lalrpop_base.specs.NewStart.{HasNewStart, IsEntryOf, IsRefusedSta
 pub use Rattle.lalrpop_base.specs.NilConflicts.{nil_conflict, nil_conflicts, nil_shift_conflicts}
 pub use Rattle.lalrpop_base.specs.Places.{AllDiffer, DifferBelow, IsFirstRepeat}
 pub use Rattle.lalrpop_base.specs.Renumbering.{HasGoto, IsRenumbering, PutsGotosFirst, renumbered}
-pub use Rattle.lalrpop_base.specs.Rising.{IsFoundAt, IsGapAt, lesser_first, merge, merge_head}
 pub use Rattle.lalrpop_base.specs.Runs.{Configuration, Ends, Goes, HasOutcome, IsFirstWrong, IsParse, IsPromptRefusal, IsRightNext, Limit, Move, Outcome}
 pub use Rattle.lalrpop_base.specs.Runs.{Parsed, Reaches, Refused, Stands, at_end, at_terminal, before_all, begin, behind_shift, cut_off, further, goes_on, here}
 pub use Rattle.lalrpop_base.specs.Runs.{move, moves_on, next_token, other_end, parsed, received, reduced, reduces, reduction_on, shifts_or, stuck}

@@ -1,10 +1,12 @@
 //! Tokens, and what may follow an item.
+mod bit_iter;
 pub mod members;
 pub mod nil;
-mod rising;
 pub mod token;
 pub mod token_lookahead;
 pub mod token_set;
+mod word_changes;
+mod words;
 
 ghost use Rattle.std.specs.Prelude.{◌≡◌, ◌≢◌, ◌↔◌, IfOk, OnOk, OnErr, MatchBool, false, List};
 ghost use Rattle.lalrpop_base.specs.Bits.{Bits, no_bits, join as joined};

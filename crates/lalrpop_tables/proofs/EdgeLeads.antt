@@ -30,7 +30,7 @@ entry_leads total m key target ordered c =
 
 module _ {L : Type 0} where
   -- ---- the transition of an edge
-  of_state : (n : StateIndex) (s : State L) (e : Edge) → Contains (edges_of n s) e → (e.source ≡ n) × HasTransition e.symbol e.target s
+  pub of_state : (n : StateIndex) (s : State L) (e : Edge) → Contains (edges_of n s) e → (e.source ≡ n) × HasTransition e.symbol e.target s
   of_state n s e c = elim (Contains-append_cases (shift_edges n s.shifts.entries) (goto_edges n s.gotos.entries) e c) [
     | inl h ↦
         let f = contains_of_map (λ (t : TerminalString × StateIndex). edge n (Terminal t.0) t.1) s.shifts.entries e h in
@@ -48,7 +48,7 @@ module _ {L : Type 0} where
     pub source : (e.source).0 ≡ k + number
     pub transition : HasTransition e.symbol e.target state
 
-  source_from : (k : ℕ) (states : List (State L)) (e : Edge) → Contains (edges_from k states) e → HasSource k states e
+  pub source_from : (k : ℕ) (states : List (State L)) (e : Edge) → Contains (edges_from k states) e → HasSource k states e
   source_from k [] e c = absurd (Contains-none e c)
   source_from k (s ∷ ss) e c = elim (Contains-append_cases (edges_of (record { 0 = k }) s) (edges_from (suc k) ss) e c) [
     | inl h ↦

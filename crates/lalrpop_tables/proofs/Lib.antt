@@ -39,6 +39,7 @@ pub mod Following
 pub mod Gains
 pub mod GainsSome
 pub mod Grammars
+pub mod GraphCopies
 pub mod Growth
 pub mod ItemTokens
 pub mod KernelDots
@@ -80,6 +81,7 @@ pub mod Merging
 pub mod MergingItems
 pub mod MergingReductions
 pub mod Moved
+pub mod MovedOrigins
 pub mod Moves
 pub mod NewCopies
 pub mod NumberedConflicts

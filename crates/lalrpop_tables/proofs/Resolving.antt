@@ -16,6 +16,7 @@ use Rattle.lalrpop_base.specs.declared.repr.TerminalString.{TerminalString}
 use Rattle.lalrpop_base.proofs.ContentsViews.{at_contains}
 use Rattle.lalrpop_tables.specs.Words.{Advances, AreActions, AreAmong, AreCopies, AreLr0Copies, IsCopied, IsAttempted, IsCopyOf, IsMerging, IsPatchable, IsResolving}
 use Rattle.lalrpop_tables.specs.Words.{asked_actions, edges, index, IsGraphOf, number_in, retargeted, retargeted_all}
+use Rattle.lalrpop_tables.specs.GraphCopies.{FollowsCopies}
 use Rattle.lalrpop_tables.specs.declared.lane_table.construct.copying.Copying.{Copying}
 use Rattle.lalrpop_tables.specs.declared.lane_table.construct.merge.Merge.{Merge}
 use Rattle.lalrpop_tables.specs.declared.lane_table.table.LaneTable.{LaneTable}
@@ -186,6 +187,19 @@ patchable_from actions merge table state states same_table same_state same_state
   counted = ap (λ (t : LaneTable). t.conflicts) same_table ∙ counted;
   among = λ before at. among before (ap (λ (s : StateIndex). slice_get states.items s.0) (sym same_state) ∙ ap (λ (xs : Vec (State Bits) Global). slice_get xs.items merge.inconsistent_state.0) (sym same_states) ∙ at);
 }
+
+-- the states and the graph behind a merge
+pub merged_copied : (old new : Copying) (before merge : Merge) (count : ℕ) → before.states ≡ old.states → before.copies_left ≡ old.copies_left → AreCopies false before.states.items merge.originals.items merge.states.items →
+    merge.copies_left + length merge.states.items ≡ before.copies_left + length before.states.items → new.states ≡ merge.states → new.copies_left ≡ merge.copies_left → length old.states.items ≡ count → IsGraphOf (edges old.states.items) old.graph →
+    FollowsCopies count merge.originals.items merge.states.items merge.states.items old.graph new.graph → IsCopied old new
+merged_copied old new before merge count same same_left copies counted now left number graph follows =
+    let each : AreCopies false old.states.items merge.originals.items merge.states.items = subst (λ (xs : Vec (State Bits) Global). AreCopies false xs.items merge.originals.items merge.states.items) same copies in
+    record {
+      originals = merge.originals.items;
+      each = subst (λ (xs : Vec (State Bits) Global). AreCopies false old.states.items merge.originals.items xs.items) (sym now) each;
+      counted = let a = ap (λ (xs : Vec (State Bits) Global). length xs.items) now in let b = ap (λ (xs : Vec (State Bits) Global). length xs.items) same in omega arith;
+      graph = subst (λ (xs : Vec (State Bits) Global). IsGraphOf (edges xs.items) new.graph) (sym now) (follows old.states.items number each graph);
+    }
 
 pub copied_weaker : (old new : Merge) → AreCopies true old.states.items old.originals.items old.states.items → Advances old new → AreCopies false old.states.items new.originals.items new.states.items
 copied_weaker old new begun on = copies_weaker true old.states.items new.originals.items new.states.items (on.copies true old.states.items begun)

@@ -1,27 +1,25 @@
 -- Edges that are added to a graph, and iterators over them.
-use Rattle.std.proofs.Common.{◌≡◌, ℕ, suc, ◌+◌, ◌<◌, Bool, true, false, List, [], ◌∷◌, ◌++◌, map, reverse, take, length, get_or, refl, sym, ◌∙◌, ap, subst, arith, ⊎_elim, cond, append_assoc, append-nil}
-use Rattle.std.specs.Prelude.{◌==◌, Option, Some, None}
-use Rattle.std.specs.Borrow.{Bor}
+use Rattle.std.proofs.Common.{◌≡◌, ℕ, zero, suc, ◌+◌, ◌<◌, ◌≤◌, inl, inr, Bool, true, false, List, [], ◌∷◌, ◌++◌, map, reverse, take, length, get_or, refl, slice_set, sym, ◌∙◌, ap, subst, arith, ⊎_elim, cond, append_assoc, append-nil}
+use Rattle.std.specs.Prelude.{◌==◌, slice_get}
 use Rattle.std.specs.declared.alloc.Global.{Global}
 use Rattle.std.specs.declared.vec.Vec.{Vec}
-use Rattle.std.specs.declared.cmp.Ordering.TheVariants.{Equal}
-use Rattle.std.specs.Ordering.{is_eq}
-use Rattle.std.specs.Cmp.{IsTotalOrder, Equal-is, nat_cmp_total, unsigned_tied}
-use Rattle.std.proofs.lemmas.Bool.{cases_Bool}
+use Rattle.std.specs.Cmp.{IsTotalOrder, nat_cmp_total}
+use Rattle.std.proofs.lemmas.Bool.{cases_Bool, eqb-true, eqb-false}
 use Rattle.std.proofs.lemmas.List.{map-append, reverse-append, length-take-le, take_more}
 use Rattle.std.proofs.lemmas.List.Elements.{filter-append}
-use Rattle.lalrpop_base.specs.Words.{collection_at, PushesAt}
+use Rattle.std.proofs.lemmas.Option.{slice_get_past}
 use Rattle.lalrpop_base.specs.declared.repr.Symbol.{Symbol}
 use Rattle.lalrpop_base.specs.declared.lr1_core.state.State.{State}
 use Rattle.lalrpop_base.specs.declared.lr1_core.state.StateIndex.{StateIndex}
 use Rattle.lalrpop_base.specs.contracts.repr.SymbolPartialEq.TheImpl as symbol_eq
 use Rattle.lalrpop_base.specs.contracts.repr.SymbolEq.TheImpl.Laws as symbol_equality
 use Rattle.lalrpop_base.specs.contracts.exact.SymbolExact.TheImpl as symbol_exactly
-use Rattle.lalrpop_base.proofs.MultimapLemmas.{tied_at}
-use Rattle.lalrpop_tables.specs.Words.{Edge, edges, edges_of, edges_from, targets_from, origins, origin_of, listed, state_cmp, targets_of, origins_of}
-use Rattle.lalrpop_tables.specs.Words.{with_symbol, IsGrown, IsGraphOf}
+use Rattle.lalrpop_tables.specs.Words.{Edge, edges, edges_of, edges_from, targets_from, origins, origin_of, list_at, listed, state_cmp, targets_of, origins_of}
+use Rattle.lalrpop_tables.specs.Words.{with_symbol, AreSameLists, IsGrown, IsGraphOf, IsListedAt}
 use Rattle.lalrpop_tables.specs.StateGraph.{target_of}
 use Rattle.lalrpop_tables.specs.declared.state_graph.StateGraph.{StateGraph}
+use Rattle.lalrpop_tables.proofs.Merging.{set_here, set_elsewhere}
+use Rattle.lalrpop_tables.proofs.Places.{slice_get_at}
 
 pub state_total : IsTotalOrder state_cmp
 state_total = record {
@@ -30,45 +28,55 @@ state_total = record {
   trans = λ x y z h k. nat_cmp_total.trans x.0 y.0 z.0 h k;
 }
 
--- ---- one edge more
-pushed_listed : {X : Type 0} (old new : Option (Vec X Global)) (x : X) → PushesAt (λ (v : Vec X Global). v.items ≡ []) (λ (v : Vec X Global) (i : X) (w : Vec X Global). w.items ≡ v.items ++ i ∷ []) old x new → listed new ≡ listed old ++ x ∷ []
-pushed_listed None None x p = absurd p
-pushed_listed (Some o) None x p = absurd p
-pushed_listed (Some o) (Some n) x p = p
-pushed_listed None (Some n) x p = p.2 ∙ ap (λ xs. xs ++ x ∷ []) p.1
+-- ---- lists by number
+-- a list without values behind the others
+same_behind : {X : Type 0} (lists : List (Vec X Global)) (none : Vec X Global) → none.items ≡ [] → (n : ℕ) → list_at (lists ++ none ∷ []) n ≡ list_at lists n
+same_behind [] none e zero = e
+same_behind [] none e (suc n) = refl
+same_behind (list ∷ lists) none e zero = refl
+same_behind (list ∷ lists) none e (suc n) = same_behind lists none e n
 
-pub one_more : {X : Type 0} (old new : List (StateIndex × Vec X Global)) (key : StateIndex) (x : X) →
-    PushesAt (λ (v : Vec X Global). v.items ≡ []) (λ (v : Vec X Global) (i : X) (w : Vec X Global). w.items ≡ v.items ++ i ∷ []) (collection_at state_cmp old key) x (collection_at state_cmp new key) →
-    ((q : StateIndex) → is_eq (state_cmp key q) ≡ false → collection_at state_cmp new q ≡ collection_at state_cmp old q) →
-    (q : StateIndex) → listed (collection_at state_cmp new q) ≡ listed (collection_at state_cmp old q) ++ cond (key.0 == q.0) (x ∷ []) []
-one_more {X} old new key x pushed others q =
-    ⊎_elim
-    (λ tied. let tie : state_cmp key q ≡ Equal = (Equal-is (state_cmp key q)).0 tied in
-    let same : (key.0 == q.0) ≡ true = sym (unsigned_tied key.0 q.0) ∙ tied in
-    ap listed (tied_at state_total key q tie new) ∙ pushed_listed (collection_at state_cmp old key) (collection_at state_cmp new key) x pushed
-    ∙ ap (λ (o : Option (Vec X Global)). listed o ++ x ∷ []) (sym (tied_at state_total key q tie old))
-    ∙ ap (λ b. listed (collection_at state_cmp old q) ++ cond b (x ∷ []) []) (sym same))
-    (λ apart. let other : (key.0 == q.0) ≡ false = sym (unsigned_tied key.0 q.0) ∙ apart in
-    ap listed (others q apart) ∙ sym (append-nil (listed (collection_at state_cmp old q)))
-    ∙ ap (λ b. listed (collection_at state_cmp old q) ++ cond b (x ∷ []) []) (sym other))
-    (cases_Bool (is_eq (state_cmp key q)))
+pub one_list_more : {X : Type 0} (lists new : List (Vec X Global)) (none : Vec X Global) → none.items ≡ [] → new ≡ lists ++ none ∷ [] → AreSameLists lists new
+one_list_more {X} lists new none empty is n = ap (λ (xs : List (Vec X Global)). list_at xs n) is ∙ same_behind lists none empty n
+
+pub list_there : {X : Type 0} (lists : List (Vec X Global)) (number : ℕ) (list : Vec X Global) → number < length lists → list ≡ get_or lists number list → list_at lists number ≡ list.items
+list_there lists number list within is = ap listed (slice_get_at lists number list within is)
+
+pub list_past : {X : Type 0} (lists : List (Vec X Global)) (number : ℕ) → length lists ≤ number → list_at lists number ≡ []
+list_past lists number past = ap listed (slice_get_past lists number past)
+
+-- a list in the place of another
+pub list_changed : {X : Type 0} (lists : List (Vec X Global)) (number : ℕ) (after : Vec X Global) → number < length lists → (n : ℕ) → list_at (slice_set lists number after) n ≡ cond (number == n) after.items (list_at lists n)
+list_changed {X} lists number after within n = elim (cases_Bool (number == n)) [
+  | inl here ↦
+      ap listed (ap (slice_get (slice_set lists number after)) (sym (eqb-true number n here)) ∙ set_here lists number after within)
+      ∙ ap (λ b. cond b after.items (list_at lists n)) (sym here)
+  | inr other ↦
+      ap listed (set_elsewhere lists number n after (λ e. eqb-false number n other (sym e)))
+      ∙ ap (λ b. cond b after.items (list_at lists n)) (sym other)
+]
+
+-- a value behind the others of a list
+pub listed_more : {X : Type 0} (old grown : List (Vec X Global)) (number : ℕ) (before after : Vec X Global) (x : X) → AreSameLists old grown → number < length grown → before ≡ get_or grown number before → after.items ≡ before.items ++ x ∷ [] → IsListedAt number x old (slice_set grown number after)
+listed_more {X} old grown number before after x same within is more n = list_changed grown number after within n ∙ elim (cases_Bool (number == n)) [
+  | inl here ↦
+      ap (λ b. cond b after.items (list_at grown n)) here ∙ more
+      ∙ ap (λ xs. xs ++ x ∷ []) (sym (list_there grown number before within is) ∙ ap (list_at grown) (eqb-true number n here) ∙ same n)
+      ∙ ap (λ b. list_at old n ++ cond b (x ∷ []) []) (sym here)
+  | inr other ↦
+      ap (λ b. cond b after.items (list_at grown n)) other ∙ same n ∙ sym (append-nil (list_at old n))
+      ∙ ap (λ b. list_at old n ++ cond b (x ∷ []) []) (sym other)
+]
 
 pub map_cond : {X Y : Type 0} (f : X → Y) (b : Bool) (x : X) → cond b (f x ∷ []) [] ≡ map f (cond b (x ∷ []) [])
 map_cond f true x = refl
 map_cond f false x = refl
 
--- what a key has
-pub got : {X : Type 0} (r s : Bor (List X)) (v : Vec X Global) (o : Option (Vec X Global)) → r ≡ s → s.now ≡ v.items → Some v ≡ o → r.now ≡ listed o
-got {X} r s v o e f g = ap (λ (b : Bor (List X)). b.now) e ∙ f ∙ ap listed g
-
-pub got_none : {X : Type 0} (r s : Bor (List X)) (o : Option (Vec X Global)) → r ≡ s → s.now ≡ [] → None ≡ o → r.now ≡ listed o
-got_none {X} r s o e f g = ap (λ (b : Bor (List X)). b.now) e ∙ f ∙ ap listed g
-
 -- ---- edges in turn
-targets_append : (n : StateIndex) (es fs : List Edge) → targets_from n (es ++ fs) ≡ targets_from n es ++ targets_from n fs
+pub targets_append : (n : StateIndex) (es fs : List Edge) → targets_from n (es ++ fs) ≡ targets_from n es ++ targets_from n fs
 targets_append n es fs = ap (map target_of) (filter-append (λ (e : Edge). e.source.0 == n.0) es fs) ∙ map-append target_of _ _
 
-origins_append : (n : StateIndex) (es fs : List Edge) → origins n (es ++ fs) ≡ origins n es ++ origins n fs
+pub origins_append : (n : StateIndex) (es fs : List Edge) → origins n (es ++ fs) ≡ origins n es ++ origins n fs
 origins_append n es fs = ap (map origin_of) (filter-append (λ (e : Edge). e.target.0 == n.0) es fs) ∙ map-append origin_of _ _
 
 pub grown_none : (graph : StateGraph) → IsGrown [] graph graph
@@ -79,6 +87,9 @@ grown_on es fs a b c g h = record {
   targets = λ n. h.targets n ∙ ap (λ xs. xs ++ targets_from n fs) (g.targets n) ∙ append_assoc _ (targets_from n es) (targets_from n fs) ∙ ap (λ xs. targets_of a n ++ xs) (sym (targets_append n es fs));
   sources = λ n. h.sources n ∙ ap (λ xs. xs ++ origins n fs) (g.sources n) ∙ append_assoc _ (origins n es) (origins n fs) ∙ ap (λ xs. origins_of a n ++ xs) (sym (origins_append n es fs));
 }
+
+pub empty_graph : (graph : StateGraph) → graph.successors.items ≡ [] → graph.predecessors.items ≡ [] → IsGraphOf [] graph
+empty_graph graph s p = record { targets = λ n. ap (λ (lists : List (Vec StateIndex Global)). list_at lists n.0) s; sources = λ n. ap (λ (lists : List (Vec (Symbol × StateIndex) Global)). list_at lists n.0) p }
 
 pub graph_on : (es fs : List Edge) (a b : StateGraph) → IsGraphOf es a → IsGrown fs a b → IsGraphOf (es ++ fs) b
 graph_on es fs a b g h = record {

@@ -15,6 +15,7 @@ pub mod Counts
 pub mod EarlyStop
 pub mod Entries
 pub mod EpsilonMoves
+pub mod GraphCopies
 pub mod Lalr
 pub mod LaneCells
 pub mod LaneRows

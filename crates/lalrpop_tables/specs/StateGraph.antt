@@ -1,10 +1,9 @@
 -- The edges of states: their shifts and gotos.
-use Rattle.std.specs.Prelude.{◌≡◌, ℕ, suc, ◌==◌, ◌↔◌, ◌⊎◌, List, [], ◌∷◌, ◌++◌, map, filter, Option, Some, None, Contains}
+use Rattle.std.specs.Prelude.{◌≡◌, ℕ, suc, ◌==◌, ◌↔◌, ◌⊎◌, List, [], ◌∷◌, ◌++◌, map, filter, Option, Some, None, Contains, slice_get, cond}
 use Rattle.std.specs.declared.cmp.Ordering.{Ordering}
 use Rattle.std.specs.Ordering.{nat_cmp}
 use Rattle.std.specs.declared.alloc.Global.{Global}
 use Rattle.std.specs.declared.vec.Vec.{Vec}
-use Rattle.lalrpop_base.specs.Words.{collection_at}
 use Rattle.lalrpop_base.specs.contracts.repr.SymbolPartialEq.TheImpl as symbol_partial_eq
 use Rattle.lalrpop_base.specs.declared.repr.NonterminalString.{NonterminalString}
 use Rattle.lalrpop_base.specs.declared.repr.TerminalString.{TerminalString}
@@ -70,18 +69,38 @@ origins n es = map origin_of (filter (λ (e : Edge). e.target.0 == n.0) es)
 abbrev pub state_cmp : StateIndex → StateIndex → Ordering
 state_cmp a b = nat_cmp a.0 b.0
 
--- the values of a key, none where it has no entry
+-- the values of a list, none where there is no list
 abbrev pub listed : {X : Type 0} → Option (Vec X Global) → List X
 listed None = []
 listed (Some list) = list.items
 
+-- the list with a number, none where no list has it
+abbrev pub list_at : {X : Type 0} → List (Vec X Global) → ℕ → List X
+list_at lists n = listed (slice_get lists n)
+
+-- each number has what it had
+abbrev pub AreSameLists : {X : Type 0} → List (Vec X Global) → List (Vec X Global) → Type 0
+AreSameLists old new = (n : ℕ) → list_at new n ≡ list_at old n
+
+-- the value stands behind the others of the number, and each other number has what it had
+abbrev pub IsListedAt : {X : Type 0} → ℕ → X → List (Vec X Global) → List (Vec X Global) → Type 0
+IsListedAt number x old new = (n : ℕ) → list_at new n ≡ list_at old n ++ cond (number == n) (x ∷ []) []
+
+-- the number has what the function makes of what it had, and each other number what it had
+abbrev pub IsChangedAt : {X : Type 0} → ℕ → (List X → List X) → List (Vec X Global) → List (Vec X Global) → Type 0
+IsChangedAt number f old new = (n : ℕ) → list_at new n ≡ cond (number == n) (f (list_at old n)) (list_at old n)
+
+-- no value, whatever there was
+abbrev pub nothing : {X : Type 0} → List X → List X
+nothing xs = []
+
 -- the targets that a graph has for a state
 abbrev pub targets_of : StateGraph → StateIndex → List StateIndex
-targets_of graph n = listed (collection_at state_cmp graph.successors n)
+targets_of graph n = list_at graph.successors.items n.0
 
 -- the symbols and sources that a graph has for a state
 abbrev pub origins_of : StateGraph → StateIndex → List (Symbol × StateIndex)
-origins_of graph n = listed (collection_at state_cmp graph.predecessors n)
+origins_of graph n = list_at graph.predecessors.items n.0
 
 -- the sources that come with the symbol
 abbrev pub with_symbol : Symbol → List (Symbol × StateIndex) → List StateIndex

@@ -59,8 +59,8 @@ pub use Rattle.lalrpop_tables.specs.RenumberedTables.{AreRenumberedCopies, AreRe
 pub use Rattle.lalrpop_tables.specs.Resolving.{IsCopied, IsResolving}
 pub use Rattle.lalrpop_tables.specs.Results.{AreAllConflicts, AreStatesFor, AreStatesOf, AreTables, AreTablesFor, Construction, FailWith, FailsBy, FailsFor}
 pub use Rattle.lalrpop_tables.specs.Results.{HaveNoConflict, ListsAll, Settings, canonical_of, more}
-pub use Rattle.lalrpop_tables.specs.StateGraph.{AddsStates, Edge, HaveSameStates, IsGraphOf, IsGrown, IsStepBack, edge, edges, edges_from, edges_of, goto_edges}
-pub use Rattle.lalrpop_tables.specs.StateGraph.{listed, nowhere, origin_of, origins, origins_of, over, shift_edges, sources_over, state_cmp, targets_from}
+pub use Rattle.lalrpop_tables.specs.StateGraph.{AddsStates, AreSameLists, Edge, HaveSameStates, IsChangedAt, IsGraphOf, IsGrown, IsListedAt, IsStepBack, edge, edges, edges_from, edges_of, goto_edges}
+pub use Rattle.lalrpop_tables.specs.StateGraph.{list_at, listed, nowhere, origin_of, origins, origins_of, over, shift_edges, sources_over, state_cmp, targets_from}
 pub use Rattle.lalrpop_tables.specs.StateGraph.{targets_of, with_symbol}
 pub use Rattle.lalrpop_tables.specs.StateSets.{AddsColumns, AreJoined, HasSet, IsJoint, IsMade, OwnSets, columns_of, context_of, replaced_entry, replaced_set}
 pub use Rattle.lalrpop_tables.specs.StateSets.{set_of}

@@ -65,8 +65,8 @@ fn new_numbers(alloc: Global, states: &[Lr1State]) -> Result<Vec<usize>, OutOfMe
     Ok(numbers)
 }
 
-// A state's new number; a number outside the list stays.
-fn renumbered(numbers: &[usize], index: StateIndex) -> StateIndex
+/// A state's new number; a number outside the list stays.
+pub(crate) fn renumbered(numbers: &[usize], index: StateIndex) -> StateIndex
     ensures { result ≡ retargeted (number_in numbers.now) index }
 {
     match numbers.get(index.0) {

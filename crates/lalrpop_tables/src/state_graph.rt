@@ -1,26 +1,29 @@
 //! Where the shifts and gotos of states lead, in both directions.
+mod copies;
+mod lists;
 pub mod neighbours;
+mod origins;
 
-ghost use Rattle.std.specs.Prelude.{◌≡◌, ◌↔◌, ◌∷◌, [], List, reverse, IfOk, OnOk, Contains};
+ghost use Rattle.std.specs.Prelude.{◌≡◌, ◌↔◌, ◌∷◌, [], List, reverse, take, IfOk, OnOk, Contains};
 ghost use Rattle.std.specs.List.Sorted.{IsStrictlySortedBy};
 ghost use Rattle.lalrpop_base.specs.declared.lr1_core.state.StateIndex.{StateIndex};
 ghost use Rattle.lalrpop_tables.specs.Neighbours.{targets_left, sources_left};
 ghost use Rattle.lalrpop_tables.specs.StateGraph.{Edge, edges, shift_edges, goto_edges, IsGraphOf, IsGrown, LeadsTo, targets_of, sources_over, edge, state_cmp, AddsStates, HaveSameStates, IsStepBack};
 
+use self::lists::{list_of, push_at};
 use self::neighbours::{Predecessors, Successors};
-use lalrpop_base::collections::multimap::Multimap;
 use lalrpop_base::lr1_core::state::{State, StateIndex};
 use lalrpop_base::memory::OutOfMemory;
 use lalrpop_base::repr::{NonterminalString, Symbol, TerminalString};
 use std::alloc::Global;
 use std::collections::BTreeMap;
 
-/// The shifts and gotos of a list of states. A target that is not in the list is a state without
-/// successors.
+/// The shifts and gotos of a list of states, by number. A target that is not in the list is a state
+/// without successors.
 #[derive(Drop)]
 pub struct StateGraph {
-    successors: Multimap<StateIndex, Vec<StateIndex>>,
-    predecessors: Multimap<StateIndex, Vec<(Symbol, StateIndex)>>,
+    successors: Vec<Vec<StateIndex>>,
+    predecessors: Vec<Vec<(Symbol, StateIndex)>>,
 }
 
 impl StateGraph {
@@ -32,14 +35,29 @@ impl StateGraph {
         ensures graph { IfOk result (IsGraphOf (edges states.now)) }
     {
         let mut graph = StateGraph {
-            successors: Multimap::new(alloc),
-            predecessors: Multimap::new(alloc),
+            successors: Vec::new(alloc),
+            predecessors: Vec::new(alloc),
         };
-        for (number, state) in states.iter().enumerate() {
-            graph.add_shifts(alloc, StateIndex(number), &state.shifts)?;
-            graph.add_gotos(alloc, StateIndex(number), &state.gotos)?;
-        }
+        graph.add_states(alloc, states, 0)?;
         Ok(graph)
+    }
+
+    // Adds the edges of the states from a number on.
+    fn add_states<'grammar, L>(
+        &mut self,
+        alloc: Global,
+        states: &[State<'grammar, L>],
+        first: usize,
+    ) -> Result<(), OutOfMemory>
+        ensures { OnOk result (IsGraphOf (edges (take first states.now)) self.old →
+            IsGraphOf (edges states.now) self.new) }
+    {
+        for number in first..states.len() {
+            let state = &states[number];
+            self.add_shifts(alloc, StateIndex(number), &state.shifts)?;
+            self.add_gotos(alloc, StateIndex(number), &state.gotos)?;
+        }
+        Ok(())
     }
 
     // Adds the shifts of a state, in order.
@@ -53,7 +71,7 @@ impl StateGraph {
     {
         for (terminal, target) in shifts.iter() {
             let symbol = Symbol::Terminal(terminal.clone(alloc)?);
-            self.add_edge(source, symbol, *target)?;
+            self.add_edge(alloc, source, symbol, *target)?;
         }
         Ok(())
     }
@@ -69,7 +87,7 @@ impl StateGraph {
     {
         for (name, target) in gotos.iter() {
             let symbol = Symbol::Nonterminal(name.clone(alloc)?);
-            self.add_edge(source, symbol, *target)?;
+            self.add_edge(alloc, source, symbol, *target)?;
         }
         Ok(())
     }
@@ -77,14 +95,15 @@ impl StateGraph {
     // Adds an edge behind the others.
     fn add_edge(
         &mut self,
+        alloc: Global,
         source: StateIndex,
         symbol: Symbol,
         target: StateIndex,
     ) -> Result<(), OutOfMemory>
         ensures { OnOk result (IsGrown (edge source symbol target ∷ []) self.old self.new) }
     {
-        self.successors.push(source, target)?;
-        self.predecessors.push(target, (symbol, source))?;
+        push_at(alloc, &mut self.successors, source.0, target)?;
+        push_at(alloc, &mut self.predecessors, target.0, (symbol, source))?;
         Ok(())
     }
 
@@ -94,10 +113,7 @@ impl StateGraph {
         ensures targets { targets_left result ≡ reverse (targets_of self.now state) }
     {
         Successors {
-            targets: match self.successors.get(&state) {
-                Some(targets) => targets.as_slice(),
-                None => &[],
-            },
+            targets: list_of(&self.successors, state.0),
         }
     }
 
@@ -106,10 +122,7 @@ impl StateGraph {
         ensures sources { sources_left result ≡ reverse (sources_over self.now symbol.now state) }
     {
         Predecessors {
-            edges: match self.predecessors.get(&state) {
-                Some(edges) => edges.as_slice(),
-                None => &[],
-            },
+            edges: list_of(&self.predecessors, state.0),
             symbol,
         }
     }

@@ -10,14 +10,13 @@ use Rattle.lalrpop_base.specs.declared.repr.grammar.Grammar.{Grammar}
 use Rattle.lalrpop_tables.specs.Words.{Collapses, AreTablesOf, HasConflictsOf}
 use Rattle.lalrpop_tables.specs.declared.build.options.Options.{Options}
 use Rattle.lalrpop_tables.proofs.Lr1Answers.{Tables-where, Failure-where}
-use Rattle.lrtab_run.specs.Shown.{most_copies}
 
 module _ (g : Grammar) (options : Options) (plain : g.algorithm.lalr ≡ false) (start : NonterminalString) where
   not_collapsed : ¬ Collapses g options
   not_collapsed c = true≢false (sym c.asked ∙ plain)
 
-  pub plain_tables : options.max_copies ≡ most_copies → (tables : List (State Bits)) → AreTablesOf (Collapses g options) options.method options.max_copies g start tables → AreTablesOf ⊥ options.method most_copies g start tables
-  plain_tables most tables t = subst (λ (n : ℕ). AreTablesOf ⊥ options.method n g start tables) most (Tables-where g start tables (Collapses g options) ⊥ options.method not_collapsed (λ x. absurd x) t)
+  pub plain_tables : (tables : List (State Bits)) → AreTablesOf (Collapses g options) options.method options.max_copies g start tables → AreTablesOf ⊥ options.method options.max_copies g start tables
+  plain_tables tables t = Tables-where g start tables (Collapses g options) ⊥ options.method not_collapsed (λ x. absurd x) t
 
   pub plain_conflicts : options.stop_after ≡ 0 → (error : TableConstructionError Bits) → HasConflictsOf (Collapses g options) options.stop_after g start error → HasConflictsOf ⊥ 0 g start error
   plain_conflicts whole error f = subst (λ (n : ℕ). HasConflictsOf ⊥ n g start error) whole (Failure-where g start options.stop_after (Collapses g options) ⊥ not_collapsed (λ x. absurd x) (Conflicts error) f)

@@ -13,16 +13,16 @@ use Rattle.lalrpop_tables.specs.Words.{Collapses, AreTablesOf, FailsOn}
 use Rattle.lalrpop_tables.specs.declared.build.options.Options.{Options}
 use Rattle.lalrpop_lr1.specs.Words.{report_text}
 use Rattle.lrtab_run.specs.Words.{Report}
-use Rattle.lrtab_run.specs.Shown.{IsTaskShown, most_copies}
+use Rattle.lrtab_run.specs.Shown.{IsTaskShown}
 use Rattle.lrtab_run.proofs.Plain.{plain_tables, plain_conflicts}
 
 inside : {X : Type 0} (x y : X) → Some x ≡ Some y → y ≡ x
 inside x y e = cc
 
 -- the text of a report comes with the status of its outcome
-pub report_shown : {A : Type 0} (options : Options) (g : Grammar) (start : NonterminalString) → g.algorithm.lalr ≡ false → options.stop_after ≡ 0 → options.max_copies ≡ most_copies → (outcome : Result (Vec (State Bits) A) (BuildError Bits)) →
+pub report_shown : {A : Type 0} (options : Options) (g : Grammar) (start : NonterminalString) → g.algorithm.lalr ≡ false → options.stop_after ≡ 0 → (outcome : Result (Vec (State Bits) A) (BuildError Bits)) →
     IfOk outcome (λ tables. AreTablesOf (Collapses g options) options.method options.max_copies g start tables.items) → IfErr outcome (FailsOn (Collapses g options) options.stop_after g start) →
-    (status : ℕ) (text : List ℕ) → report_text (λ (set : Bits). set) g.terminals outcome ≡ Some text → status ≡ cond (is_ok outcome) 0 1 → IsTaskShown options.method g start Report status text
-report_shown options g start plain whole most (Ok states) tables fails status text same ended = inl (record { states = states.items; tables = plain_tables g options plain start most states.items tables; ended = ended; shown = inside _ text same })
-report_shown options g start plain whole most (Err (Conflicts error)) tables fails status text same ended = inr (record { error = error; no_tables = plain_conflicts g options plain start whole error fails; ended = ended; shown = inside _ text same })
-report_shown options g start plain whole most (Err Memory) tables fails status text same ended = absurd (none-some text same)
+    (status : ℕ) (text : List ℕ) → report_text (λ (set : Bits). set) g.terminals outcome ≡ Some text → status ≡ cond (is_ok outcome) 0 1 → IsTaskShown options.method options.max_copies g start Report status text
+report_shown options g start plain whole (Ok states) tables fails status text same ended = inl (record { states = states.items; tables = plain_tables g options plain start states.items tables; ended = ended; shown = inside _ text same })
+report_shown options g start plain whole (Err (Conflicts error)) tables fails status text same ended = inr (record { error = error; no_tables = plain_conflicts g options plain start whole error fails; ended = ended; shown = inside _ text same })
+report_shown options g start plain whole (Err Memory) tables fails status text same ended = absurd (none-some text same)

@@ -15,10 +15,10 @@ use Rattle.lalrpop_lr1.specs.declared.headline.parse_error.ParseError.{ParseErro
 use Rattle.lalrpop_lr1.specs.declared.headline.parse_error.ParseError.TheVariants.{Conflicts, Refused as RefusedAt, Limit as LimitTold, Memory}
 use Rattle.lalrpop_lr1.specs.declared.interpret.tree.ParseTree.{ParseTree}
 use Rattle.lrtab_run.specs.Words.{Parse}
-use Rattle.lrtab_run.specs.Shown.{IsTextOf, IsParseShown, IsCountShown, IsTaskShown, most_copies}
+use Rattle.lrtab_run.specs.Shown.{IsTextOf, IsParseShown, IsCountShown, IsTaskShown}
 use Rattle.lrtab_run.proofs.Plain.{plain_tables, plain_conflicts}
 
-module _ (g : Grammar) (options : Options) (plain : g.algorithm.lalr ≡ false) (whole : options.stop_after ≡ 0) (most : options.max_copies ≡ most_copies) (start : NonterminalString) (w : List TerminalString) (limit : ℕ) where
+module _ (g : Grammar) (options : Options) (plain : g.algorithm.lalr ≡ false) (whole : options.stop_after ≡ 0) (start : NonterminalString) (w : List TerminalString) (limit : ℕ) where
   -- what the page of the promise says of an answer
   pub record IsPromised (answer : Result ParseTree ParseError) : Type 0 where
     pub parses : IfOk answer (λ tree. IsOnNoRightSide (productions g) start → IsTreeWithin limit w (tree_of tree) (productions g) start)
@@ -28,12 +28,12 @@ module _ (g : Grammar) (options : Options) (plain : g.algorithm.lalr ≡ false) 
     pub conflicts : IfErr answer (IfConflicts (HasConflictsOf (Collapses g options) options.stop_after g start))
 
   answer_shown : (answer : Result ParseTree ParseError) (status : ℕ) (text : List ℕ) → IsPromised answer → IsTextOf answer status text →
-      IsParseShown options.method g start w limit status text ⊎ IsCountShown g start status text
+      IsParseShown options.method options.max_copies g start w limit status text ⊎ IsCountShown g start status text
   answer_shown (Ok tree) status text h shown =
       let r : IsToldByTables g options start w limit (Ok tree) = h.run tt in
       inl (record {
         states = r.tables;
-        tables = plain_tables g options plain start most r.tables r.made;
+        tables = plain_tables g options plain start r.tables r.made;
         run = record {
           outcome = Parsed (tree_of tree);
           run = r.told;
@@ -47,7 +47,7 @@ module _ (g : Grammar) (options : Options) (plain : g.algorithm.lalr ≡ false) 
       let r : IsToldByTables g options start w limit (Err (RefusedAt token)) = h.run tt in
       inl (record {
         states = r.tables;
-        tables = plain_tables g options plain start most r.tables r.made;
+        tables = plain_tables g options plain start r.tables r.made;
         run = record {
           outcome = Refused r.told.0 token;
           run = r.told.1;
@@ -61,7 +61,7 @@ module _ (g : Grammar) (options : Options) (plain : g.algorithm.lalr ≡ false) 
       let r : IsToldByTables g options start w limit (Err LimitTold) = h.run tt in
       inl (record {
         states = r.tables;
-        tables = plain_tables g options plain start most r.tables r.made;
+        tables = plain_tables g options plain start r.tables r.made;
         run = record {
           outcome = Limit;
           run = r.told;
@@ -77,8 +77,8 @@ module _ (g : Grammar) (options : Options) (plain : g.algorithm.lalr ≡ false) 
 
   -- the text of an answer is what a parse shows, also under another name of the tokens
   pub parse_shown : {A : Type 0} (words : List (List ℕ)) → w ≡ map Literal words → (answer : Result ParseTree ParseError) (r : Result (ℕ × String A) OutOfMemory) → IsPromised answer →
-      IfOk r (λ o. IsTextOf answer o.0 (string_bytes o.1)) → IfOk r (λ o. IsTaskShown options.method g start (Parse limit words) o.0 (string_bytes o.1))
+      IfOk r (λ o. IsTextOf answer o.0 (string_bytes o.1)) → IfOk r (λ o. IsTaskShown options.method options.max_copies g start (Parse limit words) o.0 (string_bytes o.1))
   parse_shown words same answer (Ok o) h shown =
-      subst (λ (tokens : List TerminalString). IsParseShown options.method g start tokens limit o.0 (string_bytes o.1) ⊎ IsCountShown g start o.0 (string_bytes o.1)) same
+      subst (λ (tokens : List TerminalString). IsParseShown options.method options.max_copies g start tokens limit o.0 (string_bytes o.1) ⊎ IsCountShown g start o.0 (string_bytes o.1)) same
       (answer_shown answer o.0 (string_bytes o.1) h shown)
   parse_shown words same answer (Err e) h shown = tt

@@ -31,10 +31,6 @@ pub record IsInlining (g h : Grammar) : Type 0 where
   pub unmentioned : (a c : NonterminalString) → IsMarked g c → Mentions h a c → ⊥
   pub terminal_lists : (a : NonterminalString) (w : List TerminalString) → IsSentence (productions g) a w ↔ IsSentence (productions h) a w
 
--- as many states are copied at most
-abbrev pub most_copies : ℕ
-most_copies = 10000
-
 -- ---- a parse
 -- the status and text of an outcome: 0 and a tree, or 1 and a refusal or the limit
 abbrev pub IsOutcomeText : Outcome → ℕ → List ℕ → Type 0
@@ -73,9 +69,9 @@ pub record IsRunShown (g : List Production) (start : NonterminalString) (states 
   pub of_trees : IsOnNoRightSide g start → (t : Tree) → IsParseTree g start tokens t → IsOutcomeFor t limit outcome
 
 -- the tables that the method gives a grammar for a start symbol, and what is shown of a run by them
-pub record IsParseShown (method : Method) (g : Grammar) (start : NonterminalString) (tokens : List TerminalString) (limit status : ℕ) (text : List ℕ) : Type 0 where
+pub record IsParseShown (method : Method) (max_copies : ℕ) (g : Grammar) (start : NonterminalString) (tokens : List TerminalString) (limit status : ℕ) (text : List ℕ) : Type 0 where
   pub states : List (State Bits)
-  pub tables : AreTablesOf ⊥ method most_copies g start states
+  pub tables : AreTablesOf ⊥ method max_copies g start states
   pub run : IsRunShown (productions g) start (contents g.terminals states) tokens limit status text
 
 -- or, for want of tables, how many canonical conflicts there are, with status 1
@@ -87,9 +83,9 @@ pub record IsCountShown (g : Grammar) (start : NonterminalString) (status : ℕ)
 
 -- ---- a report
 -- the report of the tables, with status 0
-pub record IsTablesShown (method : Method) (g : Grammar) (start : NonterminalString) (status : ℕ) (text : List ℕ) : Type 0 where
+pub record IsTablesShown (method : Method) (max_copies : ℕ) (g : Grammar) (start : NonterminalString) (status : ℕ) (text : List ℕ) : Type 0 where
   pub states : List (State Bits)
-  pub tables : AreTablesOf ⊥ method most_copies g start states
+  pub tables : AreTablesOf ⊥ method max_copies g start states
   pub ended : status ≡ 0
   pub shown : text ≡ tables_report (λ (set : Bits). set) g.terminals states
 
@@ -102,9 +98,9 @@ pub record AreConflictsShown (g : Grammar) (start : NonterminalString) (status :
 
 -- ---- an explanation
 -- there are tables, with status 0
-pub record IsFreeShown (method : Method) (g : Grammar) (start : NonterminalString) (status : ℕ) (text : List ℕ) : Type 0 where
+pub record IsFreeShown (method : Method) (max_copies : ℕ) (g : Grammar) (start : NonterminalString) (status : ℕ) (text : List ℕ) : Type 0 where
   pub states : List (State Bits)
-  pub tables : AreTablesOf ⊥ method most_copies g start states
+  pub tables : AreTablesOf ⊥ method max_copies g start states
   pub ended : status ≡ 0
   pub shown : text ≡ line (codes "no conflicts")
 
@@ -116,15 +112,19 @@ pub record IsExplanationShown (g : Grammar) (start : NonterminalString) (status 
   pub shown : IsExplanation (rules_of g) error.states.items error.conflicts.items text
 
 -- ---- what is asked
--- the status and text that a task shows, by the method, of a grammar and start symbol. The tokens are literals
-abbrev pub IsTaskShown : Method → Grammar → NonterminalString → Task → ℕ → List ℕ → Type 0
-IsTaskShown method g start (Parse limit tokens) status text = IsParseShown method g start (map Literal tokens) limit status text ⊎ IsCountShown g start status text
-IsTaskShown method g start Report status text = IsTablesShown method g start status text ⊎ AreConflictsShown g start status text
-IsTaskShown method g start Explain status text = IsFreeShown method g start status text ⊎ IsExplanationShown g start status text
+-- the status and text that a task shows, by the method and with so many copies of states at most, of a grammar and start symbol. The tokens are literals
+abbrev pub IsTaskShown : Method → ℕ → Grammar → NonterminalString → Task → ℕ → List ℕ → Type 0
+IsTaskShown method max_copies g start (Parse limit tokens) status text = IsParseShown method max_copies g start (map Literal tokens) limit status text ⊎ IsCountShown g start status text
+IsTaskShown method max_copies g start Report status text = IsTablesShown method max_copies g start status text ⊎ AreConflictsShown g start status text
+IsTaskShown method max_copies g start Explain status text = IsFreeShown method max_copies g start status text ⊎ IsExplanationShown g start status text
+
+-- as many states are copied at most
+abbrev pub most_copies : ℕ
+most_copies = 10000
 
 -- the status and text that a request shows of a grammar
 abbrev pub IsShown : Method → Grammar → Asked → ℕ → List ℕ → Type 0
-IsShown method g request = IsTaskShown method g (name_of request.start) request.task
+IsShown method g request = IsTaskShown method most_copies g (name_of request.start) request.task
 
 -- and of a grammar whose marked nonterminals are still to be inlined
 pub record IsShownInlined (method : Method) (g : Grammar) (request : Asked) (status : ℕ) (text : List ℕ) : Type 0 where

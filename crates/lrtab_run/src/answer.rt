@@ -5,7 +5,7 @@ ghost use Rattle.lalrpop_base.specs.Words.{IsWellFormed};
 ghost use Rattle.lalrpop_base.specs.declared.repr.TerminalString.TheVariants.{Literal};
 ghost use Rattle.lrtab_run.specs.Words.{Parse, Report, Explain, request_of, request_view};
 ghost use Rattle.lrtab_run.specs.Answers.{file_name, IsAnswer, IsAnswerTo, IsAnswerToGrammar};
-ghost use Rattle.lrtab_run.specs.Shown.{line, IsShown, IsTaskShown, IsTextOf, most_copies};
+ghost use Rattle.lrtab_run.specs.Shown.{line, IsShown, IsTaskShown, IsTextOf};
 
 use crate::explain::explanation;
 use crate::words::{Request, Task, request_of};
@@ -205,9 +205,8 @@ fn parse(
     requires well_formed { IsWellFormed grammar.now }
     requires canonical { grammar.now.algorithm.lalr ≡ false }
     requires whole { options.now.stop_after ≡ 0 }
-    requires copies { options.now.max_copies ≡ most_copies }
-    ensures { IfOk result (λ o. IsTaskShown options.now.method grammar.now start
-        (Parse limit (map string_bytes words.now)) o.0 (string_bytes o.1)) }
+    ensures { IfOk result (λ o. IsTaskShown options.now.method options.now.max_copies
+        grammar.now start (Parse limit (map string_bytes words.now)) o.0 (string_bytes o.1)) }
 {
     let tokens = tokens_of(alloc, words)?;
     let answer = headline::parse(alloc, grammar, start, options, tokens, limit);
@@ -224,9 +223,8 @@ fn report(
     requires well_formed { IsWellFormed grammar.now }
     requires canonical { grammar.now.algorithm.lalr ≡ false }
     requires whole { options.now.stop_after ≡ 0 }
-    requires copies { options.now.max_copies ≡ most_copies }
-    ensures { IfOk result
-        (λ o. IsTaskShown options.now.method grammar.now start Report o.0 (string_bytes o.1)) }
+    ensures { IfOk result (λ o. IsTaskShown options.now.method options.now.max_copies
+        grammar.now start Report o.0 (string_bytes o.1)) }
 {
     let outcome = build_states(alloc, grammar, start, options);
     let status = status_of(&outcome);
@@ -253,9 +251,8 @@ fn explain(
     requires well_formed { IsWellFormed grammar.now }
     requires canonical { grammar.now.algorithm.lalr ≡ false }
     requires whole { options.now.stop_after ≡ 0 }
-    requires copies { options.now.max_copies ≡ most_copies }
-    ensures { IfOk result
-        (λ o. IsTaskShown options.now.method grammar.now start Explain o.0 (string_bytes o.1)) }
+    ensures { IfOk result (λ o. IsTaskShown options.now.method options.now.max_copies
+        grammar.now start Explain o.0 (string_bytes o.1)) }
 {
     match build_states(alloc, grammar, start, options) {
         Ok(_) => Ok((0, String::from_str(alloc, "no conflicts\n")?)),

@@ -1,5 +1,5 @@
 -- What a state with the right dotted productions leads over and reduces by, and which tokens can stand next: from the definitions of valid and of states.
-use Rattle.std.proofs.Common.{◌≡◌, ◌↔◌, ℕ, inl, inr, List, [], ◌∷◌, length, sym, subst, ap, ◌∙◌, Some, refl}
+use Rattle.std.proofs.Common.{◌≡◌, ◌↔◌, ℕ, inl, inr, List, length, sym, subst, ap, ◌∙◌, Some, refl}
 use Rattle.std.specs.Prelude.{Contains, slice_get}
 use Rattle.std.proofs.lemmas.Bool.{cases_order}
 use Rattle.lalrpop_base.specs.declared.repr.NonterminalString.{NonterminalString}

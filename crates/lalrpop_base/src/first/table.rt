@@ -30,6 +30,7 @@ pub(super) fn first_by(
     for symbol in symbols {
         match symbol {
             Symbol::Terminal(terminal) => {
+                let _all = terminals.all();
                 let bit = terminals.bit(terminal).unwrap();
                 set.insert_bit(bit)?;
                 return Ok(set);

@@ -1,5 +1,5 @@
 //! The tokens of a set.
-ghost use Rattle.std.specs.Prelude.{◌≡◌, ◌≢◌, ◌+◌, ◌<◌, ◌≤◌, ◌↔◌, ℕ, List, length, map, IsTrue, IfOk, OnOk, OnErr, not, MatchBool, IfSome, IsSome, Some, nat_le, IsFalse, ◌==◌, ◌&&◌};
+ghost use Rattle.std.specs.Prelude.{◌≡◌, ◌≢◌, ◌+◌, ◌^◌, ◌<◌, ◌≤◌, ◌↔◌, ℕ, List, length, map, IsTrue, IfOk, OnOk, OnErr, not, MatchBool, IfSome, IsSome, Some, nat_le, IsFalse, ◌==◌, ◌&&◌};
 ghost use Rattle.lalrpop_base.specs.Bits.{Bits, no_bits, has, rising, with_bit, join};
 ghost use Rattle.lalrpop_base.specs.Tokens.{IsBitOf, HasToken, IsKnown, FitsTokens, token_of};
 
@@ -14,6 +14,7 @@ fn bit_of(token: &Token, terminals: &TerminalSet) -> Option<usize>
     ensures found { IfSome result (IsBitOf terminals.now token.now) }
     ensures only { (bit : ℕ) → IsBitOf terminals.now token.now bit → result ≡ Some bit }
     ensures known { IsKnown terminals.now token.now → IsSome result }
+    ensures small { IfSome result (λ bit. bit < 2 ^ 63) }
 {
     let count = terminals.all().len();
     match token {
@@ -64,18 +65,12 @@ impl TokenSet {
     pub fn fits(&self, terminals: &TerminalSet) -> bool
         ensures { IsTrue result ↔ FitsTokens terminals.now self.now }
     {
-        let most = terminals.all().len() + 1;
-        for bit in self.bits() {
-            if *bit > most {
-                return false;
-            }
-        }
-        true
+        !self.has_greater_bit(terminals.all().len() + 1)
     }
 
     /// The tokens by rising bit.
     pub fn iter<'a>(&'a self, terminals: &'a TerminalSet) -> TokenSetIter<'a>
-        ensures { map (token_of result.terminals.now) result.bits.now ≡ map (token_of terminals.now)
+        ensures { map (token_of result.terminals.now) result.bits ≡ map (token_of terminals.now)
             (rising self.now) }
     {
         TokenSetIter {
@@ -87,7 +82,7 @@ impl TokenSet {
     pub fn len(&self) -> usize
         ensures { result ≡ length (rising self.now) }
     {
-        self.bits().len()
+        self.bits().count()
     }
 }
 

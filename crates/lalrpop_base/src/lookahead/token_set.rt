@@ -1,5 +1,5 @@
 //! Sets of tokens.
-ghost use Rattle.std.specs.Prelude.{◌≡◌, ◌+◌, ◌<◌, ◌≤◌, ◌==◌, ◌↔◌, ℕ, List, length, slice_index, IsTrue, IfOk, OnOk, OnErr, not, MatchBool, ◌≢◌, ◌&&◌, IsFalse, nat_lt, ⊤, refl};
+ghost use Rattle.std.specs.Prelude.{◌≡◌, ◌+◌, ◌<◌, ◌≤◌, ◌^◌, ◌==◌, ◌↔◌, ℕ, List, length, slice_index, IsTrue, IfOk, OnOk, OnErr, not, MatchBool, ◌≢◌, ◌&&◌, IsFalse, false, nat_lt, ⊤, refl};
 ghost use Rattle.std.specs.Ordering.{nat_cmp, on, as_partial_cmp};
 ghost use Rattle.std.specs.Cmp.{partial_order_from_own_ties};
 ghost use Rattle.std.specs.Cmp.Rules.{comparing, hashing};
@@ -7,9 +7,12 @@ ghost use Rattle.std.specs.Cmp.Lexicographic.{slice_cmp};
 ghost use Rattle.std.specs.Hash as fed;
 ghost use Rattle.std.proofs.Common.{rules};
 ghost use lib.Pointwise.{pointwise};
-ghost use Rattle.lalrpop_base.specs.Bits.{IsRising, no_bits, has, rising, with_bit, join, bits_exact};
+ghost use Rattle.lalrpop_base.specs.Bits.{no_bits, has, rising, with_bit, join, bits_exact};
+ghost use Rattle.lalrpop_base.specs.BitVectors.{IsBitVector, bits_of_words};
 
-use super::rising::{common, has_all, have_common, merged, numbers_below, search};
+use super::bit_iter::BitIter;
+use super::word_changes::{join_words, meet_words, pad, put, take, trim, words_below};
+use super::words::{compare, has_greater, has_number, share_number};
 use crate::exact::Exact;
 use crate::memory::OutOfMemory;
 use std::alloc::Global;
@@ -18,25 +21,26 @@ use std::fmt;
 use std::hash::{Hash, Hasher};
 use std::marker::Model;
 
-/// A set of tokens, by their bits.
+/// A set of tokens, by their bits: bit n is bit n % 64 of word n / 64, and the last word is not 0.
 #[derive(Drop)]
 pub struct TokenSet {
-    bits: Vec<usize>,
+    words: Vec<u64>,
 }
 
 impl Model for TokenSet {
     ghost use Rattle.std.specs.Coded.{coded_ℕ};
     ghost use base.Stored.{coded_unit};
     ghost use Rattle.std.specs.FinMap as finite;
-    ghost use Rattle.lalrpop_base.specs.Bits.{Bits, IsRising, bits_of};
+    ghost use Rattle.lalrpop_base.specs.Bits.{Bits};
+    ghost use Rattle.lalrpop_base.specs.BitVectors.{IsBitVector, bits_of_words};
 
     ghost Value = { Bits };
 
     ghost coded = { finite.code coded_ℕ coded_unit };
 
-    ghost view = { λ s. bits_of s.bits.items };
+    ghost view = { λ s. bits_of_words s.words.items };
 
-    ghost invariant = { λ s. IsRising s.bits.items };
+    ghost invariant = { λ s. IsBitVector s.words.items };
 }
 
 impl TokenSet {
@@ -44,39 +48,56 @@ impl TokenSet {
         ensures { result ≡ no_bits }
     {
         TokenSet {
-            bits: Vec::new(alloc),
+            words: Vec::new(alloc),
         }
     }
 
-    // The bits, rising.
-    pub(crate) fn bits(&self) -> &[usize]
-        ensures items { result.now ≡ rising self.now }
-        ensures rising { IsRising result.now }
+    // The words.
+    fn words(&self) -> &[u64]
+        ensures view { bits_of_words result.now ≡ self.now }
+        ensures is { IsBitVector result.now }
     {
-        &self.bits
+        &self.words
+    }
+
+    // The bits, rising.
+    pub(crate) fn bits(&self) -> BitIter<'_>
+        ensures items { result ≡ rising self.now }
+        ensures small { length result ≤ 2 ^ 63 }
+    {
+        BitIter::new(self.words())
     }
 
     pub(crate) fn contains_bit(&self, bit: usize) -> bool
-        ensures { result ≡ has self.now bit }
+        ensures has { result ≡ has self.now bit }
+        ensures small { IsTrue result → bit < 2 ^ 63 }
     {
-        search(&self.bits, bit).is_ok()
+        has_number(self.words(), bit)
+    }
+
+    // Whether a bit of the set is greater than one.
+    pub(crate) fn has_greater_bit(&self, bit: usize) -> bool
+        ensures yes { IsTrue result → (q : ℕ) × (bit < q) × IsTrue (has self.now q) }
+        ensures no { IsFalse result → (q : ℕ) → bit < q → has self.now q ≡ false }
+    {
+        has_greater(self.words(), bit)
     }
 
     // Adds a bit where it belongs, and tells whether the set grew.
     pub(crate) fn insert_bit(&mut self, bit: usize) -> Result<bool, OutOfMemory>
+        requires { bit < 2 ^ 63 }
         ensures inserted { OnOk result (self.new ≡ with_bit self.old bit) }
         ensures grew { IfOk result (λ grew. grew ≡ not (has self.old bit)) }
         ensures told { IfOk result
             (λ grew. MatchBool grew (self.new ≢ self.old) (self.new ≡ self.old)) }
         ensures err { OnErr result (self.new ≡ self.old) }
     {
-        match search(&self.bits, bit) {
-            Ok(_) => Ok(false),
-            Err(place) => {
-                self.bits.insert(place, bit)?;
-                Ok(true)
-            }
+        if self.contains_bit(bit) {
+            return Ok(false);
         }
+        pad(&mut self.words, bit / 64 + 1)?;
+        put(&mut self.words, bit);
+        Ok(true)
     }
 
     // Takes a bit out, and tells whether it was there.
@@ -84,13 +105,12 @@ impl TokenSet {
         ensures was { result ≡ has self.old bit }
         ensures left { (q : ℕ) → has self.new q ≡ (has self.old q && not (q == bit)) }
     {
-        match search(&self.bits, bit) {
-            Ok(place) => {
-                self.bits.remove(place);
-                true
-            }
-            Err(_) => false,
+        if !self.contains_bit(bit) {
+            return false;
         }
+        take(&mut self.words, bit);
+        trim(&mut self.words);
+        true
     }
 
     /// Adds the bits of another set, and tells whether this one grew.
@@ -100,21 +120,17 @@ impl TokenSet {
             (λ grew. MatchBool grew (self.new ≢ self.old) (self.new ≡ self.old)) }
         ensures err { OnErr result (self.new ≡ self.old) }
     {
-        if has_all(self.bits(), other.bits()) {
-            return Ok(false);
-        }
-        let alloc = *self.bits.allocator();
-        self.bits = merged(alloc, self.bits(), other.bits())?;
-        Ok(true)
+        pad(&mut self.words, other.words.len())?;
+        Ok(join_words(&mut self.words, &other.words))
     }
 
     /// The bits that are in both sets.
     pub fn intersection(&self, alloc: Global, other: &TokenSet) -> Result<TokenSet, OutOfMemory>
         ensures { IfOk result (λ both. (q : ℕ) → has both q ≡ (has self.now q && has other.now q)) }
     {
-        Ok(TokenSet {
-            bits: common(alloc, self.bits(), other.bits())?,
-        })
+        let mut words = meet_words(alloc, self.words(), other.words())?;
+        trim(&mut words);
+        Ok(TokenSet { words })
     }
 
     /// Whether no bit is in both sets.
@@ -127,7 +143,7 @@ impl TokenSet {
         ensures no { IsFalse result →
             (bit : ℕ) × IsTrue (has self.now bit) × IsTrue (has other.now bit) }
     {
-        !have_common(self.bits(), other.bits())
+        !share_number(self.words(), other.words())
     }
 
     /// Whether a bit is in both sets.
@@ -147,7 +163,7 @@ impl TokenSet {
     pub fn reserve(&mut self, len: usize) -> Result<(), OutOfMemory>
         ensures { self.new ≡ self.old }
     {
-        self.bits.reserve(len)?;
+        self.words.reserve(len / 64 + 1)?;
         Ok(())
     }
 
@@ -155,12 +171,13 @@ impl TokenSet {
         ensures { IfOk result (λ copy. copy ≡ self.now) }
     {
         Ok(TokenSet {
-            bits: Vec::from_slice(alloc, &self.bits)?,
+            words: Vec::from_slice(alloc, &self.words)?,
         })
     }
 
     // The set of one bit.
     pub(crate) fn single(alloc: Global, bit: usize) -> Result<TokenSet, OutOfMemory>
+        requires { bit < 2 ^ 63 }
         ensures { IfOk result (λ set. set ≡ with_bit no_bits bit) }
     {
         let mut set = TokenSet::empty_set(alloc);
@@ -170,10 +187,11 @@ impl TokenSet {
 
     // The set of the numbers below a count.
     pub(crate) fn below(alloc: Global, count: usize) -> Result<TokenSet, OutOfMemory>
+        requires { count ≤ 2 ^ 63 }
         ensures { IfOk result (λ set. (bit : ℕ) → has set bit ≡ nat_lt bit count) }
     {
         Ok(TokenSet {
-            bits: numbers_below(alloc, count)?,
+            words: words_below(alloc, count)?,
         })
     }
 }
@@ -184,7 +202,7 @@ impl PartialEq for TokenSet {
     ghost laws = { Prim.search (comparing, rules) };
 
     fn eq(&self, other: &TokenSet) -> bool {
-        self.bits() == other.bits()
+        self.words() == other.words()
     }
 }
 
@@ -206,7 +224,7 @@ impl Ord for TokenSet {
     ghost matches_eq = { Prim.search (comparing, rules) };
 
     fn cmp(&self, other: &TokenSet) -> Ordering {
-        self.bits().cmp(other.bits())
+        compare(self.words(), other.words())
     }
 }
 
@@ -227,12 +245,15 @@ impl Hash for TokenSet {
     ghost respects_eq = { Prim.search (hashing, rules) };
 
     fn hash<H: Hasher>(&self, state: &mut H) {
-        self.bits().hash(state);
+        state.write_usize(self.len());
+        for bit in self.bits() {
+            state.write_usize(bit);
+        }
     }
 }
 
 impl fmt::Debug for TokenSet {
     fn fmt<W: fmt::Write>(&self, f: &mut fmt::Formatter<W>) -> fmt::Result {
-        fmt::Debug::fmt(self.bits(), f)
+        f.debug_list().entries(self.bits()).finish()
     }
 }

@@ -4,13 +4,14 @@ mod context_sets;
 mod copies;
 mod walk;
 
-ghost use Rattle.std.specs.Prelude.{◌≡◌, ◌<◌, ◌↔◌, ℕ, Bool, true, false, List, length, slice_get, Some, Contains, IfOk, IsTrue, OnOk, IfErr};
+ghost use Rattle.std.specs.Prelude.{◌≡◌, ◌<◌, ◌≤◌, ◌↔◌, ℕ, Bool, true, false, List, length, slice_get, Some, Contains, IfOk, IsTrue, OnOk, IfErr};
 ghost use Rattle.std.specs.Map.{keys_of};
 ghost use Rattle.lalrpop_base.specs.Words.{Bits, AreCoherent, contents, IsCopying};
 ghost use Rattle.lalrpop_base.specs.declared.lr1_core.state.State.{State};
 ghost use Rattle.lalrpop_base.specs.declared.lr1_core.state.StateIndex.{StateIndex as Number};
 ghost use Rattle.lalrpop_base.specs.declared.repr.TerminalString.{TerminalString as Terminal};
 ghost use Rattle.lalrpop_tables.specs.Contexts.{AreDisjoint};
+ghost use Rattle.lalrpop_tables.specs.GraphCopies.{FollowsCopies};
 ghost use Rattle.lalrpop_tables.specs.LaneTables.{HasRow, IsClosed, IsRow};
 ghost use Rattle.lalrpop_tables.specs.Merges.{Advances, AreCopies, HasWalked, IsMergeError, IsMerging, IsPatchable, IsResolvedCopy, TookOwnColumns};
 ghost use Rattle.lalrpop_tables.specs.Renumbered.{number_in};
@@ -20,6 +21,7 @@ use self::context_sets::ContextSets;
 use self::copies::own_numbers;
 use crate::lane_table::context_set::{ContextSet, are_among};
 use crate::lane_table::table::LaneTable;
+use crate::state_graph::StateGraph;
 use lalrpop_base::collections::{Map, Set};
 use lalrpop_base::lr1_core::state::{Action, Lr1State, StateIndex};
 use lalrpop_base::memory::OutOfMemory;
@@ -53,6 +55,7 @@ pub struct Merge<'table, 'grammar> {
     states: Vec<Lr1State<'grammar>>,
     inconsistent_state: StateIndex,
     copies_left: usize,
+    first_copy: usize,
     originals: Vec<usize>,
     visited: Vec<bool>,
     context_sets: ContextSets,
@@ -92,6 +95,7 @@ impl<'table, 'grammar> Merge<'table, 'grammar> {
             states,
             inconsistent_state,
             copies_left,
+            first_copy: count,
             originals,
             visited,
             context_sets,
@@ -165,6 +169,21 @@ impl<'table, 'grammar> Merge<'table, 'grammar> {
         ensures { result ≡ self.now.copies_left }
     {
         self.copies_left
+    }
+
+    /// Makes the graph of so many states that were handed in that of the states as they stand.
+    pub(super) fn update_graph(
+        &self,
+        alloc: Global,
+        graph: &mut StateGraph,
+        count: usize,
+    ) -> Result<(), OutOfMemory>
+        requires { count ≤ length self.now.states.items }
+        ensures { OnOk result (FollowsCopies count self.now.originals.items self.now.states.items
+            self.now.states.items graph.old graph.new) }
+    {
+        graph.follow_copies(alloc, &self.states, &self.originals, count)?;
+        Ok(())
     }
 
     /// The states, copies behind all others.

@@ -15,7 +15,6 @@ use super::merge::{Merge, MergeError};
 use crate::lane_table::context_set::ContextSet;
 use crate::lane_table::table::LaneTable;
 use crate::lane_table::table::rows::RowsError;
-use crate::state_graph::StateGraph;
 use lalrpop_base::collections::{Map, Set};
 use lalrpop_base::lr1_core::state::{Action, StateIndex};
 use lalrpop_base::memory::OutOfMemory;
@@ -56,6 +55,7 @@ fn merge_states<'grammar>(
     state: StateIndex,
 ) -> Result<(Copying<'grammar>, bool), OutOfMemory>
     requires coherent { AreCoherent copying.states.items }
+    requires graph { IsGraphOf (edges copying.states.items) copying.graph }
     requires closed { IsClosed (length copying.states.items) table.now }
     requires rows { (state : Number) →
         Contains (keys_of rows.entries) state ↔ HasRow table.now state }
@@ -69,12 +69,14 @@ fn merge_states<'grammar>(
     ensures copied { IfOk result (λ answer. IsCopied copying.entry answer.0) }
 {
     let beachheads = table.beachhead_states(alloc)?;
+    let count = copying.states.len();
     let left = copying.copies_left;
+    let mut graph = copying.graph;
     let mut merge = Merge::new(alloc, table, rows, copying.states, state, left)?;
     let resolved = walk_and_patch(alloc, &mut merge, &beachheads, actions)?;
+    merge.update_graph(alloc, &mut graph, count)?;
     let copies_left = merge.copies_left();
     let states = merge.into_states();
-    let graph = StateGraph::new(alloc, &states)?;
     let copying = Copying {
         states,
         graph,

@@ -5,7 +5,7 @@ use Rattle.lrtab_run.proofs.answer.explain.Goals as goal
 
 pub returns-in-Ok : goal.returns-in-Ok
 returns-in-Ok c =
-    let tables = plain_tables c.args.grammar.now c.args.options.now c.requires.canonical c.args.start c.requires.copies c.in-Ok.field-0.items c.in-Ok.ensures.tables in
+    let tables = plain_tables c.args.grammar.now c.args.options.now c.requires.canonical c.args.start c.in-Ok.field-0.items c.in-Ok.ensures.tables in
     inl (record { states = c.in-Ok.field-0.items; tables = tables; ended = refl; shown = search (rules, c.in_ok-from_str-in-Ok.ensures.ok) })
 
 pub explanation-requires-clause-states : goal.explanation-requires-clause-states

@@ -1,4 +1,4 @@
-use Rattle.std.proofs.Common.{◌≡◌, ℕ, ◌∙◌, ap, subst}
+use Rattle.std.proofs.Common.{ℕ, ◌∙◌, ap, subst}
 use Rattle.std.specs.BTreeMap.{insert_entry}
 use Rattle.lalrpop_base.specs.Words.{same_production, start_production, IsEntryOf, name_cmp, productions}
 use Rattle.lalrpop_base.specs.declared.repr.ActionFn.{ActionFn}

@@ -1,4 +1,4 @@
-use Rattle.std.proofs.Common.{◌≡◌, refl, arith, inl, inr, subst, sym, ap, ◌∙◌, length, Contains, false, true}
+use Rattle.std.proofs.Common.{◌≡◌, refl, arith, inl, inr, subst, sym, ap, ◌∙◌, length, Contains}
 use Rattle.std.specs.Prelude.{slice_get, Some}
 use Rattle.std.proofs.lemmas.Bool.{false≢true}
 use Rattle.std.proofs.lemmas.Option.{slice_get_within, slice_get_read}

@@ -1,5 +1,4 @@
 use Rattle.std.proofs.Common.{rules, ◌≡◌, refl, sym, subst, List}
-use Rattle.std.specs.List.{flat_map}
 use Rattle.lalrpop_base.specs.Words.{IsOnNoRightSide}
 use Rattle.lalrpop_base.specs.declared.repr.NonterminalString.{NonterminalString}
 use Rattle.lalrpop_base.specs.declared.repr.grammar.NonterminalData.{NonterminalData}

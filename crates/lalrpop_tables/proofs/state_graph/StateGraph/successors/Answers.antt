@@ -1,7 +1,9 @@
-use Rattle.std.proofs.Common.{reverse, ap, refl}
-use Rattle.lalrpop_tables.proofs.StateGraphs.{got, got_none}
+use Rattle.std.proofs.Common.{List, reverse, ap, ◌∙◌}
+use Rattle.std.specs.declared.alloc.Global.{Global}
+use Rattle.std.specs.declared.vec.Vec.{Vec}
+use Rattle.lalrpop_base.specs.declared.lr1_core.state.StateIndex.{StateIndex}
+use Rattle.lalrpop_tables.specs.Words.{list_at}
 use Rattle.lalrpop_tables.proofs.state_graph.StateGraph.successors.Goals as goal
-use Rattle.lalrpop_tables.proofs.state_graph.StateGraph.successors.Goals.{in-Some, in-None}
 
 pub returns : goal.returns
-returns c = record { targets = elim c.match-get.branch [ in-Some w ↦ ap reverse (got _ _ _ _ w.result-is w.as_slice.ensures.value w.in-Some.ensures) | in-None w ↦ ap reverse (got_none _ _ _ w.result-is refl w.in-None.ensures) ] }
+returns c = record { targets = ap reverse (c.list_of.ensures ∙ ap (λ (lists : List (Vec StateIndex Global)). list_at lists c.args.state.0) c.deref.ensures.value) }

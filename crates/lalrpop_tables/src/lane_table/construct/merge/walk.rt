@@ -75,8 +75,9 @@ impl<'table, 'grammar> Merge<'table, 'grammar> {
         ensures joined { IfOk result (IsJoinedIfAny state successor self.new) }
         ensures same { self.new ≡ record self.old { context_sets = self.new.context_sets } }
     {
+        let first = self.first_copy;
         let count = self.originals.len();
-        for index in 0..count {
+        for index in first..count {
             if self.joins_copy(alloc, state, successor, index)? {
                 return Ok(Some(StateIndex(index)));
             }

@@ -1,17 +1,20 @@
-use Rattle.std.proofs.Common.{◌∙◌, ◌++◌, suc, take, drop, List, ℕ, ap, sym, subst}
-use Rattle.lalrpop_base.specs.Words.{IsRising, bits_of}
-use Rattle.lalrpop_base.proofs.RisingLemmas.{is_rising, remove_rises, rises_from_start, removed_has}
+use Rattle.std.proofs.Common.{◌≡◌, ◌∙◌, ℕ, List, take, drop, ◌++◌, length, slice_index, sym, ap, arith, true}
+use Rattle.std.proofs.lemmas.List.{with_items_is}
+use Rattle.lalrpop_base.specs.BitVectors.{bits_of_words, has_bit}
+use Rattle.lalrpop_base.proofs.BitVectorLemmas.{has_bit-within}
+use Rattle.lalrpop_base.proofs.TokenSetLemmas.{seen_at, taken_set}
 use Rattle.lalrpop_base.proofs.lookahead.token_set.TokenSet.take_bit.Goals as goal
 
-pub invariant_of-self : goal.invariant_of-self
-invariant_of-self c =
-    let up : IsRising (take c.in-Ok.place c.self.inside.bits.items ++ drop (suc c.in-Ok.place) c.self.inside.bits.items) =
-    is_rising 0 _ (remove_rises 0 c.self.inside.bits.items c.in-Ok.place (rises_from_start _ c.self.invariant)) in
-    rw c.remove.ensures.items up
+pub take-requires : goal.take-requires
+take-requires c =
+    let xs = c.self.inside.words.items in
+    let there : has_bit xs c.args.bit ≡ true = seen_at xs c.args.self.now c.args.bit c.self.view_is ∙ sym c.if-not-contains_bit.ensures.has in
+    omega (arith, has_bit-within xs c.args.bit there, ap length c.deref_mut.ensures.value)
 
-pub returns-in-Ok-clause-left : goal.returns-in-Ok-clause-left
-returns-in-Ok-clause-left c =
-    let P : List ℕ → Type 0 = λ xs. IsRising xs in
-    let up : IsRising c.deref.result.now = subst P (sym c.deref.ensures.value) c.self.invariant in
-    removed_has c.deref.result.now c.remove.new.self.items c.args.self.now c.in-Ok.place c.args.bit up (ap bits_of c.deref.ensures.value ∙ c.self.view_is) c.in-Ok.ensures.found
-    (c.remove.ensures.items ∙ ap (λ (xs : List ℕ). take c.in-Ok.place xs ++ drop (suc c.in-Ok.place) xs) (sym c.deref.ensures.value))
+pub returns-clause-left : goal.returns-clause-left
+returns-clause-left c =
+    let ds = c.deref_mut.result.now in
+    let ys = c.take.new.words in
+    let whole : take c.self.inside.words.len (ys ++ drop (length ys) c.self.inside.words.items) ≡ ys = with_items_is c.self.inside.words ys (omega (arith, c.take.ensures.len, c.deref_mut.ensures.len)) in
+    taken_set ds ys c.trim.new.words.items c.args.self.now c.args.bit (ap bits_of_words c.deref_mut.ensures.value ∙ c.self.view_is) c.take.ensures.taken
+    (λ k. c.trim.ensures.same k ∙ ap (λ (ws : List ℕ). slice_index ws k) whole)

@@ -8,4 +8,4 @@ use Rattle.lalrpop_lr1.proofs.report.printer.TokenSetLookaheadPrinter.print.Give
 abbrev pub invariant-loop-token : goal.invariant-loop-token
 invariant-loop-token g l =
     (done : List ℕ) × WritesInCalls g.W.Write.write_str_gives l.initial.out done l.out
-    × (done ++ tokens_text (map (token_of l.token-iterator.terminals.now) l.token-iterator.bits.now) ≡ tokens_text (tokens_in l.terminals l.self))
+    × (done ++ tokens_text (map (token_of l.token-iterator.terminals.now) l.token-iterator.bits) ≡ tokens_text (tokens_in l.terminals l.self))

@@ -1,0 +1,14 @@
+use Rattle.std.proofs.Common.{◌≡◌, ap}
+use Rattle.lalrpop_base.specs.declared.repr.Symbol.TheVariants.{Nonterminal}
+use Rattle.lalrpop_tables.specs.Words.{edge, goto_edges}
+use Rattle.lalrpop_tables.proofs.GraphCopies.{following_start, following_more, following_end}
+use Rattle.lalrpop_tables.proofs.state_graph.StateGraph.follow_gotos.Goals as goal
+
+pub loop-name-init : goal.loop-name-init
+loop-name-init c = let same : c.into_iter-name-iterator.result ≡ c.args.gotos.now.entries = cc in rw same (following_start c.args.originals.now _ c.args.self.now)
+
+pub loop-name-preserved : goal.loop-name-preserved
+loop-name-preserved c = following_more c.args.originals.now _ _ _ _ _ _ _ _ (ap (goto_edges c.args.source) c.in-Some.ensures.steps) (ap (λ x. edge c.args.source (Nonterminal x) c.in-Some.target.now) c.in_ok-clone.ensures) c.loop-name.invariant c.in_ok-follow_edge.ensures
+
+pub returns : goal.returns
+returns c = following_end c.args.originals.now _ _ _ _ (ap (goto_edges c.args.source) c.in-None.ensures.steps.0) c.loop-name.invariant

@@ -1,7 +1,0 @@
-use Rattle.std.proofs.Common.{take}
-use Rattle.lalrpop_tables.specs.Words.{IsGraphOf, edges}
-use Rattle.lalrpop_tables.proofs.state_graph.StateGraph.new.Given as goal
-
--- the graph has the edges of the states so far
-abbrev pub invariant-loop-number : goal.invariant-loop-number
-invariant-loop-number g l = IsGraphOf (edges (take l.number l.states)) l.graph
