@@ -8,7 +8,7 @@ pub mod lookahead_build;
 pub mod lr;
 mod lr0;
 mod numbered;
-mod numbers;
+pub(crate) mod numbers;
 pub mod options;
 mod reductions;
 pub(crate) mod results;

@@ -1,0 +1,36 @@
+//! The lookahead sets of the reductions of a state.
+use super::begun::empty_sets;
+use lalrpop_base::lookahead::token_set::TokenSet;
+use lalrpop_base::memory::OutOfMemory;
+use lalrpop_base::repr::terminals::TerminalSet;
+use std::alloc::Global;
+
+// Joins a follow set to the sets of the reductions by an item.
+fn join_found(
+    found: &TokenSet,
+    item: usize,
+    reductions: &[usize],
+    unions: &mut Vec<TokenSet>,
+) -> Result<(), OutOfMemory> {
+    for place in 0..reductions.len() {
+        if reductions[place] == item {
+            unions[place].union_with(found)?;
+        }
+    }
+    Ok(())
+}
+
+/// For each reduction the union of the follow sets of the nodes that stand with its item.
+pub(super) fn unions_of(
+    alloc: Global,
+    terminals: &TerminalSet,
+    follow: &[TokenSet],
+    reductions: &[usize],
+    lookback: &[(usize, usize)],
+) -> Result<Vec<TokenSet>, OutOfMemory> {
+    let mut unions = empty_sets(alloc, terminals, reductions.len())?;
+    for entry in lookback {
+        join_found(&follow[entry.1], entry.0, reductions, &mut unions)?;
+    }
+    Ok(unions)
+}
