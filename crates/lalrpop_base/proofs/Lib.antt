@@ -11,7 +11,10 @@ pub mod BitCounts
 pub mod FirstNames
 pub mod FirstTables
 pub mod FirstMeaning
-pub mod FirstPasses
+pub mod FirstQueues
+pub mod FirstNumbers
+pub mod FirstUses
+pub mod FirstTurns
 pub mod FirstFixpoint
 pub mod PlaceLemmas
 pub mod ContentsViews
@@ -25,3 +28,4 @@ pub mod DotLemmas
 pub mod Settled
 pub mod KernelLemmas
 pub mod NewStart
+pub mod Spreading

@@ -1,16 +1,15 @@
--- Tables of sets of tokens by name, and how they grow until they are the first sets.
-use Rattle.std.specs.Prelude.{◌≡◌, ◌≢◌, ℕ, ◌<◌, ◌≤◌, ◌⊎◌, Bool, true, false, cond, ◌&&◌, ◌||◌, ◌==◌, not, List, [], ◌∷◌, length, slice_get, Some, unwrap_or, IsSome, Contains, sum_by, map}
+-- Tables of sets of tokens by name, and what they give for lists of symbols.
+use Rattle.std.specs.Prelude.{◌≡◌, ◌≢◌, ℕ, ◌≤◌, ◌⊎◌, Bool, true, ◌&&◌, ◌||◌, ◌==◌, not, List, [], ◌∷◌, length, slice_get, Some, unwrap_or, Contains}
 use Rattle.std.specs.BTreeMap.{is_at}
-use Rattle.std.specs.Map.{lookup, keys_of, values_of}
+use Rattle.std.specs.Map.{lookup}
 use Rattle.lalrpop_base.specs.declared.repr.NonterminalString.{NonterminalString}
 use Rattle.lalrpop_base.specs.declared.repr.TerminalString.{TerminalString}
 use Rattle.lalrpop_base.specs.declared.repr.Symbol.{Symbol}
 use Rattle.lalrpop_base.specs.declared.repr.Symbol.TheVariants.{Nonterminal, Terminal}
 use Rattle.lalrpop_base.specs.declared.repr.Production.{Production}
-use Rattle.lalrpop_base.specs.declared.repr.grammar.NonterminalData.{NonterminalData}
-use Rattle.lalrpop_base.specs.Bits.{Bits, has, rising, no_bits, join}
+use Rattle.lalrpop_base.specs.Bits.{Bits, has, no_bits}
 use Rattle.lalrpop_base.specs.Grammar.{IsFirst, IsNullable}
-use Rattle.lalrpop_base.specs.WellFormed.{name_cmp, HasKnownTerminals}
+use Rattle.lalrpop_base.specs.WellFormed.{name_cmp}
 
 -- sets of tokens, each under a name
 abbrev pub Table : Type 0
@@ -30,21 +29,10 @@ Gives terminals table [] bit = bit ≡ length terminals
 Gives terminals table (Terminal t ∷ l) bit = slice_get terminals bit ≡ Some t
 Gives terminals table (Nonterminal a ∷ l) bit = ((is_in table a bit ≡ true) × (bit ≢ length terminals)) ⊎ ((is_in table a (length terminals) ≡ true) × Gives terminals table l bit)
 
--- the set of the name but Eof is joined, and told is whether Eof was in it
-pub record IsNameJoined (told : Bool) (terminals : List TerminalString) (table : Table) (name : NonterminalString) (old new : Bits) : Type 0 where
-  pub nullable : told ≡ is_in table name (length terminals)
-  pub members : (bit : ℕ) → has new bit ≡ ((has old bit || is_in table name bit) && not (bit == length terminals))
-
--- the number of bits in all sets
-abbrev pub weight : Table → ℕ
-weight table = sum_by (λ s. length (rising s)) (values_of table)
-
--- a set is joined with that of the name, and grew is whether the table grew
-pub record IsJoinedAt (grew : Bool) (name : NonterminalString) (set : Bits) (old new : Table) : Type 0 where
-  pub names : keys_of new ≡ keys_of old
-  pub sets : (a : NonterminalString) → set_of new a ≡ cond (is_at (name_cmp name) a) (join (set_of old name) set) (set_of old a)
-  pub same : grew ≡ false → new ≡ old
-  pub more : grew ≡ true → weight old < weight new
+-- a set but Eof, whose bit is the end, is joined to another, and told is whether Eof was in it
+pub record IsSetJoined (told : Bool) (end : ℕ) (found old new : Bits) : Type 0 where
+  pub nullable : told ≡ has found end
+  pub members : (bit : ℕ) → has new bit ≡ ((has old bit || has found bit) && not (bit == end))
 
 -- the table holds only what it should
 pub record IsRight (terminals : List TerminalString) (g : List Production) (table : Table) : Type 0 where
@@ -55,24 +43,3 @@ pub record IsRight (terminals : List TerminalString) (g : List Production) (tabl
 -- the table has for each production what it gives for its right side
 abbrev pub IsClosed : List TerminalString → List Production → Table → Type 0
 IsClosed terminals productions table = (p : Production) (bit : ℕ) → Contains productions p → Gives terminals table p.symbols bit → is_in table p.nonterminal bit ≡ true
-
--- each production adds what the table gives for it, in turn; grew is whether the table grew
-pub record IsPass (terminals : List TerminalString) (productions : List Production) (grew : Bool) (old new : Table) : Type 0 where
-  pub names : keys_of new ≡ keys_of old
-  pub right : (g : List Production) → ((p : Production) → Contains productions p → Contains g p) → IsRight terminals g old → IsRight terminals g new
-  pub same : grew ≡ false → new ≡ old
-  pub closed : grew ≡ false → IsClosed terminals productions old
-  pub more : grew ≡ true → weight old < weight new
-
--- the terminals of the production are known, and its name has a set
-pub record IsReady (terminals : List TerminalString) (table : Table) (p : Production) : Type 0 where
-  pub known : HasKnownTerminals terminals p.symbols
-  pub named : IsSome (lookup (is_at (name_cmp p.nonterminal)) table)
-
--- each of the productions is
-abbrev pub AreReady : List TerminalString → Table → List Production → Type 0
-AreReady terminals table productions = (p : Production) → Contains productions p → IsReady terminals table p
-
--- an empty set for each name
-abbrev pub empty_sets : List (NonterminalString × NonterminalData) → Table
-empty_sets entries = map (λ e. (e.0, no_bits)) entries

@@ -14,7 +14,10 @@ pub mod Exact
 pub mod Failures
 pub mod First
 pub mod FirstSets
+pub mod FirstNumbers
 pub mod FirstTables
+pub mod FirstTurns
+pub mod FirstUses
 pub mod Grammar
 pub mod Items
 pub mod Kernels
@@ -26,10 +29,12 @@ pub mod Names
 pub mod NewStart
 pub mod NilConflicts
 pub mod Places
+pub mod Queues
 pub mod Refusals
 pub mod Renumbering
 pub mod Runs
 pub mod SameGrammars
+pub mod Spreading
 pub mod StateConflicts
 pub mod StateCopies
 pub mod States

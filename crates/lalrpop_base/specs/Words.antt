@@ -20,8 +20,11 @@ pub use Rattle.lalrpop_base.specs.Each.{EachBelow, EachEntry, EachItem}
 pub use Rattle.lalrpop_base.specs.Exact.{Exactly, both, list_exact, name_exact, same_production}
 pub use Rattle.lalrpop_base.specs.Failures.{IfConflicts}
 pub use Rattle.lalrpop_base.specs.First.{AreFirstSetsOf, IsFirstSet, IsFirstSetBefore}
+pub use Rattle.lalrpop_base.specs.FirstNumbers.{AreReady, GivesByNumber, HasBitsBelow, IsNumberedProduction, IsNumberedSymbol, IsReady, numbers_from, place, set_at}
 pub use Rattle.lalrpop_base.specs.FirstSets.{AreFirstSets, FirstBy, NullableBy}
-pub use Rattle.lalrpop_base.specs.FirstTables.{AreReady, IsClosed, IsJoinedAt, IsNameJoined, IsPass, IsRight, Table, empty_sets, is_in, set_of, weight}
+pub use Rattle.lalrpop_base.specs.FirstTables.{IsClosed, IsRight, IsSetJoined, Table, is_in, set_of}
+pub use Rattle.lalrpop_base.specs.FirstTurns.{IsAdded, IsQueued, IsTurn}
+pub use Rattle.lalrpop_base.specs.FirstUses.{AddsUses, AreUses, uses_at}
 pub use Rattle.lalrpop_base.specs.Grammar.{Derives, IsBeginning, IsFirst, IsNullable, IsOnNoRightSide, IsSentence, as_it_is, replace, symbols_of}
 pub use Rattle.lalrpop_base.specs.Items.{Dotted, dotted_exact}
 pub use Rattle.lalrpop_base.specs.Kernels.{AddsOnce, IsNumbering, Kernels, by_number, key_numbered, keys_below}
@@ -34,10 +37,12 @@ pub use Rattle.lalrpop_base.specs.Names.{nonterminal_text, symbol_text, terminal
 pub use Rattle.lalrpop_base.specs.NewStart.{HasNewStart, IsEntryOf, IsRefusedStart, IsUnused, start_action, start_production, underscored}
 pub use Rattle.lalrpop_base.specs.NilConflicts.{nil_conflict, nil_conflicts, nil_shift_conflicts}
 pub use Rattle.lalrpop_base.specs.Places.{AllDiffer, DifferBelow, IsFirstRepeat}
+pub use Rattle.lalrpop_base.specs.Queues.{IsMarked, Waiting, waits}
 pub use Rattle.lalrpop_base.specs.Renumbering.{HasGoto, IsRenumbering, PutsGotosFirst, renumbered}
 pub use Rattle.lalrpop_base.specs.Runs.{Configuration, Ends, Goes, HasOutcome, IsFirstWrong, IsParse, IsPromptRefusal, IsRightNext, Limit, Move, Outcome}
 pub use Rattle.lalrpop_base.specs.Runs.{Parsed, Reaches, Refused, Stands, at_end, at_terminal, before_all, begin, behind_shift, cut_off, further, goes_on, here}
 pub use Rattle.lalrpop_base.specs.Runs.{move, moves_on, next_token, other_end, parsed, received, reduced, reduces, reduction_on, shifts_or, stuck}
+pub use Rattle.lalrpop_base.specs.Spreading.{HoldsBit, IsSpread, edge_ends, held, sent_on}
 pub use Rattle.lalrpop_base.specs.StateConflicts.{conflicts_on_bit, conflicts_on_place, later_conflicts, meet, reduce_conflict, reduce_conflicts, share}
 pub use Rattle.lalrpop_base.specs.StateConflicts.{shift_conflict, shift_conflicts, state_conflicts}
 pub use Rattle.lalrpop_base.specs.States.{Allows, AreFaithful, CanStandNext, Contents, HasNoRepeat, HasRightItems, HaveRightItems, IsBehindDot, IsRightFor}

@@ -1,7 +1,7 @@
 //! Types whose `==` tells apart all that clauses tell apart.
 ghost use Rattle.std.specs.Prelude.{◌≡◌, true, refl, ◌↔◌, IsTrue, IfSome, IsNone, Contains};
 ghost use Rattle.lalrpop_base.specs.Places.{IsFirstPlace};
-ghost use Rattle.std.proofs.Common.{sym, ap};
+ghost use Rattle.std.proofs.Common.{sym, ap, eqb-true};
 ghost use mathlib.Core.Bool.{true≢false};
 ghost use Rattle.lalrpop_base.specs.Exact.{Exactly, text_exact, list_exact, name_exact, production_exact};
 ghost use Rattle.lalrpop_base.specs.declared.repr.Symbol.TheVariants.{Nonterminal, Terminal};
@@ -14,6 +14,10 @@ use crate::text::Text;
 /// `==` answers true at equal values alone.
 pub trait Exact: Eq {
     ghost exact: { Exactly Self.eq };
+}
+
+impl Exact for usize {
+    ghost exact = { eqb-true };
 }
 
 impl Exact for Text {

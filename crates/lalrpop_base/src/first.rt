@@ -1,6 +1,11 @@
 //! FIRST: the terminals with which what a list of symbols derives can begin.
 mod fixpoint;
+mod names;
+mod numbered;
+mod queue;
+mod sets;
 mod table;
+mod uses;
 
 ghost use Rattle.std.specs.Prelude.{◌≡◌, IfOk};
 ghost use Rattle.lalrpop_base.specs.WellFormed.{IsWellFormed, HasKnownTerminals, rules_of};

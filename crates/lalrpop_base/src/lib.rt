@@ -12,4 +12,5 @@ pub mod lr1_core;
 pub mod memory;
 pub mod repr;
 pub mod sequence;
+pub mod spread;
 pub mod text;

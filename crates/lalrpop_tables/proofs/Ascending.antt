@@ -72,7 +72,7 @@ less_number_at m n true c e h = ltb-true m n e
 less_number_at m n false true e h = cc
 less_number_at m n false false e h = cc
 
-less_number : (m n : ℕ) → nat_cmp m n ≡ Less → m < n
+pub less_number : (m n : ℕ) → nat_cmp m n ≡ Less → m < n
 less_number m n h = less_number_at m n (nat_lt m n) (m == n) refl h
 
 lesser_index : (m n : ℕ) (o r : Ordering) → nat_cmp m n ≡ o → r ≡ Equal → ordering_then o r ≡ Less → m < n

@@ -8,6 +8,7 @@ use Rattle.lalrpop_base.specs.contracts.exact.ProductionExact.TheImpl as product
 use Rattle.lalrpop_base.specs.contracts.repr.ProductionEq.TheImpl as production_laws
 use Rattle.lalrpop_base.specs.contracts.repr.ProductionPartialEq.TheImpl as production_eq
 use Rattle.lalrpop_base.specs.declared.repr.Production.{Production}
+use Rattle.lalrpop_tables.specs.declared.build.numbered.Numbered.{Numbered}
 use Rattle.lalrpop_tables.proofs.Lists.{Contains-none, Contains-here, Contains-there, Contains-cases}
 
 abbrev pub Decided : Type 0 → Type 0
@@ -19,6 +20,19 @@ decided_at E exact itself x y false e = inr (λ s. true≢false (sym (itself x) 
 
 pub decided : {X : Type 0} (E : X → X → Bool) → Exactly E → ((x : X) → E x x ≡ true) → Decided X
 decided E exact itself x y = decided_at E exact itself x y (E x y) refl
+
+module _ {X : Type 0} (same : Decided X) where
+  pub decided_list : Decided (List X)
+  decided_list [] [] = inl refl
+  decided_list [] (b ∷ bs) = inr (λ e. cc)
+  decided_list (a ∷ rest) [] = inr (λ e. cc)
+  decided_list (a ∷ rest) (b ∷ bs) = elim (same a b) [
+    | inr other ↦ inr (λ e. other cc)
+    | inl h ↦ elim (decided_list rest bs) [
+      | inr other ↦ inr (λ e. other cc)
+      | inl t ↦ inl (ap (λ (x : X). x ∷ rest) h ∙ ap (λ (xs : List X). b ∷ xs) t)
+    ]
+  ]
 
 decided_production : Decided Production
 decided_production = decided production_eq.ghosts.eq production_exactly.Laws.exact-law (λ p. production_laws.Laws.laws-law.refl p)
@@ -39,16 +53,19 @@ module _ {L : Type 0} (same : Decided L) where
       ]
 
   pub decided_kernel : Decided (List (Dotted L))
-  decided_kernel [] [] = inl refl
-  decided_kernel [] (b ∷ bs) = inr (λ e. cc)
-  decided_kernel (a ∷ rest) [] = inr (λ e. cc)
-  decided_kernel (a ∷ rest) (b ∷ bs) = elim (decided_item a b) [
-    | inr other ↦ inr (λ e. other cc)
-    | inl h ↦ elim (decided_kernel rest bs) [
-      | inr other ↦ inr (λ e. other cc)
-      | inl t ↦ inl (ap (λ (x : Dotted L). x ∷ rest) h ∙ ap (λ (xs : List (Dotted L)). b ∷ xs) t)
-    ]
-  ]
+  decided_kernel = decided_list decided_item
+
+module _ {L : Type 0} (same : Decided L) where
+  pub decided_numbered : Decided (Numbered L)
+  decided_numbered a b =
+      let make : ℕ → L → Numbered L = λ n l. record { number = n; lookahead = l } in
+      elim (cases_eq a.number b.number) [
+        | inr other ↦ inr (λ e. other (ap (λ (i : Numbered L). i.number) e))
+        | inl n ↦ elim (same a.lookahead b.lookahead) [
+          | inr other ↦ inr (λ e. other (ap (λ (i : Numbered L). i.lookahead) e))
+          | inl l ↦ inl (ap (λ (m : ℕ). make m a.lookahead) n ∙ ap (λ (x : L). make b.number x) l)
+        ]
+      ]
 
 module _ {X : Type 0} (same : Decided X) where
   contained : (xs : List X) (x : X) → Contains xs x ⊎ ¬ Contains xs x

@@ -1,6 +1,5 @@
 -- Items of a grammar, and the closure of a kernel.
-use Rattle.std.specs.Prelude.{◌≡◌, ◌≤◌, ◌+◌, ◌⊎◌, ◌↔◌, ℕ, true, List, ◌∷◌, length, drop, Contains, map}
-use Rattle.std.specs.Map.{keys_of}
+use Rattle.std.specs.Prelude.{◌≡◌, ◌≤◌, ◌⊎◌, ◌↔◌, ℕ, true, List, ◌∷◌, length, drop, Contains, map}
 use Rattle.lalrpop_base.specs.Words.{Bits, Dotted, AllDiffer, FitsTokens, Rules, InClosure, InTokenClosure, holds_token}
 use Rattle.lalrpop_base.specs.declared.lookahead.nil.Nil.{Nil}
 use Rattle.lalrpop_base.specs.declared.lookahead.token.Token.{Token}
@@ -9,7 +8,6 @@ use Rattle.lalrpop_base.specs.declared.repr.Production.{Production}
 use Rattle.lalrpop_base.specs.declared.repr.Symbol.{Symbol}
 use Rattle.lalrpop_base.specs.declared.repr.Symbol.TheVariants.{Nonterminal}
 use Rattle.lalrpop_tables.specs.Ascending.{Ascend}
-use Rattle.lalrpop_tables.specs.Entries.{burden}
 
 -- an item without its lookahead
 abbrev pub dotted_of : {L : Type 0} → Dotted L → Production × ℕ
@@ -78,7 +76,7 @@ pub record IsClosureBy {L : Type 0} (meaning : L → Bits) (begins : Rules → L
   pub exact : (p : Production) (dot : ℕ) → Contains (map dotted_of items) (p, dot) ↔ InClosure g.productions (InKernel kernel) p dot
   pub tokens : (p : Production) (dot : ℕ) (t : Token) → HasItemTokenBy meaning g.terminals items p dot t ↔ InTokenClosureBy (begins g) (passes g) g.productions (λ q n. Contains (map dotted_of items) (q, n)) (HasItemTokenBy meaning g.terminals kernel) p dot t
 
--- ---- the worklist
+-- ---- what a closure finds
 -- dotted productions with their tokens, as a closure finds them
 abbrev pub Found : Type 0
 Found = List (Dotted Nil × Bits)
@@ -87,57 +85,6 @@ Found = List (Dotted Nil × Bits)
 abbrev pub item_of : {L : Type 0} → Dotted Nil × L → Dotted L
 item_of e = record { production = e.0.production; index = e.0.index; lookahead = e.1 }
 
--- what is found is of the grammar, each once, and was in the kernel or has the dot at the start; what is in the queue is of the grammar
-pub record IsTable (g : Rules) (kernel : List (Dotted Bits)) (table : Found) (queue : List (Dotted Nil)) : Type 0 where
-  pub each : (e : Dotted Nil × Bits) → Contains table e → IsItemOf g (item_of e)
-  pub begun : (e : Dotted Nil × Bits) → Contains table e → (e.0.index ≡ 0) ⊎ Contains (map dotted_of kernel) (dotted_of e.0)
-  pub sound : (e : Dotted Nil × Bits) → Contains table e → InClosure g.productions (InKernel kernel) e.0.production e.0.index
-  pub differ : AllDiffer (keys_of table)
-  pub queued : (i : Dotted Nil) → Contains queue i → Contains g.productions i.production
-
--- how much is found: dotted productions, and tokens of them
-abbrev pub weight : Rules → Found → ℕ
-weight g table = burden (length g.terminals + 2) table
-
--- productions are in the closure of a kernel, with the dot at the start
-abbrev pub AreBegun : Rules → List (Dotted Bits) → List Production → Type 0
-AreBegun g kernel ps = (p : Production) → Contains ps p → InClosure g.productions (InKernel kernel) p 0
-
 -- the production with the dot at the start
 abbrev pub begun_of : Production → Dotted Nil
 begun_of p = record { production = p; index = 0; lookahead = record {} }
-
--- productions went to a table, with the dot at the start and the tokens; each that has something new is in the queue
-pub record Spreads (g : Rules) (tokens : Bits) (ps : List Production) (old new : Found) (queue pushed : List (Dotted Nil)) : Type 0 where
-  pub kept : (kernel : List (Dotted Bits)) → FitsTokens g.terminals tokens → AreBegun g kernel ps → IsTable g kernel old queue → IsTable g kernel new pushed
-  pub counted : (kernel : List (Dotted Bits)) → FitsTokens g.terminals tokens → AreBegun g kernel ps → IsTable g kernel old queue → weight g old + length pushed ≤ weight g new + length queue
-  pub known : (k : Dotted Nil) → Contains (keys_of old) k → Contains (keys_of new) k
-  pub from : (k : Dotted Nil) → Contains (keys_of new) k → Contains (keys_of old) k ⊎ Contains pushed k
-  pub queued : (k : Dotted Nil) → Contains queue k → Contains pushed k
-  pub pushed_found : (k : Dotted Nil) → Contains pushed k → Contains queue k ⊎ Contains (keys_of new) k
-  pub there : (p : Production) → Contains ps p → Contains (keys_of new) (begun_of p)
-
--- what an item leads to without a symbol is in the table
-abbrev pub IsSettled : Rules → Found → Dotted Nil → Type 0
-IsSettled g table k = (q : Production) (after : List Symbol) → drop k.index k.production.symbols ≡ Nonterminal q.nonterminal ∷ after → Contains g.productions q → Contains (keys_of table) (begun_of q)
-
--- each item of the table is in the queue or settled
-abbrev pub AreDone : Rules → Found → List (Dotted Nil) → Type 0
-AreDone g table queue = (k : Dotted Nil) → Contains (keys_of table) k → Contains queue k ⊎ IsSettled g table k
-
--- an item was taken from the queue, and is settled
-pub record IsExpanded (g : Rules) (i : Dotted Nil) (old new : Found) (queue pushed : List (Dotted Nil)) : Type 0 where
-  pub kept : (kernel : List (Dotted Bits)) → Contains (keys_of old) i → IsTable g kernel old queue → IsTable g kernel new pushed
-  pub counted : (kernel : List (Dotted Bits)) → Contains (keys_of old) i → IsTable g kernel old queue → weight g old + length pushed ≤ weight g new + length queue
-  pub known : (k : Dotted Nil) → Contains (keys_of old) k → Contains (keys_of new) k
-  pub from : (k : Dotted Nil) → Contains (keys_of new) k → Contains (keys_of old) k ⊎ Contains pushed k
-  pub queued : (k : Dotted Nil) → Contains queue k → Contains pushed k
-  pub pushed_found : (k : Dotted Nil) → Contains pushed k → Contains queue k ⊎ Contains (keys_of new) k
-  pub settled : IsSettled g new i
-
--- the state of the loop: a table with the kernel, whose items are in the queue or settled, and what is in the queue is found
-pub record IsClosing (g : Rules) (kernel : List (Dotted Bits)) (table : Found) (queue : List (Dotted Nil)) : Type 0 where
-  pub is_table : IsTable g kernel table queue
-  pub found : (k : Dotted Nil) → Contains queue k → Contains (keys_of table) k
-  pub has : (k : Dotted Nil) → Contains (map dotted_of kernel) (dotted_of k) → Contains (keys_of table) k
-  pub done : AreDone g table queue

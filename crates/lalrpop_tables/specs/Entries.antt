@@ -41,6 +41,17 @@ pub record Adds {K : Type 0} (Such : K → Type 0) (tokens : Bits) (old new : Li
   pub bits : (e : K × Bits) (bit : ℕ) → Contains new e → has e.1 bit ≡ true → IsFoundWith old e.0 bit ⊎ (Such e.0 × (has tokens bit ≡ true))
   pub there : (k : K) → Such k → IsFound new k tokens
 
+-- the table has just the keys of the list, each with all that the list has for it and no more
+pub record Gathers {K : Type 0} (list table : List (K × Bits)) : Type 0 where
+  pub found : (e : K × Bits) → Contains list e → IsFound table e.0 e.1
+  pub keys : (e : K × Bits) → Contains table e → Contains (keys_of list) e.0
+  pub bits : (e : K × Bits) (bit : ℕ) → Contains table e → has e.1 bit ≡ true → IsFoundWith list e.0 bit
+  pub differ : AllDiffer (keys_of table)
+
+-- the table has these besides
+abbrev pub GathersMore : {K : Type 0} → List (K × Bits) → List (K × Bits) → List (K × Bits) → Type 0
+GathersMore {K} more old new = (list : List (K × Bits)) → Gathers list old → Gathers (list ++ more) new
+
 -- how much is found: keys, and tokens of them
 abbrev pub burden : {K : Type 0} → ℕ → List (K × Bits) → ℕ
 burden n table = sum_by (λ e. 1 + count n e.1) table

@@ -20,9 +20,17 @@ pub record AreBegunWith {L : Type 0} (g : Rules) (name : NonterminalString) (loo
   pub all : (p : Production) → Contains g.productions p → p.nonterminal ≡ name → Contains (map dotted_of items) (p, 0)
   pub once : AllDiffer (map dotted_of items)
 
--- what an item gives to the productions of the nonterminal behind its dot: the tokens with which the symbols behind that can begin, and the item's own where these let them pass
+-- the nonterminal has no production
+abbrev pub HasNoProduction : Rules → NonterminalString → Type 0
+HasNoProduction g name = (p : Production) → Contains g.productions p → p.nonterminal ≡ name → ⊥
+
+-- what may follow a nonterminal where it stands before symbols in an item: the tokens with which these can begin, and the item's own where they let them pass
+pub record IsGiven {L : Type 0} (meaning : L → Bits) (begins : Rules → List Symbol → Token → Type 0) (passes : Rules → List Symbol → Type 0) (g : Rules) (rest : List Symbol) (lookahead given : L) : Type 0 where
+  pub fits : FitsTokens g.terminals (meaning lookahead) → FitsTokens g.terminals (meaning given)
+  pub holds : (t : Token) → (holds_token g.terminals (meaning given) t ≡ true) ↔ (begins g rest t ⊎ (passes g rest × (holds_token g.terminals (meaning lookahead) t ≡ true)))
+
+-- what an item gives to the productions of the nonterminal behind its dot: what may follow that there
 pub record AreEpsilonMoves {L : Type 0} (meaning : L → Bits) (begins : Rules → List Symbol → Token → Type 0) (passes : Rules → List Symbol → Type 0) (g : Rules) (name : NonterminalString) (rest : List Symbol) (lookahead : L) (moves : List (Dotted L)) : Type 0 where
   pub given : L
   pub begun : AreBegunWith g name given moves
-  pub fits : FitsTokens g.terminals (meaning lookahead) → FitsTokens g.terminals (meaning given)
-  pub holds : (t : Token) → (holds_token g.terminals (meaning given) t ≡ true) ↔ (begins g rest t ⊎ (passes g rest × (holds_token g.terminals (meaning lookahead) t ≡ true)))
+  pub is : IsGiven meaning begins passes g rest lookahead given

@@ -15,6 +15,8 @@ pub mod Counts
 pub mod EarlyStop
 pub mod Entries
 pub mod EpsilonMoves
+pub mod FollowGraphs
+pub mod FollowSets
 pub mod GraphCopies
 pub mod Lalr
 pub mod LaneCells
@@ -33,12 +35,15 @@ pub mod Merges
 pub mod Merging
 pub mod Moved
 pub mod Neighbours
+pub mod Numbering
+pub mod Numbers
 pub mod Partitions
 pub mod Ready
 pub mod Renumbered
 pub mod RenumberedTables
 pub mod Resolving
 pub mod Results
+pub mod Sharing
 pub mod StateGraph
 pub mod StateSets
 pub mod States

@@ -9,11 +9,11 @@ pub use Rattle.lalrpop_tables.specs.CheckClosing.{AllWait, AreClosure, IsBegun, 
 pub use Rattle.lalrpop_tables.specs.CheckSets.{HaveSame, IsAdded}
 pub use Rattle.lalrpop_tables.specs.CheckStates.{AreRightStates, IsRightItem, IsRightState, IsRightTarget, IsTarget, LeadsBy, LeadsFrom, LeadsOn, Lists, dots}
 pub use Rattle.lalrpop_tables.specs.CheckStates.{finished, lr0, reduced}
-pub use Rattle.lalrpop_tables.specs.Closing.{AreAllBegun, AreOwn, Begins, Expands, ExpandsFound, HasFoundToken, HasGiven, IsBegunBy, IsBegunOf, IsExpandedTo}
-pub use Rattle.lalrpop_tables.specs.Closing.{IsStarted, IsTokenClosing, IsTokenSettled, SpreadAll, SpreadFirst, production_of}
-pub use Rattle.lalrpop_tables.specs.Closure.{AreBegun, AreItems, AreItemsBy, Found, HasItemToken, HasItemTokenBy, InKernel, InTokenClosureBy, IsClosing}
-pub use Rattle.lalrpop_tables.specs.Closure.{IsClosureBy, IsClosureOf, IsExpanded, IsItemBy, IsItemOf, IsTable, Spreads, begun_of, dotted_of, from_parent}
-pub use Rattle.lalrpop_tables.specs.Closure.{from_rest, item_of, itself, meant, own_token, weight}
+pub use Rattle.lalrpop_tables.specs.Closing.{AreOwn, Begins, HasGiven}
+pub use Rattle.lalrpop_tables.specs.Closing.{IsTokenClosed, IsTokenSettled}
+pub use Rattle.lalrpop_tables.specs.Closure.{AreItems, AreItemsBy, Found, HasItemToken, HasItemTokenBy, InKernel, InTokenClosureBy}
+pub use Rattle.lalrpop_tables.specs.Closure.{IsClosureBy, IsClosureOf, IsItemBy, IsItemOf, begun_of, dotted_of, from_parent}
+pub use Rattle.lalrpop_tables.specs.Closure.{from_rest, item_of, itself, meant, own_token}
 pub use Rattle.lalrpop_tables.specs.Collapsed.{AreCollapsedTables, AreOrdered, FailsByCollapse, HoldsAt, IsCollapsed, IsMerge, IsNumbered, IsOrderedState}
 pub use Rattle.lalrpop_tables.specs.Collapsed.{OfMember, ReducesBy, ReducesOn, dots_in}
 pub use Rattle.lalrpop_tables.specs.Contexts.{AreAmong, AreDisjoint, AreReducedAmong, HasAt, IsApplied, IsJoinedIn, IsReductionAt, IsUnion, MeetInUnion}
@@ -24,6 +24,9 @@ pub use Rattle.lalrpop_tables.specs.EarlyStop.{AreSomeLr0States, FailsAfterLr0, 
 pub use Rattle.lalrpop_tables.specs.EarlyStop.{ListFewer, Lr0StopsAfter, StopsAfter, StopsFor}
 pub use Rattle.lalrpop_tables.specs.Entries.{Adds, AllBelow, Grows, IsFound, IsFoundWith, IsJoinedAt, IsPushedAt, IsQueued, burden, readings}
 pub use Rattle.lalrpop_tables.specs.EpsilonMoves.{AreBegunWith, AreEpsilonMoves, IsBegunWith}
+pub use Rattle.lalrpop_tables.specs.FollowGraphs.{HasBitAtOnce, HasLookbackNodes, HaveBegunNodes, IsFollowGraph, IsFollowNode, IsUnionOver}
+pub use Rattle.lalrpop_tables.specs.FollowSets.{FollowsAtOnce, HasLookaheadBits, HoldsLookaheads, InFollow, IncludesFollow, IsLookahead, LeadsOver, at_once}
+pub use Rattle.lalrpop_tables.specs.FollowSets.{ends_input, included, is_first_behind}
 pub use Rattle.lalrpop_tables.specs.Lalr.{AreLalrTables, AreMergedTables, AreRenumberedMerged, Collapses, FailsAsLalr, HasCoherentStates, HasOrderedStates}
 pub use Rattle.lalrpop_tables.specs.Lalr.{TellsNotLALR1}
 pub use Rattle.lalrpop_tables.specs.LaneRows.{AddsRows, AreGathered, AreRowsOf, Cells, HasCells, HasIn, HasNext, JoinsRow, MakesRow, MeetsRow, Rows, StandsFor}

@@ -7,6 +7,8 @@ mod kernel;
 pub mod lookahead_build;
 pub mod lr;
 mod lr0;
+mod numbered;
+mod numbers;
 pub mod options;
 mod reductions;
 pub(crate) mod results;

@@ -1,92 +1,108 @@
-//! The first sets as the least table to which no production adds anything.
-ghost use Rattle.std.specs.Prelude.{◌≡◌, [], ◌∷◌, IfOk};
-ghost use Rattle.std.specs.BTreeMap.{IsOrdered};
-ghost use Rattle.lalrpop_base.specs.WellFormed.{IsWellFormed, name_cmp, productions, rules_of};
+//! The first sets by a worklist: a production waits while it may add something to the sets.
+ghost use Rattle.std.specs.Prelude.{◌≡◌, ◌<◌, ℕ, length, Contains, IfOk, OnOk};
+ghost use Rattle.std.specs.List.{zip};
+ghost use Rattle.std.specs.Map.{keys_of};
+ghost use Rattle.lalrpop_base.specs.WellFormed.{IsWellFormed, rules_of};
 ghost use Rattle.lalrpop_base.specs.First.{AreFirstSetsOf};
-ghost use Rattle.lalrpop_base.specs.FirstTables.{IsPass, IsReady, AreReady, empty_sets};
+ghost use Rattle.lalrpop_base.specs.FirstNumbers.{HasBitsBelow};
+ghost use Rattle.lalrpop_base.specs.FirstUses.{uses_at};
+ghost use Rattle.lalrpop_base.specs.FirstTurns.{IsAdded, IsQueued, IsTurn};
 
-use super::table::{Table, first_by, join_at};
+use super::names::Names;
+use super::numbered::{NumberedProduction, number_productions};
+use super::queue::Queue;
+use super::sets::{empty_sets, given_by};
+use super::table::Table;
+use super::uses::{Uses, uses_of};
 use crate::lookahead::token_set::TokenSet;
 use crate::memory::OutOfMemory;
-use crate::repr::Production;
 use crate::repr::grammar::Grammar;
 use crate::repr::terminals::TerminalSet;
 use std::alloc::Global;
-use std::collections::BTreeMap;
 
 // The first sets of a grammar.
 pub(super) fn first_table(alloc: Global, grammar: &Grammar) -> Result<Table, OutOfMemory>
     requires { IsWellFormed grammar.now }
     ensures { IfOk result (λ table. AreFirstSetsOf (rules_of grammar.now) table.entries) }
 {
-    let mut table = empty_table(alloc, grammar)?;
-    let mut changed = true;
-    while changed {
-        changed = pass(alloc, grammar, &mut table)?;
-    }
-    Ok(table)
+    let names = Names::new(alloc, grammar)?;
+    let sets = first_sets(alloc, grammar, &names)?;
+    names.into_table(alloc, sets)
 }
 
-// An empty set for each name.
-fn empty_table(alloc: Global, grammar: &Grammar) -> Result<Table, OutOfMemory>
-    ensures sets { IfOk result
-        (λ table. table.entries ≡ empty_sets grammar.now.nonterminals.entries) }
-    ensures ordered { IfOk result (λ table. IsOrdered name_cmp table) }
+// The first sets by the numbers of the names. At first all productions wait; behind a set that
+// grew those that use its name do.
+fn first_sets(alloc: Global, grammar: &Grammar, names: &Names) -> Result<Vec<TokenSet>, OutOfMemory>
+    requires formed { IsWellFormed grammar.now }
+    requires names { names.now ≡ keys_of grammar.now.nonterminals.entries }
+    ensures count { IfOk result (λ sets. length sets.items ≡ length names.now) }
+    ensures first { IfOk result
+        (λ sets. AreFirstSetsOf (rules_of grammar.now) (zip names.now sets.items)) }
 {
-    let mut table = BTreeMap::new(alloc);
-    for (name, _entry) in grammar.nonterminals.iter() {
-        let set = TokenSet::new(alloc, &grammar.terminals);
-        table.insert(name.clone(alloc)?, set)?;
+    let productions = number_productions(alloc, grammar, names)?;
+    let uses = uses_of(alloc, names.len(), &productions)?;
+    let mut sets = empty_sets(alloc, &grammar.terminals, names.len())?;
+    let mut queue = Queue::full(alloc, productions.len())?;
+    while let Some(number) = queue.take() {
+        turn(
+            alloc,
+            &grammar.terminals,
+            &productions[number],
+            &uses,
+            &mut sets,
+            &mut queue,
+        )?;
     }
-    Ok(table)
+    Ok(sets)
 }
 
-// Adds what each production gives, and tells whether the table grew.
-fn pass(alloc: Global, grammar: &Grammar, table: &mut Table) -> Result<bool, OutOfMemory>
-    requires { AreReady grammar.now.terminals table.old.entries (productions grammar.now) }
-    ensures { IfOk result (λ grew. IsPass grammar.now.terminals (productions grammar.now) grew
-        table.old.entries table.new.entries) }
-{
-    let mut changed = false;
-    for (_name, entry) in grammar.nonterminals.iter() {
-        if add_productions(alloc, &entry.productions, &grammar.terminals, table)? {
-            changed = true;
-        }
-    }
-    Ok(changed)
-}
-
-// Adds what some productions give, and tells whether the table grew.
-fn add_productions(
+// Adds what a production gives, and queues the uses of its name where the set of that grew.
+fn turn(
     alloc: Global,
-    productions: &[Production],
     terminals: &TerminalSet,
-    table: &mut Table,
-) -> Result<bool, OutOfMemory>
-    requires { AreReady terminals.now table.old.entries productions.now }
-    ensures { IfOk result
-        (λ grew. IsPass terminals.now productions.now grew table.old.entries table.new.entries) }
+    production: &NumberedProduction,
+    uses: &Uses,
+    sets: &mut Vec<TokenSet>,
+    queue: &mut Queue,
+) -> Result<(), OutOfMemory>
+    requires bits { HasBitsBelow (length terminals.now) production.now.symbols }
+    requires named { production.now.name < length sets.old.items }
+    requires used { production.now.name < length uses.now.items }
+    requires within { (k : ℕ) → Contains (uses_at uses.now.items production.now.name) k →
+        k < queue.old.limit }
+    ensures { OnOk result (IsTurn (length terminals.now) production.now uses.now.items
+        sets.old.items sets.new.items queue.old queue.new) }
 {
-    let mut changed = false;
-    for production in productions {
-        if add_production(alloc, production, terminals, table)? {
-            changed = true;
-        }
+    if add_production(alloc, terminals, production, sets)? {
+        queue_all(uses[production.name].as_slice(), queue)?;
     }
-    Ok(changed)
+    Ok(())
 }
 
-// Adds what a production gives, and tells whether the table grew.
+// Adds what a production gives, and tells whether the set of its name grew.
 fn add_production(
     alloc: Global,
-    production: &Production,
     terminals: &TerminalSet,
-    table: &mut Table,
+    production: &NumberedProduction,
+    sets: &mut Vec<TokenSet>,
 ) -> Result<bool, OutOfMemory>
-    requires { IsReady terminals.now table.old.entries production.now }
-    ensures { IfOk result (λ grew. IsPass terminals.now (production.now ∷ []) grew table.old.entries
-        table.new.entries) }
+    requires bits { HasBitsBelow (length terminals.now) production.now.symbols }
+    requires named { production.now.name < length sets.old.items }
+    ensures { IfOk result (λ grew. IsAdded (length terminals.now) production.now grew
+        sets.old.items sets.new.items) }
 {
-    let set = first_by(alloc, table, terminals, production.symbols.as_slice())?;
-    join_at(table, &production.nonterminal, &set)
+    let given = given_by(alloc, sets, terminals, production.symbols.as_slice())?;
+    let grew = sets[production.name].union_with(&given)?;
+    Ok(grew)
+}
+
+// Queues numbers that do not wait yet.
+fn queue_all(numbers: &[usize], queue: &mut Queue) -> Result<(), OutOfMemory>
+    requires { (k : ℕ) → Contains numbers.now k → k < queue.old.limit }
+    ensures { OnOk result (IsQueued numbers.now queue.old queue.new) }
+{
+    for number in numbers {
+        queue.add(*number)?;
+    }
+    Ok(())
 }

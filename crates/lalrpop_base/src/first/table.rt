@@ -1,10 +1,8 @@
 //! A set of tokens for each name.
-ghost use Rattle.std.specs.Prelude.{◌≡◌, ◌↔◌, ℕ, true, false, [], IfOk, IsSome, length};
-ghost use Rattle.std.specs.BTreeMap.{is_at};
-ghost use Rattle.std.specs.Map.{lookup, keys_of};
-ghost use Rattle.lalrpop_base.specs.Bits.{has, no_bits};
-ghost use Rattle.lalrpop_base.specs.WellFormed.{HasKnownTerminals, name_cmp};
-ghost use Rattle.lalrpop_base.specs.FirstTables.{Gives, IsNameJoined, IsJoinedAt};
+ghost use Rattle.std.specs.Prelude.{◌≡◌, ◌↔◌, ℕ, true, false, [], IfOk, length};
+ghost use Rattle.lalrpop_base.specs.Bits.{has};
+ghost use Rattle.lalrpop_base.specs.WellFormed.{HasKnownTerminals};
+ghost use Rattle.lalrpop_base.specs.FirstTables.{Gives, IsSetJoined, set_of};
 
 use crate::lookahead::token_set::TokenSet;
 use crate::memory::OutOfMemory;
@@ -54,32 +52,27 @@ fn join_name(
     set: &mut TokenSet,
 ) -> Result<bool, OutOfMemory>
     requires { has set.old (length terminals.now) ≡ false }
-    ensures { IfOk result
-        (λ told. IsNameJoined told terminals.now table.now.entries name.now set.old set.new) }
+    ensures { IfOk result (λ told. IsSetJoined told (length terminals.now)
+        (set_of table.now.entries name.now) set.old set.new) }
 {
     match table.get(name) {
-        Some(found) => {
-            set.union_with(found)?;
-            Ok(set.take_eof(terminals))
-        }
+        Some(found) => join_set(found, terminals, set),
         None => Ok(false), // it derives nothing
     }
 }
 
-// Joins a set with that of a name, and tells whether that one grew.
-pub(super) fn join_at(
-    table: &mut Table,
-    name: &NonterminalString,
-    set: &TokenSet,
+// Joins a set but `Eof`, and tells whether `Eof` was in it.
+pub(super) fn join_set(
+    found: &TokenSet,
+    terminals: &TerminalSet,
+    set: &mut TokenSet,
 ) -> Result<bool, OutOfMemory>
-    requires { IsSome (lookup (is_at (name_cmp name.now)) table.old.entries) }
+    requires { has set.old (length terminals.now) ≡ false }
     ensures { IfOk result
-        (λ grew. IsJoinedAt grew name.now set.now table.old.entries table.new.entries) }
+        (λ told. IsSetJoined told (length terminals.now) found.now set.old set.new) }
 {
-    match table.get_mut(name) {
-        Some(found) => found.union_with(set),
-        None => Ok(false),
-    }
+    set.union_with(found)?;
+    Ok(set.take_eof(terminals))
 }
 
 // A copy of a table.

@@ -43,4 +43,16 @@ impl LookaheadBuild for TokenSet {
         let given = lr.first_sets().first1(alloc, remainder, lookahead)?;
         lr.begun_items(alloc, nonterminal, &given)
     }
+
+    fn given<'grammar>(
+        alloc: Global,
+        lr: &Lr<'grammar, TokenSet>,
+        _nonterminal: &NonterminalString,
+        remainder: &[Symbol],
+        lookahead: &TokenSet,
+    ) -> Result<Option<TokenSet>, OutOfMemory> {
+        let _grammar = lr.grammar();
+        let tokens = lr.first_sets().first1(alloc, remainder, lookahead)?;
+        Ok(Some(tokens))
+    }
 }

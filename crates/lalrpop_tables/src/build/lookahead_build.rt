@@ -1,9 +1,9 @@
 //! What an item gives to those to which it leads without a symbol.
-ghost use Rattle.std.specs.Prelude.{◌≡◌, IfOk, List};
+ghost use Rattle.std.specs.Prelude.{◌≡◌, IfOk, List, MatchOption};
 ghost use Rattle.lalrpop_base.specs.Words.{HasKnownTerminals, Rules};
 ghost use Rattle.lalrpop_base.specs.declared.lookahead.token.Token.{Token};
 ghost use Rattle.lalrpop_base.specs.declared.repr.Symbol.{Symbol};
-ghost use Rattle.lalrpop_tables.specs.EpsilonMoves.{AreEpsilonMoves};
+ghost use Rattle.lalrpop_tables.specs.EpsilonMoves.{AreEpsilonMoves, HasNoProduction, IsGiven};
 
 use super::lr::Lr;
 use lalrpop_base::lookahead::Lookahead;
@@ -32,4 +32,27 @@ pub trait LookaheadBuild: Lookahead {
         requires known { HasKnownTerminals lr.now.construction.rules.terminals remainder.now }
         ensures moves { IfOk result (λ moves. AreEpsilonMoves Self.meaning begins passes
             lr.now.construction.rules nonterminal.now remainder.now lookahead.now moves.items) };
+
+    /// What may follow a nonterminal where it stands before the remainder of an item with the
+    /// lookahead; nothing where it has no production. A lookahead that finds it without the
+    /// productions may say how.
+    fn given<'grammar>(
+        alloc: Global,
+        lr: &Lr<'grammar, Self>,
+        nonterminal: &NonterminalString,
+        remainder: &[Symbol],
+        lookahead: &Self,
+    ) -> Result<Option<Self>, OutOfMemory>
+        requires known { HasKnownTerminals lr.now.construction.rules.terminals remainder.now }
+        ensures given { IfOk result (λ found. MatchOption found
+            (HasNoProduction lr.now.construction.rules nonterminal.now)
+            (IsGiven Self.meaning begins passes lr.now.construction.rules remainder.now
+            lookahead.now)) }
+    {
+        let mut moves = Self::epsilon_moves(alloc, lr, nonterminal, remainder, lookahead)?;
+        match moves.pop() {
+            Some(item) => Ok(Some(item.lookahead)),
+            None => Ok(None),
+        }
+    }
 }

@@ -8,12 +8,14 @@ ghost use Rattle.lalrpop_tables.specs.EarlyStop.{FailsAfterLr0, StopsFor};
 ghost use Rattle.lalrpop_tables.specs.EpsilonMoves.{AreBegunWith};
 ghost use Rattle.lalrpop_tables.specs.Lr0.{AreLr0States, HasLr0States, HaveNoNilConflict, ListsNilConflicts};
 ghost use Rattle.lalrpop_tables.specs.Lr1Answers.{AreBuiltTablesOf, FailsOn};
+ghost use Rattle.lalrpop_tables.specs.Numbers.{AreNumbered, AreNumbers, items_by};
 ghost use Rattle.lalrpop_tables.specs.Results.{AreTables, AreTablesFor, FailsBy, FailsFor, canonical_of};
 ghost use Rattle.lalrpop_tables.specs.States.{begun};
 ghost use Rattle.lalrpop_tables.specs.declared.build.options.Method.TheVariants.{Canonical};
 
-use super::kernel::Kernel;
 use super::lookahead_build::LookaheadBuild;
+use super::numbered::{Numbered, NumberedKernel};
+use super::numbers::Numbers;
 use super::results::tables_or_conflicts;
 use super::states::build_states;
 use lalrpop_base::first::FirstSets;
@@ -36,6 +38,7 @@ pub struct Lr<'grammar, L: Lookahead> {
     start: NonterminalString,
     lookahead: L,
     first_sets: FirstSets<'grammar>,
+    numbers: Numbers<'grammar>,
     stop_after: usize,
 }
 
@@ -58,7 +61,7 @@ impl<'grammar, L: Lookahead> Model for Lr<'grammar, L> {
 
     ghost use Rattle.lalrpop_tables.specs.Ready.{IsReady};
 
-    ghost invariant = { λ l. IsReady l.grammar.now l.first_sets (L.meaning l.lookahead) };
+    ghost invariant = { λ l. IsReady l.grammar.now l.first_sets l.numbers (L.meaning l.lookahead) };
 }
 
 impl<'grammar, L: Lookahead> Lr<'grammar, L> {
@@ -83,11 +86,13 @@ impl<'grammar, L: Lookahead> Lr<'grammar, L> {
     {
         let _names = grammar.nonterminals.len();
         let first_sets = FirstSets::new(alloc, grammar)?;
+        let numbers = Numbers::new(alloc, grammar)?;
         Ok(Lr {
             grammar,
             start,
             lookahead,
             first_sets,
+            numbers,
             stop_after: 0,
         })
     }
@@ -124,6 +129,13 @@ impl<'grammar, L: Lookahead> Lr<'grammar, L> {
         &self.first_sets
     }
 
+    /// The symbols and dotted productions of the grammar by number.
+    pub(super) fn numbers(&self) -> &Numbers<'grammar>
+        ensures { AreNumbers self.now.construction.rules result.now }
+    {
+        &self.numbers
+    }
+
     /// The productions of a nonterminal, dot first, with the lookahead.
     pub fn begun_items(
         &self,
@@ -139,15 +151,21 @@ impl<'grammar, L: Lookahead> Lr<'grammar, L> {
     }
 
     /// The productions of the start symbol, dot first, with its lookahead.
-    pub(super) fn start_kernel(&self, alloc: Global) -> Result<Kernel<'grammar, L>, OutOfMemory>
-        ensures kernel { IfOk result (λ kernel. kernel ≡ map (begun self.now.construction.lookahead)
-            self.now.construction.first) }
-        ensures items { IfOk result
-            (λ kernel. AreItemsBy L.meaning self.now.construction.rules kernel) }
+    pub(super) fn start_kernel(
+        &self,
+        alloc: Global,
+        numbers: &Numbers<'grammar>,
+    ) -> Result<NumberedKernel<L>, OutOfMemory>
+        requires { AreNumbers self.now.construction.rules numbers.now }
+        ensures known { IfOk result (AreNumbered numbers.now.items.items) }
+        ensures kernel { IfOk result (λ kernel. items_by numbers.now.items.items kernel ≡ map
+            (begun self.now.construction.lookahead) self.now.construction.first) }
+        ensures items { IfOk result (λ kernel. AreItemsBy L.meaning self.now.construction.rules
+            (items_by numbers.now.items.items kernel)) }
     {
         let grammar = self.grammar;
-        let items = begun_items(alloc, grammar, &self.start, &self.lookahead)?;
-        Ok(Kernel::start(Sequence::from_vec(items)))
+        let items = numbered_starts(alloc, grammar, numbers, &self.start, &self.lookahead)?;
+        Ok(NumberedKernel::new(items))
     }
 }
 
@@ -221,6 +239,28 @@ fn begun_items<'grammar, L: Lookahead>(
             index: 0,
             lookahead: lookahead.copy(alloc)?,
         })?;
+    }
+    Ok(items)
+}
+
+// The productions of a nonterminal, dot first, with the lookahead, by number.
+fn numbered_starts<'grammar, L: Lookahead>(
+    alloc: Global,
+    grammar: &'grammar Grammar,
+    numbers: &Numbers<'grammar>,
+    nonterminal: &NonterminalString,
+    lookahead: &L,
+) -> Result<Sequence<Numbered<L>>, OutOfMemory>
+    requires { AreNumbers (rules_of grammar.now) numbers.now }
+    ensures known { IfOk result (AreNumbered numbers.now.items.items) }
+    ensures items { IfOk result (λ items. items_by numbers.now.items.items items ≡ map
+        (begun lookahead.now) (productions_of grammar.now nonterminal.now)) }
+{
+    let mut items = Sequence::new(alloc);
+    for production in grammar.productions_for(nonterminal) {
+        let number = numbers.number_of(&Item::lr0(production, 0)).unwrap();
+        let lookahead = lookahead.copy(alloc)?;
+        items.push(Numbered { number, lookahead })?;
     }
     Ok(items)
 }

@@ -2,16 +2,20 @@
 ghost use Rattle.std.specs.Prelude.{◌≡◌, ◌↔◌, IsTrue, IfOk, OnOk, length, slice_get, Some};
 ghost use Rattle.lalrpop_tables.specs.Closure.{AreItemsBy, IsClosureBy};
 ghost use Rattle.lalrpop_tables.specs.EarlyStop.{AreEnough, AreMadeFor};
+ghost use Rattle.lalrpop_tables.specs.Numbers.{AreAllNumbered, AreNumbered, AreNumbers, items_by, kernels_by};
 ghost use Rattle.lalrpop_tables.specs.States.{IsBuiltBy, Extends, LeadsToAdded};
 
 use super::closure::closure;
-use super::kernel::Kernel;
 use super::lookahead_build::LookaheadBuild;
 use super::lr::Lr;
+use super::numbered::{Numbered, NumberedKernel};
+use super::numbers::Numbers;
 use super::reductions::reductions;
 use super::results::push_conflicts;
 use super::transitions::{Edges, edges_of, moves_of};
 use lalrpop_base::kernel_set::KernelSet;
+use lalrpop_base::lookahead::Lookahead;
+use lalrpop_base::lr1_core::item::Item;
 use lalrpop_base::lr1_core::state::{Conflict, Items, State, StateIndex};
 use lalrpop_base::memory::OutOfMemory;
 use std::alloc::Global;
@@ -19,27 +23,54 @@ use std::alloc::Global;
 /// States, and their conflicts.
 pub type States<'grammar, L> = (Vec<State<'grammar, L>>, Vec<Conflict<'grammar, L>>);
 
+// Items by number as items.
+fn items_of<'grammar, L: Lookahead>(
+    alloc: Global,
+    numbers: &Numbers<'grammar>,
+    list: Vec<Numbered<L>>,
+) -> Result<Vec<Item<'grammar, L>>, OutOfMemory>
+    requires { AreNumbered numbers.now.items.items list.items }
+    ensures { IfOk result
+        (λ items. items.items ≡ items_by numbers.now.items.items list.items) }
+{
+    let mut items = Vec::new(alloc);
+    for item in list {
+        items.push(numbers.items[item.number].with_lookahead(item.lookahead))?;
+    }
+    Ok(items)
+}
+
 // The state of the kernel, with the number.
 fn build_state<'grammar, L: LookaheadBuild>(
     alloc: Global,
     lr: &Lr<'grammar, L>,
-    kernel: &Kernel<'grammar, L>,
+    numbers: &Numbers<'grammar>,
+    kernel: &NumberedKernel<L>,
     number: usize,
-    kernels: &mut KernelSet<Kernel<'grammar, L>>,
+    kernels: &mut KernelSet<NumberedKernel<L>>,
 ) -> Result<State<'grammar, L>, OutOfMemory>
-    requires kernel { AreItemsBy L.meaning lr.now.construction.rules kernel.now }
+    requires numbers { AreNumbers lr.now.construction.rules numbers.now }
+    requires known { AreNumbered numbers.now.items.items kernel.now }
+    requires kernels { AreAllNumbered numbers.now.items.items kernels.old.list }
+    requires kernel { AreItemsBy L.meaning lr.now.construction.rules
+        (items_by numbers.now.items.items kernel.now) }
+    ensures known { OnOk result (AreAllNumbered numbers.now.items.items kernels.new.list) }
     ensures built { IfOk result (λ state. IsBuiltBy
-        (IsClosureBy L.meaning L.begins L.passes lr.now.construction.rules) kernels.new.list
-        kernel.now number state) }
-    ensures extends { OnOk result
-        (Extends L.meaning lr.now.construction.rules kernels.old kernels.new) }
-    ensures led { IfOk result (LeadsToAdded kernels.old kernels.new) }
+        (IsClosureBy L.meaning L.begins L.passes lr.now.construction.rules)
+        (kernels_by numbers.now.items.items kernels.new).list
+        (items_by numbers.now.items.items kernel.now) number state) }
+    ensures extends { OnOk result (Extends L.meaning lr.now.construction.rules
+        (kernels_by numbers.now.items.items kernels.old)
+        (kernels_by numbers.now.items.items kernels.new)) }
+    ensures led { IfOk result
+        (LeadsToAdded (kernels_by numbers.now.items.items kernels.old)
+        (kernels_by numbers.now.items.items kernels.new)) }
 {
-    let items = closure(alloc, lr, kernel.as_slice())?;
-    let moves = moves_of(alloc, &items)?;
-    let edges = edges_of(alloc, moves, kernels)?;
+    let list = closure(alloc, lr, numbers, kernel.as_slice())?;
+    let moves = moves_of(alloc, numbers, &list)?;
+    let Edges { shifts, gotos } = edges_of(alloc, numbers, moves, kernels)?;
+    let items = items_of(alloc, numbers, list)?;
     let reductions = reductions(alloc, &items)?;
-    let Edges { shifts, gotos } = edges;
     Ok(State {
         index: StateIndex(number),
         items: Items { vec: items },
@@ -65,13 +96,14 @@ pub fn build_states<'grammar, L: LookaheadBuild>(
     ensures { IfOk result (λ made. AreMadeFor L.meaning L.begins L.passes L.lists_conflicts lr.now
         made.0.items made.1.items) }
 {
+    let numbers = lr.numbers();
     let mut kernels = KernelSet::new(alloc);
     let mut states = Vec::new(alloc);
     let mut conflicts = Vec::new(alloc);
-    kernels.add_state(lr.start_kernel(alloc)?)?;
+    kernels.add_state(lr.start_kernel(alloc, numbers)?)?;
     while let Some(kernel) = kernels.next() {
         let number = states.len();
-        let state = build_state(alloc, lr, &kernel, number, &mut kernels)?;
+        let state = build_state(alloc, lr, numbers, &kernel, number, &mut kernels)?;
         push_conflicts(alloc, lr, &state, &mut conflicts)?;
         states.push(state)?;
         if are_enough(lr.stop_after(), conflicts.len()) {

@@ -1,7 +1,8 @@
 use Rattle.std.proofs.Common.{◌≡◌, ℕ, IsSome, Some, None, Option, ◌∙◌, ap, refl, length}
 use Rattle.std.specs.Prelude.{IsNone}
 use Rattle.std.proofs.lemmas.Option.{slice_get_read}
-use Rattle.lalrpop_base.proofs.FirstTables.{First-init, First-one, First-terminal, First-end}
+use Rattle.lalrpop_base.specs.FirstTables.{Gives}
+use Rattle.lalrpop_base.proofs.FirstTables.{First-init, First-one, First-terminal, First-nonterminal, First-passed, First-stopped, First-end}
 use Rattle.lalrpop_base.proofs.first.table.first_by.Goals as goal
 
 pub loop-symbol-init : goal.loop-symbol-init
@@ -22,7 +23,15 @@ same_place e f = cc
 pub returns-in-Terminal : goal.returns-in-Terminal
 returns-in-Terminal c =
     let is = c.unwrap-bit.ensures in
-    First-one _ _ _ _ _ _ _ c.loop-symbol.invariant (First-terminal _ _ _ _ _ _ _ c.loop-symbol-test.true c.symbol-item.is c.in-Terminal.is (rw is at c.bit.ensures.found) (λ bit at. same_place is (c.bit.ensures.only bit at))) c.in_ok-insert_bit-in-Terminal.ensures.inserted
+    First-one _ _ _ _ _ _ _ c.loop-symbol.invariant (First-terminal _ _ _ _ _ c.loop-symbol-test.true c.symbol-item.is _ _ c.in-Terminal.is (rw is at c.bit.ensures.found) (λ bit at. same_place is (c.bit.ensures.only bit at))) c.in_ok-insert_bit-in-Terminal.ensures.inserted
+
+pub loop-symbol-preserved : goal.loop-symbol-preserved
+loop-symbol-preserved c = First-passed _ _ _ _ _ _ _ _ _ (First-nonterminal _ _ _ _ _ c.loop-symbol-test.true c.symbol-item.is _ c.in-Nonterminal.is) c.in_ok-join_name-in-Nonterminal.ensures c.loop-symbol.invariant c.if-not-branch.false refl
+
+pub returns-then-not-branch : goal.returns-then-not-branch
+returns-then-not-branch c = First-stopped _ _ _ _ _ _ _ _ _ (First-nonterminal _ _ _ _ _ c.loop-symbol-test.true c.symbol-item.is _ c.in-Nonterminal.is) c.in_ok-join_name-in-Nonterminal.ensures c.loop-symbol.invariant c.if-not-branch.true
 
 pub returns : goal.returns
-returns c = First-one _ _ _ _ _ _ _ c.loop-symbol.invariant (First-end _ _ _ _ c.loop-symbol-test.false) c.in_ok-insert_eof.ensures.inserted
+returns c =
+    let G = Gives c.args.terminals.now c.args.table.now.entries in
+    First-one G _ _ _ _ _ _ c.loop-symbol.invariant (First-end G _ _ _ c.loop-symbol-test.false (λ bit. (λ g. g, λ g. g))) c.in_ok-insert_eof.ensures.inserted

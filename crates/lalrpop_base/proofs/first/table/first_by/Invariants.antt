@@ -1,5 +1,7 @@
+use Rattle.std.proofs.Common.{length}
+use Rattle.lalrpop_base.specs.FirstTables.{Gives}
 use Rattle.lalrpop_base.proofs.FirstTables.{FirstSoFar}
 use Rattle.lalrpop_base.proofs.first.table.first_by.Given as goal
 
 abbrev pub invariant-loop-symbol : goal.invariant-loop-symbol
-invariant-loop-symbol l = FirstSoFar l.terminals l.table.entries l.symbols l.set l.symbol-index
+invariant-loop-symbol l = FirstSoFar (Gives l.terminals l.table.entries) (length l.terminals) l.symbols l.set l.symbol-index

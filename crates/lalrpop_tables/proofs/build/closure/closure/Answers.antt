@@ -1,60 +1,33 @@
-use Rattle.std.proofs.Common.{◌≡◌, [], List, map, sym, subst}
-use Rattle.std.proofs.lemmas.Grind.{common_steps}
-use Rattle.std.proofs.Common.{rules, arith}
-use Rattle.std.specs.Prelude.{Contains}
-use Rattle.std.proofs.lemmas.List.{nil_from_length}
+use Rattle.std.proofs.Common.{◌<◌, List, sym, subst}
 use Rattle.std.proofs.lemmas.Result.{IfOk-weaker}
-use Rattle.lalrpop_base.specs.Words.{Bits, Dotted}
-use Rattle.lalrpop_base.specs.declared.lookahead.nil.Nil.{Nil}
-use Rattle.lalrpop_tables.specs.Words.{Ascend, itself, IsClosureBy, item_of, meant, readings}
-use Rattle.lalrpop_tables.proofs.Ascending.{Read-ascend}
+use Rattle.lalrpop_base.specs.Words.{Ordered}
+use Rattle.lalrpop_tables.specs.Numbers.{AreNumbered, items_by}
+use Rattle.lalrpop_tables.specs.Words.{IsClosureBy}
+use Rattle.lalrpop_tables.specs.declared.build.numbered.Numbered.{Numbered}
 use Rattle.lalrpop_tables.proofs.BothFacts.{IfOk-both}
-use Rattle.lalrpop_tables.proofs.Closing.{Tokens-start, Tokens-step, Tokens-end}
-use Rattle.lalrpop_tables.proofs.ClosureLoops.{Closing-smaller, Closing-step, Closing-end}
-use Rattle.lalrpop_tables.proofs.Growth.{key_entry}
-use Rattle.lalrpop_tables.proofs.Lists.{Contains-here}
-use Rattle.lalrpop_tables.proofs.Readings.{Meant-closure, items_read, readings_keys}
+use Rattle.lalrpop_tables.proofs.Gathering.{Gathers-none}
+use Rattle.lalrpop_tables.proofs.SharedItems.{number_known}
+use Rattle.lalrpop_tables.proofs.Unfolded.{Closure-of}
 use Rattle.lalrpop_tables.proofs.build.closure.closure.Goals as goal
 
-pub loop-item-init : goal.loop-item-init
-loop-item-init g c = (c.in_ok-start.ensures.closing, Tokens-start g.L.LookaheadBuild.begins g.L.LookaheadBuild.passes c.args.lr.now.construction.rules (map (meant g.L.Lookahead.meaning) c.args.kernel.now) _ _ c.in_ok-start.ensures.started)
+pub gather_shared-requires : goal.gather_shared-requires
+gather_shared-requires g c = λ e h. number_known c.args.lr.now.construction.rules c.args.numbers.now c.requires.numbers e.0 (c.in_ok-shared.ensures.known e h)
 
-pub loop-item-smaller : goal.loop-item-smaller
-loop-item-smaller g c =
-    let before = rw c.in-Some.ensures.items at c.loop-item.invariant in
-    rw c.in-Some.ensures.items (Closing-smaller c.args.lr.now.construction.rules (map (meant g.L.Lookahead.meaning) c.args.kernel.now) c.in-Some.item _ _ _ _ before.0 c.in_ok-expand.ensures.expanded)
-
-pub loop-item-preserved : goal.loop-item-preserved
-loop-item-preserved g c =
-    let before = rw c.in-Some.ensures.items at c.loop-item.invariant in
-    let kernel = map (meant g.L.Lookahead.meaning) c.args.kernel.now in
-    let found = key_entry _ c.in-Some.item (before.0.found c.in-Some.item (Contains-here c.in-Some.item c.pop_front.new.self.items)) in (
-      Closing-step c.args.lr.now.construction.rules kernel c.in-Some.item _ _ _ _ before.0 c.in_ok-expand.ensures.expanded,
-      Tokens-step g.L.LookaheadBuild.begins g.L.LookaheadBuild.passes c.args.lr.now.construction.rules kernel c.in-Some.item _ _ _ _ before.0.is_table.differ before.1 (c.in_ok-expand.ensures.tokens before.0.is_table.differ found.0 found.1),
-    )
-
-pub expand-requires-clause-known : goal.expand-requires-clause-known
-expand-requires-clause-known g c =
-    let before = rw c.in-Some.ensures.items at c.loop-item.invariant in
-    before.0.is_table.queued c.in-Some.item (Contains-here c.in-Some.item c.pop_front.new.self.items)
-
-pub expand-requires-clause-found : goal.expand-requires-clause-found
-expand-requires-clause-found g c =
-    let before = rw c.in-Some.ensures.items at c.loop-item.invariant in
-    let found = before.0.found c.in-Some.item (Contains-here c.in-Some.item c.pop_front.new.self.items) in
-    subst (λ (ks : List (Dotted Nil)). Contains ks c.in-Some.item) (readings_keys g.L.Lookahead.meaning c.loop-item.table.entries) found
-
-pub returns : goal.returns
-returns g c =
-    let m = g.L.Lookahead.meaning in
-    let begins = g.L.LookaheadBuild.begins in
-    let passes = g.L.LookaheadBuild.passes in
-    let r = c.args.lr.now.construction.rules in
-    let kernel : List (Dotted Bits) = map (meant m) c.args.kernel.now in
-    let entries : List (Dotted Nil × g.row.L.Denot) = c.loop-item.table.entries in
-    let none : c.loop-item.queue.items ≡ [] = first_of (search rules, grind (arith, common_steps), grind (arith, common_steps, nil_from_length c.loop-item.queue.items)) in
-    let end = rw none at c.loop-item.invariant in
+pub returns-clause-known : goal.returns-clause-known
+returns-clause-known g c =
+    let first = rw c.new-table.ensures.empty at c.in_ok-gather_kernel.ensures in
+    let gathers = c.in_ok-gather_shared.ensures _ (first _ Gathers-none) in
     IfOk-weaker c.items_of.result _ _ (λ items h.
-    let ascend : Ascend (map item_of entries) = subst Ascend h.0 h.1 in
-    let read : IsClosureBy itself begins passes r kernel (map item_of (readings m entries)) = Closing-end r begins passes kernel (readings m entries) end.0 (Read-ascend m entries ascend) (Tokens-end begins passes r kernel (readings m entries) end.1) in
-    subst (IsClosureBy m begins passes r c.args.kernel.now) (sym h.0) (Meant-closure m begins passes r c.args.kernel.now (map item_of entries) ascend (subst (IsClosureBy itself begins passes r kernel) (items_read m entries) read))) (IfOk-both c.items_of.result _ _ c.items_of.ensures.items c.items_of.ensures.ascend)
+    let rise = subst (Ordered (λ (d e : Numbered g.row.L.Denot). d.number < e.number)) h.0 h.1 in
+    subst (AreNumbered c.args.numbers.now.items.items) (sym h.0) (Closure-of g.L.Lookahead.meaning g.L.LookaheadBuild.begins g.L.LookaheadBuild.passes c.args.lr.now.construction.rules c.args.numbers.now c.requires.numbers c.args.kernel.now c.requires.known c.requires.kernel _ c.in_ok-shared.ensures _ gathers rise).0) (IfOk-both c.items_of.result _ _ c.items_of.ensures.items c.items_of.ensures.rising)
+
+pub returns-clause-closed : goal.returns-clause-closed
+returns-clause-closed g c =
+    let rules = c.args.lr.now.construction.rules in
+    let items = c.args.numbers.now.items.items in
+    let first = rw c.new-table.ensures.empty at c.in_ok-gather_kernel.ensures in
+    let gathers = c.in_ok-gather_shared.ensures _ (first _ Gathers-none) in
+    IfOk-weaker c.items_of.result _ _ (λ list h.
+    let rise = subst (Ordered (λ (d e : Numbered g.row.L.Denot). d.number < e.number)) h.0 h.1 in
+    subst (λ (xs : List (Numbered g.row.L.Denot)). IsClosureBy g.L.Lookahead.meaning g.L.LookaheadBuild.begins g.L.LookaheadBuild.passes rules (items_by items c.args.kernel.now) (items_by items xs)) (sym h.0)
+    (Closure-of g.L.Lookahead.meaning g.L.LookaheadBuild.begins g.L.LookaheadBuild.passes rules c.args.numbers.now c.requires.numbers c.args.kernel.now c.requires.known c.requires.kernel _ c.in_ok-shared.ensures _ gathers rise).1) (IfOk-both c.items_of.result _ _ c.items_of.ensures.items c.items_of.ensures.rising)

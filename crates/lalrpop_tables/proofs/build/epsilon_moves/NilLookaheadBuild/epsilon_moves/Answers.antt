@@ -8,7 +8,6 @@ returns c = record {
   moves = IfOk-weaker c.begun_items.result _ _ (λ items begun. record {
     given = c.args.lookahead.now;
     begun = begun;
-    fits = λ f. f;
-    holds = λ t. (λ h. absurd (holds_none c.args.lr.now.construction.rules.terminals t h), λ h. elim h [ inl n ↦ absurd n | inr n ↦ absurd n.0 ]);
+    is = record { fits = λ f. f; holds = λ t. (λ h. absurd (holds_none c.args.lr.now.construction.rules.terminals t h), λ h. elim h [ inl n ↦ absurd n | inr n ↦ absurd n.0 ]) };
   }) c.begun_items.ensures;
 }

@@ -18,7 +18,6 @@ returns c =
     let given = IfOk-weaker c.begun_items.result _ _ (λ items begun. record {
       given = c.in_ok-given.given;
       begun = begun;
-      fits = fits;
-      holds = First-holds rules known c.args.remainder.now c.requires.known c.args.lookahead.now c.in_ok-given.given first;
+      is = record { fits = fits; holds = First-holds rules known c.args.remainder.now c.requires.known c.args.lookahead.now c.in_ok-given.given first };
     }) c.begun_items.ensures in
     record { moves = given }

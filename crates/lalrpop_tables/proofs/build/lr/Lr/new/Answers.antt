@@ -6,5 +6,6 @@ invariant_of-result g c = record {
   well_formed = c.requires.well_formed;
   own = productions_own c.args.grammar.now c.requires.well_formed c.len-names.ensures.ordered;
   firsts = c.in_ok-first_sets.ensures.made;
+  numbered = c.in_ok-numbers.ensures;
   fits = c.requires.fits;
 }

@@ -21,7 +21,6 @@ returns c =
     let moves = IfOk-weaker c.begun_items.result _ _ (λ items begun. record {
       given = c.followed-given.result;
       begun = begun;
-      fits = Word-fits rules differ c.args.remainder.now c.in_ok-first.first first c.in_ok-word.word c.args.lookahead.now word c.followed-given.result c.contains_eof-nullable.result c.followed-given.ensures;
-      holds = Word-holds rules differ c.args.remainder.now c.in_ok-first.first first c.in_ok-word.word c.args.lookahead.now word (low_bit rules known c.args.remainder.now c.requires.known) c.followed-given.result c.contains_eof-nullable.result nullable c.followed-given.ensures;
+      is = record { fits = Word-fits rules differ c.args.remainder.now c.in_ok-first.first first c.in_ok-word.word c.args.lookahead.now word c.followed-given.result c.contains_eof-nullable.result c.followed-given.ensures; holds = Word-holds rules differ c.args.remainder.now c.in_ok-first.first first c.in_ok-word.word c.args.lookahead.now word (low_bit rules known c.args.remainder.now c.requires.known) c.followed-given.result c.contains_eof-nullable.result nullable c.followed-given.ensures };
     }) c.begun_items.ensures in
     record { moves = moves }

@@ -1,0 +1,7 @@
+use Rattle.std.proofs.Common.{length}
+use Rattle.lalrpop_base.specs.FirstNumbers.{GivesByNumber}
+use Rattle.lalrpop_base.proofs.FirstTables.{FirstSoFar}
+use Rattle.lalrpop_base.proofs.first.sets.given_by.Given as goal
+
+abbrev pub invariant-loop-symbol : goal.invariant-loop-symbol
+invariant-loop-symbol l = FirstSoFar (GivesByNumber (length l.terminals) l.sets) (length l.terminals) l.symbols l.set l.symbol-index

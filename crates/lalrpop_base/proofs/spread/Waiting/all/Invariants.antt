@@ -1,0 +1,5 @@
+use Rattle.lalrpop_base.proofs.Spreading.{HasAllBelow}
+use Rattle.lalrpop_base.proofs.spread.Waiting.all.Given as goal
+
+abbrev pub invariant-loop-number : goal.invariant-loop-number
+invariant-loop-number l = HasAllBelow l.number l.queue.items

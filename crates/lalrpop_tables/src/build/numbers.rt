@@ -1,0 +1,60 @@
+//! The symbols and dotted productions of a grammar, by number.
+mod dotted;
+mod expansions;
+mod halving;
+mod symbols;
+
+ghost use Rattle.std.specs.Prelude.{◌≡◌, Contains, IfOk, IfSome, IsNone, Some, slice_get};
+ghost use Rattle.lalrpop_base.specs.Words.{rules_of};
+ghost use Rattle.lalrpop_tables.specs.Ascending.{Ascend};
+ghost use Rattle.lalrpop_tables.specs.Numbers.{AreNumbers};
+
+use dotted::dotted_productions;
+use expansions::expansions_of;
+use halving::place_in_order;
+use lalrpop_base::lr1_core::item::Lr0Item;
+use lalrpop_base::memory::OutOfMemory;
+use lalrpop_base::repr::Symbol;
+use lalrpop_base::repr::grammar::Grammar;
+use std::alloc::Global;
+use symbols::{list_symbols, numbers_behind};
+
+/// The symbols and dotted productions of a grammar: the number of each is its place in its list.
+#[derive(Drop)]
+pub(crate) struct Numbers<'grammar> {
+    /// The dotted productions, ascending, so that one with its dot moved stands behind it.
+    pub(crate) items: Vec<Lr0Item<'grammar>>,
+    /// For each dotted production the number of the symbol behind its dot.
+    pub(crate) behind: Vec<Option<usize>>,
+    /// The symbols of right sides, ascending.
+    pub(crate) symbols: Vec<Symbol>,
+    /// For each symbol the numbers of its productions with the dot in front.
+    pub(crate) expansions: Vec<Vec<usize>>,
+}
+
+impl<'grammar> Numbers<'grammar> {
+    /// Each symbol of a right side is looked up by its text twice, by halving.
+    pub(crate) fn new(alloc: Global, grammar: &'grammar Grammar) -> Result<Self, OutOfMemory>
+        ensures { IfOk result (AreNumbers (rules_of grammar.now)) }
+    {
+        let items = dotted_productions(alloc, grammar)?;
+        let symbols = list_symbols(alloc, &items)?;
+        let behind = numbers_behind(alloc, &symbols, &items)?;
+        let expansions = expansions_of(alloc, &symbols, &items)?;
+        Ok(Numbers {
+            items,
+            behind,
+            symbols,
+            expansions,
+        })
+    }
+
+    /// The number of a dotted production.
+    pub(crate) fn number_of(&self, item: &Lr0Item<'grammar>) -> Option<usize>
+        requires { Ascend self.now.items.items }
+        ensures found { IfSome result (λ k. slice_get self.now.items.items k ≡ Some item.now) }
+        ensures none { IsNone result → ¬ Contains self.now.items.items item.now }
+    {
+        place_in_order(&self.items, item)
+    }
+}
