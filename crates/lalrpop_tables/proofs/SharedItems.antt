@@ -71,9 +71,9 @@ module _ (begins : Rules → List Symbol → Token → Type 0) (passes : Rules �
       let after : rest ≡ drop (suc item.index) item.production.symbols = rest_from item.index item.production.symbols rest is in
       let behind : drop item.index item.production.symbols ≡ Nonterminal name ∷ rest = drop_split item.index item.production.symbols (Nonterminal name) next ∙ ap (λ (xs : List Symbol). Nonterminal name ∷ xs) (sym after) in
       Shares-one begins passes g n item x name rest named behind (meaning given)
-          (λ t. subst (λ (b : Bits). (holds_token g.terminals (meaning given) t ≡ true) ↔ (begins g rest t ⊎ (passes g rest × (holds_token g.terminals b t ≡ true)))) of (gives.holds t))
-          (λ fit. gives.fits (λ bit h. fit bit (subst (λ (b : Bits). has b bit ≡ true) of h)))
-          old new queue pushed queued
+      (λ t. subst (λ (b : Bits). (holds_token g.terminals (meaning given) t ≡ true) ↔ (begins g rest t ⊎ (passes g rest × (holds_token g.terminals b t ≡ true)))) of (gives.holds t))
+      (λ fit. gives.fits (λ bit h. fit bit (subst (λ (b : Bits). has b bit ≡ true) of h)))
+      old new queue pushed queued
 
 -- ---- one item more of a list
 pub mapped_more : {X Y : Type 0} (f : X → Y) (xs : List X) (i : ℕ) (x : X) → i < length xs → x ≡ get_or xs i x → map f (take (i + 1) xs) ≡ map f (take i xs) ++ f x ∷ []

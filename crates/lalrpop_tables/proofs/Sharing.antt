@@ -79,8 +79,8 @@ module _ (begins : Rules → List Symbol → Token → Type 0) (passes : Rules �
 
   -- ---- an item gives to the nonterminal behind its dot
   module _ (i : Dotted Bits) (x : ℕ) (name : NonterminalString) (after : List Symbol) (named : IsNamed n x name) (behind : drop i.index i.production.symbols ≡ Nonterminal name ∷ after)
-    (given : Bits) (is : (t : Token) → (holds_token g.terminals given t ≡ true) ↔ MayFollow begins passes g n i after t) (fits : FitsTokens g.terminals i.lookahead → FitsTokens g.terminals given)
-    (old new : Shared) (queue pushed : List ℕ) (q : IsQueued x given old new queue pushed) where
+      (given : Bits) (is : (t : Token) → (holds_token g.terminals given t ≡ true) ↔ MayFollow begins passes g n i after t) (fits : FitsTokens g.terminals i.lookahead → FitsTokens g.terminals given)
+      (old new : Shared) (queue pushed : List ℕ) (q : IsQueued x given old new queue pushed) where
     stands : (k : ℕ) → x ≡ k → StandsBehind n i k after
     stands k same = record { name = name; named = subst (λ (m : ℕ). IsNamed n m name) same named; behind = behind }
 
@@ -91,12 +91,15 @@ module _ (begins : Rules → List Symbol → Token → Type 0) (passes : Rules �
     shared_here p later stood among =
         let f = adds.there x refl in
         let e = sym behind ∙ stood in
-        let a : after ≡ later = same_after name p.nonterminal after later e in
-        (x, subst (IsNamed n x) (same_name name p.nonterminal after later e) named, record {
-          set = f.set;
-          entry = f.entry;
-          all = λ t m. holds_more g.terminals given f.set t f.all ((is t).1 (subst (λ (l : List Symbol). MayFollow begins passes g n i l t) (sym a) m));
-        })
+        let a : after ≡ later = same_after name p.nonterminal after later e in (
+          x,
+          subst (IsNamed n x) (same_name name p.nonterminal after later e) named,
+          record {
+            set = f.set;
+            entry = f.entry;
+            all = λ t m. holds_more g.terminals given f.set t f.all ((is t).1 (subst (λ (l : List Symbol). MayFollow begins passes g n i l t) (sym a) m));
+          },
+        )
 
     below : FitsTokens g.terminals i.lookahead → IsBelow (length g.terminals + 2) given
     below fit bit h = let l = fits fit bit h in omega arith
@@ -209,7 +212,7 @@ module _ (begins : Rules → List Symbol → Token → Type 0) (passes : Rules �
         given_tokens e t c h = elim (s.tokens e t c h) [ inl none ↦ absurd (Contains-none (e.0, none.set) none.entry) | inr m ↦ m ]
 
     module _ (x : ℕ) (set : Bits) (items : List (Dotted Bits)) (old new : Shared) (queue pushed : List ℕ) (before : IsSharing begins passes g n kernel old (x ∷ queue)) (entry : Contains old (x, set))
-      (fronts : (i : Dotted Bits) → Contains items i ↔ IsFront g n x set i) (s : Shares begins passes g n items old new queue pushed) where
+        (fronts : (i : Dotted Bits) → Contains items i ↔ IsFront g n x set i) (s : Shares begins passes g n items old new queue pushed) where
       front_reached : (i : Dotted Bits) → Contains items i → Reached i.production i.index
       front_reached i c = let f = (fronts i).0 c in subst (Reached i.production) (sym f.start) (before.reached (x, set) i.production entry f.named f.among)
 

@@ -88,7 +88,7 @@ numbers_rise {L} es s i j a b l at_i at_j =
     subst (λ (x : Numbered L). a.number < x.number) f.2 (subst (λ (x : Numbered L). x.number < (numbered_of f.0).number) e.2 (less_number e.0.0 f.0.0 both))
 
 module _ {L : Type 0} (meaning : L → Bits) (begins : Rules → List Symbol → Token → Type 0) (passes : Rules → List Symbol → Type 0) (g : Rules) (n : Numbers) (numbers : AreNumbers g n) (list : List (Numbered L)) (known : AreNumbered n.items.items list)
-  (are_items : AreItemsBy meaning g (items_by n.items.items list)) (shared : Shared) (sharing : IsSharing begins passes g n (map (meant meaning) (items_by n.items.items list)) shared []) where
+    (are_items : AreItemsBy meaning g (items_by n.items.items list)) (shared : Shared) (sharing : IsSharing begins passes g n (map (meant meaning) (items_by n.items.items list)) shared []) where
   abbrev kernel : List (Dotted Bits)
   kernel = map (meant meaning) (items_by n.items.items list)
 
@@ -133,13 +133,15 @@ module _ {L : Type 0} (meaning : L → Bits) (begins : Rules → List Symbol →
   shared_front x tokens k c m =
       let s = expansions_at x (sharing.known (x, tokens) c) in
       let i = (s.2 k).0 m in
-      let at : dotted_at n.items.items k ≡ i.0 = at_number n.items.items k i.0 i.1 in
-      (subst (λ (d : Dotted Nil). IsFront g n x tokens (record { production = d.production; index = d.index; lookahead = tokens })) (sym at) (record {
-        start = i.2;
-        among = (numbers.items.each i.0 (contains_at n.items.items i.0 k i.1)).0;
-        named = s.1 ∙ ap Some i.3;
-        same = refl;
-      }), slice_get_within n.items.items k i.0 i.1)
+      let at : dotted_at n.items.items k ≡ i.0 = at_number n.items.items k i.0 i.1 in (
+        subst (λ (d : Dotted Nil). IsFront g n x tokens (record { production = d.production; index = d.index; lookahead = tokens })) (sym at) (record {
+          start = i.2;
+          among = (numbers.items.each i.0 (contains_at n.items.items i.0 k i.1)).0;
+          named = s.1 ∙ ap Some i.3;
+          same = refl;
+        }),
+        slice_get_within n.items.items k i.0 i.1,
+      )
 
   done : (e : ℕ × Bits) → Contains shared e → (i : Dotted Bits) → IsFront g n e.0 e.1 i → IsShared begins passes g n shared i
   done e c i f = elim (sharing.shared e c) [ inl none ↦ absurd (Contains-none e.0 none) | inr all ↦ all i f ]
@@ -166,9 +168,9 @@ module _ {L : Type 0} (meaning : L → Bits) (begins : Rules → List Symbol →
   are_parts f c = elim (Contains-append_cases (parts_in meaning list) (unfolded n shared) f c) [
     | inl own ↦ let e = contains_of_map part_of list f own in subst IsPart e.2 (kernel_part e.0 e.1)
     | inr more ↦
-      let e = of_flat_map fronts_of shared f more in
-      let k = contains_of_map (λ (k : ℕ). (k, e.0.1)) (list_at n.expansions.items e.0.0) f e.2 in
-      subst IsPart k.2 (front_part e.0.0 e.0.1 k.0 e.1 k.1)
+        let e = of_flat_map fronts_of shared f more in
+        let k = contains_of_map (λ (k : ℕ). (k, e.0.1)) (list_at n.expansions.items e.0.0) f e.2 in
+        subst IsPart k.2 (front_part e.0.0 e.0.1 k.0 e.1 k.1)
   ]
 
   -- ---- the table that has them all

@@ -90,7 +90,15 @@ fn share_kernel<'grammar, L: LookaheadBuild>(
         queue.old.items queue.new.items) }
 {
     for item in kernel {
-        share(alloc, lr, numbers, item.number, &item.lookahead, shared, queue)?;
+        share(
+            alloc,
+            lr,
+            numbers,
+            item.number,
+            &item.lookahead,
+            shared,
+            queue,
+        )?;
     }
     Ok(())
 }

@@ -20,6 +20,8 @@ pub returns : goal.returns
 returns g c =
     let e = c.in_ok-moves.ensures.moves in
     let none : c.in_ok-moves.moves.items ≡ [] = first_of (search rules, grind (arith, common_steps), grind (arith, common_steps, nil_from_length c.in_ok-moves.moves.items)) in
-    record { given = λ p among named.
-      let there = e.begun.all p among named in
-      absurd (Contains-none (p, 0) (rw none at there)) }
+    record {
+      given = λ p among named.
+          let there = e.begun.all p among named in
+          absurd (Contains-none (p, 0) (rw none at there));
+    }
