@@ -1,6 +1,7 @@
 //! The construction of lane tables.
 mod actions;
 mod copying;
+mod lookaheads;
 pub mod merge;
 mod merging;
 mod promote;
@@ -16,7 +17,6 @@ ghost use Rattle.lalrpop_tables.specs.LaneStates.{AreLalrLaneTables, IsReadyToCo
 ghost use Rattle.lalrpop_tables.specs.Lr0Copies.{AreCopiedTables, FailsByCopies};
 
 use crate::conflicts::conflicts_of;
-use crate::state_graph::StateGraph;
 use lalrpop_base::first::FirstSets;
 use lalrpop_base::lr1_core::state::{BuildError, Lr1Result, TableConstructionError};
 use lalrpop_base::memory::OutOfMemory;
@@ -74,8 +74,7 @@ impl<'grammar> LaneTableConstruct<'grammar> {
         let grammar = self.grammar;
         let _terminals = grammar.terminals.all();
         let mut states = self.promoted_states(alloc)?;
-        let graph = StateGraph::new(alloc, &states)?;
-        let Some(first) = self.resolve_states(alloc, &mut states, &graph)? else {
+        let Some(first) = self.resolve_states(alloc, &mut states)? else {
             return Ok(states);
         };
         let states = self.resolve_copied(alloc, states, first)?;

@@ -23,7 +23,7 @@ returns-in_default-clause-lalr c alone lalr =
 pub returns-then-is_empty-clause-tables : goal.returns-then-is_empty-clause-tables
 returns-then-is_empty-clause-tables c =
     let g = c.args.self.grammar.now in
-    let all = c.in_ok-conflicts.ensures ∙ ap (λ (xs : List (State Bits)). flat_map (state_conflicts g.terminals) xs) c.deref-2.ensures.value in
+    let all = c.in_ok-conflicts.ensures ∙ ap (λ (xs : List (State Bits)). flat_map (state_conflicts g.terminals) xs) c.deref.ensures.value in
     let none : vec_len c.in_ok-conflicts.conflicts ≡ 0 = eqb-true (vec_len c.in_ok-conflicts.conflicts) 0 (sym c.is_empty.ensures ∙ c.if-is_empty.true) in
     copied_tables (rules_of g) c.args.self.start c.args.self.max_copies c.in_ok-states-2.states.items c.in_ok-states-2.ensures c.in_ok-conflicts.conflicts.items all (none_left c.in_ok-conflicts.conflicts.items (let k = c.in_ok-conflicts.conflicts.ok in omega arith))
 
@@ -36,7 +36,7 @@ returns-then-is_empty-clause-lalr c alone lalr =
 pub returns-clause-failure : goal.returns-clause-failure
 returns-clause-failure c =
     let g = c.args.self.grammar.now in
-    let all = c.in_ok-conflicts.ensures ∙ ap (λ (xs : List (State Bits)). flat_map (state_conflicts g.terminals) xs) c.deref-2.ensures.value in
+    let all = c.in_ok-conflicts.ensures ∙ ap (λ (xs : List (State Bits)). flat_map (state_conflicts g.terminals) xs) c.deref.ensures.value in
     let some = some_of (vec_len c.in_ok-conflicts.conflicts) (sym c.is_empty.ensures ∙ c.if-is_empty.false) in
     copied_conflicts (rules_of g) c.args.self.start c.args.self.max_copies c.in_ok-states-2.states.items c.in_ok-states-2.ensures c.in_ok-conflicts.conflicts.items all (let k = c.in_ok-conflicts.conflicts.ok in omega arith)
 
