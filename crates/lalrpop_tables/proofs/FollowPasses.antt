@@ -119,6 +119,7 @@ module _ (pass : Pass) (fits : IsPass pass) where
       let edge = (fits.closed.edges s (Nonterminal a)).1 (record { production = i.parent; dot = i.dot; after = i.after; item = i.item; behind = i.behind }) in
       record { dot = i.dot; state = s; name = a; after = i.after; target = edge.0; behind = i.behind; nullable = i.nullable; leads = i.leads; edge = edge.1; node = node }
 
+  -- so the sets and the edges are the follow graph
   pub follow_graph : (sets : List Bits) (edges : List (Vec ℕ Global)) → AreBegun pass sets → AreIncludes pass edges → IsFollowGraph g pass.name.now places nodes sets edges
   follow_graph sets edges begun includes = record {
     counted = includes.counted;

@@ -42,6 +42,7 @@ module _ (g : Rules) (start : NonterminalString) (states : List (State Bits)) (m
   abbrev places : ℕ → Contents
   places = places_in states
 
+  -- the states are closed
   pub lane_closed : AreClosed g.productions start places
   lane_closed = here_closed g start states made any
 

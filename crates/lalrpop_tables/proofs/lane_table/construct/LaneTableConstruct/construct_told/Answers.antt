@@ -7,12 +7,15 @@ use Rattle.lalrpop_tables.proofs.CheckStates.{some_of}
 use Rattle.lalrpop_tables.proofs.LaneAnswers.{meet_not_lalr, none_told, some_told, tables_lalr}
 use Rattle.lalrpop_tables.proofs.Lr0Copies.{copied_conflicts, copied_tables, lanes_copied}
 use Rattle.lalrpop_tables.proofs.Merging.{none_left}
-use Rattle.lalrpop_tables.proofs.lane_table.construct.LaneTableConstruct.construct.Goals as goal
+use Rattle.lalrpop_tables.proofs.lane_table.construct.LaneTableConstruct.construct_told.Goals as goal
 
 -- ---- no two actions of a state share a token
 pub returns-in_default-clause-tables : goal.returns-in_default-clause-tables
 returns-in_default-clause-tables c =
     lanes_copied (rules_of c.args.self.grammar.now) c.args.self.start c.args.self.max_copies c.resolve_states.new.states.items (none_told c.in_ok-first.field-0 _ _ c.in_default.not-Some c.in_ok-first.ensures.resolved)
+
+pub returns-in_default-clause-narrowed : goal.returns-in_default-clause-narrowed
+returns-in_default-clause-narrowed c _ = none_told c.in_ok-first.field-0 _ _ c.in_default.not-Some c.in_ok-first.ensures.resolved
 
 pub returns-in_default-clause-lalr : goal.returns-in_default-clause-lalr
 returns-in_default-clause-lalr c alone lalr =
