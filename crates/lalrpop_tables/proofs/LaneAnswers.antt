@@ -26,7 +26,9 @@ use Rattle.lalrpop_base.proofs.theory.RightStates.{edges_awaited, reductions_val
 use Rattle.lalrpop_base.proofs.theory.Lanes.{items_at}
 use Rattle.lalrpop_tables.specs.Words.{AreLaneStates, HasLaneBits, IsResolved, IsLaneAction, LanesMeet, HaveMeetingLanes, IsStep, AreLaneTables}
 use Rattle.lalrpop_tables.specs.Words.{AreLalrLaneTables, places_in, HaveNoConflict}
-use Rattle.lalrpop_tables.specs.declared.state_graph.StateGraph.{StateGraph}
+use Rattle.lalrpop_tables.specs.declared.build.numbers.Numbers.{Numbers}
+use Rattle.lalrpop_tables.specs.declared.lane_table.follow_sets.found.Found.{Found}
+use Rattle.lalrpop_tables.specs.declared.lane_table.follow_sets.numbered_state.NumberedState.{NumberedState}
 use Rattle.lalrpop_tables.proofs.LaneLoop.{AreResolvedTo}
 use Rattle.lalrpop_tables.proofs.ConflictFree.{nowhere_conflict, free_contents}
 use Rattle.lalrpop_tables.proofs.Grammars.{known_symbols, known_rest}
@@ -148,16 +150,16 @@ pub some_told : (o : Option ℕ) (n : ℕ) (A : Type 0) (B : ℕ → Type 0) →
 some_told None n A B e h = cc
 some_told (Some m) n A B e h = subst (λ (p : Option ℕ). MatchOption p A B) e h
 
-pub all_done : (g : Rules) (start : NonterminalString) (graph : StateGraph) (count index : ℕ) (states : List (State Bits)) → count ≤ index → AreResolvedTo g start graph count index states → (n : ℕ) (state : State Bits) → slice_get states n ≡ Some state → IsResolved g start (places_in states) n state
-all_done g start graph count index states past h n state at =
+pub all_done : (g : Rules) (start : NonterminalString) (numbers : Numbers) (found : Found) (list : List NumberedState) (count index : ℕ) (states : List (State Bits)) → count ≤ index → AreResolvedTo g start numbers found list count index states → (n : ℕ) (state : State Bits) → slice_get states n ≡ Some state → IsResolved g start (places_in states) n state
+all_done g start numbers found list count index states past h n state at =
     let within = slice_get_within states n state at in
     let counted = h.counted in
     h.done n state (omega arith) at
 
-pub were_met : (g : Rules) (start : NonterminalString) (graph : StateGraph) (count index : ℕ) (old new : List (State Bits)) → AreResolvedTo g start graph count index old → IsStep index old new → (b : Bool) (A : Type 0) → b ≡ false →
+pub were_met : (g : Rules) (start : NonterminalString) (numbers : Numbers) (found : Found) (list : List NumberedState) (count index : ℕ) (old new : List (State Bits)) → AreResolvedTo g start numbers found list count index old → IsStep index old new → (b : Bool) (A : Type 0) → b ≡ false →
     MatchBool b A (LanesMeet g.productions start (contents g.terminals new) index × (new ≡ old)) → HaveMeetingLanes g start new
-were_met g start graph count index old new h step true A e m = cc
-were_met g start graph count index old new h step false A e m = subst (HaveMeetingLanes g start) (sym m.1) (record {
+were_met g start numbers found list count index old new h step true A e m = cc
+were_met g start numbers found list count index old new h step false A e m = subst (HaveMeetingLanes g start) (sym m.1) (record {
   number = index;
   listed = slice_get_within old index step.before step.was;
   meet = subst (λ (xs : List (State Bits)). LanesMeet g.productions start (contents g.terminals xs) index) m.1 m.0;

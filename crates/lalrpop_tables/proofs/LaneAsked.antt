@@ -3,11 +3,9 @@ use Rattle.std.proofs.Common.{◌≡◌, ℕ, inl, inr, Bool, true, false, cond,
 use Rattle.std.specs.Prelude.{Contains}
 use Rattle.std.specs.Borrow.{Bor}
 use Rattle.std.specs.List.{filter, flat_map}
-use Rattle.std.specs.Ordering.{ordering_then}
-use Rattle.std.specs.declared.cmp.Ordering.{Ordering}
-use Rattle.std.specs.declared.cmp.Ordering.TheVariants.{Less, Equal, Greater}
+use Rattle.std.specs.declared.cmp.Ordering.TheVariants.{Equal}
 use Rattle.std.proofs.lemmas.Option.{slice_get_within}
-use Rattle.std.proofs.lemmas.List.Elements.{Contains-append_left, Contains-append_right, Contains-append_cases}
+use Rattle.std.proofs.lemmas.List.Elements.{Contains-append_right, Contains-append_cases}
 use Rattle.lalrpop_base.specs.Words.{Bits, has, state_conflicts, shift_conflicts, shift_conflict, conflicts_on_place, reduce_conflicts, reduce_conflict}
 use Rattle.lalrpop_base.specs.Words.{later_conflicts, share, place_in}
 use Rattle.lalrpop_base.specs.declared.lr1_core.state.Action.{Action}
@@ -21,7 +19,6 @@ use Rattle.lalrpop_base.proofs.ContentsViews.{at_contains, contains_at, contains
 use Rattle.lalrpop_tables.specs.Words.{action_order, AreActions, AreAmong, asked_actions, conflict_actions, IsReductionAt, reduce_action}
 use Rattle.lalrpop_tables.proofs.Ascending.{production_exact}
 use Rattle.lalrpop_tables.proofs.Lists.{Contains-none, Contains-here, Contains-there, Contains-cases}
-use Rattle.lalrpop_tables.proofs.Orders.{terminal_exact}
 
 abbrev pub CodeReduction : Type 0
 CodeReduction = Bits × Bor Production
@@ -38,29 +35,11 @@ of_kept p (x ∷ xs) y c = elim (Contains-cases x (filter p xs) y (kept_cases (p
   | inr later ↦ Contains-there x xs y (of_kept p xs y later)
 ]
 
-kept_later : {X : Type 0} (b : Bool) (x : X) (xs : List X) (y : X) → Contains xs y → Contains (cond b (x ∷ xs) xs) y
-kept_later true x xs y c = Contains-there x xs y c
-kept_later false x xs y c = c
-
-in_kept : {X : Type 0} (p : X → Bool) (xs : List X) (y : X) → p y ≡ true → Contains xs y → Contains (filter p xs) y
-in_kept p [] y t c = c
-in_kept p (x ∷ xs) y t c = elim (Contains-cases x xs y c) [
-  | inl e ↦ subst (λ (b : Bool). Contains (cond b (x ∷ filter p xs) (filter p xs)) y) (sym (ap p e ∙ t)) (subst (Contains (x ∷ filter p xs)) e (Contains-here x (filter p xs)))
-  | inr later ↦ kept_later (p x) x (filter p xs) y (in_kept p xs y t later)
-]
-
 of_flat : {X Y : Type 0} (f : X → List Y) (xs : List X) (y : Y) → Contains (flat_map f xs) y → (x : X) × Contains xs x × Contains (f x) y
 of_flat f [] y c = absurd (Contains-none y c)
 of_flat f (x ∷ xs) y c = elim (Contains-append_cases (f x) (flat_map f xs) y c) [
   | inl here ↦ (x, Contains-here x xs, here)
   | inr later ↦ let r = of_flat f xs y later in (r.0, Contains-there x xs r.0 r.1, r.2)
-]
-
-in_flat : {X Y : Type 0} (f : X → List Y) (xs : List X) (x : X) (y : Y) → Contains xs x → Contains (f x) y → Contains (flat_map f xs) y
-in_flat f [] x y among c = absurd (Contains-none x among)
-in_flat f (z ∷ xs) x y among c = elim (Contains-cases z xs x among) [
-  | inl e ↦ Contains-append_left (f z) (flat_map f xs) y (subst (λ w. Contains (f w) y) (sym e) c)
-  | inr later ↦ Contains-append_right (f z) (flat_map f xs) y (in_flat f xs x y later c)
 ]
 
 -- ---- an action of the state: a shift of its, or a reduction of its
@@ -115,30 +94,11 @@ module _ (terminals : List TerminalString) (state : State Bits) where
   pub reduction_asked : (r : CodeReduction) → Contains reductions r → Contains (asked_actions terminals state) (Reduce r.1)
   reduction_asked r among = Contains-append_right (flat_map conflict_actions (state_conflicts terminals state)) (map reduce_action reductions) (Reduce r.1) (contains_map reduce_action reductions r among)
 
-  -- and each shift of a terminal that a reduction holds
-  pub shift_asked : (t : TerminalString) (target : StateIndex) (bit : ℕ) (r : CodeReduction) → Contains state.shifts.entries (t, target) → place_in terminals t ≡ Some bit → Contains reductions r → has r.0 bit ≡ true → Contains (asked_actions terminals state) (Shift t target)
-  shift_asked t target bit r entry place among holds =
-      let c = shift_conflict state.index t target bit r in
-      let on : Contains (conflicts_on_place state.index t target reductions (Some bit)) c = contains_map (shift_conflict state.index t target bit) (filter (λ (q : CodeReduction). has q.0 bit) reductions) r (in_kept (λ (q : CodeReduction). has q.0 bit) reductions r holds among) in
-      let here : Contains (shift_conflicts terminals state.index reductions (t, target)) c = subst (λ (o : Option ℕ). Contains (conflicts_on_place state.index t target reductions o) c) (sym place) on in
-      let all : Contains (state_conflicts terminals state) c = Contains-append_left (flat_map (shift_conflicts terminals state.index reductions) state.shifts.entries) (reduce_conflicts state.index reductions) c (in_flat (shift_conflicts terminals state.index reductions) state.shifts.entries (t, target) c entry here) in
-      Contains-append_left (flat_map conflict_actions (state_conflicts terminals state)) (map reduce_action reductions) (Shift t target) (in_flat conflict_actions (state_conflicts terminals state) c (Shift t target) all (Contains-there (Reduce r.1) (Shift t target ∷ []) (Shift t target) (Contains-here (Shift t target) [])))
-
 -- ---- what ties
-first_equal : (a b : Ordering) → ordering_then a b ≡ Equal → (a ≡ Equal) × (b ≡ Equal)
-first_equal Less b e = cc
-first_equal Equal b e = (refl, e)
-first_equal Greater b e = cc
-
 -- what ties with a reduction is one by an equal production
 pub tied_reduce : (p : Bor Production) (b : Action) → action_order (Reduce p) b ≡ Equal → (lent : Bor Production) × (b ≡ Reduce lent) × (lent.now ≡ p.now)
 tied_reduce p (Shift t target) e = cc
 tied_reduce p (Reduce q) e = (q, refl, sym (production_exact p.now q.now e))
-
--- what ties with a shift is one of its terminal
-pub tied_shift : (t : TerminalString) (target : StateIndex) (b : Action) → action_order (Shift t target) b ≡ Equal → (to : StateIndex) × (b ≡ Shift t to)
-tied_shift t target (Shift u to) e = (to, ap (λ x. Shift x to) (sym (terminal_exact t u (first_equal _ _ e).0)))
-tied_shift t target (Reduce q) e = cc
 
 -- ---- each reduction of the state is among the actions
 module _ (terminals : List TerminalString) (state : State Bits) (actions : List Action) (asked : AreActions (asked_actions terminals state) actions) where

@@ -8,8 +8,14 @@ use Rattle.lalrpop_base.specs.declared.lr1_core.state.State.{State}
 use Rattle.lalrpop_base.specs.declared.repr.NonterminalString.{NonterminalString}
 use Rattle.lalrpop_base.specs.declared.repr.TerminalString.{TerminalString}
 use Rattle.lalrpop_tables.specs.Words.{HasSamePlace, HaveSamePlaces, AreLaneStates, HaveFullItems, HoldAllFrom, IsResolved, IsResolvedAt, IsStep, places_in}
+use Rattle.lalrpop_tables.specs.FollowWalks.{FindsLookaheads}
+use Rattle.lalrpop_tables.specs.NumberedStates.{AreNumberedStates}
 use Rattle.lalrpop_tables.specs.Words.{edges, IsGraphOf}
+use Rattle.lalrpop_tables.specs.declared.build.numbers.Numbers.{Numbers}
+use Rattle.lalrpop_tables.specs.declared.lane_table.follow_sets.found.Found.{Found}
+use Rattle.lalrpop_tables.specs.declared.lane_table.follow_sets.numbered_state.NumberedState.{NumberedState}
 use Rattle.lalrpop_tables.specs.declared.state_graph.StateGraph.{StateGraph}
+use Rattle.lalrpop_tables.proofs.FoundPlaces.{finds_on, numbered_on}
 use Rattle.lalrpop_tables.proofs.LaneCoherent.{edges_there, old_at}
 use Rattle.lalrpop_tables.proofs.LanePlaces.{AreSamePlaces, same_turned, places_same, lane_there}
 use Rattle.lalrpop_tables.proofs.LaneResolved.{place_itself}
@@ -94,21 +100,23 @@ bits_on g start a b same n state h = record {
   free = h.free;
 }
 
--- what the loop keeps: the states below the index are resolved, and those from it on hold all tokens
-pub record AreResolvedTo (g : Rules) (start : NonterminalString) (graph : StateGraph) (count index : ℕ) (states : List (State Bits)) : Type 0 where
+-- what the loop keeps: the states below the index are resolved, and those from it on hold all tokens; what a pass found is of these states
+pub record AreResolvedTo (g : Rules) (start : NonterminalString) (n : Numbers) (found : Found) (list : List NumberedState) (count index : ℕ) (states : List (State Bits)) : Type 0 where
   pub lanes : AreLaneStates g start states
-  pub graph_of : IsGraphOf (edges states) graph
+  pub finds : FindsLookaheads g start n (places_in states) (length states) found
+  pub numbered : AreNumberedStates n states list
   pub counted : length states ≡ count
   pub done : (n : ℕ) (state : State Bits) → n < index → slice_get states n ≡ Some state → IsResolved g start (places_in states) n state
   pub left : HoldAllFrom g.terminals index states
 
-pub resolved_more : (g : Rules) (start : NonterminalString) (graph : StateGraph) (count index : ℕ) (old new : List (State Bits)) → AreResolvedTo g start graph count index old → IsStep index old new → IsResolvedAt g start old index new → AreResolvedTo g start graph count (index + 1) new
-resolved_more g start graph count index old new h step resolved =
+pub resolved_more : (g : Rules) (start : NonterminalString) (n : Numbers) (found : Found) (list : List NumberedState) (count index : ℕ) (old new : List (State Bits)) → AreResolvedTo g start n found list count index old → IsStep index old new → IsResolvedAt g start old index new → AreResolvedTo g start n found list count (index + 1) new
+resolved_more g start numbers found list count index old new h step resolved =
     let same = step_places index old new step in
     let places : AreSamePlaces (places_in old) (places_in new) = places_same (λ lookahead t. true) (λ lookahead t. true) old new same in
     record {
       lanes = lane_states_on g start index old new step h.lanes;
-      graph_of = graph_on old new graph same h.graph_of;
+      finds = finds_on g start numbers (places_in old) (places_in new) places (length old) (length new) (sym step.counted) found h.finds;
+      numbered = numbered_on numbers old new same list h.numbered;
       counted = step.counted ∙ h.counted;
       done = λ n state below at. elim (places_apart n index) [
         | inl before ↦ bits_on g start (places_in old) (places_in new) places n state (h.done n state before (sym (step.others n (λ e. omega arith)) ∙ at))

@@ -1,6 +1,8 @@
 -- States placed by their numbers: a state more.
 use Rattle.std.proofs.Common.{◌≡◌, ℕ, zero, suc, ◌<◌, ◌≤◌, List, [], ◌∷◌, ◌++◌, length, refl, sym, ap, ◌∙◌, arith, append_assoc, Some, slice_set}
 use Rattle.std.specs.Prelude.{slice_get}
+use Rattle.std.proofs.lemmas.List.{set-get_or}
+use Rattle.std.proofs.lemmas.Option.{get_or_from_slice_get}
 use Rattle.lalrpop_base.specs.Words.{Bits}
 use Rattle.lalrpop_base.specs.declared.lr1_core.state.State.{State}
 use Rattle.lalrpop_tables.specs.Words.{IsJoined, Places, pushed, joined}
@@ -30,6 +32,13 @@ pub set_length : {X : Type 0} (xs : List X) (k : ℕ) (x : X) → length (slice_
 set_length [] k x = refl
 set_length (y ∷ xs) zero x = refl
 set_length (y ∷ xs) (suc k) x = ap suc (set_length xs k x)
+
+-- what stood there was written
+set_same : {X : Type 0} (xs : List X) (k : ℕ) (x : X) → slice_get xs k ≡ Some x → slice_set xs k x ≡ xs
+set_same xs k x at = ap (slice_set xs k) (sym (get_or_from_slice_get xs k x x at)) ∙ set-get_or xs k x
+
+pub set_back : {X : Type 0} (xs : List X) (k : ℕ) (x y : X) → slice_get xs k ≡ Some x → y ≡ x → slice_set xs k y ≡ xs
+set_back xs k x y at same = ap (slice_set xs k) same ∙ set_same xs k x at
 
 -- ---- the two ways to place a state
 pub Places-joined : (state merged here : State Bits) (old new : List (State Bits)) → slice_get old state.index.0 ≡ Some merged → new ≡ slice_set old state.index.0 here → state.index.0 < length old → IsJoined merged state here → Places state old new

@@ -1,5 +1,5 @@
 -- What an item by its number gives to the nonterminal behind its dot.
-use Rattle.std.proofs.Common.{◌≡◌, ◌≢◌, ◌↔◌, ◌⊎◌, inl, inr, ℕ, zero, suc, ◌+◌, ◌<◌, List, [], ◌∷◌, length, drop, refl, sym, ◌∙◌, ap, subst, arith, Some, true, map, take, ◌++◌, option_map, Vec, Global}
+use Rattle.std.proofs.Common.{◌≡◌, ◌≢◌, ◌↔◌, ◌⊎◌, inl, inr, ℕ, zero, suc, ◌+◌, ◌<◌, List, [], ◌∷◌, length, drop, refl, sym, ◌∙◌, ap, subst, arith, Some, None, true, map, take, ◌++◌, option_map, Vec, Global}
 use Rattle.std.specs.Prelude.{Contains, slice_get, get_or}
 use Rattle.std.proofs.lemmas.List.{map-append, take_more}
 use Rattle.std.proofs.lemmas.Option.{slice_get-map, slice_get_within}
@@ -12,6 +12,8 @@ use Rattle.lalrpop_base.specs.declared.repr.Symbol.TheVariants.{Nonterminal}
 use Rattle.lalrpop_base.specs.declared.repr.grammar.Grammar.{Grammar}
 use Rattle.lalrpop_tables.specs.EpsilonMoves.{HasNoProduction, IsGiven}
 use Rattle.lalrpop_tables.specs.Numbers.{AreExpansions, AreNumbered, AreNumbers, dotted_at, item_by, items_by}
+use Rattle.lalrpop_tables.specs.Rests.{IsRest}
+use Rattle.lalrpop_tables.specs.declared.build.numbers.rests.Rest.{Rest}
 use Rattle.lalrpop_tables.specs.Sharing.{IsFront, IsNamed, IsShared, Shared, Shares, fronts_in}
 use Rattle.lalrpop_tables.specs.Words.{IsQueued}
 use Rattle.lalrpop_base.proofs.ContentsViews.{contains_of_map}
@@ -37,6 +39,13 @@ rest_known grammar rules n numbers same well k l rest is =
     subst (λ (r : Rules). HasKnownTerminals r.terminals rest) same
     (known_rest grammar.terminals (d.index + 1) d.production.symbols rest (known_symbols grammar d.production well (subst (λ (r : Rules). Contains r.productions d.production) (sym same) among)) is)
 
+-- what stands behind the first of what is left
+behind_first : {A : Type 0} (k : ℕ) (xs : List A) {x : A} {after : List A} → drop k xs ≡ x ∷ after → drop (suc k) xs ≡ after
+behind_first zero [] e = cc
+behind_first zero (y ∷ xs) e = cc
+behind_first (suc k) [] e = cc
+behind_first (suc k) (y ∷ xs) e = behind_first k xs e
+
 module _ (begins : Rules → List Symbol → Token → Type 0) (passes : Rules → List Symbol → Type 0) (g : Rules) (n : Numbers) (numbers : AreNumbers g n) (number : ℕ) (tokens : Bits) where
   abbrev item : Dotted Bits
   item = item_by n.items.items (record { number = number; lookahead = tokens })
@@ -54,6 +63,17 @@ module _ (begins : Rules → List Symbol → Token → Type 0) (passes : Rules �
   -- nor does one with a terminal behind its dot
   pub Terminal-shares : (x : Symbol) → slice_get item.production.symbols item.index ≡ Some x → ((name : NonterminalString) → x ≢ Nonterminal name) → (table : Shared) (queue : List ℕ) → Shares begins passes g n (item ∷ []) table table queue queue
   Terminal-shares x at other = gives_nothing (λ name behind. absurd (other name (same_some x (Nonterminal name) (sym at ∙ behind))))
+
+  -- nor does one without a rest, since no nonterminal stands behind its dot
+  pub Restless-shares : number < length n.items.items → slice_get n.rests.items number ≡ Some None → (table : Shared) (queue : List ℕ) → Shares begins passes g n (item ∷ []) table table queue queue
+  Restless-shares known at = gives_nothing (λ name behind.
+      absurd (((numbers.rests).each number (dotted_at n.items.items number) None (stands_at n.items.items number known) at) name (drop (suc item.index) item.production.symbols) (drop_split item.index item.production.symbols (Nonterminal name) behind)))
+
+  -- the rest with the number is that of the symbols behind the nonterminal
+  pub rest_is : number < length n.items.items → (rest : Rest) → slice_get n.rests.items number ≡ Some (Some rest) → (remainder : List Symbol) → remainder ≡ drop (item.index + 1) item.production.symbols → IsRest g remainder rest
+  rest_is known rest at remainder is =
+      let r = (numbers.rests).each number (dotted_at n.items.items number) (Some rest) (stands_at n.items.items number known) at in
+      subst (λ (xs : List Symbol). IsRest g xs rest) (sym (rest_from item.index item.production.symbols remainder is ∙ behind_first item.index item.production.symbols r.2)) r.3
 
   -- nor does one with a nonterminal without productions
   pub Barren-shares : (name : NonterminalString) → slice_get item.production.symbols item.index ≡ Some (Nonterminal name) → HasNoProduction g name → (table : Shared) (queue : List ℕ) → Shares begins passes g n (item ∷ []) table table queue queue

@@ -16,7 +16,10 @@ pub mod EarlyStop
 pub mod Entries
 pub mod EpsilonMoves
 pub mod FollowGraphs
+pub mod FollowNodes
 pub mod FollowSets
+pub mod FollowWalks
+pub mod FoundLookaheads
 pub mod GraphCopies
 pub mod Lalr
 pub mod LaneCells
@@ -35,6 +38,7 @@ pub mod Merges
 pub mod Merging
 pub mod Moved
 pub mod Neighbours
+pub mod NumberedStates
 pub mod Numbering
 pub mod Numbers
 pub mod Partitions
@@ -42,6 +46,7 @@ pub mod Ready
 pub mod Renumbered
 pub mod RenumberedTables
 pub mod Resolving
+pub mod Rests
 pub mod Results
 pub mod Sharing
 pub mod StateGraph

@@ -12,6 +12,7 @@ use Rattle.lalrpop_base.specs.declared.repr.Symbol.{Symbol}
 use Rattle.lalrpop_base.specs.declared.repr.Symbol.TheVariants.{Nonterminal, Terminal}
 use Rattle.lalrpop_base.specs.contracts.repr.SymbolOrd.TheImpl as symbol_ord
 use Rattle.lalrpop_tables.specs.Ascending.{Ascend}
+use Rattle.lalrpop_tables.specs.Rests.{AreRests}
 use Rattle.lalrpop_tables.specs.Transitions.{Groups, IsBehindOne, moved}
 use Rattle.lalrpop_tables.specs.declared.build.numbered.Numbered.{Numbered}
 use Rattle.lalrpop_tables.specs.declared.build.numbers.Numbers.{Numbers}
@@ -47,7 +48,7 @@ AreBehindDots items symbols = (s : Symbol) → Contains symbols s ↔ IsBehindOn
 abbrev pub AreExpansions : List (Dotted Nil) → Symbol → List ℕ → Type 0
 AreExpansions items s numbers = (k : ℕ) → Contains numbers k ↔ ((i : Dotted Nil) × (slice_get items k ≡ Some i) × (i.index ≡ 0) × (s ≡ Nonterminal i.production.nonterminal))
 
--- the dotted productions of a grammar and the symbols of its right sides, each once, with what stands behind the dots and what nonterminals expand to
+-- the dotted productions of a grammar and the symbols of its right sides, each once, with what stands behind the dots, what nonterminals expand to, and what stands behind nonterminals
 pub record AreNumbers (g : Rules) (n : Numbers) : Type 0 where
   pub items : AreItemsOf g n.items.items
   pub next : MovesToNext n.items.items
@@ -58,6 +59,7 @@ pub record AreNumbers (g : Rules) (n : Numbers) : Type 0 where
   pub symbols_ascend : SymbolsAscend n.symbols.items
   pub expanded : length n.expansions.items ≡ length n.symbols.items
   pub expansions : (x : ℕ) (s : Symbol) (numbers : List ℕ) → slice_get n.symbols.items x ≡ Some s → slice_get (map (λ v. v.items) n.expansions.items) x ≡ Some numbers → AreExpansions n.items.items s numbers
+  pub rests : AreRests g n.items.items n.rests.items
 
 -- ---- items by number
 -- the production without a name or symbols, where a number stands for none

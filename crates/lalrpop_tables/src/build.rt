@@ -8,7 +8,7 @@ pub mod lookahead_build;
 pub mod lr;
 mod lr0;
 mod numbered;
-mod numbers;
+pub(crate) mod numbers;
 pub mod options;
 mod reductions;
 pub(crate) mod results;
@@ -29,6 +29,7 @@ use lalrpop_base::repr::grammar::Grammar;
 pub use lookahead_build::LookaheadBuild;
 pub use lr::Lr;
 pub use lr0::build_lr0_states;
+pub use numbers::rests::Rest;
 pub use options::{Method, Options};
 use std::alloc::Global;
 

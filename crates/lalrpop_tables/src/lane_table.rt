@@ -2,6 +2,7 @@
 //! finds.
 pub mod construct;
 pub mod context_set;
+pub(crate) mod follow_sets;
 pub mod lane;
 pub mod table;
 

@@ -115,8 +115,8 @@ fn is_unused(grammar: &Grammar, name: &NonterminalString) -> bool
     }
 }
 
-// Whether a name is on no right side of a grammar.
-fn is_on_no_right_side(grammar: &Grammar, name: &NonterminalString) -> bool
+/// Whether a name is on no right side of a grammar. All right sides are read.
+pub fn is_on_no_right_side(grammar: &Grammar, name: &NonterminalString) -> bool
     ensures { IsTrue result ↔ IsOnNoRightSide (productions grammar.now) name.now }
 {
     for (_name, entry) in grammar.nonterminals.iter() {

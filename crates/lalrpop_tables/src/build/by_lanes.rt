@@ -6,15 +6,16 @@ ghost use Rattle.lalrpop_tables.specs.LaneStates.{AreLaneTables};
 ghost use Rattle.lalrpop_tables.specs.Lr0Copies.{AreCopiedTables};
 
 use crate::check::check_tables;
-use crate::lane_table::build_lane_table_states;
+use crate::lane_table::construct::LaneTableConstruct;
 use lalrpop_base::lr1_core::state::{BuildError, Lr1State};
 use lalrpop_base::memory::OutOfMemory;
 use lalrpop_base::repr::NonterminalString;
+use lalrpop_base::repr::augment::is_on_no_right_side;
 use lalrpop_base::repr::grammar::Grammar;
 use std::alloc::Global;
 
 /// The lane tables of a grammar, where there are such and they pass the check. Those of an LALR(1)
-/// grammar whose start symbol stands on no right side do.
+/// grammar whose start symbol stands on no right side pass it, and are not checked.
 pub fn lane_tables<'grammar>(
     alloc: Global,
     grammar: &'grammar Grammar,
@@ -32,8 +33,14 @@ pub fn lane_tables<'grammar>(
         (λ tables. AreLaneTables (rules_of grammar.now) start.now tables.items)) }
 {
     let first = start.clone(alloc)?;
-    match build_lane_table_states(alloc, grammar, first, max_copies) {
-        Ok(tables) => where_checked(alloc, grammar, start.clone(alloc)?, tables),
+    let construct = LaneTableConstruct::new(alloc, grammar, first, max_copies)?;
+    match construct.construct_told(alloc) {
+        Ok((tables, at_once)) => {
+            if at_once && is_on_no_right_side(grammar, start) {
+                return Ok(Some(tables));
+            }
+            where_checked(alloc, grammar, start.clone(alloc)?, tables)
+        }
         Err(BuildError::Conflicts(_)) => Ok(None),
         Err(BuildError::Memory) => Err(OutOfMemory),
     }

@@ -60,14 +60,17 @@ fn share<'grammar, L: LookaheadBuild>(
     let Some(symbol) = numbers.behind[number] else {
         return Ok(());
     };
-    let Some((next, rest)) = numbers.items[number].shift_symbol() else {
+    let Some(rest) = &numbers.rests[number] else {
+        return Ok(());
+    };
+    let Some((next, remainder)) = numbers.items[number].shift_symbol() else {
         return Ok(());
     };
     let Symbol::Nonterminal(name) = next else {
         return Ok(());
     };
     let _grammar = lr.grammar();
-    let Some(given) = L::given(alloc, lr, name, rest, tokens)? else {
+    let Some(given) = L::given(alloc, lr, name, remainder, rest, tokens)? else {
         return Ok(());
     };
     add_shared(alloc, symbol, &given, shared, queue)

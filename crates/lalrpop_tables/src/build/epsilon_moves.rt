@@ -4,6 +4,7 @@ ghost use Rattle.lalrpop_tables.specs.Closing.{Begins};
 
 use super::lookahead_build::LookaheadBuild;
 use super::lr::Lr;
+use super::numbers::rests::Rest;
 use lalrpop_base::lookahead::nil::Nil;
 use lalrpop_base::lookahead::token_set::TokenSet;
 use lalrpop_base::lr1_core::item::Item;
@@ -48,11 +49,15 @@ impl LookaheadBuild for TokenSet {
         alloc: Global,
         lr: &Lr<'grammar, TokenSet>,
         _nonterminal: &NonterminalString,
-        remainder: &[Symbol],
+        _remainder: &[Symbol],
+        rest: &Rest,
         lookahead: &TokenSet,
     ) -> Result<Option<TokenSet>, OutOfMemory> {
         let _grammar = lr.grammar();
-        let tokens = lr.first_sets().first1(alloc, remainder, lookahead)?;
+        let mut tokens = rest.first.clone(alloc)?;
+        if rest.nullable {
+            tokens.union_with(lookahead)?;
+        }
         Ok(Some(tokens))
     }
 }

@@ -4,8 +4,10 @@ ghost use Rattle.lalrpop_base.specs.Words.{HasKnownTerminals, Rules};
 ghost use Rattle.lalrpop_base.specs.declared.lookahead.token.Token.{Token};
 ghost use Rattle.lalrpop_base.specs.declared.repr.Symbol.{Symbol};
 ghost use Rattle.lalrpop_tables.specs.EpsilonMoves.{AreEpsilonMoves, HasNoProduction, IsGiven};
+ghost use Rattle.lalrpop_tables.specs.Rests.{IsRest};
 
 use super::lr::Lr;
+use super::numbers::rests::Rest;
 use lalrpop_base::lookahead::Lookahead;
 use lalrpop_base::lr1_core::item::Item;
 use lalrpop_base::memory::OutOfMemory;
@@ -34,16 +36,19 @@ pub trait LookaheadBuild: Lookahead {
             lr.now.construction.rules nonterminal.now remainder.now lookahead.now moves.items) };
 
     /// What may follow a nonterminal where it stands before the remainder of an item with the
-    /// lookahead; nothing where it has no production. A lookahead that finds it without the
-    /// productions may say how.
+    /// lookahead. None tells that it has no production; where it has none, any answer will do. A
+    /// lookahead that finds it without the productions, by what the remainder can begin with, may
+    /// say how.
     fn given<'grammar>(
         alloc: Global,
         lr: &Lr<'grammar, Self>,
         nonterminal: &NonterminalString,
         remainder: &[Symbol],
+        _rest: &Rest,
         lookahead: &Self,
     ) -> Result<Option<Self>, OutOfMemory>
         requires known { HasKnownTerminals lr.now.construction.rules.terminals remainder.now }
+        requires rest { IsRest lr.now.construction.rules remainder.now _rest.now }
         ensures given { IfOk result (λ found. MatchOption found
             (HasNoProduction lr.now.construction.rules nonterminal.now)
             (IsGiven Self.meaning begins passes lr.now.construction.rules remainder.now

@@ -86,7 +86,7 @@ impl<'grammar, L: Lookahead> Lr<'grammar, L> {
     {
         let _names = grammar.nonterminals.len();
         let first_sets = FirstSets::new(alloc, grammar)?;
-        let numbers = Numbers::new(alloc, grammar)?;
+        let numbers = Numbers::new(alloc, grammar, &first_sets)?;
         Ok(Lr {
             grammar,
             start,

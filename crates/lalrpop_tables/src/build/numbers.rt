@@ -2,20 +2,23 @@
 mod dotted;
 mod expansions;
 mod halving;
-mod symbols;
+pub mod rests;
+pub(crate) mod symbols;
 
 ghost use Rattle.std.specs.Prelude.{◌≡◌, Contains, IfOk, IfSome, IsNone, Some, slice_get};
-ghost use Rattle.lalrpop_base.specs.Words.{rules_of};
+ghost use Rattle.lalrpop_base.specs.Words.{IsWellFormed, rules_of};
 ghost use Rattle.lalrpop_tables.specs.Ascending.{Ascend};
 ghost use Rattle.lalrpop_tables.specs.Numbers.{AreNumbers};
 
 use dotted::dotted_productions;
 use expansions::expansions_of;
 use halving::place_in_order;
+use lalrpop_base::first::FirstSets;
 use lalrpop_base::lr1_core::item::Lr0Item;
 use lalrpop_base::memory::OutOfMemory;
 use lalrpop_base::repr::Symbol;
 use lalrpop_base::repr::grammar::Grammar;
+use rests::{Rest, rests_of};
 use std::alloc::Global;
 use symbols::{list_symbols, numbers_behind};
 
@@ -30,22 +33,32 @@ pub(crate) struct Numbers<'grammar> {
     pub(crate) symbols: Vec<Symbol>,
     /// For each symbol the numbers of its productions with the dot in front.
     pub(crate) expansions: Vec<Vec<usize>>,
+    /// For each dotted production its rest, if a nonterminal stands behind its dot.
+    pub(crate) rests: Vec<Option<Rest>>,
 }
 
 impl<'grammar> Numbers<'grammar> {
     /// Each symbol of a right side is looked up by its text twice, by halving.
-    pub(crate) fn new(alloc: Global, grammar: &'grammar Grammar) -> Result<Self, OutOfMemory>
+    pub(crate) fn new(
+        alloc: Global,
+        grammar: &'grammar Grammar,
+        first_sets: &FirstSets<'grammar>,
+    ) -> Result<Self, OutOfMemory>
+        requires well_formed { IsWellFormed grammar.now }
+        requires firsts { first_sets.now ≡ rules_of grammar.now }
         ensures { IfOk result (AreNumbers (rules_of grammar.now)) }
     {
         let items = dotted_productions(alloc, grammar)?;
         let symbols = list_symbols(alloc, &items)?;
         let behind = numbers_behind(alloc, &symbols, &items)?;
         let expansions = expansions_of(alloc, &symbols, &items)?;
+        let rests = rests_of(alloc, first_sets, &grammar.terminals, &items)?;
         Ok(Numbers {
             items,
             behind,
             symbols,
             expansions,
+            rests,
         })
     }
 

@@ -21,16 +21,11 @@ pub fn add_tokens<K: Ord + Exact + Drop, L: Lookahead>(
         (readings L.meaning map.old.entries) (readings L.meaning map.new.entries)) }
     ensures differ { OnOk result (AllDiffer (keys map.new)) }
 {
-    let mut grown = match map.get(&key) {
-        Some(known) => known.copy(alloc)?,
-        None => {
-            map.insert(key, tokens.copy(alloc)?)?;
-            return Ok(true);
-        }
-    };
-    let grew = join(alloc, &mut grown, tokens)?;
-    map.insert(key, grown)?;
-    Ok(grew)
+    if let Some(known) = map.get_mut(&key) {
+        return join(alloc, known, tokens);
+    }
+    map.insert(key, tokens.copy(alloc)?)?;
+    Ok(true)
 }
 
 /// The lookahead of a key, where it has one.

@@ -1,6 +1,7 @@
 //! The construction of lane tables.
 mod actions;
 mod copying;
+mod lookaheads;
 pub mod merge;
 mod merging;
 mod promote;
@@ -9,16 +10,16 @@ pub mod state_set;
 mod states;
 mod tracing;
 
-ghost use Rattle.std.specs.Prelude.{◌≡◌, IfOk, IfErr, MatchResult};
+ghost use Rattle.std.specs.Prelude.{◌≡◌, IfOk, IfErr, IsTrue, MatchResult};
 ghost use Rattle.lalrpop_base.specs.Words.{IsLALR1, IsOnNoRightSide, IsWellFormed, productions, rules_of};
 ghost use Rattle.lalrpop_tables.specs.Lalr.{TellsNotLALR1};
 ghost use Rattle.lalrpop_tables.specs.LaneStates.{AreLalrLaneTables, IsReadyToConstruct};
 ghost use Rattle.lalrpop_tables.specs.Lr0Copies.{AreCopiedTables, FailsByCopies};
 
 use crate::conflicts::conflicts_of;
-use crate::state_graph::StateGraph;
 use lalrpop_base::first::FirstSets;
-use lalrpop_base::lr1_core::state::{BuildError, Lr1Result, TableConstructionError};
+use lalrpop_base::lookahead::token_set::TokenSet;
+use lalrpop_base::lr1_core::state::{BuildError, Lr1Result, Lr1State, TableConstructionError};
 use lalrpop_base::memory::OutOfMemory;
 use lalrpop_base::repr::NonterminalString;
 use lalrpop_base::repr::grammar::Grammar;
@@ -71,17 +72,40 @@ impl<'grammar> LaneTableConstruct<'grammar> {
             AreLalrLaneTables (rules_of self.entry.grammar.now) self.entry.start tables.items)
             (TellsNotLALR1 (productions self.entry.grammar.now) self.entry.start) }
     {
+        let (tables, _at_once) = self.construct_told(alloc)?;
+        Ok(tables)
+    }
+
+    /// As `construct`, and whether the states were tables at once, behind one pass over them.
+    pub(crate) fn construct_told(
+        self,
+        alloc: Global,
+    ) -> Result<(Vec<Lr1State<'grammar>>, bool), BuildError<'grammar, TokenSet>>
+        requires ready { IsReadyToConstruct self }
+        ensures tables { IfOk result
+            (λ told. AreCopiedTables (rules_of self.entry.grammar.now) self.entry.start
+            self.entry.max_copies told.0.items) }
+        ensures at_once { IfOk result (λ told. IsTrue told.1 →
+            IsOnNoRightSide (productions self.entry.grammar.now) self.entry.start →
+            AreLalrLaneTables (rules_of self.entry.grammar.now) self.entry.start told.0.items) }
+        ensures failure { IfErr result (FailsByCopies (rules_of self.entry.grammar.now)
+            self.entry.start self.entry.max_copies) }
+        ensures lalr { IsOnNoRightSide (productions self.entry.grammar.now) self.entry.start →
+            MatchResult result
+            (λ told. IsLALR1 (productions self.entry.grammar.now) self.entry.start →
+            AreLalrLaneTables (rules_of self.entry.grammar.now) self.entry.start told.0.items)
+            (TellsNotLALR1 (productions self.entry.grammar.now) self.entry.start) }
+    {
         let grammar = self.grammar;
         let _terminals = grammar.terminals.all();
         let mut states = self.promoted_states(alloc)?;
-        let graph = StateGraph::new(alloc, &states)?;
-        let Some(first) = self.resolve_states(alloc, &mut states, &graph)? else {
-            return Ok(states);
+        let Some(first) = self.resolve_states(alloc, &mut states)? else {
+            return Ok((states, true));
         };
         let states = self.resolve_copied(alloc, states, first)?;
         let conflicts = conflicts_of(alloc, &states, &grammar.terminals)?;
         if conflicts.is_empty() {
-            return Ok(states);
+            return Ok((states, false));
         }
         Err(BuildError::Conflicts(TableConstructionError { states, conflicts }))
     }

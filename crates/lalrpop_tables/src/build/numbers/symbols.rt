@@ -69,7 +69,7 @@ pub(super) fn list_symbols<'grammar>(
 }
 
 /// Found by halving.
-pub(super) fn number_of(symbols: &[Symbol], symbol: &Symbol) -> Option<usize>
+pub(crate) fn number_of(symbols: &[Symbol], symbol: &Symbol) -> Option<usize>
     requires { SymbolsAscend symbols.now }
     ensures { IsNumberOf symbols.now symbol.now result }
 {

@@ -2,11 +2,12 @@
 ghost use Rattle.std.specs.Prelude.{◌≡◌, IfOk, OnOk, MatchOption};
 ghost use Rattle.lalrpop_base.specs.Words.{rules_of};
 ghost use Rattle.lalrpop_tables.specs.LaneStates.{AreLaneStates, AreLaneTables, HaveMeetingLanes, HoldAllFrom, IsReadyToConstruct};
-ghost use Rattle.lalrpop_tables.specs.StateGraph.{edges, IsGraphOf};
 
 use super::LaneTableConstruct;
 use super::promote::{lr0_states, promote_states};
-use crate::state_graph::StateGraph;
+use crate::build::numbers::Numbers;
+use crate::lane_table::follow_sets::Found;
+use crate::lane_table::follow_sets::numbered_state::number_states;
 use lalrpop_base::lookahead::token_set::TokenSet;
 use lalrpop_base::lr1_core::state::Lr1State;
 use lalrpop_base::memory::OutOfMemory;
@@ -30,18 +31,17 @@ impl<'grammar> LaneTableConstruct<'grammar> {
         promote_states(alloc, states, &all)
     }
 
-    /// Resolves the states by rising index, up to the first of which two actions share a token: the
-    /// index of that one, if there is such a state.
+    /// Resolves the states by rising index, with the lookahead sets that one pass over them finds,
+    /// up to the first of which two actions share a token: the index of that one, if there is such
+    /// a state.
     pub(super) fn resolve_states(
         &self,
         alloc: Global,
         states: &mut Vec<Lr1State<'grammar>>,
-        graph: &StateGraph,
     ) -> Result<Option<usize>, OutOfMemory>
         requires ready { IsReadyToConstruct self.now }
         requires lanes { AreLaneStates (rules_of self.now.grammar.now) self.now.start
             states.old.items }
-        requires graph { IsGraphOf (edges states.old.items) graph.now }
         requires full { HoldAllFrom self.now.grammar.now.terminals 0 states.old.items }
         ensures lanes { OnOk result
             (AreLaneStates (rules_of self.now.grammar.now) self.now.start states.new.items) }
@@ -52,9 +52,12 @@ impl<'grammar> LaneTableConstruct<'grammar> {
     {
         let grammar = self.grammar;
         let _terminals = grammar.terminals.all();
+        let numbers = Numbers::new(alloc, grammar, &self.first_sets)?;
+        let numbered = number_states(alloc, &numbers, states)?;
+        let found = Found::new(alloc, grammar, &self.start, states, &numbers, &numbered)?;
         let count = states.len();
         for index in 0..count {
-            if !self.resolve_inconsistencies(alloc, states, graph, index)? {
+            if !self.resolve_state(alloc, states, index, &found, &numbered[index])? {
                 return Ok(Some(index));
             }
         }

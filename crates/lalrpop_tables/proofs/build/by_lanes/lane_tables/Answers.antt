@@ -1,16 +1,23 @@
-use Rattle.std.proofs.Common.{◌∙◌, sym, subst}
+use Rattle.std.proofs.Common.{◌∙◌, ℕ, sym, subst}
 use Rattle.std.specs.Prelude.{IfOk, IfSome}
 use Rattle.lalrpop_base.specs.Words.{contents, IsOnNoRightSide, AreFaithful, IsLALR1, productions, rules_of}
 use Rattle.lalrpop_base.specs.declared.repr.NonterminalString.{NonterminalString}
-use Rattle.lalrpop_tables.specs.Words.{PassCheck, AreLaneTables, AreCopiedTables}
+use Rattle.lalrpop_base.specs.declared.repr.grammar.Grammar.{Grammar}
+use Rattle.lalrpop_tables.specs.Words.{AreCopiedTables, AreLalrLaneTables, AreLaneTables, PassCheck}
 use Rattle.lalrpop_tables.proofs.ByLanes.{Kept-said, Lanes-pass, Passing-said}
 use Rattle.lalrpop_tables.proofs.build.by_lanes.lane_tables.Goals as goal
 
+-- ---- tables that were checked
 pub returns-in-Ok-clause-copied : goal.returns-in-Ok-clause-copied
 returns-in-Ok-clause-copied c =
     let g = c.args.grammar.now in
     let tables = c.in-Ok.tables.items in
-    let copied = subst (λ (start : NonterminalString). AreCopiedTables (rules_of g) start c.args.max_copies tables) c.in_ok-first.ensures c.in-Ok.ensures.tables in
+    let of = c.in_ok-construct.construct in
+    let over = c.in_ok-construct.ensures.over in
+    let Told : Grammar → NonterminalString → ℕ → Type 0 = λ g start copies. AreCopiedTables (rules_of g) start copies tables in
+    let of_grammar = subst (λ g. Told g of.start of.max_copies) over.0 c.in-Ok.ensures.tables in
+    let of_start = subst (λ start. Told g start of.max_copies) (over.1 ∙ c.in_ok-first.ensures) of_grammar in
+    let copied = subst (Told g c.args.start.now) over.2 of_start in
     Kept-said (λ tables. tables.items) tables (AreCopiedTables (rules_of g) c.args.start.now c.args.max_copies) copied c.where_checked.result c.where_checked.ensures.kept
 
 pub returns-in-Ok-clause-faithful : goal.returns-in-Ok-clause-faithful
@@ -22,16 +29,46 @@ pub returns-in-Ok-clause-lalr : goal.returns-in-Ok-clause-lalr
 returns-in-Ok-clause-lalr c alone lalr =
     let g = c.args.grammar.now in
     let tables = c.in-Ok.tables.items in
-    let same = c.in_ok-first.ensures in
-    let told = c.in-Ok.ensures.lalr (subst (λ (start : NonterminalString). IsOnNoRightSide (productions g) start) (sym same) alone) (subst (λ (start : NonterminalString). IsLALR1 (productions g) start) (sym same) lalr) in
-    let pass = Lanes-pass g c.in_ok-first.first tables told in
-    let passing = c.where_checked.ensures.passing (subst (λ (start : NonterminalString). PassCheck g start tables) (same ∙ sym c.in_ok-clone-in-Ok.ensures) pass) in
-    let lanes = subst (λ (start : NonterminalString). AreLaneTables (rules_of g) start tables) same told.lanes in
-    Passing-said (λ tables. tables.items) tables (AreLaneTables (rules_of g) c.args.start.now) lanes c.where_checked.result passing c.where_checked.ensures.kept
+    let of = c.in_ok-construct.construct in
+    let over = c.in_ok-construct.ensures.over in
+    let Told : Grammar → NonterminalString → Type 0 = λ g start. IsOnNoRightSide (productions g) start → IsLALR1 (productions g) start → AreLalrLaneTables (rules_of g) start tables in
+    let of_grammar = subst (λ g. Told g of.start) over.0 c.in-Ok.ensures.lalr in
+    let told = subst (Told g) (over.1 ∙ c.in_ok-first.ensures) of_grammar alone lalr in
+    let pass = Lanes-pass g c.args.start.now tables told in
+    let passing = c.where_checked.ensures.passing (subst (λ (start : NonterminalString). PassCheck g start tables) (sym c.in_ok-clone-in-Ok.ensures) pass) in
+    Passing-said (λ tables. tables.items) tables (AreLaneTables (rules_of g) c.args.start.now) told.lanes c.where_checked.result passing c.where_checked.ensures.kept
 
+-- ---- tables that were made at once
+pub returns-then-is_on_no_right_side-clause-copied : goal.returns-then-is_on_no_right_side-clause-copied
+returns-then-is_on_no_right_side-clause-copied c =
+    let of = c.in_ok-construct.construct in
+    let over = c.in_ok-construct.ensures.over in
+    let Told : Grammar → NonterminalString → ℕ → Type 0 = λ g start copies. AreCopiedTables (rules_of g) start copies c.in-Ok.tables.items in
+    let of_grammar = subst (λ g. Told g of.start of.max_copies) over.0 c.in-Ok.ensures.tables in
+    let of_start = subst (λ start. Told c.args.grammar.now start of.max_copies) (over.1 ∙ c.in_ok-first.ensures) of_grammar in
+    subst (Told c.args.grammar.now c.args.start.now) over.2 of_start
+
+made_at_once : (c : goal.Then-is_on_no_right_side) → AreLalrLaneTables (rules_of c.args.grammar.now) c.args.start.now c.in-Ok.tables.items
+made_at_once c =
+    let of = c.in_ok-construct.construct in
+    let over = c.in_ok-construct.ensures.over in
+    let Told : Grammar → NonterminalString → Type 0 = λ g start. IsOnNoRightSide (productions g) start → AreLalrLaneTables (rules_of g) start c.in-Ok.tables.items in
+    let of_grammar = subst (λ g. Told g of.start) over.0 (c.in-Ok.ensures.at_once c.if-at_once.true) in
+    subst (Told c.args.grammar.now) (over.1 ∙ c.in_ok-first.ensures) of_grammar (c.is_on_no_right_side.ensures.0 c.if-is_on_no_right_side.true)
+
+pub returns-then-is_on_no_right_side-clause-faithful : goal.returns-then-is_on_no_right_side-clause-faithful
+returns-then-is_on_no_right_side-clause-faithful c = (made_at_once c).faithful
+
+pub returns-then-is_on_no_right_side-clause-lalr : goal.returns-then-is_on_no_right_side-clause-lalr
+returns-then-is_on_no_right_side-clause-lalr c _ _ = (made_at_once c).lanes
+
+-- ---- no tables
 pub returns-in-Err-Conflicts-clause-lalr : goal.returns-in-Err-Conflicts-clause-lalr
 returns-in-Err-Conflicts-clause-lalr c alone lalr =
     let g = c.args.grammar.now in
-    let same = c.in_ok-first.ensures in
-    let told = rw c.in-Err-Conflicts.field-0-is at (c.in-Err-Conflicts.ensures.lalr (subst (λ (start : NonterminalString). IsOnNoRightSide (productions g) start) (sym same) alone)) in
-    absurd (told (subst (λ (start : NonterminalString). IsLALR1 (productions g) start) (sym same) lalr))
+    let of = c.in_ok-construct.construct in
+    let over = c.in_ok-construct.ensures.over in
+    let Told : Grammar → NonterminalString → Type 0 = λ g start. IsOnNoRightSide (productions g) start → IsLALR1 (productions g) start → ⊥ in
+    let of_construct : Told of.grammar.now of.start = λ alone lalr. rw c.in-Err-Conflicts.field-0-is at (c.in-Err-Conflicts.ensures.lalr alone) lalr in
+    let of_grammar = subst (λ g. Told g of.start) over.0 of_construct in
+    absurd (subst (Told g) (over.1 ∙ c.in_ok-first.ensures) of_grammar alone lalr)

@@ -1,25 +1,36 @@
-use Rattle.std.proofs.Common.{sym}
+use Rattle.std.proofs.Common.{◌≡◌, Bool, List, Result, Ok, Err, IfOk, sym}
+use Rattle.std.specs.Prelude.{OnOk}
 use Rattle.lalrpop_tables.proofs.Readings.{joined_fresh, joined_known}
-use Rattle.lalrpop_tables.proofs.Updates.{exact_order, inserted, replaced, keys_differ}
+use Rattle.lalrpop_tables.proofs.Updates.{exact_order, inserted, set_replaced, keys_differ}
 use Rattle.lalrpop_tables.proofs.build.tokens.add_tokens.Goals as goal
 
-pub returns-in-None-clause-joined : goal.returns-in-None-clause-joined
-returns-in-None-clause-joined g c =
-    let exact = exact_order g.K.PartialEq.eq g.K.Ord.cmp g.met.K.Exact.exact g.met.K.Ord.matches_eq in
-    let put = rw c.in_ok-copy-in-None.ensures at c.in_ok-insert-in-None.ensures.entries in
-    joined_fresh g.L.Lookahead.meaning c.args.key c.args.tokens.now c.args.map.now.entries _ (rw put (inserted _ exact g.met.K.Ord.total c.args.key c.args.tokens.now c.args.map.now.entries (sym c.in-None.ensures.value)))
+-- what holds of a call that went well and of its answer, together
+where_ok : {E A : Type 0} {B C : Bool → Type 0} (r : Result Bool E) → OnOk r A → IfOk r B → ((told : Bool) → A → B told → C told) → IfOk r C
+where_ok (Ok told) a b f = f told a b
+where_ok (Err e) a b f = tt
 
-pub returns-in-None-clause-differ : goal.returns-in-None-clause-differ
-returns-in-None-clause-differ g c = keys_differ g.K.Ord.cmp g.met.K.Ord.total _ c.in_ok-insert-in-None.ensures.ordered
+pub returns-in-Some-clause-joined : goal.returns-in-Some-clause-joined
+returns-in-Some-clause-joined g c =
+    let exact = exact_order g.K.PartialEq.eq g.K.Ord.cmp g.met.K.Exact.exact g.met.K.Ord.matches_eq in
+    let holds = c.get_mut.follows.holds c.join.new.into in
+    where_ok c.join.result c.join.ensures.joined c.join.ensures.told (λ told joined is_told.
+    joined_known g.L.Lookahead.meaning g.met.L.Lookahead.same_by_meaning told c.args.key c.args.tokens.now c.in-Some.known.now c.join.new.into c.args.map.now.entries _ joined is_told
+    (rw holds.0 (set_replaced _ exact g.met.K.Ord.total c.args.key c.join.new.into c.in-Some.known.now c.args.map.now.entries (sym c.in-Some.ensures.value))))
+
+pub returns-in-Some-clause-differ : goal.returns-in-Some-clause-differ
+returns-in-Some-clause-differ g c = where_differ c.join.result (keys_differ g.K.Ord.cmp g.met.K.Ord.total _ (c.get_mut.follows.holds c.join.new.into).4)
+  where
+    where_differ : {V E A : Type 0} (r : Result V E) → A → OnOk r A
+    where_differ (Ok v) a = a
+    where_differ (Err e) a = tt
 
 pub returns-clause-joined : goal.returns-clause-joined
 returns-clause-joined g c =
     let exact = exact_order g.K.PartialEq.eq g.K.Ord.cmp g.met.K.Exact.exact g.met.K.Ord.matches_eq in
-    let known = c.in-Some.known.now in
-    let told = rw c.in_ok-grown-in-Some.ensures at c.in_ok-grew.ensures.told in
-    let joined = rw c.in_ok-grown-in-Some.ensures at c.in_ok-grew.ensures.joined in
-    joined_known g.L.Lookahead.meaning g.met.L.Lookahead.same_by_meaning c.in_ok-grew.grew c.args.key c.args.tokens.now known c.join.new.into c.args.map.now.entries _ joined told
-    (rw c.in_ok-insert.ensures.entries (replaced _ exact g.met.K.Ord.total c.args.key _ known c.args.map.now.entries c.in_ok-insert.ensures.was_ordered (sym c.in-Some.ensures.value)))
+    let put = rw c.get_mut.follows.holds-at-none at c.in_ok-insert.ensures.entries in
+    let copied = rw c.in_ok-copy.ensures at put in
+    joined_fresh g.L.Lookahead.meaning c.args.key c.args.tokens.now c.args.map.now.entries _
+    (rw copied (inserted _ exact g.met.K.Ord.total c.args.key c.args.tokens.now c.args.map.now.entries (sym c.in_default.ensures.value)))
 
 pub returns-clause-differ : goal.returns-clause-differ
 returns-clause-differ g c = keys_differ g.K.Ord.cmp g.met.K.Ord.total _ c.in_ok-insert.ensures.ordered

@@ -1,10 +1,12 @@
 use Rattle.std.proofs.Common.{◌∙◌, ℕ, List, subst, sym}
-use Rattle.std.specs.Prelude.{Option}
-use Rattle.lalrpop_base.specs.Words.{Dotted}
+use Rattle.std.specs.Prelude.{Contains, Option}
+use Rattle.lalrpop_base.specs.Words.{Dotted, Rules, rules_of}
 use Rattle.lalrpop_base.specs.declared.lookahead.nil.Nil.{Nil}
 use Rattle.lalrpop_base.specs.declared.repr.Symbol.{Symbol}
 use Rattle.lalrpop_tables.specs.Numbering.{AreAllExpansions, AreNumbersBehind, lists_of}
 use Rattle.lalrpop_tables.specs.Numbers.{AreBehindDots}
+use Rattle.lalrpop_tables.specs.Rests.{AreRests}
+use Rattle.lalrpop_tables.proofs.Grammars.{known_symbols}
 use Rattle.lalrpop_tables.proofs.Numbering.{lists_length, symbols_differ}
 use Rattle.lalrpop_tables.proofs.build.numbers.Numbers.new.Goals as goal
 
@@ -12,6 +14,9 @@ pub numbers_behind-requires-clause-known : goal.numbers_behind-requires-clause-k
 numbers_behind-requires-clause-known c =
     let items = subst (λ (l : List (Dotted Nil)). AreBehindDots l c.in_ok-symbols.symbols.items) c.deref.ensures.value c.in_ok-symbols.ensures.behind in
     subst (AreBehindDots c.deref-3.result.now) (sym c.deref-2.ensures.value) (subst (λ (l : List (Dotted Nil)). AreBehindDots l c.in_ok-symbols.symbols.items) (sym c.deref-3.ensures.value) items)
+
+pub rests_of-requires-clause-known : goal.rests_of-requires-clause-known
+rests_of-requires-clause-known c i among = known_symbols c.args.grammar.now i.production c.requires.well_formed (c.in_ok-items.ensures.items.each i (subst (λ (l : List (Dotted Nil)). Contains l i) c.deref-6.ensures.value among)).0
 
 pub returns : goal.returns
 returns c =
@@ -30,4 +35,5 @@ returns c =
       symbols_ascend = c.in_ok-symbols.ensures.ascend;
       expanded = sym (lists_length c.in_ok-expansions.expansions.items) ∙ expanded.counted;
       expansions = expanded.each;
+      rests = subst (λ (l : List (Dotted Nil)). AreRests (rules_of c.args.grammar.now) l c.in_ok-rests.rests.items) c.deref-6.ensures.value (subst (λ (r : Rules). AreRests r c.deref-6.result.now c.in_ok-rests.rests.items) c.requires.firsts c.in_ok-rests.ensures);
     }

@@ -6,7 +6,7 @@ use Rattle.lalrpop_tables.specs.Words.{AreAmong, edges, HaveOwnItems, IsGraphOf}
 use Rattle.lalrpop_tables.proofs.CheckStates.{some_of}
 use Rattle.lalrpop_tables.proofs.LaneAnswers.{was_met, was_resolved}
 use Rattle.lalrpop_tables.proofs.LaneAsked.{among_asked}
-use Rattle.lalrpop_tables.proofs.LaneResolving.{set_back}
+use Rattle.lalrpop_tables.proofs.Merging.{set_back}
 use Rattle.lalrpop_tables.proofs.Lr0Copies.{asked_own, copied_coherent, copied_own}
 use Rattle.lalrpop_tables.proofs.Places.{same_some, slice_get_at}
 use Rattle.lalrpop_tables.proofs.Resolving.{copied_answers, resolving_same, resolving_taken, some_asked}

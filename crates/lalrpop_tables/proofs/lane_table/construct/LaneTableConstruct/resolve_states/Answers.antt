@@ -1,28 +1,61 @@
-use Rattle.std.proofs.Common.{List}
-use Rattle.lalrpop_base.specs.Words.{Bits, rules_of}
+use Rattle.std.proofs.Common.{List, arith, length, sym, subst}
+use Rattle.lalrpop_base.specs.Words.{Bits, AreClosed, AreCoherent, productions, rules_of}
 use Rattle.lalrpop_base.specs.declared.lr1_core.state.State.{State}
+use Rattle.lalrpop_tables.specs.FollowNodes.{AreAllReached, AreOfGrammar}
+use Rattle.lalrpop_tables.specs.Words.{places_in}
+use Rattle.lalrpop_tables.proofs.LaneFound.{found_at, lane_closed, lane_numbered, lane_own, lane_reached}
 use Rattle.lalrpop_tables.proofs.LaneLoop.{lane_states_on, resolved_more}
+use Rattle.lalrpop_tables.proofs.LaneShape.{lane_shape}
+use Rattle.lalrpop_tables.proofs.Places.{slice_get_at}
 use Rattle.lalrpop_tables.proofs.LaneAnswers.{lane_tables, all_done, was_resolved, were_met}
 use Rattle.lalrpop_tables.proofs.lane_table.construct.LaneTableConstruct.resolve_states.Goals as goal
+
+-- ---- the pass
+pub number_states-requires-clause-numbered : goal.number_states-requires-clause-numbered
+number_states-requires-clause-numbered c s state at =
+    let there = rw c.deref.ensures.value at at in
+    lane_numbered (rules_of c.args.self.now.grammar.now) c.args.self.now.start c.args.states.now.items c.requires.lanes c.in_ok-numbers.numbers c.in_ok-numbers.ensures s state there
+
+pub new-requires-2-clause-coherent : goal.new-requires-2-clause-coherent
+new-requires-2-clause-coherent c = subst (λ (xs : List (State Bits)). AreCoherent xs) (sym c.deref-2.ensures.value) (lane_shape (rules_of c.args.self.now.grammar.now) c.args.self.now.start c.args.states.now.items c.requires.lanes).coherent
+
+pub new-requires-2-clause-closed : goal.new-requires-2-clause-closed
+new-requires-2-clause-closed c = subst (λ (xs : List (State Bits)). AreClosed (productions c.args.self.now.grammar.now) c.args.self.now.start (places_in xs)) (sym c.deref-2.ensures.value) (lane_closed (rules_of c.args.self.now.grammar.now) c.args.self.now.start c.args.states.now.items c.requires.lanes)
+
+pub new-requires-2-clause-reached : goal.new-requires-2-clause-reached
+new-requires-2-clause-reached c = subst (λ (xs : List (State Bits)). AreAllReached (places_in xs) (length xs)) (sym c.deref-2.ensures.value) (lane_reached (rules_of c.args.self.now.grammar.now) c.args.self.now.start c.args.states.now.items c.requires.lanes)
+
+pub new-requires-2-clause-own : goal.new-requires-2-clause-own
+new-requires-2-clause-own c = subst (λ (xs : List (State Bits)). AreOfGrammar (productions c.args.self.now.grammar.now) (places_in xs)) (sym c.deref-2.ensures.value) (lane_own (rules_of c.args.self.now.grammar.now) c.args.self.now.start c.args.states.now.items c.requires.lanes)
+
+-- ---- the loop
+pub resolve_state-requires-clause-found : goal.resolve_state-requires-clause-found
+resolve_state-requires-clause-found c =
+    let h = c.loop-index.invariant in
+    let states : List (State Bits) = c.loop-index.states.items in
+    let counted = h.numbered.counted in
+    let all = h.counted in
+    let at = slice_get_at c.in_ok-numbered.numbered.items c.loop-index.index c.index.result.now (omega arith) c.index.ensures in
+    found_at (rules_of c.args.self.now.grammar.now) c.args.self.now.start states h.lanes c.in_ok-numbers.numbers c.in_ok-numbers.ensures c.in_ok-found.found c.in_ok-numbered.numbered.items h.finds h.numbered c.loop-index.index c.index.result.now at
 
 pub returns-then-not-branch-clause-lanes : goal.returns-then-not-branch-clause-lanes
 returns-then-not-branch-clause-lanes c =
     let old : List (State Bits) = c.loop-index.states.items in
-    let new : List (State Bits) = c.resolve_inconsistencies.new.states.items in
-    lane_states_on (rules_of c.args.self.now.grammar.now) c.args.self.now.start c.loop-index.index old new c.in_ok-resolve_inconsistencies.ensures.step c.loop-index.invariant.lanes
+    let new : List (State Bits) = c.resolve_state.new.states.items in
+    lane_states_on (rules_of c.args.self.now.grammar.now) c.args.self.now.start c.loop-index.index old new c.in_ok-resolve_state.ensures.step c.loop-index.invariant.lanes
 
 pub returns-then-not-branch-clause-resolved : goal.returns-then-not-branch-clause-resolved
 returns-then-not-branch-clause-resolved c =
     let old : List (State Bits) = c.loop-index.states.items in
-    let new : List (State Bits) = c.resolve_inconsistencies.new.states.items in
-    were_met (rules_of c.args.self.now.grammar.now) c.args.self.now.start c.args.graph.now c.len-count.result c.loop-index.index old new c.loop-index.invariant c.in_ok-resolve_inconsistencies.ensures.step c.in_ok-resolve_inconsistencies.field-0 _ c.if-not-branch.true c.in_ok-resolve_inconsistencies.ensures.resolved
+    let new : List (State Bits) = c.resolve_state.new.states.items in
+    were_met (rules_of c.args.self.now.grammar.now) c.args.self.now.start c.in_ok-numbers.numbers c.in_ok-found.found c.in_ok-numbered.numbered.items c.len-count.result c.loop-index.index old new c.loop-index.invariant c.in_ok-resolve_state.ensures.step c.in_ok-resolve_state.field-0 _ c.if-not-branch.true c.in_ok-resolve_state.ensures.resolved
 
 pub loop-index-preserved : goal.loop-index-preserved
 loop-index-preserved c =
     let old : List (State Bits) = c.loop-index.states.items in
-    let new : List (State Bits) = c.resolve_inconsistencies.new.states.items in
-    let step = c.in_ok-resolve_inconsistencies.ensures in
-    resolved_more (rules_of c.args.self.now.grammar.now) c.args.self.now.start c.args.graph.now c.len-count.result c.loop-index.index old new c.loop-index.invariant step.step (was_resolved c.in_ok-resolve_inconsistencies.field-0 _ _ c.if-not-branch.false step.resolved)
+    let new : List (State Bits) = c.resolve_state.new.states.items in
+    let step = c.in_ok-resolve_state.ensures in
+    resolved_more (rules_of c.args.self.now.grammar.now) c.args.self.now.start c.in_ok-numbers.numbers c.in_ok-found.found c.in_ok-numbered.numbered.items c.len-count.result c.loop-index.index old new c.loop-index.invariant step.step (was_resolved c.in_ok-resolve_state.field-0 _ _ c.if-not-branch.false step.resolved)
 
 pub returns-clause-resolved : goal.returns-clause-resolved
 returns-clause-resolved c =
@@ -30,4 +63,4 @@ returns-clause-resolved c =
     let start = c.args.self.now.start in
     let states : List (State Bits) = c.loop-index.states.items in
     let h = c.loop-index.invariant in
-    lane_tables g start c.requires.ready.well_formed c.all-terminals.ensures.distinct states h.lanes (all_done (rules_of g) start _ c.len-count.result c.loop-index.index states c.loop-index-test.false h)
+    lane_tables g start c.requires.ready.well_formed c.all-terminals.ensures.distinct states h.lanes (all_done (rules_of g) start _ _ _ c.len-count.result c.loop-index.index states c.loop-index-test.false h)

@@ -1,0 +1,5 @@
+use Rattle.lalrpop_tables.specs.FollowWalks.{AreEmptyLists}
+use Rattle.lalrpop_tables.proofs.lane_table.follow_sets.lookback.empty_lookback.Given as goal
+
+abbrev pub invariant-loop-place : goal.invariant-loop-place
+invariant-loop-place l = AreEmptyLists l._place l.lookback.items
