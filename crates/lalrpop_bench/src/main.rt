@@ -1,21 +1,23 @@
 //! `lalrpop_bench FILE..` asks the libraries' public calls what case files ask, and compares the
 //! answers with what the files owe. `lalrpop_bench time FILE START` tells how long each part of the
-//! way to the tables of a grammar takes.
+//! way to the tables of a grammar takes, and `lalrpop_bench make KIND SIZE` prints a grammar.
 #![tactic(auto)]
 
 mod ask;
 mod case_file;
 mod compare;
+mod making;
 mod show;
 mod timing;
 
 use crate::compare::{Tally, compare_file};
+use crate::making::{MOST, print_grammar};
 use crate::timing::time_file;
 use anyhow::Context;
 use std::process::ExitCode;
 use std::{env, fs};
 
-const USAGE: &str = "usage: lalrpop_bench FILE.. | time FILE START";
+const USAGE: &str = "usage: lalrpop_bench FILE.. | time FILE START | make KIND SIZE";
 
 fn main(rt: HostRuntime) -> ExitCode {
     match run(&rt) {
@@ -38,6 +40,9 @@ fn run(rt: &HostRuntime) -> anyhow::Result<u8> {
     };
     if first.as_str() == "time" {
         return run_time(rt, others);
+    }
+    if first.as_str() == "make" {
+        return run_make(rt, others);
     }
     Ok(compare_files(rt, &words)?.status())
 }
@@ -62,6 +67,27 @@ fn run_time(rt: &HostRuntime, words: &[String]) -> anyhow::Result<u8> {
     match time_file(rt, name.as_str(), start.as_str())? {
         Some(status) => Ok(status),
         None => usage(rt),
+    }
+}
+
+// Prints the grammar of the kind and the size that the words name.
+fn run_make(rt: &HostRuntime, words: &[String]) -> anyhow::Result<u8> {
+    let Some((kind, others)) = words.split_first() else {
+        return usage(rt);
+    };
+    let Some((size, more)) = others.split_first() else {
+        return usage(rt);
+    };
+    let Ok(size) = size.as_str().parse::<usize>() else {
+        return usage(rt);
+    };
+    if !more.is_empty() || size > MOST {
+        return usage(rt);
+    }
+    if print_grammar(rt, kind.as_str(), size)? {
+        Ok(0)
+    } else {
+        usage(rt)
     }
 }
 

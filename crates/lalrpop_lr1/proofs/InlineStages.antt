@@ -41,7 +41,7 @@ module _ (Marked : NonterminalString → Type 0) (terminals : List TerminalStrin
     pub marked : (c : NonterminalString) → Contains rest c → Marked c
 
   -- the next one does not mention itself
-  stage_alone : (b : NonterminalString) (rest : List NonterminalString) (v : View) → Stage (b ∷ rest) v → (r : Production) → Contains (alternatives_in v b) r → mentions b r.symbols ≡ false
+  pub stage_alone : (b : NonterminalString) (rest : List NonterminalString) (v : View) → Stage (b ∷ rest) v → (r : Production) → Contains (alternatives_in v b) r → mentions b r.symbols ≡ false
   stage_alone b rest v s r c = elim (cases_Bool (mentions b r.symbols)) [
     | inl h ↦
         let (own, named) = alternatives_own terminals v s.proper b r c in
@@ -119,7 +119,7 @@ flat_view (e ∷ es) = ap (λ (ps : List Production). e.1.productions.items ++ p
 pub productions_view : (g : Grammar) → productions g ≡ productions_in (view_of g)
 productions_view g = flat_view g.nonterminals.entries
 
-keys_view : (es : List (NonterminalString × NonterminalData)) → keys_of (map entry_view es) ≡ keys_of es
+pub keys_view : (es : List (NonterminalString × NonterminalData)) → keys_of (map entry_view es) ≡ keys_of es
 keys_view [] = refl
 keys_view (e ∷ es) = ap (λ (ks : List NonterminalString). e.0 ∷ ks) (keys_view es)
 
@@ -202,11 +202,14 @@ drop_end [] (suc i) l = refl
 drop_end (x ∷ xs) zero l = absurd (omega arith)
 drop_end (x ∷ xs) (suc i) l = drop_end xs i (omega arith)
 
+-- the next nonterminal is the first of those that are left
+pub next_one : (order : List NonterminalString) (i : ℕ) (name : NonterminalString) → i < length order → name ≡ get_or order i name → drop i order ≡ name ∷ drop (i + 1) order
+next_one order i name less is = drop_more order i name less ∙ ap (λ (y : NonterminalString). y ∷ drop (i + 1) order) (sym is)
+
 -- one nonterminal more was inlined
 pub one_inlined : (order : List NonterminalString) (i : ℕ) (name : NonterminalString) (v w d : View) → i < length order → name ≡ get_or order i name → inlined_by (drop i order) v ≡ d → w ≡ inlined_of name v → inlined_by (drop (i + 1) order) w ≡ d
 one_inlined order i name v w d less is so_far step =
-    let here : drop i order ≡ name ∷ drop (i + 1) order = drop_more order i name less ∙ ap (λ (y : NonterminalString). y ∷ drop (i + 1) order) (sym is) in
-    ap (inlined_by (drop (i + 1) order)) step ∙ ap (λ (l : List NonterminalString). inlined_by l v) (sym here) ∙ so_far
+    ap (inlined_by (drop (i + 1) order)) step ∙ ap (λ (l : List NonterminalString). inlined_by l v) (sym (next_one order i name less is)) ∙ so_far
 
 -- there was no number for an action
 pub inlined_past : (order : List NonterminalString) (i : ℕ) (name : NonterminalString) (v d : View) (e : NormError) → i < length order → name ≡ get_or order i name → inlined_by (drop i order) v ≡ d → IsPastLast (length (inlined_of name v).defns) e → IsPastLast (length d.defns) e

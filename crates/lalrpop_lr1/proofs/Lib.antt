@@ -11,9 +11,11 @@ pub mod InlineEntries
 pub mod InlineForests
 pub mod InlineMarks
 pub mod InlineMembers
+pub mod InlinePlaces
 pub mod InlineRings
 pub mod InlineStages
 pub mod InlineSteps
+pub mod InlineUsers
 pub mod InlineViews
 pub mod InlineWalks
 pub mod Interpreted

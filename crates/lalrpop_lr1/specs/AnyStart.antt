@@ -1,5 +1,5 @@
 -- Parsing for any start symbol, by a grammar with a new one above it: what `parse` promises of a start symbol on no right side, in the words of the old one. The new one's node is no part of the trees, but counts against the limit.
-use Rattle.std.specs.Prelude.{◌≡◌, ℕ, ◌<◌, ◌≤◌, List, not, Result, Ok, Err, refl}
+use Rattle.std.specs.Prelude.{◌≡◌, ℕ, ◌<◌, ◌≤◌, List, not, Result, refl}
 use Rattle.std.specs.BTreeMap.{is_at}
 use Rattle.std.specs.Coded.{Coded, code_by, coded×, coded_list}
 use Rattle.std.specs.List.{filter}

@@ -8,6 +8,7 @@ pub mod InlineChoices
 pub mod InlineOrder
 pub mod InlineRefusals
 pub mod InlineSteps
+pub mod InlineUsers
 pub mod InlineWalks
 pub mod Inlined
 pub mod Machines

@@ -14,6 +14,7 @@ pub use Rattle.lalrpop_lr1.specs.InlineRefusals.{IsPastLast}
 pub use Rattle.lalrpop_lr1.specs.InlineSteps.{Entry, IsEntryReplaced, Made, View, alternatives_in, choice_defn, choice_production, chosen, entry_view}
 pub use Rattle.lalrpop_lr1.specs.InlineSteps.{entry_with, fallible_of, in_front, inlined_by, inlined_of, is_fallible, is_fallible_part, listed, made_of}
 pub use Rattle.lalrpop_lr1.specs.InlineSteps.{productions_in, replaced, replaced_all, replaced_entries, view_of}
+pub use Rattle.lalrpop_lr1.specs.InlineUsers.{HasUsers, KeepsUsers, first_replaced, listed_names, replaced_at, replaced_places, users_at}
 pub use Rattle.lalrpop_lr1.specs.InlineWalks.{IsWalk, IsWalked, LeadTo, mentioned_in, names_of}
 pub use Rattle.lalrpop_lr1.specs.Inlined.{HasTooMany, IsInlined, IsLaidOut, IsRefusalOf}
 pub use Rattle.lalrpop_lr1.specs.Machines.{CanPop, HasRead, IsAtStart, IsHalted, IsProgress, IsShifted, IsSpent, IsStack, IsStacked, bottom, configuration}

@@ -3,6 +3,7 @@ mod choices;
 mod entries;
 mod graph;
 mod replace;
+mod users;
 
 ghost use Rattle.std.specs.Prelude.{◌≡◌, ◌≤◌, ◌↔◌, ◌++◌, IfOk, OnOk, IfErr, List, Contains, length};
 ghost use Rattle.lalrpop_base.specs.Words.{IsSentence, IsWellFormed, productions};
@@ -19,6 +20,7 @@ use lalrpop_base::repr::NonterminalString;
 use lalrpop_base::repr::grammar::Grammar;
 use lalrpop_base::repr::norm_error::NormResult;
 use std::alloc::Global;
+use users::users_of;
 
 /// The marked nonterminals in an order to inline them. They are visited in the order of their
 /// names, and what one mentions from the last mention to the first. A refusal names the nonterminal
@@ -51,9 +53,10 @@ pub fn inline(alloc: Global, grammar: Grammar) -> NormResult<Grammar>
     ensures refused { IfErr result (IsRefusalOf grammar) }
 {
     let order = ordered(alloc, &grammar)?;
+    let users = users_of(alloc, &grammar)?;
     let mut inlined = grammar;
     for name in &order {
-        inlined = inline_nonterminal(alloc, inlined, name)?;
+        inlined = inline_nonterminal(alloc, inlined, name, &users)?;
     }
     Ok(inlined)
 }

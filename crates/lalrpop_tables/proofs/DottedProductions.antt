@@ -1,13 +1,10 @@
 -- The dotted productions of a grammar, listed: productions ascend, and of each all dots.
-use Rattle.std.proofs.Common.{cond, ◌==◌, ◌≡◌, ◌∙◌, ◌⊎◌, inl, inr, ℕ, zero, suc, ◌+◌, ◌<◌, ◌≤◌, List, [], ◌∷◌, ◌++◌, length, map, refl, sym, ap, subst, arith}
+use Rattle.std.proofs.Common.{◌≡◌, ◌∙◌, ◌⊎◌, inl, inr, ℕ, zero, suc, ◌+◌, ◌<◌, ◌≤◌, List, [], ◌∷◌, ◌++◌, length, map, refl, sym, ap, subst, arith}
 use Rattle.std.specs.Prelude.{◌↔◌, slice_get, Some, Contains}
-use Rattle.std.specs.List.{AllByRecursion, flat_map}
+use Rattle.std.specs.List.{flat_map}
 use Rattle.std.specs.List.Sorted.{IsStrictlySortedBy}
 use Rattle.std.specs.Map.{keys_of}
-use Rattle.std.specs.Cmp.{tied_itself}
-use Rattle.std.specs.Ordering.{nat_cmp, on, ordering_then, then_cmp}
-use Rattle.std.specs.declared.cmp.Ordering.TheVariants.{Less, Equal, Greater}
-use Rattle.std.proofs.lemmas.Bool.{lt-ltb}
+use Rattle.std.specs.Ordering.{nat_cmp, on, then_cmp}
 use Rattle.std.specs.declared.cmp.Ordering.{Ordering}
 use Rattle.std.proofs.lemmas.List.Elements.{Contains-append_left, Contains-append_right, Contains-append_cases}
 use Rattle.std.proofs.lemmas.List.FromFn.{length-map-range_with_len, get_or-map-range_with_len}
@@ -20,7 +17,7 @@ use Rattle.lalrpop_tables.specs.CheckSets.{IsAdded}
 use Rattle.lalrpop_tables.specs.Numbering.{AddsThose, IsStartOf, all_dots, with_dot, with_dots}
 use Rattle.lalrpop_tables.specs.Numbers.{AreItemsOf, MovesToNext}
 use Rattle.lalrpop_tables.specs.Words.{Ascend, Precedes, item_of, moved, production_order}
-use Rattle.lalrpop_tables.proofs.Ascending.{Table-ascend, production_total, ordered_cons, ordered_head, ordered_none, ordered_tail}
+use Rattle.lalrpop_tables.proofs.Ascending.{Table-ascend, ordered_cons, ordered_head, ordered_none, ordered_tail}
 use Rattle.lalrpop_tables.proofs.Bounded.{in_flat_map}
 use Rattle.lalrpop_tables.proofs.Lists.{Contains-cases, Contains-here, Contains-none, Contains-there, place}
 use Rattle.lalrpop_tables.proofs.Places.{contains_at, same_some, slice_get-longer, slice_get_at}
@@ -167,20 +164,3 @@ listed_items g ks items starts ascend is = rw is (record {
   where
     start : (k : Dotted Nil) → Contains ks k → IsStartOf g.productions k
     start k c = elim ((starts k).0 c) [ inl none ↦ absurd (Contains-none k none) | inr s ↦ s ]
-
--- ---- and back: dotted productions that ascend are in the order of keys
-precedes_less : (a b : Dotted Nil) → Precedes a b → key_order a b ≡ Less
-precedes_less a b (inl less) = ap (λ o. ordering_then o (ordering_then (nat_cmp a.index b.index) (nil_ord.ghosts.cmp a.lookahead b.lookahead))) less
-precedes_less a b (inr further) =
-    let tied : production_order a.production b.production ≡ Equal = subst (λ (p : Production). production_order a.production p ≡ Equal) further.0 (tied_itself production_total a.production) in
-    let number : nat_cmp a.index b.index ≡ Less = ap (λ c. cond c Less (cond (a.index == b.index) Equal Greater)) (lt-ltb a.index b.index further.1) in
-    ap (λ o. ordering_then o (ordering_then (nat_cmp a.index b.index) (nil_ord.ghosts.cmp a.lookahead b.lookahead))) tied ∙ ap (λ o. ordering_then o (nil_ord.ghosts.cmp a.lookahead b.lookahead)) number
-
-all_less : (k : Dotted Nil) (ks : List (Dotted Nil)) → ((y : Dotted Nil) → Contains ks y → Precedes k y) → AllByRecursion (λ (y : Dotted Nil). key_order k y ≡ Less) ks
-all_less k [] h = tt
-all_less k (y ∷ ys) h = (precedes_less k y (h y (Contains-here y ys)), all_less k ys (λ z c. h z (Contains-there y ys z c)))
-
-pub ascend_sorted : (ks : List (Dotted Nil)) → Ascend ks → IsStrictlySortedBy key_order ks
-unfolding IsStrictlySortedBy
-ascend_sorted [] a = tt
-ascend_sorted (k ∷ ks) a = (all_less k ks (ordered_head Precedes k ks a), ascend_sorted ks (ordered_tail Precedes k ks a))

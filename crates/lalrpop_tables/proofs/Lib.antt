@@ -117,6 +117,7 @@ pub mod OrderedCanonical
 pub mod Orders
 pub mod Partitions
 pub mod Places
+pub mod ProductionPlaces
 pub mod Readings
 pub mod Reductions
 pub mod Renumbered

@@ -1,6 +1,6 @@
 -- Lookaheads and what they stand for: entries that are joined, and closures.
-use Rattle.std.proofs.Common.{◌≡◌, ◌≢◌, ℕ, inl, inr, List, [], ◌∷◌, ◌++◌, map, refl, sym, ◌∙◌, ap, subst, Bool, true, false}
-use Rattle.std.specs.Prelude.{Contains, MatchBool}
+use Rattle.std.proofs.Common.{◌≡◌, ◌≢◌, ℕ, inl, inr, List, [], ◌∷◌, ◌++◌, map, refl, sym, ◌∙◌, ap, subst, Bool, true, false, Result, Ok, Err, IfOk}
+use Rattle.std.specs.Prelude.{Contains, MatchBool, OnOk}
 use Rattle.std.specs.Map.{keys_of}
 use Rattle.std.proofs.lemmas.List.{map-append}
 use Rattle.lalrpop_base.specs.Words.{Bits, join, InClosure, holds_token, Dotted, AllDiffer, Rules}
@@ -15,6 +15,11 @@ use Rattle.lalrpop_tables.specs.Words.{InTokenClosureBy, own_token, from_rest, f
 use Rattle.lalrpop_tables.specs.Entries.IsJoinedAt.{fresh as join_fresh, known as join_known}
 use Rattle.lalrpop_tables.proofs.Lists.{Contains-map}
 use Rattle.lalrpop_tables.proofs.Updates.{IsInserted, IsReplaced}
+
+-- what holds of a call that went well and of its answer, together
+pub where_ok : {E A : Type 0} {B C : Bool → Type 0} (r : Result Bool E) → OnOk r A → IfOk r B → ((told : Bool) → A → B told → C told) → IfOk r C
+where_ok (Ok told) a b f = f told a b
+where_ok (Err e) a b f = tt
 
 module _ {L : Type 0} (meaning : L → Bits) where
   told_by : ((a b : L) → meaning a ≡ meaning b → a ≡ b) → (told : Bool) (s w : L) (b : Bits) → meaning w ≡ b → MatchBool told (w ≢ s) (w ≡ s) → MatchBool told (b ≢ meaning s) (b ≡ meaning s)

@@ -31,8 +31,8 @@ fn is_inline(attribute: &Attribute) -> bool
     attribute.id.as_str() == "inline"
 }
 
-// Whether there is the mark of a nonterminal to be inlined.
-fn is_marked(attributes: &[Attribute]) -> bool
+/// Whether there is the mark of a nonterminal to be inlined.
+pub fn is_marked(attributes: &[Attribute]) -> bool
     ensures { IsTrue result ↔ Contains attributes.now inline_mark }
 {
     for attribute in attributes {

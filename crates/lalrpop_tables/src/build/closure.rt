@@ -13,7 +13,7 @@ use super::lookahead_build::LookaheadBuild;
 use super::lr::Lr;
 use super::numbered::Numbered;
 use super::numbers::Numbers;
-use super::tokens::{add_tokens, tokens_of};
+use super::tokens::{add_tokens, put_tokens, tokens_of};
 use lalrpop_base::lookahead::Lookahead;
 use lalrpop_base::memory::OutOfMemory;
 use lalrpop_base::repr::Symbol;
@@ -23,17 +23,16 @@ use std::collections::{BTreeMap, VecDeque};
 // Joins the tokens to those of a nonterminal, which goes into the queue if it is new or has more
 // now.
 fn add_shared<L: Lookahead>(
-    alloc: Global,
     symbol: usize,
-    tokens: &L,
+    tokens: L,
     shared: &mut BTreeMap<usize, L>,
     queue: &mut VecDeque<usize>,
 ) -> Result<(), OutOfMemory>
-    ensures { OnOk result (IsQueued symbol (L.meaning tokens.now)
+    ensures { OnOk result (IsQueued symbol (L.meaning tokens)
         (readings L.meaning shared.old.entries) (readings L.meaning shared.new.entries)
         queue.old.items queue.new.items) }
 {
-    if add_tokens(alloc, shared, symbol, tokens)? {
+    if put_tokens(shared, symbol, tokens)? {
         queue.push_back(symbol)?;
     }
     Ok(())
@@ -73,7 +72,7 @@ fn share<'grammar, L: LookaheadBuild>(
     let Some(given) = L::given(alloc, lr, name, remainder, rest, tokens)? else {
         return Ok(());
     };
-    add_shared(alloc, symbol, &given, shared, queue)
+    add_shared(symbol, given, shared, queue)
 }
 
 // Adds what the items of a kernel give.

@@ -26,6 +26,17 @@ impl LookaheadBuild for Nil {
     ) -> Result<Vec<Item<'grammar, Nil>>, OutOfMemory> {
         lr.begun_items(alloc, nonterminal, lookahead)
     }
+
+    fn given<'grammar>(
+        _alloc: Global,
+        _lr: &Lr<'grammar, Nil>,
+        _nonterminal: &NonterminalString,
+        _remainder: &[Symbol],
+        _rest: &Rest,
+        _lookahead: &Nil,
+    ) -> Result<Option<Nil>, OutOfMemory> {
+        Ok(Some(Nil))
+    }
 }
 
 impl LookaheadBuild for TokenSet {

@@ -6,13 +6,12 @@ pub mod rests;
 pub(crate) mod symbols;
 
 ghost use Rattle.std.specs.Prelude.{◌≡◌, Contains, IfOk, IfSome, IsNone, Some, slice_get};
-ghost use Rattle.lalrpop_base.specs.Words.{IsWellFormed, rules_of};
-ghost use Rattle.lalrpop_tables.specs.Ascending.{Ascend};
+ghost use Rattle.lalrpop_base.specs.Words.{IsWellFormed, Rules, rules_of};
 ghost use Rattle.lalrpop_tables.specs.Numbers.{AreNumbers};
 
 use dotted::dotted_productions;
 use expansions::expansions_of;
-use halving::place_in_order;
+use halving::place_of_production;
 use lalrpop_base::first::FirstSets;
 use lalrpop_base::lr1_core::item::Lr0Item;
 use lalrpop_base::memory::OutOfMemory;
@@ -62,12 +61,19 @@ impl<'grammar> Numbers<'grammar> {
         })
     }
 
-    /// The number of a dotted production.
+    /// The number of a dotted production. Those of one production stand side by side in the order
+    /// of their dots, so the number of any of them tells it.
     pub(crate) fn number_of(&self, item: &Lr0Item<'grammar>) -> Option<usize>
-        requires { Ascend self.now.items.items }
+        requires { (g : Rules) × AreNumbers g self.now }
         ensures found { IfSome result (λ k. slice_get self.now.items.items k ≡ Some item.now) }
         ensures none { IsNone result → ¬ Contains self.now.items.items item.now }
     {
-        place_in_order(&self.items, item)
+        match place_of_production(&self.items, item.production) {
+            Some(place) => {
+                let met = &self.items[place];
+                Some(place - met.index + item.index)
+            }
+            None => None,
+        }
     }
 }

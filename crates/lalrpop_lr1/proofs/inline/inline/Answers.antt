@@ -1,15 +1,46 @@
-use Rattle.std.proofs.Common.{rules, List, arith, sym, ◌∙◌, subst}
+use Rattle.std.proofs.Common.{rules, List, drop, arith, refl, sym, ◌∙◌, subst}
 use Rattle.lalrpop_base.specs.declared.repr.NonterminalString.{NonterminalString}
-use Rattle.lalrpop_lr1.specs.Words.{IsInlineOrder, view_of, inlined_by, IsRefusalOf}
-use Rattle.lalrpop_lr1.proofs.InlineStages.{one_inlined, inlined_past, all_inlined, refusal_past, inlined_well_formed, inlined_unmentioned, inlined_lists, inlined_kept, inlined_laid_out}
+use Rattle.lalrpop_lr1.specs.Words.{IsMarked, IsInlineOrder, view_of, inlined_by, IsRefusalOf}
+use Rattle.lalrpop_lr1.proofs.InlineStages.{first_stage, one_inlined, inlined_past, all_inlined, refusal_past, inlined_well_formed, inlined_unmentioned, inlined_lists, inlined_kept, inlined_laid_out}
+use Rattle.lalrpop_lr1.proofs.InlineUsers.{first_mentioned, stage_on, mentioned_on, next_covered, stage_ordered}
 use Rattle.lalrpop_lr1.proofs.inline.inline.Goals as goal
 
+pub loop-name-init : goal.loop-name-init
+loop-name-init c =
+    let order : List NonterminalString = c.deref-name-items.result.now in
+    let is : IsInlineOrder c.args.grammar order = subst (IsInlineOrder c.args.grammar) (sym c.deref-name-items.ensures.value) c.in_ok-order.ensures.order in
+    record {
+      view = refl;
+      terminals = refl;
+      algorithm = refl;
+      stage = first_stage c.args.grammar order c.in_ok-order.ensures.rising c.requires is;
+      mentioned = first_mentioned c.args.grammar order c.in_ok-order.ensures.rising c.requires is;
+    }
+
+pub inline_nonterminal-requires : goal.inline_nonterminal-requires
+inline_nonterminal-requires c =
+    let order : List NonterminalString = c.deref-name-items.result.now in
+    let g = c.args.grammar in
+    record {
+      ordered = stage_ordered (IsMarked g) g.terminals (drop c.loop-name.name-index order) c.loop-name.inlined c.loop-name.invariant.stage;
+      covered = next_covered (IsMarked g) g.terminals order c.loop-name.name-index c.name-item.result (omega arith) c.name-item.is g c.in_ok-users.users c.in_ok-users.ensures c.loop-name.inlined c.loop-name.invariant.stage c.loop-name.invariant.mentioned;
+    }
+
 pub loop-name-preserved : goal.loop-name-preserved
-loop-name-preserved c = record {
-  view = one_inlined c.deref-name-items.result.now c.loop-name.name-index c.name-item.result (view_of c.loop-name.inlined) _ _ (omega arith) c.name-item.is c.loop-name.invariant.view c.in_ok-inlined.ensures.view;
-  terminals = c.in_ok-inlined.ensures.terminals ∙ c.loop-name.invariant.terminals;
-  algorithm = c.in_ok-inlined.ensures.algorithm ∙ c.loop-name.invariant.algorithm;
-}
+loop-name-preserved c =
+    let order : List NonterminalString = c.deref-name-items.result.now in
+    let g = c.args.grammar in
+    let i = c.loop-name.name-index in
+    let name = c.name-item.result in
+    let v = view_of c.loop-name.inlined in
+    let step = c.in_ok-inlined.ensures.view in
+    record {
+      view = one_inlined order i name v _ _ (omega arith) c.name-item.is c.loop-name.invariant.view step;
+      terminals = c.in_ok-inlined.ensures.terminals ∙ c.loop-name.invariant.terminals;
+      algorithm = c.in_ok-inlined.ensures.algorithm ∙ c.loop-name.invariant.algorithm;
+      stage = stage_on (IsMarked g) g.terminals order i name (omega arith) c.name-item.is v _ step c.loop-name.invariant.stage;
+      mentioned = mentioned_on (IsMarked g) g.terminals order i name (omega arith) c.name-item.is g v _ step c.loop-name.invariant.stage c.loop-name.invariant.mentioned;
+    }
 
 pub returns-in_err-inlined-clause-refused : goal.returns-in_err-inlined-clause-refused
 returns-in_err-inlined-clause-refused c =

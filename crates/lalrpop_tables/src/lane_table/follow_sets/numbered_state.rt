@@ -1,11 +1,10 @@
 //! States by the numbers of their items and symbols.
 ghost use Rattle.std.specs.Prelude.{◌≡◌, ◌<◌, ◌↔◌, ℕ, true, length, slice_get, Some, Contains, IfOk, OnOk};
-ghost use Rattle.lalrpop_base.specs.Words.{Bits, Dotted, contents_of};
+ghost use Rattle.lalrpop_base.specs.Words.{Bits, Dotted, Rules, contents_of};
 ghost use Rattle.lalrpop_base.specs.declared.lookahead.nil.Nil.{Nil as NoLookahead};
 ghost use Rattle.lalrpop_base.specs.declared.lr1_core.state.State.{State};
-ghost use Rattle.lalrpop_tables.specs.Ascending.{Ascend};
 ghost use Rattle.lalrpop_tables.specs.NumberedStates.{AddTransitions, AddsTransition, AreNumberedStates, AreReducedNumbers, GotosAscend, HasDots, HaveReducedNumbers, IsNumberedState, ShiftsAscend, goto_transitions, shift_transitions};
-ghost use Rattle.lalrpop_tables.specs.Numbers.{SymbolsAscend};
+ghost use Rattle.lalrpop_tables.specs.Numbers.{AreNumbers, SymbolsAscend};
 
 use crate::build::numbers::Numbers;
 use crate::build::numbers::symbols::number_of;
@@ -37,7 +36,7 @@ fn number_items<'grammar>(
     numbers: &Numbers<'grammar>,
     items: &[Lr1Item<'grammar>],
 ) -> Result<Vec<usize>, OutOfMemory>
-    requires { Ascend numbers.now.items.items }
+    requires { (g : Rules) × AreNumbers g numbers.now }
     ensures known { IfOk result
         (λ list. (k : ℕ) → Contains list.items k → k < length numbers.now.items.items) }
     ensures numbered { IfOk result (λ list. (k : ℕ) (i : Dotted NoLookahead) →
@@ -114,7 +113,7 @@ fn number_reductions<'grammar>(
     numbers: &Numbers<'grammar>,
     reductions: &[(TokenSet, &'grammar Production)],
 ) -> Result<Vec<usize>, OutOfMemory>
-    requires ascend { Ascend numbers.now.items.items }
+    requires numbers { (g : Rules) × AreNumbers g numbers.now }
     requires numbered { HaveReducedNumbers numbers.now.items.items reductions.now }
     ensures { IfOk result
         (λ list. AreReducedNumbers numbers.now.items.items reductions.now list.items) }
@@ -138,8 +137,7 @@ fn number_state<'grammar>(
     numbers: &Numbers<'grammar>,
     state: &Lr1State<'grammar>,
 ) -> Result<NumberedState, OutOfMemory>
-    requires ascend { Ascend numbers.now.items.items }
-    requires symbols { SymbolsAscend numbers.now.symbols.items }
+    requires numbers { (g : Rules) × AreNumbers g numbers.now }
     requires numbered { HaveReducedNumbers numbers.now.items.items state.now.reductions.items }
     ensures numbered { IfOk result (λ new. IsNumberedState numbers.now
         (contents_of (λ lookahead t. true) state.now) new) }
@@ -158,14 +156,13 @@ fn number_state<'grammar>(
     })
 }
 
-/// States by numbers. Each item and symbol is looked up by its text.
+/// States by numbers. Each item is looked up by its production's text, each symbol by its own.
 pub(crate) fn number_states<'grammar>(
     alloc: Global,
     numbers: &Numbers<'grammar>,
     states: &[Lr1State<'grammar>],
 ) -> Result<Vec<NumberedState>, OutOfMemory>
-    requires ascend { Ascend numbers.now.items.items }
-    requires symbols { SymbolsAscend numbers.now.symbols.items }
+    requires numbers { (g : Rules) × AreNumbers g numbers.now }
     requires numbered { (s : ℕ) (state : State Bits) →
         slice_get states.now s ≡ Some state →
         HaveReducedNumbers numbers.now.items.items state.reductions.items }

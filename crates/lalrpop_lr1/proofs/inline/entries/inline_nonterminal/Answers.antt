@@ -1,19 +1,34 @@
-use Rattle.std.proofs.Common.{rules, ◌≡◌, List, length, map, sym, ◌∙◌, ap, subst}
-use Rattle.lalrpop_base.specs.declared.repr.Production.{Production}
-use Rattle.lalrpop_lr1.specs.Words.{entry_view, view_of, alternatives_in, replaced_entries, IsPastLast}
-use Rattle.lalrpop_lr1.proofs.InlineEntries.{alternatives_view}
+use Rattle.std.proofs.Common.{rules, ◌≡◌, [], List, length, refl, sym, ◌∙◌, ap, subst}
+use Rattle.std.specs.Prelude.{Contains}
+use Rattle.lalrpop_base.specs.Words.{productions_of}
+use Rattle.lalrpop_base.specs.declared.repr.NonterminalString.{NonterminalString}
+use Rattle.lalrpop_lr1.specs.Words.{View, view_of, inlined_of, listed_names, users_at, replaced_places, IsPastLast}
+use Rattle.lalrpop_lr1.proofs.InlinePlaces.{none_sorted}
+use Rattle.lalrpop_lr1.proofs.InlineUsers.{inlined_at, users_found}
 use Rattle.lalrpop_lr1.proofs.inline.entries.inline_nonterminal.Goals as goal
 
-pub returns-in_err-nonterminals-clause-err : goal.returns-in_err-nonterminals-clause-err
-returns-in_err-nonterminals-clause-err c =
+pub returns-in_default-clause-view : goal.returns-in_default-clause-view
+returns-in_default-clause-view c =
     let g = c.args.grammar in
-    let given : c.deref.result.now ≡ alternatives_in (view_of g) c.args.name.now = c.deref.ensures.value ∙ c.in_ok-alternatives.ensures ∙ c.productions_for.ensures ∙ sym (alternatives_view g c.args.name.now) in
-    let P : List Production → Type 0 = λ ps. IsPastLast (length (replaced_entries c.args.name.now ps (map entry_view g.nonterminals.entries) g.action_fn_defns.items).defns) c.in_err-nonterminals.field-0.0 in
-    let past = subst P given c.in_err-nonterminals.ensures.err in
+    let name = c.args.name.now in
+    let none : users_at c.args.users.now name ≡ [] = ap listed_names (sym c.in_default.ensures) in
+    inlined_at g name (productions_of g name) [] c.requires.ordered none_sorted (λ a m. subst (λ (l : List NonterminalString). Contains l a) none (c.requires.covered a m)) refl
+
+pub returns-in_err-replace_places-clause-err : goal.returns-in_err-replace_places-clause-err
+returns-in_err-replace_places-clause-err c =
+    let g = c.args.grammar in
+    let name = c.args.name.now in
+    let found : users_at c.args.users.now name ≡ c.in-Some.places.now.keys = users_found c.args.users.now name c.in-Some.places.now c.in-Some.ensures in
+    let all : replaced_places name c.deref.result.now c.in-Some.places.now.keys (view_of g) ≡ inlined_of name (view_of g) =
+    inlined_at g name c.deref.result.now c.in-Some.places.now.keys c.requires.ordered c.replace_places.ensures.rising (λ a m. subst (λ (l : List NonterminalString). Contains l a) found (c.requires.covered a m)) (c.deref.ensures.value ∙ c.in_ok-alternatives.ensures ∙ c.productions_for.ensures) in
+    let P : View → Type 0 = λ v. IsPastLast (length v.defns) c.in_err-replace_places.field-0.0 in
+    let past = subst P all c.in_err-replace_places.ensures.err in
     search (rules, past)
 
 pub returns-clause-view : goal.returns-clause-view
 returns-clause-view c =
     let g = c.args.grammar in
-    let given : c.deref.result.now ≡ alternatives_in (view_of g) c.args.name.now = c.deref.ensures.value ∙ c.in_ok-alternatives.ensures ∙ c.productions_for.ensures ∙ sym (alternatives_view g c.args.name.now) in
-    c.in_ok-nonterminals.ensures.ok ∙ ap (λ (ps : List Production). replaced_entries c.args.name.now ps (map entry_view g.nonterminals.entries) g.action_fn_defns.items) given
+    let name = c.args.name.now in
+    let found : users_at c.args.users.now name ≡ c.in-Some.places.now.keys = users_found c.args.users.now name c.in-Some.places.now c.in-Some.ensures in
+    c.in_ok-replace_places.ensures.ok
+    ∙ inlined_at g name c.deref.result.now c.in-Some.places.now.keys c.requires.ordered c.replace_places.ensures.rising (λ a m. subst (λ (l : List NonterminalString). Contains l a) found (c.requires.covered a m)) (c.deref.ensures.value ∙ c.in_ok-alternatives.ensures ∙ c.productions_for.ensures)

@@ -1,13 +1,8 @@
-use Rattle.std.proofs.Common.{◌≡◌, Bool, List, Result, Ok, Err, IfOk, sym}
+use Rattle.std.proofs.Common.{Err, Ok, Result, sym}
 use Rattle.std.specs.Prelude.{OnOk}
-use Rattle.lalrpop_tables.proofs.Readings.{joined_fresh, joined_known}
+use Rattle.lalrpop_tables.proofs.Readings.{joined_fresh, joined_known, where_ok}
 use Rattle.lalrpop_tables.proofs.Updates.{exact_order, inserted, set_replaced, keys_differ}
 use Rattle.lalrpop_tables.proofs.build.tokens.add_tokens.Goals as goal
-
--- what holds of a call that went well and of its answer, together
-where_ok : {E A : Type 0} {B C : Bool → Type 0} (r : Result Bool E) → OnOk r A → IfOk r B → ((told : Bool) → A → B told → C told) → IfOk r C
-where_ok (Ok told) a b f = f told a b
-where_ok (Err e) a b f = tt
 
 pub returns-in-Some-clause-joined : goal.returns-in-Some-clause-joined
 returns-in-Some-clause-joined g c =

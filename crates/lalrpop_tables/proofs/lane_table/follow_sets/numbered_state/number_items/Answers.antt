@@ -19,9 +19,9 @@ loop-item-preserved c =
     subst (λ (done : List (Dotted Bits)). AreNumbered known done c.match-number_of.list.items) (sym more)
     (elim c.match-number_of.branch [
       | in-Some+in_ok-push w ↦ subst (AreNumbered known (take k items ++ item ∷ [])) (sym (ap (λ (v : Vec ℕ Global). v.items) w.list-is ∙ w.in_ok-push.ensures.items))
-          (Numbered-more known c.requires (take k items) item c.to_lr0.result c.to_lr0.ensures.production c.to_lr0.ensures.index c.loop-item.list.items c.loop-item.invariant w.in-Some.number w.in-Some.ensures.found)
+          (Numbered-more known c.requires.1.items.ascend (take k items) item c.to_lr0.result c.to_lr0.ensures.production c.to_lr0.ensures.index c.loop-item.list.items c.loop-item.invariant w.in-Some.number w.in-Some.ensures.found)
       | in_default w ↦ subst (AreNumbered known (take k items ++ item ∷ [])) (sym (ap (λ (v : Vec ℕ Global). v.items) w.list-is))
-          (Numbered-same known c.requires (take k items) item c.to_lr0.result c.to_lr0.ensures.production c.to_lr0.ensures.index c.loop-item.list.items c.loop-item.invariant (w.in_default.ensures.none refl))
+          (Numbered-same known c.requires.1.items.ascend (take k items) item c.to_lr0.result c.to_lr0.ensures.production c.to_lr0.ensures.index c.loop-item.list.items c.loop-item.invariant (w.in_default.ensures.none refl))
     ])
 
 pub returns-clause-known : goal.returns-clause-known
