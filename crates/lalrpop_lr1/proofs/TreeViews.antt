@@ -32,7 +32,7 @@ listed-trees : (ts : List Tree) → listed (trees_of ts) ≡ ts
 listed-trees [] = refl
 listed-trees (t ∷ ts) = ap (λ l. t ∷ l) (listed-trees ts)
 
-abbrev children_of : Tree → Trees
+abbrev pub children_of : Tree → Trees
 children_of (Leaf t) = no_trees
 children_of (Node a children) = children
 

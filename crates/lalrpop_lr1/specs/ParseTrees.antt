@@ -1,6 +1,6 @@
 -- What a parse tree is without where it lies in memory, and what it prints as.
 use Rattle.std.specs.Prelude.{ℕ, Bool, true, false, List, [], ◌∷◌, ◌++◌, map, codes}
-use Rattle.lalrpop_base.specs.Words.{terminal_text, nonterminal_text, Tree, Leaf, Node, trees_of}
+use Rattle.lalrpop_base.specs.Words.{terminal_text, nonterminal_text, Tree, Leaf, Node, nodes, trees_of}
 use Rattle.lalrpop_lr1.specs.declared.interpret.tree.ParseTree.{ParseTree, fold-ParseTree}
 use Rattle.lalrpop_lr1.specs.declared.interpret.tree.ParseTree.TheOpen as Open
 
@@ -12,6 +12,10 @@ tree_step (Open.Terminal t) = Leaf t
 -- the tree that a value of the code is
 abbrev pub tree_of : ParseTree → Tree
 tree_of = fold-ParseTree Tree tree_step
+
+-- how many nodes trees have
+abbrev pub tree_nodes : List ParseTree → ℕ
+tree_nodes trees = nodes (trees_of (map tree_of trees))
 
 -- what stands before a child
 abbrev pub separator_text : Bool → List ℕ

@@ -15,14 +15,14 @@ pub use Rattle.lalrpop_lr1.specs.InlineSteps.{Entry, IsEntryReplaced, Made, View
 pub use Rattle.lalrpop_lr1.specs.InlineSteps.{entry_with, fallible_of, in_front, inlined_by, inlined_of, is_fallible, is_fallible_part, listed, made_of}
 pub use Rattle.lalrpop_lr1.specs.InlineSteps.{productions_in, replaced, replaced_all, replaced_entries, view_of}
 pub use Rattle.lalrpop_lr1.specs.InlineUsers.{HasUsers, KeepsUsers, first_replaced, listed_names, replaced_at, replaced_places, users_at}
-pub use Rattle.lalrpop_lr1.specs.InlineWalks.{IsWalk, IsWalked, LeadTo, mentioned_in, names_of}
+pub use Rattle.lalrpop_lr1.specs.InlineWalks.{AreFrames, HasFrames, HasNext, IsFrame, IsWalk, IsWalked, LeadTo, mentioned_in, names_of, names_on}
 pub use Rattle.lalrpop_lr1.specs.Inlined.{HasTooMany, IsInlined, IsLaidOut, IsRefusalOf}
 pub use Rattle.lalrpop_lr1.specs.Machines.{CanPop, HasRead, IsAtStart, IsHalted, IsProgress, IsShifted, IsSpent, IsStack, IsStacked, bottom, configuration}
 pub use Rattle.lalrpop_lr1.specs.Machines.{numbers, reduction_move, shift_on, trees_on}
 pub use Rattle.lalrpop_lr1.specs.Meetings.{AddsEdges, AddsInOrder, Advances, AreEnds, AreMet, HasEdge, HasMet, IsDone, IsFinished, IsInsertedPair, IsSound}
 pub use Rattle.lalrpop_lr1.specs.Meetings.{WalksOn, asked, meeting_cmp, meetings, names_in, unmet}
 pub use Rattle.lalrpop_lr1.specs.ParseAnswers.{HadTables, HadTablesWhere, IfConflicts, IfLimitTold, IfRefusedAt, IsOutcomeTold, TellsTrees, told_by}
-pub use Rattle.lalrpop_lr1.specs.ParseTrees.{children_text, separator_text, tree_of, tree_step, tree_text}
+pub use Rattle.lalrpop_lr1.specs.ParseTrees.{children_text, separator_text, tree_nodes, tree_of, tree_step, tree_text}
 pub use Rattle.lalrpop_lr1.specs.Paths.{GoesBack, IsPath, are_one, comes_again, is_item, item_node, left_over, over, passed, paths, source, source_of, target}
 pub use Rattle.lalrpop_lr1.specs.Paths.{target_of}
 pub use Rattle.lalrpop_lr1.specs.Reading.{HasPartialOutcome, PartialOutcome, Reads, Stack, Stop, StopsReading, all_read, before, cut_off, early_end, stopped}

@@ -2,7 +2,7 @@ use Rattle.std.proofs.Common.{◌≡◌, true, sym, ◌∙◌}
 use Rattle.std.specs.BTreeSet.{contains}
 use Rattle.lalrpop_base.specs.Words.{name_cmp}
 use Rattle.lalrpop_lr1.proofs.InlineRings.{met}
-use Rattle.lalrpop_lr1.proofs.inline.graph.meet.Goals as goal
+use Rattle.lalrpop_lr1.proofs.inline.graph.depth_first.meet.Goals as goal
 
 pub returns-then-contains-clause-refused : goal.returns-then-contains-clause-refused
 returns-then-contains-clause-refused c =
