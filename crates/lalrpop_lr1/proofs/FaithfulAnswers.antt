@@ -8,7 +8,7 @@ use Rattle.lalrpop_base.specs.declared.repr.NonterminalString.{NonterminalString
 use Rattle.lalrpop_base.specs.declared.repr.Production.{Production}
 use Rattle.lalrpop_base.specs.declared.repr.TerminalString.{TerminalString}
 use Rattle.lalrpop_base.proofs.theory.Outcomes.{Came, halted, goes, came, one_outcome}
-use Rattle.lalrpop_base.proofs.theory.Prompt.{refused_promptly}
+use Rattle.lalrpop_base.proofs.theory.Prompt.{limit_enough, refused_promptly, steps_on_right}
 use Rattle.lalrpop_base.proofs.theory.Refusals.{refused_wrong}
 use Rattle.lalrpop_base.proofs.theory.Runs.{answered_is_tree, answered_within}
 use Rattle.lalrpop_base.proofs.theory.Sentences.{EndsWith, one_tree, tree_parsed, tree_run}
@@ -16,7 +16,7 @@ use Rattle.lalrpop_base.proofs.theory.Steps.{ends_halts, stands_halts, together}
 use Rattle.std.specs.declared.vec.Vec.{Vec}
 use Rattle.lalrpop_base.specs.declared.lr1_core.state.StateIndex.{StateIndex}
 use Rattle.lalrpop_lr1.specs.Words.{IsAnswer, IsPartialAnswer, StopsReading, PartialOutcome, Stack, Stop, HasPartialOutcome, all_read, stopped, ForEachGrammar}
-use Rattle.lalrpop_lr1.specs.Words.{ForEachCanonical, HasOneTree, IsTreeWithin, IsCutOff, IsOutcomeFor, AnswersTrees, IfRefused, IfLimit, IsLimit, tree_of}
+use Rattle.lalrpop_lr1.specs.Words.{ForEachCanonical, HasEnough, HasOneTree, StepsAreRight, IsTreeWithin, IsCutOff, IsOutcomeFor, AnswersTrees, IfRefused, IfLimit, IsLimit, tree_of}
 use Rattle.lalrpop_lr1.proofs.Outcomes.{stop_outcome, whole_outcome}
 use Rattle.lalrpop_lr1.specs.declared.interpret.error.InterpretError.{InterpretError}
 use Rattle.lalrpop_lr1.specs.declared.interpret.error.InterpretError.TheVariants.{Refused as RefusedBy, Limit as LimitPassed, Memory}
@@ -32,6 +32,13 @@ less_or_not (suc n) (suc m) = elim (less_or_not n m) [
 
 pub trees_are_one : (table : ℕ → Contents) (w : List TerminalString) → ForEachGrammar table (HasOneTree w)
 trees_are_one table w g start faithful alone = one_tree g start table faithful alone w
+
+pub steps_are_right : (table : ℕ → Contents) (w : List TerminalString) → ForEachCanonical table (StepsAreRight table w)
+steps_are_right table w g start tokens canonical lr1 alone v rest n c is reached left =
+    steps_on_right g start table (λ n p dot t. tokens n p dot t ≡ true) canonical lr1 v rest n c (subst (λ (u : List TerminalString). Reaches table n (begin u) c) is reached) left
+
+pub has_enough : (table : ℕ → Contents) (w : List TerminalString) → ForEachCanonical table (HasEnough table w)
+has_enough table w g start tokens canonical lr1 alone = limit_enough g start table (λ n p dot t. tokens n p dot t ≡ true) canonical lr1 alone w
 
 abbrev pub stop_in : Outcome → PartialOutcome → Outcome
 stop_in o (Stack states) = o

@@ -1,10 +1,8 @@
 -- Choices, one part at a time.
-use Rattle.std.proofs.Common.{◌≡◌, List, [], ◌∷◌, ◌++◌, map, refl, sym, ◌∙◌, ap, ap₂, append_assoc, ℕ, drop, ◌<◌, length, get_or, ◌+◌}
-use Rattle.std.proofs.lemmas.List.{drop_more}
+use Rattle.std.proofs.Common.{◌≡◌, List, [], ◌∷◌, ◌++◌, refl, sym, ◌∙◌, ap, ap₂, append_assoc, append-nil}
 use Rattle.std.specs.List.{flat_map}
-use Rattle.lalrpop_base.specs.declared.repr.Production.{Production}
 use Rattle.lalrpop_base.specs.declared.repr.inlined.InlinedSymbol.{InlinedSymbol}
-use Rattle.lalrpop_lr1.specs.Words.{inlined, behind}
+use Rattle.lalrpop_lr1.specs.Words.{behind, completed, extended, followed}
 
 -- each part in front of each choice
 abbrev pub with_parts : List InlinedSymbol → List (List InlinedSymbol) → List (List InlinedSymbol)
@@ -24,16 +22,30 @@ pub behind-nil : (cs : List (List InlinedSymbol)) → behind [] cs ≡ cs
 behind-nil [] = refl
 behind-nil (c ∷ cs) = ap (λ (xs : List (List InlinedSymbol)). c ∷ xs) (behind-nil cs)
 
--- one alternative more was chosen
-pub one_more : (chosen : List InlinedSymbol) (alternatives : List Production) (i : ℕ) (p : Production) (cs made whole more : List (List InlinedSymbol)) → i < length alternatives → p ≡ get_or alternatives i p →
-    made ++ behind chosen (with_parts (map inlined (drop i alternatives)) cs) ≡ whole →
-    more ≡ made ++ behind chosen (behind (inlined p ∷ []) cs) →
-    more ++ behind chosen (with_parts (map inlined (drop (i + 1) alternatives)) cs) ≡ whole
-one_more chosen alternatives i p cs made whole more less is so_far grown =
-    let rest : List (List InlinedSymbol) = with_parts (map inlined (drop (i + 1) alternatives)) cs in
-    let here : drop i alternatives ≡ p ∷ drop (i + 1) alternatives = drop_more alternatives i p less ∙ ap (λ (y : Production). y ∷ drop (i + 1) alternatives) (sym is) in
-    let front : List (List InlinedSymbol) = behind (inlined p ∷ []) cs in
-    ap (λ (m : List (List InlinedSymbol)). m ++ behind chosen rest) grown
-    ∙ append_assoc made (behind chosen front) (behind chosen rest)
-    ∙ ap (λ (m : List (List InlinedSymbol)). made ++ m) (sym (behind-append chosen front rest) ∙ ap (λ (ps : List Production). behind chosen (with_parts (map inlined ps) cs)) (sym here))
-    ∙ so_far
+-- lists with the first choices behind them
+pub completed-append : (fronts more cs : List (List InlinedSymbol)) → completed (fronts ++ more) cs ≡ completed fronts cs ++ completed more cs
+completed-append [] more cs = refl
+completed-append (front ∷ fronts) more cs = ap (λ (xs : List (List InlinedSymbol)). behind front cs ++ xs) (completed-append fronts more cs) ∙ sym (append_assoc (behind front cs) (completed fronts cs) (completed more cs))
+
+-- a list with parts behind it, and then the rest
+followed_by : (front : List InlinedSymbol) (ps : List InlinedSymbol) (cs : List (List InlinedSymbol)) → completed (followed front ps) cs ≡ behind front (with_parts ps cs)
+followed_by front [] cs = refl
+followed_by front (p ∷ ps) cs =
+    ap₂ (λ (x y : List (List InlinedSymbol)). x ++ y) (behind_part front p cs) (followed_by front ps cs)
+    ∙ sym (behind-append front (behind (p ∷ []) cs) (with_parts ps cs))
+
+-- each list takes a part, and then the rest
+pub completed_step : (fronts : List (List InlinedSymbol)) (ps : List InlinedSymbol) (cs : List (List InlinedSymbol)) → completed (extended ps fronts) cs ≡ completed fronts (with_parts ps cs)
+completed_step [] ps cs = refl
+completed_step (front ∷ fronts) ps cs =
+    completed-append (followed front ps) (extended ps fronts) cs
+    ∙ ap₂ (λ (x y : List (List InlinedSymbol)). x ++ y) (followed_by front ps cs) (completed_step fronts ps cs)
+
+-- no list is left to be put behind
+pub completed-nil : (fronts : List (List InlinedSymbol)) → completed fronts ([] ∷ []) ≡ fronts
+completed-nil [] = refl
+completed-nil (front ∷ fronts) = ap₂ (λ (x : List InlinedSymbol) (xs : List (List InlinedSymbol)). x ∷ xs) (append-nil front) (completed-nil fronts)
+
+-- and at first there is nothing in front
+pub completed-one : (cs : List (List InlinedSymbol)) → completed ([] ∷ []) cs ≡ cs
+completed-one cs = append-nil (behind [] cs) ∙ behind-nil cs

@@ -10,7 +10,7 @@ use Rattle.std.specs.BTreeSet.{contains}
 use Rattle.std.proofs.Common.{true}
 use Rattle.lalrpop_base.specs.Words.{name_cmp}
 use Rattle.lalrpop_base.specs.declared.repr.Span.{Span}
-use Rattle.lalrpop_lr1.specs.declared.inline.graph.Walk.{Walk}
+use Rattle.lalrpop_lr1.specs.declared.inline.graph.depth_first.Walk.{Walk}
 use Rattle.lalrpop_lr1.specs.Words.{LeadTo, IsMarked, Leads, one, more, IsInlineOrder, IsOnRing, HasSpan}
 use Rattle.lalrpop_lr1.proofs.InlineApart.{Apart, apart_from}
 

@@ -1,25 +1,23 @@
 -- A walk comes into a nonterminal, along what it mentions, and leaves it.
-use Rattle.std.proofs.Common.{◌≡◌, ◌↔◌, ℕ, ◌+◌, ◌<◌, ◌⊎◌, inl, inr, Bool, true, false, cond, List, [], ◌∷◌, ◌++◌, take, length, get_or, reverse, refl, sym, ◌∙◌, ap, subst, append_assoc}
+use Rattle.std.proofs.Common.{◌≡◌, ◌↔◌, ◌⊎◌, inl, inr, Bool, true, false, cond, List, [], ◌∷◌, ◌++◌, refl, sym, ◌∙◌, ap, subst, append_assoc}
 use Rattle.std.specs.Prelude.{Contains}
 use Rattle.std.specs.List.{flat_map}
 use Rattle.std.specs.BTreeMap.{is_at}
 use Rattle.std.specs.BTreeSet.{BTreeSet, contains}
 use Rattle.std.proofs.lemmas.Bool.{cases_Bool}
-use Rattle.std.proofs.lemmas.List.{take_more}
 use Rattle.std.proofs.lemmas.List.Elements.{Contains-append_left, Contains-push, Contains-push_cases}
-use Rattle.std.proofs.lemmas.List.Sorted.{Contains-permutation, IsPermutation-reverse, IsPermutation-sym}
 use Rattle.std.proofs.lemmas.Map.Text.{is_eq-slice_cmp}
 use Rattle.std.proofs.lemmas.Slice.Eq.{bytes_eq-Decides}
 use mathlib.Core.Bool.{true≢false}
-use Rattle.lalrpop_base.specs.Words.{name_exact, AllDiffer, name_cmp, productions_of}
+use Rattle.lalrpop_base.specs.Words.{name_exact, AllDiffer, name_cmp}
 use Rattle.lalrpop_base.specs.declared.repr.NonterminalString.{NonterminalString}
 use Rattle.lalrpop_base.specs.declared.repr.Production.{Production}
 use Rattle.lalrpop_base.specs.declared.repr.Symbol.{Symbol}
 use Rattle.lalrpop_base.specs.declared.repr.Symbol.TheVariants.{Nonterminal, Terminal}
 use Rattle.lalrpop_base.specs.declared.repr.grammar.Grammar.{Grammar}
 use Rattle.lalrpop_base.proofs.theory.Lists.{contains-cons, contains-nil, contains_head, contains_tail, Ended, nothing, last, ended, same_last}
-use Rattle.lalrpop_lr1.specs.declared.inline.graph.Walk.{Walk}
-use Rattle.lalrpop_lr1.specs.Words.{IsMarked, Mentions, Leads, one, more, IsInlineOrder, names_of, mentioned_in, IsWalk, IsWalked, LeadTo}
+use Rattle.lalrpop_lr1.specs.declared.inline.graph.depth_first.Walk.{Walk}
+use Rattle.lalrpop_lr1.specs.Words.{IsMarked, Mentions, names_of, mentioned_in, IsWalk}
 use Rattle.lalrpop_lr1.proofs.InlineMembers.{in_flat_map, from_flat_map}
 use Rattle.lalrpop_lr1.proofs.InlineApart.{apart_from, apart_to, Apart-append}
 
@@ -32,10 +30,9 @@ pub ties_itself : (a : NonterminalString) → is_at (name_cmp a) a ≡ true
 ties_itself a = is_eq-slice_cmp a.text a.text ∙ (bytes_eq-Decides a.text a.text).1 refl
 
 -- what is mentioned
-pub mentioned_names : (ps : List Production) (c : NonterminalString) → Contains (reverse (mentioned_in ps)) c → (p : Production) × Contains ps p × Contains p.symbols (Nonterminal c)
+pub mentioned_names : (ps : List Production) (c : NonterminalString) → Contains (mentioned_in ps) c → (p : Production) × Contains ps p × Contains p.symbols (Nonterminal c)
 mentioned_names ps c k =
-    let forward : Contains (mentioned_in ps) c = Contains-permutation (reverse (mentioned_in ps)) (mentioned_in ps) c (IsPermutation-sym (mentioned_in ps) (reverse (mentioned_in ps)) (IsPermutation-reverse (mentioned_in ps))) k in
-    let p = from_flat_map (λ (q : Production). flat_map names_of q.symbols) ps c forward in
+    let p = from_flat_map (λ (q : Production). flat_map names_of q.symbols) ps c k in
     let x = from_flat_map names_of (p.0).symbols c p.2 in
     (p.0, p.1, subst (Contains (p.0).symbols) (is_name x.0 x.2) x.1)
   where
@@ -43,10 +40,10 @@ mentioned_names ps c k =
     is_name (Nonterminal a) h = elim (contains-cons a [] c h) [ inl e ↦ ap Nonterminal e | inr n ↦ absurd (contains-nil n) ]
     is_name (Terminal t) h = absurd (contains-nil h)
 
-pub names_mentioned : (ps : List Production) (c : NonterminalString) (p : Production) → Contains ps p → Contains p.symbols (Nonterminal c) → Contains (reverse (mentioned_in ps)) c
+pub names_mentioned : (ps : List Production) (c : NonterminalString) (p : Production) → Contains ps p → Contains p.symbols (Nonterminal c) → Contains (mentioned_in ps) c
 names_mentioned ps c p k m =
     let inner : Contains (flat_map names_of p.symbols) c = in_flat_map names_of p.symbols (Nonterminal c) c m (contains_head c []) in
-    Contains-permutation (mentioned_in ps) (reverse (mentioned_in ps)) c (IsPermutation-reverse (mentioned_in ps)) (in_flat_map (λ (q : Production). flat_map names_of q.symbols) ps p c k inner)
+    in_flat_map (λ (q : Production). flat_map names_of q.symbols) ps p c k inner
 
 -- a set with a name taken out, or put in
 abbrev pub Sets : NonterminalString → Bool → BTreeSet NonterminalString → BTreeSet NonterminalString → Type 0
@@ -59,7 +56,7 @@ pub set_off : (value : Bool) (name a : NonterminalString) (old new : BTreeSet No
 set_off value name a old new s t = s a ∙ ap (λ (m : Bool). cond m value (contains name_cmp old a)) t
 
 -- what is true after a name was taken out was true before, and is not the name
-still_there : (name a : NonterminalString) (old new : BTreeSet NonterminalString) → Sets name false old new → contains name_cmp new a ≡ true → (contains name_cmp old a ≡ true) × (is_at (name_cmp name) a ≡ false)
+pub still_there : (name a : NonterminalString) (old new : BTreeSet NonterminalString) → Sets name false old new → contains name_cmp new a ≡ true → (contains name_cmp old a ≡ true) × (is_at (name_cmp name) a ≡ false)
 still_there name a old new s h = elim (cases_Bool (is_at (name_cmp name) a)) [
   | inl t ↦ absurd (true≢false (sym h ∙ set_at false name a old new s t))
   | inr t ↦ (sym (set_off false name a old new s t) ∙ h, t)
@@ -157,54 +154,6 @@ module _ (g : Grammar) where
           let r = same_last m.order.items (before ++ a ∷ k) (e ∙ sym (append_assoc before (a ∷ k) (y ∷ []))) in
           is.behind before k a c r.0 mentioned marked
 
-  -- inside a nonterminal: the walk is in it and in those that it was in, and has left the first of those that it mentions
-  pub record IsInside (old now : Walk) (taken : List NonterminalString) : Type 0 where
-    pub walk : IsWalk g now
-    pub visiting : (a : NonterminalString) → contains name_cmp now.visiting a ≡ contains name_cmp old.visiting a
-    pub kept : (a : NonterminalString) → Contains old.order.items a → Contains now.order.items a
-    pub listed : (c : NonterminalString) → Contains taken c → IsMarked g c → Contains now.order.items c
-
-  pub inside_first : (w : Walk) → IsWalk g w → IsInside w w []
-  inside_first w is = record { walk = is; visiting = λ a. refl; kept = λ a c. c; listed = λ c k. absurd (contains-nil k) }
-
-  pub inside_more : (old now next : Walk) (all : List NonterminalString) (i : ℕ) (name : NonterminalString) → i < length all → name ≡ get_or all i name → IsInside old now (take i all) → IsWalked g name now next → IsInside old next (take (i + 1) all)
-  inside_more old now next all i name less is before step = record {
-    walk = step.walk;
-    visiting = λ a. step.visiting a ∙ before.visiting a;
-    kept = λ a c. step.kept a (before.kept a c);
-    listed = λ c k marked. elim (Contains-push_cases (take i all) name c (subst (λ (l : List NonterminalString). Contains l c) (take_more all i name less ∙ ap (λ (x : NonterminalString). take i all ++ x ∷ []) (sym is)) k)) [
-      | inl d ↦ step.kept c (before.listed c d marked)
-      | inr e ↦ subst (Contains next.order.items) e (step.listed (subst (IsMarked g) (sym e) marked))
-    ];
-  }
-
-  -- what comes of a nonterminal into which the walk came
-  pub walked_through : (old mid now new : Walk) (name : NonterminalString) (all : List NonterminalString) → IsWalk g old → contains name_cmp old.pending name ≡ true → Sets name true old.visiting mid.visiting → mid.order.items ≡ old.order.items
-      → all ≡ reverse (mentioned_in (productions_of g name)) → IsInside mid now all
-      → ((a : NonterminalString) → contains name_cmp new.pending a ≡ contains name_cmp now.pending a) → Sets name false now.visiting new.visiting → new.order.items ≡ now.order.items ++ name ∷ [] → IsWalked g name old new
-  walked_through old mid now new name all is was into same_order found inside same out grown = record {
-    walk = left now new name inside.walk (inside.visiting name ∙ set_at true name name old.visiting mid.visiting into (ties_itself name))
-        (λ c m. inside.listed c (subst (λ (l : List NonterminalString). Contains l c) (sym found) (names_mentioned (productions_of g name) c m.0 m.1 m.2))) same out grown;
-    visiting = λ a. elim (cases_Bool (is_at (name_cmp name) a)) [
-      | inl t ↦ set_at false name a now.visiting new.visiting out t ∙ sym (ap (contains name_cmp old.visiting) (sym (tied_names name a t)) ∙ (is.pending name was).0)
-      | inr t ↦ set_off false name a now.visiting new.visiting out t ∙ inside.visiting a ∙ set_off true name a old.visiting mid.visiting into t
-    ];
-    kept = λ a c. subst (λ (l : List NonterminalString). Contains l a) (sym grown) (Contains-append_left now.order.items (name ∷ []) a (inside.kept a (subst (λ (l : List NonterminalString). Contains l a) (sym same_order) c)));
-    listed = λ marked. subst (λ (l : List NonterminalString). Contains l name) (sym grown) (Contains-push now.order.items name);
-  }
-
-  -- those that the walk is in lead on
-  pub leading : (old mid now : Walk) (name other : NonterminalString) (all taken : List NonterminalString) → IsWalk g old → contains name_cmp old.pending name ≡ true → Sets name true old.visiting mid.visiting
-      → all ≡ reverse (mentioned_in (productions_of g name)) → Contains all other → IsInside mid now taken → LeadTo g old name → LeadTo g now other
-  leading old mid now name other all taken is was into found k inside lead a h =
-      let mentioned : Mentions g name other = mentioned_names (productions_of g name) other (subst (λ (l : List NonterminalString). Contains l other) found k) in
-      let marked : IsMarked g name = (is.marked name).1 (inl was) in
-      let before : contains name_cmp mid.visiting a ≡ true = sym (inside.visiting a) ∙ h in
-      elim (cases_Bool (is_at (name_cmp name) a)) [
-        | inl t ↦ subst (λ (b : NonterminalString). Leads g b other) (tied_names name a t) (one marked mentioned)
-        | inr t ↦ more (lead a (sym (set_off true name a old.visiting mid.visiting into t) ∙ before)) marked mentioned
-      ]
-
   -- nothing was walked yet
   pub nothing_walked : (w : Walk) (names : List NonterminalString) → ((a : NonterminalString) → Contains names a ↔ IsMarked g a) → ((a : NonterminalString) → (contains name_cmp w.pending a ≡ true) ↔ Contains names a) → ((a : NonterminalString) → contains name_cmp w.visiting a ≡ false) → w.order.items ≡ [] → IsWalk g w
   nothing_walked w names found pending visiting none = record {
@@ -223,11 +172,3 @@ module _ (g : Grammar) where
       in_middle : (before after : List NonterminalString) (a : NonterminalString) → Contains (before ++ a ∷ after) a
       in_middle [] after a = contains_head a after
       in_middle (x ∷ before) after a = contains_tail x (before ++ a ∷ after) a (in_middle before after a)
-
-  -- all marked nonterminals were walked
-  pub all_walked : (start now : Walk) (names : List NonterminalString) → ((a : NonterminalString) → Contains names a ↔ IsMarked g a) → ((a : NonterminalString) → contains name_cmp start.visiting a ≡ false) → IsInside start now names → IsInlineOrder g now.order.items
-  all_walked start now names found visiting inside = record {
-    marked = λ a. (λ c. (inside.walk.marked a).1 (inr (inr c)), λ h. inside.listed a ((found a).1 h) h);
-    once = inside.walk.once;
-    behind = inside.walk.behind;
-  }

@@ -1,5 +1,6 @@
 pub mod AnyStart
 pub mod Counting
+pub mod DroppedTrees
 pub mod FaithfulAnswers
 pub mod FaithfulStacks
 pub mod FilteredWalks
@@ -9,6 +10,7 @@ pub mod InlineChoices
 pub mod InlineDefinitions
 pub mod InlineEntries
 pub mod InlineForests
+pub mod InlineFrames
 pub mod InlineMarks
 pub mod InlineMembers
 pub mod InlinePlaces
@@ -41,7 +43,11 @@ pub mod ToldByTables
 pub mod TraceGraphs
 pub mod TraceOrder
 pub mod TraceOrderOne
+pub mod TraceSteps
 pub mod Traces
 pub mod TracedRightSides
+pub mod TracedWalks
+pub mod TreeLeaves
+pub mod TreeSteps
 pub mod TreeViews
 pub mod Walks

@@ -1,17 +1,15 @@
 -- A trace adds edges in the order in which a walk gives them.
-use Rattle.std.proofs.Common.{◌≡◌, ◌≢◌, ◌↔◌, ◌⊎◌, inl, inr, ℕ, ◌<◌, ◌≤◌, ◌+◌, Bool, true, false, List, [], ◌∷◌, ◌++◌, map, length, take, get_or, refl, sym, ◌∙◌, ap, subst, append_assoc, ⊎_elim}
-use Rattle.std.specs.Prelude.{slice_get, Option, Some, Contains, not}
+use Rattle.std.proofs.Common.{◌≡◌, ◌≢◌, ◌↔◌, ◌⊎◌, inl, inr, ℕ, Bool, true, false, List, [], ◌∷◌, ◌++◌, map, take, refl, sym, ◌∙◌, ap, subst, append_assoc, ⊎_elim}
+use Rattle.std.specs.Prelude.{slice_get, Some, Contains, not}
 use Rattle.std.specs.List.Sorted.{IsStrictlySortedBy}
 use Rattle.std.specs.BTreeSet.{BTreeSet, contains}
-use Rattle.std.proofs.lemmas.List.{append-nil, map-append, take_more, take_all}
+use Rattle.std.proofs.lemmas.List.{append-nil}
 use Rattle.std.proofs.lemmas.List.Concat.{flat_map-append}
-use Rattle.std.proofs.lemmas.Option.{slice_get_past}
 use mathlib.Core.Bool.{true≢false}
 use Rattle.lalrpop_base.specs.Words.{Bits, Dotted, AddsOnce}
 use Rattle.lalrpop_base.specs.declared.repr.Production.{Production}
 use Rattle.lalrpop_base.specs.declared.repr.Symbol.{Symbol}
 use Rattle.lalrpop_base.specs.declared.repr.Symbol.TheVariants.{Nonterminal}
-use Rattle.lalrpop_base.specs.declared.lr1_core.state.State.{State}
 use Rattle.lalrpop_base.specs.declared.lr1_core.state.StateIndex.{StateIndex}
 use Rattle.lalrpop_tables.specs.Words.{edges, state_cmp}
 use Rattle.lalrpop_tables.specs.StateGraph.{LeadsTo}
@@ -81,7 +79,7 @@ order_append old middle new xs ys one two =
       nodes = subst P (sym (flat_map-append (λ (e : PlainEdge). e.from ∷ e.to ∷ []) xs ys)) (turn_append (ends_of ys) new.nodes one.nodes two.nodes);
     }
 
--- ---- duties that are done
+-- ---- steps of a walk
 
 -- what was met before edges were added
 same_met : (old new : Met) → new.visited_set ≡ old.visited_set → (list : List Meeting) → AreMet list old → AreMet list new
@@ -90,12 +88,12 @@ same_met old new same list are =
     subst P (sym same) are
 
 module _ (b : Backtrace) where
-  pub walks_none : (met : Met) → WalksOn b [] met met
-  walks_none met list are = record { after = list; are_met = are; given = []; added = order_none met.trace_graph; walk = λ others es w. w }
+  pub walks_none : (duties : List Duty) (met : Met) → WalksOn b duties duties met met
+  walks_none duties met list are = record { after = list; are_met = are; given = []; added = order_none met.trace_graph; walk = λ es w. w }
 
-  -- some and then others
-  walks_then : (one two : List Duty) (a c d : Met) → WalksOn b one a c → WalksOn b two c d → WalksOn b (one ++ two) a d
-  walks_then one two a c d first second list are =
+  -- one way and then another
+  pub walks_then : (one two three : List Duty) (a c d : Met) → WalksOn b one two a c → WalksOn b two three c d → WalksOn b one three a d
+  walks_then one two three a c d first second list are =
       let f = first list are in
       let s = second f.after f.are_met in
       record {
@@ -103,125 +101,99 @@ module _ (b : Backtrace) where
         are_met = s.are_met;
         given = f.given ++ s.given;
         added = order_append a.trace_graph c.trace_graph d.trace_graph f.given s.given f.added s.added;
-        walk = λ others es w.
-            let P : List Duty → Type 0 = λ ds. Walks b list ds ((f.given ++ s.given) ++ es) in
-            let Q : List PlainEdge → Type 0 = λ xs. Walks b list (one ++ (two ++ others)) xs in
-            subst P (sym (append_assoc one two others)) (subst Q (sym (append_assoc f.given s.given es)) (f.walk (two ++ others) (s.given ++ es) (s.walk others es w)));
+        walk = λ es w.
+            let P : List PlainEdge → Type 0 = λ xs. Walks b list one xs in
+            subst P (sym (append_assoc f.given s.given es)) (f.walk (s.given ++ es) (s.walk es w));
       }
 
-  module _ {X : Type 0} (duty : X → Duty) (xs : List X) where
-    -- one more of them
-    pub walks_more : (i : ℕ) (d x : X) (a c e : Met) → x ≡ get_or xs i d → i < length xs → WalksOn b (map duty (take i xs)) a c → WalksOn b (duty x ∷ []) c e → WalksOn b (map duty (take (i + 1) xs)) a e
-    walks_more i d x a c e is l one two =
-        let P : List Duty → Type 0 = λ ds. WalksOn b ds a e in
-        let same : map duty (take (i + 1) xs) ≡ map duty (take i xs) ++ duty x ∷ [] = ap (map duty) (take_more xs i d l) ∙ map-append duty (take i xs) (get_or xs i d ∷ []) ∙ ap (λ (y : X). map duty (take i xs) ++ duty y ∷ []) (sym is) in
-        subst P (sym same) (walks_then (map duty (take i xs)) (duty x ∷ []) a c e one two)
+  module _ (duties : List Duty) where
+    -- ---- a nonterminal in a state
 
-    -- all of them
-    pub walks_all : (ys : List X) (i : ℕ) (a c : Met) → xs ≡ ys → length xs ≤ i → WalksOn b (map duty (take i xs)) a c → WalksOn b (map duty ys) a c
-    walks_all ys i a c same le walk =
-        let P : List X → Type 0 = λ zs. WalksOn b (map duty zs) a c in
-        subst P same (subst P (take_all i xs le) walk)
+    module _ (old middle : Met) (fresh : Bool) (m : Meeting) (inserted : IsInsertedPair fresh m old.visited_set middle.visited_set) (same : middle.trace_graph ≡ old.trace_graph) where
+      -- that was met before
+      pub walks_known : fresh ≡ false → WalksOn b (come_to m ∷ duties) duties old middle
+      walks_known is list are =
+          let was : HasMet old m = was_there (contains meeting_cmp old.visited_set m) (sym inserted.was ∙ is) in
+          let P : Graph → Type 0 = λ g. AddsInOrder old.trace_graph g [] in
+          let Q : Meeting → Type 0 = HasMet old in
+          record {
+            after = list;
+            are_met = λ q. (λ c. inserted.now q ((are q).0 c), λ h. (are q).1 (⊎_elim (λ before. before) (λ here. subst Q here was) (inserted.only q h)));
+            given = [];
+            added = subst P (sym same) (order_none old.trace_graph);
+            walk = λ es w. known ((are m).1 was) w;
+          }
+        where
+          was_there : (c : Bool) → not c ≡ false → c ≡ true
+          was_there true h = refl
+          was_there false h = absurd (true≢false h)
 
-  -- ---- a nonterminal in a state
+      -- that was not
+      pub walks_met : fresh ≡ true → WalksOn b (come_to m ∷ duties) (take_up_each m (items_at (slice_get b.states m.0.0)) ++ duties) old middle
+      walks_met is list are =
+          let out : ¬ Contains list m = λ c. true≢false (sym is ∙ inserted.was ∙ ap not ((are m).0 c)) in
+          let P : Graph → Type 0 = λ g. AddsInOrder old.trace_graph g [] in
+          let Q : Meeting → Type 0 = HasMet middle in
+          let R : Meeting → Type 0 = Contains (m ∷ list) in
+          record {
+            after = m ∷ list;
+            are_met = λ q. (
+              λ c. ⊎_elim (λ here. subst Q here inserted.there) (λ before. inserted.now q ((are q).0 before)) (Contains-cases m list q c),
+              λ h. ⊎_elim (λ before. Contains-there m list q ((are q).1 before)) (λ here. subst R here (Contains-here m list)) (inserted.only q h),
+            );
+            given = [];
+            added = subst P (sym same) (order_none old.trace_graph);
+            walk = λ es w. meets out w;
+          }
 
-  module _ (old middle : Met) (fresh : Bool) (m : Meeting) (inserted : IsInsertedPair fresh m old.visited_set middle.visited_set) (same : middle.trace_graph ≡ old.trace_graph) where
-    -- that was met before
-    pub walks_known : fresh ≡ false → WalksOn b (come_to m ∷ []) old middle
-    walks_known is list are =
-        let was : HasMet old m = was_there (contains meeting_cmp old.visited_set m) (sym inserted.was ∙ is) in
-        let P : Graph → Type 0 = λ g. AddsInOrder old.trace_graph g [] in
-        let Q : Meeting → Type 0 = HasMet old in
-        record {
+    -- ---- an item
+
+    module _ (m : Meeting) (item : Dotted Bits) where
+      pub walks_past : (met : Met) → slice_get item.production.symbols item.index ≢ Some (Nonterminal m.1) → WalksOn b (take_up m item ∷ duties) duties met met
+      walks_past met other list are = record { after = list; are_met = are; given = []; added = order_none met.trace_graph; walk = λ es w. passes other w }
+
+      module _ (old new : Met) (same : new.visited_set ≡ old.visited_set) (at : slice_get item.production.symbols item.index ≡ Some (Nonterminal m.1)) where
+        pub walks_stop : ¬ GoesOn b item → AddsInOrder old.trace_graph new.trace_graph (stop_edge m.1 item ∷ []) → WalksOn b (take_up m item ∷ duties) duties old new
+        walks_stop out added list are = record {
           after = list;
-          are_met = λ q. (λ c. inserted.now q ((are q).0 c), λ h. (are q).1 (⊎_elim (λ before. before) (λ here. subst Q here was) (inserted.only q h)));
-          given = [];
-          added = subst P (sym same) (order_none old.trace_graph);
-          walk = λ others es w. known ((are m).1 was) w;
-        }
-      where
-        was_there : (c : Bool) → not c ≡ false → c ≡ true
-        was_there true h = refl
-        was_there false h = absurd (true≢false h)
-
-    -- that was not
-    pub walks_met : (new : Met) → fresh ≡ true → WalksOn b (take_up_each m (items_at (slice_get b.states m.0.0))) middle new → WalksOn b (come_to m ∷ []) old new
-    walks_met new is items list are =
-        let out : ¬ Contains list m = λ c. true≢false (sym is ∙ inserted.was ∙ ap not ((are m).0 c)) in
-        let Q : Meeting → Type 0 = HasMet middle in
-        let R : Meeting → Type 0 = Contains (m ∷ list) in
-        let now : AreMet (m ∷ list) middle = λ q. (
-          λ c. ⊎_elim (λ here. subst Q here inserted.there) (λ before. inserted.now q ((are q).0 before)) (Contains-cases m list q c),
-          λ h. ⊎_elim (λ before. Contains-there m list q ((are q).1 before)) (λ here. subst R here (Contains-here m list)) (inserted.only q h),
-        ) in
-        let s = items (m ∷ list) now in
-        let P : Graph → Type 0 = λ g. AddsInOrder g new.trace_graph s.given in
-        record {
-          after = s.after;
-          are_met = s.are_met;
-          given = s.given;
-          added = subst P same s.added;
-          walk = λ others es w. meets out (s.walk others es w);
+          are_met = same_met old new same list are;
+          given = stop_edge m.1 item ∷ [];
+          added = added;
+          walk = λ es w. stops at out w;
         }
 
-  -- there are no items where there is no state
-  pub walks_outside : (met : Met) (m : Meeting) → length b.states ≤ m.0.0 → WalksOn b (take_up_each m (items_at (slice_get b.states m.0.0))) met met
-  walks_outside met m le =
-      let P : Option (State Bits) → Type 0 = λ s. WalksOn b (take_up_each m (items_at s)) met met in
-      subst P (sym (slice_get_past b.states m.0.0 le)) (walks_none met)
-
-  -- ---- an item
-
-  module _ (m : Meeting) (item : Dotted Bits) where
-    pub walks_past : (met : Met) → slice_get item.production.symbols item.index ≢ Some (Nonterminal m.1) → WalksOn b (take_up m item ∷ []) met met
-    walks_past met other list are = record { after = list; are_met = are; given = []; added = order_none met.trace_graph; walk = λ others es w. passes other w }
-
-    pub walks_stop : (old new : Met) → new.visited_set ≡ old.visited_set → slice_get item.production.symbols item.index ≡ Some (Nonterminal m.1) → ¬ GoesOn b item → AddsInOrder old.trace_graph new.trace_graph (stop_edge m.1 item ∷ []) → WalksOn b (take_up m item ∷ []) old new
-    walks_stop old new same at out added list are = record {
-      after = list;
-      are_met = same_met old new same list are;
-      given = stop_edge m.1 item ∷ [];
-      added = added;
-      walk = λ others es w. stops at out w;
-    }
-
-    pub walks_on : (old middle new : Met) (sources : List StateIndex) → middle.visited_set ≡ old.visited_set → slice_get item.production.symbols item.index ≡ Some (Nonterminal m.1) → GoesOn b item → AddsInOrder old.trace_graph middle.trace_graph (onward_edges b.traced m.1 item) →
-        AreSources b item.production item.index m.0 sources → WalksOn b (come_to_each item.production sources) middle new → WalksOn b (take_up m item ∷ []) old new
-    walks_on old middle new sources same at on added are_sources later list are =
-        let s = later list (same_met old middle same list are) in
-        let own = onward_edges b.traced m.1 item in
-        record {
-          after = s.after;
-          are_met = s.are_met;
-          given = own ++ s.given;
-          added = order_append old.trace_graph middle.trace_graph new.trace_graph own s.given added s.added;
-          walk = λ others es w. goes_on sources (s.given ++ es) at on are_sources (s.walk others es w) (append_assoc own s.given es);
+        pub walks_on : (sources : List StateIndex) → GoesOn b item → AddsInOrder old.trace_graph new.trace_graph (onward_edges b.traced m.1 item) → AreSources b item.production item.index m.0 sources
+            → WalksOn b (take_up m item ∷ duties) (come_to_each item.production sources ++ duties) old new
+        walks_on sources on added are_sources list are = record {
+          after = list;
+          are_met = same_met old new same list are;
+          given = onward_edges b.traced m.1 item;
+          added = added;
+          walk = λ es w. goes_on sources es at on are_sources w refl;
         }
 
   -- ---- the whole of it
 
   -- the states that a step back finds
-  pub are_sources : (p : Production) (index : ℕ) (state : StateIndex) (list found : List StateIndex) (opened : Production) (prefix : List Symbol) → opened ≡ p → prefix ≡ take index p.symbols → list ≡ found →
-      IsStrictlySortedBy state_cmp found → ((r : StateIndex) → Contains found r ↔ LeadsTo (edges b.states) r prefix state) → AreSources b p index state list
-  are_sources p index state list found opened prefix is_p is_prefix is_list ascending exactly =
+  pub are_sources : (p : Production) (index : ℕ) (state : StateIndex) (found : List StateIndex) (prefix : List Symbol) → prefix ≡ take index p.symbols → IsStrictlySortedBy state_cmp found → ((r : StateIndex) → Contains found r ↔ LeadsTo (edges b.states) r prefix state) → AreSources b p index state found
+  are_sources p index state found prefix is_prefix ascending exactly =
       let P : List Symbol → Type 0 = λ xs. (r : StateIndex) → Contains found r ↔ LeadsTo (edges b.states) r xs state in
-      subst (AreSources b p index state) (sym is_list) (record { ascending = ascending; exactly = subst P is_prefix exactly })
+      record { ascending = ascending; exactly = subst P is_prefix exactly }
 
   pub in_order : (early middle last : Met) (sources : List StateIndex) → ((m : Meeting) → HasMet early m → ⊥) → early.trace_graph ≡ record { nodes = []; edges = [] } → middle.visited_set ≡ early.visited_set →
-      AreSources b b.item.production b.item.index b.state sources → AddsInOrder early.trace_graph middle.trace_graph (own_edge b.item.production b.item.index ∷ []) → WalksOn b (come_to_each b.item.production sources) middle last → IsInOrder b last.trace_graph
+      AreSources b b.item.production b.item.index b.state sources → AddsInOrder early.trace_graph middle.trace_graph (own_edge b.item.production b.item.index ∷ []) → WalksOn b (come_to_each b.item.production sources) [] middle last → IsInOrder b last.trace_graph
   in_order early middle last sources none empty same begins own walk =
       let first = own_edge b.item.production b.item.index in
       let nothing : AreMet [] early = λ m. (λ c. absurd (Contains-none m c), λ h. absurd (none m h)) in
       let s = walk [] (same_met early middle same [] nothing) in
       let P : Graph → Type 0 = λ g. AddsInOrder g last.trace_graph (first ∷ s.given) in
       let all : AddsInOrder (record { nodes = []; edges = [] }) last.trace_graph (first ∷ s.given) = subst P empty (order_append early.trace_graph middle.trace_graph last.trace_graph (first ∷ []) s.given own s.added) in
-      let Q : List Duty → Type 0 = λ ds. Walks b [] ds s.given in
-      let R : List PlainEdge → Type 0 = λ es. Walks b [] (come_to_each b.item.production sources ++ []) es in
+      let R : List PlainEdge → Type 0 = λ es. Walks b [] (come_to_each b.item.production sources) es in
       record {
         sources = sources;
         begins = begins;
         given = s.given;
-        walk = subst Q (append-nil (come_to_each b.item.production sources)) (subst R (append-nil s.given) (s.walk [] [] ends));
+        walk = subst R (append-nil s.given) (s.walk [] ends);
         edges = all.edges;
         nodes = all.nodes;
       }

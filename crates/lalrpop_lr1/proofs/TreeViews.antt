@@ -24,15 +24,19 @@ leaves_cons (Leaf x) ts = refl
 leaves_cons (Node a children) ts = ap (λ l. l ++ leaves ts) (sym (append-nil (leaves children)))
 
 -- the trees beside one another, as a list again
-abbrev listed : Trees → List Tree
+abbrev pub listed : Trees → List Tree
 listed no_trees = []
 listed (beside t ts) = t ∷ listed ts
 
-listed-trees : (ts : List Tree) → listed (trees_of ts) ≡ ts
+pub listed-trees : (ts : List Tree) → listed (trees_of ts) ≡ ts
 listed-trees [] = refl
 listed-trees (t ∷ ts) = ap (λ l. t ∷ l) (listed-trees ts)
 
-abbrev children_of : Tree → Trees
+pub trees-listed : (ts : Trees) → trees_of (listed ts) ≡ ts
+trees-listed no_trees = refl
+trees-listed (beside t ts) = ap (λ l. beside t l) (trees-listed ts)
+
+abbrev pub children_of : Tree → Trees
 children_of (Leaf t) = no_trees
 children_of (Node a children) = children
 

@@ -1,6 +1,6 @@
 -- What an answer says where the states are faithful to a grammar: the correctness of an LR parser (Knuth 1965; Aho, Sethi and Ullman, section 4.7), with this library's limit. The parser is handed no grammar, so each holds of whatever grammar the states are faithful to.
-use Rattle.std.specs.Prelude.{◌≡◌, ◌≢◌, ℕ, ◌<◌, ◌≤◌, Bool, List, slice_get, Some, Result, Ok, Err}
-use Rattle.lalrpop_base.specs.Words.{IsBeginning, IsOnNoRightSide, AreCanonicalWith, Configuration, Stands, move, Reaches, begin, Outcome, Parsed}
+use Rattle.std.specs.Prelude.{◌≡◌, ◌≢◌, ◌⊎◌, ℕ, ◌<◌, ◌≤◌, Bool, List, ◌++◌, slice_get, Some, Result, Ok, Err}
+use Rattle.lalrpop_base.specs.Words.{IsBeginning, IsOnNoRightSide, AreCanonicalWith, Configuration, Stands, move, Reaches, begin, Outcome, Parsed, HasOutcome, IsRightNext}
 use Rattle.lalrpop_base.specs.Words.{Refused as RefusedIn, Limit as CutOff, Contents, AreFaithful, Tree, beside, no_trees, nodes, IsParseTree, IsLR1}
 use Rattle.lalrpop_base.specs.declared.lookahead.token.Token.{Token}
 use Rattle.lalrpop_base.specs.declared.lr1_core.state.State.{State}
@@ -19,6 +19,14 @@ ForEachGrammar states P = (g : List Production) (start : NonterminalString) → 
 -- something holds of each LR(1) grammar and start symbol on no right side for which the states are canonical
 abbrev pub ForEachCanonical : (ℕ → Contents) → (List Production → NonterminalString → Type 0) → Type 0
 ForEachCanonical states P = (g : List Production) (start : NonterminalString) (tokens : ℕ → Production → ℕ → Token → Bool) → AreCanonicalWith g start states tokens → IsLR1 g start → IsOnNoRightSide g start → P g start
+
+-- each step of the run of a list is made on a token with which what was read is still a beginning, or on Eof behind a sentence
+abbrev pub StepsAreRight : (ℕ → Contents) → List TerminalString → List Production → NonterminalString → Type 0
+StepsAreRight states w g start = (v rest : List TerminalString) (n : ℕ) (c : Configuration) → w ≡ v ++ rest → Reaches states n (begin w) c → c.rest ≡ rest → (move states c ≡ Stands) ⊎ IsRightNext g start v rest
+
+-- a list has a limit from which on the limit is never its outcome
+abbrev pub HasEnough : (ℕ → Contents) → List TerminalString → List Production → NonterminalString → Type 0
+HasEnough states w g start = (enough : ℕ) × ((limit : ℕ) → enough ≤ limit → HasOutcome states w limit CutOff → ⊥)
 
 -- a list has at most one parse tree
 abbrev pub HasOneTree : List TerminalString → List Production → NonterminalString → Type 0

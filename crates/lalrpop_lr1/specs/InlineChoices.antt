@@ -35,6 +35,18 @@ abbrev pub choices : NonterminalString → List Production → List Symbol → L
 choices b alternatives [] = [] ∷ []
 choices b alternatives (x ∷ rest) = flat_map (λ (part : InlinedSymbol). behind (part ∷ []) (choices b alternatives rest)) (parts b alternatives x)
 
+-- a list with each of the parts behind it, in turn
+abbrev pub followed : List InlinedSymbol → List InlinedSymbol → List (List InlinedSymbol)
+followed front parts = map (λ (part : InlinedSymbol). front ++ part ∷ []) parts
+
+-- lists, each with each of the parts behind it; the list varies slowest
+abbrev pub extended : List InlinedSymbol → List (List InlinedSymbol) → List (List InlinedSymbol)
+extended parts fronts = flat_map (λ (front : List InlinedSymbol). followed front parts) fronts
+
+-- lists, each with each of others behind it; the first varies slowest
+abbrev pub completed : List (List InlinedSymbol) → List (List InlinedSymbol) → List (List InlinedSymbol)
+completed fronts cs = flat_map (λ (front : List InlinedSymbol). behind front cs) fronts
+
 abbrev pub part_symbols : InlinedSymbol → List Symbol
 part_symbols (Original x) = x ∷ []
 part_symbols (Inlined action symbols) = symbols

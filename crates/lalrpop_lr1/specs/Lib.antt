@@ -27,6 +27,7 @@ pub mod Steps
 pub mod TraceGraphs
 pub mod TraceOrder
 pub mod Traces
+pub mod TreeSteps
 pub mod Walks
 pub mod Words
 pub use Rattle.lalrpop_base.specs.Words as BaseWords

@@ -8,7 +8,7 @@ ghost use Rattle.std.specs.Prelude.{◌≡◌, ◌<◌, ◌≤◌, length, IfOk,
 ghost use Rattle.lalrpop_base.specs.Words.{AreCoherent, contents_in, reduced_productions, IsBeginning, begin, HasOutcome, IsFirstWrong, IsPromptRefusal};
 ghost use Rattle.lalrpop_base.specs.Words.{beside, no_trees, leaves, nodes, AreOfGrammar};
 ghost use Rattle.lalrpop_lr1.specs.Answers.{IsAnswer, IsPartialAnswer};
-ghost use Rattle.lalrpop_lr1.specs.FaithfulAnswers.{ForEachGrammar, ForEachCanonical, HasOneTree, IsTreeWithin, IsCutOff, AnswersTrees, IfRefused, IfLimit, IsLimit, TakesBeginning};
+ghost use Rattle.lalrpop_lr1.specs.FaithfulAnswers.{ForEachGrammar, ForEachCanonical, HasEnough, HasOneTree, StepsAreRight, IsTreeWithin, IsCutOff, AnswersTrees, IfRefused, IfLimit, IsLimit, TakesBeginning};
 ghost use Rattle.lalrpop_lr1.specs.ParseTrees.{tree_of};
 ghost use Rattle.lalrpop_lr1.specs.Reading.{HasPartialOutcome};
 ghost use Rattle.lalrpop_lr1.specs.Steps.{IsParsedIn};
@@ -66,6 +66,13 @@ pub fn interpret<'a, 'grammar, L: LookaheadInterpret>(
     ensures prompt { IfErr result (IfRefused (λ state token. ForEachCanonical
         (contents_in (L.holds terminals.now) states.now) (λ g start. IsPromptRefusal g start
         (contents_in (L.holds terminals.now) states.now) tokens.items state token)) states.now) }
+
+    // Over canonical states no step is made on a wrong token, and the list has a limit that is
+    // enough for it.
+    ensures right { ForEachCanonical (contents_in (L.holds terminals.now) states.now)
+        (StepsAreRight (contents_in (L.holds terminals.now) states.now) tokens.items) }
+    ensures ends { ForEachCanonical (contents_in (L.holds terminals.now) states.now)
+        (HasEnough (contents_in (L.holds terminals.now) states.now) tokens.items) }
 {
     Machine::new(alloc, limit).run(alloc, states, terminals, tokens)
 }

@@ -135,11 +135,11 @@ fn only_child(tree: ParseTree) -> ParseTree
         tree_of tree ≡ Node a (beside t no_trees) →
         tree_of result ≡ t }
 {
-    match tree {
-        ParseTree::Nonterminal(_, mut children) => match children.pop() {
-            Some(child) => child,
-            None => unreachable!(),
-        },
-        ParseTree::Terminal(_) => unreachable!(),
+    let Some(mut children) = tree.into_children() else {
+        unreachable!();
+    };
+    match children.pop() {
+        Some(child) => child,
+        None => unreachable!(),
     }
 }

@@ -1,6 +1,6 @@
 //! The choices that are left when a nonterminal is inlined into a right side.
-ghost use Rattle.std.specs.Prelude.{◌≡◌, ◌++◌, ◌∷◌, [], IfOk, OnOk};
-ghost use Rattle.lalrpop_lr1.specs.InlineChoices.{is_named, mentions, inlined, behind, choices, part_symbols, laid_out};
+ghost use Rattle.std.specs.Prelude.{◌≡◌, ◌++◌, map, IfOk, OnOk};
+ghost use Rattle.lalrpop_lr1.specs.InlineChoices.{is_named, mentions, inlined, parts, followed, extended, choices, part_symbols, laid_out};
 
 use lalrpop_base::memory::OutOfMemory;
 use lalrpop_base::repr::inlined::{InlinedSymbol, clone_inlined_symbols};
@@ -35,66 +35,81 @@ pub fn choices(
 ) -> Result<Vec<Sequence<InlinedSymbol>>, OutOfMemory>
     ensures { IfOk result (λ made. made.items ≡ choices name.now alternatives.now symbols.now) }
 {
-    let mut chosen = Vec::new(alloc);
     let mut made = Vec::new(alloc);
-    choose(alloc, name, alternatives, symbols, &mut chosen, &mut made)?;
+    made.push(Sequence::new(alloc))?;
+    for symbol in symbols {
+        let parts = parts(alloc, name, alternatives, symbol)?;
+        made = extended(alloc, made, &parts)?;
+    }
     Ok(made)
 }
 
-// Adds what was chosen so far, followed by each choice for the symbols that are left.
-#[cycle(choose)]
-fn choose(
+// What may stand in the place of a symbol.
+fn parts(
     alloc: Global,
     name: &NonterminalString,
     alternatives: &[Production],
-    symbols: &[Symbol],
-    chosen: &mut Vec<InlinedSymbol>,
-    made: &mut Vec<Sequence<InlinedSymbol>>,
-) -> Result<(), OutOfMemory>
-    ensures kept { OnOk result (chosen.new.items ≡ chosen.old.items) }
-    ensures more { OnOk result (made.new.items ≡ made.old.items ++ behind chosen.old.items
-        (choices name.now alternatives.now symbols.now)) }
+    symbol: &Symbol,
+) -> Result<Vec<InlinedSymbol>, OutOfMemory>
+    ensures { IfOk result (λ made. made.items ≡ parts name.now alternatives.now symbol.now) }
 {
-    match symbols.split_first() {
-        None => {
-            made.push(clone_inlined_symbols(alloc, chosen)?)?;
-            Ok(())
-        }
-        Some((symbol, rest)) => {
-            if is_named(name, symbol) {
-                for alternative in alternatives {
-                    let part = inlined(alloc, alternative)?;
-                    choose_part(alloc, name, alternatives, part, rest, chosen, made)?;
-                }
-                Ok(())
-            } else {
-                let part = InlinedSymbol::Original(symbol.clone(alloc)?);
-                choose_part(alloc, name, alternatives, part, rest, chosen, made)
-            }
-        }
+    if is_named(name, symbol) {
+        return all_inlined(alloc, alternatives);
     }
+    let mut made = Vec::new(alloc);
+    made.push(InlinedSymbol::Original(symbol.clone(alloc)?))?;
+    Ok(made)
 }
 
-// Adds what was chosen so far, followed by a part and each choice for the symbols that are left.
-#[cycle(choose)]
-fn choose_part(
+// Each alternative in the place of the nonterminal.
+fn all_inlined(
     alloc: Global,
-    name: &NonterminalString,
     alternatives: &[Production],
-    part: InlinedSymbol,
-    symbols: &[Symbol],
-    chosen: &mut Vec<InlinedSymbol>,
+) -> Result<Vec<InlinedSymbol>, OutOfMemory>
+    ensures { IfOk result (λ made. made.items ≡ map inlined alternatives.now) }
+{
+    let mut made = Vec::new(alloc);
+    for alternative in alternatives {
+        made.push(inlined(alloc, alternative)?)?;
+    }
+    Ok(made)
+}
+
+// Lists, each with each of the parts behind it.
+fn extended(
+    alloc: Global,
+    fronts: Vec<Sequence<InlinedSymbol>>,
+    parts: &[InlinedSymbol],
+) -> Result<Vec<Sequence<InlinedSymbol>>, OutOfMemory>
+    ensures { IfOk result (λ made. made.items ≡ extended parts.now fronts.items) }
+{
+    let mut made = Vec::new(alloc);
+    for front in fronts {
+        extend(alloc, front, parts, &mut made)?;
+    }
+    Ok(made)
+}
+
+// Adds a list with each of the parts behind it. With the last part it is the list itself, so where
+// there is one part nothing is copied.
+fn extend(
+    alloc: Global,
+    mut front: Sequence<InlinedSymbol>,
+    parts: &[InlinedSymbol],
     made: &mut Vec<Sequence<InlinedSymbol>>,
 ) -> Result<(), OutOfMemory>
-    ensures kept { OnOk result (chosen.new.items ≡ chosen.old.items) }
-    ensures more { OnOk result (made.new.items
-        ≡ made.old.items ++ behind chosen.old.items
-        (behind (part ∷ []) (choices name.now alternatives.now symbols.now))) }
+    ensures { OnOk result (made.new.items ≡ made.old.items ++ followed front parts.now) }
 {
-    let count = chosen.len();
-    chosen.push(part)?;
-    choose(alloc, name, alternatives, symbols, chosen, made)?;
-    chosen.truncate(count);
+    let Some((last, others)) = parts.split_last() else {
+        return Ok(());
+    };
+    for part in others {
+        let mut copy = clone_inlined_symbols(alloc, front.as_slice())?;
+        copy.push(part.clone(alloc)?)?;
+        made.push(copy)?;
+    }
+    front.push(last.clone(alloc)?)?;
+    made.push(front)?;
     Ok(())
 }
 

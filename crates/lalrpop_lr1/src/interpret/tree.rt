@@ -1,17 +1,23 @@
-//! Parse trees.
-ghost use Rattle.std.specs.Prelude.{◌≡◌, ◌↔◌, ◌++◌, map, Some, true, IsTrue, IfOk, OnOk};
-ghost use Rattle.std.specs.Fmt.{WritesOnOk};
-ghost use Rattle.lalrpop_base.specs.Words.{leaves, beside, no_trees};
-ghost use Rattle.lalrpop_lr1.specs.ParseTrees.{tree_of, tree_text, children_text, separator_text};
+//! Parse trees. Nothing here recurses as deep as a tree: what goes over one keeps its own stack.
+mod comparison;
+mod copies;
+mod text;
+mod walk;
 
-use lalrpop_base::exact::equal;
+ghost use Rattle.std.specs.Prelude.{◌≡◌, ◌↔◌, ◌<◌, [], ◌∷◌, ◌++◌, map, reverse, Some, true, IsTrue, IsFalse, IfOk, OnOk, IsSomeAnd};
+ghost use Rattle.lalrpop_base.specs.Words.{Trees, Node, leaves, beside, no_trees, trees_of};
+ghost use Rattle.lalrpop_base.specs.declared.repr.NonterminalString.{NonterminalString};
+ghost use Rattle.lalrpop_lr1.specs.ParseTrees.{tree_nodes, tree_of, tree_text};
+
+use comparison::are_equal;
+use copies::clone_node;
 use lalrpop_base::memory::OutOfMemory;
 use lalrpop_base::repr::{NonterminalString, TerminalString};
 use std::alloc::Global;
-use std::fmt;
+use std::{fmt, mem};
+use text::show_tree;
 
 /// A tree of a parse: a nonterminal over its children, or a terminal.
-#[derive(Drop)]
 pub enum ParseTree {
     Nonterminal(NonterminalString, Vec<ParseTree>),
     Terminal(TerminalString),
@@ -23,7 +29,14 @@ impl ParseTree {
         ensures { IfOk result (λ list. list.items ≡ leaves (beside (tree_of self.now) no_trees)) }
     {
         let mut list = Vec::new(alloc);
-        push_terminals(alloc, self, &mut list)?;
+        let mut left = Vec::new(alloc);
+        left.push(self)?;
+        while let Some(tree) = left.pop() {
+            match tree {
+                ParseTree::Nonterminal(_, children) => push_children(children, &mut left)?,
+                ParseTree::Terminal(terminal) => list.push(terminal.clone(alloc)?)?,
+            }
+        }
         Ok(list)
     }
 
@@ -31,14 +44,73 @@ impl ParseTree {
         ensures { IfOk result (λ copy. tree_of copy ≡ tree_of self.now) }
     {
         match self {
-            ParseTree::Nonterminal(name, children) => {
-                let mut copies = Vec::new(alloc);
-                for child in children {
-                    copies.push(child.clone(alloc)?)?;
-                }
-                Ok(ParseTree::Nonterminal(name.clone(alloc)?, copies))
-            }
+            ParseTree::Nonterminal(name, children) => clone_node(alloc, name, children),
             ParseTree::Terminal(terminal) => Ok(ParseTree::Terminal(terminal.clone(alloc)?)),
+        }
+    }
+}
+
+impl Drop for ParseTree {
+    // Drops one node after the other, without recursion and without memory.
+    #[tactic(auto, using(crate::proofs::DroppedTrees::one_fewer))]
+    fn drop(mut self) {
+        let mut rest = match self {
+            ParseTree::Nonterminal(_, children) => children,
+            ParseTree::Terminal(_) => return,
+        };
+        while let Some(tree) = rest.pop() {
+            self = tree;
+            self.go_down(&mut rest);
+            match self {
+                ParseTree::Nonterminal(_, _children) => (),
+                ParseTree::Terminal(_) => (),
+            }
+        }
+    }
+}
+
+impl ParseTree {
+    // Exchanges a tree for a node of it that has no children. All other nodes go to the trees beside
+    // it, so many of them as there were.
+    fn go_down(&mut self, rest: &mut Vec<ParseTree>)
+        ensures kept { tree_nodes (self.new ∷ rest.new.items)
+            ≡ tree_nodes (self.old ∷ rest.old.items) }
+        ensures bare { tree_nodes (self.new ∷ []) ≡ 1 }
+    {
+        while self.turn(rest) {}
+    }
+
+    // Puts the trees beside it below the root, and the children beside it. Where both were there, the
+    // root and its first child change places. Whether they did: else the root has no children left.
+    fn turn(&mut self, rest: &mut Vec<ParseTree>) -> bool
+        ensures kept { tree_nodes (self.new ∷ rest.new.items)
+            ≡ tree_nodes (self.old ∷ rest.old.items) }
+        ensures child { IsTrue result →
+            tree_nodes (self.new ∷ []) < tree_nodes (self.old ∷ []) }
+        ensures bare { IsFalse result → tree_nodes (self.new ∷ []) ≡ 1 }
+    {
+        let ParseTree::Nonterminal(_, children) = self else {
+            return false;
+        };
+        if children.is_empty() {
+            return false;
+        }
+        mem::swap(children, rest);
+        if children.is_empty() {
+            return false;
+        }
+        mem::swap(self, &mut rest[0]);
+        true
+    }
+
+    // The children of a node. A terminal has no list of them.
+    pub(crate) fn into_children(self) -> Option<Vec<ParseTree>>
+        ensures { (a : NonterminalString) (ts : Trees) → tree_of self ≡ Node a ts →
+            IsSomeAnd result (λ children. trees_of (map tree_of children.items) ≡ ts) }
+    {
+        match self {
+            ParseTree::Nonterminal(_, children) => Some(children),
+            ParseTree::Terminal(_) => None,
         }
     }
 }
@@ -67,58 +139,18 @@ impl Eq for ParseTree {
     ghost laws = { on_equiv tree_of tree_equivalence };
 }
 
-// Whether two trees are the same.
-#[cycle(equal)]
-fn are_equal(tree: &ParseTree, other: &ParseTree) -> bool
-    ensures { IsTrue result ↔ (tree_of tree.now ≡ tree_of other.now) }
-{
-    match (tree, other) {
-        (ParseTree::Nonterminal(a, children), ParseTree::Nonterminal(b, others)) => {
-            equal(a, b) && have_equal(children, others)
-        }
-        (ParseTree::Terminal(t), ParseTree::Terminal(u)) => equal(t, u),
-        (ParseTree::Nonterminal(_, _), ParseTree::Terminal(_)) => false,
-        (ParseTree::Terminal(_), ParseTree::Nonterminal(_, _)) => false,
-    }
-}
-
-// Whether two lists of trees are the same.
-#[cycle(equal)]
-fn have_equal(trees: &Vec<ParseTree>, others: &Vec<ParseTree>) -> bool
-    ensures { IsTrue result ↔ (map tree_of trees.now.items ≡ map tree_of others.now.items) }
-{
-    if trees.len() != others.len() {
-        return false;
-    }
-    'trees: for (place, tree) in trees.iter().enumerate() {
-        if !are_equal(tree, &others[place]) {
-            return false;
-        }
-    }
-    true
-}
-
-// Copies the leaves of a tree behind a list.
-fn push_terminals(
-    alloc: Global,
-    tree: &ParseTree,
-    list: &mut Vec<TerminalString>,
+// Puts children on a stack of trees, from the last to the first.
+fn push_children<'a>(
+    children: &'a Vec<ParseTree>,
+    left: &mut Vec<&'a ParseTree>,
 ) -> Result<(), OutOfMemory>
-    ensures { OnOk result
-        (list.new.items ≡ list.old.items ++ leaves (beside (tree_of tree.now) no_trees)) }
+    ensures { OnOk result (map (λ t. tree_of t.now) left.new.items
+        ≡ map (λ t. tree_of t.now) left.old.items ++ reverse (map tree_of children.now.items)) }
 {
-    match tree {
-        ParseTree::Nonterminal(_, children) => {
-            for child in children {
-                push_terminals(alloc, child, list)?;
-            }
-            Ok(())
-        }
-        ParseTree::Terminal(terminal) => {
-            list.push(terminal.clone(alloc)?)?;
-            Ok(())
-        }
+    for child in children.iter().rev() {
+        left.push(child)?;
     }
+    Ok(())
 }
 
 impl fmt::Display for ParseTree {
@@ -135,38 +167,4 @@ impl fmt::Debug for ParseTree {
     fn fmt<W: fmt::Write>(&self, f: &mut fmt::Formatter<W>) -> fmt::Result {
         show_tree(self, f)
     }
-}
-
-#[cycle(show)]
-fn show_tree<W: fmt::Write>(tree: &ParseTree, f: &mut fmt::Formatter<W>) -> fmt::Result
-    ensures { WritesOnOk W.write_str_gives f.old result (tree_text tree.now) f.new }
-{
-    match tree {
-        ParseTree::Nonterminal(name, children) => {
-            write!(f, "[{name}: ")?;
-            show_children(children, f)?;
-            f.write_str("]")
-        }
-        ParseTree::Terminal(terminal) => write!(f, "{terminal}"),
-    }
-}
-
-#[cycle(show)]
-fn show_children<W: fmt::Write>(children: &Vec<ParseTree>, f: &mut fmt::Formatter<W>) -> fmt::Result
-    ensures { WritesOnOk W.write_str_gives f.old result (children_text true children.now.items)
-        f.new }
-{
-    let mut is_first = true;
-    'children: for child in children {
-        f.write_str(separator(is_first))?;
-        show_tree(child, f)?;
-        is_first = false;
-    }
-    Ok(())
-}
-
-fn separator(is_first: bool) -> &'static str
-    ensures { result.now ≡ separator_text is_first }
-{
-    if is_first { "" } else { ", " }
 }

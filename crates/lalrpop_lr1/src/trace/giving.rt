@@ -1,9 +1,9 @@
 //! The edges that an item gives.
 ghost use Rattle.std.specs.Prelude.{◌≡◌, ◌+◌, ◌↔◌, ◌∷◌, [], IsTrue, true, false, OnOk, IfOk, drop};
 ghost use Rattle.lalrpop_base.specs.Words.{IsNullable};
-ghost use Rattle.lalrpop_lr1.specs.Traces.{dotted, dot_edge, own_edge, Gives, GoesOn};
+ghost use Rattle.lalrpop_lr1.specs.Traces.{dotted, dot_edge, own_edge, GoesOn};
 ghost use Rattle.lalrpop_lr1.specs.TraceOrder.{stop_edge, onward_edges};
-ghost use Rattle.lalrpop_lr1.specs.Meetings.{asked, AddsEdges, AddsInOrder};
+ghost use Rattle.lalrpop_lr1.specs.Meetings.{asked, AddsInOrder};
 
 use super::ground::{Trace, Traced};
 use super::node::TraceGraphNode;
@@ -20,8 +20,6 @@ pub(crate) fn add_own<'grammar, L>(
     graph: &mut TraceGraph<'grammar>,
     item: &Item<'grammar, L>,
 ) -> Result<(), OutOfMemory>
-    ensures edges { OnOk result
-        (AddsEdges graph.old graph.new (λ e. e ≡ own_edge item.now.production item.now.index)) }
     ensures in_order { OnOk result
         (AddsInOrder graph.old graph.new (own_edge item.now.production item.now.index ∷ [])) }
 {
@@ -37,8 +35,6 @@ pub(crate) fn add_shifting<'grammar>(
     name: &NonterminalString,
     item: &Lr1Item<'grammar>,
 ) -> Result<bool, OutOfMemory>
-    ensures edges { OnOk result
-        (AddsEdges graph.old graph.new (Gives (asked trace.now) name.now item.now)) }
     ensures on { IfOk result (λ on. IsTrue on ↔ GoesOn (asked trace.now) item.now) }
     ensures onward { IfOk result (λ on. on ≡ true →
         AddsInOrder graph.old graph.new (onward_edges trace.now.traced name.now item.now)) }
@@ -68,8 +64,6 @@ fn add_dotted<'grammar, L>(
     to: TraceGraphNode<'grammar>,
     item: &Item<'grammar, L>,
 ) -> Result<(), OutOfMemory>
-    ensures edges { OnOk result (AddsEdges graph.old graph.new
-        (λ e. e ≡ dot_edge from.entry to.entry item.now.production item.now.index)) }
     ensures in_order { OnOk result (AddsInOrder graph.old graph.new
         (dot_edge from.entry to.entry item.now.production item.now.index ∷ [])) }
 {

@@ -1,9 +1,8 @@
-//! The nonterminals that a trace meets in each state.
-ghost use Rattle.std.specs.Prelude.{◌≡◌, ◌≤◌, ◌↔◌, ◌∷◌, [], IsTrue, Contains, OnOk, IfOk, slice_get};
-ghost use Rattle.lalrpop_lr1.specs.TraceGraphs.{plain_edges};
-ghost use Rattle.lalrpop_lr1.specs.Traces.{Meeting, IsMet, Takes, StandsIn, Gives, GoesOn, IsTraceOf};
+//! The nonterminals that a trace meets in each state, depth first, with its own stack.
+ghost use Rattle.std.specs.Prelude.{◌≡◌, ◌+◌, ◌∷◌, [], ◌++◌, Contains, OnOk, IfOk, length, map, drop, slice_get};
+ghost use Rattle.lalrpop_lr1.specs.Traces.{Backtrace, Meeting, StandsIn, IsTraceOf};
 ghost use Rattle.lalrpop_lr1.specs.TraceOrder.{come_to, take_up, take_up_each, items_at, IsInOrder};
-ghost use Rattle.lalrpop_lr1.specs.Meetings.{asked, names_in, unmet, IsInsertedPair, HasMet, AddsEdges, IsDone, IsFinished, IsSound, Advances, WalksOn};
+ghost use Rattle.lalrpop_lr1.specs.Meetings.{asked, duties_of, duties_left, AreNamed, IsInsertedPair, HasMet, IsStep};
 
 use super::giving::{add_own, add_shifting};
 use super::ground::Trace;
@@ -20,6 +19,14 @@ use std::collections::BTreeSet;
 pub(crate) struct Met<'grammar> {
     pub(crate) trace_graph: TraceGraph<'grammar>,
     pub(crate) visited_set: BTreeSet<(StateIndex, NonterminalString)>,
+}
+
+/// What a trace has still to do: to come to a nonterminal in a state, or to take up the items of a
+/// state, from a place on, for a nonterminal that was met there.
+#[derive(Drop)]
+pub(crate) enum Task<'grammar> {
+    Meet(StateIndex, &'grammar NonterminalString),
+    MeetItems(StateIndex, &'grammar NonterminalString, usize),
 }
 
 /// Adds the edge of the item that is traced, and traces on from its nonterminal in each state where
@@ -41,29 +48,27 @@ pub(crate) fn trace_item<'grammar>(
         .state_graph
         .trace_back(alloc, trace.state, item.prefix())?;
     add_own(alloc, &mut met.trace_graph, item)?;
-    for source in &sources {
-        begin(alloc, trace, met, *source, &production.nonterminal)?;
+    let mut tasks = Vec::new(alloc);
+    push_sources(sources, &production.nonterminal, &mut tasks)?;
+    while let Some(task) = tasks.pop() {
+        step(alloc, trace, met, task, &mut tasks)?;
     }
     Ok(())
 }
 
-// Traces on from the nonterminal of the traced item in a state where the item began.
-fn begin<'grammar>(
-    alloc: Global,
-    trace: &Trace<'_, '_, 'grammar>,
-    met: &mut Met<'grammar>,
-    state: StateIndex,
-    name: &NonterminalString,
+// Puts a nonterminal in each of the states on the stack, in the first of them on top.
+fn push_sources<'grammar>(
+    mut sources: Vec<StateIndex>,
+    name: &'grammar NonterminalString,
+    tasks: &mut Vec<Task<'grammar>>,
 ) -> Result<(), OutOfMemory>
-    requires met { IsMet (asked trace.now) (state, name.now) }
-    requires sound { IsSound (asked trace.now) met.old }
-    ensures advances { OnOk result (Advances (asked trace.now) met.old met.new) }
-    ensures there { OnOk result (HasMet met.new (state, name.now)) }
-    ensures walks { OnOk result
-        (WalksOn (asked trace.now) (come_to (state, name.now) ∷ []) met.old met.new) }
+    ensures duties { OnOk result ((b : Backtrace) → duties_left b tasks.new.items ≡
+        map (λ n. come_to (n, name.now)) sources.items ++ duties_left b tasks.old.items) }
+    ensures count { OnOk result
+        (length tasks.new.items ≡ length tasks.old.items + length sources.items) }
 {
-    if is_new(alloc, met, state, name)? {
-        meet_items(alloc, trace, met, state, name)?;
+    while let Some(source) = sources.pop() {
+        tasks.push(Task::Meet(source, name))?;
     }
     Ok(())
 }
@@ -83,64 +88,63 @@ fn is_new<'grammar>(
     Ok(fresh)
 }
 
-// Traces on from a nonterminal of an item in a state of the list, unless it was met there before.
-#[cycle(meeting)]
-fn meet<'grammar>(
+// Does a task that was on top of the stack, and puts there what comes of it.
+fn step<'grammar>(
     alloc: Global,
     trace: &Trace<'_, '_, 'grammar>,
     met: &mut Met<'grammar>,
-    state: StateIndex,
-    name: &NonterminalString,
+    task: Task<'grammar>,
+    tasks: &mut Vec<Task<'grammar>>,
 ) -> Result<(), OutOfMemory>
-    requires named { Contains (names_in trace.now.ground.now.states.now) name.now }
-    requires met { IsMet (asked trace.now) (state, name.now) }
-    requires sound { IsSound (asked trace.now) met.old }
-    ensures fewer { OnOk result (unmet trace.now.ground.now.states.now met.new.visited_set ≤ unmet
-        trace.now.ground.now.states.now met.old.visited_set) }
-    ensures advances { OnOk result (Advances (asked trace.now) met.old met.new) }
-    ensures there { OnOk result (HasMet met.new (state, name.now)) }
-    ensures walks { OnOk result
-        (WalksOn (asked trace.now) (come_to (state, name.now) ∷ []) met.old met.new) }
+    requires named { let b = asked trace.now in
+        AreNamed b (duties_of b task ++ duties_left b tasks.old.items) }
+    ensures { let b = asked trace.now in
+        OnOk result (IsStep b met.old met.new (duties_of b task.entry ++ duties_left b
+        tasks.old.items) (length tasks.old.items + 1) tasks.new.items) }
 {
-    if !is_new(alloc, met, state, name)? {
-        return Ok(());
+    match task {
+        Task::Meet(state, name) => {
+            if is_new(alloc, met, state, name)? {
+                tasks.push(Task::MeetItems(state, name, 0))?;
+            }
+            Ok(())
+        }
+        Task::MeetItems(state, name, next) => {
+            meet_items(alloc, trace, met, state, name, next, tasks)
+        }
     }
-    if state.0 >= trace.ground.states.len() {
-        return Ok(());
-    }
-    meet_items(alloc, trace, met, state, name)
 }
 
-// Traces on from each item of a state that shifts a nonterminal.
-#[cycle(meeting)]
+// Takes up the item at a place of a state, and leaves those behind it on the stack.
 fn meet_items<'grammar>(
     alloc: Global,
     trace: &Trace<'_, '_, 'grammar>,
     met: &mut Met<'grammar>,
     state: StateIndex,
-    name: &NonterminalString,
+    name: &'grammar NonterminalString,
+    next: usize,
+    tasks: &mut Vec<Task<'grammar>>,
 ) -> Result<(), OutOfMemory>
-    requires met { IsMet (asked trace.now) (state, name.now) }
-    requires sound { IsSound (asked trace.now) met.old }
-    ensures fewer { OnOk result (unmet trace.now.ground.now.states.now met.new.visited_set ≤ unmet
-        trace.now.ground.now.states.now met.old.visited_set) }
-    ensures advances { OnOk result (Advances (asked trace.now) met.old met.new) }
-    ensures finished { OnOk result (IsFinished (asked trace.now) met.new (state, name.now)) }
-    ensures walks { OnOk result (WalksOn (asked trace.now) (take_up_each (state, name.now)
-        (items_at (slice_get trace.now.ground.now.states.now state.0))) met.old met.new) }
+    requires named { let b = asked trace.now in AreNamed b (duties_left b tasks.old.items) }
+    ensures { let b = asked trace.now in
+        let items = items_at (slice_get b.states state.0) in
+        OnOk result (IsStep b met.old met.new (take_up_each (state, name.now) (drop next items) ++
+        duties_left b tasks.old.items) (length tasks.old.items + 1) tasks.new.items) }
 {
     let states = trace.ground.states;
     if state.0 >= states.len() {
         return Ok(());
     }
-    for item in states[state.0].items.vec.iter() {
-        meet_item(alloc, trace, met, state, name, item)?;
+    let items = states[state.0].items.vec.as_slice();
+    if next >= items.len() {
+        return Ok(());
     }
-    Ok(())
+    tasks.push(Task::MeetItems(state, name, next + 1))?;
+    meet_item(alloc, trace, met, state, name, &items[next], tasks)
 }
 
-// Adds the edges of an item if it shifts a nonterminal, and traces on from it if it goes on.
-#[cycle(meeting)]
+// Adds the edges of an item if it shifts a nonterminal, and comes next to its own nonterminal in
+// each of its sources if it goes on.
 fn meet_item<'grammar>(
     alloc: Global,
     trace: &Trace<'_, '_, 'grammar>,
@@ -148,17 +152,13 @@ fn meet_item<'grammar>(
     state: StateIndex,
     name: &NonterminalString,
     item: &Lr1Item<'grammar>,
+    tasks: &mut Vec<Task<'grammar>>,
 ) -> Result<(), OutOfMemory>
     requires stands { StandsIn trace.now.ground.now.states.now state item.now }
-    requires met { IsMet (asked trace.now) (state, name.now) }
-    requires sound { IsSound (asked trace.now) met.old }
-    ensures fewer { OnOk result (unmet trace.now.ground.now.states.now met.new.visited_set ≤ unmet
-        trace.now.ground.now.states.now met.old.visited_set) }
-    ensures advances { OnOk result (Advances (asked trace.now) met.old met.new) }
-    ensures done { OnOk result (Takes (asked trace.now) (state, name.now) item.now →
-        IsDone (asked trace.now) met.new (state, name.now) item.now) }
-    ensures walks { OnOk result
-        (WalksOn (asked trace.now) (take_up (state, name.now) item.now ∷ []) met.old met.new) }
+    requires named { let b = asked trace.now in AreNamed b (duties_left b tasks.old.items) }
+    ensures { let b = asked trace.now in
+        OnOk result (IsStep b met.old met.new (take_up (state, name.now) item.now ∷ duties_left b
+        tasks.old.items) (length tasks.old.items) tasks.new.items) }
 {
     if !item.can_shift_nonterminal(name) {
         return Ok(());
@@ -171,8 +171,5 @@ fn meet_item<'grammar>(
         .ground
         .state_graph
         .trace_back(alloc, state, item.prefix())?;
-    for source in &sources {
-        meet(alloc, trace, met, *source, &production.nonterminal)?;
-    }
-    Ok(())
+    push_sources(sources, &production.nonterminal, tasks)
 }

@@ -1,5 +1,5 @@
 use Rattle.lalrpop_base.specs.Words.{contents_in}
-use Rattle.lalrpop_lr1.proofs.FaithfulAnswers.{trees_are_one, limit_cut_off, cut_off_limit, tree_parses, answers_trees, refusal_wrong, refusal_prompt}
+use Rattle.lalrpop_lr1.proofs.FaithfulAnswers.{trees_are_one, limit_cut_off, cut_off_limit, tree_parses, answers_trees, refusal_wrong, refusal_prompt, steps_are_right, has_enough}
 use Rattle.lalrpop_lr1.proofs.Interpreted.{answer_at, tree_of_productions, tree_of_list, tree_steps, tree_within}
 use Rattle.lalrpop_lr1.proofs.interpret.interpret.Goals as goal
 
@@ -38,3 +38,9 @@ returns-clause-prompt g c = refusal_prompt (contents_in (g.L.LookaheadInterpret.
 
 pub returns-clause-one_tree : goal.returns-clause-one_tree
 returns-clause-one_tree g c = trees_are_one (contents_in (g.L.LookaheadInterpret.holds c.args.terminals.now) c.args.states.now) c.args.tokens.items
+
+pub returns-clause-right : goal.returns-clause-right
+returns-clause-right g c = steps_are_right (contents_in (g.L.LookaheadInterpret.holds c.args.terminals.now) c.args.states.now) c.args.tokens.items
+
+pub returns-clause-ends : goal.returns-clause-ends
+returns-clause-ends g c = has_enough (contents_in (g.L.LookaheadInterpret.holds c.args.terminals.now) c.args.states.now) c.args.tokens.items

@@ -1,12 +1,9 @@
-use Rattle.lalrpop_lr1.proofs.TraceGraphs.{on_ok}
 use Rattle.lalrpop_lr1.proofs.TraceOrder.{order_one}
-use Rattle.lalrpop_lr1.proofs.Traces.{adds_plain, plain_dot, on_ok_both}
+use Rattle.lalrpop_lr1.proofs.Traces.{plain_dot, on_ok_both}
 use Rattle.lalrpop_lr1.proofs.trace.giving.add_dotted.Goals as goal
 
 pub returns : goal.returns
 returns g c = record {
-  edges = on_ok c.add_edge.result c.add_edge.ensures.added (λ added. adds_plain c.args.graph.now c.add_edge.new.self _ _ c.add_edge.ensures.graph added c.add_edge.ensures.no_other
-      (plain_dot c.args.from c.args.to c.symbol_sets.result c.args.item.now.production c.args.item.now.index c.symbol_sets.ensures.prefix c.symbol_sets.ensures.cursor c.symbol_sets.ensures.suffix));
   in_order = on_ok_both c.add_edge.result c.add_edge.ensures.added c.add_edge.ensures.nodes (λ added nodes. order_one c.args.graph.now c.add_edge.new.self _ _ added nodes
       (plain_dot c.args.from c.args.to c.symbol_sets.result c.args.item.now.production c.args.item.now.index c.symbol_sets.ensures.prefix c.symbol_sets.ensures.cursor c.symbol_sets.ensures.suffix));
 }

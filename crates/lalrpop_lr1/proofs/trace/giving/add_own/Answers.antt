@@ -1,19 +1,16 @@
-use Rattle.std.proofs.Common.{◌≡◌, [], ◌∷◌, ap}
+use Rattle.std.proofs.Common.{[], ◌∷◌, ap}
 use Rattle.lalrpop_lr1.specs.Words.{PlainEdge, dotted, dot_edge, own_edge}
 use Rattle.lalrpop_lr1.specs.declared.trace.node.TraceGraphNode.TheVariants.{Nonterminal, Item}
 use Rattle.lalrpop_lr1.proofs.TraceGraphs.{on_ok}
 use Rattle.lalrpop_lr1.proofs.TraceOrder.{order_as}
-use Rattle.lalrpop_lr1.proofs.Traces.{adds_as, own_same, dot_same}
+use Rattle.lalrpop_lr1.proofs.Traces.{dot_same}
 use Rattle.lalrpop_lr1.proofs.trace.giving.add_own.Goals as goal
 
 pub returns : goal.returns
 returns g c =
     let p = c.args.item.now.production in
     let index = c.args.item.now.index in
-    let P : PlainEdge → Type 0 = λ e. e ≡ dot_edge c.in_ok-from.from c.node_of.result p index in
-    let Q : PlainEdge → Type 0 = λ e. e ≡ own_edge p index in
     record {
-      edges = on_ok c.add_dotted.result c.add_dotted.ensures.edges (λ adds. adds_as c.args.graph.now c.add_dotted.new.graph P Q adds (own_same c.in_ok-from.from c.node_of.result p index c.in_ok-from.ensures c.node_of.ensures));
       in_order = on_ok c.add_dotted.result c.add_dotted.ensures.in_order (λ adds. order_as c.args.graph.now c.add_dotted.new.graph (dot_edge c.in_ok-from.from c.node_of.result p index ∷ []) (own_edge p index ∷ []) adds
           (ap (λ (e : PlainEdge). e ∷ []) (dot_same c.in_ok-from.from c.node_of.result (Nonterminal p.nonterminal) (Item (dotted p index)) p index c.in_ok-from.ensures c.node_of.ensures)));
     }

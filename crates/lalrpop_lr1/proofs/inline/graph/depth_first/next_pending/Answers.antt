@@ -1,0 +1,28 @@
+use Rattle.std.proofs.Common.{rules, ◌∷◌, [], List, refl, sym, ◌∙◌, subst}
+use Rattle.std.specs.Prelude.{Contains}
+use Rattle.std.proofs.lemmas.List.Elements.{Contains-append_left, Contains-push}
+use Rattle.lalrpop_base.specs.declared.repr.NonterminalString.{NonterminalString}
+use Rattle.lalrpop_lr1.specs.declared.inline.graph.depth_first.Frame.{Frame}
+use Rattle.lalrpop_lr1.specs.Words.{IsCycleOf}
+use Rattle.lalrpop_lr1.proofs.InlineFrames.{visited, found}
+use Rattle.lalrpop_lr1.proofs.inline.graph.depth_first.next_pending.Goals as goal
+
+pub returns-then-contains-clause-next : goal.returns-then-contains-clause-next
+returns-then-contains-clause-next c =
+    let new : Frame = record { name = c.loop-other.frame.name; others = c.pop.new.self } in
+    found c.args.grammar.now c.args.walk.now c.loop-other.frame new c.in-Some.other c.loop-other.invariant.frame refl c.in-Some.ensures.items (sym c.contains.ensures ∙ c.if-contains.true)
+
+pub returns-in_err-meet-clause-refused : goal.returns-in_err-meet-clause-refused
+returns-in_err-meet-clause-refused c =
+    let there : Contains c.loop-other.frame.others.items c.in-Some.other = subst (λ (l : List NonterminalString). Contains l c.in-Some.other) (sym c.in-Some.ensures.items) (Contains-push c.pop.new.self.items c.in-Some.other) in
+    let step : IsCycleOf c.args.grammar.now c.in_err-meet.field-0.0 = c.in_err-meet.ensures.refused (c.loop-other.invariant.lead c.in-Some.other there) in
+    search (rules, step)
+
+pub loop-other-preserved : goal.loop-other-preserved
+loop-other-preserved c =
+    let new : Frame = record { name = c.loop-other.frame.name; others = c.pop.new.self } in
+    record {
+      name = c.loop-other.invariant.name;
+      frame = visited c.args.grammar.now c.args.walk.now c.loop-other.frame new c.in-Some.other c.requires.walk c.loop-other.invariant.frame refl c.in-Some.ensures.items (sym c.contains.ensures ∙ c.if-contains.false) c.in_ok-meet.ensures.left;
+      lead = λ d k. c.loop-other.invariant.lead d (subst (λ (l : List NonterminalString). Contains l d) (sym c.in-Some.ensures.items) (Contains-append_left c.pop.new.self.items (c.in-Some.other ∷ []) d k));
+    }
