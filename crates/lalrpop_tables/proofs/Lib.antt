@@ -96,6 +96,7 @@ pub mod MergeableStates
 pub mod MergedCollapse
 pub mod MergedNumbers
 pub mod MergedStates
+pub mod MergeWalks
 pub mod Merges
 pub mod Merging
 pub mod MergingItems

@@ -15,7 +15,7 @@ use Rattle.std.specs.Map.{keys_of}
 use mathlib.Core.Bool.{true≢false}
 use Rattle.lalrpop_base.proofs.ContentsViews.{contains_of_map}
 use Rattle.lalrpop_tables.specs.Words.{AreDisjoint, HasAt, IsUnion, MeetInUnion, Rows, ColumnsOverlap, HasRow, IsClosed, IsRow, IsSuccessor, RowOverlaps, index}
-use Rattle.lalrpop_tables.specs.Words.{IsVisited, HaveNoNewMarks, HasJoined, HasWalked, AreCopies, IsContext, IsMerging, IsWalked, Advances, unset, unvisited}
+use Rattle.lalrpop_tables.specs.Words.{IsVisited, HasJoined, AreCopies, IsContext, IsMerging, IsWalked, Advances, unset, unvisited}
 use Rattle.lalrpop_tables.specs.Words.{AreUnited, IsJoinedCopy, IsApart, set_of, context_of, HasSet, AreJoined, OwnSets}
 use Rattle.lalrpop_tables.specs.Merges.{LeadsTo}
 use Rattle.lalrpop_tables.specs.declared.lane_table.construct.merge.Merge.{Merge}
@@ -273,35 +273,6 @@ mark_cases merge s n h = elim (cases_eq n s.0) [ inl here ↦ inr here | inr oth
 
 pub mark_less : (merge : Merge) (s : StateIndex) → slice_get merge.visited.items s.0 ≡ Some false → unvisited (marked merge s) + 1 ≡ unvisited merge
 mark_less merge s at = let e = unset-set merge.visited.items s.0 at in omega arith
-
--- ---- walking on
--- the state was joined to a copy of the other, from which was walked on
-abbrev pub IsDone : StateIndex → StateIndex → Merge → Type 0
-IsDone state right merge = (copy : StateIndex) × IsJoinedCopy state right copy merge × IsVisited merge copy.0
-
--- one successor more
-pub walked_more : (now mid new : Merge) → IsMerging now → Advances now mid → Advances mid new → HaveNoNewMarks now mid → (state : StateIndex) → HasWalked state mid new → (n : ℕ) → {P : Type 0} → (IsVisited now n → P ⊎ HasJoined now n) → IsVisited new n → P ⊎ HasJoined new n
-walked_more now mid new ready a b marks state w n before h = elim (w.joined n h) [
-  | inl was ↦ elim (before (marks n was)) [ inl p ↦ inl p | inr j ↦ inr (joined_on now new ready (advances_on now mid new a b) n j) ]
-  | inr j ↦ inr j
-]
-
--- all successors
-pub walked_all : (old new : Merge) (s : StateIndex) (ready : IsMerging old) (w : IsWalked old s) → Advances (marked old s) new → ((n : ℕ) → IsVisited new n → IsVisited (marked old s) n ⊎ HasJoined new n) → ((right : StateIndex) → LeadsTo (marked old s) s right → IsDone s right new) → HasWalked s old new
-walked_all old new s ready w a walked done = record {
-  there = a.marks s.0 (mark_there old s ready w);
-  joined = λ n h. elim (walked n h) [
-    | inl begun ↦ elim (mark_cases old s n begun) [
-      | inl was ↦ inl was
-      | inr here ↦ inr (subst (HasJoined new) (sym here) (record {
-        original = w.original;
-        there = a.originals s.0 w.original w.there;
-        joined = λ right e. done right (λ o at. subst (λ k. IsSuccessor old.table.now (index k) right) (same_some w.original o (sym w.there ∙ at)) (subst (λ (t : Bor LaneTable). IsSuccessor t.now (index w.original) right) a.table e));
-      }))
-    ]
-    | inr j ↦ inr j
-  ];
-}
 
 -- ---- the beginning
 module _ (merge : Merge) (rows : Rows) (coherent : AreCoherent merge.states.items) (closed : IsClosed (length merge.states.items) merge.table.now) (keys : (state : StateIndex) → Contains (keys_of rows) state ↔ HasRow merge.table.now state)

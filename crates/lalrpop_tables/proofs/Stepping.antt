@@ -21,7 +21,7 @@ use Rattle.lalrpop_tables.specs.declared.state_graph.StateGraph.{StateGraph}
 use Rattle.lalrpop_tables.specs.Words.{Edge, edge, state_cmp, AddsStates, HaveSameStates, IsStepBack, sources_over, origins_of, origins, origin_of, IsGraphOf}
 use Rattle.lalrpop_tables.specs.Words.{nowhere, over}
 use Rattle.lalrpop_tables.specs.StateGraph.{LeadsTo}
-use Rattle.lalrpop_tables.proofs.Lists.{Contains-none, Contains-here, Contains-there, Contains-cases}
+use Rattle.lalrpop_tables.proofs.Lists.{Contains-none, Contains-here, Contains-there, Contains-cases, Contains-reverse, Contains-from_reverse}
 
 -- a state of all is in the set or left, exactly if it is in the set so far or left now
 pub record IsAddingStates (left all start now : List StateIndex) : Type 0 where
@@ -46,19 +46,11 @@ one_more_state before left all start now next x first is a = record {
   ]);
 }
 
-contains_reverse : (xs : List StateIndex) (r : StateIndex) → Contains xs r → Contains (reverse xs) r
-contains_reverse [] r c = absurd (Contains-none r c)
-contains_reverse (x ∷ xs) r c =
-    rw (reverse-append (x ∷ []) xs) (elim (Contains-cases x xs r c) [ inl e ↦ Contains-append_right (reverse xs) (x ∷ []) r (rw (← e) (Contains-here x [])) | inr d ↦ Contains-append_left (reverse xs) (x ∷ []) r (contains_reverse xs r d) ])
-
-reverse_contains : (xs : List StateIndex) (r : StateIndex) → Contains (reverse xs) r → Contains xs r
-reverse_contains xs r c = rw reverse-reverse at (contains_reverse (reverse xs) r c)
-
 -- where none is left, the states were added
 pub all_added : (left all states start now : List StateIndex) → left ≡ [] → all ≡ reverse states → IsAddingStates left all start now → AddsStates states start now
 all_added left all states start now none is a r = (
-  λ c. elim (a.only r (inl c)) [ inl d ↦ inl d | inr d ↦ inr (reverse_contains states r (rw is at d)) ],
-  λ h. elim (a.kept r (elim h [ inl d ↦ inl d | inr d ↦ inr (rw is (contains_reverse states r d)) ])) [ inl d ↦ d | inr d ↦ absurd (Contains-none r (rw none at d)) ],
+  λ c. elim (a.only r (inl c)) [ inl d ↦ inl d | inr d ↦ inr (Contains-from_reverse states r (rw is at d)) ],
+  λ h. elim (a.kept r (elim h [ inl d ↦ inl d | inr d ↦ inr (rw is (Contains-reverse states r d)) ])) [ inl d ↦ d | inr d ↦ absurd (Contains-none r (rw none at d)) ],
 )
 
 -- ---- one step back of each state of a set

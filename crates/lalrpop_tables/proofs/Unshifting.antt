@@ -23,19 +23,11 @@ use Rattle.lalrpop_tables.proofs.Closing.{drop_split, split_drop}
 use Rattle.lalrpop_tables.proofs.EdgeLeads.{leads_edge}
 use Rattle.lalrpop_tables.proofs.Gains.{Gains-none, Gains-then, Gains-same}
 use Rattle.lalrpop_tables.proofs.GainsSome.{GainsSome-last}
-use Rattle.lalrpop_tables.proofs.Lists.{Contains-none, Contains-here, Contains-cases}
+use Rattle.lalrpop_tables.proofs.Lists.{Contains-none, Contains-here, Contains-cases, Contains-reverse, Contains-from_reverse}
 use Rattle.lalrpop_tables.proofs.Places.{same_some}
 use Rattle.lalrpop_tables.proofs.SomeOf.{some_none, some_kept, some_last, some_cases}
 use Rattle.lalrpop_tables.proofs.Stepping.{source_edge, edge_source}
 use Rattle.lalrpop_tables.proofs.Walks.{Visits-none, Visits-then, Visits-same}
-
-contains_reverse : {X : Type 0} (xs : List X) (x : X) → Contains xs x → Contains (reverse xs) x
-contains_reverse [] x c = absurd (Contains-none x c)
-contains_reverse (y ∷ xs) x c =
-    rw (reverse-append (y ∷ []) xs) (elim (Contains-cases y xs x c) [ inl e ↦ Contains-append_right (reverse xs) (y ∷ []) x (rw (← e) (Contains-here y [])) | inr d ↦ Contains-append_left (reverse xs) (y ∷ []) x (contains_reverse xs x d) ])
-
-reverse_contains : {X : Type 0} (xs : List X) (x : X) → Contains (reverse xs) x → Contains xs x
-reverse_contains xs x c = rw reverse-reverse at (contains_reverse (reverse xs) x c)
 
 -- ---- what leads back, and what gives
 module _ (g : List Production) (states : ℕ → Contents) where
@@ -119,7 +111,7 @@ module _ {L : Type 0} (ground : Ground L) (place : Place) (x : Symbol) where
   left_edge before left all q a b t u on is first h =
       let there : Contains all q = subst (λ (xs : List StateIndex). Contains xs q) h.whole (Contains-append_right h.done before q (subst (λ (xs : List StateIndex). Contains xs q) (sym first) (Contains-here q left))) in
       let sources = sources_over ground.state_graph.now x (record { 0 = place.state }) in
-      source_edge ground.state_graph.now (edges ground.states.now) x (record { 0 = place.state }) q on.graph (reverse_contains sources q (subst (λ (xs : List StateIndex). Contains xs q) is there))
+      source_edge ground.state_graph.now (edges ground.states.now) x (record { 0 = place.state }) q on.graph (Contains-from_reverse sources q (subst (λ (xs : List StateIndex). Contains xs q) is there))
 
   -- ---- all sources
   module _ (on : IsGround ground) (moved : 0 < place.item.index) (at : slice_get place.item.production.symbols (place.item.index - 1) ≡ Some x) where
@@ -158,7 +150,7 @@ module _ {L : Type 0} (ground : Ground L) (place : Place) (x : Symbol) where
           let found = leads_edge ground.states.now l place.state x (subst (λ (z : Symbol). leads (S l) z ≡ Some place.state) is_x edge) in
           let source = edge_source ground.state_graph.now (edges ground.states.now) x (record { 0 = place.state }) (record { 0 = l }) on.graph found in
           let sources = sources_over ground.state_graph.now x (record { 0 = place.state }) in
-          let listed : Contains all (record { 0 = l }) = subst (λ (xs : List StateIndex). Contains xs (record { 0 = l })) (sym is) (contains_reverse sources (record { 0 = l }) source) in
+          let listed : Contains all (record { 0 = l }) = subst (λ (xs : List StateIndex). Contains xs (record { 0 = l })) (sym is) (Contains-reverse sources (record { 0 = l }) source) in
           subst (λ (xs : List StateIndex). Contains xs (record { 0 = l })) (sym h.whole ∙ ap (λ (xs : List StateIndex). h.done ++ xs) none ∙ append-nil h.done) listed
 
       stepped : (l r : ℕ) → Some_of (IsStep l r) h.done ↔ GivesSuccessor (rules_of ground.grammar.now) ground.start.now S place l r

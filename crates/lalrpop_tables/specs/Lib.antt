@@ -34,6 +34,7 @@ pub mod ListedConflicts
 pub mod Lr0
 pub mod Lr0Copies
 pub mod Lr1Answers
+pub mod MergeWalks
 pub mod Merges
 pub mod Merging
 pub mod Moved

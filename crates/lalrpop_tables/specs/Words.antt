@@ -49,6 +49,7 @@ pub use Rattle.lalrpop_tables.specs.ListedConflicts.{conflict_of, conflicts_of}
 pub use Rattle.lalrpop_tables.specs.Lr0.{AreLr0States, HasLr0States, HaveNoNilConflict, ListsNilConflicts, lr0_contents, on_any}
 pub use Rattle.lalrpop_tables.specs.Lr0Copies.{AreClosedTables, AreCopiedConflicts, AreCopiedTables, AreLr0Copies, FailsByCopies}
 pub use Rattle.lalrpop_tables.specs.Lr1Answers.{AreBuiltTablesOf, AreTablesBy, AreTablesOf, FailsOn, HasConflictsOf}
+pub use Rattle.lalrpop_tables.specs.MergeWalks.{ComesTo, HasJoinedBut, IsJoin, IsJoinMade, IsMergeWalk, join_to, joins_to, most_joins}
 pub use Rattle.lalrpop_tables.specs.Merges.{Advances, AreApart, AreCopies, AreReductionsOf, AreTargetsAmong, AreUnited, HasJoined, HasWalked, HaveNoNewMarks}
 pub use Rattle.lalrpop_tables.specs.Merges.{IsApart, IsContext, IsCopyOf, IsFresh, IsJoinedCopy, IsLonger, IsMerging, IsPatchable, IsPushed, IsResolvedCopy, IsTaken}
 pub use Rattle.lalrpop_tables.specs.Merges.{IsVisited, IsWalked, TookOwnColumns, index, replaced, unset, unvisited}

@@ -1,12 +1,43 @@
 //! The walk along the successors of a lane table.
-ghost use Rattle.std.specs.Prelude.{◌≡◌, ◌≤◌, ◌<◌, length, slice_get, Some, IfOk, IfErr, IsTrue, OnOk};
+ghost use Rattle.std.specs.Prelude.{◌≡◌, ◌≤◌, ◌<◌, ◌++◌, length, reverse, slice_get, Some, IfOk, IfErr, IsTrue, OnOk};
+ghost use Rattle.std.specs.BTreeSet.{IsOrdered};
 ghost use Rattle.lalrpop_tables.specs.LaneTables.{ColumnsOverlap};
+ghost use Rattle.lalrpop_tables.specs.MergeWalks.{ComesTo, joins_to, most_joins};
 ghost use Rattle.lalrpop_tables.specs.Merges.{Advances, AreUnited, HasWalked, HaveNoNewMarks, IsJoinedCopy, IsJoinedIfAny, IsMergeError, IsMerging, IsWalked, LeadsTo, index as index_of, unvisited};
+ghost use Rattle.lalrpop_tables.specs.StateGraph.{state_cmp};
 
 use super::{Merge, MergeError};
+use lalrpop_base::collections::Set;
 use lalrpop_base::lr1_core::state::StateIndex;
 use lalrpop_base::memory::OutOfMemory;
 use std::alloc::Global;
+
+/// A join that a walk has still to make: of a state to a successor of its original.
+#[derive(Drop)]
+pub struct Join {
+    pub state: StateIndex,
+    pub successor: StateIndex,
+}
+
+// Puts the joins of a state to successors on top of those that are pending, that to the first
+// successor last.
+fn push_joins(
+    state: StateIndex,
+    successors: &Set<StateIndex>,
+    pending: &mut Vec<Join>,
+) -> Result<(), OutOfMemory>
+    ensures pushed { OnOk result (pending.new.items ≡
+        pending.old.items ++ reverse (joins_to state successors.now.keys)) }
+    ensures ordered { IsOrdered state_cmp successors.now }
+{
+    for successor in successors.iter().rev() {
+        pending.push(Join {
+            state,
+            successor: *successor,
+        })?;
+    }
+    Ok(())
+}
 
 impl<'table, 'grammar> Merge<'table, 'grammar> {
     // The state of which one is a copy: itself, where it is none.
@@ -156,15 +187,17 @@ impl<'table, 'grammar> Merge<'table, 'grammar> {
         Ok(copy)
     }
 
-    /// Joins a state to its successors, one after the other, and walks on from each, unless this
-    /// was done before.
-    pub(super) fn walk(&mut self, alloc: Global, state: StateIndex) -> Result<(), MergeError>
+    // Comes to a state: marks it as visited, and puts its joins on top of those that are pending,
+    // unless this was done before.
+    fn come_to(&mut self, state: StateIndex, pending: &mut Vec<Join>) -> Result<(), OutOfMemory>
         requires ready { IsMerging self.old }
         requires walked { IsWalked self.old state }
         ensures advances { Advances self.old self.new }
-        ensures walked { OnOk result (HasWalked state self.old self.new) }
-        ensures fewer { OnOk result (unvisited self.new ≤ unvisited self.old) }
-        ensures error { IfErr result (IsMergeError self.new) }
+        ensures came { OnOk result
+            (ComesTo state self.old self.new pending.old.items pending.new.items) }
+        ensures fewer { unvisited self.new ≤ unvisited self.old }
+        ensures falls { OnOk result (most_joins self.new pending.new.items ≤
+            most_joins self.old pending.old.items) }
     {
         if self.visited[state.0] {
             return Ok(());
@@ -173,14 +206,28 @@ impl<'table, 'grammar> Merge<'table, 'grammar> {
         let table = self.table;
         let original = self.original_index(state);
         match table.successors(original) {
-            Some(successors) => {
-                for successor in successors.iter() {
-                    let joined = self.join_successor(alloc, state, *successor)?;
-                    self.walk(alloc, joined)?;
-                }
-                Ok(())
-            }
+            Some(successors) => push_joins(state, successors, pending),
             None => Ok(()),
         }
+    }
+
+    /// Joins a state to its successors, one after the other, and walks on from each, unless this
+    /// was done before. What is still to be joined is kept in a list, so that a long walk takes
+    /// memory and no stack.
+    pub(super) fn walk(&mut self, alloc: Global, state: StateIndex) -> Result<(), MergeError>
+        requires ready { IsMerging self.old }
+        requires walked { IsWalked self.old state }
+        ensures advances { Advances self.old self.new }
+        ensures walked { OnOk result (HasWalked state self.old self.new) }
+        ensures fewer { OnOk result (unvisited self.new ≤ unvisited self.old) }
+        ensures error { IfErr result (IsMergeError self.new) }
+    {
+        let mut pending = Vec::new(alloc);
+        self.come_to(state, &mut pending)?;
+        while let Some(join) = pending.pop() {
+            let copy = self.join_successor(alloc, join.state, join.successor)?;
+            self.come_to(copy, &mut pending)?;
+        }
+        Ok(())
     }
 }
