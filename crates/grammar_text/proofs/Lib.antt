@@ -3,3 +3,4 @@ pub mod Growth
 pub mod Numbered
 pub mod WellFormed
 pub mod TooLong
+pub mod Reading

@@ -131,9 +131,9 @@ one_of ls g name p stands c =
     }
 
 -- the grammar that lines stand for is well-formed
-pub well_formed : (ls : List PlacedLine) (g : Grammar) → IsOrdered name_cmp g.nonterminals → StandsFor ls g → IsWellFormed g
-well_formed ls g ordered stands k name entry e =
-    let found = btree_map_get_place name_order.total-law g.nonterminals k name entry ordered e in
+pub well_formed : (ls : List PlacedLine) (g : Grammar) → StandsFor ls g → IsWellFormed g
+well_formed ls g stands k name entry e =
+    let found = btree_map_get_place name_order.total-law g.nonterminals k name entry stands.ordered e in
     let same = entry_listed ls g name entry stands found in
     let kept = filter (has_name name) (productions_in ls) in
     let P : List Production → Type 0 = IsWellFormedEntry g.terminals (vec_len g.action_fn_defns) name in

@@ -1,9 +1,10 @@
 -- What the lines so far have given.
-use Rattle.std.specs.Prelude.{◌≡◌, ◌≤◌, ◌^◌, Bool, true, false, List, map, vec_len, option_map}
+use Rattle.std.specs.Prelude.{◌≡◌, ◌≤◌, ◌^◌, Bool, true, false, List, map, vec_len, option_map, MatchResult}
 use Rattle.std.specs.List.{list_any}
 use Rattle.std.specs.BTreeMap.{get, IsOrdered}
 use Rattle.std.specs.BTreeSet.{contains}
 use Rattle.std.specs.Ordering.{is_eq}
+use Rattle.std.specs.declared.result.Result.{Result}
 use Rattle.lalrpop_base.specs.Words.{name_cmp}
 use Rattle.lalrpop_base.specs.declared.repr.NonterminalString.{NonterminalString}
 use Rattle.lalrpop_base.specs.declared.repr.TerminalString.{TerminalString}
@@ -16,6 +17,7 @@ use Rattle.grammar_text.specs.declared.collected.Collected.{Collected}
 use Rattle.grammar_text.specs.declared.read_error.ReadError.{ReadError}
 use Rattle.grammar_text.specs.declared.read_error.ReadError.TheVariants.{Line as LineError, TooManyActions, Memory}
 use Rattle.grammar_text.specs.Grammar.{entry_view, entry_of, terminal_cmp, terminals_in, productions_in, user_action}
+use Rattle.grammar_text.specs.Faults.{IsTooLong}
 
 -- whether two terminals are one
 abbrev pub is_same : TerminalString → TerminalString → Bool
@@ -51,3 +53,7 @@ abbrev pub IsFull : Collected → PlacedLine → ReadError → Type 0
 IsFull c line (LineError n) = ⊥
 IsFull c line TooManyActions = (is_production line ≡ true) × (2 ^ 32 ≤ vec_len c.action_fn_defns)
 IsFull c line Memory = Unit {0}
+
+-- what the lines so far have given: what they stand for, or why it could not be collected
+abbrev pub IsSoFar : List PlacedLine → Result Collected ReadError → Type 0
+IsSoFar lines so_far = MatchResult so_far (λ c. IsCollected lines c × (vec_len c.action_fn_defns ≤ 2 ^ 32)) (IsTooLong lines)

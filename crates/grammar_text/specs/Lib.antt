@@ -1,5 +1,5 @@
 pub mod Symbols
 pub mod Lines
 pub mod Grammar
-pub mod Collected
 pub mod Faults
+pub mod Collected

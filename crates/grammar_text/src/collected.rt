@@ -9,7 +9,7 @@ ghost use Rattle.grammar_text.specs.declared.lines.PlacedLine.{PlacedLine};
 ghost use Rattle.lalrpop_base.specs.declared.repr.TerminalString.{TerminalString};
 ghost use Rattle.lalrpop_base.specs.declared.repr.NonterminalString.{NonterminalString};
 ghost use Rattle.grammar_text.specs.Grammar.{entry_view, with_production, with_mark, user_action, terminal_cmp, terminals_of};
-ghost use Rattle.grammar_text.specs.Collected.{IsCollected, IsFull, is_same, production_at, inline_at};
+ghost use Rattle.grammar_text.specs.Collected.{IsCollected, IsSoFar, IsFull, is_same, production_at, inline_at};
 ghost use Rattle.grammar_text.specs.declared.read_error.ReadError.TheVariants.{TooManyActions};
 
 use crate::lines::{Line, PlacedLine};
@@ -43,8 +43,8 @@ impl Collected {
         }
     }
 
-    /// Adds a line.
-    pub fn add(&mut self, alloc: Global, line: PlacedLine) -> Result<(), ReadError>
+    // Adds a line.
+    fn add(&mut self, alloc: Global, line: PlacedLine) -> Result<(), ReadError>
         ensures ok { OnOk result ((lines : List PlacedLine) →
             IsCollected lines self.old →
             IsCollected (lines ++ line ∷ []) self.new) }
@@ -107,6 +107,20 @@ impl Collected {
         self.nonterminals.insert(nonterminal, marked)?;
         Ok(())
     }
+}
+
+/// What the lines so far have given, with a line more.
+pub fn with_line(
+    alloc: Global,
+    so_far: Result<Collected, ReadError>,
+    line: PlacedLine,
+) -> Result<Collected, ReadError>
+    ensures { (lines : List PlacedLine) → IsSoFar lines so_far →
+        IsSoFar (lines ++ line ∷ []) result }
+{
+    let mut collected = so_far?;
+    collected.add(alloc, line)?;
+    Ok(collected)
 }
 
 // The action with a number, where there is one.

@@ -1,14 +1,16 @@
 //! Reading a grammar text.
-ghost use Rattle.std.specs.Prelude.{◌≡◌, None, position, IfOk, OnOk, IfErr, ◌<◌, ◌≤◌, ◌^◌, length};
+ghost use Rattle.std.specs.Prelude.{◌≡◌, None, List, position, IfOk, OnOk, IfErr, ◌≤◌, ◌^◌, length};
 ghost use Rattle.std.specs.List.Sorted.{IsStrictlySortedBy};
 ghost use Rattle.lalrpop_base.specs.Words.{IsWellFormed};
+ghost use Rattle.grammar_text.specs.declared.lines.PlacedLine.{PlacedLine};
 ghost use Rattle.grammar_text.specs.declared.read_error.ReadError.TheVariants.{Memory};
 ghost use Rattle.grammar_text.specs.Lines.{lines_of, is_fault};
 ghost use Rattle.grammar_text.specs.Grammar.{StandsFor, productions_in, terminal_cmp};
-ghost use Rattle.grammar_text.specs.Faults.{IsFaultOf, IsTooLong};
+ghost use Rattle.grammar_text.specs.Collected.{IsCollected};
+ghost use Rattle.grammar_text.specs.Faults.{IsFaultOf};
 
-use crate::collected::Collected;
-use crate::lines::{PlacedLine, first_fault, lines_in};
+use crate::collected::{Collected, with_line};
+use crate::lines::placed_line;
 use crate::read_error::ReadError;
 use lalrpop_base::memory::OutOfMemory;
 use lalrpop_base::repr::TerminalString;
@@ -25,24 +27,39 @@ pub fn read(alloc: Global, text: &str) -> Result<Grammar, ReadError>
     ensures few { OnOk result (length (productions_in (lines_of text.now)) ≤ 2 ^ 32) }
     ensures err { IfErr result (IsFaultOf (lines_of text.now)) }
 {
-    let lines = lines_in(alloc, text)?;
-    match first_fault(&lines) {
-        Some(at) => Err(ReadError::Line(at + 1)),
-        None => grammar_of(alloc, lines),
-    }
+    let collected = collected_of(alloc, text)?;
+    Ok(grammar_of(alloc, collected)?)
 }
 
-// The grammar that lines stand for.
-fn grammar_of(alloc: Global, lines: Vec<PlacedLine>) -> Result<Grammar, ReadError>
-    ensures ok { IfOk result (StandsFor lines.items) }
-    ensures well_formed { IfOk result IsWellFormed }
-    ensures err { IfErr result (IsTooLong lines.items) }
-    ensures few { OnOk result (length (productions_in lines.items) ≤ 2 ^ 32) }
+// What the lines of a text stand for. A line that is no grammar line is told before any other
+// refusal, so a refusal to add a line waits for the lines behind it.
+fn collected_of(alloc: Global, text: &str) -> Result<Collected, ReadError>
+    ensures ok { IfOk result (IsCollected (lines_of text.now)) }
+    ensures no_fault { OnOk result (position is_fault (lines_of text.now) ≡ None) }
+    ensures few { OnOk result (length (productions_in (lines_of text.now)) ≤ 2 ^ 32) }
+    ensures err { IfErr result (IsFaultOf (lines_of text.now)) }
 {
-    let mut collected = Collected::new(alloc);
-    for line in lines {
-        collected.add(alloc, line)?;
+    let mut so_far = Ok(Collected::new(alloc));
+    let mut number = 0;
+    let mut at = 0;
+    for line in text.split('\n') {
+        number += 1;
+        let placed = placed_line(alloc, line, at)?;
+        if placed.is_no_grammar_line() {
+            return Err(ReadError::Line(number));
+        }
+        so_far = with_line(alloc, so_far, placed);
+        at += line.len() + 1;
     }
+    so_far
+}
+
+// The grammar of what was collected.
+fn grammar_of(alloc: Global, collected: Collected) -> Result<Grammar, OutOfMemory>
+    ensures { IfOk result (λ grammar. (lines : List PlacedLine) →
+        IsCollected lines collected →
+        StandsFor lines grammar) }
+{
     let terminals = set_of(alloc, collected.terminals)?;
     let algorithm = Algorithm { lalr: false };
     Ok(Grammar {

@@ -1,7 +1,7 @@
 //! Lines of a grammar text.
-ghost use Rattle.std.specs.Prelude.{◌≡◌, ◌==◌, ◌<◌, ◌+◌, ◌^◌, ◌++◌, ◌∷◌, [], position, filter, not, IfOk, OnOk, map, length};
+ghost use Rattle.std.specs.Prelude.{◌≡◌, ◌==◌, ◌<◌, ◌+◌, ◌^◌, ◌++◌, ◌∷◌, [], filter, not, IfOk, OnOk, map, length};
 ghost use Rattle.std.specs.List.{slice_split};
-ghost use Rattle.grammar_text.specs.Lines.{is_empty, words_of, without_cr, marked_line, line_of_words, placed_of, lines_of, is_fault};
+ghost use Rattle.grammar_text.specs.Lines.{is_empty, words_of, without_cr, marked_line, line_of_words, placed_of, is_fault};
 
 use crate::symbols::{is_a_name, name_of, pieces, symbols_of};
 use lalrpop_base::memory::OutOfMemory;
@@ -103,8 +103,8 @@ fn before_cr(line: &str) -> &str
     }
 }
 
-// What a line says, with its place; it begins at an offset.
-fn placed_line(alloc: Global, line: &str, at: usize) -> Result<PlacedLine, OutOfMemory>
+/// What a line says, with its place; it begins at an offset.
+pub fn placed_line(alloc: Global, line: &str, at: usize) -> Result<PlacedLine, OutOfMemory>
     requires { at + length line.now < 2 ^ 64 }
     ensures { IfOk result (λ placed. placed ≡ placed_of at line.now) }
 {
@@ -115,22 +115,6 @@ fn placed_line(alloc: Global, line: &str, at: usize) -> Result<PlacedLine, OutOf
     Ok(PlacedLine { line, span })
 }
 
-/// The lines of a text.
-pub fn lines_in(alloc: Global, text: &str) -> Result<Vec<PlacedLine>, OutOfMemory>
-    ensures { IfOk result (λ lines. lines.items ≡ lines_of text.now) }
-{
-    let mut lines = Vec::new(alloc);
-    let mut rest = text;
-    let mut at = 0;
-    while let Some((line, more)) = rest.split_once('\n') {
-        lines.push(placed_line(alloc, line, at)?)?;
-        at += line.len() + 1;
-        rest = more;
-    }
-    lines.push(placed_line(alloc, rest, at)?)?;
-    Ok(lines)
-}
-
 impl PlacedLine {
     /// Whether it is no grammar line.
     pub fn is_no_grammar_line(&self) -> bool
@@ -138,11 +122,4 @@ impl PlacedLine {
     {
         matches!(self.line, Line::Fault)
     }
-}
-
-/// The first line that is no grammar line, counted from 0.
-pub fn first_fault(lines: &[PlacedLine]) -> Option<usize>
-    ensures { result ≡ position is_fault lines.now }
-{
-    lines.iter().position(|line| line.is_no_grammar_line())
 }

@@ -1,7 +1,8 @@
-use Rattle.std.proofs.Common.{sym, ap, ◌∙◌, refl}
-use Rattle.std.specs.Prelude.{position}
-use Rattle.grammar_text.specs.Lines.{is_fault}
+use Rattle.grammar_text.specs.Lines.{lines_of}
+use Rattle.grammar_text.proofs.WellFormed.{well_formed}
 use Rattle.grammar_text.proofs.grammar.read.Goals as goal
 
-pub returns-in-Some-clause-err : goal.returns-in-Some-clause-err
-returns-in-Some-clause-err c = (c.in-Some.at, ap (position is_fault) (sym c.in_ok-lines.ensures ∙ sym c.deref.ensures.value) ∙ sym c.in-Some.ensures, refl)
+pub returns-clause-well_formed : goal.returns-clause-well_formed
+returns-clause-well_formed c =
+    let lines = lines_of c.args.text.now in
+    well_formed lines c.in_ok-grammar_of.field-0 (c.in_ok-grammar_of.ensures lines c.in_ok-collected.ensures.ok)
