@@ -1,23 +1,27 @@
 //! `lalrpop_bench FILE..` asks the libraries' public calls what case files ask, and compares the
 //! answers with what the files owe. `lalrpop_bench time FILE START` tells how long each part of the
-//! way to the tables of a grammar takes, and `lalrpop_bench make KIND SIZE` prints a grammar.
+//! way to the tables of a grammar takes, `lalrpop_bench make KIND SIZE` prints a grammar, and
+//! `lalrpop_bench refuse FILE..` asks cases while memory ends in the calls.
 #![tactic(auto)]
 
 mod ask;
 mod case_file;
 mod compare;
 mod making;
+mod refuse;
 mod show;
 mod timing;
 
 use crate::compare::{Tally, compare_file};
 use crate::making::{MOST, print_grammar};
+use crate::refuse::refuse_in_files;
 use crate::timing::time_file;
 use anyhow::Context;
 use std::process::ExitCode;
 use std::{env, fs};
 
-const USAGE: &str = "usage: lalrpop_bench FILE.. | time FILE START | make KIND SIZE";
+const USAGE: &str =
+    "usage: lalrpop_bench FILE.. | refuse FILE.. | time FILE START | make KIND SIZE";
 
 fn main(rt: HostRuntime) -> ExitCode {
     match run(&rt) {
@@ -38,6 +42,9 @@ fn run(rt: &HostRuntime) -> anyhow::Result<u8> {
     let Some((first, others)) = words.split_first() else {
         return usage(rt);
     };
+    if first.as_str() == "refuse" {
+        return refuse_in_files(rt, others);
+    }
     if first.as_str() == "time" {
         return run_time(rt, others);
     }

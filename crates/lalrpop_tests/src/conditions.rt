@@ -2,7 +2,7 @@
 // gone.
 ghost use Rattle.lalrpop_base.specs.Words.{IsWellFormed};
 
-use crate::fixtures::{first_production, grammar, literal, literals};
+use crate::fixtures::{ONE, first_production, grammar, literal, literals, one_edge};
 use grammar_text::symbols::name_of;
 use lalrpop_base::lookahead::token::Token;
 use lalrpop_base::lookahead::token_set::TokenSet;
@@ -14,14 +14,11 @@ use lalrpop_base::memory::OutOfMemory;
 use lalrpop_base::repr::grammar::{Grammar, is_well_formed};
 use lalrpop_base::repr::terminals::TerminalSet;
 use lalrpop_base::repr::{Production, Symbol};
-use lalrpop_lr1::trace::{TraceGraph, TraceGraphNode};
 use lalrpop_tables::build::build_lr1_states;
 use lalrpop_tables::build::options::{Method, Options};
 use std::alloc::Global;
 use std::collections::BTreeMap;
 use std::test::Fail;
-
-const ONE: &str = "S = \"x\"";
 
 #[test]
 fn grammars_that_are_not_well_formed(rt: HostRuntime) -> Result<(), Fail> {
@@ -45,15 +42,6 @@ fn grammars_that_are_not_well_formed(rt: HostRuntime) -> Result<(), Fail> {
     }
     assert!(rt; !is_well_formed(&misplaced));
     Ok(())
-}
-
-// The graph of one edge, from S to the beginning of its first production.
-fn one_edge<'g>(alloc: Global, grammar: &'g Grammar) -> Result<TraceGraph<'g>, Fail> {
-    let item = Item::lr0(first_production(alloc, grammar, "S")?, 0);
-    let from = TraceGraphNode::from(name_of(alloc, "S")?);
-    let mut graph = TraceGraph::new(alloc);
-    graph.add_edge(from, TraceGraphNode::from(&item), item.symbol_sets())?;
-    Ok(graph)
 }
 
 #[test]

@@ -6,16 +6,21 @@ use grammar_text::grammar::read;
 use grammar_text::symbols::name_of;
 use lalrpop_base::lookahead::token::Token;
 use lalrpop_base::lookahead::token_set::TokenSet;
+use lalrpop_base::lr1_core::item::Item;
 use lalrpop_base::memory::OutOfMemory;
 use lalrpop_base::repr::grammar::Grammar;
 use lalrpop_base::repr::terminals::TerminalSet;
 use lalrpop_base::repr::{Production, TerminalString};
 use lalrpop_base::text::Text;
+use lalrpop_lr1::trace::{TraceGraph, TraceGraphNode};
 use std::alloc::Global;
 use std::test::Fail;
 
 /// Sums of names and of sums in parentheses.
 pub(crate) const SUMS: &str = "S = E\nE = E \"-\" T\nE = T\nT = \"N\"\nT = \"(\" E \")\"";
+
+/// One production of one terminal.
+pub(crate) const ONE: &str = "S = \"x\"";
 
 /// Two ends behind each of two beginnings, crossed.
 pub(crate) const CROSSED: &str =
@@ -68,4 +73,13 @@ pub(crate) fn first_production<'g>(
         Some(production) => Ok(production),
         None => Err(Fail::from("no production")),
     }
+}
+
+/// The graph of one edge, from S to the beginning of its first production.
+pub(crate) fn one_edge<'g>(alloc: Global, grammar: &'g Grammar) -> Result<TraceGraph<'g>, Fail> {
+    let item = Item::lr0(first_production(alloc, grammar, "S")?, 0);
+    let from = TraceGraphNode::from(name_of(alloc, "S")?);
+    let mut graph = TraceGraph::new(alloc);
+    graph.add_edge(from, TraceGraphNode::from(&item), item.symbol_sets())?;
+    Ok(graph)
 }

@@ -19,6 +19,8 @@ mod tokens;
 #[cfg(test)]
 mod values;
 #[cfg(test)]
+mod want_of_memory;
+#[cfg(test)]
 mod without_lookahead;
 pub mod word_lookahead;
 #[cfg(test)]

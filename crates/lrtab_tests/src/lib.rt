@@ -4,5 +4,3 @@
 
 #[cfg(test)]
 mod program;
-#[cfg(test)]
-mod refusing;

@@ -1,8 +1,9 @@
 //! Runs of the program `lrtab` that no stored case can ask: readers that fail, outputs that close,
 //! growths that are refused.
+mod deep;
 mod explanations;
-mod refused_growth;
 mod reports;
+mod want_of_memory;
 
 use lalrpop_tables::build::Method;
 use lrtab_run::run::run;

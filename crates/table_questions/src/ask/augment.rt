@@ -8,7 +8,7 @@ use crate::show::states::push_counts;
 use crate::show::words::push_production;
 use lalrpop_base::memory::OutOfMemory;
 use lalrpop_base::repr::NonterminalString;
-use lalrpop_base::repr::augment::augment;
+use lalrpop_base::repr::augment::{augment, is_on_no_right_side};
 use lalrpop_base::repr::grammar::{Grammar, is_well_formed};
 use lalrpop_tables::build::{Method, Options};
 use lalrpop_tables::lr1::build_states;
@@ -22,8 +22,20 @@ pub fn answer(
 ) -> Result<Option<String>, QuestionError> {
     match question.call {
         "augment" => Ok(Some(augmented(alloc, question, grammar)?)),
+        "is_on_no_right_side" => Ok(Some(on_no_right_side(alloc, question, grammar)?)),
         _ => Ok(None),
     }
+}
+
+// Whether a nonterminal is on no right side.
+fn on_no_right_side(
+    alloc: Global,
+    question: &Question<'_>,
+    grammar: &Grammar,
+) -> Result<String, QuestionError> {
+    let name = start_of(alloc, question, 1)?;
+    let answer = is_on_no_right_side(grammar, &name);
+    Ok(format!(in alloc; "{answer}\n")?)
 }
 
 // A new start symbol, and what both methods make of the grammar for it.

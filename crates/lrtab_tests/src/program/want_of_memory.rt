@@ -2,12 +2,52 @@
 use super::explanations::{ONE_EXAMPLE, ONE_EXAMPLE_EXPLAINED, TWICE_EXPLAINED};
 use super::reports::{AMBIGUOUS, ONE_TERMINAL, ONE_TERMINAL_BY_LANES};
 use super::words_of;
-use crate::refusing::{Refusing, TURNS};
 use lalrpop_tables::build::Method;
 use lrtab_run::run::run;
+use refused_growth::attempts::{Attempt, Outcome, refused_in_turn};
 use std::alloc::Global;
 use std::process::Abort;
 use std::test::Fail;
+
+// The program on a text, which can be run again.
+#[derive(Drop)]
+struct Program<'text> {
+    words: Vec<String>,
+    method: Method,
+    text: &'text str,
+    wanted: &'text str,
+    status: u8,
+    out: Vec<u8>,
+    err: Vec<u8>,
+}
+
+// Whether bytes are those of a text.
+fn is_text(bytes: &[u8], text: &str) -> bool {
+    bytes == text.as_bytes()
+}
+
+impl Attempt for Program<'_> {
+    fn attempt(&mut self, alloc: Global) -> Option<bool> {
+        self.out.clear();
+        self.err.clear();
+        let file = Some(self.text.as_bytes());
+        let method = self.method;
+        let status = run(
+            alloc,
+            &self.words,
+            method,
+            file,
+            &mut self.out,
+            &mut self.err,
+        );
+        if status == 3 {
+            let told = self.out.is_empty() && is_text(&self.err, "out of memory\n");
+            return if told { None } else { Some(false) };
+        }
+        let owed = status == self.status && is_text(&self.out, self.wanted);
+        Some(owed && self.err.is_empty())
+    }
+}
 
 // Runs the program over and over on a text, where each run is refused a growth later than the one
 // before, up to the first that does not tell of it. That one answers `wanted` and the status; each
@@ -19,32 +59,25 @@ fn each_growth_refused(
     text: &str,
     line: &str,
     wanted: &str,
-    last_status: u8,
+    status: u8,
 ) -> Result<(), Fail> {
-    let words = words_of(alloc, line)?;
-    let mut out: Vec<u8> = Vec::with_capacity(alloc, 4000)?;
-    let mut err: Vec<u8> = Vec::with_capacity(alloc, 400)?;
-    let mut refusing = Refusing::new(alloc)?;
-    let mut refused = 0usize;
-    for turn in 0..TURNS {
-        out.clear();
-        err.clear();
-        let file = Some(text.as_bytes());
-        refusing.arm(alloc, turn);
-        let status = run(alloc, &words, method, file, &mut out, &mut err);
-        refusing.disarm(alloc);
-        if status != 3 {
-            assert_eq!(rt; status, last_status);
-            assert_eq!(rt; out.as_slice(), wanted.as_bytes());
-            assert_eq!(rt; err.len(), 0);
-            assert!(rt; refused > 0, "no growth was refused");
-            return Ok(());
+    let mut program = Program {
+        words: words_of(alloc, line)?,
+        method,
+        text,
+        wanted,
+        status,
+        out: Vec::with_capacity(alloc, 4000)?,
+        err: Vec::with_capacity(alloc, 400)?,
+    };
+    match refused_in_turn(alloc, &mut program)? {
+        Outcome::Refused(turns) => {
+            assert!(rt; turns > 0, "no growth was refused");
+            Ok(())
         }
-        assert_eq!(rt; out.len(), 0);
-        assert_eq!(rt; err.as_slice(), b"out of memory\n".as_slice());
-        refused = refused.saturating_add(1);
+        Outcome::Wrong(turn) => panic!(rt; "another answer in turn {turn}"),
+        Outcome::TooLarge => panic!(rt; "too little memory in each turn"),
     }
-    panic!(rt; "too little memory in each turn")
 }
 
 #[test]

@@ -1,0 +1,80 @@
+// What calls leave behind where a growth in them was refused.
+use crate::fixtures::literals;
+use lalrpop_base::collections::Set;
+use lalrpop_base::collections::multimap::Multimap;
+use lalrpop_base::lookahead::token::Token;
+use lalrpop_base::lookahead::token_set::TokenSet;
+use lalrpop_base::repr::terminals::TerminalSet;
+use refused_growth::attempts::{Attempt, Outcome, refused_in_turn};
+use std::alloc::Global;
+use std::process::Abort;
+use std::test::Fail;
+
+// A call meets a refused growth at least once, and each time it leaves what it should.
+fn each_growth_refused<A: Attempt>(
+    rt: &impl Abort,
+    alloc: Global,
+    call: &mut A,
+) -> Result<(), Fail> {
+    match refused_in_turn(alloc, call)? {
+        Outcome::Refused(turns) => assert!(rt; turns > 0, "no growth was refused"),
+        Outcome::Wrong(turn) => panic!(rt; "another answer in turn {turn}"),
+        Outcome::TooLarge => panic!(rt; "too little memory in each turn"),
+    }
+    Ok(())
+}
+
+// A map with the key 1 alone, into which a value of the key 2 is pushed.
+#[derive(Drop)]
+struct NewKey {
+    map: Multimap<u32, Set<u64>>,
+}
+
+impl Attempt for NewKey {
+    fn attempt(&mut self, _alloc: Global) -> Option<bool> {
+        let pushed = self.map.push(2, 7);
+        let is_old = self.map.get(&1).is_some();
+        let is_new = self.map.get(&2).is_some();
+        match pushed {
+            Ok(changed) => Some(changed && is_old && is_new),
+            Err(_) if is_old && !is_new => None,
+            Err(_) => Some(false),
+        }
+    }
+}
+
+#[test]
+fn a_new_key(rt: HostRuntime) -> Result<(), Fail> {
+    let alloc = rt.alloc();
+    let mut map = Multimap::new(alloc);
+    map.push(1, 5)?;
+    each_growth_refused(&rt, alloc, &mut NewKey { map })
+}
+
+// An empty set, to which one of a token is joined.
+#[derive(Drop)]
+struct Joined {
+    set: TokenSet,
+    other: TokenSet,
+}
+
+impl Attempt for Joined {
+    fn attempt(&mut self, _alloc: Global) -> Option<bool> {
+        let joined = self.set.union_with(&self.other);
+        match (joined, self.set.len()) {
+            (Ok(changed), count) => Some(changed && count == 1),
+            (Err(_), 0) => None,
+            (Err(_), _) => Some(false),
+        }
+    }
+}
+
+#[test]
+fn a_joined_set(rt: HostRuntime) -> Result<(), Fail> {
+    let alloc = rt.alloc();
+    let terminals = TerminalSet::new(alloc, literals(alloc, &["x", "y"])?)?;
+    let set = TokenSet::new(alloc, &terminals);
+    let mut other = TokenSet::new(alloc, &terminals);
+    other.insert(Token::Eof, &terminals)?;
+    each_growth_refused(&rt, alloc, &mut Joined { set, other })
+}

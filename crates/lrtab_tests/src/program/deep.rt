@@ -1,0 +1,39 @@
+//! Runs with trees as deep as their million tokens are many.
+use super::words_of;
+use lalrpop_tables::build::Method;
+use lrtab_run::run::run;
+use std::alloc::{AllocError, Global};
+use std::test::Fail;
+
+// What the program tells on a million tokens by the tables of a grammar.
+fn told_on_a_million(alloc: Global, text: &str, start: &str) -> Result<(Vec<u8>, u8), AllocError> {
+    let mut words = words_of(alloc, start)?;
+    for _ in 0..1_000_000 {
+        words.push(String::from_str(alloc, "a")?)?;
+    }
+    let mut out = Vec::new(alloc);
+    let mut err = Vec::new(alloc);
+    let file = Some(text.as_bytes());
+    let status = run(alloc, &words, Method::Lane, file, &mut out, &mut err);
+    Ok((out, status))
+}
+
+// Each token opens a node, with nine bytes, and each node is closed; the innermost has five bytes.
+#[test]
+fn a_tree_of_a_million_nodes(rt: HostRuntime) -> Result<(), Fail> {
+    let text = "S = \"a\" S\nS =\n";
+    let (out, status) = told_on_a_million(rt.alloc(), text, "f S parse 99999999")?;
+    assert_eq!(rt; status, 0);
+    assert_eq!(rt; out.len(), 10_000_006);
+    Ok(())
+}
+
+// The tree of the tokens that were read is dropped.
+#[test]
+fn a_refusal_behind_a_million_tokens(rt: HostRuntime) -> Result<(), Fail> {
+    let text = "T = S \"z\"\nS = S \"a\"\nS =\n";
+    let (out, status) = told_on_a_million(rt.alloc(), text, "f T parse 99999999")?;
+    assert_eq!(rt; status, 1);
+    assert_eq!(rt; out.as_slice(), b"refused at Eof\n".as_slice());
+    Ok(())
+}
