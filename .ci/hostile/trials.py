@@ -1,0 +1,107 @@
+"""Runs of the program under limits, and what was wrong with them."""
+import collections
+import os
+import resource
+import subprocess
+import tempfile
+
+import deep
+import grammars
+import verdicts
+import words
+from chance import Chance
+
+VARIABLE = "LALRPOP_LANE_TABLE"
+METHODS = ("Lane", "Canonical")
+# Words of the variable that ask for no method, so that it is the lane way.
+OTHER_WORDS = (None, None, None, b"", b"enabled", b"Disabled", b"disabled ", b"canonical", b"\xff")
+SECONDS, DEEP_SECONDS = 20, 60
+MEMORY, LARGEST_OUTPUT = 1 << 30, 1 << 25
+
+# The words are bytes; `lane` is the word of the variable for the lane way.
+Case = collections.namedtuple("Case", "text words lane")
+Limits = collections.namedtuple("Limits", "seconds stack memory")
+
+
+def case_of(number):
+    chance = Chance(number)
+    text, rules = grammars.random_text(chance)
+    return Case(text, words.random_words(chance, rules, text), chance.one_of(OTHER_WORDS))
+
+
+def environment_of(method, lane=None):
+    """The path alone (a script in the program's place may need it), and the variable."""
+    word = b"disabled" if method == "Canonical" else lane
+    return {"PATH": os.environ.get("PATH", os.defpath), **({} if word is None else {VARIABLE: word})}
+
+
+def set_limits(limits):
+    for which, most in (
+        (resource.RLIMIT_STACK, limits.stack),
+        (resource.RLIMIT_AS, limits.memory),
+        (resource.RLIMIT_FSIZE, LARGEST_OUTPUT),
+        (resource.RLIMIT_CORE, 0),
+    ):
+        resource.setrlimit(which, (most, most))
+
+
+def answer_of(program, given, room, environment, limits):
+    """What the program answers in a folder, to words and within limits."""
+    with tempfile.TemporaryFile() as output, tempfile.TemporaryFile() as errors:
+        how = {"cwd": room, "env": environment, "stdin": subprocess.DEVNULL, "stdout": output, "stderr": errors}
+        try:
+            ran = subprocess.run(
+                [program, *given], timeout=limits.seconds, preexec_fn=lambda: set_limits(limits), **how
+            )
+            status = ran.returncode
+        except subprocess.TimeoutExpired:
+            status = None
+        for it in (output, errors):
+            it.seek(0)
+        return verdicts.Answer(status, output.read(), errors.read())
+
+
+def answers_of(program, text, given, environments, limits):
+    """What the program answers in each environment, in a new folder that has the text as `g`."""
+    with tempfile.TemporaryDirectory(prefix="hostile-") as room:
+        with open(f"{room}/g", "wb") as it:
+            it.write(text)
+        return [answer_of(program, given, room, it, limits) for it in environments]
+
+
+def cut(text):
+    return repr(text if len(text) <= 300 else text[:300] + f".. ({len(text)})".encode())
+
+
+def told(answer):
+    return f"status {answer.status}, standard output {cut(answer.stdout)}, standard error {cut(answer.stderr)}"
+
+
+def try_random(program, seconds, number):
+    """The faults of a random run, by both methods."""
+    case = case_of(number)
+    environments = [environment_of(method, case.lane) for method in METHODS]
+    limits = Limits(seconds or SECONDS, deep.SMALL_STACK, MEMORY)
+    answers = answers_of(program, case.text, case.words, environments, limits)
+    faults = []
+    for method, answer in zip(METHODS, answers):
+        why = verdicts.fault_of(case.text, case.words, answer)
+        if why:
+            faults.append(f"random run {number} by {method}: {why}; got {told(answer)}")
+    why = None if faults else verdicts.difference_of(case.text, case.words, *answers)
+    return faults if not why else [f"random run {number}: {why}: {' and '.join(map(told, answers))}"]
+
+
+def try_deep(program, seconds, name):
+    """How many runs a deep input has, and their faults."""
+    case = deep.DEEP[name]()
+    environments = [environment_of(method) for method in case.methods]
+    limits = Limits(seconds or DEEP_SECONDS, case.stack, case.memory)
+    answers = answers_of(program, case.text, case.words, environments, limits)
+    whys = [deep.deep_fault_of(case, it) for it in answers]
+    faults = [
+        f"deep run {name} by {method}: {why}; got {told(answer)}"
+        for method, why, answer in zip(case.methods, whys, answers)
+        if why
+    ]
+    return len(answers), faults
