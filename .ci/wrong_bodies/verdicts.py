@@ -34,7 +34,9 @@ def verdict_of_start(crate, function, said):
     wrote = re.findall(rf"(?m)^wrote \./proofs/{re.escape(function.replace('::', '/'))}/(\w+)\.antt$", said)
     if wrote:
         return REFUSED if wrote == ["Answers"] else UNSAID
-    return PROVED if f"note: `{crate}::{function}` needs no file: " in said else UNSAID
+    # (no other: where an invariant stands there already)
+    none = re.search(rf"(?m)^note: `{re.escape(crate)}::{re.escape(function)}` needs no (other )?file: ", said)
+    return PROVED if none else UNSAID
 
 
 def has_ended(said):
