@@ -1,6 +1,6 @@
 -- Lane tables that are answered for LR(1) states.
 use Rattle.std.proofs.Common.{◌≡◌, true, List, Option, None, Some, sym, subst}
-use Rattle.std.specs.Prelude.{IfOk, IfSome, IsSomeAnd, is_some}
+use Rattle.std.specs.Prelude.{IfOk, IfSome, IsSomeAnd, MatchOption, is_some}
 use Rattle.std.specs.declared.result.Result.{Result}
 use Rattle.std.specs.declared.result.Result.TheVariants.{Ok, Err}
 use Rattle.lalrpop_base.specs.Words.{Bits, rules_of}
@@ -25,3 +25,18 @@ module _ {T E : Type 0} (items : T → List (State Bits)) (checked : List (State
   Passing-said (Ok (Some kept)) passing same = subst Said (sym same) said
   Passing-said (Ok None) passing same = cc
   Passing-said (Err e) passing same = tt
+
+-- ---- what is said of an answer that is there, or is not
+module _ {X : Type 0} where
+  pub there_told : (o : Option X) (x : X) (A : Type 0) (B : X → Type 0) → o ≡ Some x → MatchOption o A B → B x
+  there_told None x A B e h = cc
+  there_told (Some y) x A B e h = subst (λ (o : Option X). MatchOption o A B) e h
+
+  pub if_told : (o : Option X) (x : X) (B : X → Type 0) → o ≡ Some x → IfSome o B → B x
+  if_told o x B e h = subst (λ (p : Option X). IfSome p B) e h
+
+  pub and_told : (o : Option X) (x : X) (B : X → Type 0) → o ≡ Some x → IsSomeAnd o B → B x
+  and_told o x B e h = subst (λ (p : Option X). IsSomeAnd p B) e h
+
+  pub nothing_told : (o : Option X) (B : X → Type 0) → o ≡ None → IsSomeAnd o B → ⊥
+  nothing_told o B e h = absurd (subst (λ (p : Option X). IsSomeAnd p B) e h)

@@ -36,9 +36,9 @@ pub use Rattle.lalrpop_tables.specs.LaneStates.{HasActionBit, HasLaneBits, HasSa
 pub use Rattle.lalrpop_tables.specs.LaneStates.{HoldAllFrom, HoldsAll, IsAttempted, IsBitAt, IsFull, IsLaneAction, IsPromoted, IsResolved, IsResolvedAt, IsStep}
 pub use Rattle.lalrpop_tables.specs.LaneStates.{IsTokenOf, LanesMeet, action_order, asked_actions, by, conflict_actions, dot_of, promoted_item}
 pub use Rattle.lalrpop_tables.specs.LaneStates.{promoted_reduction, reduce_action}
-pub use Rattle.lalrpop_tables.specs.LaneSteps.{Gains, GainsAll, GainsOf, GainsSome, GainsSomeOf, GainsSomeOfAll, GivesBit, GivesCell, GivesSuccessor, IsEnd}
-pub use Rattle.lalrpop_tables.specs.LaneSteps.{IsEndBit, IsEndPlace, IsFollowBit, IsGround, IsHere, IsPair, IsParent, IsPassedOn, IsPlaceIf, Nothing, Nowhere}
-pub use Rattle.lalrpop_tables.specs.LaneSteps.{Reaches, Some_of, Visits, VisitsOf, rest_of}
+pub use Rattle.lalrpop_tables.specs.LaneSteps.{AddsNothing, AreExpanded, Gains, GainsAll, GainsOf, GainsSome, GainsSomeOf, GainsSomeOfAll, GivesBit, GivesCell}
+pub use Rattle.lalrpop_tables.specs.LaneSteps.{GivesSuccessor, IsEnd, IsEndBit, IsEndPlace, IsFollowBit, IsGround, IsHere, IsPair, IsParent, IsPassedOn, IsPlaceIf}
+pub use Rattle.lalrpop_tables.specs.LaneSteps.{Nothing, Nowhere, Reaches, Some_of, Visits, VisitsOf, rest_of}
 pub use Rattle.lalrpop_tables.specs.LaneTableStates.{AddsKeys, AreReached, HasCellsBelow, IsClosedEdge}
 pub use Rattle.lalrpop_tables.specs.LaneTables.{AddsSuccessor, AddsTokens, AreColumns, AreInRange, AreSameTables, ColumnsOverlap, HasCell, HasRow, InColumn}
 pub use Rattle.lalrpop_tables.specs.LaneTables.{IsBeachhead, IsClosed, IsEmptyTable, IsRow, IsSuccessor, KeepsAll, RowOverlaps, column}

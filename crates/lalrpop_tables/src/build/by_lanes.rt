@@ -7,7 +7,7 @@ ghost use Rattle.lalrpop_tables.specs.Lr0Copies.{AreCopiedTables};
 
 use crate::check::check_tables;
 use crate::lane_table::construct::LaneTableConstruct;
-use lalrpop_base::lr1_core::state::{BuildError, Lr1State};
+use lalrpop_base::lr1_core::state::Lr1State;
 use lalrpop_base::memory::OutOfMemory;
 use lalrpop_base::repr::NonterminalString;
 use lalrpop_base::repr::augment::is_on_no_right_side;
@@ -34,16 +34,13 @@ pub fn lane_tables<'grammar>(
 {
     let first = start.clone(alloc)?;
     let construct = LaneTableConstruct::new(alloc, grammar, first, max_copies)?;
-    match construct.construct_told(alloc) {
-        Ok((tables, at_once)) => {
-            if at_once && is_on_no_right_side(grammar, start) {
-                return Ok(Some(tables));
-            }
-            where_checked(alloc, grammar, start.clone(alloc)?, tables)
-        }
-        Err(BuildError::Conflicts(_)) => Ok(None),
-        Err(BuildError::Memory) => Err(OutOfMemory),
+    let Some((tables, at_once)) = construct.construct_told(alloc)? else {
+        return Ok(None);
+    };
+    if at_once && is_on_no_right_side(grammar, start) {
+        return Ok(Some(tables));
     }
+    where_checked(alloc, grammar, start.clone(alloc)?, tables)
 }
 
 // The tables, where they pass the check.
