@@ -7,6 +7,7 @@ use anyhow::bail;
 use grammar_text::grammar::read;
 use grammar_text::symbols::name_of;
 use lalrpop_base::lookahead::token::Token;
+use lalrpop_base::lr1_core::ActionEntry;
 use lalrpop_base::lr1_core::state::Lr1State;
 use lalrpop_base::memory::OutOfMemory;
 use lalrpop_base::repr::grammar::Grammar;
@@ -66,17 +67,11 @@ fn actions(
 
 // What a state does on a token, as a number.
 fn action(state: &Lr1State<'_>, token: &Token, terminals: &TerminalSet) -> anyhow::Result<i32> {
-    if let Token::Terminal(terminal) = token
-        && let Some(target) = state.shifts.get(terminal)
-    {
-        return Ok(i32::try_from(target.0)?);
+    match state.action(token, terminals) {
+        Some(ActionEntry::Shift(target)) => Ok(i32::try_from(target.0)?),
+        Some(ActionEntry::Reduce(production)) => Ok(!i32::try_from(production.action.index())?),
+        None => Ok(0),
     }
-    for (held, production) in &state.reductions {
-        if held.contains(token, terminals) {
-            return Ok(!i32::try_from(production.action.index())?);
-        }
-    }
-    Ok(0)
 }
 
 // The row of a state in GOTOS.
@@ -87,7 +82,7 @@ fn gotos(
 ) -> Result<Vec<usize>, OutOfMemory> {
     let mut row = Vec::new(alloc);
     for (name, _) in grammar.nonterminals.iter() {
-        match state.gotos.get(name) {
+        match state.goto(name) {
             Some(target) => row.push(target.0)?,
             None => row.push(0)?,
         }

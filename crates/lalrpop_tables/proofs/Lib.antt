@@ -109,6 +109,7 @@ pub mod MovedOrigins
 pub mod Moves
 pub mod NewCopies
 pub mod NonterminalEdges
+pub mod NumberedBuilding
 pub mod NumberedConflicts
 pub mod NumberedEdges
 pub mod NumberedItems
@@ -149,6 +150,7 @@ pub mod StoppedLr0
 pub mod StoppedStates
 pub mod Subsets
 pub mod Tables
+pub mod TablesOrCount
 pub mod TokenTables
 pub mod TransitionNodes
 pub mod Unepsilon

@@ -55,6 +55,7 @@ pub mod Sharing
 pub mod StateGraph
 pub mod StateSets
 pub mod States
+pub mod TablesOrCount
 pub mod Transitions
 pub mod Words
 pub use Rattle.lalrpop_base.specs.Words as BaseWords

@@ -1,5 +1,5 @@
 //! The conflicts of states.
-ghost use Rattle.std.specs.Prelude.{◌≡◌, ◌↔◌, ℕ, IfOk, IsTrue, MatchOption};
+ghost use Rattle.std.specs.Prelude.{◌≡◌, ◌<◌, ◌^◌, ◌↔◌, ℕ, IfOk, IsTrue, MatchOption, SomeIff, length};
 ghost use Rattle.std.specs.List.{flat_map};
 ghost use Rattle.lalrpop_base.specs.StateConflicts.{HasNoConflict};
 ghost use Rattle.lalrpop_base.specs.Words.{has, HasToken, state_conflicts};
@@ -10,6 +10,7 @@ ghost use Rattle.lalrpop_tables.specs.Results.{HaveNoConflict};
 use lalrpop_base::lookahead::Lookahead;
 use lalrpop_base::lookahead::token::Token;
 use lalrpop_base::lookahead::token_set::TokenSet;
+use lalrpop_base::lr1_core::conflict_count;
 use lalrpop_base::lr1_core::state::{Lr1Conflict, Lr1State, StateIndex};
 use lalrpop_base::memory::OutOfMemory;
 use lalrpop_base::repr::terminals::TerminalSet;
@@ -32,6 +33,23 @@ pub(crate) fn conflicts_of<'grammar>(
         conflicts.append(&mut own)?;
     }
     Ok(conflicts)
+}
+
+/// How many conflicts the states have; none where their number is above the greatest `usize`.
+pub(crate) fn conflict_count_of<'grammar>(
+    states: &[Lr1State<'grammar>],
+    terminals: &TerminalSet,
+) -> Option<usize>
+    ensures { SomeIff result
+        (length (flat_map (state_conflicts terminals.now) states.now) < 2 ^ 64)
+        (length (flat_map (state_conflicts terminals.now) states.now)) }
+{
+    let mut count: usize = 0;
+    for state in states {
+        let own = conflict_count(state, terminals)?;
+        count = count.checked_add(own)?;
+    }
+    Some(count)
 }
 
 // The tokens that the reductions hold, where no two of them share one.
