@@ -1,0 +1,5 @@
+pub mod Json
+pub mod Names
+pub mod Rules
+pub mod States
+pub mod Examples
