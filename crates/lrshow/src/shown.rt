@@ -80,7 +80,9 @@ fn json<'grammar>(
     grammar: &'grammar Grammar,
     start: &NonterminalString,
     built: &Built<'grammar>,
-) -> Result<String, OutOfMemory> {
+) -> Result<String, OutOfMemory>
+    requires well_formed { IsWellFormed grammar.now }
+{
     tables_json(alloc, grammar, start, &built.states, &built.conflicts)
 }
 

@@ -3,3 +3,4 @@ pub mod Names
 pub mod Rules
 pub mod States
 pub mod Examples
+pub mod Whole

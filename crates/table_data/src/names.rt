@@ -1,7 +1,8 @@
 //! Names, symbols and tokens.
 ghost use Rattle.std.specs.Prelude.{◌≡◌, ◌++◌, OnOk, string_bytes};
 ghost use Rattle.lalrpop_base.specs.Words.{seen};
-ghost use Rattle.table_data.specs.Names.{name_json, terminal_json, symbol_json, token_json, tokens_json};
+ghost use Rattle.table_data.specs.Json.{behind};
+ghost use Rattle.table_data.specs.Names.{name_json, of_kind, terminal_json, symbol_json, token_json, tokens_json};
 
 use super::json::{ToJson, push_quoted};
 use lalrpop_base::lookahead::token::TokenRef;

@@ -1,4 +1,8 @@
 //! The whole text.
+ghost use Rattle.std.specs.Prelude.{◌≡◌, ◌++◌, [], ℕ, List, IfOk, OnOk, string_bytes};
+ghost use Rattle.lalrpop_base.specs.Words.{IsWellFormed};
+ghost use Rattle.table_data.specs.Whole.{tables_json};
+
 use super::json::{ToJson, push_quoted};
 use super::lists::push_array;
 use super::rules::productions_in;
@@ -19,7 +23,11 @@ pub fn tables_json<'grammar>(
     start: &NonterminalString,
     states: &[Lr1State<'grammar>],
     conflicts: &[Lr1Conflict<'grammar>],
-) -> Result<String, OutOfMemory> {
+) -> Result<String, OutOfMemory>
+    requires well_formed { IsWellFormed grammar.now }
+    ensures { IfOk result (λ text. (shown : List ℕ) × (conflicts.now ≡ [] → shown ≡ [])
+        × (string_bytes text ≡ tables_json grammar.now start.now states.now shown)) }
+{
     let terminals = &grammar.terminals;
     let productions = productions_in(alloc, grammar)?;
     let mut text = String::new(alloc);
