@@ -85,7 +85,7 @@ data.conflicts.forEach((c, at) => {
 
 const line = (...parts) => part("div", "line", ...parts);
 function lookahead(tokens) {
-  const it = line(...(tokens.length ? ["on", ...spaced(tokens.map(token))] : ["on no token"]));
+  const it = line(tokens.length ? `on ${tokens.map(tokenText).join(" ")}` : "on no token");
   it.classList.add("tokens");
   return it;
 }
@@ -139,7 +139,7 @@ function draw(it) {
 }
 const eyes = new IntersectionObserver((seen) => {
   for (const s of seen) if (s.isIntersecting) draw(s.target);
-}, { rootMargin: "800px" });
+}, { rootMargin: "400px" });
 function place(where, id, name, title, todo) {
   const it = part("article", name, part("h3", "", title));
   it.id = id;
