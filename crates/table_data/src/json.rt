@@ -25,11 +25,7 @@ pub(crate) trait ToJson {
 }
 
 /// Appends a string of JSON, quoted and escaped.
-pub(crate) fn push_quoted(
-    alloc: Global,
-    text: &mut String,
-    shown: &str,
-) -> Result<(), OutOfMemory>
+pub(crate) fn push_quoted(alloc: Global, text: &mut String, shown: &str) -> Result<(), OutOfMemory>
     ensures { OnOk result (string_bytes text.new ≡ string_bytes text.old ++ quoted shown.now) }
 {
     let value = Value::try_from_str(alloc, shown)?;

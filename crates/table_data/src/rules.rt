@@ -36,9 +36,7 @@ fn push_production(
 {
     let number = production.action.index();
     write!(text, "{{\"number\":{number},\"nonterminal\":")?;
-    production
-        .nonterminal
-        .push_json(alloc, text, terminals)?;
+    production.nonterminal.push_json(alloc, text, terminals)?;
     text.push_str(",\"symbols\":")?;
     push_array(alloc, text, ",", production.symbols.as_slice(), terminals)?;
     text.push_str("}")?;

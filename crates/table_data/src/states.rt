@@ -24,7 +24,10 @@ impl<'grammar> ToJson for Lr1Item<'grammar> {
     ) -> Result<(), OutOfMemory> {
         let number = self.production.action.index();
         let dot = self.index;
-        write!(text, "{{\"production\":{number},\"dot\":{dot},\"lookahead\":")?;
+        write!(
+            text,
+            "{{\"production\":{number},\"dot\":{dot},\"lookahead\":"
+        )?;
         push_tokens(alloc, text, &self.lookahead, terminals)?;
         text.push_str("}")?;
         Ok(())

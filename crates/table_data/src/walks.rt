@@ -117,7 +117,10 @@ fn push_item(
 ) -> Result<(), OutOfMemory> {
     let number = item.production.action.index();
     let dot = item.index;
-    write!(text, "{separator}{{\"production\":{number},\"dot\":{dot},\"examples\":")?;
+    write!(
+        text,
+        "{separator}{{\"production\":{number},\"dot\":{dot},\"examples\":"
+    )?;
     push_array(alloc, text, ",", examples, terminals)?;
     text.push_str("}")?;
     Ok(())

@@ -39,7 +39,8 @@ pub fn graph_text<'grammar>(
 }
 
 // What a graph begins with.
-const OPENING: &str = "digraph states {\n  rankdir=LR;\n  node [shape=box fontname=monospace];\n  edge [fontname=monospace];\n";
+const OPENING: &str =
+    "digraph states {\n  rankdir=LR;\n  node [shape=box fontname=monospace];\n  edge [fontname=monospace];\n";
 
 // Whether a state is the one with a number, leads there, or is where that one leads.
 fn is_near(states: &[Lr1State<'_>], number: usize, state: &Lr1State<'_>) -> bool {

@@ -2,7 +2,8 @@
 
 /// Reads the data, and makes parts of a page out of texts alone, so that no name is ever read as
 /// HTML.
-pub(crate) const TREES: &str = r##"const data = JSON.parse(document.getElementById("data").textContent);
+pub(crate) const TREES: &str =
+    r##"const data = JSON.parse(document.getElementById("data").textContent);
 const production = new Map(data.productions.map((p) => [p.number, p]));
 const stateOf = new Map(data.states.map((s) => [s.number, s]));
 
