@@ -26,31 +26,32 @@ fn main(rt: HostRuntime) -> anyhow::Result<()> {
     };
     let start = name_of(alloc, "S")?;
     let mut states = build_states(alloc, &grammar, start.clone(alloc)?, &Options::default())?;
-    println!(rt; "built: {}", are_tables(alloc, &grammar, &start, &states)?)?;
+    let first = start.clone(alloc)?;
+    println!(rt; "built: {}", are_tables(alloc, &grammar, first, &states)?)?;
     for state in &mut states {
         for reduction in &mut state.reductions {
             reduction.0.take_eof(&grammar.terminals);
         }
     }
-    println!(rt;
-        "changed: {}",
-        are_tables(alloc, &grammar, &start, &states)?
-    )?;
+    println!(rt; "changed: {}", are_tables(alloc, &grammar, start, &states)?)?;
     Ok(())
 }
 
 // Whether some states are tables of the grammar. States that don't lead to one another, and no
 // state at all, are none, and the check may not be asked of them.
-fn are_tables(
+fn are_tables<'grammar>(
     alloc: Global,
-    grammar: &Grammar,
-    start: &NonterminalString,
-    states: &[Lr1State<'_>],
+    grammar: &'grammar Grammar,
+    start: NonterminalString,
+    states: &[Lr1State<'grammar>],
 ) -> Result<bool, OutOfMemory>
     requires { IsWellFormed grammar.now }
 {
-    if states.is_empty() || !are_coherent(states) {
+    if !are_coherent(states) {
         return Ok(false);
     }
-    check_tables(alloc, grammar, start.clone(alloc)?, states)
+    if states.is_empty() {
+        return Ok(false);
+    }
+    check_tables(alloc, grammar, start, states)
 }
