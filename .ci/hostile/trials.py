@@ -15,7 +15,7 @@ VARIABLE = "LALRPOP_LANE_TABLE"
 METHODS = ("Lane", "Canonical")
 # Words of the variable that ask for no method, so that it is the lane way.
 OTHER_WORDS = (None, None, None, b"", b"enabled", b"Disabled", b"disabled ", b"canonical", b"\xff")
-SECONDS, DEEP_SECONDS = 20, 60
+SECONDS = 20
 MEMORY, LARGEST_OUTPUT = 1 << 30, 1 << 25
 
 # The words are bytes; `lane` is the word of the variable for the lane way.
@@ -96,7 +96,7 @@ def try_deep(program, seconds, name):
     """How many runs a deep input has, and their faults."""
     case = deep.DEEP[name]()
     environments = [environment_of(method) for method in case.methods]
-    limits = Limits(seconds or DEEP_SECONDS, case.stack, case.memory)
+    limits = Limits(seconds or case.seconds, case.stack, case.memory)
     answers = answers_of(program, case.text, case.words, environments, limits)
     whys = [deep.deep_fault_of(case, it) for it in answers]
     faults = [
