@@ -17,7 +17,8 @@ MARKED, UNITS, CHAIN = 16_000, 10_000, 5_000
 BLANKS = 2_500_000
 LEAF = '"x"'
 
-# `owed` are answers of which one is right, or a function that raises `WrongForm` at a wrong answer.
+# `owed` are answers of which one is right, or a function that raises `WrongForm` at a wrong answer; `seconds` are of processor
+# time, since how long a run takes is also for what runs beside it to say.
 Deep = collections.namedtuple("Deep", "text words owed methods stack memory seconds")
 
 

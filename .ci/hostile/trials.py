@@ -1,5 +1,6 @@
 """Runs of the program under limits, and what was wrong with them."""
 import collections
+import math
 import os
 import resource
 import subprocess
@@ -20,7 +21,8 @@ MEMORY, LARGEST_OUTPUT = 1 << 30, 1 << 25
 
 # The words are bytes; `lane` is the word of the variable for the lane way.
 Case = collections.namedtuple("Case", "text words lane")
-Limits = collections.namedtuple("Limits", "seconds stack memory")
+# `work` are seconds of processor time.
+Limits = collections.namedtuple("Limits", "seconds work stack memory")
 
 
 def case_of(number):
@@ -43,6 +45,8 @@ def set_limits(limits):
         (resource.RLIMIT_CORE, 0),
     ):
         resource.setrlimit(which, (most, most))
+    # (at the second limit a process is killed without a word on why)
+    resource.setrlimit(resource.RLIMIT_CPU, (limits.work, limits.work + 1))
 
 
 def answer_of(program, given, room, environment, limits):
@@ -81,7 +85,7 @@ def try_random(program, seconds, number):
     """The faults of a random run, by both methods."""
     case = case_of(number)
     environments = [environment_of(method, case.lane) for method in METHODS]
-    limits = Limits(seconds or SECONDS, deep.SMALL_STACK, MEMORY)
+    limits = Limits(seconds or SECONDS, math.ceil(seconds or SECONDS), deep.SMALL_STACK, MEMORY)
     answers = answers_of(program, case.text, case.words, environments, limits)
     faults = []
     for method, answer in zip(METHODS, answers):
@@ -96,7 +100,7 @@ def try_deep(program, seconds, name):
     """How many runs a deep input has, and their faults."""
     case = deep.DEEP[name]()
     environments = [environment_of(method) for method in case.methods]
-    limits = Limits(seconds or case.seconds, case.stack, case.memory)
+    limits = Limits(seconds or deep.SECONDS, math.ceil(seconds or case.seconds), case.stack, case.memory)
     answers = answers_of(program, case.text, case.words, environments, limits)
     whys = [deep.deep_fault_of(case, it) for it in answers]
     faults = [
