@@ -18,7 +18,7 @@ BLANKS = 2_500_000
 LEAF = '"x"'
 
 # `owed` are answers of which one is right, or a function that raises `WrongForm` at a wrong answer; `seconds` are of processor
-# time, since how long a run takes is also for what runs beside it to say.
+# time, since how long a run takes depends on what runs beside it.
 Deep = collections.namedtuple("Deep", "text words owed methods stack memory seconds")
 
 
