@@ -1,7 +1,7 @@
 use Rattle.std.proofs.Common.{refl, inl, inr, rules}
 use Rattle.lrtab_run.proofs.OwnConflicts.{own_states, own_conflicts}
 use Rattle.lrtab_run.proofs.Plain.{plain_tables, plain_conflicts}
-use Rattle.lrtab_run.proofs.answer.explain.Goals as goal
+use Rattle.lrtab_run.proofs.shown.explain.Goals as goal
 
 pub returns-in-Ok : goal.returns-in-Ok
 returns-in-Ok c =

@@ -1,6 +1,6 @@
 use Rattle.lalrpop_lr1.proofs.ByTables.{made_states, are_coherent, are_some, are_faithful}
 use Rattle.lrtab_run.proofs.RunShown.{IsPromised, parse_shown}
-use Rattle.lrtab_run.proofs.answer.parse.Goals as goal
+use Rattle.lrtab_run.proofs.shown.parse.Goals as goal
 
 pub parse_by_tables-answer-requires-clause-coherent : goal.parse_by_tables-answer-requires-clause-coherent
 parse_by_tables-answer-requires-clause-coherent c = are_coherent ⊥ c.args.options.now.method c.args.options.now.max_copies c.args.grammar.now c.args.start c.in_ok-name.name c.in_ok-name.ensures c.in-Tables.states.items c.deref.result.now c.deref.ensures.value (rw c.in-Tables.is at c.in_ok-states.ensures.answer)

@@ -1,6 +1,6 @@
 use Rattle.std.proofs.Common.{string_bytes}
 use Rattle.lrtab_run.proofs.ReportShown.{report_shown}
-use Rattle.lrtab_run.proofs.answer.report.Goals as goal
+use Rattle.lrtab_run.proofs.shown.report.Goals as goal
 
 pub returns-in-Ok : goal.returns-in-Ok
 returns-in-Ok c =

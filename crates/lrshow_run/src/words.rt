@@ -1,4 +1,7 @@
 //! The words of the command line.
+ghost use Rattle.std.specs.Prelude.{◌≡◌, option_map, map, string_bytes};
+ghost use Rattle.lrshow_run.specs.Words.{form_of, lone_form, request_of, form_view, request_view};
+
 use grammar_text::symbols::is_a_name;
 use lrtab_run::words::limit_of;
 
@@ -19,7 +22,9 @@ pub struct Request<'a> {
 }
 
 /// What words ask for, where they have its form.
-pub fn request_of(words: &[String]) -> Option<Request<'_>> {
+pub fn request_of(words: &[String]) -> Option<Request<'_>>
+    ensures { option_map request_view result ≡ request_of (map string_bytes words.now) }
+{
     let [_file, start, verb, rest @ ..] = words else {
         return None;
     };
@@ -34,7 +39,9 @@ pub fn request_of(words: &[String]) -> Option<Request<'_>> {
 }
 
 // How the words behind the start symbol ask that tables be shown.
-fn form_of(verb: &str, rest: &[String]) -> Option<Form> {
+fn form_of(verb: &str, rest: &[String]) -> Option<Form>
+    ensures { option_map form_view result ≡ form_of verb.now (map string_bytes rest.now) }
+{
     let [option, others @ ..] = rest else {
         return lone_form(verb);
     };
@@ -49,7 +56,9 @@ fn form_of(verb: &str, rest: &[String]) -> Option<Form> {
 }
 
 // What a verb with no word behind it asks for.
-fn lone_form(verb: &str) -> Option<Form> {
+fn lone_form(verb: &str) -> Option<Form>
+    ensures { option_map form_view result ≡ lone_form verb.now }
+{
     if verb == "json" {
         return Some(Form::Json);
     }
