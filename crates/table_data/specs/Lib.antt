@@ -3,4 +3,5 @@ pub mod Names
 pub mod Rules
 pub mod States
 pub mod Examples
+pub mod Conflicts
 pub mod Whole

@@ -3,7 +3,7 @@ ghost use Rattle.std.specs.Prelude.{◌≡◌, ◌++◌, OnOk, codes, string_byt
 ghost use Rattle.std.specs.List.{flat_map};
 ghost use Rattle.table_data.specs.Json.{array, behind, listed, member, object};
 
-use super::json::ToJson;
+use super::to_json::ToJson;
 use lalrpop_base::lr1_core::state::StateIndex;
 use lalrpop_base::memory::OutOfMemory;
 use lalrpop_base::repr::terminals::TerminalSet;

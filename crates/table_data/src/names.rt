@@ -4,7 +4,7 @@ ghost use Rattle.lalrpop_base.specs.Words.{seen};
 ghost use Rattle.table_data.specs.Json.{behind};
 ghost use Rattle.table_data.specs.Names.{name_json, of_kind, terminal_json, symbol_json, token_json, tokens_json};
 
-use super::json::{ToJson, push_quoted};
+use super::to_json::{ToJson, push_quoted};
 use lalrpop_base::lookahead::token::TokenRef;
 use lalrpop_base::lookahead::token_set::TokenSet;
 use lalrpop_base::memory::OutOfMemory;

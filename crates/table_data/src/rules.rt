@@ -1,10 +1,11 @@
 //! Productions.
 ghost use Rattle.std.specs.Prelude.{◌≡◌, ◌++◌, IfOk, OnOk, map, string_bytes, codes};
 ghost use Rattle.lalrpop_base.specs.Words.{productions};
+ghost use Rattle.table_data.specs.Json.{array};
 ghost use Rattle.table_data.specs.Rules.{production_json};
 
-use super::json::ToJson;
 use super::lists::push_array;
+use super::to_json::ToJson;
 use lalrpop_base::memory::OutOfMemory;
 use lalrpop_base::repr::Production;
 use lalrpop_base::repr::grammar::Grammar;
@@ -43,8 +44,22 @@ fn push_production(
     Ok(())
 }
 
-/// All productions of a grammar, name by name.
-pub(crate) fn productions_in<'grammar>(
+/// Appends an array of all productions of a grammar, name by name, each in a line.
+pub(crate) fn push_productions(
+    alloc: Global,
+    text: &mut String,
+    grammar: &Grammar,
+) -> Result<(), OutOfMemory>
+    ensures { OnOk result (string_bytes text.new ≡ string_bytes text.old ++ array (codes ",\n")
+        production_json (productions grammar.now)) }
+{
+    let all = productions_in(alloc, grammar)?;
+    push_array(alloc, text, ",\n", &all, &grammar.terminals)?;
+    Ok(())
+}
+
+// All productions of a grammar, name by name.
+fn productions_in<'grammar>(
     alloc: Global,
     grammar: &'grammar Grammar,
 ) -> Result<Vec<&'grammar Production>, OutOfMemory>

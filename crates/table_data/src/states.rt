@@ -2,9 +2,9 @@
 ghost use Rattle.std.specs.Prelude.{◌≡◌, ◌++◌, OnOk, string_bytes};
 ghost use Rattle.table_data.specs.States.{item_json, reduction_json, state_json};
 
-use super::json::ToJson;
 use super::lists::{push_array, push_targets};
 use super::names::push_tokens;
+use super::to_json::{ToJson, push_number};
 use lalrpop_base::lookahead::token_set::TokenSet;
 use lalrpop_base::lr1_core::item::Lr1Item;
 use lalrpop_base::lr1_core::state::Lr1State;
@@ -22,12 +22,9 @@ impl<'grammar> ToJson for Lr1Item<'grammar> {
         text: &mut String,
         terminals: &TerminalSet,
     ) -> Result<(), OutOfMemory> {
-        let number = self.production.action.index();
-        let dot = self.index;
-        write!(
-            text,
-            "{{\"production\":{number},\"dot\":{dot},\"lookahead\":"
-        )?;
+        push_number(text, "{\"production\":", self.production.action.index())?;
+        push_number(text, ",\"dot\":", self.index)?;
+        text.push_str(",\"lookahead\":")?;
         push_tokens(alloc, text, &self.lookahead, terminals)?;
         text.push_str("}")?;
         Ok(())
@@ -43,8 +40,8 @@ impl<'grammar> ToJson for (TokenSet, &'grammar Production) {
         text: &mut String,
         terminals: &TerminalSet,
     ) -> Result<(), OutOfMemory> {
-        let number = self.1.action.index();
-        write!(text, "{{\"production\":{number},\"lookahead\":")?;
+        push_number(text, "{\"production\":", self.1.action.index())?;
+        text.push_str(",\"lookahead\":")?;
         push_tokens(alloc, text, &self.0, terminals)?;
         text.push_str("}")?;
         Ok(())
@@ -60,7 +57,8 @@ impl<'grammar> ToJson for Lr1State<'grammar> {
         text: &mut String,
         terminals: &TerminalSet,
     ) -> Result<(), OutOfMemory> {
-        write!(text, "{{\"number\":{},\"items\":", self.index)?;
+        push_number(text, "{\"number\":", self.index.0)?;
+        text.push_str(",\"items\":")?;
         push_array(alloc, text, ",", &self.items.vec, terminals)?;
         text.push_str(",\"shifts\":")?;
         push_targets(alloc, text, &self.shifts, terminals)?;

@@ -1,8 +1,9 @@
-//! The conflicts of a grammar, with examples of how each of their actions comes about.
-use super::json::ToJson;
-use super::lists::push_array;
-use super::names::push_tokens;
-use lalrpop_base::exact::equal;
+//! Examples of how the items of the actions of conflicts come about.
+ghost use Rattle.std.specs.Prelude.{◌≡◌, ◌++◌, Some, IfOk, OnOk, map, slice_get};
+ghost use Rattle.table_data.specs.Conflicts.{AreShown, IsShown, is_terminal, items_at, place_if, place_of_shown, places_of, reduced_places, shifted_places, shifts};
+
+use super::conflicts::ShownConflict;
+use super::examples::ShownItem;
 use lalrpop_base::first::FirstSets;
 use lalrpop_base::lr1_core::item::{Item, Lr1Item};
 use lalrpop_base::lr1_core::state::{Action, Lr1Conflict, Lr1State, StateIndex};
@@ -22,107 +23,122 @@ pub(crate) struct Ground<'ground, 'grammar> {
     pub(crate) first_sets: &'ground FirstSets<'grammar>,
     pub(crate) terminals: &'ground TerminalSet,
     pub(crate) tracer: &'ground Tracer<'ground, 'grammar>,
+    ghost numbered: { terminals.now ≡ first_sets.now.terminals },
 }
 
-/// Appends a conflict behind a separator: its state, its tokens, its reduction and its other
-/// action.
-pub(crate) fn push_conflict<'grammar>(
+/// Conflicts, each with examples of how its actions come about.
+pub(crate) fn shown_conflicts<'conflicts, 'grammar>(
     alloc: Global,
-    text: &mut String,
-    separator: &str,
     ground: &Ground<'_, 'grammar>,
-    conflict: &Lr1Conflict<'grammar>,
-) -> Result<(), OutOfMemory> {
-    let state = conflict.state;
-    write!(text, "{separator}{{\"state\":{state},\"lookahead\":")?;
-    push_tokens(alloc, text, &conflict.lookahead, ground.terminals)?;
-    text.push_str(",\"actions\":[")?;
-    push_reduce(alloc, text, ground, conflict, conflict.production)?;
-    text.push_str(",")?;
-    push_action(alloc, text, ground, conflict)?;
-    text.push_str("]}")?;
-    Ok(())
+    conflicts: &'conflicts [Lr1Conflict<'grammar>],
+) -> Result<Vec<ShownConflict<'conflicts, 'grammar>>, OutOfMemory>
+    ensures { IfOk result (λ shown. AreShown ground.now.states.now conflicts.now shown.items) }
+{
+    let mut shown = Vec::new(alloc);
+    for conflict in conflicts {
+        shown.push(shown_conflict(alloc, ground, conflict)?)?;
+    }
+    Ok(shown)
 }
 
-// Appends the other action of a conflict.
-fn push_action<'grammar>(
+// A conflict with examples of how its actions come about.
+fn shown_conflict<'conflicts, 'grammar>(
     alloc: Global,
-    text: &mut String,
+    ground: &Ground<'_, 'grammar>,
+    conflict: &'conflicts Lr1Conflict<'grammar>,
+) -> Result<ShownConflict<'conflicts, 'grammar>, OutOfMemory>
+    ensures conflict { IfOk result (λ shown. shown.conflict.now ≡ conflict.now) }
+    ensures items { IfOk result (IsShown ground.now.states.now) }
+{
+    let reduction = shown_reduction(alloc, ground, conflict, conflict.production)?;
+    let other = shown_action(alloc, ground, conflict)?;
+    Ok(ShownConflict {
+        conflict,
+        reduction,
+        other,
+    })
+}
+
+// The items of the other action of a conflict, with examples.
+fn shown_action<'grammar>(
+    alloc: Global,
     ground: &Ground<'_, 'grammar>,
     conflict: &Lr1Conflict<'grammar>,
-) -> Result<(), OutOfMemory> {
+) -> Result<Vec<ShownItem>, OutOfMemory>
+    ensures { IfOk result (λ shown. map place_of_shown shown.items ≡ places_of
+        ground.now.states.now conflict.now.state conflict.now.action) }
+{
     match &conflict.action {
-        Action::Shift(terminal, target) => {
-            push_shift(alloc, text, ground, conflict.state, terminal, *target)
-        }
-        Action::Reduce(other) => push_reduce(alloc, text, ground, conflict, *other),
+        Action::Shift(terminal, _) => shown_shifts(alloc, ground, conflict.state, terminal),
+        Action::Reduce(production) => shown_reduction(alloc, ground, conflict, *production),
     }
 }
 
-// Appends a reduction of a conflict: its production, and examples that go on with a token of the
+// The finished item of a reduction of a conflict, with examples that go on with a token of the
 // conflict.
-fn push_reduce<'grammar>(
+fn shown_reduction<'grammar>(
     alloc: Global,
-    text: &mut String,
     ground: &Ground<'_, 'grammar>,
     conflict: &Lr1Conflict<'grammar>,
     production: &'grammar Production,
-) -> Result<(), OutOfMemory> {
-    let number = production.action.index();
+) -> Result<Vec<ShownItem>, OutOfMemory>
+    ensures { IfOk result
+        (λ shown. map place_of_shown shown.items ≡ reduced_places production.now) }
+{
     let item = Item {
         production,
         index: production.symbols.len(),
         lookahead: conflict.lookahead.clone(alloc)?,
     };
     let examples = meeting_examples(alloc, ground, conflict.state, &item)?;
-    write!(text, "{{\"reduce\":{number},\"items\":[")?;
-    push_item(alloc, text, "", &item, &examples, ground.terminals)?;
-    text.push_str("]}")?;
-    Ok(())
+    let mut shown = Vec::new(alloc);
+    shown.push(ShownItem {
+        production: production.action.index(),
+        dot: production.symbols.len(),
+        examples,
+    })?;
+    Ok(shown)
 }
 
-// Appends a shift of a conflict: its terminal, its target, and examples of each item that shifts
-// the terminal.
-fn push_shift<'grammar>(
+// The items of a state that shift a terminal, with examples.
+fn shown_shifts<'grammar>(
     alloc: Global,
-    text: &mut String,
     ground: &Ground<'_, 'grammar>,
     state: StateIndex,
     terminal: &TerminalString,
-    target: StateIndex,
-) -> Result<(), OutOfMemory> {
-    text.push_str("{\"shift\":")?;
-    terminal.push_json(alloc, text, ground.terminals)?;
-    write!(text, ",\"state\":{target},\"items\":[")?;
-    let mut separator = "";
-    for item in items_in(ground.states, state) {
-        if shifts(item, terminal) {
-            let examples = shifting_examples(alloc, ground, state, item)?;
-            push_item(alloc, text, separator, item, &examples, ground.terminals)?;
-            separator = ",";
-        }
+) -> Result<Vec<ShownItem>, OutOfMemory>
+    ensures { IfOk result (λ shown. map place_of_shown shown.items ≡ shifted_places terminal.now
+        (items_at (slice_get ground.now.states.now state.0))) }
+{
+    let mut shown = Vec::new(alloc);
+    let items = items_in(ground.states, state);
+    for item in items {
+        add_shift(alloc, &mut shown, ground, state, terminal, item)?;
     }
-    text.push_str("]}")?;
-    Ok(())
+    Ok(shown)
 }
 
-// Appends an item with its examples behind a separator.
-fn push_item(
+// Adds an item with examples, if it shifts the terminal.
+fn add_shift<'grammar>(
     alloc: Global,
-    text: &mut String,
-    separator: &str,
-    item: &Lr1Item<'_>,
-    examples: &[Example],
-    terminals: &TerminalSet,
-) -> Result<(), OutOfMemory> {
-    let number = item.production.action.index();
-    let dot = item.index;
-    write!(
-        text,
-        "{separator}{{\"production\":{number},\"dot\":{dot},\"examples\":"
-    )?;
-    push_array(alloc, text, ",", examples, terminals)?;
-    text.push_str("}")?;
+    shown: &mut Vec<ShownItem>,
+    ground: &Ground<'_, 'grammar>,
+    state: StateIndex,
+    terminal: &TerminalString,
+    item: &Lr1Item<'grammar>,
+) -> Result<(), OutOfMemory>
+    ensures { OnOk result (map place_of_shown shown.new.items ≡ map place_of_shown
+        shown.old.items ++ place_if (shifts terminal.now item.now) item.now) }
+{
+    if !is_shifted(item, terminal) {
+        return Ok(());
+    }
+    let examples = shifting_examples(alloc, ground, state, item)?;
+    shown.push(ShownItem {
+        production: item.production.action.index(),
+        dot: item.index,
+        examples,
+    })?;
     Ok(())
 }
 
@@ -135,18 +151,16 @@ fn shifting_examples<'grammar>(
 ) -> Result<Vec<Example>, OutOfMemory> {
     let begun = Item::lr0(item.production, item.index);
     let graph = ground.tracer.backtrace_shift(alloc, state, begun)?;
-    let mut walk = graph.lr0_examples(alloc, Item::lr0(item.production, item.index))?;
+    let walk = graph.lr0_examples(alloc, Item::lr0(item.production, item.index))?;
     let mut examples = Vec::new(alloc);
-    while examples.len() < MOST {
-        match walk.next() {
-            Some(example) => examples.push(example?)?,
-            None => return Ok(examples),
-        }
+    for example in walk.take(MOST) {
+        examples.push(example?)?;
     }
     Ok(examples)
 }
 
-// The first examples of a finished item in a state that go on with a token of its lookahead.
+// The first examples of a finished item in a state that go on with a token of its lookahead: none
+// where the states have terminals that the grammar lacks.
 fn meeting_examples<'grammar>(
     alloc: Global,
     ground: &Ground<'_, 'grammar>,
@@ -155,13 +169,15 @@ fn meeting_examples<'grammar>(
 ) -> Result<Vec<Example>, OutOfMemory> {
     let finished = Item::lr0(item.production, item.index);
     let graph = ground.tracer.backtrace_reduce(alloc, state, finished)?;
-    let mut walk = graph.lr1_examples(alloc, ground.first_sets, item)?;
     let mut examples = Vec::new(alloc);
-    while examples.len() < MOST {
-        match walk.next() {
-            Some(example) => examples.push(example?)?,
-            None => return Ok(examples),
+    if !graph.is_known(ground.terminals) {
+        return Ok(examples);
+    }
+    for example in graph.lr1_examples(alloc, ground.first_sets, item)? {
+        if examples.len() == MOST {
+            return Ok(examples);
         }
+        examples.push(example?)?;
     }
     Ok(examples)
 }
@@ -170,7 +186,9 @@ fn meeting_examples<'grammar>(
 fn items_in<'a, 'grammar>(
     states: &'a [Lr1State<'grammar>],
     state: StateIndex,
-) -> &'a [Lr1Item<'grammar>] {
+) -> &'a [Lr1Item<'grammar>]
+    ensures { result.now ≡ items_at (slice_get states.now state.0) }
+{
     if state.0 < states.len() {
         return states[state.0].items.vec.as_slice();
     }
@@ -178,10 +196,21 @@ fn items_in<'a, 'grammar>(
 }
 
 // Whether the terminal stands behind the dot.
-fn shifts(item: &Lr1Item<'_>, terminal: &TerminalString) -> bool {
+fn is_shifted(item: &Lr1Item<'_>, terminal: &TerminalString) -> bool
+    ensures { result ≡ shifts terminal.now item.now }
+{
     match item.shift_symbol() {
-        Some((Symbol::Terminal(other), _)) => equal(other, terminal),
-        Some((Symbol::Nonterminal(_), _)) => false,
+        Some((symbol, _)) => is_same(symbol, terminal),
         None => false,
+    }
+}
+
+// Whether a symbol is the terminal.
+fn is_same(symbol: &Symbol, terminal: &TerminalString) -> bool
+    ensures { result ≡ is_terminal terminal.now (Some symbol.now) }
+{
+    match symbol {
+        Symbol::Terminal(other) => *other == *terminal,
+        Symbol::Nonterminal(_) => false,
     }
 }

@@ -1,12 +1,15 @@
 //! The whole text.
-ghost use Rattle.std.specs.Prelude.{◌≡◌, ◌++◌, [], ℕ, List, IfOk, OnOk, string_bytes};
+ghost use Rattle.std.specs.Prelude.{◌≡◌, List, IfOk, string_bytes};
 ghost use Rattle.lalrpop_base.specs.Words.{IsWellFormed};
+ghost use Rattle.table_data.specs.declared.conflicts.ShownConflict.{ShownConflict};
+ghost use Rattle.table_data.specs.Conflicts.{AreShown};
 ghost use Rattle.table_data.specs.Whole.{tables_json};
 
-use super::json::{ToJson, push_quoted};
+use super::conflicts::ShownConflict;
 use super::lists::push_array;
-use super::rules::productions_in;
-use super::walks::{Ground, push_conflict};
+use super::rules::push_productions;
+use super::to_json::ToJson;
+use super::walks::{Ground, shown_conflicts};
 use lalrpop_base::first::FirstSets;
 use lalrpop_base::lr1_core::state::{Lr1Conflict, Lr1State};
 use lalrpop_base::memory::OutOfMemory;
@@ -25,36 +28,39 @@ pub fn tables_json<'grammar>(
     conflicts: &[Lr1Conflict<'grammar>],
 ) -> Result<String, OutOfMemory>
     requires well_formed { IsWellFormed grammar.now }
-    ensures { IfOk result (λ text. (shown : List ℕ) × (conflicts.now ≡ [] → shown ≡ [])
-        × (string_bytes text ≡ tables_json grammar.now start.now states.now shown)) }
+    ensures { IfOk result (λ text. (shown : List ShownConflict) ×
+        AreShown states.now conflicts.now shown ×
+        (string_bytes text ≡ tables_json grammar.now start.now states.now shown)) }
 {
     let terminals = &grammar.terminals;
-    let productions = productions_in(alloc, grammar)?;
+    let shown = shown_in(alloc, grammar, states, conflicts)?;
     let mut text = String::new(alloc);
     text.push_str("{\"format\":\"lrshow\",\n\"version\":1,\n\"start\":")?;
-    push_quoted(alloc, &mut text, start.text.as_str())?;
+    start.push_json(alloc, &mut text, terminals)?;
     text.push_str(",\n\"terminals\":")?;
     push_array(alloc, &mut text, ",", terminals.all(), terminals)?;
     text.push_str(",\n\"productions\":")?;
-    push_array(alloc, &mut text, ",\n", &productions, terminals)?;
+    push_productions(alloc, &mut text, grammar)?;
     text.push_str(",\n\"states\":")?;
     push_array(alloc, &mut text, ",\n", states, terminals)?;
-    text.push_str(",\n\"conflicts\":[")?;
-    push_conflicts(alloc, &mut text, grammar, states, conflicts)?;
-    text.push_str("]}\n")?;
+    text.push_str(",\n\"conflicts\":")?;
+    push_array(alloc, &mut text, ",\n", &shown, terminals)?;
+    text.push_str("}\n")?;
     Ok(text)
 }
 
-// Appends conflicts with a separator between them.
-fn push_conflicts<'grammar>(
+// The conflicts with examples. Nothing is traced where there are none.
+fn shown_in<'conflicts, 'grammar>(
     alloc: Global,
-    text: &mut String,
     grammar: &'grammar Grammar,
     states: &[Lr1State<'grammar>],
-    conflicts: &[Lr1Conflict<'grammar>],
-) -> Result<(), OutOfMemory> {
+    conflicts: &'conflicts [Lr1Conflict<'grammar>],
+) -> Result<Vec<ShownConflict<'conflicts, 'grammar>>, OutOfMemory>
+    requires well_formed { IsWellFormed grammar.now }
+    ensures { IfOk result (λ shown. AreShown states.now conflicts.now shown.items) }
+{
     if conflicts.is_empty() {
-        return Ok(());
+        return Ok(Vec::new(alloc));
     }
     let first_sets = FirstSets::new(alloc, grammar)?;
     let tracer = Tracer::new(alloc, &first_sets, states)?;
@@ -64,10 +70,5 @@ fn push_conflicts<'grammar>(
         terminals: &grammar.terminals,
         tracer: &tracer,
     };
-    let mut separator = "";
-    for conflict in conflicts {
-        push_conflict(alloc, text, separator, &ground, conflict)?;
-        separator = ",\n";
-    }
-    Ok(())
+    shown_conflicts(alloc, &ground, conflicts)
 }

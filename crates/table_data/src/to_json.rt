@@ -1,5 +1,6 @@
 //! What is written as JSON.
 ghost use Rattle.std.specs.Prelude.{◌≡◌, ◌++◌, List, ℕ, OnOk, string_bytes};
+ghost use Rattle.std.specs.Fmt.{decimal};
 ghost use Rattle.json.specs.Print.{quoted};
 ghost use Rattle.lalrpop_base.specs.declared.repr.TerminalString.{TerminalString};
 
@@ -31,5 +32,14 @@ pub(crate) fn push_quoted(alloc: Global, text: &mut String, shown: &str) -> Resu
     let value = Value::try_from_str(alloc, shown)?;
     let quoted = value.to_string(alloc)?;
     text.push_str(quoted.as_str())?;
+    Ok(())
+}
+
+/// Appends a number behind a text.
+pub(crate) fn push_number(text: &mut String, label: &str, number: usize) -> Result<(), OutOfMemory>
+    ensures { OnOk result (string_bytes text.new ≡ string_bytes text.old ++ (label.now ++ decimal
+        number)) }
+{
+    write!(text, "{label}{number}")?;
     Ok(())
 }
