@@ -1,0 +1,2 @@
+pub mod InertTexts
+pub mod XmlTexts
