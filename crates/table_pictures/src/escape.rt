@@ -1,13 +1,16 @@
 //! Texts of a grammar inside other texts.
-ghost use Rattle.std.specs.Prelude.{◌≡◌, ◌++◌, OnOk, string_bytes};
-ghost use Rattle.table_pictures.specs.Escape.{inert, pictured, xml_char, xml_text};
+ghost use Rattle.std.specs.Prelude.{◌≡◌, ◌++◌, OnOk, count_by, string_bytes};
+ghost use Rattle.table_pictures.specs.Escape.{inert, is_markup, is_opening, pictured, xml_char, xml_text};
 
 use lalrpop_base::memory::OutOfMemory;
 
 /// Appends a text as XML. A control character is shown by its picture, and a character that XML
 /// doesn't have by the sign of replacement.
 pub(crate) fn push_xml(text: &mut String, shown: &str) -> Result<(), OutOfMemory>
-    ensures { OnOk result (string_bytes text.new ≡ string_bytes text.old ++ xml_text shown.now) }
+    ensures text { OnOk result
+        (string_bytes text.new ≡ string_bytes text.old ++ xml_text shown.now) }
+    ensures no_markup { OnOk result (count_by is_markup (string_bytes text.new) ≡ count_by is_markup
+        (string_bytes text.old)) }
 {
     for c in shown.chars() {
         push_xml_char(text, c)?;
@@ -47,7 +50,10 @@ fn visible(c: char) -> char
 /// Appends a JSON text so that no part of it ends or begins anything in HTML. In JSON `<` stands in
 /// strings alone, where its number means the same.
 pub(crate) fn push_inert(text: &mut String, json: &str) -> Result<(), OutOfMemory>
-    ensures { OnOk result (string_bytes text.new ≡ string_bytes text.old ++ inert json.now) }
+    ensures text { OnOk result
+        (string_bytes text.new ≡ string_bytes text.old ++ inert json.now) }
+    ensures no_opening { OnOk result (count_by is_opening (string_bytes text.new) ≡ count_by
+        is_opening (string_bytes text.old)) }
 {
     let mut rest = json;
     while let Some((before, behind)) = rest.split_once('<') {

@@ -1,4 +1,7 @@
 //! One page to look at tables, without anything from outside.
+ghost use Rattle.std.specs.Prelude.{◌≡◌, IfOk, string_bytes};
+ghost use Rattle.table_pictures.specs.Page.{page};
+
 use super::escape::push_inert;
 use super::script::{DRAWING, FINDING, TREES};
 use super::style::STYLE;
@@ -6,7 +9,9 @@ use lalrpop_base::memory::OutOfMemory;
 use std::alloc::Global;
 
 /// The page of the JSON of tables.
-pub fn page_text(alloc: Global, json: &str) -> Result<String, OutOfMemory> {
+pub fn page_text(alloc: Global, json: &str) -> Result<String, OutOfMemory>
+    ensures { IfOk result (λ text. string_bytes text ≡ page json.now) }
+{
     let mut text = String::new(alloc);
     text.push_str(HEAD)?;
     text.push_str(STYLE)?;
