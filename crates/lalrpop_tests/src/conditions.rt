@@ -24,6 +24,7 @@ use std::test::Fail;
 fn grammars_that_are_not_well_formed(rt: HostRuntime) -> Result<(), Fail> {
     let alloc = rt.alloc();
     let s = name_of(alloc, "S")?;
+    assert!(rt; is_well_formed(&grammar(alloc, ONE)?));
     let mut repeated = grammar(alloc, ONE)?;
     let production = first_production(alloc, &repeated, "S")?.clone(alloc)?;
     if let Some(entry) = repeated.nonterminals.get_mut(&s) {
@@ -105,6 +106,37 @@ fn states_that_are_not_coherent_or_not_collapsible(rt: HostRuntime) -> Result<()
         assert_eq!(rt; are_coherent(&states), coherent);
         assert_eq!(rt; are_collapsible(&states), collapsible);
     }
+    Ok(())
+}
+
+// Makes a state that leads nowhere, with the dot of its last item one place further.
+fn move_dot(alloc: Global, state: &mut Lr1State) -> Result<(), OutOfMemory> {
+    state.shifts.clear();
+    let Some(item) = state.items.vec.pop() else {
+        return Ok(());
+    };
+    if let Some((_symbol, shifted)) = item.shifted_item(alloc)? {
+        state.items.vec.push(shifted)?;
+    }
+    Ok(())
+}
+
+// A state stands at the place of its number, and the first begins no item past its beginning.
+#[test]
+fn states_that_are_misplaced(rt: HostRuntime) -> Result<(), Fail> {
+    let alloc = rt.alloc();
+    let grammar = grammar(alloc, "X = \"c\" \"d\"")?;
+    let mut states = states_with_twins(alloc, &grammar, 4, false)?;
+    assert!(rt; are_coherent(&states));
+    if let Some(state) = states.get_mut(3) {
+        state.index = StateIndex(4);
+    }
+    assert!(rt; !are_coherent(&states));
+    let mut moved = states_with_twins(alloc, &grammar, 4, false)?;
+    if let Some(state) = moved.get_mut(0) {
+        move_dot(alloc, state)?;
+    }
+    assert!(rt; !are_coherent(&moved));
     Ok(())
 }
 

@@ -1,4 +1,5 @@
 // What calls leave behind where a growth in them was refused.
+mod copies;
 mod lane_tables;
 mod runs;
 mod sets;

@@ -1,12 +1,21 @@
-// Lane tables and their columns.
+// Lane tables and their columns, and states that are merged by them.
+ghost use Rattle.lalrpop_tables.specs.Words.{IsMerging};
+
 use super::each_growth_refused;
-use crate::fixtures::{ONE, grammar, only};
+use crate::fixtures::{CROSSED, ONE, first_production, grammar, only};
+use crate::lanes::{crossed_states, merge_of, start};
+use lalrpop_base::collections::Set;
 use lalrpop_base::lookahead::token_set::TokenSet;
-use lalrpop_base::lr1_core::state::StateIndex;
+use lalrpop_base::lr1_core::coherent::are_coherent;
+use lalrpop_base::lr1_core::state::{Action, Lr1State, StateIndex};
+use lalrpop_base::memory::OutOfMemory;
+use lalrpop_base::repr::grammar::Grammar;
+use lalrpop_tables::lane_table::construct::merge::{Merge, MergeError};
 use lalrpop_tables::lane_table::context_set::{ConflictIndex, ContextSet, OverlappingLookahead};
 use lalrpop_tables::lane_table::table::LaneTable;
 use refused_growth::attempts::Attempt;
 use std::alloc::Global;
+use std::collections::BTreeSet;
 use std::test::Fail;
 
 // A table without rows, which gets a cell or a successor.
@@ -80,4 +89,102 @@ fn a_column(rt: HostRuntime) -> Result<(), Fail> {
     let grammar = grammar(alloc, ONE)?;
     let tokens = only(alloc, "x", &grammar.terminals)?;
     each_growth_refused(&rt, alloc, &mut Column { tokens })
+}
+
+// States with a table by which S5 is copied.
+#[derive(Drop)]
+struct Merged<'a, 'g> {
+    table: &'a LaneTable<'g>,
+    states: &'a [Lr1State<'g>],
+    actions: &'a Set<Action<'g>>,
+}
+
+// Copies of states.
+fn copies_of<'g>(alloc: Global, states: &[Lr1State<'g>]) -> Result<Vec<Lr1State<'g>>, OutOfMemory> {
+    let mut copies = Vec::new(alloc);
+    for state in states {
+        copies.push(state.clone(alloc)?)?;
+    }
+    Ok(copies)
+}
+
+// Walks from a state that has a row.
+fn walk(alloc: Global, merge: &mut Merge, state: usize) -> Result<(), MergeError>
+    requires { IsMerging merge.old }
+    ensures { IsMerging merge.new }
+{
+    match start(alloc, merge, state) {
+        Some(answer) => answer,
+        None => Err(MergeError::CopyLimit),
+    }
+}
+
+// Walks from S1 and from S2, and gives the reductions of S5 and of its copy their tokens.
+fn merge_all<'g>(
+    alloc: Global,
+    merge: &mut Merge<'_, 'g>,
+    actions: &Set<Action<'g>>,
+) -> Result<(), MergeError>
+    requires { IsMerging merge.old }
+{
+    walk(alloc, merge, 1)?;
+    walk(alloc, merge, 2)?;
+    if !merge.is_patchable(actions) {
+        return Err(MergeError::CopyLimit);
+    }
+    merge.patch_target_starts(alloc, actions)?;
+    Ok(())
+}
+
+impl Attempt for Merged<'_, '_> {
+    fn attempt(&mut self, alloc: Global) -> Option<bool> {
+        let Ok(states) = copies_of(alloc, self.states) else {
+            return None;
+        };
+        let Some(mut merge) = merge_of(alloc, self.table, states, 1) else {
+            return None;
+        };
+        let merged = merge_all(alloc, &mut merge, self.actions);
+        let states = merge.into_states();
+        match merged {
+            Ok(()) => Some(are_coherent(&states) && states.len() > self.states.len()),
+            Err(MergeError::Memory) if are_coherent(&states) => None,
+            Err(_) => Some(false),
+        }
+    }
+}
+
+// A table where S1 and S2 have tokens that are crossed, and lead to S5, which has none.
+fn crossed_table<'g>(alloc: Global, grammar: &'g Grammar) -> Result<LaneTable<'g>, OutOfMemory> {
+    let d = only(alloc, "d", &grammar.terminals)?;
+    let e = only(alloc, "e", &grammar.terminals)?;
+    let none = TokenSet::new(alloc, &grammar.terminals);
+    let mut table = LaneTable::new(alloc, grammar, 2);
+    table.add_lookahead(StateIndex(1), ConflictIndex::new(0), &d)?;
+    table.add_lookahead(StateIndex(1), ConflictIndex::new(1), &e)?;
+    table.add_lookahead(StateIndex(2), ConflictIndex::new(0), &e)?;
+    table.add_lookahead(StateIndex(2), ConflictIndex::new(1), &d)?;
+    table.add_lookahead(StateIndex(5), ConflictIndex::new(0), &none)?;
+    table.add_successor(StateIndex(1), StateIndex(5))?;
+    table.add_successor(StateIndex(2), StateIndex(5))?;
+    Ok(table)
+}
+
+// After want of memory copies, changed edges and some tokens stay, but the states are coherent.
+#[test]
+fn merged_states(rt: HostRuntime) -> Result<(), Fail> {
+    let alloc = rt.alloc();
+    let grammar = grammar(alloc, CROSSED)?;
+    let mut actions = BTreeSet::new(alloc);
+    for name in ["A", "B"] {
+        actions.insert(Action::Reduce(first_production(alloc, &grammar, name)?))?;
+    }
+    let table = crossed_table(alloc, &grammar)?;
+    let states = crossed_states(alloc, &grammar)?;
+    let mut merged = Merged {
+        table: &table,
+        states: &states,
+        actions: &actions,
+    };
+    each_growth_refused(&rt, alloc, &mut merged)
 }

@@ -1,8 +1,18 @@
-// Grammars in the making.
+// Grammars in the making, parses by tables, and reports.
 use super::each_growth_refused;
+use crate::fixtures::{ONE, SUMS, grammar, literal};
+use crate::writers::{Taking, WITHOUT_LOOKAHEAD};
 use grammar_text::builder::GrammarBuilder;
 use grammar_text::builder_error::BuilderError;
 use grammar_text::symbols::name_of;
+use lalrpop_base::lookahead::nil::Nil;
+use lalrpop_base::lr1_core::coherent::are_coherent;
+use lalrpop_base::lr1_core::state::{Lr1State, LrResult};
+use lalrpop_base::repr::terminals::TerminalSet;
+use lalrpop_lr1::interpret::{InterpretError, ParseTree, interpret};
+use lalrpop_lr1::report::{Counted, ReportError, ReportGenerator, Sink};
+use lalrpop_tables::build::options::Options;
+use lalrpop_tables::build::{build_lr0_states, build_lr1_states};
 use refused_growth::attempts::Attempt;
 use std::alloc::Global;
 use std::test::Fail;
@@ -34,5 +44,109 @@ fn a_given_production(rt: HostRuntime) -> Result<(), Fail> {
     let grammar = builder.finish()?;
     let productions = grammar.productions_for(&name_of(alloc, "A")?);
     assert_eq!(rt; (productions.len(), grammar.action_fn_defns.len()), (1, 1));
+    Ok(())
+}
+
+// A parse of the leaves of a tree.
+#[derive(Drop)]
+struct Run<'a, 'g> {
+    states: &'a [Lr1State<'g>],
+    terminals: &'a TerminalSet,
+    tree: ParseTree,
+}
+
+impl Attempt for Run<'_, '_> {
+    fn attempt(&mut self, alloc: Global) -> Option<bool> {
+        if self.states.is_empty() {
+            return Some(false);
+        }
+        if !are_coherent(self.states) {
+            return Some(false);
+        }
+        let Ok(tokens) = self.tree.terminals(alloc) else {
+            return None;
+        };
+        match interpret(alloc, self.states, self.terminals, tokens, 99) {
+            Ok(tree) => Some(tree == self.tree),
+            Err(InterpretError::Memory) => None,
+            Err(_) => Some(false),
+        }
+    }
+}
+
+// A node over one tree.
+fn over(alloc: Global, name: &str, tree: ParseTree) -> Result<ParseTree, Fail> {
+    let children = vec![in alloc; tree]?;
+    Ok(ParseTree::Nonterminal(name_of(alloc, name)?, children))
+}
+
+// The tree of "N" - "N".
+fn difference(alloc: Global) -> Result<ParseTree, Fail> {
+    let leaf = ParseTree::Terminal(literal(alloc, "N")?);
+    let left = over(alloc, "E", over(alloc, "T", leaf)?)?;
+    let sign = ParseTree::Terminal(literal(alloc, "-")?);
+    let leaf = ParseTree::Terminal(literal(alloc, "N")?);
+    let right = over(alloc, "T", leaf)?;
+    let children = vec![in alloc; left, sign, right]?;
+    let sum = ParseTree::Nonterminal(name_of(alloc, "E")?, children);
+    over(alloc, "S", sum)
+}
+
+#[test]
+fn a_parse(rt: HostRuntime) -> Result<(), Fail> {
+    let alloc = rt.alloc();
+    let grammar = grammar(alloc, SUMS)?;
+    let start = name_of(alloc, "S")?;
+    let states = build_lr1_states(alloc, &grammar, start, &Options::default())?;
+    let mut run = Run {
+        states: &states,
+        terminals: &grammar.terminals,
+        tree: difference(alloc)?,
+    };
+    each_growth_refused(&rt, alloc, &mut run)
+}
+
+// A report to a writer that has room. No byte goes out where the text is not made.
+#[derive(Drop)]
+struct Report<'a, 'g> {
+    out: Counted<Taking>,
+    terminals: &'a TerminalSet,
+    outcome: &'a LrResult<'g, Nil>,
+}
+
+impl Attempt for Report<'_, '_> {
+    fn attempt(&mut self, alloc: Global) -> Option<bool> {
+        if self.out.faults() > 0 {
+            return Some(false);
+        }
+        let mut generator = ReportGenerator::new(&mut self.out, self.terminals);
+        match generator.report_lr_table_construction(alloc, self.outcome) {
+            Ok(()) => Some(true),
+            Err(ReportError::Memory) => None,
+            Err(_) => Some(false),
+        }
+    }
+}
+
+#[test]
+fn a_report(rt: HostRuntime) -> Result<(), Fail> {
+    let alloc = rt.alloc();
+    let grammar = grammar(alloc, ONE)?;
+    let outcome = build_lr0_states(alloc, &grammar, name_of(alloc, "S")?);
+    let taking = Taking {
+        taken: Vec::with_capacity(alloc, 1000)?,
+        step: 1000,
+        left: 1000,
+        fault: None,
+    };
+    let mut report = Report {
+        out: Counted::new(taking),
+        terminals: &grammar.terminals,
+        outcome: &outcome,
+    };
+    each_growth_refused(&rt, alloc, &mut report)?;
+    let Report { out, .. } = report;
+    let taken = out.into_inner().taken;
+    assert_eq!(rt; taken.as_slice(), WITHOUT_LOOKAHEAD.as_bytes());
     Ok(())
 }
