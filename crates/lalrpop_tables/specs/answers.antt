@@ -1,4 +1,0 @@
--- What a construction of tables answers.
-pub mod Lr1Answers
-pub mod Results
-pub mod TablesOrCount
