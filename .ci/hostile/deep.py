@@ -10,19 +10,23 @@ from verdicts import Answer, fault_of
 
 MEGABYTE = 1 << 20
 SMALL_STACK, LARGE_STACK = MEGABYTE, 8 * MEGABYTE
+SECONDS = 60
 # The words may fill a fourth of the stack, ten bytes for each of one letter.
 FEW, MANY = 24_000, 180_000
 MARKED, UNITS, CHAIN = 16_000, 10_000, 5_000
 BLANKS = 2_500_000
 LEAF = '"x"'
 
-# `owed` are answers of which one is right, or a function that raises `WrongForm` at a wrong answer.
-Deep = collections.namedtuple("Deep", "text words owed methods stack memory")
+# `owed` are answers of which one is right, or a function that raises `WrongForm` at a wrong answer; `seconds` are of processor
+# time, since how long a run takes depends on what runs beside it.
+Deep = collections.namedtuple("Deep", "text words owed methods stack memory seconds")
 
 
-def trial(lines, words, owed, methods=("Lane", "Canonical"), stack=SMALL_STACK, memory=4096 * MEGABYTE):
+def trial(
+    lines, words, owed, methods=("Lane", "Canonical"), stack=SMALL_STACK, memory=4096 * MEGABYTE, seconds=SECONDS
+):
     text = "".join(f"{line}\n" for line in lines) if isinstance(lines, list) else lines
-    return Deep(text.encode(), ["g", *words], owed, methods, stack, memory)
+    return Deep(text.encode(), ["g", *words], owed, methods, stack, memory, seconds)
 
 
 def printed(line, status=0):
@@ -48,15 +52,15 @@ def nested(names, inner):
     return "".join(f"[{it}: " for it in names) + inner + "]" * len(names)
 
 
-def marked_chain():
+def marked_chain(stack=SMALL_STACK):
     lines = ["S = a0", *chain("a", MARKED, '"x"'), *marks("a", MARKED)]
-    return trial(lines, ["S", "parse", "2", "x"], printed('[S: "x"]'))
+    return trial(lines, ["S", "parse", "2", "x"], printed('[S: "x"]'), stack=stack)
 
 
-def marked_ring():
+def marked_ring(stack=SMALL_STACK):
     """The order in which names are inlined begins with the first by name, and comes back to it."""
     lines = ["S = a0", *chain("a", MARKED, "a0"), *marks("a", MARKED)]
-    return trial(lines, ["S", "parse", "2", "x"], told("cyclic inline of a0"))
+    return trial(lines, ["S", "parse", "2", "x"], told("cyclic inline of a0"), stack=stack)
 
 
 def marked_ring_behind():
@@ -180,19 +184,19 @@ def long_literal():
 
 
 def equal_lines():
-    """Each two productions are in conflict; there may be no memory to list them."""
-    owed = printed("conflicts: 49995000", 1) + told("out of memory", 3)
-    return trial(10_000 * ['S = "x"'], ["S", "parse", "2", "x"], owed, ("Lane",))
+    """Each two productions are in conflict; there is no memory to list them and no time, and they are counted."""
+    owed = printed("conflicts: 49995000", 1)
+    return trial(10_000 * ['S = "x"'], ["S", "parse", "2", "x"], owed, memory=256 * MEGABYTE, seconds=10)
 
 
 def empty_lines():
     text = "\n" * BLANKS + 'S = "x"' + "\n" * BLANKS
-    return trial(text, ["S", "parse", "2", "x"], printed('[S: "x"]'), ("Lane",), memory=256 * MEGABYTE)
+    return trial(text, ["S", "parse", "2", "x"], printed('[S: "x"]'), ("Lane",), memory=64 * MEGABYTE)
 
 
 def fault_behind_empty_lines():
     text = "\r\n" * BLANKS + "S x"
-    return trial(text, ["S", "report"], told(f"line {BLANKS + 1}: not a grammar line"), ("Lane",), memory=256 * MEGABYTE)
+    return trial(text, ["S", "report"], told(f"line {BLANKS + 1}: not a grammar line"), ("Lane",), memory=64 * MEGABYTE)
 
 
 def difference(wanted, got):
@@ -258,6 +262,8 @@ DEEP = {it.__name__: it for it in SHAPES}
 for shape in (right_recursion, left_recursion, refused_at_end):
     DEEP[shape.__name__] = functools.partial(shape, FEW, SMALL_STACK)
     DEEP[f"{shape.__name__}_of_many"] = functools.partial(shape, MANY, LARGE_STACK)
+for shape in (marked_chain, marked_ring):
+    DEEP[f"{shape.__name__}_by_a_large_stack"] = functools.partial(shape, LARGE_STACK)
 
 
 def deep_fault_of(case, answer):

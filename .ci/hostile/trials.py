@@ -1,5 +1,6 @@
 """Runs of the program under limits, and what was wrong with them."""
 import collections
+import math
 import os
 import resource
 import subprocess
@@ -15,12 +16,14 @@ VARIABLE = "LALRPOP_LANE_TABLE"
 METHODS = ("Lane", "Canonical")
 # Words of the variable that ask for no method, so that it is the lane way.
 OTHER_WORDS = (None, None, None, b"", b"enabled", b"Disabled", b"disabled ", b"canonical", b"\xff")
-SECONDS, DEEP_SECONDS = 20, 60
+# Of processor time; and how many times as long a run may take beside others.
+SECONDS, BESIDE = 20, 5
 MEMORY, LARGEST_OUTPUT = 1 << 30, 1 << 25
 
 # The words are bytes; `lane` is the word of the variable for the lane way.
 Case = collections.namedtuple("Case", "text words lane")
-Limits = collections.namedtuple("Limits", "seconds stack memory")
+# `work` are seconds of processor time.
+Limits = collections.namedtuple("Limits", "seconds work stack memory")
 
 
 def case_of(number):
@@ -35,6 +38,11 @@ def environment_of(method, lane=None):
     return {"PATH": os.environ.get("PATH", os.defpath), **({} if word is None else {VARIABLE: word})}
 
 
+def limits_of(given, seconds, stack, memory):
+    """The limits of a run that may work for some seconds, or may take those that are given."""
+    return Limits(given or BESIDE * seconds, math.ceil(given or seconds), stack, memory)
+
+
 def set_limits(limits):
     for which, most in (
         (resource.RLIMIT_STACK, limits.stack),
@@ -43,6 +51,8 @@ def set_limits(limits):
         (resource.RLIMIT_CORE, 0),
     ):
         resource.setrlimit(which, (most, most))
+    # (at the second limit a process is killed without a word on why)
+    resource.setrlimit(resource.RLIMIT_CPU, (limits.work, limits.work + 1))
 
 
 def answer_of(program, given, room, environment, limits):
@@ -81,7 +91,7 @@ def try_random(program, seconds, number):
     """The faults of a random run, by both methods."""
     case = case_of(number)
     environments = [environment_of(method, case.lane) for method in METHODS]
-    limits = Limits(seconds or SECONDS, deep.SMALL_STACK, MEMORY)
+    limits = limits_of(seconds, SECONDS, deep.SMALL_STACK, MEMORY)
     answers = answers_of(program, case.text, case.words, environments, limits)
     faults = []
     for method, answer in zip(METHODS, answers):
@@ -96,7 +106,7 @@ def try_deep(program, seconds, name):
     """How many runs a deep input has, and their faults."""
     case = deep.DEEP[name]()
     environments = [environment_of(method) for method in case.methods]
-    limits = Limits(seconds or DEEP_SECONDS, case.stack, case.memory)
+    limits = limits_of(seconds, case.seconds, case.stack, case.memory)
     answers = answers_of(program, case.text, case.words, environments, limits)
     whys = [deep.deep_fault_of(case, it) for it in answers]
     faults = [

@@ -26,19 +26,21 @@ def has_answers(crate, function):
 
 
 class Trial:
-    """The wrong bodies of one crate: those that are left, and what is wrong with the others."""
+    """The wrong bodies of one crate: those that are left, and what is wrong with the others. Those that `kept` has were refused by an earlier run."""
 
-    def __init__(self, name, held, crate):
-        self.name, self.crate = name, crate
+    def __init__(self, name, held, kept=None):
+        self.name, self.crate, self.kept = name, held, kept
         self.left, self.wrong = [], []
-        self.count = self.checks = 0
+        self.count = self.checks = self.known = 0
         self.seconds = self.used = 0.0
         for edit in edits_of(held):
             self.count += 1
-            if edit.fits(crate):
-                self.left.append(edit)
-            else:
+            if not edit.fits(held):
                 self.complain(edit, "an old text is not there once, or the edit is not whole")
+            elif kept and kept.has(edit):
+                self.known += 1
+            else:
+                self.left.append(edit)
 
     def complain(self, edit, why):
         self.wrong.append(f"{self.name}/{edit.name}: {why}")
@@ -51,6 +53,8 @@ class Trial:
         """Settles an edit that is refused or let through."""
         if found == PROVED:
             self.complain(edit, "NOT REFUSED")
+        if found == REFUSED and self.kept:
+            self.kept.keep(edit)
         if found in (PROVED, REFUSED):
             self.settle([edit])
 
@@ -82,9 +86,8 @@ class Trial:
         """Settles each edit of which the check says something, and returns whether there was one."""
         verdicts = {it: verdict(self.name, it.function, said) for it in taken}
         for it in taken:
-            if verdicts[it] == PROVED:
-                self.complain(it, "NOT REFUSED")
-            elif verdicts[it] == UNSAID:
+            self.judge(it, verdicts[it])
+            if verdicts[it] == UNSAID:
                 self.complain(it, f"the check says nothing of {it.function}: {told(self.name, it.function, said)}")
         settled = [it for it in taken if verdicts[it] != WAITS]
         self.settle(settled)
@@ -128,8 +131,9 @@ class Trial:
             for it in taken if has_ended(said) else []:
                 self.judge(it, verdict_of_start(self.name, it.function, said))
 
-    def try_unedited(self):
+    def try_unedited(self, crate):
         """Tries one copy of each function as it stands: each must be proved, so that a copy is refused for its edit alone."""
+        self.crate = crate
         first = {it.function: it for it in reversed(self.left)}
         copies, were, folders = put_beside(self.crate, self.name, [*first.values()], is_edited=False)
         try:
@@ -141,8 +145,9 @@ class Trial:
             if found[it.function] != PROVED:
                 self.complain(it.edit, f"a copy of {it.edit.function} as it stands is not proved")
 
-    def run(self):
-        began = time.time()
+    def run(self, crate):
+        """Tries all that are left, in the crate in this scratch folder."""
+        began, self.crate = time.time(), crate
         for tries in (self.try_copies, self.try_starts):
             tries()
             self.tell()
@@ -154,11 +159,10 @@ class Trial:
         print(f"{self.name}: {self.count - len(self.left)} of {self.count} wrong bodies tried, by {self.checks} checks", flush=True)
 
     def took(self):
-        return f"{self.name}: {self.count} wrong bodies, {self.checks} checks: {self.seconds / 60:.1f} minutes, {self.used / 60:.1f} of processor time"
+        known = f" ({self.known} refused by earlier runs on the same files)" if self.known else ""
+        return f"{self.name}: {self.count} wrong bodies{known}, {self.checks} checks: {self.seconds / 60:.1f} minutes, {self.used / 60:.1f} of processor time"
 
 
-def not_tried(name, held, why):
-    """A trial that was not made, since a library below the crate is not proved."""
-    trial = Trial(name, held, held)
-    trial.left, trial.wrong = [], [f"{name}: its wrong bodies were not tried: {why}"]
-    return trial
+    def was_not_made(self, why):
+        """Says that the trial was not made, since a library below the crate is not proved."""
+        self.left, self.wrong = [], [f"{self.name}: its wrong bodies were not tried: {why}"]

@@ -3,3 +3,4 @@ pub mod Lines
 pub mod Grammar
 pub mod Faults
 pub mod Collected
+pub mod Builder

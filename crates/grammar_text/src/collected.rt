@@ -43,6 +43,17 @@ impl Collected {
         }
     }
 
+    /// What lines stand for, or why it could not be collected.
+    pub fn of_lines(alloc: Global, lines: Vec<PlacedLine>) -> Result<Collected, ReadError>
+        ensures { IsSoFar lines.items result }
+    {
+        let mut so_far = Ok(Collected::new(alloc));
+        for line in lines {
+            so_far = with_line(alloc, so_far, line);
+        }
+        so_far
+    }
+
     // Adds a line.
     fn add(&mut self, alloc: Global, line: PlacedLine) -> Result<(), ReadError>
         ensures ok { OnOk result ((lines : List PlacedLine) →

@@ -55,7 +55,7 @@ fn collected_of(alloc: Global, text: &str) -> Result<Collected, ReadError>
 }
 
 // The grammar of what was collected.
-fn grammar_of(alloc: Global, collected: Collected) -> Result<Grammar, OutOfMemory>
+pub(crate) fn grammar_of(alloc: Global, collected: Collected) -> Result<Grammar, OutOfMemory>
     ensures { IfOk result (λ grammar. (lines : List PlacedLine) →
         IsCollected lines collected →
         StandsFor lines grammar) }

@@ -1,6 +1,7 @@
 //! Names, literals and symbols of a grammar text.
 ghost use Rattle.std.specs.Prelude.{◌≡◌, ◌==◌, ◌<◌, IfOk, Some, None, MatchOption, map, option_map};
 ghost use Rattle.std.specs.List.{slice_split, list_all};
+ghost use Rattle.lalrpop_base.specs.declared.repr.TerminalString.TheVariants.{Literal};
 ghost use Rattle.grammar_text.specs.Symbols.{starts_name, continues_name, is_name, name_of, up_to_quote, quoted, symbol_of, symbols_of};
 
 use lalrpop_base::memory::OutOfMemory;
@@ -116,4 +117,15 @@ pub fn symbols_of(alloc: Global, words: &[&str]) -> Result<Option<Symbols>, OutO
         }
     }
     Ok(Some(symbols))
+}
+
+/// The literals of texts, which stand here without quotes: tokens for a parser.
+pub fn literals(alloc: Global, texts: &[&str]) -> Result<Vec<TerminalString>, OutOfMemory>
+    ensures { IfOk result (λ all. all.items ≡ map (λ t. Literal t.now) texts.now) }
+{
+    let mut all = Vec::new(alloc);
+    for text in texts {
+        all.push(TerminalString::Literal(Text::new(alloc, text)?))?;
+    }
+    Ok(all)
 }

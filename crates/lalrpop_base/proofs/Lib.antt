@@ -21,6 +21,7 @@ pub mod ContentsViews
 pub mod HeldTokens
 pub mod ViewLemmas
 pub mod ConflictLemmas
+pub mod ConflictCounts
 pub mod FirstTokens
 pub mod MultimapLemmas
 pub mod SetLemmas

@@ -1,3 +1,4 @@
+pub mod ActionEntries
 pub mod Augmented
 pub mod BitVectors
 pub mod Bits
@@ -5,11 +6,14 @@ pub mod Closures
 pub mod Coherent
 pub mod Collapse
 pub mod Collapsible
+pub mod ConflictCounts
 pub mod ConflictLists
 pub mod Conflicts
 pub mod Contents
 pub mod Copies
 pub mod Each
+pub mod Edges
+pub mod ErrorTexts
 pub mod Exact
 pub mod Failures
 pub mod First

@@ -1,4 +1,5 @@
 -- The words of this crate's contracts, by name: where each is defined.
+pub use Rattle.lalrpop_base.specs.ActionEntries.{ReduceBy, ShiftTo, TableEntry, action_on, shift_of, shift_or, table_entry}
 pub use Rattle.lalrpop_base.specs.Augmented.{IsAugmented}
 pub use Rattle.lalrpop_base.specs.Bits.{Bits, IsRising, bits_of, bits_of-rising, has, has-at, has-below, has-bits_of, has-join, has-no_bits, has-place}
 pub use Rattle.lalrpop_base.specs.Bits.{has-rising, has-with_bit, join, join_twice, new_bit, no_bits, rising, same_bits, with_bit}
@@ -9,6 +10,7 @@ pub use Rattle.lalrpop_base.specs.Coherent.{AreCoherent, AreFinished, HasItem, I
 pub use Rattle.lalrpop_base.specs.Coherent.{symbol_of}
 pub use Rattle.lalrpop_base.specs.Collapse.{HoldsInGroup, IsCollapse, LeadsInGroup}
 pub use Rattle.lalrpop_base.specs.Collapsible.{AreAlike, AreCollapsible, IsAlikeTo, LeadAlike, dots, dots_at, dots_of}
+pub use Rattle.lalrpop_base.specs.ConflictCounts.{count_on_bit, count_on_place, later_count, reduce_conflict_count, shift_conflict_count}
 pub use Rattle.lalrpop_base.specs.ConflictLists.{IsReduceConflict, IsShiftConflict, LaterPart, Ordered, ReduceParts, ShiftPart, ShiftParts, apart, in_conflict}
 pub use Rattle.lalrpop_base.specs.ConflictLists.{no_later, no_more, no_reductions, no_shifts, reduce_first, shares_none, shift_first, with_later}
 pub use Rattle.lalrpop_base.specs.Conflicts.{ActionPrecedes, AreCanonicalConflicts, AreConflicts, AreConflictsOf, ConflictContents, HasNoCanonicalConflict}
@@ -17,6 +19,8 @@ pub use Rattle.lalrpop_base.specs.Contents.{contents, contents_at, contents_in, 
 pub use Rattle.lalrpop_base.specs.Contents.{reduced_productions, reduction_of}
 pub use Rattle.lalrpop_base.specs.Copies.{IsCopying}
 pub use Rattle.lalrpop_base.specs.Each.{EachBelow, EachEntry, EachItem}
+pub use Rattle.lalrpop_base.specs.Edges.{Edge, goto_edge, seen_edge, shift_edge, state_edges}
+pub use Rattle.lalrpop_base.specs.ErrorTexts.{build_error_text, conflicts_text}
 pub use Rattle.lalrpop_base.specs.Exact.{Exactly, both, list_exact, name_exact, same_production}
 pub use Rattle.lalrpop_base.specs.Failures.{IfConflicts}
 pub use Rattle.lalrpop_base.specs.First.{AreFirstSetsOf, IsFirstSet, IsFirstSetBefore}

@@ -7,17 +7,18 @@ mod sets;
 mod table;
 mod uses;
 
-ghost use Rattle.std.specs.Prelude.{◌≡◌, IfOk};
+ghost use Rattle.std.specs.Prelude.{◌≡◌, ◌↔◌, ◌∷◌, [], IfOk, IsTrue};
 ghost use Rattle.lalrpop_base.specs.WellFormed.{IsWellFormed, HasKnownTerminals, rules_of};
 ghost use Rattle.lalrpop_base.specs.First.{IsFirstSet, IsFirstSetBefore};
+ghost use Rattle.lalrpop_base.specs.Grammar.{IsNullable};
 ghost use Rattle.lalrpop_base.specs.Tokens.{FitsTokens};
 
 use self::fixpoint::first_table;
-use self::table::{Table, clone_table, first_by};
+use self::table::{Table, clone_table, first_by, has_eof};
 use crate::lookahead::token_set::TokenSet;
 use crate::memory::OutOfMemory;
-use crate::repr::Symbol;
 use crate::repr::grammar::Grammar;
+use crate::repr::{NonterminalString, Symbol};
 use std::alloc::Global;
 use std::marker::Model;
 
@@ -76,6 +77,15 @@ impl<'grammar> FirstSets<'grammar> {
             set.union_with(follow)?;
         }
         Ok(set)
+    }
+
+    /// Whether the name derives the empty list, by one look-up. A name without an entry derives
+    /// nothing.
+    pub fn is_nullable(&self, name: &NonterminalString) -> bool
+        ensures nullable { IsTrue result ↔ IsNullable self.now.productions
+            (Symbol.Nonterminal name.now ∷ []) }
+    {
+        has_eof(&self.sets, &self.grammar.terminals, name)
     }
 
     pub fn clone(&self, alloc: Global) -> Result<Self, OutOfMemory>

@@ -1,9 +1,13 @@
 //! Items, states and what goes wrong with them.
+pub mod actions;
 mod clones;
 pub mod coherent;
 pub mod collapsible;
 pub mod compared;
 pub mod conflict;
+pub mod conflict_counts;
+pub mod edges;
+mod error_texts;
 pub mod item;
 pub mod kernel_items;
 pub mod kernels;
@@ -12,9 +16,12 @@ pub mod state;
 pub mod symbol_sets;
 mod views;
 
-pub use self::coherent::are_coherent;
+pub use self::actions::ActionEntry;
+pub use self::coherent::{SymbolRef, are_coherent};
 pub use self::collapsible::are_collapsible;
 pub use self::conflict::conflicts;
+pub use self::conflict_counts::conflict_count;
+pub use self::edges::Edges;
 pub use self::item::{Item, Lr0Item, Lr1Item};
 pub use self::lr0::{Lr0Conflict, Lr0Items, Lr0State, Lr0TableConstructionError};
 pub use self::state::{

@@ -1,4 +1,5 @@
 pub mod AnyStart
+pub mod ByTables
 pub mod Counting
 pub mod DroppedTrees
 pub mod FaithfulAnswers

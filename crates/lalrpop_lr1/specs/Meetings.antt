@@ -87,20 +87,20 @@ module _ (b : Backtrace) where
   abbrev pub unmet : BTreeSet Meeting → ℕ
   unmet met = length (filter (λ m. not (contains meeting_cmp met m)) meetings)
 
-  -- how many steps an item can take: its own, and two for each state, as its nonterminal is met there and its tasks there come to an end
+  -- how many steps come of an item that is taken up: one, and two for each state where it may begin, as its nonterminal is come to there and a task there comes to its end
   abbrev pub item_steps : ℕ
   item_steps = 2 * length b.states + 1
 
-  -- how many steps a duty can take, but for those of what it meets
+  -- how many steps come of a duty, without those of what is met by it
   abbrev pub duty_steps : Duty → ℕ
   duty_steps (come_to m) = 1
   duty_steps (take_up m item) = item_steps
 
-  -- how many steps a trace with the duties can take, but for one by which each task comes to its end: for what can still be met those of as many items as the states have, and one more
+  -- how many steps can come at most, besides one by which each task comes to its end: those of the duties, and, for each nonterminal that can still be met in a state, those of as many items as there are names
   abbrev pub work : Met → List Duty → ℕ
   work met duties = unmet met.visited_set * (length names_in * item_steps) + sum_by duty_steps duties
 
-  -- a trace with the duties, which were those of so many tasks, took a step, and has the tasks now
+  -- a trace had the duties, those of so many tasks, and did the first of these: it went on to the duties of the tasks that it has now, which come to the names alone, and fewer steps can come
   pub record IsStep (old new : Met) (duties : List Duty) (count : ℕ) (tasks : List Task) : Type 0 where
     pub walks : WalksOn b duties (duties_left tasks) old new
     pub named : AreNamed (duties_left tasks)

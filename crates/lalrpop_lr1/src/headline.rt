@@ -1,5 +1,6 @@
 //! The promise on one page: tables for LR(1) grammars alone, and by them exactly their parse trees.
 pub mod any_start;
+pub mod by_tables;
 mod parse_error;
 
 ghost use Rattle.std.specs.Prelude.{IfOk, IfErr};
@@ -10,7 +11,8 @@ ghost use Rattle.lalrpop_lr1.specs.Headline.{IsAccepted, IsToldByTables};
 ghost use Rattle.lalrpop_lr1.specs.ParseAnswers.{HadTables, HadTablesWhere, IfConflicts, IfRefusedAt, IfLimitTold, TellsTrees};
 ghost use Rattle.lalrpop_lr1.specs.ParseTrees.{tree_of};
 
-use crate::interpret::{ParseTree, interpret};
+use crate::interpret::ParseTree;
+use by_tables::parse_by_tables;
 use lalrpop_base::lr1_core::state::BuildError;
 use lalrpop_base::repr::{Grammar, NonterminalString, TerminalString};
 use lalrpop_tables::build::options::Options;
@@ -54,8 +56,11 @@ pub fn parse<'grammar>(
     ensures conflicts { IfErr result (IfConflicts (HasConflictsOf
         (Collapses grammar.now options.now) options.now.stop_after grammar.now start)) }
 {
+    let Ok(name) = start.clone(alloc) else {
+        return Err(ParseError::Memory);
+    };
     match build_states(alloc, grammar, start, options) {
-        Ok(states) => told_by(interpret(alloc, &states, &grammar.terminals, tokens, limit)),
+        Ok(states) => told_by(parse_by_tables(alloc, grammar, &name, &states, tokens, limit)),
         Err(BuildError::Conflicts(error)) => Err(ParseError::Conflicts(error)),
         Err(BuildError::Memory) => Err(ParseError::Memory),
     }

@@ -28,7 +28,7 @@ module _ (g : Grammar) (start : NonterminalString) (well : IsWellFormed g) (own 
   free_faithful free = no_conflict_faithful (productions g) start now (λ n p dot t. tokens_of g.terminals states n p dot t ≡ true) canonical.canonical (λ u n live after. free_at free n (slice_get states n) refl)
 
 -- states of all kernels are states of the first kernels
-whole_partly : (C : List (Dotted Bits) → List (Dotted Bits) → Type 0) (first : List (Dotted Bits)) (states : List (State Bits)) → AreBuiltBy C first states → ArePartlyBuiltBy C first states
+pub whole_partly : (C : List (Dotted Bits) → List (Dotted Bits) → Type 0) (first : List (Dotted Bits)) (states : List (State Bits)) → AreBuiltBy C first states → ArePartlyBuiltBy C first states
 whole_partly C first states b = record {
   kernels = b.kernels;
   fewer = let c = b.counted in omega arith;

@@ -19,6 +19,9 @@ same_kept old new same = record {
   successors = λ left right n. (same.successors left right).1 n;
 }
 
+pub kept_all : (table : LaneTable) → KeepsAll table table
+kept_all table = record { columns = refl; cells = λ row j c. c; tokens = λ row j bit h. h; successors = λ left right n. n }
+
 kept_on : (a b c : LaneTable) → KeepsAll a b → KeepsAll b c → KeepsAll a c
 kept_on a b c x y = record {
   columns = y.columns ∙ x.columns;
@@ -40,7 +43,7 @@ module _ (k : ℕ) (Cell : ℕ → Type 0) (Bit Successor : ℕ → ℕ → Type
 
   pub GainsSome-none : (table : LaneTable) → GainsSome k Cell Bit Successor table table
   GainsSome-none table = record {
-    kept = record { columns = refl; cells = λ row j c. c; tokens = λ row j bit h. h; successors = λ left right n. n };
+    kept = kept_all table;
     cells = λ row j c. inl c;
     tokens = λ row j bit h. inl h;
     successors = λ left right n. inl n;
@@ -67,6 +70,15 @@ module _ (k : ℕ) (Cell : ℕ → Type 0) (Bit Successor : ℕ → ℕ → Type
     cells = λ row j h. elim (y.cells row j h) [ inl o ↦ x.cells row j o | inr n ↦ inr n ];
     tokens = λ row j bit h. elim (y.tokens row j bit h) [ inl o ↦ x.tokens row j bit o | inr n ↦ inr n ];
     successors = λ left right h. elim (y.successors left right h) [ inl o ↦ x.successors left right o | inr n ↦ inr n ];
+  }
+
+  -- the same once more, where it is there
+  pub Gains-again : (a b c : LaneTable) → Gains k Cell Bit Successor a b → KeepsAll b c → Gains k Cell Bit Successor c c
+  Gains-again a b c x kept = record {
+    columns = refl;
+    cells = λ row j. (λ h. inl h, λ h. elim h [ inl o ↦ o | inr n ↦ kept.cells row j ((x.cells row j).1 (inr n)) ]);
+    tokens = λ row j bit. (λ h. inl h, λ h. elim h [ inl o ↦ o | inr n ↦ kept.tokens row j bit ((x.tokens row j bit).1 (inr n)) ]);
+    successors = λ left right. (λ h. inl h, λ h. elim h [ inl o ↦ o | inr n ↦ kept.successors left right ((x.successors left right).1 (inr n)) ]);
   }
 
 -- a successor that was refused, or added

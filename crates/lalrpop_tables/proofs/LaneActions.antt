@@ -1,19 +1,15 @@
 -- The actions of a state: what goes into their set, and where they stand in it.
-use Rattle.std.proofs.Common.{◌≡◌, ◌⊎◌, inl, inr, List, [], ◌∷◌, ◌++◌, refl, sym, ◌∙◌, ap, subst, append_assoc}
+use Rattle.std.proofs.Common.{◌≡◌, ◌⊎◌, inl, inr, List, [], ◌∷◌, ◌++◌, refl, sym, subst}
 use Rattle.std.specs.Prelude.{Contains}
 use Rattle.std.specs.BTreeSet.{insert_key}
 use Rattle.std.specs.Cmp.{IsTotalOrder, tied_itself}
-use Rattle.std.specs.List.{flat_map}
 use Rattle.std.specs.Ordering.{match_ordering}
 use Rattle.std.specs.declared.cmp.Ordering.{Ordering}
 use Rattle.std.specs.declared.cmp.Ordering.TheVariants.{Less, Equal, Greater}
 use Rattle.std.proofs.lemmas.List.Elements.{Contains-append_left, Contains-append_right, Contains-append_cases}
 use Rattle.lalrpop_base.specs.contracts.lr1_core.state.ActionOrd.TheImpl as action_ord
-use Rattle.lalrpop_base.specs.Words.{Bits}
 use Rattle.lalrpop_base.specs.declared.lr1_core.state.Action.{Action}
-use Rattle.lalrpop_base.specs.declared.lr1_core.state.Action.TheVariants.{Reduce}
-use Rattle.lalrpop_base.specs.declared.lr1_core.state.Conflict.{Conflict}
-use Rattle.lalrpop_tables.specs.Words.{action_order, conflict_actions, AreActions}
+use Rattle.lalrpop_tables.specs.Words.{action_order, AreActions}
 use Rattle.lalrpop_tables.proofs.Lists.{Contains-none, Contains-here, Contains-there, Contains-cases}
 
 -- ---- a key goes into a set
@@ -74,15 +70,3 @@ one_action asked keys new a inserted h = record {
 -- the same actions asked for in other words
 pub asked_same : (asked other keys : List Action) → asked ≡ other → AreActions asked keys → AreActions other keys
 asked_same asked other keys same h = subst (λ (zs : List Action). AreActions zs keys) same h
-
-flat_append : (cs ds : List (Conflict Bits)) → flat_map conflict_actions (cs ++ ds) ≡ flat_map conflict_actions cs ++ flat_map conflict_actions ds
-flat_append [] ds = refl
-flat_append (c ∷ cs) ds = ap (λ (zs : List Action). Reduce c.production ∷ c.action ∷ zs) (flat_append cs ds)
-
--- one conflict more
-pub asked_more : (asked : List Action) (cs : List (Conflict Bits)) (c : Conflict Bits) (keys : List Action) → AreActions (asked ++ flat_map conflict_actions cs ++ Reduce c.production ∷ [] ++ c.action ∷ []) keys → AreActions (asked ++ flat_map conflict_actions (cs ++ c ∷ [])) keys
-asked_more asked cs c keys h =
-    asked_same (asked ++ flat_map conflict_actions cs ++ Reduce c.production ∷ [] ++ c.action ∷ []) (asked ++ flat_map conflict_actions (cs ++ c ∷ [])) keys
-    (append_assoc (asked ++ flat_map conflict_actions cs) (Reduce c.production ∷ []) (c.action ∷ [])
-    ∙ append_assoc asked (flat_map conflict_actions cs) (conflict_actions c)
-    ∙ ap (λ (zs : List Action). asked ++ zs) (sym (flat_append cs (c ∷ [])))) h

@@ -35,6 +35,7 @@ pub mod DottedProductions
 pub mod EdgeLeads
 pub mod EdgePlaces
 pub mod EpsilonMoves
+pub mod Expanded
 pub mod FollowBegun
 pub mod FollowBits
 pub mod FollowClosures
@@ -51,6 +52,7 @@ pub mod Following
 pub mod FoundPlaces
 pub mod FoundResolving
 pub mod FoundSets
+pub mod FreeStates
 pub mod FrontNumbers
 pub mod FrontWalks
 pub mod Gains
@@ -60,6 +62,7 @@ pub mod Grammars
 pub mod GraphCopies
 pub mod Growth
 pub mod Halving
+pub mod HeldShifts
 pub mod ItemTokens
 pub mod KnownTerminals
 pub mod LaneActions
@@ -106,6 +109,7 @@ pub mod MovedOrigins
 pub mod Moves
 pub mod NewCopies
 pub mod NonterminalEdges
+pub mod NumberedBuilding
 pub mod NumberedConflicts
 pub mod NumberedEdges
 pub mod NumberedItems
@@ -146,6 +150,7 @@ pub mod StoppedLr0
 pub mod StoppedStates
 pub mod Subsets
 pub mod Tables
+pub mod TablesOrCount
 pub mod TokenTables
 pub mod TransitionNodes
 pub mod Unepsilon

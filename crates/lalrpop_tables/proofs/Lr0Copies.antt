@@ -16,7 +16,7 @@ use Rattle.lalrpop_base.specs.declared.repr.Symbol.{Symbol}
 use Rattle.lalrpop_base.specs.declared.repr.Symbol.TheVariants.{Nonterminal, Terminal}
 use Rattle.lalrpop_base.proofs.ContentsViews.{contains_at, at_contains}
 use Rattle.lalrpop_base.proofs.theory.Copies.{copies_closed}
-use Rattle.lalrpop_tables.specs.Words.{AreActions, AreClosedTables, AreCopiedConflicts, AreCopiedTables, AreCopies, AreLaneStates, AreLaneTables, AreLr0Copies}
+use Rattle.lalrpop_tables.specs.Words.{AreActions, AreClosedTables, AreCopiedConflicts, AreCopiedTables, AreCopies, AreLaneStates, AreLaneTables, AreLr0Copies, HaveNoConflict}
 use Rattle.lalrpop_tables.specs.Words.{asked_actions, HaveOwnItems, number_in, ReducesOwn}
 use Rattle.lalrpop_tables.proofs.CanonicalContents.{nothing_reduced}
 use Rattle.lalrpop_tables.proofs.LaneAsked.{asked_of}
@@ -98,12 +98,11 @@ module _ (g : Rules) (start : NonterminalString) (copies : ℕ) (states : List (
       }
 
   -- states without a conflict are tables, and others are not
+  pub copied_free : AreLr0Copies g start copies states → HaveNoConflict g.terminals states → AreCopiedTables g start copies states
+  copied_free made free = record { made = made; closed = copied_closed g start made.handed made.made made.originals states made.each; free = free }
+
   pub copied_tables : AreLr0Copies g start copies states → (conflicts : List (Conflict Bits)) → conflicts ≡ flat_map (state_conflicts g.terminals) states → conflicts ≡ [] → AreCopiedTables g start copies states
-  copied_tables made conflicts all none = record {
-    made = made;
-    closed = copied_closed g start made.handed made.made made.originals states made.each;
-    free = free_states g.terminals states (sym all ∙ none);
-  }
+  copied_tables made conflicts all none = copied_free made (free_states g.terminals states (sym all ∙ none))
 
   pub copied_conflicts : AreLr0Copies g start copies states → (conflicts : List (Conflict Bits)) → conflicts ≡ flat_map (state_conflicts g.terminals) states → 0 < length conflicts → AreCopiedConflicts g start copies states conflicts
   copied_conflicts made conflicts all some = record {

@@ -1,5 +1,4 @@
 -- States gathered into a set, and steps back.
-use Rattle.std.proofs.lemmas.List.{reverse-append, reverse-reverse}
 use Rattle.std.proofs.Common.{◌≡◌, ℕ, ◌⊎◌, inl, inr, List, [], ◌∷◌, ◌++◌, reverse, refl, sym, ◌∙◌, ap, subst, append_assoc, append-nil, map, Bool, true, false, cond, length, arith, eqb-true, eq-eqb}
 use Rattle.std.specs.Prelude.{Contains, ◌↔◌, ◌==◌, filter}
 use Rattle.std.specs.List.Sorted.{IsStrictlySortedBy, IsPermutation, IsSorted}

@@ -1,8 +1,7 @@
 -- Steps back over the edges of one symbol, and what a place past its production's start gives.
 use Rattle.std.proofs.Common.{◌≡◌, ℕ, suc, ◌-◌, ◌<◌, ◌⊎◌, inl, inr, ◌↔◌, List, [], ◌∷◌, ◌++◌, reverse, drop, refl, sym, ◌∙◌, ap, subst, arith, Some, append_assoc, append-nil}
 use Rattle.std.specs.Prelude.{Contains, slice_get}
-use Rattle.std.proofs.lemmas.List.{reverse-append, reverse-reverse}
-use Rattle.std.proofs.lemmas.List.Elements.{Contains-append_left, Contains-append_right, Contains-append_cases}
+use Rattle.std.proofs.lemmas.List.Elements.{Contains-append_right, Contains-append_cases}
 use Rattle.lalrpop_base.specs.Words.{IsNullable, LeadsBack, to_parent, behind_parent, of_start, Contents, leads, rules_of}
 use Rattle.lalrpop_base.specs.Lanes.{over_edge, Gives}
 use Rattle.lalrpop_base.specs.declared.lookahead.token.Token.{Token}

@@ -77,3 +77,15 @@ Visits-same A B to from a b x = record {
   differ = x.differ;
   weighed = x.weighed;
 }
+
+-- the same once more, where it was visited
+pub Visits-again : (Such : Place → Type 0) (a b c : Walk) → Visits Such a b → ((k : Place) → Contains b.visited.keys k → Contains c.visited.keys k) → Visits Such c c
+Visits-again Such a b c x kept = record {
+  kept = λ k h. h;
+  there = λ k h. kept k (x.there k h);
+  only = λ k h. inl h;
+  stays = λ k h. h;
+  waits = λ k h. inl h;
+  differ = λ d. d;
+  weighed = refl;
+}

@@ -154,6 +154,15 @@ module _ {L : Type 0} (ground : Ground L) (place : Place) where
   abbrev pub VisitsOf : Walk → Walk → Type 0
   VisitsOf = Visits (LeadsTo (rules_of ground.grammar.now) ground.start.now (places_in ground.states.now) place)
 
+  -- the place adds nothing more: a table, in one column, and a walk that get what it gives stay as they are
+  pub record AddsNothing (k : ℕ) (table : LaneTable) (walk : Walk) : Type 0 where
+    pub gains : GainsOf k table table
+    pub visits : VisitsOf walk walk
+
+-- each place adds nothing more that stands at the start of a production of one of these nonterminals in its state
+abbrev pub AreExpanded : {L : Type 0} → Ground L → ℕ → LaneTable → Walk → List (ℕ × NonterminalString) → Type 0
+AreExpanded ground k table walk expanded = (place : Place) → place.item.index ≡ 0 → Contains expanded (place.state, place.item.production.nonterminal) → AddsNothing ground place k table walk
+
 -- ---- what all places give to which a place leads back, itself among them
 module _ {L : Type 0} (ground : Ground L) (first : Place) where
   abbrev pub IsReached : Place → Type 0

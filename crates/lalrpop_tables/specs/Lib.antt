@@ -15,12 +15,14 @@ pub mod Counts
 pub mod EarlyStop
 pub mod Entries
 pub mod EpsilonMoves
+pub mod Expanded
 pub mod FollowGraphs
 pub mod FollowNodes
 pub mod FollowSets
 pub mod FollowWalks
 pub mod FoundLookaheads
 pub mod GraphCopies
+pub mod HeldShifts
 pub mod Lalr
 pub mod LaneCells
 pub mod LaneRows
@@ -53,6 +55,7 @@ pub mod Sharing
 pub mod StateGraph
 pub mod StateSets
 pub mod States
+pub mod TablesOrCount
 pub mod Transitions
 pub mod Words
 pub use Rattle.lalrpop_base.specs.Words as BaseWords

@@ -31,6 +31,12 @@ pub record AreCopiedTables (g : Rules) (start : NonterminalString) (copies : ℕ
   pub closed : AreClosedTables g start states
   pub free : HaveNoConflict g.terminals states
 
+-- there are such states, of which one has a conflict
+pub record HaveCopiedConflict (g : Rules) (start : NonterminalString) (copies : ℕ) : Type 0 where
+  pub states : List (State Bits)
+  pub made : AreLr0Copies g start copies states
+  pub some : ¬ HaveNoConflict g.terminals states
+
 -- such states and the conflicts of each as it stands, states ascending; there is one
 pub record AreCopiedConflicts (g : Rules) (start : NonterminalString) (copies : ℕ) (states : List (State Bits)) (conflicts : List (Conflict Bits)) : Type 0 where
   pub made : AreLr0Copies g start copies states

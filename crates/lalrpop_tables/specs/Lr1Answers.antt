@@ -3,6 +3,7 @@ use Rattle.std.specs.Prelude.{◌≡◌, ◌⊎◌, ℕ, ◌<◌, List, length}
 use Rattle.lalrpop_base.specs.Words.{Bits, AreCoherent, contents, IfConflicts, IsOnNoRightSide, AreFaithful, IsLR1, IsLALR1, productions, rules_of}
 use Rattle.lalrpop_base.specs.declared.lr1_core.state.BuildError.{BuildError}
 use Rattle.lalrpop_base.specs.declared.lr1_core.state.BuildError.TheVariants.{Conflicts}
+use Rattle.lalrpop_base.specs.declared.lr1_core.state.Conflict.{Conflict}
 use Rattle.lalrpop_base.specs.declared.lr1_core.state.State.{State}
 use Rattle.lalrpop_base.specs.declared.lr1_core.state.TableConstructionError.{TableConstructionError}
 use Rattle.lalrpop_base.specs.declared.repr.NonterminalString.{NonterminalString}
@@ -62,3 +63,19 @@ pub record HasConflictsOf (collapsed : Type 0) (stop_after : ℕ) (g : Grammar) 
 -- an error has them; want of memory says nothing
 abbrev pub FailsOn : Type 0 → ℕ → Grammar → NonterminalString → BuildError Bits → Type 0
 FailsOn collapsed stop_after g start = IfConflicts (HasConflictsOf collapsed stop_after g start)
+
+-- the states and conflicts of a grammar for which there are no tables, where none is left out: its canonical states, with exactly its canonical conflicts, of which there are some
+pub record LacksTables (g : Grammar) (start : NonterminalString) (states : List (State Bits)) (listed : List (Conflict Bits)) : Type 0 where
+  -- some prefix and token have two valid actions
+  pub not_lr1 : ¬ IsLR1 (productions g) start
+  pub canonical : AreCanonicalStates (rules_of g) start states
+  pub built : AreStatesOf (canonical_of g start) states
+  pub all : AreAllConflicts g.terminals states listed
+  pub conflicts : FailByCanonicalConflicts g start states listed
+
+-- how many conflicts the canonical states have of a grammar for which there are no tables
+pub record IsConflictCount (g : Grammar) (start : NonterminalString) (n : ℕ) : Type 0 where
+  pub states : List (State Bits)
+  pub listed : List (Conflict Bits)
+  pub lacks : LacksTables g start states listed
+  pub counted : n ≡ length listed

@@ -36,9 +36,9 @@ pub use Rattle.lalrpop_tables.specs.LaneStates.{HasActionBit, HasLaneBits, HasSa
 pub use Rattle.lalrpop_tables.specs.LaneStates.{HoldAllFrom, HoldsAll, IsAttempted, IsBitAt, IsFull, IsLaneAction, IsPromoted, IsResolved, IsResolvedAt, IsStep}
 pub use Rattle.lalrpop_tables.specs.LaneStates.{IsTokenOf, LanesMeet, action_order, asked_actions, by, conflict_actions, dot_of, promoted_item}
 pub use Rattle.lalrpop_tables.specs.LaneStates.{promoted_reduction, reduce_action}
-pub use Rattle.lalrpop_tables.specs.LaneSteps.{Gains, GainsAll, GainsOf, GainsSome, GainsSomeOf, GainsSomeOfAll, GivesBit, GivesCell, GivesSuccessor, IsEnd}
-pub use Rattle.lalrpop_tables.specs.LaneSteps.{IsEndBit, IsEndPlace, IsFollowBit, IsGround, IsHere, IsPair, IsParent, IsPassedOn, IsPlaceIf, Nothing, Nowhere}
-pub use Rattle.lalrpop_tables.specs.LaneSteps.{Reaches, Some_of, Visits, VisitsOf, rest_of}
+pub use Rattle.lalrpop_tables.specs.LaneSteps.{AddsNothing, AreExpanded, Gains, GainsAll, GainsOf, GainsSome, GainsSomeOf, GainsSomeOfAll, GivesBit, GivesCell}
+pub use Rattle.lalrpop_tables.specs.LaneSteps.{GivesSuccessor, IsEnd, IsEndBit, IsEndPlace, IsFollowBit, IsGround, IsHere, IsPair, IsParent, IsPassedOn, IsPlaceIf}
+pub use Rattle.lalrpop_tables.specs.LaneSteps.{Nothing, Nowhere, Reaches, Some_of, Visits, VisitsOf, rest_of}
 pub use Rattle.lalrpop_tables.specs.LaneTableStates.{AddsKeys, AreReached, HasCellsBelow, IsClosedEdge}
 pub use Rattle.lalrpop_tables.specs.LaneTables.{AddsSuccessor, AddsTokens, AreColumns, AreInRange, AreSameTables, ColumnsOverlap, HasCell, HasRow, InColumn}
 pub use Rattle.lalrpop_tables.specs.LaneTables.{IsBeachhead, IsClosed, IsEmptyTable, IsRow, IsSuccessor, KeepsAll, RowOverlaps, column}
@@ -48,7 +48,7 @@ pub use Rattle.lalrpop_tables.specs.Laws.{AreNilTables, AreSetTables, IsKeptGram
 pub use Rattle.lalrpop_tables.specs.ListedConflicts.{conflict_of, conflicts_of}
 pub use Rattle.lalrpop_tables.specs.Lr0.{AreLr0States, HasLr0States, HaveNoNilConflict, ListsNilConflicts, lr0_contents, on_any}
 pub use Rattle.lalrpop_tables.specs.Lr0Copies.{AreClosedTables, AreCopiedConflicts, AreCopiedTables, AreLr0Copies, FailsByCopies}
-pub use Rattle.lalrpop_tables.specs.Lr1Answers.{AreBuiltTablesOf, AreTablesBy, AreTablesOf, FailsOn, HasConflictsOf}
+pub use Rattle.lalrpop_tables.specs.Lr1Answers.{AreBuiltTablesOf, AreTablesBy, AreTablesOf, FailsOn, HasConflictsOf, IsConflictCount, LacksTables}
 pub use Rattle.lalrpop_tables.specs.MergeWalks.{ComesTo, HasJoinedBut, IsJoin, IsJoinMade, IsMergeWalk, join_to, joins_to, most_joins}
 pub use Rattle.lalrpop_tables.specs.Merges.{Advances, AreApart, AreCopies, AreReductionsOf, AreTargetsAmong, AreUnited, HasJoined, HasWalked, HaveNoNewMarks}
 pub use Rattle.lalrpop_tables.specs.Merges.{IsApart, IsContext, IsCopyOf, IsFresh, IsJoinedCopy, IsLonger, IsMerging, IsPatchable, IsPushed, IsResolvedCopy, IsTaken}
@@ -69,5 +69,6 @@ pub use Rattle.lalrpop_tables.specs.StateGraph.{targets_of, with_symbol}
 pub use Rattle.lalrpop_tables.specs.StateSets.{AddsColumns, AreJoined, HasSet, IsJoint, IsMade, OwnSets, columns_of, context_of, replaced_entry, replaced_set}
 pub use Rattle.lalrpop_tables.specs.StateSets.{set_of}
 pub use Rattle.lalrpop_tables.specs.States.{AreBuiltBy, Extends, HasTransition, IsBuilt, IsBuiltBy, IsBuiltOfBy, IsLedTo, Leads, LeadsToAdded, begun}
+pub use Rattle.lalrpop_tables.specs.TablesOrCount.{AreBuiltTablesOrCount, AreTablesOrCount, MatchTablesOrCount}
 pub use Rattle.lalrpop_tables.specs.Transitions.{AreEdges, AreMoves, AreShifted, Groups, HasEdge, HasNoGroup, IsBehind, IsBehindOne, IsEdgeAdded, IsMoveAdded}
 pub use Rattle.lalrpop_tables.specs.Transitions.{Shifts, ShiftsAscend, moved, reductions_of, seen}

@@ -13,17 +13,20 @@ pub mod options;
 mod reductions;
 pub(crate) mod results;
 mod states;
+pub mod tables_or_count;
 pub(crate) mod tokens;
 mod transitions;
 
 ghost use Rattle.std.specs.Prelude.{IfOk, IfErr};
 ghost use Rattle.lalrpop_base.specs.Words.{IsWellFormed};
 ghost use Rattle.lalrpop_tables.specs.Lr1Answers.{AreBuiltTablesOf, FailsOn};
+ghost use Rattle.lalrpop_tables.specs.TablesOrCount.{AreBuiltTablesOrCount};
 
-use by_lanes::lane_tables;
-use canonical::build_canonical_states;
+use by_lanes::tables_by_lanes;
+use canonical::{build_canonical_states, canonical_states_or_count};
 pub use kernel::Kernel;
 use lalrpop_base::lr1_core::state::Lr1Result;
+use lalrpop_base::memory::OutOfMemory;
 use lalrpop_base::repr::NonterminalString;
 use lalrpop_base::repr::grammar::Grammar;
 pub use lookahead_build::LookaheadBuild;
@@ -32,6 +35,7 @@ pub use lr0::build_lr0_states;
 pub use numbers::rests::Rest;
 pub use options::{Method, Options};
 use std::alloc::Global;
+pub use tables_or_count::TablesOrCount;
 
 /// The LR(1) states of a grammar by their construction numbers, or its canonical conflicts. By the
 /// lane way they are lane tables, where there are such and they pass the check; else the canonical
@@ -48,10 +52,28 @@ pub fn build_lr1_states<'grammar>(
         tables.items) }
     ensures no_tables { IfErr result (FailsOn ⊥ options.now.stop_after grammar.now start) }
 {
-    if options.method == Method::Lane {
-        if let Some(tables) = lane_tables(alloc, grammar, &start, options.max_copies)? {
-            return Ok(tables);
-        }
+    if let Some(tables) = tables_by_lanes(alloc, grammar, &start, options)? {
+        return Ok(tables);
     }
     build_canonical_states(alloc, grammar, start, options.stop_after)
+}
+
+/// The LR(1) states of a grammar by their construction numbers, or how many canonical conflicts it
+/// has. They are those of `build_lr1_states`, but conflicts are counted and not listed: all of
+/// them, since `stop_after` is not looked at. A number above the greatest `usize` is answered as
+/// want of memory: no list of so many could be had.
+pub fn lr1_states_or_count<'grammar>(
+    alloc: Global,
+    grammar: &'grammar Grammar,
+    start: NonterminalString,
+    options: &Options,
+) -> Result<TablesOrCount<'grammar>, OutOfMemory>
+    requires { IsWellFormed grammar.now }
+    ensures answer { IfOk result (AreBuiltTablesOrCount options.now.method options.now.max_copies
+        grammar.now start) }
+{
+    if let Some(tables) = tables_by_lanes(alloc, grammar, &start, options)? {
+        return Ok(TablesOrCount::Tables(tables));
+    }
+    canonical_states_or_count(alloc, grammar, start)
 }

@@ -3,12 +3,14 @@ ghost use Rattle.std.specs.Prelude.{IfOk, IfErr};
 ghost use Rattle.lalrpop_base.specs.Words.{IsWellFormed};
 ghost use Rattle.lalrpop_tables.specs.Lalr.{Collapses};
 ghost use Rattle.lalrpop_tables.specs.Lr1Answers.{AreTablesOf, AreBuiltTablesOf, FailsOn};
+ghost use Rattle.lalrpop_tables.specs.TablesOrCount.{AreTablesOrCount};
 
-use crate::build::build_lr1_states;
 use crate::build::options::{Method, Options};
+use crate::build::{TablesOrCount, build_lr1_states, lr1_states_or_count};
 use crate::build_lalr::build_lalr_states;
 use crate::renumber::renumber;
 use lalrpop_base::lr1_core::state::Lr1Result;
+use lalrpop_base::memory::OutOfMemory;
 use lalrpop_base::repr::NonterminalString;
 use lalrpop_base::repr::grammar::Grammar;
 use std::alloc::Global;
@@ -53,4 +55,25 @@ pub fn build_states<'grammar>(
     let states = build_unnumbered_states(alloc, grammar, start, options)?;
     let tables = renumber(alloc, states)?;
     Ok(tables)
+}
+
+/// The tables of a grammar for a start symbol, numbered as those of `build_states`, or how many
+/// canonical conflicts it has. States are never collapsed, whatever `algorithm.lalr` says. No
+/// conflict is listed, and all are counted, since `stop_after` is not looked at. A number above the
+/// greatest `usize` is answered as want of memory: no list of so many could be had.
+pub fn build_states_or_count<'grammar>(
+    alloc: Global,
+    grammar: &'grammar Grammar,
+    start: NonterminalString,
+    options: &Options,
+) -> Result<TablesOrCount<'grammar>, OutOfMemory>
+    requires { IsWellFormed grammar.now }
+    ensures answer { IfOk result (AreTablesOrCount options.now.method options.now.max_copies
+        grammar.now start) }
+{
+    let answer = lr1_states_or_count(alloc, grammar, start, options)?;
+    match answer {
+        TablesOrCount::Tables(states) => Ok(TablesOrCount::Tables(renumber(alloc, states)?)),
+        TablesOrCount::Conflicts(count) => Ok(TablesOrCount::Conflicts(count)),
+    }
 }

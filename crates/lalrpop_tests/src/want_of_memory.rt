@@ -1,10 +1,15 @@
 // What calls leave behind where a growth in them was refused.
-use crate::fixtures::literals;
+use crate::fixtures::{first_production, grammar, literals};
+use grammar_text::symbols::name_of;
 use lalrpop_base::collections::Set;
 use lalrpop_base::collections::multimap::Multimap;
 use lalrpop_base::lookahead::token::Token;
 use lalrpop_base::lookahead::token_set::TokenSet;
+use lalrpop_base::lr1_core::item::Item;
+use lalrpop_base::repr::Production;
+use lalrpop_base::repr::grammar::Grammar;
 use lalrpop_base::repr::terminals::TerminalSet;
+use lalrpop_lr1::trace::{PathEnumerator, TraceGraph, TraceGraphNode};
 use refused_growth::attempts::{Attempt, Outcome, refused_in_turn};
 use std::alloc::Global;
 use std::process::Abort;
@@ -77,4 +82,66 @@ fn a_joined_set(rt: HostRuntime) -> Result<(), Fail> {
     let mut other = TokenSet::new(alloc, &terminals);
     other.insert(Token::Eof, &terminals)?;
     each_growth_refused(&rt, alloc, &mut Joined { set, other })
+}
+
+// The examples of a graph with one path.
+#[derive(Drop)]
+struct Examples<'graph, 'grammar> {
+    graph: &'graph TraceGraph<'grammar>,
+    production: &'grammar Production,
+}
+
+// Whether a walk has no next example, also when it is asked again.
+fn has_ended(walk: &mut PathEnumerator<'_, '_>) -> bool {
+    walk.next().is_none() && walk.next().is_none()
+}
+
+// Whether a walk has no example behind its first, or none where it tells a refused growth once.
+fn has_no_other(walk: &mut PathEnumerator<'_, '_>) -> Option<bool> {
+    match walk.next() {
+        None => Some(has_ended(walk)),
+        Some(Err(_)) if has_ended(walk) => None,
+        Some(_) => Some(false),
+    }
+}
+
+impl Attempt for Examples<'_, '_> {
+    fn attempt(&mut self, alloc: Global) -> Option<bool> {
+        let production = self.production;
+        let end = Item::lr0(production, production.symbols.len());
+        let Ok(mut walk) = self.graph.lr0_examples(alloc, end) else {
+            return None;
+        };
+        match walk.next() {
+            Some(Ok(_example)) => has_no_other(&mut walk),
+            Some(Err(_)) if has_ended(&mut walk) => None,
+            Some(Err(_)) | None => Some(false),
+        }
+    }
+}
+
+// The graph of the path from the beginning of S = A "y" to the end of A = "x".
+fn one_path<'g>(alloc: Global, grammar: &'g Grammar) -> Result<TraceGraph<'g>, Fail> {
+    let first = Item::lr0(first_production(alloc, grammar, "S")?, 0);
+    let production = first_production(alloc, grammar, "A")?;
+    let last = Item::lr0(production, production.symbols.len());
+    let mut graph = TraceGraph::new(alloc);
+    let name = TraceGraphNode::from(name_of(alloc, "A")?);
+    graph.add_edge(TraceGraphNode::from(&first), name, first.symbol_sets())?;
+    let name = TraceGraphNode::from(name_of(alloc, "A")?);
+    graph.add_edge(name, TraceGraphNode::from(&last), last.symbol_sets())?;
+    Ok(graph)
+}
+
+#[test]
+fn an_example(rt: HostRuntime) -> Result<(), Fail> {
+    let alloc = rt.alloc();
+    let grammar = grammar(alloc, "S = A \"y\"\nA = \"x\"")?;
+    let graph = one_path(alloc, &grammar)?;
+    let production = first_production(alloc, &grammar, "A")?;
+    let mut examples = Examples {
+        graph: &graph,
+        production,
+    };
+    each_growth_refused(&rt, alloc, &mut examples)
 }

@@ -1,5 +1,5 @@
 -- What the program shows of a grammar, which a text stands for and whose marked nonterminals are inlined: what a parse by its tables comes to, the report of its tables, its conflicts or their explanation.
-use Rattle.std.specs.Prelude.{◌≡◌, ◌↔◌, ◌⊎◌, ℕ, ◌<◌, ◌≤◌, List, [], ◌∷◌, ◌++◌, length, map, codes, Result, Ok, Err}
+use Rattle.std.specs.Prelude.{◌≡◌, ◌↔◌, ◌⊎◌, ℕ, ◌<◌, ◌≤◌, List, [], ◌∷◌, ◌++◌, map, codes, Result, Ok, Err}
 use Rattle.std.specs.Fmt.{decimal}
 use Rattle.lalrpop_base.specs.Words.{Bits, contents, IsSentence, IsOnNoRightSide, token_text, Outcome, Parsed, Refused, Limit, HasOutcome, IsFirstWrong}
 use Rattle.lalrpop_base.specs.Words.{Contents, Tree, beside, no_trees, leaves, nodes, IsParseTree, IsWellFormed, productions, rules_of}
@@ -10,11 +10,11 @@ use Rattle.lalrpop_base.specs.declared.repr.Production.{Production}
 use Rattle.lalrpop_base.specs.declared.repr.TerminalString.{TerminalString}
 use Rattle.lalrpop_base.specs.declared.repr.TerminalString.TheVariants.{Literal}
 use Rattle.lalrpop_base.specs.declared.repr.grammar.Grammar.{Grammar}
-use Rattle.lalrpop_tables.specs.Words.{AreTablesOf, HasConflictsOf}
+use Rattle.lalrpop_tables.specs.Words.{AreTablesOf, HasConflictsOf, IsConflictCount}
 use Rattle.lalrpop_tables.specs.declared.build.options.Method.{Method}
 use Rattle.lalrpop_lr1.specs.Words.{IsCutOff, IsOutcomeFor, IsMarked, Mentions, IsInlined, tree_of, tree_text, tables_report, failure_report}
-use Rattle.lalrpop_lr1.specs.declared.headline.parse_error.ParseError.{ParseError}
-use Rattle.lalrpop_lr1.specs.declared.headline.parse_error.ParseError.TheVariants.{Conflicts, Refused as RefusedAt, Limit as LimitTold, Memory}
+use Rattle.lalrpop_lr1.specs.declared.interpret.error.InterpretError.{InterpretError}
+use Rattle.lalrpop_lr1.specs.declared.interpret.error.InterpretError.TheVariants.{Refused as RefusedBy, Limit as LimitPassed, Memory}
 use Rattle.lalrpop_lr1.specs.declared.interpret.tree.ParseTree.{ParseTree}
 use Rattle.grammar_text.specs.Symbols.{name_of}
 use Rattle.lrtab_run.specs.Explained.{IsExplanation}
@@ -38,14 +38,16 @@ IsOutcomeText (Parsed t) status text = (status ≡ 0) × (tree : ParseTree) × (
 IsOutcomeText (Refused n token) status text = (status ≡ 1) × (text ≡ line (codes "refused at " ++ token_text token))
 IsOutcomeText Limit status text = (status ≡ 1) × (text ≡ line (codes "limit"))
 
--- the same of an answer, or how many conflicts there are, with status 1; there is no text where memory was refused
-abbrev pub IsTextOf : Result ParseTree ParseError → ℕ → List ℕ → Type 0
+-- the same of what the parser answers; there is no text where memory was refused
+abbrev pub IsTextOf : {L : Type 0} → Result ParseTree (InterpretError L) → ℕ → List ℕ → Type 0
 IsTextOf (Ok tree) status text = (status ≡ 0) × (text ≡ line (tree_text tree))
-IsTextOf (Err (Conflicts error)) status text =
-    (status ≡ 1) × (text ≡ line (codes "conflicts: " ++ decimal (length error.conflicts.items)))
-IsTextOf (Err (RefusedAt token)) status text = (status ≡ 1) × (text ≡ line (codes "refused at " ++ token_text token))
-IsTextOf (Err LimitTold) status text = (status ≡ 1) × (text ≡ line (codes "limit"))
+IsTextOf (Err (RefusedBy state token)) status text = (status ≡ 1) × (text ≡ line (codes "refused at " ++ token_text token))
+IsTextOf (Err LimitPassed) status text = (status ≡ 1) × (text ≡ line (codes "limit"))
 IsTextOf (Err Memory) status text = ⊥
+
+-- the status and text of a number of conflicts
+abbrev pub IsCountText : ℕ → ℕ → List ℕ → Type 0
+IsCountText count status text = (status ≡ 1) × (text ≡ line (codes "conflicts: " ++ decimal count))
 
 -- what an outcome says of the tokens: the leaves of a tree are the tokens, and its nodes are within the limit; at the limit that many steps were made and there is another
 abbrev pub SaysOfTokens : (ℕ → Contents) → List TerminalString → ℕ → Outcome → Type 0
@@ -74,12 +76,11 @@ pub record IsParseShown (method : Method) (max_copies : ℕ) (g : Grammar) (star
   pub tables : AreTablesOf ⊥ method max_copies g start states
   pub run : IsRunShown (productions g) start (contents g.terminals states) tokens limit status text
 
--- or, for want of tables, how many canonical conflicts there are, with status 1
+-- or, for want of tables, how many canonical conflicts there are
 pub record IsCountShown (g : Grammar) (start : NonterminalString) (status : ℕ) (text : List ℕ) : Type 0 where
-  pub error : TableConstructionError Bits
-  pub no_tables : HasConflictsOf ⊥ 0 g start error
-  pub ended : status ≡ 1
-  pub shown : text ≡ line (codes "conflicts: " ++ decimal (length error.conflicts.items))
+  pub count : ℕ
+  pub counted : IsConflictCount g start count
+  pub shown : IsCountText count status text
 
 -- ---- a report
 -- the report of the tables, with status 0

@@ -5,25 +5,26 @@ ghost use Rattle.lalrpop_base.specs.Words.{IsWellFormed};
 ghost use Rattle.lalrpop_base.specs.declared.repr.TerminalString.TheVariants.{Literal};
 ghost use Rattle.lrtab_run.specs.Words.{Parse, Report, Explain, request_of, request_view};
 ghost use Rattle.lrtab_run.specs.Answers.{file_name, IsAnswer, IsAnswerTo, IsAnswerToGrammar};
-ghost use Rattle.lrtab_run.specs.Shown.{line, IsShown, IsTaskShown, IsTextOf};
+ghost use Rattle.lrtab_run.specs.Shown.{line, IsCountText, IsShown, IsTaskShown, IsTextOf};
 
 use crate::explain::explanation;
 use crate::words::{Request, Task, request_of};
 use grammar_text::grammar::read;
 use grammar_text::read_error::ReadError;
 use grammar_text::symbols::name_of;
+use lalrpop_base::lookahead::token_set::TokenSet;
 use lalrpop_base::lr1_core::state::{BuildError, Lr1Result};
 use lalrpop_base::memory::OutOfMemory;
 use lalrpop_base::repr::grammar::Grammar;
 use lalrpop_base::repr::norm_error::NormError;
 use lalrpop_base::repr::{NonterminalString, TerminalString};
 use lalrpop_base::text::Text;
-use lalrpop_lr1::headline::{self, ParseError};
+use lalrpop_lr1::headline::by_tables::parse_by_tables;
 use lalrpop_lr1::inline::inline;
-use lalrpop_lr1::interpret::ParseTree;
+use lalrpop_lr1::interpret::{InterpretError, ParseTree};
 use lalrpop_lr1::report::report_text;
-use lalrpop_tables::build::{Method, Options};
-use lalrpop_tables::lr1::build_states;
+use lalrpop_tables::build::{Method, Options, TablesOrCount};
+use lalrpop_tables::lr1::{build_states, build_states_or_count};
 use std::alloc::Global;
 use std::io::{ErrorKind, Read};
 
@@ -193,7 +194,7 @@ fn shown(
     }
 }
 
-// A status, and what a parse by the tables of a grammar shows.
+// A status, and what a parse by the tables of a grammar shows, or how many conflicts it has.
 fn parse(
     alloc: Global,
     limit: usize,
@@ -203,14 +204,18 @@ fn parse(
     grammar: &Grammar,
 ) -> Result<(u8, String), OutOfMemory>
     requires well_formed { IsWellFormed grammar.now }
-    requires canonical { grammar.now.algorithm.lalr ≡ false }
-    requires whole { options.now.stop_after ≡ 0 }
     ensures { IfOk result (λ o. IsTaskShown options.now.method options.now.max_copies
         grammar.now start (Parse limit (map string_bytes words.now)) o.0 (string_bytes o.1)) }
 {
     let tokens = tokens_of(alloc, words)?;
-    let answer = headline::parse(alloc, grammar, start, options, tokens, limit);
-    text_of_answer(alloc, answer)
+    let name = start.clone(alloc)?;
+    match build_states_or_count(alloc, grammar, start, options)? {
+        TablesOrCount::Tables(states) => {
+            let answer = parse_by_tables(alloc, grammar, &name, &states, tokens, limit);
+            text_of_answer(alloc, answer)
+        }
+        TablesOrCount::Conflicts(count) => text_of_count(alloc, count),
+    }
 }
 
 // A status, and the report of the tables of a grammar or of its conflicts.
@@ -264,20 +269,25 @@ fn explain(
 // A status, and the text of the answer of a parse.
 fn text_of_answer(
     alloc: Global,
-    answer: Result<ParseTree, ParseError<'_>>,
+    answer: Result<ParseTree, InterpretError<'_, '_, TokenSet>>,
 ) -> Result<(u8, String), OutOfMemory>
     ensures { IfOk result (λ o. IsTextOf answer.entry o.0 (string_bytes o.1)) }
 {
     match answer {
         Ok(tree) => Ok((0, format!(in alloc; "{tree}\n")?)),
-        Err(ParseError::Conflicts(error)) => {
-            let count = error.conflicts.len();
-            Ok((1, format!(in alloc; "conflicts: {count}\n")?))
+        Err(InterpretError::Refused(_, token)) => {
+            Ok((1, format!(in alloc; "refused at {token}\n")?))
         }
-        Err(ParseError::Refused(token)) => Ok((1, format!(in alloc; "refused at {token}\n")?)),
-        Err(ParseError::Limit) => Ok((1, String::from_str(alloc, "limit\n")?)),
-        Err(ParseError::Memory) => Err(OutOfMemory),
+        Err(InterpretError::Limit) => Ok((1, String::from_str(alloc, "limit\n")?)),
+        Err(InterpretError::Memory) => Err(OutOfMemory),
     }
+}
+
+// A status, and the text of a number of conflicts.
+fn text_of_count(alloc: Global, count: usize) -> Result<(u8, String), OutOfMemory>
+    ensures { IfOk result (λ o. IsCountText count o.0 (string_bytes o.1)) }
+{
+    Ok((1, format!(in alloc; "conflicts: {count}\n")?))
 }
 
 // Words as literals.

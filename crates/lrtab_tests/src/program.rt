@@ -11,7 +11,10 @@ use lrtab_run::words::method_of;
 use std::alloc::{AllocError, Global};
 use std::io;
 use std::io::{ErrorKind, Read, Write};
+use std::process::Abort;
 use std::test::Fail;
+
+const USAGE: &str = "usage: lrtab FILE START (parse LIMIT TOKEN.. | report | explain)\n";
 
 /// What a writer does once it has taken some bytes.
 #[derive(Clone, Copy, Debug, PartialEq, Eq)]
@@ -150,51 +153,64 @@ fn ten_thousand_productions(rt: HostRuntime) -> Result<(), Fail> {
     Ok(())
 }
 
-#[test]
-fn closed_output(rt: HostRuntime) -> Result<(), Fail> {
-    let alloc = rt.alloc();
-    let words = words_of(alloc, "f S parse 2 x")?;
+/// Runs the program on a text, to outputs that close behind each number of bytes below `whole`, which
+/// it has to tell, and to those that take so many.
+fn each_closed_output(
+    rt: &impl Abort,
+    alloc: Global,
+    method: Method,
+    text: &str,
+    line: &str,
+    whole: usize,
+    status: u8,
+) -> Result<(), Fail> {
+    let words = words_of(alloc, line)?;
     for then in [Then::Fails, Then::TakesNothing, Then::IsInterrupted] {
-        for left in 0..10 {
+        for left in 0..=whole {
             let mut err = Vec::new(alloc);
             let mut out = Closing {
                 left,
                 taken: 0,
                 then,
             };
-            let file = Some("S = \"x\"".as_bytes());
-            let status = run(alloc, &words, Method::Lane, file, &mut out, &mut err);
-            assert_eq!(rt; out.taken, left.min(9), "{then:?} after {left}");
-            if left < 9 {
-                assert_eq!(rt; status, 2, "{then:?} after {left}");
-                assert_eq!(rt;
-                    err.as_slice(),
-                    b"cannot write\n".as_slice(),
-                    "{then:?} after {left}"
-                );
-            } else {
-                assert_eq!(rt; status, 0, "{then:?} after {left}");
-                assert_eq!(rt; err.len(), 0, "{then:?} after {left}");
-            }
+            let file = Some(text.as_bytes());
+            let got = run(alloc, &words, method, file, &mut out, &mut err);
+            let owed = if left < whole { 2 } else { status };
+            let said = if left < whole { "cannot write\n" } else { "" };
+            assert_eq!(rt; out.taken, left, "{then:?} after {left}");
+            assert_eq!(rt; got, owed, "{then:?} after {left}");
+            assert_eq!(rt; err.as_slice(), said.as_bytes(), "{then:?} after {left}");
         }
     }
     Ok(())
 }
 
 #[test]
+fn closed_output(rt: HostRuntime) -> Result<(), Fail> {
+    let whole = "[S: \"x\"]\n".len();
+    let line = "f S parse 2 x";
+    each_closed_output(&rt, rt.alloc(), Method::Lane, "S = \"x\"", line, whole, 0)
+}
+
+// There is nobody left to be told.
+#[test]
 fn closed_error_output(rt: HostRuntime) -> Result<(), Fail> {
     let alloc = rt.alloc();
     let words = words_of(alloc, "f S parse")?;
-    let mut out = Vec::new(alloc);
-    let mut err = Closing {
-        left: 3,
-        taken: 0,
-        then: Then::Fails,
-    };
-    let file = Some("S = \"x\"".as_bytes());
-    let status = run(alloc, &words, Method::Lane, file, &mut out, &mut err);
-    assert_eq!(rt; status, 2);
-    assert_eq!(rt; out.len(), 0);
-    assert_eq!(rt; err.taken, 3);
+    for then in [Then::Fails, Then::TakesNothing, Then::IsInterrupted] {
+        for left in 0..=USAGE.len() {
+            let mut out = Vec::new(alloc);
+            let mut err = Closing {
+                left,
+                taken: 0,
+                then,
+            };
+            let file = Some("S = \"x\"".as_bytes());
+            let status = run(alloc, &words, Method::Lane, file, &mut out, &mut err);
+            assert_eq!(rt; status, 2, "{then:?} after {left}");
+            assert_eq!(rt; out.len(), 0, "{then:?} after {left}");
+            assert_eq!(rt; err.taken, left, "{then:?} after {left}");
+        }
+    }
     Ok(())
 }

@@ -4,6 +4,7 @@ pub mod augment;
 pub mod changes;
 pub mod checks;
 pub mod context_sets;
+pub mod entries;
 pub mod first_sets;
 pub mod graphs;
 pub mod items;
@@ -44,7 +45,7 @@ pub fn refusal(alloc: Global, error: NormError) -> Result<String, QuestionError>
     }
 }
 
-// The answer to a question of sets, states and new start symbols, where the call is one.
+// The answer to a question of sets, states, entries and new start symbols, where the call is one.
 fn answer_of_states(
     alloc: Global,
     question: &Question<'_>,
@@ -56,6 +57,9 @@ fn answer_of_states(
         return Ok(Some(text));
     }
     if let Some(text) = states::answer(alloc, question, grammar)? {
+        return Ok(Some(text));
+    }
+    if let Some(text) = entries::answer(alloc, question, grammar)? {
         return Ok(Some(text));
     }
     if let Some(text) = views::answer(alloc, question, grammar)? {

@@ -2,7 +2,7 @@
 ghost use Rattle.std.specs.Prelude.{◌≡◌, ◌↔◌, ℕ, true, false, [], IfOk, length};
 ghost use Rattle.lalrpop_base.specs.Bits.{has};
 ghost use Rattle.lalrpop_base.specs.WellFormed.{HasKnownTerminals};
-ghost use Rattle.lalrpop_base.specs.FirstTables.{Gives, IsSetJoined, set_of};
+ghost use Rattle.lalrpop_base.specs.FirstTables.{Gives, IsSetJoined, is_in, set_of};
 
 use crate::lookahead::token_set::TokenSet;
 use crate::memory::OutOfMemory;
@@ -73,6 +73,16 @@ pub(super) fn join_set(
 {
     set.union_with(found)?;
     Ok(set.take_eof(terminals))
+}
+
+// Whether `Eof` is in the set of a name.
+pub(super) fn has_eof(table: &Table, terminals: &TerminalSet, name: &NonterminalString) -> bool
+    ensures { result ≡ is_in table.now.entries name.now (length terminals.now) }
+{
+    match table.get(name) {
+        Some(found) => found.contains_eof(terminals),
+        None => false, // it derives nothing
+    }
 }
 
 // A copy of a table.

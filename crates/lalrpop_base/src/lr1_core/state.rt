@@ -8,7 +8,6 @@ use crate::memory::OutOfMemory;
 use crate::repr::{NonterminalString, Production, TerminalString};
 use std::collections::BTreeMap;
 use std::fmt;
-use thiserror::Error;
 
 /// The number of a state.
 #[derive(Clone, Copy, PartialEq, Eq, PartialOrd, Ord, Hash)]
@@ -82,13 +81,10 @@ pub struct TableConstructionError<'grammar, L> {
 pub type Lr1TableConstructionError<'grammar> = TableConstructionError<'grammar, TokenSet>;
 
 /// Why there is no table.
-#[derive(Drop, Error)]
+#[derive(Drop)]
 #[derive_where(Debug; L: fmt::Debug)]
-#[error_bound(L: fmt::Debug)]
 pub enum BuildError<'grammar, L> {
-    #[error("conflicts")]
     Conflicts(TableConstructionError<'grammar, L>),
-    #[error("out of memory")]
     Memory,
 }
 

@@ -1,4 +1,7 @@
 //! Questions of the grammar that a text stands for, and of its inlining.
+use grammar_text::builder::GrammarBuilder;
+use grammar_text::builder_error::BuilderError;
+use grammar_text::symbols::literals;
 use lalrpop_base::repr::grammar::Grammar;
 use lalrpop_lr1::inline::inline_order;
 use std::alloc::Global;
@@ -17,6 +20,8 @@ pub(crate) fn answer(
     match question.call {
         "read" => Ok(Some(read_grammar(alloc, grammar)?)),
         "inline_order" => Ok(Some(order(alloc, grammar)?)),
+        "grammar_builder" => Ok(Some(built(alloc, question)?)),
+        "literals" => Ok(Some(literals_of(alloc, question)?)),
         _ => Ok(None),
     }
 }
@@ -58,5 +63,54 @@ fn inlined(alloc: Global, grammar: &Grammar) -> Result<String, QuestionError> {
     let mut text = String::new(alloc);
     push_productions(&mut text, grammar)?;
     push_inline_actions(&mut text, grammar)?;
+    Ok(text)
+}
+
+// The grammar that a builder makes of productions and marks, which stand between commas, or why it
+// makes none.
+fn built(alloc: Global, question: &Question<'_>) -> Result<String, QuestionError> {
+    let mut text = String::new(alloc);
+    match grammar_of(alloc, question.from(1)) {
+        Ok(grammar) => push_grammar(&mut text, &grammar)?,
+        Err(BuilderError::Memory) => return Err(QuestionError::Memory),
+        Err(error) => write!(text, "{error}\n")?,
+    }
+    Ok(text)
+}
+
+// The grammar of lines between commas.
+fn grammar_of(alloc: Global, words: &[&str]) -> Result<Grammar, BuilderError> {
+    let mut builder = GrammarBuilder::new(alloc);
+    let mut line = Vec::new(alloc);
+    for word in words {
+        if *word == "," {
+            add_line(&mut builder, &line)?;
+            line = Vec::new(alloc);
+        } else {
+            line.push(*word)?;
+        }
+    }
+    add_line(&mut builder, &line)?;
+    builder.finish()
+}
+
+// Gives a builder a line: a mark, or a production with its name and `=` in front.
+fn add_line(builder: &mut GrammarBuilder, line: &[&str]) -> Result<(), BuilderError> {
+    if line.len() < 2 {
+        return Ok(());
+    }
+    if line.len() == 2 && line[0] == "inline" {
+        return builder.inline(line[1]);
+    }
+    builder.production(line[0], &line[2..])
+}
+
+// Words as literals.
+fn literals_of(alloc: Global, question: &Question<'_>) -> Result<String, QuestionError> {
+    let mut text = String::from_str(alloc, "literals")?;
+    for literal in &literals(alloc, question.from(1))? {
+        write!(text, " {literal}")?;
+    }
+    text.push_str("\n")?;
     Ok(text)
 }

@@ -8,6 +8,7 @@ use lalrpop_lr1::report::{Counted, ReportError, ReportGenerator, generate_report
 use lalrpop_tables::build::build_lr0_states;
 use lalrpop_tables::lr1::build_states;
 use std::alloc::Global;
+use std::io::ErrorKind;
 use table_questions::ask::arguments::{method_at, options_from};
 use table_questions::ask::states::start_of;
 use table_questions::question::{Question, QuestionError};
@@ -65,6 +66,9 @@ fn lr0_report(
     requires { IsWellFormed grammar.now }
 {
     let answer = build_lr0_states(alloc, grammar, start);
+    if let Err(BuildError::Memory) = &answer {
+        return Err(QuestionError::Memory);
+    }
     let mut out = Counted::new(Vec::new(alloc));
     let written = ReportGenerator::new(&mut out, &grammar.terminals).report_lr_table_construction(
         alloc, &answer,
@@ -78,6 +82,9 @@ fn lr1_report(
     grammar: &Grammar,
     answer: &Lr1Result<'_>,
 ) -> Result<String, QuestionError> {
+    if let Err(BuildError::Memory) = answer {
+        return Err(QuestionError::Memory);
+    }
     let mut out = Counted::new(Vec::new(alloc));
     let written = generate_report(alloc, &mut out, &grammar.terminals, answer);
     text_of(alloc, written, &out.into_inner())
@@ -91,6 +98,16 @@ fn text_of(
 ) -> Result<String, QuestionError> {
     match written {
         Ok(()) => Ok(String::from_utf8_lossy(alloc, bytes)?),
-        Err(_) => Err(QuestionError::Memory),
+        Err(error) if tells_of_memory(&error) => Err(QuestionError::Memory),
+        Err(error) => Ok(format!(in alloc; "{error}\n")?),
+    }
+}
+
+// Whether an error tells of want of memory, which the list that is written to may meet, too.
+fn tells_of_memory(error: &ReportError) -> bool {
+    match error {
+        ReportError::Memory => true,
+        ReportError::Write(error) => error.kind() == ErrorKind::OutOfMemory,
+        ReportError::WriteZero | ReportError::NoTables => false,
     }
 }

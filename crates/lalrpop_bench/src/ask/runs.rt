@@ -9,6 +9,7 @@ use lalrpop_base::repr::TerminalString;
 use lalrpop_base::repr::grammar::Grammar;
 use lalrpop_base::repr::terminals::TerminalSet;
 use lalrpop_base::text::Text;
+use lalrpop_lr1::headline::by_tables::parse_by_tables;
 use lalrpop_lr1::headline::{ParseError, parse};
 use lalrpop_lr1::interpret::{
     InterpretError, LookaheadInterpret, ParseTree, interpret, interpret_partial,
@@ -39,6 +40,7 @@ pub(crate) fn answer(
 {
     match question.call {
         "headline" => Ok(Some(parsed(alloc, question, grammar)?)),
+        "parse_by_tables" => Ok(Some(parsed_by_tables(alloc, question, grammar)?)),
         "interpret" | "interpret_partial" | "tree" => match question.argument(2)? {
             "lr0" => Ok(Some(run_without_lookahead(alloc, question, grammar)?)),
             _ => Ok(Some(run_by_tables(alloc, question, grammar)?)),
@@ -93,6 +95,35 @@ fn parsed(
         alloc,
         parse(alloc, grammar, start, &options, input.tokens, input.limit),
     )
+}
+
+// What is parsed by tables of a grammar.
+fn parsed_by_tables(
+    alloc: Global,
+    question: &Question<'_>,
+    grammar: &Grammar,
+) -> Result<String, QuestionError>
+    requires { IsWellFormed grammar.now }
+{
+    let start = start_of(alloc, question, 1)?;
+    let options = Options {
+        method: method_at(question, 2)?,
+        ..Options::default()
+    };
+    let input = input_of(alloc, question)?;
+    let first = start.clone(alloc)?;
+    let mut text = String::new(alloc);
+    match build_states(alloc, grammar, first, &options) {
+        Ok(states) => {
+            let (tokens, limit) = (input.tokens, input.limit);
+            match parse_by_tables(alloc, grammar, &start, &states, tokens, limit) {
+                Ok(tree) => write!(text, "{tree}\n")?,
+                Err(error) => push_failure(&mut text, error)?,
+            }
+        }
+        Err(error) => push_counts(&mut text, &Err(error))?,
+    }
+    Ok(text)
 }
 
 /// What a call from a grammar to its trees answers.

@@ -11,7 +11,7 @@ use thiserror::Error;
 /// Why there is no tree: the grammar has conflicts in the place of tables, or as the parser says.
 #[derive(Debug, Drop, Error)]
 pub enum ParseError<'grammar> {
-    #[error("conflicts")]
+    #[error("{0}")]
     Conflicts(Lr1TableConstructionError<'grammar>),
     #[error("refused at {0}")]
     Refused(Token),

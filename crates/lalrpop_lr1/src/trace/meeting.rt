@@ -1,6 +1,6 @@
 //! The nonterminals that a trace meets in each state, depth first, with its own stack.
 ghost use Rattle.std.specs.Prelude.{◌≡◌, ◌+◌, ◌∷◌, [], ◌++◌, Contains, OnOk, IfOk, length, map, drop, slice_get};
-ghost use Rattle.lalrpop_lr1.specs.Traces.{Backtrace, Meeting, StandsIn, IsTraceOf};
+ghost use Rattle.lalrpop_lr1.specs.Traces.{Backtrace, Meeting, Takes, IsTraceOf};
 ghost use Rattle.lalrpop_lr1.specs.TraceOrder.{come_to, take_up, take_up_each, items_at, IsInOrder};
 ghost use Rattle.lalrpop_lr1.specs.Meetings.{asked, duties_of, duties_left, AreNamed, IsInsertedPair, HasMet, IsStep};
 
@@ -115,7 +115,8 @@ fn step<'grammar>(
     }
 }
 
-// Takes up the item at a place of a state, and leaves those behind it on the stack.
+// Takes up the next item of a state, from a place on, that shifts a nonterminal, and leaves those
+// behind it on the stack.
 fn meet_items<'grammar>(
     alloc: Global,
     trace: &Trace<'_, '_, 'grammar>,
@@ -136,15 +137,18 @@ fn meet_items<'grammar>(
         return Ok(());
     }
     let items = states[state.0].items.vec.as_slice();
-    if next >= items.len() {
-        return Ok(());
+    for place in next..items.len() {
+        let item = &items[place];
+        if item.can_shift_nonterminal(name) {
+            tasks.push(Task::MeetItems(state, name, place + 1))?;
+            return meet_item(alloc, trace, met, state, name, item, tasks);
+        }
     }
-    tasks.push(Task::MeetItems(state, name, next + 1))?;
-    meet_item(alloc, trace, met, state, name, &items[next], tasks)
+    Ok(())
 }
 
-// Adds the edges of an item if it shifts a nonterminal, and comes next to its own nonterminal in
-// each of its sources if it goes on.
+// Adds the edges of an item that shifts a nonterminal, and puts its own nonterminal in each of its
+// sources on the stack if it goes on.
 fn meet_item<'grammar>(
     alloc: Global,
     trace: &Trace<'_, '_, 'grammar>,
@@ -154,15 +158,12 @@ fn meet_item<'grammar>(
     item: &Lr1Item<'grammar>,
     tasks: &mut Vec<Task<'grammar>>,
 ) -> Result<(), OutOfMemory>
-    requires stands { StandsIn trace.now.ground.now.states.now state item.now }
+    requires takes { Takes (asked trace.now) (state, name.now) item.now }
     requires named { let b = asked trace.now in AreNamed b (duties_left b tasks.old.items) }
     ensures { let b = asked trace.now in
         OnOk result (IsStep b met.old met.new (take_up (state, name.now) item.now ∷ duties_left b
         tasks.old.items) (length tasks.old.items) tasks.new.items) }
 {
-    if !item.can_shift_nonterminal(name) {
-        return Ok(());
-    }
     if !add_shifting(alloc, trace, &mut met.trace_graph, name, item)? {
         return Ok(());
     }

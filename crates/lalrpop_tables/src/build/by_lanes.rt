@@ -4,19 +4,43 @@ ghost use Rattle.lalrpop_base.specs.Words.{AreCoherent, contents, IsOnNoRightSid
 ghost use Rattle.lalrpop_tables.specs.Check.{PassCheck};
 ghost use Rattle.lalrpop_tables.specs.LaneStates.{AreLaneTables};
 ghost use Rattle.lalrpop_tables.specs.Lr0Copies.{AreCopiedTables};
+ghost use Rattle.lalrpop_tables.specs.Lr1Answers.{AreBuiltTablesOf};
 
+use super::options::{Method, Options};
 use crate::check::check_tables;
 use crate::lane_table::construct::LaneTableConstruct;
-use lalrpop_base::lr1_core::state::{BuildError, Lr1State};
+use lalrpop_base::lr1_core::state::Lr1State;
 use lalrpop_base::memory::OutOfMemory;
 use lalrpop_base::repr::NonterminalString;
 use lalrpop_base::repr::augment::is_on_no_right_side;
 use lalrpop_base::repr::grammar::Grammar;
 use std::alloc::Global;
 
-/// The lane tables of a grammar, where there are such and they pass the check. Those of an LALR(1)
-/// grammar whose start symbol stands on no right side pass it, and are not checked.
-pub fn lane_tables<'grammar>(
+/// The tables of a grammar by the lane way, where the method asks for it, and there are lane tables
+/// that pass the check.
+pub fn tables_by_lanes<'grammar>(
+    alloc: Global,
+    grammar: &'grammar Grammar,
+    start: &NonterminalString,
+    options: &Options,
+) -> Result<Option<Vec<Lr1State<'grammar>>>, OutOfMemory>
+    requires { IsWellFormed grammar.now }
+    ensures tables { IfOk result (λ answer. IfSome answer (λ tables. AreBuiltTablesOf ⊥
+        options.now.method options.now.max_copies grammar.now start.now tables.items)) }
+    ensures lalr { options.now.method ≡ Method.Lane →
+        IsOnNoRightSide (productions grammar.now) start.now →
+        IsLALR1 (productions grammar.now) start.now →
+        IfOk result (λ answer. is_some answer ≡ true) }
+{
+    if options.method == Method::Lane {
+        return lane_tables(alloc, grammar, start, options.max_copies);
+    }
+    Ok(None)
+}
+
+// The lane tables of a grammar, where there are such and they pass the check. Those of an LALR(1)
+// grammar whose start symbol stands on no right side pass it, and are not checked.
+fn lane_tables<'grammar>(
     alloc: Global,
     grammar: &'grammar Grammar,
     start: &NonterminalString,
@@ -34,16 +58,13 @@ pub fn lane_tables<'grammar>(
 {
     let first = start.clone(alloc)?;
     let construct = LaneTableConstruct::new(alloc, grammar, first, max_copies)?;
-    match construct.construct_told(alloc) {
-        Ok((tables, at_once)) => {
-            if at_once && is_on_no_right_side(grammar, start) {
-                return Ok(Some(tables));
-            }
-            where_checked(alloc, grammar, start.clone(alloc)?, tables)
-        }
-        Err(BuildError::Conflicts(_)) => Ok(None),
-        Err(BuildError::Memory) => Err(OutOfMemory),
+    let Some((tables, at_once)) = construct.construct_told(alloc)? else {
+        return Ok(None);
+    };
+    if at_once && is_on_no_right_side(grammar, start) {
+        return Ok(Some(tables));
     }
+    where_checked(alloc, grammar, start.clone(alloc)?, tables)
 }
 
 // The tables, where they pass the check.

@@ -1,14 +1,20 @@
-//! States as tables, or as an error with their conflicts.
-ghost use Rattle.std.specs.Prelude.{◌≡◌, [], IfOk, OnOk, IfErr, ◌++◌, List};
+//! States as tables, or as an error with their conflicts, or as the number of these.
+ghost use Rattle.std.specs.Prelude.{◌≡◌, ◌<◌, [], IfOk, OnOk, IfErr, ◌++◌, List, length};
+ghost use Rattle.std.specs.List.{flat_map};
+ghost use Rattle.lalrpop_base.specs.Words.{state_conflicts};
 ghost use Rattle.lalrpop_base.specs.declared.lr1_core.state.Conflict.{Conflict};
-ghost use Rattle.lalrpop_tables.specs.Results.{FailWith};
+ghost use Rattle.lalrpop_tables.specs.Results.{FailWith, HaveNoConflict};
+ghost use Rattle.lalrpop_tables.specs.TablesOrCount.{MatchTablesOrCount};
 
 use super::lr::Lr;
+use super::tables_or_count::TablesOrCount;
+use crate::conflicts::conflict_count_of;
 use lalrpop_base::lookahead::Lookahead;
 use lalrpop_base::lr1_core::state::{
-    BuildError, Conflict, LrResult, State, TableConstructionError,
+    BuildError, Conflict, Lr1State, LrResult, State, TableConstructionError,
 };
 use lalrpop_base::memory::OutOfMemory;
+use lalrpop_base::repr::terminals::TerminalSet;
 use std::alloc::Global;
 
 /// Puts the conflicts of a state behind the others.
@@ -40,4 +46,24 @@ pub fn tables_or_conflicts<'grammar, L: Lookahead>(
         return Ok(states);
     }
     Err(BuildError::Conflicts(TableConstructionError { states, conflicts }))
+}
+
+/// The states, as tables where they have no conflict, else the number of their conflicts. A number
+/// above the greatest `usize` is answered as want of memory: no list of so many could be had.
+pub fn tables_or_count<'grammar>(
+    states: Vec<Lr1State<'grammar>>,
+    terminals: &TerminalSet,
+) -> Result<TablesOrCount<'grammar>, OutOfMemory>
+    ensures { IfOk result (MatchTablesOrCount
+        (λ tables. (tables ≡ states.entry.items) × HaveNoConflict terminals.now tables)
+        (λ n. (0 < n) ×
+        (n ≡ length (flat_map (state_conflicts terminals.now) states.entry.items)))) }
+{
+    let Some(count) = conflict_count_of(&states, terminals) else {
+        return Err(OutOfMemory);
+    };
+    if count > 0 {
+        return Ok(TablesOrCount::Conflicts(count));
+    }
+    Ok(TablesOrCount::Tables(states))
 }

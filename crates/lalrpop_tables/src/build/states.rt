@@ -1,9 +1,10 @@
 //! The states of a grammar, by their kernels.
-ghost use Rattle.std.specs.Prelude.{◌≡◌, ◌↔◌, IsTrue, IfOk, OnOk, length, slice_get, Some};
+ghost use Rattle.std.specs.Prelude.{◌≡◌, ◌↔◌, ◌∷◌, [], map, IsTrue, IfOk, OnOk, length, slice_get, Some};
 ghost use Rattle.lalrpop_tables.specs.Closure.{AreItemsBy, IsClosureBy};
 ghost use Rattle.lalrpop_tables.specs.EarlyStop.{AreEnough, AreMadeFor};
 ghost use Rattle.lalrpop_tables.specs.Numbers.{AreAllNumbered, AreNumbered, AreNumbers, items_by, kernels_by};
-ghost use Rattle.lalrpop_tables.specs.States.{IsBuiltBy, Extends, LeadsToAdded};
+ghost use Rattle.lalrpop_tables.specs.Results.{AreStatesFor};
+ghost use Rattle.lalrpop_tables.specs.States.{IsBuiltBy, Extends, LeadsToAdded, begun};
 
 use super::closure::closure;
 use super::lookahead_build::LookaheadBuild;
@@ -87,6 +88,27 @@ fn are_enough(stop_after: usize, found: usize) -> bool
     stop_after > 0 && stop_after <= found
 }
 
+// The kernels when a construction begins: that of the start symbol, which has no state yet.
+fn first_kernels<'grammar, L: LookaheadBuild>(
+    alloc: Global,
+    lr: &Lr<'grammar, L>,
+    numbers: &Numbers<'grammar>,
+) -> Result<KernelSet<NumberedKernel<L>>, OutOfMemory>
+    requires { AreNumbers lr.now.construction.rules numbers.now }
+    ensures known { IfOk result
+        (λ kernels. AreAllNumbered numbers.now.items.items kernels.list) }
+    ensures begun { IfOk result (λ kernels. kernels_by numbers.now.items.items kernels ≡ record {
+      list = map (begun lr.now.construction.lookahead) lr.now.construction.first ∷ [];
+      handed = 0;
+    }) }
+    ensures items { IfOk result (λ _. AreItemsBy L.meaning lr.now.construction.rules
+        (map (begun lr.now.construction.lookahead) lr.now.construction.first)) }
+{
+    let mut kernels = KernelSet::new(alloc);
+    kernels.add_state(lr.start_kernel(alloc, numbers)?)?;
+    Ok(kernels)
+}
+
 /// The states, numbered as their kernels first appear, and their conflicts, until enough are
 /// listed.
 pub fn build_states<'grammar, L: LookaheadBuild>(
@@ -97,10 +119,9 @@ pub fn build_states<'grammar, L: LookaheadBuild>(
         made.0.items made.1.items) }
 {
     let numbers = lr.numbers();
-    let mut kernels = KernelSet::new(alloc);
+    let mut kernels = first_kernels(alloc, lr, numbers)?;
     let mut states = Vec::new(alloc);
     let mut conflicts = Vec::new(alloc);
-    kernels.add_state(lr.start_kernel(alloc, numbers)?)?;
     while let Some(kernel) = kernels.next() {
         let number = states.len();
         let state = build_state(alloc, lr, numbers, &kernel, number, &mut kernels)?;
@@ -111,4 +132,23 @@ pub fn build_states<'grammar, L: LookaheadBuild>(
         }
     }
     Ok((states, conflicts))
+}
+
+/// All states, numbered as their kernels first appear. No conflict is looked for.
+pub fn all_states<'grammar, L: LookaheadBuild>(
+    alloc: Global,
+    lr: &Lr<'grammar, L>,
+) -> Result<Vec<State<'grammar, L>>, OutOfMemory>
+    ensures { IfOk result (λ states. AreStatesFor L.meaning L.begins L.passes L.lists_conflicts
+        lr.now.construction states.items) }
+{
+    let numbers = lr.numbers();
+    let mut kernels = first_kernels(alloc, lr, numbers)?;
+    let mut states = Vec::new(alloc);
+    while let Some(kernel) = kernels.next() {
+        let number = states.len();
+        let state = build_state(alloc, lr, numbers, &kernel, number, &mut kernels)?;
+        states.push(state)?;
+    }
+    Ok(states)
 }

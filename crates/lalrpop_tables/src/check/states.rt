@@ -2,7 +2,6 @@
 ghost use Rattle.std.specs.Prelude.{◌≡◌, ◌≤◌, ◌↔◌, ◌⊎◌, ◌<◌, ℕ, List, IfOk, OnOk, Contains, IsTrue, MatchOption, length, option_copied, option_map, slice_get, Some};
 ghost use Rattle.std.specs.BTreeSet.{BTreeSet as SortedSet};
 ghost use Rattle.lalrpop_base.specs.Words.{Bits, IsAtStart, Dotted, AllDiffer, IsWellFormed, productions};
-ghost use Rattle.lalrpop_base.specs.StateConflicts.{HasNoConflict};
 ghost use Rattle.lalrpop_base.specs.declared.lookahead.nil.Nil.{Nil};
 ghost use Rattle.lalrpop_tables.specs.CheckClosing.{AreClosure};
 ghost use Rattle.lalrpop_tables.specs.CheckSets.{HaveSame};
@@ -10,14 +9,13 @@ ghost use Rattle.lalrpop_tables.specs.CheckStates.{LeadsBy, LeadsFrom, IsTarget,
 
 use super::closing::{Set, moved_closure, start_closure};
 use super::sets::{add_key, has_key, have_same};
+use crate::conflicts::has_no_conflict;
 use lalrpop_base::lookahead::nil::Nil;
 use lalrpop_base::lookahead::token_set::TokenSet;
-use lalrpop_base::lr1_core::conflict::conflicts;
 use lalrpop_base::lr1_core::item::{Item, Lr1Item};
 use lalrpop_base::lr1_core::state::{Lr1State, StateIndex};
 use lalrpop_base::memory::OutOfMemory;
 use lalrpop_base::repr::grammar::Grammar;
-use lalrpop_base::repr::terminals::TerminalSet;
 use lalrpop_base::repr::{NonterminalString, Production, Symbol};
 use std::alloc::Global;
 use std::collections::{BTreeMap, BTreeSet};
@@ -241,18 +239,6 @@ fn is_right_target<'grammar>(
     }
     let closure = moved_closure(alloc, grammar, items)?;
     Ok(have_same(&closure, here))
-}
-
-// Whether no two actions of a state share a token.
-fn has_no_conflict<'grammar>(
-    alloc: Global,
-    state: &Lr1State<'grammar>,
-    terminals: &TerminalSet,
-) -> Result<bool, OutOfMemory>
-    ensures { IfOk result (λ yes. IsTrue yes ↔ HasNoConflict terminals.now state.now) }
-{
-    let list = conflicts(alloc, state, terminals)?;
-    Ok(list.is_empty())
 }
 
 // Whether the reductions of a state are its finished items, once each, and the symbols behind its

@@ -10,15 +10,15 @@ pub mod state_set;
 mod states;
 mod tracing;
 
-ghost use Rattle.std.specs.Prelude.{◌≡◌, IfOk, IfErr, IsTrue, MatchResult};
+ghost use Rattle.std.specs.Prelude.{◌≡◌, IfOk, IfErr, IfSome, IsSomeAnd, IsTrue, MatchBool, MatchOption, MatchResult};
 ghost use Rattle.lalrpop_base.specs.Words.{IsLALR1, IsOnNoRightSide, IsWellFormed, productions, rules_of};
 ghost use Rattle.lalrpop_tables.specs.Lalr.{TellsNotLALR1};
 ghost use Rattle.lalrpop_tables.specs.LaneStates.{AreLalrLaneTables, IsReadyToConstruct};
-ghost use Rattle.lalrpop_tables.specs.Lr0Copies.{AreCopiedTables, FailsByCopies};
+ghost use Rattle.lalrpop_tables.specs.Lr0Copies.{AreCopiedTables, AreLr0Copies, FailsByCopies, HaveCopiedConflict};
+ghost use Rattle.lalrpop_tables.specs.Results.{HaveNoConflict};
 
-use crate::conflicts::conflicts_of;
+use crate::conflicts::{conflicts_of, have_no_conflict};
 use lalrpop_base::first::FirstSets;
-use lalrpop_base::lookahead::token_set::TokenSet;
 use lalrpop_base::lr1_core::state::{BuildError, Lr1Result, Lr1State, TableConstructionError};
 use lalrpop_base::memory::OutOfMemory;
 use lalrpop_base::repr::NonterminalString;
@@ -72,29 +72,62 @@ impl<'grammar> LaneTableConstruct<'grammar> {
             AreLalrLaneTables (rules_of self.entry.grammar.now) self.entry.start tables.items)
             (TellsNotLALR1 (productions self.entry.grammar.now) self.entry.start) }
     {
-        let (tables, _at_once) = self.construct_told(alloc)?;
-        Ok(tables)
+        let grammar = self.grammar;
+        let (states, at_once) = self.resolved(alloc)?;
+        if at_once {
+            return Ok(states);
+        }
+        let conflicts = conflicts_of(alloc, &states, &grammar.terminals)?;
+        if conflicts.is_empty() {
+            return Ok(states);
+        }
+        Err(BuildError::Conflicts(TableConstructionError { states, conflicts }))
     }
 
-    /// As `construct`, and whether the states were tables at once, behind one pass over them.
+    /// As `construct`, but no conflict is listed where there are no tables; and whether the states
+    /// were tables at once, behind one pass over them.
     pub(crate) fn construct_told(
         self,
         alloc: Global,
-    ) -> Result<(Vec<Lr1State<'grammar>>, bool), BuildError<'grammar, TokenSet>>
+    ) -> Result<Option<(Vec<Lr1State<'grammar>>, bool)>, OutOfMemory>
         requires ready { IsReadyToConstruct self }
-        ensures tables { IfOk result
+        ensures tables { IfOk result (λ answer. MatchOption answer
+            (HaveCopiedConflict (rules_of self.entry.grammar.now) self.entry.start
+            self.entry.max_copies)
             (λ told. AreCopiedTables (rules_of self.entry.grammar.now) self.entry.start
-            self.entry.max_copies told.0.items) }
-        ensures at_once { IfOk result (λ told. IsTrue told.1 →
+            self.entry.max_copies told.0.items)) }
+        ensures at_once { IfOk result (λ answer. IfSome answer (λ told. IsTrue told.1 →
             IsOnNoRightSide (productions self.entry.grammar.now) self.entry.start →
-            AreLalrLaneTables (rules_of self.entry.grammar.now) self.entry.start told.0.items) }
-        ensures failure { IfErr result (FailsByCopies (rules_of self.entry.grammar.now)
-            self.entry.start self.entry.max_copies) }
+            AreLalrLaneTables (rules_of self.entry.grammar.now) self.entry.start told.0.items)) }
         ensures lalr { IsOnNoRightSide (productions self.entry.grammar.now) self.entry.start →
-            MatchResult result
-            (λ told. IsLALR1 (productions self.entry.grammar.now) self.entry.start →
-            AreLalrLaneTables (rules_of self.entry.grammar.now) self.entry.start told.0.items)
-            (TellsNotLALR1 (productions self.entry.grammar.now) self.entry.start) }
+            IsLALR1 (productions self.entry.grammar.now) self.entry.start →
+            IfOk result (λ answer. IsSomeAnd answer
+            (λ told. AreLalrLaneTables (rules_of self.entry.grammar.now) self.entry.start
+            told.0.items)) }
+    {
+        let grammar = self.grammar;
+        let (states, at_once) = self.resolved(alloc)?;
+        if at_once {
+            return Ok(Some((states, true)));
+        }
+        if !have_no_conflict(alloc, &states, &grammar.terminals)? {
+            return Ok(None);
+        }
+        Ok(Some((states, false)))
+    }
+
+    // The states, resolved up to the first for which no copies help, and whether they are tables at
+    // once, behind one pass over them.
+    fn resolved(self, alloc: Global) -> Result<(Vec<Lr1State<'grammar>>, bool), OutOfMemory>
+        requires ready { IsReadyToConstruct self }
+        ensures copies { IfOk result (λ told. AreLr0Copies (rules_of self.entry.grammar.now)
+            self.entry.start self.entry.max_copies told.0.items) }
+        ensures free { IfOk result (λ told. IsTrue told.1 →
+            HaveNoConflict (rules_of self.entry.grammar.now).terminals told.0.items) }
+        ensures lalr { IsOnNoRightSide (productions self.entry.grammar.now) self.entry.start →
+            IfOk result (λ told. MatchBool told.1
+            (AreLalrLaneTables (rules_of self.entry.grammar.now) self.entry.start told.0.items)
+            (¬ IsLALR1 (productions self.entry.grammar.now) self.entry.start)) }
     {
         let grammar = self.grammar;
         let _terminals = grammar.terminals.all();
@@ -103,10 +136,6 @@ impl<'grammar> LaneTableConstruct<'grammar> {
             return Ok((states, true));
         };
         let states = self.resolve_copied(alloc, states, first)?;
-        let conflicts = conflicts_of(alloc, &states, &grammar.terminals)?;
-        if conflicts.is_empty() {
-            return Ok((states, false));
-        }
-        Err(BuildError::Conflicts(TableConstructionError { states, conflicts }))
+        Ok((states, false))
     }
 }

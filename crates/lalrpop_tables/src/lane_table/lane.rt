@@ -1,4 +1,5 @@
 //! Traces reductions back over the states, into a lane table.
+mod expanded;
 mod ground;
 mod trace_back;
 mod unepsilon;

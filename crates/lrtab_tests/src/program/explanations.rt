@@ -1,7 +1,6 @@
 //! Explanations, and outputs that close on them.
-use super::{Closing, Then, ran_by, words_of};
+use super::{each_closed_output, ran_by};
 use lalrpop_tables::build::Method;
-use lrtab_run::run::run;
 use std::test::Fail;
 
 const ARROW: &str = "Ty = \"int\"\nTy = \"bool\"\nTy = Ty \"->\" Ty\n";
@@ -29,24 +28,9 @@ pub(super) const TWICE_EXPLAINED: &str = "conflict 1 in state 1 on Eof
 
 #[test]
 fn explanation_to_a_closed_output(rt: HostRuntime) -> Result<(), Fail> {
-    let alloc = rt.alloc();
-    let words = words_of(alloc, "f Ty explain")?;
     let whole = ARROW_EXPLAINED.len();
-    for left in [0, 1, 10, whole - 1, whole] {
-        let mut err = Vec::new(alloc);
-        let mut out = Closing {
-            left,
-            taken: 0,
-            then: Then::Fails,
-        };
-        let file = Some(ARROW.as_bytes());
-        let status = run(alloc, &words, Method::Lane, file, &mut out, &mut err);
-        assert_eq!(rt; out.taken, left);
-        assert_eq!(rt; status, if left < whole { 2 } else { 1 });
-        let said = if left < whole { "cannot write\n" } else { "" };
-        assert_eq!(rt; err.as_slice(), said.as_bytes());
-    }
-    Ok(())
+    let line = "f Ty explain";
+    each_closed_output(&rt, rt.alloc(), Method::Lane, ARROW, line, whole, 1)
 }
 
 // Of 142 equal productions each two are in conflict.

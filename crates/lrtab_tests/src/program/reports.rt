@@ -1,7 +1,6 @@
 //! Reports, and outputs that close on them.
-use super::{Closing, Then, words_of};
+use super::each_closed_output;
 use lalrpop_tables::build::Method;
-use lrtab_run::run::run;
 use std::test::Fail;
 
 pub(super) const ONE_TERMINAL: &str = "Lalrpop Report File
@@ -124,22 +123,15 @@ State 1 {
 
 #[test]
 fn report_to_a_closed_output(rt: HostRuntime) -> Result<(), Fail> {
-    let alloc = rt.alloc();
-    let words = words_of(alloc, "f S report")?;
     let whole = ONE_TERMINAL.len();
-    for left in [0, 1, 10, whole - 1, whole] {
-        let mut err = Vec::new(alloc);
-        let mut out = Closing {
-            left,
-            taken: 0,
-            then: Then::Fails,
-        };
-        let file = Some("S = \"x\"".as_bytes());
-        let status = run(alloc, &words, Method::Canonical, file, &mut out, &mut err);
-        assert_eq!(rt; out.taken, left);
-        assert_eq!(rt; status, if left < whole { 2 } else { 0 });
-        let said = if left < whole { "cannot write\n" } else { "" };
-        assert_eq!(rt; err.as_slice(), said.as_bytes());
-    }
-    Ok(())
+    let line = "f S report";
+    each_closed_output(
+        &rt,
+        rt.alloc(),
+        Method::Canonical,
+        "S = \"x\"",
+        line,
+        whole,
+        0,
+    )
 }

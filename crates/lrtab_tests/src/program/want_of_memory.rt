@@ -9,7 +9,8 @@ use std::alloc::Global;
 use std::process::Abort;
 use std::test::Fail;
 
-// The program on a text, which can be run again.
+// The program on a text, which can be run again. What is wanted comes on standard error where the
+// status is 2.
 #[derive(Drop)]
 struct Program<'text> {
     words: Vec<String>,
@@ -44,8 +45,12 @@ impl Attempt for Program<'_> {
             let told = self.out.is_empty() && is_text(&self.err, "out of memory\n");
             return if told { None } else { Some(false) };
         }
-        let owed = status == self.status && is_text(&self.out, self.wanted);
-        Some(owed && self.err.is_empty())
+        let owed = if status == 2 {
+            self.out.is_empty() && is_text(&self.err, self.wanted)
+        } else {
+            self.err.is_empty() && is_text(&self.out, self.wanted)
+        };
+        Some(owed && status == self.status)
     }
 }
 
@@ -85,7 +90,37 @@ fn each_growth_of_a_parse(rt: HostRuntime) -> Result<(), Fail> {
     let text = "S = \"x\" \"y\"\n\tB = S A\r\n";
     let line = "f S parse 3 x y";
     let tree = "[S: \"x\", \"y\"]\n";
-    each_growth_refused(&rt, rt.alloc(), Method::Canonical, text, line, tree, 0)
+    for method in [Method::Lane, Method::Canonical] {
+        each_growth_refused(&rt, rt.alloc(), method, text, line, tree, 0)?;
+    }
+    Ok(())
+}
+
+#[test]
+fn each_growth_of_a_parse_without_a_tree(rt: HostRuntime) -> Result<(), Fail> {
+    let text = "S = \"x\"";
+    let twice = "S = \"x\"\nS = \"x\"\n";
+    for (text, line, told) in [
+        (twice, "f S parse 2 x", "conflicts: 1\n"),
+        (text, "f S parse 9 y", "refused at \"y\"\n"),
+        (text, "f S parse 1 x", "limit\n"),
+    ] {
+        for method in [Method::Lane, Method::Canonical] {
+            each_growth_refused(&rt, rt.alloc(), method, text, line, told, 1)?;
+        }
+    }
+    Ok(())
+}
+
+#[test]
+fn each_growth_of_a_faulty_grammar(rt: HostRuntime) -> Result<(), Fail> {
+    for (text, told) in [
+        ("S x", "line 1: not a grammar line\n"),
+        ("S = A\nA = A\ninline A\n", "cyclic inline of A\n"),
+    ] {
+        each_growth_refused(&rt, rt.alloc(), Method::Lane, text, "f S report", told, 2)?;
+    }
+    Ok(())
 }
 
 #[test]
@@ -119,16 +154,12 @@ fn each_growth_of_a_report_of_conflicts(rt: HostRuntime) -> Result<(), Fail> {
 
 #[test]
 fn each_growth_of_an_explanation(rt: HostRuntime) -> Result<(), Fail> {
-    let canonical = Method::Canonical;
-    each_growth_refused(
-        &rt,
-        rt.alloc(),
-        canonical,
-        ONE_EXAMPLE,
-        "f S explain",
-        ONE_EXAMPLE_EXPLAINED,
-        1,
-    )
+    let line = "f S explain";
+    let owed = ONE_EXAMPLE_EXPLAINED;
+    for method in [Method::Lane, Method::Canonical] {
+        each_growth_refused(&rt, rt.alloc(), method, ONE_EXAMPLE, line, owed, 1)?;
+    }
+    Ok(())
 }
 
 #[test]

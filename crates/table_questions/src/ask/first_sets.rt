@@ -2,6 +2,7 @@
 ghost use Rattle.lalrpop_base.specs.Words.{IsWellFormed};
 
 use super::arguments::{known_symbols, tokens_between};
+use super::states::start_of;
 use crate::question::{Question, QuestionError};
 use crate::show::words::push_tokens;
 use lalrpop_base::first::FirstSets;
@@ -21,6 +22,7 @@ pub fn answer(
     match question.call {
         "first0" => Ok(Some(first0(alloc, question, grammar)?)),
         "first1" => Ok(Some(first1(alloc, question, grammar)?)),
+        "is_nullable" => Ok(Some(nullable(alloc, question, grammar)?)),
         _ => Ok(None),
     }
 }
@@ -63,6 +65,19 @@ fn first1(
     let follow = tokens_between(alloc, question, first, end, &grammar.terminals)?;
     let set = sets.first1(alloc, symbols.as_slice(), &follow)?;
     shown(alloc, &set, &grammar.terminals)
+}
+
+// Whether a nonterminal derives the empty list.
+fn nullable(
+    alloc: Global,
+    question: &Question<'_>,
+    grammar: &Grammar,
+) -> Result<String, QuestionError>
+    requires { IsWellFormed grammar.now }
+{
+    let sets = FirstSets::new(alloc, grammar)?;
+    let name = start_of(alloc, question, 1)?;
+    Ok(format!(in alloc; "nullable {}\n", sets.is_nullable(&name))?)
 }
 
 // A set of tokens.

@@ -12,10 +12,12 @@ use lalrpop_base::lr1_core::state::{BuildError, Lr1State, LrResult, TableConstru
 use lalrpop_base::repr::NonterminalString;
 use lalrpop_base::repr::grammar::Grammar;
 use lalrpop_base::repr::terminals::TerminalSet;
-use lalrpop_tables::build::{Method, Options, build_lr0_states, build_lr1_states};
+use lalrpop_tables::build::{
+    Method, Options, TablesOrCount, build_lr0_states, build_lr1_states, lr1_states_or_count,
+};
 use lalrpop_tables::build_lalr::{build_lalr_states, collapse_to_lalr_states};
 use lalrpop_tables::lane_table::build_lane_table_states;
-use lalrpop_tables::lr1::build_states;
+use lalrpop_tables::lr1::{build_states, build_states_or_count};
 use std::alloc::Global;
 
 /// The answer to a question of states, where the call is one.
@@ -30,6 +32,9 @@ pub fn answer(
         "build_lr0_states" => Ok(Some(lr0_states(alloc, question, grammar)?)),
         "build_states" | "build_lr1_states" | "build_lalr_states" => {
             Ok(Some(lr1_states(alloc, question, grammar)?))
+        }
+        "build_states_or_count" | "lr1_states_or_count" => {
+            Ok(Some(states_or_count(alloc, question, grammar)?))
         }
         "build_lane_table_states" => Ok(Some(lane_states(alloc, question, grammar)?)),
         "collapse_to_lalr_states" => Ok(Some(collapsed_states(alloc, question, grammar)?)),
@@ -83,6 +88,31 @@ fn lr1_states(
     };
     let mut text = String::new(alloc);
     push_answer(&mut text, question, &answer, &grammar.terminals)?;
+    Ok(text)
+}
+
+// The LR(1) states of a grammar by a method, or how many conflicts there are.
+fn states_or_count(
+    alloc: Global,
+    question: &Question<'_>,
+    grammar: &Grammar,
+) -> Result<String, QuestionError>
+    requires { IsWellFormed grammar.now }
+{
+    let start = start_of(alloc, question, 1)?;
+    let method = method_at(question, 2)?;
+    let options = options_from(question, 3, method)?;
+    let answer = match question.call {
+        "lr1_states_or_count" => lr1_states_or_count(alloc, grammar, start, &options)?,
+        _ => build_states_or_count(alloc, grammar, start, &options)?,
+    };
+    let mut text = String::new(alloc);
+    match answer {
+        TablesOrCount::Tables(states) => {
+            push_answer(&mut text, question, &Ok(states), &grammar.terminals)?;
+        }
+        TablesOrCount::Conflicts(count) => write!(text, "conflicts: {count}\n")?,
+    }
     Ok(text)
 }
 

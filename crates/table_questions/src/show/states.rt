@@ -1,5 +1,7 @@
 //! States, conflicts, and what a construction answers.
 use super::words::{ShownLookahead, push_item, push_production};
+use lalrpop_base::lookahead::token::Token;
+use lalrpop_base::lr1_core::ActionEntry;
 use lalrpop_base::lr1_core::state::{Action, BuildError, Conflict, LrResult, State};
 use lalrpop_base::memory::OutOfMemory;
 use lalrpop_base::repr::terminals::TerminalSet;
@@ -123,6 +125,25 @@ fn push_action(text: &mut String, action: &Action<'_>) -> Result<(), OutOfMemory
             text.push_str(", reduce ")?;
             push_production(text, production)?;
         }
+    }
+    Ok(())
+}
+
+/// Appends what a state does on a token.
+pub fn push_entry(
+    text: &mut String,
+    token: &Token,
+    entry: Option<ActionEntry<'_>>,
+) -> Result<(), OutOfMemory> {
+    write!(text, "  {token} ")?;
+    match entry {
+        Some(ActionEntry::Shift(target)) => write!(text, "shift to {target}\n")?,
+        Some(ActionEntry::Reduce(production)) => {
+            text.push_str("reduce ")?;
+            push_production(text, production)?;
+            text.push_str("\n")?;
+        }
+        None => text.push_str("-\n")?,
     }
     Ok(())
 }

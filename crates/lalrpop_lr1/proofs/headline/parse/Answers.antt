@@ -1,29 +1,31 @@
-use Rattle.std.proofs.Common.{◌<◌, List, length, sym, subst}
-use Rattle.lalrpop_base.specs.Words.{Bits, AreCoherent}
-use Rattle.lalrpop_base.specs.declared.lr1_core.state.State.{State}
+use Rattle.lalrpop_tables.specs.Words.{Collapses}
+use Rattle.lalrpop_lr1.proofs.ByTables.{are_coherent, are_some, are_faithful}
 use Rattle.lalrpop_lr1.proofs.ToldByTables.{decided, parsed, refused, limited, trees_told, run_told}
 use Rattle.lalrpop_lr1.proofs.headline.parse.Goals as goal
 
-pub interpret-requires-clause-coherent : goal.interpret-requires-clause-coherent
-interpret-requires-clause-coherent c = subst AreCoherent (sym c.deref.ensures.value) c.in-Ok.ensures.tables.coherent
+pub parse_by_tables-requires-clause-coherent : goal.parse_by_tables-requires-clause-coherent
+parse_by_tables-requires-clause-coherent c = are_coherent (Collapses c.args.grammar.now c.args.options.now) c.args.options.now.method c.args.options.now.max_copies c.args.grammar.now c.args.start c.in-Ok.name c.in-Ok.ensures c.in-Ok-build_states.states.items c.deref.result.now c.deref.ensures.value c.in-Ok-build_states.ensures.tables
 
-pub interpret-requires-clause-some : goal.interpret-requires-clause-some
-interpret-requires-clause-some c = subst (λ (states : List (State Bits)). 0 < length states) (sym c.deref.ensures.value) c.in-Ok.ensures.tables.some
+pub parse_by_tables-requires-clause-some : goal.parse_by_tables-requires-clause-some
+parse_by_tables-requires-clause-some c = are_some (Collapses c.args.grammar.now c.args.options.now) c.args.options.now.method c.args.options.now.max_copies c.args.grammar.now c.args.start c.in-Ok.name c.in-Ok.ensures c.in-Ok-build_states.states.items c.deref.result.now c.deref.ensures.value c.in-Ok-build_states.ensures.tables
 
-pub returns-in-Ok-clause-decides : goal.returns-in-Ok-clause-decides
-returns-in-Ok-clause-decides c = decided c.args.grammar.now c.args.options.now c.args.start c.in-Ok.states.items c.deref.result.now c.deref.ensures.value c.in-Ok.ensures.tables c.args.tokens.items c.args.limit c.interpret.result c.told_by.result c.told_by.ensures
+pub parse_by_tables-requires-clause-faithful : goal.parse_by_tables-requires-clause-faithful
+parse_by_tables-requires-clause-faithful c = are_faithful (Collapses c.args.grammar.now c.args.options.now) c.args.options.now.method c.args.options.now.max_copies c.args.grammar.now c.args.start c.in-Ok.name c.in-Ok.ensures c.in-Ok-build_states.states.items c.deref.result.now c.deref.ensures.value c.in-Ok-build_states.ensures.tables
 
-pub returns-in-Ok-clause-parses : goal.returns-in-Ok-clause-parses
-returns-in-Ok-clause-parses c = parsed c.args.grammar.now c.args.options.now c.args.start c.in-Ok.states.items c.deref.result.now c.deref.ensures.value c.in-Ok.ensures.tables c.args.tokens.items c.args.limit c.interpret.result c.told_by.result c.told_by.ensures c.interpret.ensures.parsed
+pub returns-in-Ok-build_states-clause-decides : goal.returns-in-Ok-build_states-clause-decides
+returns-in-Ok-build_states-clause-decides c = decided c.args.grammar.now c.args.options.now c.args.start c.in-Ok.name c.in-Ok.ensures c.in-Ok-build_states.states.items c.deref.result.now c.deref.ensures.value c.in-Ok-build_states.ensures.tables c.args.tokens.items c.args.limit c.parse_by_tables.result c.told_by.result c.told_by.ensures
 
-pub returns-in-Ok-clause-refuses : goal.returns-in-Ok-clause-refuses
-returns-in-Ok-clause-refuses c = refused c.args.grammar.now c.args.options.now c.args.start c.in-Ok.states.items c.deref.result.now c.deref.ensures.value c.in-Ok.ensures.tables c.args.tokens.items c.args.limit c.interpret.result c.told_by.result c.told_by.ensures c.interpret.ensures.refused
+pub returns-in-Ok-build_states-clause-parses : goal.returns-in-Ok-build_states-clause-parses
+returns-in-Ok-build_states-clause-parses c = parsed c.args.grammar.now c.args.options.now c.args.start c.in-Ok.name c.in-Ok.ensures c.in-Ok-build_states.states.items c.deref.result.now c.deref.ensures.value c.in-Ok-build_states.ensures.tables c.args.tokens.items c.args.limit c.parse_by_tables.result c.told_by.result c.told_by.ensures c.parse_by_tables.ensures.parses
 
-pub returns-in-Ok-clause-limit : goal.returns-in-Ok-clause-limit
-returns-in-Ok-clause-limit c = limited c.args.grammar.now c.args.options.now c.args.start c.in-Ok.states.items c.deref.result.now c.deref.ensures.value c.in-Ok.ensures.tables c.args.tokens.items c.args.limit c.interpret.result c.told_by.result c.told_by.ensures c.interpret.ensures.limit
+pub returns-in-Ok-build_states-clause-refuses : goal.returns-in-Ok-build_states-clause-refuses
+returns-in-Ok-build_states-clause-refuses c = refused c.args.grammar.now c.args.options.now c.args.start c.in-Ok.name c.in-Ok.ensures c.in-Ok-build_states.states.items c.deref.result.now c.deref.ensures.value c.in-Ok-build_states.ensures.tables c.args.tokens.items c.args.limit c.parse_by_tables.result c.told_by.result c.told_by.ensures c.parse_by_tables.ensures.refuses
 
-pub returns-in-Ok-clause-one_tree : goal.returns-in-Ok-clause-one_tree
-returns-in-Ok-clause-one_tree c = trees_told c.args.grammar.now c.args.options.now c.args.start c.in-Ok.states.items c.deref.result.now c.deref.ensures.value c.in-Ok.ensures.tables c.args.tokens.items c.args.limit c.interpret.result c.told_by.result c.told_by.ensures c.interpret.ensures.parses
+pub returns-in-Ok-build_states-clause-limit : goal.returns-in-Ok-build_states-clause-limit
+returns-in-Ok-build_states-clause-limit c = limited c.args.grammar.now c.args.options.now c.args.start c.in-Ok.name c.in-Ok.ensures c.in-Ok-build_states.states.items c.deref.result.now c.deref.ensures.value c.in-Ok-build_states.ensures.tables c.args.tokens.items c.args.limit c.parse_by_tables.result c.told_by.result c.told_by.ensures c.parse_by_tables.ensures.limit
 
-pub returns-in-Ok-clause-run : goal.returns-in-Ok-clause-run
-returns-in-Ok-clause-run c had = run_told c.args.grammar.now c.args.options.now c.args.start c.in-Ok.states.items c.deref.result.now c.deref.ensures.value c.in-Ok.ensures.tables c.args.tokens.items c.args.limit c.interpret.result c.told_by.result c.told_by.ensures c.interpret.ensures.outcome c.interpret.ensures.of_list c.interpret.ensures.within c.interpret.ensures.limit
+pub returns-in-Ok-build_states-clause-one_tree : goal.returns-in-Ok-build_states-clause-one_tree
+returns-in-Ok-build_states-clause-one_tree c = trees_told c.args.grammar.now c.args.options.now c.args.start c.in-Ok.name c.in-Ok.ensures c.in-Ok-build_states.states.items c.deref.result.now c.deref.ensures.value c.in-Ok-build_states.ensures.tables c.args.tokens.items c.args.limit c.parse_by_tables.result c.told_by.result c.told_by.ensures c.parse_by_tables.ensures.one_tree
+
+pub returns-in-Ok-build_states-clause-run : goal.returns-in-Ok-build_states-clause-run
+returns-in-Ok-build_states-clause-run c had = run_told c.args.grammar.now c.args.options.now c.args.start c.in-Ok.name c.in-Ok.ensures c.in-Ok-build_states.states.items c.deref.result.now c.deref.ensures.value c.in-Ok-build_states.ensures.tables c.args.tokens.items c.args.limit c.parse_by_tables.result c.told_by.result c.told_by.ensures c.parse_by_tables.ensures.run c.parse_by_tables.ensures.of_list c.parse_by_tables.ensures.within c.parse_by_tables.ensures.limit

@@ -1,35 +1,74 @@
 //! The actions of a state that are traced.
-ghost use Rattle.std.specs.Prelude.{◌≡◌, ◌++◌, IfOk, OnOk, List, map};
+ghost use Rattle.std.specs.Prelude.{◌++◌, ◌↔◌, ℕ, IfOk, IsTrue, OnOk, List, map};
 ghost use Rattle.std.specs.List.{flat_map};
+ghost use Rattle.lalrpop_base.specs.Words.{has};
 ghost use Rattle.lalrpop_base.specs.declared.lr1_core.state.Action.{Action as TheAction};
-ghost use Rattle.lalrpop_tables.specs.LaneStates.{ActionsAscend, AreActions, asked_actions, conflict_actions, reduce_action};
+ghost use Rattle.lalrpop_tables.specs.HeldShifts.{held_shift, IsHeldBit};
+ghost use Rattle.lalrpop_tables.specs.LaneStates.{ActionsAscend, AreActions, asked_actions, reduce_action};
 
+use crate::conflicts::holds_terminal;
 use lalrpop_base::collections::Set;
 use lalrpop_base::lookahead::token_set::TokenSet;
-use lalrpop_base::lr1_core::conflict::conflicts;
-use lalrpop_base::lr1_core::state::{Action, Conflict, Lr1Conflict, Lr1State};
+use lalrpop_base::lr1_core::state::{Action, Lr1State, StateIndex};
 use lalrpop_base::memory::OutOfMemory;
-use lalrpop_base::repr::Production;
 use lalrpop_base::repr::terminals::TerminalSet;
+use lalrpop_base::repr::{Production, TerminalString};
 use std::alloc::Global;
+use std::collections::BTreeMap;
 
-// Adds both actions of each conflict.
-fn add_conflicts<'grammar>(
-    conflicts: Vec<Lr1Conflict<'grammar>>,
+// The tokens that some reduction holds.
+fn held_tokens<'grammar>(
+    alloc: Global,
+    reductions: &[(TokenSet, &'grammar Production)],
+    terminals: &TerminalSet,
+) -> Result<TokenSet, OutOfMemory>
+    ensures { IfOk result
+        (λ held. (bit : ℕ) → IsTrue (has held bit) ↔ IsHeldBit reductions.now bit) }
+{
+    let mut held = TokenSet::new(alloc, terminals);
+    for reduction in reductions {
+        held.union_with(&reduction.0)?;
+    }
+    Ok(held)
+}
+
+// Adds a shift, if its terminal is held.
+fn add_shift<'grammar>(
+    alloc: Global,
+    terminal: &TerminalString,
+    target: StateIndex,
+    held: &TokenSet,
+    terminals: &TerminalSet,
     actions: &mut Set<Action<'grammar>>,
 ) -> Result<(), OutOfMemory>
     ensures { OnOk result ((asked : List TheAction) →
         AreActions asked actions.old.keys →
-        AreActions (asked ++ flat_map conflict_actions conflicts.entry.items) actions.new.keys) }
+        AreActions (asked ++ held_shift terminals.now held.now (terminal.now, target))
+        actions.new.keys) }
 {
-    for conflict in conflicts {
-        let Conflict {
-            production,
-            action,
-            ..
-        } = conflict;
-        actions.insert(Action::Reduce(production))?;
-        actions.insert(action)?;
+    let _all = terminals.all();
+    if !holds_terminal(alloc, held, terminal, terminals)? {
+        return Ok(());
+    }
+    actions.insert(Action::Shift(terminal.clone(alloc)?, target))?;
+    Ok(())
+}
+
+// Adds each shift whose terminal is held.
+fn add_shifts<'grammar>(
+    alloc: Global,
+    shifts: &BTreeMap<TerminalString, StateIndex>,
+    held: &TokenSet,
+    terminals: &TerminalSet,
+    actions: &mut Set<Action<'grammar>>,
+) -> Result<(), OutOfMemory>
+    ensures { OnOk result ((asked : List TheAction) →
+        AreActions asked actions.old.keys →
+        AreActions (asked ++ flat_map (held_shift terminals.now held.now) shifts.now.entries)
+        actions.new.keys) }
+{
+    for (terminal, target) in shifts.iter() {
+        add_shift(alloc, terminal, *target, held, terminals, actions)?;
     }
     Ok(())
 }
@@ -49,7 +88,8 @@ fn add_reductions<'grammar>(
     Ok(())
 }
 
-/// The actions of the state's conflicts, and all its reductions.
+/// The actions of the state's conflicts, and all its reductions. No conflict is listed: besides
+/// reductions these have the shifts of terminals that some reduction holds.
 pub(super) fn actions_of<'grammar>(
     alloc: Global,
     state: &Lr1State<'grammar>,
@@ -59,8 +99,9 @@ pub(super) fn actions_of<'grammar>(
         (λ actions. AreActions (asked_actions terminals.now state.now) actions.keys) }
     ensures ascend { IfOk result (λ actions. ActionsAscend actions.keys) }
 {
+    let held = held_tokens(alloc, &state.reductions, terminals)?;
     let mut actions = Set::new(alloc);
-    add_conflicts(conflicts(alloc, state, terminals)?, &mut actions)?;
+    add_shifts(alloc, &state.shifts, &held, terminals, &mut actions)?;
     add_reductions(&state.reductions, &mut actions)?;
     let _count = actions.len();
     Ok(actions)

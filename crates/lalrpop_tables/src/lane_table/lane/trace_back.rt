@@ -1,14 +1,16 @@
 //! Traces a place back, over edges and without symbols.
 ghost use Rattle.std.specs.Prelude.{◌≡◌, ◌<◌, OnErr, OnOk, Contains, length};
 ghost use Rattle.lalrpop_base.specs.Words.{productions, rules_of};
-ghost use Rattle.lalrpop_tables.specs.LaneSteps.{GainsAll, GainsOf, GainsSomeOf, GainsSomeOfAll, IsEndPlace, IsGround, VisitsOf};
+ghost use Rattle.lalrpop_tables.specs.LaneSteps.{AreExpanded, GainsAll, GainsOf, GainsSomeOf, GainsSomeOfAll, IsEndPlace, IsGround, VisitsOf};
 ghost use Rattle.lalrpop_tables.specs.LaneTables.{AreInRange};
 ghost use Rattle.lalrpop_tables.specs.LaneTraces.{TakesLane, TakesPartOfLane, places_in};
 
+use super::expanded::Expanded;
 use super::ground::Ground;
 use super::unepsilon::unepsilon;
 use super::unshift::unshift;
 use super::walk::Walk;
+use crate::check::sets::add_key;
 use crate::lane_table::context_set::ConflictIndex;
 use crate::lane_table::table::LaneTable;
 use crate::place::Place;
@@ -18,8 +20,9 @@ use lalrpop_base::lr1_core::state::StateIndex;
 use lalrpop_base::memory::OutOfMemory;
 use lalrpop_base::repr::Production;
 use std::alloc::Global;
+use std::collections::BTreeSet;
 
-// Steps back from a place.
+// Steps back from a place: from the starts of a nonterminal's productions in a state only once.
 fn step<'grammar, L>(
     alloc: Global,
     ground: &Ground<'_, 'grammar, L>,
@@ -27,19 +30,26 @@ fn step<'grammar, L>(
     conflict: ConflictIndex,
     table: &mut LaneTable<'grammar>,
     walk: &mut Walk<'grammar>,
+    expanded: &mut BTreeSet<Expanded<'grammar>>,
 ) -> Result<(), OutOfMemory>
     requires there { conflict.index < table.old.conflicts }
     requires ground { IsGround ground.now }
     requires listed { place.now.state < length ground.now.states.now }
+    requires expanded { AreExpanded ground.now conflict.index table.old walk.old expanded.old.keys }
     ensures gains { OnOk result (GainsOf ground.now place.now conflict.index table.old table.new) }
     ensures part { OnErr result
         (GainsSomeOf ground.now place.now conflict.index table.old table.new) }
     ensures visits { OnOk result (VisitsOf ground.now place.now walk.old walk.new) }
+    ensures expanded { OnOk result
+        (AreExpanded ground.now conflict.index table.new walk.new expanded.new.keys) }
     ensures columns { table.new.conflicts ≡ table.old.conflicts }
     ensures in_range { AreInRange table.old → AreInRange table.new }
 {
     if place.is_past_start() {
         unshift(ground, place, table, walk)?;
+        return Ok(());
+    }
+    if !add_key(expanded, Expanded::at(place))? {
         return Ok(());
     }
     unepsilon(alloc, ground, place, conflict, table, walk)?;
@@ -66,8 +76,17 @@ fn trace_back<'grammar, L>(
 {
     let mut walk = Walk::new(alloc);
     walk.visit(first)?;
+    let mut expanded = BTreeSet::new(alloc);
     while let Some(place) = walk.waiting.pop_front() {
-        step(alloc, ground, &place, conflict, table, &mut walk)?;
+        step(
+            alloc,
+            ground,
+            &place,
+            conflict,
+            table,
+            &mut walk,
+            &mut expanded,
+        )?;
     }
     Ok(())
 }

@@ -4,38 +4,39 @@ use Rattle.lalrpop_base.specs.Words.{contents, IsOnNoRightSide, AreFaithful, IsL
 use Rattle.lalrpop_base.specs.declared.repr.NonterminalString.{NonterminalString}
 use Rattle.lalrpop_base.specs.declared.repr.grammar.Grammar.{Grammar}
 use Rattle.lalrpop_tables.specs.Words.{AreCopiedTables, AreLalrLaneTables, AreLaneTables, PassCheck}
-use Rattle.lalrpop_tables.proofs.ByLanes.{Kept-said, Lanes-pass, Passing-said}
+use Rattle.lalrpop_tables.proofs.ByLanes.{Kept-said, Lanes-pass, Passing-said, and_told, if_told, nothing_told, there_told}
 use Rattle.lalrpop_tables.proofs.build.by_lanes.lane_tables.Goals as goal
 
 -- ---- tables that were checked
-pub returns-in-Ok-clause-copied : goal.returns-in-Ok-clause-copied
-returns-in-Ok-clause-copied c =
+pub returns-clause-copied : goal.returns-clause-copied
+returns-clause-copied c =
     let g = c.args.grammar.now in
-    let tables = c.in-Ok.tables.items in
+    let tables = c.in-Some.tables.items in
     let of = c.in_ok-construct.construct in
     let over = c.in_ok-construct.ensures.over in
     let Told : Grammar → NonterminalString → ℕ → Type 0 = λ g start copies. AreCopiedTables (rules_of g) start copies tables in
-    let of_grammar = subst (λ g. Told g of.start of.max_copies) over.0 c.in-Ok.ensures.tables in
+    let of_grammar = subst (λ g. Told g of.start of.max_copies) over.0 (there_told c.in_ok-tables.field-0 (c.in-Some.tables, c.in-Some.at_once) _ _ c.in-Some.is c.in_ok-tables.ensures.tables) in
     let of_start = subst (λ start. Told g start of.max_copies) (over.1 ∙ c.in_ok-first.ensures) of_grammar in
     let copied = subst (Told g c.args.start.now) over.2 of_start in
     Kept-said (λ tables. tables.items) tables (AreCopiedTables (rules_of g) c.args.start.now c.args.max_copies) copied c.where_checked.result c.where_checked.ensures.kept
 
-pub returns-in-Ok-clause-faithful : goal.returns-in-Ok-clause-faithful
-returns-in-Ok-clause-faithful c =
+pub returns-clause-faithful : goal.returns-clause-faithful
+returns-clause-faithful c =
     subst (λ (start : NonterminalString). IfOk c.where_checked.result (λ answer. IfSome answer (λ tables. AreFaithful (productions c.args.grammar.now) start (contents c.args.grammar.now.terminals tables.items))))
-    c.in_ok-clone-in-Ok.ensures c.where_checked.ensures.faithful
+    c.in_ok-clone.ensures c.where_checked.ensures.faithful
 
-pub returns-in-Ok-clause-lalr : goal.returns-in-Ok-clause-lalr
-returns-in-Ok-clause-lalr c alone lalr =
+pub returns-clause-lalr : goal.returns-clause-lalr
+returns-clause-lalr c alone lalr =
     let g = c.args.grammar.now in
-    let tables = c.in-Ok.tables.items in
+    let tables = c.in-Some.tables.items in
     let of = c.in_ok-construct.construct in
     let over = c.in_ok-construct.ensures.over in
     let Told : Grammar → NonterminalString → Type 0 = λ g start. IsOnNoRightSide (productions g) start → IsLALR1 (productions g) start → AreLalrLaneTables (rules_of g) start tables in
-    let of_grammar = subst (λ g. Told g of.start) over.0 c.in-Ok.ensures.lalr in
+    let of_construct : Told of.grammar.now of.start = λ alone lalr. and_told c.in_ok-tables.field-0 (c.in-Some.tables, c.in-Some.at_once) _ c.in-Some.is (c.in_ok-tables.ensures.lalr alone lalr) in
+    let of_grammar = subst (λ g. Told g of.start) over.0 of_construct in
     let told = subst (Told g) (over.1 ∙ c.in_ok-first.ensures) of_grammar alone lalr in
     let pass = Lanes-pass g c.args.start.now tables told in
-    let passing = c.where_checked.ensures.passing (subst (λ (start : NonterminalString). PassCheck g start tables) (sym c.in_ok-clone-in-Ok.ensures) pass) in
+    let passing = c.where_checked.ensures.passing (subst (λ (start : NonterminalString). PassCheck g start tables) (sym c.in_ok-clone.ensures) pass) in
     Passing-said (λ tables. tables.items) tables (AreLaneTables (rules_of g) c.args.start.now) told.lanes c.where_checked.result passing c.where_checked.ensures.kept
 
 -- ---- tables that were made at once
@@ -43,17 +44,17 @@ pub returns-then-is_on_no_right_side-clause-copied : goal.returns-then-is_on_no_
 returns-then-is_on_no_right_side-clause-copied c =
     let of = c.in_ok-construct.construct in
     let over = c.in_ok-construct.ensures.over in
-    let Told : Grammar → NonterminalString → ℕ → Type 0 = λ g start copies. AreCopiedTables (rules_of g) start copies c.in-Ok.tables.items in
-    let of_grammar = subst (λ g. Told g of.start of.max_copies) over.0 c.in-Ok.ensures.tables in
+    let Told : Grammar → NonterminalString → ℕ → Type 0 = λ g start copies. AreCopiedTables (rules_of g) start copies c.in-Some.tables.items in
+    let of_grammar = subst (λ g. Told g of.start of.max_copies) over.0 (there_told c.in_ok-tables.field-0 (c.in-Some.tables, c.in-Some.at_once) _ _ c.in-Some.is c.in_ok-tables.ensures.tables) in
     let of_start = subst (λ start. Told c.args.grammar.now start of.max_copies) (over.1 ∙ c.in_ok-first.ensures) of_grammar in
     subst (Told c.args.grammar.now c.args.start.now) over.2 of_start
 
-made_at_once : (c : goal.Then-is_on_no_right_side) → AreLalrLaneTables (rules_of c.args.grammar.now) c.args.start.now c.in-Ok.tables.items
+made_at_once : (c : goal.Then-is_on_no_right_side) → AreLalrLaneTables (rules_of c.args.grammar.now) c.args.start.now c.in-Some.tables.items
 made_at_once c =
     let of = c.in_ok-construct.construct in
     let over = c.in_ok-construct.ensures.over in
-    let Told : Grammar → NonterminalString → Type 0 = λ g start. IsOnNoRightSide (productions g) start → AreLalrLaneTables (rules_of g) start c.in-Ok.tables.items in
-    let of_grammar = subst (λ g. Told g of.start) over.0 (c.in-Ok.ensures.at_once c.if-at_once.true) in
+    let Told : Grammar → NonterminalString → Type 0 = λ g start. IsOnNoRightSide (productions g) start → AreLalrLaneTables (rules_of g) start c.in-Some.tables.items in
+    let of_grammar = subst (λ g. Told g of.start) over.0 (if_told c.in_ok-tables.field-0 (c.in-Some.tables, c.in-Some.at_once) _ c.in-Some.is c.in_ok-tables.ensures.at_once c.if-at_once.true) in
     subst (Told c.args.grammar.now) (over.1 ∙ c.in_ok-first.ensures) of_grammar (c.is_on_no_right_side.ensures.0 c.if-is_on_no_right_side.true)
 
 pub returns-then-is_on_no_right_side-clause-faithful : goal.returns-then-is_on_no_right_side-clause-faithful
@@ -63,12 +64,12 @@ pub returns-then-is_on_no_right_side-clause-lalr : goal.returns-then-is_on_no_ri
 returns-then-is_on_no_right_side-clause-lalr c _ _ = (made_at_once c).lanes
 
 -- ---- no tables
-pub returns-in-Err-Conflicts-clause-lalr : goal.returns-in-Err-Conflicts-clause-lalr
-returns-in-Err-Conflicts-clause-lalr c alone lalr =
+pub returns-in_default-clause-lalr : goal.returns-in_default-clause-lalr
+returns-in_default-clause-lalr c alone lalr =
     let g = c.args.grammar.now in
     let of = c.in_ok-construct.construct in
     let over = c.in_ok-construct.ensures.over in
     let Told : Grammar → NonterminalString → Type 0 = λ g start. IsOnNoRightSide (productions g) start → IsLALR1 (productions g) start → ⊥ in
-    let of_construct : Told of.grammar.now of.start = λ alone lalr. rw c.in-Err-Conflicts.field-0-is at (c.in-Err-Conflicts.ensures.lalr alone) lalr in
+    let of_construct : Told of.grammar.now of.start = λ alone lalr. nothing_told c.in_ok-tables.field-0 _ c.in_default.is (c.in_ok-tables.ensures.lalr alone lalr) in
     let of_grammar = subst (λ g. Told g of.start) over.0 of_construct in
     absurd (subst (Told g) (over.1 ∙ c.in_ok-first.ensures) of_grammar alone lalr)

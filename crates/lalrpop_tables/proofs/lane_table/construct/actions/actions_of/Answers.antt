@@ -1,17 +1,21 @@
-use Rattle.std.proofs.Common.{List, [], ◌++◌, ◌∙◌, ap, map}
-use Rattle.std.specs.Borrow.{Bor}
+use Rattle.std.proofs.Common.{◌↔◌, ◌++◌, ℕ, List, [], ap, map, subst}
+use Rattle.std.specs.Prelude.{IsTrue}
 use Rattle.std.specs.List.{flat_map}
-use Rattle.lalrpop_base.specs.Words.{Bits, state_conflicts}
-use Rattle.lalrpop_base.specs.declared.lr1_core.state.Conflict.{Conflict}
-use Rattle.lalrpop_base.specs.declared.repr.Production.{Production}
-use Rattle.lalrpop_tables.specs.Words.{conflict_actions, reduce_action}
-use Rattle.lalrpop_tables.proofs.LaneActions.{no_actions, asked_same}
+use Rattle.lalrpop_base.specs.StateConflicts.{Reduction}
+use Rattle.lalrpop_base.specs.Words.{has}
+use Rattle.lalrpop_base.specs.declared.lr1_core.state.Action.{Action as TheAction}
+use Rattle.lalrpop_tables.specs.HeldShifts.{held_shift, IsHeldBit}
+use Rattle.lalrpop_tables.specs.Words.{reduce_action}
+use Rattle.lalrpop_tables.proofs.HeldShifts.{gathered_asked}
+use Rattle.lalrpop_tables.proofs.LaneActions.{asked_same, no_actions}
 use Rattle.lalrpop_tables.proofs.lane_table.construct.actions.actions_of.Goals as goal
 
 pub returns-clause-actions : goal.returns-clause-actions
 returns-clause-actions c =
-    let conflicts : List (Conflict Bits) = c.in_ok-conflicts.field-0.items in
-    let reductions : List (Bits × Bor Production) = c.deref.result.now in
-    let same = ap (λ (cs : List (Conflict Bits)). flat_map conflict_actions cs ++ map reduce_action reductions) c.in_ok-conflicts.ensures.list
-    ∙ ap (λ (rs : List (Bits × Bor Production)). flat_map conflict_actions (state_conflicts c.args.terminals.now c.args.state.now) ++ map reduce_action rs) c.deref.ensures.value in
-    asked_same _ _ _ same (c.in_ok-add_reductions.ensures (flat_map conflict_actions conflicts) (c.in_ok-add_conflicts.ensures [] (no_actions _ c.new-actions.ensures.empty)))
+    let terminals = c.args.terminals.now in
+    let state = c.args.state.now in
+    let held = c.in_ok-held.held in
+    let shifts : List TheAction = flat_map (held_shift terminals held) state.shifts.entries in
+    let tokens = subst (λ (rs : List Reduction). (bit : ℕ) → IsTrue (has held bit) ↔ IsHeldBit rs bit) c.deref.ensures.value c.in_ok-held.ensures in
+    let all = c.in_ok-add_reductions.ensures shifts (c.in_ok-add_shifts.ensures [] (no_actions _ c.new-actions.ensures.empty)) in
+    gathered_asked terminals state held tokens _ (asked_same _ _ _ (ap (λ (rs : List Reduction). shifts ++ map reduce_action rs) c.deref-2.ensures.value) all)

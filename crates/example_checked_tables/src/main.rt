@@ -1,0 +1,57 @@
+//! Asks of tables, whoever made them, whether they are those of a grammar: `check_tables` says so
+//! of the tables that were built, and not of these once each reduction has lost the end of input.
+#![tactic(auto)]
+
+ghost use Rattle.lalrpop_base.specs.Words.{IsWellFormed};
+
+use anyhow::bail;
+use grammar_text::grammar::read;
+use grammar_text::symbols::name_of;
+use lalrpop_base::lr1_core::coherent::are_coherent;
+use lalrpop_base::lr1_core::state::Lr1State;
+use lalrpop_base::memory::OutOfMemory;
+use lalrpop_base::repr::NonterminalString;
+use lalrpop_base::repr::grammar::Grammar;
+use lalrpop_tables::build::Options;
+use lalrpop_tables::check::check_tables;
+use lalrpop_tables::lr1::build_states;
+use std::alloc::Global;
+
+const TEXT: &str = "S = E\nE = E \"+\" T\nE = T\nT = \"n\"";
+
+fn main(rt: HostRuntime) -> anyhow::Result<()> {
+    let alloc = rt.alloc();
+    let Ok(grammar) = read(alloc, TEXT) else {
+        bail!("the text stands for no grammar");
+    };
+    let start = name_of(alloc, "S")?;
+    let mut states = build_states(alloc, &grammar, start.clone(alloc)?, &Options::default())?;
+    let first = start.clone(alloc)?;
+    println!(rt; "built: {}", are_tables(alloc, &grammar, first, &states)?)?;
+    for state in &mut states {
+        for reduction in &mut state.reductions {
+            reduction.0.take_eof(&grammar.terminals);
+        }
+    }
+    println!(rt; "changed: {}", are_tables(alloc, &grammar, start, &states)?)?;
+    Ok(())
+}
+
+// Whether some states are tables of the grammar. States that don't lead to one another, and no
+// state at all, are none, and the check may not be asked of them.
+fn are_tables<'grammar>(
+    alloc: Global,
+    grammar: &'grammar Grammar,
+    start: NonterminalString,
+    states: &[Lr1State<'grammar>],
+) -> Result<bool, OutOfMemory>
+    requires { IsWellFormed grammar.now }
+{
+    if !are_coherent(states) {
+        return Ok(false);
+    }
+    if states.is_empty() {
+        return Ok(false);
+    }
+    check_tables(alloc, grammar, start, states)
+}

@@ -1,0 +1,91 @@
+//! Prints the LR(1) tables of a grammar as a generator of parsers would: a row for each state, with
+//! a column for each terminal and the end of the input, or for each nonterminal. An action n > 0
+//! shifts and goes to state n, -1 - p reduces by the production with action p, and 0 is none.
+#![tactic(auto)]
+
+use anyhow::bail;
+use grammar_text::grammar::read;
+use grammar_text::symbols::name_of;
+use lalrpop_base::lookahead::token::Token;
+use lalrpop_base::lr1_core::ActionEntry;
+use lalrpop_base::lr1_core::state::Lr1State;
+use lalrpop_base::memory::OutOfMemory;
+use lalrpop_base::repr::grammar::Grammar;
+use lalrpop_base::repr::terminals::TerminalSet;
+use lalrpop_tables::build::Options;
+use lalrpop_tables::lr1::build_states;
+use std::alloc::Global;
+
+const TEXT: &str = "S = E\nE = E \"+\" T\nE = T\nT = \"n\"";
+
+fn main(rt: HostRuntime) -> anyhow::Result<()> {
+    let alloc = rt.alloc();
+    let Ok(grammar) = read(alloc, TEXT) else {
+        bail!("the text stands for no grammar");
+    };
+    let states = build_states(alloc, &grammar, name_of(alloc, "S")?, &Options::default())?;
+    let tokens = tokens_of(alloc, &grammar.terminals)?;
+    let (count, width) = (states.len(), tokens.len());
+    println!(rt; "static ACTIONS: [[i32; {width}]; {count}] = [")?;
+    for state in &states {
+        let row = actions(alloc, state, &tokens, &grammar.terminals)?;
+        println!(rt; "    {row:?},")?;
+    }
+    let width = grammar.nonterminals.len();
+    println!(rt; "];\nstatic GOTOS: [[usize; {width}]; {count}] = [")?;
+    for state in &states {
+        let row = gotos(alloc, state, &grammar)?;
+        println!(rt; "    {row:?},")?;
+    }
+    println!(rt; "];")?;
+    Ok(())
+}
+
+// The terminals, and the end of the input.
+fn tokens_of(alloc: Global, terminals: &TerminalSet) -> Result<Vec<Token>, OutOfMemory> {
+    let mut tokens = Vec::new(alloc);
+    for terminal in terminals.all() {
+        tokens.push(Token::Terminal(terminal.clone(alloc)?))?;
+    }
+    tokens.push(Token::Eof)?;
+    Ok(tokens)
+}
+
+// The row of a state in ACTIONS.
+fn actions(
+    alloc: Global,
+    state: &Lr1State<'_>,
+    tokens: &[Token],
+    terminals: &TerminalSet,
+) -> anyhow::Result<Vec<i32>> {
+    let mut row = Vec::new(alloc);
+    for token in tokens {
+        row.push(action(state, token, terminals)?)?;
+    }
+    Ok(row)
+}
+
+// What a state does on a token, as a number.
+fn action(state: &Lr1State<'_>, token: &Token, terminals: &TerminalSet) -> anyhow::Result<i32> {
+    match state.action(token, terminals) {
+        Some(ActionEntry::Shift(target)) => Ok(i32::try_from(target.0)?),
+        Some(ActionEntry::Reduce(production)) => Ok(!i32::try_from(production.action.index())?),
+        None => Ok(0),
+    }
+}
+
+// The row of a state in GOTOS.
+fn gotos(
+    alloc: Global,
+    state: &Lr1State<'_>,
+    grammar: &Grammar,
+) -> Result<Vec<usize>, OutOfMemory> {
+    let mut row = Vec::new(alloc);
+    for (name, _) in grammar.nonterminals.iter() {
+        match state.goto(name) {
+            Some(target) => row.push(target.0)?,
+            None => row.push(0)?,
+        }
+    }
+    Ok(row)
+}

@@ -1,0 +1,55 @@
+//! The promise of tables at hand: by states that are faithful to a grammar, exactly its parse trees.
+ghost use Rattle.std.specs.Prelude.{◌≡◌, ◌<◌, ◌≤◌, length, IfOk, IfErr};
+ghost use Rattle.lalrpop_base.specs.Words.{AreCoherent, AreFaithful, contents, IsOnNoRightSide, HasOutcome, IsFirstWrong, productions};
+ghost use Rattle.lalrpop_base.specs.Words.{beside, no_trees, leaves, nodes};
+ghost use Rattle.lalrpop_lr1.specs.Answers.{IsAnswer};
+ghost use Rattle.lalrpop_lr1.specs.FaithfulAnswers.{AnswersTrees, IfLimit, IfRefused, IsCutOff, IsLimit, IsTreeWithin};
+ghost use Rattle.lalrpop_lr1.specs.ParseTrees.{tree_of};
+
+use crate::interpret::{InterpretError, ParseTree, interpret};
+use lalrpop_base::lookahead::token_set::TokenSet;
+use lalrpop_base::lr1_core::state::Lr1State;
+use lalrpop_base::repr::grammar::Grammar;
+use lalrpop_base::repr::{NonterminalString, TerminalString};
+use std::alloc::Global;
+
+/// Parses a list of terminals by tables of a grammar, in at most so many steps. Whoever made the
+/// tables, they serve where `check_tables` says yes.
+pub fn parse_by_tables<'a, 'grammar>(
+    alloc: Global,
+    grammar: &Grammar,
+    start: &NonterminalString,
+    states: &'a [Lr1State<'grammar>],
+    tokens: Vec<TerminalString>,
+    limit: usize,
+) -> Result<ParseTree, InterpretError<'a, 'grammar, TokenSet>>
+    requires coherent { AreCoherent states.now }
+    requires some { 0 < length states.now }
+    requires faithful { AreFaithful (productions grammar.now) start.now
+        (contents grammar.now.terminals states.now) }
+
+    // Where the start symbol is on no right side: a tree is a parse tree within the limit,
+    ensures parses { IfOk result (λ tree. IsOnNoRightSide (productions grammar.now) start.now →
+        IsTreeWithin limit tokens.items (tree_of tree) (productions grammar.now) start.now) }
+    // and a refusal names the first wrong token.
+    ensures refuses { IfErr result (IfRefused (λ _ token.
+        IsOnNoRightSide (productions grammar.now) start.now →
+        IsFirstWrong (productions grammar.now) start.now tokens.items token) states.now) }
+    // The limit is told exactly where that many steps were made and there is another.
+    ensures limit { IfErr result
+        (IfLimit (IsCutOff (contents grammar.now.terminals states.now) tokens.items limit)) }
+    ensures cut_off { IsCutOff (contents grammar.now.terminals states.now) tokens.items limit →
+        IsLimit result }
+    // A list with a parse tree has that tree as its answer, or the limit, and so it has one alone.
+    ensures one_tree { IsOnNoRightSide (productions grammar.now) start.now →
+        AnswersTrees limit tokens.items states.now result (productions grammar.now) start.now }
+
+    // Whatever the start symbol, the answer is what the run by the states comes to.
+    ensures run { IsAnswer
+        (HasOutcome (contents grammar.now.terminals states.now) tokens.items limit) states.now
+        result }
+    ensures of_list { IfOk result (λ tree. leaves (beside (tree_of tree) no_trees) ≡ tokens.items) }
+    ensures within { IfOk result (λ tree. nodes (beside (tree_of tree) no_trees) ≤ limit) }
+{
+    interpret(alloc, states, &grammar.terminals, tokens, limit)
+}

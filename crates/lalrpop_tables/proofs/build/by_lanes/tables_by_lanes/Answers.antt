@@ -1,0 +1,24 @@
+use Rattle.std.proofs.Common.{◌≡◌, ◌∙◌, true, false, sym, subst, rules, arith}
+use Rattle.std.specs.Prelude.{IfOk, IfSome}
+use Rattle.std.proofs.lemmas.Grind.{common_steps}
+use Rattle.lalrpop_tables.specs.Words.{AreBuiltTablesOf}
+use Rattle.lalrpop_tables.specs.declared.build.options.Method.{Method}
+use Rattle.lalrpop_tables.specs.declared.build.options.Method.TheVariants.{Lane}
+use Rattle.lalrpop_tables.proofs.ByLanes.{Lanes-answer, Lanes-there}
+use Rattle.lalrpop_tables.proofs.build.by_lanes.tables_by_lanes.Goals as goal
+
+pub returns-then-eq-clause-tables : goal.returns-then-eq-clause-tables
+returns-then-eq-clause-tables c =
+    let g = c.args.grammar.now in
+    let start = c.args.start.now in
+    let copies = c.args.options.now.max_copies in
+    let says = c.lane_tables.ensures in
+    let method : c.args.options.now.method ≡ Lane = first_of (search rules, grind (arith, common_steps)) in
+    subst (λ (m : Method). IfOk c.lane_tables.result (λ answer. IfSome answer (λ tables. AreBuiltTablesOf ⊥ m copies g start tables.items))) (sym method)
+    (Lanes-answer (λ tables. tables.items) g start copies c.lane_tables.result says.copied says.faithful says.lalr)
+
+pub returns-then-eq-clause-lalr : goal.returns-then-eq-clause-lalr
+returns-then-eq-clause-lalr c _ alone lalr = Lanes-there c.lane_tables.result _ (c.lane_tables.ensures.lalr alone lalr)
+
+pub returns-clause-lalr : goal.returns-clause-lalr
+returns-clause-lalr c lane _ _ = absurd (let e : true ≡ false = sym (rw lane at c.eq.ensures) ∙ c.if-eq.false in cc)

@@ -1,0 +1,133 @@
+//! Questions of the entries of states: actions, gotos and edges, and how many are in conflict.
+ghost use Rattle.lalrpop_base.specs.Words.{IsWellFormed};
+
+use super::arguments::{method_at, options_from};
+use super::states::{canonical_states, start_of};
+use crate::question::{Question, QuestionError};
+use crate::show::states::{push_counts, push_entry};
+use lalrpop_base::lookahead::token::Token;
+use lalrpop_base::lr1_core::conflict_count;
+use lalrpop_base::lr1_core::state::Lr1State;
+use lalrpop_base::memory::OutOfMemory;
+use lalrpop_base::repr::grammar::Grammar;
+use lalrpop_tables::lr1::build_states;
+use std::alloc::Global;
+
+/// The answer to a question of entries, where the call is one.
+pub fn answer(
+    alloc: Global,
+    question: &Question<'_>,
+    grammar: &Grammar,
+) -> Result<Option<String>, QuestionError>
+    requires { IsWellFormed grammar.now }
+{
+    match question.call {
+        "action" | "goto" | "edges" => Ok(Some(entries(alloc, question, grammar)?)),
+        "conflict_count" => Ok(Some(counts(alloc, question, grammar)?)),
+        _ => Ok(None),
+    }
+}
+
+// The entries of the tables of a grammar, state by state.
+fn entries(
+    alloc: Global,
+    question: &Question<'_>,
+    grammar: &Grammar,
+) -> Result<String, QuestionError>
+    requires { IsWellFormed grammar.now }
+{
+    let start = start_of(alloc, question, 1)?;
+    let options = options_from(question, 3, method_at(question, 2)?)?;
+    let mut text = String::new(alloc);
+    let built = build_states(alloc, grammar, start, &options);
+    let Ok(states) = &built else {
+        push_counts(&mut text, &built)?;
+        return Ok(text);
+    };
+    for state in states {
+        push_entries(alloc, &mut text, question, grammar, state)?;
+    }
+    Ok(text)
+}
+
+// How many conflicts each canonical state of a grammar has.
+fn counts(
+    alloc: Global,
+    question: &Question<'_>,
+    grammar: &Grammar,
+) -> Result<String, QuestionError>
+    requires { IsWellFormed grammar.now }
+{
+    let start = start_of(alloc, question, 1)?;
+    let states = canonical_states(alloc, grammar, start)?;
+    let mut text = String::new(alloc);
+    for state in &states {
+        match conflict_count(state, &grammar.terminals) {
+            Some(count) => write!(text, "state {}: {count}\n", state.index)?,
+            None => write!(text, "state {}: too many\n", state.index)?,
+        }
+    }
+    Ok(text)
+}
+
+// Appends the entries of a state that the question asks for.
+fn push_entries(
+    alloc: Global,
+    text: &mut String,
+    question: &Question<'_>,
+    grammar: &Grammar,
+    state: &Lr1State<'_>,
+) -> Result<(), OutOfMemory> {
+    write!(text, "state {}\n", state.index)?;
+    match question.call {
+        "action" => push_actions(alloc, text, grammar, state),
+        "goto" => push_gotos(text, grammar, state),
+        _ => push_edges(text, state),
+    }
+}
+
+// Appends what the state does on each terminal, on the end and on the error.
+fn push_actions(
+    alloc: Global,
+    text: &mut String,
+    grammar: &Grammar,
+    state: &Lr1State<'_>,
+) -> Result<(), OutOfMemory> {
+    for terminal in grammar.terminals.all() {
+        let token = Token::Terminal(terminal.clone(alloc)?);
+        push_entry(text, &token, state.action(&token, &grammar.terminals))?;
+    }
+    push_entry(
+        text,
+        &Token::Eof,
+        state.action(&Token::Eof, &grammar.terminals),
+    )?;
+    push_entry(
+        text,
+        &Token::Error,
+        state.action(&Token::Error, &grammar.terminals),
+    )
+}
+
+// Appends where the state leads by each nonterminal of the grammar.
+fn push_gotos(
+    text: &mut String,
+    grammar: &Grammar,
+    state: &Lr1State<'_>,
+) -> Result<(), OutOfMemory> {
+    for (name, _entry) in grammar.nonterminals.iter() {
+        match state.goto(name) {
+            Some(target) => write!(text, "  {name} to {target}\n")?,
+            None => write!(text, "  {name} -\n")?,
+        }
+    }
+    Ok(())
+}
+
+// Appends the edges of the state.
+fn push_edges(text: &mut String, state: &Lr1State<'_>) -> Result<(), OutOfMemory> {
+    for (symbol, target) in state.edges() {
+        write!(text, "  {symbol} to {target}\n")?;
+    }
+    Ok(())
+}
