@@ -1,5 +1,5 @@
 -- Lists in which each element stands before those behind it, and items in their order.
-use Rattle.std.proofs.Common.{◌≡◌, ℕ, zero, suc, ◌<◌, inl, inr, List, [], ◌∷◌, map, get_or, refl, sym, ◌∙◌, ap, subst, arith, Bool, true, false, cond, Some, option_map}
+use Rattle.std.proofs.Common.{◌≡◌, ℕ, zero, suc, ◌<◌, inl, inr, List, [], ◌∷◌, map, get_or, refl, sym, ◌∙◌, ap, subst, arith, Bool, true, false, cond}
 use Rattle.std.specs.Prelude.{Contains, slice_get, nat_lt, ◌==◌}
 use Rattle.std.specs.declared.cmp.Ordering.{Ordering}
 use Rattle.std.specs.declared.cmp.Ordering.TheVariants.{Less, Equal, Greater}
@@ -11,7 +11,7 @@ use Rattle.std.proofs.lemmas.Bool.{ltb-true}
 use Rattle.std.proofs.lemmas.Map.Keys.{Less-from_sorted}
 use Rattle.std.proofs.lemmas.Map.Lookups.{CmpEqualImpliesEq}
 use Rattle.std.proofs.lemmas.Option.{slice_get_within, get_or_from_slice_get, slice_get-map}
-use Rattle.lalrpop_base.specs.Words.{Bits, Ordered, Dotted}
+use Rattle.lalrpop_base.specs.Words.{Ordered, Dotted}
 use Rattle.lalrpop_base.specs.contracts.exact.ProductionExact.TheImpl as production_exactly
 use Rattle.lalrpop_base.specs.contracts.lookahead.nil.NilOrd.TheImpl as nil_ord
 use Rattle.lalrpop_base.specs.contracts.repr.ProductionOrd.TheImpl as production_ord
@@ -19,7 +19,7 @@ use Rattle.lalrpop_base.specs.contracts.repr.ProductionPartialEq.TheImpl as prod
 use Rattle.lalrpop_base.specs.declared.lookahead.nil.Nil.{Nil}
 use Rattle.lalrpop_base.specs.declared.repr.Production.{Production}
 use Rattle.lalrpop_base.proofs.ContentsViews.{some_of_map}
-use Rattle.lalrpop_tables.specs.Words.{production_order, Precedes, Ascend, item_of, readings}
+use Rattle.lalrpop_tables.specs.Words.{production_order, Precedes, Ascend, item_of}
 use Rattle.lalrpop_tables.proofs.Lists.{less-apart, place}
 use Rattle.lalrpop_tables.proofs.Places.{contains_at, same_some}
 use Rattle.lalrpop_tables.proofs.Updates.{exact_order, key_stands}
@@ -99,20 +99,3 @@ Table-ascend {L} es s i j a b l at_i at_j =
     let first : key_order e.0.0 (get_or (keys_of es) j d) ≡ Less = subst (λ (k : Dotted Nil). key_order k (get_or (keys_of es) j d) ≡ Less) (get_or_from_slice_get (keys_of es) i e.0.0 d key_i) less in
     let both : key_order e.0.0 f.0.0 ≡ Less = subst (λ (k : Dotted Nil). key_order e.0.0 k ≡ Less) (get_or_from_slice_get (keys_of es) j f.0.0 d key_j) first in
     subst (λ (x : Dotted L). Precedes a x) f.2 (subst (λ (x : Dotted L). Precedes x (item_of f.0)) e.2 (key_precedes e.0.0 f.0.0 both))
-
--- what lookaheads stand for has no part in the order
-pub Read-ascend : {L : Type 0} (meaning : L → Bits) (es : List (Dotted Nil × L)) → Ascend (map item_of es) → Ascend (map item_of (readings meaning es))
-Read-ascend {L} meaning es o i j a b l at_i at_j =
-    let read : Dotted Nil × L → Dotted Nil × Bits = λ e. (e.0, meaning e.1) in
-    let e = entry_at i a at_i in
-    let f = entry_at j b at_j in
-    subst (λ (x : Dotted Bits). Precedes a x) f.2 (subst (λ (x : Dotted Bits). Precedes x (item_of (read f.0))) e.2 (o i j (item_of e.0) (item_of f.0) l (place_of i e.0 e.1) (place_of j f.0 f.1)))
-  where
-    entry_at : (k : ℕ) (x : Dotted Bits) → slice_get (map item_of (readings meaning es)) k ≡ Some x → (e : Dotted Nil × L) × (slice_get es k ≡ Some e) × (item_of (e.0, meaning e.1) ≡ x)
-    entry_at k x at =
-        let r = some_of_map item_of (slice_get (readings meaning es) k) x (sym (slice_get-map item_of (readings meaning es) k) ∙ at) in
-        let e = some_of_map (λ (y : Dotted Nil × L). (y.0, meaning y.1)) (slice_get es k) r.0 (sym (slice_get-map (λ (y : Dotted Nil × L). (y.0, meaning y.1)) es k) ∙ r.1) in
-        (e.0, e.1, ap item_of e.2 ∙ r.2)
-
-    place_of : (k : ℕ) (e : Dotted Nil × L) → slice_get es k ≡ Some e → slice_get (map item_of es) k ≡ Some (item_of e)
-    place_of k e at = slice_get-map item_of es k ∙ ap (option_map item_of) at

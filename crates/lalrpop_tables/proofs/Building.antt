@@ -4,7 +4,7 @@ use Rattle.std.specs.Prelude.{Contains, slice_get, Some}
 use Rattle.std.proofs.lemmas.List.Elements.{Contains-append_cases}
 use Rattle.std.proofs.lemmas.Bool.{cases_lt}
 use Rattle.std.proofs.lemmas.Option.{slice_get_within}
-use Rattle.lalrpop_base.specs.Words.{Bits, Dotted, AllDiffer, Rules, Kernels, AddsOnce}
+use Rattle.lalrpop_base.specs.Words.{Bits, Dotted, AllDiffer, Rules, Kernels}
 use Rattle.lalrpop_base.specs.declared.lr1_core.state.State.{State}
 use Rattle.lalrpop_tables.specs.Words.{AreItemsBy, IsBuiltBy, IsBuiltOfBy, Extends, LeadsToAdded, IsLedTo, AreBuiltBy}
 use Rattle.lalrpop_tables.proofs.Lists.{Contains-none, Contains-cases}
@@ -117,7 +117,3 @@ module _ {L : Type 0} where
       each = b.each;
       led = λ n more within. let handed = b.handed in b.led n more (omega arith);
     }
-
-  -- the first kernel of all
-  pub first_added : (kernel : List (Dotted L)) (old new : List (List (Dotted L))) → old ≡ [] → AddsOnce old new kernel → new ≡ kernel ∷ []
-  first_added kernel old new empty adds = adds.fresh (λ c. Contains-none kernel (subst (λ (ks : List (List (Dotted L))). Contains ks kernel) empty c)) ∙ ap (λ ks. ks ++ kernel ∷ []) empty

@@ -4,7 +4,6 @@ use Rattle.std.specs.Prelude.{Contains, slice_get}
 use Rattle.lalrpop_base.specs.Words.{Bits, InClosure, in_kernel, expanded, holds_token, Dotted, Rules}
 use Rattle.lalrpop_base.specs.declared.lookahead.nil.Nil.{Nil}
 use Rattle.lalrpop_base.specs.declared.lookahead.token.Token.{Token}
-use Rattle.lalrpop_base.specs.declared.repr.NonterminalString.{NonterminalString}
 use Rattle.lalrpop_base.specs.declared.repr.Production.{Production}
 use Rattle.lalrpop_base.specs.declared.repr.Symbol.{Symbol}
 use Rattle.lalrpop_base.specs.declared.repr.Symbol.TheVariants.{Nonterminal}
@@ -29,12 +28,6 @@ split_drop zero [] x after h = cc
 split_drop zero (y ∷ xs) x after h = let e : y ≡ x = cc in ap Some e
 split_drop (suc n) [] x after h = cc
 split_drop (suc n) (y ∷ xs) x after h = split_drop n xs x after h
-
-same_name : (a b : NonterminalString) (k l : List Symbol) → Nonterminal a ∷ k ≡ Nonterminal b ∷ l → a ≡ b
-same_name a b k l e = cc
-
-same_rest : (a b : NonterminalString) (k l : List Symbol) → Nonterminal a ∷ k ≡ Nonterminal b ∷ l → k ≡ l
-same_rest a b k l e = cc
 
 module _ (begins : Rules → List Symbol → Token → Type 0) (passes : Rules → List Symbol → Type 0) (g : Rules) where
   module _ (kernel : List (Dotted Bits)) where

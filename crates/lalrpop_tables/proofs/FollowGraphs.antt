@@ -1,20 +1,17 @@
 -- The least sets of a follow graph are the follow sets, and their unions the lookahead sets.
-use Rattle.std.proofs.Common.{◌↔◌, ℕ, ◌<◌, ◌≤◌, take, true, List, length, refl, sym, ◌∙◌, ap, subst, arith, Some, zero, suc, [], ◌∷◌}
+use Rattle.std.proofs.Common.{◌↔◌, ℕ, ◌<◌, ◌≤◌, take, List, length, refl, sym, ◌∙◌, ap, subst, arith, Some, zero, suc, [], ◌∷◌}
 use Rattle.std.specs.Prelude.{Contains}
 use Rattle.std.specs.declared.alloc.Global.{Global}
 use Rattle.std.specs.declared.vec.Vec.{Vec}
-use Rattle.lalrpop_base.specs.Words.{Bits, AreCoherent, IsBitOf, Contents, state_from, Rules, HoldsBit, IsSpread, held, sent_on, edge_ends}
-use Rattle.lalrpop_base.specs.StateConflicts.{HasNoConflict, Reduction}
+use Rattle.lalrpop_base.specs.Words.{Bits, IsBitOf, Contents, state_from, Rules, HoldsBit, IsSpread, held, sent_on, edge_ends}
 use Rattle.lalrpop_base.specs.declared.lookahead.token.Token.{Token}
-use Rattle.lalrpop_base.specs.declared.lr1_core.state.State.{State}
 use Rattle.lalrpop_base.specs.declared.repr.NonterminalString.{NonterminalString}
 use Rattle.lalrpop_base.specs.declared.repr.Production.{Production}
-use Rattle.lalrpop_base.proofs.ContentsViews.{LeadAsItemsSay, lead_as_items_say}
+use Rattle.lalrpop_base.proofs.ContentsViews.{LeadAsItemsSay}
 use Rattle.lalrpop_base.proofs.theory.Lists.{take_past, take_all, same_some}
 use Rattle.lalrpop_base.proofs.theory.Closures.{state_from-last}
-use Rattle.lalrpop_tables.proofs.FollowSets.{take_none, symbol_behind, within, lookaheads_resolved}
+use Rattle.lalrpop_tables.proofs.FollowSets.{take_none, symbol_behind, within}
 use Rattle.lalrpop_tables.specs.Words.{LeadsOver, IncludesFollow, InFollow, at_once, included, HasLookaheadBits}
-use Rattle.lalrpop_tables.specs.Words.{IsResolved, places_in}
 use Rattle.lalrpop_tables.specs.Words.{IsFollowNode, IsFollowGraph, IsUnionOver, HasLookbackNodes, HaveBegunNodes}
 
 -- a number below the count has its node
@@ -51,9 +48,6 @@ module _ (g : Rules) (start : NonterminalString) (states : ℕ → Contents) (no
       let o = graph.included_edges n s r a b node i in
       sent_on o.0 n bit o.2 (follow_spread f bit number o.0 o.1)
 
-  pub spread_is_follow : (n s : ℕ) (a : NonterminalString) → IsFollowNode nodes n s a → (bit : ℕ) → IsSpread sets edges n bit ↔ ((t : Token) × IsBitOf g.terminals t bit × InFollow g.productions start states s a t)
-  spread_is_follow n s a node bit = (λ k. spread_follows k s a node, λ f. follow_spread f.2 bit f.1 n node)
-
   -- the union of the least sets over the nodes of a production is its lookahead set
   pub union_lookahead : (spread : List Bits) → ((n bit : ℕ) → HoldsBit spread n bit ↔ IsSpread sets edges n bit) → (s : ℕ) (p : Production) (set : Bits) → HasLookbackNodes g start states nodes s p → IsUnionOver g start states nodes spread s p set → HasLookaheadBits g start states s set p
   union_lookahead spread least s p set origins union bit = (
@@ -86,17 +80,3 @@ module _ (states : ℕ → Contents) (count : ℕ) (say : LeadAsItemsSay states 
   included_node productions nodes begun s r a b i =
       let m = begun r i.parent (origin_item r i.parent i.dot s (within i.dot (i.parent).symbols i.behind) i.item i.leads) in
       (m.0, m.1 ∙ ap (λ (c : NonterminalString). Some (r, c)) i.own)
-
--- ---- resolved states
--- a state whose reductions hold the unions of the least sets, without a conflict, is resolved
-pub unions_resolved : (g : Rules) (start : NonterminalString) (states : List (State Bits)) → AreCoherent states → (nodes : List (ℕ × NonterminalString)) (sets : List Bits) (edges : List (Vec ℕ Global)) → IsFollowGraph g start (places_in states) nodes sets edges → HaveBegunNodes (places_in states) nodes →
-    (spread : List Bits) → ((n bit : ℕ) → HoldsBit spread n bit ↔ IsSpread sets edges n bit) → (n : ℕ) (state : State Bits) → ((r : Reduction) → Contains state.reductions.items r → Contains (places_in states n).items (r.1.now, length r.1.now.symbols)) →
-    ((r : Reduction) → Contains state.reductions.items r → IsUnionOver g start (places_in states) nodes spread n r.1.now r.0) → HasNoConflict g.terminals state → IsResolved g start (places_in states) n state
-unions_resolved g start states coherent nodes sets edges graph begun spread least n state finished unions free =
-    let say = lead_as_items_say (λ (lookahead : Bits) (t : Token). true) states coherent in
-    lookaheads_resolved g start (places_in states) n state (record {
-      holds = λ r c.
-          union_lookahead g start (places_in states) nodes sets edges graph spread least n r.1.now r.0
-          (lookback_nodes (places_in states) (length states) say g start nodes begun n r.1.now (finished r c)) (unions r c);
-      free = free;
-    })

@@ -1,6 +1,6 @@
 -- The lanes of a reduction find exactly its lookahead set: each step back of a lane is a step of follow sets, and the other way round.
 use Rattle.std.proofs.Common.{◌≡◌, ◌↔◌, ℕ, zero, suc, ◌<◌, ◌≤◌, List, [], ◌∷◌, take, drop, length, refl, sym, ◌∙◌, ap, subst, arith, Some}
-use Rattle.std.specs.Prelude.{Contains, slice_get}
+use Rattle.std.specs.Prelude.{Contains}
 use Rattle.lalrpop_base.specs.Words.{Bits, Contents, state_from, to_parent, behind_parent, of_start, IsTracedTo, itself, back, IsLaneToken}
 use Rattle.lalrpop_base.specs.Words.{Rules, Shift, Reduce}
 use Rattle.lalrpop_base.specs.Lanes.{over_edge, Gives}
@@ -15,7 +15,7 @@ use Rattle.lalrpop_base.proofs.theory.Lists.{take_past, take_all, same_some}
 use Rattle.lalrpop_base.proofs.theory.Steps.{state_from-more}
 use Rattle.lalrpop_base.proofs.theory.Closures.{state_from-last}
 use Rattle.lalrpop_base.proofs.theory.Lanes.{traced_back, given_there}
-use Rattle.lalrpop_tables.specs.Words.{HasLaneBits, IsResolved, IsResolvedAt, LanesMeet, places_in}
+use Rattle.lalrpop_tables.specs.Words.{HasLaneBits, IsResolved, LanesMeet}
 use Rattle.lalrpop_tables.specs.Words.{LeadsOver, FollowsAtOnce, is_first_behind, ends_input, InFollow, at_once, included, IsLookahead, HasLookaheadBits, HoldsLookaheads}
 
 -- what is taken of nothing, and what stands behind a dot that has something behind it
@@ -122,7 +122,3 @@ module _ (g : Rules) (start : NonterminalString) (states : ℕ → Contents) (s 
 
   pub lookaheads_resolved : (state : State Bits) → HoldsLookaheads g start states s state → IsResolved g start states s state
   lookaheads_resolved state h = record { holds = λ r c. lookahead_bits r.0 r.1.now (h.holds r c); free = h.free }
-
--- a state whose reductions hold their lookahead sets, without a conflict, is resolved
-pub follow_resolved : (g : Rules) (start : NonterminalString) (states : List (State Bits)) (n : ℕ) (new : List (State Bits)) → ((state : State Bits) → slice_get new n ≡ Some state → HoldsLookaheads g start (places_in states) n state) → IsResolvedAt g start states n new
-follow_resolved g start states n new h state at = lookaheads_resolved g start (places_in states) n state (h state at)

@@ -18,11 +18,11 @@ use Rattle.lalrpop_tables.specs.FollowWalks.{AreEmptyLists, AreIncludes, AreLook
 use Rattle.lalrpop_tables.specs.Numbering.{AddsThose, with_dot}
 use Rattle.lalrpop_tables.specs.Numbers.{AreExpansions}
 use Rattle.lalrpop_tables.specs.declared.lane_table.follow_sets.pass.Pass.{Pass}
-use Rattle.lalrpop_tables.proofs.DottedProductions.{those_both, those_none}
+use Rattle.lalrpop_tables.proofs.DottedProductions.{those_both}
 use Rattle.lalrpop_tables.proofs.FollowNodes.{node_within, nodes_counted, pair_of_node}
 use Rattle.lalrpop_tables.proofs.FollowWalks.{one_front}
 use Rattle.lalrpop_tables.proofs.Lists.{Contains-cases, Contains-here, Contains-none, place}
-use Rattle.lalrpop_tables.proofs.Lookbacks.{note_both, note_none}
+use Rattle.lalrpop_tables.proofs.Lookbacks.{note_both}
 use Rattle.lalrpop_tables.proofs.Places.{contains_at, push_cases, same_some, slice_get-longer, slice_get-push_at}
 
 -- the finished items of a state, with nodes
@@ -31,10 +31,6 @@ Entries = Vec (ℕ × ℕ) Global
 
 -- ---- fronts
 module _ (pass : Pass) (Such : Production → Type 0) where
-  -- no front
-  pub front_none : SomeFront pass [] Such → ⊥
-  front_none f = Contains-none f.0 f.2
-
   -- a front more
   pub front_more : (done : List ℕ) (k : ℕ) (q : Production) → IsFrontOf pass k q → SomeFront pass (done ++ k ∷ []) Such ↔ (SomeFront pass done Such ⊎ Such q)
   front_more done k q front = (
@@ -55,13 +51,6 @@ module _ (pass : Pass) (Such : Production → Type 0) where
 pub record WalksOver (pass : Pass) (node from : ℕ) (fronts old new : List ℕ) (before after : List Entries) : Type 0 where
   pub through : AddsThose (λ n. SomeFront pass fronts (λ q. GoesThrough pass from q n)) old new
   pub noted : NotesEnds node (λ s k. SomeFront pass fronts (λ q. EndsAt pass from q s k)) before after
-
--- no walk
-pub walks_none : (pass : Pass) (node from : ℕ) (old : List ℕ) (before : List Entries) → WalksOver pass node from [] old old before before
-walks_none pass node from old before = record {
-  through = those_none (λ n. SomeFront pass [] (λ q. GoesThrough pass from q n)) old (λ n f. absurd (front_none pass (λ q. GoesThrough pass from q n) f));
-  noted = note_none node (λ s k. SomeFront pass [] (λ q. EndsAt pass from q s k)) before (λ s k f. front_none pass (λ q. EndsAt pass from q s k) f);
-}
 
 -- a walk more
 pub walks_more : (pass : Pass) (node from : ℕ) (done : List ℕ) (front : ℕ) (q : Production) (old middle new : List ℕ) (before between after : List Entries) → IsFrontOf pass front q → WalksOver pass node from done old middle before between →

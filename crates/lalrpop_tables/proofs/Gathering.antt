@@ -22,9 +22,6 @@ module _ {K : Type 0} where
   keys_left : (a b : List (K × Bits)) (k : K) → Contains (keys_of a) k → Contains (keys_of (a ++ b)) k
   keys_left a b k c = subst (λ (ks : List K). Contains ks k) (sym (map-append (λ (e : K × Bits). e.0) a b)) (Contains-append_left (keys_of a) (keys_of b) k c)
 
-  keys_right : (a b : List (K × Bits)) (k : K) → Contains (keys_of b) k → Contains (keys_of (a ++ b)) k
-  keys_right a b k c = subst (λ (ks : List K). Contains ks k) (sym (map-append (λ (e : K × Bits). e.0) a b)) (Contains-append_right (keys_of a) (keys_of b) k c)
-
   -- ---- one part more
   module _ (k : K) (tokens : Bits) (told : Bool) (list old new : List (K × Bits)) (before : Gathers list old) (joined : IsJoinedAt k tokens told old new) (differ : AllDiffer (keys_of new)) where
     abbrev queued : List K

@@ -65,9 +65,6 @@ module _ {K : Type 0} where
   pub known_kept : (a b : List (K × Bits)) (s t : List K) → Grows a b s t → (k : K) → Contains (keys_of a) k → Contains (keys_of b) k
   known_kept a b s t g k c = let e = key_entry a k c in let f = g.kept (k, e.0) e.1 in entry_key b (k, f.set) f.entry
 
-  pub known_from : (a b : List (K × Bits)) (s t : List K) → Grows a b s t → (k : K) → Contains (keys_of b) k → Contains (keys_of a) k ⊎ Contains t k
-  known_from a b s t g k c = let e = key_entry b k c in elim (g.changed (k, e.0) e.1) [ inl p ↦ inr p | inr o ↦ inl (entry_key a (k, e.0) o) ]
-
 -- ---- one key more
 module _ {K : Type 0} (key : K) (tokens : Bits) where
   abbrev Joined : Type 0

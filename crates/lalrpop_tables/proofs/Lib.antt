@@ -71,7 +71,6 @@ pub mod LaneAsked
 pub mod LaneClosed
 pub mod LaneCoherent
 pub mod LaneColumns
-pub mod LaneConflicts
 pub mod LaneCopies
 pub mod LaneFound
 pub mod LaneLoop

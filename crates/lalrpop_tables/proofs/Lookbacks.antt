@@ -73,10 +73,6 @@ note_one node item state old before after listed was more = record {
         pair : (i m : ℕ) (e : ℕ × ℕ) → (e.1 ≡ m) × (e.0 ≡ i) → (i, m) ≡ e
         pair i m e such = ap (λ (j : ℕ). (j, m)) (sym such.1) ∙ ap (λ (j : ℕ). (e.0, j)) (sym such.0)
 
--- nothing came, where nothing is such
-pub note_none : (node : ℕ) (Such : ℕ → ℕ → Type 0) (old : List Entries) → ((s k : ℕ) → Such s k → ⊥) → NotesEnds node Such old old
-note_none node Such old none = record { counted = refl; entries = λ s k n. (λ c. inl c, λ e. elim e [ inl c ↦ c | inr new ↦ absurd (none s k new.1) ]) }
-
 -- the same said in other words
 pub note_as : (node : ℕ) (P Q : ℕ → ℕ → Type 0) (old new : List Entries) → ((s k : ℕ) → P s k ↔ Q s k) → NotesEnds node P old new → NotesEnds node Q old new
 note_as node P Q old new same notes = record {

@@ -15,7 +15,7 @@ use Rattle.std.specs.Map.{keys_of}
 use mathlib.Core.Bool.{true≢false}
 use Rattle.lalrpop_base.proofs.ContentsViews.{contains_of_map}
 use Rattle.lalrpop_tables.specs.Words.{AreDisjoint, HasAt, IsUnion, MeetInUnion, Rows, ColumnsOverlap, HasRow, IsClosed, IsRow, IsSuccessor, RowOverlaps, index}
-use Rattle.lalrpop_tables.specs.Words.{IsVisited, HasJoined, AreCopies, IsContext, IsMerging, IsWalked, Advances, unset, unvisited}
+use Rattle.lalrpop_tables.specs.Words.{IsVisited, AreCopies, IsContext, IsMerging, IsWalked, Advances, unset, unvisited}
 use Rattle.lalrpop_tables.specs.Words.{AreUnited, IsJoinedCopy, IsApart, set_of, context_of, HasSet, AreJoined, OwnSets}
 use Rattle.lalrpop_tables.specs.Merges.{LeadsTo}
 use Rattle.lalrpop_tables.specs.declared.lane_table.construct.merge.Merge.{Merge}
@@ -170,15 +170,6 @@ module _ (old new : Merge) (ready : IsMerging old) (a : Advances old new) where
 
   pub copy_on : (n o : ℕ) (right copy : StateIndex) → slice_get old.originals.items n ≡ Some o → IsJoinedCopy (index n) right copy old → IsJoinedCopy (index n) right copy new
   copy_on n o right copy at j = record { original = a.originals copy.0 right.0 j.original; together = a.sets n copy.0 (listed n o at) (listed copy.0 right.0 j.original) j.together }
-
-  pub joined_on : (n : ℕ) → HasJoined old n → HasJoined new n
-  joined_on n h = record {
-    original = h.original;
-    there = a.originals n h.original h.there;
-    joined = λ right e.
-        let j = h.joined right (subst (λ (t : Bor LaneTable). IsSuccessor t.now (index h.original) right) a.table e) in
-        (j.0, copy_on n h.original right j.0 h.there j.1, a.marks j.0.0 j.2);
-  }
 
 -- ---- other sets
 module _ (old : Merge) (ready : IsMerging old) (sets : ContextSets) where

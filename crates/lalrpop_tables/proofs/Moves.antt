@@ -277,12 +277,6 @@ module _ (cmp : TerminalString → TerminalString → Ordering) (exact : CmpEqua
 
 module _ {L : Type 0} where
   -- ---- the next group of those that are left
-  pub group_taken : (groups first left rest : Groups L) (g : Group L) → first ++ left ≡ groups → left ≡ g ∷ rest → (first ++ g ∷ []) ++ rest ≡ groups
-  group_taken groups first left rest g e f = append_assoc first (g ∷ []) rest ∙ ap (λ xs. first ++ xs) (sym f) ∙ e
-
-  pub group_among : (groups first rest : Groups L) (g : Group L) → (first ++ g ∷ []) ++ rest ≡ groups → Contains groups g
-  group_among groups first rest g e = subst (λ (gs : Groups L). Contains gs g) e (Contains-append_left (first ++ g ∷ []) rest g (Contains-append_right first (g ∷ []) g (Contains-here g [])))
-
   pub groups_differ : (groups first rest : Groups L) (g : Group L) → (first ++ g ∷ []) ++ rest ≡ groups → AllDiffer (keys_of groups) → AllDiffer (keys_of (first ++ g ∷ []))
   groups_differ groups first rest g e d =
       differ_front (keys_of (first ++ g ∷ [])) (keys_of rest) (subst AllDiffer (ap keys_of (sym e) ∙ map-append (λ (g : Group L). g.0) (first ++ g ∷ []) rest) d)

@@ -1,27 +1,18 @@
 -- Items by number: what the numbers of a grammar tell of its items.
-use Rattle.std.proofs.Common.{◌≡◌, ◌∙◌, ℕ, zero, suc, ◌+◌, ◌<◌, List, [], ◌∷◌, length, map, refl, sym, ap, subst, arith, inl, inr, drop, option_map, ◌≤◌}
-use Rattle.std.specs.declared.alloc.Global.{Global}
-use Rattle.std.specs.declared.vec.Vec.{Vec}
+use Rattle.std.proofs.Common.{◌≡◌, ◌∙◌, ℕ, zero, suc, ◌+◌, ◌<◌, List, [], ◌∷◌, length, map, refl, sym, ap, subst, arith, inl, inr, drop}
 use Rattle.std.specs.Prelude.{◌↔◌, slice_get, Option, Some, None, Contains}
 use Rattle.std.proofs.lemmas.Option.{slice_get_within, slice_get-map}
 use Rattle.lalrpop_base.specs.Words.{AllDiffer, Dotted, Ordered, Rules}
 use Rattle.lalrpop_base.specs.declared.lookahead.nil.Nil.{Nil}
-use Rattle.lalrpop_base.specs.declared.repr.NonterminalString.{NonterminalString}
-use Rattle.lalrpop_base.specs.declared.repr.Production.{Production}
 use Rattle.lalrpop_base.specs.declared.repr.Symbol.{Symbol}
-use Rattle.lalrpop_base.specs.declared.repr.Symbol.TheVariants.{Nonterminal, Terminal}
-use Rattle.lalrpop_base.specs.declared.repr.TerminalString.{TerminalString}
 use Rattle.lalrpop_base.proofs.ContentsViews.{some_of_map}
 use Rattle.lalrpop_tables.specs.Numbers.{AreNumbers, AreNumbered, IsNumberBehind, dotted_at, item_by, items_by}
 use Rattle.lalrpop_tables.specs.Words.{Ascend, IsBehind, Precedes, moved}
 use Rattle.lalrpop_tables.specs.declared.build.numbered.Numbered.{Numbered}
 use Rattle.lalrpop_tables.specs.declared.build.numbers.Numbers.{Numbers}
 use Rattle.lalrpop_tables.proofs.Ascending.{precedes_asymmetric}
-use Rattle.lalrpop_tables.proofs.Lists.{Contains-here, Contains-there, place}
-use Rattle.lalrpop_tables.proofs.Places.{contains_at, filled, one_place, places_apart, same_some}
-
-same_name : (a b : NonterminalString) → Nonterminal a ≡ Nonterminal b → a ≡ b
-same_name a b e = cc
+use Rattle.lalrpop_tables.proofs.Lists.{Contains-here, Contains-there}
+use Rattle.lalrpop_tables.proofs.Places.{contains_at, places_apart, same_some}
 
 -- ---- a dotted production by its number
 pub at_number : (items : List (Dotted Nil)) (k : ℕ) (i : Dotted Nil) → slice_get items k ≡ Some i → dotted_at items k ≡ i
@@ -78,14 +69,6 @@ module _ (items : List (Dotted Nil)) (ascend : Ascend items) where
         let others : xs ≡ ys = same_numbers xs ys (λ e c. a e (Contains-there x xs e c)) (λ e c. b e (Contains-there y ys e c)) rest in
         ap (λ (z : Numbered L). z ∷ xs) first ∙ ap (λ (l : List (Numbered L)). y ∷ l) others
 
-    -- numbers that differ are those of items that differ
-    pub items_differ : (xs : List (Numbered L)) → AreNumbered items xs → AllDiffer xs → AllDiffer (items_by items xs)
-    items_differ xs a differ i j x l at_i at_j =
-        let d = some_of_map (item_by items) (slice_get xs i) x (sym (slice_get-map (item_by items) xs i) ∙ at_i) in
-        let e = some_of_map (item_by items) (slice_get xs j) x (sym (slice_get-map (item_by items) xs j) ∙ at_j) in
-        let same : e.0 ≡ d.0 = same_number e.0 d.0 (a e.0 (contains_at xs e.0 j e.1)) (a d.0 (contains_at xs d.0 i d.1)) (e.2 ∙ sym d.2) in
-        differ i j d.0 l d.1 (e.1 ∙ ap Some same)
-
     -- lists of numbers that differ are those of lists of items that differ
     pub lists_differ : (lists : List (List (Numbered L))) → ((xs : List (Numbered L)) → Contains lists xs → AreNumbered items xs) → AllDiffer lists → AllDiffer (map (items_by items) lists)
     lists_differ lists a differ i j x l at_i at_j =
@@ -117,12 +100,6 @@ module _ (g : Rules) (n : Numbers) (numbers : AreNumbers g n) where
   is_behind : (k : ℕ) (x : Option ℕ) → slice_get n.behind.items k ≡ Some x → IsNumberBehind n.symbols.items (item k) x
   is_behind k x at = numbers.behind k (item k) x (stands_at n.items.items k (within k x at)) at
 
-  -- each number has something, or nothing, behind the dot
-  pub has_behind : (k : ℕ) → k < length n.items.items → (x : Option ℕ) × (slice_get n.behind.items k ≡ Some x)
-  has_behind k l =
-      let same = numbers.counted in
-      filled n.behind.items k (omega arith)
-
   -- the number of the item with its dot moved is the next one
   pub next_within : (k x : ℕ) → slice_get n.behind.items k ≡ Some (Some x) → k + 1 < length n.items.items
   next_within k x at =
@@ -148,48 +125,3 @@ module _ (g : Rules) (n : Numbers) (numbers : AreNumbers g n) where
         let there = numbers.next e.number i (stands_at n.items.items e.number (within e.number (Some x) at)) (slice_get_within i.production.symbols i.index b.0 b.2) in
         let with_lookahead : Dotted Nil → Dotted L = λ j. record { production = j.production; index = j.index; lookahead = e.lookahead } in
         ap with_lookahead (at_number n.items.items (e.number + 1) (moved i) there)
-
--- ---- the dotted productions of the grammar, and what nonterminals expand to
-module _ (g : Rules) (n : Numbers) (numbers : AreNumbers g n) where
-  -- what has a number is of the grammar
-  pub numbered_is : (k : ℕ) → k < length n.items.items → Contains g.productions (dotted_at n.items.items k).production × ((dotted_at n.items.items k).index ≤ length (dotted_at n.items.items k).production.symbols)
-  numbered_is k l = numbers.items.each (dotted_at n.items.items k) (contains_at n.items.items (dotted_at n.items.items k) k (stands_at n.items.items k l))
-
-  -- and each dotted production of the grammar has a number
-  pub has_number : (p : Production) (dot : ℕ) → Contains g.productions p → dot ≤ length p.symbols → (k : ℕ) × (k < length n.items.items) × (dotted_at n.items.items k ≡ record { production = p; index = dot; lookahead = record {} })
-  has_number p dot c l =
-      let i : Dotted Nil = record { production = p; index = dot; lookahead = record {} } in
-      let k = place n.items.items i (numbers.items.all p dot c l) in
-      (k.0, k.1, at_number n.items.items k.0 i k.2)
-
-  module _ (x : ℕ) (name : NonterminalString) (expanded : List ℕ) (at : slice_get n.symbols.items x ≡ Some (Nonterminal name)) (there : slice_get (map (λ (v : Vec ℕ Global). v.items) n.expansions.items) x ≡ Some expanded) where
-    -- what a nonterminal expands to is one of its productions, with the dot in front
-    pub expansion_is : (k : ℕ) → Contains expanded k → (k < length n.items.items) × ((dotted_at n.items.items k).index ≡ 0) × ((dotted_at n.items.items k).production.nonterminal ≡ name)
-    expansion_is k c =
-        let i = (numbers.expansions x (Nonterminal name) expanded at there k).0 c in
-        let is : dotted_at n.items.items k ≡ i.0 = at_number n.items.items k i.0 i.1 in
-        let same : i.0.production.nonterminal ≡ name = same_name i.0.production.nonterminal name (sym i.3) in
-        (slice_get_within n.items.items k i.0 i.1, ap (λ (j : Dotted Nil). j.index) is ∙ i.2, ap (λ (j : Dotted Nil). j.production.nonterminal) is ∙ same)
-
-    -- and it expands to each of its productions
-    pub expansion_has : (p : Production) → Contains g.productions p → p.nonterminal ≡ name → (k : ℕ) × Contains expanded k × (dotted_at n.items.items k ≡ record { production = p; index = 0; lookahead = record {} })
-    expansion_has p c e =
-        let i : Dotted Nil = record { production = p; index = 0; lookahead = record {} } in
-        let k = place n.items.items i (numbers.items.all p 0 c (omega arith)) in
-        (k.0, (numbers.expansions x (Nonterminal name) expanded at there k.0).1 (i, k.2, refl, ap Nonterminal (sym e)), at_number n.items.items k.0 i k.2)
-
-  -- a terminal expands to nothing
-  pub no_expansion : (x : ℕ) (t : TerminalString) (expanded : List ℕ) → slice_get n.symbols.items x ≡ Some (Terminal t) → slice_get (map (λ (v : Vec ℕ Global). v.items) n.expansions.items) x ≡ Some expanded → (k : ℕ) → Contains expanded k → ⊥
-  no_expansion x t expanded at there k c = let i = (numbers.expansions x (Terminal t) expanded at there k).0 c in let e = i.3 in cc
-
-  -- each symbol has a list of numbers
-  pub has_expansion : (x : ℕ) (s : Symbol) → slice_get n.symbols.items x ≡ Some s → (expanded : List ℕ) × (slice_get (map (λ (v : Vec ℕ Global). v.items) n.expansions.items) x ≡ Some expanded)
-  has_expansion x s at =
-      let l = slice_get_within n.symbols.items x s at in
-      let count = numbers.expanded in
-      let v = filled n.expansions.items x (omega arith) in
-      (v.0.items, slice_get-map (λ (w : Vec ℕ Global). w.items) n.expansions.items x ∙ ap (option_map (λ (w : Vec ℕ Global). w.items)) v.1)
-
-  -- a symbol has one number
-  pub one_symbol : (x y : ℕ) (s : Symbol) → slice_get n.symbols.items x ≡ Some s → slice_get n.symbols.items y ≡ Some s → x ≡ y
-  one_symbol x y s at_x at_y = one_place n.symbols.items numbers.differ x y s at_x at_y

@@ -4,14 +4,13 @@ use Rattle.std.specs.Prelude.{Contains, MatchBool, OnOk}
 use Rattle.std.specs.Map.{keys_of}
 use Rattle.std.proofs.lemmas.List.{map-append}
 use Rattle.lalrpop_base.specs.Words.{Bits, join, InClosure, holds_token, Dotted, AllDiffer, Rules}
-use Rattle.lalrpop_base.specs.declared.lookahead.nil.Nil.{Nil}
 use Rattle.lalrpop_base.specs.declared.lookahead.token.Token.{Token}
 use Rattle.lalrpop_base.specs.declared.repr.Production.{Production}
 use Rattle.lalrpop_base.specs.declared.repr.Symbol.{Symbol}
 use Rattle.lalrpop_base.specs.declared.repr.TerminalString.{TerminalString}
 use Rattle.lalrpop_base.proofs.ContentsViews.{contains_of_map}
 use Rattle.lalrpop_tables.specs.Words.{Ascend, dotted_of, meant, itself, IsItemBy, AreItemsBy, AreItems, HasItemTokenBy, HasItemToken, IsClosureBy}
-use Rattle.lalrpop_tables.specs.Words.{InTokenClosureBy, own_token, from_rest, from_parent, item_of, IsJoinedAt, readings}
+use Rattle.lalrpop_tables.specs.Words.{InTokenClosureBy, own_token, from_rest, from_parent, IsJoinedAt, readings}
 use Rattle.lalrpop_tables.specs.Entries.IsJoinedAt.{fresh as join_fresh, known as join_known}
 use Rattle.lalrpop_tables.proofs.Lists.{Contains-map}
 use Rattle.lalrpop_tables.proofs.Updates.{IsInserted, IsReplaced}
@@ -38,9 +37,6 @@ module _ {L : Type 0} (meaning : L → Bits) where
     abbrev read : K × L → K × Bits
     read e = (e.0, meaning e.1)
 
-    pub readings_there : (es : List (K × L)) (k : K) (l : L) → Contains es (k, l) → Contains (readings meaning es) (k, meaning l)
-    readings_there es k l c = Contains-map read es (k, l) c
-
     read_midst : (front back es : List (K × L)) (e : K × L) → es ≡ front ++ e ∷ back → readings meaning es ≡ readings meaning front ++ (e.0, meaning e.1) ∷ readings meaning back
     read_midst front back es e same = ap (readings meaning) same ∙ map-append read front (e ∷ back)
 
@@ -59,10 +55,6 @@ module _ {L : Type 0} (meaning : L → Bits) where
   pub dotted_meant : (items : List (Dotted L)) → map dotted_of (map (meant meaning) items) ≡ map dotted_of items
   dotted_meant [] = refl
   dotted_meant (i ∷ items) = ap (λ (ds : List (Production × ℕ)). (i.production, i.index) ∷ ds) (dotted_meant items)
-
-  pub items_read : (es : List (Dotted Nil × L)) → map item_of (readings meaning es) ≡ map (meant meaning) (map item_of es)
-  items_read [] = refl
-  items_read (e ∷ es) = ap (λ (is : List (Dotted Bits)). item_of (e.0, meaning e.1) ∷ is) (items_read es)
 
   meant_in : (items : List (Dotted L)) (i : Dotted L) → Contains items i → Contains (map (meant meaning) items) (meant meaning i)
   meant_in items i c = Contains-map (meant meaning) items i c

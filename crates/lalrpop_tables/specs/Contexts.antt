@@ -42,15 +42,6 @@ pub record MeetInUnion (a b : List Bits) : Type 0 where
 abbrev pub AreDisjoint : List Bits → Type 0
 AreDisjoint columns = (i j bit : ℕ) → HasAt columns i bit → HasAt columns j bit → i ≡ j
 
--- two columns share a token
-pub record Overlap (columns : List Bits) : Type 0 where
-  pub first : ℕ
-  pub second : ℕ
-  pub apart : first ≡ second → ⊥
-  pub bit : ℕ
-  pub here : HasAt columns first bit
-  pub there : HasAt columns second bit
-
 -- the action at the place is the reduction by the production
 pub record IsReductionAt (actions : List Action) (place : ℕ) (p : Production) : Type 0 where
   pub lent : Bor Production

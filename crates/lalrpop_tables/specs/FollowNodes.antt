@@ -1,6 +1,6 @@
 -- The nodes of the follow graph by number (DeRemer and Pennello 1982), and what a pass over states goes over.
 use Rattle.std.specs.Prelude.{◌≡◌, ◌<◌, ◌≤◌, ◌+◌, ◌⊎◌, ℕ, zero, suc, List, [], ◌∷◌, length, map, get_or, slice_get, Option, Some, None, Contains}
-use Rattle.lalrpop_base.specs.Words.{AllDiffer, AreClosed, AreCoherent, Contents, has, IsReached, IsWellFormed, rules_of}
+use Rattle.lalrpop_base.specs.Words.{AllDiffer, AreClosed, AreCoherent, Contents, IsReached, IsWellFormed, rules_of}
 use Rattle.lalrpop_base.specs.declared.repr.NonterminalString.{NonterminalString}
 use Rattle.lalrpop_base.specs.declared.repr.Production.{Production}
 use Rattle.lalrpop_base.specs.declared.repr.Symbol.{Symbol}

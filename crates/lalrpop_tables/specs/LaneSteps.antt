@@ -75,10 +75,6 @@ pub record Visits (Such : Place → Type 0) (old new : Walk) : Type 0 where
   pub differ : AllDiffer old.visited.keys → AllDiffer new.visited.keys
   pub weighed : length new.waiting.items + length old.visited.keys ≡ length old.waiting.items + length new.visited.keys
 
--- no place
-abbrev pub NoPlace : Place → Type 0
-NoPlace k = ⊥
-
 -- ---- an item whose symbol behind the dot expands to what begins with the nonterminal
 -- the nonterminal stands behind the item's dot
 abbrev pub IsParent : {L : Type 0} → NonterminalString → Dotted L → Type 0

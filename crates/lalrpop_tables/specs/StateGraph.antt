@@ -49,9 +49,6 @@ pub data LeadsTo (es : List Edge) : StateIndex → List Symbol → StateIndex �
   nowhere : {s : StateIndex} → LeadsTo es s [] s
   over : {r m s : StateIndex} {x : Symbol} {symbols : List Symbol} → Contains es (edge r x m) → LeadsTo es m symbols s → LeadsTo es r (x ∷ symbols) s
 
-abbrev pub source_of : Edge → StateIndex
-source_of e = e.source
-
 abbrev pub target_of : Edge → StateIndex
 target_of e = e.target
 

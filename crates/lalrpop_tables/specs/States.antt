@@ -78,9 +78,3 @@ pub record AreBuiltBy {L : Type 0} (Closes : List (Dotted L) → List (Dotted L)
 -- the same of sets of tokens
 abbrev pub IsBuilt : Rules → List (List (Dotted Bits)) → List (Dotted Bits) → ℕ → State Bits → Type 0
 IsBuilt g = IsBuiltBy (IsClosureOf g)
-
-abbrev pub IsBuiltOf : Rules → List (List (Dotted Bits)) → ℕ → State Bits → Type 0
-IsBuiltOf g = IsBuiltOfBy (IsClosureOf g)
-
-abbrev pub AreBuilt : Rules → List (Dotted Bits) → List (State Bits) → Type 0
-AreBuilt g = AreBuiltBy (IsClosureOf g)

@@ -1,5 +1,5 @@
 -- The transitions and reductions of a state with given items.
-use Rattle.std.specs.Prelude.{◌≡◌, ◌≢◌, ◌+◌, ◌<◌, ◌⊎◌, ◌==◌, cond, List, [], ◌∷◌, ◌++◌, length, slice_get, Some, All, Contains}
+use Rattle.std.specs.Prelude.{◌≡◌, ◌≢◌, ◌+◌, ◌⊎◌, ◌==◌, cond, List, [], ◌∷◌, ◌++◌, length, slice_get, Some, Contains}
 use Rattle.std.specs.Borrow.{Bor}
 use Rattle.std.specs.BTreeMap.{IsOrdered}
 use Rattle.std.specs.Map.{keys_of}
@@ -46,10 +46,6 @@ pub record AreMoves {L : Type 0} (items : List (Dotted L)) (groups : Groups L) :
   pub some : (x : Symbol) (kernel : List (Dotted L)) → Contains groups (x, kernel) → IsBehindOne x items
   pub has : (x : Symbol) (i : Dotted L) → Contains items i → IsBehind x i → (kernel : List (Dotted L)) × Contains groups (x, kernel)
   pub differ : AllDiffer (keys_of groups)
-
--- the dot of each item is past the start
-abbrev pub AreShifted : {L : Type 0} → Groups L → Type 0
-AreShifted {L} groups = (x : Symbol) (kernel : List (Dotted L)) → Contains groups (x, kernel) → All (λ i. 0 < i.index) kernel
 
 -- the moved item went to the kernel of the symbol behind its dot; where there is none, nothing changed
 pub data IsMoveAdded {L : Type 0} (i : Dotted L) (old new : Groups L) : Type 0 where

@@ -70,5 +70,5 @@ pub use Rattle.lalrpop_tables.specs.StateSets.{AddsColumns, AreJoined, HasSet, I
 pub use Rattle.lalrpop_tables.specs.StateSets.{set_of}
 pub use Rattle.lalrpop_tables.specs.States.{AreBuiltBy, Extends, HasTransition, IsBuilt, IsBuiltBy, IsBuiltOfBy, IsLedTo, Leads, LeadsToAdded, begun}
 pub use Rattle.lalrpop_tables.specs.TablesOrCount.{AreBuiltTablesOrCount, AreTablesOrCount, MatchTablesOrCount}
-pub use Rattle.lalrpop_tables.specs.Transitions.{AreEdges, AreMoves, AreShifted, Groups, HasEdge, HasNoGroup, IsBehind, IsBehindOne, IsEdgeAdded, IsMoveAdded}
+pub use Rattle.lalrpop_tables.specs.Transitions.{AreEdges, AreMoves, Groups, HasEdge, HasNoGroup, IsBehind, IsBehindOne, IsEdgeAdded, IsMoveAdded}
 pub use Rattle.lalrpop_tables.specs.Transitions.{Shifts, ShiftsAscend, moved, reductions_of, seen}

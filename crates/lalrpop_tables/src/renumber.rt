@@ -1,6 +1,6 @@
 //! The numbers of the states of a table: state 0 first, then the states with a goto, then the
 //! others.
-ghost use Rattle.std.specs.Prelude.{◌≡◌, ◌+◌, ◌<◌, ◌^◌, ◌++◌, ◌∷◌, [], ℕ, List, length, cond, count_by, IfOk, OnOk};
+ghost use Rattle.std.specs.Prelude.{◌≡◌, ◌+◌, ◌<◌, ◌^◌, ◌++◌, ◌∷◌, [], List, length, cond, count_by, IfOk, OnOk};
 ghost use Rattle.lalrpop_base.specs.Words.{AreCoherent};
 ghost use Rattle.lalrpop_base.specs.declared.repr.TerminalString.{TerminalString as Terminal};
 ghost use Rattle.lalrpop_tables.specs.Partitions.{ArePlaces, parted, fails};

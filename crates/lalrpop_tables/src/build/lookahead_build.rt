@@ -1,5 +1,5 @@
 //! What an item gives to those to which it leads without a symbol.
-ghost use Rattle.std.specs.Prelude.{◌≡◌, IfOk, List, MatchOption};
+ghost use Rattle.std.specs.Prelude.{IfOk, List, MatchOption};
 ghost use Rattle.lalrpop_base.specs.Words.{HasKnownTerminals, Rules};
 ghost use Rattle.lalrpop_base.specs.declared.lookahead.token.Token.{Token};
 ghost use Rattle.lalrpop_base.specs.declared.repr.Symbol.{Symbol};

@@ -1,5 +1,5 @@
 //! The states of a grammar, by their kernels.
-ghost use Rattle.std.specs.Prelude.{◌≡◌, ◌↔◌, ◌∷◌, [], map, IsTrue, IfOk, OnOk, length, slice_get, Some};
+ghost use Rattle.std.specs.Prelude.{◌≡◌, ◌↔◌, ◌∷◌, [], map, IsTrue, IfOk, OnOk, Some};
 ghost use Rattle.lalrpop_tables.specs.Closure.{AreItemsBy, IsClosureBy};
 ghost use Rattle.lalrpop_tables.specs.EarlyStop.{AreEnough, AreMadeFor};
 ghost use Rattle.lalrpop_tables.specs.Numbers.{AreAllNumbered, AreNumbered, AreNumbers, items_by, kernels_by};

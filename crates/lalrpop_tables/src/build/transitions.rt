@@ -1,5 +1,5 @@
 //! The transitions of a state.
-ghost use Rattle.std.specs.Prelude.{◌≡◌, ◌<◌, IfOk, OnOk, length, slice_get, Some};
+ghost use Rattle.std.specs.Prelude.{◌<◌, IfOk, OnOk, length, Some};
 ghost use Rattle.std.specs.BTreeMap.{keys};
 ghost use Rattle.lalrpop_base.specs.Words.{AllDiffer, Rules};
 ghost use Rattle.lalrpop_tables.specs.Entries.{IsPushedAt};

@@ -1,5 +1,5 @@
 //! States placed by their numbers, each joined to those with the same number.
-ghost use Rattle.std.specs.Prelude.{◌≡◌, IfOk, OnOk};
+ghost use Rattle.std.specs.Prelude.{IfOk, OnOk};
 ghost use Rattle.lalrpop_tables.specs.Merging.{ArePlaced, Places};
 ghost use Rattle.lalrpop_tables.specs.Moved.{AreMoved};
 ghost use Rattle.lalrpop_tables.specs.Renumbered.{number_in};

@@ -1,8 +1,8 @@
 //! Tokens carried over the edges of states.
-ghost use Rattle.std.specs.Prelude.{◌≡◌, ◌<◌, ◌+◌, ◌↔◌, ℕ, IfOk, OnOk, Contains, IsTrue, length, slice_get, drop, Some, true};
+ghost use Rattle.std.specs.Prelude.{◌≡◌, ◌<◌, ◌↔◌, IfOk, OnOk, Contains, IsTrue, Some, true};
 ghost use Rattle.std.specs.Map.{keys_of};
-ghost use Rattle.lalrpop_base.specs.Words.{Bits, has, AreClosed, contents, EachItem, AllDiffer, IsWellFormed, productions, productions_of, rules_of};
-ghost use Rattle.lalrpop_tables.specs.CheckCarrying.{Sends, IsBegunAt, IsOver, IsInto, Gives, target_in, AreCarried, HoldsCarried, AllHoldCarried};
+ghost use Rattle.lalrpop_base.specs.Words.{AreClosed, contents, EachItem, AllDiffer, IsWellFormed, productions, productions_of, rules_of};
+ghost use Rattle.lalrpop_tables.specs.CheckCarrying.{Sends, IsBegunAt, IsOver, Gives, target_in, AreCarried, HoldsCarried, AllHoldCarried};
 ghost use Rattle.lalrpop_tables.specs.Entries.{IsQueued};
 
 use super::sets::find_tokens;

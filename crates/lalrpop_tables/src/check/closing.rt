@@ -1,5 +1,5 @@
 //! The closure of dotted productions, without tokens.
-ghost use Rattle.std.specs.Prelude.{◌≡◌, ◌↔◌, [], ◌∷◌, IfOk, OnOk, Contains, map};
+ghost use Rattle.std.specs.Prelude.{◌≡◌, [], ◌∷◌, IfOk, OnOk, Contains, map};
 ghost use Rattle.lalrpop_base.specs.Words.{IsAtStart, IsWellFormed, productions, productions_of};
 ghost use Rattle.lalrpop_tables.specs.Closure.{dotted_of};
 ghost use Rattle.lalrpop_tables.specs.CheckClosing.{Widens, IsBegun, IsExpansionOf, IsMovedIn, IsMovedOf, AreClosure, AllWait};

@@ -4,9 +4,8 @@ mod beachheads;
 mod closed;
 pub mod rows;
 
-ghost use Rattle.std.specs.Prelude.{◌≡◌, ◌<◌, ◌↔◌, ℕ, Contains, IfOk, OnOk, OnErr, IfErr, IsTrue, IfSome, IsSome, IsNone};
+ghost use Rattle.std.specs.Prelude.{◌≡◌, ◌<◌, ◌↔◌, Contains, IfOk, OnOk, OnErr, IfErr, IfSome, IsSome, IsNone};
 ghost use Rattle.std.specs.Map.{keys_of};
-ghost use Rattle.lalrpop_base.specs.Words.{Bits};
 ghost use Rattle.lalrpop_base.specs.declared.lr1_core.state.StateIndex.{StateIndex as State};
 ghost use Rattle.lalrpop_tables.specs.Contexts.{AreDisjoint};
 ghost use Rattle.lalrpop_tables.specs.Entries.{IsJoinedAt};

@@ -4,7 +4,7 @@ mod context_sets;
 mod copies;
 mod walk;
 
-ghost use Rattle.std.specs.Prelude.{◌≡◌, ◌<◌, ◌≤◌, ◌↔◌, ℕ, Bool, true, false, List, length, slice_get, Some, Contains, IfOk, IsTrue, OnOk, IfErr};
+ghost use Rattle.std.specs.Prelude.{◌≡◌, ◌≤◌, ◌↔◌, ℕ, Bool, true, false, List, length, slice_get, Some, Contains, IfOk, IsTrue, OnOk, IfErr};
 ghost use Rattle.std.specs.Map.{keys_of};
 ghost use Rattle.lalrpop_base.specs.Words.{Bits, AreCoherent, contents, IsCopying};
 ghost use Rattle.lalrpop_base.specs.declared.lr1_core.state.State.{State};

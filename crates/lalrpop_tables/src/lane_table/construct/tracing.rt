@@ -1,5 +1,5 @@
 //! The lane table of a state.
-ghost use Rattle.std.specs.Prelude.{◌≡◌, ◌<◌, ℕ, List, length, slice_get, Contains, IfOk, OnOk};
+ghost use Rattle.std.specs.Prelude.{◌≡◌, ◌<◌, length, Contains, IfOk};
 ghost use Rattle.lalrpop_base.specs.Words.{AreCoherent, productions, rules_of};
 ghost use Rattle.lalrpop_base.specs.declared.lr1_core.state.Action.{Action as TheAction};
 ghost use Rattle.lalrpop_tables.specs.LaneStates.{AreTraced, IsReadyToConstruct};

@@ -1,5 +1,5 @@
 //! What one pass over states finds.
-ghost use Rattle.std.specs.Prelude.{◌≡◌, ◌<◌, ◌↔◌, ℕ, length, Contains, IfOk, IsTrue};
+ghost use Rattle.std.specs.Prelude.{◌<◌, ◌↔◌, ℕ, length, Contains, IfOk, IsTrue};
 ghost use Rattle.lalrpop_base.specs.Words.{AreClosed, AreCoherent, IsWellFormed, has, rules_of};
 ghost use Rattle.lalrpop_tables.specs.FollowNodes.{AreOfGrammar, AreAllReached, IsPass};
 ghost use Rattle.lalrpop_tables.specs.FollowWalks.{AreUnions, FindsLookaheads, HoldsSomeOf, entries_at};

@@ -1,5 +1,5 @@
 //! Walks over the right sides of productions, from state to state.
-ghost use Rattle.std.specs.Prelude.{◌≡◌, ◌<◌, length, slice_get, Some, IfOk, OnOk, MatchOption, None, drop, ◌∷◌, ℕ, Contains, List, ◌↔◌, IsTrue};
+ghost use Rattle.std.specs.Prelude.{◌≡◌, ◌<◌, length, slice_get, Some, IfOk, OnOk, None, ◌↔◌, IsTrue};
 ghost use Rattle.lalrpop_base.specs.Words.{Dotted};
 ghost use Rattle.lalrpop_base.specs.declared.lookahead.nil.Nil.{Nil};
 ghost use Rattle.lalrpop_base.specs.declared.repr.Production.{Production as OfGrammar};

@@ -1,5 +1,4 @@
-use Rattle.std.proofs.Common.{◌≡◌, ◌∙◌, ap, map, ◌∷◌, [], List, subst}
-use Rattle.lalrpop_base.specs.Words.{Dotted}
+use Rattle.std.proofs.Common.{◌∙◌, ap, map, ◌∷◌, [], subst}
 use Rattle.lalrpop_tables.specs.Numbers.{items_by}
 use Rattle.lalrpop_tables.specs.Words.{AreItemsBy}
 use Rattle.lalrpop_tables.proofs.NumberedBuilding.{same_kernels}
