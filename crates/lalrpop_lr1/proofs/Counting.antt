@@ -2,7 +2,7 @@
 use Rattle.std.proofs.Common.{◌≡◌, ◌<◌, ◌≤◌, Bool, true, false, List, [], ◌∷◌, length, refl, sym, arith, cond, inl, inr}
 use Rattle.std.specs.Prelude.{filter, Contains}
 use mathlib.Core.Bool.{true≢false}
-use Rattle.lalrpop_tables.proofs.Lists.{Contains-none, Contains-cases}
+use Rattle.lalrpop_tables.proofs.Lists.{Contains-none, contains-cons}
 
 module _ {X : Type 0} (P Q : X → Bool) (implies : (x : X) → Q x ≡ true → P x ≡ true) where
   step : (x : X) (q p : Bool) (a b : List X) → (q ≡ true → p ≡ true) → length a ≤ length b → length (cond q (x ∷ a) a) ≤ length (cond p (x ∷ b) b)
@@ -25,7 +25,7 @@ module _ {X : Type 0} (P Q : X → Bool) (implies : (x : X) → Q x ≡ true →
   -- and fewer, where an element passes the weaker one alone
   pub count_less : (xs : List X) (y : X) → Contains xs y → P y ≡ true → Q y ≡ false → length (filter Q xs) < length (filter P xs)
   count_less [] y c p q = absurd (Contains-none y c)
-  count_less (x ∷ xs) y c p q = elim (Contains-cases x xs y c) [
+  count_less (x ∷ xs) y c p q = elim (contains-cons x xs y c) [
     | inl e ↦ (let h : length (filter Q xs) ≤ length (filter P xs) = count_le xs in rw (e, p, q) (omega (arith, h)))
     | inr d ↦ step_less x (Q x) (P x) (filter Q xs) (filter P xs) (implies x) (count_less xs y d p q)
   ]

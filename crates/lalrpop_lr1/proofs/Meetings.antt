@@ -20,7 +20,7 @@ use Rattle.lalrpop_tables.specs.Words.{edges, over, nowhere, state_cmp}
 use Rattle.lalrpop_tables.specs.StateGraph.{LeadsTo}
 use Rattle.lalrpop_tables.proofs.Bounded.{in_flat_map}
 use Rattle.lalrpop_tables.proofs.EdgeLeads.{source_of_edge}
-use Rattle.lalrpop_tables.proofs.Lists.{Contains-here, Contains-there, Contains-map, Contains-range, apart-from_sorted, pigeonhole}
+use Rattle.lalrpop_tables.proofs.Lists.{contains_head, contains_tail, contains_map, Contains-range, apart-from_sorted, pigeonhole}
 use Rattle.lalrpop_tables.proofs.Places.{contains_at}
 use Rattle.lalrpop_tables.proofs.StateGraphs.{state_total}
 use Rattle.lalrpop_lr1.specs.Words.{Backtrace, Meeting, StandsIn, Duty, come_to, take_up, come_to_each, take_up_each, items_at, AreSources}
@@ -58,17 +58,17 @@ module _ (b : Backtrace) where
   -- a name of the states in one of them
   among_meetings : (state : StateIndex) (name : NonterminalString) → state.0 < length b.states → Contains (names_in b) name → Contains (meetings b) (state, name)
   among_meetings state name l c =
-      in_flat_map (λ n. map (λ a. (record { 0 = n }, a)) (names_in b)) (range_with_len 0 (length b.states)) state.0 (state, name) (Contains-range (length b.states) state.0 l) (Contains-map (λ (a : NonterminalString). (state, a)) (names_in b) name c)
+      in_flat_map (λ n. map (λ a. (record { 0 = n }, a)) (names_in b)) (range_with_len 0 (length b.states)) state.0 (state, name) (Contains-range (length b.states) state.0 l) (contains_map (λ (a : NonterminalString). (state, a)) (names_in b) name c)
 
   -- the name of an item of a state
   pub named_item : (state : StateIndex) (item : Dotted Bits) → StandsIn b.states state item → Contains (names_in b) item.production.nonterminal
   named_item state item stands =
-      Contains-there b.item.production.nonterminal (flat_map names_of b.states) item.production.nonterminal
-      (in_flat_map names_of b.states stands.0 item.production.nonterminal (contains_at b.states stands.0 state.0 stands.1) (Contains-map (λ (i : Dotted Bits). i.production.nonterminal) stands.0.items.vec.items item stands.2))
+      contains_tail b.item.production.nonterminal (flat_map names_of b.states) item.production.nonterminal
+      (in_flat_map names_of b.states stands.0 item.production.nonterminal (contains_at b.states stands.0 state.0 stands.1) (contains_map (λ (i : Dotted Bits). i.production.nonterminal) stands.0.items.vec.items item stands.2))
 
   -- and that of the traced item
   pub named_first : Contains (names_in b) b.item.production.nonterminal
-  named_first = Contains-here b.item.production.nonterminal (flat_map names_of b.states)
+  named_first = contains_head b.item.production.nonterminal (flat_map names_of b.states)
 
   -- ---- states in which an item can begin
 
@@ -82,7 +82,7 @@ module _ (b : Backtrace) where
       let index_of : ℕ → StateIndex = λ n. record { 0 = n } in
       let all : List StateIndex = map index_of (range_with_len 0 (length b.states)) in
       let few : length sources ≤ length all = pigeonhole sources all (apart-from_sorted state_cmp state_total sources are.ascending)
-      (λ r c. Contains-map index_of (range_with_len 0 (length b.states)) r.0 (Contains-range (length b.states) r.0 (source_within ((are.exactly r).0 c) l))) in
+      (λ r c. contains_map index_of (range_with_len 0 (length b.states)) r.0 (Contains-range (length b.states) r.0 (source_within ((are.exactly r).0 c) l))) in
       omega (arith, few, length-map-range_with_len index_of 0 (length b.states))
 
   -- ---- work

@@ -27,7 +27,7 @@ use Rattle.lalrpop_base.proofs.KernelLemmas.{IsNext, all_differ, list_grows, nex
 use Rattle.lalrpop_base.proofs.MultimapLemmas.{tied_at, everywhere}
 use Rattle.lalrpop_tables.specs.Words.{listed}
 use Rattle.lalrpop_tables.proofs.Contained.{Decided, decided, added_or_not}
-use Rattle.lalrpop_tables.proofs.Lists.{Contains-map, place}
+use Rattle.lalrpop_tables.proofs.Lists.{contains_map, place}
 use Rattle.lalrpop_tables.proofs.Places.{push_cases, contains_at, same_some}
 use Rattle.lalrpop_lr1.specs.Words.{Graph, PlainEdge, plain, plain_edge, IsGraph, IsKept, IsFrom, SameLabels, HaveEnds, KeepPlaces, AddsBoth, AddsNoOther}
 use Rattle.lalrpop_lr1.specs.Words.{AddsEdge, places_from}
@@ -250,7 +250,7 @@ plain_place edges p c = let at = place (map plain edges) p c in plain_at edges a
   plain_at (e ∷ es) (suc k) p at = let h = plain_at es k p at in (suc h.0, h.1, h.2, h.3)
 
 pub plain_there : (edges : List TraceGraphEdge) (k : ℕ) (e : TraceGraphEdge) → slice_get edges k ≡ Some e → Contains (map plain edges) (plain e)
-plain_there edges k e at = Contains-map plain edges e (contains_at edges e k at)
+plain_there edges k e at = contains_map plain edges e (contains_at edges e k at)
 
 -- ---- what is kept, with the same entries
 

@@ -14,7 +14,7 @@ use Rattle.lalrpop_base.specs.declared.lr1_core.state.StateIndex.{StateIndex}
 use Rattle.lalrpop_tables.specs.Words.{edges, state_cmp}
 use Rattle.lalrpop_tables.specs.StateGraph.{LeadsTo}
 use Rattle.lalrpop_tables.proofs.Contained.{Decided}
-use Rattle.lalrpop_tables.proofs.Lists.{Contains-none, Contains-here, Contains-there, Contains-cases}
+use Rattle.lalrpop_tables.proofs.Lists.{Contains-none, contains_head, contains_tail, contains-cons}
 use Rattle.lalrpop_lr1.specs.Words.{Graph, PlainEdge, plain, plain_edges, AddsBoth, AddsEdge, AddsInTurn, all_added, left_out, put_behind, ends_of, stop_edge}
 use Rattle.lalrpop_lr1.specs.Words.{onward_edges, Duty, come_to, take_up, come_to_each, take_up_each, items_at, AreSources, Walks, ends, known, meets, passes}
 use Rattle.lalrpop_lr1.specs.Words.{IsInOrder, Backtrace, Meeting, GoesOn, own_edge, meeting_cmp, IsInsertedPair, HasMet, AddsInOrder, AreMet, WalksOn}
@@ -44,10 +44,10 @@ module _ {X : Type 0} (same : Decided X) where
   contained : (xs : List X) (x : X) → Contains xs x ⊎ ¬ Contains xs x
   contained [] x = inr (λ c. Contains-none x c)
   contained (y ∷ xs) x = elim (same y x) [
-    | inl e ↦ inl (subst (Contains (y ∷ xs)) e (Contains-here y xs))
+    | inl e ↦ inl (subst (Contains (y ∷ xs)) e (contains_head y xs))
     | inr other ↦ elim (contained xs x) [
-      | inl c ↦ inl (Contains-there y xs x c)
-      | inr out ↦ inr (λ c. elim (Contains-cases y xs x c) [ inl e ↦ other e | inr later ↦ out later ])
+      | inl c ↦ inl (contains_tail y xs x c)
+      | inr out ↦ inr (λ c. elim (contains-cons y xs x c) [ inl e ↦ other e | inr later ↦ out later ])
     ]
   ]
 
@@ -138,8 +138,8 @@ module _ (b : Backtrace) where
           record {
             after = m ∷ list;
             are_met = λ q. (
-              λ c. ⊎_elim (λ here. subst Q here inserted.there) (λ before. inserted.now q ((are q).0 before)) (Contains-cases m list q c),
-              λ h. ⊎_elim (λ before. Contains-there m list q ((are q).1 before)) (λ here. subst R here (Contains-here m list)) (inserted.only q h),
+              λ c. ⊎_elim (λ here. subst Q here inserted.there) (λ before. inserted.now q ((are q).0 before)) (contains-cons m list q c),
+              λ h. ⊎_elim (λ before. contains_tail m list q ((are q).1 before)) (λ here. subst R here (contains_head m list)) (inserted.only q h),
             );
             given = [];
             added = subst P (sym same) (order_none old.trace_graph);

@@ -10,7 +10,7 @@ use Rattle.lalrpop_base.specs.declared.repr.Production.{Production}
 use Rattle.lalrpop_base.specs.declared.repr.Symbol.TheVariants.{Nonterminal}
 use Rattle.lalrpop_base.specs.declared.lr1_core.state.StateIndex.{StateIndex}
 use Rattle.lalrpop_tables.specs.Words.{state_cmp}
-use Rattle.lalrpop_tables.proofs.Lists.{Contains-none, Contains-here, Contains-there, Contains-cases}
+use Rattle.lalrpop_tables.proofs.Lists.{Contains-none, contains_head, contains_tail, contains-cons}
 use Rattle.lalrpop_lr1.specs.Words.{Graph, PlainEdge, plain_edges, AddsInTurn, all_added, left_out, put_behind, ends_of, stop_edge, onward_edges, Duty, come_to}
 use Rattle.lalrpop_lr1.specs.Words.{take_up, come_to_each, take_up_each, items_at, AreSources, Walks, ends, known, meets, passes, IsInOrder, Backtrace, Meeting}
 use Rattle.lalrpop_lr1.specs.Words.{GoesOn, own_edge}
@@ -52,27 +52,27 @@ below_rest : (x : StateIndex) (xs : List StateIndex) → AllByRecursion (λ y. s
 below_rest x [] all y c = absurd (Contains-none y c)
 below_rest x (z ∷ zs) all y c =
     let P : StateIndex → Type 0 = λ w. x.0 < w.0 in
-    elim (Contains-cases z zs y c) [ inl e ↦ subst P e (less_at x.0 z.0 (nat_lt x.0 z.0) (x.0 == z.0) refl all.0) | inr later ↦ below_rest x zs all.1 y later ]
+    elim (contains-cons z zs y c) [ inl e ↦ subst P e (less_at x.0 z.0 (nat_lt x.0 z.0) (x.0 == z.0) refl all.0) | inr later ↦ below_rest x zs all.1 y later ]
 
 states_one : (xs ys : List StateIndex) → IsStrictlySortedBy state_cmp xs → IsStrictlySortedBy state_cmp ys → ((r : StateIndex) → Contains xs r ↔ Contains ys r) → xs ≡ ys
 unfolding IsStrictlySortedBy
 states_one [] [] s t same = refl
-states_one [] (y ∷ ys) s t same = absurd (Contains-none y ((same y).1 (Contains-here y ys)))
-states_one (x ∷ xs) [] s t same = absurd (Contains-none x ((same x).0 (Contains-here x xs)))
+states_one [] (y ∷ ys) s t same = absurd (Contains-none y ((same y).1 (contains_head y ys)))
+states_one (x ∷ xs) [] s t same = absurd (Contains-none x ((same x).0 (contains_head x xs)))
 states_one (x ∷ xs) (y ∷ ys) s t same =
-    let head : x ≡ y = elim (Contains-cases y ys x ((same x).0 (Contains-here x xs))) [
+    let head : x ≡ y = elim (contains-cons y ys x ((same x).0 (contains_head x xs))) [
       | inl e ↦ sym e
-      | inr later ↦ elim (Contains-cases x xs y ((same y).1 (Contains-here y ys))) [
+      | inr later ↦ elim (contains-cons x xs y ((same y).1 (contains_head y ys))) [
         | inl e ↦ e
         | inr other ↦ let up : x.0 < y.0 = below_rest x xs s.0 y other in let down : y.0 < x.0 = below_rest y ys t.0 x later in absurd (omega (arith, up, down))
       ]
     ] in
     let rest : (r : StateIndex) → Contains xs r ↔ Contains ys r = λ r. (
-      λ c. elim (Contains-cases y ys r ((same r).0 (Contains-there x xs r c))) [
+      λ c. elim (contains-cons y ys r ((same r).0 (contains_tail x xs r c))) [
         | inl e ↦ let up : x.0 < r.0 = below_rest x xs s.0 r c in let P : StateIndex → Type 0 = λ w. w.0 < r.0 in absurd (let around : r.0 < r.0 = subst P (head ∙ e) up in omega (arith, around))
         | inr later ↦ later
       ],
-      λ c. elim (Contains-cases x xs r ((same r).1 (Contains-there y ys r c))) [
+      λ c. elim (contains-cons x xs r ((same r).1 (contains_tail y ys r c))) [
         | inl e ↦ let up : y.0 < r.0 = below_rest y ys t.0 r c in let P : StateIndex → Type 0 = λ w. w.0 < r.0 in absurd (let around : r.0 < r.0 = subst P (sym head ∙ e) up in omega (arith, around))
         | inr later ↦ later
       ],

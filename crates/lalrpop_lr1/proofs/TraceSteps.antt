@@ -10,7 +10,7 @@ use Rattle.lalrpop_base.specs.declared.repr.NonterminalString.{NonterminalString
 use Rattle.lalrpop_base.specs.declared.repr.Production.{Production}
 use Rattle.lalrpop_base.specs.declared.repr.Symbol.TheVariants.{Nonterminal}
 use Rattle.lalrpop_base.specs.declared.lr1_core.state.StateIndex.{StateIndex}
-use Rattle.lalrpop_tables.proofs.Lists.{Contains-here, Contains-there}
+use Rattle.lalrpop_tables.proofs.Lists.{contains_head, contains_tail}
 use Rattle.lalrpop_lr1.specs.Words.{Backtrace, Meeting, Takes, GoesOn, Duty, come_to, take_up, come_to_each, take_up_each, items_at, stop_edge, onward_edges, AreSources}
 use Rattle.lalrpop_lr1.specs.Words.{IsInsertedPair, AddsInOrder, duties_of, duties_left, names_in, AreNamed, work, WalksOn, IsStep}
 use Rattle.lalrpop_lr1.specs.declared.trace.meeting.Met.{Met}
@@ -56,7 +56,7 @@ module _ (b : Backtrace) where
   named_rest one two named q c = named q (Contains-append_right one two (come_to q) c)
 
   named_tail : (d : Duty) (duties : List Duty) → AreNamed b (d ∷ duties) → AreNamed b duties
-  named_tail d duties named q c = named q (Contains-there d duties (come_to q) c)
+  named_tail d duties named q c = named q (contains_tail d duties (come_to q) c)
 
   -- sources come to the nonterminal of the production
   pub named_sources : (p : Production) (sources : List StateIndex) (duties : List Duty) → Contains (names_in b) p.nonterminal → AreNamed b duties → AreNamed b (come_to_each p sources ++ duties)
@@ -111,7 +111,7 @@ module _ (b : Backtrace) where
           let items = items_at (slice_get b.states m.0.0) in
           let left : duties_left b after ≡ take_up_each m items ++ duties_left b tasks = duties_pushed tasks after task (take_up_each m items) is_after duties in
           let count : length after ≡ length tasks + 1 = ap (λ (ts : List Task). length ts) is_after ∙ length_push tasks task in
-          let less : work b middle (take_up_each m items ++ duties_left b tasks) < work b old (come_to m ∷ duties_left b tasks) = met_work b old middle (duties_left b tasks) fresh m inserted is (named m (Contains-here (come_to m) (duties_left b tasks))) in
+          let less : work b middle (take_up_each m items ++ duties_left b tasks) < work b old (come_to m ∷ duties_left b tasks) = met_work b old middle (duties_left b tasks) fresh m inserted is (named m (contains_head (come_to m) (duties_left b tasks))) in
           let same_work : work b middle (duties_left b after) ≡ work b middle (take_up_each m items ++ duties_left b tasks) = ap (λ (ds : List Duty). work b middle ds) left in
           record {
             walks = subst (λ (ds : List Duty). WalksOn b (come_to m ∷ duties_left b tasks) ds old middle) (sym left) (walks_met b (duties_left b tasks) old middle fresh m inserted same is);

@@ -8,7 +8,7 @@ use Rattle.lalrpop_base.specs.declared.repr.Production.{Production}
 use Rattle.lalrpop_base.specs.declared.repr.Symbol.TheVariants.{Nonterminal}
 use Rattle.lalrpop_base.specs.declared.lr1_core.state.State.{State}
 use Rattle.lalrpop_base.specs.declared.lr1_core.state.StateIndex.{StateIndex}
-use Rattle.lalrpop_tables.proofs.Lists.{Contains-none, Contains-here, Contains-there, Contains-cases}
+use Rattle.lalrpop_tables.proofs.Lists.{Contains-none, contains_head, contains_tail, contains-cons}
 use Rattle.lalrpop_lr1.specs.Words.{Graph, PlainEdge, plain, plain_edges, IsEnd, AddsInTurn, all_added, left_out, put_behind, ends_of, stop_edge, onward_edges, Duty, come_to}
 use Rattle.lalrpop_lr1.specs.Words.{take_up, come_to_each, take_up_each, items_at, AreSources, Walks, ends, known, meets, passes, IsInOrder, Backtrace, Meeting}
 use Rattle.lalrpop_lr1.specs.Words.{own_edge, StandsIn, Takes, GoesOn, IsSource, IsMet, begins, Gives, onward, itself, IsTraced, first, given, IsTraceOf}
@@ -31,11 +31,11 @@ turn_keeps (put_behind {old = old} {x = y} out rest) x c = turn_keeps rest x (Co
 -- each of the added ones is there
 turn_adds : {X : Type 0} {old xs new : List X} → AddsInTurn old xs new → (x : X) → Contains xs x → Contains new x
 turn_adds all_added x c = absurd (Contains-none x c)
-turn_adds (left_out {old = old} {xs = xs} {x = y} k rest) x c = elim (Contains-cases y xs x c) [
+turn_adds (left_out {old = old} {xs = xs} {x = y} k rest) x c = elim (contains-cons y xs x c) [
   | inl e ↦ turn_keeps rest x (subst (Contains old) e k)
   | inr d ↦ turn_adds rest x d
 ]
-turn_adds (put_behind {old = old} {xs = xs} {x = y} out rest) x c = elim (Contains-cases y xs x c) [
+turn_adds (put_behind {old = old} {xs = xs} {x = y} out rest) x c = elim (contains-cons y xs x c) [
   | inl e ↦ turn_keeps rest x (subst (Contains (old ++ y ∷ [])) e (Contains-push old y))
   | inr d ↦ turn_adds rest x d
 ]
@@ -43,10 +43,10 @@ turn_adds (put_behind {old = old} {xs = xs} {x = y} out rest) x c = elim (Contai
 -- and no other
 turn_only : {X : Type 0} {old xs new : List X} → AddsInTurn old xs new → (x : X) → Contains new x → Contains old x ⊎ Contains xs x
 turn_only all_added x c = inl c
-turn_only (left_out {xs = xs} {x = y} k rest) x c = elim (turn_only rest x c) [ inl d ↦ inl d | inr d ↦ inr (Contains-there y xs x d) ]
+turn_only (left_out {xs = xs} {x = y} k rest) x c = elim (turn_only rest x c) [ inl d ↦ inl d | inr d ↦ inr (contains_tail y xs x d) ]
 turn_only (put_behind {old = old} {xs = xs} {x = y} out rest) x c = elim (turn_only rest x c) [
-  | inl d ↦ elim (Contains-push_cases old y x d) [ inl k ↦ inl k | inr e ↦ inr (subst (Contains (y ∷ xs)) e (Contains-here y xs)) ]
-  | inr d ↦ inr (Contains-there y xs x d)
+  | inl d ↦ elim (Contains-push_cases old y x d) [ inl k ↦ inl k | inr e ↦ inr (subst (Contains (y ∷ xs)) e (contains_head y xs)) ]
+  | inr d ↦ inr (contains_tail y xs x d)
 ]
 
 -- none twice
@@ -61,13 +61,13 @@ abbrev both_ends : PlainEdge → List TraceGraphNode
 both_ends e = e.from ∷ e.to ∷ []
 
 end_there : (e : PlainEdge) (n : TraceGraphNode) → (e.from ≡ n) ⊎ (e.to ≡ n) → Contains (both_ends e) n
-end_there e n (inl f) = subst (Contains (both_ends e)) f (Contains-here e.from (e.to ∷ []))
-end_there e n (inr t) = subst (Contains (both_ends e)) t (Contains-there e.from (e.to ∷ []) e.to (Contains-here e.to []))
+end_there e n (inl f) = subst (Contains (both_ends e)) f (contains_head e.from (e.to ∷ []))
+end_there e n (inr t) = subst (Contains (both_ends e)) t (contains_tail e.from (e.to ∷ []) e.to (contains_head e.to []))
 
 end_of : (e : PlainEdge) (n : TraceGraphNode) → Contains (both_ends e) n → (e.from ≡ n) ⊎ (e.to ≡ n)
-end_of e n c = elim (Contains-cases e.from (e.to ∷ []) n c) [
+end_of e n c = elim (contains-cons e.from (e.to ∷ []) n c) [
   | inl f ↦ inl f
-  | inr k ↦ elim (Contains-cases e.to [] n k) [ inl t ↦ inr t | inr none ↦ absurd (Contains-none n none) ]
+  | inr k ↦ elim (contains-cons e.to [] n k) [ inl t ↦ inr t | inr none ↦ absurd (Contains-none n none) ]
 ]
 
 in_ends : (es : List PlainEdge) (n : TraceGraphNode) → IsEnd es n → Contains (ends_of es) n
@@ -89,17 +89,17 @@ module _ (b : Backtrace) where
   -- ---- what an item that goes on gives
 
   onward_given : (traced : Traced) (name : NonterminalString) (item : Dotted Bits) → b.traced ≡ traced → GoesOn b item → (e : PlainEdge) → Contains (onward_edges traced name item) e → Gives b name item e
-  onward_given Shift name item is on e c = elim (Contains-cases _ [] e c) [ inl h ↦ onward on (sym h) | inr none ↦ absurd (Contains-none e none) ]
-  onward_given Reduce name item is on e c = elim (Contains-cases _ (own_edge item.production item.index ∷ []) e c) [
+  onward_given Shift name item is on e c = elim (contains-cons _ [] e c) [ inl h ↦ onward on (sym h) | inr none ↦ absurd (Contains-none e none) ]
+  onward_given Reduce name item is on e c = elim (contains-cons _ (own_edge item.production item.index ∷ []) e c) [
     | inl h ↦ onward on (sym h)
-    | inr k ↦ elim (Contains-cases (own_edge item.production item.index) [] e k) [ inl h ↦ itself on is (sym h) | inr none ↦ absurd (Contains-none e none) ]
+    | inr k ↦ elim (contains-cons (own_edge item.production item.index) [] e k) [ inl h ↦ itself on is (sym h) | inr none ↦ absurd (Contains-none e none) ]
   ]
 
   onward_there : (traced : Traced) (name : NonterminalString) (item : Dotted Bits) → b.traced ≡ traced → GoesOn b item → (e : PlainEdge) → Gives b name item e → Contains (onward_edges traced name item) e
-  onward_there Shift name item is on e (onward o h) = subst (Contains (onward_edges Shift name item)) (sym h) (Contains-here _ [])
-  onward_there Reduce name item is on e (onward o h) = subst (Contains (onward_edges Reduce name item)) (sym h) (Contains-here _ (own_edge item.production item.index ∷ []))
+  onward_there Shift name item is on e (onward o h) = subst (Contains (onward_edges Shift name item)) (sym h) (contains_head _ [])
+  onward_there Reduce name item is on e (onward o h) = subst (Contains (onward_edges Reduce name item)) (sym h) (contains_head _ (own_edge item.production item.index ∷ []))
   onward_there Shift name item is on e (itself o reduces h) = cc
-  onward_there Reduce name item is on e (itself o reduces h) = subst (Contains (onward_edges Reduce name item)) (sym h) (Contains-there _ (own_edge item.production item.index ∷ []) (own_edge item.production item.index) (Contains-here (own_edge item.production item.index) []))
+  onward_there Reduce name item is on e (itself o reduces h) = subst (Contains (onward_edges Reduce name item)) (sym h) (contains_tail _ (own_edge item.production item.index ∷ []) (own_edge item.production item.index) (contains_head (own_edge item.production item.index) []))
   onward_there traced name item is on e (gives_stop out h) = absurd (out on)
 
   -- ---- a walk gives no edges but those of the backtrace
@@ -135,23 +135,23 @@ module _ (b : Backtrace) where
 
   gives_traced : {met : List Meeting} {duties : List Duty} {es : List PlainEdge} → Walks b met duties es → AreOwed duties → (e : PlainEdge) → Contains es e → IsTraced b e
   gives_traced ends owed e c = absurd (Contains-none e c)
-  gives_traced (known {m = m} {duties = duties} k w) owed e c = gives_traced w (λ d i. owed d (Contains-there (come_to m) duties d i)) e c
+  gives_traced (known {m = m} {duties = duties} k w) owed e c = gives_traced w (λ d i. owed d (contains_tail (come_to m) duties d i)) e c
   gives_traced (meets {m = m} {duties = duties} out w) owed e c =
-      let met : IsMet b m = owed (come_to m) (Contains-here (come_to m) duties) in
-      gives_traced w (owed_both (take_up_each m (items_at (slice_get b.states m.0.0))) duties (owed_items m met) (λ d i. owed d (Contains-there (come_to m) duties d i))) e c
-  gives_traced (passes {m = m} {item = item} {duties = duties} other w) owed e c = gives_traced w (λ d i. owed d (Contains-there (take_up m item) duties d i)) e c
+      let met : IsMet b m = owed (come_to m) (contains_head (come_to m) duties) in
+      gives_traced w (owed_both (take_up_each m (items_at (slice_get b.states m.0.0))) duties (owed_items m met) (λ d i. owed d (contains_tail (come_to m) duties d i))) e c
+  gives_traced (passes {m = m} {item = item} {duties = duties} other w) owed e c = gives_traced w (λ d i. owed d (contains_tail (take_up m item) duties d i)) e c
   gives_traced (stops {m = m} {item = item} {duties = duties} {es = es} at out w) owed e c =
-      let own = owed (take_up m item) (Contains-here (take_up m item) duties) in
-      elim (Contains-cases _ es e c) [
+      let own = owed (take_up m item) (contains_head (take_up m item) duties) in
+      elim (contains-cons _ es e c) [
         | inl h ↦ given m item own.0 (own.1, at) (gives_stop out (sym h))
-        | inr k ↦ gives_traced w (λ d i. owed d (Contains-there (take_up m item) duties d i)) e k
+        | inr k ↦ gives_traced w (λ d i. owed d (contains_tail (take_up m item) duties d i)) e k
       ]
   gives_traced (goes_on {m = m} {item = item} {duties = duties} sources later at on are w is) owed e c =
-      let own = owed (take_up m item) (Contains-here (take_up m item) duties) in
+      let own = owed (take_up m item) (contains_head (take_up m item) duties) in
       let takes : Takes b m item = (own.1, at) in
       elim (Contains-append_cases (onward_edges b.traced m.1 item) later e (subst (λ (es : List PlainEdge). Contains es e) is c)) [
         | inl k ↦ given m item own.0 takes (onward_given b.traced m.1 item refl on e k)
-        | inr k ↦ gives_traced w (owed_both (come_to_each item.production sources) duties (owed_sources item.production item.index m.0 sources are (λ n source. met_on {m = m} {item = item} own.0 takes on source)) (λ d i. owed d (Contains-there (take_up m item) duties d i))) e k
+        | inr k ↦ gives_traced w (owed_both (come_to_each item.production sources) duties (owed_sources item.production item.index m.0 sources are (λ n source. met_on {m = m} {item = item} own.0 takes on source)) (λ d i. owed d (contains_tail (take_up m item) duties d i))) e k
       ]
 
   -- ---- and it gives each of them
@@ -191,11 +191,11 @@ module _ (b : Backtrace) where
     completes_known es k later = record {
       after = later.after;
       kept = later.kept;
-      comes = λ m c. elim (Contains-cases (come_to n) duties (come_to m) c) [
+      comes = λ m c. elim (contains-cons (come_to n) duties (come_to m) c) [
         | inl h ↦ (let same : n ≡ m = cc in later.kept m (subst (Contains met) same k))
         | inr d ↦ later.comes m d
       ];
-      takes = λ m item c. elim (Contains-cases (come_to n) duties (take_up m item) c) [ inl h ↦ cc | inr d ↦ later.takes m item d ];
+      takes = λ m item c. elim (contains-cons (come_to n) duties (take_up m item) c) [ inl h ↦ cc | inr d ↦ later.takes m item d ];
       finished = later.finished;
     }
 
@@ -205,17 +205,17 @@ module _ (b : Backtrace) where
         let items = items_at (slice_get b.states n.0.0) in
         record {
           after = later.after;
-          kept = λ m c. later.kept m (Contains-there n met m c);
-          comes = λ m c. elim (Contains-cases (come_to n) duties (come_to m) c) [
-            | inl h ↦ (let same : n ≡ m = cc in later.kept m (subst (Contains (n ∷ met)) same (Contains-here n met)))
+          kept = λ m c. later.kept m (contains_tail n met m c);
+          comes = λ m c. elim (contains-cons (come_to n) duties (come_to m) c) [
+            | inl h ↦ (let same : n ≡ m = cc in later.kept m (subst (Contains (n ∷ met)) same (contains_head n met)))
             | inr d ↦ later.comes m (Contains-append_right (take_up_each n items) duties (come_to m) d)
           ];
-          takes = λ m item c. elim (Contains-cases (come_to n) duties (take_up m item) c) [
+          takes = λ m item c. elim (contains-cons (come_to n) duties (take_up m item) c) [
             | inl h ↦ cc
             | inr d ↦ later.takes m item (Contains-append_right (take_up_each n items) duties (take_up m item) d)
           ];
           finished = λ m c. elim (later.finished m c) [
-            | inl d ↦ elim (Contains-cases n met m d) [
+            | inl d ↦ elim (contains-cons n met m d) [
               | inl same ↦ inr (subst (IsFinished later.after es) same (λ item takes. later.takes n item (Contains-append_left (take_up_each n items) duties (take_up n item) (in_map (take_up n) items item (stands_there b.states n.0 item takes.0))) takes))
               | inr before ↦ inl before
             ]
@@ -229,8 +229,8 @@ module _ (b : Backtrace) where
       completes_past es other later = record {
         after = later.after;
         kept = later.kept;
-        comes = λ m c. elim (Contains-cases (take_up n kind) duties (come_to m) c) [ inl h ↦ cc | inr d ↦ later.comes m d ];
-        takes = λ m item c takes. elim (Contains-cases (take_up n kind) duties (take_up m item) c) [
+        comes = λ m c. elim (contains-cons (take_up n kind) duties (come_to m) c) [ inl h ↦ cc | inr d ↦ later.comes m d ];
+        takes = λ m item c takes. elim (contains-cons (take_up n kind) duties (take_up m item) c) [
           | inl h ↦
               let here : n ≡ m = cc in
               let same : kind ≡ item = cc in
@@ -247,8 +247,8 @@ module _ (b : Backtrace) where
       completes_item later_duties others es later on among done = record {
         after = later.after;
         kept = later.kept;
-        comes = λ m c. elim (Contains-cases (take_up n kind) duties (come_to m) c) [ inl h ↦ cc | inr d ↦ later.comes m (among (come_to m) d) ];
-        takes = λ m item c takes. elim (Contains-cases (take_up n kind) duties (take_up m item) c) [
+        comes = λ m c. elim (contains-cons (take_up n kind) duties (come_to m) c) [ inl h ↦ cc | inr d ↦ later.comes m (among (come_to m) d) ];
+        takes = λ m item c takes. elim (contains-cons (take_up n kind) duties (take_up m item) c) [
           | inl h ↦
               let here : n ≡ m = cc in
               let same : kind ≡ item = cc in
@@ -264,7 +264,7 @@ module _ (b : Backtrace) where
       completes_stop : (es : List PlainEdge) → ¬ GoesOn b kind → Completes met duties es → Completes met (take_up n kind ∷ duties) (stop_edge n.1 kind ∷ es)
       completes_stop es out later =
           let edge = stop_edge n.1 kind in
-          completes_item duties es (edge ∷ es) later (λ m item done. done_on later.after (edge ∷ []) es m item done) (λ d c. c) (record { gives = λ e g. subst (Contains (edge ∷ es)) (stop_is e g) (Contains-here edge es); leads = λ k goes. absurd (out goes) })
+          completes_item duties es (edge ∷ es) later (λ m item done. done_on later.after (edge ∷ []) es m item done) (λ d c. c) (record { gives = λ e g. subst (Contains (edge ∷ es)) (stop_is e g) (contains_head edge es); leads = λ k goes. absurd (out goes) })
         where
           stop_is : (e : PlainEdge) → Gives b n.1 kind e → stop_edge n.1 kind ≡ e
           stop_is e (onward on h) = absurd (out on)
@@ -313,12 +313,12 @@ module _ (b : Backtrace) where
 
     traced_there : (e : PlainEdge) → IsTraced b e → Contains all e
     unfolding all
-    traced_there e (first is) = subst (Contains all) (sym is) (Contains-here (own_edge b.item.production b.item.index) order.given)
-    traced_there e (given m item met takes gives) = Contains-there (own_edge b.item.production b.item.index) order.given e ((finished_all m (all_met m met) item takes).gives e gives)
+    traced_there e (first is) = subst (Contains all) (sym is) (contains_head (own_edge b.item.production b.item.index) order.given)
+    traced_there e (given m item met takes gives) = contains_tail (own_edge b.item.production b.item.index) order.given e ((finished_all m (all_met m met) item takes).gives e gives)
 
     there_traced : (e : PlainEdge) → Contains all e → IsTraced b e
     unfolding all
-    there_traced e c = elim (Contains-cases (own_edge b.item.production b.item.index) order.given e c) [ inl h ↦ first (sym h) | inr d ↦ gives_traced order.walk (owed_sources b.item.production b.item.index b.state order.sources order.begins (λ m source. begins source)) e d ]
+    there_traced e c = elim (contains-cons (own_edge b.item.production b.item.index) order.given e c) [ inl h ↦ first (sym h) | inr d ↦ gives_traced order.walk (owed_sources b.item.production b.item.index b.state order.sources order.begins (λ m source. begins source)) e d ]
 
     end_node : (n : TraceGraphNode) → IsEnd all n → Contains graph.nodes n
     unfolding all

@@ -1,6 +1,6 @@
 -- Lists in which each element stands before those behind it, and items in their order.
-use Rattle.std.proofs.Common.{◌≡◌, ℕ, zero, suc, ◌<◌, inl, inr, List, [], ◌∷◌, map, get_or, refl, sym, ◌∙◌, ap, subst, arith, Bool, true, false, cond}
-use Rattle.std.specs.Prelude.{Contains, slice_get, nat_lt, ◌==◌}
+use Rattle.std.proofs.Common.{◌≡◌, ℕ, ◌<◌, inl, inr, List, map, get_or, refl, sym, ◌∙◌, ap, subst, arith, Bool, true, false, cond}
+use Rattle.std.specs.Prelude.{slice_get, nat_lt, ◌==◌}
 use Rattle.std.specs.declared.cmp.Ordering.{Ordering}
 use Rattle.std.specs.declared.cmp.Ordering.TheVariants.{Less, Equal, Greater}
 use Rattle.std.specs.Ordering.{ordering_then, ordering_reverse, then_cmp, on, nat_cmp}
@@ -11,7 +11,7 @@ use Rattle.std.proofs.lemmas.Bool.{ltb-true}
 use Rattle.std.proofs.lemmas.Map.Keys.{Less-from_sorted}
 use Rattle.std.proofs.lemmas.Map.Lookups.{CmpEqualImpliesEq}
 use Rattle.std.proofs.lemmas.Option.{slice_get_within, get_or_from_slice_get, slice_get-map}
-use Rattle.lalrpop_base.specs.Words.{Ordered, Dotted}
+use Rattle.lalrpop_base.specs.Words.{Dotted}
 use Rattle.lalrpop_base.specs.contracts.exact.ProductionExact.TheImpl as production_exactly
 use Rattle.lalrpop_base.specs.contracts.lookahead.nil.NilOrd.TheImpl as nil_ord
 use Rattle.lalrpop_base.specs.contracts.repr.ProductionOrd.TheImpl as production_ord
@@ -20,25 +20,8 @@ use Rattle.lalrpop_base.specs.declared.lookahead.nil.Nil.{Nil}
 use Rattle.lalrpop_base.specs.declared.repr.Production.{Production}
 use Rattle.lalrpop_base.proofs.ContentsViews.{some_of_map}
 use Rattle.lalrpop_tables.specs.Words.{production_order, Precedes, Ascend, item_of}
-use Rattle.lalrpop_tables.proofs.Lists.{less-apart, place}
-use Rattle.lalrpop_tables.proofs.Places.{contains_at, same_some}
+use Rattle.lalrpop_tables.proofs.Lists.{less-apart}
 use Rattle.lalrpop_tables.proofs.Updates.{exact_order, key_stands}
-
--- ---- the head of an ordered list, and its tail
-module _ {A : Type 0} (precedes : A → A → Type 0) where
-  pub ordered_tail : (x : A) (xs : List A) → Ordered precedes (x ∷ xs) → Ordered precedes xs
-  ordered_tail x xs o i j y z l at_i at_j = o (suc i) (suc j) y z (omega arith) at_i at_j
-
-  pub ordered_head : (x : A) (xs : List A) → Ordered precedes (x ∷ xs) → (y : A) → Contains xs y → precedes x y
-  ordered_head x xs o y c = let k = place xs y c in o zero (suc k.0) x y (omega arith) refl k.2
-
-  pub ordered_cons : (x : A) (xs : List A) → ((y : A) → Contains xs y → precedes x y) → Ordered precedes xs → Ordered precedes (x ∷ xs)
-  ordered_cons x xs before o i zero y z l at_i at_j = absurd (omega arith)
-  ordered_cons x xs before o zero (suc j) y z l at_i at_j = subst (λ (w : A). precedes w z) (same_some x y at_i) (before z (contains_at xs z j at_j))
-  ordered_cons x xs before o (suc i) (suc j) y z l at_i at_j = o i j y z (omega arith) at_i at_j
-
-  pub ordered_none : Ordered precedes []
-  ordered_none i j x y l at = cc
 
 -- ---- the order of productions
 pub production_total : IsTotalOrder production_order

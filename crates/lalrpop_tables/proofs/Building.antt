@@ -7,7 +7,7 @@ use Rattle.std.proofs.lemmas.Option.{slice_get_within}
 use Rattle.lalrpop_base.specs.Words.{Bits, Dotted, AllDiffer, Rules, Kernels}
 use Rattle.lalrpop_base.specs.declared.lr1_core.state.State.{State}
 use Rattle.lalrpop_tables.specs.Words.{AreItemsBy, IsBuiltBy, IsBuiltOfBy, Extends, LeadsToAdded, IsLedTo, AreBuiltBy}
-use Rattle.lalrpop_tables.proofs.Lists.{Contains-none, Contains-cases}
+use Rattle.lalrpop_tables.proofs.Lists.{Contains-none, contains-cons}
 use Rattle.lalrpop_tables.proofs.Places.{slice_get-longer, slice_get-push_at, push_cases}
 pub use Rattle.lalrpop_tables.proofs.Universe.{kernels_limit}
 use Rattle.lalrpop_tables.proofs.Universe.{kernels_few_by}
@@ -44,7 +44,7 @@ module _ {L : Type 0} where
           handed = h ∙ sym none;
           fewer = omega arith;
           differ = differ;
-          of = λ k c. elim (Contains-cases first [] k (subst (λ (ks : List (List (Dotted L))). Contains ks k) l c)) [ inl e ↦ subst (AreItemsBy meaning g) e of | inr n ↦ absurd (Contains-none k n) ];
+          of = λ k c. elim (contains-cons first [] k (subst (λ (ks : List (List (Dotted L))). Contains ks k) l c)) [ inl e ↦ subst (AreItemsBy meaning g) e of | inr n ↦ absurd (Contains-none k n) ];
           start = ap (λ (ks : List (List (Dotted L))). slice_get ks 0) l;
           each = λ n state at. let w : n < length states = slice_get_within states n state at in absurd (omega arith);
           led = λ n more within. absurd (omega arith);

@@ -1,9 +1,8 @@
 -- The kernels of the construction are those of canonical states.
-use Rattle.std.proofs.Common.{◌≡◌, ◌↔◌, ℕ, suc, ◌+◌, inl, inr, List, ◌∷◌, length, map, drop, refl, sym, ◌∙◌, ap, subst, arith, true, ◌||◌, ◌==◌, eqb-true, eq-eqb}
+use Rattle.std.proofs.Common.{◌≡◌, ◌↔◌, ℕ, suc, ◌+◌, inl, inr, List, ◌∷◌, length, map, drop, refl, sym, ◌∙◌, ap, subst, arith, true}
 use Rattle.std.specs.Prelude.{Contains}
-use Rattle.std.proofs.lemmas.Bool.{or_cases, false≢true}
 use Rattle.std.proofs.lemmas.Option.{slice_get_within}
-use Rattle.lalrpop_base.specs.Words.{Bits, has, no_bits, with_bit, has-no_bits, has-with_bit, InClosure, in_kernel, expanded, InTokenClosure, with_token}
+use Rattle.lalrpop_base.specs.Words.{Bits, no_bits, with_bit, InClosure, in_kernel, expanded, InTokenClosure, with_token}
 use Rattle.lalrpop_base.specs.Words.{begins_rest, inherits, IsAtStart, IsAtStartWith, IsMoved, IsMovedWith, holds_token, Dotted, productions, productions_of}
 use Rattle.lalrpop_base.specs.Words.{IsWellFormed}
 use Rattle.lalrpop_base.specs.declared.lookahead.token.Token.{Token}
@@ -19,8 +18,9 @@ use Rattle.lalrpop_tables.specs.Transitions.Shifts.{none, moves, stays}
 use Rattle.lalrpop_tables.proofs.Closing.{drop_split, split_drop}
 use Rattle.lalrpop_tables.proofs.Grammars.{productions_among, productions_named}
 use Rattle.lalrpop_tables.proofs.KnownTerminals.{held_bit}
-use Rattle.lalrpop_tables.proofs.Lists.{Contains-here, Contains-there, Contains-cases, Contains-none, Contains-map}
+use Rattle.lalrpop_tables.proofs.Lists.{contains_head, contains_tail, contains-cons, Contains-none, contains_map}
 use Rattle.lalrpop_tables.proofs.Shifting.{of_dotted, begun_in, Shifts-from}
+use Rattle.lalrpop_tables.proofs.BitSets.{one_bit, own_bit}
 
 -- ---- a closure of more is more
 module _ (g : List Production) where
@@ -34,15 +34,6 @@ module _ (g : List Production) where
   InTokenClosure-more I A B more (inherits q after c behind among n) = inherits q after (InTokenClosure-more I A B more c) behind among n
 
 -- ---- the kernel of the start
-one_bit : (n b : ℕ) → has (with_bit no_bits n) b ≡ true → b ≡ n
-one_bit n b h = elim (or_cases (b == n) (has no_bits b) (sym (has-with_bit no_bits n b) ∙ h)) [
-  | inl e ↦ eqb-true b n e
-  | inr k ↦ absurd (false≢true (sym (has-no_bits b) ∙ k))
-]
-
-own_bit : (n : ℕ) → has (with_bit no_bits n) n ≡ true
-own_bit n = has-with_bit no_bits n n ∙ ap (λ b. b || has no_bits n) (eq-eqb n n refl)
-
 only_eof : (terminals : List TerminalString) (t : Token) → holds_token terminals (with_bit no_bits (length terminals)) t ≡ true → t ≡ Eof
 only_eof terminals Eof h = refl
 only_eof terminals Error h = let e = one_bit (length terminals) (length terminals + 1) h in absurd (omega arith)
@@ -60,7 +51,7 @@ module _ (g : Grammar) (well : IsWellFormed g) (own : AreOwn g) (start : Nonterm
       (sym (ap (λ (d : Production × ℕ). d.1) e), productions_among g start p d, productions_named g well start p d)
 
   in_start : {L : Type 0} (s : L) (p : Production) → Contains (productions g) p → p.nonterminal ≡ start → Contains (map (begun s) (productions_of g start)) (begun s p)
-  in_start s p among named = Contains-map (begun s) (productions_of g start) p (subst (λ (a : NonterminalString). Contains (productions_of g a) p) named (own p among))
+  in_start s p among named = contains_map (begun s) (productions_of g start) p (subst (λ (a : NonterminalString). Contains (productions_of g a) p) named (own p among))
 
   pub start_items : {L : Type 0} (s : L) (p : Production) (dot : ℕ) → InKernel (map (begun s) (productions_of g start)) p dot ↔ IsAtStart (productions g) start p dot
   start_items {L} s p dot = (
@@ -68,7 +59,7 @@ module _ (g : Grammar) (well : IsWellFormed g) (own : AreOwn g) (start : Nonterm
         let i = of_dotted (map (begun s) (productions_of g start)) (p, dot) c in
         let q = begun_in s (productions_of g start) i.0 i.1 in
         at_start p q.0 dot (ap (λ (j : Dotted L). dotted_of j) q.2 ∙ i.2) q.1,
-    λ h. subst (λ (n : ℕ). InKernel (map (begun s) (productions_of g start)) p n) (sym h.0) (Contains-map dotted_of (map (begun s) (productions_of g start)) (begun s p) (in_start s p h.1 h.2)),
+    λ h. subst (λ (n : ℕ). InKernel (map (begun s) (productions_of g start)) p n) (sym h.0) (contains_map dotted_of (map (begun s) (productions_of g start)) (begun s p) (in_start s p h.1 h.2)),
   )
 
   abbrev eof : Bits
@@ -90,11 +81,11 @@ module _ (g : Grammar) (well : IsWellFormed g) (own : AreOwn g) (start : Nonterm
 -- ---- the kernel of a target
 pub Shifts-onto : {L : Type 0} (x : Symbol) (items kernel : List (Dotted L)) → Shifts x items kernel → (i : Dotted L) → Contains items i → IsBehind x i → Contains kernel (moved i)
 Shifts-onto {L} x items kernel none i c b = absurd (Contains-none i c)
-Shifts-onto {L} x items kernel (moves {i = j} {items = is} {kernel = ks} behind s) i c b = elim (Contains-cases j is i c) [
-  | inl e ↦ subst (λ (k : Dotted L). Contains (moved j ∷ ks) (moved k)) e (Contains-here (moved j) ks)
-  | inr later ↦ Contains-there (moved j) ks (moved i) (Shifts-onto x is ks s i later b)
+Shifts-onto {L} x items kernel (moves {i = j} {items = is} {kernel = ks} behind s) i c b = elim (contains-cons j is i c) [
+  | inl e ↦ subst (λ (k : Dotted L). Contains (moved j ∷ ks) (moved k)) e (contains_head (moved j) ks)
+  | inr later ↦ contains_tail (moved j) ks (moved i) (Shifts-onto x is ks s i later b)
 ]
-Shifts-onto {L} x items kernel (stays {i = j} {items = is} {kernel = ks} out s) i c b = elim (Contains-cases j is i c) [
+Shifts-onto {L} x items kernel (stays {i = j} {items = is} {kernel = ks} out s) i c b = elim (contains-cons j is i c) [
   | inl e ↦ absurd (out (subst (IsBehind x) (sym e) b))
   | inr later ↦ Shifts-onto x is ks s i later b
 ]
@@ -124,12 +115,12 @@ module _ {L : Type 0} (x : Symbol) (items kernel : List (Dotted L)) (s : Shifts 
           before = f.item.index;
           after = drop (suc f.item.index) f.item.production.symbols;
           moved = b.1;
-          item = subst (λ (q : Production). Contains (map dotted_of items) (q, f.item.index)) b.0 (Contains-map dotted_of items f.item f.among);
+          item = subst (λ (q : Production). Contains (map dotted_of items) (q, f.item.index)) b.0 (contains_map dotted_of items f.item f.among);
           behind = ap (λ (q : Production). drop f.item.index q.symbols) (sym b.0) ∙ drop_split f.item.index f.item.production.symbols x f.behind;
         },
     λ h.
         let i = of_dotted items (p, h.before) h.item in
-        subst (Contains (map dotted_of kernel)) (moved_dotted i.0 p h.before dot i.2 h.moved) (Contains-map dotted_of kernel (moved i.0) (Shifts-onto x items kernel s i.0 i.1 (behind_dot i.0 p h.before h.after i.2 h.behind))),
+        subst (Contains (map dotted_of kernel)) (moved_dotted i.0 p h.before dot i.2 h.moved) (contains_map dotted_of kernel (moved i.0) (Shifts-onto x items kernel s i.0 i.1 (behind_dot i.0 p h.before h.after i.2 h.behind))),
   )
 
 module _ (x : Symbol) (items kernel : List (Dotted Bits)) (s : Shifts x items kernel) where

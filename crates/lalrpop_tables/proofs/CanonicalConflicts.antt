@@ -12,7 +12,6 @@ use Rattle.std.proofs.lemmas.Option.{slice_get_within}
 use Rattle.lalrpop_base.specs.Words.{Bits, AreCanonical, IsOrder, AreConflictsOf, AreCanonicalConflicts, ReducesInOrder, holds_token, number_of, no_contents}
 use Rattle.lalrpop_base.specs.Words.{contents_of, contents_at, contents, Dotted, AllDiffer, state_conflicts, HasNoRepeat, LeadsOverDots, state_after}
 use Rattle.lalrpop_base.specs.Words.{FitsTokens, Rules, rules_of, productions, IsWellFormed}
-use Rattle.lalrpop_base.specs.Conflicts.{HasNoConflict}
 use Rattle.lalrpop_base.specs.contracts.exact.ProductionExact.TheImpl as production_exactly
 use Rattle.lalrpop_base.specs.contracts.repr.ProductionOrd.TheImpl as production_ord
 use Rattle.lalrpop_base.specs.contracts.repr.ProductionPartialEq.TheImpl as production_eq
@@ -34,11 +33,12 @@ use Rattle.lalrpop_tables.specs.Words.{canonical_of, reductions_of, seen}
 use Rattle.lalrpop_tables.proofs.Closing.{split_drop}
 use Rattle.lalrpop_tables.proofs.Grammars.{known_symbols}
 use Rattle.lalrpop_tables.proofs.ListedConflicts.{CodeReduction, keys_shifted, conflicts_are_listed}
-use Rattle.lalrpop_tables.proofs.Lists.{Contains-none, Contains-here, Contains-there, Contains-cases, Contains-map}
+use Rattle.lalrpop_tables.proofs.Lists.{Contains-none, contains_head, contains_tail, contains-cons, contains_map}
 use Rattle.lalrpop_tables.proofs.NumberedConflicts.{AreNumberedFrom, conflicts_at, Listed-at, Listed-ascend, Listed-from}
 use Rattle.lalrpop_tables.proofs.Orders.{terminal_order, terminal_total}
 use Rattle.lalrpop_tables.proofs.Shifting.{of_dotted}
 use Rattle.lalrpop_tables.proofs.Updates.{exact_order}
+use Rattle.lalrpop_tables.proofs.ConflictFree.{nowhere_conflict}
 
 -- ---- the order of productions
 order_of : {X : Type 0} (order : X → X → Ordering) → IsTotalOrder order → CmpEqualImpliesEq order → IsOrder order
@@ -62,11 +62,11 @@ abbrev IsFinished : List (Dotted Bits) → Bits × Production → Type 0
 IsFinished items r = (i : Dotted Bits) × Contains items i × (i.lookahead ≡ r.0)
 
 finished_at : (i : Dotted Bits) (items : List (Dotted Bits)) (r : Bits × Production) (b : Bool) → Contains (cond b ((i.lookahead, i.production) ∷ reductions_of items) (reductions_of items)) r → (Contains (reductions_of items) r → IsFinished items r) → IsFinished (i ∷ items) r
-finished_at i items r true c later = elim (Contains-cases (i.lookahead, i.production) (reductions_of items) r c) [
-  | inl e ↦ (i, Contains-here i items, ap (λ (q : Bits × Production). q.0) e)
-  | inr more ↦ let f = later more in (f.0, Contains-there i items f.0 f.1, f.2)
+finished_at i items r true c later = elim (contains-cons (i.lookahead, i.production) (reductions_of items) r c) [
+  | inl e ↦ (i, contains_head i items, ap (λ (q : Bits × Production). q.0) e)
+  | inr more ↦ let f = later more in (f.0, contains_tail i items f.0 f.1, f.2)
 ]
-finished_at i items r false c later = let f = later c in (f.0, Contains-there i items f.0 f.1, f.2)
+finished_at i items r false c later = let f = later c in (f.0, contains_tail i items f.0 f.1, f.2)
 
 finished_in : (items : List (Dotted Bits)) (r : Bits × Production) → Contains (reductions_of items) r → IsFinished items r
 finished_in [] r c = absurd (Contains-none r c)
@@ -74,7 +74,7 @@ finished_in (i ∷ items) r c = finished_at i items r (i.index == length i.produ
 
 pub reductions_fit : (g : Rules) (items : List (Dotted Bits)) (rs : List CodeReduction) → AreItems g items → map seen rs ≡ reductions_of items → (r : CodeReduction) → Contains rs r → FitsTokens g.terminals r.0
 reductions_fit g items rs a e r c =
-    let f = finished_in items (seen r) (subst (λ (xs : List (Bits × Production)). Contains xs (seen r)) e (Contains-map seen rs r c)) in
+    let f = finished_in items (seen r) (subst (λ (xs : List (Bits × Production)). Contains xs (seen r)) e (contains_map seen rs r c)) in
     subst (FitsTokens g.terminals) f.2 (a.each f.0 f.1).tokens
 
 -- ---- the terminals that states shift over symbols behind their dots are known
@@ -94,11 +94,8 @@ module _ (g : Grammar) (start : NonterminalString) (states : List (State Bits)) 
   abbrev all : List (Conflict Bits)
   all = flat_map (state_conflicts g.terminals) states
 
-  nothing_in_conflict : HasNoConflict no_contents
-  nothing_in_conflict = record { shifts = λ x n r e c h. cc; reductions = λ i j r q t l e f h k. cc }
-
   listed : (n : ℕ) (o : Option (State Bits)) → slice_get states n ≡ o → AreConflictsOf terminal_order (contents_at (holds_token g.terminals) o) (conflicts_of g.terminals (conflicts_at g.terminals o))
-  listed n None e = (empty_list terminal_order no_contents (λ i j r q l h k. cc)).1 nothing_in_conflict
+  listed n None e = (empty_list terminal_order no_contents (λ i j r q l h k. cc)).1 nowhere_conflict
   listed n (Some state) e =
       let l = listable n state e in
       let once : HasNoRepeat (contents_of (holds_token g.terminals) state).reductions = subst (λ (o : Option (State Bits)). HasNoRepeat (contents_at (holds_token g.terminals) o).reductions) e (canonical.reductions n).once in

@@ -22,16 +22,8 @@ use Rattle.lalrpop_tables.proofs.Reductions.{reduction_from, reduces_in_order, r
 use Rattle.lalrpop_tables.proofs.SameKernels.{IsMovedKernel, Shifts-ascend, Shifts-past, kernel_items, kernel_tokens, same_kernels}
 use Rattle.lalrpop_tables.proofs.Shifting.{Shifts-items}
 use Rattle.lalrpop_tables.proofs.StateEdges.{leads_over_dots, nowhere_leads, no_leads, all_reached}
-
-pub then_both : {A B C : Type 0} → A ↔ B → B ↔ C → A ↔ C
-then_both a b = (λ x. b.0 (a.0 x), λ z. a.1 (b.1 z))
-
-pub turned_both : {A B : Type 0} → A ↔ B → B ↔ A
-turned_both a = (a.1, a.0)
-
--- moved with more tokens
-moved_with_more : (A B : Production → ℕ → Token → Type 0) (x : Symbol) → ((p : Production) (dot : ℕ) (t : Token) → A p dot t → B p dot t) → (p : Production) (dot : ℕ) (t : Token) → IsMovedWith A x p dot t → IsMovedWith B x p dot t
-moved_with_more A B x more p dot t m = record { before = m.before; after = m.after; moved = m.moved; token = more p m.before t m.token; behind = m.behind }
+use Rattle.lalrpop_tables.proofs.BothFacts.{then_both, turned_both}
+use Rattle.lalrpop_tables.proofs.ValidClosures.{moved_with_along}
 
 no_reduction : (r : Reduction) → Contains no_contents.reductions r → ⊥
 no_reduction r c = let l = c.1 in absurd (omega arith)
@@ -132,8 +124,8 @@ module _ (g : Grammar) (start : NonterminalString) (well : IsWellFormed g) (own 
       subst (λ (o : Option (State Bits)). (tokens_at holds o p dot t ≡ true) ↔ InTokenClosure (productions g) (λ q d. Contains (contents_at holds o).items (q, d)) (IsMovedWith (λ q d u. tokens_of g.terminals states n q d u ≡ true) x) p dot t) (sym s.target.there)
       (subst (λ (o : Option (State Bits)). (tokens_at holds (Some s.target.state) p dot t ≡ true) ↔ InTokenClosure (productions g) I (IsMovedWith (λ q d u. tokens_at holds o q d u ≡ true) x) p dot t) (sym s.at)
       (then_both (test_exact g.terminals items p dot t) (then_both (target_tokens g start states made s.source x m s.target p dot t) (
-        InTokenClosure-more (productions g) I (IsMovedWith A x) (IsMovedWith B x) (moved_with_more A B x (λ q d u. (exact q d u).1)),
-        InTokenClosure-more (productions g) I (IsMovedWith B x) (IsMovedWith A x) (moved_with_more B A x (λ q d u. (exact q d u).0)),
+        InTokenClosure-more (productions g) I (IsMovedWith A x) (IsMovedWith B x) (moved_with_along A B x (λ q d u. (exact q d u).1)),
+        InTokenClosure-more (productions g) I (IsMovedWith B x) (IsMovedWith A x) (moved_with_along B A x (λ q d u. (exact q d u).0)),
       ))))
 
   -- ---- no kernel twice

@@ -1,5 +1,5 @@
 -- What is carried, from the table that the worklist leaves.
-use Rattle.std.proofs.Common.{◌≡◌, ◌<◌, ◌≤◌, ◌+◌, ℕ, zero, suc, List, [], ◌∷◌, length, drop, refl, sym, ◌∙◌, ap, subst, arith, true, Option, Some, None, ⊎_elim}
+use Rattle.std.proofs.Common.{◌≡◌, ◌≤◌, ◌+◌, ℕ, suc, List, ◌∷◌, length, drop, refl, sym, ◌∙◌, ap, subst, arith, true, Option, Some, None, ⊎_elim}
 use Rattle.std.specs.Prelude.{Contains, slice_get}
 use Rattle.std.specs.Borrow.{Bor}
 use Rattle.std.proofs.lemmas.Bool.{cases_lt}
@@ -22,13 +22,8 @@ use Rattle.lalrpop_tables.specs.Words.{HoldCarried, Carried, at_place, IsFound, 
 use Rattle.lalrpop_tables.proofs.CheckCarrying.{leads_in}
 use Rattle.lalrpop_tables.proofs.Closing.{split_drop}
 use Rattle.lalrpop_tables.proofs.KnownTerminals.{token_bit, held_bit, bit_held, holds_more}
-use Rattle.lalrpop_tables.proofs.Lists.{Contains-none, Contains-map, place}
-use Rattle.lalrpop_tables.proofs.Places.{contains_at, same_some}
-
-filled : {X : Type 0} (xs : List X) (n : ℕ) → n < length xs → (x : X) × (slice_get xs n ≡ Some x)
-filled [] n l = absurd (omega arith)
-filled (x ∷ xs) zero l = (x, refl)
-filled (x ∷ xs) (suc n) l = filled xs n (omega arith)
+use Rattle.lalrpop_tables.proofs.Lists.{Contains-none, contains_map, place}
+use Rattle.lalrpop_tables.proofs.Places.{contains_at, same_some, filled}
 
 -- each bit of a token is that of one
 token_at : (terminals : List TerminalString) → AllDiffer terminals → (bit : ℕ) → bit ≤ length terminals + 1 → (t : Token) × (token_bit terminals t ≡ Some bit)
@@ -103,7 +98,7 @@ module _ (g : Grammar) (start : NonterminalString) (states : List (State Bits)) 
       let sound = are.sound (at_place n r.1.now (length r.1.now.symbols), set) entry in
       let t = token_at g.terminals differ bit (sound.fits bit h) in
       let carried = sound.carried t.0 (bit_held g.terminals set t.0 bit t.1 h) in
-      let among : Contains (S n).reductions (reduction_of (holds_token g.terminals) r) = subst (λ (o : Option (State Bits)). Contains (contents_at (holds_token g.terminals) o).reductions (reduction_of (holds_token g.terminals) r)) (sym at) (Contains-map (reduction_of (holds_token g.terminals)) s.reductions.items r (contains_at s.reductions.items r k there)) in
+      let among : Contains (S n).reductions (reduction_of (holds_token g.terminals) r) = subst (λ (o : Option (State Bits)). Contains (contents_at (holds_token g.terminals) o).reductions (reduction_of (holds_token g.terminals) r)) (sym at) (contains_map (reduction_of (holds_token g.terminals)) s.reductions.items r (contains_at s.reductions.items r k there)) in
       let has_it = held n (reduction_of (holds_token g.terminals) r) t.0 among carried in
       let b = held_bit g.terminals r.0 t.0 has_it in
       subst (λ (q : ℕ). has r.0 q ≡ true) (same_some b.0 bit (sym b.1 ∙ t.1)) b.2

@@ -26,10 +26,10 @@ use Rattle.lalrpop_tables.specs.declared.place.Place.{Place}
 use Rattle.lalrpop_tables.proofs.Canonical.{start_tokens}
 use Rattle.lalrpop_tables.proofs.CheckSending.{Entry, same_place}
 use Rattle.lalrpop_tables.proofs.Closing.{drop_split, split_drop}
-use Rattle.lalrpop_tables.proofs.Grammars.{productions_among, productions_named, known_symbols, known_rest}
+use Rattle.lalrpop_tables.proofs.Grammars.{productions_among, productions_named, known_symbols, known_rest, same_after}
 use Rattle.lalrpop_tables.proofs.KnownTerminals.{token_bit, held_bit, bit_held, holds_more, begun_bit}
 use Rattle.lalrpop_tables.proofs.Growth.{entry_key, key_entry, found_kept, bit_kept}
-use Rattle.lalrpop_tables.proofs.Lists.{Contains-none, Contains-there, Contains-cases, Contains-map, pigeonhole}
+use Rattle.lalrpop_tables.proofs.Lists.{Contains-none, contains_tail, contains-cons, contains_map, pigeonhole}
 use Rattle.lalrpop_tables.proofs.Lookaheads.{eof_fits}
 use Rattle.lalrpop_tables.proofs.Places.{apart_from_differ, same_some}
 use Rattle.lalrpop_tables.proofs.Subsets.{count_few}
@@ -45,7 +45,7 @@ unfolding places_of
 in_places k n [] s p dot at c = cc
 in_places k zero (t ∷ ss) s p dot at c =
     let e : k ≡ k + 0 = omega arith in
-    let here = Contains-map (λ (d : Production × ℕ). at_place k d.0 d.1) (dots t.items.vec.items) (p, dot) (subst (λ (x : State Bits). Contains (dots x.items.vec.items) (p, dot)) (sym (same_some t s at)) c) in
+    let here = contains_map (λ (d : Production × ℕ). at_place k d.0 d.1) (dots t.items.vec.items) (p, dot) (subst (λ (x : State Bits). Contains (dots x.items.vec.items) (p, dot)) (sym (same_some t s at)) c) in
     subst (λ (m : ℕ). Contains (places_of k (t ∷ ss)) (at_place m p dot)) e (Contains-append_left (map (λ (d : Production × ℕ). at_place k d.0 d.1) (dots t.items.vec.items)) (places_of (suc k) ss) (at_place k p dot) here)
 in_places k (suc n) (t ∷ ss) s p dot at c =
     let e : suc k + n ≡ k + suc n = omega arith in
@@ -59,9 +59,6 @@ burden_le n (e ∷ es) =
     let c = count_few n e.1 in
     let w = sum_by-cons f e es in
     omega arith
-
-same_rest : (a b : NonterminalString) (k l : List Symbol) → Nonterminal a ∷ k ≡ Nonterminal b ∷ l → k ≡ l
-same_rest a b k l e = cc
 
 -- the tokens that may follow what an item leads to
 given_cases : (g : Rules) (rest : List Symbol) (follow given : Bits) → IsFirstSetBefore g rest follow given → (t : Token) (bit : ℕ) → token_bit g.terminals t ≡ Some bit → (has given bit ≡ true) ↔ (Begins g rest t ⊎ (IsNullable g.productions rest × (has follow bit ≡ true)))
@@ -199,7 +196,7 @@ module _ (g : Grammar) (start : NonterminalString) (states : List (State Bits)) 
       pub settles_into : (old new : Carried) (queue pushed : List Place) → Sends (IsInto g place) given old new queue pushed → Contains (productions g) place.item.production → (q : Production) (after : List Symbol) → drop place.item.index place.item.production.symbols ≡ Nonterminal q.nonterminal ∷ after → Contains (productions g) q → HasBegun g new place.state q after tokens
       settles_into old new queue pushed s known q after behind among =
           let b = split_drop place.item.index place.item.production.symbols (Nonterminal q.nonterminal) after behind in
-          let same : after ≡ rest = same_rest q.nonterminal q.nonterminal after rest (sym behind ∙ rest_behind q.nonterminal b) in
+          let same : after ≡ rest = same_after q.nonterminal q.nonterminal after rest (sym behind ∙ rest_behind q.nonterminal b) in
           let there = s.adds.there (at_place place.state q 0) (record { name = q.nonterminal; behind = b; begun = record { state = refl; start = refl; among = own q among } }) in
           let all_known : (p : Production) → Contains (productions g) p → HasKnownTerminals g.terminals p.symbols = λ p c. known_symbols g p well c in
           let rest_known = known_rest g.terminals (place.item.index + 1) place.item.production.symbols rest (all_known place.item.production known) refl in
@@ -250,7 +247,7 @@ module _ (g : Grammar) (start : NonterminalString) (states : List (State Bits)) 
       }
 
       popped : (e : Entry) → Contains old e → Contains (place ∷ queue) e.0 → Contains pushed e.0 ⊎ IsSettled g states new e.0 e.1
-      popped e o on = elim (Contains-cases place queue e.0 on) [
+      popped e o on = elim (contains-cons place queue e.0 on) [
         | inr s ↦ inl (v.into.adds.grows.stays e.0 (v.over.adds.grows.stays e.0 s))
         | inl same ↦
             let tokens : v.tokens ≡ e.1 = one_value old c.differ place v.tokens e.1 v.entry (subst (λ (x : Place). Contains old (x, e.1)) (sym same) o) in
@@ -271,7 +268,7 @@ module _ (g : Grammar) (start : NonterminalString) (states : List (State Bits)) 
         found = λ k n. elim (v.into.found k n) [
           | inr key ↦ key
           | inl w ↦ elim (v.over.found k w) [
-            | inl s ↦ (let e = key_entry old k (c.found k (Contains-there place queue k s)) in let f = kept_on (k, e.0) e.1 in entry_key new (k, f.set) f.entry)
+            | inl s ↦ (let e = key_entry old k (c.found k (contains_tail place queue k s)) in let f = kept_on (k, e.0) e.1 in entry_key new (k, f.set) f.entry)
             | inr m ↦ (let e = key_entry v.middle k m in let f = v.into.adds.grows.kept (k, e.0) e.1 in entry_key new (k, f.set) f.entry)
           ]
         ];
@@ -302,7 +299,7 @@ module _ (g : Grammar) (start : NonterminalString) (states : List (State Bits)) 
           reached = at_zero;
           listed = (closed.first p 0).1 (in_kernel (refl, among, named));
           carried = λ t held.
-              let only = (start_tokens g well own start p 0 t).0 (record { item = begun eof p; there = Contains-map (begun eof) (productions_of g start) p b.among; is = refl; holds = held }) in
+              let only = (start_tokens g well own start p 0 t).0 (record { item = begun eof p; there = contains_map (begun eof) (productions_of g start) p b.among; is = refl; holds = held }) in
               subst (λ (u : Token). IsCarried (productions g) start S 0 p 0 u) (sym only.1) (eof_at_start p among named);
           fits = eof_fits g.terminals;
         })

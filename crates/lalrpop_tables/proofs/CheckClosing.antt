@@ -13,7 +13,7 @@ use Rattle.lalrpop_tables.specs.Words.{IsAdded, Widens, IsBegun, IsExpansionOf, 
 use Rattle.lalrpop_tables.proofs.Canonical.{InClosure-more}
 use Rattle.lalrpop_tables.proofs.Closing.{drop_split, split_drop}
 use Rattle.lalrpop_tables.proofs.Grammars.{productions_among, productions_named}
-use Rattle.lalrpop_tables.proofs.Lists.{Contains-none, Contains-here, Contains-cases, Contains-map, pigeonhole}
+use Rattle.lalrpop_tables.proofs.Lists.{Contains-none, contains_head, contains-cons, contains_map, pigeonhole}
 use Rattle.lalrpop_tables.proofs.Places.{apart_from_differ}
 use Rattle.lalrpop_tables.proofs.Tables.{same_lr0}
 
@@ -59,7 +59,7 @@ Widens-same A B to back a b s t x = record {
 
 pub Widens-new : (key : Key) (old new stack pushed : List Key) → IsAdded key old new → length new ≡ length old + 1 → AllDiffer new → pushed ≡ stack ++ key ∷ [] → Widens (λ k. key ≡ k) old new stack pushed
 Widens-new key old new stack pushed a n d e =
-    let last : Contains pushed key = subst (λ (ks : List Key). Contains ks key) (sym e) (Contains-append_right stack (key ∷ []) key (Contains-here key [])) in
+    let last : Contains pushed key = subst (λ (ks : List Key). Contains ks key) (sym e) (Contains-append_right stack (key ∷ []) key (contains_head key [])) in
     record {
       kept = a.kept;
       from = a.from;
@@ -68,7 +68,7 @@ Widens-new key old new stack pushed a n d e =
       waits = λ k c. elim (a.from k c) [ inl o ↦ inl o | inr s ↦ inr (subst (Contains pushed) s last) ];
       found = λ k c. elim (Contains-append_cases stack (key ∷ []) k (subst (λ (ks : List Key). Contains ks k) e c)) [
         | inl o ↦ inl o
-        | inr l ↦ elim (Contains-cases key [] k l) [ inl s ↦ inr (subst (Contains new) s a.there) | inr none ↦ absurd (Contains-none k none) ]
+        | inr l ↦ elim (contains-cons key [] k l) [ inl s ↦ inr (subst (Contains new) s a.there) | inr none ↦ absurd (Contains-none k none) ]
       ];
       counted = let l = ap length e ∙ length-append stack (key ∷ []) in omega arith;
       differ = λ _. d;
@@ -94,10 +94,10 @@ pub Begun-more : (ps : List Production) (p : Production) (key : Key) (a b c s t 
 Begun-more ps p key a b c s t u is at x y =
     Widens-then (IsBegun ps) (λ k. key ≡ k) (IsBegun (ps ++ p ∷ []))
     (λ k h. record { start = h.start; among = Contains-append_left ps (p ∷ []) k.production h.among })
-    (λ k e. record { start = sym (ap (λ (d : Key). d.index) e) ∙ at; among = subst (Contains (ps ++ p ∷ [])) (sym is ∙ ap (λ (d : Key). d.production) e) (Contains-append_right ps (p ∷ []) p (Contains-here p [])) })
+    (λ k e. record { start = sym (ap (λ (d : Key). d.index) e) ∙ at; among = subst (Contains (ps ++ p ∷ [])) (sym is ∙ ap (λ (d : Key). d.production) e) (Contains-append_right ps (p ∷ []) p (contains_head p [])) })
     (λ k h. elim (Contains-append_cases ps (p ∷ []) k.production h.among) [
       | inl f ↦ inl (record { start = h.start; among = f })
-      | inr l ↦ elim (Contains-cases p [] k.production l) [ inl e ↦ inr (same_lr0 key k (is ∙ e) (at ∙ sym h.start)) | inr none ↦ absurd (Contains-none k.production none) ]
+      | inr l ↦ elim (contains-cons p [] k.production l) [ inl e ↦ inr (same_lr0 key k (is ∙ e) (at ∙ sym h.start)) | inr none ↦ absurd (Contains-none k.production none) ]
     ])
     a b c s t u x y
 
@@ -141,15 +141,15 @@ pub Moved-one : (i : Dotted Bits) (key : Key) (a b s t : List Key) → key.produ
 Moved-one i key a b s t p d moved x =
     let same : dotted_of i ≡ (key.production, key.index) = ap (λ (q : Production). (q, i.index)) (sym p) ∙ ap (λ (n : ℕ). (key.production, n)) (sym d) in
     Widens-same (λ k. key ≡ k) (IsMovedOf (i ∷ []))
-    (λ k e. (let n : key.index ≡ k.index = ap (λ (x : Key). x.index) e in omega arith, subst (λ (x : Key). Contains (dotted_of i ∷ []) (x.production, x.index)) e (subst (Contains (dotted_of i ∷ [])) same (Contains-here (dotted_of i) []))))
-    (λ k h. elim (Contains-cases (dotted_of i) [] (k.production, k.index) h.1) [
+    (λ k e. (let n : key.index ≡ k.index = ap (λ (x : Key). x.index) e in omega arith, subst (λ (x : Key). Contains (dotted_of i ∷ []) (x.production, x.index)) e (subst (Contains (dotted_of i ∷ [])) same (contains_head (dotted_of i) []))))
+    (λ k h. elim (contains-cons (dotted_of i) [] (k.production, k.index) h.1) [
       | inl e ↦ let f = sym same ∙ e in same_lr0 key k (ap (λ (x : Production × ℕ). x.0) f) (ap (λ (x : Production × ℕ). x.1) f)
       | inr none ↦ absurd (Contains-none (k.production, k.index) none)
     ])
     a b s t x
 
 pub Moved-unmoved : (i : Dotted Bits) (a s : List Key) → i.index ≡ 0 → Widens (IsMovedOf (i ∷ [])) a a s s
-Moved-unmoved i a s z = Widens-none (IsMovedOf (i ∷ [])) a s (λ k h. elim (Contains-cases (dotted_of i) [] (k.production, k.index) h.1) [
+Moved-unmoved i a s z = Widens-none (IsMovedOf (i ∷ [])) a s (λ k h. elim (contains-cons (dotted_of i) [] (k.production, k.index) h.1) [
   | inl e ↦ let n : i.index ≡ k.index = ap (λ (x : Production × ℕ). x.1) e in let m = h.0 in absurd (omega arith)
   | inr none ↦ absurd (Contains-none (k.production, k.index) none)
 ])
@@ -187,11 +187,11 @@ module _ (g : Grammar) (kernel : Production → ℕ → Type 0) (base : List Key
     unfolding room
     expansion_within item k e =
         Contains-append_right base (map begun_of (productions g)) k
-        (subst (Contains (map begun_of (productions g))) (same_lr0 (begun_of k.production) k refl (sym e.begun.start)) (Contains-map begun_of (productions g) k.production (productions_among g e.name k.production e.begun.among)))
+        (subst (Contains (map begun_of (productions g))) (same_lr0 (begun_of k.production) k refl (sym e.begun.start)) (contains_map begun_of (productions g) k.production (productions_among g e.name k.production e.begun.among)))
 
     pub Closing-step : (item : Key) (old new stack pushed : List Key) → IsClosing old (stack ++ item ∷ []) → Widens (IsExpansionOf g item) old new stack pushed → IsClosing new pushed
     Closing-step item old new stack pushed c w =
-        let item_there : Contains old item = c.stacked item (Contains-append_right stack (item ∷ []) item (Contains-here item [])) in
+        let item_there : Contains old item = c.stacked item (Contains-append_right stack (item ∷ []) item (contains_head item [])) in
         record {
           has = λ p dot h. w.kept (lr0 p dot) (c.has p dot h);
           sound = λ k h. elim (w.from k h) [ inl o ↦ c.sound k o | inr e ↦ expansion_sound item k (c.sound item item_there) e ];
@@ -202,7 +202,7 @@ module _ (g : Grammar) (kernel : Production → ℕ → Type 0) (base : List Key
               | inr settled ↦ inr (λ e x. w.kept e (settled e x))
               | inl on ↦ elim (Contains-append_cases stack (item ∷ []) k on) [
                 | inl s ↦ inl (w.stays k s)
-                | inr l ↦ elim (Contains-cases item [] k l) [
+                | inr l ↦ elim (contains-cons item [] k l) [
                   | inl same ↦ inr (λ e x. w.there e (subst (λ (i : Key). IsExpansionOf g i e) (sym same) x))
                   | inr none ↦ absurd (Contains-none k none)
                 ]

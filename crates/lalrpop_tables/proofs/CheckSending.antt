@@ -14,9 +14,10 @@ use Rattle.lalrpop_base.specs.declared.repr.Production.{Production}
 use Rattle.lalrpop_tables.specs.Words.{Carried, Sends, AllBelow, IsBegunAt, IsOver, IsInto, Gives, at_place, IsBelow, IsQueued}
 use Rattle.lalrpop_tables.specs.Words.{target_in}
 use Rattle.lalrpop_tables.specs.declared.place.Place.{Place}
-use Rattle.lalrpop_tables.proofs.Growth.{join_left, join_right, join_cases, Adds-one, Adds-none, Adds-then, Adds-same, queued_weighed, known_kept, queued_among}
-use Rattle.lalrpop_tables.proofs.Lists.{Contains-none, Contains-here, Contains-cases}
+use Rattle.lalrpop_tables.proofs.Growth.{Adds-one, Adds-none, Adds-then, Adds-same, queued_weighed, known_kept, queued_among}
+use Rattle.lalrpop_tables.proofs.Lists.{Contains-none, contains_head, contains-cons}
 use Rattle.lalrpop_tables.proofs.Places.{same_some}
+use Rattle.lalrpop_tables.proofs.BitSets.{join_left, join_right, join_cases}
 
 abbrev pub Entry : Type 0
 Entry = Place × Bits
@@ -66,10 +67,10 @@ pub Begun-more : (n : ℕ) (ps : List Production) (p : Production) (key : Place)
 Begun-more n ps p key tokens a b c s t u at is dot x y =
     Sends-then (IsBegunAt n ps) (λ k. key ≡ k) (IsBegunAt n (ps ++ p ∷ [])) tokens
     (λ k h. record { state = h.state; start = h.start; among = Contains-append_left ps (p ∷ []) k.item.production h.among })
-    (λ k e. record { state = sym (ap (λ (d : Place). d.state) e) ∙ at; start = sym (ap (λ (d : Place). d.item.index) e) ∙ dot; among = subst (Contains (ps ++ p ∷ [])) (sym is ∙ ap (λ (d : Place). d.item.production) e) (Contains-append_right ps (p ∷ []) p (Contains-here p [])) })
+    (λ k e. record { state = sym (ap (λ (d : Place). d.state) e) ∙ at; start = sym (ap (λ (d : Place). d.item.index) e) ∙ dot; among = subst (Contains (ps ++ p ∷ [])) (sym is ∙ ap (λ (d : Place). d.item.production) e) (Contains-append_right ps (p ∷ []) p (contains_head p [])) })
     (λ k h. elim (Contains-append_cases ps (p ∷ []) k.item.production h.among) [
       | inl f ↦ inl (record { state = h.state; start = h.start; among = f })
-      | inr l ↦ elim (Contains-cases p [] k.item.production l) [ inl e ↦ inr (same_place key k (at ∙ sym h.state) (is ∙ e) (dot ∙ sym h.start)) | inr none ↦ absurd (Contains-none k.item.production none) ]
+      | inr l ↦ elim (contains-cons p [] k.item.production l) [ inl e ↦ inr (same_place key k (at ∙ sym h.state) (is ∙ e) (dot ∙ sym h.start)) | inr none ↦ absurd (Contains-none k.item.production none) ]
     ])
     a b c s t u x (Sends-one key tokens b c t u y)
 

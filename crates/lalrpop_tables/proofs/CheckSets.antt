@@ -15,9 +15,9 @@ use Rattle.lalrpop_tables.proofs.Places.{differ_from_apart}
 module _ {K : Type 0} (R : K → K → Ordering) (total : IsTotalOrder R) (exact : CmpEqualImpliesEq R) where
   pub inserted : (k : K) (old new : List K) → new ≡ insert_key R old k → IsAdded k old new
   inserted k old new e = record {
-    kept = λ i c. subst (λ (xs : List K). Contains xs i) (sym e) (insert_key-kept R exact old k i c);
+    kept = λ i c. subst (λ (xs : List K). Contains xs i) (sym e) (insert_key-kept R old k i c);
     there = subst (λ (xs : List K). Contains xs k) (sym e) (insert_key-has R exact old k);
-    from = λ i c. insert_key-from R exact old k i (subst (λ (xs : List K). Contains xs i) e c);
+    from = λ i c. insert_key-from R old k i (subst (λ (xs : List K). Contains xs i) e c);
   }
 
   pub keys_differ : (keys : List K) → IsStrictlySortedBy R keys → AllDiffer keys

@@ -28,7 +28,7 @@ use Rattle.lalrpop_base.specs.declared.repr.Symbol.{Symbol}
 use Rattle.lalrpop_base.specs.declared.repr.Symbol.TheVariants.{Nonterminal, Terminal}
 use Rattle.lalrpop_base.proofs.ContentsViews.{some_of_map, contains_of_map}
 use Rattle.lalrpop_tables.specs.CheckStates.{target_of, AreListed}
-use Rattle.lalrpop_tables.proofs.Lists.{Contains-none, Contains-here, Contains-there, Contains-cases, Contains-map, place}
+use Rattle.lalrpop_tables.proofs.Lists.{Contains-none, contains_head, contains_tail, contains-cons, contains_map, place}
 use Rattle.lalrpop_tables.proofs.Places.{contains_at, same_some, push_cases, slice_get-longer, slice_get-push_at}
 use Rattle.lalrpop_tables.proofs.Tables.{same_lr0}
 
@@ -36,12 +36,12 @@ use Rattle.lalrpop_tables.proofs.Tables.{same_lr0}
 pub targets_more : (old new : List ℕ) (v : ℕ) (vs ws : List ℕ) → IsAdded v old new → ws ≡ v ∷ vs → (m : ℕ) → (Contains new m ⊎ Contains vs m) ↔ (Contains old m ⊎ Contains ws m)
 targets_more old new v vs ws a e m = (
   λ h. elim h [
-    | inl n ↦ elim (a.from m n) [ inl o ↦ inl o | inr s ↦ inr (subst (λ (xs : List ℕ). Contains xs m) (sym e) (subst (Contains (v ∷ vs)) s (Contains-here v vs))) ]
-    | inr r ↦ inr (subst (λ (xs : List ℕ). Contains xs m) (sym e) (Contains-there v vs m r))
+    | inl n ↦ elim (a.from m n) [ inl o ↦ inl o | inr s ↦ inr (subst (λ (xs : List ℕ). Contains xs m) (sym e) (subst (Contains (v ∷ vs)) s (contains_head v vs))) ]
+    | inr r ↦ inr (subst (λ (xs : List ℕ). Contains xs m) (sym e) (contains_tail v vs m r))
   ],
   λ h. elim h [
     | inl o ↦ inl (a.kept m o)
-    | inr w ↦ elim (Contains-cases v vs m (subst (λ (xs : List ℕ). Contains xs m) e w)) [ inl s ↦ inl (subst (Contains new) s a.there) | inr r ↦ inr r ]
+    | inr w ↦ elim (contains-cons v vs m (subst (λ (xs : List ℕ). Contains xs m) e w)) [ inl s ↦ inl (subst (Contains new) s a.there) | inr r ↦ inr r ]
   ],
 )
 
@@ -60,7 +60,7 @@ module _ {K : Type 0} where
     value_of_leads m (key, e) =
         let found = some_of_map number_of (get R edges key) m e in
         let at = place_from_lookup (is_at (R key)) edges.entries found.0 found.1 in
-        subst (Contains (values edges.entries)) found.2 (Contains-map (λ (e : K × StateIndex). e.1.0) edges.entries (at.1, found.0) (contains_at edges.entries (at.1, found.0) at.0 at.2))
+        subst (Contains (values edges.entries)) found.2 (contains_map (λ (e : K × StateIndex). e.1.0) edges.entries (at.1, found.0) (contains_at edges.entries (at.1, found.0) at.0 at.2))
 
 -- the edges of a state are its shifts and its gotos
 pub leads_cases : (s : State Bits) (m : ℕ) → LeadsFrom s m → LeadsBy terminal_ord.ghosts.cmp s.shifts m ⊎ LeadsBy name_cmp s.gotos m
@@ -142,11 +142,11 @@ Lists-more items i key old new p d a l k =
     let same : (key.production, key.index) ≡ dotted_of i = ap (λ (q : Production). (q, key.index)) p ∙ ap (λ (n : ℕ). (i.production, n)) d in (
       λ c. subst (λ (ds : List (Production × ℕ)). Contains ds (k.production, k.index)) (sym (dots_push items i)) (elim (a.from k c) [
         | inl o ↦ Contains-append_left (dots items) (dotted_of i ∷ []) (k.production, k.index) ((l k).0 o)
-        | inr e ↦ Contains-append_right (dots items) (dotted_of i ∷ []) (k.production, k.index) (subst (Contains (dotted_of i ∷ [])) (sym same ∙ ap (λ (x : Dotted Nil). (x.production, x.index)) e) (Contains-here (dotted_of i) []))
+        | inr e ↦ Contains-append_right (dots items) (dotted_of i ∷ []) (k.production, k.index) (subst (Contains (dotted_of i ∷ [])) (sym same ∙ ap (λ (x : Dotted Nil). (x.production, x.index)) e) (contains_head (dotted_of i) []))
       ]),
       λ c. elim (Contains-append_cases (dots items) (dotted_of i ∷ []) (k.production, k.index) (subst (λ (ds : List (Production × ℕ)). Contains ds (k.production, k.index)) (dots_push items i) c)) [
         | inl o ↦ a.kept k ((l k).1 o)
-        | inr r ↦ elim (Contains-cases (dotted_of i) [] (k.production, k.index) r) [
+        | inr r ↦ elim (contains-cons (dotted_of i) [] (k.production, k.index) r) [
           | inl e ↦ let f = same ∙ e in subst (Contains new) (same_lr0 key k (ap (λ (x : Production × ℕ). x.0) f) (ap (λ (x : Production × ℕ). x.1) f)) a.there
           | inr none ↦ absurd (Contains-none (k.production, k.index) none)
         ]
@@ -223,11 +223,11 @@ Reduced-more rs r old new out a b =
       keys = λ k. (
         λ c. elim (a.from k c) [
           | inl o ↦ let h = (b.keys k).0 o in (h.0, subst (λ (ps : List Production). Contains ps h.0) (sym (reduced_push rs r)) (Contains-append_left (reduced rs) (p ∷ []) h.0 h.1), h.2)
-          | inr e ↦ (p, subst (λ (ps : List Production). Contains ps p) (sym (reduced_push rs r)) (Contains-append_right (reduced rs) (p ∷ []) p (Contains-here p [])), e)
+          | inr e ↦ (p, subst (λ (ps : List Production). Contains ps p) (sym (reduced_push rs r)) (Contains-append_right (reduced rs) (p ∷ []) p (contains_head p [])), e)
         ],
         λ h. elim (Contains-append_cases (reduced rs) (p ∷ []) h.0 (subst (λ (ps : List Production). Contains ps h.0) (reduced_push rs r) h.1)) [
           | inl o ↦ a.kept k ((b.keys k).1 (h.0, o, h.2))
-          | inr l ↦ elim (Contains-cases p [] h.0 l) [ inl e ↦ subst (Contains new) (ap finished e ∙ h.2) a.there | inr none ↦ absurd (Contains-none h.0 none) ]
+          | inr l ↦ elim (contains-cons p [] h.0 l) [ inl e ↦ subst (Contains new) (ap finished e ∙ h.2) a.there | inr none ↦ absurd (Contains-none h.0 none) ]
         ],
       );
     }

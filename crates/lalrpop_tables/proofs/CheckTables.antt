@@ -17,7 +17,7 @@ use Rattle.lalrpop_base.specs.declared.lr1_core.state.State.{State}
 use Rattle.lalrpop_base.specs.declared.repr.NonterminalString.{NonterminalString}
 use Rattle.lalrpop_base.specs.declared.repr.Production.{Production}
 use Rattle.lalrpop_base.specs.declared.repr.Symbol.{Symbol}
-use Rattle.lalrpop_base.specs.declared.repr.Symbol.TheVariants.{Nonterminal, Terminal}
+use Rattle.lalrpop_base.specs.declared.repr.Symbol.TheVariants.{Terminal}
 use Rattle.lalrpop_base.specs.declared.repr.TerminalString.{TerminalString}
 use Rattle.lalrpop_base.specs.declared.repr.grammar.Grammar.{Grammar}
 use Rattle.lalrpop_base.proofs.ContentsViews.{LeadAsItemsSay, lead_as_items_say, some_of_map, contains_of_map}
@@ -29,14 +29,10 @@ use Rattle.lalrpop_tables.proofs.CanonicalStates.{leads_transition}
 use Rattle.lalrpop_tables.proofs.CheckCarrying.{leads_in}
 use Rattle.lalrpop_tables.proofs.Closing.{drop_split, split_drop}
 use Rattle.lalrpop_tables.proofs.KnownTerminals.{held_bit}
-use Rattle.lalrpop_tables.proofs.Lists.{Contains-none, Contains-map, place}
-use Rattle.lalrpop_tables.proofs.Places.{contains_at, same_some}
-
--- a place of a list that is long enough has a value
-filled : {X : Type 0} (xs : List X) (n : ℕ) → n < length xs → (x : X) × (slice_get xs n ≡ Some x)
-filled [] n l = absurd (omega arith)
-filled (x ∷ xs) zero l = (x, refl)
-filled (x ∷ xs) (suc n) l = filled xs n (omega arith)
+use Rattle.lalrpop_tables.proofs.Lists.{Contains-none, contains_map, place}
+use Rattle.lalrpop_tables.proofs.Places.{contains_at, same_some, filled}
+use Rattle.lalrpop_tables.proofs.ConflictFree.{nowhere_conflict}
+use Rattle.lalrpop_tables.proofs.StateEdges.{no_leads}
 
 -- where something is in a closure, something is in its kernel
 kernel_of : (g : List Production) (K : Production → ℕ → Type 0) {p : Production} {dot : ℕ} → InClosure g K p dot → (q : Production) × (d : ℕ) × K q d
@@ -77,14 +73,11 @@ module _ (terminals : List TerminalString) (s : State Bits) (free : HasNoConflic
         free.reductions i j m.0 a.0 b.0 l a.1 b.1 m.2 (subst (λ (bit : ℕ). has (b.0).0 bit ≡ true) same n.2);
   }
 
-no_state : HoldsNoConflict no_contents
-no_state = record { shifts = λ x n r e c h. cc; reductions = λ i j r q t l at_i at_j h k. cc }
-
 pub free_states : (terminals : List TerminalString) (states : List (State Bits)) → HaveNoConflict terminals states → (n : ℕ) → HoldsNoConflict (contents terminals states n)
 free_states terminals states free n = at (slice_get states n) refl
   where
     at : (o : Option (State Bits)) → slice_get states n ≡ o → HoldsNoConflict (contents_at (holds_token terminals) o)
-    at None e = no_state
+    at None e = nowhere_conflict
     at (Some s) e = free_state terminals s (free n s e)
 
 -- ---- closed states
@@ -145,12 +138,8 @@ module _ (g : Grammar) (start : NonterminalString) (states : List (State Bits)) 
       at None e = inr (ap (contents_at holds_of) e)
       at (Some s) e = inl (here_at n s e)
 
-  leads_nothing : (x : Symbol) (m : ℕ) → leads no_contents x ≡ Some m → ⊥
-  leads_nothing (Nonterminal a) m e = cc
-  leads_nothing (Terminal t) m e = cc
-
   from_here : (n m : ℕ) (x : Symbol) → leads (S n) x ≡ Some m → IsHere n
-  from_here n m x e = elim (number n) [ inl h ↦ h | inr none ↦ absurd (leads_nothing x m (ap (λ (c : Contents). leads c x) (sym none) ∙ e)) ]
+  from_here n m x e = elim (number n) [ inl h ↦ h | inr none ↦ absurd (no_leads x m (ap (λ (c : Contents). leads c x) (sym none) ∙ e)) ]
 
   item_here : (n : ℕ) (p : Production) (dot : ℕ) → items_of S n p dot → IsHere n
   item_here n p dot c = elim (number n) [ inl h ↦ h | inr none ↦ absurd (Contains-none (p, dot) (subst (λ (x : Contents). Contains x.items (p, dot)) none c)) ]
@@ -201,7 +190,7 @@ module _ (g : Grammar) (start : NonterminalString) (states : List (State Bits)) 
         let r = (right_here m t).target (is_target n m x e) in
         let first = filled t.state.items.vec.items 0 r.some in
         let i : Dotted Bits = first.0 in
-        let listed_first = (lists.each m t.state t.set t.at t.listed_at (lr0 i.production i.index)).1 (Contains-map dotted_of t.state.items.vec.items i (contains_at t.state.items.vec.items i 0 first.1)) in
+        let listed_first = (lists.each m t.state t.set t.at t.listed_at (lr0 i.production i.index)).1 (contains_map dotted_of t.state.items.vec.items i (contains_at t.state.items.vec.items i 0 first.1)) in
         let k = kernel_of (productions g) (IsMovedIn (dots t.state.items.vec.items)) ((r.closed (lr0 i.production i.index)).0 listed_first) in
         let v = moved_from n m x e t k.0 k.1 k.2 in
         record { production = k.0; dot = v.before; after = v.after; item = v.item; behind = v.behind }
@@ -249,7 +238,7 @@ module _ (g : Grammar) (start : NonterminalString) (states : List (State Bits)) 
             let end : (i.0).index ≡ length (i.0).production.symbols = i.3 ∙ ap (λ (q : Production). length q.symbols) (sym i.2) in
             let red = ((right_here n h).items i.0 i.1).finished end in
             let r = contains_of_map (λ (x : Bits × Bor Production). x.1.now) h.state.reductions.items (i.0).production red in
-            (reduction_of holds_of r.0, Contains-map (reduction_of holds_of) h.state.reductions.items r.0 r.1, r.2 ∙ i.2),
+            (reduction_of holds_of r.0, contains_map (reduction_of holds_of) h.state.reductions.items r.0 r.1, r.2 ∙ i.2),
       );
       once = once_here n h;
     }
@@ -291,7 +280,7 @@ module _ (g : Grammar) (start : NonterminalString) (states : List (State Bits)) 
 
     right_item : (n : ℕ) (h : IsHere n) (i : Dotted Bits) → Contains h.state.items.vec.items i → IsRightItem listed h.state (reduced h.state.reductions.items) i
     right_item n h i c =
-        let item = (items_here n h i.production i.index).1 (Contains-map dotted_of h.state.items.vec.items i c) in
+        let item = (items_here n h i.production i.index).1 (contains_map dotted_of h.state.items.vec.items i c) in
         record {
           shifts = λ x at.
               let behind = drop_split i.index i.production.symbols x at in
@@ -308,7 +297,7 @@ module _ (g : Grammar) (start : NonterminalString) (states : List (State Bits)) 
               let r = ((reductions n).finished i.production).1 (subst (λ (k : ℕ). items_of S n i.production k) end item) in
               let there = subst (λ (x : Contents). Contains x.reductions r.0) (contents_here n h) r.1 in
               let q = contains_of_map (reduction_of holds_of) h.state.reductions.items r.0 there in
-              subst (Contains (reduced h.state.reductions.items)) (ap (λ (x : Reduction). x.production) q.2 ∙ r.2) (Contains-map (λ (x : Bits × Bor Production). x.1.now) h.state.reductions.items q.0 q.1);
+              subst (Contains (reduced h.state.reductions.items)) (ap (λ (x : Reduction). x.production) q.2 ∙ r.2) (contains_map (λ (x : Bits × Bor Production). x.1.now) h.state.reductions.items q.0 q.1);
         }
 
     once_reduced : (n : ℕ) (h : IsHere n) → AllDiffer (reduced h.state.reductions.items)

@@ -3,7 +3,7 @@ use Rattle.std.proofs.Common.{◌≡◌, ◌↔◌, ℕ, suc, ◌<◌, ◌⊎◌
 use Rattle.std.specs.Prelude.{Contains, slice_get}
 use Rattle.std.proofs.lemmas.Option.{slice_get_within}
 use Rattle.lalrpop_base.specs.Words.{InClosure, in_kernel, IsAtStart, IsMoved, items_of, AreClosed, IsReached, KernelsDiffer, contents_of, contents_at}
-use Rattle.lalrpop_base.specs.Words.{contents_in, no_contents, Dotted, Contents, leads, LeadsOverDots, ReducesFinished, Rules}
+use Rattle.lalrpop_base.specs.Words.{contents_in, Dotted, Contents, leads, LeadsOverDots, ReducesFinished, Rules}
 use Rattle.lalrpop_base.specs.declared.lookahead.token.Token.{Token}
 use Rattle.lalrpop_base.specs.declared.lr1_core.state.State.{State}
 use Rattle.lalrpop_base.specs.declared.repr.NonterminalString.{NonterminalString}
@@ -17,19 +17,8 @@ use Rattle.lalrpop_tables.proofs.Places.{same_some, filled, one_place}
 use Rattle.lalrpop_tables.proofs.Reductions.{reduces_finished}
 use Rattle.lalrpop_tables.proofs.SameKernels.{past_in_kernel}
 use Rattle.lalrpop_tables.proofs.StateEdges.{leads_over_dots, nowhere_leads, no_leads, all_reached}
-
-then_both : {A B C : Type 0} → A ↔ B → B ↔ C → A ↔ C
-then_both a b = (λ x. b.0 (a.0 x), λ z. a.1 (b.1 z))
-
-turned_both : {A B : Type 0} → A ↔ B → B ↔ A
-turned_both a = (a.1, a.0)
-
--- where there is no state, nothing is reduced
-nothing_reduced : ReducesFinished no_contents
-nothing_reduced = record {
-  finished = λ p. (λ h. absurd (let l = (h.1).1 in omega arith), λ c. let l = c.1 in absurd (omega arith));
-  once = λ i j r q l at. cc;
-}
+use Rattle.lalrpop_tables.proofs.BothFacts.{turned_both, then_both}
+use Rattle.lalrpop_tables.proofs.CanonicalContents.{nothing_reduced}
 
 -- a closure of exactly the kernel, ascending
 pub record IsExactClosure {L : Type 0} (g : Rules) (kernel items : List (Dotted L)) : Type 0 where

@@ -11,7 +11,7 @@ use Rattle.lalrpop_base.proofs.ContentsViews.{contains_of_map}
 use Rattle.lalrpop_tables.specs.Words.{dotted_of, InKernel, HasItemToken, InTokenClosureBy, own_token, from_rest, from_parent, Found, item_of}
 use Rattle.lalrpop_tables.specs.Words.{HasGiven, IsTokenClosed}
 use Rattle.lalrpop_tables.proofs.KnownTerminals.{holds_more}
-use Rattle.lalrpop_tables.proofs.Lists.{Contains-map}
+use Rattle.lalrpop_tables.proofs.Lists.{contains_map}
 use Rattle.lalrpop_tables.proofs.Places.{same_some}
 
 abbrev Entry : Type 0
@@ -47,7 +47,7 @@ module _ (begins : Rules → List Symbol → Token → Type 0) (passes : Rules �
           (e.0, e.1, ap dotted_of e.2 ∙ i.2)
 
       entry_listed : (e : Entry) (p : Production) (dot : ℕ) → Contains table e → dotted_of e.0 ≡ (p, dot) → InKernel (map item_of table) p dot
-      entry_listed e p dot c s = subst (Contains (map dotted_of (map item_of table))) s (Contains-map dotted_of (map item_of table) (item_of e) (Contains-map item_of table e c))
+      entry_listed e p dot c s = subst (Contains (map dotted_of (map item_of table))) s (contains_map dotted_of (map item_of table) (item_of e) (contains_map item_of table e c))
 
       entry_behind : (e : Entry) (p : Production) (dot : ℕ) (l : List Symbol) → dotted_of e.0 ≡ (p, dot) → drop dot p.symbols ≡ l → drop e.0.index e.0.production.symbols ≡ l
       entry_behind e p dot l s h = ap (λ (d : Production × ℕ). drop d.1 d.0.symbols) s ∙ h
@@ -69,7 +69,7 @@ module _ (begins : Rules → List Symbol → Token → Type 0) (passes : Rules �
       HeldWith = HasItemToken g.terminals (map item_of table)
 
       held_entry : (e : Entry) (p : Production) (dot : ℕ) (t : Token) → Contains table e → dotted_of e.0 ≡ (p, dot) → holds_token g.terminals e.1 t ≡ true → HeldWith p dot t
-      held_entry e p dot t c s h = record { item = item_of e; there = Contains-map item_of table e c; is = s; holds = h }
+      held_entry e p dot t c s h = record { item = item_of e; there = contains_map item_of table e c; is = s; holds = h }
 
       entry_held : (p : Production) (dot : ℕ) (t : Token) → HeldWith p dot t → (e : Entry) × Contains table e × (dotted_of e.0 ≡ (p, dot)) × (holds_token g.terminals e.1 t ≡ true)
       entry_held p dot t h =

@@ -9,16 +9,16 @@ use Rattle.lalrpop_base.specs.declared.lr1_core.state.StateIndex.{StateIndex}
 use Rattle.lalrpop_base.specs.declared.repr.Production.{Production}
 use Rattle.lalrpop_base.specs.declared.repr.Symbol.{Symbol}
 use Rattle.lalrpop_base.specs.declared.repr.Symbol.TheVariants.{Nonterminal, Terminal}
-use Rattle.lalrpop_tables.specs.Words.{dotted_of, InKernel, AreItemsBy, begun, HasTransition, Leads, IsBuiltBy, IsBuiltOfBy, Extends, LeadsToAdded, AreBuiltBy}
+use Rattle.lalrpop_tables.specs.Words.{dotted_of, InKernel, AreItemsBy, HasTransition, Leads, IsBuiltBy, IsBuiltOfBy, Extends, LeadsToAdded, AreBuiltBy}
 use Rattle.lalrpop_tables.specs.Words.{IsBehindOne, Shifts, Groups, AreMoves, HasEdge, AreEdges, reductions_of, seen, moved}
 use Rattle.lalrpop_base.specs.contracts.repr.TerminalStringOrd.TheImpl as terminal_ord
 use Rattle.lalrpop_base.specs.declared.repr.TerminalString.{TerminalString}
 use Rattle.lalrpop_tables.specs.Transitions.{IsReached}
 use Rattle.lalrpop_tables.specs.declared.build.transitions.Edges.{Edges}
-use Rattle.lalrpop_tables.proofs.Lists.{Contains-none, Contains-here, Contains-there, Contains-cases, place}
+use Rattle.lalrpop_tables.proofs.Lists.{Contains-none, contains_head, contains_tail, contains-cons, place}
 use Rattle.lalrpop_tables.specs.Transitions.Shifts.{none, moves, stays}
 use Rattle.lalrpop_tables.proofs.Places.{contains_at, same_some, one_place, in_added}
-use Rattle.lalrpop_tables.proofs.Shifting.{Shifts-from, Shifts-items, of_dotted, begun_zero}
+use Rattle.lalrpop_tables.proofs.Shifting.{Shifts-from, Shifts-items, of_dotted}
 
 abbrev pair : Production → ℕ → Production × ℕ
 pair p n = (p, n)
@@ -116,11 +116,11 @@ module _ {L : Type 0} where
     Finished items r = (i : Dotted L) × Contains items i × (i.index ≡ length i.production.symbols) × (i.production ≡ r.1)
 
     finished_later : (i : Dotted L) (items : List (Dotted L)) (r : L × Production) → Finished items r → Finished (i ∷ items) r
-    finished_later i items r f = (f.0, Contains-there i items f.0 f.1, f.2, f.3)
+    finished_later i items r f = (f.0, contains_tail i items f.0 f.1, f.2, f.3)
 
     finished_at : (i : Dotted L) (items : List (Dotted L)) (r : L × Production) (t : Bool) → (i.index == length i.production.symbols) ≡ t → Contains (cond t ((i.lookahead, i.production) ∷ reductions_of items) (reductions_of items)) r → (Contains (reductions_of items) r → Finished items r) → Finished (i ∷ items) r
-    finished_at i items r true e d later = elim (Contains-cases (i.lookahead, i.production) (reductions_of items) r d) [
-      | inl same ↦ (i, Contains-here i items, eqb-true i.index (length i.production.symbols) e, ap (λ (q : L × Production). q.1) same)
+    finished_at i items r true e d later = elim (contains-cons (i.lookahead, i.production) (reductions_of items) r d) [
+      | inl same ↦ (i, contains_head i items, eqb-true i.index (length i.production.symbols) e, ap (λ (q : L × Production). q.1) same)
       | inr more ↦ finished_later i items r (later more)
     ]
     finished_at i items r false e d later = finished_later i items r (later d)
@@ -152,6 +152,3 @@ module _ {L : Type 0} where
 
     pub Built-some : 0 < length states
     Built-some = let l = slice_get_within b.kernels 0 first b.start in let c = b.counted in omega arith
-
-  pub begun_zeros : (s : L) (ps : List Production) (d : Production × ℕ) → Contains (map dotted_of (map (begun s) ps)) d → d.1 ≡ 0
-  begun_zeros s ps d c = begun_zero s ps d c

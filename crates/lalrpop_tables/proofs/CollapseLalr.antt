@@ -1,5 +1,5 @@
 -- Canonical states merged have no conflict exactly where the grammar is LALR(1), and are then faithful to it.
-use Rattle.std.proofs.Common.{◌≡◌, ℕ, List, length, refl, sym, ◌∙◌, ap, subst, inr, true, Option, Some, None}
+use Rattle.std.proofs.Common.{◌≡◌, ℕ, List, refl, sym, ◌∙◌, ap, subst, true, Option, Some, None}
 use Rattle.std.specs.Prelude.{slice_get, MatchResult}
 use Rattle.std.specs.declared.result.Result.{Result}
 use Rattle.std.specs.declared.result.Result.TheVariants.{Ok, Err}
@@ -22,7 +22,7 @@ use Rattle.lalrpop_base.proofs.theory.Collapse.{collapsed_lr0, collapsed_tokens}
 use Rattle.lalrpop_base.proofs.theory.LalrStates.{lalr_faithful, no_conflict_lalr, lalr_no_conflict}
 use Rattle.lalrpop_base.proofs.theory.Lists.{Grown, from_nothing, more, grown}
 use Rattle.lalrpop_base.proofs.theory.Steps.{state_from-more}
-use Rattle.lalrpop_base.proofs.theory.Valid.{valid}
+use Rattle.lalrpop_base.proofs.theory.Valid.{valid, action_live}
 use Rattle.lalrpop_tables.specs.Words.{tokens_of, FitReductions, AreOrderedCanonical, IsCollapsed, AreCollapsedTables, FailsByCollapse, AreLalrTables}
 use Rattle.lalrpop_tables.specs.Words.{TellsNotLALR1, HaveNoConflict, AreAllConflicts}
 use Rattle.lalrpop_tables.proofs.CollapseContents.{holds, old, now, number, is_collapse}
@@ -96,13 +96,9 @@ Collapse-tells items g start terminals differ same before built (Err e) h = erro
 
 -- ---- LALR(1) grammars are LR(1)
 module _ (g : List Production) (start : NonterminalString) where
-  valid_live : (u : List Symbol) (t : Token) (a : Action) → IsValidAction g start u t a → IsLive g start u
-  valid_live u t (Shift x) v = inr ((v.1).production, (v.1).dot, (v.1).valid)
-  valid_live u t (Reduce p) v = inr (p, length p.symbols, valid v)
-
   valid_lalr : (u : List Symbol) → IsLive g start u → (t : Token) (a : Action) → IsValidAction g start u t a → IsLalrAction g start u t a
   valid_lalr u live t (Shift x) v = v
   valid_lalr u live t (Reduce p) v = record { prefix = u; live = live; same = λ q d. (λ h. h, λ h. h); valid = v }
 
   pub lalr_lr1 : IsLALR1 g start → IsLR1 g start
-  lalr_lr1 lalr u t a b v w = let live = valid_live u t a v in lalr u live t a b (valid_lalr u live t a v) (valid_lalr u live t b w)
+  lalr_lr1 lalr u t a b v w = let live = action_live {g = g} {start = start} {u = u} t a v in lalr u live t a b (valid_lalr u live t a v) (valid_lalr u live t b w)

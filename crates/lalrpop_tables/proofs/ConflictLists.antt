@@ -11,7 +11,8 @@ use Rattle.lalrpop_base.specs.declared.repr.Symbol.{Symbol}
 use Rattle.lalrpop_base.specs.declared.repr.TerminalString.{TerminalString}
 use Rattle.lalrpop_tables.specs.Words.{IsClosureBy, ListsAll, more, Construction, AreStatesFor, begun, AreBuiltBy}
 use Rattle.lalrpop_tables.specs.Results.{none}
-use Rattle.lalrpop_tables.proofs.Coherence.{Built-coherent, Built-some, begun_zeros}
+use Rattle.lalrpop_tables.proofs.Coherence.{Built-coherent, Built-some}
+use Rattle.lalrpop_tables.proofs.Shifting.{begun_zero}
 
 module _ {L : Type 0} (lists : State L → List TerminalString → List (Conflict L) → Type 0) (terminals : List TerminalString) where
   -- the conflicts of the states, and those of the next
@@ -35,5 +36,5 @@ module _ {L : Type 0} (meaning : L → Bits) (begins : Rules → List Symbol →
       record {
         built = b;
         some = Built-some (IsClosureBy meaning begins passes c.rules) (λ k is x. x.begun) first states b;
-        coherent = Built-coherent (IsClosureBy meaning begins passes c.rules) (λ k is x. x.begun) first states b (begun_zeros c.lookahead c.first);
+        coherent = Built-coherent (IsClosureBy meaning begins passes c.rules) (λ k is x. x.begun) first states b (begun_zero c.lookahead c.first);
       }

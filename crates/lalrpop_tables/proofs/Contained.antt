@@ -9,7 +9,7 @@ use Rattle.lalrpop_base.specs.contracts.repr.ProductionEq.TheImpl as production_
 use Rattle.lalrpop_base.specs.contracts.repr.ProductionPartialEq.TheImpl as production_eq
 use Rattle.lalrpop_base.specs.declared.repr.Production.{Production}
 use Rattle.lalrpop_tables.specs.declared.build.numbered.Numbered.{Numbered}
-use Rattle.lalrpop_tables.proofs.Lists.{Contains-none, Contains-here, Contains-there, Contains-cases}
+use Rattle.lalrpop_tables.proofs.Lists.{Contains-none, contains_head, contains_tail, contains-cons}
 
 abbrev pub Decided : Type 0 → Type 0
 Decided X = (x y : X) → (x ≡ y) ⊎ (x ≢ y)
@@ -71,10 +71,10 @@ module _ {X : Type 0} (same : Decided X) where
   contained : (xs : List X) (x : X) → Contains xs x ⊎ ¬ Contains xs x
   contained [] x = inr (λ c. Contains-none x c)
   contained (y ∷ xs) x = elim (same y x) [
-    | inl e ↦ inl (subst (Contains (y ∷ xs)) e (Contains-here y xs))
+    | inl e ↦ inl (subst (Contains (y ∷ xs)) e (contains_head y xs))
     | inr other ↦ elim (contained xs x) [
-      | inl c ↦ inl (Contains-there y xs x c)
-      | inr out ↦ inr (λ c. elim (Contains-cases y xs x c) [ inl e ↦ other e | inr later ↦ out later ])
+      | inl c ↦ inl (contains_tail y xs x c)
+      | inr out ↦ inr (λ c. elim (contains-cons y xs x c) [ inl e ↦ other e | inr later ↦ out later ])
     ]
   ]
 

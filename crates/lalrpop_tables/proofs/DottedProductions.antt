@@ -9,17 +9,18 @@ use Rattle.std.specs.declared.cmp.Ordering.{Ordering}
 use Rattle.std.proofs.lemmas.List.Elements.{Contains-append_left, Contains-append_right, Contains-append_cases}
 use Rattle.std.proofs.lemmas.List.FromFn.{length-map-range_with_len, get_or-map-range_with_len}
 use Rattle.std.proofs.lemmas.Option.{slice_get_within}
-use Rattle.lalrpop_base.specs.Words.{Dotted, IsLess, Ordered, Rules}
+use Rattle.lalrpop_base.specs.Words.{Dotted, IsLess, Rules}
 use Rattle.lalrpop_base.specs.declared.lookahead.nil.Nil.{Nil}
 use Rattle.lalrpop_base.specs.declared.repr.Production.{Production}
 use Rattle.lalrpop_base.specs.contracts.lookahead.nil.NilOrd.TheImpl as nil_ord
+use Rattle.lalrpop_base.proofs.theory.ConflictLists.{ordered-head, ordered-tail, ordered-nil, ordered-append}
 use Rattle.lalrpop_tables.specs.CheckSets.{IsAdded}
 use Rattle.lalrpop_tables.specs.Numbering.{AddsThose, IsStartOf, all_dots, with_dot, with_dots}
 use Rattle.lalrpop_tables.specs.Numbers.{AreItemsOf, MovesToNext}
 use Rattle.lalrpop_tables.specs.Words.{Ascend, Precedes, item_of, moved, production_order}
-use Rattle.lalrpop_tables.proofs.Ascending.{Table-ascend, ordered_cons, ordered_head, ordered_none, ordered_tail}
+use Rattle.lalrpop_tables.proofs.Ascending.{Table-ascend}
 use Rattle.lalrpop_tables.proofs.Bounded.{in_flat_map}
-use Rattle.lalrpop_tables.proofs.Lists.{Contains-cases, Contains-here, Contains-none, Contains-there, place}
+use Rattle.lalrpop_tables.proofs.Lists.{contains-cons, contains_head, Contains-none, contains_tail, place, of_flat}
 use Rattle.lalrpop_tables.proofs.Places.{contains_at, same_some, slice_get-longer, slice_get_at}
 
 -- ---- values put into a list
@@ -56,7 +57,7 @@ starts_both ps qs old mid new = those_both (IsStartOf ps) (IsStartOf qs) (IsStar
 ))
 
 start_one : (p : Production) (old new : List (Dotted Nil)) → IsAdded (with_dot p 0) old new → AddsThose (IsStartOf (p ∷ [])) old new
-start_one p old new added = those_one (IsStartOf (p ∷ [])) (with_dot p 0) old new added (Contains-here p [], refl) (λ i s. elim (Contains-cases p [] i.production s.0) [
+start_one p old new added = those_one (IsStartOf (p ∷ [])) (with_dot p 0) old new added (contains_head p [], refl) (λ i s. elim (contains-cons p [] i.production s.0) [
   | inl e ↦ ap (λ (q : Production). with_dot q 0) e ∙ ap (with_dot i.production) (sym s.1)
   | inr none ↦ absurd (Contains-none i.production none)
 ])
@@ -111,13 +112,6 @@ dots_move p k i at l =
     dot_there p (k + 1) (omega arith) ∙ ap (λ (z : Dotted Nil). Some (moved z)) a.1
 
 -- ---- lists behind one another
-ordered_append : {A : Type 0} (precedes : A → A → Type 0) (xs ys : List A) → ((x y : A) → Contains xs x → Contains ys y → precedes x y) → Ordered precedes xs → Ordered precedes ys → Ordered precedes (xs ++ ys)
-ordered_append precedes [] ys across first second = second
-ordered_append precedes (x ∷ xs) ys across first second = ordered_cons precedes x (xs ++ ys) (λ y c. elim (Contains-append_cases xs ys y c) [
-  | inl before ↦ ordered_head precedes x xs first y before
-  | inr behind ↦ across x y (Contains-here x xs) behind
-]) (ordered_append precedes xs ys (λ z y c d. across z y (Contains-there x xs z c) d) (ordered_tail precedes x xs first) second)
-
 next_place : {A : Type 0} (x : A) (xs : List A) (k : ℕ) → slice_get (x ∷ xs) (suc k + 1) ≡ slice_get xs (k + 1)
 next_place x xs k = let e : suc k + 1 ≡ suc (k + 1) = omega arith in ap (slice_get (x ∷ xs)) e
 
@@ -127,25 +121,18 @@ moves_append (x ∷ xs) ys first second zero i at l = slice_get-longer (x ∷ xs
 moves_append (x ∷ xs) ys first second (suc k) i at l = next_place x (xs ++ ys) k ∙ moves_append xs ys (λ n j at_j m. sym (next_place x xs n) ∙ first (suc n) j at_j m) second k i at l
 
 -- ---- all dots of productions in order
-of_flat : {X Y : Type 0} (f : X → List Y) (xs : List X) (y : Y) → Contains (flat_map f xs) y → (x : X) × Contains xs x × Contains (f x) y
-of_flat f [] y c = absurd (Contains-none y c)
-of_flat f (x ∷ xs) y c = elim (Contains-append_cases (f x) (flat_map f xs) y c) [
-  | inl here ↦ (x, Contains-here x xs, here)
-  | inr later ↦ let r = of_flat f xs y later in (r.0, Contains-there x xs r.0 r.1, r.2)
-]
-
 from_start : (i j x y : Dotted Nil) → i.index ≡ 0 → j.index ≡ 0 → Precedes i j → i.production ≡ x.production → j.production ≡ y.production → Precedes x y
 from_start i j x y at_i at_j (inl less) e f = inl (subst (λ (q : Production). IsLess production_order x.production q) f (subst (λ (p : Production). IsLess production_order p j.production) e less))
 from_start i j x y at_i at_j (inr same) e f = absurd (omega (arith, same.1))
 
 pub listed_ascend : (ks : List (Dotted Nil)) → ((k : Dotted Nil) → Contains ks k → k.index ≡ 0) → Ascend ks → Ascend (flat_map all_dots ks)
-listed_ascend [] fronts ascend = ordered_none Precedes
-listed_ascend (k ∷ ks) fronts ascend = ordered_append Precedes (all_dots k) (flat_map all_dots ks) across (dots_ascend k.production) (listed_ascend ks (λ i c. fronts i (Contains-there k ks i c)) (ordered_tail Precedes k ks ascend))
+listed_ascend [] fronts ascend = ordered-nil Precedes
+listed_ascend (k ∷ ks) fronts ascend = ordered-append Precedes (all_dots k) (flat_map all_dots ks) (dots_ascend k.production) (listed_ascend ks (λ i c. fronts i (contains_tail k ks i c)) (ordered-tail Precedes k ks ascend)) across
   where
     across : (x y : Dotted Nil) → Contains (all_dots k) x → Contains (flat_map all_dots ks) y → Precedes x y
     across x y c d =
         let j = of_flat all_dots ks y d in
-        from_start k j.0 x y (fronts k (Contains-here k ks)) (fronts j.0 (Contains-there k ks j.0 j.1)) (ordered_head Precedes k ks ascend j.0 j.1) (in_dots k.production x c).0 (in_dots j.0.production y j.2).0
+        from_start k j.0 x y (fronts k (contains_head k ks)) (fronts j.0 (contains_tail k ks j.0 j.1)) (ordered-head Precedes k ks ascend j.0 j.1) (in_dots k.production x c).0 (in_dots j.0.production y j.2).0
 
 pub listed_move : (ks : List (Dotted Nil)) → MovesToNext (flat_map all_dots ks)
 listed_move [] k i at l = cc

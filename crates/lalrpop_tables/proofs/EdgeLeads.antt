@@ -20,7 +20,7 @@ use Rattle.lalrpop_base.specs.declared.repr.TerminalString.{TerminalString}
 use Rattle.lalrpop_base.proofs.ContentsViews.{contains_of_map}
 use Rattle.lalrpop_tables.specs.Words.{places_in, Edge, edge, edges, edges_of, edges_from, shift_edges, goto_edges, HasTransition}
 use Rattle.lalrpop_tables.proofs.CanonicalStates.{leads_transition}
-use Rattle.lalrpop_tables.proofs.Lists.{Contains-none, Contains-map, place}
+use Rattle.lalrpop_tables.proofs.Lists.{Contains-none, contains_map, place}
 
 -- the value of an entry
 entry_leads : {K : Type 0} {R : K → K → Ordering} → IsTotalOrder R → (m : BTreeMap K StateIndex) (key : K) (target : StateIndex) → IsOrdered R m → Contains m.entries (key, target) → option_map number_of (get R m key) ≡ Some target.0
@@ -70,8 +70,8 @@ module _ {L : Type 0} where
 
   -- ---- the edge of a transition
   state_edge : (n : StateIndex) (s : State L) (x : Symbol) (target : StateIndex) → HasTransition x target s → Contains (edges_of n s) (edge n x target)
-  state_edge n s (Terminal t) target h = Contains-append_left (shift_edges n s.shifts.entries) (goto_edges n s.gotos.entries) (edge n (Terminal t) target) (Contains-map (λ (t : TerminalString × StateIndex). edge n (Terminal t.0) t.1) s.shifts.entries (t, target) h)
-  state_edge n s (Nonterminal a) target h = Contains-append_right (shift_edges n s.shifts.entries) (goto_edges n s.gotos.entries) (edge n (Nonterminal a) target) (Contains-map (λ (a : NonterminalString × StateIndex). edge n (Nonterminal a.0) a.1) s.gotos.entries (a, target) h)
+  state_edge n s (Terminal t) target h = Contains-append_left (shift_edges n s.shifts.entries) (goto_edges n s.gotos.entries) (edge n (Terminal t) target) (contains_map (λ (t : TerminalString × StateIndex). edge n (Terminal t.0) t.1) s.shifts.entries (t, target) h)
+  state_edge n s (Nonterminal a) target h = Contains-append_right (shift_edges n s.shifts.entries) (goto_edges n s.gotos.entries) (edge n (Nonterminal a) target) (contains_map (λ (a : NonterminalString × StateIndex). edge n (Nonterminal a.0) a.1) s.gotos.entries (a, target) h)
 
   edge_from : (k n : ℕ) (states : List (State L)) (s : State L) (x : Symbol) (target : StateIndex) → slice_get states n ≡ Some s → HasTransition x target s → Contains (edges_from k states) (edge (record { 0 = k + n }) x target)
   edge_from k n [] s x target at h = cc

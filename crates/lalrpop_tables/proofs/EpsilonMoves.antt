@@ -15,7 +15,7 @@ use Rattle.lalrpop_base.proofs.HeldTokens.{place_there}
 use Rattle.lalrpop_tables.specs.Words.{AreOwn, Begins, dotted_of, IsBegunWith, AreBegunWith, begun}
 use Rattle.lalrpop_tables.proofs.Grammars.{productions_among, productions_named}
 use Rattle.lalrpop_tables.proofs.KnownTerminals.{token_bit, held_bit, bit_held, begun_bit}
-use Rattle.lalrpop_tables.proofs.Lists.{Contains-map}
+use Rattle.lalrpop_tables.proofs.Lists.{contains_map}
 use Rattle.lalrpop_tables.proofs.Places.{same_some}
 use Rattle.lalrpop_tables.proofs.Shifting.{begun_in, begun_differ}
 
@@ -26,7 +26,7 @@ Begun-all {L} g well own name lookahead items e = subst (AreBegunWith (rules_of 
       let p = begun_in lookahead (productions_of g name) i c in
       subst (IsBegunWith (rules_of g) name lookahead) p.2 (record { start = refl; among = productions_among g name p.0 p.1; named = productions_named g well name p.0 p.1; same = refl });
   all = λ p among named.
-      Contains-map dotted_of (map (begun lookahead) (productions_of g name)) (begun lookahead p) (Contains-map (begun lookahead) (productions_of g name) p (subst (λ (a : NonterminalString). Contains (productions_of g a) p) named (own p among)));
+      contains_map dotted_of (map (begun lookahead) (productions_of g name)) (begun lookahead p) (contains_map (begun lookahead) (productions_of g name) p (subst (λ (a : NonterminalString). Contains (productions_of g a) p) named (own p among)));
   once = begun_differ g name lookahead well;
 })
 

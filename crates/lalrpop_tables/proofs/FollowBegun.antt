@@ -28,17 +28,10 @@ use Rattle.lalrpop_tables.specs.declared.build.numbers.rests.Rest.{Rest}
 use Rattle.lalrpop_tables.proofs.Closing.{split_drop}
 use Rattle.lalrpop_tables.proofs.FollowBits.{join_bits, takes_at, takes_none, takes_same, takes_then, with_bit_bits}
 use Rattle.lalrpop_tables.proofs.FollowNodes.{item_known, item_listed, node_of_pair, node_within, nodes_counted, one_node, one_number, pair_of_node, state_of_item, state_of_node, transition_leads, transition_node, transitions_read}
-use Rattle.lalrpop_tables.proofs.Lists.{Contains-cases, Contains-here, Contains-none, place}
+use Rattle.lalrpop_tables.proofs.Lists.{contains-cons, contains_head, Contains-none, place}
 use Rattle.lalrpop_tables.proofs.Numbers.{stands_at}
 use Rattle.lalrpop_tables.proofs.Places.{same_some, slice_get_at}
-
--- lists that are the same begin with one nonterminal
-same_name : (a b : NonterminalString) (xs ys : List Symbol) → Nonterminal a ∷ xs ≡ Nonterminal b ∷ ys → a ≡ b
-same_name a b xs ys e = cc
-
--- and go on alike
-same_after : (a b : NonterminalString) (xs ys : List Symbol) → Nonterminal a ∷ xs ≡ Nonterminal b ∷ ys → xs ≡ ys
-same_after a b xs ys e = ap (λ (l : List Symbol). drop 1 l) e
+use Rattle.lalrpop_tables.proofs.Grammars.{same_front, same_after}
 
 -- ---- the rest of one item
 module _ (pass : Pass) (is : IsPass pass) (s k : ℕ) (held : Contains (items_at pass.numbered.now s) k) where
@@ -143,7 +136,7 @@ module _ (pass : Pass) (is : IsPass pass) (s k : ℕ) (held : Contains (items_at
             λ r.
                 let same : r.item ≡ item = same_some r.item item (sym r.numbered ∙ at) in
                 let both : Nonterminal r.name ∷ r.after ≡ Nonterminal told.0 ∷ told.1 = sym r.behind ∙ ap (λ (i : Dotted Nil). drop i.index i.production.symbols) same ∙ told.2 in
-                let name : r.name ≡ told.0 = same_name r.name told.0 r.after told.1 both in
+                let name : r.name ≡ told.0 = same_front r.name told.0 r.after told.1 both in
                 let rest_same : r.after ≡ told.1 = same_after r.name told.0 r.after told.1 both in (
                   one_node pass is m n s told.0 (subst (λ (b : NonterminalString). IsFollowNode (nodes_of pass) m s b) name r.node) node_there,
                   (told.3.first bit).1 (r.first.0, r.first.1, subst (λ (l : List Symbol). IsFirst (rules_of pass.grammar.now).productions l r.first.0) rest_same r.first.2),
@@ -165,11 +158,11 @@ module _ (pass : Pass) (s : ℕ) where
   among_more ks k old mid new before last = takes_same (λ n bit. RestAmong ks n bit ⊎ IsRestBit pass s k n bit) (RestAmong (ks ++ k ∷ [])) (λ n bit. (
     λ h. elim h [
       | inl r ↦ (r.0, Contains-append_left ks (k ∷ []) r.0 r.1, r.2)
-      | inr r ↦ (k, Contains-append_right ks (k ∷ []) k (Contains-here k []), r)
+      | inr r ↦ (k, Contains-append_right ks (k ∷ []) k (contains_head k []), r)
     ],
     λ r. elim (Contains-append_cases ks (k ∷ []) r.0 r.1) [
       | inl c ↦ inl (r.0, c, r.2)
-      | inr c ↦ elim (Contains-cases k [] r.0 c) [
+      | inr c ↦ elim (contains-cons k [] r.0 c) [
         | inl same ↦ inr (subst (λ (j : ℕ). IsRestBit pass s j n bit) (sym same) r.2)
         | inr none ↦ absurd (Contains-none r.0 none)
       ]

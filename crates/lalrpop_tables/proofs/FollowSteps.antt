@@ -21,9 +21,10 @@ use Rattle.lalrpop_base.proofs.theory.Lists.{same_nonterminal}
 use Rattle.lalrpop_tables.specs.Numbers.{IsNumberBehind}
 use Rattle.lalrpop_tables.proofs.Closing.{split_drop}
 use Rattle.lalrpop_tables.proofs.DottedProductions.{those_none}
-use Rattle.lalrpop_tables.proofs.Lists.{Contains-cases, Contains-here, Contains-none}
+use Rattle.lalrpop_tables.proofs.Lists.{contains-cons, contains_head, Contains-none}
 use Rattle.lalrpop_tables.proofs.FollowNodes.{node_within, one_node, transition_node}
 use Rattle.lalrpop_tables.proofs.Places.{contains_at, same_some, slice_get_at}
+use Rattle.lalrpop_tables.proofs.Grammars.{same_after}
 use Rattle.std.proofs.lemmas.List.Elements.{Contains-append_left, Contains-append_right, Contains-append_cases}
 
 -- a list took one value behind the others
@@ -31,11 +32,11 @@ pub those_pushed : {X : Type 0} (Such : X → Type 0) (old : List X) (key : X) �
 those_pushed {X} Such old key is only x = (
   λ c. elim (Contains-append_cases old (key ∷ []) x c) [
     | inl was ↦ inl was
-    | inr last ↦ elim (Contains-cases key [] x last) [ inl e ↦ inr (subst Such e is) | inr none ↦ absurd (Contains-none x none) ]
+    | inr last ↦ elim (contains-cons key [] x last) [ inl e ↦ inr (subst Such e is) | inr none ↦ absurd (Contains-none x none) ]
   ],
   λ e. elim e [
     | inl was ↦ Contains-append_left old (key ∷ []) x was
-    | inr s ↦ Contains-append_right old (key ∷ []) x (subst (Contains (key ∷ [])) (only x s) (Contains-here key []))
+    | inr s ↦ Contains-append_right old (key ∷ []) x (subst (Contains (key ∷ [])) (only x s) (contains_head key []))
   ],
 )
 
@@ -43,10 +44,6 @@ those_pushed {X} Such old key is only x = (
 no_some : {X : Type 0} (o : Option X) → ((x : X) → o ≡ Some x → ⊥) → o ≡ None
 no_some None h = refl
 no_some (Some x) h = absurd (h x refl)
-
--- two lists that begin with nonterminals and are one have one rest
-same_after : (a b : NonterminalString) (k l : List Symbol) → Nonterminal a ∷ k ≡ Nonterminal b ∷ l → k ≡ l
-same_after a b k l e = cc
 
 -- ---- whether a rest is nullable
 -- what the rest tells, where a nonterminal stands behind the dot

@@ -10,17 +10,14 @@ use Rattle.lalrpop_base.specs.declared.repr.NonterminalString.{NonterminalString
 use Rattle.lalrpop_base.specs.declared.repr.Symbol.{Symbol}
 use Rattle.lalrpop_base.specs.declared.repr.Symbol.TheVariants.{Nonterminal, Terminal}
 use Rattle.lalrpop_base.specs.declared.repr.TerminalString.{TerminalString}
+use Rattle.lalrpop_base.proofs.theory.Lists.{same_terminal}
 use Rattle.lalrpop_tables.specs.FollowWalks.{AreTokensOfSymbols, HasTokenOf, HoldsSomeOf, ShareBits}
 use Rattle.lalrpop_tables.specs.FollowWalks.ShareBits.{with_first, with_other}
 use Rattle.lalrpop_tables.proofs.FollowBits.{held_at, held_before, held_last, held_within, join_bits, no_bit, with_bit_bits}
-use Rattle.lalrpop_tables.proofs.Lists.{Contains-cases, Contains-here, Contains-none}
+use Rattle.lalrpop_tables.proofs.Lists.{contains-cons, contains_head, Contains-none}
 use Rattle.lalrpop_tables.proofs.Places.{contains_at, push_cases}
 
 -- ---- the token of a symbol
--- a symbol is no two terminals
-same_terminal : (t u : TerminalString) → Terminal t ≡ Terminal u → t ≡ u
-same_terminal t u e = cc
-
 -- a set of a terminal alone has its token
 pub token_there : (terminals : List TerminalString) (s : Symbol) (t : TerminalString) (bits : Bits) → s ≡ Terminal t → (b : ℕ) → slice_get terminals b ≡ Some t → ((k : ℕ) → slice_get terminals k ≡ Some t → bits ≡ with_bit no_bits k) →
     (bit : ℕ) → IsTrue (has bits bit) ↔ HasTokenOf terminals s bit
@@ -30,7 +27,7 @@ token_there terminals s t bits is b at made bit = (
     | inr same ↦ (t, is, ap (slice_get terminals) same ∙ at)
   ],
   λ h.
-      let here : slice_get terminals bit ≡ Some t = h.2 ∙ ap Some (same_terminal h.0 t (sym h.1 ∙ is)) in
+      let here : slice_get terminals bit ≡ Some t = h.2 ∙ ap Some (same_terminal {t = h.0} {u = t} (sym h.1 ∙ is)) in
       ap (λ (x : Bits). has x bit) (made bit here) ∙ (with_bit_bits no_bits bit bit).1 (inr refl),
 )
 
@@ -44,7 +41,7 @@ no_terminal s a is t e = cc
 
 -- nor is there one of a terminal that is not in the list
 pub token_absent : (terminals : List TerminalString) (s : Symbol) (t : TerminalString) (bits : Bits) → s ≡ Terminal t → ¬ Contains terminals t → bits ≡ no_bits → (bit : ℕ) → IsTrue (has bits bit) ↔ HasTokenOf terminals s bit
-token_absent terminals s t bits is absent empty = token_none terminals s bits empty (λ u e c. absent (subst (Contains terminals) (same_terminal u t (sym e ∙ is)) c))
+token_absent terminals s t bits is absent empty = token_none terminals s bits empty (λ u e c. absent (subst (Contains terminals) (same_terminal {t = u} {u = t} (sym e ∙ is)) c))
 
 -- something was found
 pub found_some : (o : Option ℕ) (P : ℕ → Type 0) → IfSome o P → is_some o ≡ true → (b : ℕ) × P b
@@ -91,11 +88,11 @@ pub some_of_more : (tokens : List Bits) (edges : List (ℕ × ℕ)) (e : ℕ × 
 some_of_more tokens edges e old bits at before bit = (
   λ h. elim ((join_bits old bits bit).0 h) [
     | inl there ↦ let f = (before bit).0 there in (f.0, f.1, Contains-append_left edges (e ∷ []) (f.0, f.1) f.2, f.3)
-    | inr came ↦ (e.0, e.1, Contains-append_right edges (e ∷ []) e (Contains-here e []), (held_at tokens e.0 bit bits at).1 came)
+    | inr came ↦ (e.0, e.1, Contains-append_right edges (e ∷ []) e (contains_head e []), (held_at tokens e.0 bit bits at).1 came)
   ],
   λ h. (join_bits old bits bit).1 (elim (Contains-append_cases edges (e ∷ []) (h.0, h.1) h.2) [
     | inl c ↦ inl ((before bit).1 (h.0, h.1, c, h.3))
-    | inr c ↦ elim (Contains-cases e [] (h.0, h.1) c) [
+    | inr c ↦ elim (contains-cons e [] (h.0, h.1) c) [
       | inl same ↦ inr ((held_at tokens e.0 bit bits at).0 (subst (λ (x : ℕ). HoldsBit tokens x bit) (sym (ap (λ (f : ℕ × ℕ). f.0) same)) h.3))
       | inr none ↦ absurd (Contains-none (h.0, h.1) none)
     ]

@@ -11,7 +11,7 @@ use Rattle.lalrpop_base.specs.declared.repr.TerminalString.{TerminalString}
 use Rattle.lalrpop_base.proofs.ContentsViews.{at_contains, contains_at}
 use Rattle.lalrpop_base.proofs.HeldTokens.{place_is, place_there}
 use Rattle.lalrpop_tables.specs.HeldShifts.{HoldsNoShift, IsHeldBit, ShareNoBit}
-use Rattle.lalrpop_tables.proofs.Lists.{Contains-cases, place}
+use Rattle.lalrpop_tables.proofs.Lists.{contains-cons, place}
 use Rattle.lalrpop_tables.proofs.Places.{push_cases, slice_get-longer, slice_get-push_at}
 
 -- ---- reductions, one more
@@ -44,7 +44,7 @@ share_one rs front back r is bit held h free =
 -- a terminal that is held is that of a shift behind the first, where that one's is not held
 pub shift_behind : (terminals : List TerminalString) (held : Bits) (x : TerminalString × StateIndex) (before rest : List (TerminalString × StateIndex)) → before ≡ x ∷ rest → ¬ HasToken terminals held (TokenOf x.0) →
     (t : TerminalString) (target : StateIndex) → HasToken terminals held (TokenOf t) → Contains before (t, target) → Contains rest (t, target)
-shift_behind terminals held x before rest is none t target some c = elim (Contains-cases x rest (t, target) (subst (λ (xs : List (TerminalString × StateIndex)). Contains xs (t, target)) is c)) [
+shift_behind terminals held x before rest is none t target some c = elim (contains-cons x rest (t, target) (subst (λ (xs : List (TerminalString × StateIndex)). Contains xs (t, target)) is c)) [
   | inl same ↦ absurd (none (subst (λ (u : TerminalString). HasToken terminals held (TokenOf u)) (sym (ap (λ (y : TerminalString × StateIndex). y.0) same)) some))
   | inr later ↦ later
 ]

@@ -7,7 +7,7 @@ use Rattle.lalrpop_base.specs.declared.lookahead.nil.Nil.{Nil}
 use Rattle.lalrpop_base.specs.declared.repr.NonterminalString.{NonterminalString}
 use Rattle.lalrpop_base.specs.declared.repr.Symbol.TheVariants.{Nonterminal}
 use Rattle.lalrpop_tables.specs.Numbers.{AreExpansions}
-use Rattle.lalrpop_tables.proofs.Lists.{Contains-cases, Contains-here, Contains-none}
+use Rattle.lalrpop_tables.proofs.Lists.{contains-cons, contains_head, Contains-none}
 use Rattle.lalrpop_tables.proofs.Places.{push_cases, slice_get-longer, slice_get-push_at}
 
 -- no items have none
@@ -23,14 +23,14 @@ module _ (done : List (Dotted Nil)) (i : Dotted Nil) (a : NonterminalString) (ol
   Fronts-more front name k = (
     λ c. elim (Contains-append_cases old (length done ∷ []) k c) [
       | inl was ↦ let j = (before k).0 was in (j.0, slice_get-longer done (i ∷ []) k j.0 j.1, j.2, j.3)
-      | inr last ↦ elim (Contains-cases (length done) [] k last) [
+      | inr last ↦ elim (contains-cons (length done) [] k last) [
         | inl e ↦ (i, ap (slice_get (done ++ i ∷ [])) (sym e) ∙ slice_get-push_at done i, front, ap Nonterminal (sym name))
         | inr none ↦ absurd (Contains-none k none)
       ]
     ],
     λ j. elim (push_cases done i k j.0 j.1) [
       | inl was ↦ Contains-append_left old (length done ∷ []) k ((before k).1 (j.0, was, j.2, j.3))
-      | inr end ↦ Contains-append_right old (length done ∷ []) k (subst (λ (n : ℕ). Contains (n ∷ []) k) end.0 (Contains-here k []))
+      | inr end ↦ Contains-append_right old (length done ∷ []) k (subst (λ (n : ℕ). Contains (n ∷ []) k) end.0 (contains_head k []))
     ],
   )
 

@@ -21,7 +21,7 @@ use Rattle.lalrpop_tables.specs.declared.lane_table.follow_sets.pass.Pass.{Pass}
 use Rattle.lalrpop_tables.proofs.DottedProductions.{those_both}
 use Rattle.lalrpop_tables.proofs.FollowNodes.{node_within, nodes_counted, pair_of_node}
 use Rattle.lalrpop_tables.proofs.FollowWalks.{one_front}
-use Rattle.lalrpop_tables.proofs.Lists.{Contains-cases, Contains-here, Contains-none, place}
+use Rattle.lalrpop_tables.proofs.Lists.{contains-cons, contains_head, Contains-none, place}
 use Rattle.lalrpop_tables.proofs.Lookbacks.{note_both}
 use Rattle.lalrpop_tables.proofs.Places.{contains_at, push_cases, same_some, slice_get-longer, slice_get-push_at}
 
@@ -36,14 +36,14 @@ module _ (pass : Pass) (Such : Production → Type 0) where
   front_more done k q front = (
     λ f. elim (Contains-append_cases done (k ∷ []) f.0 f.2) [
       | inl was ↦ inl (f.0, f.1, was, f.3, f.4)
-      | inr last ↦ elim (Contains-cases k [] f.0 last) [
+      | inr last ↦ elim (contains-cons k [] f.0 last) [
         | inl e ↦ inr (subst Such (one_front pass k f.1 q (ap (slice_get pass.numbers.now.items.items) e ∙ f.3) front) f.4)
         | inr none ↦ absurd (Contains-none f.0 none)
       ]
     ],
     λ e. elim e [
       | inl f ↦ (f.0, f.1, Contains-append_left done (k ∷ []) f.0 f.2, f.3, f.4)
-      | inr such ↦ (k, q, Contains-append_right done (k ∷ []) k (Contains-here k []), front, such)
+      | inr such ↦ (k, q, Contains-append_right done (k ∷ []) k (contains_head k []), front, such)
     ],
   )
 

@@ -8,7 +8,7 @@ use Rattle.lalrpop_base.specs.Words.{Bits, AllDiffer}
 use Rattle.lalrpop_tables.specs.Words.{Adds, IsFound, IsJoinedAt}
 use Rattle.lalrpop_tables.specs.Entries.{Gathers, GathersMore}
 use Rattle.lalrpop_tables.proofs.Growth.{Adds-one, entry_key, found_kept, key_entry}
-use Rattle.lalrpop_tables.proofs.Lists.{Contains-cases, Contains-here, Contains-none}
+use Rattle.lalrpop_tables.proofs.Lists.{contains-cons, contains_head, Contains-none}
 
 module _ {K : Type 0} where
   pub Gathers-none : Gathers {K = K} [] []
@@ -31,13 +31,13 @@ module _ {K : Type 0} where
     adds = Adds-one k tokens old new [] queued (record { told = told; joined = joined; grown = refl; differ = differ })
 
     last : Contains (list ++ (k, tokens) ∷ []) (k, tokens)
-    last = Contains-append_right list ((k, tokens) ∷ []) (k, tokens) (Contains-here (k, tokens) [])
+    last = Contains-append_right list ((k, tokens) ∷ []) (k, tokens) (contains_head (k, tokens) [])
 
     pub Gathers-more : Gathers (list ++ (k, tokens) ∷ []) new
     Gathers-more = record {
       found = λ e c. elim (Contains-append_cases list ((k, tokens) ∷ []) e c) [
         | inl o ↦ found_kept old new adds.grows.kept e.0 e.1 (before.found e o)
-        | inr l ↦ elim (Contains-cases (k, tokens) [] e l) [
+        | inr l ↦ elim (contains-cons (k, tokens) [] e l) [
           | inl same ↦ subst (λ (x : K × Bits). IsFound new x.0 x.1) same (adds.there k refl)
           | inr none ↦ absurd (Contains-none e none)
         ]

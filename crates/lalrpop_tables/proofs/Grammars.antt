@@ -1,13 +1,12 @@
 -- The productions of a grammar, their terminals, and the tokens that may follow an item.
-use Rattle.std.proofs.Common.{◌≡◌, ℕ, zero, suc, ◌+◌, inl, inr, List, [], ◌∷◌, ◌++◌, drop, refl, sym, ◌∙◌, ap, subst, arith, Bool, true, false, cond, Option, Some, None}
+use Rattle.std.proofs.Common.{◌≡◌, ℕ, suc, ◌+◌, inl, inr, List, [], ◌∷◌, ◌++◌, drop, refl, sym, ◌∙◌, ap, subst, Bool, true, false, cond, Option, Some, None}
 use Rattle.std.specs.Prelude.{Contains, slice_get}
 use Rattle.std.specs.List.{flat_map}
 use Rattle.std.specs.Map.{lookup}
 use Rattle.std.specs.BTreeMap.{is_at, get, IsOrdered}
-use Rattle.std.specs.Cmp.{IsTotalOrder, Equal-is}
+use Rattle.std.specs.Cmp.{Equal-is}
 use Rattle.std.proofs.lemmas.Map.Entries.{place_from_lookup, btree_map_get_place}
 use Rattle.std.proofs.lemmas.Map.Lookups.{exact_bytes}
-use Rattle.lalrpop_base.specs.contracts.repr.NonterminalStringOrd.TheImpl as name_ord
 use Rattle.std.proofs.lemmas.List.Elements.{Contains-append_left, Contains-append_right, Contains-append_cases}
 use Rattle.lalrpop_base.specs.Words.{IsWellFormed, AreWellFormedEntries, IsWellFormedEntry, HasKnownTerminals, productions, productions_of, listed_productions}
 use Rattle.lalrpop_base.specs.Words.{name_cmp}
@@ -17,7 +16,10 @@ use Rattle.lalrpop_base.specs.declared.repr.Symbol.{Symbol}
 use Rattle.lalrpop_base.specs.declared.repr.Production.{Production}
 use Rattle.lalrpop_base.specs.declared.repr.grammar.Grammar.{Grammar}
 use Rattle.lalrpop_base.specs.declared.repr.grammar.NonterminalData.{NonterminalData}
+use Rattle.lalrpop_base.specs.declared.repr.Symbol.TheVariants.{Nonterminal}
+use Rattle.lalrpop_base.proofs.FirstNames.{name_total}
 use Rattle.lalrpop_tables.proofs.Lists.{Contains-none, place}
+use Rattle.lalrpop_tables.proofs.Places.{slice_get-drop}
 
 abbrev GrammarEntry : Type 0
 GrammarEntry = NonterminalString × NonterminalData
@@ -55,20 +57,20 @@ known_in terminals actions (e ∷ es) p w c = elim (Contains-append_cases (liste
 pub known_symbols : (g : Grammar) (p : Production) → IsWellFormed g → Contains (productions g) p → HasKnownTerminals g.terminals p.symbols
 known_symbols g p w c = known_in g.terminals _ g.nonterminals.entries p w c
 
-slice_get-drop : {X : Type 0} (n : ℕ) (xs : List X) (k : ℕ) → slice_get (drop n xs) k ≡ slice_get xs (n + k)
-slice_get-drop zero xs k = let e : k ≡ 0 + k = omega arith in ap (slice_get xs) e
-slice_get-drop (suc n) [] k = refl
-slice_get-drop (suc n) (x ∷ xs) k = let e : suc (n + k) ≡ suc n + k = omega arith in slice_get-drop n xs k ∙ ap (slice_get (x ∷ xs)) e
-
 pub known_rest : (terminals : List TerminalString) (n : ℕ) (symbols rest : List Symbol) → HasKnownTerminals terminals symbols → rest ≡ drop n symbols → HasKnownTerminals terminals rest
 known_rest terminals n symbols rest h e k t at = h (n + k) t (sym (slice_get-drop n symbols k) ∙ ap (λ (xs : List Symbol). slice_get xs k) (sym e) ∙ at)
 
 -- ---- a name has just its own productions
-name_cmp_total : IsTotalOrder name_cmp
-name_cmp_total = name_ord.Laws.total-law
-
 same_name : (a b : NonterminalString) → a.text ≡ b.text → a ≡ b
 same_name a b e = let make : List ℕ → NonterminalString = λ t. record { text = t } in ap make e
+
+-- the nonterminals in front of equal lists are equal
+pub same_front : (a b : NonterminalString) (v w : List Symbol) → Nonterminal a ∷ v ≡ Nonterminal b ∷ w → a ≡ b
+same_front a b v w e = cc
+
+-- and so is what stands behind them
+pub same_after : (a b : NonterminalString) (v w : List Symbol) → Nonterminal a ∷ v ≡ Nonterminal b ∷ w → v ≡ w
+same_after a b v w e = cc
 
 module _ (g : Grammar) (w : IsWellFormed g) where
   named_at : (name : NonterminalString) (o : Option NonterminalData) → lookup (is_at (name_cmp name)) g.nonterminals.entries ≡ o → (p : Production) → Contains (listed_productions o) p → p.nonterminal ≡ name
@@ -87,7 +89,7 @@ module _ (g : Grammar) (w : IsWellFormed g) where
   own_at k e ordered at p c =
       let j = place (listed e) p c in
       let named = ((w k e.0 e.1 at).each j.0 p j.2).named in
-      let found : get name_cmp g.nonterminals e.0 ≡ Some e.1 = btree_map_get_place name_cmp_total g.nonterminals k e.0 e.1 ordered at in
+      let found : get name_cmp g.nonterminals e.0 ≡ Some e.1 = btree_map_get_place name_total g.nonterminals k e.0 e.1 ordered at in
       let here : Contains (productions_of g e.0) p = subst (λ (o : Option NonterminalData). Contains (listed_productions o) p) (sym found) c in
       subst (λ (n : NonterminalString). Contains (productions_of g n) p) (sym named) here
 

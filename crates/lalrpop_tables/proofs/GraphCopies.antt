@@ -1,5 +1,5 @@
 -- Graphs that follow the copies of states.
-use Rattle.std.proofs.Common.{◌≡◌, ℕ, zero, suc, ◌+◌, ◌<◌, ◌≤◌, inl, inr, true, false, List, [], ◌∷◌, ◌++◌, map, filter, take, drop, length, get_or, refl, sym, ◌∙◌, ap, subst, arith, cond, append_assoc, append-nil}
+use Rattle.std.proofs.Common.{◌≡◌, ℕ, suc, ◌+◌, ◌<◌, ◌≤◌, inl, inr, true, false, List, [], ◌∷◌, ◌++◌, map, filter, take, drop, length, get_or, refl, sym, ◌∙◌, ap, subst, arith, cond, append_assoc, append-nil}
 use Rattle.std.specs.Prelude.{◌==◌, Contains, slice_get, Some}
 use Rattle.std.specs.Map.{keys_of}
 use Rattle.std.specs.declared.alloc.Global.{Global}
@@ -24,9 +24,8 @@ use Rattle.lalrpop_tables.specs.declared.state_graph.StateGraph.{StateGraph}
 use Rattle.lalrpop_tables.proofs.Closing.{drop_split}
 use Rattle.lalrpop_tables.proofs.EdgeLeads.{of_state, source_from}
 use Rattle.lalrpop_tables.proofs.LaneCopies.{number_at}
-use Rattle.lalrpop_tables.proofs.Lists.{Contains-here, Contains-there, Contains-map, place}
-use Rattle.lalrpop_tables.proofs.Places.{same_some, slice_get_at}
-use Rattle.lalrpop_tables.proofs.Renumbered.{slice_get_inside}
+use Rattle.lalrpop_tables.proofs.Lists.{contains_head, contains_tail, contains_map, place}
+use Rattle.lalrpop_tables.proofs.Places.{same_some, slice_get_at, filled, slice_get-drop}
 use Rattle.lalrpop_tables.proofs.StateGraphs.{edges_more, map_cond, targets_append}
 use Rattle.lalrpop_tables.proofs.MovedOrigins.{HaveApartSymbols, all_followed, followed_append}
 
@@ -51,7 +50,7 @@ module _ (originals : List ℕ) where
   keys_apart {K} f one n (e ∷ es) differ = (
     λ g c is.
         let h = contains_of_map (λ (p : K × StateIndex). edge n (f p.0) p.1) es g c in
-        let at = place (keys_of es) (h.0).0 (Contains-map (λ (p : K × StateIndex). p.0) es h.0 h.1) in
+        let at = place (keys_of es) (h.0).0 (contains_map (λ (p : K × StateIndex). p.0) es h.0 h.1) in
         differ 0 (suc at.0) e.0 (omega arith) refl (at.2 ∙ ap Some (one (h.0).0 e.0 (ap (λ (d : Edge). d.symbol) h.2 ∙ is))),
     keys_apart f one n es (λ i j x l a b. differ (suc i) (suc j) x (omega arith) a b),
   )
@@ -59,8 +58,8 @@ module _ (originals : List ℕ) where
   apart_append : (es fs : List Edge) → HaveApartSymbols es → HaveApartSymbols fs → ((e f : Edge) → Contains es e → Contains fs f → f.symbol ≡ e.symbol → ⊥) → HaveApartSymbols (es ++ fs)
   apart_append [] fs a b across = b
   apart_append (e ∷ es) fs a b across = (
-    λ g d is. elim (Contains-append_cases es fs g d) [ inl h ↦ a.0 g h is | inr h ↦ across e g (Contains-here e es) h is ],
-    apart_append es fs a.1 b (λ g f d. across g f (Contains-there e es g d)),
+    λ g d is. elim (Contains-append_cases es fs g d) [ inl h ↦ a.0 g h is | inr h ↦ across e g (contains_head e es) h is ],
+    apart_append es fs a.1 b (λ g f d. across g f (contains_tail e es g d)),
   )
 
   state_apart : {L : Type 0} (n : StateIndex) (state : State L) → AllDiffer (keys_of state.shifts.entries) → AllDiffer (keys_of state.gotos.entries) → HaveApartSymbols (edges_of n state)
@@ -76,8 +75,8 @@ module _ (originals : List ℕ) where
   none_from : (n : StateIndex) (es : List Edge) → ((e : Edge) → Contains es e → e.source.0 ≡ n.0 → ⊥) → targets_from n es ≡ []
   none_from n [] none = refl
   none_from n (e ∷ es) none =
-      ap (λ b. map target_of (cond b (e ∷ filter (λ (d : Edge). d.source.0 == n.0) es) (filter (λ (d : Edge). d.source.0 == n.0) es))) (ne_eqb e.source.0 n.0 (none e (Contains-here e es)))
-      ∙ none_from n es (λ f c. none f (Contains-there e es f c))
+      ap (λ b. map target_of (cond b (e ∷ filter (λ (d : Edge). d.source.0 == n.0) es) (filter (λ (d : Edge). d.source.0 == n.0) es))) (ne_eqb e.source.0 n.0 (none e (contains_head e es)))
+      ∙ none_from n es (λ f c. none f (contains_tail e es f c))
 
   of_source : {L : Type 0} (n : StateIndex) (state : State L) (e : Edge) → Contains (edges_of n state) e → e.source.0 ≡ n.0
   of_source n state e c = ap (λ (k : StateIndex). k.0) ((of_state n state e c).0)
@@ -147,11 +146,6 @@ module _ (originals : List ℕ) where
 abbrev pub partway : List (State Bits) → List (State Bits) → ℕ → List Edge
 partway handed states i = edges (take i states) ++ edges_from i (drop i handed)
 
-past_drop : {X : Type 0} (xs : List X) (i n : ℕ) → slice_get (drop i xs) n ≡ slice_get xs (i + n)
-past_drop xs zero n = let e : n ≡ 0 + n = omega arith in ap (slice_get xs) e
-past_drop [] (suc i) n = refl
-past_drop (x ∷ xs) (suc i) n = let e : suc (i + n) ≡ suc i + n = omega arith in past_drop xs i n ∙ ap (slice_get (x ∷ xs)) e
-
 module _ (handed states : List (State Bits)) (originals : List ℕ) (copies : AreCopies false handed originals states) where
   handed_state : (n : ℕ) (before state : State Bits) → slice_get handed n ≡ Some before → slice_get states n ≡ Some state → map (retraced originals) (edges_of (record { 0 = n }) state) ≡ edges_of (record { 0 = n }) before
   handed_state n before state at there =
@@ -173,12 +167,12 @@ module _ (handed states : List (State Bits)) (originals : List ℕ) (copies : Ar
   own_targets : (i : ℕ) (e : Edge) → Contains (edges_from i (drop i handed)) e → number_in originals e.target.0 ≡ e.target.0
   own_targets i e c =
       let h = source_from i (drop i handed) e c in
-      let within = transition_within (i + h.number) h.state e.symbol e.target (sym (past_drop handed i h.number) ∙ h.there) h.transition in
+      let within = transition_within (i + h.number) h.state e.symbol e.target (sym (slice_get-drop i handed h.number) ∙ h.there) h.transition in
       number_at originals e.target.0 e.target.0 (copies.own e.target.0 within)
 
   pub one_state : (i : ℕ) (state : State Bits) (old new : StateGraph) → i < length handed → i < length states → state ≡ get_or states i state → FollowsEdges originals (record { 0 = i }) (edges_of (record { 0 = i }) state) old new → IsGraphOf (partway handed states i) old → IsGraphOf (partway handed states (i + 1)) new
   one_state i state old new l within is follows graph =
-      let before = slice_get_inside handed i l in
+      let before = filled handed i l in
       let front : List Edge = edges (take i states) in
       let es : List Edge = edges_of (record { 0 = i }) state in
       let back : List Edge = edges_from (suc i) (drop (suc i) handed) in

@@ -1,43 +1,26 @@
 -- How a table of tokens grows, by one key and by many.
-use Rattle.std.proofs.Common.{◌≡◌, ◌≢◌, ◌≤◌, ◌+◌, ℕ, ◌⊎◌, inl, inr, List, [], ◌∷◌, ◌++◌, length, refl, sym, ◌∙◌, ap, subst, arith, length-append, Bool, true, false, cond, ◌||◌}
+use Rattle.std.proofs.Common.{◌≡◌, ◌≢◌, ◌≤◌, ◌+◌, ℕ, ◌⊎◌, inl, inr, List, [], ◌∷◌, ◌++◌, length, sym, ◌∙◌, ap, subst, arith, length-append, Bool, true, false, cond}
 use Rattle.std.specs.Prelude.{Contains, MatchBool}
 use Rattle.std.specs.Map.{keys_of}
-use Rattle.std.proofs.lemmas.Bool.{or_cases}
 use Rattle.std.proofs.lemmas.List.Elements.{Contains-append_left, Contains-append_right, Contains-append_cases}
 use Rattle.std.proofs.lemmas.List.Sums.{sum_by-append, sum_by-cons}
-use Rattle.lalrpop_base.specs.Words.{Bits, has, join, has-join}
+use Rattle.lalrpop_base.specs.Words.{Bits, has, join}
 use Rattle.lalrpop_tables.specs.Words.{IsJoinedAt, IsQueued, IsFound, IsFoundWith, Grows, Adds, burden, AllBelow, count, IsBelow}
 use Rattle.lalrpop_tables.specs.Entries.IsJoinedAt.{fresh, known}
-use Rattle.lalrpop_tables.proofs.Lists.{Contains-here, Contains-there, Contains-cases, Contains-none, Contains-map}
+use Rattle.lalrpop_tables.proofs.Lists.{contains_head, contains_tail, contains-cons, Contains-none, contains_map}
 use Rattle.lalrpop_tables.proofs.Places.{midst, around, at_midst}
 use Rattle.lalrpop_tables.proofs.Subsets.{join_counts}
-
-or_left : (a b : Bool) → a ≡ true → (a || b) ≡ true
-or_left true b h = refl
-or_left false b h = cc
-
-or_right : (a b : Bool) → b ≡ true → (a || b) ≡ true
-or_right true b h = refl
-or_right false b h = h
-
-pub join_left : (s t : Bits) (bit : ℕ) → has s bit ≡ true → has (join s t) bit ≡ true
-join_left s t bit h = has-join s t bit ∙ or_left (has s bit) (has t bit) h
-
-pub join_right : (s t : Bits) (bit : ℕ) → has t bit ≡ true → has (join s t) bit ≡ true
-join_right s t bit h = has-join s t bit ∙ or_right (has s bit) (has t bit) h
-
-pub join_cases : (s t : Bits) (bit : ℕ) → has (join s t) bit ≡ true → (has s bit ≡ true) ⊎ (has t bit ≡ true)
-join_cases s t bit h = or_cases (has s bit) (has t bit) (sym (has-join s t bit) ∙ h)
+use Rattle.lalrpop_tables.proofs.BitSets.{join_left, join_right, join_cases}
 
 -- the key of an entry is a key
 pub entry_key : {K : Type 0} (table : List (K × Bits)) (e : K × Bits) → Contains table e → Contains (keys_of table) e.0
-entry_key {K} table e c = Contains-map (λ (x : K × Bits). x.0) table e c
+entry_key {K} table e c = contains_map (λ (x : K × Bits). x.0) table e c
 
 pub key_entry : {K : Type 0} (table : List (K × Bits)) (k : K) → Contains (keys_of table) k → (s : Bits) × Contains table (k, s)
 key_entry [] k c = absurd (Contains-none k c)
-key_entry {K} (e ∷ es) k c = elim (Contains-cases e.0 (keys_of es) k c) [
-  | inl same ↦ (e.1, subst (λ (x : K). Contains (e ∷ es) (x, e.1)) same (Contains-here e es))
-  | inr later ↦ let h = key_entry es k later in (h.0, Contains-there e es (k, h.0) h.1)
+key_entry {K} (e ∷ es) k c = elim (contains-cons e.0 (keys_of es) k c) [
+  | inl same ↦ (e.1, subst (λ (x : K). Contains (e ∷ es) (x, e.1)) same (contains_head e es))
+  | inr later ↦ let h = key_entry es k later in (h.0, contains_tail e es (k, h.0) h.1)
 ]
 
 module _ {K : Type 0} where
@@ -106,14 +89,14 @@ module _ {K : Type 0} (key : K) (tokens : Bits) where
   ]
 
   changed_by : (told : Bool) (s : Bits) (front back old : Joined) (queue pushed : List K) → pushed ≡ cond told (queue ++ key ∷ []) queue → MatchBool told (join s tokens ≢ s) (join s tokens ≡ s) → old ≡ front ++ (key, s) ∷ back → Contains pushed key ⊎ Contains old (key, join s tokens)
-  changed_by true s front back old queue pushed grown m before = inl (subst (λ (xs : List K). Contains xs key) (sym grown) (Contains-append_right queue (key ∷ []) key (Contains-here key [])))
+  changed_by true s front back old queue pushed grown m before = inl (subst (λ (xs : List K). Contains xs key) (sym grown) (Contains-append_right queue (key ∷ []) key (contains_head key [])))
   changed_by false s front back old queue pushed grown m before = inr (subst (λ (t : Bits). Contains old (key, t)) (sym m) (subst (λ (xs : Joined). Contains xs (key, s)) (sym before) (at_midst front back (key, s))))
 
   joined_changed : (told : Bool) (old new : Joined) (queue pushed : List K) → IsJoinedAt key tokens told old new → pushed ≡ cond told (queue ++ key ∷ []) queue → (e : K × Bits) → Contains new e → Contains pushed e.0 ⊎ Contains old e
   joined_changed told old new queue pushed (fresh front back before after t) grown e c = elim (midst front back (key, tokens) e (subst (λ (xs : Joined). Contains xs e) after c)) [
     | inl same ↦
         let now : pushed ≡ queue ++ key ∷ [] = grown ∙ ap (λ b. cond b (queue ++ key ∷ []) queue) t in
-        inl (subst (λ (x : K × Bits). Contains pushed x.0) same (subst (λ (xs : List K). Contains xs key) (sym now) (Contains-append_right queue (key ∷ []) key (Contains-here key []))))
+        inl (subst (λ (x : K × Bits). Contains pushed x.0) same (subst (λ (xs : List K). Contains xs key) (sym now) (Contains-append_right queue (key ∷ []) key (contains_head key []))))
     | inr out ↦ inr (subst (λ (xs : Joined). Contains xs e) (sym before) out)
   ]
   joined_changed told old new queue pushed (known front back s before after t) grown e c = elim (midst front back (key, join s tokens) e (subst (λ (xs : Joined). Contains xs e) after c)) [
@@ -128,7 +111,7 @@ module _ {K : Type 0} (key : K) (tokens : Bits) where
   pub queued_found : (told : Bool) (queue pushed : List K) → pushed ≡ cond told (queue ++ key ∷ []) queue → (k : K) → Contains pushed k → Contains queue k ⊎ (key ≡ k)
   queued_found true queue pushed e k c = elim (Contains-append_cases queue (key ∷ []) k (subst (λ (ks : List K). Contains ks k) e c)) [
     | inl d ↦ inl d
-    | inr d ↦ elim (Contains-cases key [] k d) [ inl same ↦ inr same | inr n ↦ absurd (Contains-none k n) ]
+    | inr d ↦ elim (contains-cons key [] k d) [ inl same ↦ inr same | inr n ↦ absurd (Contains-none k n) ]
   ]
   queued_found false queue pushed e k c = inl (subst (λ (ks : List K). Contains ks k) e c)
 

@@ -20,8 +20,8 @@ use Rattle.lalrpop_tables.specs.Words.{AreActions, asked_actions, reduce_action}
 use Rattle.lalrpop_tables.proofs.Bounded.{in_flat_map}
 use Rattle.lalrpop_tables.proofs.FollowBits.{join_bits, no_bit}
 use Rattle.lalrpop_tables.proofs.KnownTerminals.{bit_held, held_bit}
-use Rattle.lalrpop_tables.proofs.LaneAsked.{asked_of, IsAskedOf, of_flat, reduction_asked, shift_asked}
-use Rattle.lalrpop_tables.proofs.Lists.{Contains-cases, Contains-here, Contains-none}
+use Rattle.lalrpop_tables.proofs.LaneAsked.{asked_of, IsAskedOf, reduction_asked, shift_asked}
+use Rattle.lalrpop_tables.proofs.Lists.{contains-cons, contains_head, Contains-none, of_flat}
 
 -- ---- the tokens of reductions, one more
 -- without reductions no bit is held
@@ -33,11 +33,11 @@ pub held_more : (rs : List Reduction) (r : Reduction) (old : Bits) → ((bit : �
 held_more rs r old before bit = (
   λ h. elim ((join_bits old r.0 bit).0 h) [
     | inl there ↦ let f = (before bit).0 there in (f.0, Contains-append_left rs (r ∷ []) f.0 f.1, f.2)
-    | inr came ↦ (r, Contains-append_right rs (r ∷ []) r (Contains-here r []), came)
+    | inr came ↦ (r, Contains-append_right rs (r ∷ []) r (contains_head r []), came)
   ],
   λ h. (join_bits old r.0 bit).1 (elim (Contains-append_cases rs (r ∷ []) h.0 h.1) [
     | inl c ↦ inl ((before bit).1 (h.0, c, h.2))
-    | inr c ↦ elim (Contains-cases r [] h.0 c) [
+    | inr c ↦ elim (contains-cons r [] h.0 c) [
       | inl same ↦ inr (subst (λ (q : Reduction). has q.0 bit ≡ true) (sym same) h.2)
       | inr none ↦ absurd (Contains-none h.0 none)
     ]
@@ -75,7 +75,7 @@ module _ (terminals : List TerminalString) (state : State Bits) (held : Bits) (o
   shift_at : (t : TerminalString) (target : StateIndex) → Contains entries (t, target) → (a : Action) (b : Bool) → holds_token terminals held (TokenOf t) ≡ b → Contains (cond b (Shift t target ∷ []) []) a → Contains (asked_actions terminals state) a
   shift_at t target among a true e c =
       let bit = held_bit terminals held (TokenOf t) e in
-      elim (Contains-cases (Shift t target) [] a c) [
+      elim (contains-cons (Shift t target) [] a c) [
         | inl same ↦ subst (Contains (asked_actions terminals state)) same (shift_asked terminals state t target bit.0 among bit.1 ((of bit.0).0 bit.2))
         | inr none ↦ absurd (Contains-none a none)
       ]
@@ -91,7 +91,7 @@ module _ (terminals : List TerminalString) (state : State Bits) (held : Bits) (o
   gathered_of : (a : Action) → IsAskedOf terminals state a → Contains gathered a
   gathered_of (Shift t target) h =
       let yes = bit_held terminals held (TokenOf t) h.1.0 h.1.1 ((of h.1.0).1 h.1.2) in
-      let here = subst (λ (b : Bool). Contains (cond b (Shift t target ∷ []) []) (Shift t target)) (sym yes) (Contains-here (Shift t target) []) in
+      let here = subst (λ (b : Bool). Contains (cond b (Shift t target ∷ []) []) (Shift t target)) (sym yes) (contains_head (Shift t target) []) in
       Contains-append_left (flat_map (held_shift terminals held) entries) (map reduce_action state.reductions.items) (Shift t target)
       (in_flat_map (held_shift terminals held) entries (t, target) (Shift t target) h.0 here)
   gathered_of (Reduce p) h =

@@ -16,15 +16,15 @@ use Rattle.lalrpop_base.specs.declared.repr.TerminalString.{TerminalString}
 use Rattle.lalrpop_base.proofs.HeldTokens.{place_is, same_test}
 use Rattle.lalrpop_tables.specs.Words.{is_with_token, dotted_of, HasItemToken}
 use Rattle.lalrpop_tables.proofs.KnownTerminals.{token_bit, held_bit, bit_held}
-use Rattle.lalrpop_tables.proofs.Lists.{Contains-here, Contains-there, place}
+use Rattle.lalrpop_tables.proofs.Lists.{contains_head, contains_tail, place}
 use Rattle.lalrpop_tables.proofs.Places.{same_some, filled, one_place}
 
 -- ---- a test that passes at one of a list
 pub passes_one : {X : Type 0} (f : X → Bool) (xs : List X) → list_any f xs ≡ true → (x : X) × Contains xs x × (f x ≡ true)
 passes_one f [] h = cc
 passes_one f (x ∷ xs) h = elim (or_cases (f x) (list_any f xs) h) [
-  | inl e ↦ (x, Contains-here x xs, e)
-  | inr later ↦ let r = passes_one f xs later in (r.0, Contains-there x xs r.0 r.1, r.2)
+  | inl e ↦ (x, contains_head x xs, e)
+  | inr later ↦ let r = passes_one f xs later in (r.0, contains_tail x xs r.0 r.1, r.2)
 ]
 
 pub one_passes : {X : Type 0} (f : X → Bool) (xs : List X) (x : X) → Contains xs x → f x ≡ true → list_any f xs ≡ true

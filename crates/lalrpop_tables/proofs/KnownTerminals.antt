@@ -15,7 +15,7 @@ use Rattle.lalrpop_base.specs.declared.repr.TerminalString.{TerminalString}
 use Rattle.lalrpop_base.specs.contracts.repr.TerminalStringPartialEq.TheImpl as terminal_eq
 use Rattle.lalrpop_base.specs.contracts.repr.TerminalStringEq.TheImpl as terminal_laws
 use Rattle.lalrpop_tables.specs.Words.{Begins}
-use Rattle.lalrpop_tables.proofs.Lists.{Contains-here, place}
+use Rattle.lalrpop_tables.proofs.Lists.{contains_head, place}
 use Rattle.lalrpop_tables.proofs.Places.{same_some}
 
 -- ---- the bit of a token
@@ -61,7 +61,7 @@ known_derived g known (replace before after p among d) k = known_derived g known
     ])
 
 first_known : (g : Rules) → ((p : Production) → Contains g.productions p → HasKnownTerminals g.terminals p.symbols) → (l : List Symbol) (t : TerminalString) → HasKnownTerminals g.terminals l → IsFirst g.productions l t → Contains g.terminals t
-first_known g known l t h f = known_derived g known f.1 (known_of g.terminals l h) t (Contains-here (Terminal t) f.0)
+first_known g known l t h f = known_derived g known f.1 (known_of g.terminals l h) t (contains_head (Terminal t) f.0)
 
 -- a terminal of the list has a place
 place_found : (terminals : List TerminalString) (t : TerminalString) → Contains terminals t → (bit : ℕ) × (place_in terminals t ≡ Some bit)

@@ -1,5 +1,5 @@
 -- The actions of a state: what goes into their set, and where they stand in it.
-use Rattle.std.proofs.Common.{◌≡◌, ◌⊎◌, inl, inr, List, [], ◌∷◌, ◌++◌, refl, sym, subst}
+use Rattle.std.proofs.Common.{◌≡◌, inl, inr, List, [], ◌∷◌, ◌++◌, refl, sym, subst}
 use Rattle.std.specs.Prelude.{Contains}
 use Rattle.std.specs.BTreeSet.{insert_key}
 use Rattle.std.specs.Cmp.{IsTotalOrder, tied_itself}
@@ -10,36 +10,18 @@ use Rattle.std.proofs.lemmas.List.Elements.{Contains-append_left, Contains-appen
 use Rattle.lalrpop_base.specs.contracts.lr1_core.state.ActionOrd.TheImpl as action_ord
 use Rattle.lalrpop_base.specs.declared.lr1_core.state.Action.{Action}
 use Rattle.lalrpop_tables.specs.Words.{action_order, AreActions}
-use Rattle.lalrpop_tables.proofs.Lists.{Contains-none, Contains-here, Contains-there, Contains-cases}
+use Rattle.lalrpop_tables.proofs.Lists.{Contains-none, contains_head, contains_tail, contains-cons, insert_key-kept, insert_key-from}
 
 -- ---- a key goes into a set
 module _ {K : Type 0} (cmp : K → K → Ordering) where
-  kept_at : (x : K) (xs : List K) (k i : K) (o : Ordering) → Contains (x ∷ xs) i → (Contains xs i → Contains (insert_key cmp xs k) i) → Contains (match_ordering o (k ∷ x ∷ xs) (x ∷ xs) (x ∷ insert_key cmp xs k)) i
-  kept_at x xs k i Less c h = Contains-there k (x ∷ xs) i c
-  kept_at x xs k i Equal c h = c
-  kept_at x xs k i Greater c h = elim (Contains-cases x xs i c) [ inl e ↦ rw (← e) (Contains-here x (insert_key cmp xs k)) | inr g ↦ Contains-there x (insert_key cmp xs k) i (h g) ]
-
-  insert_kept : (xs : List K) (k i : K) → Contains xs i → Contains (insert_key cmp xs k) i
-  insert_kept [] k i c = absurd (Contains-none i c)
-  insert_kept (x ∷ xs) k i c = kept_at x xs k i (cmp k x) c (insert_kept xs k i)
-
-  from_at : (x : K) (xs : List K) (k i : K) (o : Ordering) → (Contains (insert_key cmp xs k) i → Contains xs i ⊎ (k ≡ i)) → Contains (match_ordering o (k ∷ x ∷ xs) (x ∷ xs) (x ∷ insert_key cmp xs k)) i → Contains (x ∷ xs) i ⊎ (k ≡ i)
-  from_at x xs k i Less h c = elim (Contains-cases k (x ∷ xs) i c) [ inl e ↦ inr e | inr g ↦ inl g ]
-  from_at x xs k i Equal h c = inl c
-  from_at x xs k i Greater h c = elim (Contains-cases x (insert_key cmp xs k) i c) [ inl e ↦ inl (rw (← e) (Contains-here x xs)) | inr g ↦ elim (h g) [ inl f ↦ inl (Contains-there x xs i f) | inr e ↦ inr e ] ]
-
-  insert_from : (xs : List K) (k i : K) → Contains (insert_key cmp xs k) i → Contains xs i ⊎ (k ≡ i)
-  insert_from [] k i c = elim (Contains-cases k [] i c) [ inl e ↦ inr e | inr g ↦ absurd (Contains-none i g) ]
-  insert_from (x ∷ xs) k i c = from_at x xs k i (cmp k x) (insert_from xs k i) c
-
   module _ (total : IsTotalOrder cmp) where
     there_at : (x : K) (xs : List K) (k : K) (o : Ordering) → cmp k x ≡ o → ((b : K) × Contains (insert_key cmp xs k) b × (cmp k b ≡ Equal)) → (b : K) × Contains (match_ordering o (k ∷ x ∷ xs) (x ∷ xs) (x ∷ insert_key cmp xs k)) b × (cmp k b ≡ Equal)
-    there_at x xs k Less e h = (k, Contains-here k (x ∷ xs), tied_itself total k)
-    there_at x xs k Equal e h = (x, Contains-here x xs, e)
-    there_at x xs k Greater e h = (h.0, Contains-there x (insert_key cmp xs k) h.0 h.1, h.2)
+    there_at x xs k Less e h = (k, contains_head k (x ∷ xs), tied_itself total k)
+    there_at x xs k Equal e h = (x, contains_head x xs, e)
+    there_at x xs k Greater e h = (h.0, contains_tail x (insert_key cmp xs k) h.0 h.1, h.2)
 
     insert_there : (xs : List K) (k : K) → (b : K) × Contains (insert_key cmp xs k) b × (cmp k b ≡ Equal)
-    insert_there [] k = (k, Contains-here k [], tied_itself total k)
+    insert_there [] k = (k, contains_head k [], tied_itself total k)
     insert_there (x ∷ xs) k = there_at x xs k (cmp k x) refl (insert_there xs k)
 
 pub action_total : IsTotalOrder action_order
@@ -52,13 +34,13 @@ no_actions keys none = record { of = λ a c. subst (λ (ks : List Action). Conta
 -- one action more
 pub one_action : (asked keys new : List Action) (a : Action) → new ≡ insert_key action_order keys a → AreActions asked keys → AreActions (asked ++ a ∷ []) new
 one_action asked keys new a inserted h = record {
-  of = λ b c. elim (insert_from action_order keys a b (subst (λ (ks : List Action). Contains ks b) inserted c)) [
+  of = λ b c. elim (insert_key-from action_order keys a b (subst (λ (ks : List Action). Contains ks b) inserted c)) [
     | inl old ↦ Contains-append_left asked (a ∷ []) b (h.of b old)
-    | inr e ↦ Contains-append_right asked (a ∷ []) b (subst (Contains (a ∷ [])) e (Contains-here a []))
+    | inr e ↦ Contains-append_right asked (a ∷ []) b (subst (Contains (a ∷ [])) e (contains_head a []))
   ];
   all = λ b c. elim (Contains-append_cases asked (a ∷ []) b c) [
-    | inl old ↦ let f = h.all b old in (f.0, subst (λ (ks : List Action). Contains ks f.0) (sym inserted) (insert_kept action_order keys a f.0 f.1), f.2)
-    | inr d ↦ elim (Contains-cases a [] b d) [
+    | inl old ↦ let f = h.all b old in (f.0, subst (λ (ks : List Action). Contains ks f.0) (sym inserted) (insert_key-kept action_order keys a f.0 f.1), f.2)
+    | inr d ↦ elim (contains-cons a [] b d) [
       | inl e ↦
           let f = insert_there action_order action_total keys a in
           (f.0, subst (λ (ks : List Action). Contains ks f.0) (sym inserted) f.1, subst (λ (x : Action). action_order x f.0 ≡ Equal) e f.2)

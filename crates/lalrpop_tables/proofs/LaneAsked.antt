@@ -20,7 +20,7 @@ use Rattle.lalrpop_tables.specs.HeldShifts.{IsHeldBit}
 use Rattle.lalrpop_tables.specs.Words.{action_order, AreActions, AreAmong, asked_actions, conflict_actions, IsReductionAt, reduce_action}
 use Rattle.lalrpop_tables.proofs.Ascending.{production_exact}
 use Rattle.lalrpop_tables.proofs.Bounded.{in_flat_map}
-use Rattle.lalrpop_tables.proofs.Lists.{Contains-none, Contains-here, Contains-there, Contains-cases}
+use Rattle.lalrpop_tables.proofs.Lists.{Contains-none, contains_head, contains_tail, contains-cons, of_flat}
 
 abbrev pub CodeReduction : Type 0
 CodeReduction = Bits × Bor Production
@@ -28,18 +28,18 @@ CodeReduction = Bits × Bor Production
 -- ---- lists
 kept_cases : {X : Type 0} (b : Bool) (x : X) (xs : List X) (y : X) → Contains (cond b (x ∷ xs) xs) y → Contains (x ∷ xs) y
 kept_cases true x xs y c = c
-kept_cases false x xs y c = Contains-there x xs y c
+kept_cases false x xs y c = contains_tail x xs y c
 
 of_kept : {X : Type 0} (p : X → Bool) (xs : List X) (y : X) → Contains (filter p xs) y → Contains xs y
 of_kept p [] y c = c
-of_kept p (x ∷ xs) y c = elim (Contains-cases x (filter p xs) y (kept_cases (p x) x (filter p xs) y c)) [
-  | inl e ↦ subst (Contains (x ∷ xs)) e (Contains-here x xs)
-  | inr later ↦ Contains-there x xs y (of_kept p xs y later)
+of_kept p (x ∷ xs) y c = elim (contains-cons x (filter p xs) y (kept_cases (p x) x (filter p xs) y c)) [
+  | inl e ↦ subst (Contains (x ∷ xs)) e (contains_head x xs)
+  | inr later ↦ contains_tail x xs y (of_kept p xs y later)
 ]
 
 -- what is kept passes the test
 kept_at : {X : Type 0} (p : X → Bool) (x : X) (xs : List X) (y : X) → (Contains xs y → p y ≡ true) → (b : Bool) → p x ≡ b → Contains (cond b (x ∷ xs) xs) y → p y ≡ true
-kept_at p x xs y later true e c = elim (Contains-cases x xs y c) [ inl here ↦ subst (λ z. p z ≡ true) here e | inr d ↦ later d ]
+kept_at p x xs y later true e c = elim (contains-cons x xs y c) [ inl here ↦ subst (λ z. p z ≡ true) here e | inr d ↦ later d ]
 kept_at p x xs y later false e c = later c
 
 kept_holds : {X : Type 0} (p : X → Bool) (xs : List X) (y : X) → Contains (filter p xs) y → p y ≡ true
@@ -48,21 +48,14 @@ kept_holds p (x ∷ xs) y c = kept_at p x (filter p xs) y (kept_holds p xs y) (p
 
 -- and what passes it is kept
 kept_later : {X : Type 0} (b : Bool) (x : X) (xs : List X) (y : X) → Contains xs y → Contains (cond b (x ∷ xs) xs) y
-kept_later true x xs y c = Contains-there x xs y c
+kept_later true x xs y c = contains_tail x xs y c
 kept_later false x xs y c = c
 
 is_kept : {X : Type 0} (p : X → Bool) (xs : List X) (y : X) → p y ≡ true → Contains xs y → Contains (filter p xs) y
 is_kept p [] y e c = absurd (Contains-none y c)
-is_kept p (x ∷ xs) y e c = elim (Contains-cases x xs y c) [
-  | inl here ↦ subst (λ (b : Bool). Contains (cond b (x ∷ filter p xs) (filter p xs)) y) (sym (ap p here ∙ e)) (subst (Contains (x ∷ filter p xs)) here (Contains-here x (filter p xs)))
+is_kept p (x ∷ xs) y e c = elim (contains-cons x xs y c) [
+  | inl here ↦ subst (λ (b : Bool). Contains (cond b (x ∷ filter p xs) (filter p xs)) y) (sym (ap p here ∙ e)) (subst (Contains (x ∷ filter p xs)) here (contains_head x (filter p xs)))
   | inr later ↦ kept_later (p x) x (filter p xs) y (is_kept p xs y e later)
-]
-
-pub of_flat : {X Y : Type 0} (f : X → List Y) (xs : List X) (y : Y) → Contains (flat_map f xs) y → (x : X) × Contains xs x × Contains (f x) y
-of_flat f [] y c = absurd (Contains-none y c)
-of_flat f (x ∷ xs) y c = elim (Contains-append_cases (f x) (flat_map f xs) y c) [
-  | inl here ↦ (x, Contains-here x xs, here)
-  | inr later ↦ let r = of_flat f xs y later in (r.0, Contains-there x xs r.0 r.1, r.2)
 ]
 
 -- ---- what is asked for: a shift of the state whose terminal some reduction holds, or a reduction of the state
@@ -91,9 +84,9 @@ module _ (terminals : List TerminalString) (state : State Bits) where
   reduce_of (r ∷ rs) among c i = elim (Contains-append_cases (later_conflicts state.index r rs) (reduce_conflicts state.index rs) c i) [
     | inl here ↦
         let q = contains_of_map (reduce_conflict state.index r) (filter (λ (s : CodeReduction). share r.0 s.0) rs) c here in
-        let both : IsConflictOf terminals state (reduce_conflict state.index r q.0) = ((r, among r (Contains-here r rs), refl), (q.0, among q.0 (Contains-there r rs q.0 (of_kept (λ (s : CodeReduction). share r.0 s.0) rs q.0 q.1)), refl)) in
+        let both : IsConflictOf terminals state (reduce_conflict state.index r q.0) = ((r, among r (contains_head r rs), refl), (q.0, among q.0 (contains_tail r rs q.0 (of_kept (λ (s : CodeReduction). share r.0 s.0) rs q.0 q.1)), refl)) in
         subst (IsConflictOf terminals state) q.2 both
-    | inr later ↦ reduce_of rs (λ q h. among q (Contains-there r rs q h)) c later
+    | inr later ↦ reduce_of rs (λ q h. among q (contains_tail r rs q h)) c later
   ]
 
   conflict_of : (c : Conflict Bits) → Contains (state_conflicts terminals state) c → IsConflictOf terminals state c
@@ -103,9 +96,9 @@ module _ (terminals : List TerminalString) (state : State Bits) where
   ]
 
   of_pair : (c : Conflict Bits) (a : Action) → IsConflictOf terminals state c → Contains (conflict_actions c) a → IsAskedOf terminals state a
-  of_pair c a h i = elim (Contains-cases (Reduce c.production) (c.action ∷ []) a i) [
+  of_pair c a h i = elim (contains-cons (Reduce c.production) (c.action ∷ []) a i) [
     | inl e ↦ subst (IsAskedOf terminals state) e h.0
-    | inr later ↦ elim (Contains-cases c.action [] a later) [ inl e ↦ subst (IsAskedOf terminals state) e h.1 | inr none ↦ absurd (Contains-none a none) ]
+    | inr later ↦ elim (contains-cons c.action [] a later) [ inl e ↦ subst (IsAskedOf terminals state) e h.1 | inr none ↦ absurd (Contains-none a none) ]
   ]
 
   -- each action that is asked for is such
@@ -129,7 +122,7 @@ module _ (terminals : List TerminalString) (state : State Bits) where
       let shifted = in_flat_map (shift_conflicts terminals state.index reductions) state.shifts.entries (t, target) c among placed in
       let listed = Contains-append_left (flat_map (shift_conflicts terminals state.index reductions) state.shifts.entries) (reduce_conflicts state.index reductions) c shifted in
       Contains-append_left (flat_map conflict_actions (state_conflicts terminals state)) (map reduce_action reductions) (Shift t target)
-      (in_flat_map conflict_actions (state_conflicts terminals state) c (Shift t target) listed (Contains-there (Reduce held.0.1) (Shift t target ∷ []) (Shift t target) (Contains-here (Shift t target) [])))
+      (in_flat_map conflict_actions (state_conflicts terminals state) c (Shift t target) listed (contains_tail (Reduce held.0.1) (Shift t target ∷ []) (Shift t target) (contains_head (Shift t target) [])))
 
 -- ---- what ties
 -- what ties with a reduction is one by an equal production

@@ -10,7 +10,7 @@ use Rattle.lalrpop_tables.specs.declared.lane_table.context_set.ConflictIndex.{C
 use Rattle.lalrpop_tables.specs.declared.lane_table.table.LaneTable.{LaneTable}
 use Rattle.lalrpop_tables.proofs.Contexts.{had_or_joined, still_has, has_joined, still_disjoint}
 use Rattle.lalrpop_tables.proofs.LaneTables.{Cell}
-use Rattle.lalrpop_tables.proofs.Lists.{Contains-here, Contains-cases, Contains-none}
+use Rattle.lalrpop_tables.proofs.Lists.{contains_head, contains-cons, Contains-none}
 
 -- two columns share a token in the rows
 pub record CellsOverlap (P : StateIndex → Type 0) (cells : Cells) : Type 0 where
@@ -35,10 +35,10 @@ pub in_more : (P : StateIndex → Type 0) (cells : Cells) (e : Cell × Bits) (k 
 in_more P cells e k bit h = (h.0, h.1, (h.2.0, Contains-append_left cells (e ∷ []) _ h.2.1, h.2.2))
 
 pub last_in : (cells : Cells) (e : Cell × Bits) → Contains (cells ++ e ∷ []) e
-last_in cells e = Contains-append_right cells (e ∷ []) e (Contains-here e [])
+last_in cells e = Contains-append_right cells (e ∷ []) e (contains_head e [])
 
 pub in_last : (cells : Cells) (e f : Cell × Bits) → Contains (cells ++ e ∷ []) f → Contains cells f ⊎ (e ≡ f)
-in_last cells e f c = ⊎_elim (λ a. inl a) (λ b. ⊎_elim (λ s. inr s) (λ n. absurd (Contains-none f n)) (Contains-cases e [] f b)) (Contains-append_cases cells (e ∷ []) f c)
+in_last cells e f c = ⊎_elim (λ a. inl a) (λ b. ⊎_elim (λ s. inr s) (λ n. absurd (Contains-none f n)) (contains-cons e [] f b)) (Contains-append_cases cells (e ∷ []) f c)
 
 module _ (P : StateIndex → Type 0) (cells : Cells) (columns : List Bits) (g : AreGathered P cells columns) (row : StateIndex) (index : ConflictIndex) (set : Bits) where
   abbrev Last : Cell × Bits

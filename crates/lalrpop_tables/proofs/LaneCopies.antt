@@ -21,8 +21,7 @@ use Rattle.lalrpop_tables.specs.Words.{by, index, AreReductionsOf, IsCopyOf, Are
 use Rattle.lalrpop_tables.proofs.LaneResolved.{by_all}
 use Rattle.lalrpop_tables.proofs.Merging.{set_here, set_elsewhere, set_length}
 use Rattle.lalrpop_tables.proofs.Orders.{terminal_order}
-use Rattle.lalrpop_tables.proofs.Places.{same_some, slice_get-append_before, slice_get-push_at, slice_get-longer, push_cases}
-use Rattle.lalrpop_tables.proofs.Renumbered.{slice_get_inside}
+use Rattle.lalrpop_tables.proofs.Places.{same_some, slice_get-append_before, slice_get-push_at, slice_get-longer, push_cases, filled}
 
 pub number_at : (xs : List ℕ) (n o : ℕ) → slice_get xs n ≡ Some o → number_in xs n ≡ o
 number_at xs n o at = ap (λ x. unwrap_or x n) at
@@ -69,7 +68,7 @@ module _ (exact : Bool) (handed : List (State Bits)) (originals : List ℕ) (sta
   -- ---- coherence
   step : (x : Symbol) (m : ℕ) (source : List (Dotted Bits)) → IsCoherentStep handed source x (original m) → IsCoherentStep states source x m
   step x m source s =
-      let y = slice_get_inside states m (within m s.to s.there) in
+      let y = filled states m (within m s.to s.there) in
       let o = c.each m y.0 y.1 in
       let same : s.to ≡ o.0 = same_some s.to o.0 (sym s.there ∙ o.1) in
       record { to = y.0; there = y.1; came = subst (λ is. IsCoherentEdge source x is) (ap (λ (t : State Bits). t.items.vec.items) same ∙ sym o.2.items) s.came }

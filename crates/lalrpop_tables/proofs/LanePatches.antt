@@ -18,7 +18,6 @@ use Rattle.lalrpop_tables.specs.declared.lane_table.construct.merge.Merge.{Merge
 use Rattle.lalrpop_tables.proofs.LaneCopies.{copies_taken, copies_weaker, number_at}
 use Rattle.lalrpop_tables.proofs.LaneResolved.{lent_same}
 use Rattle.lalrpop_tables.proofs.Places.{same_some, filled}
-use Rattle.lalrpop_tables.proofs.Renumbered.{slice_get_inside}
 
 -- the copies of the inconsistent state before the place took their columns
 pub record ArePatched (actions : List Action) (old new : Merge) (n : ℕ) : Type 0 where
@@ -75,7 +74,7 @@ module _ (actions : List Action) (old : Merge) where
       let c = ready.copies in
       let s = old.inconsistent_state.0 in
       let own : slice_get old.originals.items s ≡ Some s = ready.rows old.inconsistent_state ready.start in
-      let first = slice_get_inside old.states.items s (let l = slice_get_within old.originals.items s s own in let e = c.counted in omega arith) in
+      let first = filled old.states.items s (let l = slice_get_within old.originals.items s s own in let e = c.counted in omega arith) in
       let a = c.each k state at in
       let b = c.each s first.0 first.1 in
       let handed : a.0 ≡ b.0 = same_some a.0 b.0 (sym a.1 ∙ ap (slice_get ready.handed) (number_at old.originals.items k s target ∙ sym (number_at old.originals.items s s own)) ∙ b.1) in

@@ -1,5 +1,5 @@
 -- Promoted states are the LR(0) states with all tokens.
-use Rattle.std.proofs.Common.{◌≡◌, ℕ, zero, suc, List, [], ◌∷◌, ◌++◌, length, map, refl, sym, ◌∙◌, ap, subst, Some}
+use Rattle.std.proofs.Common.{◌≡◌, ℕ, zero, suc, List, [], ◌∷◌, length, map, refl, sym, ◌∙◌, ap, subst, Some}
 use Rattle.std.specs.Prelude.{slice_get, Contains, nat_le}
 use Rattle.std.proofs.lemmas.Bool.{le-leb, leb-true}
 use Rattle.std.specs.Borrow.{Bor}
@@ -14,19 +14,7 @@ use Rattle.lalrpop_base.proofs.ContentsViews.{contains_of_map}
 use Rattle.lalrpop_tables.specs.Words.{dot_of, by, HasSamePlace, HaveSamePlaces, AreLaneStates, IsFull, HaveFullItems, HoldsAll, promoted_item}
 use Rattle.lalrpop_tables.specs.Words.{promoted_reduction, IsPromoted, AreLr0States}
 use Rattle.lalrpop_tables.proofs.Places.{same_some}
-
--- one pair more
-pub zip_push : {A B : Type 0} (R : A → B → Type 0) (xs : List A) (ys : List B) (x : A) (y : B) → AllZip R xs ys → R x y → AllZip R (xs ++ x ∷ []) (ys ++ y ∷ [])
-zip_push R [] [] x y h r = (r, tt)
-zip_push R [] (b ∷ ys) x y h r = absurd h
-zip_push R (a ∷ xs) [] x y h r = absurd h
-zip_push R (a ∷ xs) (b ∷ ys) x y h r = (h.0, zip_push R xs ys x y h.1 r)
-
-zip_length : {A B : Type 0} (R : A → B → Type 0) (xs : List A) (ys : List B) → AllZip R xs ys → length ys ≡ length xs
-zip_length R [] [] h = refl
-zip_length R [] (y ∷ ys) h = absurd h
-zip_length R (x ∷ xs) [] h = absurd h
-zip_length R (x ∷ xs) (y ∷ ys) h = ap suc (zip_length R xs ys h.1)
+use Rattle.lalrpop_tables.proofs.Lists.{zipped_length}
 
 -- the pair at a place
 zip_at : {A B : Type 0} (R : A → B → Type 0) (xs : List A) (ys : List B) → AllZip R xs ys → (n : ℕ) (x : A) (y : B) → slice_get xs n ≡ Some x → slice_get ys n ≡ Some y → R x y
@@ -54,7 +42,7 @@ promoted_place all old new p = record {
 
 pub promoted_places : (all : Bits) (old : List (State Nil)) (new : List (State Bits)) → AllZip (IsPromoted all) old new → HaveSamePlaces old new
 promoted_places all old new z = record {
-  counted = zip_length (IsPromoted all) old new z;
+  counted = zipped_length (IsPromoted all) old new z;
   each = λ n before after at_old at_new. promoted_place all before after (zip_at (IsPromoted all) old new z n before after at_old at_new);
 }
 

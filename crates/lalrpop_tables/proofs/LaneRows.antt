@@ -4,7 +4,7 @@ use Rattle.std.specs.Prelude.{Contains, Option, Some, None, ◌↔◌, IsSome, i
 use Rattle.std.specs.declared.cmp.Ordering.{Ordering}
 use Rattle.std.specs.declared.cmp.Ordering.TheVariants.{Less, Equal, Greater}
 use Rattle.std.specs.Ordering.{is_eq, nat_cmp, ordering_then}
-use Rattle.std.specs.Cmp.{Equal-is, eq_by_cmp_equiv}
+use Rattle.std.specs.Cmp.{eq_by_cmp_equiv}
 use Rattle.std.specs.List.Sorted.{IsStrictlySortedBy}
 use Rattle.std.specs.Map.{keys_of}
 use Rattle.std.proofs.lemmas.Bool.{cases_Bool}
@@ -21,15 +21,12 @@ use Rattle.lalrpop_tables.specs.Words.{Successors, HasNext, AddsRows, column, Is
 use Rattle.lalrpop_tables.specs.declared.lane_table.context_set.ConflictIndex.{ConflictIndex}
 use Rattle.lalrpop_tables.specs.declared.lane_table.table.LaneTable.{LaneTable}
 use Rattle.lalrpop_tables.proofs.LaneColumns.{CellsOverlap, gathered_none, gathered_past, gathered_more, gathering_overlap, row_of, row_overlaps, in_last, last_in, IsGathering}
-use Rattle.lalrpop_tables.proofs.LaneTables.{Cell, cell_cmp, state_exact, found_of, lookup_of}
-use Rattle.lalrpop_tables.proofs.Lists.{Contains-none, Contains-here, Contains-cases, Contains-map}
+use Rattle.lalrpop_tables.proofs.LaneTables.{Cell, cell_cmp, found_of, lookup_of, tied_is}
+use Rattle.lalrpop_tables.proofs.Lists.{Contains-none, contains_head, contains-cons, contains_map}
 use Rattle.lalrpop_tables.proofs.Places.{same_some}
 use Rattle.lalrpop_tables.proofs.StateGraphs.{state_total}
 
 -- ---- rows by state
-tied_is : (s q : StateIndex) → is_eq (state_cmp s q) ≡ true → s ≡ q
-tied_is s q e = state_exact s q ((Equal-is (state_cmp s q)).0 e)
-
 itself_tied : (s : StateIndex) → is_eq (state_cmp s s) ≡ true
 itself_tied s = (eq_by_cmp_equiv state_total).refl s
 
@@ -138,9 +135,9 @@ module _ (done left all : Cells) (state : StateIndex) (index : ConflictIndex) (t
       (λ later. ⊎_elim
       (λ same. let e : state.0 ≡ smaller.0 = ap (λ (x : Cell × Bits). x.0.0.0) same in absurd (omega (arith, e, l)))
       (λ behind. absurd (not_smaller (state_cmp state smaller) (nat_cmp index.index k)
-      (head_less cell_cmp (state, index) (keys_of left) (smaller, column k) tail_rises (Contains-map (λ (x : Cell × Bits). x.0) left ((smaller, column k), set) behind))
+      (head_less cell_cmp (state, index) (keys_of left) (smaller, column k) tail_rises (contains_map (λ (x : Cell × Bits). x.0) left ((smaller, column k), set) behind))
       (greater state.0 smaller.0 l)))
-      (Contains-cases ((state, index), tokens) left ((smaller, column k), set) later))
+      (contains-cons ((state, index), tokens) left ((smaller, column k), set) later))
       (Contains-append_cases done (((state, index), tokens) ∷ left) ((smaller, column k), set) (subst (λ (es : Cells). Contains es ((smaller, column k), set)) (sym whole) c))
 
 pub none_smaller : (count : ℕ) (before left all : Cells) (rows : Rows) (t : AreTaken count before all rows) (state : StateIndex) (index : ConflictIndex) (tokens : Bits) → before ≡ ((state, index), tokens) ∷ left → IsStrictlySortedBy cell_cmp (keys_of all) →
@@ -164,7 +161,7 @@ next_last done e left right h = ⊎_elim
     (λ later. ⊎_elim
     (λ same. inr (ap (λ (x : StateIndex × SortedSet StateIndex). x.0) same, subst (λ (x : StateIndex × SortedSet StateIndex). Contains x.1.keys right) (sym same) h.2))
     (λ n. absurd (Contains-none _ n))
-    (Contains-cases e [] (left, h.0) later))
+    (contains-cons e [] (left, h.0) later))
     (Contains-append_cases done (e ∷ []) (left, h.0) h.1)
 
 -- the state has no successors
@@ -192,7 +189,7 @@ adds_more count done old rows new state set next a there m = record {
       let is : row ≡ m.row = same_some row m.row (sym e ∙ ap (row_at new) (sym same) ∙ m.there) in
       subst (λ (x : StateIndex). StandsFor count (row_at old x) row × ((row_at old x ≡ Some row) ⊎ ((right : StateIndex) × HasNext (done ++ (state, set) ∷ []) x right))) same
       (subst (λ (r : List Bits). StandsFor count (row_at old state) r × ((row_at old state ≡ Some r) ⊎ ((right : StateIndex) × HasNext (done ++ (state, set) ∷ []) state right))) (sym is)
-      (made (row_at rows state) refl, inr (next, (set, Contains-append_right done ((state, set) ∷ []) _ (Contains-here (state, set) []), there)))))
+      (made (row_at rows state) refl, inr (next, (set, Contains-append_right done ((state, set) ∷ []) _ (contains_head (state, set) []), there)))))
       (λ apart. let f = a.from q row (sym (m.others q apart) ∙ e) in (f.0, ⊎_elim (λ was. inl was) (λ n. inr (n.0, next_more done (state, set) q n.0 n.1)) f.1))
       (cases_Bool (is_eq (state_cmp state q)));
   all = λ left right h. ⊎_elim
@@ -227,7 +224,7 @@ module _ (count : ℕ) (before left all : Successors) (old rows : Rows) (a : Are
 
   some_key : (ks : List StateIndex) → (ks ≡ [] → ⊥) → (right : StateIndex) × Contains ks right
   some_key [] some = absurd (some refl)
-  some_key (k ∷ ks) some = (k, Contains-here k ks)
+  some_key (k ∷ ks) some = (k, contains_head k ks)
 
   pub adding_more : (new : Rows) → (set.keys ≡ [] → ⊥) → MakesRow count state rows new → AreAdding count left all old new
   adding_more new some m = let k = some_key set.keys some in record { done = a.done ++ (state, set) ∷ []; whole = adding_whole; adds = adds_more count a.done old rows new state set k.0 a.adds k.1 m }
@@ -247,8 +244,8 @@ module _ (table : LaneTable) (rows new : Rows) (are : AreRowsOf table.conflicts 
   has_row q = (
     λ c. found_key q (row_at new q) refl (IsSome-lookup_from_Contains (eq_by_cmp_equiv state_total) q new c),
     λ h. ⊎_elim
-        (λ cell. let r = are.all q cell in Contains-map (λ (x : StateIndex × List Bits). x.0) new (q, r.0) (found_of new q r.0 (adds.kept q r.0 r.1)))
-        (λ next. let r = adds.all q next.0 next.1 in Contains-map (λ (x : StateIndex × List Bits). x.0) new (q, r.0) (found_of new q r.0 r.1))
+        (λ cell. let r = are.all q cell in contains_map (λ (x : StateIndex × List Bits). x.0) new (q, r.0) (found_of new q r.0 (adds.kept q r.0 r.1)))
+        (λ next. let r = adds.all q next.0 next.1 in contains_map (λ (x : StateIndex × List Bits). x.0) new (q, r.0) (found_of new q r.0 r.1))
         h,
   )
 
@@ -259,11 +256,6 @@ made_at count state rows (Some row) e h = record { row = row; there = e; was = s
 
 pub made_already : (count : ℕ) (state : StateIndex) (rows : Rows) → is_some (row_at rows state) ≡ true → MakesRow count state rows rows
 made_already count state rows h = made_at count state rows (row_at rows state) refl h
-
--- a list without length
-pub no_keys : {X : Type 0} (xs : List X) → length xs ≡ 0 → xs ≡ []
-no_keys [] e = refl
-no_keys (x ∷ xs) e = absurd (omega (arith, e))
 
 pub some_keys : {X : Type 0} (xs : List X) → (length xs ≡ 0 → ⊥) → xs ≡ [] → ⊥
 some_keys xs some e = some (ap (λ ys. length ys) e)

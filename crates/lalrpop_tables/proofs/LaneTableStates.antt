@@ -11,7 +11,7 @@ use Rattle.lalrpop_tables.specs.declared.lane_table.table.LaneTable.{LaneTable}
 use Rattle.lalrpop_tables.proofs.LaneColumns.{in_last, last_in}
 use Rattle.lalrpop_tables.proofs.LaneRows.{next_more, next_last}
 use Rattle.lalrpop_tables.proofs.LaneTables.{Cell, key_added}
-use Rattle.lalrpop_tables.proofs.Lists.{Contains-none, Contains-here, Contains-cases}
+use Rattle.lalrpop_tables.proofs.Lists.{Contains-none, contains_head, contains-cons}
 
 -- ---- a walk over a list: it holds of what was passed
 pub record HoldsSoFar {X : Type 0} (P : List X → Type 0) (left all : List X) : Type 0 where
@@ -26,10 +26,10 @@ pub far_end : {X : Type 0} (P : List X → Type 0) (left all : List X) → left 
 far_end P left all none h = subst P (sym (append-nil h.done) ∙ ap (λ es. h.done ++ es) (sym none) ∙ h.whole) h.holds
 
 pub far_in : {X : Type 0} (P : List X → Type 0) (before left all : List X) (e : X) → HoldsSoFar P before all → before ≡ e ∷ left → Contains all e
-far_in {X} P before left all e h first = subst (λ (es : List X). Contains es e) (ap (λ es. h.done ++ es) (sym first) ∙ h.whole) (Contains-append_right h.done (e ∷ left) e (Contains-here e left))
+far_in {X} P before left all e h first = subst (λ (es : List X). Contains es e) (ap (λ es. h.done ++ es) (sym first) ∙ h.whole) (Contains-append_right h.done (e ∷ left) e (contains_head e left))
 
 pub either : {X : Type 0} (done : List X) (e x : X) → Contains (done ++ e ∷ []) x → Contains done x ⊎ (e ≡ x)
-either done e x c = ⊎_elim (λ a. inl a) (λ b. ⊎_elim (λ s. inr s) (λ n. absurd (Contains-none x n)) (Contains-cases e [] x b)) (Contains-append_cases done (e ∷ []) x c)
+either done e x c = ⊎_elim (λ a. inl a) (λ b. ⊎_elim (λ s. inr s) (λ n. absurd (Contains-none x n)) (contains-cons e [] x b)) (Contains-append_cases done (e ∷ []) x c)
 
 -- ---- states put into a set
 abbrev pub AddedSoFar : List StateIndex → List StateIndex → List StateIndex → Type 0
@@ -39,7 +39,7 @@ pub added_more : (old mid new : List StateIndex) (key : StateIndex) → new ≡ 
 added_more old mid new key e done a r = (
   λ c. ⊎_elim
       (λ was. ⊎_elim (λ o. inl o) (λ d. inr (Contains-append_left done (key ∷ []) r d)) ((a r).0 was))
-      (λ same. inr (subst (λ (x : StateIndex). Contains (done ++ key ∷ []) x) (sym same) (Contains-append_right done (key ∷ []) key (Contains-here key []))))
+      (λ same. inr (subst (λ (x : StateIndex). Contains (done ++ key ∷ []) x) (sym same) (Contains-append_right done (key ∷ []) key (contains_head key []))))
       ((key_added mid new key e r).0 c),
   λ h. (key_added mid new key e r).1 (⊎_elim
       (λ o. inl ((a r).1 (inl o)))
@@ -55,7 +55,7 @@ pub reached_more : (keys new : List StateIndex) (state : StateIndex) (set : Sort
 reached_more keys new state set a done r right = (
   λ c. ⊎_elim
       (λ was. let h = (r right).0 was in (h.0, next_more done (state, set) h.0 right h.1))
-      (λ now. (state, (set, Contains-append_right done ((state, set) ∷ []) _ (Contains-here (state, set) []), now)))
+      (λ now. (state, (set, Contains-append_right done ((state, set) ∷ []) _ (contains_head (state, set) []), now)))
       ((a right).0 c),
   λ h. (a right).1 (⊎_elim (λ was. inl ((r right).1 (h.0, was))) (λ now. inr now.1) (next_last done (state, set) h.0 right h.1)),
 )
@@ -149,7 +149,7 @@ row_by_none table state cell is out none = (λ e. cc, λ h. absurd (⊎_elim (λ
 
 some_key : (ks : List StateIndex) → (length ks ≡ 0 → ⊥) → (right : StateIndex) × Contains ks right
 some_key [] some = absurd (some refl)
-some_key (k ∷ ks) some = (k, Contains-here k ks)
+some_key (k ∷ ks) some = (k, contains_head k ks)
 
 without : (ks : List StateIndex) → length ks ≡ 0 → (right : StateIndex) → Contains ks right → ⊥
 without ks e right c = omega (arith, c.1, e)

@@ -22,7 +22,7 @@ use Rattle.lalrpop_tables.specs.Entries.IsJoinedAt.{fresh, known}
 use Rattle.lalrpop_tables.specs.LaneCells.{AreBelow}
 use Rattle.lalrpop_tables.specs.declared.lane_table.context_set.ConflictIndex.{ConflictIndex}
 use Rattle.lalrpop_tables.specs.declared.lane_table.table.LaneTable.{LaneTable}
-use Rattle.lalrpop_tables.proofs.Lists.{Contains-none, Contains-map, insert_key-has, insert_key-kept, insert_key-from}
+use Rattle.lalrpop_tables.proofs.Lists.{Contains-none, contains_map, insert_key-has, insert_key-kept, insert_key-from}
 use Rattle.lalrpop_tables.proofs.Places.{midst, around, at_midst}
 use Rattle.lalrpop_tables.proofs.StateGraphs.{state_total}
 use Rattle.lalrpop_tables.proofs.Updates.{IsInserted, IsReplaced}
@@ -231,9 +231,9 @@ Pushes s item t = t.keys ≡ insert_key state_cmp s.keys item
 
 pub key_added : (old new : List StateIndex) (value : StateIndex) → new ≡ insert_key state_cmp old value → (r : StateIndex) → Contains new r ↔ (Contains old r ⊎ (r ≡ value))
 key_added old new value e r = (
-  λ c. ⊎_elim (λ was. inl was) (λ same. inr (sym same)) (insert_key-from state_cmp state_exact old value r (subst (λ xs. Contains xs r) e c)),
+  λ c. ⊎_elim (λ was. inl was) (λ same. inr (sym same)) (insert_key-from state_cmp old value r (subst (λ xs. Contains xs r) e c)),
   λ c. subst (λ xs. Contains xs r) (sym e) (⊎_elim
-      (λ was. insert_key-kept state_cmp state_exact old value r was)
+      (λ was. insert_key-kept state_cmp old value r was)
       (λ same. subst (λ (x : StateIndex). Contains (insert_key state_cmp old value) x) (sym same) (insert_key-has state_cmp state_exact old value))
       c),
 )
@@ -244,14 +244,15 @@ pushed_keys (Some s) None value p r = absurd p
 pushed_keys (Some s) (Some t) value p r = key_added s.keys t.keys value p r
 pushed_keys None (Some t) value p r = key_added [] t.keys value (p.2 ∙ ap (λ (xs : List StateIndex). insert_key state_cmp xs value) p.1) r
 
+-- states that compare equal are equal
+pub tied_is : (s q : StateIndex) → is_eq (state_cmp s q) ≡ true → s ≡ q
+tied_is s q e = state_exact s q ((Equal-is (state_cmp s q)).0 e)
+
 module _ (left right : StateIndex) (old new : Entries) (pushed : PushesAt HasNone Pushes (collection_at state_cmp old left) right (collection_at state_cmp new left))
     (others : (q : StateIndex) → is_eq (state_cmp left q) ≡ false → collection_at state_cmp new q ≡ collection_at state_cmp old q) where
-  here : (q : StateIndex) → is_eq (state_cmp left q) ≡ true → left ≡ q
-  here q tied = state_exact left q ((Equal-is (state_cmp left q)).0 tied)
-
   grown : (q r : StateIndex) → Contains (next_of new q) r → Contains (next_of old q) r ⊎ ((q ≡ left) × (r ≡ right))
   grown q r c = ⊎_elim
-      (λ tied. let same : left ≡ q = here q tied in
+      (λ tied. let same : left ≡ q = tied_is left q tied in
       ⊎_elim (λ was. inl (subst (λ (x : StateIndex). Contains (next_of old x) r) same was)) (λ added. inr (sym same, added))
       ((pushed_keys _ _ right pushed r).0 (subst (λ (x : StateIndex). Contains (next_of new x) r) (sym same) c)))
       (λ apart. inl (subst (λ (o : Option (SortedSet StateIndex)). Contains (keys_in o) r) (others q apart) c))
@@ -259,7 +260,7 @@ module _ (left right : StateIndex) (old new : Entries) (pushed : PushesAt HasNon
 
   kept : (q r : StateIndex) → Contains (next_of old q) r → Contains (next_of new q) r
   kept q r c = ⊎_elim
-      (λ tied. let same : left ≡ q = here q tied in
+      (λ tied. let same : left ≡ q = tied_is left q tied in
       subst (λ (x : StateIndex). Contains (next_of new x) r) same ((pushed_keys _ _ right pushed r).1 (inl (subst (λ (x : StateIndex). Contains (next_of old x) r) (sym same) c))))
       (λ apart. subst (λ (o : Option (SortedSet StateIndex)). Contains (keys_in o) r) (sym (others q apart)) c)
       (cases_Bool (is_eq (state_cmp left q)))
@@ -305,7 +306,7 @@ same_successors left old new c l up_old up_new same others = record {
   where
     everywhere : (q : StateIndex) → next_of new.successors q ≡ next_of old.successors q
     everywhere q = ⊎_elim
-        (λ tied. let here : left ≡ q = state_exact left q ((Equal-is (state_cmp left q)).0 tied) in
+        (λ tied. let here : left ≡ q = tied_is left q tied in
         subst (λ (x : StateIndex). next_of new.successors x ≡ next_of old.successors x) here (same_keys _ _ same))
         (λ apart. ap keys_in (others q apart))
         (cases_Bool (is_eq (state_cmp left q)))
@@ -330,7 +331,7 @@ entry_next es left o e = (λ s. has o e s, λ c. some o (subst IsSome (sym e) (I
   where
     has : (o : Option (Bor (SortedSet StateIndex))) → option_copied o ≡ collection_at state_cmp es left → IsSome o → Contains (keys_of es) left
     has None e s = cc
-    has (Some set) e s = Contains-map (λ (x : StateIndex × SortedSet StateIndex). x.0) es (left, set.now) (found_of es left set.now (sym e))
+    has (Some set) e s = contains_map (λ (x : StateIndex × SortedSet StateIndex). x.0) es (left, set.now) (found_of es left set.now (sym e))
 
     some : (o : Option (Bor (SortedSet StateIndex))) → IsSome (option_copied o) → IsSome o
     some None s = s

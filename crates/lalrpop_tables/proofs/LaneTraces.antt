@@ -19,7 +19,7 @@ use Rattle.lalrpop_tables.proofs.Closing.{split_drop}
 use Rattle.lalrpop_tables.proofs.EdgeLeads.{leads_within}
 use Rattle.lalrpop_tables.proofs.Gains.{Gains-none, Gains-then, Gains-same}
 use Rattle.lalrpop_tables.proofs.GainsSome.{GainsSome-last, GainsSome-none}
-use Rattle.lalrpop_tables.proofs.Lists.{Contains-none, Contains-here, Contains-there, Contains-cases, Contains-map, Contains-range, pigeonhole}
+use Rattle.lalrpop_tables.proofs.Lists.{Contains-none, contains_head, contains_tail, contains-cons, contains_map, Contains-range, pigeonhole}
 use Rattle.lalrpop_tables.proofs.Places.{apart_from_differ, filled}
 use Rattle.lalrpop_tables.proofs.SomeOf.{some_none, some_kept, some_last, some_cases}
 use Rattle.std.proofs.lemmas.List.Elements.{Contains-append_left, Contains-append_right, Contains-append_cases}
@@ -116,7 +116,7 @@ module _ {L : Type 0} (ground : Ground L) (first : Place) (on : IsGround ground)
       let within = h.within in
       let dot : p.item.index < length p.item.production.symbols + 1 = omega arith in
       let key : at_place p.state p.item.production p.item.index ≡ p = same_place (at_place p.state p.item.production p.item.index) p refl refl refl in
-      let here : Contains (dotted_in ground first p.state p.item.production) (at_place p.state p.item.production p.item.index) = Contains-map (λ (d : ℕ). at_place p.state p.item.production d) (range_with_len 0 (length p.item.production.symbols + 1)) p.item.index (Contains-range (length p.item.production.symbols + 1) p.item.index dot) in
+      let here : Contains (dotted_in ground first p.state p.item.production) (at_place p.state p.item.production p.item.index) = contains_map (λ (d : ℕ). at_place p.state p.item.production d) (range_with_len 0 (length p.item.production.symbols + 1)) p.item.index (Contains-range (length p.item.production.symbols + 1) p.item.index dot) in
       let named = in_flat_map (dotted_in ground first p.state) (productions ground.grammar.now) p.item.production (at_place p.state p.item.production p.item.index) h.own here in
       subst (Contains (all_places ground first)) key (in_flat_map (places_at ground first) (range_with_len 0 (length ground.states.now)) p.state (at_place p.state p.item.production p.item.index) (Contains-range (length ground.states.now) p.state h.listed) named)
 
@@ -144,7 +144,7 @@ module _ {L : Type 0} (ground : Ground L) (first : Place) (on : IsGround ground)
 
   module _ (k : ℕ) (place : Place) (old now next : LaneTable) (before popped after : Walk) (same : popped.visited.keys ≡ before.visited.keys) (taken : before.waiting.items ≡ place ∷ popped.waiting.items) (h : IsTracing ground first k old now before) where
     there : Contains before.visited.keys place
-    there = h.came place (subst (λ (ps : List Place). Contains ps place) (sym taken) (Contains-here place popped.waiting.items))
+    there = h.came place (subst (λ (ps : List Place). Contains ps place) (sym taken) (contains_head place popped.waiting.items))
 
     pub place_listed : place.state < length ground.states.now
     place_listed = (reached_known place (h.reached place there)).listed
@@ -165,10 +165,10 @@ module _ {L : Type 0} (ground : Ground L) (first : Place) (on : IsGround ground)
       stays p c = v.kept p (subst (λ (ps : List Place). Contains ps p) (sym same) c)
 
       left : (p : Place) → Contains before.waiting.items p → (place ≡ p) ⊎ Contains popped.waiting.items p
-      left p c = Contains-cases place popped.waiting.items p (subst (λ (ps : List Place). Contains ps p) taken c)
+      left p c = contains-cons place popped.waiting.items p (subst (λ (ps : List Place). Contains ps p) taken c)
 
       last : Contains (h.done ++ place ∷ []) place
-      last = Contains-append_right h.done (place ∷ []) place (Contains-here place [])
+      last = Contains-append_right h.done (place ∷ []) place (contains_head place [])
 
       pub Tracing-step : next.conflicts ≡ now.conflicts → (AreInRange now → AreInRange next) → IsTracing ground first k old next after
       Tracing-step columns in_range = record {
@@ -184,17 +184,17 @@ module _ {L : Type 0} (ground : Ground L) (first : Place) (on : IsGround ground)
           | inr n ↦ inr n.1
         ];
         came = λ p c. elim (v.waits p c) [
-          | inl o ↦ stays p (h.came p (subst (λ (ps : List Place). Contains ps p) (sym taken) (Contains-there place popped.waiting.items p o)))
+          | inl o ↦ stays p (h.came p (subst (λ (ps : List Place). Contains ps p) (sym taken) (contains_tail place popped.waiting.items p o)))
           | inr n ↦ n
         ];
         settled = λ p c. elim (Contains-append_cases h.done (place ∷ []) p c) [
           | inl d ↦ stays p (h.settled p d)
-          | inr d ↦ elim (Contains-cases place [] p d) [ inl e ↦ subst (Contains after.visited.keys) e (stays place there) | inr z ↦ absurd (Contains-none p z) ]
+          | inr d ↦ elim (contains-cons place [] p d) [ inl e ↦ subst (Contains after.visited.keys) e (stays place there) | inr z ↦ absurd (Contains-none p z) ]
         ];
         reached = λ p c. elim (v.only p c) [ inl o ↦ h.reached p (was p o) | inr n ↦ traced_on (h.reached place there) n.0 ];
         led = λ p q c b. elim (Contains-append_cases h.done (place ∷ []) p c) [
           | inl d ↦ stays q (h.led p q d b)
-          | inr d ↦ elim (Contains-cases place [] p d) [ inl e ↦ v.there q (subst (λ (x : Place). LeadsTo (rules_of ground.grammar.now) ground.start.now (places_in ground.states.now) x q) (sym e) b) | inr z ↦ absurd (Contains-none p z) ]
+          | inr d ↦ elim (contains-cons place [] p d) [ inl e ↦ v.there q (subst (λ (x : Place). LeadsTo (rules_of ground.grammar.now) ground.start.now (places_in ground.states.now) x q) (sym e) b) | inr z ↦ absurd (Contains-none p z) ]
         ];
         start = stays first h.start;
         differ = v.differ (subst (λ (ps : List Place). AllDiffer ps) (sym same) h.differ);

@@ -1,5 +1,6 @@
 pub mod AnyLookahead
 pub mod Ascending
+pub mod BitSets
 pub mod BothFacts
 pub mod Bounded
 pub mod Building

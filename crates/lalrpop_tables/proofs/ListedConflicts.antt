@@ -1,18 +1,18 @@
 -- The list of a state's conflicts that the code makes is that of the definitions: it goes through the shifted terminals, ascending, and then through the reductions.
-use Rattle.std.proofs.Common.{◌≡◌, ◌↔◌, ◌⊎◌, ℕ, ◌+◌, ◌<◌, ◌≤◌, inl, inr, List, [], ◌∷◌, length, map, get_or, refl, sym, ◌∙◌, ap, subst, arith, Bool, true, false, cond, ◌||◌, ◌&&◌, ◌==◌, eqb-true, eq-eqb, Option, Some}
+use Rattle.std.proofs.Common.{◌≡◌, ◌↔◌, ℕ, ◌+◌, ◌<◌, List, [], ◌∷◌, length, map, get_or, refl, sym, ◌∙◌, ap, subst, arith, Bool, true, false, cond, ◌&&◌, Option, Some}
 use Rattle.std.specs.Prelude.{Contains, option_map, IfSome}
 use Rattle.std.specs.declared.cmp.Ordering.TheVariants.{Less}
 use Rattle.std.specs.BTreeMap.{BTreeMap, get, keys, IsOrdered}
 use Rattle.std.specs.List.{filter, flat_map}
 use Rattle.std.specs.Map.{keys_of}
 use Rattle.std.specs.Borrow.{Bor}
-use Rattle.std.proofs.lemmas.Bool.{or_cases, cases_lt, false≢true}
+use Rattle.std.proofs.lemmas.Bool.{false≢true}
 use Rattle.std.proofs.lemmas.List.{map-append}
 use Rattle.std.proofs.lemmas.Map.Entries.{btree_map_get_place}
 use Rattle.std.proofs.lemmas.Map.Keys.{Less-from_sorted}
 use Rattle.std.proofs.lemmas.Map.Views.{IfSome-get}
-use Rattle.std.proofs.lemmas.Option.{slice_get_within, slice_get_cases, get_or_from_slice_get}
-use Rattle.lalrpop_base.specs.Words.{Bits, has, no_bits, with_bit, has-no_bits, has-with_bit, Ordered, ShiftPart, no_more, in_conflict, apart, ShiftParts}
+use Rattle.std.proofs.lemmas.Option.{slice_get_within, get_or_from_slice_get}
+use Rattle.lalrpop_base.specs.Words.{Bits, has, no_bits, with_bit, Ordered, ShiftPart, no_more, in_conflict, apart, ShiftParts}
 use Rattle.lalrpop_base.specs.Words.{no_shifts, shift_first, LaterPart, no_later, with_later, shares_none, ReduceParts, no_reductions, reduce_first, IsLess}
 use Rattle.lalrpop_base.specs.Words.{ConflictContents, AreConflictsOf, holds_token, number_of, reduction_of, contents_of, AllDiffer, meet, share}
 use Rattle.lalrpop_base.specs.Words.{shift_conflict, conflicts_on_bit, conflicts_on_place, shift_conflicts, reduce_conflict, later_conflicts, reduce_conflicts}
@@ -25,6 +25,7 @@ use Rattle.lalrpop_base.specs.declared.lr1_core.state.State.{State}
 use Rattle.lalrpop_base.specs.declared.lr1_core.state.StateIndex.{StateIndex}
 use Rattle.lalrpop_base.specs.declared.repr.Production.{Production}
 use Rattle.lalrpop_base.specs.declared.repr.TerminalString.{TerminalString}
+use Rattle.lalrpop_base.specs.Exact.{both}
 use Rattle.lalrpop_base.proofs.ConflictLemmas.{shared, share_some}
 use Rattle.lalrpop_base.proofs.ContentsViews.{contains_of_map, contains_map, some_of_map, contains_at}
 use Rattle.lalrpop_base.proofs.HeldTokens.{place_there, place_is}
@@ -32,31 +33,19 @@ use Rattle.lalrpop_base.proofs.RisingLemmas.{filter_bits}
 use Rattle.lalrpop_base.proofs.theory.ConflictLists.{conflict_list}
 use Rattle.lalrpop_tables.specs.Words.{conflict_of, conflicts_of}
 use Rattle.lalrpop_tables.proofs.KnownTerminals.{token_bit, held_bit, bit_held}
-use Rattle.lalrpop_tables.proofs.Lists.{Contains-here, Contains-there}
+use Rattle.lalrpop_tables.proofs.Lists.{contains_head, contains_tail}
 use Rattle.lalrpop_tables.proofs.Orders.{terminal_order, terminal_exact, terminal_total}
 use Rattle.lalrpop_tables.proofs.Places.{same_some}
+use Rattle.lalrpop_tables.proofs.BitSets.{one_bit, own_bit}
+use Rattle.lalrpop_tables.proofs.ItemTokens.{token_with}
 
 -- a reduction of the code: its tokens and its production
 abbrev pub CodeReduction : Type 0
 CodeReduction = Bits × Bor Production
 
--- a set of one bit has that bit alone
-one_bit : (n b : ℕ) → has (with_bit no_bits n) b ≡ true → b ≡ n
-one_bit n b h = elim (or_cases (b == n) (has no_bits b) (sym (has-with_bit no_bits n b) ∙ h)) [
-  | inl e ↦ eqb-true b n e
-  | inr k ↦ absurd (false≢true (sym (has-no_bits b) ∙ k))
-]
-
-own_bit : (n : ℕ) → has (with_bit no_bits n) n ≡ true
-own_bit n = has-with_bit no_bits n n ∙ ap (λ b. b || has no_bits n) (eq-eqb n n refl)
-
-both_true : (a b : Bool) → (a && b) ≡ true → (a ≡ true) × (b ≡ true)
-both_true true b h = (refl, h)
-both_true false b h = absurd (false≢true h)
-
 -- both sets have the bits that both share
 both_bits : (s t : Bits) (b : ℕ) → has (meet s t) b ≡ true → (has s b ≡ true) × (has t b ≡ true)
-both_bits s t b h = both_true (has s b) (has t b) (sym (filter_bits (λ c. has t c) s b) ∙ h)
+both_bits s t b h = both (has s b) (has t b) (sym (filter_bits (λ c. has t c) s b) ∙ h)
 
 met_bit : (s t : Bits) (b : ℕ) → has s b ≡ true → has t b ≡ true → has (meet s t) b ≡ true
 met_bit s t b h k = filter_bits (λ c. has t c) s b ∙ ap (λ a. a && has t b) h ∙ k
@@ -123,19 +112,6 @@ module _ (terminals : List TerminalString) (differ : AllDiffer terminals) where
         bit_held terminals (meet a b) s c.0 c.1 (met_bit a b c.0 c.2 (subst (λ (n : ℕ). has b n ≡ true) same d.2)),
   )
 
-  -- each bit that fits is a token's
-  token_with : (bit : ℕ) → bit ≤ length terminals + 1 → (t : Token) × (token_bit terminals t ≡ Some bit)
-  token_with bit l = elim ((slice_get_cases terminals bit).1) [
-    | inl at ↦ (TokenOf at.0, place_is terminals differ at.0 bit at.2)
-    | inr past ↦ elim (end_or_error past.0) [
-      | inl e ↦ (Eof, ap Some e)
-      | inr e ↦ (Error, ap Some e)
-    ]
-  ]
-    where
-      end_or_error : length terminals ≤ bit → (length terminals ≡ bit) ⊎ (length terminals + 1 ≡ bit)
-      end_or_error m = elim (cases_lt (length terminals) bit) [ inl less ↦ inr (omega arith) | inr more ↦ inl (omega arith) ]
-
   -- ---- the conflicts with a shift
   module _ (number : StateIndex) where
     abbrev view : List (Conflict Bits) → List ConflictContents
@@ -158,18 +134,18 @@ module _ (terminals : List TerminalString) (differ : AllDiffer terminals) where
     shift_parts : (rs : List CodeReduction) (es : List (TerminalString × StateIndex)) → ((t : TerminalString) → Contains (keys_of es) t → Contains terminals t) → ShiftParts (map seen_reduction rs) (keys_of es) (view (flat_map (shift_conflicts terminals number rs) es))
     shift_parts rs [] known = no_shifts
     shift_parts rs ((t, target) ∷ es) known =
-        let place = contains_at terminals t (known t (Contains-here t (keys_of es))) in
+        let place = contains_at terminals t (known t (contains_head t (keys_of es))) in
         let e : place_in terminals t ≡ Some place.0 = place_is terminals differ t place.0 place.1 in
         let part : ShiftPart t (map seen_reduction rs) (view (conflicts_on_place number t target rs (place_in terminals t))) =
         subst (λ (o : Option ℕ). ShiftPart t (map seen_reduction rs) (view (conflicts_on_place number t target rs o))) (sym e) (shift_part t target place.0 e rs) in
         subst (ShiftParts (map seen_reduction rs) (t ∷ keys_of es)) (sym (map-append (conflict_of terminals) (conflicts_on_place number t target rs (place_in terminals t)) (flat_map (shift_conflicts terminals number rs) es)))
-        (shift_first t part (shift_parts rs es (λ u c. known u (Contains-there t (keys_of es) u c))))
+        (shift_first t part (shift_parts rs es (λ u c. known u (contains_tail t (keys_of es) u c))))
 
     -- ---- the conflicts of two reductions
     shared_token : (r q : CodeReduction) → FitsTokens terminals r.0 → share r.0 q.0 ≡ true → (t : Token) × (Held r.0 t ≡ true) × (Held q.0 t ≡ true)
     shared_token r q fits h =
         let b = share_some r.0 q.0 h in
-        let t = token_with b.0 (fits b.0 b.1) in
+        let t = token_with terminals differ b.0 (fits b.0 b.1) in
         (t.0, bit_held terminals r.0 t.0 b.0 t.1 b.1, bit_held terminals q.0 t.0 b.0 t.1 b.2)
 
     no_shared_token : (r q : CodeReduction) → share r.0 q.0 ≡ false → (t : Token) → Held r.0 t ≡ true → Held q.0 t ≡ true → ⊥
@@ -194,7 +170,7 @@ module _ (terminals : List TerminalString) (differ : AllDiffer terminals) where
     reduce_parts [] fits = no_reductions
     reduce_parts (r ∷ rs) fits =
         subst (ReduceParts (seen_reduction r ∷ map seen_reduction rs)) (sym (map-append (conflict_of terminals) (later_conflicts number r rs) (reduce_conflicts number rs)))
-        (reduce_first (seen_reduction r) (later_part r (fits r (Contains-here r rs)) rs) (reduce_parts rs (λ q c. fits q (Contains-there r rs q c))))
+        (reduce_first (seen_reduction r) (later_part r (fits r (contains_head r rs)) rs) (reduce_parts rs (λ q c. fits q (contains_tail r rs q c))))
 
   -- ---- the whole list
   pub conflicts_are_listed : (state : State Bits) → IsOrdered terminal_order state.shifts → ((t : TerminalString) → Contains (keys state.shifts) t → Contains terminals t) → ((r : CodeReduction) → Contains state.reductions.items r → FitsTokens terminals r.0) →

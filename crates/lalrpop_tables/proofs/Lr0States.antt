@@ -22,7 +22,7 @@ use Rattle.lalrpop_tables.proofs.Ascending.{precedes_asymmetric}
 use Rattle.lalrpop_tables.proofs.Canonical.{start_items}
 use Rattle.lalrpop_tables.proofs.ClosedStates.{IsExactClosure, closed, reduces, reached, source_reached, kernels_differ}
 use Rattle.lalrpop_tables.proofs.ConflictLists.{All-listed}
-use Rattle.lalrpop_tables.proofs.Lists.{Contains-map}
+use Rattle.lalrpop_tables.proofs.Lists.{contains_map}
 use Rattle.lalrpop_tables.proofs.SameKernels.{Shifts-ascend, Shifts-past}
 use Rattle.lalrpop_tables.proofs.Shifting.{of_dotted}
 use Rattle.lalrpop_tables.proofs.Tables.{same_lr0}
@@ -51,7 +51,7 @@ item_over : (x : Symbol) (a b is : List (Dotted Nil)) → Shifts x is a → ((p 
 item_over x a b is s more i c =
     let d = Shifts-past x is a s i c in
     let e : dotted_of i ≡ (i.production, suc d.0) = ap (λ (k : ℕ). (i.production, k)) d.1 in
-    let there = more i.production d.0 (subst (Contains (map dotted_of a)) e (Contains-map dotted_of a i c)) in
+    let there = more i.production d.0 (subst (Contains (map dotted_of a)) e (contains_map dotted_of a i c)) in
     let j = of_dotted b (i.production, suc d.0) there in
     let same : dotted_of j.0 ≡ dotted_of i = j.2 ∙ sym e in
     subst (Contains b) (same_lr0 j.0 i (ap (λ (x : Production × ℕ). x.0) same) (ap (λ (x : Production × ℕ). x.1) same)) j.1

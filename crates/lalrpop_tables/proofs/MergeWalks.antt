@@ -17,7 +17,7 @@ use Rattle.lalrpop_tables.specs.Words.{ComesTo, HasJoinedBut, IsJoin, IsJoinMade
 use Rattle.lalrpop_tables.specs.declared.lane_table.construct.merge.Merge.{Merge}
 use Rattle.lalrpop_tables.specs.declared.lane_table.construct.merge.walk.Join.{Join}
 use Rattle.lalrpop_tables.specs.declared.lane_table.table.LaneTable.{LaneTable}
-use Rattle.lalrpop_tables.proofs.Lists.{Contains-map, Contains-none, Contains-range, Contains-reverse, Contains-from_reverse, apart-from_sorted, pigeonhole}
+use Rattle.lalrpop_tables.proofs.Lists.{contains_map, Contains-none, Contains-range, Contains-reverse, Contains-from_reverse, apart-from_sorted, pigeonhole}
 use Rattle.lalrpop_tables.proofs.Merges.{advances_on, copy_on, leads_on, mark_advance, mark_cases, mark_less, mark_there, marked, walked_on}
 use Rattle.lalrpop_tables.proofs.Places.{same_some}
 use Rattle.lalrpop_tables.proofs.StateGraphs.{state_total}
@@ -122,7 +122,7 @@ module _ (merge : Merge) (ready : IsMerging merge) (state : StateIndex) (w : IsW
         original = original;
         there = at;
         joined = λ right e. inl (subst (λ (l : List Join). Contains l (join_to state right)) (sym pushed)
-            (Contains-append_right before joins (join_to state right) (Contains-reverse (joins_to state successors) (join_to state right) (Contains-map (join_to state) successors right ((exactly right).1 e)))));
+            (Contains-append_right before joins (join_to state right) (Contains-reverse (joins_to state successors) (join_to state right) (contains_map (join_to state) successors right ((exactly right).1 e)))));
       }))
     ];
     kept = λ join c. subst (λ (l : List Join). Contains l join) (sym pushed) (Contains-append_left before joins join c);
@@ -139,7 +139,7 @@ module _ (merge : Merge) (ready : IsMerging merge) (state : StateIndex) (w : IsW
       let e = ready.copies.counted in
       omega arith
       in
-      let most = pigeonhole successors (map index (range_with_len 0 count)) (apart-from_sorted state_cmp state_total successors rises) (λ s c. Contains-map index (range_with_len 0 count) s.0 (Contains-range count s.0 (small s c))) in
+      let most = pigeonhole successors (map index (range_with_len 0 count)) (apart-from_sorted state_cmp state_total successors rises) (λ s c. contains_map index (range_with_len 0 count) s.0 (Contains-range count s.0 (small s c))) in
       let same = length-map-range_with_len index 0 count in
       omega arith
 

@@ -1,5 +1,5 @@
 -- States numbered, placed and with their reductions joined are the collapse of those that they were.
-use Rattle.std.proofs.Common.{◌≡◌, ℕ, zero, suc, List, [], ◌∷◌, ◌++◌, length, map, refl, sym, ap, ◌∙◌, subst, arith, Some}
+use Rattle.std.proofs.Common.{◌≡◌, ℕ, zero, suc, List, [], ◌∷◌, ◌++◌, map, refl, sym, ap, ◌∙◌, subst, arith, Some}
 use Rattle.std.specs.Prelude.{◌↔◌, Contains, slice_get}
 use Rattle.std.specs.Borrow.{Bor}
 use Rattle.std.specs.BTreeMap.{get}
@@ -23,6 +23,8 @@ use Rattle.lalrpop_tables.specs.Collapsed.{LeadsTo}
 use Rattle.lalrpop_tables.proofs.MergeableStates.{was, goes, as_many, moved_to, came_from, number_of_place, index_there, same_number, dots_moved, Numbered-merge}
 use Rattle.lalrpop_tables.proofs.MergedStates.{Merges, HasNumber, AreMerged, Placed-merged}
 use Rattle.lalrpop_tables.proofs.Places.{same_some, filled}
+use Rattle.lalrpop_tables.proofs.Lists.{zipped_length}
+use Rattle.lalrpop_tables.proofs.BothFacts.{then_both}
 
 abbrev Reduction : Type 0
 Reduction = Bits × Bor Production
@@ -35,16 +37,7 @@ zipped_at R (x ∷ xs) [] z k y at = absurd z
 zipped_at {X} {Y} R (x ∷ xs) (w ∷ ys) z zero y at = (x, refl, subst (R x) (same_some w y at) z.0)
 zipped_at R (x ∷ xs) (w ∷ ys) z (suc k) y at = zipped_at R xs ys z.1 k y at
 
-zipped_length : {X Y : Type 0} (R : X → Y → Type 0) (xs : List X) (ys : List Y) → AllZip R xs ys → length ys ≡ length xs
-zipped_length R [] [] z = refl
-zipped_length R [] (w ∷ ys) z = absurd z
-zipped_length R (x ∷ xs) [] z = absurd z
-zipped_length R (x ∷ xs) (w ∷ ys) z = ap suc (zipped_length R xs ys z.1)
-
 -- ---- equivalences
-both_ways : {A B C : Type 0} → A ↔ B → B ↔ C → A ↔ C
-both_ways f g = (λ a. g.0 (f.0 a), λ c. f.1 (g.1 c))
-
 module _ (before moved merged after : List (State Bits)) (numbers : List ℕ) (collapsible : AreCollapsible before) (named : AreFirstNumbers (map dots_in before) numbers) (under_new : AreMoved (number_in numbers) before moved) (placed : ArePlaced moved merged) (reduced : AllZip IsReduced merged after) where
   abbrev new : ℕ → ℕ
   new = number_in numbers
@@ -76,26 +69,26 @@ module _ (before moved merged after : List (State Bits)) (numbers : List ℕ) (c
 
     tokens : (n bit : ℕ) → HoldsAt n bit state ↔ OfMember Old (HoldsAt n bit)
     tokens n bit =
-        both_ways (
+        then_both (
           λ h. (h.0, ap (λ is. slice_get is.vec.items n) (sym tidy.items) ∙ h.1, h.2),
           λ h. (h.0, ap (λ is. slice_get is.vec.items n) tidy.items ∙ h.1, h.2),
-        ) (both_ways (merges.tokens n bit) (members k (HoldsAt n bit) (HoldsAt n bit) (λ s t r. (
+        ) (then_both (merges.tokens n bit) (members k (HoldsAt n bit) (HoldsAt n bit) (λ s t r. (
           λ h. (h.0, ap (λ is. slice_get is.vec.items n) r.items ∙ h.1, h.2),
           λ h. (h.0, ap (λ is. slice_get is.vec.items n) (sym r.items) ∙ h.1, h.2),
         ))))
 
     shifts : (t : TerminalString) (target : StateIndex) → (get terminal_ord.ghosts.cmp state.shifts t ≡ Some target) ↔ OfMember Old (λ s. LeadsTo terminal_ord.ghosts.cmp new s.shifts t target)
     shifts t target =
-        both_ways (λ e. ap (λ es. get terminal_ord.ghosts.cmp es t) (sym tidy.shifts) ∙ e, λ e. ap (λ es. get terminal_ord.ghosts.cmp es t) tidy.shifts ∙ e)
-        (both_ways (merges.shifts t target) (members k (λ (s : State Bits). LeadsTo terminal_ord.ghosts.cmp new s.shifts t target) (λ (s : State Bits). get terminal_ord.ghosts.cmp s.shifts t ≡ Some target) (λ s u r. (
+        then_both (λ e. ap (λ es. get terminal_ord.ghosts.cmp es t) (sym tidy.shifts) ∙ e, λ e. ap (λ es. get terminal_ord.ghosts.cmp es t) tidy.shifts ∙ e)
+        (then_both (merges.shifts t target) (members k (λ (s : State Bits). LeadsTo terminal_ord.ghosts.cmp new s.shifts t target) (λ (s : State Bits). get terminal_ord.ghosts.cmp s.shifts t ≡ Some target) (λ s u r. (
           goes terminal_ord.ghosts.cmp new s.shifts u.shifts r.shifts t target,
           was terminal_ord.ghosts.cmp new s.shifts u.shifts r.shifts t target,
         ))))
 
     gotos : (name : NonterminalString) (target : StateIndex) → (get name_cmp state.gotos name ≡ Some target) ↔ OfMember Old (λ s. LeadsTo name_cmp new s.gotos name target)
     gotos t target =
-        both_ways (λ e. ap (λ es. get name_cmp es t) (sym tidy.gotos) ∙ e, λ e. ap (λ es. get name_cmp es t) tidy.gotos ∙ e)
-        (both_ways (merges.gotos t target) (members k (λ (s : State Bits). LeadsTo name_cmp new s.gotos t target) (λ (s : State Bits). get name_cmp s.gotos t ≡ Some target) (λ s u r. (
+        then_both (λ e. ap (λ es. get name_cmp es t) (sym tidy.gotos) ∙ e, λ e. ap (λ es. get name_cmp es t) tidy.gotos ∙ e)
+        (then_both (merges.gotos t target) (members k (λ (s : State Bits). LeadsTo name_cmp new s.gotos t target) (λ (s : State Bits). get name_cmp s.gotos t ≡ Some target) (λ s u r. (
           goes name_cmp new s.gotos u.gotos r.gotos t target,
           was name_cmp new s.gotos u.gotos r.gotos t target,
         ))))
@@ -104,19 +97,19 @@ module _ (before moved merged after : List (State Bits)) (numbers : List ℕ) (c
     Has r s = Contains s.reductions.items r
 
     has_from : (r : Reduction) → Has r m ↔ OfMember Old (Has r)
-    has_from r = both_ways (merges.reductions r) (members k (Has r) (Has r) (λ s t e. (
+    has_from r = then_both (merges.reductions r) (members k (Has r) (Has r) (λ s t e. (
       λ h. subst (λ rs. Contains rs.items r) (sym e.reductions) h,
       λ h. subst (λ rs. Contains rs.items r) e.reductions h,
     )))
 
     reduces : (p : Production) → ReducesBy p state ↔ OfMember Old (ReducesBy p)
-    reduces p = both_ways (tidy.reductions.reduces p) (
+    reduces p = then_both (tidy.reductions.reduces p) (
       λ h. let o = (has_from h.0).0 h.1 in (o.0, o.1, (h.0, o.2, h.2)),
       λ o. let h = o.2 in (h.0, (has_from h.0).1 (o.0, o.1, h.1), h.2),
     )
 
     holds : (p : Production) (bit : ℕ) → ReducesOn p bit state ↔ OfMember Old (ReducesOn p bit)
-    holds p bit = both_ways (tidy.reductions.holds p bit) (
+    holds p bit = then_both (tidy.reductions.holds p bit) (
       λ h. let o = (has_from h.0).0 h.1 in (o.0, o.1, (h.0, o.2, h.2, h.3)),
       λ o. let h = o.2 in (h.0, (has_from h.0).1 (o.0, o.1, h.1), h.2, h.3),
     )

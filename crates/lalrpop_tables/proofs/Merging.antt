@@ -11,10 +11,6 @@ use Rattle.lalrpop_tables.specs.Words.{IsJoined, Places, pushed, joined}
 pub taken : {X : Type 0} (all rest yielded left : List X) (x : X) → yielded ++ rest ≡ all → rest ≡ x ∷ left → (yielded ++ x ∷ []) ++ left ≡ all
 taken all rest yielded left x e f = append_assoc yielded (x ∷ []) left ∙ ap (λ ys. yielded ++ ys) (sym f) ∙ e
 
-pub none_left : {X : Type 0} (xs : List X) → length xs ≡ 0 → xs ≡ []
-none_left [] e = refl
-none_left (x ∷ xs) e = absurd (omega arith)
-
 -- ---- a value set in a list
 pub set_here : {X : Type 0} (xs : List X) (k : ℕ) (x : X) → k < length xs → slice_get (slice_set xs k x) k ≡ Some x
 set_here [] k x l = absurd (omega arith)

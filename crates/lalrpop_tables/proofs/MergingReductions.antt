@@ -33,7 +33,7 @@ Entry = Bor Production × Bits
 abbrev bor_order : Bor Production → Bor Production → Ordering
 bor_order a b = production_order a.now b.now
 
-is_equal : (o : Ordering) → is_eq o ≡ true → o ≡ Equal
+pub is_equal : (o : Ordering) → is_eq o ≡ true → o ≡ Equal
 is_equal Less e = cc
 is_equal Equal e = refl
 is_equal Greater e = cc

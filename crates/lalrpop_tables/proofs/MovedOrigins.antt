@@ -14,7 +14,7 @@ use Rattle.lalrpop_base.proofs.ContentsViews.{contains_of_map}
 use Rattle.lalrpop_tables.specs.Words.{Edge, edge, list_at, number_in, origin_of, origins}
 use Rattle.lalrpop_tables.specs.GraphCopies.{Origin, retraced, is_other, without, moved, followed, followed_all}
 use Rattle.lalrpop_tables.specs.StateGraph.{IsChangedAt}
-use Rattle.lalrpop_tables.proofs.Lists.{Contains-cases, Contains-here, Contains-none, Contains-there}
+use Rattle.lalrpop_tables.proofs.Lists.{contains-cons, contains_head, Contains-none, contains_tail}
 use Rattle.lalrpop_tables.proofs.StateGraphs.{list_changed, list_past, list_there, origins_append}
 
 -- ---- a list that a function changes
@@ -94,16 +94,16 @@ others_stay : (e : Edge) (n : StateIndex) (es : List Edge) → HaveOthers e es �
 others_stay e n [] apart = refl
 others_stay e n (f ∷ es) apart =
     ap (without e) (origins_cons n f es) ∙ without_append e (its n.0 f) (origins n es)
-    ∙ ap (λ os. os ++ without e (origins n es)) (stays_its e f (f.target.0 == n.0) (is_other_one e f (apart f (Contains-here f es))))
-    ∙ ap (λ os. its n.0 f ++ os) (others_stay e n es (λ g c. apart g (Contains-there f es g c)))
+    ∙ ap (λ os. os ++ without e (origins n es)) (stays_its e f (f.target.0 == n.0) (is_other_one e f (apart f (contains_head f es))))
+    ∙ ap (λ os. its n.0 f ++ os) (others_stay e n es (λ g c. apart g (contains_tail f es g c)))
     ∙ sym (origins_cons n f es)
 
 -- no edge leads to the state
 no_origins : (n : StateIndex) (es : List Edge) → ((f : Edge) → Contains es f → f.target.0 ≡ n.0 → ⊥) → origins n es ≡ []
 no_origins n [] none = refl
 no_origins n (f ∷ es) none =
-    origins_cons n f es ∙ ap (λ b. cond b (origin_of f ∷ []) [] ++ origins n es) (ne_eqb f.target.0 n.0 (none f (Contains-here f es)))
-    ∙ no_origins n es (λ g c. none g (Contains-there f es g c))
+    origins_cons n f es ∙ ap (λ b. cond b (origin_of f ∷ []) [] ++ origins n es) (ne_eqb f.target.0 n.0 (none f (contains_head f es)))
+    ∙ no_origins n es (λ g c. none g (contains_tail f es g c))
 
 -- each edge has another symbol
 abbrev pub HaveApartSymbols : List Edge → Type 0
@@ -190,17 +190,17 @@ module _ (originals : List ℕ) where
   all_followed source front [] back sources apart before behind own n = refl
   all_followed source front (e ∷ es) back sources apart before behind own n =
       let rest : List Edge = map (retraced originals) es ++ back in
-      let here : e.source.0 ≡ source.0 = sources e (Contains-here e es) in
+      let here : e.source.0 ≡ source.0 = sources e (contains_head e es) in
       let others : HaveOthers e rest = λ f c from is. elim (Contains-append_cases (map (retraced originals) es) back f c) [
         | inl h ↦ let g = contains_of_map (retraced originals) es f h in apart.0 g.0 g.1 (ap (λ (d : Edge). d.symbol) g.2 ∙ is)
         | inr h ↦ behind f h (from ∙ here)
       ] in
-      let own_rest : LeadToOwn rest = λ f c. own f (Contains-there (retraced originals e) rest f c) in
-      ap (followed_all originals es n.0) (one_followed front e rest (λ f c from is. before f e c (Contains-here e es) (from ∙ here) is) others own_rest n)
+      let own_rest : LeadToOwn rest = λ f c. own f (contains_tail (retraced originals e) rest f c) in
+      ap (followed_all originals es n.0) (one_followed front e rest (λ f c from is. before f e c (contains_head e es) (from ∙ here) is) others own_rest n)
       ∙ ap (λ fs. followed_all originals es n.0 (origins n fs)) (sym (append_assoc front (e ∷ []) rest))
-      ∙ all_followed source (front ++ e ∷ []) es back (λ f c. sources f (Contains-there e es f c)) apart.1 (λ f g c d from is. elim (Contains-append_cases front (e ∷ []) f c) [
-        | inl h ↦ before f g h (Contains-there e es g d) from is
-        | inr h ↦ elim (Contains-cases e [] f h) [ inl same ↦ apart.0 g d (sym is ∙ ap (λ (d : Edge). d.symbol) (sym same)) | inr none ↦ absurd (Contains-none f none) ]
+      ∙ all_followed source (front ++ e ∷ []) es back (λ f c. sources f (contains_tail e es f c)) apart.1 (λ f g c d from is. elim (Contains-append_cases front (e ∷ []) f c) [
+        | inl h ↦ before f g h (contains_tail e es g d) from is
+        | inr h ↦ elim (contains-cons e [] f h) [ inl same ↦ apart.0 g d (sym is ∙ ap (λ (d : Edge). d.symbol) (sym same)) | inr none ↦ absurd (Contains-none f none) ]
       ]) behind own_rest n
       ∙ ap (origins n) (append_assoc front (e ∷ []) (es ++ back))
 

@@ -18,7 +18,7 @@ use Rattle.lalrpop_tables.specs.declared.build.transitions.Edges.{Edges}
 use Rattle.lalrpop_tables.specs.Transitions.{LeadsTo, IsReached}
 use Rattle.lalrpop_tables.specs.Transitions.Shifts.{none, moves, stays}
 use Rattle.lalrpop_tables.specs.Transitions.IsMoveAdded.{over, at_end}
-use Rattle.lalrpop_tables.proofs.Lists.{Contains-none, Contains-here, Contains-there, Contains-cases, Contains-map, place}
+use Rattle.lalrpop_tables.proofs.Lists.{Contains-none, contains_head, contains_tail, contains-cons, contains_map, place}
 use Rattle.lalrpop_tables.proofs.Places.{midst, around, at_midst, differ_front, same_some, slice_get-longer}
 use Rattle.std.proofs.lemmas.Option.{slice_get_within}
 use Rattle.std.proofs.lemmas.List.{map-append}
@@ -51,13 +51,13 @@ module _ {L : Type 0} where
   Shifts-other x i items kernel b (stays {items = is} {kernel = ks} c s) = stays c (Shifts-other x i is ks b s)
 
   key_in : (groups : Groups L) (g : Group L) → Contains groups g → Contains (keys_of groups) g.0
-  key_in groups g c = Contains-map (λ (g : Group L). g.0) groups g c
+  key_in groups g c = contains_map (λ (g : Group L). g.0) groups g c
 
   -- the key in the midst stands nowhere else
   midst_differs : (front back : Groups L) (g h : Group L) → AllDiffer (keys_of (front ++ g ∷ back)) → Contains (front ++ back) h → g.0 ≡ h.0 → ⊥
   midst_differs [] back g h d c e = differ_head g.0 (keys_of back) d h.0 (key_in back h c) e
-  midst_differs (f ∷ front) back g h d c e = elim (Contains-cases f (front ++ back) h c) [
-    | inl same ↦ differ_head f.0 (keys_of (front ++ g ∷ back)) d g.0 (key_in (front ++ g ∷ back) g (Contains-append_right front (g ∷ back) g (Contains-here g back))) (ap (λ (g : Group L). g.0) same ∙ sym e)
+  midst_differs (f ∷ front) back g h d c e = elim (contains-cons f (front ++ back) h c) [
+    | inl same ↦ differ_head f.0 (keys_of (front ++ g ∷ back)) d g.0 (key_in (front ++ g ∷ back) g (Contains-append_right front (g ∷ back) g (contains_head g back))) (ap (λ (g : Group L). g.0) same ∙ sym e)
     | inr later ↦ midst_differs front back g h (differ_tail f.0 (keys_of (front ++ g ∷ back)) d) later e
   ]
 
@@ -83,7 +83,7 @@ module _ {L : Type 0} where
     -- a symbol with a group stands behind a dot: y behind that of the new item
     over_some : (front back : Groups L) (g : Group L) (new : Groups L) → new ≡ front ++ g ∷ back → g.0 ≡ y → ((h : Group L) → Contains (front ++ back) h → IsBehindOne h.0 items) → (x : Symbol) (ks : List (Dotted L)) → Contains new (x, ks) → IsBehindOne x (items ++ i ∷ [])
     over_some front back g new after key each x ks c = elim (midst front back g (x, ks) (subst (λ (gs : Groups L). Contains gs (x, ks)) after c)) [
-      | inl same ↦ record { item = i; among = Contains-append_right items (i ∷ []) i (Contains-here i []); behind = subst (λ (s : Symbol). IsBehind s i) (sym key ∙ ap (λ (h : Group L). h.0) same) behind }
+      | inl same ↦ record { item = i; among = Contains-append_right items (i ∷ []) i (contains_head i []); behind = subst (λ (s : Symbol). IsBehind s i) (sym key ∙ ap (λ (h : Group L). h.0) same) behind }
       | inr other ↦ behind_longer items i x (each (x, ks) other)
     ]
 
@@ -91,7 +91,7 @@ module _ {L : Type 0} where
     over_has : (old new : Groups L) → AreMoves items old → ((h : Group L) → Contains old h → (ks : List (Dotted L)) × Contains new (h.0, ks)) → (ks : List (Dotted L)) → Contains new (y, ks) → (x : Symbol) (j : Dotted L) → Contains (items ++ i ∷ []) j → IsBehind x j → (ks : List (Dotted L)) × Contains new (x, ks)
     over_has old new m kept ks there x j c b = elim (Contains-append_cases items (i ∷ []) j c) [
       | inl had ↦ let g = m.has x j had b in kept (x, g.0) g.1
-      | inr last ↦ elim (Contains-cases i [] j last) [
+      | inr last ↦ elim (contains-cons i [] j last) [
         | inl same ↦ (ks, subst (λ (s : Symbol). Contains new (s, ks)) (same_some y x (sym behind ∙ subst (λ (k : Dotted L). IsBehind x k) (sym same) b)) there)
         | inr n ↦ absurd (Contains-none j n)
       ]
@@ -134,7 +134,7 @@ module _ {L : Type 0} where
     some = λ x ks c. behind_longer items i x (m.some x ks c);
     has = λ x j c b. elim (Contains-append_cases items (i ∷ []) j c) [
       | inl had ↦ m.has x j had b
-      | inr last ↦ elim (Contains-cases i [] j last) [ inl same ↦ absurd (past_end i x e (subst (λ (k : Dotted L). IsBehind x k) (sym same) b)) | inr n ↦ absurd (Contains-none j n) ]
+      | inr last ↦ elim (contains-cons i [] j last) [ inl same ↦ absurd (past_end i x e (subst (λ (k : Dotted L). IsBehind x k) (sym same) b)) | inr n ↦ absurd (Contains-none j n) ]
     ];
     differ = m.differ;
   })
@@ -158,7 +158,7 @@ module _ {L : Type 0} where
     more_of : (old middle new : List (List (Dotted L))) → (new ≡ middle) ⊎ (new ≡ middle ++ kernel ∷ []) → (more : List (List (Dotted L))) × (new ≡ middle ++ more) × ((k : List (Dotted L)) → Contains more k → (z : Symbol) × Contains groups (z, k))
     more_of old middle new either = elim either [
       | inl same ↦ ([], same ∙ sym (append_nil middle), λ k c. absurd (Contains-none k c))
-      | inr push ↦ (kernel ∷ [], push, λ k c. elim (Contains-cases kernel [] k c) [ inl e ↦ (x, subst (λ (ks : List (Dotted L)). Contains groups (x, ks)) e group) | inr n ↦ absurd (Contains-none k n) ])
+      | inr push ↦ (kernel ∷ [], push, λ k c. elim (contains-cons kernel [] k c) [ inl e ↦ (x, subst (λ (ks : List (Dotted L)). Contains groups (x, ks)) e group) | inr n ↦ absurd (Contains-none k n) ])
     ]
       where
         append_nil : {X : Type 0} (xs : List X) → xs ++ [] ≡ xs
@@ -187,11 +187,11 @@ module _ {L : Type 0} where
           ];
           among = λ y n h. elim (a.from y n h) [
             | inl had ↦ key_append first y (s.among y n had)
-            | inr is ↦ subst (Contains (keys_of (first ++ (x, kernel) ∷ []))) (sym is.0) (key_in (first ++ (x, kernel) ∷ []) (x, kernel) (Contains-append_right first ((x, kernel) ∷ []) (x, kernel) (Contains-here (x, kernel) [])))
+            | inr is ↦ subst (Contains (keys_of (first ++ (x, kernel) ∷ []))) (sym is.0) (key_in (first ++ (x, kernel) ∷ []) (x, kernel) (Contains-append_right first ((x, kernel) ∷ []) (x, kernel) (contains_head (x, kernel) [])))
           ];
           all = λ y k c. elim (Contains-append_cases first ((x, kernel) ∷ []) (y, k) c) [
             | inl had ↦ let e = s.all y k had in (e.0, a.kept y e.0 (λ same. midst_differs first [] (x, kernel) (y, k) apart (Contains-append_left first [] (y, k) had) (sym same)) e.1)
-            | inr is ↦ elim (Contains-cases (x, kernel) [] (y, k) is) [
+            | inr is ↦ elim (contains-cons (x, kernel) [] (y, k) is) [
               | inl same ↦ (record { 0 = number }, subst (λ (g : Group L). HasEdge g.0 (record { 0 = number }) after) same a.there)
               | inr n ↦ absurd (Contains-none (y, k) n)
             ]
@@ -202,9 +202,9 @@ module _ {L : Type 0} where
       where
         key_append : (first : Groups L) (y : Symbol) → Contains (keys_of first) y → Contains (keys_of (first ++ (x, kernel) ∷ [])) y
         key_append [] y c = absurd (Contains-none y c)
-        key_append (g ∷ gs) y c = elim (Contains-cases g.0 (keys_of gs) y c) [
-          | inl e ↦ subst (λ (z : Symbol). Contains (z ∷ keys_of (gs ++ (x, kernel) ∷ [])) y) (sym e) (Contains-here y (keys_of (gs ++ (x, kernel) ∷ [])))
-          | inr later ↦ Contains-there g.0 (keys_of (gs ++ (x, kernel) ∷ [])) y (key_append gs y later)
+        key_append (g ∷ gs) y c = elim (contains-cons g.0 (keys_of gs) y c) [
+          | inl e ↦ subst (λ (z : Symbol). Contains (z ∷ keys_of (gs ++ (x, kernel) ∷ [])) y) (sym e) (contains_head y (keys_of (gs ++ (x, kernel) ∷ [])))
+          | inr later ↦ contains_tail g.0 (keys_of (gs ++ (x, kernel) ∷ [])) y (key_append gs y later)
         ]
 
   -- ---- all edges

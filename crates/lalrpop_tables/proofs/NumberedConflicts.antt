@@ -15,16 +15,16 @@ use Rattle.lalrpop_base.proofs.ContentsViews.{contains_of_map, at_contains}
 use Rattle.lalrpop_base.proofs.theory.ConflictLists.{ordered-nil, ordered-append}
 use Rattle.lalrpop_tables.specs.Words.{listed_of, StatesAscend}
 use Rattle.lalrpop_tables.proofs.ListedConflicts.{CodeReduction}
-use Rattle.lalrpop_tables.proofs.Lists.{Contains-none, Contains-here, Contains-there}
+use Rattle.lalrpop_tables.proofs.Lists.{Contains-none, contains_head, contains_tail}
 
 -- ---- filters that keep all, or nothing
 kept_all : {X : Type 0} (p : X → Bool) (xs : List X) → ((x : X) → Contains xs x → p x ≡ true) → filter p xs ≡ xs
 kept_all p [] h = refl
-kept_all p (x ∷ xs) h = ap (λ b. cond b (x ∷ filter p xs) (filter p xs)) (h x (Contains-here x xs)) ∙ ap (λ ys. x ∷ ys) (kept_all p xs (λ y c. h y (Contains-there x xs y c)))
+kept_all p (x ∷ xs) h = ap (λ b. cond b (x ∷ filter p xs) (filter p xs)) (h x (contains_head x xs)) ∙ ap (λ ys. x ∷ ys) (kept_all p xs (λ y c. h y (contains_tail x xs y c)))
 
 kept_none : {X : Type 0} (p : X → Bool) (xs : List X) → ((x : X) → Contains xs x → p x ≡ false) → filter p xs ≡ []
 kept_none p [] h = refl
-kept_none p (x ∷ xs) h = ap (λ b. cond b (x ∷ filter p xs) (filter p xs)) (h x (Contains-here x xs)) ∙ kept_none p xs (λ y c. h y (Contains-there x xs y c))
+kept_none p (x ∷ xs) h = ap (λ b. cond b (x ∷ filter p xs) (filter p xs)) (h x (contains_head x xs)) ∙ kept_none p xs (λ y c. h y (contains_tail x xs y c))
 
 -- a conflict of the state, whose shift is one of the entries
 pub record IsOf (number : StateIndex) (es : List (TerminalString × StateIndex)) (c : Conflict Bits) : Type 0 where
@@ -32,7 +32,7 @@ pub record IsOf (number : StateIndex) (es : List (TerminalString × StateIndex))
   pub shift : (t : TerminalString) (target : StateIndex) → c.action ≡ Shift t target → Contains es (t, target)
 
 of_more : (number : StateIndex) (e : TerminalString × StateIndex) (es : List (TerminalString × StateIndex)) (c : Conflict Bits) → IsOf number es c → IsOf number (e ∷ es) c
-of_more number e es c h = record { state = h.state; shift = λ t target a. Contains-there e es (t, target) (h.shift t target a) }
+of_more number e es c h = record { state = h.state; shift = λ t target a. contains_tail e es (t, target) (h.shift t target a) }
 
 -- states that stand at their numbers, from k on
 abbrev pub AreNumberedFrom : ℕ → List (State Bits) → Type 0
@@ -51,7 +51,7 @@ module _ (terminals : List TerminalString) where
         one r u to a =
             let e : t ≡ u = cc in
             let f : target ≡ to = cc in
-            subst (λ (v : TerminalString). Contains ((t, target) ∷ es) (v, to)) e (subst (λ (n : StateIndex). Contains ((t, target) ∷ es) (t, n)) f (Contains-here (t, target) es))
+            subst (λ (v : TerminalString). Contains ((t, target) ∷ es) (v, to)) e (subst (λ (n : StateIndex). Contains ((t, target) ∷ es) (t, n)) f (contains_head (t, target) es))
 
     all_shifts_of : (rs : List CodeReduction) (es : List (TerminalString × StateIndex)) (c : Conflict Bits) → Contains (flat_map (shift_conflicts terminals number rs) es) c → IsOf number es c
     all_shifts_of rs [] c i = absurd (Contains-none c i)

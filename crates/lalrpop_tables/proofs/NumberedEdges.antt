@@ -9,7 +9,7 @@ use Rattle.lalrpop_base.specs.declared.lookahead.nil.Nil.{Nil}
 use Rattle.lalrpop_tables.specs.Words.{Ascend, Groups}
 use Rattle.lalrpop_tables.specs.Numbers.{AreAllNumbered, AreNumbered, NumberedGroups, groups_by, items_by}
 use Rattle.lalrpop_tables.specs.declared.build.numbered.Numbered.{Numbered}
-use Rattle.lalrpop_tables.proofs.Lists.{Contains-cases, Contains-here, Contains-none}
+use Rattle.lalrpop_tables.proofs.Lists.{contains-cons, contains_head, Contains-none}
 use Rattle.lalrpop_tables.specs.declared.build.numbers.Numbers.{Numbers}
 use Rattle.lalrpop_tables.proofs.NumberedMoves.{group_by}
 use Rattle.lalrpop_tables.proofs.Numbers.{lists_differ}
@@ -27,7 +27,7 @@ module _ {L : Type 0} (items : List (Dotted Nil)) where
     | inl same ↦ all list (subst (λ (ks : List (List (Numbered L))). Contains ks list) same c)
     | inr more ↦ elim (Contains-append_cases old (kernel ∷ []) list (subst (λ (ks : List (List (Numbered L))). Contains ks list) more c)) [
       | inl had ↦ all list had
-      | inr last ↦ elim (Contains-cases kernel [] list last) [ inl same ↦ subst (AreNumbered items) same here | inr none ↦ absurd (Contains-none list none) ]
+      | inr last ↦ elim (contains-cons kernel [] list last) [ inl same ↦ subst (AreNumbered items) same here | inr none ↦ absurd (Contains-none list none) ]
     ]
   ]
 
@@ -44,7 +44,7 @@ module _ {L : Type 0} (groups first left rest : NumberedGroups L) (group : ℕ �
   taken = append_assoc first (group ∷ []) rest ∙ ap (λ (xs : NumberedGroups L). first ++ xs) (sym next) ∙ split
 
   pub taken_among : Contains groups group
-  taken_among = subst (λ (gs : NumberedGroups L). Contains gs group) (ap (λ (xs : NumberedGroups L). first ++ xs) (sym next) ∙ split) (Contains-append_right first (group ∷ rest) group (Contains-here group rest))
+  taken_among = subst (λ (gs : NumberedGroups L). Contains gs group) (ap (λ (xs : NumberedGroups L). first ++ xs) (sym next) ∙ split) (Contains-append_right first (group ∷ rest) group (contains_head group rest))
 
 pub split_by : {L : Type 0} (n : Numbers) (groups first rest : NumberedGroups L) (group : ℕ × List (Numbered L)) → (first ++ group ∷ []) ++ rest ≡ groups → (groups_by n first ++ group_by n group ∷ []) ++ groups_by n rest ≡ groups_by n groups
 split_by {L} n groups first rest group split =
@@ -55,4 +55,4 @@ pub first_numbered : {L : Type 0} (kernel : List (Numbered L)) (old new : List (
 first_numbered {L} kernel old new empty adds = adds.fresh (λ c. Contains-none kernel (subst (λ (ks : List (List (Numbered L))). Contains ks kernel) empty c)) ∙ ap (λ ks. ks ++ kernel ∷ []) empty
 
 pub only_numbered : {L : Type 0} (items : List (Dotted Nil)) (kernel : List (Numbered L)) (list : List (List (Numbered L))) → list ≡ kernel ∷ [] → AreNumbered items kernel → AreAllNumbered items list
-only_numbered {L} items kernel list is known k c = elim (Contains-cases kernel [] k (subst (λ (ks : List (List (Numbered L))). Contains ks k) is c)) [ inl same ↦ subst (AreNumbered items) same known | inr none ↦ absurd (Contains-none k none) ]
+only_numbered {L} items kernel list is known k c = elim (contains-cons kernel [] k (subst (λ (ks : List (List (Numbered L))). Contains ks k) is c)) [ inl same ↦ subst (AreNumbered items) same known | inr none ↦ absurd (Contains-none k none) ]

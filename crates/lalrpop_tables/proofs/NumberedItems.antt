@@ -13,16 +13,13 @@ use Rattle.lalrpop_tables.specs.Ascending.{Ascend}
 use Rattle.lalrpop_tables.specs.NumberedStates.{AreReducedNumbers, HasDots}
 use Rattle.lalrpop_tables.specs.Numbering.{with_dot}
 use Rattle.lalrpop_tables.proofs.Ascending.{precedes_asymmetric}
-use Rattle.lalrpop_tables.proofs.Lists.{Contains-cases, Contains-here, Contains-none}
+use Rattle.lalrpop_tables.proofs.Lists.{contains-cons, contains_head, Contains-none}
 use Rattle.lalrpop_tables.proofs.Places.{contains_at, one_place, push_cases, same_some}
+use Rattle.lalrpop_tables.proofs.Tables.{same_lr0}
 
 -- dotted productions that ascend differ
 pub items_differ : (items : List (Dotted Nil)) → Ascend items → AllDiffer items
 items_differ items ascend i j x l at_i at_j = let before = ascend i j x x l at_i at_j in precedes_asymmetric x x before before
-
--- a dotted production is its production and its dot
-same_dotted : (i d : Dotted Nil) → i.production ≡ d.production → i.index ≡ d.index → i ≡ d
-same_dotted i d p n = ap (λ (q : Production). with_dot q i.index) p ∙ ap (with_dot d.production) n
 
 -- ---- the items of a state
 -- these are the numbers of the items that have any
@@ -49,8 +46,8 @@ module _ (items : List (Dotted Nil)) (ascend : Ascend items) (done : List (Dotte
   cases : (i : Dotted Nil) → HasDots more i → HasDots done i ⊎ (i ≡ d)
   cases i h = elim (Contains-append_cases done (item ∷ []) h.0 h.1) [
     | inl was ↦ inl (h.0, was, h.2, h.3)
-    | inr last ↦ elim (Contains-cases item [] h.0 last) [
-      | inl same ↦ inr (same_dotted i d (sym h.2 ∙ ap (λ (j : Dotted Bits). j.production) (sym same) ∙ sym production) (sym h.3 ∙ ap (λ (j : Dotted Bits). j.index) (sym same) ∙ sym dot))
+    | inr last ↦ elim (contains-cons item [] h.0 last) [
+      | inl same ↦ inr (same_lr0 i d (sym h.2 ∙ ap (λ (j : Dotted Bits). j.production) (sym same) ∙ sym production) (sym h.3 ∙ ap (λ (j : Dotted Bits). j.index) (sym same) ∙ sym dot))
       | inr out ↦ absurd (Contains-none h.0 out)
     ]
   ]
@@ -60,7 +57,7 @@ module _ (items : List (Dotted Nil)) (ascend : Ascend items) (done : List (Dotte
   Numbered-more n at = record {
     known = λ k c. elim (Contains-append_cases old (n ∷ []) k c) [
       | inl was ↦ before.known k was
-      | inr last ↦ elim (Contains-cases n [] k last) [
+      | inr last ↦ elim (contains-cons n [] k last) [
         | inl same ↦ let l = slice_get_within items n d at in omega arith
         | inr out ↦ absurd (Contains-none k out)
       ]
@@ -68,10 +65,10 @@ module _ (items : List (Dotted Nil)) (ascend : Ascend items) (done : List (Dotte
     numbered = λ k i at_k. (
       λ c. elim (Contains-append_cases old (n ∷ []) k c) [
         | inl was ↦ kept i ((before.numbered k i at_k).0 was)
-        | inr last ↦ elim (Contains-cases n [] k last) [
+        | inr last ↦ elim (contains-cons n [] k last) [
           | inl same ↦
               let is : d ≡ i = same_some d i (sym at ∙ ap (slice_get items) same ∙ at_k) in
-              (item, Contains-append_right done (item ∷ []) item (Contains-here item []), sym production ∙ ap (λ (j : Dotted Nil). j.production) is, sym dot ∙ ap (λ (j : Dotted Nil). j.index) is)
+              (item, Contains-append_right done (item ∷ []) item (contains_head item []), sym production ∙ ap (λ (j : Dotted Nil). j.production) is, sym dot ∙ ap (λ (j : Dotted Nil). j.index) is)
           | inr out ↦ absurd (Contains-none k out)
         ]
       ],
@@ -79,7 +76,7 @@ module _ (items : List (Dotted Nil)) (ascend : Ascend items) (done : List (Dotte
         | inl was ↦ Contains-append_left old (n ∷ []) k ((before.numbered k i at_k).1 was)
         | inr is ↦
             let same : n ≡ k = one_place items (items_differ items ascend) n k d at (at_k ∙ ap Some is) in
-            Contains-append_right old (n ∷ []) k (subst (λ (m : ℕ). Contains (n ∷ []) m) same (Contains-here n []))
+            Contains-append_right old (n ∷ []) k (subst (λ (m : ℕ). Contains (n ∷ []) m) same (contains_head n []))
       ],
     );
   }

@@ -14,7 +14,7 @@ use Rattle.lalrpop_tables.specs.Numbers.{AreGroupsOf, AreNumbered, AreNumbers, N
 use Rattle.lalrpop_tables.specs.Transitions.IsMoveAdded.{over, at_end}
 use Rattle.lalrpop_tables.specs.declared.build.numbered.Numbered.{Numbered}
 use Rattle.lalrpop_tables.specs.declared.build.numbers.Numbers.{Numbers}
-use Rattle.lalrpop_tables.proofs.Lists.{Contains-cases, Contains-none}
+use Rattle.lalrpop_tables.proofs.Lists.{contains-cons, Contains-none}
 use Rattle.lalrpop_tables.proofs.Numbers.{behind_is, finished, moved_next, next_within, stands_at}
 use Rattle.lalrpop_tables.proofs.Places.{around, at_midst, contains_at, midst, one_place}
 use Rattle.std.proofs.lemmas.List.Elements.{Contains-append_cases}
@@ -35,7 +35,7 @@ one_symbol symbols differ a b l m e = one_place symbols differ a b (symbol_at sy
 
 -- ---- numbers of items, and one more
 pub one_numbered : {L : Type 0} (items : List (Dotted Nil)) (e : Numbered L) → e.number < length items → AreNumbered items (e ∷ [])
-one_numbered {L} items e l d c = elim (Contains-cases e [] d c) [ inl same ↦ subst (λ (f : Numbered L). f.number < length items) same l | inr none ↦ absurd (Contains-none d none) ]
+one_numbered {L} items e l d c = elim (contains-cons e [] d c) [ inl same ↦ subst (λ (f : Numbered L). f.number < length items) same l | inr none ↦ absurd (Contains-none d none) ]
 
 pub more_numbered : {L : Type 0} (items : List (Dotted Nil)) (list : List (Numbered L)) (e : Numbered L) → AreNumbered items list → e.number < length items → AreNumbered items (list ++ e ∷ [])
 more_numbered items list e a l d c = elim (Contains-append_cases list (e ∷ []) d c) [ inl had ↦ a d had | inr last ↦ one_numbered items e l d last ]

@@ -10,7 +10,7 @@ use Rattle.lalrpop_base.proofs.theory.ConflictLists.{ordered-append, ordered-con
 use Rattle.lalrpop_tables.specs.NumberedStates.{AddTransitions, AddTransitions.none, AddTransitions.more, AddsTransition, EdgesAscend, numbered_transition}
 use Rattle.lalrpop_tables.specs.Numbering.{IsNumberOf}
 use Rattle.lalrpop_tables.specs.Numbers.{SymbolsAscend, symbol_order}
-use Rattle.lalrpop_tables.proofs.Lists.{Contains-cases, Contains-here, Contains-none, less-apart, place}
+use Rattle.lalrpop_tables.proofs.Lists.{contains-cons, contains_head, Contains-none, less-apart, place}
 use Rattle.lalrpop_tables.proofs.Numbering.{symbols_differ}
 use Rattle.lalrpop_tables.proofs.Orders.{symbol_total}
 use Rattle.lalrpop_tables.proofs.Places.{contains_at, one_place, places_apart, same_some, slice_get-longer, slice_get-push_at}
@@ -59,7 +59,7 @@ module _ (symbols : List Symbol) (ascend : SymbolsAscend symbols) where
   -- the number that is added is that of the symbol
   numbered_here : (number : Option ℕ) (e : Symbol × ℕ) → IsNumberOf symbols e.0 number → (x m : ℕ) → Contains (numbered_transition number e.1) (x, m) → (slice_get symbols x ≡ Some e.0) × (m ≡ e.1)
   numbered_here None e is x m c = absurd (Contains-none (x, m) c)
-  numbered_here (Some y) e is x m c = elim (Contains-cases (y, e.1) [] (x, m) c) [
+  numbered_here (Some y) e is x m c = elim (contains-cons (y, e.1) [] (x, m) c) [
     | inl same ↦ (ap (λ (p : ℕ × ℕ). slice_get symbols p.0) (sym same) ∙ is, ap (λ (p : ℕ × ℕ). p.1) (sym same))
     | inr out ↦ absurd (Contains-none (x, m) out)
   ]
@@ -67,7 +67,7 @@ module _ (symbols : List Symbol) (ascend : SymbolsAscend symbols) where
   -- a symbol that has a number is added by it
   numbered_back : (number : Option ℕ) (e : Symbol × ℕ) → IsNumberOf symbols e.0 number → (x : ℕ) → slice_get symbols x ≡ Some e.0 → Contains (numbered_transition number e.1) (x, e.1)
   numbered_back None e is x at = absurd (is (contains_at symbols e.0 x at))
-  numbered_back (Some y) e is x at = subst (λ (n : ℕ). Contains {X = ℕ × ℕ} ((n, e.1) ∷ []) (x, e.1)) (one_place symbols (symbols_differ symbols ascend) x y e.0 at is) (Contains-here (x, e.1) [])
+  numbered_back (Some y) e is x at = subst (λ (n : ℕ). Contains {X = ℕ × ℕ} ((n, e.1) ∷ []) (x, e.1)) (one_place symbols (symbols_differ symbols ascend) x y e.0 at is) (contains_head (x, e.1) [])
 
   -- there are those whose symbols have numbers
   pub Members : {es : List (Symbol × ℕ)} {new : List (ℕ × ℕ)} → AddTransitions symbols [] es new → (x m : ℕ) → Contains new (x, m) ↔ HasNumber symbols es x m
@@ -77,11 +77,11 @@ module _ (symbols : List Symbol) (ascend : SymbolsAscend symbols) where
       | inl was ↦ let h = (Members before x m).0 was in record { symbol = h.symbol; at = h.at; among = Contains-append_left es (e ∷ []) (h.symbol, m) h.among }
       | inr last ↦
           let h = numbered_here step.0 e step.1 x m last in
-          record { symbol = e.0; at = h.0; among = Contains-append_right es (e ∷ []) (e.0, m) (subst (λ (k : ℕ). Contains (e ∷ []) (e.0, k)) (sym h.1) (Contains-here e [])) }
+          record { symbol = e.0; at = h.0; among = Contains-append_right es (e ∷ []) (e.0, m) (subst (λ (k : ℕ). Contains (e ∷ []) (e.0, k)) (sym h.1) (contains_head e [])) }
     ],
     λ h. subst (λ (l : List (ℕ × ℕ)). Contains l (x, m)) (sym step.2) (elim (Contains-append_cases es (e ∷ []) (h.symbol, m) h.among) [
       | inl was ↦ Contains-append_left middle (numbered_transition step.0 e.1) (x, m) ((Members before x m).1 (record { symbol = h.symbol; at = h.at; among = was }))
-      | inr last ↦ elim (Contains-cases e [] (h.symbol, m) last) [
+      | inr last ↦ elim (contains-cons e [] (h.symbol, m) last) [
         | inl same ↦
             let at : slice_get symbols x ≡ Some e.0 = h.at ∙ ap (λ (p : Symbol × ℕ). Some p.0) (sym same) in
             Contains-append_right middle (numbered_transition step.0 e.1) (x, m) (subst (λ (k : ℕ). Contains (numbered_transition step.0 e.1) (x, k)) (ap (λ (p : Symbol × ℕ). p.1) same) (numbered_back step.0 e step.1 x at))

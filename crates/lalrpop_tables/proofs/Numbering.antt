@@ -15,7 +15,7 @@ use Rattle.lalrpop_tables.specs.Numbering.{AddsStart, AddsThose, AreAllExpansion
 use Rattle.lalrpop_tables.specs.Numbers.{AreBehindDots, IsNumberBehind, SymbolsAscend, symbol_order}
 use Rattle.lalrpop_tables.specs.Words.{IsBehind}
 use Rattle.lalrpop_tables.proofs.DottedProductions.{those_none, those_one}
-use Rattle.lalrpop_tables.proofs.Lists.{Contains-cases, Contains-here, Contains-none, apart-from_sorted}
+use Rattle.lalrpop_tables.proofs.Lists.{contains-cons, contains_head, Contains-none, apart-from_sorted}
 use Rattle.lalrpop_tables.proofs.Merging.{set_elsewhere, set_here}
 use Rattle.lalrpop_tables.proofs.Orders.{symbol_total}
 use Rattle.lalrpop_tables.proofs.Places.{differ_from_apart, filled, one_place, places_apart, push_cases, same_some, slice_get-longer, slice_get-push_at, slice_get_at}
@@ -28,11 +28,11 @@ pub dots_more : (done : List (Dotted Nil)) (i : Dotted Nil) (old new : List Symb
 dots_more done i old new before added s = (
   λ c. elim ((added s).0 c) [
     | inl was ↦ let one = (before s).0 was in record { item = one.item; among = Contains-append_left done (i ∷ []) one.item one.among; behind = one.behind }
-    | inr at ↦ record { item = i; among = Contains-append_right done (i ∷ []) i (Contains-here i []); behind = at }
+    | inr at ↦ record { item = i; among = Contains-append_right done (i ∷ []) i (contains_head i []); behind = at }
   ],
   λ one. elim (Contains-append_cases done (i ∷ []) one.item one.among) [
     | inl was ↦ (added s).1 (inl ((before s).1 (record { item = one.item; among = was; behind = one.behind })))
-    | inr last ↦ elim (Contains-cases i [] one.item last) [
+    | inr last ↦ elim (contains-cons i [] one.item last) [
       | inl e ↦ (added s).1 (inr (subst (λ (j : Dotted Nil). IsBehind s j) (sym e) one.behind))
       | inr none ↦ absurd (Contains-none one.item none)
     ]
@@ -94,11 +94,11 @@ pushed : (number : ℕ) (P : Type 0) (before after : List ℕ) → P → after �
 pushed number P before after p is k = subst (λ (l : List ℕ). Contains l k ↔ (Contains before k ⊎ ((k ≡ number) × P))) (sym is) (
   λ c. elim (Contains-append_cases before (number ∷ []) k c) [
     | inl was ↦ inl was
-    | inr last ↦ elim (Contains-cases number [] k last) [ inl e ↦ inr (sym e, p) | inr none ↦ absurd (Contains-none k none) ]
+    | inr last ↦ elim (contains-cons number [] k last) [ inl e ↦ inr (sym e, p) | inr none ↦ absurd (Contains-none k none) ]
   ],
   λ e. elim e [
     | inl was ↦ Contains-append_left before (number ∷ []) k was
-    | inr new ↦ Contains-append_right before (number ∷ []) k (subst (λ (n : ℕ). Contains (n ∷ []) k) new.0 (Contains-here k []))
+    | inr new ↦ Contains-append_right before (number ∷ []) k (subst (λ (n : ℕ). Contains (n ∷ []) k) new.0 (contains_head k []))
   ],
 )
 

@@ -11,7 +11,7 @@ use Rattle.lalrpop_tables.specs.Words.{Ascend, IsBehind, Precedes, moved}
 use Rattle.lalrpop_tables.specs.declared.build.numbered.Numbered.{Numbered}
 use Rattle.lalrpop_tables.specs.declared.build.numbers.Numbers.{Numbers}
 use Rattle.lalrpop_tables.proofs.Ascending.{precedes_asymmetric}
-use Rattle.lalrpop_tables.proofs.Lists.{Contains-here, Contains-there}
+use Rattle.lalrpop_tables.proofs.Lists.{contains_head, contains_tail}
 use Rattle.lalrpop_tables.proofs.Places.{contains_at, places_apart, same_some}
 
 -- ---- a dotted production by its number
@@ -65,8 +65,8 @@ module _ (items : List (Dotted Nil)) (ascend : Ascend items) where
     same_numbers (x ∷ xs) (y ∷ ys) a b h =
         let head : item_by items x ≡ item_by items y = same_some (item_by items x) (item_by items y) (ap (λ (l : List (Dotted L)). slice_get l 0) h) in
         let rest : items_by items xs ≡ items_by items ys = ap (λ (l : List (Dotted L)). drop 1 l) h in
-        let first : x ≡ y = same_number x y (a x (Contains-here x xs)) (b y (Contains-here y ys)) head in
-        let others : xs ≡ ys = same_numbers xs ys (λ e c. a e (Contains-there x xs e c)) (λ e c. b e (Contains-there y ys e c)) rest in
+        let first : x ≡ y = same_number x y (a x (contains_head x xs)) (b y (contains_head y ys)) head in
+        let others : xs ≡ ys = same_numbers xs ys (λ e c. a e (contains_tail x xs e c)) (λ e c. b e (contains_tail y ys e c)) rest in
         ap (λ (z : Numbered L). z ∷ xs) first ∙ ap (λ (l : List (Numbered L)). y ∷ l) others
 
     -- lists of numbers that differ are those of lists of items that differ

@@ -7,7 +7,7 @@ use Rattle.std.proofs.lemmas.List.{take_all}
 use Rattle.std.proofs.lemmas.List.Filters.{length-filter_both, length-filter_more}
 use Rattle.std.proofs.lemmas.Option.{slice_get_within, slice_get_past, slice_get_cases, get_or_from_slice_get}
 use Rattle.lalrpop_tables.specs.Words.{rank, fails, parted, parted_place, new_place, ArePlaces}
-use Rattle.lalrpop_tables.proofs.Places.{same_some, slice_get-longer, slice_get-append_before, slice_get-push_at}
+use Rattle.lalrpop_tables.proofs.Places.{same_some, slice_get-longer, slice_get-append_before, slice_get-push_at, slice_get-append_behind}
 
 -- ---- how many of the first elements pass
 module _ {X : Type 0} (p : X → Bool) where
@@ -88,10 +88,6 @@ module _ {X : Type 0} (p : X → Bool) where
   pub picked : (xs : List X) (i : ℕ) → i < length (filter p xs) → Picked xs i
   picked [] i l = absurd (omega arith)
   picked (x ∷ xs) i l = let a = counted_first x xs in picked_at x xs i (p x) refl (omega arith) (picked xs)
-
-slice_get-append_behind : {X : Type 0} (xs ys : List X) (k : ℕ) → slice_get (xs ++ ys) (length xs + k) ≡ slice_get ys k
-slice_get-append_behind [] ys k = let e : 0 + k ≡ k = omega arith in ap (slice_get ys) e
-slice_get-append_behind (x ∷ xs) ys k = let e : length (x ∷ xs) + k ≡ suc (length xs + k) = omega arith in ap (slice_get (x ∷ xs ++ ys)) e ∙ slice_get-append_behind xs ys k
 
 -- ---- where each element goes
 module _ {X : Type 0} (p : X → Bool) (xs : List X) where

@@ -1,20 +1,26 @@
 -- Lists whose values differ, and a value more.
-use Rattle.std.proofs.Common.{◌≡◌, ◌≢◌, ℕ, zero, suc, ◌+◌, ◌<◌, ◌≤◌, ◌⊎◌, inl, inr, List, [], ◌∷◌, ◌++◌, length, get_or, refl, sym, ◌∙◌, ap, subst, arith, ⊎_elim, length-append}
+use Rattle.std.proofs.Common.{◌≡◌, ◌≢◌, ℕ, zero, suc, ◌+◌, ◌<◌, ◌≤◌, ◌⊎◌, inl, inr, List, [], ◌∷◌, ◌++◌, length, get_or, refl, sym, ◌∙◌, ap, subst, arith, ⊎_elim, length-append, drop}
 use Rattle.std.specs.Prelude.{slice_get, Some, Contains, unwrap_or, AllPairs}
 use Rattle.std.proofs.lemmas.Option.{slice_get_within, get_or_from_slice_get, slice_get-get_or, slice_get_read}
 use Rattle.std.proofs.lemmas.Bool.{cases_lt}
 use Rattle.std.proofs.lemmas.List.Elements.{Contains-append_left, Contains-append_right, Contains-append_cases}
 use Rattle.lalrpop_base.specs.Words.{AllDiffer}
-use Rattle.lalrpop_tables.proofs.Lists.{Contains-here, Contains-there, Contains-cases}
+use Rattle.lalrpop_tables.proofs.Lists.{contains_head, contains_tail, contains-cons}
+pub use Rattle.lalrpop_base.proofs.KernelLemmas.{contains_at, slice_get-push_at}
 
 pub slice_get-append_before : {X : Type 0} (xs ys : List X) (k : ℕ) → k < length xs → slice_get (xs ++ ys) k ≡ slice_get xs k
 slice_get-append_before [] ys k l = absurd (omega arith)
 slice_get-append_before (y ∷ xs) ys zero l = refl
 slice_get-append_before (y ∷ xs) ys (suc k) l = slice_get-append_before xs ys k (omega arith)
 
-pub slice_get-push_at : {X : Type 0} (xs : List X) (x : X) → slice_get (xs ++ x ∷ []) (length xs) ≡ Some x
-slice_get-push_at [] x = refl
-slice_get-push_at (y ∷ xs) x = slice_get-push_at xs x
+pub slice_get-append_behind : {X : Type 0} (xs ys : List X) (k : ℕ) → slice_get (xs ++ ys) (length xs + k) ≡ slice_get ys k
+slice_get-append_behind [] ys k = let e : 0 + k ≡ k = omega arith in ap (slice_get ys) e
+slice_get-append_behind (x ∷ xs) ys k = let e : length (x ∷ xs) + k ≡ suc (length xs + k) = omega arith in ap (slice_get (x ∷ xs ++ ys)) e ∙ slice_get-append_behind xs ys k
+
+pub slice_get-drop : {X : Type 0} (n : ℕ) (xs : List X) (k : ℕ) → slice_get (drop n xs) k ≡ slice_get xs (n + k)
+slice_get-drop zero xs k = let e : k ≡ 0 + k = omega arith in ap (slice_get xs) e
+slice_get-drop (suc n) [] k = refl
+slice_get-drop (suc n) (x ∷ xs) k = let e : suc (n + k) ≡ suc n + k = omega arith in slice_get-drop n xs k ∙ ap (slice_get (x ∷ xs)) e
 
 -- what stands in a list stands there in a longer one
 pub slice_get-longer : {X : Type 0} (xs ys : List X) (k : ℕ) (x : X) → slice_get xs k ≡ Some x → slice_get (xs ++ ys) k ≡ Some x
@@ -35,9 +41,6 @@ push_cases xs x k y h =
     inr (here, same_some x y (sym (slice_get-push_at xs x) ∙ ap (λ n. slice_get (xs ++ x ∷ []) n) (sym here) ∙ h)))
     (cases_lt k (length xs))
 
-pub contains_at : {X : Type 0} (xs : List X) (x : X) (k : ℕ) → slice_get xs k ≡ Some x → Contains xs x
-contains_at xs x k h = (k, slice_get_within xs k x h, get_or_from_slice_get xs k x x h)
-
 pub differ_from_apart : {X : Type 0} (xs : List X) → AllPairs (λ a b. a ≢ b) xs → AllDiffer xs
 differ_from_apart xs a i j x l at_i at_j =
     a i j x l (slice_get_within xs j x at_j) (get_or_from_slice_get xs i x x at_i ∙ sym (get_or_from_slice_get xs j x x at_j))
@@ -50,17 +53,17 @@ module _ {X : Type 0} (front back : List X) (x : X) where
   pub midst : (y : X) → Contains (front ++ x ∷ back) y → (x ≡ y) ⊎ Contains (front ++ back) y
   midst y c = elim (Contains-append_cases front (x ∷ back) y c) [
     | inl f ↦ inr (Contains-append_left front back y f)
-    | inr b ↦ elim (Contains-cases x back y b) [ inl e ↦ inl e | inr d ↦ inr (Contains-append_right front back y d) ]
+    | inr b ↦ elim (contains-cons x back y b) [ inl e ↦ inl e | inr d ↦ inr (Contains-append_right front back y d) ]
   ]
 
   pub around : (y : X) → Contains (front ++ back) y → Contains (front ++ x ∷ back) y
   around y c = elim (Contains-append_cases front back y c) [
     | inl f ↦ Contains-append_left front (x ∷ back) y f
-    | inr b ↦ Contains-append_right front (x ∷ back) y (Contains-there x back y b)
+    | inr b ↦ Contains-append_right front (x ∷ back) y (contains_tail x back y b)
   ]
 
   pub at_midst : Contains (front ++ x ∷ back) x
-  at_midst = Contains-append_right front (x ∷ back) x (Contains-here x back)
+  at_midst = Contains-append_right front (x ∷ back) x (contains_head x back)
 
 pub differ_front : {X : Type 0} (xs ys : List X) → AllDiffer (xs ++ ys) → AllDiffer xs
 differ_front xs ys d i j x l at_i at_j = d i j x l (slice_get-longer xs ys i x at_i) (slice_get-longer xs ys j x at_j)

@@ -12,7 +12,7 @@ use Rattle.lalrpop_base.proofs.ContentsViews.{contains_of_map}
 use Rattle.lalrpop_tables.specs.Words.{Ascend, dotted_of, meant, itself, IsItemBy, AreItemsBy, AreItems, HasItemTokenBy, HasItemToken, IsClosureBy}
 use Rattle.lalrpop_tables.specs.Words.{InTokenClosureBy, own_token, from_rest, from_parent, IsJoinedAt, readings}
 use Rattle.lalrpop_tables.specs.Entries.IsJoinedAt.{fresh as join_fresh, known as join_known}
-use Rattle.lalrpop_tables.proofs.Lists.{Contains-map}
+use Rattle.lalrpop_tables.proofs.Lists.{contains_map}
 use Rattle.lalrpop_tables.proofs.Updates.{IsInserted, IsReplaced}
 
 -- what holds of a call that went well and of its answer, together
@@ -57,7 +57,7 @@ module _ {L : Type 0} (meaning : L → Bits) where
   dotted_meant (i ∷ items) = ap (λ (ds : List (Production × ℕ)). (i.production, i.index) ∷ ds) (dotted_meant items)
 
   meant_in : (items : List (Dotted L)) (i : Dotted L) → Contains items i → Contains (map (meant meaning) items) (meant meaning i)
-  meant_in items i c = Contains-map (meant meaning) items i c
+  meant_in items i c = contains_map (meant meaning) items i c
 
   pub items_meant : (g : Rules) (items : List (Dotted L)) → AreItemsBy meaning g items → AreItems g (map (meant meaning) items)
   items_meant g items a = record {

@@ -10,9 +10,10 @@ use Rattle.lalrpop_base.specs.declared.lookahead.token.Token.{Token}
 use Rattle.lalrpop_base.specs.declared.lr1_core.state.State.{State}
 use Rattle.lalrpop_base.specs.declared.repr.Production.{Production}
 use Rattle.lalrpop_base.proofs.ContentsViews.{some_of_map, contains_of_map, contains_map}
+use Rattle.lalrpop_base.proofs.theory.ConflictLists.{ordered-cons, ordered-head, ordered-tail, ordered-nil}
 use Rattle.lalrpop_tables.specs.Words.{production_order, Precedes, Ascend, dotted_of, reductions_of, seen}
-use Rattle.lalrpop_tables.proofs.Ascending.{ordered_tail, ordered_head, ordered_cons, ordered_none, less_apart}
-use Rattle.lalrpop_tables.proofs.Lists.{Contains-none, Contains-here, Contains-there, Contains-cases, Contains-map}
+use Rattle.lalrpop_tables.proofs.Ascending.{less_apart}
+use Rattle.lalrpop_tables.proofs.Lists.{Contains-none, contains_head, contains_tail, contains-cons}
 use Rattle.lalrpop_tables.proofs.Shifting.{of_dotted}
 
 module _ {L : Type 0} where
@@ -30,11 +31,11 @@ module _ {L : Type 0} where
     pub is : reduced item ≡ r
 
   by_later : (i : Dotted L) (items : List (Dotted L)) (r : L × Production) → IsReducedBy items r → IsReducedBy (i ∷ items) r
-  by_later i items r b = record { item = b.item; among = Contains-there i items b.item b.among; finished = b.finished; is = b.is }
+  by_later i items r b = record { item = b.item; among = contains_tail i items b.item b.among; finished = b.finished; is = b.is }
 
   reduced_at : (i : Dotted L) (items : List (Dotted L)) (r : L × Production) (b : Bool) → (i.index == length i.production.symbols) ≡ b → Contains (cond b (reduced i ∷ reductions_of items) (reductions_of items)) r → (Contains (reductions_of items) r → IsReducedBy items r) → IsReducedBy (i ∷ items) r
-  reduced_at i items r true e c later = elim (Contains-cases (reduced i) (reductions_of items) r c) [
-    | inl same ↦ record { item = i; among = Contains-here i items; finished = eqb-true i.index (length i.production.symbols) e; is = same }
+  reduced_at i items r true e c later = elim (contains-cons (reduced i) (reductions_of items) r c) [
+    | inl same ↦ record { item = i; among = contains_head i items; finished = eqb-true i.index (length i.production.symbols) e; is = same }
     | inr more ↦ by_later i items r (later more)
   ]
   reduced_at i items r false e c later = by_later i items r (later c)
@@ -44,16 +45,16 @@ module _ {L : Type 0} where
   reduced_from (i ∷ items) r c = reduced_at i items r (i.index == length i.production.symbols) refl c (reduced_from items r)
 
   kept_at : (i : Dotted L) (items : List (Dotted L)) (r : L × Production) (b : Bool) → Contains (reductions_of items) r → Contains (cond b (reduced i ∷ reductions_of items) (reductions_of items)) r
-  kept_at i items r true c = Contains-there (reduced i) (reductions_of items) r c
+  kept_at i items r true c = contains_tail (reduced i) (reductions_of items) r c
   kept_at i items r false c = c
 
   pub reduced_in : (items : List (Dotted L)) (i : Dotted L) → Contains items i → IsFinished i → Contains (reductions_of items) (reduced i)
   reduced_in [] i c f = absurd (Contains-none i c)
-  reduced_in (j ∷ items) i c f = elim (Contains-cases j items i c) [
+  reduced_in (j ∷ items) i c f = elim (contains-cons j items i c) [
     | inl same ↦
         let at : IsFinished j = subst IsFinished (sym same) f in
         subst (λ (b : Bool). Contains (cond b (reduced j ∷ reductions_of items) (reductions_of items)) (reduced i)) (sym (eq-eqb j.index (length j.production.symbols) at))
-        (subst (λ (k : Dotted L). Contains (reduced j ∷ reductions_of items) (reduced k)) same (Contains-here (reduced j) (reductions_of items)))
+        (subst (λ (k : Dotted L). Contains (reduced j ∷ reductions_of items) (reduced k)) same (contains_head (reduced j) (reductions_of items)))
     | inr later ↦ kept_at j items (reduced i) (j.index == length j.production.symbols) (reduced_in items i later f)
   ]
 
@@ -66,15 +67,15 @@ module _ {L : Type 0} where
   finished_less i j f g (inr h) = let same = ap (λ (p : Production). length p.symbols) h.0 in let l = h.1 in absurd (omega arith)
 
   ordered_at : (i : Dotted L) (items : List (Dotted L)) (b : Bool) → (i.index == length i.production.symbols) ≡ b → Ascend (i ∷ items) → Ordered Stands (reductions_of items) → Ordered Stands (cond b (reduced i ∷ reductions_of items) (reductions_of items))
-  ordered_at i items true e a later = ordered_cons Stands (reduced i) (reductions_of items) (λ r c.
+  ordered_at i items true e a later = ordered-cons Stands (reduced i) (reductions_of items) (λ r c.
       let b = reduced_from items r c in
-      let less = finished_less i b.item (eqb-true i.index (length i.production.symbols) e) b.finished (ordered_head Precedes i items a b.item b.among) in
+      let less = finished_less i b.item (eqb-true i.index (length i.production.symbols) e) b.finished (ordered-head Precedes i items a b.item b.among) in
       subst (λ (p : Production). production_order i.production p ≡ Less) (ap (λ (q : L × Production). q.1) b.is) less) later
   ordered_at i items false e a later = later
 
   pub reductions_ordered : (items : List (Dotted L)) → Ascend items → Ordered Stands (reductions_of items)
-  reductions_ordered [] a = ordered_none Stands
-  reductions_ordered (i ∷ items) a = ordered_at i items (i.index == length i.production.symbols) refl a (reductions_ordered items (ordered_tail Precedes i items a))
+  reductions_ordered [] a = ordered-nil Stands
+  reductions_ordered (i ∷ items) a = ordered_at i items (i.index == length i.production.symbols) refl a (reductions_ordered items (ordered-tail Precedes i items a))
 
   -- ---- as the definitions speak of reductions
   module _ (holds : L → Token → Bool) where
@@ -116,7 +117,7 @@ module _ {L : Type 0} where
                 let i = reduction_from h.0 h.1 in
                 let same : (i.0).production ≡ p = ap (λ (r : Reduction). r.production) i.3 ∙ h.2 in
                 let at : dotted_of i.0 ≡ (p, length p.symbols) = ap (λ (n : ℕ). ((i.0).production, n)) i.2 ∙ ap (λ (q : Production). (q, length q.symbols)) same in
-                subst (Contains (map dotted_of state.items.vec.items)) at (Contains-map dotted_of state.items.vec.items i.0 i.1),
+                subst (Contains (map dotted_of state.items.vec.items)) at (contains_map dotted_of state.items.vec.items i.0 i.1),
             λ c.
                 let i = of_dotted state.items.vec.items (p, length p.symbols) c in
                 let same : (i.0).production ≡ p = ap (λ (d : Production × ℕ). d.0) i.2 in

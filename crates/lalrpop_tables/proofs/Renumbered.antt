@@ -2,11 +2,7 @@
 use Rattle.std.proofs.Common.{◌≡◌, ℕ, ◌<◌, ◌≤◌, inl, inr, Bool, true, false, cond, not, ◌||◌, ◌==◌, List, [], ◌∷◌, length, map, refl, sym, ◌∙◌, ap, subst, arith, Option, Some, None, eq-eqb, eqb-true}
 use Rattle.std.specs.Prelude.{slice_get, unwrap_or, option_map}
 use Rattle.std.specs.BTreeMap.{btree_map_len, is_at}
-use Rattle.std.specs.Cmp.{IsTotalOrder}
 use Rattle.std.specs.Map.{lookup}
-use Rattle.std.specs.Ordering.{ordering_reverse, is_eq}
-use Rattle.std.specs.declared.cmp.Ordering.{Ordering}
-use Rattle.std.specs.declared.cmp.Ordering.TheVariants.{Less, Equal, Greater}
 use Rattle.std.proofs.lemmas.Bool.{cases_lt, cases_Bool, or_cases}
 use Rattle.std.proofs.lemmas.Map.Made.{lookup-map_values}
 use Rattle.std.proofs.lemmas.Option.{slice_get_past, slice_get_within, slice_get_cases, slice_get-map}
@@ -21,12 +17,13 @@ use Rattle.lalrpop_base.specs.declared.repr.Symbol.TheVariants.{Nonterminal, Ter
 use Rattle.lalrpop_base.specs.declared.repr.TerminalString.{TerminalString}
 use Rattle.lalrpop_base.proofs.ContentsViews.{some_of_map}
 use Rattle.lalrpop_base.proofs.HeldTokens.{same_test}
+use Rattle.lalrpop_base.proofs.FirstNames.{name_self}
 use Rattle.lalrpop_tables.specs.Words.{AreMoved, parted, new_place, ArePlaces, retargeted, retargeted_all, IsRenumberedState, KeepsOrder, AreRenumbered}
 use Rattle.lalrpop_tables.specs.Words.{stands_first, number_in}
 use Rattle.lalrpop_tables.proofs.Moved.{Moved-length, Moved-at}
-use Rattle.lalrpop_tables.proofs.Orders.{name_total, terminal_order}
+use Rattle.lalrpop_tables.proofs.Orders.{terminal_order}
 use Rattle.lalrpop_tables.proofs.Partitions.{front_place, past_place, parted_length, stands_there, front_before_back, parts_keep_order, places_differ, place_taken}
-use Rattle.lalrpop_tables.proofs.Places.{same_some}
+use Rattle.lalrpop_tables.proofs.Places.{same_some, filled}
 
 -- ---- transitions under new numbers
 module _ (new : ℕ → ℕ) where
@@ -49,27 +46,9 @@ module _ (new : ℕ → ℕ) where
       let d = some_of_map f (slice_get before k) e (sym (slice_get-map f before k) ∙ ap (λ es. slice_get es k) (sym same) ∙ at) in
       (d.0, d.1, ap (λ (x : K × StateIndex). x.0) d.2, ap (λ (x : K × StateIndex). x.1) d.2)
 
--- ---- what stands inside a list, and values that tie with themselves
-pub slice_get_inside : {X : Type 0} (xs : List X) (k : ℕ) → k < length xs → (x : X) × (slice_get xs k ≡ Some x)
-slice_get_inside xs k l = elim ((slice_get_cases xs k).1) [
-  | inl at ↦ (at.0, at.2)
-  | inr past ↦ absurd (let m = past.0 in omega arith)
-]
-
-turned_equal : (o : Ordering) → o ≡ ordering_reverse o → is_eq o ≡ true
-turned_equal Less e = cc
-turned_equal Equal e = refl
-turned_equal Greater e = cc
-
-reflexive : {K : Type 0} (order : K → K → Ordering) → IsTotalOrder order → (k : K) → is_at (order k) k ≡ true
-reflexive order total k = turned_equal (order k k) (total.antisymm k k)
-
 -- ---- states with a goto
-tied : (a : NonterminalString) → is_at (name_cmp a) a ≡ true
-tied a = reflexive name_cmp name_total a
-
 first_found : (a : NonterminalString) (target : StateIndex) (es : List (NonterminalString × StateIndex)) → lookup (is_at (name_cmp a)) ((a, target) ∷ es) ≡ Some target
-first_found a target es = ap (λ b. cond b (Some target) (lookup (is_at (name_cmp a)) es)) (tied a)
+first_found a target es = ap (λ b. cond b (Some target) (lookup (is_at (name_cmp a)) es)) (name_self a)
 
 some_goto : (terminals : List TerminalString) (state : State Bits) (es : List (NonterminalString × StateIndex)) → state.gotos.entries ≡ es → (length es == 0) ≡ false → HasGoto (contents_of (holds_token terminals) state)
 some_goto terminals state [] e h = cc
@@ -200,8 +179,8 @@ module _ (terminals : List TerminalString) (before after : List (State Bits)) (n
 
   kept : KeepsOrder new terminals before
   kept n m l less within alike =
-      let x = slice_get_inside before n (omega arith) in
-      let y = slice_get_inside before m within in
+      let x = filled before n (omega arith) in
+      let y = filled before m within in
       let k : new_place stands_first before n < new_place stands_first before m = parts_keep_order stands_first before n m x.0 y.0 x.1 y.1 (same_test (stands_first x.0) (stands_first y.0) (
         λ h. goto_inside m y.0 y.1 (alike.0 (inside_goto n x.0 l x.1 h)),
         λ h. goto_inside n x.0 x.1 (alike.1 (inside_goto m y.0 (omega arith) y.1 h)),
@@ -239,8 +218,8 @@ module _ (terminals : List TerminalString) (before after : List (State Bits)) (n
 
   gotos_first : PutsGotosFirst (length after) there
   gotos_first n m l less within h =
-      let x = slice_get_inside before (old n) (old_within n (omega arith)) in
-      let y = slice_get_inside before (old m) (old_within m within) in
+      let x = filled before (old n) (old_within n (omega arith)) in
+      let y = filled before (old m) (old_within m within) in
       let later = goto_inside (old m) y.0 y.1 (goto_back m h) in
       elim (cases_Bool (stands_first x.0)) [
         | inl first ↦ goto_on n (inside_goto (old n) x.0 (old_positive n l) x.1 first)
@@ -269,7 +248,7 @@ module _ (terminals : List TerminalString) (before after : List (State Bits)) (n
 
   coherent_after : AreCoherent after
   coherent_after place state at =
-      let x = slice_get_inside before (old place) (old_within place (slice_get_within after place state at)) in
+      let x = filled before (old place) (old_within place (slice_get_within after place state at)) in
       let c = coherent (old place) x.0 x.1 in
       let t = moved_to (old place) x.0 x.1 in
       let same : t.0 ≡ state = same_some t.0 state (sym t.1 ∙ ap (slice_get after) (new_old place) ∙ at) in

@@ -15,8 +15,8 @@ use Rattle.lalrpop_base.proofs.theory.Renumbering.{faithful-renumbered}
 use Rattle.lalrpop_tables.specs.Words.{AreMergedTables, AreRenumberedMerged, AreLaneTables, HaveFullItems, AreCopiedTables, AreLr0Copies}
 use Rattle.lalrpop_tables.specs.Words.{IsRenumberedState, AreRenumbered, number_in, AreRenumberedCopies, AreRenumberedTables, AreRenumberedLaneTables}
 use Rattle.lalrpop_tables.specs.Words.{Construction, AreTables, HaveNoConflict, canonical_of}
-use Rattle.lalrpop_tables.proofs.Places.{same_some}
-use Rattle.lalrpop_tables.proofs.Renumbered.{entry_from, slice_get_inside}
+use Rattle.lalrpop_tables.proofs.Places.{same_some, filled}
+use Rattle.lalrpop_tables.proofs.Renumbered.{entry_from}
 
 -- a state under another number has no conflict where it had none
 no_conflict_after : (new : ℕ → ℕ) (terminals : List TerminalString) (before after : State Bits) → IsRenumberedState new before after → HasNoConflict terminals before → HasNoConflict terminals after
@@ -33,7 +33,7 @@ module _ (terminals : List TerminalString) (before after : List (State Bits)) (r
   pub state_before : (k : ℕ) (state : State Bits) → slice_get after k ≡ Some state → (old : State Bits) × (slice_get before (r.old k) ≡ Some old) × IsRenumberedState r.new old state
   state_before k state at = elim (cases_lt (r.old k) (length before)) [
     | inl inside ↦
-        let x = slice_get_inside before (r.old k) inside in
+        let x = filled before (r.old k) inside in
         let t = r.each (r.old k) x.0 x.1 in
         let same : t.0 ≡ state = same_some t.0 state (sym t.1 ∙ ap (slice_get after) (r.renumbering.back k) ∙ at) in
         (x.0, x.1, subst (IsRenumberedState r.new x.0) same t.2)

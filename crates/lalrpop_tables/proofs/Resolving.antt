@@ -26,7 +26,6 @@ use Rattle.lalrpop_tables.proofs.LaneLoop.{graph_on, set_step, step_places}
 use Rattle.lalrpop_tables.proofs.LaneResolved.{applied_same}
 use Rattle.lalrpop_tables.proofs.Merging.{set_here}
 use Rattle.lalrpop_tables.proofs.Places.{filled}
-use Rattle.lalrpop_tables.proofs.Renumbered.{slice_get_inside}
 
 -- ---- copies of copies
 module _ (handed : List (State Bits)) (first second : List ℕ) (middle states : List (State Bits)) (a : AreCopies false handed first middle) (b : AreCopies false middle second states) where
@@ -42,7 +41,7 @@ module _ (handed : List (State Bits)) (first second : List ℕ) (middle states :
   number_both : (n : ℕ) → number_in both n ≡ number_in first (number_in second n)
   number_both n = elim (cases_lt n (length second)) [
     | inl l ↦
-        let x = slice_get_inside second n l in
+        let x = filled second n l in
         ap (λ o. unwrap_or o n) (slice_get-map (number_in first) second n ∙ ap (option_map (number_in first)) x.1)
         ∙ sym (ap (number_in first) (number_at second n x.0 x.1))
     | inr past ↦

@@ -11,6 +11,7 @@ use Rattle.lalrpop_base.specs.declared.repr.NonterminalString.{NonterminalString
 use Rattle.lalrpop_base.specs.declared.repr.Symbol.{Symbol}
 use Rattle.lalrpop_base.specs.declared.repr.Symbol.TheVariants.{Nonterminal, Terminal}
 use Rattle.lalrpop_base.specs.declared.repr.TerminalString.{TerminalString}
+use Rattle.lalrpop_base.specs.Exact.{both}
 use Rattle.lalrpop_tables.specs.Rests.{AreRests, HasRest, IsRest, IsRestOf}
 use Rattle.lalrpop_tables.specs.declared.build.numbers.rests.Rest.{Rest}
 use Rattle.lalrpop_tables.proofs.Closing.{drop_split, rest_from, split_drop}
@@ -32,12 +33,6 @@ pub rest_behind : (i : Dotted Nil) (s : Symbol) (a : NonterminalString) (after :
 rest_behind i s a after at is rest =
     drop_split i.index i.production.symbols (Nonterminal a) (at ∙ ap Some is) ∙ ap (λ (xs : List Symbol). Nonterminal a ∷ xs) (sym (rest_from i.index i.production.symbols after rest))
 
--- both parts of a conjunction that holds
-both_true : (a b : Bool) → (a && b) ≡ true → (a ≡ true) × (b ≡ true)
-both_true true true h = (refl, refl)
-both_true true false h = cc
-both_true false b h = cc
-
 -- a conjunction of two that hold
 and_true : (a b : Bool) → a ≡ true → b ≡ true → (a && b) ≡ true
 and_true true true g h = refl
@@ -50,10 +45,10 @@ pub rest_is : (g : Rules) (after : List Symbol) (old new : Bits) (nullable : Boo
 rest_is g after old new nullable end is first was left = record {
   first = λ bit. (
     λ h.
-        let both = both_true (has old bit) (not (bit == end)) (sym (left bit) ∙ h) in
-        let below : bit < length g.terminals = within bit (first.fits bit both.0) (bit == end) refl both.1 in
+        let parts = both (has old bit) (not (bit == end)) (sym (left bit) ∙ h) in
+        let below : bit < length g.terminals = within bit (first.fits bit parts.0) (bit == end) refl parts.1 in
         let t = filled g.terminals bit below in
-        (t.0, t.1, (first.begins bit t.0 t.1).0 both.0),
+        (t.0, t.1, (first.begins bit t.0 t.1).0 parts.0),
     λ h.
         let l : bit < length g.terminals = slice_get_within g.terminals bit h.0 h.1 in
         left bit ∙ and_true (has old bit) (not (bit == end)) ((first.begins bit h.0 h.1).1 h.2) (other bit l (bit == end) refl),

@@ -7,11 +7,12 @@ use Rattle.lalrpop_base.specs.declared.lookahead.token.Token.{Token}
 use Rattle.lalrpop_base.specs.declared.repr.Production.{Production}
 use Rattle.lalrpop_base.specs.declared.repr.Symbol.{Symbol}
 use Rattle.lalrpop_base.proofs.theory.Ascending.{ascending_same}
+use Rattle.lalrpop_base.proofs.theory.ConflictLists.{ordered-cons, ordered-head, ordered-tail}
 use Rattle.lalrpop_tables.specs.Words.{Precedes, Ascend, dotted_of, InKernel, HasItemToken, AreItems, IsClosureOf, moved, Shifts}
 use Rattle.lalrpop_tables.specs.Transitions.Shifts.{none, moves, stays}
-use Rattle.lalrpop_tables.proofs.Ascending.{ordered_tail, ordered_head, ordered_cons, precedes_asymmetric}
+use Rattle.lalrpop_tables.proofs.Ascending.{precedes_asymmetric}
 use Rattle.lalrpop_tables.proofs.ItemTokens.{one_item, same_tokens}
-use Rattle.lalrpop_tables.proofs.Lists.{Contains-map}
+use Rattle.lalrpop_tables.proofs.Lists.{contains_map}
 use Rattle.lalrpop_tables.proofs.Shifting.{Shifts-from, of_dotted}
 
 -- ---- moved items ascend
@@ -23,10 +24,10 @@ module _ {L : Type 0} where
   pub Shifts-ascend : (x : Symbol) (items kernel : List (Dotted L)) → Shifts x items kernel → Ascend items → Ascend kernel
   Shifts-ascend x items kernel none a = a
   Shifts-ascend x items kernel (moves {i} {items = is} {kernel = ks} b s) a =
-      ordered_cons Precedes (moved i) ks
-      (λ j c. let f = Shifts-from x is ks s j c in subst (Precedes (moved i)) f.is (moved_precedes i f.item (ordered_head Precedes i is a f.item f.among)))
-      (Shifts-ascend x is ks s (ordered_tail Precedes i is a))
-  Shifts-ascend x items kernel (stays {i} {items = is} {kernel = ks} b s) a = Shifts-ascend x is ks s (ordered_tail Precedes i is a)
+      ordered-cons Precedes (moved i) ks
+      (λ j c. let f = Shifts-from x is ks s j c in subst (Precedes (moved i)) f.is (moved_precedes i f.item (ordered-head Precedes i is a f.item f.among)))
+      (Shifts-ascend x is ks s (ordered-tail Precedes i is a))
+  Shifts-ascend x items kernel (stays {i} {items = is} {kernel = ks} b s) a = Shifts-ascend x is ks s (ordered-tail Precedes i is a)
 
   -- the dots of moved items are past the start
   pub Shifts-past : (x : Symbol) (items kernel : List (Dotted L)) → Shifts x items kernel → (i : Dotted L) → Contains kernel i → (d : ℕ) × (i.index ≡ suc d)
@@ -91,7 +92,7 @@ module _ (g : Rules) (differ : AllDiffer g.terminals) where
   item_over a b m n items tokens i c =
       let d = m.past i c in
       let e : dotted_of i ≡ (i.production, suc d.0) = ap (λ (k : ℕ). (i.production, k)) d.1 in
-      let there = (items i.production d.0).0 (subst (Contains (map dotted_of a)) e (Contains-map dotted_of a i c)) in
+      let there = (items i.production d.0).0 (subst (Contains (map dotted_of a)) e (contains_map dotted_of a i c)) in
       let j = of_dotted b (i.production, suc d.0) there in
       let same : dotted_of j.0 ≡ dotted_of i = j.2 ∙ sym e in
       let at : (j.0).index ≡ suc d.0 = ap (λ (x : Production × ℕ). x.1) j.2 in

@@ -17,11 +17,12 @@ use Rattle.lalrpop_tables.specs.declared.build.numbers.rests.Rest.{Rest}
 use Rattle.lalrpop_tables.specs.Sharing.{IsFront, IsNamed, IsShared, Shared, Shares, fronts_in}
 use Rattle.lalrpop_tables.specs.Words.{IsQueued}
 use Rattle.lalrpop_base.proofs.ContentsViews.{contains_of_map}
+use Rattle.lalrpop_base.proofs.theory.Lists.{drop_past}
 use Rattle.lalrpop_tables.specs.declared.build.numbered.Numbered.{Numbered}
 use Rattle.lalrpop_tables.specs.declared.build.numbers.Numbers.{Numbers}
 use Rattle.lalrpop_tables.proofs.Closing.{drop_split, rest_from, split_drop}
 use Rattle.lalrpop_tables.proofs.Grammars.{known_rest, known_symbols}
-use Rattle.lalrpop_tables.proofs.Lists.{Contains-cases, Contains-map, Contains-none, place}
+use Rattle.lalrpop_tables.proofs.Lists.{contains-cons, contains_map, Contains-none, place}
 use Rattle.lalrpop_tables.proofs.Numbers.{at_number, behind_is, stands_at}
 use Rattle.lalrpop_tables.proofs.Places.{contains_at, filled, same_some, slice_get_at}
 use Rattle.lalrpop_tables.proofs.Sharing.{Shares-nothing, Shares-one}
@@ -39,19 +40,12 @@ rest_known grammar rules n numbers same well k l rest is =
     subst (λ (r : Rules). HasKnownTerminals r.terminals rest) same
     (known_rest grammar.terminals (d.index + 1) d.production.symbols rest (known_symbols grammar d.production well (subst (λ (r : Rules). Contains r.productions d.production) (sym same) among)) is)
 
--- what stands behind the first of what is left
-behind_first : {A : Type 0} (k : ℕ) (xs : List A) {x : A} {after : List A} → drop k xs ≡ x ∷ after → drop (suc k) xs ≡ after
-behind_first zero [] e = cc
-behind_first zero (y ∷ xs) e = cc
-behind_first (suc k) [] e = cc
-behind_first (suc k) (y ∷ xs) e = behind_first k xs e
-
 module _ (begins : Rules → List Symbol → Token → Type 0) (passes : Rules → List Symbol → Type 0) (g : Rules) (n : Numbers) (numbers : AreNumbers g n) (number : ℕ) (tokens : Bits) where
   abbrev item : Dotted Bits
   item = item_by n.items.items (record { number = number; lookahead = tokens })
 
   gives_nothing : ((name : NonterminalString) → slice_get item.production.symbols item.index ≡ Some (Nonterminal name) → HasNoProduction g name) → (table : Shared) (queue : List ℕ) → Shares begins passes g n (item ∷ []) table table queue queue
-  gives_nothing none table queue = Shares-nothing begins passes g n (item ∷ []) table queue (λ i c. elim (Contains-cases item [] i c) [
+  gives_nothing none table queue = Shares-nothing begins passes g n (item ∷ []) table queue (λ i c. elim (contains-cons item [] i c) [
     | inl same ↦ subst (IsShared begins passes g n table) same (λ q after behind among. absurd (none q.nonterminal (split_drop item.index item.production.symbols (Nonterminal q.nonterminal) after behind) q among refl))
     | inr out ↦ absurd (Contains-none i out)
   ])
@@ -73,7 +67,7 @@ module _ (begins : Rules → List Symbol → Token → Type 0) (passes : Rules �
   pub rest_is : number < length n.items.items → (rest : Rest) → slice_get n.rests.items number ≡ Some (Some rest) → (remainder : List Symbol) → remainder ≡ drop (item.index + 1) item.production.symbols → IsRest g remainder rest
   rest_is known rest at remainder is =
       let r = (numbers.rests).each number (dotted_at n.items.items number) (Some rest) (stands_at n.items.items number known) at in
-      subst (λ (xs : List Symbol). IsRest g xs rest) (sym (rest_from item.index item.production.symbols remainder is ∙ behind_first item.index item.production.symbols r.2)) r.3
+      subst (λ (xs : List Symbol). IsRest g xs rest) (sym (rest_from item.index item.production.symbols remainder is ∙ drop_past item.index item.production.symbols r.2)) r.3
 
   -- nor does one with a nonterminal without productions
   pub Barren-shares : (name : NonterminalString) → slice_get item.production.symbols item.index ≡ Some (Nonterminal name) → HasNoProduction g name → (table : Shared) (queue : List ℕ) → Shares begins passes g n (item ∷ []) table table queue queue
@@ -150,5 +144,5 @@ module _ (g : Rules) (n : Numbers) (numbers : AreNumbers g n) where
           let at : dotted_at n.items.items p.0 ≡ begun = at_number n.items.items p.0 begun p.2 in
           let is : item_by n.items.items (front_of p.0) ≡ i =
           ap (λ (j : Dotted Nil). record { production = j.production; index = j.index; lookahead = tokens }) at ∙ ap (λ (k : ℕ). record { production = i.production; index = k; lookahead = tokens }) (sym f.start) ∙ ap (λ (b : Bits). record { production = i.production; index = i.index; lookahead = b }) (sym f.same) in
-          subst (Contains (items_by n.items.items (fronts_in tokens list.items))) is (Contains-map (item_by n.items.items) (map front_of list.items) (front_of p.0) (Contains-map front_of list.items p.0 member)),
+          subst (Contains (items_by n.items.items (fronts_in tokens list.items))) is (contains_map (item_by n.items.items) (map front_of list.items) (front_of p.0) (contains_map front_of list.items p.0 member)),
     )

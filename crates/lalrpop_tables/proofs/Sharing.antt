@@ -20,17 +20,11 @@ use Rattle.lalrpop_tables.specs.Sharing.{AllFit, IsFront, IsNamed, IsShared, IsS
 use Rattle.lalrpop_tables.specs.declared.build.numbers.Numbers.{Numbers}
 use Rattle.lalrpop_tables.proofs.Growth.{Adds-one, Grows-none, Grows-then, entry_key, key_entry, known_kept, queued_among, queued_weighed}
 use Rattle.lalrpop_tables.proofs.KnownTerminals.{bit_held, held_bit, holds_more}
-use Rattle.lalrpop_tables.proofs.Lists.{Contains-cases, Contains-here, Contains-map, Contains-none, Contains-range, Contains-there, pigeonhole}
+use Rattle.lalrpop_tables.proofs.Lists.{contains-cons, contains_head, contains_map, Contains-none, Contains-range, contains_tail, pigeonhole}
 use Rattle.lalrpop_tables.proofs.Places.{apart_from_differ, same_some}
 use Rattle.lalrpop_tables.proofs.Subsets.{count_few}
 use Rattle.lalrpop_tables.proofs.Updates.{one_value}
-
--- one nonterminal before one list of symbols
-same_name : (a b : NonterminalString) (v w : List Symbol) → Nonterminal a ∷ v ≡ Nonterminal b ∷ w → a ≡ b
-same_name a b v w e = cc
-
-same_after : (a b : NonterminalString) (v w : List Symbol) → Nonterminal a ∷ v ≡ Nonterminal b ∷ w → v ≡ w
-same_after a b v w e = cc
+use Rattle.lalrpop_tables.proofs.Grammars.{same_front, same_after}
 
 one_name : (n : Numbers) (x : ℕ) (a b : NonterminalString) → IsNamed n x a → IsNamed n x b → a ≡ b
 one_name n x a b p q = let e = same_some _ _ (sym p ∙ q) in cc
@@ -93,7 +87,7 @@ module _ (begins : Rules → List Symbol → Token → Type 0) (passes : Rules �
         let e = sym behind ∙ stood in
         let a : after ≡ later = same_after name p.nonterminal after later e in (
           x,
-          subst (IsNamed n x) (same_name name p.nonterminal after later e) named,
+          subst (IsNamed n x) (same_front name p.nonterminal after later e) named,
           record {
             set = f.set;
             entry = f.entry;
@@ -110,18 +104,18 @@ module _ (begins : Rules → List Symbol → Token → Type 0) (passes : Rules �
     pub Shares-one : Shares begins passes g n (i ∷ []) old new queue pushed
     Shares-one = record {
       grows = adds.grows;
-      keys = λ e c. elim (adds.keys e c) [ inl o ↦ inl o | inr same ↦ inr (record { item = i; among = Contains-here i []; after = after; behind = stands e.0 same }) ];
+      keys = λ e c. elim (adds.keys e c) [ inl o ↦ inl o | inr same ↦ inr (record { item = i; among = contains_head i []; after = after; behind = stands e.0 same }) ];
       tokens = λ e t c h.
           let b = held_bit g.terminals e.1 t h in
           elim (adds.bits e b.0 c b.2) [
             | inl f ↦ inl (record { set = f.set; entry = f.entry; there = bit_held g.terminals f.set t b.0 b.1 f.there })
-            | inr m ↦ inr (record { item = i; among = Contains-here i []; after = after; behind = stands e.0 m.0; follows = (is t).0 (bit_held g.terminals given t b.0 b.1 m.1) })
+            | inr m ↦ inr (record { item = i; among = contains_head i []; after = after; behind = stands e.0 m.0; follows = (is t).0 (bit_held g.terminals given t b.0 b.1 m.1) })
           ];
-      there = λ j c. elim (Contains-cases i [] j c) [ inl same ↦ subst (IsShared begins passes g n new) same shared_here | inr none ↦ absurd (Contains-none j none) ];
+      there = λ j c. elim (contains-cons i [] j c) [ inl same ↦ subst (IsShared begins passes g n new) same shared_here | inr none ↦ absurd (Contains-none j none) ];
       pushed_found = queued_among x given old new queue pushed q;
       differ = λ d. q.differ;
       weighed = λ fit all.
-          let f = fit i (Contains-here i []) in
+          let f = fit i (contains_head i []) in
           (all_below f all, queued_weighed x given old new queue pushed q (length g.terminals + 2) (below f) all);
     }
 
@@ -191,7 +185,7 @@ module _ (begins : Rules → List Symbol → Token → Type 0) (passes : Rules �
     kernel_token i t c h = own_token (record { item = i; there = c; is = refl; holds = h })
 
     pub kernel_reached : (i : Dotted Bits) → Contains kernel i → Reached i.production i.index
-    kernel_reached i c = in_kernel (Contains-map dotted_of kernel i c)
+    kernel_reached i c = in_kernel (contains_map dotted_of kernel i c)
 
     pub Sharing-start : (table : Shared) (queue : List ℕ) → ((i : Dotted Bits) → Contains kernel i → FitsTokens g.terminals i.lookahead) → Shares begins passes g n kernel [] table [] queue → IsSharing begins passes g n kernel table queue
     Sharing-start table queue fit s = record {
@@ -228,7 +222,7 @@ module _ (begins : Rules → List Symbol → Token → Type 0) (passes : Rules �
       old_entry k c = key_entry old k c
 
       popped : (e : ℕ × Bits) → Contains old e → Contains (x ∷ queue) e.0 → Contains pushed e.0 ⊎ ((i : Dotted Bits) → IsFront g n e.0 e.1 i → IsShared begins passes g n new i)
-      popped e c w = elim (Contains-cases x queue e.0 w) [
+      popped e c w = elim (contains-cons x queue e.0 w) [
         | inr later ↦ inl (s.grows.stays e.0 later)
         | inl same ↦ inr (λ i f.
             let value : e.1 ≡ set = one_value old before.differ x e.1 set (subst (λ (k : ℕ). Contains old (k, e.1)) (sym same) c) entry in
@@ -253,7 +247,7 @@ module _ (begins : Rules → List Symbol → Token → Type 0) (passes : Rules �
           | inr o ↦ elim (before.shared e o) [ inl w ↦ popped e o w | inr done ↦ inr (λ i f. shared_kept old new s.grows.kept i (done i f)) ]
         ];
         queued = λ k c. elim (s.pushed_found k c) [
-          | inl o ↦ known_kept old new queue pushed s.grows k (before.queued k (Contains-there x queue k o))
+          | inl o ↦ known_kept old new queue pushed s.grows k (before.queued k (contains_tail x queue k o))
           | inr m ↦ m
         ];
         differ = s.differ before.differ;

@@ -14,7 +14,7 @@ use Rattle.lalrpop_base.specs.declared.repr.grammar.NonterminalData.{Nonterminal
 use Rattle.lalrpop_tables.specs.Words.{dotted_of, IsItemBy, AreItemsBy, begun, IsBehind, moved, Shifts}
 use Rattle.lalrpop_tables.specs.Transitions.Shifts.{none, moves, stays}
 use Rattle.lalrpop_tables.proofs.Grammars.{productions_among}
-use Rattle.lalrpop_tables.proofs.Lists.{Contains-none, Contains-here, Contains-there, Contains-cases, Contains-map}
+use Rattle.lalrpop_tables.proofs.Lists.{Contains-none, contains_head, contains_tail, contains-cons, contains_map}
 use Rattle.lalrpop_tables.proofs.Moves.{differ_head, differ_tail}
 use Rattle.lalrpop_tables.proofs.Places.{contains_at, same_some}
 
@@ -35,24 +35,24 @@ module _ {L : Type 0} where
     pub is : moved item ≡ j
 
   from_later : (x : Symbol) (i : Dotted L) (items : List (Dotted L)) (j : Dotted L) → IsFrom x items j → IsFrom x (i ∷ items) j
-  from_later x i items j f = record { item = f.item; among = Contains-there i items f.item f.among; behind = f.behind; is = f.is }
+  from_later x i items j f = record { item = f.item; among = contains_tail i items f.item f.among; behind = f.behind; is = f.is }
 
   pub Shifts-from : (x : Symbol) (items kernel : List (Dotted L)) → Shifts x items kernel → (j : Dotted L) → Contains kernel j → IsFrom x items j
   Shifts-from x items kernel none j c = absurd (Contains-none j c)
-  Shifts-from x items kernel (moves {i} {items = is} {kernel = ks} b s) j c = elim (Contains-cases (moved i) ks j c) [
-    | inl e ↦ record { item = i; among = Contains-here i is; behind = b; is = e }
+  Shifts-from x items kernel (moves {i} {items = is} {kernel = ks} b s) j c = elim (contains-cons (moved i) ks j c) [
+    | inl e ↦ record { item = i; among = contains_head i is; behind = b; is = e }
     | inr later ↦ from_later x i is j (Shifts-from x is ks s j later)
   ]
   Shifts-from x items kernel (stays {i} {items = is} {kernel = ks} b s) j c = from_later x i is j (Shifts-from x is ks s j c)
 
   dotted_in : (items : List (Dotted L)) (i : Dotted L) → Contains items i → Contains (map dotted_of items) (i.production, i.index)
-  dotted_in items i c = Contains-map dotted_of items i c
+  dotted_in items i c = contains_map dotted_of items i c
 
   pub of_dotted : (items : List (Dotted L)) (d : Production × ℕ) → Contains (map dotted_of items) d → (i : Dotted L) × Contains items i × ((i.production, i.index) ≡ d)
   of_dotted [] d c = absurd (Contains-none d c)
-  of_dotted (i ∷ items) d c = elim (Contains-cases (i.production, i.index) (map dotted_of items) d c) [
-    | inl e ↦ (i, Contains-here i items, e)
-    | inr later ↦ let r = of_dotted items d later in (r.0, Contains-there i items r.0 r.1, r.2)
+  of_dotted (i ∷ items) d c = elim (contains-cons (i.production, i.index) (map dotted_of items) d c) [
+    | inl e ↦ (i, contains_head i items, e)
+    | inr later ↦ let r = of_dotted items d later in (r.0, contains_tail i items r.0 r.1, r.2)
   ]
 
   back_moved : (i j : Dotted L) → pair i.production (i.index + 1) ≡ pair j.production (j.index + 1) → pair i.production i.index ≡ pair j.production j.index
@@ -82,16 +82,16 @@ module _ {L : Type 0} where
 
   pub begun_zero : (s : L) (ps : List Production) (d : Production × ℕ) → Contains (map dotted_of (map (begun s) ps)) d → d.1 ≡ 0
   begun_zero s [] d c = absurd (Contains-none d c)
-  begun_zero s (p ∷ ps) d c = elim (Contains-cases (p, 0) (map dotted_of (map (begun s) ps)) d c) [
+  begun_zero s (p ∷ ps) d c = elim (contains-cons (p, 0) (map dotted_of (map (begun s) ps)) d c) [
     | inl e ↦ ap (λ (x : Production × ℕ). x.1) (sym e)
     | inr later ↦ begun_zero s ps d later
   ]
 
   pub begun_in : (s : L) (ps : List Production) (i : Dotted L) → Contains (map (begun s) ps) i → (p : Production) × Contains ps p × (begun s p ≡ i)
   begun_in s [] i c = absurd (Contains-none i c)
-  begun_in s (p ∷ ps) i c = elim (Contains-cases (begun s p) (map (begun s) ps) i c) [
-    | inl e ↦ (p, Contains-here p ps, e)
-    | inr later ↦ let r = begun_in s ps i later in (r.0, Contains-there p ps r.0 r.1, r.2)
+  begun_in s (p ∷ ps) i c = elim (contains-cons (begun s p) (map (begun s) ps) i c) [
+    | inl e ↦ (p, contains_head p ps, e)
+    | inr later ↦ let r = begun_in s ps i later in (r.0, contains_tail p ps r.0 r.1, r.2)
   ]
 
 listed_differ : (g : Grammar) (name : NonterminalString) (o : Option NonterminalData) → IsWellFormed g → lookup (is_at (name_cmp name)) g.nonterminals.entries ≡ o → AllDiffer (listed_productions o)

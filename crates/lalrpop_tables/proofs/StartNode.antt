@@ -12,7 +12,7 @@ use Rattle.lalrpop_tables.specs.FollowNodes.{AreNodes, AreTransitionNodes, IsNon
 use Rattle.lalrpop_tables.specs.NumberedStates.{transitions_at}
 use Rattle.lalrpop_tables.specs.declared.lane_table.follow_sets.nodes.Nodes.{Nodes}
 use Rattle.lalrpop_tables.specs.declared.lane_table.follow_sets.numbered_state.NumberedState.{NumberedState}
-use Rattle.lalrpop_tables.proofs.Lists.{Contains-here}
+use Rattle.lalrpop_tables.proofs.Lists.{contains_head}
 use Rattle.lalrpop_tables.proofs.Places.{contains_at, push_cases, slice_get-longer}
 
 -- what is told of a value that is there
@@ -77,6 +77,6 @@ module _ (symbols : List Symbol) (first : ℕ) (states : List NumberedState) (no
       counted = ap length same ∙ made.counted;
       here = longer;
       from = from;
-      begun = subst (λ (ps : List (ℕ × ℕ)). Contains ps (0, first)) (sym more) (Contains-append_right pairs ((0, first) ∷ []) (0, first) (Contains-here (0, first) []));
+      begun = subst (λ (ps : List (ℕ × ℕ)). Contains ps (0, first)) (sym more) (Contains-append_right pairs ((0, first) ∷ []) (0, first) (contains_head (0, first) []));
       differ = differ;
     }

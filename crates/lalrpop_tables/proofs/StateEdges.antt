@@ -23,7 +23,7 @@ use Rattle.lalrpop_tables.specs.Words.{dotted_of, HasTransition, IsBuiltBy, AreB
 use Rattle.lalrpop_tables.proofs.CanonicalStates.{entry_of, leads_transition}
 use Rattle.lalrpop_tables.proofs.Closing.{drop_split, split_drop}
 use Rattle.lalrpop_tables.proofs.Coherence.{one_kernel}
-use Rattle.lalrpop_tables.proofs.Lists.{Contains-map}
+use Rattle.lalrpop_tables.proofs.Lists.{contains_map}
 use Rattle.lalrpop_tables.proofs.Places.{one_place}
 use Rattle.lalrpop_tables.proofs.Shifting.{of_dotted}
 
@@ -35,7 +35,7 @@ some_of (Some x) h = (x, refl)
 found_of : {K : Type 0} {R : K → K → Ordering} → IsTotalOrder R → CmpEqualImpliesEq R → (m : BTreeMap K StateIndex) (key : K) (target : StateIndex) → Contains m.entries (key, target) →
     (found : StateIndex) × (option_map number_of (get R m key) ≡ Some found.0) × Contains m.entries (key, found)
 found_of {K} {R = R} total exact m key target c =
-    let there = some_of (get R m key) (IsSome-lookup_from_Contains (eq_by_cmp_equiv total) key m.entries (Contains-map (λ (e : K × StateIndex). e.0) m.entries (key, target) c)) in
+    let there = some_of (get R m key) (IsSome-lookup_from_Contains (eq_by_cmp_equiv total) key m.entries (contains_map (λ (e : K × StateIndex). e.0) m.entries (key, target) c)) in
     let number : option_map number_of (get R m key) ≡ Some (there.0).0 = ap (option_map number_of) there.1 in
     let entry = entry_of total exact m key (there.0).0 number in
     (entry.0, number ∙ ap Some (sym entry.1), entry.2)
@@ -51,7 +51,7 @@ module _ {L : Type 0} (holds : L → Token → Bool) (Closes : List (Dotted L) �
     production = i.production;
     dot = i.index;
     after = drop (suc i.index) i.production.symbols;
-    item = Contains-map dotted_of s.items.vec.items i c;
+    item = contains_map dotted_of s.items.vec.items i c;
     behind = drop_split i.index i.production.symbols x b;
   }
 

@@ -17,7 +17,7 @@ use Rattle.lalrpop_tables.specs.Words.{replaced_entry}
 use Rattle.lalrpop_tables.specs.declared.lane_table.construct.merge.context_sets.ContextSets.{ContextSets}
 use Rattle.lalrpop_tables.specs.declared.lane_table.construct.state_set.StateSet.{StateSet}
 use Rattle.lalrpop_tables.proofs.LaneTables.{state_exact}
-use Rattle.lalrpop_tables.proofs.Lists.{Contains-none, Contains-here, Contains-cases}
+use Rattle.lalrpop_tables.proofs.Lists.{Contains-none, contains_head, contains-cons}
 use Rattle.lalrpop_tables.proofs.Merging.{set_here, set_elsewhere, set_length}
 use Rattle.lalrpop_tables.proofs.Places.{same_some, slice_get-push_at}
 
@@ -100,11 +100,11 @@ own_more rows state row old new own made adds = record {
         let differs : n ≡ state → ⊥ = λ e. other (ap (λ (i : StateIndex). i.0) e) in
         elim (Contains-append_cases (keys_of rows) (state ∷ []) n (subst (λ ks. Contains ks n) (map-append (λ (e : StateIndex × List Bits). e.0) rows ((state, row) ∷ [])) c)) [
           | inl was ↦ let h = own.has n was in record { set = h.set; is = made.others n differs ∙ h.is; listed = let l = h.listed in let k = adds.counted in omega arith }
-          | inr last ↦ elim (Contains-cases state [] n last) [ inl e ↦ absurd (differs (sym e)) | inr none ↦ absurd (Contains-none n none) ]
+          | inr last ↦ elim (contains-cons state [] n last) [ inl e ↦ absurd (differs (sym e)) | inr none ↦ absurd (Contains-none n none) ]
         ]
   ];
   columns = λ k columns at. elim (adds.columns k columns at) [
     | inl was ↦ let r = own.columns k columns was in (r.0, Contains-append_left rows ((state, row) ∷ []) (r.0, columns) r.1)
-    | inr is ↦ (state, subst (λ (c : List Bits). Contains (rows ++ (state, row) ∷ []) (state, c)) (sym is) (Contains-append_right rows ((state, row) ∷ []) (state, row) (Contains-here (state, row) [])))
+    | inr is ↦ (state, subst (λ (c : List Bits). Contains (rows ++ (state, row) ∷ []) (state, c)) (sym is) (Contains-append_right rows ((state, row) ∷ []) (state, row) (contains_head (state, row) [])))
   ];
 }

@@ -1,5 +1,5 @@
 -- States gathered into a set, and steps back.
-use Rattle.std.proofs.Common.{◌≡◌, ℕ, ◌⊎◌, inl, inr, List, [], ◌∷◌, ◌++◌, reverse, refl, sym, ◌∙◌, ap, subst, append_assoc, append-nil, map, Bool, true, false, cond, length, arith, eqb-true, eq-eqb}
+use Rattle.std.proofs.Common.{◌≡◌, ◌⊎◌, inl, inr, List, [], ◌∷◌, ◌++◌, reverse, refl, sym, ◌∙◌, ap, subst, append_assoc, append-nil, map, Bool, true, false, cond, length, eq-eqb}
 use Rattle.std.specs.Prelude.{Contains, ◌↔◌, ◌==◌, filter}
 use Rattle.std.specs.List.Sorted.{IsStrictlySortedBy, IsPermutation, IsSorted}
 use Rattle.std.specs.List.Retain.{IsFiltered, DiffersFromLast}
@@ -11,6 +11,7 @@ use Rattle.lalrpop_base.specs.contracts.lr1_core.state.StateIndexPartialEq.TheIm
 use Rattle.lalrpop_base.specs.contracts.lr1_core.state.StateIndexEq.TheImpl.Laws as index_equality
 use Rattle.lalrpop_tables.proofs.StateGraphs.{state_total}
 use Rattle.std.proofs.lemmas.List.Elements.{Contains-append_left, Contains-append_right, Contains-append_cases}
+use Rattle.std.proofs.lemmas.List.{nil_from_length}
 use Rattle.lalrpop_base.specs.declared.lr1_core.state.StateIndex.{StateIndex}
 use Rattle.lalrpop_base.specs.declared.repr.Symbol.{Symbol}
 use Rattle.lalrpop_base.specs.contracts.repr.SymbolPartialEq.TheImpl as symbol_eq
@@ -20,7 +21,8 @@ use Rattle.lalrpop_tables.specs.declared.state_graph.StateGraph.{StateGraph}
 use Rattle.lalrpop_tables.specs.Words.{Edge, edge, state_cmp, AddsStates, HaveSameStates, IsStepBack, sources_over, origins_of, origins, origin_of, IsGraphOf}
 use Rattle.lalrpop_tables.specs.Words.{nowhere, over}
 use Rattle.lalrpop_tables.specs.StateGraph.{LeadsTo}
-use Rattle.lalrpop_tables.proofs.Lists.{Contains-none, Contains-here, Contains-there, Contains-cases, Contains-reverse, Contains-from_reverse}
+use Rattle.lalrpop_tables.proofs.Lists.{Contains-none, contains_head, contains_tail, contains-cons, Contains-reverse, Contains-from_reverse}
+use Rattle.lalrpop_tables.proofs.LaneColumns.{same_state}
 
 -- a state of all is in the set or left, exactly if it is in the set so far or left now
 pub record IsAddingStates (left all start now : List StateIndex) : Type 0 where
@@ -37,11 +39,11 @@ pub one_more_state : (before left all start now next : List StateIndex) (x : Sta
 one_more_state before left all start now next x first is a = record {
   kept = λ r h. elim (a.kept r h) [
     | inl c ↦ inl (rw is (Contains-append_left now (x ∷ []) r c))
-    | inr c ↦ elim (Contains-cases x left r (rw first at c)) [ inl e ↦ inl (rw is (Contains-append_right now (x ∷ []) r (rw (← e) (Contains-here x [])))) | inr d ↦ inr d ]
+    | inr c ↦ elim (contains-cons x left r (rw first at c)) [ inl e ↦ inl (rw is (Contains-append_right now (x ∷ []) r (rw (← e) (contains_head x [])))) | inr d ↦ inr d ]
   ];
   only = λ r h. a.only r (elim h [
-    | inl c ↦ elim (Contains-append_cases now (x ∷ []) r (rw is at c)) [ inl d ↦ inl d | inr d ↦ elim (Contains-cases x [] r d) [ inl e ↦ inr (rw (first, ← e) (Contains-here x left)) | inr n ↦ absurd (Contains-none r n) ] ]
-    | inr c ↦ inr (rw first (Contains-there x left r c))
+    | inl c ↦ elim (Contains-append_cases now (x ∷ []) r (rw is at c)) [ inl d ↦ inl d | inr d ↦ elim (contains-cons x [] r d) [ inl e ↦ inr (rw (first, ← e) (contains_head x left)) | inr n ↦ absurd (Contains-none r n) ] ]
+    | inr c ↦ inr (rw first (contains_tail x left r c))
   ]);
 }
 
@@ -69,10 +71,10 @@ pub stepping_more : (graph : StateGraph) (x : Symbol) (before left all now next 
 stepping_more graph x before left all now next s first added i = record {
   kept = λ q r a c. elim (i.kept q r a c) [
     | inl d ↦ inl ((added r).1 (inl d))
-    | inr d ↦ elim (Contains-cases s left q (rw first at d)) [ inl e ↦ inl ((added r).1 (inr (let P : StateIndex → Type 0 = λ y. Contains (sources_over graph x y) r in subst P (sym e) c))) | inr f ↦ inr f ]
+    | inr d ↦ elim (contains-cons s left q (rw first at d)) [ inl e ↦ inl ((added r).1 (inr (let P : StateIndex → Type 0 = λ y. Contains (sources_over graph x y) r in subst P (sym e) c))) | inr f ↦ inr f ]
   ];
-  only = λ r c. elim ((added r).0 c) [ inl d ↦ i.only r d | inr d ↦ (s, i.part s (rw first (Contains-here s left)), d) ];
-  part = λ q c. i.part q (rw first (Contains-there s left q c));
+  only = λ r c. elim ((added r).0 c) [ inl d ↦ i.only r d | inr d ↦ (s, i.part s (rw first (contains_head s left)), d) ];
+  part = λ q c. i.part q (rw first (contains_tail s left q c));
 }
 
 pub stepping_all : (graph : StateGraph) (x : Symbol) (left all now : List StateIndex) → left ≡ [] → IsSteppingBack graph x left all now → IsStepBack graph x all now
@@ -86,9 +88,6 @@ pub step_moved : (graph : StateGraph) (x : Symbol) (all now list : List StateInd
 step_moved graph x all now list same step r = (λ c. (step r).0 ((same r).0 c), λ h. (same r).1 ((step r).1 h))
 
 -- ---- states in order, none twice
-same_number : (x y : StateIndex) → (x.0 == y.0) ≡ true → x ≡ y
-same_number x y h = let P : ℕ → StateIndex = λ n. record { 0 = n } in ap P (eqb-true x.0 y.0 h)
-
 abbrev state_eq : StateIndex → StateIndex → Bool
 state_eq = index_eq.ghosts.eq
 
@@ -97,7 +96,7 @@ pub ordered_same : (states sorted list : List StateIndex) → IsPermutation stat
 ordered_same states sorted list moved kept r =
     let is = dedup_is state_eq sorted list kept in (
       λ c. Contains-permutation sorted states r (IsPermutation-sym states sorted moved) (Contains-from_dedup state_eq sorted r (rw is at c)),
-      λ c. rw is (Contains-dedup index_equality.laws-law same_number sorted r (Contains-permutation states sorted r moved c)),
+      λ c. rw is (Contains-dedup index_equality.laws-law same_state sorted r (Contains-permutation states sorted r moved c)),
     )
 
 -- and ascend
@@ -107,9 +106,9 @@ ordered_ascending sorted list ascend kept = rw (dedup_is state_eq sorted list ke
 -- ---- the sources that a graph of edges has
 filtered : {X Y : Type 0} (f : X → Y) (p : X → Bool) (xs : List X) (x : X) → Contains xs x → p x ≡ true → Contains (map f (filter p xs)) (f x)
 filtered f p [] x c h = absurd (Contains-none x c)
-filtered f p (y ∷ xs) x c h = elim (Contains-cases y xs x c) [
-  | inl e ↦ rw (e, h) (Contains-here (f x) (map f (filter p xs)))
-  | inr d ↦ elim (p y) as (λ b. Contains (map f (cond b (y ∷ filter p xs) (filter p xs))) (f x)) [ true ↦ Contains-there (f y) (map f (filter p xs)) (f x) (filtered f p xs x d h) | false ↦ filtered f p xs x d h ]
+filtered f p (y ∷ xs) x c h = elim (contains-cons y xs x c) [
+  | inl e ↦ rw (e, h) (contains_head (f x) (map f (filter p xs)))
+  | inr d ↦ elim (p y) as (λ b. Contains (map f (cond b (y ∷ filter p xs) (filter p xs))) (f x)) [ true ↦ contains_tail (f y) (map f (filter p xs)) (f x) (filtered f p xs x d h) | false ↦ filtered f p xs x d h ]
 ]
 
 -- an element that passed
@@ -120,18 +119,15 @@ record Passed {X Y : Type 0} (f : X → Y) (p : X → Bool) (xs : List X) (y : Y
   gives : f from ≡ y
 
 passed_later : {X Y : Type 0} (f : X → Y) (p : X → Bool) (x : X) (xs : List X) (y : Y) → Passed f p xs y → Passed f p (x ∷ xs) y
-passed_later f p x xs y h = record { from = h.from; among = Contains-there x xs h.from h.among; passes = h.passes; gives = h.gives }
+passed_later f p x xs y h = record { from = h.from; among = contains_tail x xs h.from h.among; passes = h.passes; gives = h.gives }
 
 passed_at : {X Y : Type 0} (f : X → Y) (p : X → Bool) (x : X) (xs : List X) (y : Y) (b : Bool) → p x ≡ b → (Contains (map f (filter p xs)) y → Passed f p xs y) → Contains (map f (cond b (x ∷ filter p xs) (filter p xs))) y → Passed f p (x ∷ xs) y
-passed_at f p x xs y true e rest c = elim (Contains-cases (f x) (map f (filter p xs)) y c) [ inl h ↦ record { from = x; among = Contains-here x xs; passes = e; gives = h } | inr d ↦ passed_later f p x xs y (rest d) ]
+passed_at f p x xs y true e rest c = elim (contains-cons (f x) (map f (filter p xs)) y c) [ inl h ↦ record { from = x; among = contains_head x xs; passes = e; gives = h } | inr d ↦ passed_later f p x xs y (rest d) ]
 passed_at f p x xs y false e rest c = passed_later f p x xs y (rest c)
 
 passed : {X Y : Type 0} (f : X → Y) (p : X → Bool) (xs : List X) (y : Y) → Contains (map f (filter p xs)) y → Passed f p xs y
 passed f p [] y c = absurd (Contains-none y c)
 passed f p (x ∷ xs) y c = passed_at f p x xs y (p x) refl (passed f p xs y) c
-
-same_state : (a b : StateIndex) → (a.0 == b.0) ≡ true → a ≡ b
-same_state a b h = let P : ℕ → StateIndex = λ n. record { 0 = n } in ap P (eqb-true a.0 b.0 h)
 
 -- the sources over a symbol are those of the edges
 pub source_edge : (graph : StateGraph) (es : List Edge) (x : Symbol) (s r : StateIndex) → IsGraphOf es graph → Contains (sources_over graph x s) r → Contains es (edge r x s)
@@ -171,8 +167,8 @@ tracing_start graph symbols state none found nothing pushed =
       taken = [];
       whole = append-nil symbols;
       exactly = λ es g r. (
-        λ c. elim (Contains-cases state [] r (rw is at c)) [ inl e ↦ (let P : StateIndex → Type 0 = λ s. LeadsTo es s [] state in subst P e nowhere) | inr d ↦ absurd (Contains-none r d) ],
-        λ l. rw (is, at_once es r state l) (Contains-here state []),
+        λ c. elim (contains-cons state [] r (rw is at c)) [ inl e ↦ (let P : StateIndex → Type 0 = λ s. LeadsTo es s [] state in subst P e nowhere) | inr d ↦ absurd (Contains-none r d) ],
+        λ l. rw (is, at_once es r state l) (contains_head state []),
       );
     }
 
@@ -196,12 +192,8 @@ tracing_more graph before left all x state found next last step ascends t = reco
   );
 }
 
-empty : {X : Type 0} (xs : List X) → length xs ≡ 0 → xs ≡ []
-empty [] e = refl
-empty (x ∷ xs) e = absurd (omega (arith, e))
-
 pub tracing_all : (graph : StateGraph) (left all : List Symbol) (state : StateIndex) (found : List StateIndex) → length left ≡ 0 → IsTracing graph left all state found → (es : List Edge) → IsGraphOf es graph → (r : StateIndex) → Contains found r ↔ LeadsTo es r all state
 tracing_all graph left all state found none t es g r =
-    let same : t.taken ≡ all = ap (λ xs. xs ++ t.taken) (sym (empty left none)) ∙ t.whole in
+    let same : t.taken ≡ all = ap (λ xs. xs ++ t.taken) (sym (nil_from_length left none)) ∙ t.whole in
     let P : List Symbol → Type 0 = λ u. Contains found r ↔ LeadsTo es r u state in
     subst P same (t.exactly es g r)

@@ -17,24 +17,24 @@ use Rattle.lalrpop_base.specs.declared.repr.Symbol.{Symbol}
 use Rattle.lalrpop_base.specs.declared.repr.grammar.Grammar.{Grammar}
 use Rattle.lalrpop_tables.specs.Words.{Ascend, AreOwn, dotted_of, InKernel, ArePartlyBuiltBy, HasDotted, IsLr0StateFor, AreSomeLr0States, AreEnough, AreMadeFor}
 use Rattle.lalrpop_tables.specs.Words.{StopsFor, Lr0StopsAfter, FailsAfterLr0, AreLr0States, Settings, begun, HasTransition, Shifts, moved}
-use Rattle.lalrpop_tables.proofs.Canonical.{start_items, moved_items, Shifts-onto}
-use Rattle.lalrpop_tables.proofs.CanonicalContents.{then_both, turned_both}
+use Rattle.lalrpop_tables.proofs.Canonical.{start_items, moved_items, Shifts-onto, InClosure-more}
 use Rattle.lalrpop_tables.proofs.ClosedStates.{IsExactClosure}
 use Rattle.lalrpop_tables.proofs.Closing.{drop_split}
 use Rattle.lalrpop_tables.proofs.ConflictLists.{All-listed, States-of}
-use Rattle.lalrpop_tables.proofs.Lists.{Contains-map}
+use Rattle.lalrpop_tables.proofs.Lists.{contains_map}
 use Rattle.lalrpop_tables.proofs.Lr0States.{nothing, never, stopped, Lists, Closes, exactly, one_kernel, construction, States-lr0}
 use Rattle.lalrpop_tables.proofs.Places.{same_some}
 use Rattle.lalrpop_tables.proofs.SameKernels.{Shifts-past, past_in_kernel}
 use Rattle.lalrpop_tables.proofs.Shifting.{begun_zero}
-use Rattle.lalrpop_tables.proofs.ValidClosures.{valid_of_start, start_of_valid, valid_of_moved, moved_of_valid, closure_along, moved_along}
+use Rattle.lalrpop_tables.proofs.ValidClosures.{valid_of_start, start_of_valid, valid_of_moved, moved_of_valid, moved_along}
+use Rattle.lalrpop_tables.proofs.BothFacts.{then_both, turned_both}
 
 -- ---- a closure of the start, or of what was moved
 module _ (g : Rules) (start : NonterminalString) (items kernel : List (Dotted Nil)) (closure : IsExactClosure g kernel items) where
   items_are : (A V : Production → ℕ → Type 0) → ((p : Production) (dot : ℕ) → InKernel kernel p dot ↔ A p dot) → ((p : Production) (dot : ℕ) → InClosure g.productions A p dot ↔ V p dot) → (p : Production) (dot : ℕ) → Contains (map dotted_of items) (p, dot) ↔ V p dot
   items_are A V kernel_is valid p dot = (
-    λ c. (valid p dot).0 (closure_along g.productions start (InKernel kernel) A (λ q d h. (kernel_is q d).0 h) ((closure.exact p dot).0 c)),
-    λ v. (closure.exact p dot).1 (closure_along g.productions start A (InKernel kernel) (λ q d h. (kernel_is q d).1 h) ((valid p dot).1 v)),
+    λ c. (valid p dot).0 (InClosure-more g.productions (InKernel kernel) A (λ q d h. (kernel_is q d).0 h) ((closure.exact p dot).0 c)),
+    λ v. (closure.exact p dot).1 (InClosure-more g.productions A (InKernel kernel) (λ q d h. (kernel_is q d).1 h) ((valid p dot).1 v)),
   )
 
   kernel_items : (p : Production) (d : ℕ) → InKernel kernel p (suc d) ↔ Contains (map dotted_of items) (p, suc d)
@@ -90,7 +90,7 @@ module _ (g : Grammar) (start : NonterminalString) (lookahead : Nil) (well : IsW
       ) in
       let valid = λ (p : Production) (dot : ℕ). both (valid_of_moved (productions g) start u x {p = p} {dot = dot}) (λ v. moved_of_valid (productions g) start u x v refl) in
       let i = l.behind.item in
-      let was = (f.items i.production i.index).0 (Contains-map dotted_of is i l.behind.among) in
+      let was = (f.items i.production i.index).0 (contains_map dotted_of is i l.behind.among) in
       record {
         live = inr (i.production, suc i.index, shifts x (drop (suc i.index) i.production.symbols) was (drop_split i.index i.production.symbols x l.behind.behind));
         items = items_are (rules_of g) start t.items.vec.items l.kernel closure (IsMoved (Valid (productions g) start u) x) (Valid (productions g) start (u ++ x ∷ [])) items valid;
@@ -130,7 +130,7 @@ module _ (g : Grammar) (start : NonterminalString) (lookahead : Nil) (well : IsW
       let c = Shifts-onto led.symbol is l.kernel l.shifts l.behind.item l.behind.among l.behind.behind in
       let d = Shifts-past led.symbol is l.kernel l.shifts i c in
       let e : dotted_of i ≡ (i.production, suc d.0) = ap (λ (k : ℕ). (i.production, k)) d.1 in
-      let there : InKernel l.kernel i.production (suc d.0) = subst (Contains (map dotted_of l.kernel)) e (Contains-map dotted_of l.kernel i c) in
+      let there : InKernel l.kernel i.production (suc d.0) = subst (Contains (map dotted_of l.kernel)) e (contains_map dotted_of l.kernel i c) in
       (i.production, d.0, subst (λ (k : List (Dotted Nil)). InKernel k i.production (suc d.0)) (over_kernel led.place m led.state t led.symbol led.target led.there at led.transition led.leads) there)
 
   apart : (n m : ℕ) (s t : State Nil) → n < m → slice_get states n ≡ Some s → slice_get states m ≡ Some t → ¬ ((p : Production) (dot : ℕ) → HasDotted s p dot ↔ HasDotted t p dot)

@@ -13,14 +13,14 @@ use Rattle.lalrpop_base.specs.declared.repr.Symbol.{Symbol}
 use Rattle.lalrpop_base.specs.declared.repr.grammar.Grammar.{Grammar}
 use Rattle.lalrpop_tables.specs.Words.{AreOwn, itself, dotted_of, InKernel, HasItemToken, IsClosureOf, ArePartlyBuilt, HasDotted, IsStateFor, HaveSameContents}
 use Rattle.lalrpop_tables.specs.Words.{AreSomeCanonicalStates, begun, HasTransition, moved}
-use Rattle.lalrpop_tables.proofs.Canonical.{start_items, start_tokens, moved_items, moved_tokens, Shifts-onto}
-use Rattle.lalrpop_tables.proofs.CanonicalContents.{then_both, turned_both}
+use Rattle.lalrpop_tables.proofs.Canonical.{start_items, start_tokens, moved_items, moved_tokens, Shifts-onto, InClosure-more}
 use Rattle.lalrpop_tables.proofs.Closing.{drop_split}
-use Rattle.lalrpop_tables.proofs.Lists.{Contains-map}
+use Rattle.lalrpop_tables.proofs.Lists.{contains_map}
 use Rattle.lalrpop_tables.proofs.Places.{same_some}
 use Rattle.lalrpop_tables.proofs.SameKernels.{Shifts-ascend, Shifts-past, kernel_items, kernel_tokens, IsMovedKernel, same_kernels}
 use Rattle.lalrpop_tables.proofs.Shifting.{Shifts-items, begun_zero}
-use Rattle.lalrpop_tables.proofs.ValidClosures.{valid_of_start, start_of_valid, token_of_start, start_of_token, valid_of_moved, moved_of_valid, token_of_moved, moved_of_token, closure_along, tokens_along, moved_along, moved_with_along}
+use Rattle.lalrpop_tables.proofs.ValidClosures.{valid_of_start, start_of_valid, token_of_start, start_of_token, valid_of_moved, moved_of_valid, token_of_moved, moved_of_token, tokens_along, moved_along, moved_with_along}
+use Rattle.lalrpop_tables.proofs.BothFacts.{then_both, turned_both}
 
 abbrev eof_of : Grammar → Bits
 eof_of g = with_bit no_bits (length g.terminals)
@@ -44,8 +44,8 @@ module _ (g : Grammar) (start : NonterminalString) (items kernel : List (Dotted 
       (valid : (p : Production) (dot : ℕ) → InClosure ps A p dot ↔ V p dot) (valid_tokens : (p : Production) (dot : ℕ) (t : Token) → InTokenClosure ps V B p dot t ↔ T p dot t) where
     items_are : (p : Production) (dot : ℕ) → Here p dot ↔ V p dot
     items_are p dot = (
-      λ c. (valid p dot).0 (closure_along ps start (InKernel kernel) A (λ q d h. (kernel_is q d).0 h) ((closure.exact p dot).0 c)),
-      λ v. (closure.exact p dot).1 (closure_along ps start A (InKernel kernel) (λ q d h. (kernel_is q d).1 h) ((valid p dot).1 v)),
+      λ c. (valid p dot).0 (InClosure-more ps (InKernel kernel) A (λ q d h. (kernel_is q d).0 h) ((closure.exact p dot).0 c)),
+      λ v. (closure.exact p dot).1 (InClosure-more ps A (InKernel kernel) (λ q d h. (kernel_is q d).1 h) ((valid p dot).1 v)),
     )
 
     with_tokens : (p : Production) (dot : ℕ) (t : Token) → With p dot t ↔ T p dot t
@@ -97,7 +97,7 @@ module _ (g : Grammar) (start : NonterminalString) (well : IsWellFormed g) (own 
       let valid = λ (p : Production) (dot : ℕ). both (valid_of_moved (productions g) start u x {p = p} {dot = dot}) (λ v. moved_of_valid (productions g) start u x v refl) in
       let valid_tokens = λ (p : Production) (dot : ℕ) (k : Token). both (token_of_moved (productions g) start u x {p = p} {dot = dot} {t = k}) (λ v. moved_of_token (productions g) start u x v refl) in
       let i = l.behind.item in
-      let was = (f.items i.production i.index).0 (Contains-map dotted_of is i l.behind.among) in
+      let was = (f.items i.production i.index).0 (contains_map dotted_of is i l.behind.among) in
       record {
         live = inr (i.production, suc i.index, shifts x (drop (suc i.index) i.production.symbols) was (drop_split i.index i.production.symbols x l.behind.behind));
         items = items_are g start t.items.vec.items l.kernel closure (IsMoved (Valid (productions g) start u) x) (IsMovedWith (ValidToken (productions g) start u) x) (Valid (productions g) start (u ++ x ∷ [])) (ValidToken (productions g) start (u ++ x ∷ [])) items tokens valid valid_tokens;
@@ -141,7 +141,7 @@ module _ (g : Grammar) (start : NonterminalString) (well : IsWellFormed g) (own 
         let c = Shifts-onto led.symbol is l.kernel l.shifts l.behind.item l.behind.among l.behind.behind in
         let d = Shifts-past led.symbol is l.kernel l.shifts i c in
         let e : dotted_of i ≡ (i.production, suc d.0) = ap (λ (k : ℕ). (i.production, k)) d.1 in
-        let there : InKernel l.kernel i.production (suc d.0) = subst (Contains (map dotted_of l.kernel)) e (Contains-map dotted_of l.kernel i c) in
+        let there : InKernel l.kernel i.production (suc d.0) = subst (Contains (map dotted_of l.kernel)) e (contains_map dotted_of l.kernel i c) in
         (i.production, d.0, subst (λ (k : List (Dotted Bits)). InKernel k i.production (suc d.0)) (over_kernel led.place m led.state t led.symbol led.target led.there at led.transition led.leads) there)
 
     apart : (n m : ℕ) (s t : State Bits) → n < m → slice_get states n ≡ Some s → slice_get states m ≡ Some t → ¬ HaveSameContents g.terminals s t

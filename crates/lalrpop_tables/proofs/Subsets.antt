@@ -2,10 +2,11 @@
 use Rattle.std.proofs.Common.{◌≡◌, ◌≢◌, ℕ, zero, suc, ◌<◌, ◌≤◌, ◌⊎◌, List, [], ◌∷◌, ◌++◌, map, refl, sym, ap, subst, ◌∙◌, arith, Bool, true, false, cond, eqb-true, eq-eqb}
 use Rattle.std.specs.Prelude.{Contains, ◌||◌, ◌==◌}
 use Rattle.std.proofs.lemmas.List.Elements.{Contains-append_left, Contains-append_right}
-use Rattle.std.proofs.lemmas.Bool.{or_cases, cases_eq, cases_lt}
+use Rattle.std.proofs.lemmas.Bool.{cases_eq, cases_lt}
 use Rattle.std.proofs.Common.{⊎_elim}
-use Rattle.lalrpop_base.specs.Words.{Bits, has, no_bits, with_bit, join, has-no_bits, has-with_bit, has-join, same_bits}
-use Rattle.lalrpop_tables.proofs.Lists.{Contains-here, Contains-map}
+use Rattle.lalrpop_base.specs.Words.{Bits, has, no_bits, with_bit, join, has-no_bits, has-with_bit, same_bits}
+use Rattle.lalrpop_tables.proofs.Lists.{contains_head, contains_map}
+use Rattle.lalrpop_tables.proofs.BitSets.{join_left, join_cases}
 use Rattle.lalrpop_tables.specs.Counts.{one_if, count, IsBelow}
 
 one_few : (b : Bool) → one_if b ≤ 1
@@ -49,18 +50,12 @@ has_none : (m : ℕ) (s : Bits) → IsBelow m s → (q : ℕ) → m ≤ q → (b
 has_none m s below q l true e = let less = below q e in absurd (omega arith)
 has_none m s below q l false e = refl
 
-join_more : (s t : Bits) (q : ℕ) → has s q ≡ true → has (join s t) q ≡ true
-join_more s t q h = has-join s t q ∙ ap (λ b. b || has t q) h
-
-pub join_has_cases : (s t : Bits) (q : ℕ) → has (join s t) q ≡ true → (has s q ≡ true) ⊎ (has t q ≡ true)
-join_has_cases s t q h = or_cases (has s q) (has t q) (sym (has-join s t q) ∙ h)
-
 pub join_below : (m : ℕ) (s t : Bits) → IsBelow m s → IsBelow m t → IsBelow m (join s t)
-join_below m s t a b q h = ⊎_elim (λ l. a q l) (λ r. b q r) (join_has_cases s t q h)
+join_below m s t a b q h = ⊎_elim (λ l. a q l) (λ r. b q r) (join_cases s t q h)
 
 join_same : (m : ℕ) (s t : Bits) → IsBelow m s → IsBelow m t → count m (join s t) ≤ count m s → s ≡ join s t
 join_same m s t a b most = same_bits s (join s t) (λ q.
-    ⊎_elim (λ low. count_same m s (join s t) (join_more s t) most q low)
+    ⊎_elim (λ low. count_same m s (join s t) (join_left s t) most q low)
     (λ high. has_none m s a q high (has s q) refl ∙ sym (has_none m (join s t) (join_below m s t a b) q high (has (join s t) q) refl))
     (cases_lt q m))
 
@@ -82,12 +77,12 @@ part zero s = no_bits
 part (suc m) s = cond (has s m) (with_bit (part m s) m) (part m s)
 
 in_subsets_at : (m : ℕ) (s : Bits) (b : Bool) → Contains (subsets m) (part m s) → Contains (subsets m ++ map (λ s. with_bit s m) (subsets m)) (cond b (with_bit (part m s) m) (part m s))
-in_subsets_at m s true c = Contains-append_right (subsets m) (map (λ s. with_bit s m) (subsets m)) (with_bit (part m s) m) (Contains-map (λ s. with_bit s m) (subsets m) (part m s) c)
+in_subsets_at m s true c = Contains-append_right (subsets m) (map (λ s. with_bit s m) (subsets m)) (with_bit (part m s) m) (contains_map (λ s. with_bit s m) (subsets m) (part m s) c)
 in_subsets_at m s false c = Contains-append_left (subsets m) (map (λ s. with_bit s m) (subsets m)) (part m s) c
 
 in_subsets : (m : ℕ) (s : Bits) → Contains (subsets m) (part m s)
 unfolding subsets part
-in_subsets zero s = Contains-here no_bits []
+in_subsets zero s = contains_head no_bits []
 in_subsets (suc m) s = in_subsets_at m s (has s m) (in_subsets m s)
 
 has_part_at : (m : ℕ) (s : Bits) (q : ℕ) (b : Bool) → has s m ≡ b → (q < m → has (part m s) q ≡ has s q) → q < suc m → (m ≤ q → has (part m s) q ≡ false) → has (cond b (with_bit (part m s) m) (part m s)) q ≡ has s q

@@ -13,7 +13,7 @@ use Rattle.lalrpop_tables.specs.NumberedStates.{EdgesAscend, listed_transitions,
 use Rattle.lalrpop_tables.specs.Numbers.{SymbolsAscend}
 use Rattle.lalrpop_tables.specs.declared.lane_table.follow_sets.numbered_state.NumberedState.{NumberedState}
 use Rattle.lalrpop_tables.proofs.NonterminalEdges.{Listed-at, pair_at, pairs_differ}
-use Rattle.lalrpop_tables.proofs.Places.{push_cases, slice_get-longer, slice_get-push_at}
+use Rattle.lalrpop_tables.proofs.Places.{push_cases, slice_get-longer, slice_get-push_at, slice_get-append_behind}
 
 -- a transition is one of a state
 pub record IsEdgeOf (o : Option NumberedState) (place : ℕ) (e : ℕ × ℕ) : Type 0 where
@@ -29,11 +29,6 @@ Edge-of (Some state) place e at = record { state = state; is = refl; edge = at }
 -- the transitions of a state
 pub edges_are : (states : List NumberedState) (s : ℕ) (state : NumberedState) → slice_get states s ≡ Some state → transitions_at states s ≡ state.edges.items
 edges_are states s state at = ap listed_transitions at
-
--- what stands in a list behind another
-behind_at : {X : Type 0} (xs ys : List X) (k : ℕ) → slice_get (xs ++ ys) (length xs + k) ≡ slice_get ys k
-behind_at [] ys k = let e : 0 + k ≡ k = omega arith in ap (slice_get ys) e
-behind_at (x ∷ xs) ys k = let e : suc (length xs) + k ≡ suc (length xs + k) = omega arith in ap (slice_get (x ∷ (xs ++ ys))) e ∙ behind_at xs ys k
 
 -- a place in two lists is one in the first, or one in the second behind it
 append_at : {X : Type 0} (xs ys : List X) (k : ℕ) (x : X) → slice_get (xs ++ ys) k ≡ Some x → (slice_get xs k ≡ Some x) ⊎ ((j : ℕ) × (k ≡ length xs + j) × (slice_get ys j ≡ Some x))
@@ -90,7 +85,7 @@ module _ (symbols : List Symbol) (ascend : SymbolsAscend symbols) (done : List N
             ap (λ (n : ℕ). slice_get (pairs ++ added) (n + place)) (first_kept s (slice_get_within done s e.state was)) ∙ slice_get-longer pairs added (get_or firsts s 0 + place) (s, x) old
         | inr last ↦
             let at : slice_get state.edges.items place ≡ Some (x, target) = ap (λ (t : NumberedState). slice_get t.edges.items place) last.1 ∙ e.edge in
-            ap (λ (n : ℕ). slice_get (pairs ++ added) (get_or more n 0 + place)) last.0 ∙ ap (λ (n : ℕ). slice_get (pairs ++ added) (n + place)) first_new ∙ behind_at pairs added place ∙ pair_at symbols number ascend state.edges.items up place x target a at symbol ∙ ap (λ (n : ℕ). Some (n, x)) (sym last.0)
+            ap (λ (n : ℕ). slice_get (pairs ++ added) (get_or more n 0 + place)) last.0 ∙ ap (λ (n : ℕ). slice_get (pairs ++ added) (n + place)) first_new ∙ slice_get-append_behind pairs added place ∙ pair_at symbols number ascend state.edges.items up place x target a at symbol ∙ ap (λ (n : ℕ). Some (n, x)) (sym last.0)
       ]
 
   -- each node is that of a transition

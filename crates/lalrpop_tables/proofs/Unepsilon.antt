@@ -24,7 +24,7 @@ use Rattle.lalrpop_tables.proofs.CheckSending.{same_place}
 use Rattle.lalrpop_tables.proofs.Closing.{drop_split, split_drop}
 use Rattle.lalrpop_tables.proofs.Gains.{Gains-none, Gains-then}
 use Rattle.lalrpop_tables.proofs.GainsSome.{GainsSome-last, GainsSome-then, GainsSome-all, GainsSome-wider}
-use Rattle.lalrpop_tables.proofs.Lists.{Contains-map}
+use Rattle.lalrpop_tables.proofs.Lists.{contains_map}
 use Rattle.lalrpop_tables.proofs.SomeOf.{some_none, some_kept, some_last, some_cases}
 use Rattle.lalrpop_tables.proofs.Unshifting.{back_cases}
 use Rattle.lalrpop_tables.proofs.Walks.{Visits-none, Visits-then, Visits-same}
@@ -125,7 +125,7 @@ module _ {L : Type 0} (states : List (State L)) (n : ℕ) (s : State L) (there :
       }
 
   pub item_there : (item : Dotted L) → Contains s.items.vec.items item → Contains (places_in states n).items (item.production, item.index)
-  item_there item c = subst (λ (h : Contents). Contains h.items (item.production, item.index)) (sym contents_here) (Contains-map (λ (i : Dotted L). (i.production, i.index)) s.items.vec.items item c)
+  item_there item c = subst (λ (h : Contents). Contains h.items (item.production, item.index)) (sym contents_here) (contains_map (λ (i : Dotted L). (i.production, i.index)) s.items.vec.items item c)
 
   pub item_behind : (a : NonterminalString) (item : Dotted L) → IsParent a item → drop item.index item.production.symbols ≡ Nonterminal a ∷ rest_of item
   item_behind a item parent =

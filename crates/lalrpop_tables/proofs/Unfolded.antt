@@ -1,7 +1,6 @@
 -- A closure by nonterminals, item by item: the kernel, and all productions of the nonterminals with the dot in front.
 use Rattle.std.proofs.Common.{◌≡◌, ℕ, zero, suc, ◌<◌, ◌⊎◌, inl, inr, List, [], ◌∷◌, ◌++◌, length, map, drop, refl, sym, ◌∙◌, ap, subst, arith, true, Some, option_map, Vec, Global}
 use Rattle.std.specs.Prelude.{Contains, slice_get, get_or}
-use Rattle.std.specs.List.{flat_map}
 use Rattle.std.specs.Map.{keys_of}
 use Rattle.std.proofs.lemmas.List.Elements.{Contains-append_left, Contains-append_right, Contains-append_cases}
 use Rattle.std.specs.declared.cmp.Ordering.TheVariants.{Less}
@@ -26,7 +25,7 @@ use Rattle.lalrpop_tables.proofs.Ascending.{less_apart, less_number}
 use Rattle.lalrpop_tables.proofs.Bounded.{in_flat_map}
 use Rattle.lalrpop_tables.proofs.Closing.{Tokens-end, all_listed}
 use Rattle.lalrpop_tables.proofs.KnownTerminals.{bit_held, held_bit, holds_more}
-use Rattle.lalrpop_tables.proofs.Lists.{Contains-here, Contains-map, Contains-none, Contains-there, place}
+use Rattle.lalrpop_tables.proofs.Lists.{contains_map, Contains-none, place, of_flat}
 use Rattle.lalrpop_tables.proofs.Numbers.{at_number, items_ascend, stands_at}
 use Rattle.lalrpop_tables.proofs.Readings.{Meant-closure}
 use Rattle.lalrpop_tables.proofs.Places.{contains_at, filled, one_place, same_some, slice_get_at}
@@ -53,13 +52,6 @@ list_stands (v ∷ vs) (suc x) l = list_stands vs x (omega arith)
 pub list_read : (vs : List (Vec ℕ Global)) (x : ℕ) (v : Vec ℕ Global) → x < length vs → v ≡ get_or vs x v → list_at vs x ≡ v.items
 list_read vs x v l e =
     same_some (list_at vs x) v.items (sym (list_stands vs x l) ∙ slice_get-map (λ (w : Vec ℕ Global). w.items) vs x ∙ ap (option_map (λ (w : Vec ℕ Global). w.items)) (slice_get_at vs x v l e))
-
-of_flat_map : {X Y : Type 0} (f : X → List Y) (xs : List X) (y : Y) → Contains (flat_map f xs) y → (x : X) × Contains xs x × Contains (f x) y
-of_flat_map f [] y c = absurd (Contains-none y c)
-of_flat_map f (x ∷ xs) y c = elim (Contains-append_cases (f x) (flat_map f xs) y c) [
-  | inl here ↦ (x, Contains-here x xs, here)
-  | inr later ↦ let r = of_flat_map f xs y later in (r.0, Contains-there x xs r.0 r.1, r.2)
-]
 
 -- ---- entries of a map, as items
 pub items_unfolded : {L : Type 0} (meaning : L → Bits) (items : List (Dotted Nil)) (entries : List (ℕ × L)) →
@@ -109,18 +101,18 @@ module _ {L : Type 0} (meaning : L → Bits) (begins : Rules → List Symbol →
   part_of e = (e.number, meaning e.lookahead)
 
   in_kernel_of : (e : Numbered L) → Contains list e → Contains kernel (front (part_of e))
-  in_kernel_of e c = Contains-map (meant meaning) (items_by n.items.items list) (item_by n.items.items e) (Contains-map (item_by n.items.items) list e c)
+  in_kernel_of e c = contains_map (meant meaning) (items_by n.items.items list) (item_by n.items.items e) (contains_map (item_by n.items.items) list e c)
 
   kernel_part : (e : Numbered L) → Contains list e → IsPart (part_of e)
   kernel_part e c =
       let k = in_kernel_of e c in
       record {
         within = known e c;
-        begun = inr (Contains-map dotted_of kernel (front (part_of e)) k);
+        begun = inr (contains_map dotted_of kernel (front (part_of e)) k);
         reached = kernel_reached begins passes g n kernel (front (part_of e)) k;
         tokens = λ t h. kernel_token begins passes g n kernel (front (part_of e)) t k h;
         gives = sharing.kernel_shared (front (part_of e)) k;
-        fits = (are_items.each (item_by n.items.items e) (Contains-map (item_by n.items.items) list e c)).tokens;
+        fits = (are_items.each (item_by n.items.items e) (contains_map (item_by n.items.items) list e c)).tokens;
       }
 
   -- what the numbers of a nonterminal are
@@ -168,7 +160,7 @@ module _ {L : Type 0} (meaning : L → Bits) (begins : Rules → List Symbol →
   are_parts f c = elim (Contains-append_cases (parts_in meaning list) (unfolded n shared) f c) [
     | inl own ↦ let e = contains_of_map part_of list f own in subst IsPart e.2 (kernel_part e.0 e.1)
     | inr more ↦
-        let e = of_flat_map fronts_of shared f more in
+        let e = of_flat fronts_of shared f more in
         let k = contains_of_map (λ (k : ℕ). (k, e.0.1)) (list_at n.expansions.items e.0.0) f e.2 in
         subst IsPart k.2 (front_part e.0.0 e.0.1 k.0 e.1 k.1)
   ]
@@ -196,7 +188,7 @@ module _ {L : Type 0} (meaning : L → Bits) (begins : Rules → List Symbol →
     found_part : (f : ℕ × Bits) → Contains parts f → IsFound found (dotted_at n.items.items f.0) f.1
     found_part f c =
         let h = gathers.found f c in
-        record { set = h.set; entry = Contains-map decoded table (f.0, h.set) h.entry; all = h.all }
+        record { set = h.set; entry = contains_map decoded table (f.0, h.set) h.entry; all = h.all }
 
     -- what a part gives to a production of the nonterminal behind its dot is found
     module _ (q : Production) (after : List Symbol) (among : Contains g.productions q) where
@@ -213,7 +205,7 @@ module _ {L : Type 0} (meaning : L → Bits) (begins : Rules → List Symbol →
       shared_found : (x : ℕ) (tokens : Bits) → IsNamed n x q.nonterminal → Contains shared (x, tokens) → IsFound found (begun_of q) tokens
       shared_found x tokens named c =
           let k = front_number x tokens named c in
-          let e = Contains-append_right (parts_in meaning list) (unfolded n shared) (k.0, tokens) (in_flat_map fronts_of shared (x, tokens) (k.0, tokens) c (Contains-map (λ (k : ℕ). (k, tokens)) (list_at n.expansions.items x) k.0 k.1)) in
+          let e = Contains-append_right (parts_in meaning list) (unfolded n shared) (k.0, tokens) (in_flat_map fronts_of shared (x, tokens) (k.0, tokens) c (contains_map (λ (k : ℕ). (k, tokens)) (list_at n.expansions.items x) k.0 k.1)) in
           subst (λ (d : Dotted Nil). IsFound found d tokens) k.2 (found_part (k.0, tokens) e)
 
       settled_here : (e : ℕ × Bits) → Contains table e → drop (front e).index (front e).production.symbols ≡ Nonterminal q.nonterminal ∷ after → HasGiven begins passes g found e.1 q after
@@ -246,7 +238,7 @@ module _ {L : Type 0} (meaning : L → Bits) (begins : Rules → List Symbol →
           let d = contains_of_map (meant meaning) (items_by n.items.items list) i c in
           let e = contains_of_map (item_by n.items.items) list d.0 d.1 in
           let is : front (part_of e.0) ≡ i = ap (meant meaning) e.2 ∙ d.2 in
-          let f = found_part (part_of e.0) (Contains-append_left (parts_in meaning list) (unfolded n shared) (part_of e.0) (Contains-map part_of list e.0 e.1)) in
+          let f = found_part (part_of e.0) (Contains-append_left (parts_in meaning list) (unfolded n shared) (part_of e.0) (contains_map part_of list e.0 e.1)) in
           (dotted_at n.items.items e.0.number, ap dotted_of is, subst (λ (b : Bits). IsFound found (dotted_at n.items.items e.0.number) b) (ap (λ (j : Dotted Bits). j.lookahead) is) f);
       keys = λ e c.
           let m = found_of e c in
@@ -308,7 +300,7 @@ module _ {L : Type 0} (meaning : L → Bits) (begins : Rules → List Symbol →
       let read : ℕ × L → ℕ × Bits = λ e. (e.0, meaning e.1) in
       let within : AreNumbered n.items.items items = λ d c.
       let e = contains_of_map numbered_of entries d c in
-      let f = part_at table gathers (read e.0) (Contains-map read entries e.0 e.1) in
+      let f = part_at table gathers (read e.0) (contains_map read entries e.0 e.1) in
       subst (λ (x : Numbered L). x.number < length n.items.items) e.2 (subst (λ (k : ℕ). k < length n.items.items) f.2 f.1.within) in
       let ascend : Ascend (items_by n.items.items items) = items_ascend n.items.items numbers.items.ascend items within rise in
       let same : map item_of (found table gathers) ≡ map (meant meaning) (items_by n.items.items items) = items_unfolded meaning n.items.items entries in

@@ -9,7 +9,7 @@ use Rattle.lalrpop_tables.specs.Words.{dotted_of, meant, IsItemOf, AreItems, Are
 use Rattle.std.proofs.lemmas.List.{length-map}
 use Rattle.lalrpop_base.proofs.ContentsViews.{contains_of_map, some_of_map}
 use Rattle.lalrpop_tables.proofs.Bounded.{lists, in_flat_map, kernels_few}
-use Rattle.lalrpop_tables.proofs.Lists.{Contains-map, Contains-range}
+use Rattle.lalrpop_tables.proofs.Lists.{contains_map, Contains-range}
 use Rattle.lalrpop_tables.proofs.Places.{apart_from_differ}
 use Rattle.lalrpop_tables.proofs.Readings.{items_meant}
 use Rattle.lalrpop_tables.proofs.Subsets.{subsets, among_subsets}
@@ -35,7 +35,7 @@ among_items g i of =
     let l = of.dot in
     let set = among_subsets (length g.terminals + 2) i.lookahead (fits_below g i.lookahead of.tokens) in
     let dot = Contains-range (length i.production.symbols + 1) i.index (omega arith) in
-    let here = Contains-map (λ s. made i.production i.index s) sets i.lookahead set in
+    let here = contains_map (λ s. made i.production i.index s) sets i.lookahead set in
     in_flat_map (of_production sets) g.productions i.production i of.production
     (in_flat_map (at_dot sets i.production) (range_with_len 0 (length i.production.symbols + 1)) i.index i dot here)
 

@@ -22,7 +22,7 @@ use Rattle.lalrpop_tables.proofs.Closing.{drop_split, split_drop}
 use Rattle.lalrpop_tables.proofs.EdgeLeads.{leads_edge}
 use Rattle.lalrpop_tables.proofs.Gains.{Gains-none, Gains-then, Gains-same}
 use Rattle.lalrpop_tables.proofs.GainsSome.{GainsSome-last}
-use Rattle.lalrpop_tables.proofs.Lists.{Contains-none, Contains-here, Contains-cases, Contains-reverse, Contains-from_reverse}
+use Rattle.lalrpop_tables.proofs.Lists.{Contains-none, contains_head, contains-cons, Contains-reverse, Contains-from_reverse}
 use Rattle.lalrpop_tables.proofs.Places.{same_some}
 use Rattle.lalrpop_tables.proofs.SomeOf.{some_none, some_kept, some_last, some_cases}
 use Rattle.lalrpop_tables.proofs.Stepping.{source_edge, edge_source}
@@ -95,7 +95,7 @@ module _ {L : Type 0} (ground : Ground L) (place : Place) (x : Symbol) where
     whole = append_assoc h.done (q ∷ []) left ∙ ap (λ (xs : List StateIndex). h.done ++ xs) (sym first) ∙ h.whole;
     leading = λ r d. elim (Contains-append_cases h.done (q ∷ []) r d) [
       | inl o ↦ h.leading r o
-      | inr n ↦ elim (Contains-cases q [] r n) [ inl e ↦ subst (λ (y : StateIndex). leads (S y.0) x ≡ Some place.state) e edge | inr z ↦ absurd (Contains-none r z) ]
+      | inr n ↦ elim (contains-cons q [] r n) [ inl e ↦ subst (λ (y : StateIndex). leads (S y.0) x ≡ Some place.state) e edge | inr z ↦ absurd (Contains-none r z) ]
     ];
     gains = λ k. Gains-then k Nowhere Nowhere Nowhere Nothing Nothing Nothing (λ l r. Some_of (IsStep l r) h.done) (IsPair q.0 place.state) (λ l r. Some_of (IsStep l r) (h.done ++ q ∷ []))
         (λ row n. n) (λ row n. n) (λ row n. inl n) (λ row bit n. n) (λ row bit n. n) (λ row bit n. inl n)
@@ -108,7 +108,7 @@ module _ {L : Type 0} (ground : Ground L) (place : Place) (x : Symbol) where
   -- a source that is left
   pub left_edge : (before left all : List StateIndex) (q : StateIndex) (a b : LaneTable) (t u : Walk) → IsGround ground → all ≡ reverse (sources_over ground.state_graph.now x (record { 0 = place.state })) → before ≡ q ∷ left → IsUnshifting before all a b t u → Contains (edges ground.states.now) (edge q x (record { 0 = place.state }))
   left_edge before left all q a b t u on is first h =
-      let there : Contains all q = subst (λ (xs : List StateIndex). Contains xs q) h.whole (Contains-append_right h.done before q (subst (λ (xs : List StateIndex). Contains xs q) (sym first) (Contains-here q left))) in
+      let there : Contains all q = subst (λ (xs : List StateIndex). Contains xs q) h.whole (Contains-append_right h.done before q (subst (λ (xs : List StateIndex). Contains xs q) (sym first) (contains_head q left))) in
       let sources = sources_over ground.state_graph.now x (record { 0 = place.state }) in
       source_edge ground.state_graph.now (edges ground.states.now) x (record { 0 = place.state }) q on.graph (Contains-from_reverse sources q (subst (λ (xs : List StateIndex). Contains xs q) is there))
 

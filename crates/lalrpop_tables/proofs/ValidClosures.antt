@@ -64,10 +64,6 @@ module _ (g : List Production) (start : NonterminalString) where
     moved_of_token (passed_on q after v b h n) z = inherits q after (moved_of_token v z) b h n
 
   -- ---- closures of more are more
-  pub closure_along : (A B : Production → ℕ → Type 0) → ((p : Production) (dot : ℕ) → A p dot → B p dot) → {p : Production} {dot : ℕ} → InClosure g A p dot → InClosure g B p dot
-  closure_along A B f {p} {dot} (in_kernel k) = in_kernel (f p dot k)
-  closure_along A B f (expanded q after c b h) = expanded q after (closure_along A B f c) b h
-
   pub tokens_along : (I J : Production → ℕ → Type 0) (A B : Production → ℕ → Token → Type 0) → ((p : Production) (dot : ℕ) → I p dot → J p dot) → ((p : Production) (dot : ℕ) (t : Token) → A p dot t → B p dot t) →
       {p : Production} {dot : ℕ} {t : Token} → InTokenClosure g I A p dot t → InTokenClosure g J B p dot t
   tokens_along I J A B f k {p} {dot} {t} (with_token c) = with_token (k p dot t c)

@@ -6,14 +6,14 @@ use Rattle.lalrpop_base.specs.Words.{AllDiffer}
 use Rattle.lalrpop_tables.specs.Words.{IsAdded, Visits}
 use Rattle.lalrpop_tables.specs.declared.lane_table.lane.walk.Walk.{Walk}
 use Rattle.lalrpop_tables.specs.declared.place.Place.{Place}
-use Rattle.lalrpop_tables.proofs.Lists.{Contains-none, Contains-here, Contains-cases}
+use Rattle.lalrpop_tables.proofs.Lists.{Contains-none, contains_head, contains-cons}
 
 -- ---- one place
 module _ (key : Place) (old new : Walk) (added : IsAdded key old.visited.keys new.visited.keys) (differ : AllDiffer new.visited.keys) where
   -- it is new
   pub Visits-new : length new.visited.keys ≡ length old.visited.keys + 1 → new.waiting.items ≡ old.waiting.items ++ key ∷ [] → Visits (λ k. key ≡ k) old new
   Visits-new more pushed =
-      let here : Contains new.waiting.items key = subst (λ (ks : List Place). Contains ks key) (sym pushed) (Contains-append_right old.waiting.items (key ∷ []) key (Contains-here key [])) in
+      let here : Contains new.waiting.items key = subst (λ (ks : List Place). Contains ks key) (sym pushed) (Contains-append_right old.waiting.items (key ∷ []) key (contains_head key [])) in
       record {
         kept = added.kept;
         there = λ k e. subst (Contains new.visited.keys) e added.there;
@@ -21,7 +21,7 @@ module _ (key : Place) (old new : Walk) (added : IsAdded key old.visited.keys ne
         stays = λ k c. subst (λ (ks : List Place). Contains ks k) (sym pushed) (Contains-append_left old.waiting.items (key ∷ []) k c);
         waits = λ k c. elim (Contains-append_cases old.waiting.items (key ∷ []) k (subst (λ (ks : List Place). Contains ks k) pushed c)) [
           | inl o ↦ inl o
-          | inr d ↦ elim (Contains-cases key [] k d) [ inl e ↦ inr (subst (Contains new.visited.keys) e added.there) | inr n ↦ absurd (Contains-none k n) ]
+          | inr d ↦ elim (contains-cons key [] k d) [ inl e ↦ inr (subst (Contains new.visited.keys) e added.there) | inr n ↦ absurd (Contains-none k n) ]
         ];
         differ = λ _. differ;
         weighed = let l : length new.waiting.items ≡ length old.waiting.items + 1 = ap length pushed ∙ length-append old.waiting.items (key ∷ []) in omega arith;

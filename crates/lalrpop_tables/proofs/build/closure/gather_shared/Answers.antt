@@ -8,7 +8,7 @@ use Rattle.lalrpop_tables.specs.Entries.{GathersMore}
 use Rattle.lalrpop_tables.specs.Sharing.{list_at, unfolded, with_tokens}
 use Rattle.lalrpop_tables.specs.Words.{readings}
 use Rattle.lalrpop_tables.proofs.Gathering.{More-none, More-then}
-use Rattle.lalrpop_tables.proofs.Lists.{Contains-here, Contains-map}
+use Rattle.lalrpop_tables.proofs.Lists.{contains_head, contains_map}
 use Rattle.lalrpop_tables.proofs.Unfolded.{list_read}
 use Rattle.lalrpop_tables.proofs.build.closure.gather_shared.Goals as goal
 
@@ -21,8 +21,8 @@ index-requires g c =
     let e : ℕ × g.row.L.Denot = (c.in-Some.symbol.now, c.in-Some.tokens.now) in
     let read : ℕ × g.row.L.Denot → ℕ × Bits = λ e. (e.0, m e.1) in
     let split = rw c.in-Some.ensures.steps at c.loop-symbol.invariant.split in
-    let here = subst (λ (es : List (ℕ × g.row.L.Denot)). Contains es e) split (Contains-append_right c.loop-symbol.invariant.before (e ∷ c.next.new.self) e (Contains-here e c.next.new.self)) in
-    subst (λ (k : ℕ). c.in-Some.symbol.now < k) (sym c.args.numbers.now.expansions.ok.0) (c.requires (read e) (Contains-map read c.args.shared.now.entries e here))
+    let here = subst (λ (es : List (ℕ × g.row.L.Denot)). Contains es e) split (Contains-append_right c.loop-symbol.invariant.before (e ∷ c.next.new.self) e (contains_head e c.next.new.self)) in
+    subst (λ (k : ℕ). c.in-Some.symbol.now < k) (sym c.args.numbers.now.expansions.ok.0) (c.requires (read e) (contains_map read c.args.shared.now.entries e here))
 
 pub loop-symbol-preserved : goal.loop-symbol-preserved
 loop-symbol-preserved g c =
@@ -33,8 +33,8 @@ loop-symbol-preserved g c =
     let read : ℕ × g.row.L.Denot → ℕ × Bits = λ e. (e.0, m e.1) in
     let fronts : ℕ × Bits → List (ℕ × Bits) = λ e. with_tokens e.1 (list_at n.expansions.items e.0) in
     let split = rw c.in-Some.ensures.steps at c.loop-symbol.invariant.split in
-    let here = subst (λ (es : List (ℕ × g.row.L.Denot)). Contains es e) split (Contains-append_right before (e ∷ c.next.new.self) e (Contains-here e c.next.new.self)) in
-    let known = c.requires (read e) (Contains-map read c.args.shared.now.entries e here) in
+    let here = subst (λ (es : List (ℕ × g.row.L.Denot)). Contains es e) split (Contains-append_right before (e ∷ c.next.new.self) e (contains_head e c.next.new.self)) in
+    let known = c.requires (read e) (contains_map read c.args.shared.now.entries e here) in
     let list : list_at n.expansions.items c.in-Some.symbol.now ≡ c.deref.result.now = list_read n.expansions.items c.in-Some.symbol.now c.index.result.now known c.index.ensures ∙ sym c.deref.ensures.value in
     let more : unfolded n (readings m (before ++ e ∷ [])) ≡ unfolded n (readings m before) ++ with_tokens (m c.in-Some.tokens.now) c.deref.result.now =
     ap (unfolded n) (map-append read before (e ∷ []))

@@ -6,7 +6,7 @@ use Rattle.lalrpop_tables.specs.Numbers.{item_by, items_by}
 use Rattle.lalrpop_tables.specs.Sharing.{Shares, fronts_in}
 use Rattle.lalrpop_tables.specs.Words.{readings}
 use Rattle.lalrpop_tables.specs.declared.build.numbered.Numbered.{Numbered}
-use Rattle.lalrpop_tables.proofs.Lists.{Contains-map, Contains-none}
+use Rattle.lalrpop_tables.proofs.Lists.{contains_map, Contains-none}
 use Rattle.lalrpop_tables.proofs.SharedItems.{mapped_more, read_within}
 use Rattle.lalrpop_tables.proofs.Sharing.{Shares-nothing, Shares-then}
 use Rattle.lalrpop_tables.proofs.build.closure.share_fronts.Goals as goal
@@ -19,7 +19,7 @@ share-requires-clause-known g c =
     let front : ℕ → Numbered Bits = λ k. record { number = k; lookahead = g.L.Lookahead.meaning c.args.tokens.now } in
     let i = c.loop-number.number-index in
     let x = get_or c.args.fronts.now i 0 in
-    c.requires.known (front x) (Contains-map front c.args.fronts.now x (i, c.loop-number-test.true, sym (read_within c.args.fronts.now i c.loop-number-test.true)))
+    c.requires.known (front x) (contains_map front c.args.fronts.now x (i, c.loop-number-test.true, sym (read_within c.args.fronts.now i c.loop-number-test.true)))
 
 pub loop-number-preserved : goal.loop-number-preserved
 loop-number-preserved g c =

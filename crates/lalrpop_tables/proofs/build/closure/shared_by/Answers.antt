@@ -5,7 +5,7 @@ use Rattle.std.proofs.lemmas.List.{nil_from_length}
 use Rattle.lalrpop_base.specs.Words.{Bits, Dotted}
 use Rattle.lalrpop_tables.specs.Numbers.{items_by}
 use Rattle.lalrpop_tables.specs.Words.{meant}
-use Rattle.lalrpop_tables.proofs.Lists.{Contains-here}
+use Rattle.lalrpop_tables.proofs.Lists.{contains_head}
 use Rattle.lalrpop_tables.proofs.Readings.{items_meant, readings_keys}
 use Rattle.lalrpop_tables.proofs.SharedItems.{front_known, fronts_are, number_known}
 use Rattle.lalrpop_tables.proofs.Sharing.{Sharing-start, Sharing-step, Sharing-smaller}
@@ -52,13 +52,13 @@ loop-symbol-preserved-in-Some-2 g c =
 pub loop-symbol-smaller : goal.loop-symbol-smaller
 loop-symbol-smaller g c =
     let before = rw c.in-Some.ensures.items at c.loop-symbol.invariant in
-    let key = before.queued c.in-Some.symbol (Contains-here c.in-Some.symbol c.pop_front.new.self.items) in
+    let key = before.queued c.in-Some.symbol (contains_head c.in-Some.symbol c.pop_front.new.self.items) in
     absurd ((rw c.in_default-2.is at c.in_ok-tokens.ensures.none) (subst (λ (ks : List ℕ). Contains ks c.in-Some.symbol) (readings_keys g.L.Lookahead.meaning c.loop-symbol.shared.entries) key))
 
 pub loop-symbol-preserved : goal.loop-symbol-preserved
 loop-symbol-preserved g c =
     let before = rw c.in-Some.ensures.items at c.loop-symbol.invariant in
-    let key = before.queued c.in-Some.symbol (Contains-here c.in-Some.symbol c.pop_front.new.self.items) in
+    let key = before.queued c.in-Some.symbol (contains_head c.in-Some.symbol c.pop_front.new.self.items) in
     absurd ((rw c.in_default-2.is at c.in_ok-tokens.ensures.none) (subst (λ (ks : List ℕ). Contains ks c.in-Some.symbol) (readings_keys g.L.Lookahead.meaning c.loop-symbol.shared.entries) key))
 
 pub returns : goal.returns

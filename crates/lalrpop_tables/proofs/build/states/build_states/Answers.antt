@@ -5,7 +5,7 @@ use Rattle.lalrpop_base.specs.Words.{Dotted}
 use Rattle.lalrpop_tables.specs.Numbers.{AreAllNumbered, items_by, kernels_by}
 use Rattle.lalrpop_tables.specs.Words.{IsClosureBy, begun}
 use Rattle.lalrpop_tables.proofs.ConflictLists.{Listed-more}
-use Rattle.lalrpop_tables.proofs.Lists.{Contains-map}
+use Rattle.lalrpop_tables.proofs.Lists.{contains_map}
 use Rattle.lalrpop_tables.proofs.MadeUntil.{nothing_listed, nothing_is_few, enough_for, Made-enough, Made-all}
 use Rattle.lalrpop_tables.proofs.NumberedBuilding.{Building-begun, Building-grown, Fewer-left}
 use Rattle.lalrpop_tables.proofs.Places.{contains_at}
@@ -36,7 +36,7 @@ build_state-requires-clause-kernels g c =
 pub build_state-requires-clause-kernel : goal.build_state-requires-clause-kernel
 build_state-requires-clause-kernel g c =
     let items = c.numbers-numbers.result.now.items.items in
-    c.loop-kernel.invariant.making.building.of (items_by items c.in-Some.kernel) (Contains-map (items_by items) c.loop-kernel.kernels.list c.in-Some.kernel (contains_at c.loop-kernel.kernels.list c.in-Some.kernel c.loop-kernel.kernels.handed c.in-Some.ensures.next))
+    c.loop-kernel.invariant.making.building.of (items_by items c.in-Some.kernel) (contains_map (items_by items) c.loop-kernel.kernels.list c.in-Some.kernel (contains_at c.loop-kernel.kernels.list c.in-Some.kernel c.loop-kernel.kernels.handed c.in-Some.ensures.next))
 
 pub loop-kernel-smaller : goal.loop-kernel-smaller
 loop-kernel-smaller g c =

@@ -10,7 +10,7 @@ use Rattle.lalrpop_tables.specs.Words.{Groups, IsEdgeAdded}
 use Rattle.lalrpop_tables.specs.Numbers.{NumberedGroups, groups_by, items_by, kernels_by, symbol_at}
 use Rattle.lalrpop_tables.specs.declared.build.numbered.Numbered.{Numbered}
 use Rattle.lalrpop_tables.proofs.Contained.{added_or_not, decided, decided_list, decided_numbered}
-use Rattle.lalrpop_tables.proofs.Lists.{Contains-map}
+use Rattle.lalrpop_tables.proofs.Lists.{contains_map}
 use Rattle.lalrpop_tables.proofs.Moves.{AreSomeEdges, Edges-none, Edges-more, Edges-all, groups_differ}
 use Rattle.lalrpop_tables.proofs.NumberedEdges.{all_known, differ_by, either_by, numbered_by, split_by, taken, taken_among}
 use Rattle.lalrpop_tables.proofs.NumberedMoves.{group_by, keys_differ_by, symbol_is}
@@ -54,7 +54,7 @@ loop-symbol-preserved g c =
     let symbol : c.in_ok-clone.field-0 ≡ x = c.in_ok-clone.ensures ∙ sym (symbol_is n.symbols.items c.in-Some.symbol c.index.result.now at) in
     record {
       edges = subst (λ (first : Groups g.row.L.Denot). AreSomeEdges (groups_by n groups) first (kernels_by items c.args.kernels.now) (kernels_by items c.add_state.new.self) c.add_edge.new.edges) (sym (map-append (group_by n) first (group ∷ [])))
-          (Edges-more (groups_by n groups) x kernel (Contains-map (group_by n) groups group among) (groups_by n first) (kernels_by items c.args.kernels.now) (kernels_by items c.loop-symbol.kernels) (kernels_by items c.add_state.new.self) c.loop-symbol.edges c.add_edge.new.edges c.in_ok-target.target.0 c.loop-symbol.invariant.edges
+          (Edges-more (groups_by n groups) x kernel (contains_map (group_by n) groups group among) (groups_by n first) (kernels_by items c.args.kernels.now) (kernels_by items c.loop-symbol.kernels) (kernels_by items c.add_state.new.self) c.loop-symbol.edges c.add_edge.new.edges c.in_ok-target.target.0 c.loop-symbol.invariant.edges
           (groups_differ (groups_by n groups) (groups_by n first) (groups_by n c.next.new.self) (x, kernel) decoded differ) (numbered_by items kernels c.in_ok-target.target.0 c.in-Some.items numbered) (either_by items c.loop-symbol.kernels.list kernels c.in-Some.items either) state.handed
           (differ_by items c.requires.numbers.1.items.ascend kernels all state.differ) (subst (λ (y : Symbol). IsEdgeAdded y c.in_ok-target.target c.loop-symbol.edges c.add_edge.new.edges) symbol c.in_ok-add_edge.ensures));
       known = all;

@@ -3,7 +3,7 @@ use Rattle.std.specs.Prelude.{Contains, IfSome, IsNone, option_copied}
 use Rattle.std.specs.Borrow.{Bor}
 use Rattle.std.specs.Map.{keys_of}
 use Rattle.lalrpop_base.specs.Words.{Bits, AllDiffer}
-use Rattle.lalrpop_tables.proofs.Lists.{Contains-map}
+use Rattle.lalrpop_tables.proofs.Lists.{contains_map}
 use Rattle.lalrpop_tables.proofs.Updates.{one_value}
 use Rattle.lalrpop_tables.proofs.check.sets.find_tokens.Goals as goal
 
@@ -13,7 +13,7 @@ copied P (Some b) h v e = subst P (cc) h
 
 module _ {K : Type 0} (key : K) (es : List (K × Bits)) where
   found_all : (o : Option (Bor Bits)) → IfSome o (λ b. Contains es (key, b.now)) → (IsNone o → ¬ Contains (keys_of es) key) → AllDiffer (keys_of es) → (set : Bits) → Contains es (key, set) → option_copied o ≡ Some set
-  found_all None h none differ set there = absurd (none (cc) (Contains-map (λ (e : K × Bits). e.0) es (key, set) there))
+  found_all None h none differ set there = absurd (none (cc) (contains_map (λ (e : K × Bits). e.0) es (key, set) there))
   found_all (Some b) h none differ set there = ap Some (one_value es differ key b.now set h there)
 
 pub returns-clause-found : goal.returns-clause-found
