@@ -2,7 +2,7 @@
 use Rattle.std.proofs.Common.{◌≡◌, ◌<◌, ◌≤◌, Bool, true, false, List, [], ◌∷◌, length, refl, sym, arith, cond, inl, inr}
 use Rattle.std.specs.Prelude.{filter, Contains}
 use mathlib.Core.Bool.{true≢false}
-use Rattle.lalrpop_tables.proofs.Lists.{Contains-none, contains-cons}
+use Rattle.lalrpop_tables.proofs.theory.lists.Lists.{Contains-none, contains-cons}
 
 module _ {X : Type 0} (P Q : X → Bool) (implies : (x : X) → Q x ≡ true → P x ≡ true) where
   step : (x : X) (q p : Bool) (a b : List X) → (q ≡ true → p ≡ true) → length a ≤ length b → length (cond q (x ∷ a) a) ≤ length (cond p (x ∷ b) b)

@@ -17,12 +17,12 @@ use Rattle.lalrpop_base.specs.declared.repr.Symbol.{Symbol}
 use Rattle.lalrpop_base.specs.declared.lr1_core.state.State.{State}
 use Rattle.lalrpop_base.specs.declared.lr1_core.state.StateIndex.{StateIndex}
 use Rattle.lalrpop_tables.specs.Words.{edges, over, nowhere, state_cmp}
-use Rattle.lalrpop_tables.specs.StateGraph.{LeadsTo}
-use Rattle.lalrpop_tables.proofs.Bounded.{in_flat_map}
-use Rattle.lalrpop_tables.proofs.EdgeLeads.{source_of_edge}
-use Rattle.lalrpop_tables.proofs.Lists.{contains_head, contains_tail, contains_map, Contains-range, apart-from_sorted, pigeonhole}
-use Rattle.lalrpop_tables.proofs.Places.{contains_at}
-use Rattle.lalrpop_tables.proofs.StateGraphs.{state_total}
+use Rattle.lalrpop_tables.specs.graphs.StateGraph.{LeadsTo}
+use Rattle.lalrpop_tables.proofs.theory.states.Bounded.{in_flat_map}
+use Rattle.lalrpop_tables.proofs.theory.states.EdgeLeads.{source_of_edge}
+use Rattle.lalrpop_tables.proofs.theory.lists.Lists.{contains_head, contains_tail, contains_map, Contains-range, apart-from_sorted, pigeonhole}
+use Rattle.lalrpop_tables.proofs.theory.lists.Places.{contains_at}
+use Rattle.lalrpop_tables.proofs.theory.graphs.StateGraphs.{state_total}
 use Rattle.lalrpop_lr1.specs.Words.{Backtrace, Meeting, StandsIn, Duty, come_to, take_up, come_to_each, take_up_each, items_at, AreSources}
 use Rattle.lalrpop_lr1.specs.Words.{meeting_cmp, IsInsertedPair, names_in, meetings, unmet, item_steps, duty_steps, work}
 use Rattle.lalrpop_lr1.specs.declared.trace.meeting.Met.{Met}

@@ -9,7 +9,7 @@ use Rattle.lalrpop_base.specs.declared.repr.Symbol.{Symbol}
 use Rattle.lalrpop_base.specs.declared.repr.Symbol.TheVariants.{Terminal}
 use Rattle.lalrpop_base.specs.declared.repr.TerminalString.{TerminalString}
 use Rattle.lalrpop_base.proofs.theory.Forests.{derives_forest, forest-terminal, first-nil, nullable-nil, nullable-cons}
-use Rattle.lalrpop_tables.proofs.Places.{filled}
+use Rattle.lalrpop_tables.proofs.theory.lists.Places.{filled}
 
 -- FIRST of the empty list holds Eof alone
 end_only : (g : Rules) (set : Bits) → IsFirstSet g [] set → (bit : ℕ) → has set bit ≡ true → bit ≡ length g.terminals

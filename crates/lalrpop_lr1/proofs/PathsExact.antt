@@ -6,8 +6,8 @@ use Rattle.std.proofs.lemmas.Bool.{or_cases}
 use mathlib.Core.Bool.{true≢false}
 use Rattle.lalrpop_base.specs.Words.{Exactly, AllDiffer}
 use Rattle.lalrpop_base.proofs.theory.Lists.{contains-cons, contains-nil, contains_head, contains_tail, contains_place, place_contains, same_some, some≢none}
-use Rattle.lalrpop_tables.proofs.Lists.{pigeonhole}
-use Rattle.lalrpop_tables.proofs.Places.{apart_from_differ}
+use Rattle.lalrpop_tables.proofs.theory.lists.Lists.{pigeonhole}
+use Rattle.lalrpop_tables.proofs.theory.lists.Places.{apart_from_differ}
 use Rattle.lalrpop_lr1.proofs.InlineApart.{Apart, apart_from, apart_to}
 use Rattle.lalrpop_lr1.proofs.InlineMembers.{from_flat_map, in_flat_map, in_map}
 use Rattle.lalrpop_lr1.proofs.PathLists.{in_reverse, from_reverse, apart_reverse, apart_flat_map}

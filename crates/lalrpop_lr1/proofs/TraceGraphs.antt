@@ -26,9 +26,9 @@ use Rattle.lalrpop_base.specs.declared.repr.Symbol.{Symbol}
 use Rattle.lalrpop_base.proofs.KernelLemmas.{IsNext, all_differ, list_grows, next_numbering, exact_by_cmp}
 use Rattle.lalrpop_base.proofs.MultimapLemmas.{tied_at, everywhere}
 use Rattle.lalrpop_tables.specs.Words.{listed}
-use Rattle.lalrpop_tables.proofs.Contained.{Decided, decided, added_or_not}
-use Rattle.lalrpop_tables.proofs.Lists.{contains_map, place}
-use Rattle.lalrpop_tables.proofs.Places.{push_cases, contains_at, same_some}
+use Rattle.lalrpop_tables.proofs.theory.states.Contained.{Decided, decided, added_or_not}
+use Rattle.lalrpop_tables.proofs.theory.lists.Lists.{contains_map, place}
+use Rattle.lalrpop_tables.proofs.theory.lists.Places.{push_cases, contains_at, same_some}
 use Rattle.lalrpop_lr1.specs.Words.{Graph, PlainEdge, plain, plain_edge, IsGraph, IsKept, IsFrom, SameLabels, HaveEnds, KeepPlaces, AddsBoth, AddsNoOther}
 use Rattle.lalrpop_lr1.specs.Words.{AddsEdge, places_from}
 use Rattle.lalrpop_lr1.specs.contracts.trace.node.TraceGraphNodeOrd.TheImpl as node_ord

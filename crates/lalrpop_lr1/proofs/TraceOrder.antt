@@ -12,9 +12,9 @@ use Rattle.lalrpop_base.specs.declared.repr.Symbol.{Symbol}
 use Rattle.lalrpop_base.specs.declared.repr.Symbol.TheVariants.{Nonterminal}
 use Rattle.lalrpop_base.specs.declared.lr1_core.state.StateIndex.{StateIndex}
 use Rattle.lalrpop_tables.specs.Words.{edges, state_cmp}
-use Rattle.lalrpop_tables.specs.StateGraph.{LeadsTo}
-use Rattle.lalrpop_tables.proofs.Contained.{Decided}
-use Rattle.lalrpop_tables.proofs.Lists.{Contains-none, contains_head, contains_tail, contains-cons}
+use Rattle.lalrpop_tables.specs.graphs.StateGraph.{LeadsTo}
+use Rattle.lalrpop_tables.proofs.theory.states.Contained.{Decided}
+use Rattle.lalrpop_tables.proofs.theory.lists.Lists.{Contains-none, contains_head, contains_tail, contains-cons}
 use Rattle.lalrpop_lr1.specs.Words.{Graph, PlainEdge, plain, plain_edges, AddsBoth, AddsEdge, AddsInTurn, all_added, left_out, put_behind, ends_of, stop_edge}
 use Rattle.lalrpop_lr1.specs.Words.{onward_edges, Duty, come_to, take_up, come_to_each, take_up_each, items_at, AreSources, Walks, ends, known, meets, passes}
 use Rattle.lalrpop_lr1.specs.Words.{IsInOrder, Backtrace, Meeting, GoesOn, own_edge, meeting_cmp, IsInsertedPair, HasMet, AddsInOrder, AreMet, WalksOn}

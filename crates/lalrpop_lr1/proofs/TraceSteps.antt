@@ -10,7 +10,7 @@ use Rattle.lalrpop_base.specs.declared.repr.NonterminalString.{NonterminalString
 use Rattle.lalrpop_base.specs.declared.repr.Production.{Production}
 use Rattle.lalrpop_base.specs.declared.repr.Symbol.TheVariants.{Nonterminal}
 use Rattle.lalrpop_base.specs.declared.lr1_core.state.StateIndex.{StateIndex}
-use Rattle.lalrpop_tables.proofs.Lists.{contains_head, contains_tail}
+use Rattle.lalrpop_tables.proofs.theory.lists.Lists.{contains_head, contains_tail}
 use Rattle.lalrpop_lr1.specs.Words.{Backtrace, Meeting, Takes, GoesOn, Duty, come_to, take_up, come_to_each, take_up_each, items_at, stop_edge, onward_edges, AreSources}
 use Rattle.lalrpop_lr1.specs.Words.{IsInsertedPair, AddsInOrder, duties_of, duties_left, names_in, AreNamed, work, WalksOn, IsStep}
 use Rattle.lalrpop_lr1.specs.declared.trace.meeting.Met.{Met}

@@ -10,7 +10,7 @@ use Rattle.lalrpop_base.specs.declared.repr.Symbol.{Symbol}
 use Rattle.lalrpop_base.specs.declared.repr.Symbol.TheVariants.{Nonterminal as NonterminalOf, Terminal}
 use Rattle.lalrpop_base.specs.declared.repr.TerminalString.{TerminalString}
 use Rattle.lalrpop_base.proofs.ContentsViews.{contains_map, at_contains}
-use Rattle.lalrpop_tables.proofs.Closing.{drop_split}
+use Rattle.lalrpop_tables.proofs.theory.closures.Closing.{drop_split}
 use Rattle.lalrpop_lr1.specs.Words.{name_of, cursor_list, IsRightSide, CarryRightSides, Graph, PlainEdge, plain, AreKnownEdges, Backtrace, IsTraced, first}
 use Rattle.lalrpop_lr1.specs.Words.{given, Gives, onward, itself, IsTraceOf, dot_edge, dotted, HasOwnProductions, HasOwnTerminals}
 use Rattle.lalrpop_lr1.specs.Traces.{stops}

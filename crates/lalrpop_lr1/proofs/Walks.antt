@@ -2,7 +2,7 @@
 use Rattle.std.proofs.Common.{◌≡◌, ℕ, zero, suc, ◌+◌, ◌-◌, ◌<◌, ◌≤◌, List, [], ◌∷◌, ◌++◌, length, take, reverse, refl, sym, ◌∙◌, ap, arith, cond, true}
 use Rattle.std.specs.Prelude.{slice_get, Some, None, unwrap_or}
 use Rattle.std.proofs.lemmas.List.{take_all, reverse-append, reverse-reverse, length-append, length-reverse}
-use Rattle.lalrpop_tables.proofs.Places.{slice_get-push_at, same_some}
+use Rattle.lalrpop_tables.proofs.theory.lists.Places.{slice_get-push_at, same_some}
 use Rattle.std.proofs.lemmas.Option.{slice_get_within}
 use Rattle.lalrpop_lr1.proofs.PathsLeft.{take_none}
 use Rattle.lalrpop_lr1.specs.Words.{node_count, numbers_from, total, weight, numbers_at, load_of, load, frames, edge_weight, bound, bound_of, IsEnded}

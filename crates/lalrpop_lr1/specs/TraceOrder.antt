@@ -9,7 +9,7 @@ use Rattle.lalrpop_base.specs.declared.repr.Symbol.TheVariants.{Nonterminal}
 use Rattle.lalrpop_base.specs.declared.lr1_core.state.State.{State}
 use Rattle.lalrpop_base.specs.declared.lr1_core.state.StateIndex.{StateIndex}
 use Rattle.lalrpop_tables.specs.Words.{edges, state_cmp}
-use Rattle.lalrpop_tables.specs.StateGraph.{LeadsTo}
+use Rattle.lalrpop_tables.specs.graphs.StateGraph.{LeadsTo}
 use Rattle.lalrpop_lr1.specs.TraceGraphs.{Graph, PlainEdge, plain_edges}
 use Rattle.lalrpop_lr1.specs.Traces.{Backtrace, Meeting, GoesOn, dotted, dot_edge, own_edge}
 use Rattle.lalrpop_lr1.specs.declared.trace.ground.Traced.{Traced}

@@ -19,8 +19,8 @@ mod transitions;
 
 ghost use Rattle.std.specs.Prelude.{IfOk, IfErr};
 ghost use Rattle.lalrpop_base.specs.Words.{IsWellFormed};
-ghost use Rattle.lalrpop_tables.specs.Lr1Answers.{AreBuiltTablesOf, FailsOn};
-ghost use Rattle.lalrpop_tables.specs.TablesOrCount.{AreBuiltTablesOrCount};
+ghost use Rattle.lalrpop_tables.specs.answers.Lr1Answers.{AreBuiltTablesOf, FailsOn};
+ghost use Rattle.lalrpop_tables.specs.answers.TablesOrCount.{AreBuiltTablesOrCount};
 
 use by_lanes::tables_by_lanes;
 use canonical::{build_canonical_states, canonical_states_or_count};

@@ -6,7 +6,7 @@ mod states;
 
 ghost use Rattle.std.specs.Prelude.{◌↔◌, ◌<◌, IfOk, IsTrue, length};
 ghost use Rattle.lalrpop_base.specs.Words.{AreClosed, AreChecked, AreCoherent, contents, AreFaithful, IsWellFormed, productions};
-ghost use Rattle.lalrpop_tables.specs.Check.{PassCheck, HoldCarried};
+ghost use Rattle.lalrpop_tables.specs.check.Check.{PassCheck, HoldCarried};
 
 use self::carrying::{all_have_carried, carried};
 use self::states::{are_right_states, listed_states, targets};

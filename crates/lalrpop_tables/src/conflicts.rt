@@ -4,8 +4,8 @@ ghost use Rattle.std.specs.List.{flat_map};
 ghost use Rattle.lalrpop_base.specs.StateConflicts.{HasNoConflict};
 ghost use Rattle.lalrpop_base.specs.Words.{has, HasToken, state_conflicts};
 ghost use Rattle.lalrpop_base.specs.declared.lookahead.token.Token.TheVariants.{Terminal as TokenOf};
-ghost use Rattle.lalrpop_tables.specs.HeldShifts.{HoldsNoShift, IsHeldBit, ShareNoBit};
-ghost use Rattle.lalrpop_tables.specs.Results.{HaveNoConflict};
+ghost use Rattle.lalrpop_tables.specs.conflicts.HeldShifts.{HoldsNoShift, IsHeldBit, ShareNoBit};
+ghost use Rattle.lalrpop_tables.specs.answers.Results.{HaveNoConflict};
 
 use lalrpop_base::lookahead::Lookahead;
 use lalrpop_base::lookahead::token::Token;

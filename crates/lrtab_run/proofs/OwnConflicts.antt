@@ -15,8 +15,8 @@ use Rattle.lalrpop_base.specs.declared.repr.TerminalString.{TerminalString}
 use Rattle.lalrpop_base.specs.declared.repr.grammar.Grammar.{Grammar}
 use Rattle.lalrpop_base.proofs.ContentsViews.{contains_at, contains_of_map, contains_map}
 use Rattle.lalrpop_tables.specs.Words.{AreStatesOf, AreAllConflicts, canonical_of, reductions_of, seen}
-use Rattle.lalrpop_tables.proofs.Grammars.{known_symbols}
-use Rattle.lalrpop_tables.proofs.Lists.{Contains-none, contains_head, contains_tail, contains-cons}
+use Rattle.lalrpop_tables.proofs.theory.grammars.Grammars.{known_symbols}
+use Rattle.lalrpop_tables.proofs.theory.lists.Lists.{Contains-none, contains_head, contains_tail, contains-cons}
 use Rattle.lalrpop_lr1.proofs.InlineMembers.{from_flat_map}
 use Rattle.lrtab_run.specs.Explaining.{AreOwnStates, IsOwnConflict}
 

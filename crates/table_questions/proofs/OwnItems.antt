@@ -14,7 +14,7 @@ use Rattle.lalrpop_base.proofs.theory.Lanes.{items_at}
 use Rattle.lalrpop_base.proofs.theory.Valid.{of_grammar}
 use Rattle.table_questions.specs.Traces.{AreReady, IsTracing}
 use Rattle.table_questions.specs.declared.ask.lane_tables.Traces.{Traces}
-use Rattle.lalrpop_tables.proofs.Grammars.{productions_among}
+use Rattle.lalrpop_tables.proofs.theory.grammars.Grammars.{productions_among}
 use Rattle.lalrpop_tables.specs.Words.{dot_of, HaveOwnItems, IsReadyToTrace, ReducesOwn, AreLr0States, on_any, lr0_contents}
 use Rattle.lalrpop_tables.specs.declared.lane_table.lane.LaneTracer.{LaneTracer}
 

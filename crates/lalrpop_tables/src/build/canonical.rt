@@ -1,9 +1,9 @@
 //! LR(1) states by the canonical construction.
 ghost use Rattle.std.specs.Prelude.{◌≡◌, IfOk, IfErr};
 ghost use Rattle.lalrpop_base.specs.Words.{IsWellFormed};
-ghost use Rattle.lalrpop_tables.specs.Lr1Answers.{AreBuiltTablesOf, FailsOn};
-ghost use Rattle.lalrpop_tables.specs.Results.{canonical_of};
-ghost use Rattle.lalrpop_tables.specs.TablesOrCount.{AreBuiltTablesOrCount};
+ghost use Rattle.lalrpop_tables.specs.answers.Lr1Answers.{AreBuiltTablesOf, FailsOn};
+ghost use Rattle.lalrpop_tables.specs.answers.Results.{canonical_of};
+ghost use Rattle.lalrpop_tables.specs.answers.TablesOrCount.{AreBuiltTablesOrCount};
 ghost use Rattle.lalrpop_tables.specs.declared.build.options.Method.TheVariants.{Canonical};
 
 use super::lr::Lr;
@@ -18,7 +18,7 @@ use lalrpop_base::repr::grammar::Grammar;
 use std::alloc::Global;
 
 // The construction whose start symbol Eof follows.
-#[tactic(auto, using(crate::proofs::Lookaheads::eof_fits))]
+#[tactic(auto, using(crate::proofs::theory::states::Lookaheads::eof_fits))]
 fn canonical_construction<'grammar>(
     alloc: Global,
     grammar: &'grammar Grammar,

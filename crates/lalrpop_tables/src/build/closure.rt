@@ -3,11 +3,11 @@
 ghost use Rattle.std.specs.Prelude.{◌≡◌, ◌<◌, ◌∷◌, [], ℕ, IfOk, OnOk, IfSome, IfNone, Contains, length, map};
 ghost use Rattle.std.specs.Map.{keys_of};
 ghost use Rattle.lalrpop_base.specs.Words.{Bits, Ordered};
-ghost use Rattle.lalrpop_tables.specs.Closure.{AreItemsBy, IsClosureBy, meant};
-ghost use Rattle.lalrpop_tables.specs.Entries.{IsQueued, GathersMore, readings};
-ghost use Rattle.lalrpop_tables.specs.Numbers.{AreNumbered, AreNumbers, item_by, items_by};
+ghost use Rattle.lalrpop_tables.specs.closures.Closure.{AreItemsBy, IsClosureBy, meant};
+ghost use Rattle.lalrpop_tables.specs.lists.Entries.{IsQueued, GathersMore, readings};
+ghost use Rattle.lalrpop_tables.specs.grammars.Numbers.{AreNumbered, AreNumbers, item_by, items_by};
 ghost use Rattle.lalrpop_tables.specs.declared.build.numbered.Numbered.{Numbered as ItemBy};
-ghost use Rattle.lalrpop_tables.specs.Sharing.{IsSharing, Shares, fronts_in, numbered_of, parts_in, unfolded, with_tokens};
+ghost use Rattle.lalrpop_tables.specs.closures.Sharing.{IsSharing, Shares, fronts_in, numbered_of, parts_in, unfolded, with_tokens};
 
 use super::lookahead_build::LookaheadBuild;
 use super::lr::Lr;

@@ -3,14 +3,14 @@ ghost use Rattle.std.specs.Prelude.{◌≡◌, IfOk, IfErr, MatchResult, map};
 ghost use Rattle.lalrpop_base.specs.Words.{FitsTokens, IsWellFormed, rules_of, productions_of};
 ghost use Rattle.lalrpop_base.specs.declared.repr.NonterminalString.{NonterminalString as Start};
 ghost use Rattle.lalrpop_base.specs.declared.repr.grammar.Grammar.{Grammar as Rules};
-ghost use Rattle.lalrpop_tables.specs.Closure.{AreItemsBy};
-ghost use Rattle.lalrpop_tables.specs.EarlyStop.{FailsAfterLr0, StopsFor};
-ghost use Rattle.lalrpop_tables.specs.EpsilonMoves.{AreBegunWith};
-ghost use Rattle.lalrpop_tables.specs.Lr0.{AreLr0States, HasLr0States, HaveNoNilConflict, ListsNilConflicts};
-ghost use Rattle.lalrpop_tables.specs.Lr1Answers.{AreBuiltTablesOf, FailsOn};
-ghost use Rattle.lalrpop_tables.specs.Numbers.{AreNumbered, AreNumbers, items_by};
-ghost use Rattle.lalrpop_tables.specs.Results.{AreTables, AreTablesFor, FailsBy, FailsFor, canonical_of};
-ghost use Rattle.lalrpop_tables.specs.States.{begun};
+ghost use Rattle.lalrpop_tables.specs.closures.Closure.{AreItemsBy};
+ghost use Rattle.lalrpop_tables.specs.early_stop.EarlyStop.{FailsAfterLr0, StopsFor};
+ghost use Rattle.lalrpop_tables.specs.closures.EpsilonMoves.{AreBegunWith};
+ghost use Rattle.lalrpop_tables.specs.canonical.Lr0.{AreLr0States, HasLr0States, HaveNoNilConflict, ListsNilConflicts};
+ghost use Rattle.lalrpop_tables.specs.answers.Lr1Answers.{AreBuiltTablesOf, FailsOn};
+ghost use Rattle.lalrpop_tables.specs.grammars.Numbers.{AreNumbered, AreNumbers, items_by};
+ghost use Rattle.lalrpop_tables.specs.answers.Results.{AreTables, AreTablesFor, FailsBy, FailsFor, canonical_of};
+ghost use Rattle.lalrpop_tables.specs.states.States.{begun};
 ghost use Rattle.lalrpop_tables.specs.declared.build.options.Method.TheVariants.{Canonical};
 
 use super::lookahead_build::LookaheadBuild;
@@ -44,8 +44,8 @@ pub struct Lr<'grammar, L: Lookahead> {
 
 impl<'grammar, L: Lookahead> Model for Lr<'grammar, L> {
     ghost use Rattle.lalrpop_base.specs.Words.{rules_of, productions_of};
-    ghost use Rattle.lalrpop_tables.specs.Lr0.{AreLr0States, HasLr0States, HaveNoNilConflict, ListsNilConflicts};
-    ghost use Rattle.lalrpop_tables.specs.Results.{Settings};
+    ghost use Rattle.lalrpop_tables.specs.canonical.Lr0.{AreLr0States, HasLr0States, HaveNoNilConflict, ListsNilConflicts};
+    ghost use Rattle.lalrpop_tables.specs.answers.Results.{Settings};
 
     ghost Value = { Settings L };
 
@@ -59,7 +59,7 @@ impl<'grammar, L: Lookahead> Model for Lr<'grammar, L> {
       stop_after = l.stop_after;
     } };
 
-    ghost use Rattle.lalrpop_tables.specs.Ready.{IsReady};
+    ghost use Rattle.lalrpop_tables.specs.states.Ready.{IsReady};
 
     ghost invariant = { λ l. IsReady l.grammar.now l.first_sets l.numbers (L.meaning l.lookahead) };
 }

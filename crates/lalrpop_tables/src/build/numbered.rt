@@ -1,7 +1,7 @@
 //! Items by number, and the kernels of states.
 ghost use Rattle.std.specs.Prelude.{◌≡◌};
 ghost use Rattle.lalrpop_base.specs.Words.{list_exact};
-ghost use Rattle.lalrpop_tables.specs.Numbers.{numbered_exact};
+ghost use Rattle.lalrpop_tables.specs.grammars.Numbers.{numbered_exact};
 
 use lalrpop_base::kernel_set;
 use lalrpop_base::lookahead::Lookahead;

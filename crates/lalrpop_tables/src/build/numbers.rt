@@ -7,7 +7,7 @@ pub(crate) mod symbols;
 
 ghost use Rattle.std.specs.Prelude.{◌≡◌, Contains, IfOk, IfSome, IsNone, Some, slice_get};
 ghost use Rattle.lalrpop_base.specs.Words.{IsWellFormed, Rules, rules_of};
-ghost use Rattle.lalrpop_tables.specs.Numbers.{AreNumbers};
+ghost use Rattle.lalrpop_tables.specs.grammars.Numbers.{AreNumbers};
 
 use dotted::dotted_productions;
 use expansions::expansions_of;

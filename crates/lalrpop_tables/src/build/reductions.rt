@@ -1,6 +1,6 @@
 //! The reductions of a state.
 ghost use Rattle.std.specs.Prelude.{◌≡◌, ◌++◌, ◌∷◌, [], IfOk, OnOk, map};
-ghost use Rattle.lalrpop_tables.specs.Transitions.{reductions_of, seen};
+ghost use Rattle.lalrpop_tables.specs.states.Transitions.{reductions_of, seen};
 
 use lalrpop_base::lookahead::Lookahead;
 use lalrpop_base::lr1_core::item::Item;

@@ -3,8 +3,8 @@ ghost use Rattle.std.specs.Prelude.{◌≡◌, ◌<◌, [], IfOk, OnOk, IfErr, �
 ghost use Rattle.std.specs.List.{flat_map};
 ghost use Rattle.lalrpop_base.specs.Words.{state_conflicts};
 ghost use Rattle.lalrpop_base.specs.declared.lr1_core.state.Conflict.{Conflict};
-ghost use Rattle.lalrpop_tables.specs.Results.{FailWith, HaveNoConflict};
-ghost use Rattle.lalrpop_tables.specs.TablesOrCount.{MatchTablesOrCount};
+ghost use Rattle.lalrpop_tables.specs.answers.Results.{FailWith, HaveNoConflict};
+ghost use Rattle.lalrpop_tables.specs.answers.TablesOrCount.{MatchTablesOrCount};
 
 use super::lr::Lr;
 use super::tables_or_count::TablesOrCount;

@@ -1,10 +1,10 @@
 //! The states of a grammar, by their kernels.
 ghost use Rattle.std.specs.Prelude.{◌≡◌, ◌↔◌, ◌∷◌, [], map, IsTrue, IfOk, OnOk, Some};
-ghost use Rattle.lalrpop_tables.specs.Closure.{AreItemsBy, IsClosureBy};
-ghost use Rattle.lalrpop_tables.specs.EarlyStop.{AreEnough, AreMadeFor};
-ghost use Rattle.lalrpop_tables.specs.Numbers.{AreAllNumbered, AreNumbered, AreNumbers, items_by, kernels_by};
-ghost use Rattle.lalrpop_tables.specs.Results.{AreStatesFor};
-ghost use Rattle.lalrpop_tables.specs.States.{IsBuiltBy, Extends, LeadsToAdded, begun};
+ghost use Rattle.lalrpop_tables.specs.closures.Closure.{AreItemsBy, IsClosureBy};
+ghost use Rattle.lalrpop_tables.specs.early_stop.EarlyStop.{AreEnough, AreMadeFor};
+ghost use Rattle.lalrpop_tables.specs.grammars.Numbers.{AreAllNumbered, AreNumbered, AreNumbers, items_by, kernels_by};
+ghost use Rattle.lalrpop_tables.specs.answers.Results.{AreStatesFor};
+ghost use Rattle.lalrpop_tables.specs.states.States.{IsBuiltBy, Extends, LeadsToAdded, begun};
 
 use super::closure::closure;
 use super::lookahead_build::LookaheadBuild;

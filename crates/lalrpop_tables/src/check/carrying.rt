@@ -2,8 +2,8 @@
 ghost use Rattle.std.specs.Prelude.{◌≡◌, ◌<◌, ◌↔◌, IfOk, OnOk, Contains, IsTrue, Some, true};
 ghost use Rattle.std.specs.Map.{keys_of};
 ghost use Rattle.lalrpop_base.specs.Words.{AreClosed, contents, EachItem, AllDiffer, IsWellFormed, productions, productions_of, rules_of};
-ghost use Rattle.lalrpop_tables.specs.CheckCarrying.{Sends, IsBegunAt, IsOver, Gives, target_in, AreCarried, HoldsCarried, AllHoldCarried};
-ghost use Rattle.lalrpop_tables.specs.Entries.{IsQueued};
+ghost use Rattle.lalrpop_tables.specs.check.CheckCarrying.{Sends, IsBegunAt, IsOver, Gives, target_in, AreCarried, HoldsCarried, AllHoldCarried};
+ghost use Rattle.lalrpop_tables.specs.lists.Entries.{IsQueued};
 
 use super::sets::find_tokens;
 use super::states::target;

@@ -3,8 +3,8 @@ use Rattle.std.proofs.lemmas.List.{nil_from_length}
 use Rattle.std.specs.Prelude.{IsTrue, MatchOption, Option, vec_len}
 use Rattle.lalrpop_base.specs.StateConflicts.{Reduction}
 use Rattle.lalrpop_base.specs.Words.{Bits, has}
-use Rattle.lalrpop_tables.specs.HeldShifts.{IsHeldBit, ShareNoBit}
-use Rattle.lalrpop_tables.proofs.FreeStates.{free_shifts, nothing_reduced_free, state_free}
+use Rattle.lalrpop_tables.specs.conflicts.HeldShifts.{IsHeldBit, ShareNoBit}
+use Rattle.lalrpop_tables.proofs.theory.conflicts.FreeStates.{free_shifts, nothing_reduced_free, state_free}
 use Rattle.lalrpop_tables.proofs.conflicts.has_no_conflict.Goals as goal
 
 pub returns-then-is_empty : goal.returns-then-is_empty

@@ -2,9 +2,9 @@
 ghost use Rattle.std.specs.Prelude.{◌≡◌, ◌++◌, [], IfOk, OnOk};
 ghost use Rattle.std.specs.List.{flat_map};
 ghost use Rattle.lalrpop_base.specs.Words.{productions, rules_of};
-ghost use Rattle.lalrpop_tables.specs.Ascending.{Ascend};
-ghost use Rattle.lalrpop_tables.specs.Numbering.{AddsThose, IsStartOf, all_dots, with_dots};
-ghost use Rattle.lalrpop_tables.specs.Numbers.{AreItemsOf, MovesToNext};
+ghost use Rattle.lalrpop_tables.specs.grammars.Ascending.{Ascend};
+ghost use Rattle.lalrpop_tables.specs.grammars.Numbering.{AddsThose, IsStartOf, all_dots, with_dots};
+ghost use Rattle.lalrpop_tables.specs.grammars.Numbers.{AreItemsOf, MovesToNext};
 
 use crate::check::sets::add_key;
 use lalrpop_base::lr1_core::item::{Item, Lr0Item};

@@ -1,7 +1,7 @@
 //! The productions of nonterminals, by number.
 ghost use Rattle.std.specs.Prelude.{◌≡◌, IfOk, OnOk, length};
-ghost use Rattle.lalrpop_tables.specs.Numbering.{AddsStart, AreAllExpansions, AreEmpty, IsNumberOf, lists_of};
-ghost use Rattle.lalrpop_tables.specs.Numbers.{SymbolsAscend};
+ghost use Rattle.lalrpop_tables.specs.grammars.Numbering.{AddsStart, AreAllExpansions, AreEmpty, IsNumberOf, lists_of};
+ghost use Rattle.lalrpop_tables.specs.grammars.Numbers.{SymbolsAscend};
 
 use super::symbols::number_of;
 use lalrpop_base::lr1_core::item::Lr0Item;

@@ -2,7 +2,7 @@
 ghost use Rattle.std.specs.Prelude.{◌≡◌, Contains, IfOk};
 ghost use Rattle.lalrpop_base.specs.Words.{Dotted, HasKnownTerminals};
 ghost use Rattle.lalrpop_base.specs.declared.lookahead.nil.Nil.{Nil};
-ghost use Rattle.lalrpop_tables.specs.Rests.{AreRests, IsRestOf};
+ghost use Rattle.lalrpop_tables.specs.grammars.Rests.{AreRests, IsRestOf};
 
 use lalrpop_base::first::FirstSets;
 use lalrpop_base::lookahead::token_set::TokenSet;

@@ -1,8 +1,8 @@
 //! The symbols behind dots, ascending, and their numbers.
 ghost use Rattle.std.specs.Prelude.{◌≡◌, IfOk, OnOk, Contains};
-ghost use Rattle.lalrpop_tables.specs.Numbering.{AddsThose, AreNumbersBehind, IsNumberOf};
-ghost use Rattle.lalrpop_tables.specs.Numbers.{AreBehindDots, IsNumberBehind, SymbolsAscend};
-ghost use Rattle.lalrpop_tables.specs.Transitions.{IsBehind};
+ghost use Rattle.lalrpop_tables.specs.grammars.Numbering.{AddsThose, AreNumbersBehind, IsNumberOf};
+ghost use Rattle.lalrpop_tables.specs.grammars.Numbers.{AreBehindDots, IsNumberBehind, SymbolsAscend};
+ghost use Rattle.lalrpop_tables.specs.states.Transitions.{IsBehind};
 
 use crate::check::sets::{add_key, has_key};
 use lalrpop_base::lr1_core::item::Lr0Item;

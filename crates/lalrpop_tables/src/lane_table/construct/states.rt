@@ -1,7 +1,7 @@
 //! All states of a construction, promoted and then resolved.
 ghost use Rattle.std.specs.Prelude.{IfOk, OnOk, MatchOption};
 ghost use Rattle.lalrpop_base.specs.Words.{rules_of};
-ghost use Rattle.lalrpop_tables.specs.LaneStates.{AreLaneStates, AreLaneTables, HaveMeetingLanes, HoldAllFrom, IsReadyToConstruct};
+ghost use Rattle.lalrpop_tables.specs.lane_states.LaneStates.{AreLaneStates, AreLaneTables, HaveMeetingLanes, HoldAllFrom, IsReadyToConstruct};
 
 use super::LaneTableConstruct;
 use super::promote::{lr0_states, promote_states};

@@ -1,8 +1,8 @@
 //! What a pass over states goes over.
 ghost use Rattle.lalrpop_base.specs.declared.repr.NonterminalString.{NonterminalString as Name};
 ghost use Rattle.lalrpop_base.specs.declared.repr.Symbol.TheVariants.{Nonterminal};
-ghost use Rattle.lalrpop_tables.specs.FollowNodes.{IsNodeName, IsPass};
-ghost use Rattle.lalrpop_tables.specs.Numbers.{AreExpansions};
+ghost use Rattle.lalrpop_tables.specs.follow_sets.FollowNodes.{IsNodeName, IsPass};
+ghost use Rattle.lalrpop_tables.specs.grammars.Numbers.{AreExpansions};
 
 use super::nodes::Nodes;
 use super::numbered_state::NumberedState;

@@ -1,8 +1,8 @@
 //! The start symbol by number, and its productions.
 ghost use Rattle.std.specs.Prelude.{IfOk};
 ghost use Rattle.lalrpop_base.specs.declared.repr.Symbol.TheVariants.{Nonterminal};
-ghost use Rattle.lalrpop_tables.specs.FollowNodes.{IsNumberOrCount, IsStart};
-ghost use Rattle.lalrpop_tables.specs.Numbers.{AreExpansions, SymbolsAscend};
+ghost use Rattle.lalrpop_tables.specs.follow_sets.FollowNodes.{IsNumberOrCount, IsStart};
+ghost use Rattle.lalrpop_tables.specs.grammars.Numbers.{AreExpansions, SymbolsAscend};
 
 use crate::build::numbers::Numbers;
 use crate::build::numbers::symbols::number_of;

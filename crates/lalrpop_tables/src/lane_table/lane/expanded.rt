@@ -9,7 +9,7 @@ ghost use Rattle.lalrpop_base.specs.Ties.{ties_then};
 ghost use Rattle.lalrpop_base.specs.contracts.repr.NonterminalStringPartialEq.TheImpl.Laws as name_partial_eq;
 ghost use Rattle.lalrpop_base.specs.contracts.repr.NonterminalStringEq.TheImpl.Laws as name_eq;
 ghost use Rattle.lalrpop_base.specs.contracts.repr.NonterminalStringOrd.TheImpl.Laws as name_ord;
-ghost use Rattle.lalrpop_tables.specs.Expanded.{expanded_exact};
+ghost use Rattle.lalrpop_tables.specs.lanes.Expanded.{expanded_exact};
 
 use crate::place::Place;
 use lalrpop_base::exact::Exact;

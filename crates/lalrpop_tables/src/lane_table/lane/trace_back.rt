@@ -1,9 +1,9 @@
 //! Traces a place back, over edges and without symbols.
 ghost use Rattle.std.specs.Prelude.{◌≡◌, ◌<◌, OnErr, OnOk, Contains, length};
 ghost use Rattle.lalrpop_base.specs.Words.{productions, rules_of};
-ghost use Rattle.lalrpop_tables.specs.LaneSteps.{AreExpanded, GainsAll, GainsOf, GainsSomeOf, GainsSomeOfAll, IsEndPlace, IsGround, VisitsOf};
-ghost use Rattle.lalrpop_tables.specs.LaneTables.{AreInRange};
-ghost use Rattle.lalrpop_tables.specs.LaneTraces.{TakesLane, TakesPartOfLane, places_in};
+ghost use Rattle.lalrpop_tables.specs.lanes.LaneSteps.{AreExpanded, GainsAll, GainsOf, GainsSomeOf, GainsSomeOfAll, IsEndPlace, IsGround, VisitsOf};
+ghost use Rattle.lalrpop_tables.specs.lane_tables.LaneTables.{AreInRange};
+ghost use Rattle.lalrpop_tables.specs.lanes.LaneTraces.{TakesLane, TakesPartOfLane, places_in};
 
 use super::expanded::Expanded;
 use super::ground::Ground;

@@ -4,7 +4,7 @@ use Rattle.lalrpop_base.specs.Words.{Dotted}
 use Rattle.lalrpop_base.specs.declared.lookahead.nil.Nil.{Nil}
 use Rattle.lalrpop_base.specs.declared.repr.Production.{Production}
 use Rattle.lalrpop_tables.specs.Words.{edges}
-use Rattle.lalrpop_tables.proofs.Lists.{Contains-none}
+use Rattle.lalrpop_tables.proofs.theory.lists.Lists.{Contains-none}
 use Rattle.lalrpop_lr1.specs.Words.{Duty, come_to, come_to_each, IsInOrder, asked, duties_of, duties_left, AreNamed, WalksOn}
 use Rattle.lalrpop_lr1.specs.declared.trace.meeting.Met.{Met}
 use Rattle.lalrpop_lr1.specs.declared.trace.meeting.Task.{Task}

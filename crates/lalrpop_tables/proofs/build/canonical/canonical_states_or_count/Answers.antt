@@ -2,9 +2,9 @@ use Rattle.std.proofs.Common.{ap, subst}
 use Rattle.std.proofs.lemmas.Result.{IfOk-weaker}
 use Rattle.lalrpop_base.specs.Words.{Bits}
 use Rattle.lalrpop_tables.specs.Words.{AreStatesFor, Begins, Construction, Settings, itself}
-use Rattle.lalrpop_tables.proofs.Grammars.{productions_own}
-use Rattle.lalrpop_tables.proofs.TablesOrCount.{Canonical-counted}
-use Rattle.lalrpop_tables.proofs.TokenTables.{Lists, Passes}
+use Rattle.lalrpop_tables.proofs.theory.grammars.Grammars.{productions_own}
+use Rattle.lalrpop_tables.proofs.theory.answers.TablesOrCount.{Canonical-counted}
+use Rattle.lalrpop_tables.proofs.theory.closures.TokenTables.{Lists, Passes}
 use Rattle.lalrpop_tables.proofs.build.canonical.canonical_states_or_count.Goals as goal
 
 pub returns : goal.returns

@@ -1,13 +1,13 @@
 use Rattle.std.proofs.Common.{◌<◌, List, sym, subst}
 use Rattle.std.proofs.lemmas.Result.{IfOk-weaker}
 use Rattle.lalrpop_base.specs.Words.{Ordered}
-use Rattle.lalrpop_tables.specs.Numbers.{AreNumbered, items_by}
+use Rattle.lalrpop_tables.specs.grammars.Numbers.{AreNumbered, items_by}
 use Rattle.lalrpop_tables.specs.Words.{IsClosureBy}
 use Rattle.lalrpop_tables.specs.declared.build.numbered.Numbered.{Numbered}
-use Rattle.lalrpop_tables.proofs.BothFacts.{IfOk-both}
-use Rattle.lalrpop_tables.proofs.Gathering.{Gathers-none}
-use Rattle.lalrpop_tables.proofs.SharedItems.{number_known}
-use Rattle.lalrpop_tables.proofs.Unfolded.{Closure-of}
+use Rattle.lalrpop_tables.proofs.theory.lists.BothFacts.{IfOk-both}
+use Rattle.lalrpop_tables.proofs.theory.lists.Gathering.{Gathers-none}
+use Rattle.lalrpop_tables.proofs.theory.closures.SharedItems.{number_known}
+use Rattle.lalrpop_tables.proofs.theory.closures.Unfolded.{Closure-of}
 use Rattle.lalrpop_tables.proofs.build.closure.closure.Goals as goal
 
 pub gather_shared-requires : goal.gather_shared-requires

@@ -1,6 +1,6 @@
 use Rattle.std.proofs.Common.{take}
-use Rattle.lalrpop_tables.specs.Entries.{GathersMore}
-use Rattle.lalrpop_tables.specs.Sharing.{with_tokens}
+use Rattle.lalrpop_tables.specs.lists.Entries.{GathersMore}
+use Rattle.lalrpop_tables.specs.closures.Sharing.{with_tokens}
 use Rattle.lalrpop_tables.specs.Words.{readings}
 use Rattle.lalrpop_tables.proofs.build.closure.gather_fronts.Given as goal
 

@@ -1,6 +1,6 @@
 use Rattle.std.proofs.Common.{take}
-use Rattle.lalrpop_tables.specs.Entries.{GathersMore}
-use Rattle.lalrpop_tables.specs.Sharing.{parts_in}
+use Rattle.lalrpop_tables.specs.lists.Entries.{GathersMore}
+use Rattle.lalrpop_tables.specs.closures.Sharing.{parts_in}
 use Rattle.lalrpop_tables.specs.Words.{readings}
 use Rattle.lalrpop_tables.proofs.build.closure.gather_kernel.Given as goal
 

@@ -1,6 +1,6 @@
 use Rattle.std.proofs.Common.{◌≡◌, ◌++◌, List, ℕ}
-use Rattle.lalrpop_tables.specs.Entries.{GathersMore}
-use Rattle.lalrpop_tables.specs.Sharing.{unfolded}
+use Rattle.lalrpop_tables.specs.lists.Entries.{GathersMore}
+use Rattle.lalrpop_tables.specs.closures.Sharing.{unfolded}
 use Rattle.lalrpop_tables.specs.Words.{readings}
 use Rattle.lalrpop_tables.proofs.build.closure.gather_shared.Given as goal
 

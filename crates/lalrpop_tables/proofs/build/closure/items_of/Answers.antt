@@ -1,8 +1,8 @@
 use Rattle.std.proofs.Common.{◌≡◌, ◌∙◌, ◌<◌, ◌++◌, List, ℕ, ap, sym, subst, append-nil, map}
 use Rattle.lalrpop_base.specs.Words.{Ordered}
-use Rattle.lalrpop_tables.specs.Sharing.{numbered_of}
+use Rattle.lalrpop_tables.specs.closures.Sharing.{numbered_of}
 use Rattle.lalrpop_tables.specs.declared.build.numbered.Numbered.{Numbered}
-use Rattle.lalrpop_tables.proofs.Unfolded.{numbers_rise}
+use Rattle.lalrpop_tables.proofs.theory.closures.Unfolded.{numbers_rise}
 use Rattle.lalrpop_tables.proofs.build.closure.items_of.Goals as goal
 
 pub returns-clause-rising : goal.returns-clause-rising

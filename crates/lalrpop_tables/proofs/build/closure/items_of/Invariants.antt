@@ -1,5 +1,5 @@
 use Rattle.std.proofs.Common.{◌≡◌, ◌++◌, map}
-use Rattle.lalrpop_tables.specs.Sharing.{numbered_of}
+use Rattle.lalrpop_tables.specs.closures.Sharing.{numbered_of}
 use Rattle.lalrpop_tables.proofs.build.closure.items_of.Given as goal
 
 abbrev pub invariant-loop-number : goal.invariant-loop-number

@@ -2,13 +2,13 @@ use Rattle.std.proofs.Common.{◌≡◌, ◌∙◌, ◌+◌, ◌++◌, ◌∷◌
 use Rattle.std.specs.Prelude.{get_or}
 use Rattle.std.proofs.lemmas.List.{take_all, map-append}
 use Rattle.lalrpop_base.specs.Words.{Bits, Dotted}
-use Rattle.lalrpop_tables.specs.Numbers.{item_by, items_by}
-use Rattle.lalrpop_tables.specs.Sharing.{Shares, fronts_in}
+use Rattle.lalrpop_tables.specs.grammars.Numbers.{item_by, items_by}
+use Rattle.lalrpop_tables.specs.closures.Sharing.{Shares, fronts_in}
 use Rattle.lalrpop_tables.specs.Words.{readings}
 use Rattle.lalrpop_tables.specs.declared.build.numbered.Numbered.{Numbered}
-use Rattle.lalrpop_tables.proofs.Lists.{contains_map, Contains-none}
-use Rattle.lalrpop_tables.proofs.SharedItems.{mapped_more, read_within}
-use Rattle.lalrpop_tables.proofs.Sharing.{Shares-nothing, Shares-then}
+use Rattle.lalrpop_tables.proofs.theory.lists.Lists.{contains_map, Contains-none}
+use Rattle.lalrpop_tables.proofs.theory.closures.SharedItems.{mapped_more, read_within}
+use Rattle.lalrpop_tables.proofs.theory.closures.Sharing.{Shares-nothing, Shares-then}
 use Rattle.lalrpop_tables.proofs.build.closure.share_fronts.Goals as goal
 
 pub loop-number-init : goal.loop-number-init

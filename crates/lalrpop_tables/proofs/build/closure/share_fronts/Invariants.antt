@@ -1,6 +1,6 @@
 use Rattle.std.proofs.Common.{take}
-use Rattle.lalrpop_tables.specs.Numbers.{items_by}
-use Rattle.lalrpop_tables.specs.Sharing.{Shares, fronts_in}
+use Rattle.lalrpop_tables.specs.grammars.Numbers.{items_by}
+use Rattle.lalrpop_tables.specs.closures.Sharing.{Shares, fronts_in}
 use Rattle.lalrpop_tables.specs.Words.{readings}
 use Rattle.lalrpop_tables.proofs.build.closure.share_fronts.Given as goal
 

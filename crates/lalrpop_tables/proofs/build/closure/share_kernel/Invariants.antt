@@ -1,6 +1,6 @@
 use Rattle.std.proofs.Common.{take, map}
-use Rattle.lalrpop_tables.specs.Numbers.{items_by}
-use Rattle.lalrpop_tables.specs.Sharing.{Shares}
+use Rattle.lalrpop_tables.specs.grammars.Numbers.{items_by}
+use Rattle.lalrpop_tables.specs.closures.Sharing.{Shares}
 use Rattle.lalrpop_tables.specs.Words.{meant, readings}
 use Rattle.lalrpop_tables.proofs.build.closure.share_kernel.Given as goal
 

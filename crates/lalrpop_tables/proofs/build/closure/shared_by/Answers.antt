@@ -3,12 +3,12 @@ use Rattle.std.specs.Prelude.{Contains}
 use Rattle.std.proofs.lemmas.Grind.{common_steps}
 use Rattle.std.proofs.lemmas.List.{nil_from_length}
 use Rattle.lalrpop_base.specs.Words.{Bits, Dotted}
-use Rattle.lalrpop_tables.specs.Numbers.{items_by}
+use Rattle.lalrpop_tables.specs.grammars.Numbers.{items_by}
 use Rattle.lalrpop_tables.specs.Words.{meant}
-use Rattle.lalrpop_tables.proofs.Lists.{contains_head}
-use Rattle.lalrpop_tables.proofs.Readings.{items_meant, readings_keys}
-use Rattle.lalrpop_tables.proofs.SharedItems.{front_known, fronts_are, number_known}
-use Rattle.lalrpop_tables.proofs.Sharing.{Sharing-start, Sharing-step, Sharing-smaller}
+use Rattle.lalrpop_tables.proofs.theory.lists.Lists.{contains_head}
+use Rattle.lalrpop_tables.proofs.theory.closures.Readings.{items_meant, readings_keys}
+use Rattle.lalrpop_tables.proofs.theory.closures.SharedItems.{front_known, fronts_are, number_known}
+use Rattle.lalrpop_tables.proofs.theory.closures.Sharing.{Sharing-start, Sharing-step, Sharing-smaller}
 use Rattle.lalrpop_tables.proofs.build.closure.shared_by.Goals as goal
 
 pub loop-symbol-init : goal.loop-symbol-init

@@ -1,8 +1,8 @@
 use Rattle.std.proofs.Common.{map}
-use Rattle.lalrpop_tables.specs.Numbers.{items_by}
-use Rattle.lalrpop_tables.specs.Sharing.{IsSharing}
+use Rattle.lalrpop_tables.specs.grammars.Numbers.{items_by}
+use Rattle.lalrpop_tables.specs.closures.Sharing.{IsSharing}
 use Rattle.lalrpop_tables.specs.Words.{meant, readings}
-use Rattle.lalrpop_tables.proofs.Sharing.{work}
+use Rattle.lalrpop_tables.proofs.theory.closures.Sharing.{work}
 use Rattle.lalrpop_tables.proofs.build.closure.shared_by.Given as goal
 
 abbrev pub invariant-loop-symbol : goal.invariant-loop-symbol

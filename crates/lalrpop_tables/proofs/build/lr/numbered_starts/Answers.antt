@@ -5,14 +5,14 @@ use Rattle.std.proofs.lemmas.Option.{slice_get_within}
 use Rattle.lalrpop_base.specs.Words.{Dotted}
 use Rattle.lalrpop_base.specs.declared.lookahead.nil.Nil.{Nil}
 use Rattle.lalrpop_base.specs.declared.repr.Production.{Production}
-use Rattle.lalrpop_tables.specs.Numbers.{AreNumbered, dotted_at, item_by, items_by}
+use Rattle.lalrpop_tables.specs.grammars.Numbers.{AreNumbered, dotted_at, item_by, items_by}
 use Rattle.lalrpop_tables.specs.Words.{begun, begun_of}
 use Rattle.lalrpop_tables.specs.declared.build.numbered.Numbered.{Numbered}
-use Rattle.lalrpop_tables.proofs.Grammars.{productions_among}
-use Rattle.lalrpop_tables.proofs.Lists.{Contains-none}
-use Rattle.lalrpop_tables.proofs.Numbers.{at_number}
-use Rattle.lalrpop_tables.proofs.NumberedMoves.{more_numbered}
-use Rattle.lalrpop_tables.proofs.SharedItems.{mapped_more}
+use Rattle.lalrpop_tables.proofs.theory.grammars.Grammars.{productions_among}
+use Rattle.lalrpop_tables.proofs.theory.lists.Lists.{Contains-none}
+use Rattle.lalrpop_tables.proofs.theory.grammars.Numbers.{at_number}
+use Rattle.lalrpop_tables.proofs.theory.states.NumberedMoves.{more_numbered}
+use Rattle.lalrpop_tables.proofs.theory.closures.SharedItems.{mapped_more}
 use Rattle.lalrpop_tables.proofs.build.lr.numbered_starts.Goals as goal
 
 some_by : (o : Option ℕ) → (IsNone o → ⊥) → IsSome o

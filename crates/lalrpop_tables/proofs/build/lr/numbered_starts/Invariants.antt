@@ -1,5 +1,5 @@
 use Rattle.std.proofs.Common.{◌≡◌, map, take}
-use Rattle.lalrpop_tables.specs.Numbers.{AreNumbered, items_by}
+use Rattle.lalrpop_tables.specs.grammars.Numbers.{AreNumbered, items_by}
 use Rattle.lalrpop_tables.specs.Words.{begun}
 use Rattle.lalrpop_tables.proofs.build.lr.numbered_starts.Given as goal
 

@@ -2,7 +2,7 @@ use Rattle.std.proofs.Common.{◌≡◌, ◌∙◌, ◌++◌, ◌∷◌, [], ap,
 use Rattle.std.proofs.lemmas.List.{take_more}
 use Rattle.lalrpop_base.specs.Words.{Dotted}
 use Rattle.lalrpop_tables.specs.Words.{reductions_of}
-use Rattle.lalrpop_tables.proofs.Moves.{reductions_of-append}
+use Rattle.lalrpop_tables.proofs.theory.states.Moves.{reductions_of-append}
 use Rattle.lalrpop_tables.proofs.build.reductions.reductions.Goals as goal
 
 pub loop-item-preserved : goal.loop-item-preserved

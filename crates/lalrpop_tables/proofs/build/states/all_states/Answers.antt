@@ -1,13 +1,13 @@
 use Rattle.std.proofs.Common.{◌∙◌, ap, subst, sym, List, map}
 use Rattle.std.proofs.lemmas.List.{length-map}
 use Rattle.lalrpop_base.specs.Words.{Dotted}
-use Rattle.lalrpop_tables.specs.Numbers.{AreAllNumbered, items_by, kernels_by}
+use Rattle.lalrpop_tables.specs.grammars.Numbers.{AreAllNumbered, items_by, kernels_by}
 use Rattle.lalrpop_tables.specs.Words.{begun}
-use Rattle.lalrpop_tables.proofs.Building.{Building-all}
-use Rattle.lalrpop_tables.proofs.ConflictLists.{States-of}
-use Rattle.lalrpop_tables.proofs.Lists.{contains_map}
-use Rattle.lalrpop_tables.proofs.NumberedBuilding.{Building-begun, Building-grown, Fewer-left}
-use Rattle.lalrpop_tables.proofs.Places.{contains_at}
+use Rattle.lalrpop_tables.proofs.theory.states.Building.{Building-all}
+use Rattle.lalrpop_tables.proofs.theory.conflicts.ConflictLists.{States-of}
+use Rattle.lalrpop_tables.proofs.theory.lists.Lists.{contains_map}
+use Rattle.lalrpop_tables.proofs.theory.states.NumberedBuilding.{Building-begun, Building-grown, Fewer-left}
+use Rattle.lalrpop_tables.proofs.theory.lists.Places.{contains_at}
 use Rattle.lalrpop_tables.proofs.build.states.all_states.Goals as goal
 
 pub loop-kernel-init : goal.loop-kernel-init

@@ -1,7 +1,7 @@
 use Rattle.std.proofs.Common.{map, ◌-◌}
-use Rattle.lalrpop_tables.specs.Numbers.{AreAllNumbered, kernels_by}
+use Rattle.lalrpop_tables.specs.grammars.Numbers.{AreAllNumbered, kernels_by}
 use Rattle.lalrpop_tables.specs.Words.{IsClosureBy, begun}
-use Rattle.lalrpop_tables.proofs.Building.{Building, kernels_limit}
+use Rattle.lalrpop_tables.proofs.theory.states.Building.{Building, kernels_limit}
 use Rattle.lalrpop_tables.proofs.build.states.all_states.Given as goal
 
 abbrev pub invariant-loop-kernel : goal.invariant-loop-kernel

@@ -1,9 +1,9 @@
 use Rattle.std.proofs.Common.{map, ◌-◌}
-use Rattle.lalrpop_tables.specs.Numbers.{AreAllNumbered, kernels_by}
+use Rattle.lalrpop_tables.specs.grammars.Numbers.{AreAllNumbered, kernels_by}
 use Rattle.lalrpop_tables.specs.Words.{IsClosureBy, begun}
-use Rattle.lalrpop_tables.proofs.MadeUntil.{Making}
+use Rattle.lalrpop_tables.proofs.theory.early_stop.MadeUntil.{Making}
 use Rattle.lalrpop_tables.proofs.build.states.build_states.Given as goal
-use Rattle.lalrpop_tables.proofs.Universe.{kernels_limit}
+use Rattle.lalrpop_tables.proofs.theory.states.Universe.{kernels_limit}
 
 abbrev pub invariant-loop-kernel : goal.invariant-loop-kernel
 invariant-loop-kernel g l = record {

@@ -1,8 +1,8 @@
 use Rattle.std.proofs.Common.{◌∙◌, ap, map, ◌∷◌, [], subst}
-use Rattle.lalrpop_tables.specs.Numbers.{items_by}
+use Rattle.lalrpop_tables.specs.grammars.Numbers.{items_by}
 use Rattle.lalrpop_tables.specs.Words.{AreItemsBy}
-use Rattle.lalrpop_tables.proofs.NumberedBuilding.{same_kernels}
-use Rattle.lalrpop_tables.proofs.NumberedEdges.{first_numbered, only_numbered}
+use Rattle.lalrpop_tables.proofs.theory.states.NumberedBuilding.{same_kernels}
+use Rattle.lalrpop_tables.proofs.theory.states.NumberedEdges.{first_numbered, only_numbered}
 use Rattle.lalrpop_tables.proofs.build.states.first_kernels.Goals as goal
 
 pub returns-clause-known : goal.returns-clause-known

@@ -5,11 +5,11 @@ use Rattle.std.proofs.lemmas.List.Elements.{Contains-append_left, Contains-appen
 use Rattle.lalrpop_base.specs.Words.{Dotted}
 use Rattle.lalrpop_base.specs.declared.lookahead.nil.Nil.{Nil}
 use Rattle.lalrpop_base.specs.declared.repr.Production.{Production}
-use Rattle.lalrpop_tables.specs.Numbers.{dotted_at, item_by, items_by}
+use Rattle.lalrpop_tables.specs.grammars.Numbers.{dotted_at, item_by, items_by}
 use Rattle.lalrpop_tables.specs.declared.build.numbered.Numbered.{Numbered}
-use Rattle.lalrpop_tables.proofs.Lists.{contains_head}
-use Rattle.lalrpop_tables.proofs.Merging.{taken}
-use Rattle.lalrpop_tables.proofs.SharedItems.{read_item}
+use Rattle.lalrpop_tables.proofs.theory.lists.Lists.{contains_head}
+use Rattle.lalrpop_tables.proofs.theory.collapse.Merging.{taken}
+use Rattle.lalrpop_tables.proofs.theory.closures.SharedItems.{read_item}
 use Rattle.lalrpop_tables.proofs.build.states.items_of.Goals as goal
 
 pub loop-item-init : goal.loop-item-init

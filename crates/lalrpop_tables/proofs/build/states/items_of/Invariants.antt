@@ -1,5 +1,5 @@
 use Rattle.std.proofs.Common.{◌≡◌, ◌++◌}
-use Rattle.lalrpop_tables.specs.Numbers.{items_by}
+use Rattle.lalrpop_tables.specs.grammars.Numbers.{items_by}
 use Rattle.lalrpop_tables.proofs.build.states.items_of.Given as goal
 
 abbrev pub invariant-loop-item : goal.invariant-loop-item

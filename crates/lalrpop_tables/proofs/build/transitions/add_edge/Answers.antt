@@ -1,6 +1,6 @@
 use Rattle.std.proofs.Common.{refl}
-use Rattle.lalrpop_tables.proofs.Orders.{name_order, name_exact, name_total, terminal_order, terminal_exact, terminal_total}
-use Rattle.lalrpop_tables.proofs.Moves.{Added-goto, Added-shift}
+use Rattle.lalrpop_tables.proofs.theory.lists.Orders.{name_order, name_exact, name_total, terminal_order, terminal_exact, terminal_total}
+use Rattle.lalrpop_tables.proofs.theory.states.Moves.{Added-goto, Added-shift}
 use Rattle.lalrpop_tables.proofs.build.transitions.add_edge.Goals as goal
 
 pub returns-in_ok-insert-in-Nonterminal : goal.returns-in_ok-insert-in-Nonterminal

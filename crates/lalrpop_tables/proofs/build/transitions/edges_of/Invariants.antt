@@ -1,6 +1,6 @@
 use Rattle.std.proofs.Common.{◌≡◌, ◌++◌}
-use Rattle.lalrpop_tables.specs.Numbers.{AreAllNumbered, groups_by, kernels_by}
-use Rattle.lalrpop_tables.proofs.Moves.{AreSomeEdges}
+use Rattle.lalrpop_tables.specs.grammars.Numbers.{AreAllNumbered, groups_by, kernels_by}
+use Rattle.lalrpop_tables.proofs.theory.states.Moves.{AreSomeEdges}
 use Rattle.lalrpop_tables.proofs.build.transitions.edges_of.Given as goal
 
 abbrev pub invariant-loop-symbol : goal.invariant-loop-symbol

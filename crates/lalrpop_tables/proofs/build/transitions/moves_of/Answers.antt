@@ -1,12 +1,12 @@
 use Rattle.std.proofs.Common.{◌≡◌, ◌+◌, ◌++◌, ◌∷◌, [], List, sym, subst, take}
 use Rattle.std.proofs.lemmas.List.{take_all}
 use Rattle.lalrpop_base.specs.Words.{Dotted}
-use Rattle.lalrpop_tables.specs.Numbers.{AreGroupsOf, NumberedGroups, groups_by, item_by, items_by}
+use Rattle.lalrpop_tables.specs.grammars.Numbers.{AreGroupsOf, NumberedGroups, groups_by, item_by, items_by}
 use Rattle.lalrpop_tables.specs.Words.{AreMoves}
 use Rattle.lalrpop_tables.specs.declared.build.numbered.Numbered.{Numbered}
-use Rattle.lalrpop_tables.proofs.Lists.{Contains-none}
-use Rattle.lalrpop_tables.proofs.Moves.{Moves-none, Moves-more}
-use Rattle.lalrpop_tables.proofs.SharedItems.{mapped_more}
+use Rattle.lalrpop_tables.proofs.theory.lists.Lists.{Contains-none}
+use Rattle.lalrpop_tables.proofs.theory.states.Moves.{Moves-none, Moves-more}
+use Rattle.lalrpop_tables.proofs.theory.closures.SharedItems.{mapped_more}
 use Rattle.lalrpop_tables.proofs.build.transitions.moves_of.Goals as goal
 
 pub loop-item-init : goal.loop-item-init

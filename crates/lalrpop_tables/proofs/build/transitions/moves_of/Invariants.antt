@@ -1,5 +1,5 @@
 use Rattle.std.proofs.Common.{take}
-use Rattle.lalrpop_tables.specs.Numbers.{AreGroupsOf, groups_by, items_by}
+use Rattle.lalrpop_tables.specs.grammars.Numbers.{AreGroupsOf, groups_by, items_by}
 use Rattle.lalrpop_tables.specs.Words.{AreMoves}
 use Rattle.lalrpop_tables.proofs.build.transitions.moves_of.Given as goal
 

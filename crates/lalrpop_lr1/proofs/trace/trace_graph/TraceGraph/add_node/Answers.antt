@@ -2,7 +2,7 @@ use Rattle.std.proofs.Common.{◌≡◌, List, [], ◌∷◌, sym, ap, ◌∙◌
 use Rattle.std.specs.Prelude.{slice_get, Some}
 use Rattle.lalrpop_base.specs.Words.{AddsOnce, by_number}
 use Rattle.lalrpop_base.proofs.KernelLemmas.{IsNext, adds_known, adds_fresh, at_number, list_grows}
-use Rattle.lalrpop_tables.proofs.Places.{slice_get-longer}
+use Rattle.lalrpop_tables.proofs.theory.lists.Places.{slice_get-longer}
 use Rattle.lalrpop_lr1.specs.Words.{Graph, IsGraph, IsKept}
 use Rattle.lalrpop_lr1.specs.contracts.trace.node.TraceGraphNodeOrd.TheImpl as node_ord
 use Rattle.lalrpop_lr1.specs.declared.trace.node.TraceGraphNode.{TraceGraphNode}

@@ -1,5 +1,5 @@
 use Rattle.std.proofs.Common.{inl, inr}
-use Rattle.lalrpop_tables.proofs.EpsilonMoves.{holds_none}
+use Rattle.lalrpop_tables.proofs.theory.closures.EpsilonMoves.{holds_none}
 use Rattle.lalrpop_tables.proofs.build.epsilon_moves.NilLookaheadBuild.given.Goals as goal
 
 pub returns : goal.returns

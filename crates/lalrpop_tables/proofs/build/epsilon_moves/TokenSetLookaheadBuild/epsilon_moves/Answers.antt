@@ -3,8 +3,8 @@ use Rattle.std.specs.Prelude.{Contains}
 use Rattle.std.proofs.lemmas.Result.{IfOk-weaker}
 use Rattle.lalrpop_base.specs.Words.{IsFirstSetBefore, FitsTokens, Rules, HasKnownTerminals}
 use Rattle.lalrpop_base.specs.declared.repr.Production.{Production}
-use Rattle.lalrpop_tables.proofs.EpsilonMoves.{First-holds}
-use Rattle.lalrpop_tables.proofs.Grammars.{known_symbols}
+use Rattle.lalrpop_tables.proofs.theory.closures.EpsilonMoves.{First-holds}
+use Rattle.lalrpop_tables.proofs.theory.grammars.Grammars.{known_symbols}
 use Rattle.lalrpop_tables.proofs.build.epsilon_moves.TokenSetLookaheadBuild.epsilon_moves.Goals as goal
 
 pub returns : goal.returns

@@ -4,11 +4,11 @@ use Rattle.lalrpop_base.specs.Words.{Bits, no_bits, with_bit, rules_of, producti
 use Rattle.lalrpop_base.specs.declared.repr.NonterminalString.{NonterminalString}
 use Rattle.lalrpop_base.specs.declared.repr.grammar.Grammar.{Grammar}
 use Rattle.lalrpop_tables.specs.Words.{Begins, itself, StopsFor, Construction, Settings, AreTablesFor, canonical_of}
-use Rattle.lalrpop_tables.proofs.BothFacts.{MatchResult-both, IfErr-given}
-use Rattle.lalrpop_tables.proofs.CanonicalAnswers.{Set-tables, Set-fails}
-use Rattle.lalrpop_tables.proofs.SameConstruction.{Same-tables, Same-fails}
-use Rattle.lalrpop_tables.proofs.StoppedAnswers.{stopping}
-use Rattle.lalrpop_tables.proofs.TokenTables.{Passes, Lists, Tables-of, Fails-of}
+use Rattle.lalrpop_tables.proofs.theory.lists.BothFacts.{MatchResult-both, IfErr-given}
+use Rattle.lalrpop_tables.proofs.theory.canonical.CanonicalAnswers.{Set-tables, Set-fails}
+use Rattle.lalrpop_tables.proofs.theory.canonical.SameConstruction.{Same-tables, Same-fails}
+use Rattle.lalrpop_tables.proofs.theory.early_stop.StoppedAnswers.{stopping}
+use Rattle.lalrpop_tables.proofs.theory.closures.TokenTables.{Passes, Lists, Tables-of, Fails-of}
 use Rattle.lalrpop_tables.proofs.build.lr.Lr+TokenSet.build_lr1_states.Goals as goal
 
 abbrev settings : Grammar → NonterminalString → ℕ → Bits → Settings Bits

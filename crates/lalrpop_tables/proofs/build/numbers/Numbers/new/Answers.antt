@@ -3,11 +3,11 @@ use Rattle.std.specs.Prelude.{Contains, Option}
 use Rattle.lalrpop_base.specs.Words.{Dotted, Rules, rules_of}
 use Rattle.lalrpop_base.specs.declared.lookahead.nil.Nil.{Nil}
 use Rattle.lalrpop_base.specs.declared.repr.Symbol.{Symbol}
-use Rattle.lalrpop_tables.specs.Numbering.{AreAllExpansions, AreNumbersBehind, lists_of}
-use Rattle.lalrpop_tables.specs.Numbers.{AreBehindDots}
-use Rattle.lalrpop_tables.specs.Rests.{AreRests}
-use Rattle.lalrpop_tables.proofs.Grammars.{known_symbols}
-use Rattle.lalrpop_tables.proofs.Numbering.{lists_length, symbols_differ}
+use Rattle.lalrpop_tables.specs.grammars.Numbering.{AreAllExpansions, AreNumbersBehind, lists_of}
+use Rattle.lalrpop_tables.specs.grammars.Numbers.{AreBehindDots}
+use Rattle.lalrpop_tables.specs.grammars.Rests.{AreRests}
+use Rattle.lalrpop_tables.proofs.theory.grammars.Grammars.{known_symbols}
+use Rattle.lalrpop_tables.proofs.theory.grammars.Numbering.{lists_length, symbols_differ}
 use Rattle.lalrpop_tables.proofs.build.numbers.Numbers.new.Goals as goal
 
 pub numbers_behind-requires-clause-known : goal.numbers_behind-requires-clause-known

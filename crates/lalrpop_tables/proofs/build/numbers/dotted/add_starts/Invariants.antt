@@ -1,5 +1,5 @@
 use Rattle.std.proofs.Common.{take}
-use Rattle.lalrpop_tables.specs.Numbering.{AddsThose, IsStartOf}
+use Rattle.lalrpop_tables.specs.grammars.Numbering.{AddsThose, IsStartOf}
 use Rattle.lalrpop_tables.proofs.build.numbers.dotted.add_starts.Given as goal
 
 abbrev pub invariant-loop-production : goal.invariant-loop-production

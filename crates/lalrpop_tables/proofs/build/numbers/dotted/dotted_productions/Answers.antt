@@ -1,9 +1,9 @@
 use Rattle.std.proofs.Common.{sym, subst}
 use Rattle.std.proofs.lemmas.Result.{IfOk-weaker}
 use Rattle.lalrpop_base.specs.Words.{rules_of}
-use Rattle.lalrpop_tables.specs.Numbers.{MovesToNext}
-use Rattle.lalrpop_tables.proofs.BothFacts.{IfOk-both}
-use Rattle.lalrpop_tables.proofs.DottedProductions.{listed_items, listed_move}
+use Rattle.lalrpop_tables.specs.grammars.Numbers.{MovesToNext}
+use Rattle.lalrpop_tables.proofs.theory.lists.BothFacts.{IfOk-both}
+use Rattle.lalrpop_tables.proofs.theory.grammars.DottedProductions.{listed_items, listed_move}
 use Rattle.lalrpop_tables.proofs.build.numbers.dotted.dotted_productions.Goals as goal
 
 pub returns-clause-items : goal.returns-clause-items

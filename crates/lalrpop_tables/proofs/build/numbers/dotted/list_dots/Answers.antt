@@ -3,9 +3,9 @@ use Rattle.std.specs.List.{flat_map}
 use Rattle.std.proofs.lemmas.List.{flat_map_more}
 use Rattle.lalrpop_base.specs.Words.{Dotted}
 use Rattle.lalrpop_base.specs.declared.lookahead.nil.Nil.{Nil}
-use Rattle.lalrpop_tables.specs.Numbering.{all_dots}
-use Rattle.lalrpop_tables.proofs.DottedProductions.{keys_ascend}
-use Rattle.lalrpop_tables.proofs.LaneTableStates.{far_more}
+use Rattle.lalrpop_tables.specs.grammars.Numbering.{all_dots}
+use Rattle.lalrpop_tables.proofs.theory.grammars.DottedProductions.{keys_ascend}
+use Rattle.lalrpop_tables.proofs.theory.lane_tables.LaneTableStates.{far_more}
 use Rattle.lalrpop_tables.proofs.build.numbers.dotted.list_dots.Goals as goal
 
 pub loop-start-preserved : goal.loop-start-preserved

@@ -2,8 +2,8 @@ use Rattle.std.proofs.Common.{◌≡◌, List}
 use Rattle.std.specs.List.{flat_map}
 use Rattle.lalrpop_base.specs.Words.{Dotted}
 use Rattle.lalrpop_base.specs.declared.lookahead.nil.Nil.{Nil}
-use Rattle.lalrpop_tables.specs.Numbering.{all_dots}
-use Rattle.lalrpop_tables.proofs.LaneTableStates.{HoldsSoFar}
+use Rattle.lalrpop_tables.specs.grammars.Numbering.{all_dots}
+use Rattle.lalrpop_tables.proofs.theory.lane_tables.LaneTableStates.{HoldsSoFar}
 use Rattle.lalrpop_tables.proofs.build.numbers.dotted.list_dots.Given as goal
 
 abbrev pub invariant-loop-start : goal.invariant-loop-start

@@ -6,9 +6,9 @@ use Rattle.lalrpop_base.specs.declared.lookahead.nil.Nil.{Nil}
 use Rattle.lalrpop_base.specs.declared.repr.NonterminalString.{NonterminalString}
 use Rattle.lalrpop_base.specs.declared.repr.Production.{Production}
 use Rattle.lalrpop_base.specs.declared.repr.grammar.NonterminalData.{NonterminalData}
-use Rattle.lalrpop_tables.specs.Numbering.{AddsThose, IsStartOf}
-use Rattle.lalrpop_tables.proofs.DottedProductions.{starts_both, starts_none}
-use Rattle.lalrpop_tables.proofs.LaneTableStates.{far_end, far_more}
+use Rattle.lalrpop_tables.specs.grammars.Numbering.{AddsThose, IsStartOf}
+use Rattle.lalrpop_tables.proofs.theory.grammars.DottedProductions.{starts_both, starts_none}
+use Rattle.lalrpop_tables.proofs.theory.lane_tables.LaneTableStates.{far_end, far_more}
 use Rattle.lalrpop_tables.proofs.build.numbers.dotted.starts_of.Goals as goal
 
 abbrev Entry : Type 0

@@ -2,8 +2,8 @@ use Rattle.std.proofs.Common.{[], List}
 use Rattle.std.specs.List.{flat_map}
 use Rattle.lalrpop_base.specs.declared.repr.NonterminalString.{NonterminalString}
 use Rattle.lalrpop_base.specs.declared.repr.grammar.NonterminalData.{NonterminalData}
-use Rattle.lalrpop_tables.specs.Numbering.{AddsThose, IsStartOf}
-use Rattle.lalrpop_tables.proofs.LaneTableStates.{HoldsSoFar}
+use Rattle.lalrpop_tables.specs.grammars.Numbering.{AddsThose, IsStartOf}
+use Rattle.lalrpop_tables.proofs.theory.lane_tables.LaneTableStates.{HoldsSoFar}
 use Rattle.lalrpop_tables.proofs.build.numbers.dotted.starts_of.Given as goal
 
 abbrev pub invariant-loop-name : goal.invariant-loop-name

@@ -3,7 +3,7 @@ use Rattle.std.specs.Prelude.{slice_get}
 use Rattle.lalrpop_base.specs.Words.{Dotted}
 use Rattle.lalrpop_base.specs.declared.lookahead.nil.Nil.{Nil}
 use Rattle.lalrpop_base.specs.declared.repr.Symbol.TheVariants.{Nonterminal}
-use Rattle.lalrpop_tables.proofs.Numbering.{start_put}
+use Rattle.lalrpop_tables.proofs.theory.grammars.Numbering.{start_put}
 use Rattle.lalrpop_tables.proofs.build.numbers.expansions.add_start.Goals as goal
 
 pub returns : goal.returns

@@ -1,8 +1,8 @@
 use Rattle.std.proofs.Common.{ℕ, ◌+◌, List, subst, sym}
 use Rattle.std.specs.declared.alloc.Global.{Global}
 use Rattle.std.specs.declared.vec.Vec.{Vec}
-use Rattle.lalrpop_tables.specs.Numbering.{AreEmpty, lists_of}
-use Rattle.lalrpop_tables.proofs.Numbering.{empty_more}
+use Rattle.lalrpop_tables.specs.grammars.Numbering.{AreEmpty, lists_of}
+use Rattle.lalrpop_tables.proofs.theory.grammars.Numbering.{empty_more}
 use Rattle.lalrpop_tables.proofs.build.numbers.expansions.empty_lists.Goals as goal
 
 pub loop-place-preserved : goal.loop-place-preserved

@@ -1,4 +1,4 @@
-use Rattle.lalrpop_tables.specs.Numbering.{AreEmpty, lists_of}
+use Rattle.lalrpop_tables.specs.grammars.Numbering.{AreEmpty, lists_of}
 use Rattle.lalrpop_tables.proofs.build.numbers.expansions.empty_lists.Given as goal
 
 abbrev pub invariant-loop-place : goal.invariant-loop-place

@@ -2,8 +2,8 @@ use Rattle.std.proofs.Common.{◌≡◌, ◌∙◌, ◌+◌, ◌++◌, ◌∷◌
 use Rattle.std.proofs.lemmas.List.{length-take-le, take_more}
 use Rattle.lalrpop_base.specs.Words.{Dotted}
 use Rattle.lalrpop_base.specs.declared.lookahead.nil.Nil.{Nil}
-use Rattle.lalrpop_tables.specs.Numbering.{AddsStart, AreAllExpansions, lists_of}
-use Rattle.lalrpop_tables.proofs.Numbering.{expansions_more}
+use Rattle.lalrpop_tables.specs.grammars.Numbering.{AddsStart, AreAllExpansions, lists_of}
+use Rattle.lalrpop_tables.proofs.theory.grammars.Numbering.{expansions_more}
 use Rattle.lalrpop_tables.proofs.build.numbers.expansions.expansions_of.Goals as goal
 
 pub loop-number-preserved : goal.loop-number-preserved

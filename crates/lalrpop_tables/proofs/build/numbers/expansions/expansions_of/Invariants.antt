@@ -1,5 +1,5 @@
 use Rattle.std.proofs.Common.{take}
-use Rattle.lalrpop_tables.specs.Numbering.{AreAllExpansions, lists_of}
+use Rattle.lalrpop_tables.specs.grammars.Numbering.{AreAllExpansions, lists_of}
 use Rattle.lalrpop_tables.proofs.build.numbers.expansions.expansions_of.Given as goal
 
 abbrev pub invariant-loop-number : goal.invariant-loop-number

@@ -4,10 +4,10 @@ use Rattle.std.specs.declared.cmp.Ordering.TheVariants.{Less, Greater, Equal}
 use Rattle.lalrpop_base.specs.Words.{Dotted}
 use Rattle.lalrpop_base.specs.declared.lookahead.nil.Nil.{Nil}
 use Rattle.lalrpop_tables.specs.Words.{production_order}
-use Rattle.lalrpop_tables.proofs.Ascending.{production_exact}
-use Rattle.lalrpop_tables.proofs.Lists.{place}
-use Rattle.lalrpop_tables.proofs.Places.{slice_get_at}
-use Rattle.lalrpop_tables.proofs.ProductionPlaces.{stands_before, stands_behind}
+use Rattle.lalrpop_tables.proofs.theory.grammars.Ascending.{production_exact}
+use Rattle.lalrpop_tables.proofs.theory.lists.Lists.{place}
+use Rattle.lalrpop_tables.proofs.theory.lists.Places.{slice_get_at}
+use Rattle.lalrpop_tables.proofs.theory.grammars.ProductionPlaces.{stands_before, stands_behind}
 use Rattle.lalrpop_tables.proofs.build.numbers.halving.place_of_production.Goals as goal
 
 pub loop-low-preserved-in-Less : goal.loop-low-preserved-in-Less

@@ -1,8 +1,8 @@
 use Rattle.std.proofs.Common.{List, ap, length, subst, sym}
 use Rattle.lalrpop_base.specs.Words.{HasKnownTerminals}
 use Rattle.lalrpop_base.specs.declared.repr.TerminalString.{TerminalString}
-use Rattle.lalrpop_tables.proofs.Rests.{no_rest, rest_behind, rest_is}
-use Rattle.lalrpop_tables.proofs.Grammars.{known_rest}
+use Rattle.lalrpop_tables.proofs.theory.grammars.Rests.{no_rest, rest_behind, rest_is}
+use Rattle.lalrpop_tables.proofs.theory.grammars.Grammars.{known_rest}
 use Rattle.lalrpop_tables.proofs.build.numbers.rests.rest_of.Goals as goal
 
 pub returns-in_default-symbol : goal.returns-in_default-symbol

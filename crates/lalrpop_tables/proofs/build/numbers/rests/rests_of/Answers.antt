@@ -3,9 +3,9 @@ use Rattle.std.specs.Prelude.{Option}
 use Rattle.std.proofs.lemmas.List.{take_all, take_more}
 use Rattle.lalrpop_base.specs.Words.{Dotted}
 use Rattle.lalrpop_base.specs.declared.lookahead.nil.Nil.{Nil}
-use Rattle.lalrpop_tables.specs.Rests.{AreRests}
+use Rattle.lalrpop_tables.specs.grammars.Rests.{AreRests}
 use Rattle.lalrpop_tables.specs.declared.build.numbers.rests.Rest.{Rest}
-use Rattle.lalrpop_tables.proofs.Rests.{rests_more, rests_none}
+use Rattle.lalrpop_tables.proofs.theory.grammars.Rests.{rests_more, rests_none}
 use Rattle.lalrpop_tables.proofs.build.numbers.rests.rests_of.Goals as goal
 
 pub loop-item-init : goal.loop-item-init

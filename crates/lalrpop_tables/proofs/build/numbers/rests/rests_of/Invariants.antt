@@ -1,5 +1,5 @@
 use Rattle.std.proofs.Common.{take}
-use Rattle.lalrpop_tables.specs.Rests.{AreRests}
+use Rattle.lalrpop_tables.specs.grammars.Rests.{AreRests}
 use Rattle.lalrpop_tables.proofs.build.numbers.rests.rests_of.Given as goal
 
 abbrev pub invariant-loop-item : goal.invariant-loop-item

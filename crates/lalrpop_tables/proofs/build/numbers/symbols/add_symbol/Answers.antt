@@ -1,7 +1,7 @@
 use Rattle.std.proofs.Common.{List, subst}
 use Rattle.lalrpop_base.specs.declared.repr.Symbol.{Symbol}
-use Rattle.lalrpop_tables.specs.CheckSets.{IsAdded}
-use Rattle.lalrpop_tables.proofs.Numbering.{behind_new}
+use Rattle.lalrpop_tables.specs.lists.CheckSets.{IsAdded}
+use Rattle.lalrpop_tables.proofs.theory.grammars.Numbering.{behind_new}
 use Rattle.lalrpop_tables.proofs.build.numbers.symbols.add_symbol.Goals as goal
 
 pub returns : goal.returns

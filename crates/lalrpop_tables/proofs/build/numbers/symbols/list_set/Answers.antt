@@ -1,6 +1,6 @@
 use Rattle.std.proofs.Common.{◌≡◌, ◌∙◌, ◌++◌, List, ap, append-nil, subst, sym}
 use Rattle.lalrpop_base.specs.declared.repr.Symbol.{Symbol}
-use Rattle.lalrpop_tables.specs.Numbers.{SymbolsAscend}
+use Rattle.lalrpop_tables.specs.grammars.Numbers.{SymbolsAscend}
 use Rattle.lalrpop_tables.proofs.build.numbers.symbols.list_set.Goals as goal
 
 pub returns-clause-ascend : goal.returns-clause-ascend

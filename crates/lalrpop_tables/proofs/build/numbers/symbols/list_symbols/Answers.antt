@@ -1,6 +1,6 @@
 use Rattle.std.proofs.Common.{subst, sym}
 use Rattle.std.proofs.lemmas.Result.{IfOk-weaker}
-use Rattle.lalrpop_tables.specs.Numbers.{AreBehindDots}
+use Rattle.lalrpop_tables.specs.grammars.Numbers.{AreBehindDots}
 use Rattle.lalrpop_tables.proofs.build.numbers.symbols.list_symbols.Goals as goal
 
 pub returns-clause-behind : goal.returns-clause-behind

@@ -1,4 +1,4 @@
-use Rattle.lalrpop_tables.proofs.Numbering.{behind_of}
+use Rattle.lalrpop_tables.proofs.theory.grammars.Numbering.{behind_of}
 use Rattle.lalrpop_tables.proofs.build.numbers.symbols.number_behind.Goals as goal
 
 pub returns-in-Some : goal.returns-in-Some

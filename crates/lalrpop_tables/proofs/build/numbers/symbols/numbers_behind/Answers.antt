@@ -3,8 +3,8 @@ use Rattle.std.specs.Prelude.{Option}
 use Rattle.std.proofs.lemmas.List.{take_more}
 use Rattle.lalrpop_base.specs.Words.{Dotted}
 use Rattle.lalrpop_base.specs.declared.lookahead.nil.Nil.{Nil}
-use Rattle.lalrpop_tables.specs.Numbering.{AreNumbersBehind}
-use Rattle.lalrpop_tables.proofs.Numbering.{numbers_more}
+use Rattle.lalrpop_tables.specs.grammars.Numbering.{AreNumbersBehind}
+use Rattle.lalrpop_tables.proofs.theory.grammars.Numbering.{numbers_more}
 use Rattle.lalrpop_tables.proofs.build.numbers.symbols.numbers_behind.Goals as goal
 
 pub number_behind-requires-clause-known : goal.number_behind-requires-clause-known

@@ -1,5 +1,5 @@
 use Rattle.std.proofs.Common.{take}
-use Rattle.lalrpop_tables.specs.Numbering.{AreNumbersBehind}
+use Rattle.lalrpop_tables.specs.grammars.Numbering.{AreNumbersBehind}
 use Rattle.lalrpop_tables.proofs.build.numbers.symbols.numbers_behind.Given as goal
 
 abbrev pub invariant-loop-item : goal.invariant-loop-item

@@ -2,8 +2,8 @@ use Rattle.std.proofs.Common.{◌≡◌, ◌∙◌, ◌+◌, ◌++◌, ◌∷◌
 use Rattle.std.proofs.lemmas.List.{take_all, take_more}
 use Rattle.lalrpop_base.specs.Words.{Dotted}
 use Rattle.lalrpop_base.specs.declared.lookahead.nil.Nil.{Nil}
-use Rattle.lalrpop_tables.specs.Numbers.{AreBehindDots}
-use Rattle.lalrpop_tables.proofs.Numbering.{dots_more}
+use Rattle.lalrpop_tables.specs.grammars.Numbers.{AreBehindDots}
+use Rattle.lalrpop_tables.proofs.theory.grammars.Numbering.{dots_more}
 use Rattle.lalrpop_tables.proofs.build.numbers.symbols.symbols_behind.Goals as goal
 
 pub loop-item-preserved : goal.loop-item-preserved

@@ -1,5 +1,5 @@
 use Rattle.std.proofs.Common.{take}
-use Rattle.lalrpop_tables.specs.Numbers.{AreBehindDots}
+use Rattle.lalrpop_tables.specs.grammars.Numbers.{AreBehindDots}
 use Rattle.lalrpop_tables.proofs.build.numbers.symbols.symbols_behind.Given as goal
 
 abbrev pub invariant-loop-item : goal.invariant-loop-item

@@ -3,7 +3,7 @@ use Rattle.std.proofs.lemmas.List.{nil_from_length}
 use Rattle.std.specs.List.{AllZip}
 use Rattle.lalrpop_base.proofs.FirstNumbers.{AllZip-last}
 use Rattle.lalrpop_tables.specs.Words.{IsPromoted}
-use Rattle.lalrpop_tables.proofs.Merging.{taken}
+use Rattle.lalrpop_tables.proofs.theory.collapse.Merging.{taken}
 use Rattle.lalrpop_tables.proofs.lane_table.construct.promote.promote_states.Goals as goal
 
 pub loop-state-init : goal.loop-state-init

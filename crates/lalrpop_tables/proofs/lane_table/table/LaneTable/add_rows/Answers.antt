@@ -1,7 +1,7 @@
 use Rattle.std.proofs.Common.{refl, sym}
 use Rattle.std.proofs.lemmas.List.{nil_from_length}
 use mathlib.Core.Bool.{true≢false}
-use Rattle.lalrpop_tables.proofs.LaneRows.{adding_past, adding_more, some_keys}
+use Rattle.lalrpop_tables.proofs.theory.lane_tables.LaneRows.{adding_past, adding_more, some_keys}
 use Rattle.lalrpop_tables.proofs.lane_table.table.LaneTable.add_rows.Goals as goal
 
 pub loop-state-preserved-in-Continue-1 : goal.loop-state-preserved-in-Continue-1

@@ -1,0 +1,8 @@
+-- The check of tables.
+pub mod CheckAll
+pub mod CheckCarried
+pub mod CheckCarrying
+pub mod CheckClosing
+pub mod CheckSending
+pub mod CheckStates
+pub mod CheckTables

@@ -1,0 +1,7 @@
+-- Lane tables, and the tokens of their columns.
+pub mod Contexts
+pub mod LaneClosed
+pub mod LaneColumns
+pub mod LaneRows
+pub mod LaneTableStates
+pub mod LaneTables

@@ -1,0 +1,5 @@
+-- Closures of kernels.
+pub mod Closing
+pub mod Closure
+pub mod EpsilonMoves
+pub mod Sharing
