@@ -16,8 +16,8 @@ ghost use Rattle.lalrpop_tables.specs.answers.Lr1Answers.{AreBuiltTablesOf, Fail
 
 use crate::build::build_lr1_states;
 use crate::build::options::{Method, Options};
-use crate::build::results::tables_or_conflicts;
 use crate::conflicts::conflicts_of;
+use crate::construction::results::tables_or_conflicts;
 use lalrpop_base::lr1_core::state::{Lr1Result, Lr1State};
 use lalrpop_base::repr::NonterminalString;
 use lalrpop_base::repr::grammar::Grammar;

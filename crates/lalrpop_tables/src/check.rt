@@ -1,7 +1,6 @@
 //! The check of tables: whoever made them, a yes says that they are faithful.
 mod carrying;
 mod closing;
-pub(crate) mod sets;
 mod states;
 
 ghost use Rattle.std.specs.Prelude.{◌↔◌, ◌<◌, IfOk, IsTrue, length};

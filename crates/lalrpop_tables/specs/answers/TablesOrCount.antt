@@ -6,8 +6,8 @@ use Rattle.lalrpop_base.specs.declared.repr.NonterminalString.{NonterminalString
 use Rattle.lalrpop_base.specs.declared.repr.grammar.Grammar.{Grammar}
 use Rattle.lalrpop_tables.specs.answers.Lr1Answers.{AreBuiltTablesOf, AreTablesOf, IsConflictCount}
 use Rattle.lalrpop_tables.specs.declared.build.options.Method.{Method}
-use Rattle.lalrpop_tables.specs.declared.build.tables_or_count.TablesOrCount.{TablesOrCount}
-use Rattle.lalrpop_tables.specs.declared.build.tables_or_count.TablesOrCount.TheVariants.{Tables, Conflicts}
+use Rattle.lalrpop_tables.specs.declared.construction.tables_or_count.TablesOrCount.{TablesOrCount}
+use Rattle.lalrpop_tables.specs.declared.construction.tables_or_count.TablesOrCount.TheVariants.{Tables, Conflicts}
 
 -- the one is said of tables, the other of the number of conflicts
 abbrev pub MatchTablesOrCount : (List (State Bits) → Type 0) → (ℕ → Type 0) → TablesOrCount → Type 0

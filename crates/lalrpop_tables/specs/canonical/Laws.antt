@@ -13,8 +13,8 @@ use Rattle.lalrpop_tables.specs.early_stop.EarlyStop.{FailsAfterLr0, StopsFor}
 use Rattle.lalrpop_tables.specs.canonical.Lr0.{AreLr0States, HasLr0States, HaveNoNilConflict, ListsNilConflicts}
 use Rattle.lalrpop_tables.specs.answers.Lr1Answers.{AreBuiltTablesOf, FailsOn}
 use Rattle.lalrpop_tables.specs.answers.Results.{AreTablesFor, Construction, canonical_of}
-use Rattle.lalrpop_tables.specs.contracts.build.epsilon_moves.NilLookaheadBuild.TheImpl as nil_build
-use Rattle.lalrpop_tables.specs.contracts.build.epsilon_moves.TokenSetLookaheadBuild.TheImpl as set_build
+use Rattle.lalrpop_tables.specs.contracts.construction.epsilon_moves.NilLookaheadBuild.TheImpl as nil_build
+use Rattle.lalrpop_tables.specs.contracts.construction.epsilon_moves.TokenSetLookaheadBuild.TheImpl as set_build
 use Rattle.lalrpop_tables.specs.declared.build.options.Method.TheVariants.{Canonical}
 
 -- the grammar is well-formed, its names ascend in its map, and no terminal stands twice

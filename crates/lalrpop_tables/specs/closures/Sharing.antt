@@ -11,8 +11,8 @@ use Rattle.lalrpop_base.specs.declared.repr.Symbol.{Symbol}
 use Rattle.lalrpop_base.specs.declared.repr.Symbol.TheVariants.{Nonterminal}
 use Rattle.lalrpop_tables.specs.closures.Closure.{HasItemToken, InKernel, InTokenClosureBy}
 use Rattle.lalrpop_tables.specs.lists.Entries.{AllBelow, Grows, burden}
-use Rattle.lalrpop_tables.specs.declared.build.numbered.Numbered.{Numbered}
-use Rattle.lalrpop_tables.specs.declared.build.numbers.Numbers.{Numbers}
+use Rattle.lalrpop_tables.specs.declared.construction.numbered.Numbered.{Numbered}
+use Rattle.lalrpop_tables.specs.declared.construction.numbers.Numbers.{Numbers}
 
 -- tokens by the number of a nonterminal
 abbrev pub Shared : Type 0

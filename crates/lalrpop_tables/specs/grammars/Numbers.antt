@@ -14,8 +14,8 @@ use Rattle.lalrpop_base.specs.contracts.repr.SymbolOrd.TheImpl as symbol_ord
 use Rattle.lalrpop_tables.specs.grammars.Ascending.{Ascend}
 use Rattle.lalrpop_tables.specs.grammars.Rests.{AreRests}
 use Rattle.lalrpop_tables.specs.states.Transitions.{Groups, IsBehindOne, moved}
-use Rattle.lalrpop_tables.specs.declared.build.numbered.Numbered.{Numbered}
-use Rattle.lalrpop_tables.specs.declared.build.numbers.Numbers.{Numbers}
+use Rattle.lalrpop_tables.specs.declared.construction.numbered.Numbered.{Numbered}
+use Rattle.lalrpop_tables.specs.declared.construction.numbers.Numbers.{Numbers}
 
 -- ---- the numbers of a grammar
 -- the dotted productions are those of the grammar, ascending

@@ -6,7 +6,7 @@ use Rattle.lalrpop_base.specs.declared.repr.NonterminalString.{NonterminalString
 use Rattle.lalrpop_base.specs.declared.repr.Symbol.{Symbol}
 use Rattle.lalrpop_base.specs.declared.repr.Symbol.TheVariants.{Nonterminal}
 use Rattle.lalrpop_base.specs.declared.repr.TerminalString.{TerminalString}
-use Rattle.lalrpop_tables.specs.declared.build.numbers.rests.Rest.{Rest}
+use Rattle.lalrpop_tables.specs.declared.construction.numbers.rests.Rest.{Rest}
 
 -- FIRST of the symbols, without what ends the input, and whether they are nullable
 pub record IsRest (g : Rules) (symbols : List Symbol) (rest : Rest) : Type 0 where

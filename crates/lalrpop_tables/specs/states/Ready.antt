@@ -4,7 +4,7 @@ use Rattle.lalrpop_base.specs.Words.{Bits, FitsTokens, Rules, rules_of, IsWellFo
 use Rattle.lalrpop_base.specs.declared.repr.grammar.Grammar.{Grammar}
 use Rattle.lalrpop_tables.specs.closures.Closing.{AreOwn}
 use Rattle.lalrpop_tables.specs.grammars.Numbers.{AreNumbers}
-use Rattle.lalrpop_tables.specs.declared.build.numbers.Numbers.{Numbers}
+use Rattle.lalrpop_tables.specs.declared.construction.numbers.Numbers.{Numbers}
 
 -- the grammar is well-formed and its productions are found by their names, the first sets and the numbers are its own, and the lookahead holds bits of its tokens
 pub record IsReady (g : Grammar) (first_sets : Rules) (numbers : Numbers) (lookahead : Bits) : Type 0 where

@@ -5,10 +5,10 @@ ghost use Rattle.lalrpop_base.specs.Words.{AreClosed, contents, EachItem, AllDif
 ghost use Rattle.lalrpop_tables.specs.check.CheckCarrying.{Sends, IsBegunAt, IsOver, Gives, target_in, AreCarried, HoldsCarried, AllHoldCarried};
 ghost use Rattle.lalrpop_tables.specs.lists.Entries.{IsQueued};
 
-use super::sets::find_tokens;
 use super::states::target;
-use crate::build::tokens::add_tokens;
 use crate::place::Place;
+use crate::sets::find_tokens;
+use crate::tokens::add_tokens;
 use lalrpop_base::first::FirstSets;
 use lalrpop_base::lookahead::nil::Nil;
 use lalrpop_base::lookahead::token_set::TokenSet;

@@ -4,7 +4,7 @@ ghost use Rattle.lalrpop_base.specs.Words.{IsAtStart, IsWellFormed, productions,
 ghost use Rattle.lalrpop_tables.specs.closures.Closure.{dotted_of};
 ghost use Rattle.lalrpop_tables.specs.check.CheckClosing.{Widens, IsBegun, IsExpansionOf, IsMovedIn, IsMovedOf, AreClosure, AllWait};
 
-use super::sets::add_key;
+use crate::sets::add_key;
 use lalrpop_base::lookahead::nil::Nil;
 use lalrpop_base::lr1_core::item::{Item, Lr0Item, Lr1Item};
 use lalrpop_base::memory::OutOfMemory;

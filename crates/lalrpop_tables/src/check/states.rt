@@ -6,8 +6,8 @@ ghost use Rattle.lalrpop_tables.specs.check.CheckClosing.{AreClosure};
 ghost use Rattle.lalrpop_tables.specs.check.CheckStates.{LeadsBy, LeadsFrom, IsTarget, target_of, lr0, Lists, reduced, finished, LeadsOn, IsRightItem, IsRightTarget, IsRightState, AreRightStates, AreListed};
 
 use super::closing::{Set, moved_closure, start_closure};
-use super::sets::{add_key, has_key, have_same};
 use crate::conflicts::has_no_conflict;
+use crate::sets::{add_key, has_key, have_same};
 use lalrpop_base::lookahead::nil::Nil;
 use lalrpop_base::lookahead::token_set::TokenSet;
 use lalrpop_base::lr1_core::item::{Item, Lr1Item};

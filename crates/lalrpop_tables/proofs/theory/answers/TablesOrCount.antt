@@ -9,8 +9,8 @@ use Rattle.lalrpop_base.specs.declared.repr.grammar.Grammar.{Grammar}
 use Rattle.lalrpop_tables.specs.Words.{AreBuiltTablesOrCount, AreLaneTables, AreOwn, AreStatesFor, AreStatesOf, Begins, HaveNoConflict, MatchTablesOrCount, canonical_of, itself}
 use Rattle.lalrpop_tables.specs.declared.build.options.Method.{Method}
 use Rattle.lalrpop_tables.specs.declared.build.options.Method.TheVariants.{Canonical, Lane}
-use Rattle.lalrpop_tables.specs.declared.build.tables_or_count.TablesOrCount.{TablesOrCount}
-use Rattle.lalrpop_tables.specs.declared.build.tables_or_count.TablesOrCount.TheVariants.{Tables, Conflicts}
+use Rattle.lalrpop_tables.specs.declared.construction.tables_or_count.TablesOrCount.{TablesOrCount}
+use Rattle.lalrpop_tables.specs.declared.construction.tables_or_count.TablesOrCount.TheVariants.{Tables, Conflicts}
 use Rattle.lalrpop_tables.proofs.theory.canonical.CanonicalAnswers.{Canonical-lacks, Canonical-tables}
 use Rattle.lalrpop_tables.proofs.theory.answers.Lr1Answers.{Fallback-answer}
 use Rattle.lalrpop_tables.proofs.theory.closures.TokenTables.{Lists, Passes, states_of}

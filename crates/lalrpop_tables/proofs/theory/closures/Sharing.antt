@@ -17,7 +17,7 @@ use Rattle.lalrpop_base.specs.declared.repr.Symbol.{Symbol}
 use Rattle.lalrpop_base.specs.declared.repr.Symbol.TheVariants.{Nonterminal}
 use Rattle.lalrpop_tables.specs.Words.{Adds, count, dotted_of, HasItemToken, InKernel, InTokenClosureBy, IsFound, IsQueued, IsBelow, burden, from_parent, from_rest, own_token}
 use Rattle.lalrpop_tables.specs.closures.Sharing.{AllFit, IsFront, IsNamed, IsShared, IsSharing, MayFollow, MayFollowIn, Shared, Shares, StandsBehind, StandsBehindOne}
-use Rattle.lalrpop_tables.specs.declared.build.numbers.Numbers.{Numbers}
+use Rattle.lalrpop_tables.specs.declared.construction.numbers.Numbers.{Numbers}
 use Rattle.lalrpop_tables.proofs.theory.lists.Growth.{Adds-one, Grows-none, Grows-then, entry_key, key_entry, known_kept, queued_among, queued_weighed}
 use Rattle.lalrpop_tables.proofs.theory.grammars.KnownTerminals.{bit_held, held_bit, holds_more}
 use Rattle.lalrpop_tables.proofs.theory.lists.Lists.{contains-cons, contains_head, contains_map, Contains-none, Contains-range, contains_tail, pigeonhole}

@@ -19,8 +19,8 @@ use Rattle.lalrpop_tables.specs.Words.{AreItemsBy, Ascend, Found, HasGiven, InKe
 use Rattle.lalrpop_tables.specs.lists.Entries.{Gathers}
 use Rattle.lalrpop_tables.specs.grammars.Numbers.{AreExpansions, AreNumbered, AreNumbers, dotted_at, item_by, items_by}
 use Rattle.lalrpop_tables.specs.closures.Sharing.{HasShare, IsFront, IsNamed, IsShared, IsSharing, Shared, list_at, numbered_of, parts_in, unfolded, with_tokens}
-use Rattle.lalrpop_tables.specs.declared.build.numbered.Numbered.{Numbered}
-use Rattle.lalrpop_tables.specs.declared.build.numbers.Numbers.{Numbers}
+use Rattle.lalrpop_tables.specs.declared.construction.numbered.Numbered.{Numbered}
+use Rattle.lalrpop_tables.specs.declared.construction.numbers.Numbers.{Numbers}
 use Rattle.lalrpop_tables.proofs.theory.grammars.Ascending.{less_apart, less_number}
 use Rattle.lalrpop_tables.proofs.theory.states.Bounded.{in_flat_map}
 use Rattle.lalrpop_tables.proofs.theory.closures.Closing.{Tokens-end, all_listed}

@@ -24,7 +24,7 @@ use Rattle.lalrpop_tables.specs.grammars.Numbering.{with_dot}
 use Rattle.lalrpop_tables.specs.grammars.Numbers.{dotted_at}
 use Rattle.lalrpop_tables.specs.declared.lane_table.follow_sets.numbered_state.NumberedState.{NumberedState}
 use Rattle.lalrpop_tables.specs.declared.lane_table.follow_sets.pass.Pass.{Pass}
-use Rattle.lalrpop_tables.specs.declared.build.numbers.rests.Rest.{Rest}
+use Rattle.lalrpop_tables.specs.declared.construction.numbers.rests.Rest.{Rest}
 use Rattle.lalrpop_tables.proofs.theory.closures.Closing.{split_drop}
 use Rattle.lalrpop_tables.proofs.theory.follow_sets.FollowBits.{join_bits, takes_at, takes_none, takes_same, takes_then, with_bit_bits}
 use Rattle.lalrpop_tables.proofs.theory.follow_sets.FollowNodes.{item_known, item_listed, node_of_pair, node_within, nodes_counted, one_node, one_number, pair_of_node, state_of_item, state_of_node, transition_leads, transition_node, transitions_read}

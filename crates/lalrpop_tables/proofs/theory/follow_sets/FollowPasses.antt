@@ -19,7 +19,7 @@ use Rattle.lalrpop_tables.specs.follow_sets.FollowWalks.{AreBegun, AreIncludes, 
 use Rattle.lalrpop_tables.specs.states.NumberedStates.{transitions_at}
 use Rattle.lalrpop_tables.specs.grammars.Numbering.{with_dot}
 use Rattle.lalrpop_tables.specs.grammars.Numbers.{AreNumbers}
-use Rattle.lalrpop_tables.specs.declared.build.numbers.Numbers.{Numbers}
+use Rattle.lalrpop_tables.specs.declared.construction.numbers.Numbers.{Numbers}
 use Rattle.lalrpop_tables.specs.declared.lane_table.follow_sets.pass.Pass.{Pass}
 use Rattle.lalrpop_tables.proofs.theory.closures.Closing.{split_drop}
 use Rattle.lalrpop_tables.proofs.theory.follow_sets.FollowClosures.{front_begun, front_expanded, front_started, walked_item}

@@ -16,7 +16,7 @@ use Rattle.lalrpop_tables.specs.states.NumberedStates.{IsNumberedState, listed_t
 use Rattle.lalrpop_tables.specs.grammars.Numbering.{AddsThose}
 use Rattle.lalrpop_tables.specs.declared.lane_table.follow_sets.numbered_state.NumberedState.{NumberedState}
 use Rattle.lalrpop_tables.specs.declared.lane_table.follow_sets.pass.Pass.{Pass}
-use Rattle.lalrpop_tables.specs.declared.build.numbers.rests.Rest.{Rest}
+use Rattle.lalrpop_tables.specs.declared.construction.numbers.rests.Rest.{Rest}
 use Rattle.lalrpop_base.proofs.theory.Lists.{same_nonterminal}
 use Rattle.lalrpop_tables.specs.grammars.Numbers.{IsNumberBehind}
 use Rattle.lalrpop_tables.proofs.theory.closures.Closing.{split_drop}

@@ -8,8 +8,8 @@ use Rattle.lalrpop_base.specs.declared.repr.Symbol.{Symbol}
 use Rattle.lalrpop_base.proofs.ContentsViews.{some_of_map}
 use Rattle.lalrpop_tables.specs.grammars.Numbers.{AreNumbers, AreNumbered, IsNumberBehind, dotted_at, item_by, items_by}
 use Rattle.lalrpop_tables.specs.Words.{Ascend, IsBehind, Precedes, moved}
-use Rattle.lalrpop_tables.specs.declared.build.numbered.Numbered.{Numbered}
-use Rattle.lalrpop_tables.specs.declared.build.numbers.Numbers.{Numbers}
+use Rattle.lalrpop_tables.specs.declared.construction.numbered.Numbered.{Numbered}
+use Rattle.lalrpop_tables.specs.declared.construction.numbers.Numbers.{Numbers}
 use Rattle.lalrpop_tables.proofs.theory.grammars.Ascending.{precedes_asymmetric}
 use Rattle.lalrpop_tables.proofs.theory.lists.Lists.{contains_head, contains_tail}
 use Rattle.lalrpop_tables.proofs.theory.lists.Places.{contains_at, places_apart, same_some}

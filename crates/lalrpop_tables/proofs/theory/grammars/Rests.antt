@@ -13,7 +13,7 @@ use Rattle.lalrpop_base.specs.declared.repr.Symbol.TheVariants.{Nonterminal, Ter
 use Rattle.lalrpop_base.specs.declared.repr.TerminalString.{TerminalString}
 use Rattle.lalrpop_base.specs.Exact.{both}
 use Rattle.lalrpop_tables.specs.grammars.Rests.{AreRests, HasRest, IsRest, IsRestOf}
-use Rattle.lalrpop_tables.specs.declared.build.numbers.rests.Rest.{Rest}
+use Rattle.lalrpop_tables.specs.declared.construction.numbers.rests.Rest.{Rest}
 use Rattle.lalrpop_tables.proofs.theory.closures.Closing.{drop_split, rest_from, split_drop}
 use Rattle.lalrpop_tables.proofs.theory.lists.Lists.{Contains-none}
 use Rattle.lalrpop_tables.proofs.theory.lists.Places.{contains_at, filled, push_cases, same_some}

@@ -10,7 +10,7 @@ use Rattle.lalrpop_base.specs.declared.repr.TerminalString.{TerminalString}
 use Rattle.lalrpop_tables.specs.closures.Closing.{Begins}
 use Rattle.lalrpop_tables.specs.closures.EpsilonMoves.{IsGiven}
 use Rattle.lalrpop_tables.specs.grammars.Rests.{IsRest}
-use Rattle.lalrpop_tables.specs.declared.build.numbers.rests.Rest.{Rest}
+use Rattle.lalrpop_tables.specs.declared.construction.numbers.rests.Rest.{Rest}
 use Rattle.lalrpop_tables.proofs.theory.closures.EpsilonMoves.{First-holds}
 use Rattle.lalrpop_tables.proofs.theory.lists.Places.{same_some}
 

@@ -15,7 +15,7 @@ use Rattle.lalrpop_tables.specs.follow_sets.FollowWalks.{FindsLookaheads}
 use Rattle.lalrpop_tables.specs.states.NumberedStates.{AreNumberedStates, AreReducedNumbers, IsNumberedState}
 use Rattle.lalrpop_tables.specs.grammars.Numbering.{with_dot}
 use Rattle.lalrpop_tables.specs.Words.{by, HasLookaheadBits, HasSamePlace, HaveSamePlaces, IsLookahead, places_in}
-use Rattle.lalrpop_tables.specs.declared.build.numbers.Numbers.{Numbers}
+use Rattle.lalrpop_tables.specs.declared.construction.numbers.Numbers.{Numbers}
 use Rattle.lalrpop_tables.specs.declared.lane_table.follow_sets.found.Found.{Found}
 use Rattle.lalrpop_tables.specs.declared.lane_table.follow_sets.numbered_state.NumberedState.{NumberedState}
 use Rattle.lalrpop_tables.proofs.theory.follow_sets.FollowSets.{lane_lookahead}

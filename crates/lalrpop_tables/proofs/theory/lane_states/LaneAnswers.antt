@@ -26,7 +26,7 @@ use Rattle.lalrpop_base.proofs.theory.RightStates.{edges_awaited, reductions_val
 use Rattle.lalrpop_base.proofs.theory.Lanes.{items_at}
 use Rattle.lalrpop_tables.specs.Words.{AreLaneStates, HasLaneBits, IsResolved, IsLaneAction, LanesMeet, HaveMeetingLanes, IsStep, AreLaneTables}
 use Rattle.lalrpop_tables.specs.Words.{AreLalrLaneTables, places_in, HaveNoConflict}
-use Rattle.lalrpop_tables.specs.declared.build.numbers.Numbers.{Numbers}
+use Rattle.lalrpop_tables.specs.declared.construction.numbers.Numbers.{Numbers}
 use Rattle.lalrpop_tables.specs.declared.lane_table.follow_sets.found.Found.{Found}
 use Rattle.lalrpop_tables.specs.declared.lane_table.follow_sets.numbered_state.NumberedState.{NumberedState}
 use Rattle.lalrpop_tables.proofs.theory.lane_states.LaneLoop.{AreResolvedTo}

@@ -17,7 +17,7 @@ use Rattle.lalrpop_tables.specs.lane_states.FoundLookaheads.{IsFoundAt}
 use Rattle.lalrpop_tables.specs.states.NumberedStates.{AreNumberedStates, HaveReducedNumbers}
 use Rattle.lalrpop_tables.specs.grammars.Numbers.{AreNumbers}
 use Rattle.lalrpop_tables.specs.Words.{AreLaneStates, places_in}
-use Rattle.lalrpop_tables.specs.declared.build.numbers.Numbers.{Numbers}
+use Rattle.lalrpop_tables.specs.declared.construction.numbers.Numbers.{Numbers}
 use Rattle.lalrpop_tables.specs.declared.lane_table.follow_sets.found.Found.{Found}
 use Rattle.lalrpop_tables.specs.declared.lane_table.follow_sets.numbered_state.NumberedState.{NumberedState}
 use Rattle.lalrpop_tables.proofs.theory.lane_states.LaneShape.{here_closed, reduced_item, right_at}

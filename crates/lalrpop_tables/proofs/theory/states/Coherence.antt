@@ -14,7 +14,7 @@ use Rattle.lalrpop_tables.specs.Words.{IsBehindOne, Shifts, Groups, AreMoves, Ha
 use Rattle.lalrpop_base.specs.contracts.repr.TerminalStringOrd.TheImpl as terminal_ord
 use Rattle.lalrpop_base.specs.declared.repr.TerminalString.{TerminalString}
 use Rattle.lalrpop_tables.specs.states.Transitions.{IsReached}
-use Rattle.lalrpop_tables.specs.declared.build.transitions.Edges.{Edges}
+use Rattle.lalrpop_tables.specs.declared.construction.transitions.Edges.{Edges}
 use Rattle.lalrpop_tables.proofs.theory.lists.Lists.{Contains-none, contains_head, contains_tail, contains-cons, place}
 use Rattle.lalrpop_tables.specs.states.Transitions.Shifts.{none, moves, stays}
 use Rattle.lalrpop_tables.proofs.theory.lists.Places.{contains_at, same_some, one_place, in_added}

@@ -8,7 +8,7 @@ use Rattle.lalrpop_base.specs.contracts.exact.ProductionExact.TheImpl as product
 use Rattle.lalrpop_base.specs.contracts.repr.ProductionEq.TheImpl as production_laws
 use Rattle.lalrpop_base.specs.contracts.repr.ProductionPartialEq.TheImpl as production_eq
 use Rattle.lalrpop_base.specs.declared.repr.Production.{Production}
-use Rattle.lalrpop_tables.specs.declared.build.numbered.Numbered.{Numbered}
+use Rattle.lalrpop_tables.specs.declared.construction.numbered.Numbered.{Numbered}
 use Rattle.lalrpop_tables.proofs.theory.lists.Lists.{Contains-none, contains_head, contains_tail, contains-cons}
 
 abbrev pub Decided : Type 0 → Type 0

@@ -14,7 +14,7 @@ use Rattle.lalrpop_base.specs.contracts.repr.TerminalStringOrd.TheImpl as termin
 use Rattle.lalrpop_tables.specs.Words.{IsPushedAt, IsBehind, IsBehindOne, moved, Shifts, Groups, HasNoGroup, AreMoves, IsMoveAdded, HasEdge, ShiftsAscend}
 use Rattle.lalrpop_tables.specs.Words.{IsEdgeAdded, AreEdges, reductions_of}
 use Rattle.lalrpop_tables.specs.lists.Entries.IsPushedAt.{fresh, known}
-use Rattle.lalrpop_tables.specs.declared.build.transitions.Edges.{Edges}
+use Rattle.lalrpop_tables.specs.declared.construction.transitions.Edges.{Edges}
 use Rattle.lalrpop_tables.specs.states.Transitions.{LeadsTo, IsReached}
 use Rattle.lalrpop_tables.specs.states.Transitions.Shifts.{none, moves, stays}
 use Rattle.lalrpop_tables.specs.states.Transitions.IsMoveAdded.{over, at_end}

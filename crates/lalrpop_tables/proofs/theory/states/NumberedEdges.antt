@@ -8,9 +8,9 @@ use Rattle.lalrpop_base.specs.Words.{AddsOnce, AllDiffer, Dotted}
 use Rattle.lalrpop_base.specs.declared.lookahead.nil.Nil.{Nil}
 use Rattle.lalrpop_tables.specs.Words.{Ascend, Groups}
 use Rattle.lalrpop_tables.specs.grammars.Numbers.{AreAllNumbered, AreNumbered, NumberedGroups, groups_by, items_by}
-use Rattle.lalrpop_tables.specs.declared.build.numbered.Numbered.{Numbered}
+use Rattle.lalrpop_tables.specs.declared.construction.numbered.Numbered.{Numbered}
 use Rattle.lalrpop_tables.proofs.theory.lists.Lists.{contains-cons, contains_head, Contains-none}
-use Rattle.lalrpop_tables.specs.declared.build.numbers.Numbers.{Numbers}
+use Rattle.lalrpop_tables.specs.declared.construction.numbers.Numbers.{Numbers}
 use Rattle.lalrpop_tables.proofs.theory.states.NumberedMoves.{group_by}
 use Rattle.lalrpop_tables.proofs.theory.grammars.Numbers.{lists_differ}
 

@@ -12,8 +12,8 @@ use Rattle.lalrpop_tables.specs.Words.{IsMoveAdded, IsPushedAt}
 use Rattle.lalrpop_tables.specs.lists.Entries.IsPushedAt.{fresh, known}
 use Rattle.lalrpop_tables.specs.grammars.Numbers.{AreGroupsOf, AreNumbered, AreNumbers, NumberedGroups, dotted_at, groups_by, item_by, items_by, symbol_at}
 use Rattle.lalrpop_tables.specs.states.Transitions.IsMoveAdded.{over, at_end}
-use Rattle.lalrpop_tables.specs.declared.build.numbered.Numbered.{Numbered}
-use Rattle.lalrpop_tables.specs.declared.build.numbers.Numbers.{Numbers}
+use Rattle.lalrpop_tables.specs.declared.construction.numbered.Numbered.{Numbered}
+use Rattle.lalrpop_tables.specs.declared.construction.numbers.Numbers.{Numbers}
 use Rattle.lalrpop_tables.proofs.theory.lists.Lists.{contains-cons, Contains-none}
 use Rattle.lalrpop_tables.proofs.theory.grammars.Numbers.{behind_is, finished, moved_next, next_within, stands_at}
 use Rattle.lalrpop_tables.proofs.theory.lists.Places.{around, at_midst, contains_at, midst, one_place}

@@ -8,7 +8,7 @@ use Rattle.lalrpop_base.specs.declared.lr1_core.state.State.{State}
 use Rattle.lalrpop_base.specs.declared.repr.Symbol.{Symbol}
 use Rattle.lalrpop_tables.specs.states.NumberedStates.{AddTransitions, AreNumberedStates, AreReducedNumbers, GotosAscend, IsNumberedState, ShiftsAscend, goto_transitions, shift_transitions}
 use Rattle.lalrpop_tables.specs.grammars.Numbers.{SymbolsAscend}
-use Rattle.lalrpop_tables.specs.declared.build.numbers.Numbers.{Numbers}
+use Rattle.lalrpop_tables.specs.declared.construction.numbers.Numbers.{Numbers}
 use Rattle.lalrpop_tables.specs.declared.lane_table.follow_sets.numbered_state.NumberedState.{NumberedState}
 use Rattle.lalrpop_tables.proofs.theory.states.ListedTransitions.{Transitions-lead, Transitions-ordered}
 use Rattle.lalrpop_tables.proofs.theory.states.NumberedItems.{AreNumbered, dots_in}

@@ -5,7 +5,7 @@ ghost use Rattle.lalrpop_base.specs.Words.{IsWellFormed, rules_of};
 ghost use Rattle.lalrpop_tables.specs.lane_states.LaneStates.{IsPromoted, promoted_item, promoted_reduction};
 ghost use Rattle.lalrpop_tables.specs.canonical.Lr0.{AreLr0States};
 
-use crate::build::build_lr0_states;
+use crate::construction::lr0::build_lr0_states;
 use lalrpop_base::lookahead::nil::Nil;
 use lalrpop_base::lookahead::token_set::TokenSet;
 use lalrpop_base::lr1_core::item::{Lr0Item, Lr1Item};

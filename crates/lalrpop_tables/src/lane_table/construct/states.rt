@@ -5,7 +5,7 @@ ghost use Rattle.lalrpop_tables.specs.lane_states.LaneStates.{AreLaneStates, Are
 
 use super::LaneTableConstruct;
 use super::promote::{lr0_states, promote_states};
-use crate::build::numbers::Numbers;
+use crate::construction::numbers::Numbers;
 use crate::lane_table::follow_sets::Found;
 use crate::lane_table::follow_sets::numbered_state::number_states;
 use lalrpop_base::lookahead::token_set::TokenSet;

@@ -16,7 +16,7 @@ use super::pass::Pass;
 use super::start::Start;
 use super::tokens::{shifted_tokens, tokens_of};
 use super::unions::unions_of;
-use crate::build::numbers::Numbers;
+use crate::construction::numbers::Numbers;
 use lalrpop_base::lookahead::token_set::TokenSet;
 use lalrpop_base::lr1_core::state::Lr1State;
 use lalrpop_base::memory::OutOfMemory;

@@ -4,8 +4,8 @@ ghost use Rattle.lalrpop_base.specs.declared.repr.Symbol.TheVariants.{Nontermina
 ghost use Rattle.lalrpop_tables.specs.follow_sets.FollowNodes.{IsNumberOrCount, IsStart};
 ghost use Rattle.lalrpop_tables.specs.grammars.Numbers.{AreExpansions, SymbolsAscend};
 
-use crate::build::numbers::Numbers;
-use crate::build::numbers::symbols::number_of;
+use crate::construction::numbers::Numbers;
+use crate::construction::numbers::symbols::number_of;
 use lalrpop_base::exact::equal;
 use lalrpop_base::memory::OutOfMemory;
 use lalrpop_base::repr::{NonterminalString, Symbol};

@@ -2,8 +2,8 @@
 ghost use Rattle.std.specs.Prelude.{◌≡◌, [], OnOk};
 ghost use Rattle.lalrpop_tables.specs.lanes.LaneSteps.{Visits};
 
-use crate::check::sets::add_key;
 use crate::place::Place;
+use crate::sets::add_key;
 use lalrpop_base::memory::OutOfMemory;
 use std::alloc::Global;
 use std::collections::{BTreeSet, VecDeque};
