@@ -1,32 +1,10 @@
 -- The words of this crate's contracts, by name: where each is defined.
-pub use Rattle.lalrpop_tables.specs.grammars.Ascending.{Ascend, Precedes, production_order}
-pub use Rattle.lalrpop_tables.specs.canonical.Canonical.{AreCanonicalStates, AreOrderedCanonical, FitReductions, is_with_token, tokens_of}
-pub use Rattle.lalrpop_tables.specs.canonical.CanonicalConflicts.{AreCanonicalConflictsOf, FailByCanonicalConflicts, ShiftsLead, StatesAscend, listed_of}
 pub use Rattle.lalrpop_tables.specs.check.Check.{HoldCarried, PassCheck}
 pub use Rattle.lalrpop_tables.specs.check.CheckCarrying.{AllHoldCarried, AreCarried, AreCarriedTo, Carried, Gives, HasBegun, HasStarted, HoldsCarried, IsBegunAt}
 pub use Rattle.lalrpop_tables.specs.check.CheckCarrying.{IsCarriedTo, IsInto, IsOver, Sends, at_place, target_from, target_in}
-pub use Rattle.lalrpop_tables.specs.check.CheckClosing.{AllWait, AreClosure, IsBegun, IsExpansionOf, IsMovedIn, IsMovedOf, Widens}
-pub use Rattle.lalrpop_tables.specs.lists.CheckSets.{HaveSame, IsAdded}
-pub use Rattle.lalrpop_tables.specs.check.CheckStates.{AreRightStates, IsRightItem, IsRightState, IsRightTarget, IsTarget, LeadsBy, LeadsFrom, LeadsOn, Lists, dots}
-pub use Rattle.lalrpop_tables.specs.check.CheckStates.{finished, lr0, reduced}
-pub use Rattle.lalrpop_tables.specs.closures.Closing.{AreOwn, Begins, HasGiven}
-pub use Rattle.lalrpop_tables.specs.closures.Closing.{IsTokenClosed, IsTokenSettled}
-pub use Rattle.lalrpop_tables.specs.closures.Closure.{AreItems, AreItemsBy, Found, HasItemToken, HasItemTokenBy, InKernel, InTokenClosureBy}
-pub use Rattle.lalrpop_tables.specs.closures.Closure.{IsClosureBy, IsClosureOf, IsItemBy, IsItemOf, begun_of, dotted_of, from_parent}
-pub use Rattle.lalrpop_tables.specs.closures.Closure.{from_rest, item_of, itself, meant, own_token}
-pub use Rattle.lalrpop_tables.specs.collapse.Collapsed.{AreCollapsedTables, AreOrdered, FailsByCollapse, HoldsAt, IsCollapsed, IsMerge, IsNumbered, IsOrderedState}
-pub use Rattle.lalrpop_tables.specs.collapse.Collapsed.{OfMember, ReducesBy, ReducesOn, dots_in}
-pub use Rattle.lalrpop_tables.specs.lane_tables.Contexts.{AreAmong, AreDisjoint, AreReducedAmong, HasAt, IsApplied, IsJoinedIn, IsReductionAt, IsUnion, MeetInUnion}
-pub use Rattle.lalrpop_tables.specs.lane_tables.Contexts.{MeetsOther, Reduces, TookColumn}
-pub use Rattle.lalrpop_tables.specs.lists.Counts.{IsBelow, count, one_if}
 pub use Rattle.lalrpop_tables.specs.early_stop.EarlyStop.{AreEnough, AreMadeFor, AreMadeUntilBy, ArePartlyBuilt, ArePartlyBuiltBy, AreSomeCanonicalStates}
 pub use Rattle.lalrpop_tables.specs.early_stop.EarlyStop.{AreSomeLr0States, FailsAfterLr0, GoesOnBeforeLast, HasDotted, HaveSameContents, IsLr0StateFor, IsStateFor}
 pub use Rattle.lalrpop_tables.specs.early_stop.EarlyStop.{ListFewer, Lr0StopsAfter, StopsAfter, StopsFor}
-pub use Rattle.lalrpop_tables.specs.lists.Entries.{Adds, AllBelow, Grows, IsFound, IsFoundWith, IsJoinedAt, IsPushedAt, IsQueued, burden, readings}
-pub use Rattle.lalrpop_tables.specs.closures.EpsilonMoves.{AreBegunWith, AreEpsilonMoves, IsBegunWith}
-pub use Rattle.lalrpop_tables.specs.follow_sets.FollowGraphs.{HasBitAtOnce, HasLookbackNodes, HaveBegunNodes, IsFollowGraph, IsFollowNode, IsUnionOver}
-pub use Rattle.lalrpop_tables.specs.follow_sets.FollowSets.{FollowsAtOnce, HasLookaheadBits, HoldsLookaheads, InFollow, IncludesFollow, IsLookahead, LeadsOver, at_once}
-pub use Rattle.lalrpop_tables.specs.follow_sets.FollowSets.{ends_input, included, is_first_behind}
 pub use Rattle.lalrpop_tables.specs.collapse.Lalr.{AreLalrTables, AreMergedTables, AreRenumberedMerged, Collapses, FailsAsLalr, HasCoherentStates, HasOrderedStates}
 pub use Rattle.lalrpop_tables.specs.collapse.Lalr.{TellsNotLALR1}
 pub use Rattle.lalrpop_tables.specs.lane_tables.LaneRows.{AddsRows, AreGathered, AreRowsOf, Cells, HasCells, HasIn, HasNext, JoinsRow, MakesRow, MeetsRow, Rows, StandsFor}
@@ -45,24 +23,17 @@ pub use Rattle.lalrpop_tables.specs.lane_tables.LaneTables.{IsBeachhead, IsClose
 pub use Rattle.lalrpop_tables.specs.lanes.LaneTraces.{GivesAt, HaveOwnItems, IsLaneBit, IsReadyToTrace, ReducesOwn, TakesAction, TakesLane, TakesPartOfAction}
 pub use Rattle.lalrpop_tables.specs.lanes.LaneTraces.{TakesPartOfLane, places_in}
 pub use Rattle.lalrpop_tables.specs.canonical.Laws.{AreNilTables, AreSetTables, IsKeptGrammar, StopsWithNil, StopsWithSets, lr0_of}
-pub use Rattle.lalrpop_tables.specs.conflicts.ListedConflicts.{conflict_of, conflicts_of}
-pub use Rattle.lalrpop_tables.specs.canonical.Lr0.{AreLr0States, HasLr0States, HaveNoNilConflict, ListsNilConflicts, lr0_contents, on_any}
 pub use Rattle.lalrpop_tables.specs.lane_states.Lr0Copies.{AreClosedTables, AreCopiedConflicts, AreCopiedTables, AreLr0Copies, FailsByCopies}
 pub use Rattle.lalrpop_tables.specs.answers.Lr1Answers.{AreBuiltTablesOf, AreTablesBy, AreTablesOf, FailsOn, HasConflictsOf, IsConflictCount, LacksTables}
 pub use Rattle.lalrpop_tables.specs.merges.MergeWalks.{ComesTo, HasJoinedBut, IsJoin, IsJoinMade, IsMergeWalk, join_to, joins_to, most_joins}
 pub use Rattle.lalrpop_tables.specs.merges.Merges.{Advances, AreApart, AreCopies, AreReductionsOf, AreTargetsAmong, AreUnited, HasJoined, HasWalked, HaveNoNewMarks}
 pub use Rattle.lalrpop_tables.specs.merges.Merges.{IsApart, IsContext, IsCopyOf, IsFresh, IsJoinedCopy, IsLonger, IsMerging, IsPatchable, IsPushed, IsResolvedCopy, IsTaken}
 pub use Rattle.lalrpop_tables.specs.merges.Merges.{IsVisited, IsWalked, TookOwnColumns, index, replaced, unset, unvisited}
-pub use Rattle.lalrpop_tables.specs.collapse.Merging.{AreFirstNumbers, AreJoinedReductions, ArePlaced, AreTokensOf, HasReduction, HasReductionOn, HasTokensOf, IsJoined}
-pub use Rattle.lalrpop_tables.specs.collapse.Merging.{IsPlacedAt, IsReduced, Places, bare, joined, joined_at, joined_item, joined_items, pushed}
-pub use Rattle.lalrpop_tables.specs.renumbering.Moved.{AreMoved, GrowsBy, and_one, no_more}
 pub use Rattle.lalrpop_tables.specs.graphs.Neighbours.{sources_left}
-pub use Rattle.lalrpop_tables.specs.lists.Partitions.{ArePlaces, fails, new_place, parted, parted_place, rank}
-pub use Rattle.lalrpop_tables.specs.renumbering.Renumbered.{AreRenumbered, IsRenumberedState, KeepsOrder, number_in, retargeted, retargeted_all, stands_first}
 pub use Rattle.lalrpop_tables.specs.renumbering.RenumberedTables.{AreRenumberedCopies, AreRenumberedLaneTables, AreRenumberedTables}
 pub use Rattle.lalrpop_tables.specs.lane_states.Resolving.{IsCopied, IsResolving}
-pub use Rattle.lalrpop_tables.specs.answers.Results.{AreAllConflicts, AreStatesFor, AreStatesOf, AreTables, AreTablesFor, Construction, FailWith, FailsBy, FailsFor}
-pub use Rattle.lalrpop_tables.specs.answers.Results.{HaveNoConflict, ListsAll, Settings, canonical_of, more}
+pub use Rattle.lalrpop_tables.specs.answers.Results.{AreStatesFor, AreStatesOf, AreTables, AreTablesFor, Construction, FailsBy, FailsFor}
+pub use Rattle.lalrpop_tables.specs.answers.Results.{Settings, canonical_of}
 pub use Rattle.lalrpop_tables.specs.graphs.StateGraph.{AddsStates, AreSameLists, Edge, HaveSameStates, IsChangedAt, IsGraphOf, IsGrown, IsListedAt, IsStepBack, edge, edges, edges_from, edges_of, goto_edges}
 pub use Rattle.lalrpop_tables.specs.graphs.StateGraph.{list_at, listed, nowhere, origin_of, origins, origins_of, over, shift_edges, sources_over, state_cmp, targets_from}
 pub use Rattle.lalrpop_tables.specs.graphs.StateGraph.{targets_of, with_symbol}

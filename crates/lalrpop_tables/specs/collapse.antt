@@ -1,4 +1,2 @@
 -- The collapse of canonical states to LALR(1) states.
-pub mod Collapsed
 pub mod Lalr
-pub mod Merging

@@ -1,5 +1,4 @@
 -- Lane tables, and the tokens of their columns.
-pub mod Contexts
 pub mod LaneCells
 pub mod LaneRows
 pub mod LaneTableStates

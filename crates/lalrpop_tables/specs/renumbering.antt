@@ -1,4 +1,2 @@
 -- States under other numbers.
-pub mod Moved
-pub mod Renumbered
 pub mod RenumberedTables

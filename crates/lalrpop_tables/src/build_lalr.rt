@@ -9,8 +9,8 @@ ghost use Rattle.std.specs.Prelude.{◌≡◌, ◌<◌, length, IfOk, IfErr, Mat
 ghost use Rattle.lalrpop_base.specs.Words.{AreCoherent, AreCollapsible, IsWellFormed, productions};
 ghost use Rattle.lalrpop_base.specs.declared.repr.NonterminalString.{NonterminalString as Start};
 ghost use Rattle.lalrpop_base.specs.declared.repr.grammar.Grammar.{Grammar as Rules};
-ghost use Rattle.lalrpop_tables.specs.canonical.Canonical.{AreOrderedCanonical};
-ghost use Rattle.lalrpop_tables.specs.collapse.Collapsed.{AreOrdered, AreCollapsedTables, FailsByCollapse};
+ghost use Rattle.lalrpop_base.specs.states.Canonical.{AreOrderedCanonical};
+ghost use Rattle.lalrpop_base.specs.collapse.Collapsed.{AreOrdered, AreCollapsedTables, FailsByCollapse};
 ghost use Rattle.lalrpop_tables.specs.collapse.Lalr.{AreLalrTables, TellsNotLALR1, HasCoherentStates, HasOrderedStates};
 ghost use Rattle.lalrpop_tables.specs.answers.Lr1Answers.{AreBuiltTablesOf, FailsOn};
 

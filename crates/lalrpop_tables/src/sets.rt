@@ -2,7 +2,7 @@
 ghost use Rattle.std.specs.Prelude.{◌≡◌, ◌↔◌, ◌+◌, length, IsTrue, IfOk, OnOk, MatchBool, Contains, Some, option_copied};
 ghost use Rattle.std.specs.BTreeMap.{keys};
 ghost use Rattle.lalrpop_base.specs.Words.{Bits, AllDiffer};
-ghost use Rattle.lalrpop_tables.specs.lists.CheckSets.{IsAdded, HaveSame};
+ghost use Rattle.lalrpop_base.specs.lists.CheckSets.{IsAdded, HaveSame};
 
 use crate::tokens::tokens_of;
 use lalrpop_base::exact::Exact;

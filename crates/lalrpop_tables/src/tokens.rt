@@ -2,7 +2,7 @@
 ghost use Rattle.std.specs.Prelude.{◌≡◌, ◌≢◌, OnOk, IfOk, IsNone, IfSome, MatchBool, Contains};
 ghost use Rattle.std.specs.BTreeMap.{keys};
 ghost use Rattle.lalrpop_base.specs.Words.{AllDiffer, join as joined};
-ghost use Rattle.lalrpop_tables.specs.lists.Entries.{IsJoinedAt, readings};
+ghost use Rattle.lalrpop_base.specs.lists.Entries.{IsJoinedAt, readings};
 
 use lalrpop_base::exact::Exact;
 use lalrpop_base::lookahead::{Lookahead, join};

@@ -6,7 +6,7 @@ use Rattle.std.proofs.lemmas.Grind.{flat_map-append}
 use mathlib.Core.Bool.{true≢false}
 use mathlib.Core.List.{nil≢cons}
 use Rattle.lalrpop_base.specs.Words.{Bits, has, IsFirstSet, Rules}
-use Rattle.lalrpop_tables.proofs.theory.lists.Lists.{contains_head, contains_tail}
+use Rattle.lalrpop_base.proofs.theory.lists.Members.{contains_head, contains_tail}
 use Rattle.lalrpop_lr1.specs.Words.{IsExampleOf, following, prefixes, place, spelled, Graph, AreKnownEdges, to_come, GoesTo, IsOfFirst, Meets}
 use Rattle.lalrpop_lr1.specs.Words.{NoneMeets, IsSameFilter, IsOfFirstMeeting}
 use Rattle.lalrpop_lr1.specs.declared.trace.enumerator.PathEnumerator.{PathEnumerator}

@@ -5,7 +5,7 @@ use Rattle.std.specs.List.{filter, flat_map}
 use Rattle.std.proofs.lemmas.List.Elements.{Contains-append_cases}
 use Rattle.lalrpop_base.specs.Words.{Bits, has, Dotted, share, shift_conflict, conflicts_on_place, shift_conflicts, reduce_conflict, later_conflicts}
 use Rattle.lalrpop_base.specs.Words.{reduce_conflicts, state_conflicts, place_in, productions, IsWellFormed, rules_of}
-use Rattle.lalrpop_base.specs.StateConflicts.{Reduction}
+use Rattle.lalrpop_base.specs.conflicts.StateConflicts.{Reduction}
 use Rattle.lalrpop_base.specs.declared.lr1_core.state.Conflict.{Conflict}
 use Rattle.lalrpop_base.specs.declared.lr1_core.state.State.{State}
 use Rattle.lalrpop_base.specs.declared.lr1_core.state.StateIndex.{StateIndex}
@@ -13,11 +13,12 @@ use Rattle.lalrpop_base.specs.declared.repr.NonterminalString.{NonterminalString
 use Rattle.lalrpop_base.specs.declared.repr.Production.{Production}
 use Rattle.lalrpop_base.specs.declared.repr.TerminalString.{TerminalString}
 use Rattle.lalrpop_base.specs.declared.repr.grammar.Grammar.{Grammar}
-use Rattle.lalrpop_base.proofs.ContentsViews.{contains_at, contains_of_map, contains_map}
-use Rattle.lalrpop_tables.specs.Words.{AreStatesOf, AreAllConflicts, canonical_of, reductions_of, seen}
-use Rattle.lalrpop_tables.proofs.theory.grammars.Grammars.{known_symbols}
-use Rattle.lalrpop_tables.proofs.theory.lists.Lists.{Contains-none, contains_head, contains_tail, contains-cons}
-use Rattle.lalrpop_lr1.proofs.InlineMembers.{from_flat_map}
+use Rattle.lalrpop_base.proofs.theory.states.ContentsViews.{contains_at, contains_of_map, contains_map}
+use Rattle.lalrpop_base.specs.Words.{AreAllConflicts}
+use Rattle.lalrpop_tables.specs.Words.{AreStatesOf, canonical_of, reductions_of, seen}
+use Rattle.lalrpop_base.proofs.theory.grammars.Grammars.{known_symbols}
+use Rattle.lalrpop_base.proofs.theory.lists.Members.{Contains-none, contains_head, contains_tail, contains-cons}
+use Rattle.lalrpop_lr1.proofs.theory.inlining.InlineMembers.{from_flat_map}
 use Rattle.lrtab_run.specs.Explaining.{AreOwnStates, IsOwnConflict}
 
 -- ---- what passes a filter was there

@@ -4,5 +4,4 @@ pub mod CheckCarried
 pub mod CheckCarrying
 pub mod CheckClosing
 pub mod CheckSending
-pub mod CheckStates
 pub mod CheckTables

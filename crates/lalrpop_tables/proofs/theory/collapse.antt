@@ -1,14 +1,6 @@
 -- The collapse of canonical states to LALR(1) states.
 pub mod CollapseCanonical
-pub mod CollapseCoherent
 pub mod CollapseContents
-pub mod CollapseDots
 pub mod CollapseLalr
 pub mod CollapseTold
-pub mod MergeableStates
 pub mod MergedCollapse
-pub mod MergedNumbers
-pub mod MergedStates
-pub mod Merging
-pub mod MergingItems
-pub mod MergingReductions

@@ -1,5 +1,4 @@
 -- Lane tables, and the tokens of their columns.
-pub mod Contexts
 pub mod LaneClosed
 pub mod LaneColumns
 pub mod LaneRows

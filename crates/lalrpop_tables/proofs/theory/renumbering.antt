@@ -1,6 +1,3 @@
 -- States under other numbers.
-pub mod Moved
-pub mod Renumbered
-pub mod RenumberedCanonical
 pub mod RenumberedTables
 pub mod RenumberedValid

@@ -1,5 +1,4 @@
 -- The states that a construction makes: kernels, transitions and reductions.
-pub mod Bounded
 pub mod Building
 pub mod ClosedStates
 pub mod Coherence
@@ -20,4 +19,3 @@ pub mod Reductions
 pub mod SameKernels
 pub mod Shifting
 pub mod StateEdges
-pub mod Universe

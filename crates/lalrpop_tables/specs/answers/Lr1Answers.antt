@@ -8,14 +8,15 @@ use Rattle.lalrpop_base.specs.declared.lr1_core.state.State.{State}
 use Rattle.lalrpop_base.specs.declared.lr1_core.state.TableConstructionError.{TableConstructionError}
 use Rattle.lalrpop_base.specs.declared.repr.NonterminalString.{NonterminalString}
 use Rattle.lalrpop_base.specs.declared.repr.grammar.Grammar.{Grammar}
-use Rattle.lalrpop_tables.specs.canonical.Canonical.{AreCanonicalStates, AreOrderedCanonical}
-use Rattle.lalrpop_tables.specs.canonical.CanonicalConflicts.{FailByCanonicalConflicts}
+use Rattle.lalrpop_base.specs.states.Canonical.{AreCanonicalStates, AreOrderedCanonical}
+use Rattle.lalrpop_base.specs.conflicts.CanonicalConflicts.{FailByCanonicalConflicts}
 use Rattle.lalrpop_tables.specs.early_stop.EarlyStop.{AreSomeCanonicalStates, StopsAfter}
 use Rattle.lalrpop_tables.specs.collapse.Lalr.{AreMergedTables, AreRenumberedMerged, FailsAsLalr}
 use Rattle.lalrpop_tables.specs.lane_states.LaneStates.{AreLaneTables}
 use Rattle.lalrpop_tables.specs.lane_states.Lr0Copies.{AreCopiedTables}
 use Rattle.lalrpop_tables.specs.renumbering.RenumberedTables.{AreRenumberedCopies, AreRenumberedTables, AreRenumberedLaneTables}
-use Rattle.lalrpop_tables.specs.answers.Results.{AreStatesOf, AreTables, AreAllConflicts, canonical_of}
+use Rattle.lalrpop_base.specs.conflicts.AllConflicts.{AreAllConflicts}
+use Rattle.lalrpop_tables.specs.answers.Results.{AreStatesOf, AreTables, canonical_of}
 use Rattle.lalrpop_tables.specs.declared.build.options.Method.{Method}
 use Rattle.lalrpop_tables.specs.declared.build.options.Method.TheVariants.{Lane, Canonical}
 

@@ -10,7 +10,7 @@ use Rattle.lalrpop_base.specs.declared.lr1_core.state.State.{State}
 use Rattle.lalrpop_base.specs.declared.repr.NonterminalString.{NonterminalString}
 use Rattle.lalrpop_base.specs.declared.repr.grammar.Grammar.{Grammar}
 use Rattle.lalrpop_tables.specs.early_stop.EarlyStop.{FailsAfterLr0, StopsFor}
-use Rattle.lalrpop_tables.specs.canonical.Lr0.{AreLr0States, HasLr0States, HaveNoNilConflict, ListsNilConflicts}
+use Rattle.lalrpop_base.specs.states.Lr0.{AreLr0States, HasLr0States, HaveNoNilConflict, ListsNilConflicts}
 use Rattle.lalrpop_tables.specs.answers.Lr1Answers.{AreBuiltTablesOf, FailsOn}
 use Rattle.lalrpop_tables.specs.answers.Results.{AreTablesFor, Construction, canonical_of}
 use Rattle.lalrpop_tables.specs.contracts.construction.epsilon_moves.NilLookaheadBuild.TheImpl as nil_build

@@ -1,12 +1,12 @@
 -- The check of tables.
 use Rattle.std.specs.Prelude.{◌≡◌, true, ℕ, List, length, Contains}
 use Rattle.lalrpop_base.specs.Words.{Bits, AreClosed, IsCarried, contents, ReducesFinished, productions}
-use Rattle.lalrpop_base.specs.States.{Reduction}
+use Rattle.lalrpop_base.specs.states.States.{Reduction}
 use Rattle.lalrpop_base.specs.declared.lookahead.token.Token.{Token}
 use Rattle.lalrpop_base.specs.declared.lr1_core.state.State.{State}
 use Rattle.lalrpop_base.specs.declared.repr.NonterminalString.{NonterminalString}
 use Rattle.lalrpop_base.specs.declared.repr.grammar.Grammar.{Grammar}
-use Rattle.lalrpop_tables.specs.answers.Results.{HaveNoConflict}
+use Rattle.lalrpop_base.specs.conflicts.AllConflicts.{HaveNoConflict}
 
 -- each reduction holds the tokens that are carried to its finished item from state 0 over the states' own edges
 abbrev pub HoldCarried : Grammar → NonterminalString → List (State Bits) → Type 0

@@ -11,10 +11,10 @@ use Rattle.lalrpop_base.specs.declared.repr.Production.{Production}
 use Rattle.lalrpop_base.specs.declared.repr.Symbol.{Symbol}
 use Rattle.lalrpop_base.specs.declared.repr.Symbol.TheVariants.{Nonterminal}
 use Rattle.lalrpop_base.specs.declared.repr.grammar.Grammar.{Grammar}
-use Rattle.lalrpop_tables.specs.closures.Closing.{Begins}
-use Rattle.lalrpop_tables.specs.check.CheckStates.{lr0, target_of}
-use Rattle.lalrpop_tables.specs.lists.Counts.{IsBelow}
-use Rattle.lalrpop_tables.specs.lists.Entries.{IsFound, IsFoundWith, Adds, burden, AllBelow}
+use Rattle.lalrpop_base.specs.closures.Closing.{Begins}
+use Rattle.lalrpop_base.specs.states.CheckStates.{lr0, target_of}
+use Rattle.lalrpop_base.specs.lists.Counts.{IsBelow}
+use Rattle.lalrpop_base.specs.lists.Entries.{IsFound, IsFoundWith, Adds, burden, AllBelow}
 use Rattle.lalrpop_tables.specs.declared.place.Place.{Place}
 
 -- what is carried to each place

@@ -9,8 +9,8 @@ use Rattle.lalrpop_base.specs.declared.repr.NonterminalString.{NonterminalString
 use Rattle.lalrpop_base.specs.declared.repr.Production.{Production}
 use Rattle.lalrpop_base.specs.declared.repr.Symbol.{Symbol}
 use Rattle.lalrpop_base.specs.declared.repr.Symbol.TheVariants.{Nonterminal}
-use Rattle.lalrpop_tables.specs.closures.Closure.{HasItemToken, InKernel, InTokenClosureBy}
-use Rattle.lalrpop_tables.specs.lists.Entries.{AllBelow, Grows, burden}
+use Rattle.lalrpop_base.specs.closures.Closure.{HasItemToken, InKernel, InTokenClosureBy}
+use Rattle.lalrpop_base.specs.lists.Entries.{AllBelow, Grows, burden}
 use Rattle.lalrpop_tables.specs.declared.construction.numbered.Numbered.{Numbered}
 use Rattle.lalrpop_tables.specs.declared.construction.numbers.Numbers.{Numbers}
 

@@ -11,10 +11,11 @@ use Rattle.lalrpop_base.specs.declared.repr.NonterminalString.{NonterminalString
 use Rattle.lalrpop_base.specs.declared.repr.Production.{Production}
 use Rattle.lalrpop_base.specs.declared.repr.Symbol.{Symbol}
 use Rattle.lalrpop_base.specs.declared.repr.TerminalString.{TerminalString}
-use Rattle.lalrpop_tables.specs.canonical.Canonical.{AreCanonicalStates}
-use Rattle.lalrpop_tables.specs.closures.Closure.{dotted_of, HasItemToken, IsClosureOf, IsClosureBy}
-use Rattle.lalrpop_tables.specs.canonical.Lr0.{AreLr0States}
-use Rattle.lalrpop_tables.specs.answers.Results.{AreAllConflicts, ListsAll, Settings}
+use Rattle.lalrpop_base.specs.states.Canonical.{AreCanonicalStates}
+use Rattle.lalrpop_base.specs.closures.Closure.{dotted_of, HasItemToken, IsClosureOf, IsClosureBy}
+use Rattle.lalrpop_base.specs.states.Lr0.{AreLr0States}
+use Rattle.lalrpop_base.specs.conflicts.AllConflicts.{AreAllConflicts, ListsAll}
+use Rattle.lalrpop_tables.specs.answers.Results.{Settings}
 use Rattle.lalrpop_tables.specs.states.States.{begun, IsBuiltOfBy, IsLedTo, AreBuiltBy}
 
 -- a state of each of the first kernels; kernels behind them may have none; what a closure is, is a parameter, so that this serves each kind of lookahead

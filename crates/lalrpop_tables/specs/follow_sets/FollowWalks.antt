@@ -9,9 +9,9 @@ use Rattle.lalrpop_base.specs.declared.repr.Production.{Production}
 use Rattle.lalrpop_base.specs.declared.repr.Symbol.{Symbol}
 use Rattle.lalrpop_base.specs.declared.repr.Symbol.TheVariants.{Nonterminal, Terminal}
 use Rattle.lalrpop_base.specs.declared.repr.TerminalString.{TerminalString}
-use Rattle.lalrpop_tables.specs.follow_sets.FollowGraphs.{HasBitAtOnce, IsFollowNode}
+use Rattle.lalrpop_base.specs.lanes.FollowGraphs.{HasBitAtOnce, IsFollowNode}
 use Rattle.lalrpop_tables.specs.follow_sets.FollowNodes.{nodes_of}
-use Rattle.lalrpop_tables.specs.follow_sets.FollowSets.{HasLookaheadBits, LeadsOver}
+use Rattle.lalrpop_base.specs.lanes.FollowSets.{HasLookaheadBits, LeadsOver}
 use Rattle.lalrpop_tables.specs.lanes.LaneTraces.{places_in}
 use Rattle.lalrpop_tables.specs.states.NumberedStates.{items_at}
 use Rattle.lalrpop_tables.specs.grammars.Rests.{HasRest}

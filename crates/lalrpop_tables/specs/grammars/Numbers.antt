@@ -3,7 +3,7 @@ use Rattle.std.specs.Prelude.{◌==◌, ◌&&◌, Bool, true, ◌≡◌, ◌+◌
 use Rattle.std.specs.declared.cmp.Ordering.{Ordering}
 use Rattle.std.specs.List.Sorted.{IsStrictlySortedBy}
 use Rattle.std.proofs.Common.{ap, ◌∙◌, eqb-true}
-use Rattle.lalrpop_base.specs.Exact.{Exactly, both}
+use Rattle.lalrpop_base.specs.lists.Exact.{Exactly, both}
 use Rattle.lalrpop_base.specs.Words.{AllDiffer, Dotted, Kernels, Rules}
 use Rattle.lalrpop_base.specs.declared.repr.TerminalString.TheVariants.{Error}
 use Rattle.lalrpop_base.specs.declared.lookahead.nil.Nil.{Nil}
@@ -11,7 +11,7 @@ use Rattle.lalrpop_base.specs.declared.repr.Production.{Production}
 use Rattle.lalrpop_base.specs.declared.repr.Symbol.{Symbol}
 use Rattle.lalrpop_base.specs.declared.repr.Symbol.TheVariants.{Nonterminal, Terminal}
 use Rattle.lalrpop_base.specs.contracts.repr.SymbolOrd.TheImpl as symbol_ord
-use Rattle.lalrpop_tables.specs.grammars.Ascending.{Ascend}
+use Rattle.lalrpop_base.specs.grammars.Ascending.{Ascend}
 use Rattle.lalrpop_tables.specs.grammars.Rests.{AreRests}
 use Rattle.lalrpop_tables.specs.states.Transitions.{Groups, IsBehindOne, moved}
 use Rattle.lalrpop_tables.specs.declared.construction.numbered.Numbered.{Numbered}

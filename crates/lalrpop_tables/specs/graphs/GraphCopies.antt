@@ -6,7 +6,7 @@ use Rattle.lalrpop_base.specs.declared.repr.Symbol.{Symbol}
 use Rattle.lalrpop_base.specs.declared.lr1_core.state.State.{State}
 use Rattle.lalrpop_base.specs.declared.lr1_core.state.StateIndex.{StateIndex}
 use Rattle.lalrpop_tables.specs.merges.Merges.{AreCopies}
-use Rattle.lalrpop_tables.specs.renumbering.Renumbered.{number_in, retargeted}
+use Rattle.lalrpop_base.specs.renumbering.Renumbered.{number_in, retargeted}
 use Rattle.lalrpop_tables.specs.graphs.StateGraph.{Edge, edge, edges, IsGraphOf, origin_of, origins_of, targets_from, targets_of}
 use Rattle.lalrpop_tables.specs.declared.state_graph.StateGraph.{StateGraph}
 

@@ -8,7 +8,7 @@ use Rattle.lalrpop_base.specs.declared.lr1_core.state.State.{State}
 use Rattle.lalrpop_base.specs.declared.repr.NonterminalString.{NonterminalString}
 use Rattle.lalrpop_tables.specs.lane_states.LaneStates.{AreLaneStates}
 use Rattle.lalrpop_tables.specs.merges.Merges.{AreCopies}
-use Rattle.lalrpop_tables.specs.answers.Results.{HaveNoConflict}
+use Rattle.lalrpop_base.specs.conflicts.AllConflicts.{HaveNoConflict}
 
 -- the LR(0) states of the grammar with all tokens on the items, and behind them at most so many copies: each state has the dotted productions and the reduced productions of its original, and its edges lead to copies of where that one's lead
 pub record AreLr0Copies (g : Rules) (start : NonterminalString) (copies : ℕ) (states : List (State Bits)) : Type 0 where

@@ -3,7 +3,7 @@ use Rattle.std.specs.Prelude.{◌≡◌, ◌⊎◌, ◌<◌, ◌↔◌, ℕ, tru
 use Rattle.std.specs.BTreeSet.{BTreeSet as SortedSet}
 use Rattle.lalrpop_base.specs.Words.{Bits, has}
 use Rattle.lalrpop_base.specs.declared.lr1_core.state.StateIndex.{StateIndex}
-use Rattle.lalrpop_tables.specs.lane_tables.Contexts.{HasAt}
+use Rattle.lalrpop_base.specs.lanes.Contexts.{HasAt}
 use Rattle.lalrpop_tables.specs.declared.lane_table.context_set.ConflictIndex.{ConflictIndex}
 use Rattle.lalrpop_tables.specs.declared.lane_table.table.LaneTable.{LaneTable}
 

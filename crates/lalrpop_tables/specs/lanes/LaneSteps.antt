@@ -2,7 +2,7 @@
 use Rattle.std.specs.Prelude.{◌≡◌, ◌⊎◌, ◌+◌, ◌↔◌, ◌<◌, ℕ, suc, Bool, true, List, ◌∷◌, drop, length, slice_get, Some, Contains}
 use Rattle.lalrpop_base.specs.Words.{IsFirst, IsNullable, Dotted, LeadsBack, IsTracedTo, AllDiffer, Contents, IsBehindDot, leads, IsBitOf, Rules, IsWellFormed}
 use Rattle.lalrpop_base.specs.Words.{productions, rules_of}
-use Rattle.lalrpop_base.specs.Lanes.{Gives}
+use Rattle.lalrpop_base.specs.lanes.Lanes.{Gives}
 use Rattle.lalrpop_base.specs.declared.lookahead.token.Token.{Token}
 use Rattle.lalrpop_base.specs.declared.lr1_core.state.StateIndex.{StateIndex}
 use Rattle.lalrpop_base.specs.declared.repr.NonterminalString.{NonterminalString}

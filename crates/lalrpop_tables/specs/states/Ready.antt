@@ -2,7 +2,7 @@
 use Rattle.std.specs.Prelude.{◌≡◌}
 use Rattle.lalrpop_base.specs.Words.{Bits, FitsTokens, Rules, rules_of, IsWellFormed}
 use Rattle.lalrpop_base.specs.declared.repr.grammar.Grammar.{Grammar}
-use Rattle.lalrpop_tables.specs.closures.Closing.{AreOwn}
+use Rattle.lalrpop_base.specs.closures.Closing.{AreOwn}
 use Rattle.lalrpop_tables.specs.grammars.Numbers.{AreNumbers}
 use Rattle.lalrpop_tables.specs.declared.construction.numbers.Numbers.{Numbers}
 

@@ -8,7 +8,7 @@ use Rattle.lalrpop_base.specs.declared.repr.Symbol.TheVariants.{Nonterminal, Ter
 use Rattle.lalrpop_base.specs.declared.lr1_core.state.StateIndex.{StateIndex}
 use Rattle.lalrpop_base.specs.declared.repr.Symbol.{Symbol}
 use Rattle.lalrpop_base.specs.contracts.repr.TerminalStringOrd.TheImpl as terminal_ord
-use Rattle.lalrpop_tables.specs.closures.Closure.{AreItemsBy, IsClosureOf}
+use Rattle.lalrpop_base.specs.closures.Closure.{AreItemsBy, IsClosureOf}
 use Rattle.lalrpop_tables.specs.states.Transitions.{IsBehind, IsBehindOne, Shifts, reductions_of, seen}
 
 -- a production with the dot at the start

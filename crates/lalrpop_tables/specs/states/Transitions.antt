@@ -9,7 +9,7 @@ use Rattle.lalrpop_base.specs.declared.repr.Production.{Production}
 use Rattle.lalrpop_base.specs.declared.repr.Symbol.{Symbol}
 use Rattle.lalrpop_base.specs.declared.repr.Symbol.TheVariants.{Nonterminal, Terminal}
 use Rattle.lalrpop_base.specs.contracts.repr.TerminalStringOrd.TheImpl as terminal_ord
-use Rattle.lalrpop_tables.specs.lists.Entries.{IsPushedAt}
+use Rattle.lalrpop_base.specs.lists.Entries.{IsPushedAt}
 use Rattle.lalrpop_tables.specs.declared.construction.transitions.Edges.{Edges}
 
 -- x stands behind the item's dot

@@ -3,7 +3,7 @@ ghost use Rattle.std.specs.Prelude.{◌≡◌, ◌<◌, ◌↔◌, IfOk, OnOk, C
 ghost use Rattle.std.specs.Map.{keys_of};
 ghost use Rattle.lalrpop_base.specs.Words.{AreClosed, contents, EachItem, AllDiffer, IsWellFormed, productions, productions_of, rules_of};
 ghost use Rattle.lalrpop_tables.specs.check.CheckCarrying.{Sends, IsBegunAt, IsOver, Gives, target_in, AreCarried, HoldsCarried, AllHoldCarried};
-ghost use Rattle.lalrpop_tables.specs.lists.Entries.{IsQueued};
+ghost use Rattle.lalrpop_base.specs.lists.Entries.{IsQueued};
 
 use super::states::target;
 use crate::place::Place;

@@ -1,8 +1,8 @@
 //! The closure of dotted productions, without tokens.
 ghost use Rattle.std.specs.Prelude.{◌≡◌, [], ◌∷◌, IfOk, OnOk, Contains, map};
 ghost use Rattle.lalrpop_base.specs.Words.{IsAtStart, IsWellFormed, productions, productions_of};
-ghost use Rattle.lalrpop_tables.specs.closures.Closure.{dotted_of};
-ghost use Rattle.lalrpop_tables.specs.check.CheckClosing.{Widens, IsBegun, IsExpansionOf, IsMovedIn, IsMovedOf, AreClosure, AllWait};
+ghost use Rattle.lalrpop_base.specs.closures.Closure.{dotted_of};
+ghost use Rattle.lalrpop_base.specs.closures.CheckClosing.{Widens, IsBegun, IsExpansionOf, IsMovedIn, IsMovedOf, AreClosure, AllWait};
 
 use crate::sets::add_key;
 use lalrpop_base::lookahead::nil::Nil;

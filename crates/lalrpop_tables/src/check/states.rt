@@ -2,8 +2,8 @@
 ghost use Rattle.std.specs.Prelude.{◌≡◌, ◌↔◌, ◌⊎◌, ℕ, IfOk, OnOk, Contains, IsTrue, MatchOption, length, slice_get, Some};
 ghost use Rattle.lalrpop_base.specs.Words.{Bits, IsAtStart, Dotted, AllDiffer, IsWellFormed, productions};
 ghost use Rattle.lalrpop_base.specs.declared.lookahead.nil.Nil.{Nil};
-ghost use Rattle.lalrpop_tables.specs.check.CheckClosing.{AreClosure};
-ghost use Rattle.lalrpop_tables.specs.check.CheckStates.{LeadsBy, LeadsFrom, IsTarget, target_of, lr0, Lists, reduced, finished, LeadsOn, IsRightItem, IsRightTarget, IsRightState, AreRightStates, AreListed};
+ghost use Rattle.lalrpop_base.specs.closures.CheckClosing.{AreClosure};
+ghost use Rattle.lalrpop_base.specs.states.CheckStates.{LeadsBy, LeadsFrom, IsTarget, target_of, lr0, Lists, reduced, finished, LeadsOn, IsRightItem, IsRightTarget, IsRightState, AreRightStates, AreListed};
 
 use super::closing::{Set, moved_closure, start_closure};
 use crate::conflicts::has_no_conflict;

@@ -3,8 +3,8 @@
 ghost use Rattle.std.specs.Prelude.{◌≡◌, ◌<◌, ◌∷◌, [], ℕ, IfOk, OnOk, IfSome, IfNone, Contains, length, map};
 ghost use Rattle.std.specs.Map.{keys_of};
 ghost use Rattle.lalrpop_base.specs.Words.{Bits, Ordered};
-ghost use Rattle.lalrpop_tables.specs.closures.Closure.{AreItemsBy, IsClosureBy, meant};
-ghost use Rattle.lalrpop_tables.specs.lists.Entries.{IsQueued, GathersMore, readings};
+ghost use Rattle.lalrpop_base.specs.closures.Closure.{AreItemsBy, IsClosureBy, meant};
+ghost use Rattle.lalrpop_base.specs.lists.Entries.{IsQueued, GathersMore, readings};
 ghost use Rattle.lalrpop_tables.specs.grammars.Numbers.{AreNumbered, AreNumbers, item_by, items_by};
 ghost use Rattle.lalrpop_tables.specs.declared.construction.numbered.Numbered.{Numbered as ItemBy};
 ghost use Rattle.lalrpop_tables.specs.closures.Sharing.{IsSharing, Shares, fronts_in, numbered_of, parts_in, unfolded, with_tokens};

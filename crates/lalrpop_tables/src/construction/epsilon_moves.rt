@@ -1,6 +1,6 @@
 //! What items give without lookahead, and with sets of tokens.
 ghost use Rattle.lalrpop_base.specs.Words.{IsNullable};
-ghost use Rattle.lalrpop_tables.specs.closures.Closing.{Begins};
+ghost use Rattle.lalrpop_base.specs.closures.Closing.{Begins};
 
 use super::lookahead_build::LookaheadBuild;
 use super::lr::Lr;

@@ -3,7 +3,7 @@ ghost use Rattle.std.specs.Prelude.{IfOk, List, MatchOption};
 ghost use Rattle.lalrpop_base.specs.Words.{HasKnownTerminals, Rules};
 ghost use Rattle.lalrpop_base.specs.declared.lookahead.token.Token.{Token};
 ghost use Rattle.lalrpop_base.specs.declared.repr.Symbol.{Symbol};
-ghost use Rattle.lalrpop_tables.specs.closures.EpsilonMoves.{AreEpsilonMoves, HasNoProduction, IsGiven};
+ghost use Rattle.lalrpop_base.specs.closures.EpsilonMoves.{AreEpsilonMoves, HasNoProduction, IsGiven};
 ghost use Rattle.lalrpop_tables.specs.grammars.Rests.{IsRest};
 
 use super::lr::Lr;

@@ -3,10 +3,10 @@ ghost use Rattle.std.specs.Prelude.{◌≡◌, IfOk, IfErr, MatchResult, map};
 ghost use Rattle.lalrpop_base.specs.Words.{FitsTokens, IsWellFormed, rules_of, productions_of};
 ghost use Rattle.lalrpop_base.specs.declared.repr.NonterminalString.{NonterminalString as Start};
 ghost use Rattle.lalrpop_base.specs.declared.repr.grammar.Grammar.{Grammar as Rules};
-ghost use Rattle.lalrpop_tables.specs.closures.Closure.{AreItemsBy};
+ghost use Rattle.lalrpop_base.specs.closures.Closure.{AreItemsBy};
 ghost use Rattle.lalrpop_tables.specs.early_stop.EarlyStop.{FailsAfterLr0, StopsFor};
-ghost use Rattle.lalrpop_tables.specs.closures.EpsilonMoves.{AreBegunWith};
-ghost use Rattle.lalrpop_tables.specs.canonical.Lr0.{AreLr0States, HasLr0States, HaveNoNilConflict, ListsNilConflicts};
+ghost use Rattle.lalrpop_base.specs.closures.EpsilonMoves.{AreBegunWith};
+ghost use Rattle.lalrpop_base.specs.states.Lr0.{AreLr0States, HasLr0States, HaveNoNilConflict, ListsNilConflicts};
 ghost use Rattle.lalrpop_tables.specs.answers.Lr1Answers.{AreBuiltTablesOf, FailsOn};
 ghost use Rattle.lalrpop_tables.specs.grammars.Numbers.{AreNumbered, AreNumbers, items_by};
 ghost use Rattle.lalrpop_tables.specs.answers.Results.{AreTables, AreTablesFor, FailsBy, FailsFor, canonical_of};
@@ -44,7 +44,7 @@ pub struct Lr<'grammar, L: Lookahead> {
 
 impl<'grammar, L: Lookahead> Model for Lr<'grammar, L> {
     ghost use Rattle.lalrpop_base.specs.Words.{rules_of, productions_of};
-    ghost use Rattle.lalrpop_tables.specs.canonical.Lr0.{AreLr0States, HasLr0States, HaveNoNilConflict, ListsNilConflicts};
+    ghost use Rattle.lalrpop_base.specs.states.Lr0.{AreLr0States, HasLr0States, HaveNoNilConflict, ListsNilConflicts};
     ghost use Rattle.lalrpop_tables.specs.answers.Results.{Settings};
 
     ghost Value = { Settings L };

@@ -1,7 +1,7 @@
 //! LR(0) states.
 ghost use Rattle.std.specs.Prelude.{IfOk, IfErr, MatchResult};
 ghost use Rattle.lalrpop_base.specs.Words.{IsWellFormed, rules_of};
-ghost use Rattle.lalrpop_tables.specs.canonical.Lr0.{AreLr0States, HasLr0States, HaveNoNilConflict, ListsNilConflicts};
+ghost use Rattle.lalrpop_base.specs.states.Lr0.{AreLr0States, HasLr0States, HaveNoNilConflict, ListsNilConflicts};
 
 use super::lr::Lr;
 use lalrpop_base::lookahead::nil::Nil;

@@ -3,7 +3,7 @@ ghost use Rattle.std.specs.Prelude.{◌≡◌, ◌<◌, [], IfOk, OnOk, IfErr, �
 ghost use Rattle.std.specs.List.{flat_map};
 ghost use Rattle.lalrpop_base.specs.Words.{state_conflicts};
 ghost use Rattle.lalrpop_base.specs.declared.lr1_core.state.Conflict.{Conflict};
-ghost use Rattle.lalrpop_tables.specs.answers.Results.{FailWith, HaveNoConflict};
+ghost use Rattle.lalrpop_base.specs.conflicts.AllConflicts.{FailWith, HaveNoConflict};
 ghost use Rattle.lalrpop_tables.specs.answers.TablesOrCount.{MatchTablesOrCount};
 
 use super::lr::Lr;

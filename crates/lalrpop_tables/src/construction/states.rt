@@ -1,6 +1,6 @@
 //! The states of a grammar, by their kernels.
 ghost use Rattle.std.specs.Prelude.{◌≡◌, ◌↔◌, ◌∷◌, [], map, IsTrue, IfOk, OnOk, Some};
-ghost use Rattle.lalrpop_tables.specs.closures.Closure.{AreItemsBy, IsClosureBy};
+ghost use Rattle.lalrpop_base.specs.closures.Closure.{AreItemsBy, IsClosureBy};
 ghost use Rattle.lalrpop_tables.specs.early_stop.EarlyStop.{AreEnough, AreMadeFor};
 ghost use Rattle.lalrpop_tables.specs.grammars.Numbers.{AreAllNumbered, AreNumbered, AreNumbers, items_by, kernels_by};
 ghost use Rattle.lalrpop_tables.specs.answers.Results.{AreStatesFor};

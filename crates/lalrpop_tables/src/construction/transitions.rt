@@ -2,7 +2,7 @@
 ghost use Rattle.std.specs.Prelude.{◌<◌, IfOk, OnOk, length, Some};
 ghost use Rattle.std.specs.BTreeMap.{keys};
 ghost use Rattle.lalrpop_base.specs.Words.{AllDiffer, Rules};
-ghost use Rattle.lalrpop_tables.specs.lists.Entries.{IsPushedAt};
+ghost use Rattle.lalrpop_base.specs.lists.Entries.{IsPushedAt};
 ghost use Rattle.lalrpop_tables.specs.grammars.Numbers.{AreAllNumbered, AreGroupsOf, AreNumbered, AreNumbers, groups_by, item_by, items_by, kernels_by};
 ghost use Rattle.lalrpop_tables.specs.states.Transitions.{AreMoves, IsMoveAdded, IsEdgeAdded, AreEdges, IsReached};
 

@@ -15,7 +15,7 @@ ghost use Rattle.lalrpop_base.specs.Words.{IsLALR1, IsOnNoRightSide, IsWellForme
 ghost use Rattle.lalrpop_tables.specs.collapse.Lalr.{TellsNotLALR1};
 ghost use Rattle.lalrpop_tables.specs.lane_states.LaneStates.{AreLalrLaneTables, IsReadyToConstruct};
 ghost use Rattle.lalrpop_tables.specs.lane_states.Lr0Copies.{AreCopiedTables, AreLr0Copies, FailsByCopies, HaveCopiedConflict};
-ghost use Rattle.lalrpop_tables.specs.answers.Results.{HaveNoConflict};
+ghost use Rattle.lalrpop_base.specs.conflicts.AllConflicts.{HaveNoConflict};
 
 use crate::conflicts::{conflicts_of, have_no_conflict};
 use lalrpop_base::first::FirstSets;

@@ -3,7 +3,7 @@ ghost use Rattle.std.specs.Prelude.{◌≡◌, ◌≤◌, [], ◌∷◌, false, 
 ghost use Rattle.std.specs.Map.{keys_of};
 ghost use Rattle.lalrpop_base.specs.Words.{AllDiffer};
 ghost use Rattle.lalrpop_tables.specs.graphs.GraphCopies.{FollowsCopies, FollowsEdges, FollowsInTurn};
-ghost use Rattle.lalrpop_tables.specs.renumbering.Renumbered.{number_in, retargeted_all};
+ghost use Rattle.lalrpop_base.specs.renumbering.Renumbered.{number_in, retargeted_all};
 ghost use Rattle.lalrpop_tables.specs.graphs.StateGraph.{edge, edges_of, goto_edges, shift_edges};
 
 use super::StateGraph;

@@ -1,10 +1,10 @@
 use Rattle.std.proofs.Common.{◌↔◌, ℕ, List, arith, eqb-true, refl, subst, sym, ◌∙◌}
 use Rattle.std.proofs.lemmas.List.{nil_from_length}
 use Rattle.std.specs.Prelude.{IsTrue, MatchOption, Option, vec_len}
-use Rattle.lalrpop_base.specs.StateConflicts.{Reduction}
+use Rattle.lalrpop_base.specs.conflicts.StateConflicts.{Reduction}
 use Rattle.lalrpop_base.specs.Words.{Bits, has}
-use Rattle.lalrpop_tables.specs.conflicts.HeldShifts.{IsHeldBit, ShareNoBit}
-use Rattle.lalrpop_tables.proofs.theory.conflicts.FreeStates.{free_shifts, nothing_reduced_free, state_free}
+use Rattle.lalrpop_base.specs.conflicts.HeldShifts.{IsHeldBit, ShareNoBit}
+use Rattle.lalrpop_base.proofs.theory.conflicts.FreeStates.{free_shifts, nothing_reduced_free, state_free}
 use Rattle.lalrpop_tables.proofs.conflicts.has_no_conflict.Goals as goal
 
 pub returns-then-is_empty : goal.returns-then-is_empty

@@ -4,8 +4,8 @@ use Rattle.lalrpop_base.specs.Words.{HasToken}
 use Rattle.lalrpop_base.specs.declared.lookahead.token.Token.TheVariants.{Terminal as TokenOf}
 use Rattle.lalrpop_base.specs.declared.lr1_core.state.StateIndex.{StateIndex}
 use Rattle.lalrpop_base.specs.declared.repr.TerminalString.{TerminalString}
-use Rattle.lalrpop_tables.proofs.theory.conflicts.FreeStates.{shift_behind}
-use Rattle.lalrpop_tables.proofs.theory.lists.Lists.{contains_head, Contains-none, contains_tail}
+use Rattle.lalrpop_base.proofs.theory.conflicts.FreeStates.{shift_behind}
+use Rattle.lalrpop_base.proofs.theory.lists.Members.{contains_head, Contains-none, contains_tail}
 use Rattle.lalrpop_tables.proofs.conflicts.holds_no_shift.Goals as goal
 
 pub loop-terminal-init : goal.loop-terminal-init

@@ -1,5 +1,5 @@
-use Rattle.lalrpop_tables.proofs.theory.lists.CheckSets.{inserted, keys_differ, told}
-use Rattle.lalrpop_tables.proofs.theory.lists.Updates.{exact_order}
+use Rattle.lalrpop_base.proofs.theory.lists.CheckSets.{inserted, keys_differ, told}
+use Rattle.lalrpop_base.proofs.theory.lists.Updates.{exact_order}
 use Rattle.lalrpop_tables.proofs.sets.add_key.Goals as goal
 
 pub returns-clause-added : goal.returns-clause-added

@@ -3,8 +3,8 @@ use Rattle.std.specs.Prelude.{Contains, IfSome, IsNone, option_copied}
 use Rattle.std.specs.Borrow.{Bor}
 use Rattle.std.specs.Map.{keys_of}
 use Rattle.lalrpop_base.specs.Words.{Bits, AllDiffer}
-use Rattle.lalrpop_tables.proofs.theory.lists.Lists.{contains_map}
-use Rattle.lalrpop_tables.proofs.theory.lists.Updates.{one_value}
+use Rattle.lalrpop_base.proofs.theory.lists.Members.{contains_map}
+use Rattle.lalrpop_base.proofs.theory.lists.Updates.{one_value}
 use Rattle.lalrpop_tables.proofs.sets.find_tokens.Goals as goal
 
 copied : {V : Type 0} (P : V → Type 0) (o : Option (Bor V)) → IfSome o (λ b. P b.now) → (v : V) → option_copied o ≡ Some v → P v

@@ -1,5 +1,5 @@
 use Rattle.std.proofs.lemmas.Map.Views.{btree_set_contains_iff}
-use Rattle.lalrpop_tables.proofs.theory.lists.Updates.{exact_order}
+use Rattle.lalrpop_base.proofs.theory.lists.Updates.{exact_order}
 use Rattle.lalrpop_tables.proofs.sets.has_key.Goals as goal
 
 pub returns : goal.returns

@@ -1,6 +1,6 @@
 use Rattle.std.proofs.Common.{refl}
-use Rattle.lalrpop_tables.proofs.theory.lists.CheckSets.{same_of, subset_of, superset_of}
-use Rattle.lalrpop_tables.proofs.theory.lists.Updates.{exact_order}
+use Rattle.lalrpop_base.proofs.theory.lists.CheckSets.{same_of, subset_of, superset_of}
+use Rattle.lalrpop_base.proofs.theory.lists.Updates.{exact_order}
 use Rattle.lalrpop_tables.proofs.sets.have_same.Goals as goal
 
 pub returns-then-is_subset : goal.returns-then-is_subset

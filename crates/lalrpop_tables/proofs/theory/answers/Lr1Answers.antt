@@ -10,10 +10,12 @@ use Rattle.lalrpop_base.specs.declared.lr1_core.state.State.{State}
 use Rattle.lalrpop_base.specs.declared.lr1_core.state.TableConstructionError.{TableConstructionError}
 use Rattle.lalrpop_base.specs.declared.repr.NonterminalString.{NonterminalString}
 use Rattle.lalrpop_base.specs.declared.repr.grammar.Grammar.{Grammar}
-use Rattle.lalrpop_base.proofs.theory.RightStates.{faithful_lr1}
-use Rattle.lalrpop_tables.specs.Words.{AreCanonicalStates, AreCollapsedTables, FailsByCollapse, AreSomeCanonicalStates, AreLalrTables, TellsNotLALR1}
+use Rattle.lalrpop_base.proofs.theory.states.RightStates.{faithful_lr1}
+use Rattle.lalrpop_base.specs.Words.{AreCanonicalStates, AreCollapsedTables, FailsByCollapse}
+use Rattle.lalrpop_tables.specs.Words.{AreSomeCanonicalStates, AreLalrTables, TellsNotLALR1}
 use Rattle.lalrpop_tables.specs.Words.{HasCoherentStates, FailsAsLalr, AreLaneTables, AreCopiedTables, AreTablesBy, AreTablesOf, AreBuiltTablesOf}
-use Rattle.lalrpop_tables.specs.Words.{HasConflictsOf, FailsOn, AreRenumbered, AreTables, canonical_of}
+use Rattle.lalrpop_base.specs.Words.{AreRenumbered}
+use Rattle.lalrpop_tables.specs.Words.{HasConflictsOf, FailsOn, AreTables, canonical_of}
 use Rattle.lalrpop_tables.specs.declared.build.options.Method.{Method}
 use Rattle.lalrpop_tables.specs.declared.build.options.Method.TheVariants.{Lane, Canonical}
 use Rattle.lalrpop_tables.proofs.theory.collapse.CollapseLalr.{lalr_lr1}

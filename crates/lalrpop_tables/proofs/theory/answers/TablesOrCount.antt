@@ -6,7 +6,9 @@ use Rattle.lalrpop_base.specs.declared.lr1_core.state.Conflict.{Conflict}
 use Rattle.lalrpop_base.specs.declared.lr1_core.state.State.{State}
 use Rattle.lalrpop_base.specs.declared.repr.NonterminalString.{NonterminalString}
 use Rattle.lalrpop_base.specs.declared.repr.grammar.Grammar.{Grammar}
-use Rattle.lalrpop_tables.specs.Words.{AreBuiltTablesOrCount, AreLaneTables, AreOwn, AreStatesFor, AreStatesOf, Begins, HaveNoConflict, MatchTablesOrCount, canonical_of, itself}
+use Rattle.lalrpop_base.specs.closures.Closure.{itself}
+use Rattle.lalrpop_base.specs.Words.{AreOwn, Begins, HaveNoConflict}
+use Rattle.lalrpop_tables.specs.Words.{AreBuiltTablesOrCount, AreLaneTables, AreStatesFor, AreStatesOf, MatchTablesOrCount, canonical_of}
 use Rattle.lalrpop_tables.specs.declared.build.options.Method.{Method}
 use Rattle.lalrpop_tables.specs.declared.build.options.Method.TheVariants.{Canonical, Lane}
 use Rattle.lalrpop_tables.specs.declared.construction.tables_or_count.TablesOrCount.{TablesOrCount}

@@ -6,11 +6,13 @@ use Rattle.lalrpop_base.specs.declared.lr1_core.state.BuildError.{BuildError}
 use Rattle.lalrpop_base.specs.declared.lr1_core.state.State.{State}
 use Rattle.lalrpop_base.specs.declared.repr.NonterminalString.{NonterminalString}
 use Rattle.lalrpop_base.specs.declared.repr.grammar.Grammar.{Grammar}
-use Rattle.lalrpop_tables.specs.Words.{AreOwn, FailsAfterLr0, IsKeptGrammar, AreSetTables, StopsWithSets, AreNilTables, StopsWithNil, lr0_of, AreLr0States}
-use Rattle.lalrpop_tables.specs.Words.{HasLr0States, AreBuiltTablesOf, FailsOn}
+use Rattle.lalrpop_base.specs.Words.{AreOwn, AreLr0States}
+use Rattle.lalrpop_tables.specs.Words.{FailsAfterLr0, IsKeptGrammar, AreSetTables, StopsWithSets, AreNilTables, StopsWithNil, lr0_of}
+use Rattle.lalrpop_base.specs.Words.{HasLr0States}
+use Rattle.lalrpop_tables.specs.Words.{AreBuiltTablesOf, FailsOn}
 use Rattle.lalrpop_tables.specs.declared.build.options.Method.TheVariants.{Canonical}
 use Rattle.lalrpop_tables.proofs.theory.canonical.CanonicalAnswers.{Set-tables, Set-fails}
-use Rattle.lalrpop_tables.proofs.theory.grammars.Grammars.{productions_own}
+use Rattle.lalrpop_base.proofs.theory.grammars.Grammars.{productions_own}
 use Rattle.lalrpop_tables.proofs.theory.canonical.Lr0States.{nothing, never, stopped, Lists, Tables-lr0, Fails-lr0}
 use Rattle.lalrpop_tables.proofs.theory.early_stop.MadeUntil.{Stops-fail}
 use Rattle.lalrpop_tables.proofs.theory.early_stop.StoppedLr0.{stopped_after_lr0}

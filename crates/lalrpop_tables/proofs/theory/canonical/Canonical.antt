@@ -12,15 +12,17 @@ use Rattle.lalrpop_base.specs.declared.repr.Production.{Production}
 use Rattle.lalrpop_base.specs.declared.repr.Symbol.{Symbol}
 use Rattle.lalrpop_base.specs.declared.repr.TerminalString.{TerminalString}
 use Rattle.lalrpop_base.specs.declared.repr.grammar.Grammar.{Grammar}
-use Rattle.lalrpop_base.proofs.HeldTokens.{place_there}
-use Rattle.lalrpop_tables.specs.Words.{AreOwn, dotted_of, InKernel, HasItemToken, begun, IsBehind, moved, Shifts}
+use Rattle.lalrpop_base.proofs.theory.sets.HeldTokens.{place_there}
+use Rattle.lalrpop_base.specs.closures.Closure.{dotted_of}
+use Rattle.lalrpop_base.specs.Words.{AreOwn, InKernel, HasItemToken}
+use Rattle.lalrpop_tables.specs.Words.{begun, IsBehind, moved, Shifts}
 use Rattle.lalrpop_tables.specs.states.Transitions.Shifts.{none, moves, stays}
-use Rattle.lalrpop_tables.proofs.theory.closures.Closing.{drop_split, split_drop}
-use Rattle.lalrpop_tables.proofs.theory.grammars.Grammars.{productions_among, productions_named}
-use Rattle.lalrpop_tables.proofs.theory.grammars.KnownTerminals.{held_bit}
-use Rattle.lalrpop_tables.proofs.theory.lists.Lists.{contains_head, contains_tail, contains-cons, Contains-none, contains_map}
+use Rattle.lalrpop_base.proofs.theory.closures.Closing.{drop_split, split_drop}
+use Rattle.lalrpop_base.proofs.theory.grammars.Grammars.{productions_among, productions_named}
+use Rattle.lalrpop_base.proofs.theory.grammars.KnownTerminals.{held_bit}
+use Rattle.lalrpop_base.proofs.theory.lists.Members.{contains_head, contains_tail, contains-cons, Contains-none, contains_map}
 use Rattle.lalrpop_tables.proofs.theory.states.Shifting.{of_dotted, begun_in, Shifts-from}
-use Rattle.lalrpop_tables.proofs.theory.lists.BitSets.{one_bit, own_bit}
+use Rattle.lalrpop_base.proofs.theory.sets.BitSets.{one_bit, own_bit}
 
 -- ---- a closure of more is more
 module _ (g : List Production) where

@@ -7,8 +7,11 @@ use Rattle.lalrpop_base.specs.declared.lr1_core.state.Conflict.{Conflict}
 use Rattle.lalrpop_base.specs.declared.lr1_core.state.State.{State}
 use Rattle.lalrpop_base.specs.declared.repr.NonterminalString.{NonterminalString}
 use Rattle.lalrpop_base.specs.declared.repr.grammar.Grammar.{Grammar}
-use Rattle.lalrpop_tables.specs.Words.{AreCanonicalStates, tokens_of, AreOwn, Begins, itself, StopsFor, AreBuiltTablesOf, FailsOn, AreTables, AreTablesFor}
-use Rattle.lalrpop_tables.specs.Words.{AreAllConflicts, AreStatesOf, FailsBy, IsClosureOf, LacksTables, canonical_of}
+use Rattle.lalrpop_base.specs.closures.Closure.{itself}
+use Rattle.lalrpop_base.specs.Words.{AreCanonicalStates, tokens_of, AreOwn, Begins}
+use Rattle.lalrpop_tables.specs.Words.{StopsFor, AreBuiltTablesOf, FailsOn, AreTables, AreTablesFor}
+use Rattle.lalrpop_base.specs.Words.{AreAllConflicts, IsClosureOf}
+use Rattle.lalrpop_tables.specs.Words.{AreStatesOf, FailsBy, LacksTables, canonical_of}
 use Rattle.lalrpop_tables.specs.declared.build.options.Method.TheVariants.{Canonical}
 use Rattle.lalrpop_tables.proofs.theory.canonical.CanonicalConflicts.{canonical_failure}
 use Rattle.lalrpop_tables.proofs.theory.canonical.CanonicalContents.{are_canonical}

@@ -26,18 +26,19 @@ use Rattle.lalrpop_base.specs.declared.repr.Symbol.{Symbol}
 use Rattle.lalrpop_base.specs.declared.repr.Symbol.TheVariants.{Terminal}
 use Rattle.lalrpop_base.specs.declared.repr.TerminalString.{TerminalString}
 use Rattle.lalrpop_base.specs.declared.repr.grammar.Grammar.{Grammar}
-use Rattle.lalrpop_base.proofs.ContentsViews.{contains_at}
-use Rattle.lalrpop_base.proofs.theory.Conflicts.{state_conflicts as canonical_conflicts, empty_list}
-use Rattle.lalrpop_tables.specs.Words.{listed_of, AreCanonicalConflictsOf, FailByCanonicalConflicts, AreItems, conflicts_of, AreAllConflicts, AreStatesOf}
+use Rattle.lalrpop_base.proofs.theory.states.ContentsViews.{contains_at}
+use Rattle.lalrpop_base.proofs.theory.conflicts.Conflicts.{state_conflicts as canonical_conflicts, empty_list}
+use Rattle.lalrpop_base.specs.Words.{listed_of, AreCanonicalConflictsOf, FailByCanonicalConflicts, AreItems, conflicts_of, AreAllConflicts}
+use Rattle.lalrpop_tables.specs.Words.{AreStatesOf}
 use Rattle.lalrpop_tables.specs.Words.{canonical_of, reductions_of, seen}
-use Rattle.lalrpop_tables.proofs.theory.closures.Closing.{split_drop}
-use Rattle.lalrpop_tables.proofs.theory.grammars.Grammars.{known_symbols}
-use Rattle.lalrpop_tables.proofs.theory.conflicts.ListedConflicts.{CodeReduction, keys_shifted, conflicts_are_listed}
-use Rattle.lalrpop_tables.proofs.theory.lists.Lists.{Contains-none, contains_head, contains_tail, contains-cons, contains_map}
-use Rattle.lalrpop_tables.proofs.theory.conflicts.NumberedConflicts.{AreNumberedFrom, conflicts_at, Listed-at, Listed-ascend, Listed-from}
-use Rattle.lalrpop_tables.proofs.theory.lists.Orders.{terminal_order, terminal_total}
+use Rattle.lalrpop_base.proofs.theory.closures.Closing.{split_drop}
+use Rattle.lalrpop_base.proofs.theory.grammars.Grammars.{known_symbols}
+use Rattle.lalrpop_base.proofs.theory.conflicts.ListedConflicts.{CodeReduction, keys_shifted, conflicts_are_listed}
+use Rattle.lalrpop_base.proofs.theory.lists.Members.{Contains-none, contains_head, contains_tail, contains-cons, contains_map}
+use Rattle.lalrpop_base.proofs.theory.conflicts.NumberedConflicts.{AreNumberedFrom, conflicts_at, Listed-at, Listed-ascend, Listed-from}
+use Rattle.lalrpop_base.proofs.theory.lists.Orders.{terminal_order, terminal_total}
 use Rattle.lalrpop_tables.proofs.theory.states.Shifting.{of_dotted}
-use Rattle.lalrpop_tables.proofs.theory.lists.Updates.{exact_order}
+use Rattle.lalrpop_base.proofs.theory.lists.Updates.{exact_order}
 use Rattle.lalrpop_tables.proofs.theory.conflicts.ConflictFree.{nowhere_conflict}
 
 -- ---- the order of productions

@@ -4,26 +4,29 @@ use Rattle.std.specs.Prelude.{Contains, slice_get}
 use Rattle.lalrpop_base.specs.Words.{Bits, InClosure, InTokenClosure, IsAtStart, IsAtStartWith, IsMoved, IsMovedWith, items_of, TokenKernelsDiffer}
 use Rattle.lalrpop_base.specs.Words.{ReducesInOrder, contents, contents_at, no_contents, holds_token, Dotted, AllDiffer, Contents, leads, LeadsOverDots}
 use Rattle.lalrpop_base.specs.Words.{ReducesFinished, productions, rules_of, IsWellFormed}
-use Rattle.lalrpop_base.specs.States.{Reduction}
+use Rattle.lalrpop_base.specs.states.States.{Reduction}
 use Rattle.lalrpop_base.specs.declared.lookahead.token.Token.{Token}
 use Rattle.lalrpop_base.specs.declared.lr1_core.state.State.{State}
 use Rattle.lalrpop_base.specs.declared.repr.NonterminalString.{NonterminalString}
 use Rattle.lalrpop_base.specs.declared.repr.Production.{Production}
 use Rattle.lalrpop_base.specs.declared.repr.Symbol.{Symbol}
 use Rattle.lalrpop_base.specs.declared.repr.grammar.Grammar.{Grammar}
-use Rattle.lalrpop_tables.specs.Words.{production_order, tokens_of, AreCanonicalStates, AreOwn, dotted_of, itself, HasItemToken, IsClosureOf, AreStatesOf}
+use Rattle.lalrpop_base.specs.closures.Closure.{dotted_of}
+use Rattle.lalrpop_base.specs.closures.Closure.{itself}
+use Rattle.lalrpop_base.specs.Words.{production_order, tokens_of, AreCanonicalStates, AreOwn, HasItemToken, IsClosureOf}
+use Rattle.lalrpop_tables.specs.Words.{AreStatesOf}
 use Rattle.lalrpop_tables.specs.Words.{canonical_of}
-use Rattle.lalrpop_tables.specs.canonical.Canonical.{tokens_at}
+use Rattle.lalrpop_base.specs.states.Canonical.{tokens_at}
 use Rattle.lalrpop_tables.proofs.theory.canonical.Canonical.{InTokenClosure-more}
 use Rattle.lalrpop_tables.proofs.theory.canonical.CanonicalStates.{IsTarget, target_of, target_items, target_tokens, first_items, first_tokens}
-use Rattle.lalrpop_tables.proofs.theory.grammars.ItemTokens.{test_exact, one_item}
-use Rattle.lalrpop_tables.proofs.theory.lists.Places.{filled, one_place}
+use Rattle.lalrpop_base.proofs.theory.grammars.ItemTokens.{test_exact, one_item}
+use Rattle.lalrpop_base.proofs.theory.lists.Places.{filled, one_place}
 use Rattle.lalrpop_tables.proofs.theory.states.Reductions.{reduction_from, reduces_in_order, reduces_finished}
 use Rattle.lalrpop_tables.proofs.theory.states.SameKernels.{IsMovedKernel, Shifts-ascend, Shifts-past, kernel_items, kernel_tokens, same_kernels}
 use Rattle.lalrpop_tables.proofs.theory.states.Shifting.{Shifts-items}
 use Rattle.lalrpop_tables.proofs.theory.states.StateEdges.{leads_over_dots, nowhere_leads, no_leads, all_reached}
-use Rattle.lalrpop_tables.proofs.theory.lists.BothFacts.{then_both, turned_both}
-use Rattle.lalrpop_tables.proofs.theory.closures.ValidClosures.{moved_with_along}
+use Rattle.lalrpop_base.proofs.theory.lists.BothFacts.{then_both, turned_both}
+use Rattle.lalrpop_base.proofs.theory.closures.ValidClosures.{moved_with_along}
 
 no_reduction : (r : Reduction) → Contains no_contents.reductions r → ⊥
 no_reduction r c = let l = c.1 in absurd (omega arith)

@@ -19,10 +19,12 @@ use Rattle.lalrpop_base.specs.declared.repr.Production.{Production}
 use Rattle.lalrpop_base.specs.declared.repr.Symbol.{Symbol}
 use Rattle.lalrpop_base.specs.declared.repr.Symbol.TheVariants.{Nonterminal, Terminal}
 use Rattle.lalrpop_base.specs.declared.repr.grammar.Grammar.{Grammar}
-use Rattle.lalrpop_base.proofs.ContentsViews.{some_of_map, terminals_ordered, names_ordered}
-use Rattle.lalrpop_tables.specs.Words.{AreOwn, dotted_of, InKernel, HasItemToken, IsClosureOf, AreStatesOf, canonical_of, begun, HasTransition, Shifts}
+use Rattle.lalrpop_base.proofs.theory.states.ContentsViews.{some_of_map, terminals_ordered, names_ordered}
+use Rattle.lalrpop_base.specs.closures.Closure.{dotted_of}
+use Rattle.lalrpop_base.specs.Words.{AreOwn, InKernel, HasItemToken, IsClosureOf}
+use Rattle.lalrpop_tables.specs.Words.{AreStatesOf, canonical_of, begun, HasTransition, Shifts}
 use Rattle.lalrpop_tables.proofs.theory.canonical.Canonical.{InClosure-more, InTokenClosure-more, start_items, start_tokens, moved_items, moved_tokens}
-use Rattle.lalrpop_tables.proofs.theory.lists.Places.{same_some, filled}
+use Rattle.lalrpop_base.proofs.theory.lists.Places.{same_some, filled}
 
 -- ---- where a state leads
 pub entry_of : {K : Type 0} {R : K → K → Ordering} → IsTotalOrder R → CmpEqualImpliesEq R → (m : BTreeMap K StateIndex) (key : K) (n : ℕ) → option_map number_of (get R m key) ≡ Some n → (target : StateIndex) × (target.0 ≡ n) × Contains m.entries (key, target)

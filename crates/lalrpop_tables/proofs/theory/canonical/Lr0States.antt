@@ -13,19 +13,21 @@ use Rattle.lalrpop_base.specs.declared.repr.Production.{Production}
 use Rattle.lalrpop_base.specs.declared.repr.Symbol.{Symbol}
 use Rattle.lalrpop_base.specs.declared.repr.TerminalString.{TerminalString}
 use Rattle.lalrpop_base.specs.declared.repr.grammar.Grammar.{Grammar}
-use Rattle.lalrpop_base.proofs.theory.Ascending.{ascending_same}
-use Rattle.lalrpop_base.proofs.theory.Closures.{reached_live}
-use Rattle.lalrpop_base.proofs.theory.Lr0.{closed_lr0}
-use Rattle.lalrpop_tables.specs.Words.{Precedes, Ascend, AreOwn, dotted_of, InKernel, IsClosureBy, on_any, AreLr0States, HasLr0States, HaveNoNilConflict}
-use Rattle.lalrpop_tables.specs.Words.{ListsNilConflicts, StopsFor, Construction, Settings, AreStatesFor, AreTablesFor, FailsFor, begun, Shifts}
-use Rattle.lalrpop_tables.proofs.theory.grammars.Ascending.{precedes_asymmetric}
+use Rattle.lalrpop_base.proofs.theory.lists.Ascending.{ascending_same}
+use Rattle.lalrpop_base.proofs.theory.closures.Closures.{reached_live}
+use Rattle.lalrpop_base.proofs.theory.states.Lr0.{closed_lr0}
+use Rattle.lalrpop_base.specs.closures.Closure.{dotted_of}
+use Rattle.lalrpop_base.specs.Words.{Precedes, Ascend, AreOwn, InKernel, IsClosureBy, on_any, AreLr0States, HasLr0States, HaveNoNilConflict}
+use Rattle.lalrpop_base.specs.Words.{ListsNilConflicts}
+use Rattle.lalrpop_tables.specs.Words.{StopsFor, Construction, Settings, AreStatesFor, AreTablesFor, FailsFor, begun, Shifts}
+use Rattle.lalrpop_base.proofs.theory.grammars.AscendingItems.{precedes_asymmetric}
 use Rattle.lalrpop_tables.proofs.theory.canonical.Canonical.{start_items}
 use Rattle.lalrpop_tables.proofs.theory.states.ClosedStates.{IsExactClosure, closed, reduces, reached, source_reached, kernels_differ}
 use Rattle.lalrpop_tables.proofs.theory.conflicts.ConflictLists.{All-listed}
-use Rattle.lalrpop_tables.proofs.theory.lists.Lists.{contains_map}
+use Rattle.lalrpop_base.proofs.theory.lists.Members.{contains_map}
 use Rattle.lalrpop_tables.proofs.theory.states.SameKernels.{Shifts-ascend, Shifts-past}
 use Rattle.lalrpop_tables.proofs.theory.states.Shifting.{of_dotted}
-use Rattle.lalrpop_tables.proofs.theory.grammars.Tables.{same_lr0}
+use Rattle.lalrpop_base.proofs.theory.grammars.Tables.{same_lr0}
 
 -- no lookahead: it stands for no token, and nothing begins a rest or passes it
 abbrev pub nothing : Nil → Bits

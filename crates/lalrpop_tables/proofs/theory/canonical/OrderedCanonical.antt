@@ -7,9 +7,10 @@ use Rattle.lalrpop_base.specs.declared.lr1_core.state.State.{State}
 use Rattle.lalrpop_base.specs.declared.repr.NonterminalString.{NonterminalString}
 use Rattle.lalrpop_base.specs.declared.repr.Production.{Production}
 use Rattle.lalrpop_base.specs.declared.repr.grammar.Grammar.{Grammar}
-use Rattle.lalrpop_tables.specs.Words.{Ascend, AreCanonicalStates, AreOrderedCanonical, AreRenumbered, AreStatesOf, canonical_of}
+use Rattle.lalrpop_base.specs.Words.{Ascend, AreCanonicalStates, AreOrderedCanonical, AreRenumbered}
+use Rattle.lalrpop_tables.specs.Words.{AreStatesOf, canonical_of}
 use Rattle.lalrpop_tables.proofs.theory.canonical.CanonicalConflicts.{reductions_fit}
-use Rattle.lalrpop_tables.proofs.theory.renumbering.RenumberedCanonical.{Canonical-renumbered}
+use Rattle.lalrpop_base.proofs.theory.renumbering.RenumberedCanonical.{Canonical-renumbered}
 use Rattle.lalrpop_tables.proofs.theory.renumbering.RenumberedTables.{state_before, Some-renumbered}
 
 pub Ordered-canonical : (g : Grammar) (start : NonterminalString) (states : List (State Bits)) → AreStatesOf (canonical_of g start) states → AreCanonicalStates (rules_of g) start states → AreOrderedCanonical g start states

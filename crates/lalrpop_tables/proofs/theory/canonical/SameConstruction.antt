@@ -9,9 +9,11 @@ use Rattle.lalrpop_base.specs.declared.lr1_core.state.Conflict.{Conflict}
 use Rattle.lalrpop_base.specs.declared.lr1_core.state.State.{State}
 use Rattle.lalrpop_base.specs.declared.repr.NonterminalString.{NonterminalString}
 use Rattle.lalrpop_base.specs.declared.repr.grammar.Grammar.{Grammar}
-use Rattle.lalrpop_tables.specs.Words.{AreCanonicalStates, AreOrderedCanonical, FitReductions, FailByCanonicalConflicts, ShiftsLead, listed_of}
-use Rattle.lalrpop_tables.specs.Words.{AreSomeCanonicalStates, StopsAfter, conflicts_of, AreBuiltTablesOf, FailsOn, Construction, AreStatesOf, AreTables}
-use Rattle.lalrpop_tables.specs.Words.{AreAllConflicts, canonical_of}
+use Rattle.lalrpop_base.specs.Words.{AreCanonicalStates, AreOrderedCanonical, FitReductions, FailByCanonicalConflicts, ShiftsLead, listed_of}
+use Rattle.lalrpop_base.specs.Words.{conflicts_of}
+use Rattle.lalrpop_tables.specs.Words.{AreSomeCanonicalStates, StopsAfter, AreBuiltTablesOf, FailsOn, Construction, AreStatesOf, AreTables}
+use Rattle.lalrpop_base.specs.Words.{AreAllConflicts}
+use Rattle.lalrpop_tables.specs.Words.{canonical_of}
 use Rattle.lalrpop_tables.specs.declared.build.options.Method.TheVariants.{Canonical}
 
 module _ (g h : Grammar) (start other : NonterminalString) (same : canonical_of g start ≡ canonical_of h other) where

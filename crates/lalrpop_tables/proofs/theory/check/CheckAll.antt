@@ -7,9 +7,10 @@ use Rattle.lalrpop_base.specs.declared.lookahead.nil.Nil.{Nil}
 use Rattle.lalrpop_base.specs.declared.lr1_core.state.State.{State}
 use Rattle.lalrpop_base.specs.declared.repr.NonterminalString.{NonterminalString}
 use Rattle.lalrpop_base.specs.declared.repr.grammar.Grammar.{Grammar}
-use Rattle.lalrpop_base.proofs.theory.Closures.{checked_faithful}
-use Rattle.lalrpop_tables.specs.Words.{HoldCarried, PassCheck, IsTarget, AreRightStates}
-use Rattle.lalrpop_tables.specs.check.CheckStates.{AreListed}
+use Rattle.lalrpop_base.proofs.theory.closures.Closures.{checked_faithful}
+use Rattle.lalrpop_base.specs.Words.{IsTarget, AreRightStates}
+use Rattle.lalrpop_tables.specs.Words.{HoldCarried, PassCheck}
+use Rattle.lalrpop_base.specs.states.CheckStates.{AreListed}
 use Rattle.lalrpop_tables.proofs.theory.check.CheckTables.{Right-closed, Right-reductions, Right-free, Closed-right, free_states}
 
 module _ (g : Grammar) (start : NonterminalString) (states : List (State Bits)) (coherent : AreCoherent states) (listed : List (BTreeSet (Dotted Nil))) (lists : AreListed states listed) (targets : List ℕ) (are_targets : (m : ℕ) → Contains targets m ↔ IsTarget states m) where

@@ -6,8 +6,8 @@ use Rattle.std.proofs.lemmas.Bool.{cases_lt}
 use Rattle.lalrpop_base.specs.Words.{Bits, has, InClosure, in_kernel, expanded, IsAtStart, IsMoved, items_of, AreClosed, IsReached, at_zero, IsCarried}
 use Rattle.lalrpop_base.specs.Words.{eof_at_start, over, first_of_rest, through_rest, contents, contents_at, holds_token, reduction_of, AllDiffer, Contents}
 use Rattle.lalrpop_base.specs.Words.{leads, productions}
-use Rattle.lalrpop_base.specs.Closures.{over_edge}
-use Rattle.lalrpop_base.specs.States.{Reduction}
+use Rattle.lalrpop_base.specs.closures.Closures.{over_edge}
+use Rattle.lalrpop_base.specs.states.States.{Reduction}
 use Rattle.lalrpop_base.specs.declared.lookahead.token.Token.{Token}
 use Rattle.lalrpop_base.specs.declared.lookahead.token.Token.TheVariants.{Eof, Error, Terminal as TokenOf}
 use Rattle.lalrpop_base.specs.declared.lr1_core.state.State.{State}
@@ -16,14 +16,15 @@ use Rattle.lalrpop_base.specs.declared.repr.Production.{Production}
 use Rattle.lalrpop_base.specs.declared.repr.Symbol.{Symbol}
 use Rattle.lalrpop_base.specs.declared.repr.TerminalString.{TerminalString}
 use Rattle.lalrpop_base.specs.declared.repr.grammar.Grammar.{Grammar}
-use Rattle.lalrpop_base.proofs.ContentsViews.{contains_of_map}
-use Rattle.lalrpop_base.proofs.HeldTokens.{place_is}
-use Rattle.lalrpop_tables.specs.Words.{HoldCarried, Carried, at_place, IsFound, AreCarried, AllHoldCarried}
+use Rattle.lalrpop_base.proofs.theory.states.ContentsViews.{contains_of_map}
+use Rattle.lalrpop_base.proofs.theory.sets.HeldTokens.{place_is}
+use Rattle.lalrpop_base.specs.Words.{IsFound}
+use Rattle.lalrpop_tables.specs.Words.{HoldCarried, Carried, at_place, AreCarried, AllHoldCarried}
 use Rattle.lalrpop_tables.proofs.theory.check.CheckCarrying.{leads_in}
-use Rattle.lalrpop_tables.proofs.theory.closures.Closing.{split_drop}
-use Rattle.lalrpop_tables.proofs.theory.grammars.KnownTerminals.{token_bit, held_bit, bit_held, holds_more}
-use Rattle.lalrpop_tables.proofs.theory.lists.Lists.{Contains-none, contains_map, place}
-use Rattle.lalrpop_tables.proofs.theory.lists.Places.{contains_at, same_some, filled}
+use Rattle.lalrpop_base.proofs.theory.closures.Closing.{split_drop}
+use Rattle.lalrpop_base.proofs.theory.grammars.KnownTerminals.{token_bit, held_bit, bit_held, holds_more}
+use Rattle.lalrpop_base.proofs.theory.lists.Members.{Contains-none, contains_map, place}
+use Rattle.lalrpop_base.proofs.theory.lists.Places.{contains_at, same_some, filled}
 
 -- each bit of a token is that of one
 token_at : (terminals : List TerminalString) → AllDiffer terminals → (bit : ℕ) → bit ≤ length terminals + 1 → (t : Token) × (token_bit terminals t ≡ Some bit)

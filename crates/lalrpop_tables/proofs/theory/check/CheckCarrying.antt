@@ -9,7 +9,7 @@ use Rattle.lalrpop_base.specs.Words.{Bits, has, no_bits, with_bit, has-with_bit,
 use Rattle.lalrpop_base.specs.Words.{IsReached, at_zero, IsCarried, eof_at_start, over, first_of_rest, through_rest, contents, contents_at, holds_token}
 use Rattle.lalrpop_base.specs.Words.{IsFirstSetBefore, IsNullable, AllDiffer, Contents, leads, FitsTokens, Rules, IsWellFormed, productions, productions_of}
 use Rattle.lalrpop_base.specs.Words.{rules_of, HasKnownTerminals}
-use Rattle.lalrpop_base.specs.Closures.{over_edge}
+use Rattle.lalrpop_base.specs.closures.Closures.{over_edge}
 use Rattle.lalrpop_base.specs.declared.lookahead.token.Token.{Token}
 use Rattle.lalrpop_base.specs.declared.lookahead.token.Token.TheVariants.{Eof, Error, Terminal as TokenOf}
 use Rattle.lalrpop_base.specs.declared.lr1_core.state.State.{State}
@@ -18,22 +18,24 @@ use Rattle.lalrpop_base.specs.declared.repr.Production.{Production}
 use Rattle.lalrpop_base.specs.declared.repr.Symbol.{Symbol}
 use Rattle.lalrpop_base.specs.declared.repr.Symbol.TheVariants.{Nonterminal, Terminal}
 use Rattle.lalrpop_base.specs.declared.repr.grammar.Grammar.{Grammar}
-use Rattle.lalrpop_base.proofs.HeldTokens.{place_there}
-use Rattle.lalrpop_tables.specs.Words.{AreOwn, Begins, count, dots, Carried, at_place, target_from, target_in, IsFound, burden, AllBelow, Sends, IsBegunAt, IsBelow}
+use Rattle.lalrpop_base.proofs.theory.sets.HeldTokens.{place_there}
+use Rattle.lalrpop_base.specs.states.CheckStates.{dots}
+use Rattle.lalrpop_base.specs.Words.{AreOwn, Begins, count, IsFound, burden, AllBelow, IsBelow}
+use Rattle.lalrpop_tables.specs.Words.{Carried, at_place, target_from, target_in, Sends, IsBegunAt}
 use Rattle.lalrpop_tables.specs.Words.{IsOver, IsInto, Gives, IsCarriedTo, AreCarriedTo, HasBegun, HasStarted, AreCarried, begun}
 use Rattle.lalrpop_tables.specs.check.CheckCarrying.{IsSettled}
 use Rattle.lalrpop_tables.specs.declared.place.Place.{Place}
 use Rattle.lalrpop_tables.proofs.theory.canonical.Canonical.{start_tokens}
 use Rattle.lalrpop_tables.proofs.theory.check.CheckSending.{Entry, same_place}
-use Rattle.lalrpop_tables.proofs.theory.closures.Closing.{drop_split, split_drop}
-use Rattle.lalrpop_tables.proofs.theory.grammars.Grammars.{productions_among, productions_named, known_symbols, known_rest, same_after}
-use Rattle.lalrpop_tables.proofs.theory.grammars.KnownTerminals.{token_bit, held_bit, bit_held, holds_more, begun_bit}
-use Rattle.lalrpop_tables.proofs.theory.lists.Growth.{entry_key, key_entry, found_kept, bit_kept}
-use Rattle.lalrpop_tables.proofs.theory.lists.Lists.{Contains-none, contains_tail, contains-cons, contains_map, pigeonhole}
+use Rattle.lalrpop_base.proofs.theory.closures.Closing.{drop_split, split_drop}
+use Rattle.lalrpop_base.proofs.theory.grammars.Grammars.{productions_among, productions_named, known_symbols, known_rest, same_after}
+use Rattle.lalrpop_base.proofs.theory.grammars.KnownTerminals.{token_bit, held_bit, bit_held, holds_more, begun_bit}
+use Rattle.lalrpop_base.proofs.theory.lists.Growth.{entry_key, key_entry, found_kept, bit_kept}
+use Rattle.lalrpop_base.proofs.theory.lists.Members.{Contains-none, contains_tail, contains-cons, contains_map, pigeonhole}
 use Rattle.lalrpop_tables.proofs.theory.states.Lookaheads.{eof_fits}
-use Rattle.lalrpop_tables.proofs.theory.lists.Places.{apart_from_differ, same_some}
-use Rattle.lalrpop_tables.proofs.theory.lists.Subsets.{count_few}
-use Rattle.lalrpop_tables.proofs.theory.lists.Updates.{one_value}
+use Rattle.lalrpop_base.proofs.theory.lists.Places.{apart_from_differ, same_some}
+use Rattle.lalrpop_base.proofs.theory.sets.Subsets.{count_few}
+use Rattle.lalrpop_base.proofs.theory.lists.Updates.{one_value}
 
 -- ---- all places
 pub places_of : ℕ → List (State Bits) → List Place

@@ -9,13 +9,15 @@ use Rattle.lalrpop_base.specs.declared.repr.Production.{Production}
 use Rattle.lalrpop_base.specs.declared.repr.Symbol.{Symbol}
 use Rattle.lalrpop_base.specs.declared.repr.Symbol.TheVariants.{Nonterminal}
 use Rattle.lalrpop_base.specs.declared.repr.grammar.Grammar.{Grammar}
-use Rattle.lalrpop_tables.specs.Words.{IsAdded, Widens, IsBegun, IsExpansionOf, IsMovedOf, AreClosure, AllWait, AreOwn, dotted_of, begun_of}
+use Rattle.lalrpop_base.specs.lists.CheckSets.{IsAdded}
+use Rattle.lalrpop_base.specs.closures.Closure.{dotted_of}
+use Rattle.lalrpop_base.specs.Words.{Widens, IsBegun, IsExpansionOf, IsMovedOf, AreClosure, AllWait, AreOwn, begun_of}
 use Rattle.lalrpop_tables.proofs.theory.canonical.Canonical.{InClosure-more}
-use Rattle.lalrpop_tables.proofs.theory.closures.Closing.{drop_split, split_drop}
-use Rattle.lalrpop_tables.proofs.theory.grammars.Grammars.{productions_among, productions_named}
-use Rattle.lalrpop_tables.proofs.theory.lists.Lists.{Contains-none, contains_head, contains-cons, contains_map, pigeonhole}
-use Rattle.lalrpop_tables.proofs.theory.lists.Places.{apart_from_differ}
-use Rattle.lalrpop_tables.proofs.theory.grammars.Tables.{same_lr0}
+use Rattle.lalrpop_base.proofs.theory.closures.Closing.{drop_split, split_drop}
+use Rattle.lalrpop_base.proofs.theory.grammars.Grammars.{productions_among, productions_named}
+use Rattle.lalrpop_base.proofs.theory.lists.Members.{Contains-none, contains_head, contains-cons, contains_map, pigeonhole}
+use Rattle.lalrpop_base.proofs.theory.lists.Places.{apart_from_differ}
+use Rattle.lalrpop_base.proofs.theory.grammars.Tables.{same_lr0}
 
 abbrev Key : Type 0
 Key = Dotted Nil

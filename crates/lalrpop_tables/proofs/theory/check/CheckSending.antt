@@ -11,13 +11,15 @@ use Rattle.lalrpop_base.specs.declared.repr.Symbol.{Symbol}
 use Rattle.lalrpop_base.specs.declared.repr.Symbol.TheVariants.{Nonterminal}
 use Rattle.lalrpop_base.specs.declared.repr.grammar.Grammar.{Grammar}
 use Rattle.lalrpop_base.specs.declared.repr.Production.{Production}
-use Rattle.lalrpop_tables.specs.Words.{Carried, Sends, AllBelow, IsBegunAt, IsOver, IsInto, Gives, at_place, IsBelow, IsQueued}
+use Rattle.lalrpop_base.specs.lists.Entries.{IsQueued}
+use Rattle.lalrpop_base.specs.Words.{AllBelow, IsBelow}
+use Rattle.lalrpop_tables.specs.Words.{Carried, Sends, IsBegunAt, IsOver, IsInto, Gives, at_place}
 use Rattle.lalrpop_tables.specs.Words.{target_in}
 use Rattle.lalrpop_tables.specs.declared.place.Place.{Place}
-use Rattle.lalrpop_tables.proofs.theory.lists.Growth.{Adds-one, Adds-none, Adds-then, Adds-same, queued_weighed, known_kept, queued_among}
-use Rattle.lalrpop_tables.proofs.theory.lists.Lists.{Contains-none, contains_head, contains-cons}
-use Rattle.lalrpop_tables.proofs.theory.lists.Places.{same_some}
-use Rattle.lalrpop_tables.proofs.theory.lists.BitSets.{join_left, join_right, join_cases}
+use Rattle.lalrpop_base.proofs.theory.lists.Growth.{Adds-one, Adds-none, Adds-then, Adds-same, queued_weighed, known_kept, queued_among}
+use Rattle.lalrpop_base.proofs.theory.lists.Members.{Contains-none, contains_head, contains-cons}
+use Rattle.lalrpop_base.proofs.theory.lists.Places.{same_some}
+use Rattle.lalrpop_base.proofs.theory.sets.BitSets.{join_left, join_right, join_cases}
 
 abbrev pub Entry : Type 0
 Entry = Place × Bits

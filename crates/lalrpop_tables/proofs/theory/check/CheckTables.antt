@@ -7,9 +7,9 @@ use Rattle.std.proofs.lemmas.Option.{slice_get_within, slice_get-map}
 use Rattle.lalrpop_base.specs.Words.{Bits, has, InClosure, in_kernel, expanded, IsMoved, items_of, AreClosed, AreCoherent, contents, contents_at, contents_of}
 use Rattle.lalrpop_base.specs.Words.{no_contents, reduction_of, holds_token, Dotted, AllDiffer, Contents, leads, IsBehindDot, LeadsOverDots, HasNoRepeat}
 use Rattle.lalrpop_base.specs.Words.{ReducesFinished, productions}
-use Rattle.lalrpop_base.specs.Conflicts.{HasNoConflict as HoldsNoConflict}
-use Rattle.lalrpop_base.specs.StateConflicts.{HasNoConflict}
-use Rattle.lalrpop_base.specs.States.{Reduction}
+use Rattle.lalrpop_base.specs.conflicts.Conflicts.{HasNoConflict as HoldsNoConflict}
+use Rattle.lalrpop_base.specs.conflicts.StateConflicts.{HasNoConflict}
+use Rattle.lalrpop_base.specs.states.States.{Reduction}
 use Rattle.lalrpop_base.specs.declared.lookahead.nil.Nil.{Nil}
 use Rattle.lalrpop_base.specs.declared.lookahead.token.Token.{Token}
 use Rattle.lalrpop_base.specs.declared.lookahead.token.Token.TheVariants.{Terminal as TokenOf}
@@ -20,17 +20,21 @@ use Rattle.lalrpop_base.specs.declared.repr.Symbol.{Symbol}
 use Rattle.lalrpop_base.specs.declared.repr.Symbol.TheVariants.{Terminal}
 use Rattle.lalrpop_base.specs.declared.repr.TerminalString.{TerminalString}
 use Rattle.lalrpop_base.specs.declared.repr.grammar.Grammar.{Grammar}
-use Rattle.lalrpop_base.proofs.ContentsViews.{LeadAsItemsSay, lead_as_items_say, some_of_map, contains_of_map}
-use Rattle.lalrpop_tables.specs.Words.{dotted_of, HaveNoConflict, IsMovedIn, dots, lr0, IsTarget, reduced, IsRightItem, IsRightTarget, IsRightState}
-use Rattle.lalrpop_tables.specs.Words.{AreRightStates, target_from}
-use Rattle.lalrpop_tables.specs.check.CheckStates.{target_of, AreListed}
+use Rattle.lalrpop_base.proofs.theory.states.ContentsViews.{LeadAsItemsSay, lead_as_items_say, some_of_map, contains_of_map}
+use Rattle.lalrpop_base.specs.closures.Closure.{dotted_of}
+use Rattle.lalrpop_base.specs.states.CheckStates.{dots}
+use Rattle.lalrpop_base.specs.states.CheckStates.{reduced}
+use Rattle.lalrpop_base.specs.Words.{HaveNoConflict, IsMovedIn, lr0, IsTarget, IsRightItem, IsRightTarget, IsRightState}
+use Rattle.lalrpop_base.specs.Words.{AreRightStates}
+use Rattle.lalrpop_tables.specs.Words.{target_from}
+use Rattle.lalrpop_base.specs.states.CheckStates.{target_of, AreListed}
 use Rattle.lalrpop_tables.proofs.theory.canonical.Canonical.{InClosure-more}
 use Rattle.lalrpop_tables.proofs.theory.canonical.CanonicalStates.{leads_transition}
 use Rattle.lalrpop_tables.proofs.theory.check.CheckCarrying.{leads_in}
-use Rattle.lalrpop_tables.proofs.theory.closures.Closing.{drop_split, split_drop}
-use Rattle.lalrpop_tables.proofs.theory.grammars.KnownTerminals.{held_bit}
-use Rattle.lalrpop_tables.proofs.theory.lists.Lists.{Contains-none, contains_map, place}
-use Rattle.lalrpop_tables.proofs.theory.lists.Places.{contains_at, same_some, filled}
+use Rattle.lalrpop_base.proofs.theory.closures.Closing.{drop_split, split_drop}
+use Rattle.lalrpop_base.proofs.theory.grammars.KnownTerminals.{held_bit}
+use Rattle.lalrpop_base.proofs.theory.lists.Members.{Contains-none, contains_map, place}
+use Rattle.lalrpop_base.proofs.theory.lists.Places.{contains_at, same_some, filled}
 use Rattle.lalrpop_tables.proofs.theory.conflicts.ConflictFree.{nowhere_conflict}
 use Rattle.lalrpop_tables.proofs.theory.states.StateEdges.{no_leads}
 

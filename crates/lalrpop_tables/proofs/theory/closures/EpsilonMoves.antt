@@ -11,12 +11,14 @@ use Rattle.lalrpop_base.specs.declared.repr.Production.{Production}
 use Rattle.lalrpop_base.specs.declared.repr.Symbol.{Symbol}
 use Rattle.lalrpop_base.specs.declared.repr.TerminalString.{TerminalString}
 use Rattle.lalrpop_base.specs.declared.repr.grammar.Grammar.{Grammar}
-use Rattle.lalrpop_base.proofs.HeldTokens.{place_there}
-use Rattle.lalrpop_tables.specs.Words.{AreOwn, Begins, dotted_of, IsBegunWith, AreBegunWith, begun}
-use Rattle.lalrpop_tables.proofs.theory.grammars.Grammars.{productions_among, productions_named}
-use Rattle.lalrpop_tables.proofs.theory.grammars.KnownTerminals.{token_bit, held_bit, bit_held, begun_bit}
-use Rattle.lalrpop_tables.proofs.theory.lists.Lists.{contains_map}
-use Rattle.lalrpop_tables.proofs.theory.lists.Places.{same_some}
+use Rattle.lalrpop_base.proofs.theory.sets.HeldTokens.{place_there}
+use Rattle.lalrpop_base.specs.closures.Closure.{dotted_of}
+use Rattle.lalrpop_base.specs.Words.{AreOwn, Begins, IsBegunWith, AreBegunWith}
+use Rattle.lalrpop_tables.specs.Words.{begun}
+use Rattle.lalrpop_base.proofs.theory.grammars.Grammars.{productions_among, productions_named}
+use Rattle.lalrpop_base.proofs.theory.grammars.KnownTerminals.{token_bit, held_bit, bit_held, begun_bit}
+use Rattle.lalrpop_base.proofs.theory.lists.Members.{contains_map}
+use Rattle.lalrpop_base.proofs.theory.lists.Places.{same_some}
 use Rattle.lalrpop_tables.proofs.theory.states.Shifting.{begun_in, begun_differ}
 
 -- ---- the productions of a name

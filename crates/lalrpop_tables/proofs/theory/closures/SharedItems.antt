@@ -10,21 +10,21 @@ use Rattle.lalrpop_base.specs.declared.repr.NonterminalString.{NonterminalString
 use Rattle.lalrpop_base.specs.declared.repr.Symbol.{Symbol}
 use Rattle.lalrpop_base.specs.declared.repr.Symbol.TheVariants.{Nonterminal}
 use Rattle.lalrpop_base.specs.declared.repr.grammar.Grammar.{Grammar}
-use Rattle.lalrpop_tables.specs.closures.EpsilonMoves.{HasNoProduction, IsGiven}
+use Rattle.lalrpop_base.specs.closures.EpsilonMoves.{HasNoProduction, IsGiven}
 use Rattle.lalrpop_tables.specs.grammars.Numbers.{AreExpansions, AreNumbered, AreNumbers, dotted_at, item_by, items_by}
 use Rattle.lalrpop_tables.specs.grammars.Rests.{IsRest}
 use Rattle.lalrpop_tables.specs.declared.construction.numbers.rests.Rest.{Rest}
 use Rattle.lalrpop_tables.specs.closures.Sharing.{IsFront, IsNamed, IsShared, Shared, Shares, fronts_in}
-use Rattle.lalrpop_tables.specs.Words.{IsQueued}
-use Rattle.lalrpop_base.proofs.ContentsViews.{contains_of_map}
-use Rattle.lalrpop_base.proofs.theory.Lists.{drop_past}
+use Rattle.lalrpop_base.specs.lists.Entries.{IsQueued}
+use Rattle.lalrpop_base.proofs.theory.states.ContentsViews.{contains_of_map}
+use Rattle.lalrpop_base.proofs.theory.lists.Lists.{drop_past}
 use Rattle.lalrpop_tables.specs.declared.construction.numbered.Numbered.{Numbered}
 use Rattle.lalrpop_tables.specs.declared.construction.numbers.Numbers.{Numbers}
-use Rattle.lalrpop_tables.proofs.theory.closures.Closing.{drop_split, rest_from, split_drop}
-use Rattle.lalrpop_tables.proofs.theory.grammars.Grammars.{known_rest, known_symbols}
-use Rattle.lalrpop_tables.proofs.theory.lists.Lists.{contains-cons, contains_map, Contains-none, place}
+use Rattle.lalrpop_base.proofs.theory.closures.Closing.{drop_split, rest_from, split_drop}
+use Rattle.lalrpop_base.proofs.theory.grammars.Grammars.{known_rest, known_symbols}
+use Rattle.lalrpop_base.proofs.theory.lists.Members.{contains-cons, contains_map, Contains-none, place}
 use Rattle.lalrpop_tables.proofs.theory.grammars.Numbers.{at_number, behind_is, stands_at}
-use Rattle.lalrpop_tables.proofs.theory.lists.Places.{contains_at, filled, same_some, slice_get_at}
+use Rattle.lalrpop_base.proofs.theory.lists.Places.{contains_at, filled, same_some, slice_get_at}
 use Rattle.lalrpop_tables.proofs.theory.closures.Sharing.{Shares-nothing, Shares-one}
 
 -- what is read at a number is the dotted production with that number

@@ -15,16 +15,18 @@ use Rattle.lalrpop_base.specs.declared.repr.NonterminalString.{NonterminalString
 use Rattle.lalrpop_base.specs.declared.repr.Production.{Production}
 use Rattle.lalrpop_base.specs.declared.repr.Symbol.{Symbol}
 use Rattle.lalrpop_base.specs.declared.repr.Symbol.TheVariants.{Nonterminal}
-use Rattle.lalrpop_tables.specs.Words.{Adds, count, dotted_of, HasItemToken, InKernel, InTokenClosureBy, IsFound, IsQueued, IsBelow, burden, from_parent, from_rest, own_token}
+use Rattle.lalrpop_base.specs.closures.Closure.{dotted_of}
+use Rattle.lalrpop_base.specs.lists.Entries.{IsQueued}
+use Rattle.lalrpop_base.specs.Words.{Adds, count, HasItemToken, InKernel, InTokenClosureBy, IsFound, IsBelow, burden, from_parent, from_rest, own_token}
 use Rattle.lalrpop_tables.specs.closures.Sharing.{AllFit, IsFront, IsNamed, IsShared, IsSharing, MayFollow, MayFollowIn, Shared, Shares, StandsBehind, StandsBehindOne}
 use Rattle.lalrpop_tables.specs.declared.construction.numbers.Numbers.{Numbers}
-use Rattle.lalrpop_tables.proofs.theory.lists.Growth.{Adds-one, Grows-none, Grows-then, entry_key, key_entry, known_kept, queued_among, queued_weighed}
-use Rattle.lalrpop_tables.proofs.theory.grammars.KnownTerminals.{bit_held, held_bit, holds_more}
-use Rattle.lalrpop_tables.proofs.theory.lists.Lists.{contains-cons, contains_head, contains_map, Contains-none, Contains-range, contains_tail, pigeonhole}
-use Rattle.lalrpop_tables.proofs.theory.lists.Places.{apart_from_differ, same_some}
-use Rattle.lalrpop_tables.proofs.theory.lists.Subsets.{count_few}
-use Rattle.lalrpop_tables.proofs.theory.lists.Updates.{one_value}
-use Rattle.lalrpop_tables.proofs.theory.grammars.Grammars.{same_front, same_after}
+use Rattle.lalrpop_base.proofs.theory.lists.Growth.{Adds-one, Grows-none, Grows-then, entry_key, key_entry, known_kept, queued_among, queued_weighed}
+use Rattle.lalrpop_base.proofs.theory.grammars.KnownTerminals.{bit_held, held_bit, holds_more}
+use Rattle.lalrpop_base.proofs.theory.lists.Members.{contains-cons, contains_head, contains_map, Contains-none, Contains-range, contains_tail, pigeonhole}
+use Rattle.lalrpop_base.proofs.theory.lists.Places.{apart_from_differ, same_some}
+use Rattle.lalrpop_base.proofs.theory.sets.Subsets.{count_few}
+use Rattle.lalrpop_base.proofs.theory.lists.Updates.{one_value}
+use Rattle.lalrpop_base.proofs.theory.grammars.Grammars.{same_front, same_after}
 
 one_name : (n : Numbers) (x : ℕ) (a b : NonterminalString) → IsNamed n x a → IsNamed n x b → a ≡ b
 one_name n x a b p q = let e = same_some _ _ (sym p ∙ q) in cc

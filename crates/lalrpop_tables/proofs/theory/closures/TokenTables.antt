@@ -13,11 +13,12 @@ use Rattle.lalrpop_base.specs.declared.repr.Production.{Production}
 use Rattle.lalrpop_base.specs.declared.repr.Symbol.{Symbol}
 use Rattle.lalrpop_base.specs.declared.repr.Symbol.TheVariants.{Nonterminal}
 use Rattle.lalrpop_base.specs.declared.repr.TerminalString.{TerminalString}
-use Rattle.lalrpop_base.proofs.ConflictLemmas.{none_exactly}
-use Rattle.lalrpop_tables.specs.Words.{Begins, itself, IsClosureOf, IsClosureBy, InTokenClosureBy, own_token, from_rest, from_parent, HaveNoConflict, ListsAll}
+use Rattle.lalrpop_base.proofs.theory.conflicts.ConflictLemmas.{none_exactly}
+use Rattle.lalrpop_base.specs.closures.Closure.{itself}
+use Rattle.lalrpop_base.specs.Words.{Begins, IsClosureOf, IsClosureBy, InTokenClosureBy, own_token, from_rest, from_parent, HaveNoConflict, ListsAll}
 use Rattle.lalrpop_tables.specs.Words.{Construction, AreStatesOf, AreStatesFor, AreTables, AreTablesFor, FailsBy, FailsFor, begun, AreBuiltBy}
 use Rattle.lalrpop_tables.proofs.theory.conflicts.ConflictLists.{All-listed}
-use Rattle.lalrpop_tables.proofs.theory.lists.Places.{same_some}
+use Rattle.lalrpop_base.proofs.theory.lists.Places.{same_some}
 
 -- symbols let tokens pass where they are nullable
 abbrev pub Passes : Rules → List Symbol → Type 0

@@ -14,23 +14,25 @@ use Rattle.lalrpop_base.specs.declared.lookahead.token.Token.{Token}
 use Rattle.lalrpop_base.specs.declared.repr.Production.{Production}
 use Rattle.lalrpop_base.specs.declared.repr.Symbol.{Symbol}
 use Rattle.lalrpop_base.specs.declared.repr.Symbol.TheVariants.{Nonterminal}
-use Rattle.lalrpop_base.proofs.ContentsViews.{contains_of_map, some_of_map}
-use Rattle.lalrpop_tables.specs.Words.{AreItemsBy, Ascend, Found, HasGiven, InKernel, IsClosureBy, IsFound, IsItemOf, IsTokenClosed, Precedes, dotted_of, item_of, itself, meant, readings, begun_of}
-use Rattle.lalrpop_tables.specs.lists.Entries.{Gathers}
+use Rattle.lalrpop_base.proofs.theory.states.ContentsViews.{contains_of_map, some_of_map}
+use Rattle.lalrpop_base.specs.closures.Closure.{dotted_of}
+use Rattle.lalrpop_base.specs.closures.Closure.{itself}
+use Rattle.lalrpop_base.specs.Words.{AreItemsBy, Ascend, Found, HasGiven, InKernel, IsClosureBy, IsFound, IsItemOf, IsTokenClosed, Precedes, item_of, meant, readings, begun_of}
+use Rattle.lalrpop_base.specs.lists.Entries.{Gathers}
 use Rattle.lalrpop_tables.specs.grammars.Numbers.{AreExpansions, AreNumbered, AreNumbers, dotted_at, item_by, items_by}
 use Rattle.lalrpop_tables.specs.closures.Sharing.{HasShare, IsFront, IsNamed, IsShared, IsSharing, Shared, list_at, numbered_of, parts_in, unfolded, with_tokens}
 use Rattle.lalrpop_tables.specs.declared.construction.numbered.Numbered.{Numbered}
 use Rattle.lalrpop_tables.specs.declared.construction.numbers.Numbers.{Numbers}
-use Rattle.lalrpop_tables.proofs.theory.grammars.Ascending.{less_apart, less_number}
-use Rattle.lalrpop_tables.proofs.theory.states.Bounded.{in_flat_map}
-use Rattle.lalrpop_tables.proofs.theory.closures.Closing.{Tokens-end, all_listed}
-use Rattle.lalrpop_tables.proofs.theory.grammars.KnownTerminals.{bit_held, held_bit, holds_more}
-use Rattle.lalrpop_tables.proofs.theory.lists.Lists.{contains_map, Contains-none, place, of_flat}
+use Rattle.lalrpop_base.proofs.theory.grammars.AscendingItems.{less_apart, less_number}
+use Rattle.lalrpop_base.proofs.theory.lists.Bounded.{in_flat_map}
+use Rattle.lalrpop_base.proofs.theory.closures.Closing.{Tokens-end, all_listed}
+use Rattle.lalrpop_base.proofs.theory.grammars.KnownTerminals.{bit_held, held_bit, holds_more}
+use Rattle.lalrpop_base.proofs.theory.lists.Members.{contains_map, Contains-none, place, of_flat}
 use Rattle.lalrpop_tables.proofs.theory.grammars.Numbers.{at_number, items_ascend, stands_at}
-use Rattle.lalrpop_tables.proofs.theory.closures.Readings.{Meant-closure}
-use Rattle.lalrpop_tables.proofs.theory.lists.Places.{contains_at, filled, one_place, same_some, slice_get_at}
+use Rattle.lalrpop_base.proofs.theory.closures.Readings.{Meant-closure}
+use Rattle.lalrpop_base.proofs.theory.lists.Places.{contains_at, filled, one_place, same_some, slice_get_at}
 use Rattle.lalrpop_tables.proofs.theory.closures.Sharing.{Reached, ReachedWith, kernel_reached, kernel_token}
-use Rattle.lalrpop_tables.proofs.theory.lists.Updates.{key_stands, one_value}
+use Rattle.lalrpop_base.proofs.theory.lists.Updates.{key_stands, one_value}
 
 -- items that ascend have no dotted production twice
 pub ascend_differ : {L : Type 0} (items : List (Dotted L)) → Ascend items → AllDiffer (map dotted_of items)

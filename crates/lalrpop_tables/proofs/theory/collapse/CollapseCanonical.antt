@@ -17,12 +17,13 @@ use Rattle.lalrpop_base.specs.declared.repr.Production.{Production}
 use Rattle.lalrpop_base.specs.declared.repr.Symbol.{Symbol}
 use Rattle.lalrpop_base.specs.declared.repr.Symbol.TheVariants.{Nonterminal, Terminal}
 use Rattle.lalrpop_base.specs.declared.repr.grammar.Grammar.{Grammar}
-use Rattle.lalrpop_base.proofs.ContentsViews.{terminals_ordered, names_ordered}
-use Rattle.lalrpop_tables.specs.Words.{InKernel, IsClosureOf, dots_in, AreStatesOf, canonical_of, HasTransition, IsBehind, Shifts}
+use Rattle.lalrpop_base.proofs.theory.states.ContentsViews.{terminals_ordered, names_ordered}
+use Rattle.lalrpop_base.specs.Words.{InKernel, IsClosureOf, dots_in}
+use Rattle.lalrpop_tables.specs.Words.{AreStatesOf, canonical_of, HasTransition, IsBehind, Shifts}
 use Rattle.lalrpop_tables.specs.states.Transitions.Shifts.{none, moves, stays}
 use Rattle.lalrpop_tables.proofs.theory.canonical.Canonical.{InClosure-more}
-use Rattle.lalrpop_tables.proofs.theory.collapse.CollapseDots.{same_dots}
-use Rattle.lalrpop_tables.proofs.theory.lists.Places.{contains_at, same_some, filled}
+use Rattle.lalrpop_base.proofs.theory.collapse.CollapseDots.{same_dots}
+use Rattle.lalrpop_base.proofs.theory.lists.Places.{contains_at, same_some, filled}
 
 -- ---- the same symbol moves the same dotted productions
 abbrev Dot : Type 0

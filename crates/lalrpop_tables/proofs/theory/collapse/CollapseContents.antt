@@ -7,8 +7,8 @@ use Rattle.std.proofs.lemmas.Map.Keys.{Less-from_sorted}
 use Rattle.std.proofs.lemmas.Option.{slice_get_within, slice_get-map, get_or_from_slice_get}
 use Rattle.lalrpop_base.specs.Words.{Bits, has, IsReached, at_zero, items_of, HoldsInGroup, LeadsInGroup, IsCollapse, number_of, contents, contents_of}
 use Rattle.lalrpop_base.specs.Words.{contents_at, holds_token, reduction_of, Contents, leads, HasNoRepeat, ReducesFinished}
-use Rattle.lalrpop_base.specs.Closures.{over_edge}
-use Rattle.lalrpop_base.specs.States.{Reduction}
+use Rattle.lalrpop_base.specs.closures.Closures.{over_edge}
+use Rattle.lalrpop_base.specs.states.States.{Reduction}
 use Rattle.lalrpop_base.specs.declared.lookahead.token.Token.{Token}
 use Rattle.lalrpop_base.specs.declared.lr1_core.state.State.{State}
 use Rattle.lalrpop_base.specs.declared.lr1_core.state.StateIndex.{StateIndex}
@@ -17,14 +17,14 @@ use Rattle.lalrpop_base.specs.declared.repr.Production.{Production}
 use Rattle.lalrpop_base.specs.declared.repr.Symbol.{Symbol}
 use Rattle.lalrpop_base.specs.declared.repr.Symbol.TheVariants.{Nonterminal, Terminal}
 use Rattle.lalrpop_base.specs.declared.repr.grammar.Grammar.{Grammar}
-use Rattle.lalrpop_base.proofs.ContentsViews.{some_of_map, contains_of_map, contains_map, lead_as_items_say}
-use Rattle.lalrpop_tables.specs.Words.{production_order, AreOrderedCanonical, dots_in, ReducesBy, IsCollapsed, retargeted}
-use Rattle.lalrpop_tables.proofs.theory.grammars.Ascending.{less_apart}
+use Rattle.lalrpop_base.proofs.theory.states.ContentsViews.{some_of_map, contains_of_map, contains_map, lead_as_items_say}
+use Rattle.lalrpop_base.specs.Words.{production_order, AreOrderedCanonical, dots_in, ReducesBy, IsCollapsed, retargeted}
+use Rattle.lalrpop_base.proofs.theory.grammars.AscendingItems.{less_apart}
 use Rattle.lalrpop_tables.proofs.theory.canonical.CanonicalContents.{nothing_reduced}
-use Rattle.lalrpop_tables.proofs.theory.collapse.CollapseDots.{same_dots, group, merged_of, first_group}
-use Rattle.lalrpop_tables.proofs.theory.grammars.KnownTerminals.{held_bit, bit_held}
-use Rattle.lalrpop_tables.proofs.theory.lists.Lists.{Contains-none, place}
-use Rattle.lalrpop_tables.proofs.theory.lists.Places.{same_some, filled, places_apart}
+use Rattle.lalrpop_base.proofs.theory.collapse.CollapseDots.{same_dots, group, merged_of, first_group}
+use Rattle.lalrpop_base.proofs.theory.grammars.KnownTerminals.{held_bit, bit_held}
+use Rattle.lalrpop_base.proofs.theory.lists.Members.{Contains-none, place}
+use Rattle.lalrpop_base.proofs.theory.lists.Places.{same_some, filled, places_apart}
 use Rattle.lalrpop_tables.proofs.theory.states.StateEdges.{no_leads}
 
 abbrev pub CodeReduction : Type 0

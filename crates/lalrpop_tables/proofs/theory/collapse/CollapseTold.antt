@@ -9,9 +9,10 @@ use Rattle.lalrpop_base.specs.declared.lr1_core.state.BuildError.TheVariants.{Co
 use Rattle.lalrpop_base.specs.declared.lr1_core.state.Conflict.{Conflict}
 use Rattle.lalrpop_base.specs.declared.lr1_core.state.State.{State}
 use Rattle.lalrpop_base.specs.declared.repr.TerminalString.{TerminalString}
-use Rattle.lalrpop_tables.specs.Words.{AreOrdered, AreCollapsedTables, FailsByCollapse, HasCoherentStates, HasOrderedStates, FailWith}
-use Rattle.lalrpop_tables.proofs.theory.collapse.CollapseCoherent.{Collapsed-coherent}
-use Rattle.lalrpop_tables.proofs.theory.collapse.CollapseDots.{Collapsed-some}
+use Rattle.lalrpop_base.specs.Words.{AreOrdered, AreCollapsedTables, FailsByCollapse, FailWith}
+use Rattle.lalrpop_tables.specs.Words.{HasCoherentStates, HasOrderedStates}
+use Rattle.lalrpop_base.proofs.theory.collapse.CollapseCoherent.{Collapsed-coherent}
+use Rattle.lalrpop_base.proofs.theory.collapse.CollapseDots.{Collapsed-some}
 
 coherent_error : (terminals : List TerminalString) (before : List (State Bits)) → AreCoherent before → (error : BuildError Bits) → FailsByCollapse terminals before error → HasOrderedStates error → HasCoherentStates error
 coherent_error terminals before coherent (Conflicts error) f ordered = Collapsed-coherent before error.states.items coherent f.0 ordered

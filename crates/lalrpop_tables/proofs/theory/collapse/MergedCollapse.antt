@@ -6,7 +6,7 @@ use Rattle.std.specs.BTreeMap.{get}
 use Rattle.std.specs.List.{AllZip, flat_map}
 use Rattle.std.proofs.lemmas.Option.{slice_get_within}
 use Rattle.lalrpop_base.specs.Words.{Bits, dots, AreCollapsible, state_conflicts, name_cmp}
-use Rattle.lalrpop_base.specs.StateConflicts.{HasNoConflict}
+use Rattle.lalrpop_base.specs.conflicts.StateConflicts.{HasNoConflict}
 use Rattle.lalrpop_base.specs.contracts.repr.TerminalStringOrd.TheImpl as terminal_ord
 use Rattle.lalrpop_base.specs.declared.lr1_core.state.BuildError.{BuildError}
 use Rattle.lalrpop_base.specs.declared.lr1_core.state.BuildError.TheVariants.{Conflicts, Memory}
@@ -16,15 +16,16 @@ use Rattle.lalrpop_base.specs.declared.lr1_core.state.StateIndex.{StateIndex}
 use Rattle.lalrpop_base.specs.declared.repr.NonterminalString.{NonterminalString}
 use Rattle.lalrpop_base.specs.declared.repr.Production.{Production}
 use Rattle.lalrpop_base.specs.declared.repr.TerminalString.{TerminalString}
-use Rattle.lalrpop_base.proofs.ConflictLemmas.{none_exactly}
-use Rattle.lalrpop_tables.specs.Words.{dots_in, HoldsAt, ReducesBy, ReducesOn, OfMember, IsMerge, IsNumbered, IsCollapsed, AreCollapsedTables, FailsByCollapse}
-use Rattle.lalrpop_tables.specs.Words.{AreFirstNumbers, ArePlaced, IsReduced, AreMoved, number_in, IsRenumberedState, HaveNoConflict, FailWith}
-use Rattle.lalrpop_tables.specs.collapse.Collapsed.{LeadsTo}
-use Rattle.lalrpop_tables.proofs.theory.collapse.MergeableStates.{was, goes, as_many, moved_to, came_from, number_of_place, index_there, same_number, dots_moved, Numbered-merge}
-use Rattle.lalrpop_tables.proofs.theory.collapse.MergedStates.{Merges, HasNumber, AreMerged, Placed-merged}
-use Rattle.lalrpop_tables.proofs.theory.lists.Places.{same_some, filled}
-use Rattle.lalrpop_tables.proofs.theory.lists.Lists.{zipped_length}
-use Rattle.lalrpop_tables.proofs.theory.lists.BothFacts.{then_both}
+use Rattle.lalrpop_base.proofs.theory.conflicts.ConflictLemmas.{none_exactly}
+use Rattle.lalrpop_base.specs.Words.{dots_in, HoldsAt, ReducesBy, ReducesOn, OfMember, IsMerge, IsNumbered, IsCollapsed, AreCollapsedTables, FailsByCollapse}
+use Rattle.lalrpop_base.specs.collapse.Merging.{ArePlaced}
+use Rattle.lalrpop_base.specs.Words.{AreFirstNumbers, IsReduced, AreMoved, number_in, IsRenumberedState, HaveNoConflict, FailWith}
+use Rattle.lalrpop_base.specs.collapse.Collapsed.{LeadsTo}
+use Rattle.lalrpop_base.proofs.theory.collapse.MergeableStates.{was, goes, as_many, moved_to, came_from, number_of_place, index_there, same_number, dots_moved, Numbered-merge}
+use Rattle.lalrpop_base.proofs.theory.collapse.MergedStates.{Merges, HasNumber, AreMerged, Placed-merged}
+use Rattle.lalrpop_base.proofs.theory.lists.Places.{same_some, filled}
+use Rattle.lalrpop_base.proofs.theory.lists.Members.{zipped_length}
+use Rattle.lalrpop_base.proofs.theory.lists.BothFacts.{then_both}
 
 abbrev Reduction : Type 0
 Reduction = Bits × Bor Production

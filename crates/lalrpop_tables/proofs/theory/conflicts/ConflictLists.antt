@@ -9,8 +9,9 @@ use Rattle.lalrpop_base.specs.declared.lr1_core.state.Conflict.{Conflict}
 use Rattle.lalrpop_base.specs.declared.lr1_core.state.State.{State}
 use Rattle.lalrpop_base.specs.declared.repr.Symbol.{Symbol}
 use Rattle.lalrpop_base.specs.declared.repr.TerminalString.{TerminalString}
-use Rattle.lalrpop_tables.specs.Words.{IsClosureBy, ListsAll, more, Construction, AreStatesFor, begun, AreBuiltBy}
-use Rattle.lalrpop_tables.specs.answers.Results.{none}
+use Rattle.lalrpop_base.specs.Words.{IsClosureBy, ListsAll, more}
+use Rattle.lalrpop_tables.specs.Words.{Construction, AreStatesFor, begun, AreBuiltBy}
+use Rattle.lalrpop_base.specs.conflicts.AllConflicts.{none}
 use Rattle.lalrpop_tables.proofs.theory.states.Coherence.{Built-coherent, Built-some}
 use Rattle.lalrpop_tables.proofs.theory.states.Shifting.{begun_zero}
 

@@ -5,7 +5,7 @@ use Rattle.std.specs.Borrow.{Bor}
 use Rattle.std.specs.List.{flat_map}
 use Rattle.std.proofs.lemmas.List.Elements.{Contains-append_left, Contains-append_right, Contains-append_cases}
 use Rattle.lalrpop_base.specs.Words.{Bits, has, HasToken, holds_token, join, no_bits, AllDiffer}
-use Rattle.lalrpop_base.specs.StateConflicts.{Reduction}
+use Rattle.lalrpop_base.specs.conflicts.StateConflicts.{Reduction}
 use Rattle.lalrpop_base.specs.declared.lookahead.token.Token.TheVariants.{Terminal as TokenOf}
 use Rattle.lalrpop_base.specs.declared.lr1_core.state.Action.{Action}
 use Rattle.lalrpop_base.specs.declared.lr1_core.state.Action.TheVariants.{Shift, Reduce}
@@ -13,15 +13,15 @@ use Rattle.lalrpop_base.specs.declared.lr1_core.state.State.{State}
 use Rattle.lalrpop_base.specs.declared.lr1_core.state.StateIndex.{StateIndex}
 use Rattle.lalrpop_base.specs.declared.repr.Production.{Production}
 use Rattle.lalrpop_base.specs.declared.repr.TerminalString.{TerminalString}
-use Rattle.lalrpop_base.proofs.ContentsViews.{contains_map, contains_of_map}
-use Rattle.lalrpop_base.proofs.HeldTokens.{holds_has}
-use Rattle.lalrpop_tables.specs.conflicts.HeldShifts.{held_shift, IsHeldBit}
+use Rattle.lalrpop_base.proofs.theory.states.ContentsViews.{contains_map, contains_of_map}
+use Rattle.lalrpop_base.proofs.theory.sets.HeldTokens.{holds_has}
+use Rattle.lalrpop_base.specs.conflicts.HeldShifts.{held_shift, IsHeldBit}
 use Rattle.lalrpop_tables.specs.Words.{AreActions, asked_actions, reduce_action}
-use Rattle.lalrpop_tables.proofs.theory.states.Bounded.{in_flat_map}
+use Rattle.lalrpop_base.proofs.theory.lists.Bounded.{in_flat_map}
 use Rattle.lalrpop_tables.proofs.theory.follow_sets.FollowBits.{join_bits, no_bit}
-use Rattle.lalrpop_tables.proofs.theory.grammars.KnownTerminals.{bit_held, held_bit}
+use Rattle.lalrpop_base.proofs.theory.grammars.KnownTerminals.{bit_held, held_bit}
 use Rattle.lalrpop_tables.proofs.theory.lanes.LaneAsked.{asked_of, IsAskedOf, reduction_asked, shift_asked}
-use Rattle.lalrpop_tables.proofs.theory.lists.Lists.{contains-cons, contains_head, Contains-none, of_flat}
+use Rattle.lalrpop_base.proofs.theory.lists.Members.{contains-cons, contains_head, Contains-none, of_flat}
 
 -- ---- the tokens of reductions, one more
 -- without reductions no bit is held

@@ -9,9 +9,10 @@ use Rattle.lalrpop_base.specs.declared.lr1_core.state.Conflict.{Conflict}
 use Rattle.lalrpop_base.specs.declared.lr1_core.state.State.{State}
 use Rattle.lalrpop_base.specs.declared.repr.Symbol.{Symbol}
 use Rattle.lalrpop_base.specs.declared.repr.TerminalString.{TerminalString}
-use Rattle.lalrpop_tables.specs.Words.{ArePartlyBuiltBy, AreEnough, ListFewer, AreMadeUntilBy, AreMadeFor, StopsFor, FailWith, ListsAll, more, Settings}
+use Rattle.lalrpop_base.specs.Words.{FailWith, ListsAll, more}
+use Rattle.lalrpop_tables.specs.Words.{ArePartlyBuiltBy, AreEnough, ListFewer, AreMadeUntilBy, AreMadeFor, StopsFor, Settings}
 use Rattle.lalrpop_tables.specs.Words.{AreStatesFor, AreTablesFor, FailsFor}
-use Rattle.lalrpop_tables.specs.answers.Results.{none}
+use Rattle.lalrpop_base.specs.conflicts.AllConflicts.{none}
 use Rattle.lalrpop_tables.proofs.theory.states.Building.{Building, Building-all}
 use Rattle.lalrpop_tables.proofs.theory.conflicts.ConflictLists.{States-of}
 

@@ -7,7 +7,9 @@ use Rattle.lalrpop_base.specs.declared.lr1_core.state.Conflict.{Conflict}
 use Rattle.lalrpop_base.specs.declared.lr1_core.state.State.{State}
 use Rattle.lalrpop_base.specs.declared.repr.NonterminalString.{NonterminalString}
 use Rattle.lalrpop_base.specs.declared.repr.grammar.Grammar.{Grammar}
-use Rattle.lalrpop_tables.specs.Words.{AreCanonicalStates, AreOwn, Begins, itself, IsClosureOf, IsClosureBy, ArePartlyBuiltBy, ArePartlyBuilt, AreEnough}
+use Rattle.lalrpop_base.specs.closures.Closure.{itself}
+use Rattle.lalrpop_base.specs.Words.{AreCanonicalStates, AreOwn, Begins, IsClosureOf, IsClosureBy}
+use Rattle.lalrpop_tables.specs.Words.{ArePartlyBuiltBy, ArePartlyBuilt, AreEnough}
 use Rattle.lalrpop_tables.specs.Words.{GoesOnBeforeLast, AreMadeFor, StopsAfter, Settings, canonical_of}
 use Rattle.lalrpop_tables.proofs.theory.canonical.CanonicalContents.{are_canonical}
 use Rattle.lalrpop_tables.proofs.theory.conflicts.ConflictLists.{All-listed, States-of}

@@ -15,19 +15,22 @@ use Rattle.lalrpop_base.specs.declared.repr.NonterminalString.{NonterminalString
 use Rattle.lalrpop_base.specs.declared.repr.Production.{Production}
 use Rattle.lalrpop_base.specs.declared.repr.Symbol.{Symbol}
 use Rattle.lalrpop_base.specs.declared.repr.grammar.Grammar.{Grammar}
-use Rattle.lalrpop_tables.specs.Words.{Ascend, AreOwn, dotted_of, InKernel, ArePartlyBuiltBy, HasDotted, IsLr0StateFor, AreSomeLr0States, AreEnough, AreMadeFor}
-use Rattle.lalrpop_tables.specs.Words.{StopsFor, Lr0StopsAfter, FailsAfterLr0, AreLr0States, Settings, begun, HasTransition, Shifts, moved}
+use Rattle.lalrpop_base.specs.closures.Closure.{dotted_of}
+use Rattle.lalrpop_base.specs.Words.{Ascend, AreOwn, InKernel}
+use Rattle.lalrpop_tables.specs.Words.{ArePartlyBuiltBy, HasDotted, IsLr0StateFor, AreSomeLr0States, AreEnough, AreMadeFor}
+use Rattle.lalrpop_base.specs.Words.{AreLr0States}
+use Rattle.lalrpop_tables.specs.Words.{StopsFor, Lr0StopsAfter, FailsAfterLr0, Settings, begun, HasTransition, Shifts, moved}
 use Rattle.lalrpop_tables.proofs.theory.canonical.Canonical.{start_items, moved_items, Shifts-onto, InClosure-more}
 use Rattle.lalrpop_tables.proofs.theory.states.ClosedStates.{IsExactClosure}
-use Rattle.lalrpop_tables.proofs.theory.closures.Closing.{drop_split}
+use Rattle.lalrpop_base.proofs.theory.closures.Closing.{drop_split}
 use Rattle.lalrpop_tables.proofs.theory.conflicts.ConflictLists.{All-listed, States-of}
-use Rattle.lalrpop_tables.proofs.theory.lists.Lists.{contains_map}
+use Rattle.lalrpop_base.proofs.theory.lists.Members.{contains_map}
 use Rattle.lalrpop_tables.proofs.theory.canonical.Lr0States.{nothing, never, stopped, Lists, Closes, exactly, one_kernel, construction, States-lr0}
-use Rattle.lalrpop_tables.proofs.theory.lists.Places.{same_some}
+use Rattle.lalrpop_base.proofs.theory.lists.Places.{same_some}
 use Rattle.lalrpop_tables.proofs.theory.states.SameKernels.{Shifts-past, past_in_kernel}
 use Rattle.lalrpop_tables.proofs.theory.states.Shifting.{begun_zero}
-use Rattle.lalrpop_tables.proofs.theory.closures.ValidClosures.{valid_of_start, start_of_valid, valid_of_moved, moved_of_valid, moved_along}
-use Rattle.lalrpop_tables.proofs.theory.lists.BothFacts.{then_both, turned_both}
+use Rattle.lalrpop_base.proofs.theory.closures.ValidClosures.{valid_of_start, start_of_valid, valid_of_moved, moved_of_valid, moved_along}
+use Rattle.lalrpop_base.proofs.theory.lists.BothFacts.{then_both, turned_both}
 
 -- ---- a closure of the start, or of what was moved
 module _ (g : Rules) (start : NonterminalString) (items kernel : List (Dotted Nil)) (closure : IsExactClosure g kernel items) where

@@ -11,16 +11,19 @@ use Rattle.lalrpop_base.specs.declared.repr.NonterminalString.{NonterminalString
 use Rattle.lalrpop_base.specs.declared.repr.Production.{Production}
 use Rattle.lalrpop_base.specs.declared.repr.Symbol.{Symbol}
 use Rattle.lalrpop_base.specs.declared.repr.grammar.Grammar.{Grammar}
-use Rattle.lalrpop_tables.specs.Words.{AreOwn, itself, dotted_of, InKernel, HasItemToken, IsClosureOf, ArePartlyBuilt, HasDotted, IsStateFor, HaveSameContents}
+use Rattle.lalrpop_base.specs.closures.Closure.{itself}
+use Rattle.lalrpop_base.specs.closures.Closure.{dotted_of}
+use Rattle.lalrpop_base.specs.Words.{AreOwn, InKernel, HasItemToken, IsClosureOf}
+use Rattle.lalrpop_tables.specs.Words.{ArePartlyBuilt, HasDotted, IsStateFor, HaveSameContents}
 use Rattle.lalrpop_tables.specs.Words.{AreSomeCanonicalStates, begun, HasTransition, moved}
 use Rattle.lalrpop_tables.proofs.theory.canonical.Canonical.{start_items, start_tokens, moved_items, moved_tokens, Shifts-onto, InClosure-more}
-use Rattle.lalrpop_tables.proofs.theory.closures.Closing.{drop_split}
-use Rattle.lalrpop_tables.proofs.theory.lists.Lists.{contains_map}
-use Rattle.lalrpop_tables.proofs.theory.lists.Places.{same_some}
+use Rattle.lalrpop_base.proofs.theory.closures.Closing.{drop_split}
+use Rattle.lalrpop_base.proofs.theory.lists.Members.{contains_map}
+use Rattle.lalrpop_base.proofs.theory.lists.Places.{same_some}
 use Rattle.lalrpop_tables.proofs.theory.states.SameKernels.{Shifts-ascend, Shifts-past, kernel_items, kernel_tokens, IsMovedKernel, same_kernels}
 use Rattle.lalrpop_tables.proofs.theory.states.Shifting.{Shifts-items, begun_zero}
-use Rattle.lalrpop_tables.proofs.theory.closures.ValidClosures.{valid_of_start, start_of_valid, token_of_start, start_of_token, valid_of_moved, moved_of_valid, token_of_moved, moved_of_token, tokens_along, moved_along, moved_with_along}
-use Rattle.lalrpop_tables.proofs.theory.lists.BothFacts.{then_both, turned_both}
+use Rattle.lalrpop_base.proofs.theory.closures.ValidClosures.{valid_of_start, start_of_valid, token_of_start, start_of_token, valid_of_moved, moved_of_valid, token_of_moved, moved_of_token, tokens_along, moved_along, moved_with_along}
+use Rattle.lalrpop_base.proofs.theory.lists.BothFacts.{then_both, turned_both}
 
 abbrev eof_of : Grammar → Bits
 eof_of g = with_bit no_bits (length g.terminals)

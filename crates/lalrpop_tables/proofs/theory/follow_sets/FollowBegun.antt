@@ -12,11 +12,11 @@ use Rattle.lalrpop_base.specs.declared.lookahead.token.Token.TheVariants.{Eof, T
 use Rattle.lalrpop_base.specs.declared.repr.NonterminalString.{NonterminalString}
 use Rattle.lalrpop_base.specs.declared.repr.Symbol.{Symbol}
 use Rattle.lalrpop_base.specs.declared.repr.Symbol.TheVariants.{Nonterminal}
-use Rattle.lalrpop_tables.specs.follow_sets.FollowGraphs.{HasBitAtOnce, IsFollowNode}
+use Rattle.lalrpop_base.specs.lanes.FollowGraphs.{HasBitAtOnce, IsFollowNode}
 use Rattle.lalrpop_tables.specs.follow_sets.FollowNodes.{IsPass, nodes_of}
 use Rattle.lalrpop_tables.specs.grammars.Rests.{HasRest, IsRest}
-use Rattle.lalrpop_tables.specs.follow_sets.FollowSets.{FollowsAtOnce}
-use Rattle.lalrpop_tables.specs.follow_sets.FollowSets.FollowsAtOnce.{ends_input, is_first_behind}
+use Rattle.lalrpop_base.specs.lanes.FollowSets.{FollowsAtOnce}
+use Rattle.lalrpop_base.specs.lanes.FollowSets.FollowsAtOnce.{ends_input, is_first_behind}
 use Rattle.lalrpop_tables.specs.follow_sets.FollowWalks.{AreBegun, AreEmptySets, IsEndBit, IsRestBit, IsRestBitIn, IsSomeRestBit, TakesBits}
 use Rattle.lalrpop_tables.specs.lanes.LaneTraces.{places_in}
 use Rattle.lalrpop_tables.specs.states.NumberedStates.{items_at, transitions_at}
@@ -25,13 +25,13 @@ use Rattle.lalrpop_tables.specs.grammars.Numbers.{dotted_at}
 use Rattle.lalrpop_tables.specs.declared.lane_table.follow_sets.numbered_state.NumberedState.{NumberedState}
 use Rattle.lalrpop_tables.specs.declared.lane_table.follow_sets.pass.Pass.{Pass}
 use Rattle.lalrpop_tables.specs.declared.construction.numbers.rests.Rest.{Rest}
-use Rattle.lalrpop_tables.proofs.theory.closures.Closing.{split_drop}
+use Rattle.lalrpop_base.proofs.theory.closures.Closing.{split_drop}
 use Rattle.lalrpop_tables.proofs.theory.follow_sets.FollowBits.{join_bits, takes_at, takes_none, takes_same, takes_then, with_bit_bits}
 use Rattle.lalrpop_tables.proofs.theory.follow_sets.FollowNodes.{item_known, item_listed, node_of_pair, node_within, nodes_counted, one_node, one_number, pair_of_node, state_of_item, state_of_node, transition_leads, transition_node, transitions_read}
-use Rattle.lalrpop_tables.proofs.theory.lists.Lists.{contains-cons, contains_head, Contains-none, place}
+use Rattle.lalrpop_base.proofs.theory.lists.Members.{contains-cons, contains_head, Contains-none, place}
 use Rattle.lalrpop_tables.proofs.theory.grammars.Numbers.{stands_at}
-use Rattle.lalrpop_tables.proofs.theory.lists.Places.{same_some, slice_get_at}
-use Rattle.lalrpop_tables.proofs.theory.grammars.Grammars.{same_front, same_after}
+use Rattle.lalrpop_base.proofs.theory.lists.Places.{same_some, slice_get_at}
+use Rattle.lalrpop_base.proofs.theory.grammars.Grammars.{same_front, same_after}
 
 -- ---- the rest of one item
 module _ (pass : Pass) (is : IsPass pass) (s k : ℕ) (held : Contains (items_at pass.numbered.now s) k) where

@@ -5,7 +5,7 @@ use Rattle.std.proofs.lemmas.Bool.{cases_eq, or_cases, or_left, or_right, trueâ‰
 use Rattle.std.proofs.lemmas.List.{length_push, length-set, get_or-set_same, get_or-set_other, get_or_default}
 use Rattle.std.proofs.lemmas.Option.{get_or_from_slice_get}
 use Rattle.lalrpop_base.specs.Words.{Bits, HoldsBit, has, has-join, has-no_bits, has-with_bit, join, no_bits, set_at, with_bit}
-use Rattle.lalrpop_tables.proofs.theory.lists.Places.{filled, push_cases, slice_get-longer, slice_get-push_at}
+use Rattle.lalrpop_base.proofs.theory.lists.Places.{filled, push_cases, slice_get-longer, slice_get-push_at}
 use Rattle.lalrpop_tables.specs.follow_sets.FollowWalks.{AreEmptySets, TakesBits}
 
 -- ---- bits of one set

@@ -9,8 +9,9 @@ use Rattle.lalrpop_base.specs.declared.lookahead.nil.Nil.{Nil}
 use Rattle.lalrpop_base.specs.declared.lookahead.token.Token.{Token}
 use Rattle.lalrpop_base.specs.declared.repr.NonterminalString.{NonterminalString}
 use Rattle.lalrpop_base.specs.declared.repr.Production.{Production}
-use Rattle.lalrpop_base.proofs.ContentsViews.{lead_as_items_say}
-use Rattle.lalrpop_tables.specs.Words.{HasLookaheadBits, IsFollowNode, IsUnionOver, LeadsOver, places_in}
+use Rattle.lalrpop_base.proofs.theory.states.ContentsViews.{lead_as_items_say}
+use Rattle.lalrpop_base.specs.Words.{HasLookaheadBits, IsFollowNode, IsUnionOver, LeadsOver}
+use Rattle.lalrpop_tables.specs.Words.{places_in}
 use Rattle.lalrpop_tables.specs.follow_sets.FollowNodes.{IsPass, nodes_of}
 use Rattle.lalrpop_tables.specs.follow_sets.FollowWalks.{AreBegun, AreIncludes, AreLookbacks, AreTokensOfSymbols, entries_at, FindsLookaheads, IsInUnion}
 use Rattle.lalrpop_tables.specs.grammars.Numbering.{with_dot}
@@ -18,7 +19,7 @@ use Rattle.lalrpop_tables.specs.declared.lane_table.follow_sets.found.Found.{Fou
 use Rattle.lalrpop_tables.specs.declared.lane_table.follow_sets.pass.Pass.{Pass}
 use Rattle.lalrpop_tables.proofs.theory.follow_sets.FollowGraphs.{lookback_nodes, union_lookahead}
 use Rattle.lalrpop_tables.proofs.theory.follow_sets.FollowPasses.{begun_nodes, follow_graph}
-use Rattle.lalrpop_tables.proofs.theory.lists.Places.{same_some}
+use Rattle.lalrpop_base.proofs.theory.lists.Places.{same_some}
 
 module _ (pass : Pass) (fits : IsPass pass) where
   abbrev g : Rules

@@ -7,12 +7,12 @@ use Rattle.lalrpop_base.specs.Words.{Bits, IsBitOf, Contents, state_from, Rules,
 use Rattle.lalrpop_base.specs.declared.lookahead.token.Token.{Token}
 use Rattle.lalrpop_base.specs.declared.repr.NonterminalString.{NonterminalString}
 use Rattle.lalrpop_base.specs.declared.repr.Production.{Production}
-use Rattle.lalrpop_base.proofs.ContentsViews.{LeadAsItemsSay}
-use Rattle.lalrpop_base.proofs.theory.Lists.{take_past, take_all, same_some}
-use Rattle.lalrpop_base.proofs.theory.Closures.{state_from-last}
+use Rattle.lalrpop_base.proofs.theory.states.ContentsViews.{LeadAsItemsSay}
+use Rattle.lalrpop_base.proofs.theory.lists.Lists.{take_past, take_all, same_some}
+use Rattle.lalrpop_base.proofs.theory.closures.Closures.{state_from-last}
 use Rattle.lalrpop_tables.proofs.theory.follow_sets.FollowSets.{take_none, symbol_behind, within}
-use Rattle.lalrpop_tables.specs.Words.{LeadsOver, IncludesFollow, InFollow, at_once, included, HasLookaheadBits}
-use Rattle.lalrpop_tables.specs.Words.{IsFollowNode, IsFollowGraph, IsUnionOver, HasLookbackNodes, HaveBegunNodes}
+use Rattle.lalrpop_base.specs.Words.{LeadsOver, IncludesFollow, InFollow, at_once, included, HasLookaheadBits}
+use Rattle.lalrpop_base.specs.Words.{IsFollowNode, IsFollowGraph, IsUnionOver, HasLookbackNodes, HaveBegunNodes}
 
 -- a number below the count has its node
 node_there : (nodes : List (ℕ × NonterminalString)) (n : ℕ) → n < length nodes → (s : ℕ) × (a : NonterminalString) × IsFollowNode nodes n s a

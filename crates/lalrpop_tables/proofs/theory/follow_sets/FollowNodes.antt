@@ -12,16 +12,16 @@ use Rattle.lalrpop_base.specs.declared.lookahead.nil.Nil.{Nil}
 use Rattle.lalrpop_base.specs.declared.repr.NonterminalString.{NonterminalString}
 use Rattle.lalrpop_base.specs.declared.repr.Symbol.{Symbol}
 use Rattle.lalrpop_base.specs.declared.repr.Symbol.TheVariants.{Nonterminal}
-use Rattle.lalrpop_base.proofs.ContentsViews.{some_of_map}
-use Rattle.lalrpop_tables.specs.follow_sets.FollowGraphs.{IsFollowNode}
+use Rattle.lalrpop_base.proofs.theory.states.ContentsViews.{some_of_map}
+use Rattle.lalrpop_base.specs.lanes.FollowGraphs.{IsFollowNode}
 use Rattle.lalrpop_tables.specs.follow_sets.FollowNodes.{IsNodeName, IsPass, IsTransitionNode, name_at, name_or, nodes_of}
 use Rattle.lalrpop_tables.specs.lanes.LaneTraces.{places_in}
 use Rattle.lalrpop_tables.specs.states.NumberedStates.{EdgesAscend, IsNumberedState, items_at, listed_items, listed_transitions, transitions_at}
 use Rattle.lalrpop_tables.specs.grammars.Numbers.{AreExpansions}
 use Rattle.lalrpop_tables.specs.declared.lane_table.follow_sets.numbered_state.NumberedState.{NumberedState}
 use Rattle.lalrpop_tables.specs.declared.lane_table.follow_sets.pass.Pass.{Pass}
-use Rattle.lalrpop_tables.proofs.theory.lists.Lists.{Contains-none, place}
-use Rattle.lalrpop_tables.proofs.theory.lists.Places.{contains_at, filled, one_place, same_some, slice_get_at}
+use Rattle.lalrpop_base.proofs.theory.lists.Members.{Contains-none, place}
+use Rattle.lalrpop_base.proofs.theory.lists.Places.{contains_at, filled, one_place, same_some, slice_get_at}
 use Rattle.lalrpop_tables.proofs.theory.states.StateEdges.{no_leads}
 
 -- ---- the nonterminal with a number

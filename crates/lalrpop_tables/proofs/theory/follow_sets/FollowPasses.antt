@@ -5,15 +5,16 @@ use Rattle.std.specs.declared.alloc.Global.{Global}
 use Rattle.std.specs.declared.vec.Vec.{Vec}
 use Rattle.std.proofs.lemmas.Option.{slice_get_within}
 use Rattle.lalrpop_base.specs.Words.{Bits, contents_at, Contents, items_of, IsReached, Rules, rules_of}
-use Rattle.lalrpop_base.specs.States.{IsBehindDot}
+use Rattle.lalrpop_base.specs.states.States.{IsBehindDot}
 use Rattle.lalrpop_base.specs.declared.lookahead.token.Token.{Token}
 use Rattle.lalrpop_base.specs.declared.lr1_core.state.State.{State}
 use Rattle.lalrpop_base.specs.declared.repr.NonterminalString.{NonterminalString}
 use Rattle.lalrpop_base.specs.declared.repr.Production.{Production}
 use Rattle.lalrpop_base.specs.declared.repr.Symbol.{Symbol}
 use Rattle.lalrpop_base.specs.declared.repr.Symbol.TheVariants.{Nonterminal}
-use Rattle.lalrpop_base.proofs.ContentsViews.{at_contains, contains_at, lead_as_items_say}
-use Rattle.lalrpop_tables.specs.Words.{HaveBegunNodes, IncludesFollow, IsFollowGraph, IsFollowNode, places_in}
+use Rattle.lalrpop_base.proofs.theory.states.ContentsViews.{at_contains, contains_at, lead_as_items_say}
+use Rattle.lalrpop_base.specs.Words.{HaveBegunNodes, IncludesFollow, IsFollowGraph, IsFollowNode}
+use Rattle.lalrpop_tables.specs.Words.{places_in}
 use Rattle.lalrpop_tables.specs.follow_sets.FollowNodes.{IsPass, nodes_of}
 use Rattle.lalrpop_tables.specs.follow_sets.FollowWalks.{AreBegun, AreIncludes, GoesThrough}
 use Rattle.lalrpop_tables.specs.states.NumberedStates.{transitions_at}
@@ -21,12 +22,12 @@ use Rattle.lalrpop_tables.specs.grammars.Numbering.{with_dot}
 use Rattle.lalrpop_tables.specs.grammars.Numbers.{AreNumbers}
 use Rattle.lalrpop_tables.specs.declared.construction.numbers.Numbers.{Numbers}
 use Rattle.lalrpop_tables.specs.declared.lane_table.follow_sets.pass.Pass.{Pass}
-use Rattle.lalrpop_tables.proofs.theory.closures.Closing.{split_drop}
+use Rattle.lalrpop_base.proofs.theory.closures.Closing.{split_drop}
 use Rattle.lalrpop_tables.proofs.theory.follow_sets.FollowClosures.{front_begun, front_expanded, front_started, walked_item}
 use Rattle.lalrpop_tables.proofs.theory.follow_sets.FollowGraphs.{included_node}
 use Rattle.lalrpop_tables.proofs.theory.follow_sets.FollowNodes.{node_cases, start_node, transition_leads, transition_node}
 use Rattle.lalrpop_tables.proofs.theory.follow_sets.FollowSets.{within}
-use Rattle.lalrpop_tables.proofs.theory.lists.Places.{same_some}
+use Rattle.lalrpop_base.proofs.theory.lists.Places.{same_some}
 
 -- a symbol behind a dot of a production of the grammar has a number
 pub numbered_behind : (g : Rules) (n : Numbers) → AreNumbers g n → (q : Production) (dot : ℕ) (s : Symbol) (after : List Symbol) → Contains g.productions q → drop dot q.symbols ≡ s ∷ after → (x : ℕ) × (slice_get n.symbols.items x ≡ Some s)

@@ -3,7 +3,7 @@ use Rattle.std.proofs.Common.{◌≡◌, ◌↔◌, ℕ, zero, suc, ◌<◌, ◌
 use Rattle.std.specs.Prelude.{Contains}
 use Rattle.lalrpop_base.specs.Words.{Bits, Contents, state_from, to_parent, behind_parent, of_start, IsTracedTo, itself, back, IsLaneToken}
 use Rattle.lalrpop_base.specs.Words.{Rules, Shift, Reduce}
-use Rattle.lalrpop_base.specs.Lanes.{over_edge, Gives}
+use Rattle.lalrpop_base.specs.lanes.Lanes.{over_edge, Gives}
 use Rattle.lalrpop_base.specs.declared.lookahead.token.Token.{Token}
 use Rattle.lalrpop_base.specs.declared.lookahead.token.Token.TheVariants.{Eof, Terminal as TokenOf}
 use Rattle.lalrpop_base.specs.declared.lr1_core.state.State.{State}
@@ -11,12 +11,12 @@ use Rattle.lalrpop_base.specs.declared.repr.NonterminalString.{NonterminalString
 use Rattle.lalrpop_base.specs.declared.repr.Production.{Production}
 use Rattle.lalrpop_base.specs.declared.repr.Symbol.TheVariants.{Nonterminal}
 use Rattle.lalrpop_base.specs.declared.repr.TerminalString.{TerminalString}
-use Rattle.lalrpop_base.proofs.theory.Lists.{take_past, take_all, same_some}
-use Rattle.lalrpop_base.proofs.theory.Steps.{state_from-more}
-use Rattle.lalrpop_base.proofs.theory.Closures.{state_from-last}
-use Rattle.lalrpop_base.proofs.theory.Lanes.{traced_back, given_there}
+use Rattle.lalrpop_base.proofs.theory.lists.Lists.{take_past, take_all, same_some}
+use Rattle.lalrpop_base.proofs.theory.runs.Steps.{state_from-more}
+use Rattle.lalrpop_base.proofs.theory.closures.Closures.{state_from-last}
+use Rattle.lalrpop_base.proofs.theory.lanes.Lanes.{traced_back, given_there}
 use Rattle.lalrpop_tables.specs.Words.{HasLaneBits, IsResolved, LanesMeet}
-use Rattle.lalrpop_tables.specs.Words.{LeadsOver, FollowsAtOnce, is_first_behind, ends_input, InFollow, at_once, included, IsLookahead, HasLookaheadBits, HoldsLookaheads}
+use Rattle.lalrpop_base.specs.Words.{LeadsOver, FollowsAtOnce, is_first_behind, ends_input, InFollow, at_once, included, IsLookahead, HasLookaheadBits, HoldsLookaheads}
 
 -- what is taken of nothing, and what stands behind a dot that has something behind it
 pub take_none : {A : Type 0} (xs : List A) → take 0 xs ≡ []

@@ -7,7 +7,7 @@ use Rattle.lalrpop_base.specs.declared.lookahead.nil.Nil.{Nil}
 use Rattle.lalrpop_base.specs.declared.repr.NonterminalString.{NonterminalString}
 use Rattle.lalrpop_base.specs.declared.repr.Symbol.{Symbol}
 use Rattle.lalrpop_base.specs.declared.repr.Symbol.TheVariants.{Nonterminal}
-use Rattle.lalrpop_tables.specs.follow_sets.FollowGraphs.{IsFollowNode}
+use Rattle.lalrpop_base.specs.lanes.FollowGraphs.{IsFollowNode}
 use Rattle.lalrpop_tables.specs.follow_sets.FollowNodes.{IsPass, nodes_of}
 use Rattle.lalrpop_tables.specs.grammars.Rests.{HasRest, IsRestOf}
 use Rattle.lalrpop_tables.specs.follow_sets.FollowWalks.{HasNullableRest, IsGoneOver, StepsThrough}
@@ -17,14 +17,14 @@ use Rattle.lalrpop_tables.specs.grammars.Numbering.{AddsThose}
 use Rattle.lalrpop_tables.specs.declared.lane_table.follow_sets.numbered_state.NumberedState.{NumberedState}
 use Rattle.lalrpop_tables.specs.declared.lane_table.follow_sets.pass.Pass.{Pass}
 use Rattle.lalrpop_tables.specs.declared.construction.numbers.rests.Rest.{Rest}
-use Rattle.lalrpop_base.proofs.theory.Lists.{same_nonterminal}
+use Rattle.lalrpop_base.proofs.theory.lists.Lists.{same_nonterminal}
 use Rattle.lalrpop_tables.specs.grammars.Numbers.{IsNumberBehind}
-use Rattle.lalrpop_tables.proofs.theory.closures.Closing.{split_drop}
+use Rattle.lalrpop_base.proofs.theory.closures.Closing.{split_drop}
 use Rattle.lalrpop_tables.proofs.theory.grammars.DottedProductions.{those_none}
-use Rattle.lalrpop_tables.proofs.theory.lists.Lists.{contains-cons, contains_head, Contains-none}
+use Rattle.lalrpop_base.proofs.theory.lists.Members.{contains-cons, contains_head, Contains-none}
 use Rattle.lalrpop_tables.proofs.theory.follow_sets.FollowNodes.{node_within, one_node, transition_node}
-use Rattle.lalrpop_tables.proofs.theory.lists.Places.{contains_at, same_some, slice_get_at}
-use Rattle.lalrpop_tables.proofs.theory.grammars.Grammars.{same_after}
+use Rattle.lalrpop_base.proofs.theory.lists.Places.{contains_at, same_some, slice_get_at}
+use Rattle.lalrpop_base.proofs.theory.grammars.Grammars.{same_after}
 use Rattle.std.proofs.lemmas.List.Elements.{Contains-append_left, Contains-append_right, Contains-append_cases}
 
 -- a list took one value behind the others

@@ -10,12 +10,12 @@ use Rattle.lalrpop_base.specs.declared.repr.NonterminalString.{NonterminalString
 use Rattle.lalrpop_base.specs.declared.repr.Symbol.{Symbol}
 use Rattle.lalrpop_base.specs.declared.repr.Symbol.TheVariants.{Nonterminal, Terminal}
 use Rattle.lalrpop_base.specs.declared.repr.TerminalString.{TerminalString}
-use Rattle.lalrpop_base.proofs.theory.Lists.{same_terminal}
+use Rattle.lalrpop_base.proofs.theory.lists.Lists.{same_terminal}
 use Rattle.lalrpop_tables.specs.follow_sets.FollowWalks.{AreTokensOfSymbols, HasTokenOf, HoldsSomeOf, ShareBits}
 use Rattle.lalrpop_tables.specs.follow_sets.FollowWalks.ShareBits.{with_first, with_other}
 use Rattle.lalrpop_tables.proofs.theory.follow_sets.FollowBits.{held_at, held_before, held_last, held_within, join_bits, no_bit, with_bit_bits}
-use Rattle.lalrpop_tables.proofs.theory.lists.Lists.{contains-cons, contains_head, Contains-none}
-use Rattle.lalrpop_tables.proofs.theory.lists.Places.{contains_at, push_cases}
+use Rattle.lalrpop_base.proofs.theory.lists.Members.{contains-cons, contains_head, Contains-none}
+use Rattle.lalrpop_base.proofs.theory.lists.Places.{contains_at, push_cases}
 
 -- ---- the token of a symbol
 -- a set of a terminal alone has its token

@@ -7,8 +7,8 @@ use Rattle.std.proofs.lemmas.Option.{slice_get_within, slice_get-get_or}
 use Rattle.lalrpop_base.specs.Words.{Bits, HoldsBit, has, join}
 use Rattle.lalrpop_tables.specs.follow_sets.FollowWalks.{AreEmptySets, AreUnions, JoinsUnions, TakesBits}
 use Rattle.lalrpop_tables.proofs.theory.follow_sets.FollowBits.{held_at, join_bits, takes_at, takes_none, takes_same, takes_then}
-use Rattle.lalrpop_tables.proofs.theory.lists.Lists.{contains-cons, contains_head, Contains-none}
-use Rattle.lalrpop_tables.proofs.theory.lists.Places.{same_some}
+use Rattle.lalrpop_base.proofs.theory.lists.Members.{contains-cons, contains_head, Contains-none}
+use Rattle.lalrpop_base.proofs.theory.lists.Places.{same_some}
 
 -- ---- a set that is joined to those of an item
 module _ (found : Bits) (item : ℕ) (numbers : List ℕ) where

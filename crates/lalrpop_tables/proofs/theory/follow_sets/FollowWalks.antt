@@ -7,20 +7,20 @@ use Rattle.lalrpop_base.specs.declared.lookahead.nil.Nil.{Nil}
 use Rattle.lalrpop_base.specs.declared.repr.Production.{Production}
 use Rattle.lalrpop_base.specs.declared.repr.Symbol.{Symbol}
 use Rattle.lalrpop_base.specs.declared.repr.Symbol.TheVariants.{Nonterminal}
-use Rattle.lalrpop_base.proofs.ContentsViews.{lead_as_items_say}
-use Rattle.lalrpop_base.proofs.theory.Lists.{take_all, take_past}
-use Rattle.lalrpop_base.proofs.theory.Steps.{state_from-more}
+use Rattle.lalrpop_base.proofs.theory.states.ContentsViews.{lead_as_items_say}
+use Rattle.lalrpop_base.proofs.theory.lists.Lists.{take_all, take_past}
+use Rattle.lalrpop_base.proofs.theory.runs.Steps.{state_from-more}
 use Rattle.lalrpop_tables.specs.follow_sets.FollowNodes.{IsPass}
-use Rattle.lalrpop_tables.specs.follow_sets.FollowSets.{LeadsOver}
+use Rattle.lalrpop_base.specs.lanes.FollowSets.{LeadsOver}
 use Rattle.lalrpop_tables.specs.follow_sets.FollowWalks.{GoesThrough, IsEndOfWalk, IsFrontOf, IsGoneOver, StepsThrough}
 use Rattle.lalrpop_tables.specs.lanes.LaneTraces.{places_in}
 use Rattle.lalrpop_tables.specs.grammars.Numbering.{AddsThose, with_dot}
 use Rattle.lalrpop_tables.specs.grammars.Numbers.{IsNumberBehind}
 use Rattle.lalrpop_tables.specs.declared.lane_table.follow_sets.pass.Pass.{Pass}
-use Rattle.lalrpop_tables.proofs.theory.closures.Closing.{drop_split, split_drop}
+use Rattle.lalrpop_base.proofs.theory.closures.Closing.{drop_split, split_drop}
 use Rattle.lalrpop_tables.proofs.theory.grammars.DottedProductions.{those_both, those_none}
 use Rattle.lalrpop_tables.proofs.theory.follow_sets.FollowSets.{take_none}
-use Rattle.lalrpop_tables.proofs.theory.lists.Places.{places_apart, same_some, slice_get_at}
+use Rattle.lalrpop_base.proofs.theory.lists.Places.{places_apart, same_some, slice_get_at}
 
 -- a walk that leads nowhere at a symbol leads nowhere over more symbols
 pub dead_end : (states : ℕ → Contents) (u : List Symbol) (n dot m d : ℕ) (x : Symbol) → state_from states n (take dot u) ≡ Some m → slice_get u dot ≡ Some x → leads (states m) x ≡ None → dot < d → state_from states n (take d u) ≡ None

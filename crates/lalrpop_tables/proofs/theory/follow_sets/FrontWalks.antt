@@ -7,12 +7,12 @@ use Rattle.std.specs.declared.alloc.Global.{Global}
 use Rattle.std.specs.declared.vec.Vec.{Vec}
 use Rattle.std.proofs.lemmas.List.Elements.{Contains-append_left, Contains-append_right, Contains-append_cases}
 use Rattle.lalrpop_base.specs.Words.{edge_ends}
-use Rattle.lalrpop_base.specs.Spreading.{listed_ends}
+use Rattle.lalrpop_base.specs.lists.Spreading.{listed_ends}
 use Rattle.lalrpop_base.specs.declared.repr.NonterminalString.{NonterminalString}
 use Rattle.lalrpop_base.specs.declared.repr.Production.{Production}
 use Rattle.lalrpop_base.specs.declared.repr.Symbol.TheVariants.{Nonterminal}
-use Rattle.lalrpop_base.proofs.theory.Lists.{same_nonterminal}
-use Rattle.lalrpop_tables.specs.follow_sets.FollowGraphs.{IsFollowNode}
+use Rattle.lalrpop_base.proofs.theory.lists.Lists.{same_nonterminal}
+use Rattle.lalrpop_base.specs.lanes.FollowGraphs.{IsFollowNode}
 use Rattle.lalrpop_tables.specs.follow_sets.FollowNodes.{IsNodeName, IsPass, name_at, nodes_of}
 use Rattle.lalrpop_tables.specs.follow_sets.FollowWalks.{AreEmptyLists, AreIncludes, AreLookbacks, EndsAt, GoesThrough, IsFrontOf, NotesEnds, SomeFront, SomeOfNode, entries_at}
 use Rattle.lalrpop_tables.specs.grammars.Numbering.{AddsThose, with_dot}
@@ -21,9 +21,9 @@ use Rattle.lalrpop_tables.specs.declared.lane_table.follow_sets.pass.Pass.{Pass}
 use Rattle.lalrpop_tables.proofs.theory.grammars.DottedProductions.{those_both}
 use Rattle.lalrpop_tables.proofs.theory.follow_sets.FollowNodes.{node_within, nodes_counted, pair_of_node}
 use Rattle.lalrpop_tables.proofs.theory.follow_sets.FollowWalks.{one_front}
-use Rattle.lalrpop_tables.proofs.theory.lists.Lists.{contains-cons, contains_head, Contains-none, place}
+use Rattle.lalrpop_base.proofs.theory.lists.Members.{contains-cons, contains_head, Contains-none, place}
 use Rattle.lalrpop_tables.proofs.theory.follow_sets.Lookbacks.{note_both}
-use Rattle.lalrpop_tables.proofs.theory.lists.Places.{contains_at, push_cases, same_some, slice_get-longer, slice_get-push_at}
+use Rattle.lalrpop_base.proofs.theory.lists.Places.{contains_at, push_cases, same_some, slice_get-longer, slice_get-push_at}
 
 -- the finished items of a state, with nodes
 abbrev Entries : Type 0

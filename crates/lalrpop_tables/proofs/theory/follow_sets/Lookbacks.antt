@@ -9,10 +9,10 @@ use Rattle.lalrpop_tables.specs.follow_sets.FollowWalks.{AreEmptyLists, EndsAt, 
 use Rattle.lalrpop_tables.specs.grammars.Numbering.{with_dot}
 use Rattle.lalrpop_tables.specs.declared.lane_table.follow_sets.pass.Pass.{Pass}
 use Rattle.lalrpop_tables.proofs.theory.follow_sets.FollowSteps.{those_pushed}
-use Rattle.lalrpop_tables.proofs.theory.lists.Lists.{Contains-none}
-use Rattle.lalrpop_tables.proofs.theory.collapse.Merging.{set_elsewhere, set_here, set_length}
+use Rattle.lalrpop_base.proofs.theory.lists.Members.{Contains-none}
+use Rattle.lalrpop_base.proofs.theory.collapse.Merging.{set_elsewhere, set_here, set_length}
 use Rattle.lalrpop_tables.proofs.theory.grammars.Numbers.{dotted_differ}
-use Rattle.lalrpop_tables.proofs.theory.lists.Places.{one_place, places_apart, push_cases, same_some, slice_get_at}
+use Rattle.lalrpop_base.proofs.theory.lists.Places.{one_place, places_apart, push_cases, same_some, slice_get_at}
 
 -- the finished items of a state, with nodes
 abbrev Entries : Type 0

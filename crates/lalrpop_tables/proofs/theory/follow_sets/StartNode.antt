@@ -12,8 +12,8 @@ use Rattle.lalrpop_tables.specs.follow_sets.FollowNodes.{AreNodes, AreTransition
 use Rattle.lalrpop_tables.specs.states.NumberedStates.{transitions_at}
 use Rattle.lalrpop_tables.specs.declared.lane_table.follow_sets.nodes.Nodes.{Nodes}
 use Rattle.lalrpop_tables.specs.declared.lane_table.follow_sets.numbered_state.NumberedState.{NumberedState}
-use Rattle.lalrpop_tables.proofs.theory.lists.Lists.{contains_head}
-use Rattle.lalrpop_tables.proofs.theory.lists.Places.{contains_at, push_cases, slice_get-longer}
+use Rattle.lalrpop_base.proofs.theory.lists.Members.{contains_head}
+use Rattle.lalrpop_base.proofs.theory.lists.Places.{contains_at, push_cases, slice_get-longer}
 
 -- what is told of a value that is there
 pub of_some : {X : Type 0} (P : X → Type 0) (o : Option X) → is_some o ≡ true → IfSome o P → (x : X) × P x

@@ -13,7 +13,7 @@ use Rattle.lalrpop_tables.specs.states.NumberedStates.{EdgesAscend, listed_trans
 use Rattle.lalrpop_tables.specs.grammars.Numbers.{SymbolsAscend}
 use Rattle.lalrpop_tables.specs.declared.lane_table.follow_sets.numbered_state.NumberedState.{NumberedState}
 use Rattle.lalrpop_tables.proofs.theory.states.NonterminalEdges.{Listed-at, pair_at, pairs_differ}
-use Rattle.lalrpop_tables.proofs.theory.lists.Places.{push_cases, slice_get-longer, slice_get-push_at, slice_get-append_behind}
+use Rattle.lalrpop_base.proofs.theory.lists.Places.{push_cases, slice_get-longer, slice_get-push_at, slice_get-append_behind}
 
 -- a transition is one of a state
 pub record IsEdgeOf (o : Option NumberedState) (place : ℕ) (e : ℕ × ℕ) : Type 0 where

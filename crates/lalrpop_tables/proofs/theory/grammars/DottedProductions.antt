@@ -13,15 +13,16 @@ use Rattle.lalrpop_base.specs.Words.{Dotted, IsLess, Rules}
 use Rattle.lalrpop_base.specs.declared.lookahead.nil.Nil.{Nil}
 use Rattle.lalrpop_base.specs.declared.repr.Production.{Production}
 use Rattle.lalrpop_base.specs.contracts.lookahead.nil.NilOrd.TheImpl as nil_ord
-use Rattle.lalrpop_base.proofs.theory.ConflictLists.{ordered-head, ordered-tail, ordered-nil, ordered-append}
-use Rattle.lalrpop_tables.specs.lists.CheckSets.{IsAdded}
+use Rattle.lalrpop_base.proofs.theory.conflicts.ConflictLists.{ordered-head, ordered-tail, ordered-nil, ordered-append}
+use Rattle.lalrpop_base.specs.lists.CheckSets.{IsAdded}
 use Rattle.lalrpop_tables.specs.grammars.Numbering.{AddsThose, IsStartOf, all_dots, with_dot, with_dots}
 use Rattle.lalrpop_tables.specs.grammars.Numbers.{AreItemsOf, MovesToNext}
-use Rattle.lalrpop_tables.specs.Words.{Ascend, Precedes, item_of, moved, production_order}
-use Rattle.lalrpop_tables.proofs.theory.grammars.Ascending.{Table-ascend}
-use Rattle.lalrpop_tables.proofs.theory.states.Bounded.{in_flat_map}
-use Rattle.lalrpop_tables.proofs.theory.lists.Lists.{contains-cons, contains_head, Contains-none, contains_tail, place, of_flat}
-use Rattle.lalrpop_tables.proofs.theory.lists.Places.{contains_at, same_some, slice_get-longer, slice_get_at}
+use Rattle.lalrpop_base.specs.Words.{Ascend, Precedes, item_of, production_order}
+use Rattle.lalrpop_tables.specs.Words.{moved}
+use Rattle.lalrpop_base.proofs.theory.grammars.AscendingItems.{Table-ascend}
+use Rattle.lalrpop_base.proofs.theory.lists.Bounded.{in_flat_map}
+use Rattle.lalrpop_base.proofs.theory.lists.Members.{contains-cons, contains_head, Contains-none, contains_tail, place, of_flat}
+use Rattle.lalrpop_base.proofs.theory.lists.Places.{contains_at, same_some, slice_get-longer, slice_get_at}
 
 -- ---- values put into a list
 module _ {X : Type 0} where

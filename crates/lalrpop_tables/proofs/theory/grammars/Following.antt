@@ -12,7 +12,7 @@ use Rattle.lalrpop_tables.specs.Words.{Gains, Nothing, Visits, IsHere, IsEnd, Is
 use Rattle.lalrpop_tables.specs.declared.lane_table.lane.walk.Walk.{Walk}
 use Rattle.lalrpop_tables.specs.declared.lane_table.table.LaneTable.{LaneTable}
 use Rattle.lalrpop_tables.proofs.theory.lanes.Gains.{Gains-none, Gains-tokens, Gains-same}
-use Rattle.lalrpop_tables.proofs.theory.lists.Places.{filled}
+use Rattle.lalrpop_base.proofs.theory.lists.Places.{filled}
 use Rattle.lalrpop_tables.proofs.theory.lanes.Walks.{Visits-same, Visits-none}
 
 -- ---- the end alone

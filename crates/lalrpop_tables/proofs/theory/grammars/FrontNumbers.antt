@@ -7,8 +7,8 @@ use Rattle.lalrpop_base.specs.declared.lookahead.nil.Nil.{Nil}
 use Rattle.lalrpop_base.specs.declared.repr.NonterminalString.{NonterminalString}
 use Rattle.lalrpop_base.specs.declared.repr.Symbol.TheVariants.{Nonterminal}
 use Rattle.lalrpop_tables.specs.grammars.Numbers.{AreExpansions}
-use Rattle.lalrpop_tables.proofs.theory.lists.Lists.{contains-cons, contains_head, Contains-none}
-use Rattle.lalrpop_tables.proofs.theory.lists.Places.{push_cases, slice_get-longer, slice_get-push_at}
+use Rattle.lalrpop_base.proofs.theory.lists.Members.{contains-cons, contains_head, Contains-none}
+use Rattle.lalrpop_base.proofs.theory.lists.Places.{push_cases, slice_get-longer, slice_get-push_at}
 
 -- no items have none
 pub Fronts-none : (a : NonterminalString) → AreExpansions [] (Nonterminal a) []

@@ -9,16 +9,16 @@ use Rattle.lalrpop_base.specs.Words.{AllDiffer, Dotted}
 use Rattle.lalrpop_base.specs.declared.lookahead.nil.Nil.{Nil}
 use Rattle.lalrpop_base.specs.declared.repr.Symbol.{Symbol}
 use Rattle.lalrpop_base.specs.declared.repr.Symbol.TheVariants.{Nonterminal}
-use Rattle.lalrpop_base.proofs.ContentsViews.{some_of_map}
-use Rattle.lalrpop_tables.specs.lists.CheckSets.{IsAdded}
+use Rattle.lalrpop_base.proofs.theory.states.ContentsViews.{some_of_map}
+use Rattle.lalrpop_base.specs.lists.CheckSets.{IsAdded}
 use Rattle.lalrpop_tables.specs.grammars.Numbering.{AddsStart, AddsThose, AreAllExpansions, AreEmpty, AreNumbersBehind, IsStartFrom, IsNumberOf, lists_of}
 use Rattle.lalrpop_tables.specs.grammars.Numbers.{AreBehindDots, IsNumberBehind, SymbolsAscend, symbol_order}
 use Rattle.lalrpop_tables.specs.Words.{IsBehind}
 use Rattle.lalrpop_tables.proofs.theory.grammars.DottedProductions.{those_none, those_one}
-use Rattle.lalrpop_tables.proofs.theory.lists.Lists.{contains-cons, contains_head, Contains-none, apart-from_sorted}
-use Rattle.lalrpop_tables.proofs.theory.collapse.Merging.{set_elsewhere, set_here}
-use Rattle.lalrpop_tables.proofs.theory.lists.Orders.{symbol_total}
-use Rattle.lalrpop_tables.proofs.theory.lists.Places.{differ_from_apart, filled, one_place, places_apart, push_cases, same_some, slice_get-longer, slice_get-push_at, slice_get_at}
+use Rattle.lalrpop_base.proofs.theory.lists.Members.{contains-cons, contains_head, Contains-none, apart-from_sorted}
+use Rattle.lalrpop_base.proofs.theory.collapse.Merging.{set_elsewhere, set_here}
+use Rattle.lalrpop_base.proofs.theory.lists.Orders.{symbol_total}
+use Rattle.lalrpop_base.proofs.theory.lists.Places.{differ_from_apart, filled, one_place, places_apart, push_cases, same_some, slice_get-longer, slice_get-push_at, slice_get_at}
 
 -- ---- symbols behind dots, put into a set
 pub behind_new : (i : Dotted Nil) (s : Symbol) (old new : List Symbol) → IsBehind s i → IsAdded s old new → AddsThose (λ t. IsBehind t i) old new

@@ -5,14 +5,15 @@ use Rattle.std.proofs.lemmas.Option.{slice_get_within, slice_get-map}
 use Rattle.lalrpop_base.specs.Words.{AllDiffer, Dotted, Ordered, Rules}
 use Rattle.lalrpop_base.specs.declared.lookahead.nil.Nil.{Nil}
 use Rattle.lalrpop_base.specs.declared.repr.Symbol.{Symbol}
-use Rattle.lalrpop_base.proofs.ContentsViews.{some_of_map}
+use Rattle.lalrpop_base.proofs.theory.states.ContentsViews.{some_of_map}
 use Rattle.lalrpop_tables.specs.grammars.Numbers.{AreNumbers, AreNumbered, IsNumberBehind, dotted_at, item_by, items_by}
-use Rattle.lalrpop_tables.specs.Words.{Ascend, IsBehind, Precedes, moved}
+use Rattle.lalrpop_base.specs.Words.{Ascend, Precedes}
+use Rattle.lalrpop_tables.specs.Words.{IsBehind, moved}
 use Rattle.lalrpop_tables.specs.declared.construction.numbered.Numbered.{Numbered}
 use Rattle.lalrpop_tables.specs.declared.construction.numbers.Numbers.{Numbers}
-use Rattle.lalrpop_tables.proofs.theory.grammars.Ascending.{precedes_asymmetric}
-use Rattle.lalrpop_tables.proofs.theory.lists.Lists.{contains_head, contains_tail}
-use Rattle.lalrpop_tables.proofs.theory.lists.Places.{contains_at, places_apart, same_some}
+use Rattle.lalrpop_base.proofs.theory.grammars.AscendingItems.{precedes_asymmetric}
+use Rattle.lalrpop_base.proofs.theory.lists.Members.{contains_head, contains_tail}
+use Rattle.lalrpop_base.proofs.theory.lists.Places.{contains_at, places_apart, same_some}
 
 -- ---- a dotted production by its number
 pub at_number : (items : List (Dotted Nil)) (k : ℕ) (i : Dotted Nil) → slice_get items k ≡ Some i → dotted_at items k ≡ i

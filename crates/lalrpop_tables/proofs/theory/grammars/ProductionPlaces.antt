@@ -8,11 +8,11 @@ use Rattle.lalrpop_base.specs.declared.lookahead.nil.Nil.{Nil}
 use Rattle.lalrpop_base.specs.declared.repr.Production.{Production}
 use Rattle.lalrpop_tables.specs.grammars.Numbering.{with_dot}
 use Rattle.lalrpop_tables.specs.grammars.Numbers.{AreItemsOf, MovesToNext}
-use Rattle.lalrpop_tables.specs.Words.{Ascend, Precedes, production_order}
-use Rattle.lalrpop_tables.proofs.theory.grammars.Ascending.{less_apart, less_asymmetric, production_total}
-use Rattle.lalrpop_tables.proofs.theory.lists.Lists.{place}
+use Rattle.lalrpop_base.specs.Words.{Ascend, Precedes, production_order}
+use Rattle.lalrpop_base.proofs.theory.grammars.AscendingItems.{less_apart, less_asymmetric, production_total}
+use Rattle.lalrpop_base.proofs.theory.lists.Members.{place}
 use Rattle.lalrpop_tables.proofs.theory.states.NumberedItems.{items_differ}
-use Rattle.lalrpop_tables.proofs.theory.lists.Places.{contains_at, one_place, places_apart, same_some}
+use Rattle.lalrpop_base.proofs.theory.lists.Places.{contains_at, one_place, places_apart, same_some}
 
 -- an item stands before none of a lesser production
 before_no_lesser : (a b : Dotted Nil) → Precedes a b → production_order b.production a.production ≡ Less → ⊥

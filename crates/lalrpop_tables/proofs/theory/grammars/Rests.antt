@@ -4,19 +4,19 @@ use Rattle.std.specs.Prelude.{slice_get, Option, Some, not, ◌&&◌, ◌==◌}
 use Rattle.std.proofs.lemmas.Bool.{cases_lt, true≢false}
 use Rattle.std.proofs.lemmas.List.{length_push}
 use Rattle.std.proofs.lemmas.Option.{slice_get_within}
-use Rattle.lalrpop_base.specs.First.{IsFirstSet}
+use Rattle.lalrpop_base.specs.first.First.{IsFirstSet}
 use Rattle.lalrpop_base.specs.Words.{Bits, Dotted, Rules, has}
 use Rattle.lalrpop_base.specs.declared.lookahead.nil.Nil.{Nil}
 use Rattle.lalrpop_base.specs.declared.repr.NonterminalString.{NonterminalString}
 use Rattle.lalrpop_base.specs.declared.repr.Symbol.{Symbol}
 use Rattle.lalrpop_base.specs.declared.repr.Symbol.TheVariants.{Nonterminal, Terminal}
 use Rattle.lalrpop_base.specs.declared.repr.TerminalString.{TerminalString}
-use Rattle.lalrpop_base.specs.Exact.{both}
+use Rattle.lalrpop_base.specs.lists.Exact.{both}
 use Rattle.lalrpop_tables.specs.grammars.Rests.{AreRests, HasRest, IsRest, IsRestOf}
 use Rattle.lalrpop_tables.specs.declared.construction.numbers.rests.Rest.{Rest}
-use Rattle.lalrpop_tables.proofs.theory.closures.Closing.{drop_split, rest_from, split_drop}
-use Rattle.lalrpop_tables.proofs.theory.lists.Lists.{Contains-none}
-use Rattle.lalrpop_tables.proofs.theory.lists.Places.{contains_at, filled, push_cases, same_some}
+use Rattle.lalrpop_base.proofs.theory.closures.Closing.{drop_split, rest_from, split_drop}
+use Rattle.lalrpop_base.proofs.theory.lists.Members.{Contains-none}
+use Rattle.lalrpop_base.proofs.theory.lists.Places.{contains_at, filled, push_cases, same_some}
 
 -- ---- the rest of one dotted production
 -- nothing is behind a terminal

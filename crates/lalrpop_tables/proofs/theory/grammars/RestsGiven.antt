@@ -7,12 +7,12 @@ use Rattle.lalrpop_base.specs.Words.{Bits, has, has-join, join, HasKnownTerminal
 use Rattle.lalrpop_base.specs.declared.repr.Production.{Production}
 use Rattle.lalrpop_base.specs.declared.repr.Symbol.{Symbol}
 use Rattle.lalrpop_base.specs.declared.repr.TerminalString.{TerminalString}
-use Rattle.lalrpop_tables.specs.closures.Closing.{Begins}
-use Rattle.lalrpop_tables.specs.closures.EpsilonMoves.{IsGiven}
+use Rattle.lalrpop_base.specs.closures.Closing.{Begins}
+use Rattle.lalrpop_base.specs.closures.EpsilonMoves.{IsGiven}
 use Rattle.lalrpop_tables.specs.grammars.Rests.{IsRest}
 use Rattle.lalrpop_tables.specs.declared.construction.numbers.rests.Rest.{Rest}
 use Rattle.lalrpop_tables.proofs.theory.closures.EpsilonMoves.{First-holds}
-use Rattle.lalrpop_tables.proofs.theory.lists.Places.{same_some}
+use Rattle.lalrpop_base.proofs.theory.lists.Places.{same_some}
 
 module _ (g : Rules) (symbols : List Symbol) (rest : Rest) (is : IsRest g symbols rest) where
   -- a bit of the rest is that of a terminal with which the symbols can begin

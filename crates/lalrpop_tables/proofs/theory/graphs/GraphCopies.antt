@@ -15,17 +15,19 @@ use Rattle.lalrpop_base.specs.declared.repr.NonterminalString.{NonterminalString
 use Rattle.lalrpop_base.specs.declared.repr.Symbol.{Symbol}
 use Rattle.lalrpop_base.specs.declared.repr.Symbol.TheVariants.{Nonterminal, Terminal}
 use Rattle.lalrpop_base.specs.declared.repr.TerminalString.{TerminalString}
-use Rattle.lalrpop_base.proofs.ContentsViews.{contains_of_map}
-use Rattle.lalrpop_tables.specs.Words.{AreCopies, Edge, edge, edges, edges_from, edges_of, goto_edges, HasTransition, index, IsGraphOf, number_in, origin_of, origins}
-use Rattle.lalrpop_tables.specs.Words.{origins_of, retargeted, retargeted_all, shift_edges, targets_from, targets_of}
+use Rattle.lalrpop_base.proofs.theory.states.ContentsViews.{contains_of_map}
+use Rattle.lalrpop_base.specs.Words.{number_in}
+use Rattle.lalrpop_tables.specs.Words.{AreCopies, Edge, edge, edges, edges_from, edges_of, goto_edges, HasTransition, index, IsGraphOf, origin_of, origins}
+use Rattle.lalrpop_base.specs.Words.{retargeted, retargeted_all}
+use Rattle.lalrpop_tables.specs.Words.{origins_of, shift_edges, targets_from, targets_of}
 use Rattle.lalrpop_tables.specs.graphs.GraphCopies.{Origin, retraced, without, moved, followed_all, FollowsInTurn, StandAmong, FollowsEdges}
 use Rattle.lalrpop_tables.specs.graphs.StateGraph.{target_of, nothing, IsChangedAt, IsListedAt}
 use Rattle.lalrpop_tables.specs.declared.state_graph.StateGraph.{StateGraph}
-use Rattle.lalrpop_tables.proofs.theory.closures.Closing.{drop_split}
+use Rattle.lalrpop_base.proofs.theory.closures.Closing.{drop_split}
 use Rattle.lalrpop_tables.proofs.theory.states.EdgeLeads.{of_state, source_from}
 use Rattle.lalrpop_tables.proofs.theory.merges.LaneCopies.{number_at}
-use Rattle.lalrpop_tables.proofs.theory.lists.Lists.{contains_head, contains_tail, contains_map, place}
-use Rattle.lalrpop_tables.proofs.theory.lists.Places.{same_some, slice_get_at, filled, slice_get-drop}
+use Rattle.lalrpop_base.proofs.theory.lists.Members.{contains_head, contains_tail, contains_map, place}
+use Rattle.lalrpop_base.proofs.theory.lists.Places.{same_some, slice_get_at, filled, slice_get-drop}
 use Rattle.lalrpop_tables.proofs.theory.graphs.StateGraphs.{edges_more, map_cond, targets_append}
 use Rattle.lalrpop_tables.proofs.theory.graphs.MovedOrigins.{HaveApartSymbols, all_followed, followed_append}
 

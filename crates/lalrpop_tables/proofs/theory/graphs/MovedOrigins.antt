@@ -10,11 +10,12 @@ use Rattle.lalrpop_base.specs.contracts.repr.SymbolEq.TheImpl.Laws as symbol_equ
 use Rattle.lalrpop_base.specs.contracts.exact.SymbolExact.TheImpl as symbol_exactly
 use Rattle.lalrpop_base.specs.declared.lr1_core.state.StateIndex.{StateIndex}
 use Rattle.lalrpop_base.specs.declared.repr.Symbol.{Symbol}
-use Rattle.lalrpop_base.proofs.ContentsViews.{contains_of_map}
-use Rattle.lalrpop_tables.specs.Words.{Edge, edge, list_at, number_in, origin_of, origins}
+use Rattle.lalrpop_base.proofs.theory.states.ContentsViews.{contains_of_map}
+use Rattle.lalrpop_base.specs.Words.{number_in}
+use Rattle.lalrpop_tables.specs.Words.{Edge, edge, list_at, origin_of, origins}
 use Rattle.lalrpop_tables.specs.graphs.GraphCopies.{Origin, retraced, is_other, without, moved, followed, followed_all}
 use Rattle.lalrpop_tables.specs.graphs.StateGraph.{IsChangedAt}
-use Rattle.lalrpop_tables.proofs.theory.lists.Lists.{contains-cons, contains_head, Contains-none, contains_tail}
+use Rattle.lalrpop_base.proofs.theory.lists.Members.{contains-cons, contains_head, Contains-none, contains_tail}
 use Rattle.lalrpop_tables.proofs.theory.graphs.StateGraphs.{list_changed, list_past, list_there, origins_append}
 
 -- ---- a list that a function changes

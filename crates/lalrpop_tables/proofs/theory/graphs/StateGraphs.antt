@@ -18,8 +18,8 @@ use Rattle.lalrpop_tables.specs.Words.{Edge, edges, edges_of, edges_from, target
 use Rattle.lalrpop_tables.specs.Words.{with_symbol, AreSameLists, IsGrown, IsGraphOf, IsListedAt}
 use Rattle.lalrpop_tables.specs.graphs.StateGraph.{target_of}
 use Rattle.lalrpop_tables.specs.declared.state_graph.StateGraph.{StateGraph}
-use Rattle.lalrpop_tables.proofs.theory.collapse.Merging.{set_here, set_elsewhere}
-use Rattle.lalrpop_tables.proofs.theory.lists.Places.{slice_get_at}
+use Rattle.lalrpop_base.proofs.theory.collapse.Merging.{set_here, set_elsewhere}
+use Rattle.lalrpop_base.proofs.theory.lists.Places.{slice_get_at}
 
 pub state_total : IsTotalOrder state_cmp
 state_total = record {

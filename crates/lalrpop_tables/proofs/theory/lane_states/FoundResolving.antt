@@ -5,7 +5,7 @@ use Rattle.std.specs.BTreeMap.{BTreeMap}
 use Rattle.std.proofs.lemmas.Option.{slice_get_within}
 use Rattle.lalrpop_base.specs.Words.{Bits, has, contents, contents_at, Contents, HoldsBit, IsBitOf, leads, place_in, Rules}
 use Rattle.lalrpop_base.specs.Words.{Action, Shift, Reduce}
-use Rattle.lalrpop_base.specs.StateConflicts.{HasNoConflict}
+use Rattle.lalrpop_base.specs.conflicts.StateConflicts.{HasNoConflict}
 use Rattle.lalrpop_base.specs.declared.lookahead.token.Token.{Token}
 use Rattle.lalrpop_base.specs.declared.lookahead.token.Token.TheVariants.{Terminal as TokenOf}
 use Rattle.lalrpop_base.specs.declared.lr1_core.state.Items.{Items}
@@ -16,9 +16,10 @@ use Rattle.lalrpop_base.specs.declared.repr.Production.{Production}
 use Rattle.lalrpop_base.specs.declared.repr.Symbol.{Symbol}
 use Rattle.lalrpop_base.specs.declared.repr.Symbol.TheVariants.{Terminal}
 use Rattle.lalrpop_base.specs.declared.repr.TerminalString.{TerminalString}
-use Rattle.lalrpop_base.proofs.ContentsViews.{at_contains, contains_at}
-use Rattle.lalrpop_base.proofs.HeldTokens.{place_there}
-use Rattle.lalrpop_tables.specs.Words.{AreLaneStates, by, dot_of, HasLookaheadBits, IsLaneAction, IsLookahead, IsResolved, IsResolvedAt, IsStep, LanesMeet, places_in}
+use Rattle.lalrpop_base.proofs.theory.states.ContentsViews.{at_contains, contains_at}
+use Rattle.lalrpop_base.proofs.theory.sets.HeldTokens.{place_there}
+use Rattle.lalrpop_base.specs.Words.{HasLookaheadBits, IsLookahead}
+use Rattle.lalrpop_tables.specs.Words.{AreLaneStates, by, dot_of, IsLaneAction, IsResolved, IsResolvedAt, IsStep, LanesMeet, places_in}
 use Rattle.lalrpop_tables.specs.follow_sets.FollowWalks.{AreUnions, entries_at, HoldsSomeOf, ShareBits, with_first, with_other}
 use Rattle.lalrpop_tables.specs.lane_states.FoundLookaheads.{IsFoundAt, with_sets}
 use Rattle.lalrpop_tables.specs.declared.lane_table.follow_sets.found.Found.{Found}
@@ -31,8 +32,8 @@ use Rattle.lalrpop_tables.proofs.theory.lane_states.LaneLoop.{set_step}
 use Rattle.lalrpop_tables.proofs.theory.lane_states.LanePlaces.{AreSamePlaces, lane_there, places_same}
 use Rattle.lalrpop_tables.proofs.theory.lane_states.LaneResolved.{one_token, place_itself}
 use Rattle.lalrpop_tables.proofs.theory.lane_states.LaneShape.{here_closed, item_own, reduced_item, reduced_once}
-use Rattle.lalrpop_tables.proofs.theory.collapse.Merging.{set_here}
-use Rattle.lalrpop_tables.proofs.theory.lists.Places.{filled, same_some}
+use Rattle.lalrpop_base.proofs.theory.collapse.Merging.{set_here}
+use Rattle.lalrpop_base.proofs.theory.lists.Places.{filled, same_some}
 use Rattle.lalrpop_tables.proofs.theory.states.StateEdges.{transition_leads}
 
 -- an action of a state is one wherever the places are the same

@@ -6,7 +6,7 @@ use Rattle.lalrpop_base.specs.Words.{Bits}
 use Rattle.lalrpop_base.specs.declared.repr.Production.{Production}
 use Rattle.lalrpop_tables.specs.lane_states.FoundLookaheads.{with_sets}
 use Rattle.lalrpop_tables.specs.Words.{by}
-use Rattle.lalrpop_tables.proofs.theory.lists.Places.{same_some}
+use Rattle.lalrpop_base.proofs.theory.lists.Places.{same_some}
 
 -- a reduction of a state: its tokens and its production
 abbrev pub CodeReduction : Type 0

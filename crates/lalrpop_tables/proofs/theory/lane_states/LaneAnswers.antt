@@ -6,9 +6,9 @@ use Rattle.std.proofs.lemmas.Option.{slice_get_within}
 use Rattle.lalrpop_base.specs.Words.{Bits, contents, contents_at, holds_token, reduction_of, IsOnNoRightSide, behind_parent, of_start, IsLaneToken}
 use Rattle.lalrpop_base.specs.Words.{HoldLaneTokens, HoldLalrTokens, AllDiffer, Contents, state_after, HasRightItems, IsBitOf, Action, Shift, Reduce}
 use Rattle.lalrpop_base.specs.Words.{IsLalrAction, IsLALR1, Rules, rules_of, productions, IsWellFormed}
-use Rattle.lalrpop_base.specs.Conflicts.{HasNoConflict as HoldsNoConflict}
-use Rattle.lalrpop_base.specs.Lanes.{Gives}
-use Rattle.lalrpop_base.specs.States.{Reduction}
+use Rattle.lalrpop_base.specs.conflicts.Conflicts.{HasNoConflict as HoldsNoConflict}
+use Rattle.lalrpop_base.specs.lanes.Lanes.{Gives}
+use Rattle.lalrpop_base.specs.states.States.{Reduction}
 use Rattle.lalrpop_base.specs.declared.lookahead.token.Token.{Token}
 use Rattle.lalrpop_base.specs.declared.lookahead.token.Token.TheVariants.{Terminal as TokenOf}
 use Rattle.lalrpop_base.specs.declared.lr1_core.state.State.{State}
@@ -17,22 +17,23 @@ use Rattle.lalrpop_base.specs.declared.repr.Production.{Production}
 use Rattle.lalrpop_base.specs.declared.repr.Symbol.{Symbol}
 use Rattle.lalrpop_base.specs.declared.repr.Symbol.TheVariants.{Nonterminal, Terminal}
 use Rattle.lalrpop_base.specs.declared.repr.grammar.Grammar.{Grammar}
-use Rattle.lalrpop_base.proofs.ContentsViews.{contains_of_map}
-use Rattle.lalrpop_base.proofs.HeldTokens.{holds_has, place_there}
-use Rattle.lalrpop_base.proofs.theory.Lanes.{lane_tokens, lanes_faithful}
-use Rattle.lalrpop_base.proofs.theory.LalrStates.{no_conflict_lalr}
-use Rattle.lalrpop_base.proofs.theory.LaneTables.{lanes_checked}
-use Rattle.lalrpop_base.proofs.theory.RightStates.{edges_awaited, reductions_valid}
-use Rattle.lalrpop_base.proofs.theory.Lanes.{items_at}
+use Rattle.lalrpop_base.proofs.theory.states.ContentsViews.{contains_of_map}
+use Rattle.lalrpop_base.proofs.theory.sets.HeldTokens.{holds_has, place_there}
+use Rattle.lalrpop_base.proofs.theory.lanes.Lanes.{lane_tokens, lanes_faithful}
+use Rattle.lalrpop_base.proofs.theory.collapse.LalrStates.{no_conflict_lalr}
+use Rattle.lalrpop_base.proofs.theory.lanes.LaneTables.{lanes_checked}
+use Rattle.lalrpop_base.proofs.theory.states.RightStates.{edges_awaited, reductions_valid}
+use Rattle.lalrpop_base.proofs.theory.lanes.Lanes.{items_at}
 use Rattle.lalrpop_tables.specs.Words.{AreLaneStates, HasLaneBits, IsResolved, IsLaneAction, LanesMeet, HaveMeetingLanes, IsStep, AreLaneTables}
-use Rattle.lalrpop_tables.specs.Words.{AreLalrLaneTables, places_in, HaveNoConflict}
+use Rattle.lalrpop_base.specs.Words.{HaveNoConflict}
+use Rattle.lalrpop_tables.specs.Words.{AreLalrLaneTables, places_in}
 use Rattle.lalrpop_tables.specs.declared.construction.numbers.Numbers.{Numbers}
 use Rattle.lalrpop_tables.specs.declared.lane_table.follow_sets.found.Found.{Found}
 use Rattle.lalrpop_tables.specs.declared.lane_table.follow_sets.numbered_state.NumberedState.{NumberedState}
 use Rattle.lalrpop_tables.proofs.theory.lane_states.LaneLoop.{AreResolvedTo}
 use Rattle.lalrpop_tables.proofs.theory.conflicts.ConflictFree.{nowhere_conflict, free_contents}
-use Rattle.lalrpop_tables.proofs.theory.grammars.Grammars.{known_symbols, known_rest}
-use Rattle.lalrpop_tables.proofs.theory.grammars.KnownTerminals.{begun_bit}
+use Rattle.lalrpop_base.proofs.theory.grammars.Grammars.{known_symbols, known_rest}
+use Rattle.lalrpop_base.proofs.theory.grammars.KnownTerminals.{begun_bit}
 use Rattle.lalrpop_tables.proofs.theory.lane_states.LanePlaces.{places_same, lane_there}
 use Rattle.lalrpop_tables.proofs.theory.lane_states.LaneResolved.{one_token, place_itself}
 use Rattle.lalrpop_tables.proofs.theory.lane_states.LaneShape.{lane_shape, item_own, right_at, reducing_reached, here_lr0, here_closed, here_reduces}

@@ -11,9 +11,9 @@ use Rattle.lalrpop_base.specs.declared.repr.Production.{Production}
 use Rattle.lalrpop_base.specs.declared.repr.Symbol.{Symbol}
 use Rattle.lalrpop_base.specs.declared.repr.Symbol.TheVariants.{Nonterminal, Terminal}
 use Rattle.lalrpop_base.specs.declared.repr.TerminalString.{TerminalString}
-use Rattle.lalrpop_base.proofs.ContentsViews.{some_of_map}
+use Rattle.lalrpop_base.proofs.theory.states.ContentsViews.{some_of_map}
 use Rattle.lalrpop_tables.specs.Words.{dot_of, by, HasSamePlace, HaveSamePlaces, Edge, edges_of, edges_from, edges, shift_edges, goto_edges}
-use Rattle.lalrpop_tables.proofs.theory.lists.Places.{filled}
+use Rattle.lalrpop_base.proofs.theory.lists.Places.{filled}
 
 -- what stands in the second list stands in the first, where their images are one
 pub stands : {X Y Z : Type 0} (f : X → Z) (h : Y → Z) (xs : List X) (ys : List Y) → map h ys ≡ map f xs → (k : ℕ) (y : Y) → slice_get ys k ≡ Some y → (x : X) × (slice_get xs k ≡ Some x) × (f x ≡ h y)

@@ -8,9 +8,9 @@ use Rattle.lalrpop_base.specs.declared.lr1_core.state.State.{State}
 use Rattle.lalrpop_base.specs.declared.repr.NonterminalString.{NonterminalString}
 use Rattle.lalrpop_base.specs.declared.repr.Production.{Production}
 use Rattle.lalrpop_base.specs.declared.repr.Symbol.{Symbol}
-use Rattle.lalrpop_base.proofs.theory.Closures.{reached_at}
-use Rattle.lalrpop_base.proofs.theory.Lists.{grown}
-use Rattle.lalrpop_base.proofs.theory.Valid.{of_grammar}
+use Rattle.lalrpop_base.proofs.theory.closures.Closures.{reached_at}
+use Rattle.lalrpop_base.proofs.theory.lists.Lists.{grown}
+use Rattle.lalrpop_base.proofs.theory.closures.Valid.{of_grammar}
 use Rattle.lalrpop_tables.specs.follow_sets.FollowNodes.{AreAllReached, AreOfGrammar}
 use Rattle.lalrpop_tables.specs.follow_sets.FollowWalks.{FindsLookaheads}
 use Rattle.lalrpop_tables.specs.lane_states.FoundLookaheads.{IsFoundAt}

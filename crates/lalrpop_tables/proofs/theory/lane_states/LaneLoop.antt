@@ -19,8 +19,8 @@ use Rattle.lalrpop_tables.proofs.theory.lane_states.FoundPlaces.{finds_on, numbe
 use Rattle.lalrpop_tables.proofs.theory.lane_states.LaneCoherent.{edges_there, old_at}
 use Rattle.lalrpop_tables.proofs.theory.lane_states.LanePlaces.{AreSamePlaces, same_turned, places_same, lane_there}
 use Rattle.lalrpop_tables.proofs.theory.lane_states.LaneResolved.{place_itself}
-use Rattle.lalrpop_tables.proofs.theory.collapse.Merging.{set_here, set_elsewhere, set_length}
-use Rattle.lalrpop_tables.proofs.theory.lists.Places.{same_some, places_apart}
+use Rattle.lalrpop_base.proofs.theory.collapse.Merging.{set_here, set_elsewhere, set_length}
+use Rattle.lalrpop_base.proofs.theory.lists.Places.{same_some, places_apart}
 
 -- places of places
 pub place_on : {K L M : Type 0} (a : State K) (b : State L) (c : State M) → HasSamePlace a b → HasSamePlace b c → HasSamePlace a c

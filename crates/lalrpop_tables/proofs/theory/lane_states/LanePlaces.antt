@@ -6,8 +6,8 @@ use Rattle.std.proofs.lemmas.Option.{slice_get_within, slice_get-map}
 use Rattle.lalrpop_base.specs.Words.{AreClosed, number_of, reduction_of, contents_of, contents_at, contents_in, IsCopying, AreLr0, LeadsBack, to_parent}
 use Rattle.lalrpop_base.specs.Words.{behind_parent, of_start, IsTracedTo, itself, back, IsLaneToken, Contents, leads, onward, state_from, state_after}
 use Rattle.lalrpop_base.specs.Words.{IsBehindDot, LeadsOverDots, HasNoRepeat, ReducesFinished, HasRightItems, name_cmp}
-use Rattle.lalrpop_base.specs.Lanes.{over_edge, Gives}
-use Rattle.lalrpop_base.specs.States.{Reduction}
+use Rattle.lalrpop_base.specs.lanes.Lanes.{over_edge, Gives}
+use Rattle.lalrpop_base.specs.states.States.{Reduction}
 use Rattle.lalrpop_base.specs.declared.lookahead.token.Token.{Token}
 use Rattle.lalrpop_base.specs.declared.lr1_core.state.State.{State}
 use Rattle.lalrpop_base.specs.declared.lr1_core.state.StateIndex.{StateIndex}
@@ -18,10 +18,10 @@ use Rattle.lalrpop_base.specs.declared.repr.Symbol.TheVariants.{Nonterminal, Ter
 use Rattle.lalrpop_base.specs.declared.repr.TerminalString.{TerminalString}
 use Rattle.lalrpop_base.specs.contracts.repr.TerminalStringOrd.TheImpl as terminal_ord
 use Rattle.std.specs.BTreeMap.{BTreeMap, get}
-use Rattle.lalrpop_base.proofs.ContentsViews.{some_of_map, contains_of_map, contains_map}
-use Rattle.lalrpop_base.proofs.theory.Copies.{copies_closed}
+use Rattle.lalrpop_base.proofs.theory.states.ContentsViews.{some_of_map, contains_of_map, contains_map}
+use Rattle.lalrpop_base.proofs.theory.states.Copies.{copies_closed}
 use Rattle.lalrpop_tables.specs.Words.{by, HasSamePlace, HaveSamePlaces}
-use Rattle.lalrpop_tables.proofs.theory.lists.Places.{filled}
+use Rattle.lalrpop_base.proofs.theory.lists.Places.{filled}
 
 abbrev pub produced : Reduction → Production
 produced r = r.production

@@ -10,11 +10,12 @@ use Rattle.lalrpop_base.specs.declared.lr1_core.state.State.{State}
 use Rattle.lalrpop_base.specs.declared.repr.NonterminalString.{NonterminalString}
 use Rattle.lalrpop_base.specs.declared.repr.Production.{Production}
 use Rattle.lalrpop_base.specs.declared.repr.TerminalString.{TerminalString}
-use Rattle.lalrpop_base.proofs.ContentsViews.{contains_of_map}
+use Rattle.lalrpop_base.proofs.theory.states.ContentsViews.{contains_of_map}
 use Rattle.lalrpop_tables.specs.Words.{dot_of, by, HasSamePlace, HaveSamePlaces, AreLaneStates, IsFull, HaveFullItems, HoldsAll, promoted_item}
-use Rattle.lalrpop_tables.specs.Words.{promoted_reduction, IsPromoted, AreLr0States}
-use Rattle.lalrpop_tables.proofs.theory.lists.Places.{same_some}
-use Rattle.lalrpop_tables.proofs.theory.lists.Lists.{zipped_length}
+use Rattle.lalrpop_base.specs.Words.{AreLr0States}
+use Rattle.lalrpop_tables.specs.Words.{promoted_reduction, IsPromoted}
+use Rattle.lalrpop_base.proofs.theory.lists.Places.{same_some}
+use Rattle.lalrpop_base.proofs.theory.lists.Members.{zipped_length}
 
 -- the pair at a place
 zip_at : {A B : Type 0} (R : A → B → Type 0) (xs : List A) (ys : List B) → AllZip R xs ys → (n : ℕ) (x : A) (y : B) → slice_get xs n ≡ Some x → slice_get ys n ≡ Some y → R x y

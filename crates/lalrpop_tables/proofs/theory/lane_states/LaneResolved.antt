@@ -12,9 +12,10 @@ use Rattle.lalrpop_base.specs.declared.lr1_core.state.Items.{Items}
 use Rattle.lalrpop_base.specs.declared.lr1_core.state.State.{State}
 use Rattle.lalrpop_base.specs.declared.repr.Production.{Production}
 use Rattle.lalrpop_base.specs.declared.repr.TerminalString.{TerminalString}
-use Rattle.lalrpop_tables.specs.Words.{IsApplied, dot_of, by, HasSamePlace, HaveSamePlaces}
+use Rattle.lalrpop_base.specs.Words.{IsApplied}
+use Rattle.lalrpop_tables.specs.Words.{dot_of, by, HasSamePlace, HaveSamePlaces}
 use Rattle.lalrpop_tables.proofs.theory.lanes.LaneAsked.{CodeReduction}
-use Rattle.lalrpop_tables.proofs.theory.lists.Places.{same_some}
+use Rattle.lalrpop_base.proofs.theory.lists.Places.{same_some}
 
 -- a bit is that of one token
 pub one_token : (terminals : List TerminalString) (t u : Token) (bit : ℕ) → IsBitOf terminals t bit → IsBitOf terminals u bit → t ≡ u

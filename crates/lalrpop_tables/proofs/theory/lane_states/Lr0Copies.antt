@@ -14,10 +14,12 @@ use Rattle.lalrpop_base.specs.declared.repr.NonterminalString.{NonterminalString
 use Rattle.lalrpop_base.specs.declared.repr.Production.{Production}
 use Rattle.lalrpop_base.specs.declared.repr.Symbol.{Symbol}
 use Rattle.lalrpop_base.specs.declared.repr.Symbol.TheVariants.{Nonterminal, Terminal}
-use Rattle.lalrpop_base.proofs.ContentsViews.{contains_at, at_contains}
-use Rattle.lalrpop_base.proofs.theory.Copies.{copies_closed}
-use Rattle.lalrpop_tables.specs.Words.{AreActions, AreClosedTables, AreCopiedConflicts, AreCopiedTables, AreCopies, AreLaneStates, AreLaneTables, AreLr0Copies, HaveNoConflict}
-use Rattle.lalrpop_tables.specs.Words.{asked_actions, HaveOwnItems, number_in, ReducesOwn}
+use Rattle.lalrpop_base.proofs.theory.states.ContentsViews.{contains_at, at_contains}
+use Rattle.lalrpop_base.proofs.theory.states.Copies.{copies_closed}
+use Rattle.lalrpop_base.specs.Words.{HaveNoConflict}
+use Rattle.lalrpop_tables.specs.Words.{AreActions, AreClosedTables, AreCopiedConflicts, AreCopiedTables, AreCopies, AreLaneStates, AreLaneTables, AreLr0Copies}
+use Rattle.lalrpop_base.specs.Words.{number_in}
+use Rattle.lalrpop_tables.specs.Words.{asked_actions, HaveOwnItems, ReducesOwn}
 use Rattle.lalrpop_tables.proofs.theory.canonical.CanonicalContents.{nothing_reduced}
 use Rattle.lalrpop_tables.proofs.theory.lanes.LaneAsked.{asked_of}
 use Rattle.lalrpop_tables.proofs.theory.merges.LaneCopies.{copies_coherent, copies_copying}

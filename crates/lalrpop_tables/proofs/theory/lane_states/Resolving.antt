@@ -13,9 +13,11 @@ use Rattle.lalrpop_base.specs.declared.lr1_core.state.State.{State}
 use Rattle.lalrpop_base.specs.declared.lr1_core.state.StateIndex.{StateIndex}
 use Rattle.lalrpop_base.specs.declared.repr.NonterminalString.{NonterminalString}
 use Rattle.lalrpop_base.specs.declared.repr.TerminalString.{TerminalString}
-use Rattle.lalrpop_base.proofs.ContentsViews.{at_contains}
-use Rattle.lalrpop_tables.specs.Words.{Advances, AreActions, AreAmong, AreCopies, AreLr0Copies, IsCopied, IsAttempted, IsCopyOf, IsMerging, IsPatchable, IsResolving}
-use Rattle.lalrpop_tables.specs.Words.{asked_actions, edges, index, IsGraphOf, number_in, retargeted, retargeted_all}
+use Rattle.lalrpop_base.proofs.theory.states.ContentsViews.{at_contains}
+use Rattle.lalrpop_base.specs.Words.{AreAmong}
+use Rattle.lalrpop_tables.specs.Words.{Advances, AreActions, AreCopies, AreLr0Copies, IsCopied, IsAttempted, IsCopyOf, IsMerging, IsPatchable, IsResolving}
+use Rattle.lalrpop_base.specs.Words.{number_in, retargeted, retargeted_all}
+use Rattle.lalrpop_tables.specs.Words.{asked_actions, edges, index, IsGraphOf}
 use Rattle.lalrpop_tables.specs.graphs.GraphCopies.{FollowsCopies}
 use Rattle.lalrpop_tables.specs.declared.lane_table.construct.copying.Copying.{Copying}
 use Rattle.lalrpop_tables.specs.declared.lane_table.construct.merge.Merge.{Merge}
@@ -24,8 +26,8 @@ use Rattle.lalrpop_tables.proofs.theory.lanes.LaneAsked.{asked_some}
 use Rattle.lalrpop_tables.proofs.theory.merges.LaneCopies.{number_at, copies_own, copies_taken, copies_weaker}
 use Rattle.lalrpop_tables.proofs.theory.lane_states.LaneLoop.{graph_on, set_step, step_places}
 use Rattle.lalrpop_tables.proofs.theory.lane_states.LaneResolved.{applied_same}
-use Rattle.lalrpop_tables.proofs.theory.collapse.Merging.{set_here}
-use Rattle.lalrpop_tables.proofs.theory.lists.Places.{filled}
+use Rattle.lalrpop_base.proofs.theory.collapse.Merging.{set_here}
+use Rattle.lalrpop_base.proofs.theory.lists.Places.{filled}
 
 -- ---- copies of copies
 module _ (handed : List (State Bits)) (first second : List ℕ) (middle states : List (State Bits)) (a : AreCopies false handed first middle) (b : AreCopies false middle second states) where

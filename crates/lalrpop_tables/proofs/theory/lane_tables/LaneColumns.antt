@@ -4,13 +4,14 @@ use Rattle.std.specs.Prelude.{Contains, slice_get, Some}
 use Rattle.std.proofs.lemmas.List.Elements.{Contains-append_left, Contains-append_right, Contains-append_cases}
 use Rattle.lalrpop_base.specs.Words.{Bits, has, no_bits, has-no_bits}
 use Rattle.lalrpop_base.specs.declared.lr1_core.state.StateIndex.{StateIndex}
-use Rattle.lalrpop_tables.specs.Words.{HasAt, MeetsOther, IsJoinedIn, Cells, HasIn, AreGathered, ThisRow, column, AreColumns, ColumnsOverlap, IsRow}
+use Rattle.lalrpop_base.specs.Words.{HasAt, MeetsOther, IsJoinedIn}
+use Rattle.lalrpop_tables.specs.Words.{Cells, HasIn, AreGathered, ThisRow, column, AreColumns, ColumnsOverlap, IsRow}
 use Rattle.lalrpop_tables.specs.Words.{RowOverlaps}
 use Rattle.lalrpop_tables.specs.declared.lane_table.context_set.ConflictIndex.{ConflictIndex}
 use Rattle.lalrpop_tables.specs.declared.lane_table.table.LaneTable.{LaneTable}
-use Rattle.lalrpop_tables.proofs.theory.lane_tables.Contexts.{had_or_joined, still_has, has_joined, still_disjoint}
+use Rattle.lalrpop_base.proofs.theory.lanes.Contexts.{had_or_joined, still_has, has_joined, still_disjoint}
 use Rattle.lalrpop_tables.proofs.theory.lane_tables.LaneTables.{Cell}
-use Rattle.lalrpop_tables.proofs.theory.lists.Lists.{contains_head, contains-cons, Contains-none}
+use Rattle.lalrpop_base.proofs.theory.lists.Members.{contains_head, contains-cons, Contains-none}
 
 -- two columns share a token in the rows
 pub record CellsOverlap (P : StateIndex → Type 0) (cells : Cells) : Type 0 where

@@ -16,14 +16,15 @@ use Rattle.std.proofs.lemmas.Grind.{common_steps}
 use Rattle.std.specs.BTreeSet.{BTreeSet as SortedSet}
 use Rattle.lalrpop_base.specs.Words.{Bits}
 use Rattle.lalrpop_base.specs.declared.lr1_core.state.StateIndex.{StateIndex}
-use Rattle.lalrpop_tables.specs.Words.{AreDisjoint, Cells, AreGathered, ThisRow, Rows, row_at, StandsFor, MakesRow, JoinsRow, MeetsRow, HasCells, AreRowsOf}
+use Rattle.lalrpop_base.specs.Words.{AreDisjoint}
+use Rattle.lalrpop_tables.specs.Words.{Cells, AreGathered, ThisRow, Rows, row_at, StandsFor, MakesRow, JoinsRow, MeetsRow, HasCells, AreRowsOf}
 use Rattle.lalrpop_tables.specs.Words.{Successors, HasNext, AddsRows, column, IsRow, RowOverlaps, HasRow, state_cmp}
 use Rattle.lalrpop_tables.specs.declared.lane_table.context_set.ConflictIndex.{ConflictIndex}
 use Rattle.lalrpop_tables.specs.declared.lane_table.table.LaneTable.{LaneTable}
 use Rattle.lalrpop_tables.proofs.theory.lane_tables.LaneColumns.{CellsOverlap, gathered_none, gathered_past, gathered_more, gathering_overlap, row_of, row_overlaps, in_last, last_in, IsGathering}
 use Rattle.lalrpop_tables.proofs.theory.lane_tables.LaneTables.{Cell, cell_cmp, found_of, lookup_of, tied_is}
-use Rattle.lalrpop_tables.proofs.theory.lists.Lists.{Contains-none, contains_head, contains-cons, contains_map}
-use Rattle.lalrpop_tables.proofs.theory.lists.Places.{same_some}
+use Rattle.lalrpop_base.proofs.theory.lists.Members.{Contains-none, contains_head, contains-cons, contains_map}
+use Rattle.lalrpop_base.proofs.theory.lists.Places.{same_some}
 use Rattle.lalrpop_tables.proofs.theory.graphs.StateGraphs.{state_total}
 
 -- ---- rows by state

@@ -11,7 +11,7 @@ use Rattle.lalrpop_tables.specs.declared.lane_table.table.LaneTable.{LaneTable}
 use Rattle.lalrpop_tables.proofs.theory.lane_tables.LaneColumns.{in_last, last_in}
 use Rattle.lalrpop_tables.proofs.theory.lane_tables.LaneRows.{next_more, next_last}
 use Rattle.lalrpop_tables.proofs.theory.lane_tables.LaneTables.{Cell, key_added}
-use Rattle.lalrpop_tables.proofs.theory.lists.Lists.{Contains-none, contains_head, contains-cons}
+use Rattle.lalrpop_base.proofs.theory.lists.Members.{Contains-none, contains_head, contains-cons}
 
 -- ---- a walk over a list: it holds of what was passed
 pub record HoldsSoFar {X : Type 0} (P : List X → Type 0) (left all : List X) : Type 0 where

@@ -17,15 +17,16 @@ use Rattle.lalrpop_base.specs.Words.{Bits, has, join, has-join, collection_at, P
 use Rattle.std.proofs.lemmas.Bool.{or_cases}
 use Rattle.lalrpop_base.specs.declared.lr1_core.state.StateIndex.{StateIndex}
 use Rattle.lalrpop_base.specs.declared.memory.OutOfMemory.{OutOfMemory}
-use Rattle.lalrpop_tables.specs.Words.{IsJoinedAt, column, AreSameTables, AddsTokens, AddsSuccessor, AreInRange, state_cmp}
-use Rattle.lalrpop_tables.specs.lists.Entries.IsJoinedAt.{fresh, known}
+use Rattle.lalrpop_base.specs.Words.{IsJoinedAt}
+use Rattle.lalrpop_tables.specs.Words.{column, AreSameTables, AddsTokens, AddsSuccessor, AreInRange, state_cmp}
+use Rattle.lalrpop_base.specs.lists.Entries.IsJoinedAt.{fresh, known}
 use Rattle.lalrpop_tables.specs.lane_tables.LaneCells.{AreBelow}
 use Rattle.lalrpop_tables.specs.declared.lane_table.context_set.ConflictIndex.{ConflictIndex}
 use Rattle.lalrpop_tables.specs.declared.lane_table.table.LaneTable.{LaneTable}
-use Rattle.lalrpop_tables.proofs.theory.lists.Lists.{Contains-none, contains_map, insert_key-has, insert_key-kept, insert_key-from}
-use Rattle.lalrpop_tables.proofs.theory.lists.Places.{midst, around, at_midst}
+use Rattle.lalrpop_base.proofs.theory.lists.Members.{Contains-none, contains_map, insert_key-has, insert_key-kept, insert_key-from}
+use Rattle.lalrpop_base.proofs.theory.lists.Places.{midst, around, at_midst}
 use Rattle.lalrpop_tables.proofs.theory.graphs.StateGraphs.{state_total}
-use Rattle.lalrpop_tables.proofs.theory.lists.Updates.{IsInserted, IsReplaced}
+use Rattle.lalrpop_base.proofs.theory.lists.Updates.{IsInserted, IsReplaced}
 
 abbrev pub Cell : Type 0
 Cell = StateIndex × ConflictIndex

@@ -10,7 +10,7 @@ use Rattle.std.proofs.lemmas.List.Elements.{Contains-append_left, Contains-appen
 use Rattle.lalrpop_base.specs.contracts.lr1_core.state.ActionOrd.TheImpl as action_ord
 use Rattle.lalrpop_base.specs.declared.lr1_core.state.Action.{Action}
 use Rattle.lalrpop_tables.specs.Words.{action_order, AreActions}
-use Rattle.lalrpop_tables.proofs.theory.lists.Lists.{Contains-none, contains_head, contains_tail, contains-cons, insert_key-kept, insert_key-from}
+use Rattle.lalrpop_base.proofs.theory.lists.Members.{Contains-none, contains_head, contains_tail, contains-cons, insert_key-kept, insert_key-from}
 
 -- ---- a key goes into a set
 module _ {K : Type 0} (cmp : K → K → Ordering) where

@@ -15,12 +15,13 @@ use Rattle.lalrpop_base.specs.declared.lr1_core.state.State.{State}
 use Rattle.lalrpop_base.specs.declared.lr1_core.state.StateIndex.{StateIndex}
 use Rattle.lalrpop_base.specs.declared.repr.Production.{Production}
 use Rattle.lalrpop_base.specs.declared.repr.TerminalString.{TerminalString}
-use Rattle.lalrpop_base.proofs.ContentsViews.{at_contains, contains_at, contains_of_map, contains_map}
-use Rattle.lalrpop_tables.specs.conflicts.HeldShifts.{IsHeldBit}
-use Rattle.lalrpop_tables.specs.Words.{action_order, AreActions, AreAmong, asked_actions, conflict_actions, IsReductionAt, reduce_action}
-use Rattle.lalrpop_tables.proofs.theory.grammars.Ascending.{production_exact}
-use Rattle.lalrpop_tables.proofs.theory.states.Bounded.{in_flat_map}
-use Rattle.lalrpop_tables.proofs.theory.lists.Lists.{Contains-none, contains_head, contains_tail, contains-cons, of_flat}
+use Rattle.lalrpop_base.proofs.theory.states.ContentsViews.{at_contains, contains_at, contains_of_map, contains_map}
+use Rattle.lalrpop_base.specs.conflicts.HeldShifts.{IsHeldBit}
+use Rattle.lalrpop_base.specs.Words.{AreAmong, IsReductionAt}
+use Rattle.lalrpop_tables.specs.Words.{action_order, AreActions, asked_actions, conflict_actions, reduce_action}
+use Rattle.lalrpop_base.proofs.theory.grammars.AscendingItems.{production_exact}
+use Rattle.lalrpop_base.proofs.theory.lists.Bounded.{in_flat_map}
+use Rattle.lalrpop_base.proofs.theory.lists.Members.{Contains-none, contains_head, contains_tail, contains-cons, of_flat}
 
 abbrev pub CodeReduction : Type 0
 CodeReduction = Bits × Bor Production

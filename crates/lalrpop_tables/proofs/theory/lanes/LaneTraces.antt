@@ -13,14 +13,14 @@ use Rattle.lalrpop_tables.specs.declared.lane_table.lane.ground.Ground.{Ground}
 use Rattle.lalrpop_tables.specs.declared.lane_table.lane.walk.Walk.{Walk}
 use Rattle.lalrpop_tables.specs.declared.lane_table.table.LaneTable.{LaneTable}
 use Rattle.lalrpop_tables.specs.declared.place.Place.{Place}
-use Rattle.lalrpop_tables.proofs.theory.states.Bounded.{in_flat_map}
+use Rattle.lalrpop_base.proofs.theory.lists.Bounded.{in_flat_map}
 use Rattle.lalrpop_tables.proofs.theory.check.CheckSending.{same_place}
-use Rattle.lalrpop_tables.proofs.theory.closures.Closing.{split_drop}
+use Rattle.lalrpop_base.proofs.theory.closures.Closing.{split_drop}
 use Rattle.lalrpop_tables.proofs.theory.states.EdgeLeads.{leads_within}
 use Rattle.lalrpop_tables.proofs.theory.lanes.Gains.{Gains-none, Gains-then, Gains-same}
 use Rattle.lalrpop_tables.proofs.theory.lanes.GainsSome.{GainsSome-last, GainsSome-none}
-use Rattle.lalrpop_tables.proofs.theory.lists.Lists.{Contains-none, contains_head, contains_tail, contains-cons, contains_map, Contains-range, pigeonhole}
-use Rattle.lalrpop_tables.proofs.theory.lists.Places.{apart_from_differ, filled}
+use Rattle.lalrpop_base.proofs.theory.lists.Members.{Contains-none, contains_head, contains_tail, contains-cons, contains_map, Contains-range, pigeonhole}
+use Rattle.lalrpop_base.proofs.theory.lists.Places.{apart_from_differ, filled}
 use Rattle.lalrpop_tables.proofs.theory.lists.SomeOf.{some_none, some_kept, some_last, some_cases}
 use Rattle.std.proofs.lemmas.List.Elements.{Contains-append_left, Contains-append_right, Contains-append_cases}
 use Rattle.lalrpop_tables.proofs.theory.lanes.Unepsilon.{parent_item}

@@ -14,7 +14,7 @@ use Rattle.lalrpop_tables.specs.declared.lane_table.construct.LaneTableConstruct
 use Rattle.lalrpop_tables.specs.declared.lane_table.lane.LaneTracer.{LaneTracer}
 use Rattle.lalrpop_tables.specs.declared.lane_table.table.LaneTable.{LaneTable}
 use Rattle.lalrpop_tables.proofs.theory.lane_tables.LaneClosed.{more_closed, none_closed, own_row}
-use Rattle.lalrpop_tables.proofs.theory.lists.Places.{push_cases, slice_get-push_at, slice_get-longer}
+use Rattle.lalrpop_base.proofs.theory.lists.Places.{push_cases, slice_get-push_at, slice_get-longer}
 
 -- what the loop keeps: the actions done are traced, and the table is closed
 pub record IsTracing (construct : LaneTableConstruct) (states : List (State Bits)) (s : StateIndex) (actions : List Action) (place : ℕ) (tracer : LaneTracer Bits) (left : List Action) : Type 0 where

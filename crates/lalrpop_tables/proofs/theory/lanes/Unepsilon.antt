@@ -3,7 +3,7 @@ use Rattle.std.proofs.Common.{◌≡◌, ℕ, suc, ◌+◌, ◌⊎◌, inl, inr,
 use Rattle.std.specs.Prelude.{Contains, slice_get}
 use Rattle.lalrpop_base.specs.Words.{contents_at, IsFirst, IsNullable, Dotted, LeadsBack, to_parent, behind_parent, of_start, Contents, IsBehindDot, IsBitOf}
 use Rattle.lalrpop_base.specs.Words.{Rules, rules_of}
-use Rattle.lalrpop_base.specs.Lanes.{Gives}
+use Rattle.lalrpop_base.specs.lanes.Lanes.{Gives}
 use Rattle.lalrpop_base.specs.declared.lookahead.token.Token.{Token}
 use Rattle.lalrpop_base.specs.declared.lookahead.token.Token.TheVariants.{Eof, Terminal as TokenOf}
 use Rattle.lalrpop_base.specs.declared.lr1_core.state.State.{State}
@@ -12,7 +12,7 @@ use Rattle.lalrpop_base.specs.declared.repr.Production.{Production}
 use Rattle.lalrpop_base.specs.declared.repr.Symbol.{Symbol}
 use Rattle.lalrpop_base.specs.declared.repr.Symbol.TheVariants.{Nonterminal}
 use Rattle.lalrpop_base.specs.declared.repr.TerminalString.{TerminalString}
-use Rattle.lalrpop_base.proofs.ContentsViews.{contains_of_map}
+use Rattle.lalrpop_base.proofs.theory.states.ContentsViews.{contains_of_map}
 use Rattle.lalrpop_tables.specs.Words.{at_place, Gains, Nothing, Visits, IsHere, IsEnd, IsEndBit, IsParent, IsFollowBit, IsPassedOn, rest_of, Some_of}
 use Rattle.lalrpop_tables.specs.Words.{GivesCell, GivesBit, GivesSuccessor, GainsOf, GainsSome, GainsSomeOf, VisitsOf, AreInRange, places_in}
 use Rattle.lalrpop_tables.specs.lanes.LaneSteps.{LeadsTo}
@@ -21,10 +21,10 @@ use Rattle.lalrpop_tables.specs.declared.lane_table.lane.walk.Walk.{Walk}
 use Rattle.lalrpop_tables.specs.declared.lane_table.table.LaneTable.{LaneTable}
 use Rattle.lalrpop_tables.specs.declared.place.Place.{Place}
 use Rattle.lalrpop_tables.proofs.theory.check.CheckSending.{same_place}
-use Rattle.lalrpop_tables.proofs.theory.closures.Closing.{drop_split, split_drop}
+use Rattle.lalrpop_base.proofs.theory.closures.Closing.{drop_split, split_drop}
 use Rattle.lalrpop_tables.proofs.theory.lanes.Gains.{Gains-none, Gains-then}
 use Rattle.lalrpop_tables.proofs.theory.lanes.GainsSome.{GainsSome-last, GainsSome-then, GainsSome-all, GainsSome-wider}
-use Rattle.lalrpop_tables.proofs.theory.lists.Lists.{contains_map}
+use Rattle.lalrpop_base.proofs.theory.lists.Members.{contains_map}
 use Rattle.lalrpop_tables.proofs.theory.lists.SomeOf.{some_none, some_kept, some_last, some_cases}
 use Rattle.lalrpop_tables.proofs.theory.lanes.Unshifting.{back_cases}
 use Rattle.lalrpop_tables.proofs.theory.lanes.Walks.{Visits-none, Visits-then, Visits-same}

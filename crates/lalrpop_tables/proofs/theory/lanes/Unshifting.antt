@@ -3,7 +3,7 @@ use Rattle.std.proofs.Common.{◌≡◌, ℕ, suc, ◌-◌, ◌<◌, ◌⊎◌, 
 use Rattle.std.specs.Prelude.{Contains, slice_get}
 use Rattle.std.proofs.lemmas.List.Elements.{Contains-append_right, Contains-append_cases}
 use Rattle.lalrpop_base.specs.Words.{IsNullable, LeadsBack, to_parent, behind_parent, of_start, Contents, leads, rules_of}
-use Rattle.lalrpop_base.specs.Lanes.{over_edge, Gives}
+use Rattle.lalrpop_base.specs.lanes.Lanes.{over_edge, Gives}
 use Rattle.lalrpop_base.specs.declared.lookahead.token.Token.{Token}
 use Rattle.lalrpop_base.specs.declared.lr1_core.state.StateIndex.{StateIndex}
 use Rattle.lalrpop_base.specs.declared.repr.NonterminalString.{NonterminalString}
@@ -18,12 +18,12 @@ use Rattle.lalrpop_tables.specs.declared.lane_table.lane.walk.Walk.{Walk}
 use Rattle.lalrpop_tables.specs.declared.lane_table.table.LaneTable.{LaneTable}
 use Rattle.lalrpop_tables.specs.declared.place.Place.{Place}
 use Rattle.lalrpop_tables.proofs.theory.check.CheckSending.{same_place}
-use Rattle.lalrpop_tables.proofs.theory.closures.Closing.{drop_split, split_drop}
+use Rattle.lalrpop_base.proofs.theory.closures.Closing.{drop_split, split_drop}
 use Rattle.lalrpop_tables.proofs.theory.states.EdgeLeads.{leads_edge}
 use Rattle.lalrpop_tables.proofs.theory.lanes.Gains.{Gains-none, Gains-then, Gains-same}
 use Rattle.lalrpop_tables.proofs.theory.lanes.GainsSome.{GainsSome-last}
-use Rattle.lalrpop_tables.proofs.theory.lists.Lists.{Contains-none, contains_head, contains-cons, Contains-reverse, Contains-from_reverse}
-use Rattle.lalrpop_tables.proofs.theory.lists.Places.{same_some}
+use Rattle.lalrpop_base.proofs.theory.lists.Members.{Contains-none, contains_head, contains-cons, Contains-reverse, Contains-from_reverse}
+use Rattle.lalrpop_base.proofs.theory.lists.Places.{same_some}
 use Rattle.lalrpop_tables.proofs.theory.lists.SomeOf.{some_none, some_kept, some_last, some_cases}
 use Rattle.lalrpop_tables.proofs.theory.graphs.Stepping.{source_edge, edge_source}
 use Rattle.lalrpop_tables.proofs.theory.lanes.Walks.{Visits-none, Visits-then, Visits-same}

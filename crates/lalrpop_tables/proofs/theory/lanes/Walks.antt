@@ -3,10 +3,11 @@ use Rattle.std.proofs.Common.{◌≡◌, ◌+◌, ◌⊎◌, inl, inr, List, [],
 use Rattle.std.specs.Prelude.{Contains}
 use Rattle.std.proofs.lemmas.List.Elements.{Contains-append_left, Contains-append_right, Contains-append_cases}
 use Rattle.lalrpop_base.specs.Words.{AllDiffer}
-use Rattle.lalrpop_tables.specs.Words.{IsAdded, Visits}
+use Rattle.lalrpop_base.specs.lists.CheckSets.{IsAdded}
+use Rattle.lalrpop_tables.specs.Words.{Visits}
 use Rattle.lalrpop_tables.specs.declared.lane_table.lane.walk.Walk.{Walk}
 use Rattle.lalrpop_tables.specs.declared.place.Place.{Place}
-use Rattle.lalrpop_tables.proofs.theory.lists.Lists.{Contains-none, contains_head, contains-cons}
+use Rattle.lalrpop_base.proofs.theory.lists.Members.{Contains-none, contains_head, contains-cons}
 
 -- ---- one place
 module _ (key : Place) (old new : Walk) (added : IsAdded key old.visited.keys new.visited.keys) (differ : AllDiffer new.visited.keys) where

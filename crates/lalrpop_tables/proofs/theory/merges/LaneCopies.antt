@@ -16,12 +16,13 @@ use Rattle.lalrpop_base.specs.declared.repr.Production.{Production}
 use Rattle.lalrpop_base.specs.declared.repr.Symbol.{Symbol}
 use Rattle.lalrpop_base.specs.declared.repr.Symbol.TheVariants.{Nonterminal, Terminal}
 use Rattle.lalrpop_base.specs.declared.repr.TerminalString.{TerminalString}
-use Rattle.lalrpop_base.proofs.ContentsViews.{some_of_map}
-use Rattle.lalrpop_tables.specs.Words.{by, index, AreReductionsOf, IsCopyOf, AreCopies, replaced, IsTaken, number_in, retargeted, retargeted_all}
+use Rattle.lalrpop_base.proofs.theory.states.ContentsViews.{some_of_map}
+use Rattle.lalrpop_base.specs.Words.{number_in, retargeted, retargeted_all}
+use Rattle.lalrpop_tables.specs.Words.{by, index, AreReductionsOf, IsCopyOf, AreCopies, replaced, IsTaken}
 use Rattle.lalrpop_tables.proofs.theory.lane_states.LaneResolved.{by_all}
-use Rattle.lalrpop_tables.proofs.theory.collapse.Merging.{set_here, set_elsewhere, set_length}
-use Rattle.lalrpop_tables.proofs.theory.lists.Orders.{terminal_order}
-use Rattle.lalrpop_tables.proofs.theory.lists.Places.{same_some, slice_get-append_before, slice_get-push_at, slice_get-longer, push_cases, filled}
+use Rattle.lalrpop_base.proofs.theory.collapse.Merging.{set_here, set_elsewhere, set_length}
+use Rattle.lalrpop_base.proofs.theory.lists.Orders.{terminal_order}
+use Rattle.lalrpop_base.proofs.theory.lists.Places.{same_some, slice_get-append_before, slice_get-push_at, slice_get-longer, push_cases, filled}
 
 pub number_at : (xs : List ℕ) (n o : ℕ) → slice_get xs n ≡ Some o → number_in xs n ≡ o
 number_at xs n o at = ap (λ x. unwrap_or x n) at

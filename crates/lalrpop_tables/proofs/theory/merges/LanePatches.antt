@@ -10,14 +10,15 @@ use Rattle.lalrpop_base.specs.declared.lr1_core.state.Action.TheVariants.{Reduce
 use Rattle.lalrpop_base.specs.declared.lr1_core.state.State.{State}
 use Rattle.lalrpop_base.specs.declared.lr1_core.state.StateIndex.{StateIndex}
 use Rattle.lalrpop_base.specs.declared.repr.Production.{Production}
-use Rattle.lalrpop_base.proofs.ContentsViews.{some_of_map}
-use Rattle.lalrpop_tables.specs.Words.{AreAmong, IsReductionAt, TookColumn, IsApplied, by, index, AreCopies, AreTargetsAmong, AreApart, IsMerging}
+use Rattle.lalrpop_base.proofs.theory.states.ContentsViews.{some_of_map}
+use Rattle.lalrpop_base.specs.Words.{AreAmong, IsReductionAt, TookColumn, IsApplied}
+use Rattle.lalrpop_tables.specs.Words.{by, index, AreCopies, AreTargetsAmong, AreApart, IsMerging}
 use Rattle.lalrpop_tables.specs.Words.{IsResolvedCopy, IsTaken, TookOwnColumns, context_of}
 use Rattle.lalrpop_tables.specs.declared.lane_table.construct.merge.context_sets.ContextSets.{ContextSets}
 use Rattle.lalrpop_tables.specs.declared.lane_table.construct.merge.Merge.{Merge}
 use Rattle.lalrpop_tables.proofs.theory.merges.LaneCopies.{copies_taken, copies_weaker, number_at}
 use Rattle.lalrpop_tables.proofs.theory.lane_states.LaneResolved.{lent_same}
-use Rattle.lalrpop_tables.proofs.theory.lists.Places.{same_some, filled}
+use Rattle.lalrpop_base.proofs.theory.lists.Places.{same_some, filled}
 
 -- the copies of the inconsistent state before the place took their columns
 pub record ArePatched (actions : List Action) (old new : Merge) (n : ℕ) : Type 0 where

@@ -11,15 +11,15 @@ use Rattle.std.proofs.lemmas.List.FromFn.{length-map-range_with_len}
 use Rattle.std.proofs.lemmas.Nat.{mul-le}
 use Rattle.std.proofs.lemmas.Option.{slice_get_within}
 use Rattle.lalrpop_base.specs.declared.lr1_core.state.StateIndex.{StateIndex}
-use Rattle.lalrpop_base.proofs.ContentsViews.{contains_of_map}
+use Rattle.lalrpop_base.proofs.theory.states.ContentsViews.{contains_of_map}
 use Rattle.lalrpop_tables.specs.Words.{Advances, HasWalked, HaveNoNewMarks, IsJoinedCopy, IsMerging, IsSuccessor, IsVisited, IsWalked, index, state_cmp, unvisited}
 use Rattle.lalrpop_tables.specs.Words.{ComesTo, HasJoinedBut, IsJoin, IsJoinMade, IsMergeWalk, join_to, joins_to, most_joins}
 use Rattle.lalrpop_tables.specs.declared.lane_table.construct.merge.Merge.{Merge}
 use Rattle.lalrpop_tables.specs.declared.lane_table.construct.merge.walk.Join.{Join}
 use Rattle.lalrpop_tables.specs.declared.lane_table.table.LaneTable.{LaneTable}
-use Rattle.lalrpop_tables.proofs.theory.lists.Lists.{contains_map, Contains-none, Contains-range, Contains-reverse, Contains-from_reverse, apart-from_sorted, pigeonhole}
+use Rattle.lalrpop_base.proofs.theory.lists.Members.{contains_map, Contains-none, Contains-range, Contains-reverse, Contains-from_reverse, apart-from_sorted, pigeonhole}
 use Rattle.lalrpop_tables.proofs.theory.merges.Merges.{advances_on, copy_on, leads_on, mark_advance, mark_cases, mark_less, mark_there, marked, walked_on}
-use Rattle.lalrpop_tables.proofs.theory.lists.Places.{same_some}
+use Rattle.lalrpop_base.proofs.theory.lists.Places.{same_some}
 use Rattle.lalrpop_tables.proofs.theory.graphs.StateGraphs.{state_total}
 
 -- ---- a step of a walk

@@ -13,8 +13,9 @@ use Rattle.lalrpop_base.specs.declared.lr1_core.state.StateIndex.{StateIndex}
 use Rattle.std.proofs.lemmas.Bool.{or_cases}
 use Rattle.std.specs.Map.{keys_of}
 use mathlib.Core.Bool.{true≢false}
-use Rattle.lalrpop_base.proofs.ContentsViews.{contains_of_map}
-use Rattle.lalrpop_tables.specs.Words.{AreDisjoint, HasAt, IsUnion, MeetInUnion, Rows, ColumnsOverlap, HasRow, IsClosed, IsRow, IsSuccessor, RowOverlaps, index}
+use Rattle.lalrpop_base.proofs.theory.states.ContentsViews.{contains_of_map}
+use Rattle.lalrpop_base.specs.Words.{AreDisjoint, HasAt, IsUnion, MeetInUnion}
+use Rattle.lalrpop_tables.specs.Words.{Rows, ColumnsOverlap, HasRow, IsClosed, IsRow, IsSuccessor, RowOverlaps, index}
 use Rattle.lalrpop_tables.specs.Words.{IsVisited, AreCopies, IsContext, IsMerging, IsWalked, Advances, unset, unvisited}
 use Rattle.lalrpop_tables.specs.Words.{AreUnited, IsJoinedCopy, IsApart, set_of, context_of, HasSet, AreJoined, OwnSets}
 use Rattle.lalrpop_tables.specs.merges.Merges.{LeadsTo}
@@ -22,8 +23,8 @@ use Rattle.lalrpop_tables.specs.declared.lane_table.construct.merge.Merge.{Merge
 use Rattle.lalrpop_tables.specs.declared.lane_table.construct.merge.context_sets.ContextSets.{ContextSets}
 use Rattle.lalrpop_tables.specs.declared.lane_table.table.LaneTable.{LaneTable}
 use Rattle.lalrpop_tables.proofs.theory.merges.LaneCopies.{copies_coherent, copies_own, copies_weaker}
-use Rattle.lalrpop_tables.proofs.theory.collapse.Merging.{set_here, set_elsewhere, set_length}
-use Rattle.lalrpop_tables.proofs.theory.lists.Places.{same_some, filled, slice_get-longer, slice_get-push_at, push_cases}
+use Rattle.lalrpop_base.proofs.theory.collapse.Merging.{set_here, set_elsewhere, set_length}
+use Rattle.lalrpop_base.proofs.theory.lists.Places.{same_some, filled, slice_get-longer, slice_get-push_at, push_cases}
 use Rattle.lalrpop_tables.proofs.theory.merges.StateSets.{columns_at}
 
 -- ---- numbers

@@ -5,13 +5,14 @@ use Rattle.std.specs.Borrow.{Bor}
 use Rattle.lalrpop_base.specs.Words.{Bits}
 use Rattle.lalrpop_base.specs.declared.lr1_core.state.State.{State}
 use Rattle.lalrpop_base.specs.declared.lr1_core.state.StateIndex.{StateIndex}
-use Rattle.lalrpop_tables.specs.Words.{AreDisjoint, HasRow, IsRow, IsSuccessor, RowOverlaps, index, IsVisited, HaveNoNewMarks, AreCopies, IsContext, IsMerging}
+use Rattle.lalrpop_base.specs.Words.{AreDisjoint}
+use Rattle.lalrpop_tables.specs.Words.{HasRow, IsRow, IsSuccessor, RowOverlaps, index, IsVisited, HaveNoNewMarks, AreCopies, IsContext, IsMerging}
 use Rattle.lalrpop_tables.specs.Words.{Advances, unset, IsPushed, IsLonger, IsFresh, set_of, context_of, HasSet, IsMade, AddsColumns}
 use Rattle.lalrpop_tables.specs.declared.lane_table.construct.merge.Merge.{Merge}
 use Rattle.lalrpop_tables.specs.declared.lane_table.construct.merge.context_sets.ContextSets.{ContextSets}
 use Rattle.lalrpop_tables.specs.declared.lane_table.table.LaneTable.{LaneTable}
 use Rattle.lalrpop_tables.proofs.theory.merges.LaneCopies.{copies_pushed}
-use Rattle.lalrpop_tables.proofs.theory.lists.Places.{slice_get-longer, slice_get-push_at, push_cases}
+use Rattle.lalrpop_base.proofs.theory.lists.Places.{slice_get-longer, slice_get-push_at, push_cases}
 use Rattle.lalrpop_tables.proofs.theory.merges.Merges.{row_context, sets_advance, sets_ready, unmarked_push, unset-push}
 
 module _ (old : Merge) (ready : IsMerging old) (state copy : StateIndex) (row : List Bits) (sets : ContextSets) (has_row : HasRow old.table.now state) (numbered : copy.0 ≡ length old.states.items) (is_row : IsRow old.table.now state row) (disjoint : AreDisjoint row) (adds : AddsColumns row old.context_sets sets) where

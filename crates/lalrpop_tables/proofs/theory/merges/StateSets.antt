@@ -17,9 +17,9 @@ use Rattle.lalrpop_tables.specs.Words.{replaced_entry}
 use Rattle.lalrpop_tables.specs.declared.lane_table.construct.merge.context_sets.ContextSets.{ContextSets}
 use Rattle.lalrpop_tables.specs.declared.lane_table.construct.state_set.StateSet.{StateSet}
 use Rattle.lalrpop_tables.proofs.theory.lane_tables.LaneTables.{state_exact}
-use Rattle.lalrpop_tables.proofs.theory.lists.Lists.{Contains-none, contains_head, contains-cons}
-use Rattle.lalrpop_tables.proofs.theory.collapse.Merging.{set_here, set_elsewhere, set_length}
-use Rattle.lalrpop_tables.proofs.theory.lists.Places.{same_some, slice_get-push_at}
+use Rattle.lalrpop_base.proofs.theory.lists.Members.{Contains-none, contains_head, contains-cons}
+use Rattle.lalrpop_base.proofs.theory.collapse.Merging.{set_here, set_elsewhere, set_length}
+use Rattle.lalrpop_base.proofs.theory.lists.Places.{same_some, slice_get-push_at}
 
 -- a set whose number was read gives its columns
 pub columns_at : (sets : ContextSets) (state : StateIndex) (set : StateSet) (columns : List Bits) → set_of sets state ≡ Some set → slice_get sets.contexts.items set.index ≡ Some columns → context_of sets state ≡ columns

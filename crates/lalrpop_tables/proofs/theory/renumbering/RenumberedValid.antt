@@ -7,9 +7,11 @@ use Rattle.lalrpop_base.specs.declared.lr1_core.state.State.{State}
 use Rattle.lalrpop_base.specs.declared.repr.NonterminalString.{NonterminalString}
 use Rattle.lalrpop_base.specs.declared.repr.Symbol.{Symbol}
 use Rattle.lalrpop_base.specs.declared.repr.TerminalString.{TerminalString}
-use Rattle.lalrpop_tables.specs.Words.{dotted_of, HasItemToken, IsStateFor, HaveSameContents, AreSomeCanonicalStates, AreRenumbered}
+use Rattle.lalrpop_base.specs.closures.Closure.{dotted_of}
+use Rattle.lalrpop_base.specs.Words.{HasItemToken, AreRenumbered}
+use Rattle.lalrpop_tables.specs.Words.{IsStateFor, HaveSameContents, AreSomeCanonicalStates}
 use Rattle.lalrpop_tables.proofs.theory.renumbering.RenumberedTables.{state_before}
-use Rattle.lalrpop_tables.proofs.theory.lists.BothFacts.{turned_both}
+use Rattle.lalrpop_base.proofs.theory.lists.BothFacts.{turned_both}
 
 -- a state with the same items is one of the same prefixes
 same_prefix : (g : Rules) (start : NonterminalString) (u : List Symbol) (before after : State Bits) → after.items ≡ before.items → IsStateFor g start u before → IsStateFor g start u after

@@ -6,11 +6,12 @@ use Rattle.std.proofs.lemmas.Bool.{cases_lt}
 use Rattle.std.proofs.lemmas.Option.{slice_get_within}
 use Rattle.lalrpop_base.specs.Words.{Bits, Dotted, AllDiffer, Rules, Kernels}
 use Rattle.lalrpop_base.specs.declared.lr1_core.state.State.{State}
-use Rattle.lalrpop_tables.specs.Words.{AreItemsBy, IsBuiltBy, IsBuiltOfBy, Extends, LeadsToAdded, IsLedTo, AreBuiltBy}
-use Rattle.lalrpop_tables.proofs.theory.lists.Lists.{Contains-none, contains-cons}
-use Rattle.lalrpop_tables.proofs.theory.lists.Places.{slice_get-longer, slice_get-push_at, push_cases}
-pub use Rattle.lalrpop_tables.proofs.theory.states.Universe.{kernels_limit}
-use Rattle.lalrpop_tables.proofs.theory.states.Universe.{kernels_few_by}
+use Rattle.lalrpop_base.specs.Words.{AreItemsBy}
+use Rattle.lalrpop_tables.specs.Words.{IsBuiltBy, IsBuiltOfBy, Extends, LeadsToAdded, IsLedTo, AreBuiltBy}
+use Rattle.lalrpop_base.proofs.theory.lists.Members.{Contains-none, contains-cons}
+use Rattle.lalrpop_base.proofs.theory.lists.Places.{slice_get-longer, slice_get-push_at, push_cases}
+pub use Rattle.lalrpop_base.proofs.theory.states.Universe.{kernels_limit}
+use Rattle.lalrpop_base.proofs.theory.states.Universe.{kernels_few_by}
 
 module _ {L : Type 0} where
   -- each kernel that was handed out has its state, all kernels are the grammar's, and a transition leads to each but the first

@@ -9,15 +9,17 @@ use Rattle.lalrpop_base.specs.declared.lr1_core.state.State.{State}
 use Rattle.lalrpop_base.specs.declared.repr.NonterminalString.{NonterminalString}
 use Rattle.lalrpop_base.specs.declared.repr.Production.{Production}
 use Rattle.lalrpop_base.specs.declared.repr.Symbol.{Symbol}
-use Rattle.lalrpop_tables.specs.Words.{Ascend, dotted_of, InKernel, AreBuiltBy, Shifts}
+use Rattle.lalrpop_base.specs.closures.Closure.{dotted_of}
+use Rattle.lalrpop_base.specs.Words.{Ascend, InKernel}
+use Rattle.lalrpop_tables.specs.Words.{AreBuiltBy, Shifts}
 use Rattle.lalrpop_tables.proofs.theory.canonical.Canonical.{InClosure-more, moved_items}
 use Rattle.lalrpop_tables.proofs.theory.canonical.CanonicalStates.{leads_transition}
 use Rattle.lalrpop_tables.proofs.theory.states.Coherence.{Built-some}
-use Rattle.lalrpop_tables.proofs.theory.lists.Places.{same_some, filled, one_place}
+use Rattle.lalrpop_base.proofs.theory.lists.Places.{same_some, filled, one_place}
 use Rattle.lalrpop_tables.proofs.theory.states.Reductions.{reduces_finished}
 use Rattle.lalrpop_tables.proofs.theory.states.SameKernels.{past_in_kernel}
 use Rattle.lalrpop_tables.proofs.theory.states.StateEdges.{leads_over_dots, nowhere_leads, no_leads, all_reached}
-use Rattle.lalrpop_tables.proofs.theory.lists.BothFacts.{turned_both, then_both}
+use Rattle.lalrpop_base.proofs.theory.lists.BothFacts.{turned_both, then_both}
 use Rattle.lalrpop_tables.proofs.theory.canonical.CanonicalContents.{nothing_reduced}
 
 -- a closure of exactly the kernel, ascending

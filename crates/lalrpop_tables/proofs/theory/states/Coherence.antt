@@ -9,15 +9,17 @@ use Rattle.lalrpop_base.specs.declared.lr1_core.state.StateIndex.{StateIndex}
 use Rattle.lalrpop_base.specs.declared.repr.Production.{Production}
 use Rattle.lalrpop_base.specs.declared.repr.Symbol.{Symbol}
 use Rattle.lalrpop_base.specs.declared.repr.Symbol.TheVariants.{Nonterminal, Terminal}
-use Rattle.lalrpop_tables.specs.Words.{dotted_of, InKernel, AreItemsBy, HasTransition, Leads, IsBuiltBy, IsBuiltOfBy, Extends, LeadsToAdded, AreBuiltBy}
+use Rattle.lalrpop_base.specs.closures.Closure.{dotted_of}
+use Rattle.lalrpop_base.specs.Words.{InKernel, AreItemsBy}
+use Rattle.lalrpop_tables.specs.Words.{HasTransition, Leads, IsBuiltBy, IsBuiltOfBy, Extends, LeadsToAdded, AreBuiltBy}
 use Rattle.lalrpop_tables.specs.Words.{IsBehindOne, Shifts, Groups, AreMoves, HasEdge, AreEdges, reductions_of, seen, moved}
 use Rattle.lalrpop_base.specs.contracts.repr.TerminalStringOrd.TheImpl as terminal_ord
 use Rattle.lalrpop_base.specs.declared.repr.TerminalString.{TerminalString}
 use Rattle.lalrpop_tables.specs.states.Transitions.{IsReached}
 use Rattle.lalrpop_tables.specs.declared.construction.transitions.Edges.{Edges}
-use Rattle.lalrpop_tables.proofs.theory.lists.Lists.{Contains-none, contains_head, contains_tail, contains-cons, place}
+use Rattle.lalrpop_base.proofs.theory.lists.Members.{Contains-none, contains_head, contains_tail, contains-cons, place}
 use Rattle.lalrpop_tables.specs.states.Transitions.Shifts.{none, moves, stays}
-use Rattle.lalrpop_tables.proofs.theory.lists.Places.{contains_at, same_some, one_place, in_added}
+use Rattle.lalrpop_base.proofs.theory.lists.Places.{contains_at, same_some, one_place, in_added}
 use Rattle.lalrpop_tables.proofs.theory.states.Shifting.{Shifts-from, Shifts-items, of_dotted}
 
 abbrev pair : Production → ℕ → Production × ℕ

@@ -9,7 +9,7 @@ use Rattle.lalrpop_base.specs.contracts.repr.ProductionEq.TheImpl as production_
 use Rattle.lalrpop_base.specs.contracts.repr.ProductionPartialEq.TheImpl as production_eq
 use Rattle.lalrpop_base.specs.declared.repr.Production.{Production}
 use Rattle.lalrpop_tables.specs.declared.construction.numbered.Numbered.{Numbered}
-use Rattle.lalrpop_tables.proofs.theory.lists.Lists.{Contains-none, contains_head, contains_tail, contains-cons}
+use Rattle.lalrpop_base.proofs.theory.lists.Members.{Contains-none, contains_head, contains_tail, contains-cons}
 
 abbrev pub Decided : Type 0 → Type 0
 Decided X = (x y : X) → (x ≡ y) ⊎ (x ≢ y)

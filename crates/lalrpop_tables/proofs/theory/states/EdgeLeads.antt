@@ -17,10 +17,10 @@ use Rattle.lalrpop_base.specs.declared.repr.NonterminalString.{NonterminalString
 use Rattle.lalrpop_base.specs.declared.repr.Symbol.{Symbol}
 use Rattle.lalrpop_base.specs.declared.repr.Symbol.TheVariants.{Nonterminal, Terminal}
 use Rattle.lalrpop_base.specs.declared.repr.TerminalString.{TerminalString}
-use Rattle.lalrpop_base.proofs.ContentsViews.{contains_of_map}
+use Rattle.lalrpop_base.proofs.theory.states.ContentsViews.{contains_of_map}
 use Rattle.lalrpop_tables.specs.Words.{places_in, Edge, edge, edges, edges_of, edges_from, shift_edges, goto_edges, HasTransition}
 use Rattle.lalrpop_tables.proofs.theory.canonical.CanonicalStates.{leads_transition}
-use Rattle.lalrpop_tables.proofs.theory.lists.Lists.{Contains-none, contains_map, place}
+use Rattle.lalrpop_base.proofs.theory.lists.Members.{Contains-none, contains_map, place}
 
 -- the value of an entry
 entry_leads : {K : Type 0} {R : K → K → Ordering} → IsTotalOrder R → (m : BTreeMap K StateIndex) (key : K) (target : StateIndex) → IsOrdered R m → Contains m.entries (key, target) → option_map number_of (get R m key) ≡ Some target.0

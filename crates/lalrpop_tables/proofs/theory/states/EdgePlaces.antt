@@ -3,8 +3,8 @@ use Rattle.std.proofs.Common.{◌≡◌, inl, inr, ℕ, ◌+◌, ◌<◌, ◌≤
 use Rattle.std.specs.Prelude.{slice_get, Contains}
 use Rattle.std.proofs.lemmas.Option.{slice_get-get_or}
 use Rattle.lalrpop_tables.specs.states.NumberedStates.{EdgesAscend}
-use Rattle.lalrpop_tables.proofs.theory.lists.Lists.{place}
-use Rattle.lalrpop_tables.proofs.theory.lists.Places.{places_apart, same_some}
+use Rattle.lalrpop_base.proofs.theory.lists.Members.{place}
+use Rattle.lalrpop_base.proofs.theory.lists.Places.{places_apart, same_some}
 
 module _ (edges : List (ℕ × ℕ)) (ascend : EdgesAscend edges) (middle : ℕ) (within : middle < length edges) where
   abbrev read : ℕ × ℕ

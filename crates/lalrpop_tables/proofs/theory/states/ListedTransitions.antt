@@ -18,15 +18,15 @@ use Rattle.lalrpop_base.specs.declared.repr.NonterminalString.{NonterminalString
 use Rattle.lalrpop_base.specs.declared.repr.Symbol.{Symbol}
 use Rattle.lalrpop_base.specs.declared.repr.Symbol.TheVariants.{Nonterminal, Terminal}
 use Rattle.lalrpop_base.specs.declared.repr.TerminalString.{TerminalString}
-use Rattle.lalrpop_base.proofs.ContentsViews.{contains_map, contains_of_map, some_of_map}
-use Rattle.lalrpop_base.proofs.theory.ConflictLists.{ordered-append}
+use Rattle.lalrpop_base.proofs.theory.states.ContentsViews.{contains_map, contains_of_map, some_of_map}
+use Rattle.lalrpop_base.proofs.theory.conflicts.ConflictLists.{ordered-append}
 use Rattle.lalrpop_tables.specs.states.NumberedStates.{GotosAscend, ShiftsAscend, goto_transitions, shift_transitions}
 use Rattle.lalrpop_tables.specs.grammars.Numbers.{symbol_order}
 use Rattle.lalrpop_tables.proofs.theory.canonical.CanonicalStates.{leads_transition}
-use Rattle.lalrpop_tables.proofs.theory.lists.Lists.{place}
+use Rattle.lalrpop_base.proofs.theory.lists.Members.{place}
 use Rattle.lalrpop_tables.proofs.theory.states.NumberedTransitions.{IsBefore}
-use Rattle.lalrpop_tables.proofs.theory.lists.Orders.{name_order, name_total, terminal_order, terminal_total}
-use Rattle.lalrpop_tables.proofs.theory.lists.SortedPlaces.{Sorted-places}
+use Rattle.lalrpop_base.proofs.theory.lists.Orders.{name_order, name_total, terminal_order, terminal_total}
+use Rattle.lalrpop_base.proofs.theory.lists.SortedPlaces.{Sorted-places}
 
 -- ---- the order
 module _ {K : Type 0} (R : K → K → Ordering) (f : K → Symbol) (less : (a b : K) → R a b ≡ Less → symbol_order (f a) (f b) ≡ Less) (entries : List (K × StateIndex)) (sorted : IsStrictlySortedBy R (keys_of entries)) where

@@ -11,15 +11,16 @@ use Rattle.lalrpop_base.specs.declared.repr.NonterminalString.{NonterminalString
 use Rattle.lalrpop_base.specs.declared.repr.TerminalString.{TerminalString}
 use Rattle.lalrpop_base.specs.declared.repr.Production.{Production}
 use Rattle.lalrpop_base.specs.contracts.repr.TerminalStringOrd.TheImpl as terminal_ord
-use Rattle.lalrpop_tables.specs.Words.{IsPushedAt, IsBehind, IsBehindOne, moved, Shifts, Groups, HasNoGroup, AreMoves, IsMoveAdded, HasEdge, ShiftsAscend}
+use Rattle.lalrpop_base.specs.Words.{IsPushedAt}
+use Rattle.lalrpop_tables.specs.Words.{IsBehind, IsBehindOne, moved, Shifts, Groups, HasNoGroup, AreMoves, IsMoveAdded, HasEdge, ShiftsAscend}
 use Rattle.lalrpop_tables.specs.Words.{IsEdgeAdded, AreEdges, reductions_of}
-use Rattle.lalrpop_tables.specs.lists.Entries.IsPushedAt.{fresh, known}
+use Rattle.lalrpop_base.specs.lists.Entries.IsPushedAt.{fresh, known}
 use Rattle.lalrpop_tables.specs.declared.construction.transitions.Edges.{Edges}
 use Rattle.lalrpop_tables.specs.states.Transitions.{LeadsTo, IsReached}
 use Rattle.lalrpop_tables.specs.states.Transitions.Shifts.{none, moves, stays}
 use Rattle.lalrpop_tables.specs.states.Transitions.IsMoveAdded.{over, at_end}
-use Rattle.lalrpop_tables.proofs.theory.lists.Lists.{Contains-none, contains_head, contains_tail, contains-cons, contains_map, place}
-use Rattle.lalrpop_tables.proofs.theory.lists.Places.{midst, around, at_midst, differ_front, same_some, slice_get-longer}
+use Rattle.lalrpop_base.proofs.theory.lists.Members.{Contains-none, contains_head, contains_tail, contains-cons, contains_map, place}
+use Rattle.lalrpop_base.proofs.theory.lists.Places.{midst, around, at_midst, differ_front, same_some, slice_get-longer}
 use Rattle.std.proofs.lemmas.Option.{slice_get_within}
 use Rattle.std.proofs.lemmas.List.{map-append}
 use Rattle.std.specs.declared.cmp.Ordering.{Ordering}
@@ -27,7 +28,7 @@ use Rattle.std.specs.BTreeMap.{BTreeMap, IsOrdered, insert_entry}
 use Rattle.std.specs.Cmp.{IsTotalOrder}
 use Rattle.std.specs.List.Sorted.{IsStrictlySortedBy}
 use Rattle.std.proofs.lemmas.Map.Lookups.{CmpEqualImpliesEq}
-use Rattle.lalrpop_tables.proofs.theory.lists.Updates.{put_there, put_kept, put_from}
+use Rattle.lalrpop_base.proofs.theory.lists.Updates.{put_there, put_kept, put_from}
 
 pub differ_tail : {X : Type 0} (x : X) (xs : List X) → AllDiffer (x ∷ xs) → AllDiffer xs
 differ_tail x xs d i j y l at_i at_j = d (suc i) (suc j) y (omega arith) at_i at_j

@@ -9,13 +9,13 @@ use Rattle.lalrpop_base.specs.Words.{AllDiffer}
 use Rattle.lalrpop_base.specs.declared.repr.NonterminalString.{NonterminalString}
 use Rattle.lalrpop_base.specs.declared.repr.Symbol.{Symbol}
 use Rattle.lalrpop_base.specs.declared.repr.Symbol.TheVariants.{Nonterminal, Terminal}
-use Rattle.lalrpop_base.proofs.theory.ConflictLists.{ordered-head, ordered-tail}
+use Rattle.lalrpop_base.proofs.theory.conflicts.ConflictLists.{ordered-head, ordered-tail}
 use Rattle.lalrpop_base.specs.declared.repr.TerminalString.{TerminalString}
 use Rattle.lalrpop_tables.specs.follow_sets.FollowNodes.{as_pair, nonterminals_of}
 use Rattle.lalrpop_tables.specs.states.NumberedStates.{EdgesAscend}
 use Rattle.lalrpop_tables.specs.grammars.Numbers.{SymbolsAscend, symbol_order}
-use Rattle.lalrpop_tables.proofs.theory.lists.Places.{contains_at, filled, same_some}
-use Rattle.lalrpop_tables.proofs.theory.lists.SortedPlaces.{Sorted-places}
+use Rattle.lalrpop_base.proofs.theory.lists.Places.{contains_at, filled, same_some}
+use Rattle.lalrpop_base.proofs.theory.lists.SortedPlaces.{Sorted-places}
 
 -- no terminal is less than a nonterminal
 no_terminal : (s : Symbol) (a : NonterminalString) → symbol_order s (Nonterminal a) ≡ Less → (b : NonterminalString) × (s ≡ Nonterminal b)

@@ -6,10 +6,11 @@ use Rattle.std.proofs.lemmas.List.Elements.{Contains-append_cases, Contains-appe
 use Rattle.std.proofs.lemmas.Option.{slice_get-map}
 use Rattle.lalrpop_base.specs.Words.{AddsOnce, AllDiffer, Dotted}
 use Rattle.lalrpop_base.specs.declared.lookahead.nil.Nil.{Nil}
-use Rattle.lalrpop_tables.specs.Words.{Ascend, Groups}
+use Rattle.lalrpop_base.specs.Words.{Ascend}
+use Rattle.lalrpop_tables.specs.Words.{Groups}
 use Rattle.lalrpop_tables.specs.grammars.Numbers.{AreAllNumbered, AreNumbered, NumberedGroups, groups_by, items_by}
 use Rattle.lalrpop_tables.specs.declared.construction.numbered.Numbered.{Numbered}
-use Rattle.lalrpop_tables.proofs.theory.lists.Lists.{contains-cons, contains_head, Contains-none}
+use Rattle.lalrpop_base.proofs.theory.lists.Members.{contains-cons, contains_head, Contains-none}
 use Rattle.lalrpop_tables.specs.declared.construction.numbers.Numbers.{Numbers}
 use Rattle.lalrpop_tables.proofs.theory.states.NumberedMoves.{group_by}
 use Rattle.lalrpop_tables.proofs.theory.grammars.Numbers.{lists_differ}

@@ -8,14 +8,14 @@ use Rattle.std.proofs.lemmas.Option.{slice_get_within}
 use Rattle.lalrpop_base.specs.Words.{AllDiffer, Bits, Dotted}
 use Rattle.lalrpop_base.specs.declared.lookahead.nil.Nil.{Nil}
 use Rattle.lalrpop_base.specs.declared.repr.Production.{Production}
-use Rattle.lalrpop_base.proofs.ContentsViews.{contains_map, contains_of_map}
-use Rattle.lalrpop_tables.specs.grammars.Ascending.{Ascend}
+use Rattle.lalrpop_base.proofs.theory.states.ContentsViews.{contains_map, contains_of_map}
+use Rattle.lalrpop_base.specs.grammars.Ascending.{Ascend}
 use Rattle.lalrpop_tables.specs.states.NumberedStates.{AreReducedNumbers, HasDots}
 use Rattle.lalrpop_tables.specs.grammars.Numbering.{with_dot}
-use Rattle.lalrpop_tables.proofs.theory.grammars.Ascending.{precedes_asymmetric}
-use Rattle.lalrpop_tables.proofs.theory.lists.Lists.{contains-cons, contains_head, Contains-none}
-use Rattle.lalrpop_tables.proofs.theory.lists.Places.{contains_at, one_place, push_cases, same_some}
-use Rattle.lalrpop_tables.proofs.theory.grammars.Tables.{same_lr0}
+use Rattle.lalrpop_base.proofs.theory.grammars.AscendingItems.{precedes_asymmetric}
+use Rattle.lalrpop_base.proofs.theory.lists.Members.{contains-cons, contains_head, Contains-none}
+use Rattle.lalrpop_base.proofs.theory.lists.Places.{contains_at, one_place, push_cases, same_some}
+use Rattle.lalrpop_base.proofs.theory.grammars.Tables.{same_lr0}
 
 -- dotted productions that ascend differ
 pub items_differ : (items : List (Dotted Nil)) → Ascend items → AllDiffer items

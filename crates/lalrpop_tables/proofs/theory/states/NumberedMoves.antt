@@ -7,16 +7,17 @@ use Rattle.std.proofs.lemmas.Option.{slice_get-map, slice_get_within}
 use Rattle.lalrpop_base.specs.Words.{AllDiffer, Dotted, Rules}
 use Rattle.lalrpop_base.specs.declared.lookahead.nil.Nil.{Nil}
 use Rattle.lalrpop_base.specs.declared.repr.Symbol.{Symbol}
-use Rattle.lalrpop_base.proofs.ContentsViews.{contains_of_map, some_of_map}
-use Rattle.lalrpop_tables.specs.Words.{IsMoveAdded, IsPushedAt}
-use Rattle.lalrpop_tables.specs.lists.Entries.IsPushedAt.{fresh, known}
+use Rattle.lalrpop_base.proofs.theory.states.ContentsViews.{contains_of_map, some_of_map}
+use Rattle.lalrpop_base.specs.Words.{IsPushedAt}
+use Rattle.lalrpop_tables.specs.Words.{IsMoveAdded}
+use Rattle.lalrpop_base.specs.lists.Entries.IsPushedAt.{fresh, known}
 use Rattle.lalrpop_tables.specs.grammars.Numbers.{AreGroupsOf, AreNumbered, AreNumbers, NumberedGroups, dotted_at, groups_by, item_by, items_by, symbol_at}
 use Rattle.lalrpop_tables.specs.states.Transitions.IsMoveAdded.{over, at_end}
 use Rattle.lalrpop_tables.specs.declared.construction.numbered.Numbered.{Numbered}
 use Rattle.lalrpop_tables.specs.declared.construction.numbers.Numbers.{Numbers}
-use Rattle.lalrpop_tables.proofs.theory.lists.Lists.{contains-cons, Contains-none}
+use Rattle.lalrpop_base.proofs.theory.lists.Members.{contains-cons, Contains-none}
 use Rattle.lalrpop_tables.proofs.theory.grammars.Numbers.{behind_is, finished, moved_next, next_within, stands_at}
-use Rattle.lalrpop_tables.proofs.theory.lists.Places.{around, at_midst, contains_at, midst, one_place}
+use Rattle.lalrpop_base.proofs.theory.lists.Places.{around, at_midst, contains_at, midst, one_place}
 use Rattle.std.proofs.lemmas.List.Elements.{Contains-append_cases}
 
 -- ---- the symbol with a number

@@ -13,7 +13,7 @@ use Rattle.lalrpop_tables.specs.declared.lane_table.follow_sets.numbered_state.N
 use Rattle.lalrpop_tables.proofs.theory.states.ListedTransitions.{Transitions-lead, Transitions-ordered}
 use Rattle.lalrpop_tables.proofs.theory.states.NumberedItems.{AreNumbered, dots_in}
 use Rattle.lalrpop_tables.proofs.theory.states.NumberedTransitions.{Edges-ascend, Members, Transitions-both}
-use Rattle.lalrpop_tables.proofs.theory.lists.Places.{push_cases, same_some, slice_get-append_before, slice_get-push_at}
+use Rattle.lalrpop_base.proofs.theory.lists.Places.{push_cases, same_some, slice_get-append_before, slice_get-push_at}
 
 -- a state with its items and transitions by number
 module _ (n : Numbers) (ascend : SymbolsAscend n.symbols.items) (old : State Bits) (state : NumberedState) (gotos : GotosAscend old.gotos) (shifts : ShiftsAscend old.shifts) (middle : List (ℕ × ℕ)) where

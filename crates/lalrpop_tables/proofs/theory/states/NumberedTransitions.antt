@@ -6,15 +6,15 @@ use Rattle.std.specs.Ordering.{ordering_reverse}
 use Rattle.std.proofs.lemmas.List.Elements.{Contains-append_left, Contains-append_right, Contains-append_cases}
 use Rattle.lalrpop_base.specs.Words.{Ordered}
 use Rattle.lalrpop_base.specs.declared.repr.Symbol.{Symbol}
-use Rattle.lalrpop_base.proofs.theory.ConflictLists.{ordered-append, ordered-cons, ordered-nil}
+use Rattle.lalrpop_base.proofs.theory.conflicts.ConflictLists.{ordered-append, ordered-cons, ordered-nil}
 use Rattle.lalrpop_tables.specs.states.NumberedStates.{AddTransitions, AddTransitions.none, AddTransitions.more, AddsTransition, EdgesAscend, numbered_transition}
 use Rattle.lalrpop_tables.specs.grammars.Numbering.{IsNumberOf}
 use Rattle.lalrpop_tables.specs.grammars.Numbers.{SymbolsAscend, symbol_order}
-use Rattle.lalrpop_tables.proofs.theory.lists.Lists.{contains-cons, contains_head, Contains-none, less-apart, place}
+use Rattle.lalrpop_base.proofs.theory.lists.Members.{contains-cons, contains_head, Contains-none, less-apart, place}
 use Rattle.lalrpop_tables.proofs.theory.grammars.Numbering.{symbols_differ}
-use Rattle.lalrpop_tables.proofs.theory.lists.Orders.{symbol_total}
-use Rattle.lalrpop_tables.proofs.theory.lists.Places.{contains_at, one_place, places_apart, same_some, slice_get-longer, slice_get-push_at}
-use Rattle.lalrpop_tables.proofs.theory.lists.SortedPlaces.{Sorted-places}
+use Rattle.lalrpop_base.proofs.theory.lists.Orders.{symbol_total}
+use Rattle.lalrpop_base.proofs.theory.lists.Places.{contains_at, one_place, places_apart, same_some, slice_get-longer, slice_get-push_at}
+use Rattle.lalrpop_base.proofs.theory.lists.SortedPlaces.{Sorted-places}
 
 -- ---- transitions as they are added
 -- some were added, and the rest is left

@@ -6,13 +6,15 @@ use Rattle.lalrpop_base.specs.Words.{Rules}
 use Rattle.lalrpop_base.specs.declared.lookahead.token.Token.{Token}
 use Rattle.lalrpop_base.specs.declared.repr.Production.{Production}
 use Rattle.lalrpop_base.specs.declared.repr.Symbol.{Symbol}
-use Rattle.lalrpop_base.proofs.theory.Ascending.{ascending_same}
-use Rattle.lalrpop_base.proofs.theory.ConflictLists.{ordered-cons, ordered-head, ordered-tail}
-use Rattle.lalrpop_tables.specs.Words.{Precedes, Ascend, dotted_of, InKernel, HasItemToken, AreItems, IsClosureOf, moved, Shifts}
+use Rattle.lalrpop_base.proofs.theory.lists.Ascending.{ascending_same}
+use Rattle.lalrpop_base.proofs.theory.conflicts.ConflictLists.{ordered-cons, ordered-head, ordered-tail}
+use Rattle.lalrpop_base.specs.closures.Closure.{dotted_of}
+use Rattle.lalrpop_base.specs.Words.{Precedes, Ascend, InKernel, HasItemToken, AreItems, IsClosureOf}
+use Rattle.lalrpop_tables.specs.Words.{moved, Shifts}
 use Rattle.lalrpop_tables.specs.states.Transitions.Shifts.{none, moves, stays}
-use Rattle.lalrpop_tables.proofs.theory.grammars.Ascending.{precedes_asymmetric}
-use Rattle.lalrpop_tables.proofs.theory.grammars.ItemTokens.{one_item, same_tokens}
-use Rattle.lalrpop_tables.proofs.theory.lists.Lists.{contains_map}
+use Rattle.lalrpop_base.proofs.theory.grammars.AscendingItems.{precedes_asymmetric}
+use Rattle.lalrpop_base.proofs.theory.grammars.ItemTokens.{one_item, same_tokens}
+use Rattle.lalrpop_base.proofs.theory.lists.Members.{contains_map}
 use Rattle.lalrpop_tables.proofs.theory.states.Shifting.{Shifts-from, of_dotted}
 
 -- ---- moved items ascend

@@ -11,12 +11,14 @@ use Rattle.lalrpop_base.specs.declared.repr.Production.{Production}
 use Rattle.lalrpop_base.specs.declared.repr.Symbol.{Symbol}
 use Rattle.lalrpop_base.specs.declared.repr.grammar.Grammar.{Grammar}
 use Rattle.lalrpop_base.specs.declared.repr.grammar.NonterminalData.{NonterminalData}
-use Rattle.lalrpop_tables.specs.Words.{dotted_of, IsItemBy, AreItemsBy, begun, IsBehind, moved, Shifts}
+use Rattle.lalrpop_base.specs.closures.Closure.{dotted_of}
+use Rattle.lalrpop_base.specs.Words.{IsItemBy, AreItemsBy}
+use Rattle.lalrpop_tables.specs.Words.{begun, IsBehind, moved, Shifts}
 use Rattle.lalrpop_tables.specs.states.Transitions.Shifts.{none, moves, stays}
-use Rattle.lalrpop_tables.proofs.theory.grammars.Grammars.{productions_among}
-use Rattle.lalrpop_tables.proofs.theory.lists.Lists.{Contains-none, contains_head, contains_tail, contains-cons, contains_map}
+use Rattle.lalrpop_base.proofs.theory.grammars.Grammars.{productions_among}
+use Rattle.lalrpop_base.proofs.theory.lists.Members.{Contains-none, contains_head, contains_tail, contains-cons, contains_map}
 use Rattle.lalrpop_tables.proofs.theory.states.Moves.{differ_head, differ_tail}
-use Rattle.lalrpop_tables.proofs.theory.lists.Places.{contains_at, same_some}
+use Rattle.lalrpop_base.proofs.theory.lists.Places.{contains_at, same_some}
 
 differ_cons : {X : Type 0} (x : X) (xs : List X) → ((y : X) → Contains xs y → x ≡ y → ⊥) → AllDiffer xs → AllDiffer (x ∷ xs)
 differ_cons x xs out d i zero y l at_i at_j = absurd (omega arith)

@@ -9,7 +9,7 @@ use Rattle.std.proofs.lemmas.Map.Views.{IsSome-lookup_from_Contains}
 use Rattle.std.proofs.lemmas.Option.{slice_get_within}
 use Rattle.lalrpop_base.specs.Words.{IsReached, at_zero, number_of, contents_of, contents_at, contents_in, no_contents, Dotted, leads, IsBehindDot}
 use Rattle.lalrpop_base.specs.Words.{LeadsOverDots}
-use Rattle.lalrpop_base.specs.Closures.{over_edge}
+use Rattle.lalrpop_base.specs.closures.Closures.{over_edge}
 use Rattle.lalrpop_base.specs.contracts.repr.TerminalStringOrd.TheImpl as terminal_ord
 use Rattle.lalrpop_base.specs.contracts.repr.NonterminalStringOrd.TheImpl as name_ord
 use Rattle.lalrpop_base.specs.declared.lookahead.token.Token.{Token}
@@ -18,13 +18,14 @@ use Rattle.lalrpop_base.specs.declared.lr1_core.state.StateIndex.{StateIndex}
 use Rattle.lalrpop_base.specs.declared.repr.Production.{Production}
 use Rattle.lalrpop_base.specs.declared.repr.Symbol.{Symbol}
 use Rattle.lalrpop_base.specs.declared.repr.Symbol.TheVariants.{Nonterminal, Terminal}
-use Rattle.lalrpop_base.proofs.ContentsViews.{terminals_ordered, names_ordered}
-use Rattle.lalrpop_tables.specs.Words.{dotted_of, HasTransition, IsBuiltBy, AreBuiltBy, IsBehind}
+use Rattle.lalrpop_base.proofs.theory.states.ContentsViews.{terminals_ordered, names_ordered}
+use Rattle.lalrpop_base.specs.closures.Closure.{dotted_of}
+use Rattle.lalrpop_tables.specs.Words.{HasTransition, IsBuiltBy, AreBuiltBy, IsBehind}
 use Rattle.lalrpop_tables.proofs.theory.canonical.CanonicalStates.{entry_of, leads_transition}
-use Rattle.lalrpop_tables.proofs.theory.closures.Closing.{drop_split, split_drop}
+use Rattle.lalrpop_base.proofs.theory.closures.Closing.{drop_split, split_drop}
 use Rattle.lalrpop_tables.proofs.theory.states.Coherence.{one_kernel}
-use Rattle.lalrpop_tables.proofs.theory.lists.Lists.{contains_map}
-use Rattle.lalrpop_tables.proofs.theory.lists.Places.{one_place}
+use Rattle.lalrpop_base.proofs.theory.lists.Members.{contains_map}
+use Rattle.lalrpop_base.proofs.theory.lists.Places.{one_place}
 use Rattle.lalrpop_tables.proofs.theory.states.Shifting.{of_dotted}
 
 -- ---- an entry is found

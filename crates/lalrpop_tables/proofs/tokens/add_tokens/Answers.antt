@@ -1,7 +1,7 @@
 use Rattle.std.proofs.Common.{Err, Ok, Result, sym}
 use Rattle.std.specs.Prelude.{OnOk}
-use Rattle.lalrpop_tables.proofs.theory.closures.Readings.{joined_fresh, joined_known, where_ok}
-use Rattle.lalrpop_tables.proofs.theory.lists.Updates.{exact_order, inserted, set_replaced, keys_differ}
+use Rattle.lalrpop_base.proofs.theory.closures.Readings.{joined_fresh, joined_known, where_ok}
+use Rattle.lalrpop_base.proofs.theory.lists.Updates.{exact_order, inserted, set_replaced, keys_differ}
 use Rattle.lalrpop_tables.proofs.tokens.add_tokens.Goals as goal
 
 pub returns-in-Some-clause-joined : goal.returns-in-Some-clause-joined

@@ -1,7 +1,7 @@
 use Rattle.std.proofs.Common.{◌≡◌, ◌∙◌, sym, Option, Some, None, refl}
 use Rattle.std.specs.Prelude.{Contains, IfSome, IsNone, option_copied}
 use Rattle.std.specs.Borrow.{Bor}
-use Rattle.lalrpop_tables.proofs.theory.lists.Updates.{looked_found, looked_none}
+use Rattle.lalrpop_base.proofs.theory.lists.Updates.{looked_found, looked_none}
 use Rattle.lalrpop_tables.proofs.tokens.tokens_of.Goals as goal
 
 found_by : {V : Type 0} (P : V → Type 0) (o : Option (Bor V)) → ((v : V) → option_copied o ≡ Some v → P v) → IfSome o (λ b. P b.now)

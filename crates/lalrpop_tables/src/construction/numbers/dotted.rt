@@ -2,7 +2,7 @@
 ghost use Rattle.std.specs.Prelude.{◌≡◌, ◌++◌, [], IfOk, OnOk};
 ghost use Rattle.std.specs.List.{flat_map};
 ghost use Rattle.lalrpop_base.specs.Words.{productions, rules_of};
-ghost use Rattle.lalrpop_tables.specs.grammars.Ascending.{Ascend};
+ghost use Rattle.lalrpop_base.specs.grammars.Ascending.{Ascend};
 ghost use Rattle.lalrpop_tables.specs.grammars.Numbering.{AddsThose, IsStartOf, all_dots, with_dots};
 ghost use Rattle.lalrpop_tables.specs.grammars.Numbers.{AreItemsOf, MovesToNext};
 

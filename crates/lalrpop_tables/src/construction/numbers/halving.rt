@@ -2,7 +2,7 @@
 ghost use Rattle.std.specs.Prelude.{◌≡◌, Contains, IfSome, IsNone, Some, slice_get};
 ghost use Rattle.lalrpop_base.specs.Words.{Dotted};
 ghost use Rattle.lalrpop_base.specs.declared.lookahead.nil.Nil.{Nil};
-ghost use Rattle.lalrpop_tables.specs.grammars.Ascending.{Ascend};
+ghost use Rattle.lalrpop_base.specs.grammars.Ascending.{Ascend};
 
 use lalrpop_base::lr1_core::item::Lr0Item;
 use lalrpop_base::repr::Production;

@@ -10,11 +10,11 @@ ghost use Rattle.lalrpop_base.specs.Words.{Bits, AreCoherent, contents, IsCopyin
 ghost use Rattle.lalrpop_base.specs.declared.lr1_core.state.State.{State};
 ghost use Rattle.lalrpop_base.specs.declared.lr1_core.state.StateIndex.{StateIndex as Number};
 ghost use Rattle.lalrpop_base.specs.declared.repr.TerminalString.{TerminalString as Terminal};
-ghost use Rattle.lalrpop_tables.specs.lane_tables.Contexts.{AreDisjoint};
+ghost use Rattle.lalrpop_base.specs.lanes.Contexts.{AreDisjoint};
 ghost use Rattle.lalrpop_tables.specs.graphs.GraphCopies.{FollowsCopies};
 ghost use Rattle.lalrpop_tables.specs.lane_tables.LaneTables.{HasRow, IsClosed, IsRow};
 ghost use Rattle.lalrpop_tables.specs.merges.Merges.{Advances, AreCopies, HasWalked, IsMergeError, IsMerging, IsPatchable, IsResolvedCopy, TookOwnColumns};
-ghost use Rattle.lalrpop_tables.specs.renumbering.Renumbered.{number_in};
+ghost use Rattle.lalrpop_base.specs.renumbering.Renumbered.{number_in};
 ghost use Rattle.lalrpop_tables.specs.declared.lane_table.construct.merge.MergeError.TheVariants.{Memory};
 
 use self::context_sets::ContextSets;

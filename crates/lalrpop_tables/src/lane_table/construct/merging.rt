@@ -4,7 +4,7 @@ ghost use Rattle.std.specs.Map.{keys_of};
 ghost use Rattle.lalrpop_base.specs.Words.{AreCoherent, Bits};
 ghost use Rattle.lalrpop_base.specs.declared.lr1_core.state.State.{State};
 ghost use Rattle.lalrpop_base.specs.declared.lr1_core.state.StateIndex.{StateIndex as Number};
-ghost use Rattle.lalrpop_tables.specs.lane_tables.Contexts.{AreAmong, AreDisjoint};
+ghost use Rattle.lalrpop_base.specs.lanes.Contexts.{AreAmong, AreDisjoint};
 ghost use Rattle.lalrpop_tables.specs.lane_tables.LaneTables.{HasRow, IsClosed, IsRow};
 ghost use Rattle.lalrpop_tables.specs.merges.Merges.{Advances, AreCopies, IsMerging, IsPatchable};
 ghost use Rattle.lalrpop_tables.specs.lane_states.Resolving.{IsCopied};

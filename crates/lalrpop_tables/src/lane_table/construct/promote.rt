@@ -3,7 +3,7 @@ ghost use Rattle.std.specs.Prelude.{◌≡◌, IfOk, map};
 ghost use Rattle.std.specs.List.{AllZip};
 ghost use Rattle.lalrpop_base.specs.Words.{IsWellFormed, rules_of};
 ghost use Rattle.lalrpop_tables.specs.lane_states.LaneStates.{IsPromoted, promoted_item, promoted_reduction};
-ghost use Rattle.lalrpop_tables.specs.canonical.Lr0.{AreLr0States};
+ghost use Rattle.lalrpop_base.specs.states.Lr0.{AreLr0States};
 
 use crate::construction::lr0::build_lr0_states;
 use lalrpop_base::lookahead::nil::Nil;

@@ -4,8 +4,8 @@ use Rattle.std.proofs.lemmas.List.Elements.{AllZip-push}
 use Rattle.std.proofs.lemmas.List.{nil_from_length}
 use Rattle.lalrpop_base.specs.Words.{Bits}
 use Rattle.lalrpop_base.specs.declared.lr1_core.state.State.{State}
-use Rattle.lalrpop_tables.specs.Words.{IsReduced}
-use Rattle.lalrpop_tables.proofs.theory.collapse.Merging.{taken}
+use Rattle.lalrpop_base.specs.Words.{IsReduced}
+use Rattle.lalrpop_base.proofs.theory.collapse.Merging.{taken}
 use Rattle.lalrpop_tables.proofs.build_lalr.reductions.reduce_states.Goals as goal
 
 pub loop-state-init : goal.loop-state-init

@@ -1,5 +1,5 @@
 use Rattle.std.proofs.Common.{◌≡◌}
-use Rattle.lalrpop_tables.proofs.theory.grammars.Tables.{same_lr0}
+use Rattle.lalrpop_base.proofs.theory.grammars.Tables.{same_lr0}
 use Rattle.lalrpop_tables.proofs.theory.check.CheckClosing.{Widens-new, Widens-known}
 use Rattle.lalrpop_tables.proofs.check.closing.find.Goals as goal
 

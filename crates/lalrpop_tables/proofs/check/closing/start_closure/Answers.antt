@@ -1,5 +1,5 @@
 use Rattle.lalrpop_base.specs.Words.{IsAtStart, productions}
-use Rattle.lalrpop_tables.proofs.theory.grammars.Grammars.{productions_own}
+use Rattle.lalrpop_base.proofs.theory.grammars.Grammars.{productions_own}
 use Rattle.lalrpop_tables.proofs.theory.check.CheckClosing.{All-wait, Closure-of, Begun-start}
 use Rattle.lalrpop_tables.proofs.check.closing.start_closure.Goals as goal
 

@@ -1,5 +1,5 @@
 use Rattle.std.proofs.Common.{true, false, refl}
-use Rattle.lalrpop_tables.proofs.theory.closures.Readings.{readings_differ}
+use Rattle.lalrpop_base.proofs.theory.closures.Readings.{readings_differ}
 use Rattle.lalrpop_tables.proofs.construction.closure.add_shared.Goals as goal
 
 pub returns-in_ok-push_back : goal.returns-in_ok-push_back

@@ -2,10 +2,10 @@ use Rattle.std.proofs.Common.{◌<◌, List, sym, subst}
 use Rattle.std.proofs.lemmas.Result.{IfOk-weaker}
 use Rattle.lalrpop_base.specs.Words.{Ordered}
 use Rattle.lalrpop_tables.specs.grammars.Numbers.{AreNumbered, items_by}
-use Rattle.lalrpop_tables.specs.Words.{IsClosureBy}
+use Rattle.lalrpop_base.specs.Words.{IsClosureBy}
 use Rattle.lalrpop_tables.specs.declared.construction.numbered.Numbered.{Numbered}
-use Rattle.lalrpop_tables.proofs.theory.lists.BothFacts.{IfOk-both}
-use Rattle.lalrpop_tables.proofs.theory.lists.Gathering.{Gathers-none}
+use Rattle.lalrpop_base.proofs.theory.lists.BothFacts.{IfOk-both}
+use Rattle.lalrpop_base.proofs.theory.lists.Gathering.{Gathers-none}
 use Rattle.lalrpop_tables.proofs.theory.closures.SharedItems.{number_known}
 use Rattle.lalrpop_tables.proofs.theory.closures.Unfolded.{Closure-of}
 use Rattle.lalrpop_tables.proofs.construction.closure.closure.Goals as goal

@@ -4,11 +4,11 @@ use Rattle.std.proofs.lemmas.Grind.{flat_map-append}
 use Rattle.std.proofs.lemmas.List.{map-append}
 use Rattle.std.proofs.lemmas.List.Elements.{Contains-append_right}
 use Rattle.lalrpop_base.specs.Words.{Bits}
-use Rattle.lalrpop_tables.specs.lists.Entries.{GathersMore}
+use Rattle.lalrpop_base.specs.lists.Entries.{GathersMore}
 use Rattle.lalrpop_tables.specs.closures.Sharing.{list_at, unfolded, with_tokens}
-use Rattle.lalrpop_tables.specs.Words.{readings}
-use Rattle.lalrpop_tables.proofs.theory.lists.Gathering.{More-none, More-then}
-use Rattle.lalrpop_tables.proofs.theory.lists.Lists.{contains_head, contains_map}
+use Rattle.lalrpop_base.specs.Words.{readings}
+use Rattle.lalrpop_base.proofs.theory.lists.Gathering.{More-none, More-then}
+use Rattle.lalrpop_base.proofs.theory.lists.Members.{contains_head, contains_map}
 use Rattle.lalrpop_tables.proofs.theory.closures.Unfolded.{list_read}
 use Rattle.lalrpop_tables.proofs.construction.closure.gather_shared.Goals as goal
 

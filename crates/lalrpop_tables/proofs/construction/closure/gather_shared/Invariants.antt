@@ -1,7 +1,7 @@
 use Rattle.std.proofs.Common.{◌≡◌, ◌++◌, List, ℕ}
-use Rattle.lalrpop_tables.specs.lists.Entries.{GathersMore}
+use Rattle.lalrpop_base.specs.lists.Entries.{GathersMore}
 use Rattle.lalrpop_tables.specs.closures.Sharing.{unfolded}
-use Rattle.lalrpop_tables.specs.Words.{readings}
+use Rattle.lalrpop_base.specs.Words.{readings}
 use Rattle.lalrpop_tables.proofs.construction.closure.gather_shared.Given as goal
 
 -- the entries so far are gathered

@@ -4,7 +4,7 @@ use Rattle.std.proofs.lemmas.Result.{IfOk-weaker}
 use Rattle.lalrpop_base.specs.Words.{Bits, Dotted}
 use Rattle.lalrpop_base.specs.declared.lookahead.nil.Nil.{Nil}
 use Rattle.lalrpop_tables.proofs.theory.grammars.Numbers.{finished}
-use Rattle.lalrpop_tables.proofs.theory.lists.Places.{slice_get_at}
+use Rattle.lalrpop_base.proofs.theory.lists.Places.{slice_get_at}
 use Rattle.lalrpop_tables.proofs.theory.closures.SharedItems.{read_item, rest_known, Finished-shares, Terminal-shares, Restless-shares, rest_is, Barren-shares, Given-shares}
 use Rattle.lalrpop_tables.proofs.construction.closure.share.Goals as goal
 

@@ -1,7 +1,7 @@
 use Rattle.std.proofs.Common.{map}
 use Rattle.lalrpop_tables.specs.grammars.Numbers.{items_by}
 use Rattle.lalrpop_tables.specs.closures.Sharing.{IsSharing}
-use Rattle.lalrpop_tables.specs.Words.{meant, readings}
+use Rattle.lalrpop_base.specs.Words.{meant, readings}
 use Rattle.lalrpop_tables.proofs.theory.closures.Sharing.{work}
 use Rattle.lalrpop_tables.proofs.construction.closure.shared_by.Given as goal
 

@@ -6,10 +6,11 @@ use Rattle.lalrpop_base.specs.Words.{Dotted}
 use Rattle.lalrpop_base.specs.declared.lookahead.nil.Nil.{Nil}
 use Rattle.lalrpop_base.specs.declared.repr.Production.{Production}
 use Rattle.lalrpop_tables.specs.grammars.Numbers.{AreNumbered, dotted_at, item_by, items_by}
-use Rattle.lalrpop_tables.specs.Words.{begun, begun_of}
+use Rattle.lalrpop_base.specs.Words.{begun_of}
+use Rattle.lalrpop_tables.specs.Words.{begun}
 use Rattle.lalrpop_tables.specs.declared.construction.numbered.Numbered.{Numbered}
-use Rattle.lalrpop_tables.proofs.theory.grammars.Grammars.{productions_among}
-use Rattle.lalrpop_tables.proofs.theory.lists.Lists.{Contains-none}
+use Rattle.lalrpop_base.proofs.theory.grammars.Grammars.{productions_among}
+use Rattle.lalrpop_base.proofs.theory.lists.Members.{Contains-none}
 use Rattle.lalrpop_tables.proofs.theory.grammars.Numbers.{at_number}
 use Rattle.lalrpop_tables.proofs.theory.states.NumberedMoves.{more_numbered}
 use Rattle.lalrpop_tables.proofs.theory.closures.SharedItems.{mapped_more}

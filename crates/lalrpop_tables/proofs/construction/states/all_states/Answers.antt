@@ -5,9 +5,9 @@ use Rattle.lalrpop_tables.specs.grammars.Numbers.{AreAllNumbered, items_by, kern
 use Rattle.lalrpop_tables.specs.Words.{begun}
 use Rattle.lalrpop_tables.proofs.theory.states.Building.{Building-all}
 use Rattle.lalrpop_tables.proofs.theory.conflicts.ConflictLists.{States-of}
-use Rattle.lalrpop_tables.proofs.theory.lists.Lists.{contains_map}
+use Rattle.lalrpop_base.proofs.theory.lists.Members.{contains_map}
 use Rattle.lalrpop_tables.proofs.theory.states.NumberedBuilding.{Building-begun, Building-grown, Fewer-left}
-use Rattle.lalrpop_tables.proofs.theory.lists.Places.{contains_at}
+use Rattle.lalrpop_base.proofs.theory.lists.Places.{contains_at}
 use Rattle.lalrpop_tables.proofs.construction.states.all_states.Goals as goal
 
 pub loop-kernel-init : goal.loop-kernel-init

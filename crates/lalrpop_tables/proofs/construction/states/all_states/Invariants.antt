@@ -1,6 +1,7 @@
 use Rattle.std.proofs.Common.{map, ◌-◌}
 use Rattle.lalrpop_tables.specs.grammars.Numbers.{AreAllNumbered, kernels_by}
-use Rattle.lalrpop_tables.specs.Words.{IsClosureBy, begun}
+use Rattle.lalrpop_base.specs.Words.{IsClosureBy}
+use Rattle.lalrpop_tables.specs.Words.{begun}
 use Rattle.lalrpop_tables.proofs.theory.states.Building.{Building, kernels_limit}
 use Rattle.lalrpop_tables.proofs.construction.states.all_states.Given as goal
 

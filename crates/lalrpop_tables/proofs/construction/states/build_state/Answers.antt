@@ -1,7 +1,8 @@
 use Rattle.std.proofs.Common.{List, sym, subst, refl}
 use Rattle.lalrpop_base.specs.Words.{Dotted}
 use Rattle.lalrpop_tables.specs.grammars.Numbers.{AreNumbered, groups_by, items_by}
-use Rattle.lalrpop_tables.specs.Words.{AreMoves, IsClosureBy}
+use Rattle.lalrpop_base.specs.Words.{IsClosureBy}
+use Rattle.lalrpop_tables.specs.Words.{AreMoves}
 use Rattle.lalrpop_tables.proofs.theory.states.Coherence.{Built-made, Reached-extends, Reached-led}
 use Rattle.lalrpop_tables.proofs.construction.states.build_state.Goals as goal
 

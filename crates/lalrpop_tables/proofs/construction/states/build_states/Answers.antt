@@ -3,12 +3,13 @@ use Rattle.std.proofs.lemmas.Bool.{false≢true}
 use Rattle.std.proofs.lemmas.List.{length-map}
 use Rattle.lalrpop_base.specs.Words.{Dotted}
 use Rattle.lalrpop_tables.specs.grammars.Numbers.{AreAllNumbered, items_by, kernels_by}
-use Rattle.lalrpop_tables.specs.Words.{IsClosureBy, begun}
+use Rattle.lalrpop_base.specs.Words.{IsClosureBy}
+use Rattle.lalrpop_tables.specs.Words.{begun}
 use Rattle.lalrpop_tables.proofs.theory.conflicts.ConflictLists.{Listed-more}
-use Rattle.lalrpop_tables.proofs.theory.lists.Lists.{contains_map}
+use Rattle.lalrpop_base.proofs.theory.lists.Members.{contains_map}
 use Rattle.lalrpop_tables.proofs.theory.early_stop.MadeUntil.{nothing_listed, nothing_is_few, enough_for, Made-enough, Made-all}
 use Rattle.lalrpop_tables.proofs.theory.states.NumberedBuilding.{Building-begun, Building-grown, Fewer-left}
-use Rattle.lalrpop_tables.proofs.theory.lists.Places.{contains_at}
+use Rattle.lalrpop_base.proofs.theory.lists.Places.{contains_at}
 use Rattle.lalrpop_tables.proofs.construction.states.build_states.Goals as goal
 
 pub loop-kernel-init : goal.loop-kernel-init

@@ -1,9 +1,10 @@
 use Rattle.std.proofs.Common.{map, ◌-◌}
 use Rattle.lalrpop_tables.specs.grammars.Numbers.{AreAllNumbered, kernels_by}
-use Rattle.lalrpop_tables.specs.Words.{IsClosureBy, begun}
+use Rattle.lalrpop_base.specs.Words.{IsClosureBy}
+use Rattle.lalrpop_tables.specs.Words.{begun}
 use Rattle.lalrpop_tables.proofs.theory.early_stop.MadeUntil.{Making}
 use Rattle.lalrpop_tables.proofs.construction.states.build_states.Given as goal
-use Rattle.lalrpop_tables.proofs.theory.states.Universe.{kernels_limit}
+use Rattle.lalrpop_base.proofs.theory.states.Universe.{kernels_limit}
 
 abbrev pub invariant-loop-kernel : goal.invariant-loop-kernel
 invariant-loop-kernel g l = record {

@@ -1,6 +1,6 @@
 use Rattle.std.proofs.Common.{◌∙◌, ap, map, ◌∷◌, [], subst}
 use Rattle.lalrpop_tables.specs.grammars.Numbers.{items_by}
-use Rattle.lalrpop_tables.specs.Words.{AreItemsBy}
+use Rattle.lalrpop_base.specs.Words.{AreItemsBy}
 use Rattle.lalrpop_tables.proofs.theory.states.NumberedBuilding.{same_kernels}
 use Rattle.lalrpop_tables.proofs.theory.states.NumberedEdges.{first_numbered, only_numbered}
 use Rattle.lalrpop_tables.proofs.construction.states.first_kernels.Goals as goal

@@ -7,8 +7,8 @@ use Rattle.lalrpop_base.specs.declared.lookahead.nil.Nil.{Nil}
 use Rattle.lalrpop_base.specs.declared.repr.Production.{Production}
 use Rattle.lalrpop_tables.specs.grammars.Numbers.{dotted_at, item_by, items_by}
 use Rattle.lalrpop_tables.specs.declared.construction.numbered.Numbered.{Numbered}
-use Rattle.lalrpop_tables.proofs.theory.lists.Lists.{contains_head}
-use Rattle.lalrpop_tables.proofs.theory.collapse.Merging.{taken}
+use Rattle.lalrpop_base.proofs.theory.lists.Members.{contains_head}
+use Rattle.lalrpop_base.proofs.theory.collapse.Merging.{taken}
 use Rattle.lalrpop_tables.proofs.theory.closures.SharedItems.{read_item}
 use Rattle.lalrpop_tables.proofs.construction.states.items_of.Goals as goal
 

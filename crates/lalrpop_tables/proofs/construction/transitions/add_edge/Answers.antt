@@ -1,5 +1,5 @@
 use Rattle.std.proofs.Common.{refl}
-use Rattle.lalrpop_tables.proofs.theory.lists.Orders.{name_order, name_exact, name_total, terminal_order, terminal_exact, terminal_total}
+use Rattle.lalrpop_base.proofs.theory.lists.Orders.{name_order, name_exact, name_total, terminal_order, terminal_exact, terminal_total}
 use Rattle.lalrpop_tables.proofs.theory.states.Moves.{Added-goto, Added-shift}
 use Rattle.lalrpop_tables.proofs.construction.transitions.add_edge.Goals as goal
 

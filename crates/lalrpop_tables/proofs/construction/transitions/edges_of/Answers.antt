@@ -10,12 +10,12 @@ use Rattle.lalrpop_tables.specs.Words.{Groups, IsEdgeAdded}
 use Rattle.lalrpop_tables.specs.grammars.Numbers.{NumberedGroups, groups_by, items_by, kernels_by, symbol_at}
 use Rattle.lalrpop_tables.specs.declared.construction.numbered.Numbered.{Numbered}
 use Rattle.lalrpop_tables.proofs.theory.states.Contained.{added_or_not, decided, decided_list, decided_numbered}
-use Rattle.lalrpop_tables.proofs.theory.lists.Lists.{contains_map}
+use Rattle.lalrpop_base.proofs.theory.lists.Members.{contains_map}
 use Rattle.lalrpop_tables.proofs.theory.states.Moves.{AreSomeEdges, Edges-none, Edges-more, Edges-all, groups_differ}
 use Rattle.lalrpop_tables.proofs.theory.states.NumberedEdges.{all_known, differ_by, either_by, numbered_by, split_by, taken, taken_among}
 use Rattle.lalrpop_tables.proofs.theory.states.NumberedMoves.{group_by, keys_differ_by, symbol_is}
-use Rattle.lalrpop_tables.proofs.theory.lists.Places.{slice_get_at}
-use Rattle.lalrpop_tables.proofs.theory.lists.Updates.{keys_differ}
+use Rattle.lalrpop_base.proofs.theory.lists.Places.{slice_get_at}
+use Rattle.lalrpop_base.proofs.theory.lists.Updates.{keys_differ}
 use Rattle.lalrpop_tables.proofs.construction.transitions.edges_of.Goals as goal
 
 pub loop-symbol-init : goal.loop-symbol-init

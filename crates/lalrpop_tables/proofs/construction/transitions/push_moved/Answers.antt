@@ -2,7 +2,7 @@ use Rattle.std.proofs.Common.{◌≡◌, ◌∙◌, ◌++◌, ◌∷◌, [], ap,
 use Rattle.std.specs.Cmp.{nat_cmp_total}
 use Rattle.std.specs.Ordering.{nat_cmp}
 use Rattle.std.proofs.lemmas.Map.Lookups.{exact_unsigned}
-use Rattle.lalrpop_tables.proofs.theory.lists.Updates.{keys_differ, inserted, set_replaced, pushed_fresh, pushed_known}
+use Rattle.lalrpop_base.proofs.theory.lists.Updates.{keys_differ, inserted, set_replaced, pushed_fresh, pushed_known}
 use Rattle.lalrpop_tables.proofs.construction.transitions.push_moved.Goals as goal
 
 pub returns-in-Some-clause-pushed : goal.returns-in-Some-clause-pushed

@@ -4,7 +4,7 @@ use Rattle.std.proofs.lemmas.Result.{IfOk-weaker}
 use Rattle.lalrpop_base.specs.Words.{IsFirstSetBefore, FitsTokens, Rules, HasKnownTerminals}
 use Rattle.lalrpop_base.specs.declared.repr.Production.{Production}
 use Rattle.lalrpop_tables.proofs.theory.closures.EpsilonMoves.{First-holds}
-use Rattle.lalrpop_tables.proofs.theory.grammars.Grammars.{known_symbols}
+use Rattle.lalrpop_base.proofs.theory.grammars.Grammars.{known_symbols}
 use Rattle.lalrpop_tables.proofs.construction.epsilon_moves.TokenSetLookaheadBuild.epsilon_moves.Goals as goal
 
 pub returns : goal.returns

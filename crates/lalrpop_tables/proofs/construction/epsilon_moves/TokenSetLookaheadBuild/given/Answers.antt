@@ -3,7 +3,7 @@ use Rattle.std.specs.Prelude.{Contains}
 use Rattle.std.proofs.lemmas.Bool.{false≢true}
 use Rattle.lalrpop_base.specs.Words.{Bits, join, Rules, HasKnownTerminals}
 use Rattle.lalrpop_base.specs.declared.repr.Production.{Production}
-use Rattle.lalrpop_tables.proofs.theory.grammars.Grammars.{known_symbols}
+use Rattle.lalrpop_base.proofs.theory.grammars.Grammars.{known_symbols}
 use Rattle.lalrpop_tables.proofs.theory.grammars.RestsGiven.{rest_gives}
 use Rattle.lalrpop_tables.proofs.construction.epsilon_moves.TokenSetLookaheadBuild.given.Goals as goal
 use Rattle.lalrpop_tables.proofs.construction.epsilon_moves.TokenSetLookaheadBuild.given.Goals.{then-rest+in_ok-union_with, else-rest}

@@ -4,8 +4,8 @@ use Rattle.std.proofs.lemmas.Grind.{common_steps}
 use Rattle.std.proofs.lemmas.List.{nil_from_length}
 use Rattle.std.proofs.lemmas.List.Elements.{Contains-append_right}
 use Rattle.lalrpop_base.specs.Words.{Dotted}
-use Rattle.lalrpop_tables.specs.closures.EpsilonMoves.{IsGiven}
-use Rattle.lalrpop_tables.proofs.theory.lists.Lists.{contains_head, Contains-none}
+use Rattle.lalrpop_base.specs.closures.EpsilonMoves.{IsGiven}
+use Rattle.lalrpop_base.proofs.theory.lists.Members.{contains_head, Contains-none}
 use Rattle.lalrpop_tables.proofs.construction.lookahead_build.LookaheadBuild.given.Goals as goal
 
 pub returns-in-Some : goal.returns-in-Some

@@ -1,4 +1,4 @@
-use Rattle.lalrpop_tables.proofs.theory.grammars.Grammars.{productions_own}
+use Rattle.lalrpop_base.proofs.theory.grammars.Grammars.{productions_own}
 use Rattle.lalrpop_tables.proofs.construction.lr.Lr.new.Goals as goal
 
 pub invariant_of-result : goal.invariant_of-result

@@ -6,7 +6,7 @@ use Rattle.lalrpop_base.specs.declared.repr.Symbol.{Symbol}
 use Rattle.lalrpop_tables.specs.grammars.Numbering.{AreAllExpansions, AreNumbersBehind, lists_of}
 use Rattle.lalrpop_tables.specs.grammars.Numbers.{AreBehindDots}
 use Rattle.lalrpop_tables.specs.grammars.Rests.{AreRests}
-use Rattle.lalrpop_tables.proofs.theory.grammars.Grammars.{known_symbols}
+use Rattle.lalrpop_base.proofs.theory.grammars.Grammars.{known_symbols}
 use Rattle.lalrpop_tables.proofs.theory.grammars.Numbering.{lists_length, symbols_differ}
 use Rattle.lalrpop_tables.proofs.construction.numbers.Numbers.new.Goals as goal
 

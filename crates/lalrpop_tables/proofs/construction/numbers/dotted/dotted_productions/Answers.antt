@@ -2,7 +2,7 @@ use Rattle.std.proofs.Common.{sym, subst}
 use Rattle.std.proofs.lemmas.Result.{IfOk-weaker}
 use Rattle.lalrpop_base.specs.Words.{rules_of}
 use Rattle.lalrpop_tables.specs.grammars.Numbers.{MovesToNext}
-use Rattle.lalrpop_tables.proofs.theory.lists.BothFacts.{IfOk-both}
+use Rattle.lalrpop_base.proofs.theory.lists.BothFacts.{IfOk-both}
 use Rattle.lalrpop_tables.proofs.theory.grammars.DottedProductions.{listed_items, listed_move}
 use Rattle.lalrpop_tables.proofs.construction.numbers.dotted.dotted_productions.Goals as goal
 

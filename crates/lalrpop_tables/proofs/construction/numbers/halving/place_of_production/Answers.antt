@@ -3,10 +3,10 @@ use Rattle.std.specs.Prelude.{slice_get}
 use Rattle.std.specs.declared.cmp.Ordering.TheVariants.{Less, Greater, Equal}
 use Rattle.lalrpop_base.specs.Words.{Dotted}
 use Rattle.lalrpop_base.specs.declared.lookahead.nil.Nil.{Nil}
-use Rattle.lalrpop_tables.specs.Words.{production_order}
-use Rattle.lalrpop_tables.proofs.theory.grammars.Ascending.{production_exact}
-use Rattle.lalrpop_tables.proofs.theory.lists.Lists.{place}
-use Rattle.lalrpop_tables.proofs.theory.lists.Places.{slice_get_at}
+use Rattle.lalrpop_base.specs.Words.{production_order}
+use Rattle.lalrpop_base.proofs.theory.grammars.AscendingItems.{production_exact}
+use Rattle.lalrpop_base.proofs.theory.lists.Members.{place}
+use Rattle.lalrpop_base.proofs.theory.lists.Places.{slice_get_at}
 use Rattle.lalrpop_tables.proofs.theory.grammars.ProductionPlaces.{stands_before, stands_behind}
 use Rattle.lalrpop_tables.proofs.construction.numbers.halving.place_of_production.Goals as goal
 

@@ -1,5 +1,5 @@
-use Rattle.lalrpop_tables.proofs.theory.lists.Halving.{halving_found, halving_none}
-use Rattle.lalrpop_tables.proofs.theory.lists.Orders.{symbol_exact, symbol_order, symbol_total}
+use Rattle.lalrpop_base.proofs.theory.lists.Halving.{halving_found, halving_none}
+use Rattle.lalrpop_base.proofs.theory.lists.Orders.{symbol_exact, symbol_order, symbol_total}
 use Rattle.lalrpop_tables.proofs.construction.numbers.symbols.number_of.Goals as goal
 
 pub returns-in-Ok : goal.returns-in-Ok

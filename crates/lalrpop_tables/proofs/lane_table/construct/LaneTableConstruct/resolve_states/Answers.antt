@@ -6,7 +6,7 @@ use Rattle.lalrpop_tables.specs.Words.{places_in}
 use Rattle.lalrpop_tables.proofs.theory.lane_states.LaneFound.{found_at, lane_closed, lane_numbered, lane_own, lane_reached}
 use Rattle.lalrpop_tables.proofs.theory.lane_states.LaneLoop.{lane_states_on, resolved_more}
 use Rattle.lalrpop_tables.proofs.theory.lane_states.LaneShape.{lane_shape}
-use Rattle.lalrpop_tables.proofs.theory.lists.Places.{slice_get_at}
+use Rattle.lalrpop_base.proofs.theory.lists.Places.{slice_get_at}
 use Rattle.lalrpop_tables.proofs.theory.lane_states.LaneAnswers.{lane_tables, all_done, was_resolved, were_met}
 use Rattle.lalrpop_tables.proofs.lane_table.construct.LaneTableConstruct.resolve_states.Goals as goal
 

@@ -1,9 +1,9 @@
 use Rattle.std.proofs.Common.{[], ◌∷◌, ◌++◌, sym, subst, ap, ◌∙◌, append-nil, arith}
 use Rattle.std.proofs.lemmas.List.{nil_from_length}
 use Rattle.std.specs.List.{AllZip}
-use Rattle.lalrpop_base.proofs.FirstNumbers.{AllZip-last}
+use Rattle.lalrpop_base.proofs.theory.first.FirstNumbers.{AllZip-last}
 use Rattle.lalrpop_tables.specs.Words.{IsPromoted}
-use Rattle.lalrpop_tables.proofs.theory.collapse.Merging.{taken}
+use Rattle.lalrpop_base.proofs.theory.collapse.Merging.{taken}
 use Rattle.lalrpop_tables.proofs.lane_table.construct.promote.promote_states.Goals as goal
 
 pub loop-state-init : goal.loop-state-init

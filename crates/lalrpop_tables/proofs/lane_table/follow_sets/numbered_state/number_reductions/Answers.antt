@@ -8,7 +8,7 @@ use Rattle.lalrpop_base.specs.declared.repr.Production.{Production}
 use Rattle.lalrpop_tables.specs.states.NumberedStates.{AreReducedNumbers}
 use Rattle.lalrpop_tables.specs.grammars.Numbering.{with_dot}
 use Rattle.lalrpop_tables.proofs.theory.states.NumberedItems.{Reduced-more, Reduced-none, some_if}
-use Rattle.lalrpop_tables.proofs.theory.lists.Places.{contains_at, slice_get_at}
+use Rattle.lalrpop_base.proofs.theory.lists.Places.{contains_at, slice_get_at}
 use Rattle.lalrpop_tables.proofs.lane_table.follow_sets.numbered_state.number_reductions.Goals as goal
 
 pub loop-reduction-init : goal.loop-reduction-init

@@ -4,7 +4,7 @@ use Rattle.lalrpop_base.specs.Words.{Bits}
 use Rattle.lalrpop_base.specs.declared.lr1_core.state.State.{State}
 use Rattle.lalrpop_tables.specs.states.NumberedStates.{AreNumberedStates}
 use Rattle.lalrpop_tables.proofs.theory.states.NumberedStates.{States-more, States-none}
-use Rattle.lalrpop_tables.proofs.theory.lists.Places.{slice_get_at}
+use Rattle.lalrpop_base.proofs.theory.lists.Places.{slice_get_at}
 use Rattle.lalrpop_tables.proofs.lane_table.follow_sets.numbered_state.number_states.Goals as goal
 
 pub loop-state-init : goal.loop-state-init

@@ -7,7 +7,7 @@ use Rattle.lalrpop_tables.specs.follow_sets.FollowWalks.{IsGoneOver, StepsThroug
 use Rattle.lalrpop_tables.specs.grammars.Numbering.{AddsThose}
 use Rattle.lalrpop_tables.specs.declared.lane_table.follow_sets.numbered_state.NumberedState.{NumberedState}
 use Rattle.lalrpop_tables.proofs.theory.follow_sets.FollowSteps.{kept_through, node_number, none_over, none_through, pushed_through, some_over}
-use Rattle.lalrpop_tables.proofs.theory.lists.Places.{filled}
+use Rattle.lalrpop_base.proofs.theory.lists.Places.{filled}
 use Rattle.lalrpop_tables.proofs.lane_table.follow_sets.walk.step.Goals as goal
 use Rattle.lalrpop_tables.proofs.lane_table.follow_sets.walk.step.Goals.{then-passes+in_ok-push, else-passes}
 

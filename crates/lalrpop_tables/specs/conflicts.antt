@@ -1,3 +1,0 @@
--- The conflicts of states.
-pub mod HeldShifts
-pub mod ListedConflicts
