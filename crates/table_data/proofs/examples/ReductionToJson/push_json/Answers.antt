@@ -1,0 +1,11 @@
+use Rattle.std.proofs.Common.{refl}
+use Rattle.table_data.proofs.Loops.{before}
+use Rattle.table_data.proofs.examples.ReductionToJson.push_json.Goals as goal
+
+pub returns : goal.returns
+returns c =
+    before _ _ _ _ _ _ c.in_ok-push_number.ensures (
+    before _ _ _ _ _ _ c.in_ok-push_number-2.ensures (
+    before _ _ _ _ _ _ c.in_ok-push_str.ensures.bytes (
+    before _ _ _ _ _ _ c.in_ok-push_json.ensures (
+    c.in_ok-push_str-2.ensures.bytes) refl) refl) refl) refl

@@ -1,0 +1,13 @@
+use Rattle.std.proofs.Common.{refl, codes}
+use Rattle.table_data.specs.Json.{array}
+use Rattle.table_data.specs.Examples.{example_json}
+use Rattle.table_data.proofs.Loops.{before, grew_by}
+use Rattle.table_data.proofs.examples.ShownItemToJson.push_json.Goals as goal
+
+pub returns : goal.returns
+returns c =
+    before _ _ _ _ _ _ c.in_ok-push_number.ensures (
+    before _ _ _ _ _ _ c.in_ok-push_number-2.ensures (
+    before _ _ _ _ _ _ c.in_ok-push_str.ensures.bytes (
+    before _ _ _ _ _ _ (grew_by (array (codes ",") example_json) _ _ _ _ c.in_ok-push_array.ensures c.deref.ensures.value) (
+    c.in_ok-push_str-2.ensures.bytes) refl) refl) refl) refl

@@ -1,0 +1,12 @@
+use Rattle.std.proofs.Common.{◌++◌, ℕ, codes, refl}
+use Rattle.std.specs.Fmt.{decimal}
+use Rattle.table_data.proofs.Loops.{before, grew_by}
+use Rattle.table_data.proofs.states.Lr1ItemToJson.push_json.Goals as goal
+
+pub returns : goal.returns
+returns c =
+    before _ _ _ _ _ _ (grew_by (λ (n : ℕ). codes "{\"production\":" ++ decimal n) _ _ _ _ c.in_ok-push_number.ensures c.index.ensures) (
+    before _ _ _ _ _ _ c.in_ok-push_number-2.ensures (
+    before _ _ _ _ _ _ c.in_ok-push_str.ensures.bytes (
+    before _ _ _ _ _ _ c.in_ok-push_tokens.ensures (
+    c.in_ok-push_str-2.ensures.bytes) refl) refl) refl) refl

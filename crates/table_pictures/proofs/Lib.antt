@@ -1,0 +1,4 @@
+pub mod Counts
+pub mod InertTexts
+pub mod NoMarkup
+pub mod XmlTexts
