@@ -10,7 +10,9 @@ use Rattle.lalrpop_tables.specs.declared.build.options.Method.{Method}
 use Rattle.grammar_text.specs.Symbols.{name_of}
 use Rattle.lrtab_run.specs.Shown.{most_copies}
 use Rattle.lrtab_run.specs.declared.answer.Shown.{Shown}
+use Rattle.table_data.specs.Conflicts.{AreShown}
 use Rattle.table_data.specs.Whole.{tables_json}
+use Rattle.table_data.specs.declared.conflicts.ShownConflict.{ShownConflict}
 use Rattle.lrshow_run.specs.Words.{Asked, Form, Json, Graph, Page}
 
 -- the JSON of the tables, with status 0
@@ -20,11 +22,12 @@ pub record AreTablesData (method : Method) (g : Grammar) (start : NonterminalStr
   pub ended : status ≡ 0
   pub shown : text ≡ tables_json g start states []
 
--- or, for want of tables, the JSON of the canonical states and some text on their conflicts, with status 1
+-- or, for want of tables, the JSON of the canonical states and of their conflicts with examples, with status 1
 pub record AreConflictsData (g : Grammar) (start : NonterminalString) (status : ℕ) (text : List ℕ) : Type 0 where
   pub error : TableConstructionError Bits
   pub no_tables : HasConflictsOf ⊥ 0 g start error
-  pub conflicts : List ℕ
+  pub conflicts : List ShownConflict
+  pub each : AreShown error.states.items error.conflicts.items conflicts
   pub ended : status ≡ 1
   pub shown : text ≡ tables_json g start error.states.items conflicts
 
