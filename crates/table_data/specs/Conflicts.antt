@@ -82,5 +82,5 @@ pub record IsShown (states : List (State Bits)) (shown : ShownConflict) : Type 0
 
 -- what is shown are all conflicts, in their order
 pub record AreShown (states : List (State Bits)) (conflicts : List (Conflict Bits)) (shown : List ShownConflict) : Type 0 where
-  pub conflicts : map (λ (s : ShownConflict). s.conflict.now) shown ≡ conflicts
+  pub each : map (λ (s : ShownConflict). s.conflict.now) shown ≡ conflicts
   pub items : All (IsShown states) shown
