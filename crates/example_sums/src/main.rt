@@ -21,8 +21,7 @@ fn main(rt: HostRuntime) -> anyhow::Result<()> {
     let outcome = build_states(alloc, &grammar, name_of(alloc, "S")?, &Options::default());
     println!(rt; "{}", report_text(alloc, &grammar.terminals, &outcome)?)?;
     parse_sum(&rt, &grammar)?;
-    let ambiguous = sums(alloc, &["Sum", "\"+\"", "Sum"])?;
-    parse_sum(&rt, &ambiguous)
+    parse_sum(&rt, &sums(alloc, &["Sum", "\"+\"", "Sum"])?)
 }
 
 // A grammar of sums, given the right side of a longer sum.
@@ -41,15 +40,9 @@ fn parse_sum(rt: &HostRuntime, grammar: &Grammar) -> anyhow::Result<()>
     requires { IsWellFormed grammar.now }
 {
     let alloc = rt.alloc();
+    let start = name_of(alloc, "S")?;
     let tokens = literals(alloc, &["n", "+", "n"])?;
-    match parse(
-        alloc,
-        grammar,
-        name_of(alloc, "S")?,
-        &Options::default(),
-        tokens,
-        100,
-    ) {
+    match parse(alloc, grammar, start, &Options::default(), tokens, 100) {
         Ok(tree) => println!(rt; "{tree}")?,
         Err(ParseError::Conflicts(error)) => println!(rt; "conflicts: {}", error.conflicts.len())?,
         Err(error) => println!(rt; "{error}")?,

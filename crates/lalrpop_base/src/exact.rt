@@ -1,9 +1,9 @@
 //! Types whose `==` tells apart all that clauses tell apart.
 ghost use Rattle.std.specs.Prelude.{◌≡◌, true, refl, ◌↔◌, IsTrue, IfSome, IsNone, Contains};
-ghost use Rattle.lalrpop_base.specs.Places.{IsFirstPlace};
+ghost use Rattle.lalrpop_base.specs.lists.Places.{IsFirstPlace};
 ghost use Rattle.std.proofs.Common.{sym, ap, eqb-true};
 ghost use mathlib.Core.Bool.{true≢false};
-ghost use Rattle.lalrpop_base.specs.Exact.{Exactly, text_exact, list_exact, name_exact, production_exact};
+ghost use Rattle.lalrpop_base.specs.lists.Exact.{Exactly, text_exact, list_exact, name_exact, production_exact};
 ghost use Rattle.lalrpop_base.specs.declared.repr.Symbol.TheVariants.{Nonterminal, Terminal};
 ghost use Rattle.lalrpop_base.specs.declared.repr.TerminalString.TheVariants.{Literal, Bare, Error};
 

@@ -8,10 +8,10 @@ mod table;
 mod uses;
 
 ghost use Rattle.std.specs.Prelude.{◌≡◌, ◌↔◌, ◌∷◌, [], IfOk, IsTrue};
-ghost use Rattle.lalrpop_base.specs.WellFormed.{IsWellFormed, HasKnownTerminals, rules_of};
-ghost use Rattle.lalrpop_base.specs.First.{IsFirstSet, IsFirstSetBefore};
-ghost use Rattle.lalrpop_base.specs.Grammar.{IsNullable};
-ghost use Rattle.lalrpop_base.specs.Tokens.{FitsTokens};
+ghost use Rattle.lalrpop_base.specs.grammars.WellFormed.{IsWellFormed, HasKnownTerminals, rules_of};
+ghost use Rattle.lalrpop_base.specs.first.First.{IsFirstSet, IsFirstSetBefore};
+ghost use Rattle.lalrpop_base.specs.grammars.Grammar.{IsNullable};
+ghost use Rattle.lalrpop_base.specs.grammars.Tokens.{FitsTokens};
 
 use self::fixpoint::first_table;
 use self::table::{Table, clone_table, first_by, has_eof};
@@ -30,13 +30,13 @@ pub struct FirstSets<'grammar> {
 }
 
 impl<'grammar> Model for FirstSets<'grammar> {
-    ghost use Rattle.lalrpop_base.specs.WellFormed.{Rules, rules_of};
+    ghost use Rattle.lalrpop_base.specs.grammars.WellFormed.{Rules, rules_of};
 
     ghost Value = { Rules };
 
     ghost view = { λ s. rules_of s.grammar.now };
 
-    ghost use Rattle.lalrpop_base.specs.First.{AreFirstSetsOf};
+    ghost use Rattle.lalrpop_base.specs.first.First.{AreFirstSetsOf};
 
     ghost invariant = { λ s. AreFirstSetsOf (rules_of s.grammar.now) s.sets.entries };
 }

@@ -1,8 +1,8 @@
 //! Kernels, numbered by their first appearance and handed out once each.
 ghost use Rattle.std.specs.Prelude.{◌≡◌, ◌+◌, ◌-◌, ◌++◌, ◌∷◌, [], ℕ, List, length, drop, slice_get, Some, IfOk, OnOk, OnErr, IfSome, IfNone, Contains};
-ghost use Rattle.lalrpop_base.specs.Exact.{Exactly};
-ghost use Rattle.lalrpop_base.specs.Kernels.{Kernels, AddsOnce};
-ghost use Rattle.lalrpop_base.specs.Places.{AllDiffer};
+ghost use Rattle.lalrpop_base.specs.lists.Exact.{Exactly};
+ghost use Rattle.lalrpop_base.specs.states.Kernels.{Kernels, AddsOnce};
+ghost use Rattle.lalrpop_base.specs.lists.Places.{AllDiffer};
 
 use crate::memory::OutOfMemory;
 use std::alloc::Global;
@@ -41,7 +41,7 @@ pub struct KernelSet<K: Ord> {
 
 impl<K: Ord> Model for KernelSet<K> {
     ghost use Rattle.std.specs.Prelude.{◌-◌, length};
-    ghost use Rattle.lalrpop_base.specs.Kernels.{Kernels, IsNumbering, by_number};
+    ghost use Rattle.lalrpop_base.specs.states.Kernels.{Kernels, IsNumbering, by_number};
 
     ghost Value = { Kernels K };
 

@@ -9,8 +9,8 @@ mod word_changes;
 mod words;
 
 ghost use Rattle.std.specs.Prelude.{◌≡◌, ◌≢◌, ◌↔◌, IfOk, OnOk, OnErr, MatchBool, false, List};
-ghost use Rattle.lalrpop_base.specs.Bits.{Bits, no_bits, join as joined};
-ghost use Rattle.lalrpop_base.specs.Exact.{Exactly};
+ghost use Rattle.lalrpop_base.specs.lists.Bits.{Bits, no_bits, join as joined};
+ghost use Rattle.lalrpop_base.specs.lists.Exact.{Exactly};
 ghost use Rattle.lalrpop_base.specs.declared.lr1_core.state.State.{State};
 ghost use Rattle.lalrpop_base.specs.declared.lr1_core.state.Conflict.{Conflict};
 ghost use Rattle.lalrpop_base.specs.declared.repr.TerminalString.{TerminalString};

@@ -7,7 +7,7 @@ pub mod terminals;
 
 ghost use Rattle.std.specs.Prelude.{◌≡◌, ◌<◌, ◌↔◌, IsTrue, IfOk, List, Some, length};
 ghost use Rattle.std.specs.Coded.{coded_ℕ};
-ghost use Rattle.lalrpop_base.specs.Names.{nonterminal_text, terminal_text, symbol_text};
+ghost use Rattle.lalrpop_base.specs.grammars.Names.{nonterminal_text, terminal_text, symbol_text};
 
 pub use self::grammar::{
     ActionFnDefn, ActionFnDefnKind, Algorithm, Attribute, Grammar, NonterminalData, is_well_formed,

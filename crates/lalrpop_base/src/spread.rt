@@ -1,6 +1,6 @@
 //! Least sets over the edges of a graph.
 ghost use Rattle.std.specs.Prelude.{◌≡◌, ◌<◌, ℕ, length, Contains, IfOk, IfSome, IfNone, OnOk, [], ◌↔◌};
-ghost use Rattle.lalrpop_base.specs.Spreading.{AllBelowWait, HoldsBit, NowWaits, IsJoinedInto, IsQueue, IsSent, IsSpread, IsFirstTaken, edge_ends};
+ghost use Rattle.lalrpop_base.specs.lists.Spreading.{AllBelowWait, HoldsBit, NowWaits, IsJoinedInto, IsQueue, IsSent, IsSpread, IsFirstTaken, edge_ends};
 
 use crate::lookahead::token_set::TokenSet;
 use crate::memory::OutOfMemory;

@@ -11,8 +11,8 @@ ghost use Rattle.lalrpop_base.specs.declared.repr.NonterminalString.{Nonterminal
 ghost use Rattle.lalrpop_base.specs.declared.repr.TerminalString.{TerminalString};
 ghost use Rattle.lalrpop_base.specs.declared.repr.Production.{Production};
 ghost use Rattle.lalrpop_base.specs.declared.repr.grammar.ActionFnDefn.{ActionFnDefn};
-ghost use Rattle.lalrpop_lr1.specs.InlineOrder.{IsMarked, Mentions, IsInlineOrder, IsOnRing, IsCycleOf};
-ghost use Rattle.lalrpop_lr1.specs.Inlined.{IsInlined, IsLaidOut, IsRefusalOf};
+ghost use Rattle.lalrpop_lr1.specs.inlining.InlineOrder.{IsMarked, Mentions, IsInlineOrder, IsOnRing, IsCycleOf};
+ghost use Rattle.lalrpop_lr1.specs.inlining.Inlined.{IsInlined, IsLaidOut, IsRefusalOf};
 
 use entries::inline_nonterminal;
 use graph::ordered;

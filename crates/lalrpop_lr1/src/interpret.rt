@@ -7,11 +7,11 @@ pub mod tree;
 ghost use Rattle.std.specs.Prelude.{◌≡◌, ◌<◌, ◌≤◌, length, IfOk, IfErr};
 ghost use Rattle.lalrpop_base.specs.Words.{AreCoherent, contents_in, reduced_productions, IsBeginning, begin, HasOutcome, IsFirstWrong, IsPromptRefusal};
 ghost use Rattle.lalrpop_base.specs.Words.{beside, no_trees, leaves, nodes, AreOfGrammar};
-ghost use Rattle.lalrpop_lr1.specs.Answers.{IsAnswer, IsPartialAnswer};
-ghost use Rattle.lalrpop_lr1.specs.FaithfulAnswers.{ForEachGrammar, ForEachCanonical, HasEnough, HasOneTree, StepsAreRight, IsTreeWithin, IsCutOff, AnswersTrees, IfRefused, IfLimit, IsLimit, TakesBeginning};
-ghost use Rattle.lalrpop_lr1.specs.ParseTrees.{tree_of};
-ghost use Rattle.lalrpop_lr1.specs.Reading.{HasPartialOutcome};
-ghost use Rattle.lalrpop_lr1.specs.Steps.{IsParsedIn};
+ghost use Rattle.lalrpop_lr1.specs.runs.Answers.{IsAnswer, IsPartialAnswer};
+ghost use Rattle.lalrpop_lr1.specs.runs.FaithfulAnswers.{ForEachGrammar, ForEachCanonical, HasEnough, HasOneTree, StepsAreRight, IsTreeWithin, IsCutOff, AnswersTrees, IfRefused, IfLimit, IsLimit, TakesBeginning};
+ghost use Rattle.lalrpop_lr1.specs.trees.ParseTrees.{tree_of};
+ghost use Rattle.lalrpop_lr1.specs.runs.Reading.{HasPartialOutcome};
+ghost use Rattle.lalrpop_lr1.specs.runs.Steps.{IsParsedIn};
 
 pub use error::InterpretError;
 use lalrpop_base::lr1_core::state::{State, StateIndex};

@@ -12,8 +12,8 @@ mod whole;
 ghost use Rattle.std.specs.Prelude.{◌≡◌, ◌+◌, ◌-◌, ◌^◌, ◌<◌, OnOk, IfErr, IsSomeAnd};
 ghost use Rattle.std.specs.Io.KnownBytes.{Appends};
 ghost use Rattle.lalrpop_base.specs.Words.{Bits};
-ghost use Rattle.lalrpop_lr1.specs.Report.{report_text};
-ghost use Rattle.lalrpop_lr1.specs.ReportSinks.{IfNothingOffered, IfWriteFault, TellsLastFault, TellsOfText, WroteBeginning};
+ghost use Rattle.lalrpop_lr1.specs.reports.Report.{report_text};
+ghost use Rattle.lalrpop_lr1.specs.reports.ReportSinks.{IfNothingOffered, IfWriteFault, TellsLastFault, TellsOfText, WroteBeginning};
 
 pub use error::ReportError;
 use lalrpop_base::lr1_core::state::{Lr1Result, LrResult};

@@ -12,11 +12,11 @@ mod spelling;
 pub mod trace_graph;
 
 ghost use Rattle.std.specs.Prelude.{◌≡◌, IfOk};
-ghost use Rattle.lalrpop_lr1.specs.Meetings.{asked};
-ghost use Rattle.lalrpop_lr1.specs.Examples.{CarryRightSides};
-ghost use Rattle.lalrpop_lr1.specs.TraceGraphs.{AreKnownEdges};
-ghost use Rattle.lalrpop_lr1.specs.TraceOrder.{IsInOrder};
-ghost use Rattle.lalrpop_lr1.specs.Traces.{HasOwnProductions, HasOwnTerminals, IsTraceOf, shift_traced, reduction_traced};
+ghost use Rattle.lalrpop_lr1.specs.traces.Meetings.{asked};
+ghost use Rattle.lalrpop_lr1.specs.traces.Examples.{CarryRightSides};
+ghost use Rattle.lalrpop_lr1.specs.traces.TraceGraphs.{AreKnownEdges};
+ghost use Rattle.lalrpop_lr1.specs.traces.TraceOrder.{IsInOrder};
+ghost use Rattle.lalrpop_lr1.specs.traces.Traces.{HasOwnProductions, HasOwnTerminals, IsTraceOf, shift_traced, reduction_traced};
 
 pub use enumerator::PathEnumerator;
 pub use example::{Example, ExampleSymbol, Reduction};

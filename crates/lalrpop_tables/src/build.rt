@@ -1,41 +1,26 @@
-//! The construction of LR(0) and LR(1) states.
+//! LR(1) states by the method that is asked for, and the construction of states.
 mod by_lanes;
-mod canonical;
-mod closure;
-mod epsilon_moves;
-mod kernel;
-pub mod lookahead_build;
-pub mod lr;
-mod lr0;
-mod numbered;
-pub(crate) mod numbers;
 pub mod options;
-mod reductions;
-pub(crate) mod results;
-mod states;
-pub mod tables_or_count;
-pub(crate) mod tokens;
-mod transitions;
 
 ghost use Rattle.std.specs.Prelude.{IfOk, IfErr};
 ghost use Rattle.lalrpop_base.specs.Words.{IsWellFormed};
-ghost use Rattle.lalrpop_tables.specs.Lr1Answers.{AreBuiltTablesOf, FailsOn};
-ghost use Rattle.lalrpop_tables.specs.TablesOrCount.{AreBuiltTablesOrCount};
+ghost use Rattle.lalrpop_tables.specs.answers.Lr1Answers.{AreBuiltTablesOf, FailsOn};
+ghost use Rattle.lalrpop_tables.specs.answers.TablesOrCount.{AreBuiltTablesOrCount};
 
+use crate::construction::canonical::{build_canonical_states, canonical_states_or_count};
+pub use crate::construction::kernel::Kernel;
+pub use crate::construction::lookahead_build::LookaheadBuild;
+pub use crate::construction::lr::Lr;
+pub use crate::construction::lr0::build_lr0_states;
+pub use crate::construction::numbers::rests::Rest;
+pub use crate::construction::tables_or_count::TablesOrCount;
 use by_lanes::tables_by_lanes;
-use canonical::{build_canonical_states, canonical_states_or_count};
-pub use kernel::Kernel;
 use lalrpop_base::lr1_core::state::Lr1Result;
 use lalrpop_base::memory::OutOfMemory;
 use lalrpop_base::repr::NonterminalString;
 use lalrpop_base::repr::grammar::Grammar;
-pub use lookahead_build::LookaheadBuild;
-pub use lr::Lr;
-pub use lr0::build_lr0_states;
-pub use numbers::rests::Rest;
 pub use options::{Method, Options};
 use std::alloc::Global;
-pub use tables_or_count::TablesOrCount;
 
 /// The LR(1) states of a grammar by their construction numbers, or its canonical conflicts. By the
 /// lane way they are lane tables, where there are such and they pass the check; else the canonical

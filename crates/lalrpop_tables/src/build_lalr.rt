@@ -9,15 +9,15 @@ ghost use Rattle.std.specs.Prelude.{◌≡◌, ◌<◌, length, IfOk, IfErr, Mat
 ghost use Rattle.lalrpop_base.specs.Words.{AreCoherent, AreCollapsible, IsWellFormed, productions};
 ghost use Rattle.lalrpop_base.specs.declared.repr.NonterminalString.{NonterminalString as Start};
 ghost use Rattle.lalrpop_base.specs.declared.repr.grammar.Grammar.{Grammar as Rules};
-ghost use Rattle.lalrpop_tables.specs.Canonical.{AreOrderedCanonical};
-ghost use Rattle.lalrpop_tables.specs.Collapsed.{AreOrdered, AreCollapsedTables, FailsByCollapse};
-ghost use Rattle.lalrpop_tables.specs.Lalr.{AreLalrTables, TellsNotLALR1, HasCoherentStates, HasOrderedStates};
-ghost use Rattle.lalrpop_tables.specs.Lr1Answers.{AreBuiltTablesOf, FailsOn};
+ghost use Rattle.lalrpop_base.specs.states.Canonical.{AreOrderedCanonical};
+ghost use Rattle.lalrpop_base.specs.collapse.Collapsed.{AreOrdered, AreCollapsedTables, FailsByCollapse};
+ghost use Rattle.lalrpop_tables.specs.collapse.Lalr.{AreLalrTables, TellsNotLALR1, HasCoherentStates, HasOrderedStates};
+ghost use Rattle.lalrpop_tables.specs.answers.Lr1Answers.{AreBuiltTablesOf, FailsOn};
 
 use crate::build::build_lr1_states;
 use crate::build::options::{Method, Options};
-use crate::build::results::tables_or_conflicts;
 use crate::conflicts::conflicts_of;
+use crate::construction::results::tables_or_conflicts;
 use lalrpop_base::lr1_core::state::{Lr1Result, Lr1State};
 use lalrpop_base::repr::NonterminalString;
 use lalrpop_base::repr::grammar::Grammar;
@@ -78,7 +78,7 @@ pub fn collapse_to_lalr_states<'grammar>(
 /// The LALR(1) states of a grammar, numbered by their first appearance, or its conflicts. Only
 /// states of the canonical method are merged; where the construction fails, its error is the
 /// answer.
-#[tactic(auto, using(crate::proofs::Lr1Answers::Failure_by_method))]
+#[tactic(auto, using(crate::proofs::theory::answers::Lr1Answers::Failure_by_method))]
 pub fn build_lalr_states<'grammar>(
     alloc: Global,
     grammar: &'grammar Grammar,

@@ -1,13 +1,11 @@
 //! The check of tables: whoever made them, a yes says that they are faithful.
 mod carrying;
 mod closing;
-pub(crate) mod sets;
 mod states;
 
-ghost use Rattle.std.specs.Prelude.{◌≡◌, ◌↔◌, ◌<◌, IfOk, IsTrue, Contains, ℕ, length};
+ghost use Rattle.std.specs.Prelude.{◌↔◌, ◌<◌, IfOk, IsTrue, length};
 ghost use Rattle.lalrpop_base.specs.Words.{AreClosed, AreChecked, AreCoherent, contents, AreFaithful, IsWellFormed, productions};
-ghost use Rattle.lalrpop_tables.specs.Check.{PassCheck, HoldCarried};
-ghost use Rattle.lalrpop_tables.specs.CheckStates.{AreListed, AreRightStates, IsTarget};
+ghost use Rattle.lalrpop_tables.specs.check.Check.{PassCheck, HoldCarried};
 
 use self::carrying::{all_have_carried, carried};
 use self::states::{are_right_states, listed_states, targets};

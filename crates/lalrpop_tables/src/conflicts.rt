@@ -1,11 +1,11 @@
 //! The conflicts of states.
 ghost use Rattle.std.specs.Prelude.{◌≡◌, ◌<◌, ◌^◌, ◌↔◌, ℕ, IfOk, IsTrue, MatchOption, SomeIff, length};
 ghost use Rattle.std.specs.List.{flat_map};
-ghost use Rattle.lalrpop_base.specs.StateConflicts.{HasNoConflict};
+ghost use Rattle.lalrpop_base.specs.conflicts.StateConflicts.{HasNoConflict};
 ghost use Rattle.lalrpop_base.specs.Words.{has, HasToken, state_conflicts};
 ghost use Rattle.lalrpop_base.specs.declared.lookahead.token.Token.TheVariants.{Terminal as TokenOf};
-ghost use Rattle.lalrpop_tables.specs.HeldShifts.{HoldsNoShift, IsHeldBit, ShareNoBit};
-ghost use Rattle.lalrpop_tables.specs.Results.{HaveNoConflict};
+ghost use Rattle.lalrpop_base.specs.conflicts.HeldShifts.{HoldsNoShift, IsHeldBit, ShareNoBit};
+ghost use Rattle.lalrpop_base.specs.conflicts.AllConflicts.{HaveNoConflict};
 
 use lalrpop_base::lookahead::Lookahead;
 use lalrpop_base::lookahead::token::Token;

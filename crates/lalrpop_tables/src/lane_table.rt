@@ -8,9 +8,9 @@ pub mod table;
 
 ghost use Rattle.std.specs.Prelude.{IfOk, IfErr, MatchResult};
 ghost use Rattle.lalrpop_base.specs.Words.{IsLALR1, IsOnNoRightSide, IsWellFormed, productions, rules_of};
-ghost use Rattle.lalrpop_tables.specs.Lalr.{TellsNotLALR1};
-ghost use Rattle.lalrpop_tables.specs.LaneStates.{AreLalrLaneTables};
-ghost use Rattle.lalrpop_tables.specs.Lr0Copies.{AreCopiedTables, FailsByCopies};
+ghost use Rattle.lalrpop_tables.specs.collapse.Lalr.{TellsNotLALR1};
+ghost use Rattle.lalrpop_tables.specs.lane_states.LaneStates.{AreLalrLaneTables};
+ghost use Rattle.lalrpop_tables.specs.lane_states.Lr0Copies.{AreCopiedTables, FailsByCopies};
 
 use self::construct::LaneTableConstruct;
 use lalrpop_base::lr1_core::state::Lr1Result;

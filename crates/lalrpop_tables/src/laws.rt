@@ -1,7 +1,7 @@
 //! What the construction of states says with one lookahead. Each function does nothing, and its
 //! contract is the law.
-ghost use Rattle.lalrpop_tables.specs.Laws.{SetTablesAreCanonical, SetErrorsAreCanonical};
-ghost use Rattle.lalrpop_tables.specs.Laws.{NilTablesAreLr0, NilTablesAreFree, NilErrorsHaveLr0, NilErrorsStop, NilErrorsListConflicts};
+ghost use Rattle.lalrpop_tables.specs.canonical.Laws.{SetTablesAreCanonical, SetErrorsAreCanonical};
+ghost use Rattle.lalrpop_tables.specs.canonical.Laws.{NilTablesAreLr0, NilTablesAreFree, NilErrorsHaveLr0, NilErrorsStop, NilErrorsListConflicts};
 
 /// States with sets of tokens, where Eof follows the start symbol.
 pub fn states_with_sets()

@@ -1,9 +1,9 @@
 //! LR(1) tables of a grammar.
 ghost use Rattle.std.specs.Prelude.{IfOk, IfErr};
 ghost use Rattle.lalrpop_base.specs.Words.{IsWellFormed};
-ghost use Rattle.lalrpop_tables.specs.Lalr.{Collapses};
-ghost use Rattle.lalrpop_tables.specs.Lr1Answers.{AreTablesOf, AreBuiltTablesOf, FailsOn};
-ghost use Rattle.lalrpop_tables.specs.TablesOrCount.{AreTablesOrCount};
+ghost use Rattle.lalrpop_tables.specs.collapse.Lalr.{Collapses};
+ghost use Rattle.lalrpop_tables.specs.answers.Lr1Answers.{AreTablesOf, AreBuiltTablesOf, FailsOn};
+ghost use Rattle.lalrpop_tables.specs.answers.TablesOrCount.{AreTablesOrCount};
 
 use crate::build::options::{Method, Options};
 use crate::build::{TablesOrCount, build_lr1_states, lr1_states_or_count};

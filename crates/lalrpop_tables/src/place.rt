@@ -1,6 +1,6 @@
 //! Places: dotted productions of states.
 ghost use Rattle.std.specs.Prelude.{◌≡◌, ◌<◌, ◌-◌, ◌↔◌, IsTrue};
-ghost use Rattle.lalrpop_tables.specs.CheckCarrying.{at_place};
+ghost use Rattle.lalrpop_tables.specs.check.CheckCarrying.{at_place};
 
 use lalrpop_base::exact::Exact;
 use lalrpop_base::lookahead::nil::Nil;
@@ -15,7 +15,7 @@ pub(crate) struct Place<'grammar> {
 }
 
 impl<'grammar> Exact for Place<'grammar> {
-    ghost use Rattle.lalrpop_tables.specs.CheckPlaces.{place_exact};
+    ghost use Rattle.lalrpop_tables.specs.check.CheckPlaces.{place_exact};
     ghost use Rattle.lalrpop_base.specs.Words.{dotted_exact};
     ghost use Rattle.lalrpop_base.specs.contracts.exact.ProductionExact.TheImpl.Laws.{exact-law as production_exact};
     ghost use Rattle.lalrpop_base.specs.contracts.lookahead.nil.NilExact.TheImpl.Laws.{exact-law as nil_exact};

@@ -7,8 +7,8 @@ mod origins;
 ghost use Rattle.std.specs.Prelude.{◌≡◌, ◌↔◌, ◌∷◌, [], List, reverse, take, IfOk, OnOk, Contains};
 ghost use Rattle.std.specs.List.Sorted.{IsStrictlySortedBy};
 ghost use Rattle.lalrpop_base.specs.declared.lr1_core.state.StateIndex.{StateIndex};
-ghost use Rattle.lalrpop_tables.specs.Neighbours.{targets_left, sources_left};
-ghost use Rattle.lalrpop_tables.specs.StateGraph.{Edge, edges, shift_edges, goto_edges, IsGraphOf, IsGrown, LeadsTo, targets_of, sources_over, edge, state_cmp, AddsStates, HaveSameStates, IsStepBack};
+ghost use Rattle.lalrpop_tables.specs.graphs.Neighbours.{targets_left, sources_left};
+ghost use Rattle.lalrpop_tables.specs.graphs.StateGraph.{Edge, edges, shift_edges, goto_edges, IsGraphOf, IsGrown, LeadsTo, targets_of, sources_over, edge, state_cmp, AddsStates, HaveSameStates, IsStepBack};
 
 use self::lists::{list_of, push_at};
 use self::neighbours::{Predecessors, Successors};

@@ -11,9 +11,9 @@ use Rattle.lalrpop_base.specs.declared.lookahead.token.Token.TheVariants.{Eof, E
 use Rattle.lalrpop_base.specs.declared.repr.Production.{Production}
 use Rattle.lalrpop_base.specs.declared.repr.Symbol.{Symbol}
 use Rattle.lalrpop_base.specs.declared.repr.TerminalString.{TerminalString}
-use Rattle.lalrpop_base.proofs.HeldTokens.{place_there}
-use Rattle.lalrpop_tables.proofs.KnownTerminals.{token_bit, held_bit, bit_held, begun_bit}
-use Rattle.lalrpop_tables.proofs.Places.{one_place, same_some}
+use Rattle.lalrpop_base.proofs.theory.sets.HeldTokens.{place_there}
+use Rattle.lalrpop_base.proofs.theory.grammars.KnownTerminals.{token_bit, held_bit, bit_held, begun_bit}
+use Rattle.lalrpop_base.proofs.theory.lists.Places.{one_place, same_some}
 use Rattle.lalrpop_tests.specs.declared.word_lookahead.Word.{Word}
 use Rattle.lalrpop_tests.specs.Words.{bits_of_word, has-bits_of_word, word-zero, word-or}
 use Rattle.lalrpop_tests.specs.WordMoves.{BeginsLow, IsWordOf}

@@ -9,6 +9,7 @@ use lalrpop_base::lookahead::token_set::TokenSet;
 use lalrpop_base::lr1_core::coherent::are_coherent;
 use lalrpop_base::lr1_core::collapsible::are_collapsible;
 use lalrpop_base::lr1_core::item::Item;
+use lalrpop_base::lr1_core::lr0::Lr0State;
 use lalrpop_base::lr1_core::state::{Items, Lr1State, State, StateIndex};
 use lalrpop_base::memory::OutOfMemory;
 use lalrpop_base::repr::grammar::{Grammar, is_well_formed};
@@ -24,6 +25,7 @@ use std::test::Fail;
 fn grammars_that_are_not_well_formed(rt: HostRuntime) -> Result<(), Fail> {
     let alloc = rt.alloc();
     let s = name_of(alloc, "S")?;
+    assert!(rt; is_well_formed(&grammar(alloc, ONE)?));
     let mut repeated = grammar(alloc, ONE)?;
     let production = first_production(alloc, &repeated, "S")?.clone(alloc)?;
     if let Some(entry) = repeated.nonterminals.get_mut(&s) {
@@ -53,6 +55,99 @@ fn terminals_of_a_trace_graph(rt: HostRuntime) -> Result<(), Fail> {
     let graph = one_edge(alloc, &grammar)?;
     assert!(rt; graph.is_known(&known));
     assert!(rt; !graph.is_known(&others));
+    Ok(())
+}
+
+// A terminal behind the symbol behind the dot has to be known too.
+#[test]
+fn terminals_of_a_suffix(rt: HostRuntime) -> Result<(), Fail> {
+    let alloc = rt.alloc();
+    let known = TerminalSet::new(alloc, literals(alloc, &["x"])?)?;
+    let others = TerminalSet::new(alloc, literals(alloc, &["y"])?)?;
+    let grammar = grammar(alloc, "S = A \"x\"\nA = \"y\"")?;
+    let graph = one_edge(alloc, &grammar)?;
+    assert!(rt; graph.is_known(&known));
+    assert!(rt; !graph.is_known(&others));
+    Ok(())
+}
+
+#[test]
+fn no_states_are_coherent(rt: HostRuntime) -> Result<(), Fail> {
+    let states: Vec<Lr1State<'_>> = Vec::new(rt.alloc());
+    assert!(rt; are_coherent(&states));
+    assert!(rt; are_collapsible(&states));
+    Ok(())
+}
+
+// A state of productions with the dot at one place, which leads nowhere.
+fn state_of<'g>(
+    alloc: Global,
+    number: usize,
+    productions: &[&'g Production],
+    dot: usize,
+) -> Result<Lr0State<'g>, Fail> {
+    let mut vec = Vec::new(alloc);
+    for production in productions {
+        if dot > production.symbols.len() {
+            return Err(Fail::from("the dot is past the end"));
+        }
+        vec.push(Item::lr0(*production, dot))?;
+    }
+    Ok(State {
+        index: StateIndex(number),
+        items: Items { vec },
+        shifts: BTreeMap::new(alloc),
+        reductions: Vec::new(alloc),
+        gotos: BTreeMap::new(alloc),
+    })
+}
+
+// Lets a state lead to another one.
+fn lead(
+    alloc: Global,
+    states: &mut [Lr0State<'_>],
+    from: usize,
+    text: &str,
+    to: usize,
+) -> Result<(), OutOfMemory> {
+    if let Some(state) = states.get_mut(from) {
+        state.shifts.insert(literal(alloc, text)?, StateIndex(to))?;
+    }
+    Ok(())
+}
+
+// States of X and Y, where the second and the fourth list the same, and lead over "d" to the ends
+// of X and of the production of a name.
+fn states_to_ends<'g>(
+    alloc: Global,
+    grammar: &'g Grammar,
+    name: &str,
+) -> Result<Vec<Lr0State<'g>>, Fail> {
+    let x = first_production(alloc, grammar, "X")?;
+    let y = first_production(alloc, grammar, "Y")?;
+    let last = first_production(alloc, grammar, name)?;
+    let mut states = Vec::new(alloc);
+    states.push(state_of(alloc, 0, &[x, y], 0)?)?;
+    states.push(state_of(alloc, 1, &[x, y], 1)?)?;
+    states.push(state_of(alloc, 2, &[x], 2)?)?;
+    states.push(state_of(alloc, 3, &[x, y], 1)?)?;
+    states.push(state_of(alloc, 4, &[last], 2)?)?;
+    lead(alloc, &mut states, 0, "c", 1)?;
+    lead(alloc, &mut states, 1, "d", 2)?;
+    lead(alloc, &mut states, 3, "d", 4)?;
+    Ok(states)
+}
+
+// Lists of one item each may differ in it.
+#[test]
+fn states_that_differ_in_one_item(rt: HostRuntime) -> Result<(), Fail> {
+    let alloc = rt.alloc();
+    let grammar = grammar(alloc, "X = \"c\" \"d\"\nY = \"c\" \"d\"")?;
+    for (name, collapsible) in [("X", true), ("Y", false)] {
+        let states = states_to_ends(alloc, &grammar, name)?;
+        assert!(rt; are_coherent(&states));
+        assert_eq!(rt; are_collapsible(&states), collapsible);
+    }
     Ok(())
 }
 
@@ -105,6 +200,37 @@ fn states_that_are_not_coherent_or_not_collapsible(rt: HostRuntime) -> Result<()
         assert_eq!(rt; are_coherent(&states), coherent);
         assert_eq!(rt; are_collapsible(&states), collapsible);
     }
+    Ok(())
+}
+
+// Makes a state that leads nowhere, with the dot of its last item one place further.
+fn move_dot(alloc: Global, state: &mut Lr1State) -> Result<(), OutOfMemory> {
+    state.shifts.clear();
+    let Some(item) = state.items.vec.pop() else {
+        return Ok(());
+    };
+    if let Some((_symbol, shifted)) = item.shifted_item(alloc)? {
+        state.items.vec.push(shifted)?;
+    }
+    Ok(())
+}
+
+// A state stands at the place of its number, and the first begins no item past its beginning.
+#[test]
+fn states_that_are_misplaced(rt: HostRuntime) -> Result<(), Fail> {
+    let alloc = rt.alloc();
+    let grammar = grammar(alloc, "X = \"c\" \"d\"")?;
+    let mut states = states_with_twins(alloc, &grammar, 4, false)?;
+    assert!(rt; are_coherent(&states));
+    if let Some(state) = states.get_mut(3) {
+        state.index = StateIndex(4);
+    }
+    assert!(rt; !are_coherent(&states));
+    let mut moved = states_with_twins(alloc, &grammar, 4, false)?;
+    if let Some(state) = moved.get_mut(0) {
+        move_dot(alloc, state)?;
+    }
+    assert!(rt; !are_coherent(&moved));
     Ok(())
 }
 

@@ -50,6 +50,16 @@ pub(crate) fn literals(alloc: Global, texts: &[&str]) -> Result<Vec<TerminalStri
     Ok(all)
 }
 
+/// The literals `0` to `63`, of which each has a bit of the first word, and the end has none.
+pub(crate) fn many_terminals(alloc: Global) -> Result<TerminalSet, Fail> {
+    let mut all = Vec::new(alloc);
+    for number in 0..64 {
+        let text = format!(in alloc; "{number}")?;
+        all.push(literal(alloc, text.as_str())?)?;
+    }
+    Ok(TerminalSet::new(alloc, all)?)
+}
+
 /// The set of one literal, which has no token where the literal is no terminal.
 pub(crate) fn only(
     alloc: Global,

@@ -12,6 +12,7 @@ use lalrpop_base::sequence::Sequence;
 use lalrpop_base::text::Text;
 use lalrpop_lr1::interpret::ParseTree;
 use lalrpop_tables::build::options::{Method, Options};
+use std::alloc::Global;
 use std::fmt;
 use std::test::Fail;
 
@@ -141,5 +142,27 @@ fn trees_are_compared(rt: HostRuntime) -> Result<(), Fail> {
         format!(in alloc; "{tree} {tree:?}")?.as_str(),
         "[S: \"x\", [A: ]] [S: \"x\", [A: ]]"
     );
+    Ok(())
+}
+
+// A tree of so many nonterminals, one below the other, over a terminal.
+fn chain(alloc: Global, count: usize, leaf: &str) -> Result<ParseTree, Fail> {
+    let mut tree = ParseTree::Terminal(literal(alloc, leaf)?);
+    for _ in 0..count {
+        tree = ParseTree::Nonterminal(name_of(alloc, "A")?, vec![in alloc; tree]?);
+    }
+    Ok(tree)
+}
+
+// Nothing recurses as deep as a tree.
+#[test]
+fn deep_trees(rt: HostRuntime) -> Result<(), Fail> {
+    let alloc = rt.alloc();
+    let tree = chain(alloc, 100_000, "x")?;
+    assert!(rt; tree == tree.clone(alloc)?);
+    assert!(rt; tree != chain(alloc, 100_000, "y")?);
+    assert_eq!(rt; tree.terminals(alloc)?.len(), 1);
+    let text = format!(in alloc; "{tree:?}")?;
+    assert_eq!(rt; text.as_str().len(), 500_003);
     Ok(())
 }

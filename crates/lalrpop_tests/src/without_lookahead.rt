@@ -6,7 +6,7 @@ use grammar_text::symbols::name_of;
 use lalrpop_base::lookahead::nil::Nil;
 use lalrpop_base::lr1_core::state::BuildError;
 use lalrpop_base::repr::grammar::Grammar;
-use lalrpop_tables::build::lr::Lr;
+use lalrpop_tables::build::Lr;
 use std::alloc::Global;
 use std::test::Fail;
 

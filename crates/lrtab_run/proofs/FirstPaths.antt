@@ -6,7 +6,7 @@ use Rattle.std.proofs.lemmas.Grind.{flat_map-append}
 use mathlib.Core.Bool.{true≢false}
 use mathlib.Core.List.{nil≢cons}
 use Rattle.lalrpop_base.specs.Words.{Bits, has, IsFirstSet, Rules}
-use Rattle.lalrpop_tables.proofs.Lists.{Contains-here, Contains-there}
+use Rattle.lalrpop_base.proofs.theory.lists.Members.{contains_head, contains_tail}
 use Rattle.lalrpop_lr1.specs.Words.{IsExampleOf, following, prefixes, place, spelled, Graph, AreKnownEdges, to_come, GoesTo, IsOfFirst, Meets}
 use Rattle.lalrpop_lr1.specs.Words.{NoneMeets, IsSameFilter, IsOfFirstMeeting}
 use Rattle.lalrpop_lr1.specs.declared.trace.enumerator.PathEnumerator.{PathEnumerator}
@@ -35,11 +35,11 @@ path_more shown path more = sym (append_assoc shown (path ∷ []) more)
 module _ (P : List ℕ → Type 0) where
   skip_all : (n : ℕ) (skipped rest first : List (List ℕ)) → ((path : List ℕ) → Contains skipped path → ¬ P path) → AreFirst P n rest first → AreFirst P n (skipped ++ rest) first
   skip_all n [] rest first not h = h
-  skip_all n (p ∷ ps) rest first not h = skip (not p (Contains-here p ps)) (skip_all n ps rest first (λ q c. not q (Contains-there p ps q c)) h)
+  skip_all n (p ∷ ps) rest first not h = skip (not p (contains_head p ps)) (skip_all n ps rest first (λ q c. not q (contains_tail p ps q c)) h)
 
   none_left : (n : ℕ) (all : List (List ℕ)) → ((path : List ℕ) → Contains all path → ¬ P path) → AreFirst P n all []
   none_left n [] not = none
-  none_left n (p ∷ ps) not = skip (not p (Contains-here p ps)) (none_left n ps (λ q c. not q (Contains-there p ps q c)))
+  none_left n (p ∷ ps) not = skip (not p (contains_head p ps)) (none_left n ps (λ q c. not q (contains_tail p ps q c)))
 
 -- ---- a walk over all paths
 -- the walk has shown some paths, and the first of the rest are to be shown

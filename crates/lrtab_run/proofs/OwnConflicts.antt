@@ -5,7 +5,7 @@ use Rattle.std.specs.List.{filter, flat_map}
 use Rattle.std.proofs.lemmas.List.Elements.{Contains-append_cases}
 use Rattle.lalrpop_base.specs.Words.{Bits, has, Dotted, share, shift_conflict, conflicts_on_place, shift_conflicts, reduce_conflict, later_conflicts}
 use Rattle.lalrpop_base.specs.Words.{reduce_conflicts, state_conflicts, place_in, productions, IsWellFormed, rules_of}
-use Rattle.lalrpop_base.specs.StateConflicts.{Reduction}
+use Rattle.lalrpop_base.specs.conflicts.StateConflicts.{Reduction}
 use Rattle.lalrpop_base.specs.declared.lr1_core.state.Conflict.{Conflict}
 use Rattle.lalrpop_base.specs.declared.lr1_core.state.State.{State}
 use Rattle.lalrpop_base.specs.declared.lr1_core.state.StateIndex.{StateIndex}
@@ -13,20 +13,21 @@ use Rattle.lalrpop_base.specs.declared.repr.NonterminalString.{NonterminalString
 use Rattle.lalrpop_base.specs.declared.repr.Production.{Production}
 use Rattle.lalrpop_base.specs.declared.repr.TerminalString.{TerminalString}
 use Rattle.lalrpop_base.specs.declared.repr.grammar.Grammar.{Grammar}
-use Rattle.lalrpop_base.proofs.ContentsViews.{contains_at, contains_of_map, contains_map}
-use Rattle.lalrpop_tables.specs.Words.{AreStatesOf, AreAllConflicts, canonical_of, reductions_of, seen}
-use Rattle.lalrpop_tables.proofs.Grammars.{known_symbols}
-use Rattle.lalrpop_tables.proofs.Lists.{Contains-none, Contains-here, Contains-there, Contains-cases}
-use Rattle.lalrpop_lr1.proofs.InlineMembers.{from_flat_map}
+use Rattle.lalrpop_base.proofs.theory.states.ContentsViews.{contains_at, contains_of_map, contains_map}
+use Rattle.lalrpop_base.specs.Words.{AreAllConflicts}
+use Rattle.lalrpop_tables.specs.Words.{AreStatesOf, canonical_of, reductions_of, seen}
+use Rattle.lalrpop_base.proofs.theory.grammars.Grammars.{known_symbols}
+use Rattle.lalrpop_base.proofs.theory.lists.Members.{Contains-none, contains_head, contains_tail, contains-cons}
+use Rattle.lalrpop_lr1.proofs.theory.inlining.InlineMembers.{from_flat_map}
 use Rattle.lrtab_run.specs.Explaining.{AreOwnStates, IsOwnConflict}
 
 -- ---- what passes a filter was there
 from_filter_at : {X : Type 0} (b : Bool) (x : X) (xs ys : List X) (y : X) → Contains (cond b (x ∷ ys) ys) y → (Contains ys y → Contains xs y) → Contains (x ∷ xs) y
-from_filter_at true x xs ys y c more = elim (Contains-cases x ys y c) [
-  | inl e ↦ subst (Contains (x ∷ xs)) e (Contains-here x xs)
-  | inr later ↦ Contains-there x xs y (more later)
+from_filter_at true x xs ys y c more = elim (contains-cons x ys y c) [
+  | inl e ↦ subst (Contains (x ∷ xs)) e (contains_head x xs)
+  | inr later ↦ contains_tail x xs y (more later)
 ]
-from_filter_at false x xs ys y c more = Contains-there x xs y (more c)
+from_filter_at false x xs ys y c more = contains_tail x xs y (more c)
 
 from_filter : {X : Type 0} (p : X → Bool) (xs : List X) (y : X) → Contains (filter p xs) y → Contains xs y
 from_filter p [] y c = c
@@ -55,10 +56,10 @@ module _ (ps : List Production) (terminals : List TerminalString) (number : Stat
   own_reductions (r ∷ rs) own c i = elim (Contains-append_cases (later_conflicts number r rs) (reduce_conflicts number rs) c i) [
     | inl here ↦ let q = contains_of_map (reduce_conflict number r) (filter (λ (s : Reduction). share r.0 s.0) rs) c here in
         subst (IsOwnConflict ps) q.2 (record {
-          production = own r (Contains-here r rs);
-          action = own q.0 (Contains-there r rs q.0 (from_filter (λ (s : Reduction). share r.0 s.0) rs q.0 q.1));
+          production = own r (contains_head r rs);
+          action = own q.0 (contains_tail r rs q.0 (from_filter (λ (s : Reduction). share r.0 s.0) rs q.0 q.1));
         })
-    | inr later ↦ own_reductions rs (λ q k. own q (Contains-there r rs q k)) c later
+    | inr later ↦ own_reductions rs (λ q k. own q (contains_tail r rs q k)) c later
   ]
 
 own_conflict : (ps : List Production) (terminals : List TerminalString) (state : State Bits) → AreOwn ps state.reductions.items → (c : Conflict Bits) → Contains (state_conflicts terminals state) c → IsOwnConflict ps c
@@ -72,11 +73,11 @@ abbrev IsOfItem : List (Dotted Bits) → Bits × Production → Type 0
 IsOfItem items r = (i : Dotted Bits) × Contains items i × (i.production ≡ r.1)
 
 of_item_at : (i : Dotted Bits) (items : List (Dotted Bits)) (r : Bits × Production) (b : Bool) → Contains (cond b ((i.lookahead, i.production) ∷ reductions_of items) (reductions_of items)) r → (Contains (reductions_of items) r → IsOfItem items r) → IsOfItem (i ∷ items) r
-of_item_at i items r true c later = elim (Contains-cases (i.lookahead, i.production) (reductions_of items) r c) [
-  | inl e ↦ (i, Contains-here i items, ap (λ (q : Bits × Production). q.1) e)
-  | inr more ↦ let f = later more in (f.0, Contains-there i items f.0 f.1, f.2)
+of_item_at i items r true c later = elim (contains-cons (i.lookahead, i.production) (reductions_of items) r c) [
+  | inl e ↦ (i, contains_head i items, ap (λ (q : Bits × Production). q.1) e)
+  | inr more ↦ let f = later more in (f.0, contains_tail i items f.0 f.1, f.2)
 ]
-of_item_at i items r false c later = let f = later c in (f.0, Contains-there i items f.0 f.1, f.2)
+of_item_at i items r false c later = let f = later c in (f.0, contains_tail i items f.0 f.1, f.2)
 
 of_item : (items : List (Dotted Bits)) (r : Bits × Production) → Contains (reductions_of items) r → IsOfItem items r
 of_item [] r c = absurd (Contains-none r c)

@@ -9,7 +9,7 @@ use Rattle.lalrpop_base.specs.declared.repr.NonterminalString.{NonterminalString
 use Rattle.lalrpop_base.specs.declared.repr.grammar.Grammar.{Grammar}
 use Rattle.lalrpop_tables.specs.Words.{Collapses, AreTablesOf, HasConflictsOf}
 use Rattle.lalrpop_tables.specs.declared.build.options.Options.{Options}
-use Rattle.lalrpop_tables.proofs.Lr1Answers.{Tables-where, Failure-where}
+use Rattle.lalrpop_tables.proofs.theory.answers.Lr1Answers.{Tables-where, Failure-where}
 
 module _ (g : Grammar) (options : Options) (plain : g.algorithm.lalr ≡ false) (start : NonterminalString) where
   not_collapsed : ¬ Collapses g options

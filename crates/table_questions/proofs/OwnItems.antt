@@ -9,13 +9,14 @@ use Rattle.lalrpop_base.specs.declared.lr1_core.state.State.{State}
 use Rattle.lalrpop_base.specs.declared.repr.NonterminalString.{NonterminalString}
 use Rattle.lalrpop_base.specs.declared.repr.Production.{Production}
 use Rattle.lalrpop_base.specs.declared.repr.grammar.Grammar.{Grammar}
-use Rattle.lalrpop_base.proofs.ContentsViews.{contains_map}
-use Rattle.lalrpop_base.proofs.theory.Lanes.{items_at}
-use Rattle.lalrpop_base.proofs.theory.Valid.{of_grammar}
+use Rattle.lalrpop_base.proofs.theory.states.ContentsViews.{contains_map}
+use Rattle.lalrpop_base.proofs.theory.lanes.Lanes.{items_at}
+use Rattle.lalrpop_base.proofs.theory.closures.Valid.{of_grammar}
 use Rattle.table_questions.specs.Traces.{AreReady, IsTracing}
 use Rattle.table_questions.specs.declared.ask.lane_tables.Traces.{Traces}
-use Rattle.lalrpop_tables.proofs.Grammars.{productions_among}
-use Rattle.lalrpop_tables.specs.Words.{dot_of, HaveOwnItems, IsReadyToTrace, ReducesOwn, AreLr0States, on_any, lr0_contents}
+use Rattle.lalrpop_base.proofs.theory.grammars.Grammars.{productions_among}
+use Rattle.lalrpop_base.specs.Words.{AreLr0States, on_any, lr0_contents}
+use Rattle.lalrpop_tables.specs.Words.{dot_of, HaveOwnItems, IsReadyToTrace, ReducesOwn}
 use Rattle.lalrpop_tables.specs.declared.lane_table.lane.LaneTracer.{LaneTracer}
 
 pub own_items : (g : Rules) (start : NonterminalString) (states : List (State Nil)) → AreLr0States g start states → HaveOwnItems g.productions states

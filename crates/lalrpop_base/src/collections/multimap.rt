@@ -4,7 +4,7 @@ ghost use Rattle.std.specs.Ordering.{is_eq};
 ghost use Rattle.std.specs.Iterator.{IsFinite, Drains};
 ghost use Rattle.std.specs.List.Sorted.{IsStrictlySortedBy};
 ghost use Rattle.std.specs.Map.{keys_of};
-ghost use Rattle.lalrpop_base.specs.Multimaps.{collection_at, PushesAt, SameAt, AreSame, at_itself, IsCollected, values_at};
+ghost use Rattle.lalrpop_base.specs.lists.Multimaps.{collection_at, PushesAt, SameAt, AreSame, at_itself, IsCollected, values_at};
 
 pub use crate::collections::{Collection, Map, Set};
 use crate::memory::OutOfMemory;

@@ -2,11 +2,11 @@
 ghost use Rattle.std.specs.Prelude.{◌≡◌, ◌<◌, ℕ, length, Contains, IfOk, OnOk};
 ghost use Rattle.std.specs.List.{zip};
 ghost use Rattle.std.specs.Map.{keys_of};
-ghost use Rattle.lalrpop_base.specs.WellFormed.{IsWellFormed, rules_of};
-ghost use Rattle.lalrpop_base.specs.First.{AreFirstSetsOf};
-ghost use Rattle.lalrpop_base.specs.FirstNumbers.{HasBitsBelow};
-ghost use Rattle.lalrpop_base.specs.FirstUses.{uses_at};
-ghost use Rattle.lalrpop_base.specs.FirstTurns.{IsAdded, IsQueued, IsTurn};
+ghost use Rattle.lalrpop_base.specs.grammars.WellFormed.{IsWellFormed, rules_of};
+ghost use Rattle.lalrpop_base.specs.first.First.{AreFirstSetsOf};
+ghost use Rattle.lalrpop_base.specs.first.FirstNumbers.{HasBitsBelow};
+ghost use Rattle.lalrpop_base.specs.first.FirstUses.{uses_at};
+ghost use Rattle.lalrpop_base.specs.first.FirstTurns.{IsAdded, IsQueued, IsTurn};
 
 use super::names::Names;
 use super::numbered::{NumberedProduction, number_productions};

@@ -2,7 +2,7 @@
 ghost use Rattle.std.specs.Prelude.{◌≡◌, length, IfOk};
 ghost use Rattle.std.specs.List.{zip};
 ghost use Rattle.std.specs.Map.{keys_of};
-ghost use Rattle.lalrpop_base.specs.FirstNumbers.{place};
+ghost use Rattle.lalrpop_base.specs.first.FirstNumbers.{place};
 
 use super::table::Table;
 use crate::lookahead::token_set::TokenSet;
@@ -23,7 +23,7 @@ impl Model for Names {
     ghost use Rattle.std.specs.Prelude.{◌≡◌, List};
     ghost use Rattle.std.specs.Map.{keys_of};
     ghost use Rattle.lalrpop_base.specs.declared.repr.NonterminalString.{NonterminalString};
-    ghost use Rattle.lalrpop_base.specs.FirstNumbers.{numbers_from};
+    ghost use Rattle.lalrpop_base.specs.first.FirstNumbers.{numbers_from};
 
     ghost Value = { List NonterminalString };
 

@@ -3,8 +3,8 @@ ghost use Rattle.std.specs.Prelude.{◌≡◌, ◌++◌, List, IfOk, OnOk};
 ghost use Rattle.std.specs.List.{AllZip};
 ghost use Rattle.std.specs.Map.{keys_of};
 ghost use Rattle.lalrpop_base.specs.declared.repr.Production.{Production};
-ghost use Rattle.lalrpop_base.specs.WellFormed.{IsWellFormed, HasKnownTerminals, productions};
-ghost use Rattle.lalrpop_base.specs.FirstNumbers.{IsNumberedSymbol, IsNumberedProduction, AreReady};
+ghost use Rattle.lalrpop_base.specs.grammars.WellFormed.{IsWellFormed, HasKnownTerminals, productions};
+ghost use Rattle.lalrpop_base.specs.first.FirstNumbers.{IsNumberedSymbol, IsNumberedProduction, AreReady};
 
 use super::names::Names;
 use crate::memory::OutOfMemory;

@@ -1,6 +1,6 @@
 //! A queue of numbers, each of which waits at most once.
 ghost use Rattle.std.specs.Prelude.{◌≡◌, ◌<◌, ◌≤◌, ◌==◌, ◌||◌, ◌∷◌, [], ℕ, true, length, IfOk, OnOk, IfSome, IfNone};
-ghost use Rattle.lalrpop_base.specs.Queues.{Waiting, waits};
+ghost use Rattle.lalrpop_base.specs.lists.Queues.{Waiting, waits};
 
 use crate::memory::OutOfMemory;
 use std::alloc::Global;
@@ -16,7 +16,7 @@ pub(super) struct Queue {
 
 impl Model for Queue {
     ghost use Rattle.std.specs.Prelude.{length};
-    ghost use Rattle.lalrpop_base.specs.Queues.{Waiting, IsMarked};
+    ghost use Rattle.lalrpop_base.specs.lists.Queues.{Waiting, IsMarked};
 
     ghost Value = { Waiting };
 

@@ -1,8 +1,8 @@
 //! Sets of tokens by the numbers of names.
 ghost use Rattle.std.specs.Prelude.{◌≡◌, ◌↔◌, ℕ, true, false, length, IfOk};
-ghost use Rattle.lalrpop_base.specs.Bits.{has, no_bits};
-ghost use Rattle.lalrpop_base.specs.FirstTables.{IsSetJoined};
-ghost use Rattle.lalrpop_base.specs.FirstNumbers.{GivesByNumber, HasBitsBelow, set_at};
+ghost use Rattle.lalrpop_base.specs.lists.Bits.{has, no_bits};
+ghost use Rattle.lalrpop_base.specs.first.FirstTables.{IsSetJoined};
+ghost use Rattle.lalrpop_base.specs.first.FirstNumbers.{GivesByNumber, HasBitsBelow, set_at};
 
 use super::numbered::NumberedSymbol;
 use super::table::join_set;

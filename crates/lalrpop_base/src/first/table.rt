@@ -1,8 +1,8 @@
 //! A set of tokens for each name.
 ghost use Rattle.std.specs.Prelude.{◌≡◌, ◌↔◌, ℕ, true, false, [], IfOk, length};
-ghost use Rattle.lalrpop_base.specs.Bits.{has};
-ghost use Rattle.lalrpop_base.specs.WellFormed.{HasKnownTerminals};
-ghost use Rattle.lalrpop_base.specs.FirstTables.{Gives, IsSetJoined, is_in, set_of};
+ghost use Rattle.lalrpop_base.specs.lists.Bits.{has};
+ghost use Rattle.lalrpop_base.specs.grammars.WellFormed.{HasKnownTerminals};
+ghost use Rattle.lalrpop_base.specs.first.FirstTables.{Gives, IsSetJoined, is_in, set_of};
 
 use crate::lookahead::token_set::TokenSet;
 use crate::memory::OutOfMemory;

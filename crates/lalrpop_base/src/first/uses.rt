@@ -1,6 +1,6 @@
 //! The productions on whose right sides a name stands.
 ghost use Rattle.std.specs.Prelude.{◌≡◌, [], ◌∷◌, length, IfOk, OnOk};
-ghost use Rattle.lalrpop_base.specs.FirstUses.{AreUses, AddsUses};
+ghost use Rattle.lalrpop_base.specs.first.FirstUses.{AreUses, AddsUses};
 
 use super::numbered::{NumberedProduction, NumberedSymbol};
 use crate::memory::OutOfMemory;

@@ -1,7 +1,7 @@
 //! The numbers of a bit vector, one after another.
 ghost use Rattle.std.specs.Prelude.{◌≡◌, ◌*◌, ◌≤◌, ℕ, List, length};
 ghost use Rattle.std.specs.Iterator.{YieldsFirst, item_count};
-ghost use Rattle.lalrpop_base.specs.BitVectors.{members_from, IsBitVector};
+ghost use Rattle.lalrpop_base.specs.lists.BitVectors.{members_from, IsBitVector};
 
 use super::words::least_from;
 use std::marker::Model;
@@ -15,7 +15,7 @@ pub struct BitIter<'words> {
 
 impl<'words> Model for BitIter<'words> {
     ghost use Rattle.std.specs.Prelude.{◌*◌, ◌^◌, ◌≤◌, ℕ, List, length};
-    ghost use Rattle.lalrpop_base.specs.BitVectors.{members_from};
+    ghost use Rattle.lalrpop_base.specs.lists.BitVectors.{members_from};
 
     ghost Value = { List ℕ };
 

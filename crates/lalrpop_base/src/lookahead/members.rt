@@ -1,7 +1,7 @@
 //! The tokens of a set.
 ghost use Rattle.std.specs.Prelude.{◌≡◌, ◌≢◌, ◌+◌, ◌^◌, ◌<◌, ◌≤◌, ◌↔◌, ℕ, List, length, map, IsTrue, IfOk, OnOk, OnErr, not, MatchBool, IfSome, IsSome, Some, nat_le, IsFalse, ◌==◌, ◌&&◌};
-ghost use Rattle.lalrpop_base.specs.Bits.{Bits, no_bits, has, rising, with_bit, join};
-ghost use Rattle.lalrpop_base.specs.Tokens.{IsBitOf, HasToken, IsKnown, FitsTokens, token_of};
+ghost use Rattle.lalrpop_base.specs.lists.Bits.{Bits, no_bits, has, rising, with_bit, join};
+ghost use Rattle.lalrpop_base.specs.grammars.Tokens.{IsBitOf, HasToken, IsKnown, FitsTokens, token_of};
 
 use super::token::{Token, TokenRef, TokenSetIter};
 use super::token_set::TokenSet;

@@ -1,7 +1,7 @@
 //! No lookahead.
 ghost use Rattle.std.specs.Prelude.{◌≡◌, ◌++◌, refl, ⊤, map, OnOk};
-ghost use Rattle.lalrpop_base.specs.Bits.{no_bits, join_self};
-ghost use Rattle.lalrpop_base.specs.NilConflicts.{nil_conflict, nil_conflicts, nil_reduce_conflicts};
+ghost use Rattle.lalrpop_base.specs.lists.Bits.{no_bits, join_self};
+ghost use Rattle.lalrpop_base.specs.conflicts.NilConflicts.{nil_conflict, nil_conflicts, nil_reduce_conflicts};
 
 use crate::collections::Collection;
 use crate::exact::Exact;

@@ -1,7 +1,7 @@
 //! Sets of tokens as lookaheads.
 ghost use Rattle.std.specs.Prelude.{◌≡◌, refl};
-ghost use Rattle.lalrpop_base.specs.Bits.{no_bits, join, bits_exact};
-ghost use Rattle.lalrpop_base.specs.StateConflicts.{state_conflicts};
+ghost use Rattle.lalrpop_base.specs.lists.Bits.{no_bits, join, bits_exact};
+ghost use Rattle.lalrpop_base.specs.conflicts.StateConflicts.{state_conflicts};
 
 use super::Lookahead;
 use super::token_set::TokenSet;

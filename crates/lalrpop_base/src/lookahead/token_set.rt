@@ -7,8 +7,8 @@ ghost use Rattle.std.specs.Cmp.Lexicographic.{slice_cmp};
 ghost use Rattle.std.specs.Hash as fed;
 ghost use Rattle.std.proofs.Common.{rules};
 ghost use lib.Pointwise.{pointwise};
-ghost use Rattle.lalrpop_base.specs.Bits.{no_bits, has, rising, with_bit, join, bits_exact};
-ghost use Rattle.lalrpop_base.specs.BitVectors.{IsBitVector, bits_of_words};
+ghost use Rattle.lalrpop_base.specs.lists.Bits.{no_bits, has, rising, with_bit, join, bits_exact};
+ghost use Rattle.lalrpop_base.specs.lists.BitVectors.{IsBitVector, bits_of_words};
 
 use super::bit_iter::BitIter;
 use super::word_changes::{join_words, meet_words, pad, put, take, trim, words_below};
@@ -31,8 +31,8 @@ impl Model for TokenSet {
     ghost use Rattle.std.specs.Coded.{coded_ℕ};
     ghost use base.Stored.{coded_unit};
     ghost use Rattle.std.specs.FinMap as finite;
-    ghost use Rattle.lalrpop_base.specs.Bits.{Bits};
-    ghost use Rattle.lalrpop_base.specs.BitVectors.{IsBitVector, bits_of_words};
+    ghost use Rattle.lalrpop_base.specs.lists.Bits.{Bits};
+    ghost use Rattle.lalrpop_base.specs.lists.BitVectors.{IsBitVector, bits_of_words};
 
     ghost Value = { Bits };
 

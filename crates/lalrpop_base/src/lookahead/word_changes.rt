@@ -1,6 +1,6 @@
 //! Bit vectors, as they are made and changed.
 ghost use Rattle.std.specs.Prelude.{◌≡◌, ◌≢◌, ◌+◌, ◌-◌, ◌/◌, ◌%◌, ◌^◌, ◌<◌, ◌≤◌, ◌==◌, ◌||◌, ◌&&◌, ℕ, List, length, slice_index, nat_lt, not, max, bit_and, bit_or, MatchBool, replicate, IfOk, OnOk, OnErr};
-ghost use Rattle.lalrpop_base.specs.BitVectors.{has_bit, IsTrimmed, IsBitVector};
+ghost use Rattle.lalrpop_base.specs.lists.BitVectors.{has_bit, IsTrimmed, IsBitVector};
 
 use crate::memory::OutOfMemory;
 use std::alloc::Global;

@@ -1,7 +1,7 @@
 //! Bit vectors, as they are read: number n is bit n % 64 of word n / 64, and behind the last word
 //! all bits are 0.
 ghost use Rattle.std.specs.Prelude.{◌≡◌, ◌+◌, ◌*◌, ◌/◌, ◌^◌, ◌<◌, ◌≤◌, ℕ, List, length, slice_index, true, false, IsTrue, IsFalse, IfSome, IsNone};
-ghost use Rattle.lalrpop_base.specs.BitVectors.{has_bit, members_from, IsBitVector, IsLeastFrom, IsLeastApart};
+ghost use Rattle.lalrpop_base.specs.lists.BitVectors.{has_bit, members_from, IsBitVector, IsLeastFrom, IsLeastApart};
 ghost use Rattle.std.specs.Ordering.{nat_cmp};
 ghost use Rattle.std.specs.Cmp.Lexicographic.{slice_cmp};
 

@@ -1,11 +1,11 @@
 //! What a state does on a token, and where its gotos lead.
 ghost use Rattle.std.specs.Prelude.{◌≡◌, Bool, option_copied, option_map};
 ghost use Rattle.std.specs.BTreeMap.{get};
-ghost use Rattle.lalrpop_base.specs.ActionEntries.{action_on, table_entry, shift_of};
-ghost use Rattle.lalrpop_base.specs.Contents.{contents_of, holds_token, number_of};
-ghost use Rattle.lalrpop_base.specs.Runs.{reduction_on};
-ghost use Rattle.lalrpop_base.specs.WellFormed.{name_cmp};
-ghost use Rattle.lalrpop_base.specs.Bits.{Bits};
+ghost use Rattle.lalrpop_base.specs.states.ActionEntries.{action_on, table_entry, shift_of};
+ghost use Rattle.lalrpop_base.specs.states.Contents.{contents_of, holds_token, number_of};
+ghost use Rattle.lalrpop_base.specs.parsing.Runs.{reduction_on};
+ghost use Rattle.lalrpop_base.specs.grammars.WellFormed.{name_cmp};
+ghost use Rattle.lalrpop_base.specs.lists.Bits.{Bits};
 ghost use Rattle.lalrpop_base.specs.declared.lookahead.token.Token.{Token};
 
 use super::state::{Lr1State, State, StateIndex};

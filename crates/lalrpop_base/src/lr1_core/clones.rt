@@ -1,6 +1,6 @@
 //! Copies of items, states, actions and conflicts.
 ghost use Rattle.std.specs.Prelude.{◌≡◌, ◌+◌, ◌<◌, IfOk, IsSome, IsNone, IfSome, Some, length, slice_get};
-ghost use Rattle.lalrpop_base.specs.StateCopies.{IsSameState, IsShiftedItem};
+ghost use Rattle.lalrpop_base.specs.states.StateCopies.{IsSameState, IsShiftedItem};
 
 use super::item::Item;
 use super::state::{Action, Conflict, Items, State};

@@ -1,7 +1,7 @@
 //! States that can be merged where they list the same dotted productions.
 ghost use Rattle.std.specs.Prelude.{◌≡◌, ◌↔◌, IsTrue};
-ghost use Rattle.lalrpop_base.specs.Each.{EachItem};
-ghost use Rattle.lalrpop_base.specs.Collapsible.{dots, dots_at, LeadAlike, LeadsAlike, IsAlikeTo, AreCollapsible};
+ghost use Rattle.lalrpop_base.specs.lists.Each.{EachItem};
+ghost use Rattle.lalrpop_base.specs.collapse.Collapsible.{dots, dots_at, LeadAlike, LeadsAlike, IsAlikeTo, AreCollapsible};
 
 use super::coherent::are_coherent;
 use super::item::Item;

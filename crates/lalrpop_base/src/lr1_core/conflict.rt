@@ -1,7 +1,7 @@
 //! The conflicts of a state.
 ghost use Rattle.std.specs.Prelude.{◌≡◌, ◌++◌, ◌<◌, ◌↔◌, ℕ, [], List, IfOk, OnOk, ◌∷◌};
 ghost use Rattle.std.specs.List.{flat_map};
-ghost use Rattle.lalrpop_base.specs.StateConflicts.{state_conflicts, shift_conflicts, conflicts_on_bit, conflicts_on_place, reduce_conflicts, later_conflicts, HasNoConflict};
+ghost use Rattle.lalrpop_base.specs.conflicts.StateConflicts.{state_conflicts, shift_conflicts, conflicts_on_bit, conflicts_on_place, reduce_conflicts, later_conflicts, HasNoConflict};
 
 use super::state::{Action, Conflict, Lr1Conflict, Lr1State, StateIndex};
 use crate::lookahead::token_set::TokenSet;

@@ -1,7 +1,7 @@
 //! How many conflicts a state has.
 ghost use Rattle.std.specs.Prelude.{◌≡◌, ◌+◌, ◌<◌, ◌^◌, length, SomeIff};
-ghost use Rattle.lalrpop_base.specs.StateConflicts.{state_conflicts, share};
-ghost use Rattle.lalrpop_base.specs.ConflictCounts.{count_on_bit, count_on_place, shift_conflict_count, later_count, reduce_conflict_count};
+ghost use Rattle.lalrpop_base.specs.conflicts.StateConflicts.{state_conflicts, share};
+ghost use Rattle.lalrpop_base.specs.conflicts.ConflictCounts.{count_on_bit, count_on_place, shift_conflict_count, later_count, reduce_conflict_count};
 
 use super::state::{Lr1State, StateIndex};
 use crate::lookahead::token_set::TokenSet;

@@ -1,7 +1,7 @@
 //! The edges of a state, one after another.
 ghost use Rattle.std.specs.Prelude.{◌≡◌, List};
 ghost use Rattle.std.specs.Iterator.{YieldsFirstBy, item_count};
-ghost use Rattle.lalrpop_base.specs.Edges.{Edge, seen_edge, state_edges};
+ghost use Rattle.lalrpop_base.specs.states.Edges.{Edge, seen_edge, state_edges};
 
 use super::coherent::SymbolRef;
 use super::state::{State, StateIndex};
@@ -18,7 +18,7 @@ pub struct Edges<'state> {
 
 impl<'state> Model for Edges<'state> {
     ghost use Rattle.std.specs.Prelude.{List};
-    ghost use Rattle.lalrpop_base.specs.Edges.{Edge, state_edges};
+    ghost use Rattle.lalrpop_base.specs.states.Edges.{Edge, state_edges};
 
     ghost Value = { List Edge };
 

@@ -1,6 +1,6 @@
 //! What the errors of a construction print as.
 ghost use Rattle.std.specs.Prelude.{Some, length};
-ghost use Rattle.lalrpop_base.specs.ErrorTexts.{build_error_text, conflicts_text};
+ghost use Rattle.lalrpop_base.specs.conflicts.ErrorTexts.{build_error_text, conflicts_text};
 
 use super::state::{BuildError, TableConstructionError};
 use std::error::Error;

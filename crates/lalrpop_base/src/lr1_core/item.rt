@@ -1,6 +1,6 @@
 //! A production with a dot, and what may follow it.
 ghost use Rattle.std.specs.Prelude.{◌≡◌, ◌+◌, ◌-◌, ◌<◌, ◌≤◌, ◌==◌, ◌↔◌, ℕ, List, length, take, drop, IsTrue, IfOk, IfSome, IsNone, Some, None, slice_get, option_copied};
-ghost use Rattle.lalrpop_base.specs.Items.{Dotted};
+ghost use Rattle.lalrpop_base.specs.states.Items.{Dotted};
 
 use super::symbol_sets::SymbolSets;
 use crate::exact::equal;
@@ -20,7 +20,7 @@ pub struct Item<'grammar, L> {
 
 impl<'grammar, L> Model for Item<'grammar, L> {
     ghost use Rattle.std.specs.Prelude.{◌≤◌, length};
-    ghost use Rattle.lalrpop_base.specs.Items.{Dotted};
+    ghost use Rattle.lalrpop_base.specs.states.Items.{Dotted};
 
     ghost Value = { Dotted L };
 

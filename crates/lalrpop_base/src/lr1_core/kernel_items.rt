@@ -1,6 +1,6 @@
 //! Items as keys and in kernels: their `==` is exact.
 ghost use Rattle.std.specs.Prelude.{◌≡◌};
-ghost use Rattle.lalrpop_base.specs.Items.{dotted_exact};
+ghost use Rattle.lalrpop_base.specs.states.Items.{dotted_exact};
 ghost use Rattle.lalrpop_base.specs.contracts.exact.ProductionExact.TheImpl.Laws.{exact-law as production_exact};
 
 use super::item::{Item, Lr0Item};

@@ -1,7 +1,7 @@
 //! Lists of items as kernels.
 ghost use Rattle.std.specs.Prelude.{◌≡◌};
-ghost use Rattle.lalrpop_base.specs.Exact.{list_exact};
-ghost use Rattle.lalrpop_base.specs.Items.{dotted_exact};
+ghost use Rattle.lalrpop_base.specs.lists.Exact.{list_exact};
+ghost use Rattle.lalrpop_base.specs.states.Items.{dotted_exact};
 ghost use Rattle.lalrpop_base.specs.contracts.exact.ProductionExact.TheImpl.Laws.{exact-law as production_exact};
 
 use super::item::Item;

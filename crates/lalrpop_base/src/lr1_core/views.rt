@@ -1,8 +1,8 @@
 //! What the items of a state show of the stack and of what is to come.
 ghost use Rattle.std.specs.Prelude.{◌≡◌, ◌<◌, ◌↔◌, ℕ, length, map, slice_get, option_copied, IfOk, IfSome, IsNone, IsTrue, Some};
-ghost use Rattle.lalrpop_base.specs.Each.{EachItem};
-ghost use Rattle.lalrpop_base.specs.ViewFolds.{longer_of, shorter_of};
-ghost use Rattle.lalrpop_base.specs.Views.{IsLastLongest, IsFirstShortestOrEmpty, IsOneName, prefix_of, rest_of, name_of, moved};
+ghost use Rattle.lalrpop_base.specs.lists.Each.{EachItem};
+ghost use Rattle.lalrpop_base.specs.states.ViewFolds.{longer_of, shorter_of};
+ghost use Rattle.lalrpop_base.specs.states.Views.{IsLastLongest, IsFirstShortestOrEmpty, IsOneName, prefix_of, rest_of, name_of, moved};
 
 use super::item::Item;
 use super::state::State;

@@ -1,11 +1,11 @@
 //! A new start symbol, which stands on no right side.
 ghost use Rattle.std.specs.Prelude.{◌≡◌, ◌↔◌, ◌∷◌, [], ◌++◌, List, Contains, IfOk, IfErr, IsTrue, vec_len};
 ghost use Rattle.std.specs.BTreeMap.{get, insert_entry};
-ghost use Rattle.lalrpop_base.specs.Grammar.{IsOnNoRightSide, IsSentence, IsBeginning};
-ghost use Rattle.lalrpop_base.specs.NewStart.{underscored, IsUnused, IsNewName, span_of, start_production, start_action, IsEntryOf, HasNewStart, IsAboveParseTree, IsRefusedStart};
-ghost use Rattle.lalrpop_base.specs.Runs.{IsFirstWrong};
-ghost use Rattle.lalrpop_base.specs.Trees.{Tree, IsParseTree};
-ghost use Rattle.lalrpop_base.specs.WellFormed.{IsWellFormed, name_cmp, productions};
+ghost use Rattle.lalrpop_base.specs.grammars.Grammar.{IsOnNoRightSide, IsSentence, IsBeginning};
+ghost use Rattle.lalrpop_base.specs.grammars.NewStart.{underscored, IsUnused, IsNewName, span_of, start_production, start_action, IsEntryOf, HasNewStart, IsAboveParseTree, IsRefusedStart};
+ghost use Rattle.lalrpop_base.specs.parsing.Runs.{IsFirstWrong};
+ghost use Rattle.lalrpop_base.specs.parsing.Trees.{Tree, IsParseTree};
+ghost use Rattle.lalrpop_base.specs.grammars.WellFormed.{IsWellFormed, name_cmp, productions};
 ghost use Rattle.lalrpop_base.specs.declared.lookahead.token.Token.{Token};
 ghost use Rattle.lalrpop_base.specs.declared.repr.TerminalString.{TerminalString};
 ghost use Rattle.lalrpop_base.specs.declared.repr.Symbol.TheVariants.{Nonterminal};

@@ -1,8 +1,8 @@
 //! A grammar.
 ghost use Rattle.std.specs.Prelude.{◌≡◌, ◌<◌, ◌↔◌, List, length, IsTrue, IfOk, Contains, vec_len};
 ghost use Rattle.std.specs.BTreeMap.{get};
-ghost use Rattle.lalrpop_base.specs.WellFormed.{IsWellFormed, IsWellFormedEntry, IsWellFormedProduction, productions_of, HasKnownTerminals};
-ghost use Rattle.lalrpop_base.specs.SameGrammars.{IsSameEntry, IsSameGrammar};
+ghost use Rattle.lalrpop_base.specs.grammars.WellFormed.{IsWellFormed, IsWellFormedEntry, IsWellFormedProduction, productions_of, HasKnownTerminals};
+ghost use Rattle.lalrpop_base.specs.grammars.SameGrammars.{IsSameEntry, IsSameGrammar};
 
 use super::inlined::InlineActionFnDefn;
 use super::terminals::TerminalSet;

@@ -4,11 +4,11 @@ ghost use Rattle.std.specs.Prelude.{◌≡◌, IfOk, IfErr};
 ghost use Rattle.lalrpop_base.specs.Words.{HasNewStart, IsRefusedStart, IsFirstWrong, Tree, Node, beside, no_trees, IsWellFormed, productions};
 ghost use Rattle.lalrpop_base.specs.declared.repr.NonterminalString.{NonterminalString};
 ghost use Rattle.lalrpop_tables.specs.Words.{Collapses, HasConflictsOf};
-ghost use Rattle.lalrpop_lr1.specs.AnyStart.{IsTreeBelow, TellsTreesBelow, IsToldByTablesAbove};
-ghost use Rattle.lalrpop_lr1.specs.FaithfulAnswers.{IsCutOffByTables};
-ghost use Rattle.lalrpop_lr1.specs.Headline.{IsAccepted};
-ghost use Rattle.lalrpop_lr1.specs.ParseAnswers.{HadTables, HadTablesWhere, IfConflicts, IfRefusedAt, IfLimitTold};
-ghost use Rattle.lalrpop_lr1.specs.ParseTrees.{tree_of};
+ghost use Rattle.lalrpop_lr1.specs.runs.AnyStart.{IsTreeBelow, TellsTreesBelow, IsToldByTablesAbove};
+ghost use Rattle.lalrpop_lr1.specs.runs.FaithfulAnswers.{IsCutOffByTables};
+ghost use Rattle.lalrpop_lr1.specs.runs.Headline.{IsAccepted};
+ghost use Rattle.lalrpop_lr1.specs.runs.ParseAnswers.{HadTables, HadTablesWhere, IfConflicts, IfRefusedAt, IfLimitTold};
+ghost use Rattle.lalrpop_lr1.specs.trees.ParseTrees.{tree_of};
 
 use super::{ParseError, parse};
 use crate::interpret::ParseTree;
@@ -30,7 +30,7 @@ pub struct AugmentedGrammar {
 }
 
 impl Model for AugmentedGrammar {
-    ghost use Rattle.lalrpop_lr1.specs.AnyStart.{Augmented, augmented_code, seen_over, IsAboveOld};
+    ghost use Rattle.lalrpop_lr1.specs.runs.AnyStart.{Augmented, augmented_code, seen_over, IsAboveOld};
 
     ghost Value = { Augmented };
 

@@ -2,9 +2,9 @@
 ghost use Rattle.std.specs.Prelude.{◌≡◌, ◌<◌, ◌≤◌, length, IfOk, IfErr};
 ghost use Rattle.lalrpop_base.specs.Words.{AreCoherent, AreFaithful, contents, IsOnNoRightSide, HasOutcome, IsFirstWrong, productions};
 ghost use Rattle.lalrpop_base.specs.Words.{beside, no_trees, leaves, nodes};
-ghost use Rattle.lalrpop_lr1.specs.Answers.{IsAnswer};
-ghost use Rattle.lalrpop_lr1.specs.FaithfulAnswers.{AnswersTrees, IfLimit, IfRefused, IsCutOff, IsLimit, IsTreeWithin};
-ghost use Rattle.lalrpop_lr1.specs.ParseTrees.{tree_of};
+ghost use Rattle.lalrpop_lr1.specs.runs.Answers.{IsAnswer};
+ghost use Rattle.lalrpop_lr1.specs.runs.FaithfulAnswers.{AnswersTrees, IfLimit, IfRefused, IsCutOff, IsLimit, IsTreeWithin};
+ghost use Rattle.lalrpop_lr1.specs.trees.ParseTrees.{tree_of};
 
 use crate::interpret::{InterpretError, ParseTree, interpret};
 use lalrpop_base::lookahead::token_set::TokenSet;

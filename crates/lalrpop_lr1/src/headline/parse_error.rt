@@ -1,6 +1,6 @@
 //! Why a parse by the tables of a grammar has no tree.
 ghost use Rattle.std.specs.Prelude.{◌≡◌};
-ghost use Rattle.lalrpop_lr1.specs.ParseAnswers.{told_by};
+ghost use Rattle.lalrpop_lr1.specs.runs.ParseAnswers.{told_by};
 
 use crate::interpret::{InterpretError, ParseTree};
 use lalrpop_base::lookahead::token::Token;

@@ -1,6 +1,6 @@
 //! The choices that are left when a nonterminal is inlined into a right side.
 ghost use Rattle.std.specs.Prelude.{◌≡◌, ◌++◌, map, IfOk, OnOk};
-ghost use Rattle.lalrpop_lr1.specs.InlineChoices.{is_named, mentions, inlined, parts, followed, extended, choices, part_symbols, laid_out};
+ghost use Rattle.lalrpop_lr1.specs.inlining.InlineChoices.{is_named, mentions, inlined, parts, followed, extended, choices, part_symbols, laid_out};
 
 use lalrpop_base::memory::OutOfMemory;
 use lalrpop_base::repr::inlined::{InlinedSymbol, clone_inlined_symbols};

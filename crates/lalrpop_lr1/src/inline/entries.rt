@@ -4,10 +4,10 @@ ghost use Rattle.std.specs.BTreeMap.{IsOrdered};
 ghost use Rattle.std.specs.List.Sorted.{IsStrictlySortedBy};
 ghost use Rattle.lalrpop_base.specs.Words.{name_cmp};
 ghost use Rattle.lalrpop_base.specs.declared.repr.NonterminalString.{NonterminalString};
-ghost use Rattle.lalrpop_lr1.specs.InlineSteps.{replaced_all, entry_view, view_with, view_of, IsEntryReplaced, inlined_of};
-ghost use Rattle.lalrpop_lr1.specs.InlineOrder.{Mentions};
-ghost use Rattle.lalrpop_lr1.specs.InlineUsers.{users_at, replaced_at, replaced_places};
-ghost use Rattle.lalrpop_lr1.specs.InlineRefusals.{IsPastLast};
+ghost use Rattle.lalrpop_lr1.specs.inlining.InlineSteps.{replaced_all, entry_view, view_with, view_of, IsEntryReplaced, inlined_of};
+ghost use Rattle.lalrpop_lr1.specs.inlining.InlineOrder.{Mentions};
+ghost use Rattle.lalrpop_lr1.specs.inlining.InlineUsers.{users_at, replaced_at, replaced_places};
+ghost use Rattle.lalrpop_lr1.specs.inlining.InlineRefusals.{IsPastLast};
 
 use super::replace::replace_all;
 use super::users::Users;

@@ -7,7 +7,7 @@ ghost use Rattle.std.specs.BTreeMap.{IsOrdered};
 ghost use Rattle.std.specs.BTreeSet.{contains};
 ghost use Rattle.lalrpop_base.specs.Words.{name_cmp, inline_mark};
 ghost use Rattle.lalrpop_base.specs.declared.repr.NonterminalString.{NonterminalString};
-ghost use Rattle.lalrpop_lr1.specs.InlineOrder.{IsMarked, IsInlineOrder, IsOnRing, IsCycleOf};
+ghost use Rattle.lalrpop_lr1.specs.inlining.InlineOrder.{IsMarked, IsInlineOrder, IsOnRing, IsCycleOf};
 
 use depth_first::{Walk, walk_from};
 use lalrpop_base::memory::OutOfMemory;

@@ -1,8 +1,8 @@
 //! Puts the alternatives of a nonterminal in the place of its occurrences.
 ghost use Rattle.std.specs.Prelude.{◌≡◌, ◌+◌, ◌++◌, ◌∷◌, [], IfOk, OnOk, IfErr, length, slice_get};
 ghost use Rattle.std.specs.List.{list_any};
-ghost use Rattle.lalrpop_lr1.specs.InlineSteps.{is_fallible, is_fallible_part, ret_type_of, choice_defn, choice_production, made_of, in_front, chosen, replaced, replaced_all};
-ghost use Rattle.lalrpop_lr1.specs.InlineRefusals.{IsPastLast};
+ghost use Rattle.lalrpop_lr1.specs.inlining.InlineSteps.{is_fallible, is_fallible_part, ret_type_of, choice_defn, choice_production, made_of, in_front, chosen, replaced, replaced_all};
+ghost use Rattle.lalrpop_lr1.specs.inlining.InlineRefusals.{IsPastLast};
 
 use super::choices::{choices, laid_out, mentions};
 use lalrpop_base::memory::OutOfMemory;

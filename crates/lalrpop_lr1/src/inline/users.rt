@@ -3,8 +3,8 @@ ghost use Rattle.std.specs.Prelude.{◌↔◌, IsTrue, OnOk, IfOk, Contains};
 ghost use Rattle.lalrpop_base.specs.declared.repr.NonterminalString.{NonterminalString};
 ghost use Rattle.lalrpop_base.specs.declared.repr.Symbol.TheVariants.{Nonterminal};
 ghost use Rattle.lalrpop_base.specs.declared.repr.Production.{Production};
-ghost use Rattle.lalrpop_lr1.specs.InlineOrder.{IsMarked};
-ghost use Rattle.lalrpop_lr1.specs.InlineUsers.{users_at, KeepsUsers, HasUsers};
+ghost use Rattle.lalrpop_lr1.specs.inlining.InlineOrder.{IsMarked};
+ghost use Rattle.lalrpop_lr1.specs.inlining.InlineUsers.{users_at, KeepsUsers, HasUsers};
 
 use super::graph::is_marked;
 use lalrpop_base::collections::Set;

@@ -3,11 +3,11 @@ ghost use Rattle.std.specs.Prelude.{◌≡◌, ◌+◌, ◌<◌, ◌≤◌, ℕ,
 ghost use Rattle.lalrpop_base.specs.Words.{AreCoherent, contents_in, received, reduced, Goes, Ends, HasOutcome, IsTerminal, Tree, Leaf};
 ghost use Rattle.lalrpop_base.specs.declared.repr.TerminalString.{TerminalString};
 ghost use Rattle.lalrpop_base.specs.declared.lookahead.token.Token.{Token};
-ghost use Rattle.lalrpop_lr1.specs.Answers.{IsAnswer, IsFailure};
-ghost use Rattle.lalrpop_lr1.specs.Machines.{numbers, trees_on, configuration, CanPop, IsAtStart, IsStacked, IsProgress, IsHalted, IsSpent, IsShifted, HasRead, shift_on};
-ghost use Rattle.lalrpop_lr1.specs.ParseTrees.{tree_of};
-ghost use Rattle.lalrpop_lr1.specs.Reading.{StopsReading};
-ghost use Rattle.lalrpop_lr1.specs.Steps.{HasOutcomeFrom};
+ghost use Rattle.lalrpop_lr1.specs.runs.Answers.{IsAnswer, IsFailure};
+ghost use Rattle.lalrpop_lr1.specs.runs.Machines.{numbers, trees_on, configuration, CanPop, IsAtStart, IsStacked, IsProgress, IsHalted, IsSpent, IsShifted, HasRead, shift_on};
+ghost use Rattle.lalrpop_lr1.specs.trees.ParseTrees.{tree_of};
+ghost use Rattle.lalrpop_lr1.specs.runs.Reading.{StopsReading};
+ghost use Rattle.lalrpop_lr1.specs.runs.Steps.{HasOutcomeFrom};
 
 use super::error::InterpretError;
 use super::lookahead::LookaheadInterpret;

@@ -7,7 +7,7 @@ mod walk;
 ghost use Rattle.std.specs.Prelude.{◌≡◌, ◌↔◌, ◌<◌, [], ◌∷◌, ◌++◌, map, reverse, Some, true, IsTrue, IsFalse, IfOk, OnOk, IsSomeAnd};
 ghost use Rattle.lalrpop_base.specs.Words.{Trees, Node, leaves, beside, no_trees, trees_of};
 ghost use Rattle.lalrpop_base.specs.declared.repr.NonterminalString.{NonterminalString};
-ghost use Rattle.lalrpop_lr1.specs.ParseTrees.{tree_nodes, tree_of, tree_text};
+ghost use Rattle.lalrpop_lr1.specs.trees.ParseTrees.{tree_nodes, tree_of, tree_text};
 
 use comparison::are_equal;
 use copies::clone_node;
@@ -52,7 +52,7 @@ impl ParseTree {
 
 impl Drop for ParseTree {
     // Drops one node after the other, without recursion and without memory.
-    #[tactic(auto, using(crate::proofs::DroppedTrees::one_fewer))]
+    #[tactic(auto, using(crate::proofs::theory::trees::DroppedTrees::one_fewer))]
     fn drop(mut self) {
         let mut rest = match self {
             ParseTree::Nonterminal(_, children) => children,
@@ -118,7 +118,7 @@ impl ParseTree {
 impl PartialEq for ParseTree {
     ghost use Rattle.std.specs.Cmp.{partial_equiv_from_equiv, on_equiv};
     ghost use Rattle.std.specs.Ordering.{on};
-    ghost use Rattle.lalrpop_lr1.specs.EqualTrees.{equal_tree, tree_equivalence};
+    ghost use Rattle.lalrpop_lr1.specs.trees.EqualTrees.{equal_tree, tree_equivalence};
 
     ghost eq = { on tree_of equal_tree };
 
@@ -134,7 +134,7 @@ impl PartialEq for ParseTree {
 
 impl Eq for ParseTree {
     ghost use Rattle.std.specs.Cmp.{on_equiv};
-    ghost use Rattle.lalrpop_lr1.specs.EqualTrees.{tree_equivalence};
+    ghost use Rattle.lalrpop_lr1.specs.trees.EqualTrees.{tree_equivalence};
 
     ghost laws = { on_equiv tree_of tree_equivalence };
 }

@@ -1,7 +1,7 @@
 //! The blocks of conflicts.
 ghost use Rattle.std.specs.Prelude.{◌≡◌, ◌++◌, OnOk, string_bytes, slice_get};
 ghost use Rattle.std.specs.List.{flat_map};
-ghost use Rattle.lalrpop_lr1.specs.ReportStates.{shift_reduce_lines, reduce_reduce_lines, actions_lines, conflict_block, block_at};
+ghost use Rattle.lalrpop_lr1.specs.reports.ReportStates.{shift_reduce_lines, reduce_reduce_lines, actions_lines, conflict_block, block_at};
 
 use super::lines::{push_filled, push_lookahead, push_production};
 use super::printer::LookaheadPrinter;

@@ -1,6 +1,6 @@
 //! The lines of a report.
 ghost use Rattle.std.specs.Prelude.{◌≡◌, ◌++◌, OnOk, string_bytes};
-ghost use Rattle.lalrpop_lr1.specs.ReportLines.{filled, symbols_text, production_line, lookahead_line, item_lines, reduction_lines, shift_line, goto_line};
+ghost use Rattle.lalrpop_lr1.specs.reports.ReportLines.{filled, symbols_text, production_line, lookahead_line, item_lines, reduction_lines, shift_line, goto_line};
 
 use super::printer::LookaheadPrinter;
 use lalrpop_base::lr1_core::item::Item;

@@ -2,7 +2,7 @@
 ghost use Rattle.std.specs.Prelude.{◌≡◌, ◌≢◌, ◌++◌, ◌↔◌, [], ℕ, List, length, IsTrue, OnOk, codes};
 ghost use Rattle.std.specs.Fmt.{WritesInCalls};
 ghost use Rattle.lalrpop_base.specs.Words.{rising, nonterminal_text, terminal_text, token_text, seen};
-ghost use Rattle.lalrpop_lr1.specs.ReportLines.{tokens_in, tokens_text};
+ghost use Rattle.lalrpop_lr1.specs.reports.ReportLines.{tokens_in, tokens_text};
 
 use lalrpop_base::lookahead::Lookahead;
 use lalrpop_base::lookahead::nil::Nil;

@@ -1,7 +1,7 @@
 //! Where a report goes: a sink of bytes that counts its faults.
 ghost use Rattle.std.specs.Prelude.{◌≡◌, ℕ, Bool, List, ◌+◌, ◌-◌, ◌^◌, ◌<◌, ◌≤◌, length, None, Some, Option, IfOk, IfErr, OnOk, OnErr};
 ghost use Rattle.std.specs.Io.KnownBytes.{Appends};
-ghost use Rattle.lalrpop_lr1.specs.ReportSinks.{PutTakes, PutCounts, PutIsLast, IsWriteFault, TellsLastFault, WroteBeginning, writer_of, faults_of};
+ghost use Rattle.lalrpop_lr1.specs.reports.ReportSinks.{PutTakes, PutCounts, PutIsLast, IsWriteFault, TellsLastFault, WroteBeginning, writer_of, faults_of};
 
 use super::error::ReportError;
 use std::io;

@@ -3,8 +3,8 @@ ghost use Rattle.std.specs.Prelude.{◌≡◌, ◌++◌, OnOk, string_bytes, map
 ghost use Rattle.std.specs.List.{flat_map};
 ghost use Rattle.lalrpop_base.specs.Words.{Dotted, nonterminal_text};
 ghost use Rattle.lalrpop_base.specs.declared.lr1_core.state.Conflict.{Conflict};
-ghost use Rattle.lalrpop_lr1.specs.ReportLines.{longest, reduction_lines, shift_line, goto_line};
-ghost use Rattle.lalrpop_lr1.specs.ReportStates.{items_block, reductions_block, edges_lines, state_block};
+ghost use Rattle.lalrpop_lr1.specs.reports.ReportLines.{longest, reduction_lines, shift_line, goto_line};
+ghost use Rattle.lalrpop_lr1.specs.reports.ReportStates.{items_block, reductions_block, edges_lines, state_block};
 
 use super::conflicts::push_conflicts_at;
 use super::lines::{push_goto, push_item, push_reduction, push_shift};

@@ -3,7 +3,7 @@ ghost use Rattle.std.specs.Prelude.{◌≡◌, ◌++◌, IfOk, OnOk, string_byte
 ghost use Rattle.std.specs.Fmt.{decimal};
 ghost use Rattle.std.specs.List.{flat_map};
 ghost use Rattle.lalrpop_base.specs.declared.lr1_core.state.Conflict.{Conflict};
-ghost use Rattle.lalrpop_lr1.specs.Report.{section_header, opening, states_line, is_shift, is_reduce, kind_line, ascending, state_number, conflict_states_line, conflicts_summary};
+ghost use Rattle.lalrpop_lr1.specs.reports.Report.{section_header, opening, states_line, is_shift, is_reduce, kind_line, ascending, state_number, conflict_states_line, conflicts_summary};
 
 use lalrpop_base::lr1_core::state::{Action, Conflict};
 use lalrpop_base::memory::OutOfMemory;

@@ -3,9 +3,9 @@ ghost use Rattle.std.specs.Prelude.{◌≡◌, ◌++◌, IfOk, IfErr, OnOk, stri
 ghost use Rattle.std.specs.List.{flat_map};
 ghost use Rattle.std.specs.Ordering.{nat_cmp};
 ghost use Rattle.lalrpop_base.specs.Words.{collection_at};
-ghost use Rattle.lalrpop_lr1.specs.Report.{next_state, states_section, tables_report, failure_report, error_report, report_text};
-ghost use Rattle.lalrpop_lr1.specs.ReportPlaces.{places_of, ArePlacesOf};
-ghost use Rattle.lalrpop_lr1.specs.ReportSinks.{IfWriteFault, TellsOfText};
+ghost use Rattle.lalrpop_lr1.specs.reports.Report.{next_state, states_section, tables_report, failure_report, error_report, report_text};
+ghost use Rattle.lalrpop_lr1.specs.reports.ReportPlaces.{places_of, ArePlacesOf};
+ghost use Rattle.lalrpop_lr1.specs.reports.ReportSinks.{IfWriteFault, TellsOfText};
 
 use super::error::ReportError;
 use super::printer::LookaheadPrinter;

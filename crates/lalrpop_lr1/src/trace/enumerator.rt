@@ -1,12 +1,12 @@
 //! The paths back from an item to the first item, one by one.
 ghost use Rattle.std.specs.Prelude.{◌≡◌, ◌⊎◌, ◌+◌, ◌<◌, ◌≤◌, length, true, false, [], ◌∷◌, ◌++◌, IfSome, IsNone, IfOk, OnOk, OnErr, List, slice_get};
 ghost use Rattle.std.specs.Iterator.{at_most};
-ghost use Rattle.lalrpop_lr1.specs.Examples.{IsExampleOf, SpellsDerivation, CarryRightSides, path_of, following};
+ghost use Rattle.lalrpop_lr1.specs.traces.Examples.{IsExampleOf, SpellsDerivation, CarryRightSides, path_of, following};
 ghost use Rattle.lalrpop_base.specs.declared.repr.Production.{Production};
 ghost use Rattle.lalrpop_base.specs.Words.{IsFirstSet};
-ghost use Rattle.lalrpop_lr1.specs.TraceGraphs.{AreKnownEdges, node_count};
-ghost use Rattle.lalrpop_lr1.specs.Paths.{IsPath, comes_again, item_node, paths};
-ghost use Rattle.lalrpop_lr1.specs.Walks.{frames, numbers_at, load, edge_weight, bound, IsEnded, remaining, to_come, paths_over, GoesTo, GivesNext};
+ghost use Rattle.lalrpop_lr1.specs.traces.TraceGraphs.{AreKnownEdges, node_count};
+ghost use Rattle.lalrpop_lr1.specs.traces.Paths.{IsPath, comes_again, item_node, paths};
+ghost use Rattle.lalrpop_lr1.specs.traces.Walks.{frames, numbers_at, load, edge_weight, bound, IsEnded, remaining, to_come, paths_over, GoesTo, GivesNext};
 
 use super::example::Example;
 use super::node::TraceGraphNode;

@@ -1,6 +1,6 @@
 //! An input that leads to an item, and what is reduced in it.
 ghost use Rattle.std.specs.Prelude.{◌≡◌, IfOk};
-ghost use Rattle.lalrpop_lr1.specs.Examples.{IsSameExample};
+ghost use Rattle.lalrpop_lr1.specs.traces.Examples.{IsSameExample};
 
 use lalrpop_base::memory::OutOfMemory;
 use lalrpop_base::repr::{NonterminalString, Symbol};

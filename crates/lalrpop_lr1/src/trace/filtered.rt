@@ -1,10 +1,10 @@
 //! The paths that can go on with one of some tokens.
 ghost use Rattle.std.specs.Prelude.{◌≡◌, false, IsTrue, IsFalse, IfOk};
 ghost use Rattle.std.specs.Iterator.{at_most};
-ghost use Rattle.lalrpop_lr1.specs.TraceGraphs.{AreKnownEdges};
-ghost use Rattle.lalrpop_lr1.specs.Examples.{path_of};
-ghost use Rattle.lalrpop_lr1.specs.Paths.{item_node, paths};
-ghost use Rattle.lalrpop_lr1.specs.Walks.{bound, to_come, Meets, IsSameFilter, GivesNextMeeting};
+ghost use Rattle.lalrpop_lr1.specs.traces.TraceGraphs.{AreKnownEdges};
+ghost use Rattle.lalrpop_lr1.specs.traces.Examples.{path_of};
+ghost use Rattle.lalrpop_lr1.specs.traces.Paths.{item_node, paths};
+ghost use Rattle.lalrpop_lr1.specs.traces.Walks.{bound, to_come, Meets, IsSameFilter, GivesNextMeeting};
 
 use super::enumerator::PathEnumerator;
 use super::example::Example;

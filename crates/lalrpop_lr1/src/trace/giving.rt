@@ -1,9 +1,9 @@
 //! The edges that an item gives.
 ghost use Rattle.std.specs.Prelude.{◌≡◌, ◌+◌, ◌↔◌, ◌∷◌, [], IsTrue, true, false, OnOk, IfOk, drop};
 ghost use Rattle.lalrpop_base.specs.Words.{IsNullable};
-ghost use Rattle.lalrpop_lr1.specs.Traces.{dotted, dot_edge, own_edge, GoesOn};
-ghost use Rattle.lalrpop_lr1.specs.TraceOrder.{stop_edge, onward_edges};
-ghost use Rattle.lalrpop_lr1.specs.Meetings.{asked, AddsInOrder};
+ghost use Rattle.lalrpop_lr1.specs.traces.Traces.{dotted, dot_edge, own_edge, GoesOn};
+ghost use Rattle.lalrpop_lr1.specs.traces.TraceOrder.{stop_edge, onward_edges};
+ghost use Rattle.lalrpop_lr1.specs.traces.Meetings.{asked, AddsInOrder};
 
 use super::ground::{Trace, Traced};
 use super::node::TraceGraphNode;

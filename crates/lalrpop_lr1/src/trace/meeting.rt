@@ -1,8 +1,8 @@
 //! The nonterminals that a trace meets in each state, depth first, with its own stack.
 ghost use Rattle.std.specs.Prelude.{◌≡◌, ◌+◌, ◌∷◌, [], ◌++◌, Contains, OnOk, IfOk, length, map, drop, slice_get};
-ghost use Rattle.lalrpop_lr1.specs.Traces.{Backtrace, Meeting, Takes, IsTraceOf};
-ghost use Rattle.lalrpop_lr1.specs.TraceOrder.{come_to, take_up, take_up_each, items_at, IsInOrder};
-ghost use Rattle.lalrpop_lr1.specs.Meetings.{asked, duties_of, duties_left, AreNamed, IsInsertedPair, HasMet, IsStep};
+ghost use Rattle.lalrpop_lr1.specs.traces.Traces.{Backtrace, Meeting, Takes, IsTraceOf};
+ghost use Rattle.lalrpop_lr1.specs.traces.TraceOrder.{come_to, take_up, take_up_each, items_at, IsInOrder};
+ghost use Rattle.lalrpop_lr1.specs.traces.Meetings.{asked, duties_of, duties_left, AreNamed, IsInsertedPair, HasMet, IsStep};
 
 use super::giving::{add_own, add_shifting};
 use super::ground::Trace;

@@ -5,7 +5,7 @@ ghost use mathlib.Core.Bool.{true≢false};
 ghost use Rattle.lalrpop_base.specs.Words.{name_exact, dotted_exact};
 ghost use Rattle.lalrpop_base.specs.contracts.exact.ProductionExact.TheImpl.Laws.{exact-law as production_exact};
 ghost use Rattle.lalrpop_base.specs.contracts.lookahead.nil.NilExact.TheImpl.Laws.{exact-law as nil_exact};
-ghost use Rattle.lalrpop_lr1.specs.NodeItems.{without_lookahead};
+ghost use Rattle.lalrpop_lr1.specs.traces.NodeItems.{without_lookahead};
 ghost use Rattle.lalrpop_lr1.specs.declared.trace.node.TraceGraphNode.TheVariants.{Nonterminal, Item};
 
 use lalrpop_base::exact::Exact;

@@ -1,8 +1,8 @@
 //! What a path spells.
 ghost use Rattle.std.specs.Prelude.{◌≡◌, ◌≤◌, ◌++◌, List, map, length, slice_get, option_copied, Some, Contains, IfOk, OnOk};
 ghost use Rattle.lalrpop_base.specs.Words.{IsFirstSet, HasKnownTerminals};
-ghost use Rattle.lalrpop_lr1.specs.Examples.{IsExampleOf, path_of, prefixes, suffixes, place, place_of, reduced, reduced_at, cursor_list, innermost, following};
-ghost use Rattle.lalrpop_lr1.specs.TraceGraphs.{AreKnownEdges};
+ghost use Rattle.lalrpop_lr1.specs.traces.Examples.{IsExampleOf, path_of, prefixes, suffixes, place, place_of, reduced, reduced_at, cursor_list, innermost, following};
+ghost use Rattle.lalrpop_lr1.specs.traces.TraceGraphs.{AreKnownEdges};
 ghost use Rattle.lalrpop_base.specs.declared.repr.TerminalString.{TerminalString};
 
 use super::enumerator::EnumeratorState;

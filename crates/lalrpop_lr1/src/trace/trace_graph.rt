@@ -3,10 +3,10 @@ ghost use Rattle.std.specs.Prelude.{◌≡◌, ◌∷◌, ◌++◌, ◌↔◌, [
 ghost use Rattle.lalrpop_base.specs.Words.{AddsOnce, AllDiffer};
 ghost use Rattle.lalrpop_base.specs.declared.repr.Production.{Production};
 ghost use Rattle.lalrpop_base.specs.declared.repr.TerminalString.{TerminalString};
-ghost use Rattle.lalrpop_lr1.specs.Paths.{is_item, item_node, source, are_one, paths, IsPath};
-ghost use Rattle.lalrpop_lr1.specs.Examples.{prefix_of, cursor_of, suffix_of, reduced_name, IsExampleOf, CarryRightSides, SpellsDerivation};
-ghost use Rattle.lalrpop_lr1.specs.TraceGraphs.{AreKnownEdges, IsKnownLabel, IsGraph, IsFrom, KeepPlaces, AddsBoth, AddsNoOther, AddsEdge, SameLabels, plain, plain_edge, node_count, numbers_to, numbers_from};
-ghost use Rattle.lalrpop_lr1.specs.Walks.{to_come};
+ghost use Rattle.lalrpop_lr1.specs.traces.Paths.{is_item, item_node, source, are_one, paths, IsPath};
+ghost use Rattle.lalrpop_lr1.specs.traces.Examples.{prefix_of, cursor_of, suffix_of, reduced_name, IsExampleOf, CarryRightSides, SpellsDerivation};
+ghost use Rattle.lalrpop_lr1.specs.traces.TraceGraphs.{AreKnownEdges, IsKnownLabel, IsGraph, IsFrom, KeepPlaces, AddsBoth, AddsNoOther, AddsEdge, SameLabels, plain, plain_edge, node_count, numbers_to, numbers_from};
+ghost use Rattle.lalrpop_lr1.specs.traces.Walks.{to_come};
 ghost use Rattle.lalrpop_lr1.specs.declared.trace.example.Example.{Example};
 ghost use Rattle.lalrpop_lr1.specs.declared.trace.trace_graph.TraceGraphEdge.{TraceGraphEdge};
 
@@ -47,7 +47,7 @@ pub struct TraceGraph<'grammar> {
 
 impl<'grammar> Model for TraceGraph<'grammar> {
     ghost use Rattle.lalrpop_base.specs.Words.{by_number};
-    ghost use Rattle.lalrpop_lr1.specs.TraceGraphs.{Graph, IsKept};
+    ghost use Rattle.lalrpop_lr1.specs.traces.TraceGraphs.{Graph, IsKept};
 
     ghost Value = { Graph };
 

@@ -1,10 +1,10 @@
 //! LR(1) states by the lane way: lane tables, where they pass the check.
 ghost use Rattle.std.specs.Prelude.{◌≡◌, ◌<◌, length, true, IfOk, IfSome, IsSomeAnd, is_some};
 ghost use Rattle.lalrpop_base.specs.Words.{AreCoherent, contents, IsOnNoRightSide, AreFaithful, IsLALR1, IsWellFormed, productions, rules_of};
-ghost use Rattle.lalrpop_tables.specs.Check.{PassCheck};
-ghost use Rattle.lalrpop_tables.specs.LaneStates.{AreLaneTables};
-ghost use Rattle.lalrpop_tables.specs.Lr0Copies.{AreCopiedTables};
-ghost use Rattle.lalrpop_tables.specs.Lr1Answers.{AreBuiltTablesOf};
+ghost use Rattle.lalrpop_tables.specs.check.Check.{PassCheck};
+ghost use Rattle.lalrpop_tables.specs.lane_states.LaneStates.{AreLaneTables};
+ghost use Rattle.lalrpop_tables.specs.lane_states.Lr0Copies.{AreCopiedTables};
+ghost use Rattle.lalrpop_tables.specs.answers.Lr1Answers.{AreBuiltTablesOf};
 
 use super::options::{Method, Options};
 use crate::check::check_tables;

@@ -1,8 +1,8 @@
 //! States placed by their numbers, each joined to those with the same number.
-ghost use Rattle.std.specs.Prelude.{◌≡◌, IfOk, OnOk};
-ghost use Rattle.lalrpop_tables.specs.Merging.{ArePlaced, Places};
-ghost use Rattle.lalrpop_tables.specs.Moved.{AreMoved};
-ghost use Rattle.lalrpop_tables.specs.Renumbered.{number_in};
+ghost use Rattle.std.specs.Prelude.{IfOk, OnOk};
+ghost use Rattle.lalrpop_base.specs.collapse.Merging.{ArePlaced, Places};
+ghost use Rattle.lalrpop_base.specs.renumbering.Moved.{AreMoved};
+ghost use Rattle.lalrpop_base.specs.renumbering.Renumbered.{number_in};
 
 use super::join::join_state;
 use crate::renumber::renumber_state;

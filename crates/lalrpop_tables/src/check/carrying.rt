@@ -1,14 +1,14 @@
 //! Tokens carried over the edges of states.
-ghost use Rattle.std.specs.Prelude.{◌≡◌, ◌<◌, ◌+◌, ◌↔◌, ℕ, IfOk, OnOk, Contains, IsTrue, length, slice_get, drop, Some, true};
+ghost use Rattle.std.specs.Prelude.{◌≡◌, ◌<◌, ◌↔◌, IfOk, OnOk, Contains, IsTrue, Some, true};
 ghost use Rattle.std.specs.Map.{keys_of};
-ghost use Rattle.lalrpop_base.specs.Words.{Bits, has, AreClosed, contents, EachItem, AllDiffer, IsWellFormed, productions, productions_of, rules_of};
-ghost use Rattle.lalrpop_tables.specs.CheckCarrying.{Sends, IsBegunAt, IsOver, IsInto, Gives, target_in, AreCarried, HoldsCarried, AllHoldCarried};
-ghost use Rattle.lalrpop_tables.specs.Entries.{IsQueued};
+ghost use Rattle.lalrpop_base.specs.Words.{AreClosed, contents, EachItem, AllDiffer, IsWellFormed, productions, productions_of, rules_of};
+ghost use Rattle.lalrpop_tables.specs.check.CheckCarrying.{Sends, IsBegunAt, IsOver, Gives, target_in, AreCarried, HoldsCarried, AllHoldCarried};
+ghost use Rattle.lalrpop_base.specs.lists.Entries.{IsQueued};
 
-use super::sets::find_tokens;
 use super::states::target;
-use crate::build::tokens::add_tokens;
 use crate::place::Place;
+use crate::sets::find_tokens;
+use crate::tokens::add_tokens;
 use lalrpop_base::first::FirstSets;
 use lalrpop_base::lookahead::nil::Nil;
 use lalrpop_base::lookahead::token_set::TokenSet;

@@ -1,10 +1,10 @@
 //! The closure of dotted productions, without tokens.
-ghost use Rattle.std.specs.Prelude.{◌≡◌, ◌↔◌, [], ◌∷◌, IfOk, OnOk, Contains, map};
+ghost use Rattle.std.specs.Prelude.{◌≡◌, [], ◌∷◌, IfOk, OnOk, Contains, map};
 ghost use Rattle.lalrpop_base.specs.Words.{IsAtStart, IsWellFormed, productions, productions_of};
-ghost use Rattle.lalrpop_tables.specs.Closure.{dotted_of};
-ghost use Rattle.lalrpop_tables.specs.CheckClosing.{Widens, IsBegun, IsExpansionOf, IsMovedIn, IsMovedOf, AreClosure, AllWait};
+ghost use Rattle.lalrpop_base.specs.closures.Closure.{dotted_of};
+ghost use Rattle.lalrpop_base.specs.closures.CheckClosing.{Widens, IsBegun, IsExpansionOf, IsMovedIn, IsMovedOf, AreClosure, AllWait};
 
-use super::sets::add_key;
+use crate::sets::add_key;
 use lalrpop_base::lookahead::nil::Nil;
 use lalrpop_base::lr1_core::item::{Item, Lr0Item, Lr1Item};
 use lalrpop_base::memory::OutOfMemory;

@@ -12,10 +12,10 @@ mod tracing;
 
 ghost use Rattle.std.specs.Prelude.{◌≡◌, IfOk, IfErr, IfSome, IsSomeAnd, IsTrue, MatchBool, MatchOption, MatchResult};
 ghost use Rattle.lalrpop_base.specs.Words.{IsLALR1, IsOnNoRightSide, IsWellFormed, productions, rules_of};
-ghost use Rattle.lalrpop_tables.specs.Lalr.{TellsNotLALR1};
-ghost use Rattle.lalrpop_tables.specs.LaneStates.{AreLalrLaneTables, IsReadyToConstruct};
-ghost use Rattle.lalrpop_tables.specs.Lr0Copies.{AreCopiedTables, AreLr0Copies, FailsByCopies, HaveCopiedConflict};
-ghost use Rattle.lalrpop_tables.specs.Results.{HaveNoConflict};
+ghost use Rattle.lalrpop_tables.specs.collapse.Lalr.{TellsNotLALR1};
+ghost use Rattle.lalrpop_tables.specs.lane_states.LaneStates.{AreLalrLaneTables, IsReadyToConstruct};
+ghost use Rattle.lalrpop_tables.specs.lane_states.Lr0Copies.{AreCopiedTables, AreLr0Copies, FailsByCopies, HaveCopiedConflict};
+ghost use Rattle.lalrpop_base.specs.conflicts.AllConflicts.{HaveNoConflict};
 
 use crate::conflicts::{conflicts_of, have_no_conflict};
 use lalrpop_base::first::FirstSets;

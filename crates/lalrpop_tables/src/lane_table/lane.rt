@@ -8,9 +8,9 @@ mod walk;
 
 ghost use Rattle.std.specs.Prelude.{◌≡◌, ◌<◌, ◌↔◌, ℕ, true, length, slice_get, Some, IfOk, OnErr, OnOk};
 ghost use Rattle.lalrpop_base.specs.Words.{has, AreCoherent, IsWellFormed, productions, rules_of};
-ghost use Rattle.lalrpop_tables.specs.LaneTables.{IsEmptyTable};
-ghost use Rattle.lalrpop_tables.specs.LaneTraces.{HaveOwnItems, IsReadyToTrace, ReducesOwn, places_in, TakesAction, TakesPartOfAction};
-ghost use Rattle.lalrpop_tables.specs.StateGraph.{edges, IsGraphOf};
+ghost use Rattle.lalrpop_tables.specs.lane_tables.LaneTables.{IsEmptyTable};
+ghost use Rattle.lalrpop_tables.specs.lanes.LaneTraces.{HaveOwnItems, IsReadyToTrace, ReducesOwn, places_in, TakesAction, TakesPartOfAction};
+ghost use Rattle.lalrpop_tables.specs.graphs.StateGraph.{edges, IsGraphOf};
 
 use self::ground::Ground;
 use self::trace_back::take_lane;

@@ -4,13 +4,12 @@ mod beachheads;
 mod closed;
 pub mod rows;
 
-ghost use Rattle.std.specs.Prelude.{◌≡◌, ◌<◌, ◌↔◌, ℕ, Contains, IfOk, OnOk, OnErr, IfErr, IsTrue, IfSome, IsSome, IsNone};
+ghost use Rattle.std.specs.Prelude.{◌≡◌, ◌<◌, ◌↔◌, Contains, IfOk, OnOk, OnErr, IfErr, IfSome, IsSome, IsNone};
 ghost use Rattle.std.specs.Map.{keys_of};
-ghost use Rattle.lalrpop_base.specs.Words.{Bits};
 ghost use Rattle.lalrpop_base.specs.declared.lr1_core.state.StateIndex.{StateIndex as State};
-ghost use Rattle.lalrpop_tables.specs.Contexts.{AreDisjoint};
-ghost use Rattle.lalrpop_tables.specs.Entries.{IsJoinedAt};
-ghost use Rattle.lalrpop_tables.specs.LaneCells.{AreBelow};
+ghost use Rattle.lalrpop_base.specs.lanes.Contexts.{AreDisjoint};
+ghost use Rattle.lalrpop_base.specs.lists.Entries.{IsJoinedAt};
+ghost use Rattle.lalrpop_tables.specs.lane_tables.LaneCells.{AreBelow};
 ghost use Rattle.lalrpop_tables.specs.declared.lane_table.context_set.OverlappingLookahead.TheVariants.{Overlapping};
 
 use super::context_set::{ConflictIndex, ContextSet, OverlappingLookahead};
@@ -46,7 +45,7 @@ impl<'grammar> fmt::Debug for LaneTable<'grammar> {
 }
 
 impl<'grammar> LaneTable<'grammar> {
-    ghost use Rattle.lalrpop_tables.specs.LaneTables.{AreSameTables, AddsTokens, AddsSuccessor, IsEmptyTable, AreInRange, AreColumns, ColumnsOverlap, IsRow, RowOverlaps, IsSuccessor};
+    ghost use Rattle.lalrpop_tables.specs.lane_tables.LaneTables.{AreSameTables, AddsTokens, AddsSuccessor, IsEmptyTable, AreInRange, AreColumns, ColumnsOverlap, IsRow, RowOverlaps, IsSuccessor};
 
     /// A table without rows, for a number of actions.
     pub fn new(alloc: Global, grammar: &'grammar Grammar, conflicts: usize) -> LaneTable<'grammar>

@@ -2,9 +2,9 @@
 ghost use Rattle.std.specs.Prelude.{◌≡◌, ◌≤◌, [], ◌∷◌, false, length, take, OnOk};
 ghost use Rattle.std.specs.Map.{keys_of};
 ghost use Rattle.lalrpop_base.specs.Words.{AllDiffer};
-ghost use Rattle.lalrpop_tables.specs.GraphCopies.{FollowsCopies, FollowsEdges, FollowsInTurn};
-ghost use Rattle.lalrpop_tables.specs.Renumbered.{number_in, retargeted_all};
-ghost use Rattle.lalrpop_tables.specs.StateGraph.{edge, edges_of, goto_edges, shift_edges};
+ghost use Rattle.lalrpop_tables.specs.graphs.GraphCopies.{FollowsCopies, FollowsEdges, FollowsInTurn};
+ghost use Rattle.lalrpop_base.specs.renumbering.Renumbered.{number_in, retargeted_all};
+ghost use Rattle.lalrpop_tables.specs.graphs.StateGraph.{edge, edges_of, goto_edges, shift_edges};
 
 use super::StateGraph;
 use super::lists::{clear_at, push_at};

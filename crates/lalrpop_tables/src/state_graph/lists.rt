@@ -1,6 +1,6 @@
 //! Lists by number.
 ghost use Rattle.std.specs.Prelude.{◌≡◌, ◌<◌, length, OnOk};
-ghost use Rattle.lalrpop_tables.specs.StateGraph.{AreSameLists, IsChangedAt, IsListedAt, list_at, nothing};
+ghost use Rattle.lalrpop_tables.specs.graphs.StateGraph.{AreSameLists, IsChangedAt, IsListedAt, list_at, nothing};
 
 use lalrpop_base::memory::OutOfMemory;
 use std::alloc::Global;

@@ -1,6 +1,6 @@
 //! The neighbours of a state in a graph, newest edge first.
 ghost use Rattle.std.specs.Iterator.{YieldsFirst, item_count};
-ghost use Rattle.lalrpop_tables.specs.Neighbours.{targets_left, sources_left};
+ghost use Rattle.lalrpop_tables.specs.graphs.Neighbours.{targets_left, sources_left};
 
 use lalrpop_base::exact::equal;
 use lalrpop_base::lr1_core::state::StateIndex;

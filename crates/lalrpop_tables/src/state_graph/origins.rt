@@ -1,7 +1,7 @@
 //! Where the edges to states come from.
 ghost use Rattle.std.specs.Prelude.{◌≡◌, filter};
-ghost use Rattle.lalrpop_tables.specs.GraphCopies.{is_other as tells_other};
-ghost use Rattle.lalrpop_tables.specs.StateGraph.{IsChangedAt};
+ghost use Rattle.lalrpop_tables.specs.graphs.GraphCopies.{is_other as tells_other};
+ghost use Rattle.lalrpop_tables.specs.graphs.StateGraph.{IsChangedAt};
 
 use lalrpop_base::exact::equal;
 use lalrpop_base::lr1_core::state::StateIndex;

@@ -16,13 +16,14 @@ use lalrpop_base::collections::Set;
 use lalrpop_base::exact::contains;
 use lalrpop_base::first::FirstSets;
 use lalrpop_base::lookahead::nil::Nil;
+use lalrpop_base::lookahead::token_set::TokenSet;
 use lalrpop_base::lr1_core::lr0::Lr0State;
 use lalrpop_base::lr1_core::state::{Action, StateIndex};
 use lalrpop_base::memory::OutOfMemory;
 use lalrpop_base::repr::NonterminalString;
 use lalrpop_base::repr::grammar::Grammar;
 use lalrpop_base::repr::terminals::TerminalSet;
-use lalrpop_tables::lane_table::context_set::ConflictIndex;
+use lalrpop_tables::lane_table::context_set::{ConflictIndex, OverlappingLookahead};
 use lalrpop_tables::lane_table::lane::LaneTracer;
 use lalrpop_tables::lane_table::table::LaneTable;
 use lalrpop_tables::state_graph::StateGraph;
@@ -122,17 +123,31 @@ fn push_cells_of(
     terminals: &TerminalSet,
 ) -> Result<(), QuestionError> {
     for (place, table) in tables.iter().enumerate() {
-        let Ok(row) = table.context_set(alloc, StateIndex(state)) else {
-            return Err(QuestionError::Memory);
-        };
-        if place < table.column_count() {
-            let tokens = column_of(alloc, &row, place, terminals)?;
-            if tokens.len() > 0 {
-                write!(text, "cell {state} {place}")?;
-                push_tokens(text, &tokens, terminals)?;
-                text.push_str("\n")?;
+        match table.context_set(alloc, StateIndex(state)) {
+            Ok(row) if place < table.column_count() => {
+                let tokens = column_of(alloc, &row, place, terminals)?;
+                push_cell(text, state, place, &tokens, terminals)?;
             }
+            Ok(_) => {}
+            Err(OverlappingLookahead::Memory) => return Err(QuestionError::Memory),
+            Err(OverlappingLookahead::Overlapping) => write!(text, "cell {state} overlaps\n")?,
         }
+    }
+    Ok(())
+}
+
+// Appends the tokens of one action in the row of a state, if there are some.
+fn push_cell(
+    text: &mut String,
+    state: usize,
+    place: usize,
+    tokens: &TokenSet,
+    terminals: &TerminalSet,
+) -> Result<(), QuestionError> {
+    if tokens.len() > 0 {
+        write!(text, "cell {state} {place}")?;
+        push_tokens(text, tokens, terminals)?;
+        text.push_str("\n")?;
     }
     Ok(())
 }

@@ -1,6 +1,6 @@
 use Rattle.std.proofs.Common.{ap, ◌∙◌, sym}
 use Rattle.std.specs.BTreeSet.{insert_key}
-use Rattle.lalrpop_base.proofs.SetLemmas.{insert_key-twice, told_unchanged}
+use Rattle.lalrpop_base.proofs.theory.lists.SetLemmas.{insert_key-twice, told_unchanged}
 use Rattle.lalrpop_base.proofs.collections.push_twice.Goals as goal
 
 pub returns : goal.returns

@@ -1,4 +1,4 @@
-use Rattle.lalrpop_base.proofs.theory.Augmented.{alone, augmented_trees, same_sentences, same_beginnings, augmented_answers, augmented_refusals}
+use Rattle.lalrpop_base.proofs.theory.grammars.Augmented.{alone, augmented_trees, same_sentences, same_beginnings, augmented_answers, augmented_refusals}
 use Rattle.lalrpop_base.proofs.laws.augmented.Goals as goal
 
 pub returns-clause-alone : goal.returns-clause-alone

@@ -1,5 +1,5 @@
 use Rattle.std.proofs.Common.{◌≡◌, true}
-use Rattle.lalrpop_base.proofs.theory.Prompt.{limit_enough, steps_on_right, refused_promptly}
+use Rattle.lalrpop_base.proofs.theory.runs.Prompt.{limit_enough, steps_on_right, refused_promptly}
 use Rattle.lalrpop_base.proofs.laws.canonical_runs.Goals as goal
 
 pub returns-clause-ends : goal.returns-clause-ends

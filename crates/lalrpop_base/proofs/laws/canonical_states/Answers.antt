@@ -1,7 +1,7 @@
 use Rattle.std.proofs.Common.{◌≡◌, true}
-use Rattle.lalrpop_base.proofs.theory.Canonical.{tokens_exact, canonical_faithful, no_conflict_faithful, lr1_no_state_conflict}
-use Rattle.lalrpop_base.proofs.theory.RightStates.{faithful_lr1}
-use Rattle.lalrpop_base.proofs.theory.Lr0.{canonical_one}
+use Rattle.lalrpop_base.proofs.theory.closures.Canonical.{tokens_exact, canonical_faithful, no_conflict_faithful, lr1_no_state_conflict}
+use Rattle.lalrpop_base.proofs.theory.states.RightStates.{faithful_lr1}
+use Rattle.lalrpop_base.proofs.theory.states.Lr0.{canonical_one}
 use Rattle.lalrpop_base.proofs.laws.canonical_states.Goals as goal
 
 pub returns-clause-tokens : goal.returns-clause-tokens

@@ -1,6 +1,6 @@
-use Rattle.lalrpop_base.proofs.theory.Closures.{reached_states, have_right_items}
-use Rattle.lalrpop_base.proofs.theory.Lr0.{closed_lr0}
-use Rattle.lalrpop_base.proofs.theory.Copies.{copies_closed}
+use Rattle.lalrpop_base.proofs.theory.closures.Closures.{reached_states, have_right_items}
+use Rattle.lalrpop_base.proofs.theory.states.Lr0.{closed_lr0}
+use Rattle.lalrpop_base.proofs.theory.states.Copies.{copies_closed}
 use Rattle.lalrpop_base.proofs.laws.closed_states.Goals as goal
 
 pub returns-clause-reached : goal.returns-clause-reached

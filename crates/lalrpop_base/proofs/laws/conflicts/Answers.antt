@@ -1,6 +1,6 @@
 use Rattle.std.proofs.Common.{◌≡◌, true}
-use Rattle.lalrpop_base.proofs.theory.Conflicts.{no_conflict_lr1, lr1_no_conflict, empty_list, one_list_of_conflicts, state_conflicts}
-use Rattle.lalrpop_base.proofs.theory.ConflictLists.{conflict_list}
+use Rattle.lalrpop_base.proofs.theory.conflicts.Conflicts.{no_conflict_lr1, lr1_no_conflict, empty_list, one_list_of_conflicts, state_conflicts}
+use Rattle.lalrpop_base.proofs.theory.conflicts.ConflictLists.{conflict_list}
 use Rattle.lalrpop_base.proofs.laws.conflicts.Goals as goal
 
 pub returns-clause-none : goal.returns-clause-none

@@ -1,5 +1,5 @@
-use Rattle.lalrpop_base.proofs.theory.Forests.{first-cons}
-use Rattle.lalrpop_base.proofs.theory.Parses.{sentence_tree}
+use Rattle.lalrpop_base.proofs.theory.grammars.Forests.{first-cons}
+use Rattle.lalrpop_base.proofs.theory.grammars.Parses.{sentence_tree}
 use Rattle.lalrpop_base.proofs.laws.derivations.Goals as goal
 
 pub returns-clause-first : goal.returns-clause-first

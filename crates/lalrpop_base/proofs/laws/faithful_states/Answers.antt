@@ -1,12 +1,12 @@
 use Rattle.std.proofs.Common.{[], sym, subst, ◌∙◌, ap, ◌++◌, ◌∷◌}
 use Rattle.std.proofs.lemmas.List.{append_cancel_right}
 use Rattle.lalrpop_base.specs.Words.{IsBeginning}
-use Rattle.lalrpop_base.proofs.theory.Sentences.{one_tree, tree_parsed, tree_run}
-use Rattle.lalrpop_base.proofs.theory.Runs.{answered_is_tree, answered_within, run_tracks, begin_tracks, shift_begins, Tracks}
-use Rattle.lalrpop_base.proofs.theory.Refusals.{refused_wrong}
-use Rattle.lalrpop_base.proofs.theory.Stacks.{spelled}
-use Rattle.lalrpop_base.proofs.theory.Beginnings.{beginning_shifted}
-use Rattle.lalrpop_base.proofs.theory.RightStates.{faithful_lr1}
+use Rattle.lalrpop_base.proofs.theory.runs.Sentences.{one_tree, tree_parsed, tree_run}
+use Rattle.lalrpop_base.proofs.theory.runs.Runs.{answered_is_tree, answered_within, run_tracks, begin_tracks, shift_begins, Tracks}
+use Rattle.lalrpop_base.proofs.theory.runs.Refusals.{refused_wrong}
+use Rattle.lalrpop_base.proofs.theory.runs.Stacks.{spelled}
+use Rattle.lalrpop_base.proofs.theory.runs.Beginnings.{beginning_shifted}
+use Rattle.lalrpop_base.proofs.theory.states.RightStates.{faithful_lr1}
 use Rattle.lalrpop_base.proofs.laws.faithful_states.Goals as goal
 
 pub returns-clause-one_tree : goal.returns-clause-one_tree

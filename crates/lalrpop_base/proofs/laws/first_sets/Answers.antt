@@ -1,5 +1,5 @@
 use Rattle.std.proofs.Common.{◌≡◌, true}
-use Rattle.lalrpop_base.proofs.theory.FirstSets.{first_by, nullable_by}
+use Rattle.lalrpop_base.proofs.theory.first.FirstSets.{first_by, nullable_by}
 use Rattle.lalrpop_base.proofs.laws.first_sets.Goals as goal
 
 pub returns-clause-first : goal.returns-clause-first

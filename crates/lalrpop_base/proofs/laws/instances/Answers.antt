@@ -1,12 +1,12 @@
 use Rattle.std.proofs.Common.{zero, suc, List, [], ◌∷◌, refl}
 use Rattle.lalrpop_base.specs.Words.{DifferInReductions}
-use Rattle.lalrpop_base.specs.States.{Reduction}
-use Rattle.lalrpop_base.proofs.theory.Instance.{S, x, g, states, alone, checked, faithful, reduction}
-use Rattle.lalrpop_base.proofs.theory.InstanceTokens.{tokens, canonical, token_kernels, lr0, lane_tokens_held, lalr_tokens_held, lr1, lalr1}
-use Rattle.lalrpop_base.proofs.theory.InstanceRuns.{tree, at_two}
-use Rattle.lalrpop_base.proofs.theory.Spoilt.{with_reductions, idle, dropped_refused, repeated_refused, idle_refused}
-use Rattle.lalrpop_base.proofs.theory.FiveStatesRuns as five
-use Rattle.lalrpop_base.proofs.theory.FiveStates as rows
+use Rattle.lalrpop_base.specs.states.States.{Reduction}
+use Rattle.lalrpop_base.proofs.theory.instances.Instance.{S, x, g, states, alone, checked, faithful, reduction}
+use Rattle.lalrpop_base.proofs.theory.instances.InstanceTokens.{tokens, canonical, token_kernels, lr0, lane_tokens_held, lalr_tokens_held, lr1, lalr1}
+use Rattle.lalrpop_base.proofs.theory.instances.InstanceRuns.{tree, at_two}
+use Rattle.lalrpop_base.proofs.theory.instances.Spoilt.{with_reductions, idle, dropped_refused, repeated_refused, idle_refused}
+use Rattle.lalrpop_base.proofs.theory.instances.FiveStatesRuns as five
+use Rattle.lalrpop_base.proofs.theory.instances.FiveStates as rows
 use mathlib.Core.List.{tail-eq_of_cons-eq, nil≢cons}
 use Rattle.lalrpop_base.proofs.laws.instances.Goals as goal
 

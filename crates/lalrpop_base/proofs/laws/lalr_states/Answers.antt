@@ -1,6 +1,6 @@
 use Rattle.std.proofs.Common.{◌≡◌, true}
-use Rattle.lalrpop_base.proofs.theory.LalrStates.{lalr_faithful, faithful_lalr, no_conflict_lalr, lalr_no_conflict}
-use Rattle.lalrpop_base.proofs.theory.Collapse.{collapsed_lr0, collapsed_tokens}
+use Rattle.lalrpop_base.proofs.theory.collapse.LalrStates.{lalr_faithful, faithful_lalr, no_conflict_lalr, lalr_no_conflict}
+use Rattle.lalrpop_base.proofs.theory.collapse.Collapse.{collapsed_lr0, collapsed_tokens}
 use Rattle.lalrpop_base.proofs.laws.lalr_states.Goals as goal
 
 pub returns-clause-faithful : goal.returns-clause-faithful

@@ -1,5 +1,5 @@
-use Rattle.lalrpop_base.proofs.theory.Lanes.{lane_tokens, lanes_faithful}
-use Rattle.lalrpop_base.proofs.theory.LaneTables.{lanes_checked}
+use Rattle.lalrpop_base.proofs.theory.lanes.Lanes.{lane_tokens, lanes_faithful}
+use Rattle.lalrpop_base.proofs.theory.lanes.LaneTables.{lanes_checked}
 use Rattle.lalrpop_base.proofs.laws.lanes.Goals as goal
 
 pub returns-clause-tokens : goal.returns-clause-tokens

@@ -1,4 +1,4 @@
-use Rattle.lalrpop_base.proofs.theory.Outcomes.{has_outcome, one_outcome}
+use Rattle.lalrpop_base.proofs.theory.runs.Outcomes.{has_outcome, one_outcome}
 use Rattle.lalrpop_base.proofs.laws.outcomes.Goals as goal
 
 pub returns-clause-some : goal.returns-clause-some

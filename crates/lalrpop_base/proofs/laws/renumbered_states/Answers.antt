@@ -1,4 +1,4 @@
-use Rattle.lalrpop_base.proofs.theory.Renumbering.{faithful-renumbered}
+use Rattle.lalrpop_base.proofs.theory.renumbering.Renumbering.{faithful-renumbered}
 use Rattle.lalrpop_base.proofs.laws.renumbered_states.Goals as goal
 
 pub returns : goal.returns

@@ -1,4 +1,4 @@
-use Rattle.lalrpop_base.proofs.Spreading.{joined_itself, joined_apart}
+use Rattle.lalrpop_base.proofs.theory.lists.Spreading.{joined_itself, joined_apart}
 use Rattle.lalrpop_base.proofs.spread.join_into.Goals as goal
 
 pub returns-then-from-to : goal.returns-then-from-to

@@ -1,4 +1,4 @@
-use Rattle.lalrpop_base.specs.Spreading.{IsSent}
+use Rattle.lalrpop_base.specs.lists.Spreading.{IsSent}
 use Rattle.lalrpop_base.proofs.spread.send.Given as goal
 
 abbrev pub invariant-loop-to : goal.invariant-loop-to

@@ -1,7 +1,7 @@
 use Rattle.std.proofs.Common.{◌≡◌, ◌<◌, List, ℕ, length, arith, subst}
 use Rattle.std.specs.Prelude.{Contains}
-use Rattle.lalrpop_base.specs.Spreading.{AllBelowWait, IsSent}
-use Rattle.lalrpop_base.proofs.Spreading.{nothing_spread, spread_further, spread_falls, all_spread, ends_read}
+use Rattle.lalrpop_base.specs.lists.Spreading.{AllBelowWait, IsSent}
+use Rattle.lalrpop_base.proofs.theory.lists.Spreading.{nothing_spread, spread_further, spread_falls, all_spread, ends_read}
 use Rattle.lalrpop_base.proofs.spread.spread.Goals as goal
 
 pub loop-from-init : goal.loop-from-init

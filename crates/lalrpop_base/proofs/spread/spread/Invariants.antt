@@ -1,4 +1,4 @@
-use Rattle.lalrpop_base.proofs.Spreading.{SpreadSoFar, left_to_spread}
+use Rattle.lalrpop_base.proofs.theory.lists.Spreading.{SpreadSoFar, left_to_spread}
 use Rattle.lalrpop_base.proofs.spread.spread.Given as goal
 
 abbrev pub invariant-loop-from : goal.invariant-loop-from

@@ -1,6 +1,6 @@
 use Rattle.lalrpop_tables.specs.Words.{Collapses}
-use Rattle.lalrpop_lr1.proofs.ByTables.{are_coherent, are_some, are_faithful}
-use Rattle.lalrpop_lr1.proofs.ToldByTables.{decided, parsed, refused, limited, trees_told, run_told}
+use Rattle.lalrpop_lr1.proofs.theory.runs.ByTables.{are_coherent, are_some, are_faithful}
+use Rattle.lalrpop_lr1.proofs.theory.runs.ToldByTables.{decided, parsed, refused, limited, trees_told, run_told}
 use Rattle.lalrpop_lr1.proofs.headline.parse.Goals as goal
 
 pub parse_by_tables-requires-clause-coherent : goal.parse_by_tables-requires-clause-coherent

@@ -1,7 +1,7 @@
 use Rattle.std.proofs.Common.{◌≡◌, drop}
 use Rattle.lalrpop_lr1.specs.Words.{IsMarked, view_of, inlined_by}
-use Rattle.lalrpop_lr1.proofs.InlineStages.{Stage}
-use Rattle.lalrpop_lr1.proofs.InlineUsers.{MentionedBefore}
+use Rattle.lalrpop_lr1.proofs.theory.inlining.InlineStages.{Stage}
+use Rattle.lalrpop_lr1.proofs.theory.inlining.InlineUsers.{MentionedBefore}
 use Rattle.lalrpop_lr1.proofs.inline.inline.Given as goal
 
 -- with those that are left inlined, the grammar is the old one with all inlined; what mentions one of those that are left did so at first

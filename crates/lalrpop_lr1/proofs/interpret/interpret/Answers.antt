@@ -1,6 +1,6 @@
 use Rattle.lalrpop_base.specs.Words.{contents_in}
-use Rattle.lalrpop_lr1.proofs.FaithfulAnswers.{trees_are_one, limit_cut_off, cut_off_limit, tree_parses, answers_trees, refusal_wrong, refusal_prompt, steps_are_right, has_enough}
-use Rattle.lalrpop_lr1.proofs.Interpreted.{answer_at, tree_of_productions, tree_of_list, tree_steps, tree_within}
+use Rattle.lalrpop_lr1.proofs.theory.runs.FaithfulAnswers.{trees_are_one, limit_cut_off, cut_off_limit, tree_parses, answers_trees, refusal_wrong, refusal_prompt, steps_are_right, has_enough}
+use Rattle.lalrpop_lr1.proofs.theory.runs.Interpreted.{answer_at, tree_of_productions, tree_of_list, tree_steps, tree_within}
 use Rattle.lalrpop_lr1.proofs.interpret.interpret.Goals as goal
 
 pub returns-clause-outcome : goal.returns-clause-outcome

@@ -2,10 +2,10 @@ use Rattle.std.proofs.Common.{[]}
 use Rattle.std.specs.Prelude.{Ok}
 use Rattle.lalrpop_base.specs.Words.{contents_in, begin}
 use Rattle.lalrpop_lr1.specs.Words.{HasPartialOutcome}
-use Rattle.lalrpop_lr1.proofs.FaithfulAnswers.{stop_limit, stop_wrong}
-use Rattle.lalrpop_lr1.proofs.FaithfulStacks.{stack_begun, takes_beginning}
-use Rattle.lalrpop_lr1.proofs.Interpreted.{start_stacked, read_from_start, stop_partial, stack_answer}
-use Rattle.lalrpop_lr1.proofs.MachineRuns.{raised_partial}
+use Rattle.lalrpop_lr1.proofs.theory.runs.FaithfulAnswers.{stop_limit, stop_wrong}
+use Rattle.lalrpop_lr1.proofs.theory.runs.FaithfulStacks.{stack_begun, takes_beginning}
+use Rattle.lalrpop_lr1.proofs.theory.runs.Interpreted.{start_stacked, read_from_start, stop_partial, stack_answer}
+use Rattle.lalrpop_lr1.proofs.theory.runs.MachineRuns.{raised_partial}
 use Rattle.lalrpop_lr1.proofs.interpret.interpret_partial.Goals as goal
 
 pub shift_all-requires-clause-stacked : goal.shift_all-requires-clause-stacked

@@ -1,5 +1,5 @@
 use Rattle.lalrpop_lr1.specs.Words.{asked}
-use Rattle.lalrpop_lr1.proofs.TracedRightSides.{traced_right_sides, known_edges}
+use Rattle.lalrpop_lr1.proofs.theory.traces.TracedRightSides.{traced_right_sides, known_edges}
 use Rattle.lalrpop_lr1.proofs.trace.graph_of.Goals as goal
 
 pub returns-clause-right_sides : goal.returns-clause-right_sides

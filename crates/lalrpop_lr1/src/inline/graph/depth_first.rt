@@ -5,8 +5,8 @@ ghost use Rattle.std.specs.List.{flat_map};
 ghost use Rattle.std.specs.BTreeSet.{contains};
 ghost use Rattle.lalrpop_base.specs.Words.{name_cmp};
 ghost use Rattle.lalrpop_base.specs.declared.repr.NonterminalString.{NonterminalString};
-ghost use Rattle.lalrpop_lr1.specs.InlineOrder.{IsMarked, IsCycleOf, HasSpan};
-ghost use Rattle.lalrpop_lr1.specs.InlineWalks.{mentioned_in, names_of, IsWalk, IsFrame, HasFrames, HasNext, IsWalked, LeadTo};
+ghost use Rattle.lalrpop_lr1.specs.inlining.InlineOrder.{IsMarked, IsCycleOf, HasSpan};
+ghost use Rattle.lalrpop_lr1.specs.inlining.InlineWalks.{mentioned_in, names_of, IsWalk, IsFrame, HasFrames, HasNext, IsWalked, LeadTo};
 
 use lalrpop_base::memory::OutOfMemory;
 use lalrpop_base::repr::grammar::Grammar;

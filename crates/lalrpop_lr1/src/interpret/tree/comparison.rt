@@ -1,7 +1,7 @@
 //! Whether trees are the same.
 ghost use Rattle.std.specs.Prelude.{◌≡◌, ◌≢◌, ◌↔◌, ◌∷◌, map, IfOk, IsTrue, IsFalse, List};
-ghost use Rattle.lalrpop_lr1.specs.ParseTrees.{tree_of};
-ghost use Rattle.lalrpop_lr1.specs.TreeSteps.{Step, forest_of, step_of, steps_of};
+ghost use Rattle.lalrpop_lr1.specs.trees.ParseTrees.{tree_of};
+ghost use Rattle.lalrpop_lr1.specs.trees.TreeSteps.{Step, forest_of, step_of, steps_of};
 
 use super::ParseTree;
 use super::walk::{TreeStep, TreeWalk};

@@ -1,8 +1,8 @@
 //! Copies of trees.
 ghost use Rattle.std.specs.Prelude.{◌≡◌, ◌∷◌, [], IfOk, OnOk, List};
 ghost use Rattle.lalrpop_base.specs.Words.{Node};
-ghost use Rattle.lalrpop_lr1.specs.ParseTrees.{tree_of};
-ghost use Rattle.lalrpop_lr1.specs.TreeSteps.{Step, leaves_node, forest_of, step_of, tree_within};
+ghost use Rattle.lalrpop_lr1.specs.trees.ParseTrees.{tree_of};
+ghost use Rattle.lalrpop_lr1.specs.trees.TreeSteps.{Step, leaves_node, forest_of, step_of, tree_within};
 
 use super::ParseTree;
 use super::walk::{TreeStep, TreeWalk};

@@ -1,8 +1,8 @@
 //! The text of trees.
 ghost use Rattle.std.specs.Prelude.{◌≡◌, true, IfOk};
 ghost use Rattle.std.specs.Fmt.{WritesOnOk};
-ghost use Rattle.lalrpop_lr1.specs.ParseTrees.{tree_text, trees_text, separator_text};
-ghost use Rattle.lalrpop_lr1.specs.TreeSteps.{GivesStep, forest_of, is_entering, step_of, step_text, steps_of};
+ghost use Rattle.lalrpop_lr1.specs.trees.ParseTrees.{tree_text, trees_text, separator_text};
+ghost use Rattle.lalrpop_lr1.specs.trees.TreeSteps.{GivesStep, forest_of, is_entering, step_of, step_text, steps_of};
 
 use super::ParseTree;
 use super::walk::{TreeStep, TreeWalk};

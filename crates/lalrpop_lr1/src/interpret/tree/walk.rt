@@ -1,8 +1,8 @@
 //! A walk over trees from the left, with its own stack.
 ghost use Rattle.std.specs.Prelude.{◌≡◌, ◌∷◌, [], IfOk};
 ghost use Rattle.lalrpop_base.specs.Words.{beside};
-ghost use Rattle.lalrpop_lr1.specs.ParseTrees.{tree_of};
-ghost use Rattle.lalrpop_lr1.specs.TreeSteps.{around_of, forest_of, steps_over, steps_left, steps_of, step_of, GivesStep};
+ghost use Rattle.lalrpop_lr1.specs.trees.ParseTrees.{tree_of};
+ghost use Rattle.lalrpop_lr1.specs.trees.TreeSteps.{around_of, forest_of, steps_over, steps_left, steps_of, step_of, GivesStep};
 
 use super::ParseTree;
 use lalrpop_base::memory::OutOfMemory;

@@ -4,8 +4,8 @@ use Rattle.lalrpop_base.specs.Words.{Bits, IsLALR1, IsOnNoRightSide, productions
 use Rattle.lalrpop_base.specs.declared.lr1_core.state.State.{State}
 use Rattle.lalrpop_tables.specs.Words.{AreLaneTables}
 use Rattle.lalrpop_tables.specs.declared.build.options.Method.TheVariants.{Lane}
-use Rattle.lalrpop_tables.proofs.ByLanes.{if_told, not_there}
-use Rattle.lalrpop_tables.proofs.TablesOrCount.{Fallback-or-count}
+use Rattle.lalrpop_tables.proofs.theory.answers.ByLanes.{if_told, not_there}
+use Rattle.lalrpop_tables.proofs.theory.answers.TablesOrCount.{Fallback-or-count}
 use Rattle.lalrpop_tables.proofs.build.lr1_states_or_count.Goals as goal
 
 pub returns-in-Some : goal.returns-in-Some

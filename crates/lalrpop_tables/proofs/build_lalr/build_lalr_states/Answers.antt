@@ -1,8 +1,8 @@
 use Rattle.std.proofs.Common.{◌≡◌, refl, rules, arith}
 use Rattle.std.proofs.lemmas.Grind.{common_steps}
 use Rattle.lalrpop_tables.specs.declared.build.options.Method.TheVariants.{Canonical}
-use Rattle.lalrpop_tables.proofs.CollapseCanonical.{Canonical-collapsible}
-use Rattle.lalrpop_tables.proofs.Lr1Answers.{Collapse-answers, Collapse-fails}
+use Rattle.lalrpop_tables.proofs.theory.collapse.CollapseCanonical.{Canonical-collapsible}
+use Rattle.lalrpop_tables.proofs.theory.answers.Lr1Answers.{Collapse-answers, Collapse-fails}
 use Rattle.lalrpop_tables.proofs.build_lalr.build_lalr_states.Goals as goal
 
 pub collapse_to_lalr_states-requires : goal.collapse_to_lalr_states-requires

@@ -1,5 +1,5 @@
-use Rattle.lalrpop_tables.proofs.CheckTables.{Right-closed}
-use Rattle.lalrpop_tables.proofs.CheckAll.{Pass-all, All-right, Checked, Faithful}
+use Rattle.lalrpop_tables.proofs.theory.check.CheckTables.{Right-closed}
+use Rattle.lalrpop_tables.proofs.theory.check.CheckAll.{Pass-all, All-right, Checked, Faithful}
 use Rattle.lalrpop_tables.proofs.check.check_tables.Goals as goal
 
 pub are_right_states-requires-clause-counted : goal.are_right_states-requires-clause-counted

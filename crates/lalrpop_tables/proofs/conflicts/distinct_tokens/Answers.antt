@@ -1,11 +1,11 @@
 use Rattle.std.proofs.Common.{◌≡◌, ◌∙◌, ◌↔◌, ◌+◌, List, [], ◌∷◌, ◌++◌, ap, drop, refl, subst, sym, take, take-append-drop}
 use Rattle.std.specs.Prelude.{IsTrue}
 use Rattle.std.proofs.lemmas.List.{take_all, take_more}
-use Rattle.lalrpop_base.specs.StateConflicts.{Reduction}
+use Rattle.lalrpop_base.specs.conflicts.StateConflicts.{Reduction}
 use Rattle.lalrpop_base.specs.Words.{Bits, has}
-use Rattle.lalrpop_tables.specs.HeldShifts.{IsHeldBit, ShareNoBit}
-use Rattle.lalrpop_tables.proofs.FreeStates.{share_none, share_none_more, share_one}
-use Rattle.lalrpop_tables.proofs.HeldShifts.{held_more, held_none}
+use Rattle.lalrpop_base.specs.conflicts.HeldShifts.{IsHeldBit, ShareNoBit}
+use Rattle.lalrpop_base.proofs.theory.conflicts.FreeStates.{share_none, share_none_more, share_one}
+use Rattle.lalrpop_tables.proofs.theory.conflicts.HeldShifts.{held_more, held_none}
 use Rattle.lalrpop_tables.proofs.conflicts.distinct_tokens.Goals as goal
 
 pub loop-reduction-init : goal.loop-reduction-init

@@ -1,7 +1,7 @@
 use Rattle.std.proofs.Common.{◌↔◌, ℕ, take}
 use Rattle.std.specs.Prelude.{IsTrue}
 use Rattle.lalrpop_base.specs.Words.{has}
-use Rattle.lalrpop_tables.specs.HeldShifts.{IsHeldBit, ShareNoBit}
+use Rattle.lalrpop_base.specs.conflicts.HeldShifts.{IsHeldBit, ShareNoBit}
 use Rattle.lalrpop_tables.proofs.conflicts.distinct_tokens.Given as goal
 
 abbrev pub invariant-loop-reduction : goal.invariant-loop-reduction

@@ -1,17 +1,17 @@
 use Rattle.std.proofs.Common.{◌↔◌, ℕ, List, arith, eqb-true, refl, subst, sym, ◌∙◌}
+use Rattle.std.proofs.lemmas.List.{nil_from_length}
 use Rattle.std.specs.Prelude.{IsTrue, MatchOption, Option, vec_len}
-use Rattle.lalrpop_base.specs.StateConflicts.{Reduction}
+use Rattle.lalrpop_base.specs.conflicts.StateConflicts.{Reduction}
 use Rattle.lalrpop_base.specs.Words.{Bits, has}
-use Rattle.lalrpop_tables.specs.HeldShifts.{IsHeldBit, ShareNoBit}
-use Rattle.lalrpop_tables.proofs.FreeStates.{free_shifts, nothing_reduced_free, state_free}
-use Rattle.lalrpop_tables.proofs.Merging.{none_left}
+use Rattle.lalrpop_base.specs.conflicts.HeldShifts.{IsHeldBit, ShareNoBit}
+use Rattle.lalrpop_base.proofs.theory.conflicts.FreeStates.{free_shifts, nothing_reduced_free, state_free}
 use Rattle.lalrpop_tables.proofs.conflicts.has_no_conflict.Goals as goal
 
 pub returns-then-is_empty : goal.returns-then-is_empty
 returns-then-is_empty c =
     let reductions = c.args.state.now.reductions in
     let none = eqb-true (vec_len reductions) 0 (sym c.is_empty.ensures ∙ c.if-is_empty.true) in
-    (λ h. nothing_reduced_free c.args.terminals.now c.args.state.now (none_left reductions.items (let k = reductions.ok in omega arith)), λ h. refl)
+    (λ h. nothing_reduced_free c.args.terminals.now c.args.state.now (nil_from_length reductions.items (let k = reductions.ok in omega arith)), λ h. refl)
 
 pub returns : goal.returns
 returns c =

@@ -1,6 +1,6 @@
 use Rattle.std.proofs.Common.{refl}
-use Rattle.lalrpop_base.proofs.EachLemmas.{each_below_more, each_of_below}
-use Rattle.lalrpop_tables.proofs.Places.{slice_get_at}
+use Rattle.lalrpop_base.proofs.theory.lists.EachLemmas.{each_below_more, each_of_below}
+use Rattle.lalrpop_base.proofs.theory.lists.Places.{slice_get_at}
 use Rattle.lalrpop_tables.proofs.conflicts.have_no_conflict.Goals as goal
 
 pub returns-then-not-branch : goal.returns-then-not-branch

@@ -4,8 +4,8 @@ use Rattle.lalrpop_base.specs.Words.{HasToken}
 use Rattle.lalrpop_base.specs.declared.lookahead.token.Token.TheVariants.{Terminal as TokenOf}
 use Rattle.lalrpop_base.specs.declared.lr1_core.state.StateIndex.{StateIndex}
 use Rattle.lalrpop_base.specs.declared.repr.TerminalString.{TerminalString}
-use Rattle.lalrpop_tables.proofs.FreeStates.{shift_behind}
-use Rattle.lalrpop_tables.proofs.Lists.{Contains-here, Contains-none, Contains-there}
+use Rattle.lalrpop_base.proofs.theory.conflicts.FreeStates.{shift_behind}
+use Rattle.lalrpop_base.proofs.theory.lists.Members.{contains_head, Contains-none, contains_tail}
 use Rattle.lalrpop_tables.proofs.conflicts.holds_no_shift.Goals as goal
 
 pub loop-terminal-init : goal.loop-terminal-init
@@ -23,7 +23,7 @@ returns-then-branch c = (
       let t = c.in-Some.terminal.now in
       let target = c.in-Some._target.now in
       let rest : List (TerminalString × StateIndex) = c.next.new.self in
-      let here = subst (λ (es : List (TerminalString × StateIndex)). Contains es (t, target)) (sym c.in-Some.ensures.steps) (Contains-here (t, target) rest) in
+      let here = subst (λ (es : List (TerminalString × StateIndex)). Contains es (t, target)) (sym c.in-Some.ensures.steps) (contains_head (t, target) rest) in
       let some = c.in_ok-holds_terminal.ensures.0 c.if-branch.true in
       absurd (none t target (c.loop-terminal.invariant.of t target here) some),
 )
@@ -36,7 +36,7 @@ loop-terminal-preserved c =
     let none : HasToken c.args.terminals.now c.args.held.now (TokenOf x.0) → ⊥ = λ some.
     let yes = c.in_ok-holds_terminal.ensures.1 some in cc in
     record {
-      of = λ t target h. held.of t target (subst (λ (es : List (TerminalString × StateIndex)). Contains es (t, target)) (sym c.in-Some.ensures.steps) (Contains-there x rest (t, target) h));
+      of = λ t target h. held.of t target (subst (λ (es : List (TerminalString × StateIndex)). Contains es (t, target)) (sym c.in-Some.ensures.steps) (contains_tail x rest (t, target) h));
       left = λ t target some h. shift_behind c.args.terminals.now c.args.held.now x c.loop-terminal.terminal-iterator rest c.in-Some.ensures.steps none t target some (held.left t target some h);
     }
 

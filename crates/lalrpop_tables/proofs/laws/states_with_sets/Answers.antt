@@ -1,4 +1,4 @@
-use Rattle.lalrpop_tables.proofs.AnyLookahead.{Law-set-tables, Law-set-errors}
+use Rattle.lalrpop_tables.proofs.theory.canonical.AnyLookahead.{Law-set-tables, Law-set-errors}
 use Rattle.lalrpop_tables.proofs.laws.states_with_sets.Goals as goal
 
 pub returns-clause-tables : goal.returns-clause-tables

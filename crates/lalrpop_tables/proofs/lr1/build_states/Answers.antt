@@ -1,5 +1,5 @@
 use Rattle.lalrpop_tables.specs.Words.{Collapses}
-use Rattle.lalrpop_tables.proofs.Lr1Answers.{Answer-renumbered}
+use Rattle.lalrpop_tables.proofs.theory.answers.Lr1Answers.{Answer-renumbered}
 use Rattle.lalrpop_tables.proofs.lr1.build_states.Goals as goal
 
 pub returns-clause-tables : goal.returns-clause-tables

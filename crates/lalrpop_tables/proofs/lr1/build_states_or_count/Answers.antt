@@ -1,4 +1,4 @@
-use Rattle.lalrpop_tables.proofs.Lr1Answers.{Answer-renumbered}
+use Rattle.lalrpop_tables.proofs.theory.answers.Lr1Answers.{Answer-renumbered}
 use Rattle.lalrpop_tables.proofs.lr1.build_states_or_count.Goals as goal
 
 pub returns-in_ok-renumber-in-Tables : goal.returns-in_ok-renumber-in-Tables

@@ -1,7 +1,7 @@
 use Rattle.std.proofs.Common.{◌≡◌, ◌∙◌, sym, true, false}
 use Rattle.std.proofs.lemmas.Result.{IfOk-weaker}
 use Rattle.lalrpop_tables.specs.Words.{Collapses}
-use Rattle.lalrpop_tables.proofs.Lr1Answers.{Tables-where}
+use Rattle.lalrpop_tables.proofs.theory.answers.Lr1Answers.{Tables-where}
 use Rattle.lalrpop_tables.proofs.lr1.build_unnumbered_states.Goals as goal
 
 pub returns-clause-tables : goal.returns-clause-tables

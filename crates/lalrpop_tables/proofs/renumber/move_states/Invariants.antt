@@ -1,6 +1,6 @@
 use Rattle.std.proofs.Common.{◌≡◌, ◌++◌}
 use Rattle.std.specs.List.{filter}
-use Rattle.lalrpop_tables.specs.Words.{AreMoved, fails, stands_first, number_in}
+use Rattle.lalrpop_base.specs.Words.{AreMoved, fails, stands_first, number_in}
 use Rattle.lalrpop_tables.proofs.renumber.move_states.Given as goal
 
 abbrev pub invariant-loop-state : goal.invariant-loop-state

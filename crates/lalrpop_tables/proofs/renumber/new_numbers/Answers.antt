@@ -1,9 +1,9 @@
 use Rattle.std.proofs.Common.{◌≡◌, length, sym, ◌∙◌, arith, refl}
 use Rattle.std.specs.List.{filter}
 use Rattle.std.proofs.lemmas.List.Sums.{length-filter}
-use Rattle.lalrpop_tables.specs.Words.{stands_first, fails}
-use Rattle.lalrpop_tables.proofs.Partitions.{Places-none, Places-more, rank_within, parted_lengths, front_more, back_more}
-use Rattle.lalrpop_tables.proofs.Places.{slice_get_at}
+use Rattle.lalrpop_base.specs.Words.{stands_first, fails}
+use Rattle.lalrpop_base.proofs.theory.lists.Partitions.{Places-none, Places-more, rank_within, parted_lengths, front_more, back_more}
+use Rattle.lalrpop_base.proofs.theory.lists.Places.{slice_get_at}
 use Rattle.lalrpop_tables.proofs.renumber.new_numbers.Goals as goal
 
 pub loop-state-init : goal.loop-state-init

@@ -1,6 +1,6 @@
 use Rattle.std.proofs.Common.{◌≡◌, ◌+◌, length}
 use Rattle.std.specs.List.{filter}
-use Rattle.lalrpop_tables.specs.Words.{ArePlaces, rank, fails, stands_first}
+use Rattle.lalrpop_base.specs.Words.{ArePlaces, rank, fails, stands_first}
 use Rattle.lalrpop_tables.proofs.renumber.new_numbers.Given as goal
 
 abbrev pub invariant-loop-state : goal.invariant-loop-state

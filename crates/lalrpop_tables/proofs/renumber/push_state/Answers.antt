@@ -1,6 +1,6 @@
 use Rattle.std.proofs.Common.{sym, ◌∙◌, ap, not}
-use Rattle.lalrpop_tables.specs.Words.{fails, stands_first, number_in}
-use Rattle.lalrpop_tables.proofs.Moved.{Grows-taken}
+use Rattle.lalrpop_base.specs.Words.{fails, stands_first, number_in}
+use Rattle.lalrpop_base.proofs.theory.renumbering.Moved.{Grows-taken}
 use Rattle.lalrpop_tables.proofs.renumber.push_state.Goals as goal
 
 pub returns-then-is_first-clause-front : goal.returns-then-is_first-clause-front

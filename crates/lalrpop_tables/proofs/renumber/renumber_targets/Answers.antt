@@ -1,6 +1,6 @@
 use Rattle.std.proofs.Common.{rules}
 use Rattle.std.proofs.lemmas.Map.Made.{map_same_pairs}
-use Rattle.lalrpop_tables.specs.Words.{retargeted, number_in}
+use Rattle.lalrpop_base.specs.Words.{retargeted, number_in}
 use Rattle.lalrpop_tables.proofs.renumber.renumber_targets.Goals as goal
 
 pub returns : goal.returns

@@ -1,4 +1,4 @@
-use Rattle.lalrpop_tables.proofs.Stepping.{ordered_same, ordered_ascending}
+use Rattle.lalrpop_tables.proofs.theory.graphs.Stepping.{ordered_same, ordered_ascending}
 use Rattle.lalrpop_tables.proofs.state_graph.in_order.Goals as goal
 
 pub returns-clause-same : goal.returns-clause-same

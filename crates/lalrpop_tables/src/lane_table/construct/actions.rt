@@ -3,8 +3,8 @@ ghost use Rattle.std.specs.Prelude.{◌++◌, ◌↔◌, ℕ, IfOk, IsTrue, OnOk
 ghost use Rattle.std.specs.List.{flat_map};
 ghost use Rattle.lalrpop_base.specs.Words.{has};
 ghost use Rattle.lalrpop_base.specs.declared.lr1_core.state.Action.{Action as TheAction};
-ghost use Rattle.lalrpop_tables.specs.HeldShifts.{held_shift, IsHeldBit};
-ghost use Rattle.lalrpop_tables.specs.LaneStates.{ActionsAscend, AreActions, asked_actions, reduce_action};
+ghost use Rattle.lalrpop_base.specs.conflicts.HeldShifts.{held_shift, IsHeldBit};
+ghost use Rattle.lalrpop_tables.specs.lane_states.LaneStates.{ActionsAscend, AreActions, asked_actions, reduce_action};
 
 use crate::conflicts::holds_terminal;
 use lalrpop_base::collections::Set;

@@ -1,9 +1,9 @@
 //! States that are resolved with copies of some of them.
 ghost use Rattle.std.specs.Prelude.{◌≡◌, ◌<◌, ◌+◌, length, IfOk};
 ghost use Rattle.lalrpop_base.specs.Words.{rules_of};
-ghost use Rattle.lalrpop_tables.specs.LaneStates.{AreLaneStates, IsReadyToConstruct};
-ghost use Rattle.lalrpop_tables.specs.Lr0Copies.{AreLr0Copies};
-ghost use Rattle.lalrpop_tables.specs.Resolving.{IsResolving};
+ghost use Rattle.lalrpop_tables.specs.lane_states.LaneStates.{AreLaneStates, IsReadyToConstruct};
+ghost use Rattle.lalrpop_tables.specs.lane_states.Lr0Copies.{AreLr0Copies};
+ghost use Rattle.lalrpop_tables.specs.lane_states.Resolving.{IsResolving};
 
 use super::LaneTableConstruct;
 use super::actions::actions_of;

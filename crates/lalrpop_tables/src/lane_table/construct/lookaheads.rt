@@ -1,8 +1,8 @@
 //! Reductions that take the lookahead sets found for them.
 ghost use Rattle.std.specs.Prelude.{◌≡◌, ◌<◌, length, IfOk, MatchBool};
 ghost use Rattle.lalrpop_base.specs.Words.{contents, productions, rules_of};
-ghost use Rattle.lalrpop_tables.specs.FoundLookaheads.{IsFoundAt, with_sets};
-ghost use Rattle.lalrpop_tables.specs.LaneStates.{AreLaneStates, IsResolvedAt, IsStep, LanesMeet};
+ghost use Rattle.lalrpop_tables.specs.lane_states.FoundLookaheads.{IsFoundAt, with_sets};
+ghost use Rattle.lalrpop_tables.specs.lane_states.LaneStates.{AreLaneStates, IsResolvedAt, IsStep, LanesMeet};
 
 use super::LaneTableConstruct;
 use crate::lane_table::follow_sets::numbered_state::NumberedState;

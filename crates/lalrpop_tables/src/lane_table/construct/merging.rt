@@ -4,11 +4,11 @@ ghost use Rattle.std.specs.Map.{keys_of};
 ghost use Rattle.lalrpop_base.specs.Words.{AreCoherent, Bits};
 ghost use Rattle.lalrpop_base.specs.declared.lr1_core.state.State.{State};
 ghost use Rattle.lalrpop_base.specs.declared.lr1_core.state.StateIndex.{StateIndex as Number};
-ghost use Rattle.lalrpop_tables.specs.Contexts.{AreAmong, AreDisjoint};
-ghost use Rattle.lalrpop_tables.specs.LaneTables.{HasRow, IsClosed, IsRow};
-ghost use Rattle.lalrpop_tables.specs.Merges.{Advances, AreCopies, IsMerging, IsPatchable};
-ghost use Rattle.lalrpop_tables.specs.Resolving.{IsCopied};
-ghost use Rattle.lalrpop_tables.specs.StateGraph.{edges, IsGraphOf};
+ghost use Rattle.lalrpop_base.specs.lanes.Contexts.{AreAmong, AreDisjoint};
+ghost use Rattle.lalrpop_tables.specs.lane_tables.LaneTables.{HasRow, IsClosed, IsRow};
+ghost use Rattle.lalrpop_tables.specs.merges.Merges.{Advances, AreCopies, IsMerging, IsPatchable};
+ghost use Rattle.lalrpop_tables.specs.lane_states.Resolving.{IsCopied};
+ghost use Rattle.lalrpop_tables.specs.graphs.StateGraph.{edges, IsGraphOf};
 
 use super::copying::Copying;
 use super::merge::{Merge, MergeError};

@@ -1,11 +1,11 @@
 //! LR(0) states with all tokens.
-ghost use Rattle.std.specs.Prelude.{◌≡◌, IfOk, List, map};
+ghost use Rattle.std.specs.Prelude.{◌≡◌, IfOk, map};
 ghost use Rattle.std.specs.List.{AllZip};
 ghost use Rattle.lalrpop_base.specs.Words.{IsWellFormed, rules_of};
-ghost use Rattle.lalrpop_tables.specs.LaneStates.{IsPromoted, promoted_item, promoted_reduction};
-ghost use Rattle.lalrpop_tables.specs.Lr0.{AreLr0States};
+ghost use Rattle.lalrpop_tables.specs.lane_states.LaneStates.{IsPromoted, promoted_item, promoted_reduction};
+ghost use Rattle.lalrpop_base.specs.states.Lr0.{AreLr0States};
 
-use crate::build::build_lr0_states;
+use crate::construction::lr0::build_lr0_states;
 use lalrpop_base::lookahead::nil::Nil;
 use lalrpop_base::lookahead::token_set::TokenSet;
 use lalrpop_base::lr1_core::item::{Lr0Item, Lr1Item};

@@ -1,8 +1,8 @@
 //! The tokens of the reductions of one state.
 ghost use Rattle.std.specs.Prelude.{◌≡◌, length, IfOk, OnErr, MatchBool};
-ghost use Rattle.lalrpop_tables.specs.Contexts.{AreAmong};
-ghost use Rattle.lalrpop_tables.specs.LaneStates.{IsAttempted};
-ghost use Rattle.lalrpop_tables.specs.LaneTables.{AreInRange, ColumnsOverlap};
+ghost use Rattle.lalrpop_base.specs.lanes.Contexts.{AreAmong};
+ghost use Rattle.lalrpop_tables.specs.lane_states.LaneStates.{IsAttempted};
+ghost use Rattle.lalrpop_tables.specs.lane_tables.LaneTables.{AreInRange, ColumnsOverlap};
 
 use crate::lane_table::context_set::OverlappingLookahead;
 use crate::lane_table::table::LaneTable;

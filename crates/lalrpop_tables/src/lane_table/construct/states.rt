@@ -1,11 +1,11 @@
 //! All states of a construction, promoted and then resolved.
-ghost use Rattle.std.specs.Prelude.{◌≡◌, IfOk, OnOk, MatchOption};
+ghost use Rattle.std.specs.Prelude.{IfOk, OnOk, MatchOption};
 ghost use Rattle.lalrpop_base.specs.Words.{rules_of};
-ghost use Rattle.lalrpop_tables.specs.LaneStates.{AreLaneStates, AreLaneTables, HaveMeetingLanes, HoldAllFrom, IsReadyToConstruct};
+ghost use Rattle.lalrpop_tables.specs.lane_states.LaneStates.{AreLaneStates, AreLaneTables, HaveMeetingLanes, HoldAllFrom, IsReadyToConstruct};
 
 use super::LaneTableConstruct;
 use super::promote::{lr0_states, promote_states};
-use crate::build::numbers::Numbers;
+use crate::construction::numbers::Numbers;
 use crate::lane_table::follow_sets::Found;
 use crate::lane_table::follow_sets::numbered_state::number_states;
 use lalrpop_base::lookahead::token_set::TokenSet;

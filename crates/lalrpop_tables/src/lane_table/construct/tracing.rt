@@ -1,11 +1,11 @@
 //! The lane table of a state.
-ghost use Rattle.std.specs.Prelude.{◌≡◌, ◌<◌, ℕ, List, length, slice_get, Contains, IfOk, OnOk};
+ghost use Rattle.std.specs.Prelude.{◌≡◌, ◌<◌, length, Contains, IfOk};
 ghost use Rattle.lalrpop_base.specs.Words.{AreCoherent, productions, rules_of};
 ghost use Rattle.lalrpop_base.specs.declared.lr1_core.state.Action.{Action as TheAction};
-ghost use Rattle.lalrpop_tables.specs.LaneStates.{AreTraced, IsReadyToConstruct};
-ghost use Rattle.lalrpop_tables.specs.LaneTables.{AreInRange, HasRow, IsClosed};
-ghost use Rattle.lalrpop_tables.specs.LaneTraces.{HaveOwnItems, ReducesOwn, places_in};
-ghost use Rattle.lalrpop_tables.specs.StateGraph.{edges, IsGraphOf};
+ghost use Rattle.lalrpop_tables.specs.lane_states.LaneStates.{AreTraced, IsReadyToConstruct};
+ghost use Rattle.lalrpop_tables.specs.lane_tables.LaneTables.{AreInRange, HasRow, IsClosed};
+ghost use Rattle.lalrpop_tables.specs.lanes.LaneTraces.{HaveOwnItems, ReducesOwn, places_in};
+ghost use Rattle.lalrpop_tables.specs.graphs.StateGraph.{edges, IsGraphOf};
 
 use super::LaneTableConstruct;
 use crate::lane_table::context_set::ConflictIndex;

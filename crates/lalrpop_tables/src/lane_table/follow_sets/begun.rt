@@ -1,8 +1,8 @@
 //! What follows nonterminals in states at once.
 ghost use Rattle.std.specs.Prelude.{◌≡◌, ◌<◌, length, Contains, IfOk, OnOk};
-ghost use Rattle.lalrpop_tables.specs.FollowNodes.{IsPass, nodes_of};
-ghost use Rattle.lalrpop_tables.specs.FollowWalks.{AreBegun, AreEmptySets, IsEndBit, IsRestBit, IsRestBitIn, IsSomeRestBit, TakesBits};
-ghost use Rattle.lalrpop_tables.specs.NumberedStates.{items_at};
+ghost use Rattle.lalrpop_tables.specs.follow_sets.FollowNodes.{IsPass, nodes_of};
+ghost use Rattle.lalrpop_tables.specs.follow_sets.FollowWalks.{AreBegun, AreEmptySets, IsEndBit, IsRestBit, IsRestBitIn, IsSomeRestBit, TakesBits};
+ghost use Rattle.lalrpop_tables.specs.states.NumberedStates.{items_at};
 
 use super::edges::place_of;
 use super::pass::Pass;

@@ -1,6 +1,6 @@
 //! The transitions of a state by the numbers of their symbols.
 ghost use Rattle.std.specs.Prelude.{◌≡◌, ℕ, slice_get, Some, Contains, IfSome, IsNone};
-ghost use Rattle.lalrpop_tables.specs.NumberedStates.{EdgesAscend};
+ghost use Rattle.lalrpop_tables.specs.states.NumberedStates.{EdgesAscend};
 
 /// The place of the transition over a symbol, found by halving.
 pub(super) fn place_of(edges: &[(usize, usize)], symbol: usize) -> Option<usize>

@@ -1,7 +1,7 @@
 //! The edges of the follow graph.
 ghost use Rattle.std.specs.Prelude.{length, IfOk, OnOk};
-ghost use Rattle.lalrpop_tables.specs.FollowNodes.{IsPass};
-ghost use Rattle.lalrpop_tables.specs.FollowWalks.{AreEmptyLists, AreIncludes, AreLookbacks};
+ghost use Rattle.lalrpop_tables.specs.follow_sets.FollowNodes.{IsPass};
+ghost use Rattle.lalrpop_tables.specs.follow_sets.FollowWalks.{AreEmptyLists, AreIncludes, AreLookbacks};
 
 use super::lookback::{Lookback, walk_all};
 use super::pass::Pass;

@@ -1,9 +1,9 @@
 //! For each state the finished items in which walks to it end, with the nodes where these began.
 ghost use Rattle.std.specs.Prelude.{◌≡◌, ◌<◌, ℕ, length, Contains, IfOk, OnOk};
 ghost use Rattle.lalrpop_base.specs.declared.repr.Production.{Production as OfGrammar};
-ghost use Rattle.lalrpop_tables.specs.FollowNodes.{IsPass};
-ghost use Rattle.lalrpop_tables.specs.FollowWalks.{AreEmptyLists, EndsAt, GoesThrough, IsFrontOf, NotesEnds, SomeFront};
-ghost use Rattle.lalrpop_tables.specs.Numbering.{AddsThose};
+ghost use Rattle.lalrpop_tables.specs.follow_sets.FollowNodes.{IsPass};
+ghost use Rattle.lalrpop_tables.specs.follow_sets.FollowWalks.{AreEmptyLists, EndsAt, GoesThrough, IsFrontOf, NotesEnds, SomeFront};
+ghost use Rattle.lalrpop_tables.specs.grammars.Numbering.{AddsThose};
 
 use super::pass::Pass;
 use super::walk::walk;

@@ -1,8 +1,8 @@
 //! The nodes of the follow graph: nonterminals in states.
 ghost use Rattle.std.specs.Prelude.{◌≡◌, ◌<◌, ◌++◌, ℕ, length, slice_get, Some, Contains, IfOk, OnOk};
-ghost use Rattle.lalrpop_tables.specs.FollowNodes.{AreNodes, AreTransitionNodes, IsNonterminalOrCount, nonterminals_of};
-ghost use Rattle.lalrpop_tables.specs.NumberedStates.{EdgesAscend};
-ghost use Rattle.lalrpop_tables.specs.Numbers.{SymbolsAscend};
+ghost use Rattle.lalrpop_tables.specs.follow_sets.FollowNodes.{AreNodes, AreTransitionNodes, IsNonterminalOrCount, nonterminals_of};
+ghost use Rattle.lalrpop_tables.specs.states.NumberedStates.{EdgesAscend};
+ghost use Rattle.lalrpop_tables.specs.grammars.Numbers.{SymbolsAscend};
 ghost use Rattle.lalrpop_tables.specs.declared.lane_table.follow_sets.numbered_state.NumberedState.{NumberedState as ByNumbers};
 
 use super::edges::place_of;

@@ -3,11 +3,11 @@ ghost use Rattle.std.specs.Prelude.{◌≡◌, ◌<◌, ◌↔◌, ℕ, true, le
 ghost use Rattle.lalrpop_base.specs.Words.{Bits, Dotted, Rules, contents_of};
 ghost use Rattle.lalrpop_base.specs.declared.lookahead.nil.Nil.{Nil as NoLookahead};
 ghost use Rattle.lalrpop_base.specs.declared.lr1_core.state.State.{State};
-ghost use Rattle.lalrpop_tables.specs.NumberedStates.{AddTransitions, AddsTransition, AreNumberedStates, AreReducedNumbers, GotosAscend, HasDots, HaveReducedNumbers, IsNumberedState, ShiftsAscend, goto_transitions, shift_transitions};
-ghost use Rattle.lalrpop_tables.specs.Numbers.{AreNumbers, SymbolsAscend};
+ghost use Rattle.lalrpop_tables.specs.states.NumberedStates.{AddTransitions, AddsTransition, AreNumberedStates, AreReducedNumbers, GotosAscend, HasDots, HaveReducedNumbers, IsNumberedState, ShiftsAscend, goto_transitions, shift_transitions};
+ghost use Rattle.lalrpop_tables.specs.grammars.Numbers.{AreNumbers, SymbolsAscend};
 
-use crate::build::numbers::Numbers;
-use crate::build::numbers::symbols::number_of;
+use crate::construction::numbers::Numbers;
+use crate::construction::numbers::symbols::number_of;
 use lalrpop_base::lookahead::nil::Nil;
 use lalrpop_base::lookahead::token_set::TokenSet;
 use lalrpop_base::lr1_core::item::{Item, Lr1Item};

@@ -1,14 +1,14 @@
 //! What a pass over states goes over.
 ghost use Rattle.lalrpop_base.specs.declared.repr.NonterminalString.{NonterminalString as Name};
 ghost use Rattle.lalrpop_base.specs.declared.repr.Symbol.TheVariants.{Nonterminal};
-ghost use Rattle.lalrpop_tables.specs.FollowNodes.{IsNodeName, IsPass};
-ghost use Rattle.lalrpop_tables.specs.Numbers.{AreExpansions};
+ghost use Rattle.lalrpop_tables.specs.follow_sets.FollowNodes.{IsNodeName, IsPass};
+ghost use Rattle.lalrpop_tables.specs.grammars.Numbers.{AreExpansions};
 
 use super::nodes::Nodes;
 use super::numbered_state::NumberedState;
 use super::start::Start;
-use crate::build::Rest;
-use crate::build::numbers::Numbers;
+use crate::construction::numbers::Numbers;
+use crate::construction::numbers::rests::Rest;
 use lalrpop_base::lr1_core::state::Lr1State;
 use lalrpop_base::repr::NonterminalString;
 use lalrpop_base::repr::grammar::Grammar;

@@ -1,11 +1,11 @@
 //! The start symbol by number, and its productions.
 ghost use Rattle.std.specs.Prelude.{IfOk};
 ghost use Rattle.lalrpop_base.specs.declared.repr.Symbol.TheVariants.{Nonterminal};
-ghost use Rattle.lalrpop_tables.specs.FollowNodes.{IsNumberOrCount, IsStart};
-ghost use Rattle.lalrpop_tables.specs.Numbers.{AreExpansions, SymbolsAscend};
+ghost use Rattle.lalrpop_tables.specs.follow_sets.FollowNodes.{IsNumberOrCount, IsStart};
+ghost use Rattle.lalrpop_tables.specs.grammars.Numbers.{AreExpansions, SymbolsAscend};
 
-use crate::build::numbers::Numbers;
-use crate::build::numbers::symbols::number_of;
+use crate::construction::numbers::Numbers;
+use crate::construction::numbers::symbols::number_of;
 use lalrpop_base::exact::equal;
 use lalrpop_base::memory::OutOfMemory;
 use lalrpop_base::repr::{NonterminalString, Symbol};

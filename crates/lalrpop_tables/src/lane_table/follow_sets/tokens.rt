@@ -1,7 +1,7 @@
 //! The tokens of symbols, and whether sets share one.
 ghost use Rattle.std.specs.Prelude.{◌<◌, ◌↔◌, ℕ, IsTrue, MatchBool, IfOk, Contains, length};
 ghost use Rattle.lalrpop_base.specs.Words.{has};
-ghost use Rattle.lalrpop_tables.specs.FollowWalks.{AreTokensOfSymbols, HasTokenOf, HoldsSomeOf, ShareBits};
+ghost use Rattle.lalrpop_tables.specs.follow_sets.FollowWalks.{AreTokensOfSymbols, HasTokenOf, HoldsSomeOf, ShareBits};
 
 use lalrpop_base::lookahead::token::Token;
 use lalrpop_base::lookahead::token_set::TokenSet;

@@ -1,6 +1,6 @@
 //! The lookahead sets of the reductions of a state.
 ghost use Rattle.std.specs.Prelude.{◌≡◌, ◌<◌, ℕ, length, Contains, IfOk, OnOk};
-ghost use Rattle.lalrpop_tables.specs.FollowWalks.{AreUnions, JoinsUnions};
+ghost use Rattle.lalrpop_tables.specs.follow_sets.FollowWalks.{AreUnions, JoinsUnions};
 
 use super::begun::empty_sets;
 use lalrpop_base::lookahead::token_set::TokenSet;

@@ -5,11 +5,11 @@ ghost use Rattle.std.specs.Ordering.{on, then_cmp, nat_cmp, eq_of_both, as_parti
 ghost use Rattle.std.specs.Cmp.Rules.{comparing};
 ghost use Rattle.std.specs.Cmp.{unsigned_ties, partial_order_from_own_ties};
 ghost use Rattle.std.proofs.Common.{rules};
-ghost use Rattle.lalrpop_base.specs.Ties.{ties_then};
+ghost use Rattle.lalrpop_base.specs.lists.Ties.{ties_then};
 ghost use Rattle.lalrpop_base.specs.contracts.repr.NonterminalStringPartialEq.TheImpl.Laws as name_partial_eq;
 ghost use Rattle.lalrpop_base.specs.contracts.repr.NonterminalStringEq.TheImpl.Laws as name_eq;
 ghost use Rattle.lalrpop_base.specs.contracts.repr.NonterminalStringOrd.TheImpl.Laws as name_ord;
-ghost use Rattle.lalrpop_tables.specs.Expanded.{expanded_exact};
+ghost use Rattle.lalrpop_tables.specs.lanes.Expanded.{expanded_exact};
 
 use crate::place::Place;
 use lalrpop_base::exact::Exact;

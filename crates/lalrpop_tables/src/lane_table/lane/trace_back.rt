@@ -1,19 +1,19 @@
 //! Traces a place back, over edges and without symbols.
 ghost use Rattle.std.specs.Prelude.{◌≡◌, ◌<◌, OnErr, OnOk, Contains, length};
 ghost use Rattle.lalrpop_base.specs.Words.{productions, rules_of};
-ghost use Rattle.lalrpop_tables.specs.LaneSteps.{AreExpanded, GainsAll, GainsOf, GainsSomeOf, GainsSomeOfAll, IsEndPlace, IsGround, VisitsOf};
-ghost use Rattle.lalrpop_tables.specs.LaneTables.{AreInRange};
-ghost use Rattle.lalrpop_tables.specs.LaneTraces.{TakesLane, TakesPartOfLane, places_in};
+ghost use Rattle.lalrpop_tables.specs.lanes.LaneSteps.{AreExpanded, GainsAll, GainsOf, GainsSomeOf, GainsSomeOfAll, IsEndPlace, IsGround, VisitsOf};
+ghost use Rattle.lalrpop_tables.specs.lane_tables.LaneTables.{AreInRange};
+ghost use Rattle.lalrpop_tables.specs.lanes.LaneTraces.{TakesLane, TakesPartOfLane, places_in};
 
 use super::expanded::Expanded;
 use super::ground::Ground;
 use super::unepsilon::unepsilon;
 use super::unshift::unshift;
 use super::walk::Walk;
-use crate::check::sets::add_key;
 use crate::lane_table::context_set::ConflictIndex;
 use crate::lane_table::table::LaneTable;
 use crate::place::Place;
+use crate::sets::add_key;
 use lalrpop_base::lookahead::token_set::TokenSet;
 use lalrpop_base::lr1_core::item::Item;
 use lalrpop_base::lr1_core::state::StateIndex;

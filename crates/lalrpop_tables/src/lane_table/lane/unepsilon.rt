@@ -1,8 +1,8 @@
 //! Steps back without a symbol, from the start of a production.
-ghost use Rattle.std.specs.Prelude.{◌≡◌, ◌<◌, ℕ, OnErr, OnOk, Contains, length};
+ghost use Rattle.std.specs.Prelude.{◌≡◌, ◌<◌, OnErr, OnOk, Contains, length};
 ghost use Rattle.lalrpop_base.specs.Words.{productions, rules_of};
-ghost use Rattle.lalrpop_tables.specs.LaneSteps.{Gains, GainsOf, GainsSome, GainsSomeOf, IsEnd, IsEndBit, IsFollowBit, IsGround, IsHere, IsParent, IsPassedOn, IsPlaceIf, Nothing, Visits, VisitsOf};
-ghost use Rattle.lalrpop_tables.specs.LaneTables.{AreInRange, AreSameTables};
+ghost use Rattle.lalrpop_tables.specs.lanes.LaneSteps.{Gains, GainsOf, GainsSome, GainsSomeOf, IsEnd, IsEndBit, IsFollowBit, IsGround, IsHere, IsParent, IsPassedOn, IsPlaceIf, Nothing, Visits, VisitsOf};
+ghost use Rattle.lalrpop_tables.specs.lane_tables.LaneTables.{AreInRange, AreSameTables};
 
 use super::ground::Ground;
 use super::walk::Walk;

@@ -1,11 +1,11 @@
 //! Steps back over edges, from a dot past the start.
 ghost use Rattle.std.specs.Prelude.{◌≡◌, ◌<◌, ◌-◌, ℕ, Some, OnErr, OnOk, Contains, length};
 ghost use Rattle.lalrpop_base.specs.Words.{leads};
-ghost use Rattle.lalrpop_tables.specs.CheckCarrying.{at_place};
-ghost use Rattle.lalrpop_tables.specs.LaneSteps.{Gains, GainsOf, GainsSome, GainsSomeOf, IsGround, IsPair, Nothing, Nowhere, Visits, VisitsOf};
-ghost use Rattle.lalrpop_tables.specs.LaneTables.{AreInRange};
-ghost use Rattle.lalrpop_tables.specs.LaneTraces.{places_in};
-ghost use Rattle.lalrpop_tables.specs.StateGraph.{edge, edges};
+ghost use Rattle.lalrpop_tables.specs.check.CheckCarrying.{at_place};
+ghost use Rattle.lalrpop_tables.specs.lanes.LaneSteps.{Gains, GainsOf, GainsSome, GainsSomeOf, IsGround, IsPair, Nothing, Nowhere, Visits, VisitsOf};
+ghost use Rattle.lalrpop_tables.specs.lane_tables.LaneTables.{AreInRange};
+ghost use Rattle.lalrpop_tables.specs.lanes.LaneTraces.{places_in};
+ghost use Rattle.lalrpop_tables.specs.graphs.StateGraph.{edge, edges};
 
 use super::ground::Ground;
 use super::walk::Walk;

@@ -1,9 +1,9 @@
 //! A walk over places: each is visited once.
 ghost use Rattle.std.specs.Prelude.{◌≡◌, [], OnOk};
-ghost use Rattle.lalrpop_tables.specs.LaneSteps.{Visits};
+ghost use Rattle.lalrpop_tables.specs.lanes.LaneSteps.{Visits};
 
-use crate::check::sets::add_key;
 use crate::place::Place;
+use crate::sets::add_key;
 use lalrpop_base::memory::OutOfMemory;
 use std::alloc::Global;
 use std::collections::{BTreeSet, VecDeque};

@@ -1,8 +1,8 @@
 //! The states where lanes begin.
 ghost use Rattle.std.specs.Prelude.{◌↔◌, Contains, IfOk, OnOk};
 ghost use Rattle.lalrpop_base.specs.declared.lr1_core.state.StateIndex.{StateIndex as State};
-ghost use Rattle.lalrpop_tables.specs.LaneTableStates.{AddsKeys, AreReached};
-ghost use Rattle.lalrpop_tables.specs.LaneTables.{IsBeachhead};
+ghost use Rattle.lalrpop_tables.specs.lane_tables.LaneTableStates.{AddsKeys, AreReached};
+ghost use Rattle.lalrpop_tables.specs.lane_tables.LaneTables.{IsBeachhead};
 
 use super::LaneTable;
 use lalrpop_base::collections::Set;

@@ -1,9 +1,9 @@
 //! Whether a lane table is closed under successors.
 ghost use Rattle.std.specs.Prelude.{◌≡◌, ◌↔◌, Contains, IsTrue};
 ghost use Rattle.lalrpop_base.specs.declared.lr1_core.state.StateIndex.{StateIndex as State};
-ghost use Rattle.lalrpop_tables.specs.LaneRows.{HasCells};
-ghost use Rattle.lalrpop_tables.specs.LaneTableStates.{HasCellsBelow, IsClosedEdge};
-ghost use Rattle.lalrpop_tables.specs.LaneTables.{HasRow, IsClosed, IsSuccessor};
+ghost use Rattle.lalrpop_tables.specs.lane_tables.LaneRows.{HasCells};
+ghost use Rattle.lalrpop_tables.specs.lane_tables.LaneTableStates.{HasCellsBelow, IsClosedEdge};
+ghost use Rattle.lalrpop_tables.specs.lane_tables.LaneTables.{HasRow, IsClosed, IsSuccessor};
 
 use super::LaneTable;
 use lalrpop_base::collections::Set;

@@ -3,9 +3,9 @@ ghost use Rattle.std.specs.Prelude.{◌≡◌, ◌<◌, ◌↔◌, List, length,
 ghost use Rattle.std.specs.Map.{keys_of};
 ghost use Rattle.lalrpop_base.specs.Words.{Bits};
 ghost use Rattle.lalrpop_base.specs.declared.lr1_core.state.StateIndex.{StateIndex as Number};
-ghost use Rattle.lalrpop_tables.specs.Contexts.{AreDisjoint};
-ghost use Rattle.lalrpop_tables.specs.LaneRows.{AddsRows, AreRowsOf, IsFirstOverlap, JoinsRow, MakesRow, MeetsRow, row_at};
-ghost use Rattle.lalrpop_tables.specs.LaneTables.{HasRow, IsRow};
+ghost use Rattle.lalrpop_base.specs.lanes.Contexts.{AreDisjoint};
+ghost use Rattle.lalrpop_tables.specs.lane_tables.LaneRows.{AddsRows, AreRowsOf, IsFirstOverlap, JoinsRow, MakesRow, MeetsRow, row_at};
+ghost use Rattle.lalrpop_tables.specs.lane_tables.LaneTables.{HasRow, IsRow};
 ghost use Rattle.lalrpop_tables.specs.declared.lane_table.context_set.OverlappingLookahead.TheVariants.{Overlapping};
 ghost use Rattle.lalrpop_tables.specs.declared.lane_table.table.rows.RowsError.TheVariants.{Memory};
 

@@ -1,4 +1,4 @@
-use Rattle.lalrpop_lr1.proofs.ByTables.{made_states, are_coherent, are_some, are_faithful}
+use Rattle.lalrpop_lr1.proofs.theory.runs.ByTables.{made_states, are_coherent, are_some, are_faithful}
 use Rattle.lrtab_run.proofs.RunShown.{IsPromised, parse_shown}
 use Rattle.lrtab_run.proofs.answer.parse.Goals as goal
 

@@ -1,5 +1,5 @@
 use Rattle.std.proofs.lemmas.Result.{IfOk-weaker}
-use Rattle.lalrpop_base.proofs.FirstMeaning.{First-set}
+use Rattle.lalrpop_base.proofs.theory.first.FirstMeaning.{First-set}
 use Rattle.lalrpop_base.proofs.first.FirstSets.first0.Goals as goal
 
 pub returns : goal.returns

@@ -1,6 +1,6 @@
 use Rattle.std.proofs.Common.{◌≡◌, sym, ◌∙◌, ap}
 use Rattle.lalrpop_base.specs.Words.{Rules}
-use Rattle.lalrpop_base.proofs.FirstMeaning.{Before-nullable, Before-otherwise, Before-fits}
+use Rattle.lalrpop_base.proofs.theory.first.FirstMeaning.{Before-nullable, Before-otherwise, Before-fits}
 use Rattle.lalrpop_base.proofs.first.FirstSets.first1.Goals as goal
 use Rattle.lalrpop_base.proofs.first.FirstSets.first1.Goals.{then-take_eof+in_ok-union_with, else-take_eof}
 

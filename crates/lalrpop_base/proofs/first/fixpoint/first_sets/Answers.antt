@@ -2,7 +2,7 @@ use Rattle.std.proofs.Common.{◌≡◌, ◌<◌, length, Some, refl, sym, ◌�
 use Rattle.std.specs.Prelude.{slice_get}
 use Rattle.std.proofs.lemmas.Option.{slice_get_read}
 use Rattle.lalrpop_base.specs.Words.{AreUses}
-use Rattle.lalrpop_base.proofs.FirstFixpoint.{Growing-begin, Growing-turn, Growing-falls, Growing-end, Growing-bits, Growing-named, Ready-all}
+use Rattle.lalrpop_base.proofs.theory.first.FirstFixpoint.{Growing-begin, Growing-turn, Growing-falls, Growing-end, Growing-bits, Growing-named, Ready-all}
 use Rattle.lalrpop_base.proofs.first.fixpoint.first_sets.Goals as goal
 
 pub loop-number-init : goal.loop-number-init

@@ -1,6 +1,6 @@
 use Rattle.std.proofs.Common.{length}
 use Rattle.lalrpop_base.specs.Words.{productions}
-use Rattle.lalrpop_base.proofs.FirstFixpoint.{Growing, left_to_grow}
+use Rattle.lalrpop_base.proofs.theory.first.FirstFixpoint.{Growing, left_to_grow}
 use Rattle.lalrpop_base.proofs.first.fixpoint.first_sets.Given as goal
 
 abbrev pub invariant-loop-number : goal.invariant-loop-number

@@ -1,7 +1,7 @@
 use Rattle.std.proofs.Common.{get_or}
 use Rattle.std.proofs.lemmas.List.{get_or_default}
 use Rattle.std.proofs.lemmas.List.Elements.{Contains-get_or}
-use Rattle.lalrpop_base.proofs.FirstQueues.{Queued-none, Queued-more}
+use Rattle.lalrpop_base.proofs.theory.first.FirstQueues.{Queued-none, Queued-more}
 use Rattle.lalrpop_base.proofs.first.fixpoint.queue_all.Goals as goal
 
 pub loop-number-init : goal.loop-number-init

@@ -1,6 +1,6 @@
 use Rattle.std.specs.Prelude.{Contains}
 use Rattle.std.proofs.lemmas.List.Elements.{Contains-get_or}
-use Rattle.lalrpop_base.proofs.FirstNumbers.{AllZip-more}
+use Rattle.lalrpop_base.proofs.theory.first.FirstNumbers.{AllZip-more}
 use Rattle.lalrpop_base.proofs.first.numbered.add_numbered.Goals as goal
 
 pub number_symbols-requires : goal.number_symbols-requires

@@ -7,8 +7,8 @@ use Rattle.lalrpop_base.specs.declared.repr.TerminalString.{TerminalString}
 use Rattle.lalrpop_base.specs.declared.repr.Production.{Production}
 use Rattle.lalrpop_base.specs.declared.repr.grammar.NonterminalData.{NonterminalData}
 use Rattle.lalrpop_base.specs.Words.{productions}
-use Rattle.lalrpop_base.specs.FirstNumbers.{AreReady}
-use Rattle.lalrpop_base.proofs.FirstFixpoint.{Ready-all}
+use Rattle.lalrpop_base.specs.first.FirstNumbers.{AreReady}
+use Rattle.lalrpop_base.proofs.theory.first.FirstFixpoint.{Ready-all}
 use Rattle.lalrpop_base.proofs.first.numbered.number_productions.Goals as goal
 
 abbrev listed : List (NonterminalString × NonterminalData) → List Production

@@ -4,7 +4,7 @@ use Rattle.lalrpop_base.specs.declared.repr.NonterminalString.{NonterminalString
 use Rattle.lalrpop_base.specs.declared.repr.Production.{Production}
 use Rattle.lalrpop_base.specs.declared.repr.grammar.NonterminalData.{NonterminalData}
 use Rattle.lalrpop_base.specs.Words.{productions}
-use Rattle.lalrpop_base.specs.FirstNumbers.{IsNumberedProduction, AreReady}
+use Rattle.lalrpop_base.specs.first.FirstNumbers.{IsNumberedProduction, AreReady}
 use Rattle.lalrpop_base.proofs.first.numbered.number_productions.Given as goal
 
 abbrev pub invariant-loop-name : goal.invariant-loop-name

@@ -1,5 +1,5 @@
 use Rattle.std.proofs.Common.{[]}
-use Rattle.lalrpop_base.proofs.FirstNumbers.{AllZip-more, Bit-numbered, Name-numbered}
+use Rattle.lalrpop_base.proofs.theory.first.FirstNumbers.{AllZip-more, Bit-numbered, Name-numbered}
 use Rattle.lalrpop_base.proofs.first.numbered.number_symbols.Goals as goal
 use Rattle.lalrpop_base.proofs.first.numbered.number_symbols.Goals.{in-Terminal, in-Nonterminal}
 

@@ -1,6 +1,6 @@
 use Rattle.std.proofs.lemmas.List.{get_or_past}
 use Rattle.lalrpop_base.specs.Words.{no_bits}
-use Rattle.lalrpop_base.proofs.FirstTables.{Set-absent}
+use Rattle.lalrpop_base.proofs.theory.first.FirstTables.{Set-absent}
 use Rattle.lalrpop_base.proofs.first.sets.join_name.Goals as goal
 
 pub returns-in-None : goal.returns-in-None

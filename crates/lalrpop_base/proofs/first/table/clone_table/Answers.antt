@@ -4,7 +4,7 @@ use Rattle.std.specs.Map.{keys_of}
 use Rattle.std.specs.BTreeMap.{insert_entry}
 use Rattle.lalrpop_base.specs.declared.repr.NonterminalString.{NonterminalString}
 use Rattle.lalrpop_base.specs.Words.{Bits, name_cmp, Table}
-use Rattle.lalrpop_base.proofs.FirstNames.{copied}
+use Rattle.lalrpop_base.proofs.theory.first.FirstNames.{copied}
 use Rattle.lalrpop_base.proofs.first.table.clone_table.Goals as goal
 
 more : (copy new : Table) (name key : NonterminalString) (set value : Bits) (rest left whole : Table) → key ≡ name → value ≡ set → left ≡ (name, set) ∷ rest → IsStrictlySortedBy name_cmp (keys_of whole) → copy ++ left ≡ whole → new ≡ insert_entry name_cmp copy key value → new ++ rest ≡ whole

@@ -1,8 +1,8 @@
 use Rattle.std.proofs.Common.{◌≡◌, ℕ, IsSome, Some, None, Option, ◌∙◌, ap, refl, length}
 use Rattle.std.specs.Prelude.{IsNone}
 use Rattle.std.proofs.lemmas.Option.{slice_get_read}
-use Rattle.lalrpop_base.specs.FirstTables.{Gives}
-use Rattle.lalrpop_base.proofs.FirstTables.{First-init, First-one, First-terminal, First-nonterminal, First-passed, First-stopped, First-end}
+use Rattle.lalrpop_base.specs.first.FirstTables.{Gives}
+use Rattle.lalrpop_base.proofs.theory.first.FirstTables.{First-init, First-one, First-terminal, First-nonterminal, First-passed, First-stopped, First-end}
 use Rattle.lalrpop_base.proofs.first.table.first_by.Goals as goal
 
 pub loop-symbol-init : goal.loop-symbol-init

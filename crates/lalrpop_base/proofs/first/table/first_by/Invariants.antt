@@ -1,6 +1,6 @@
 use Rattle.std.proofs.Common.{length}
-use Rattle.lalrpop_base.specs.FirstTables.{Gives}
-use Rattle.lalrpop_base.proofs.FirstTables.{FirstSoFar}
+use Rattle.lalrpop_base.specs.first.FirstTables.{Gives}
+use Rattle.lalrpop_base.proofs.theory.first.FirstTables.{FirstSoFar}
 use Rattle.lalrpop_base.proofs.first.table.first_by.Given as goal
 
 abbrev pub invariant-loop-symbol : goal.invariant-loop-symbol

@@ -1,6 +1,6 @@
 use Rattle.std.proofs.Common.{Option, unwrap_or, ap, sym}
 use Rattle.lalrpop_base.specs.Words.{Bits, no_bits}
-use Rattle.lalrpop_base.proofs.FirstTables.{Set-absent}
+use Rattle.lalrpop_base.proofs.theory.first.FirstTables.{Set-absent}
 use Rattle.lalrpop_base.proofs.first.table.join_name.Goals as goal
 
 pub returns-in-None : goal.returns-in-None

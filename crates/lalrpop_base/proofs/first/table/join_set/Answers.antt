@@ -1,4 +1,4 @@
-use Rattle.lalrpop_base.proofs.FirstTables.{Set-joined}
+use Rattle.lalrpop_base.proofs.theory.first.FirstTables.{Set-joined}
 use Rattle.lalrpop_base.proofs.first.table.join_set.Goals as goal
 
 pub returns : goal.returns

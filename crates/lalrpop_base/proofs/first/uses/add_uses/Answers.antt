@@ -1,5 +1,5 @@
 use Rattle.std.proofs.lemmas.List.{get_or_default}
-use Rattle.lalrpop_base.proofs.FirstUses.{Adds-more}
+use Rattle.lalrpop_base.proofs.theory.first.FirstUses.{Adds-more}
 use Rattle.lalrpop_base.proofs.first.uses.add_uses.Goals as goal
 
 pub loop-symbol-preserved : goal.loop-symbol-preserved

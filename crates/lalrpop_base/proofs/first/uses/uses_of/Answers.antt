@@ -1,5 +1,5 @@
 use Rattle.std.proofs.Common.{◌∙◌}
-use Rattle.lalrpop_base.proofs.FirstUses.{Uses-next}
+use Rattle.lalrpop_base.proofs.theory.first.FirstUses.{Uses-next}
 use Rattle.lalrpop_base.proofs.first.uses.uses_of.Goals as goal
 
 pub loop-number-preserved : goal.loop-number-preserved

@@ -2,7 +2,7 @@ use Rattle.std.proofs.Common.{◌≡◌, ◌++◌, ◌∷◌, [], List, refl, ap
 use Rattle.std.specs.Prelude.{Some, cond, is_ok}
 use Rattle.std.specs.BTreeMap.{insert_entry, Updates}
 use Rattle.lalrpop_base.specs.Words.{IsNumbering, by_number, AddsOnce, AllDiffer}
-use Rattle.lalrpop_base.proofs.KernelLemmas.{IsNext, adds_known, adds_fresh, all_differ, next_numbering, at_number, exact_by_cmp}
+use Rattle.lalrpop_base.proofs.theory.states.KernelLemmas.{IsNext, adds_known, adds_fresh, all_differ, next_numbering, at_number, exact_by_cmp}
 use Rattle.lalrpop_base.proofs.kernel_set.KernelSet.add_state.Given as given
 use Rattle.lalrpop_base.proofs.kernel_set.KernelSet.add_state.Goals as goal
 

@@ -1,7 +1,7 @@
 use Rattle.std.proofs.Common.{◌∙◌, ◌≤◌, arith, ap, sym, ⊎_elim, slice_index, bit_or, length}
 use Rattle.std.proofs.lemmas.Bool.{cases_lt}
 use Rattle.std.proofs.lemmas.List.{get_or_past}
-use Rattle.lalrpop_base.proofs.WordLemmas.{or_zero}
+use Rattle.lalrpop_base.proofs.theory.sets.WordLemmas.{or_zero}
 use Rattle.lalrpop_base.proofs.lookahead.word_changes.join_words.Goals as goal
 
 pub returns-clause-joined : goal.returns-clause-joined

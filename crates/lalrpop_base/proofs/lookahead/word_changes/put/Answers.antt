@@ -1,7 +1,7 @@
 use Rattle.std.proofs.Common.{◌∙◌, ◌*◌, ◌/◌, ◌%◌, ◌^◌, ap, arith, slice_index, bit_or}
 use Rattle.std.proofs.lemmas.List.{get_or-set_same}
 use Rattle.std.proofs.lemmas.Nat.{one_shl}
-use Rattle.lalrpop_base.proofs.WordLemmas.{put_bit, put_some}
+use Rattle.lalrpop_base.proofs.theory.sets.WordLemmas.{put_bit, put_some}
 use Rattle.lalrpop_base.proofs.lookahead.word_changes.put.Goals as goal
 
 pub returns-clause-put : goal.returns-clause-put

@@ -1,4 +1,4 @@
-use Rattle.lalrpop_base.proofs.WordLemmas.{take_bit}
+use Rattle.lalrpop_base.proofs.theory.sets.WordLemmas.{take_bit}
 use Rattle.lalrpop_base.proofs.lookahead.word_changes.take.Goals as goal
 
 pub returns-clause-taken : goal.returns-clause-taken

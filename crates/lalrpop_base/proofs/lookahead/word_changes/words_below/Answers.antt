@@ -1,6 +1,6 @@
 use Rattle.std.proofs.Common.{◌-◌, ◌*◌, ◌%◌, ◌^◌, ℕ, arith, ap}
 use Rattle.std.proofs.lemmas.Nat.{one_shl}
-use Rattle.lalrpop_base.proofs.WordLemmas.{full_below, full_vector, part_below, part_vector}
+use Rattle.lalrpop_base.proofs.theory.sets.WordLemmas.{full_below, full_vector, part_below, part_vector}
 use Rattle.lalrpop_base.proofs.lookahead.word_changes.words_below.Goals as goal
 
 pub returns-then-count-eq0-clause-each : goal.returns-then-count-eq0-clause-each

@@ -2,7 +2,7 @@ use Rattle.std.proofs.Common.{◌∙◌, sym, ap, refl, List, ℕ}
 use Rattle.std.specs.Ordering.{nat_cmp}
 use Rattle.std.specs.Cmp.Lexicographic.{slice_cmp}
 use Rattle.std.proofs.lemmas.Cmp.{nat_list_cmp_total, tied_itself}
-use Rattle.lalrpop_base.specs.BitVectors.{members_from}
+use Rattle.lalrpop_base.specs.lists.BitVectors.{members_from}
 use Rattle.lalrpop_base.proofs.lookahead.words.compare.Goals as goal
 
 pub returns-in-None : goal.returns-in-None

@@ -1,7 +1,7 @@
 use Rattle.std.proofs.Common.{◌∙◌, sym, ap, refl}
 use Rattle.std.specs.Ordering.{ordering_reverse}
-use Rattle.lalrpop_base.specs.BitVectors.{members_from}
-use Rattle.lalrpop_base.proofs.RisingOrder.{order_less, order_greater, turned, other_has, cmp_turned}
+use Rattle.lalrpop_base.specs.lists.BitVectors.{members_from}
+use Rattle.lalrpop_base.proofs.theory.lists.RisingOrder.{order_less, order_greater, turned, other_has, cmp_turned}
 use Rattle.lalrpop_base.proofs.lookahead.words.compare_from.Goals as goal
 
 pub returns-then-has_greater : goal.returns-then-has_greater

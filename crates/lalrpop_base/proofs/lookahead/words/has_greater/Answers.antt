@@ -1,7 +1,7 @@
 use Rattle.std.proofs.Common.{◌+◌, ◌-◌, ◌*◌, ◌/◌, length, slice_index, w64, arith, ⊎_elim}
 use Rattle.std.specs.Int.{trailing_zeros}
 use Rattle.std.proofs.lemmas.Bool.{cases_lt}
-use Rattle.lalrpop_base.proofs.BitVectorLemmas.{lowest, has_bit-past}
+use Rattle.lalrpop_base.proofs.theory.sets.BitVectorLemmas.{lowest, has_bit-past}
 use Rattle.lalrpop_base.proofs.lookahead.words.has_greater.Goals as goal
 
 pub returns-then-number-words-clause-yes : goal.returns-then-number-words-clause-yes

@@ -1,6 +1,6 @@
 use Rattle.std.proofs.Common.{◌≡◌, ◌∙◌, ℕ, ◌/◌, ◌%◌, ◌^◌, ◌<◌, ◌==◌, slice_index, sym, ap, subst, arith, eq-eqb, eqb-true}
 use Rattle.std.proofs.lemmas.Bool.{not-true, not-false, true≢false}
-use Rattle.lalrpop_base.proofs.WordLemmas.{shifted_greater, shifted_no_greater}
+use Rattle.lalrpop_base.proofs.theory.sets.WordLemmas.{shifted_greater, shifted_no_greater}
 use Rattle.lalrpop_base.proofs.lookahead.words.has_greater_beside.Goals as goal
 
 pub returns-clause-yes : goal.returns-clause-yes

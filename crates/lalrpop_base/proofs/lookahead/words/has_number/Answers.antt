@@ -1,6 +1,6 @@
 use Rattle.std.proofs.Common.{◌∙◌, ℕ, ◌/◌, ◌%◌, ◌^◌, ◌==◌, bit_and, slice_index, sym, ap}
 use Rattle.std.proofs.lemmas.Nat.Bits.{shr_and_one}
-use Rattle.lalrpop_base.proofs.BitVectorLemmas.{has_bit-is}
+use Rattle.lalrpop_base.proofs.theory.sets.BitVectorLemmas.{has_bit-is}
 use Rattle.lalrpop_base.proofs.lookahead.words.has_number.Goals as goal
 
 pub returns : goal.returns

@@ -1,5 +1,5 @@
 use Rattle.std.proofs.Common.{◌≡◌, ℕ, ◌/◌, ◌%◌, ◌^◌, ◌<◌, slice_index, ap, subst, arith}
-use Rattle.lalrpop_base.proofs.WordLemmas.{shifted_least, shifted_none}
+use Rattle.lalrpop_base.proofs.theory.sets.WordLemmas.{shifted_least, shifted_none}
 use Rattle.lalrpop_base.proofs.lookahead.words.least_beside.Goals as goal
 
 pub returns-then-rest-eq0-clause-none : goal.returns-then-rest-eq0-clause-none

@@ -1,8 +1,8 @@
 use Rattle.std.proofs.Common.{◌∙◌, ◌≤◌, sym, arith, ⊎_elim, length}
 use Rattle.std.proofs.lemmas.Bool.{cases_lt}
 use Rattle.std.proofs.lemmas.List.{get_or_past}
-use Rattle.lalrpop_base.proofs.BitVectorLemmas.{same_lists}
-use Rattle.lalrpop_base.proofs.WordLemmas.{least_apart}
+use Rattle.lalrpop_base.proofs.theory.sets.BitVectorLemmas.{same_lists}
+use Rattle.lalrpop_base.proofs.theory.sets.WordLemmas.{least_apart}
 use Rattle.lalrpop_base.proofs.lookahead.words.least_difference.Goals as goal
 
 pub returns-then-apart-ne0-clause-some : goal.returns-then-apart-ne0-clause-some

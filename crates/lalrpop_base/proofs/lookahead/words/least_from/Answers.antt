@@ -1,5 +1,5 @@
 use Rattle.std.proofs.Common.{◌*◌, ◌≤◌, arith}
-use Rattle.lalrpop_base.proofs.WordLemmas.{later_least, later_none, none_left, least_within}
+use Rattle.lalrpop_base.proofs.theory.sets.WordLemmas.{later_least, later_none, none_left, least_within}
 use Rattle.lalrpop_base.proofs.lookahead.words.least_from.Goals as goal
 
 pub returns-then-is_some-clause-within : goal.returns-then-is_some-clause-within

@@ -1,5 +1,5 @@
 use Rattle.std.proofs.Common.{◌≡◌, ℕ, ◌*◌, ◌<◌, ◌≤◌, false}
-use Rattle.lalrpop_base.specs.BitVectors.{has_bit}
+use Rattle.lalrpop_base.specs.lists.BitVectors.{has_bit}
 use Rattle.lalrpop_base.proofs.lookahead.words.least_from.Given as goal
 
 abbrev pub invariant-loop-place : goal.invariant-loop-place

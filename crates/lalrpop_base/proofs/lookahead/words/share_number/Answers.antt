@@ -1,6 +1,6 @@
 use Rattle.std.proofs.Common.{◌∙◌, ◌*◌, ◌/◌, ◌<◌, arith, ap, slice_index, bit_and, length}
-use Rattle.lalrpop_base.proofs.BitVectorLemmas.{has_bit-within}
-use Rattle.lalrpop_base.proofs.WordLemmas.{shared_bit, apart_words}
+use Rattle.lalrpop_base.proofs.theory.sets.BitVectorLemmas.{has_bit-within}
+use Rattle.lalrpop_base.proofs.theory.sets.WordLemmas.{shared_bit, apart_words}
 use Rattle.lalrpop_base.proofs.lookahead.words.share_number.Goals as goal
 
 pub returns-then-left-place-ne0-clause-yes : goal.returns-then-left-place-ne0-clause-yes

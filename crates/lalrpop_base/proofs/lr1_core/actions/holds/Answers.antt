@@ -1,4 +1,4 @@
-use Rattle.lalrpop_base.proofs.HeldTokens.{holds_has, same_test}
+use Rattle.lalrpop_base.proofs.theory.sets.HeldTokens.{holds_has, same_test}
 use Rattle.lalrpop_base.specs.Words.{holds_token}
 use Rattle.lalrpop_base.proofs.lr1_core.actions.holds.Goals as goal
 

@@ -3,7 +3,7 @@ use Rattle.std.proofs.lemmas.Option.{slice_get_within}
 use Rattle.std.proofs.lemmas.Bool.{cases_lt}
 use Rattle.lalrpop_base.specs.declared.lr1_core.state.State.{State}
 use Rattle.lalrpop_base.specs.Words.{IsCoherentState}
-use Rattle.lalrpop_base.proofs.EachLemmas.{same_at}
+use Rattle.lalrpop_base.proofs.theory.lists.EachLemmas.{same_at}
 use Rattle.std.specs.Prelude.{slice_get, Some}
 use Rattle.lalrpop_base.proofs.lr1_core.coherent.are_coherent.Goals as goal
 

@@ -1,6 +1,6 @@
 use Rattle.std.proofs.Common.{refl}
 use Rattle.std.proofs.lemmas.Option.{slice_get_read}
-use Rattle.lalrpop_base.proofs.EachLemmas.{each_below_more, each_of_below}
+use Rattle.lalrpop_base.proofs.theory.lists.EachLemmas.{each_below_more, each_of_below}
 use Rattle.lalrpop_base.proofs.lr1_core.coherent.has_item.Goals as goal
 
 pub returns-then-is_at : goal.returns-then-is_at

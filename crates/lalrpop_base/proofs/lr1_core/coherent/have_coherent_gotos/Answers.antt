@@ -1,5 +1,5 @@
 use Rattle.std.proofs.Common.{◌≡◌, refl}
-use Rattle.lalrpop_base.proofs.EachLemmas.{each_cons, each_head, each_tail}
+use Rattle.lalrpop_base.proofs.theory.lists.EachLemmas.{each_cons, each_head, each_tail}
 use Rattle.lalrpop_base.proofs.lr1_core.coherent.have_coherent_gotos.Goals as goal
 
 pub loop-name-init : goal.loop-name-init

@@ -1,5 +1,5 @@
 use Rattle.std.proofs.Common.{refl}
-use Rattle.lalrpop_base.proofs.EachLemmas.{each_below_more, each_of_below}
+use Rattle.lalrpop_base.proofs.theory.lists.EachLemmas.{each_below_more, each_of_below}
 use Rattle.lalrpop_base.proofs.lr1_core.coherent.is_coherent_edge.Goals as goal
 
 pub loop-item-preserved : goal.loop-item-preserved

@@ -1,5 +1,5 @@
 use Rattle.std.proofs.Common.{refl}
-use Rattle.lalrpop_base.proofs.EachLemmas.{each_below_more, each_of_below, each_at}
+use Rattle.lalrpop_base.proofs.theory.lists.EachLemmas.{each_below_more, each_of_below, each_at}
 use Rattle.lalrpop_base.proofs.lr1_core.collapsible.are_all_alike.Goals as goal
 
 pub returns-then-not-is_alike_to_all : goal.returns-then-not-is_alike_to_all

@@ -1,6 +1,6 @@
 use Rattle.std.proofs.Common.{◌<◌, length, refl, arith}
 use Rattle.std.proofs.lemmas.Option.{slice_get_read}
-use Rattle.lalrpop_base.proofs.DotLemmas.{agree_more, agree_of_dots, dots_agree}
+use Rattle.lalrpop_base.proofs.theory.states.DotLemmas.{agree_more, agree_of_dots, dots_agree}
 use Rattle.lalrpop_base.proofs.lr1_core.collapsible.have_same_dots.Goals as goal
 
 pub returns-then-not-is_same_dot : goal.returns-then-not-is_same_dot

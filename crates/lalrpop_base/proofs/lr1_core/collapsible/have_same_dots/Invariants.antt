@@ -1,4 +1,4 @@
-use Rattle.lalrpop_base.proofs.DotLemmas.{AgreeBelow}
+use Rattle.lalrpop_base.proofs.theory.states.DotLemmas.{AgreeBelow}
 use Rattle.lalrpop_base.proofs.lr1_core.collapsible.have_same_dots.Given as goal
 
 abbrev pub invariant-loop-place : goal.invariant-loop-place

@@ -1,5 +1,5 @@
 use Rattle.std.proofs.Common.{refl}
-use Rattle.lalrpop_base.proofs.EachLemmas.{each_below_more, each_of_below, each_at}
+use Rattle.lalrpop_base.proofs.theory.lists.EachLemmas.{each_below_more, each_of_below, each_at}
 use Rattle.lalrpop_base.proofs.lr1_core.collapsible.is_alike_to_all.Goals as goal
 
 pub returns-then-not-are_alike : goal.returns-then-not-are_alike

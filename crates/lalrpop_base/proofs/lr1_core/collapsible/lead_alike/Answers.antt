@@ -1,5 +1,5 @@
 use Rattle.std.proofs.Common.{refl}
-use Rattle.lalrpop_base.proofs.EachLemmas.{each_cons, each_head, each_tail}
+use Rattle.lalrpop_base.proofs.theory.lists.EachLemmas.{each_cons, each_head, each_tail}
 use Rattle.lalrpop_base.proofs.lr1_core.collapsible.lead_alike.Goals as goal
 
 pub returns-then-not-leads_alike : goal.returns-then-not-leads_alike

@@ -1,5 +1,5 @@
 use Rattle.std.proofs.Common.{refl}
-use Rattle.lalrpop_base.proofs.ConflictLemmas.{later_none, later_one}
+use Rattle.lalrpop_base.proofs.theory.conflicts.ConflictLemmas.{later_none, later_one}
 use Rattle.lalrpop_base.proofs.lr1_core.conflict.add_conflict_of.Goals as goal
 
 pub returns-then-is_disjoint : goal.returns-then-is_disjoint

@@ -1,6 +1,6 @@
 use Rattle.std.proofs.Common.{◌++◌, ◌∙◌, sym, ap}
 use Rattle.lalrpop_base.specs.Words.{conflicts_on_place}
-use Rattle.lalrpop_base.proofs.ConflictLemmas.{shift_more, bit_is_place}
+use Rattle.lalrpop_base.proofs.theory.conflicts.ConflictLemmas.{shift_more, bit_is_place}
 use Rattle.lalrpop_base.proofs.lr1_core.conflict.add_shift_conflicts.Goals as goal
 
 pub loop-terminal-preserved : goal.loop-terminal-preserved

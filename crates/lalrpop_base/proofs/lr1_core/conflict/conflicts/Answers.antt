@@ -2,8 +2,8 @@ use Rattle.std.proofs.Common.{◌≡◌, [], List, sym, subst}
 use Rattle.std.specs.Prelude.{◌↔◌}
 use Rattle.lalrpop_base.specs.Words.{Bits}
 use Rattle.lalrpop_base.specs.declared.lr1_core.state.Conflict.{Conflict}
-use Rattle.lalrpop_base.specs.StateConflicts.{HasNoConflict}
-use Rattle.lalrpop_base.proofs.ConflictLemmas.{none_exactly}
+use Rattle.lalrpop_base.specs.conflicts.StateConflicts.{HasNoConflict}
+use Rattle.lalrpop_base.proofs.theory.conflicts.ConflictLemmas.{none_exactly}
 use Rattle.lalrpop_base.proofs.lr1_core.conflict.conflicts.Goals as goal
 
 pub returns-clause-none : goal.returns-clause-none

@@ -1,7 +1,7 @@
 use Rattle.std.proofs.Common.{◌≡◌, ◌+◌, ◌<◌, ◌^◌, ℕ, length, subst, arith, refl}
 use Rattle.std.specs.Prelude.{SomeIff}
 use Rattle.lalrpop_base.specs.Words.{state_conflicts}
-use Rattle.lalrpop_base.proofs.ConflictCounts.{all_counted}
+use Rattle.lalrpop_base.proofs.theory.conflicts.ConflictCounts.{all_counted}
 use Rattle.lalrpop_base.proofs.lr1_core.conflict_counts.conflict_count.Goals as goal
 
 pub returns-in_err-shifts : goal.returns-in_err-shifts

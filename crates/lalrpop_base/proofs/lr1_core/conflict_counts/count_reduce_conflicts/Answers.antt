@@ -2,7 +2,7 @@ use Rattle.std.proofs.Common.{◌+◌, ◌∙◌, ap, arith, drop, refl}
 use Rattle.std.proofs.lemmas.Option.{slice_get_read}
 use Rattle.std.proofs.lemmas.List.{at_drop_all}
 use Rattle.lalrpop_base.specs.Words.{reduce_conflict_count}
-use Rattle.lalrpop_base.proofs.ConflictCounts.{reductions_more}
+use Rattle.lalrpop_base.proofs.theory.conflicts.ConflictCounts.{reductions_more}
 use Rattle.lalrpop_base.proofs.lr1_core.conflict_counts.count_reduce_conflicts.Goals as goal
 
 pub returns-in_err-count : goal.returns-in_err-count

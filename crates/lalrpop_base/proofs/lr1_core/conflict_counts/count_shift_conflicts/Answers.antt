@@ -1,6 +1,6 @@
 use Rattle.std.proofs.Common.{◌+◌, ◌∙◌, ap, arith}
 use Rattle.lalrpop_base.specs.Words.{shift_conflict_count}
-use Rattle.lalrpop_base.proofs.ConflictCounts.{shifts_more}
+use Rattle.lalrpop_base.proofs.theory.conflicts.ConflictCounts.{shifts_more}
 use Rattle.lalrpop_base.proofs.lr1_core.conflict_counts.count_shift_conflicts.Goals as goal
 
 pub returns-in_err-count : goal.returns-in_err-count

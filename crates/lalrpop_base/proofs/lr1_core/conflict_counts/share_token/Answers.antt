@@ -1,4 +1,4 @@
-use Rattle.lalrpop_base.proofs.ConflictCounts.{share_is}
+use Rattle.lalrpop_base.proofs.theory.conflicts.ConflictCounts.{share_is}
 use Rattle.lalrpop_base.proofs.lr1_core.conflict_counts.share_token.Goals as goal
 
 pub returns : goal.returns

@@ -4,8 +4,8 @@ use Rattle.lalrpop_base.specs.Words.{same_production, start_production, IsEntryO
 use Rattle.lalrpop_base.specs.declared.repr.ActionFn.{ActionFn}
 use Rattle.lalrpop_base.specs.declared.repr.NonterminalString.{NonterminalString}
 use Rattle.lalrpop_base.specs.declared.repr.Production.{Production}
-use Rattle.lalrpop_base.proofs.NewStart.{is_augmented, well_formed}
-use Rattle.lalrpop_base.proofs.theory.Augmented.{alone, augmented_trees, same_sentences, same_beginnings, same_wrong}
+use Rattle.lalrpop_base.proofs.theory.grammars.NewStart.{is_augmented, well_formed}
+use Rattle.lalrpop_base.proofs.theory.grammars.Augmented.{alone, augmented_trees, same_sentences, same_beginnings, same_wrong}
 use Rattle.lalrpop_base.proofs.repr.augment.augment.Goals as goal
 
 abbrev numbered : ℕ → ActionFn

@@ -4,8 +4,8 @@ use Rattle.std.proofs.lemmas.Bool.{false≢true}
 use Rattle.std.proofs.lemmas.Option.{slice_get_within, slice_get_read}
 use Rattle.lalrpop_base.specs.declared.repr.Production.{Production}
 use Rattle.lalrpop_base.specs.declared.repr.Symbol.TheVariants.{Nonterminal}
-use Rattle.lalrpop_base.proofs.theory.Lists.{contains_place, place_contains, same_some}
-use Rattle.lalrpop_base.proofs.NewStart.{below}
+use Rattle.lalrpop_base.proofs.theory.lists.Lists.{contains_place, place_contains, same_some}
+use Rattle.lalrpop_base.proofs.theory.grammars.NewStart.{below}
 use Rattle.lalrpop_base.proofs.repr.augment.is_in_no_production.Goals as goal
 
 pub returns-then-names : goal.returns-then-names

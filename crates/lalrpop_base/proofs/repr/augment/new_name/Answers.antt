@@ -1,6 +1,6 @@
 use Rattle.std.proofs.Common.{◌≡◌, true}
 use Rattle.lalrpop_base.specs.Words.{IsUnused}
-use Rattle.lalrpop_base.proofs.NewStart.{Tried-falls, Tried-more}
+use Rattle.lalrpop_base.proofs.theory.grammars.NewStart.{Tried-falls, Tried-more}
 use Rattle.lalrpop_base.proofs.repr.augment.new_name.Goals as goal
 
 pub loop-alloc-smaller : goal.loop-alloc-smaller

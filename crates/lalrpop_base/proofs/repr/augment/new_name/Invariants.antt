@@ -1,5 +1,5 @@
 use Rattle.std.proofs.Common.{suc, ◌-◌, length}
-use Rattle.lalrpop_base.proofs.NewStart.{IsTried, names_size}
+use Rattle.lalrpop_base.proofs.theory.grammars.NewStart.{IsTried, names_size}
 use Rattle.lalrpop_base.proofs.repr.augment.new_name.Given as goal
 
 abbrev pub invariant-loop-alloc : goal.invariant-loop-alloc

@@ -1,6 +1,6 @@
 use Rattle.std.proofs.Common.{refl}
 use Rattle.lalrpop_base.specs.Words.{IsWellFormedEntry}
-use Rattle.lalrpop_base.proofs.Entries.{entries_cons, entries_head, entries_tail}
+use Rattle.lalrpop_base.proofs.theory.grammars.Entries.{entries_cons, entries_head, entries_tail}
 use Rattle.lalrpop_base.proofs.repr.grammar.is_well_formed.Goals as goal
 
 pub returns-then-not-is_well_formed_entry : goal.returns-then-not-is_well_formed_entry

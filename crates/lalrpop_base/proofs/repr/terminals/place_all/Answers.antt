@@ -1,6 +1,6 @@
 use Rattle.std.proofs.Common.{refl, sym}
 use Rattle.std.proofs.lemmas.Option.{slice_get_read}
-use Rattle.lalrpop_base.proofs.PlaceLemmas.{has_places_more, first_repeat}
+use Rattle.lalrpop_base.proofs.theory.sets.PlaceLemmas.{has_places_more, first_repeat}
 use Rattle.lalrpop_base.proofs.repr.terminals.place_all.Goals as goal
 
 pub returns-then-contains_key : goal.returns-then-contains_key

@@ -1,4 +1,4 @@
-use Rattle.lalrpop_base.proofs.Spreading.{now_waits}
+use Rattle.lalrpop_base.proofs.theory.lists.Spreading.{now_waits}
 use Rattle.std.proofs.Common.{refl}
 use Rattle.lalrpop_base.proofs.spread.Waiting.add.Goals as goal
 

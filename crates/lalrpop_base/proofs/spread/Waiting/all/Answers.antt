@@ -1,5 +1,5 @@
 use Rattle.std.proofs.Common.{◌≡◌, ◌+◌, arith, subst, sym}
-use Rattle.lalrpop_base.proofs.Spreading.{HasAllBelow, next_below, all_wait}
+use Rattle.lalrpop_base.proofs.theory.lists.Spreading.{HasAllBelow, next_below, all_wait}
 use Rattle.lalrpop_base.proofs.spread.Waiting.all.Goals as goal
 
 pub loop-number-preserved : goal.loop-number-preserved

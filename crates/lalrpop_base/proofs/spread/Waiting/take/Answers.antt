@@ -1,5 +1,5 @@
 use Rattle.std.proofs.Common.{refl, arith}
-use Rattle.lalrpop_base.proofs.Spreading.{first_listed, first_taken}
+use Rattle.lalrpop_base.proofs.theory.lists.Spreading.{first_listed, first_taken}
 use Rattle.lalrpop_base.proofs.spread.Waiting.take.Goals as goal
 
 pub index_mut-requires : goal.index_mut-requires

@@ -1,5 +1,5 @@
 use Rattle.std.proofs.Common.{sym}
-use Rattle.lalrpop_lr1.proofs.ByTables.{are_coherent}
+use Rattle.lalrpop_lr1.proofs.theory.runs.ByTables.{are_coherent}
 use Rattle.lalrpop_bench.proofs.ask.runs.parsed_by_tables.Goals as goal
 
 pub parse_by_tables-requires-clause-coherent : goal.parse_by_tables-requires-clause-coherent

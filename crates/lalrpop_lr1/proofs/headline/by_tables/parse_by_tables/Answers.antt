@@ -1,5 +1,5 @@
 use Rattle.lalrpop_base.specs.Words.{contents, productions}
-use Rattle.lalrpop_lr1.proofs.ByTables.{parsed_by, refused_by}
+use Rattle.lalrpop_lr1.proofs.theory.runs.ByTables.{parsed_by, refused_by}
 use Rattle.lalrpop_lr1.proofs.headline.by_tables.parse_by_tables.Goals as goal
 
 pub returns-clause-parses : goal.returns-clause-parses

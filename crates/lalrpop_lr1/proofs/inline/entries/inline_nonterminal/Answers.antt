@@ -3,8 +3,8 @@ use Rattle.std.specs.Prelude.{Contains}
 use Rattle.lalrpop_base.specs.Words.{productions_of}
 use Rattle.lalrpop_base.specs.declared.repr.NonterminalString.{NonterminalString}
 use Rattle.lalrpop_lr1.specs.Words.{View, view_of, inlined_of, listed_names, users_at, replaced_places, IsPastLast}
-use Rattle.lalrpop_lr1.proofs.InlinePlaces.{none_sorted}
-use Rattle.lalrpop_lr1.proofs.InlineUsers.{inlined_at, users_found}
+use Rattle.lalrpop_lr1.proofs.theory.inlining.InlinePlaces.{none_sorted}
+use Rattle.lalrpop_lr1.proofs.theory.inlining.InlineUsers.{inlined_at, users_found}
 use Rattle.lalrpop_lr1.proofs.inline.entries.inline_nonterminal.Goals as goal
 
 pub returns-in_default-clause-view : goal.returns-in_default-clause-view

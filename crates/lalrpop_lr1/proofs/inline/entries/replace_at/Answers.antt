@@ -3,9 +3,9 @@ use Rattle.std.specs.BTreeMap.{BTreeMap}
 use Rattle.lalrpop_base.specs.declared.repr.NonterminalString.{NonterminalString}
 use Rattle.lalrpop_base.specs.declared.repr.grammar.ActionFnDefn.{ActionFnDefn}
 use Rattle.lalrpop_base.specs.declared.repr.grammar.NonterminalData.{NonterminalData}
-use Rattle.lalrpop_lr1.specs.InlineSteps.{view_with}
+use Rattle.lalrpop_lr1.specs.inlining.InlineSteps.{view_with}
 use Rattle.lalrpop_lr1.specs.Words.{View, IsPastLast}
-use Rattle.lalrpop_lr1.proofs.InlinePlaces.{place_replaced, place_definitions, place_empty}
+use Rattle.lalrpop_lr1.proofs.theory.inlining.InlinePlaces.{place_replaced, place_definitions, place_empty}
 use Rattle.lalrpop_lr1.proofs.inline.entries.replace_at.Goals.{in-Some+in_ok-replace_entry, in_default}
 use Rattle.lalrpop_lr1.proofs.inline.entries.replace_at.Goals as goal
 

@@ -1,5 +1,5 @@
 use Rattle.std.proofs.Common.{◌≡◌}
-use Rattle.lalrpop_lr1.specs.InlineSteps.{view_with}
+use Rattle.lalrpop_lr1.specs.inlining.InlineSteps.{view_with}
 use Rattle.lalrpop_lr1.specs.Words.{replaced_places}
 use Rattle.lalrpop_lr1.proofs.inline.entries.replace_places.Given as goal
 

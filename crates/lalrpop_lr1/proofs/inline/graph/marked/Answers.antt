@@ -8,7 +8,7 @@ use Rattle.lalrpop_base.specs.Words.{name_cmp, inline_mark}
 use Rattle.lalrpop_base.specs.declared.repr.NonterminalString.{NonterminalString}
 use Rattle.lalrpop_base.specs.declared.repr.grammar.Attribute.{Attribute}
 use Rattle.lalrpop_base.specs.declared.repr.grammar.NonterminalData.{NonterminalData}
-use Rattle.lalrpop_lr1.proofs.InlineMarks.{AreMarkedOf, marked_more, marked_same, all_marked}
+use Rattle.lalrpop_lr1.proofs.theory.inlining.InlineMarks.{AreMarkedOf, marked_more, marked_same, all_marked}
 use Rattle.lalrpop_lr1.proofs.inline.graph.marked.Goals as goal
 
 one_done : (done rest left all : List (NonterminalString × NonterminalData)) (e : NonterminalString × NonterminalData) → left ≡ e ∷ rest → done ++ left ≡ all → (done ++ e ∷ []) ++ rest ≡ all

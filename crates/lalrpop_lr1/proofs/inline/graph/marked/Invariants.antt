@@ -1,7 +1,7 @@
 use Rattle.std.proofs.Common.{◌≡◌, ◌++◌, List}
 use Rattle.lalrpop_base.specs.declared.repr.NonterminalString.{NonterminalString}
 use Rattle.lalrpop_base.specs.declared.repr.grammar.NonterminalData.{NonterminalData}
-use Rattle.lalrpop_lr1.proofs.InlineMarks.{AreMarkedOf}
+use Rattle.lalrpop_lr1.proofs.theory.inlining.InlineMarks.{AreMarkedOf}
 use Rattle.lalrpop_lr1.proofs.inline.graph.marked.Given as goal
 
 -- the names so far are those of the marked entries so far

@@ -7,9 +7,9 @@ use Rattle.std.proofs.lemmas.List.{take_all}
 use Rattle.lalrpop_base.specs.Words.{name_cmp}
 use Rattle.lalrpop_base.specs.declared.repr.NonterminalString.{NonterminalString}
 use Rattle.lalrpop_lr1.specs.declared.inline.graph.depth_first.Walk.{Walk}
-use Rattle.lalrpop_lr1.proofs.InlineWalks.{nothing_walked}
-use Rattle.lalrpop_lr1.proofs.InlineFrames.{HasLeft, none_left, one_left, all_left}
-use Rattle.lalrpop_lr1.proofs.InlineRings.{no_ring}
+use Rattle.lalrpop_lr1.proofs.theory.inlining.InlineWalks.{nothing_walked}
+use Rattle.lalrpop_lr1.proofs.theory.inlining.InlineFrames.{HasLeft, none_left, one_left, all_left}
+use Rattle.lalrpop_lr1.proofs.theory.inlining.InlineRings.{no_ring}
 use Rattle.lalrpop_lr1.proofs.inline.graph.ordered.Goals as goal
 
 pub loop-name-init : goal.loop-name-init

@@ -1,5 +1,5 @@
 use Rattle.std.proofs.Common.{arith}
-use Rattle.lalrpop_lr1.proofs.InlineMarks.{set_more}
+use Rattle.lalrpop_lr1.proofs.theory.inlining.InlineMarks.{set_more}
 use Rattle.lalrpop_lr1.proofs.inline.graph.set_of.Goals as goal
 
 pub loop-name-preserved : goal.loop-name-preserved

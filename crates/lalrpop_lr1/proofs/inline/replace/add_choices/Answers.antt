@@ -1,6 +1,6 @@
 use Rattle.std.proofs.Common.{rules, ◌≡◌, ◌∷◌, arith}
 use Rattle.std.proofs.lemmas.Grind.{common_steps}
-use Rattle.lalrpop_lr1.proofs.InlineSteps.{choice_past}
+use Rattle.lalrpop_lr1.proofs.theory.inlining.InlineSteps.{choice_past}
 use Rattle.lalrpop_lr1.proofs.inline.replace.add_choices.Goals as goal
 
 pub returns-in_err-add_choice-clause-err : goal.returns-in_err-add_choice-clause-err

@@ -3,7 +3,7 @@ use Rattle.std.specs.Prelude.{IfErr}
 use Rattle.lalrpop_base.specs.declared.repr.Symbol.{Symbol}
 use Rattle.std.proofs.Common.{List}
 use Rattle.lalrpop_lr1.specs.Words.{mentions, choices, Made, IsPastLast}
-use Rattle.lalrpop_lr1.proofs.InlineSteps.{replaced_by_choices}
+use Rattle.lalrpop_lr1.proofs.theory.inlining.InlineSteps.{replaced_by_choices}
 use Rattle.lalrpop_lr1.proofs.inline.replace.replace.Goals as goal
 
 pub returns-in_ok-all-clause-err : goal.returns-in_ok-all-clause-err

@@ -3,9 +3,9 @@ use Rattle.std.specs.Prelude.{Contains}
 use Rattle.std.proofs.lemmas.List.{take_all}
 use Rattle.lalrpop_base.specs.declared.repr.Symbol.{Symbol}
 use Rattle.lalrpop_base.specs.declared.repr.Symbol.TheVariants.{Nonterminal}
-use Rattle.lalrpop_base.proofs.theory.Lists.{contains-nil}
+use Rattle.lalrpop_base.proofs.theory.lists.Lists.{contains-nil}
 use Rattle.lalrpop_lr1.specs.Words.{KeepsUsers}
-use Rattle.lalrpop_lr1.proofs.InlineUsers.{UserMap, IsUnderSymbols, symbol_added, symbol_passed, keeps_twice}
+use Rattle.lalrpop_lr1.proofs.theory.inlining.InlineUsers.{UserMap, IsUnderSymbols, symbol_added, symbol_passed, keeps_twice}
 use Rattle.lalrpop_lr1.proofs.inline.users.add_to_symbols.Goals.{in-Nonterminal+in_ok-add_user, in_default}
 use Rattle.lalrpop_lr1.proofs.inline.users.add_to_symbols.Goals as goal
 

@@ -1,4 +1,4 @@
-use Rattle.lalrpop_lr1.proofs.InlineUsers.{user_there, users_kept}
+use Rattle.lalrpop_lr1.proofs.theory.inlining.InlineUsers.{user_there, users_kept}
 use Rattle.lalrpop_lr1.proofs.inline.users.add_user.Goals as goal
 
 pub returns-in_ok-push-clause-added : goal.returns-in_ok-push-clause-added

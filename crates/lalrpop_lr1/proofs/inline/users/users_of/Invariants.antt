@@ -1,7 +1,7 @@
 use Rattle.std.proofs.Common.{◌≡◌, ◌++◌, List}
 use Rattle.lalrpop_base.specs.declared.repr.NonterminalString.{NonterminalString}
 use Rattle.lalrpop_base.specs.declared.repr.grammar.NonterminalData.{NonterminalData}
-use Rattle.lalrpop_lr1.proofs.InlineUsers.{AreUsersOf}
+use Rattle.lalrpop_lr1.proofs.theory.inlining.InlineUsers.{AreUsersOf}
 use Rattle.lalrpop_lr1.proofs.inline.users.users_of.Given as goal
 
 -- the users so far are those of the entries so far

@@ -1,4 +1,4 @@
-use Rattle.lalrpop_base.proofs.HeldTokens.{holds_has, same_test}
+use Rattle.lalrpop_base.proofs.theory.sets.HeldTokens.{holds_has, same_test}
 use Rattle.lalrpop_base.specs.Words.{holds_token}
 use Rattle.lalrpop_lr1.proofs.interpret.lookahead.holds.Goals as goal
 

@@ -2,7 +2,7 @@ use Rattle.std.proofs.Common.{◌≡◌, [], ◌∷◌, ◌++◌, map, reverse, 
 use Rattle.std.proofs.lemmas.List.{map-append, nil_from_length}
 use Rattle.lalrpop_lr1.specs.Words.{tree_of}
 use Rattle.lalrpop_lr1.specs.declared.interpret.tree.ParseTree.{ParseTree}
-use Rattle.lalrpop_lr1.proofs.TreeLeaves.{over_to}
+use Rattle.lalrpop_lr1.proofs.theory.trees.TreeLeaves.{over_to}
 use Rattle.lalrpop_lr1.proofs.interpret.tree.push_children.Goals as goal
 
 pub loop-child-preserved : goal.loop-child-preserved

@@ -1,6 +1,6 @@
 use Rattle.std.proofs.Common.{◌≡◌, ap, ◌∙◌, arith}
 use Rattle.std.specs.Fmt.{styled_text}
-use Rattle.lalrpop_lr1.proofs.ReportPadding.{styled_in_width}
+use Rattle.lalrpop_lr1.proofs.theory.reports.ReportPadding.{styled_in_width}
 use Rattle.lalrpop_lr1.proofs.report.lines.push_filled.Goals as goal
 
 pub returns : goal.returns

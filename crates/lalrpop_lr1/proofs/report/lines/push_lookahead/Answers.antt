@@ -2,7 +2,7 @@ use Rattle.std.proofs.Common.{◌≢◌, [], sym, append_assoc}
 use Rattle.std.proofs.lemmas.List.{append-nil}
 use Rattle.lalrpop_base.specs.Words.{rising}
 use Rattle.lalrpop_lr1.specs.Words.{tokens_text, tokens_in}
-use Rattle.lalrpop_lr1.proofs.ReportTexts.{some_tokens, some_line, text_after, no_line}
+use Rattle.lalrpop_lr1.proofs.theory.reports.ReportTexts.{some_tokens, some_line, text_after, no_line}
 use Rattle.lalrpop_lr1.proofs.report.lines.push_lookahead.Goals as goal
 
 pub returns-then-not-has_anything_to_print : goal.returns-then-not-has_anything_to_print

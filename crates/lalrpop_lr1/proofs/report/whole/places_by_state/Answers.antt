@@ -1,4 +1,4 @@
-use Rattle.lalrpop_lr1.proofs.ReportPlaces.{one_place_more}
+use Rattle.lalrpop_lr1.proofs.theory.reports.ReportPlaces.{one_place_more}
 use Rattle.lalrpop_lr1.proofs.report.whole.places_by_state.Goals as goal
 
 pub loop-place-preserved : goal.loop-place-preserved

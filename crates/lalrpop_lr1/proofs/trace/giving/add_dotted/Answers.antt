@@ -1,5 +1,5 @@
-use Rattle.lalrpop_lr1.proofs.TraceOrder.{order_one}
-use Rattle.lalrpop_lr1.proofs.Traces.{plain_dot, on_ok_both}
+use Rattle.lalrpop_lr1.proofs.theory.traces.TraceOrder.{order_one}
+use Rattle.lalrpop_lr1.proofs.theory.traces.Traces.{plain_dot, on_ok_both}
 use Rattle.lalrpop_lr1.proofs.trace.giving.add_dotted.Goals as goal
 
 pub returns : goal.returns

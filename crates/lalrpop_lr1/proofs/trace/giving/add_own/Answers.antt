@@ -1,9 +1,9 @@
 use Rattle.std.proofs.Common.{[], ◌∷◌, ap}
 use Rattle.lalrpop_lr1.specs.Words.{PlainEdge, dotted, dot_edge, own_edge}
 use Rattle.lalrpop_lr1.specs.declared.trace.node.TraceGraphNode.TheVariants.{Nonterminal, Item}
-use Rattle.lalrpop_lr1.proofs.TraceGraphs.{on_ok}
-use Rattle.lalrpop_lr1.proofs.TraceOrder.{order_as}
-use Rattle.lalrpop_lr1.proofs.Traces.{dot_same}
+use Rattle.lalrpop_lr1.proofs.theory.traces.TraceGraphs.{on_ok}
+use Rattle.lalrpop_lr1.proofs.theory.traces.TraceOrder.{order_as}
+use Rattle.lalrpop_lr1.proofs.theory.traces.Traces.{dot_same}
 use Rattle.lalrpop_lr1.proofs.trace.giving.add_own.Goals as goal
 
 pub returns : goal.returns

@@ -3,8 +3,8 @@ use mathlib.Core.Bool.{true≢false}
 use Rattle.lalrpop_lr1.specs.Words.{PlainEdge, stop_edge, onward_edge, onward_edges, dotted, dot_edge, own_edge, AddsInOrder}
 use Rattle.lalrpop_lr1.specs.declared.trace.ground.Traced.{Traced}
 use Rattle.lalrpop_lr1.specs.declared.trace.node.TraceGraphNode.TheVariants.{Nonterminal, Item}
-use Rattle.lalrpop_lr1.proofs.TraceOrder.{order_as, order_append}
-use Rattle.lalrpop_lr1.proofs.Traces.{dot_same}
+use Rattle.lalrpop_lr1.proofs.theory.traces.TraceOrder.{order_as, order_append}
+use Rattle.lalrpop_lr1.proofs.theory.traces.Traces.{dot_same}
 use Rattle.lalrpop_lr1.proofs.trace.giving.add_shifting.Goals as goal
 
 pub returns-then-not-branch-clause-onward : goal.returns-then-not-branch-clause-onward

@@ -1,6 +1,6 @@
 use Rattle.std.proofs.Common.{ap, sym, ◌∙◌}
 use Rattle.std.specs.Prelude.{Some}
-use Rattle.lalrpop_lr1.proofs.KnownLabels.{there_is, known_there}
+use Rattle.lalrpop_lr1.proofs.theory.traces.KnownLabels.{there_is, known_there}
 use Rattle.lalrpop_lr1.proofs.trace.known.is_known.Goals as goal
 
 pub returns-in-Terminal : goal.returns-in-Terminal

@@ -1,6 +1,6 @@
 use Rattle.std.proofs.Common.{sym, ap, ◌∙◌}
 use Rattle.std.specs.Prelude.{option_copied}
-use Rattle.lalrpop_lr1.proofs.KnownLabels.{known_cursor}
+use Rattle.lalrpop_lr1.proofs.theory.traces.KnownLabels.{known_cursor}
 use Rattle.lalrpop_lr1.proofs.trace.known.is_known_cursor.Goals as goal
 
 pub returns-in-Some : goal.returns-in-Some

@@ -4,7 +4,7 @@ use Rattle.std.proofs.Common.{⊎_elim, inl, inr}
 use Rattle.std.specs.Ordering.{is_eq}
 use Rattle.std.proofs.lemmas.Bool.{cases_Bool}
 use Rattle.lalrpop_base.specs.declared.repr.NonterminalString.{NonterminalString}
-use Rattle.lalrpop_lr1.proofs.Traces.{tied_meetings}
+use Rattle.lalrpop_lr1.proofs.theory.traces.Traces.{tied_meetings}
 use Rattle.lalrpop_lr1.proofs.trace.meeting.is_new.Goals as goal
 
 either_true : (b c : Bool) → c ≡ true → cond b true c ≡ true

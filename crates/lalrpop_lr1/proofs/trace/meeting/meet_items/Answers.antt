@@ -8,8 +8,8 @@ use Rattle.lalrpop_lr1.specs.Words.{Meeting, take_up, take_up_each, items_at, as
 use Rattle.lalrpop_lr1.specs.declared.trace.meeting.Met.{Met}
 use Rattle.lalrpop_lr1.specs.declared.trace.meeting.Task.{Task}
 use Rattle.lalrpop_lr1.specs.declared.trace.meeting.Task.TheVariants.{MeetItems}
-use Rattle.lalrpop_lr1.proofs.TraceGraphs.{on_ok}
-use Rattle.lalrpop_lr1.proofs.TraceSteps.{passed_none, passed_one, step_end, step_item, named_pushed}
+use Rattle.lalrpop_lr1.proofs.theory.traces.TraceGraphs.{on_ok}
+use Rattle.lalrpop_lr1.proofs.theory.traces.TraceSteps.{passed_none, passed_one, step_end, step_item, named_pushed}
 use Rattle.lalrpop_lr1.proofs.trace.meeting.meet_items.Goals as goal
 
 -- the items of a state that is there

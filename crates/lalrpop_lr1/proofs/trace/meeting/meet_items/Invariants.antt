@@ -1,6 +1,6 @@
 use Rattle.std.proofs.Common.{◌≡◌}
 use Rattle.lalrpop_lr1.specs.Words.{asked, duties_left}
-use Rattle.lalrpop_lr1.proofs.TraceSteps.{IsPassed}
+use Rattle.lalrpop_lr1.proofs.theory.traces.TraceSteps.{IsPassed}
 use Rattle.lalrpop_lr1.proofs.trace.meeting.meet_items.Given as goal
 
 abbrev pub invariant-loop-place : goal.invariant-loop-place

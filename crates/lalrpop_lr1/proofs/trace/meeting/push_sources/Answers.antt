@@ -4,7 +4,7 @@ use Rattle.lalrpop_base.specs.declared.lr1_core.state.StateIndex.{StateIndex}
 use Rattle.lalrpop_lr1.specs.Words.{Duty, come_to, duties_left}
 use Rattle.lalrpop_lr1.specs.declared.trace.meeting.Task.{Task}
 use Rattle.lalrpop_lr1.specs.declared.trace.meeting.Task.TheVariants.{Meet}
-use Rattle.lalrpop_lr1.proofs.TraceSteps.{duties_source}
+use Rattle.lalrpop_lr1.proofs.theory.traces.TraceSteps.{duties_source}
 use Rattle.lalrpop_lr1.proofs.trace.meeting.push_sources.Goals as goal
 
 pub loop-source-preserved : goal.loop-source-preserved

@@ -2,7 +2,7 @@ use Rattle.std.proofs.Common.{◌+◌, ◌++◌, length, refl, sym, subst}
 use Rattle.lalrpop_lr1.specs.Words.{Meeting, asked, duties_of, duties_left, AreNamed, IsStep}
 use Rattle.lalrpop_lr1.specs.declared.trace.meeting.Task.{Task}
 use Rattle.lalrpop_lr1.specs.declared.trace.meeting.Task.TheVariants.{MeetItems}
-use Rattle.lalrpop_lr1.proofs.TraceSteps.{named_rest, step_known, step_met}
+use Rattle.lalrpop_lr1.proofs.theory.traces.TraceSteps.{named_rest, step_known, step_met}
 use Rattle.lalrpop_lr1.proofs.trace.meeting.step.Goals as goal
 
 pub meet_items-requires : goal.meet_items-requires

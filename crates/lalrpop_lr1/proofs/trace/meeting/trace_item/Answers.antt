@@ -4,14 +4,14 @@ use Rattle.lalrpop_base.specs.Words.{Dotted}
 use Rattle.lalrpop_base.specs.declared.lookahead.nil.Nil.{Nil}
 use Rattle.lalrpop_base.specs.declared.repr.Production.{Production}
 use Rattle.lalrpop_tables.specs.Words.{edges}
-use Rattle.lalrpop_tables.proofs.Lists.{Contains-none}
+use Rattle.lalrpop_base.proofs.theory.lists.Members.{Contains-none}
 use Rattle.lalrpop_lr1.specs.Words.{Duty, come_to, come_to_each, IsInOrder, asked, duties_of, duties_left, AreNamed, WalksOn}
 use Rattle.lalrpop_lr1.specs.declared.trace.meeting.Met.{Met}
 use Rattle.lalrpop_lr1.specs.declared.trace.meeting.Task.{Task}
-use Rattle.lalrpop_lr1.proofs.Meetings.{named_first}
-use Rattle.lalrpop_lr1.proofs.TraceOrder.{walks_none, walks_then, are_sources, in_order}
-use Rattle.lalrpop_lr1.proofs.TraceSteps.{duties_push, named_sources}
-use Rattle.lalrpop_lr1.proofs.TracedWalks.{is_trace}
+use Rattle.lalrpop_lr1.proofs.theory.traces.Meetings.{named_first}
+use Rattle.lalrpop_lr1.proofs.theory.traces.TraceOrder.{walks_none, walks_then, are_sources, in_order}
+use Rattle.lalrpop_lr1.proofs.theory.traces.TraceSteps.{duties_push, named_sources}
+use Rattle.lalrpop_lr1.proofs.theory.traces.TracedWalks.{is_trace}
 use Rattle.lalrpop_lr1.proofs.trace.meeting.trace_item.Goals as goal
 
 pub loop-task-init : goal.loop-task-init

@@ -1,4 +1,4 @@
-use Rattle.lalrpop_lr1.proofs.Spelling.{prefix_step, prefixes_done}
+use Rattle.lalrpop_lr1.proofs.theory.traces.Spelling.{prefix_step, prefixes_done}
 use Rattle.lalrpop_lr1.proofs.trace.spelling.push_prefixes.Goals as goal
 
 pub loop-outermost-preserved : goal.loop-outermost-preserved

@@ -1,4 +1,4 @@
-use Rattle.lalrpop_lr1.proofs.Spelling.{suffix_step, suffixes_done}
+use Rattle.lalrpop_lr1.proofs.theory.traces.Spelling.{suffix_step, suffixes_done}
 use Rattle.lalrpop_lr1.proofs.trace.spelling.push_suffixes.Goals as goal
 
 pub loop-innermost-preserved : goal.loop-innermost-preserved

@@ -1,5 +1,5 @@
 use Rattle.std.proofs.Common.{◌-◌, ap, arith}
-use Rattle.lalrpop_lr1.proofs.Spelling.{before_splits, behind_splits, reduced_step, reduced_done}
+use Rattle.lalrpop_lr1.proofs.theory.traces.Spelling.{before_splits, behind_splits, reduced_step, reduced_done}
 use Rattle.lalrpop_lr1.proofs.trace.spelling.reductions_of.Goals as goal
 
 pub overflow_sub-before : goal.overflow_sub-before

@@ -1,7 +1,7 @@
 use Rattle.std.proofs.Common.{◌++◌, ap}
 use Rattle.lalrpop_lr1.specs.Words.{path_of, suffixes}
-use Rattle.lalrpop_lr1.proofs.KnownLabels.{known_more}
-use Rattle.lalrpop_lr1.proofs.Spelling.{following_step, following_done}
+use Rattle.lalrpop_lr1.proofs.theory.traces.KnownLabels.{known_more}
+use Rattle.lalrpop_lr1.proofs.theory.traces.Spelling.{following_step, following_done}
 use Rattle.lalrpop_lr1.proofs.trace.spelling.symbols_behind.Goals as goal
 
 pub loop-inner-init : goal.loop-inner-init

@@ -1,4 +1,4 @@
-use Rattle.lalrpop_lr1.proofs.TraceGraphs.{labels_same}
+use Rattle.lalrpop_lr1.proofs.theory.traces.TraceGraphs.{labels_same}
 use Rattle.lalrpop_lr1.proofs.trace.trace_graph.same_labels.Goals as goal
 
 pub returns : goal.returns

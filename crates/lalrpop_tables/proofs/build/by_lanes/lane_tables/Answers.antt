@@ -4,7 +4,7 @@ use Rattle.lalrpop_base.specs.Words.{contents, IsOnNoRightSide, AreFaithful, IsL
 use Rattle.lalrpop_base.specs.declared.repr.NonterminalString.{NonterminalString}
 use Rattle.lalrpop_base.specs.declared.repr.grammar.Grammar.{Grammar}
 use Rattle.lalrpop_tables.specs.Words.{AreCopiedTables, AreLalrLaneTables, AreLaneTables, PassCheck}
-use Rattle.lalrpop_tables.proofs.ByLanes.{Kept-said, Lanes-pass, Passing-said, and_told, if_told, nothing_told, there_told}
+use Rattle.lalrpop_tables.proofs.theory.answers.ByLanes.{Kept-said, Lanes-pass, Passing-said, and_told, if_told, nothing_told, there_told}
 use Rattle.lalrpop_tables.proofs.build.by_lanes.lane_tables.Goals as goal
 
 -- ---- tables that were checked

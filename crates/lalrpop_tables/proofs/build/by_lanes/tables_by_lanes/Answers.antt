@@ -4,7 +4,7 @@ use Rattle.std.proofs.lemmas.Grind.{common_steps}
 use Rattle.lalrpop_tables.specs.Words.{AreBuiltTablesOf}
 use Rattle.lalrpop_tables.specs.declared.build.options.Method.{Method}
 use Rattle.lalrpop_tables.specs.declared.build.options.Method.TheVariants.{Lane}
-use Rattle.lalrpop_tables.proofs.ByLanes.{Lanes-answer, Lanes-there}
+use Rattle.lalrpop_tables.proofs.theory.answers.ByLanes.{Lanes-answer, Lanes-there}
 use Rattle.lalrpop_tables.proofs.build.by_lanes.tables_by_lanes.Goals as goal
 
 pub returns-then-eq-clause-tables : goal.returns-then-eq-clause-tables

@@ -1,5 +1,5 @@
 use Rattle.std.proofs.Common.{◌≡◌, take}
-use Rattle.lalrpop_tables.specs.Words.{joined_items}
+use Rattle.lalrpop_base.specs.Words.{joined_items}
 use Rattle.lalrpop_tables.proofs.build_lalr.join.join_items.Given as goal
 
 abbrev pub invariant-loop-place : goal.invariant-loop-place

@@ -5,9 +5,9 @@ use Rattle.lalrpop_base.specs.Words.{Bits, dots, Dotted}
 use Rattle.lalrpop_base.specs.declared.lookahead.nil.Nil.{Nil}
 use Rattle.lalrpop_base.specs.declared.lr1_core.state.State.{State}
 use Rattle.lalrpop_base.specs.declared.lr1_core.state.StateIndex.{StateIndex}
-use Rattle.lalrpop_tables.specs.Words.{dots_in, bare, AreFirstNumbers}
-use Rattle.lalrpop_tables.proofs.Contained.{decided_kernel, added_or_not}
-use Rattle.lalrpop_tables.proofs.MergedNumbers.{AreListed, Listed-none, Listed-more, Listed-numbers, mapped_numbers, bare_apart, no_lookahead}
+use Rattle.lalrpop_base.specs.Words.{dots_in, bare, AreFirstNumbers}
+use Rattle.lalrpop_tables.proofs.theory.states.Contained.{decided_kernel, added_or_not}
+use Rattle.lalrpop_base.proofs.theory.collapse.MergedNumbers.{AreListed, Listed-none, Listed-more, Listed-numbers, mapped_numbers, bare_apart, no_lookahead}
 use Rattle.lalrpop_tables.proofs.build_lalr.numbers.merged_numbers.Goals as goal
 
 abbrev bare_in : State Bits → List (Dotted Nil)

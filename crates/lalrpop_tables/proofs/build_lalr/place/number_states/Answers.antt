@@ -1,9 +1,11 @@
 use Rattle.std.proofs.Common.{List, [], ◌∷◌, ◌++◌, sym, subst, ap, ◌∙◌, append-nil, arith}
+use Rattle.std.proofs.lemmas.List.{nil_from_length}
 use Rattle.lalrpop_base.specs.Words.{Bits}
 use Rattle.lalrpop_base.specs.declared.lr1_core.state.State.{State}
-use Rattle.lalrpop_tables.specs.Words.{AreMoved, no_more, and_one, number_in}
-use Rattle.lalrpop_tables.proofs.Merging.{taken, none_left}
-use Rattle.lalrpop_tables.proofs.Moved.{Moved-append}
+use Rattle.lalrpop_base.specs.renumbering.Moved.{no_more}
+use Rattle.lalrpop_base.specs.Words.{AreMoved, and_one, number_in}
+use Rattle.lalrpop_base.proofs.theory.collapse.Merging.{taken}
+use Rattle.lalrpop_base.proofs.theory.renumbering.Moved.{Moved-append}
 use Rattle.lalrpop_tables.proofs.build_lalr.place.number_states.Goals as goal
 
 pub loop-state-init : goal.loop-state-init
@@ -24,6 +26,6 @@ pub returns : goal.returns
 returns c =
     let new = number_in c.args.numbers.now in
     let h = c.loop-state.invariant in
-    let rest = none_left c.loop-state.state-iterator.rest.items (let k = c.loop-state.state-iterator.rest.ok in let none = c.in-None.ensures.steps.0 in omega arith) in
+    let rest = nil_from_length c.loop-state.state-iterator.rest.items (let k = c.loop-state.state-iterator.rest.ok in let none = c.in-None.ensures.steps.0 in omega arith) in
     let all = sym (append-nil c.loop-state.yielded) ∙ ap (λ ys. c.loop-state.yielded ++ ys) (sym rest) ∙ h.left in
     subst (λ (xs : List (State Bits)). AreMoved new xs c.loop-state.numbered.items) all h.moved

@@ -1,5 +1,5 @@
 use Rattle.std.proofs.Common.{◌≡◌, ◌++◌}
-use Rattle.lalrpop_tables.specs.Words.{AreMoved, number_in}
+use Rattle.lalrpop_base.specs.Words.{AreMoved, number_in}
 use Rattle.lalrpop_tables.proofs.build_lalr.place.number_states.Given as goal
 
 abbrev pub invariant-loop-state : goal.invariant-loop-state

@@ -1,10 +1,11 @@
 use Rattle.std.proofs.Common.{List, [], ◌∷◌, ◌++◌, sym, subst, ap, ◌∙◌, append-nil, arith}
 use Rattle.std.specs.List.{AllZip}
 use Rattle.std.proofs.lemmas.List.Elements.{AllZip-push}
+use Rattle.std.proofs.lemmas.List.{nil_from_length}
 use Rattle.lalrpop_base.specs.Words.{Bits}
 use Rattle.lalrpop_base.specs.declared.lr1_core.state.State.{State}
-use Rattle.lalrpop_tables.specs.Words.{IsReduced}
-use Rattle.lalrpop_tables.proofs.Merging.{taken, none_left}
+use Rattle.lalrpop_base.specs.Words.{IsReduced}
+use Rattle.lalrpop_base.proofs.theory.collapse.Merging.{taken}
 use Rattle.lalrpop_tables.proofs.build_lalr.reductions.reduce_states.Goals as goal
 
 pub loop-state-init : goal.loop-state-init
@@ -21,6 +22,6 @@ loop-state-preserved c =
 pub returns : goal.returns
 returns c =
     let h = c.loop-state.invariant in
-    let rest = none_left c.loop-state.state-iterator.rest.items (let k = c.loop-state.state-iterator.rest.ok in let none = c.in-None.ensures.steps.0 in omega arith) in
+    let rest = nil_from_length c.loop-state.state-iterator.rest.items (let k = c.loop-state.state-iterator.rest.ok in let none = c.in-None.ensures.steps.0 in omega arith) in
     let all = sym (append-nil c.loop-state.yielded) ∙ ap (λ ys. c.loop-state.yielded ++ ys) (sym rest) ∙ h.left in
     subst (λ (xs : List (State Bits)). AllZip IsReduced xs c.loop-state.reduced.items) all h.reduced

@@ -1,6 +1,6 @@
 use Rattle.std.proofs.Common.{◌≡◌, ◌++◌}
 use Rattle.std.specs.List.{AllZip}
-use Rattle.lalrpop_tables.specs.Words.{IsReduced}
+use Rattle.lalrpop_base.specs.Words.{IsReduced}
 use Rattle.lalrpop_tables.proofs.build_lalr.reductions.reduce_states.Given as goal
 
 abbrev pub invariant-loop-state : goal.invariant-loop-state

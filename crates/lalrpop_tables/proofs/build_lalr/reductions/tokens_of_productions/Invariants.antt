@@ -1,5 +1,5 @@
 use Rattle.std.proofs.Common.{◌≡◌, ◌++◌}
-use Rattle.lalrpop_tables.specs.Words.{HasTokensOf}
+use Rattle.lalrpop_base.specs.Words.{HasTokensOf}
 use Rattle.lalrpop_tables.proofs.build_lalr.reductions.tokens_of_productions.Given as goal
 
 abbrev pub invariant-loop-tokens : goal.invariant-loop-tokens

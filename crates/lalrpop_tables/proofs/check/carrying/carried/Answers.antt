@@ -1,9 +1,9 @@
 use Rattle.std.proofs.Common.{◌≡◌, [], rules, arith}
 use Rattle.std.proofs.lemmas.Grind.{common_steps}
 use Rattle.std.proofs.lemmas.List.{nil_from_length}
-use Rattle.lalrpop_tables.proofs.Grammars.{productions_own}
-use Rattle.lalrpop_tables.proofs.Lists.{Contains-here}
-use Rattle.lalrpop_tables.proofs.CheckCarrying.{Carrying-start, Carrying-step, Carrying-smaller, Carrying-end, known_place}
+use Rattle.lalrpop_base.proofs.theory.grammars.Grammars.{productions_own}
+use Rattle.lalrpop_base.proofs.theory.lists.Members.{contains_head}
+use Rattle.lalrpop_tables.proofs.theory.check.CheckCarrying.{Carrying-start, Carrying-step, Carrying-smaller, Carrying-end, known_place}
 use Rattle.lalrpop_tables.proofs.check.carrying.carried.Goals as goal
 
 pub loop-place-init : goal.loop-place-init
@@ -17,14 +17,14 @@ send_on-requires-clause-known c =
     let g = c.args.grammar.now in
     let own = productions_own g c.requires.well_formed c.len-names.ensures.ordered in
     let before = rw c.in-Some.ensures.items at c.loop-place.invariant in
-    known_place g c.args.start.now c.args.states.now c.requires.well_formed own c.requires.closed _ _ before c.in-Some.place (Contains-here c.in-Some.place c.pop_front.new.self.items)
+    known_place g c.args.start.now c.args.states.now c.requires.well_formed own c.requires.closed _ _ before c.in-Some.place (contains_head c.in-Some.place c.pop_front.new.self.items)
 
 pub loop-place-smaller : goal.loop-place-smaller
 loop-place-smaller c =
     let g = c.args.grammar.now in
     let own = productions_own g c.requires.well_formed c.len-names.ensures.ordered in
     let before = rw c.in-Some.ensures.items at c.loop-place.invariant in
-    let known = known_place g c.args.start.now c.args.states.now c.requires.well_formed own c.requires.closed _ _ before c.in-Some.place (Contains-here c.in-Some.place c.pop_front.new.self.items) in
+    let known = known_place g c.args.start.now c.args.states.now c.requires.well_formed own c.requires.closed _ _ before c.in-Some.place (contains_head c.in-Some.place c.pop_front.new.self.items) in
     rw c.in-Some.ensures.items (Carrying-smaller g c.args.start.now c.args.states.now c.requires.well_formed own c.requires.closed c.in-Some.place _ _ _ _ before known c.in_ok-send_on.ensures)
 
 pub loop-place-preserved : goal.loop-place-preserved
@@ -32,7 +32,7 @@ loop-place-preserved c =
     let g = c.args.grammar.now in
     let own = productions_own g c.requires.well_formed c.len-names.ensures.ordered in
     let before = rw c.in-Some.ensures.items at c.loop-place.invariant in
-    let known = known_place g c.args.start.now c.args.states.now c.requires.well_formed own c.requires.closed _ _ before c.in-Some.place (Contains-here c.in-Some.place c.pop_front.new.self.items) in
+    let known = known_place g c.args.start.now c.args.states.now c.requires.well_formed own c.requires.closed _ _ before c.in-Some.place (contains_head c.in-Some.place c.pop_front.new.self.items) in
     Carrying-step g c.args.start.now c.args.states.now c.requires.well_formed own c.requires.closed c.in-Some.place _ _ _ _ before known c.in_ok-send_on.ensures
 
 pub returns : goal.returns

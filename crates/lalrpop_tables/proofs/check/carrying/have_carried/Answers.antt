@@ -1,4 +1,4 @@
-use Rattle.lalrpop_base.proofs.EachLemmas.{each_below_more, each_of_below, each_at}
+use Rattle.lalrpop_base.proofs.theory.lists.EachLemmas.{each_below_more, each_of_below, each_at}
 use Rattle.std.proofs.Common.{refl}
 use Rattle.lalrpop_tables.proofs.check.carrying.have_carried.Goals as goal
 

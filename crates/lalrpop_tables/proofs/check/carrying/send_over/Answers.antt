@@ -3,7 +3,7 @@ use Rattle.lalrpop_base.specs.Words.{Dotted}
 use Rattle.lalrpop_base.specs.declared.lookahead.nil.Nil.{Nil}
 use Rattle.lalrpop_tables.specs.Words.{at_place}
 use Rattle.lalrpop_tables.specs.declared.place.Place.{Place}
-use Rattle.lalrpop_tables.proofs.CheckSending.{Over-end, Over-nowhere, Over-one}
+use Rattle.lalrpop_tables.proofs.theory.check.CheckSending.{Over-end, Over-nowhere, Over-one}
 use Rattle.lalrpop_tables.proofs.check.carrying.send_over.Goals as goal
 
 pub returns-in_default : goal.returns-in_default

@@ -2,7 +2,7 @@ use Rattle.std.proofs.Common.{◌≡◌, ◌∙◌, ◌+◌, ◌++◌, ◌∷◌
 use Rattle.std.proofs.lemmas.List.{take_more, take_all}
 use Rattle.lalrpop_base.specs.declared.repr.Production.{Production}
 use Rattle.lalrpop_tables.specs.Words.{Sends, IsBegunAt}
-use Rattle.lalrpop_tables.proofs.CheckSending.{Begun-none, Begun-more}
+use Rattle.lalrpop_tables.proofs.theory.check.CheckSending.{Begun-none, Begun-more}
 use Rattle.lalrpop_tables.proofs.check.carrying.send_productions.Goals as goal
 
 pub loop-production-init : goal.loop-production-init

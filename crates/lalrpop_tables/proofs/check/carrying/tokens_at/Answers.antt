@@ -1,8 +1,8 @@
 use Rattle.std.proofs.Common.{◌≡◌, ◌∙◌, sym, subst}
 use Rattle.std.specs.Prelude.{Contains}
 use Rattle.lalrpop_base.specs.Words.{Bits}
-use Rattle.lalrpop_tables.proofs.Growth.{key_entry}
-use Rattle.lalrpop_tables.proofs.Places.{same_some}
+use Rattle.lalrpop_base.proofs.theory.lists.Growth.{key_entry}
+use Rattle.lalrpop_base.proofs.theory.lists.Places.{same_some}
 use Rattle.lalrpop_tables.proofs.check.carrying.tokens_at.Goals as goal
 
 pub unreachable-requires : goal.unreachable-requires

@@ -1,8 +1,8 @@
 use Rattle.std.proofs.Common.{◌≡◌, [], rules, arith}
 use Rattle.std.proofs.lemmas.Grind.{common_steps}
 use Rattle.std.proofs.lemmas.List.{nil_from_length}
-use Rattle.lalrpop_tables.proofs.Grammars.{productions_own}
-use Rattle.lalrpop_tables.proofs.CheckClosing.{Closing-start, Closing-step, Closing-smaller, Closing-end, Found}
+use Rattle.lalrpop_base.proofs.theory.grammars.Grammars.{productions_own}
+use Rattle.lalrpop_tables.proofs.theory.check.CheckClosing.{Closing-start, Closing-step, Closing-smaller, Closing-end, Found}
 use Rattle.lalrpop_tables.proofs.check.closing.close.Goals as goal
 
 pub loop-item-init : goal.loop-item-init

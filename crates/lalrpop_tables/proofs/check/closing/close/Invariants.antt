@@ -1,4 +1,4 @@
-use Rattle.lalrpop_tables.proofs.CheckClosing.{IsClosing, work, Found}
+use Rattle.lalrpop_tables.proofs.theory.check.CheckClosing.{IsClosing, work, Found}
 use Rattle.lalrpop_tables.proofs.check.closing.close.Given as goal
 
 abbrev pub invariant-loop-item : goal.invariant-loop-item

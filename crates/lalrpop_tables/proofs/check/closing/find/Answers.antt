@@ -1,6 +1,6 @@
 use Rattle.std.proofs.Common.{◌≡◌}
-use Rattle.lalrpop_tables.proofs.Tables.{same_lr0}
-use Rattle.lalrpop_tables.proofs.CheckClosing.{Widens-new, Widens-known}
+use Rattle.lalrpop_base.proofs.theory.grammars.Tables.{same_lr0}
+use Rattle.lalrpop_tables.proofs.theory.check.CheckClosing.{Widens-new, Widens-known}
 use Rattle.lalrpop_tables.proofs.check.closing.find.Goals as goal
 
 pub returns-in_ok-push : goal.returns-in_ok-push

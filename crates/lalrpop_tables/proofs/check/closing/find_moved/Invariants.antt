@@ -1,5 +1,5 @@
 use Rattle.std.proofs.Common.{take}
-use Rattle.lalrpop_tables.specs.Words.{Widens, IsMovedOf}
+use Rattle.lalrpop_base.specs.Words.{Widens, IsMovedOf}
 use Rattle.lalrpop_tables.proofs.check.closing.find_moved.Given as goal
 
 abbrev pub invariant-loop-item : goal.invariant-loop-item

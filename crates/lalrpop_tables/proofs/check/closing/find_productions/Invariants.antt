@@ -1,5 +1,5 @@
 use Rattle.std.proofs.Common.{take}
-use Rattle.lalrpop_tables.specs.Words.{Widens, IsBegun}
+use Rattle.lalrpop_base.specs.Words.{Widens, IsBegun}
 use Rattle.lalrpop_tables.proofs.check.closing.find_productions.Given as goal
 
 abbrev pub invariant-loop-production : goal.invariant-loop-production

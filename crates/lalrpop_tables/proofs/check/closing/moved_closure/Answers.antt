@@ -1,6 +1,7 @@
 use Rattle.std.proofs.Common.{map}
-use Rattle.lalrpop_tables.specs.Words.{dotted_of, IsMovedIn}
-use Rattle.lalrpop_tables.proofs.CheckClosing.{All-wait, Closure-of}
+use Rattle.lalrpop_base.specs.closures.Closure.{dotted_of}
+use Rattle.lalrpop_base.specs.Words.{IsMovedIn}
+use Rattle.lalrpop_tables.proofs.theory.check.CheckClosing.{All-wait, Closure-of}
 use Rattle.lalrpop_tables.proofs.check.closing.moved_closure.Goals as goal
 
 pub close-requires-clause-waiting : goal.close-requires-clause-waiting

@@ -1,6 +1,6 @@
 use Rattle.lalrpop_base.specs.Words.{IsAtStart, productions}
-use Rattle.lalrpop_tables.proofs.Grammars.{productions_own}
-use Rattle.lalrpop_tables.proofs.CheckClosing.{All-wait, Closure-of, Begun-start}
+use Rattle.lalrpop_base.proofs.theory.grammars.Grammars.{productions_own}
+use Rattle.lalrpop_tables.proofs.theory.check.CheckClosing.{All-wait, Closure-of, Begun-start}
 use Rattle.lalrpop_tables.proofs.check.closing.start_closure.Goals as goal
 
 pub close-requires-clause-waiting : goal.close-requires-clause-waiting

@@ -1,7 +1,7 @@
 use Rattle.std.proofs.Common.{◌≡◌, ◌∷◌, [], ℕ, ap, inl, inr, List, subst}
 use Rattle.std.specs.Prelude.{Contains}
-use Rattle.lalrpop_tables.proofs.Lists.{Contains-none}
-use Rattle.lalrpop_tables.proofs.CheckStates.{values, targets_more, leads_of_value, value_of_leads, number_added}
+use Rattle.lalrpop_base.proofs.theory.lists.Members.{Contains-none}
+use Rattle.lalrpop_base.proofs.theory.states.CheckStates.{values, targets_more, leads_of_value, value_of_leads, number_added}
 use Rattle.lalrpop_tables.proofs.check.states.add_targets.Goals as goal
 
 pub loop-target-init : goal.loop-target-init

@@ -1,4 +1,4 @@
-use Rattle.lalrpop_tables.proofs.CheckStates.{From-more}
+use Rattle.lalrpop_base.proofs.theory.states.CheckStates.{From-more}
 use Rattle.lalrpop_tables.proofs.check.states.add_targets_of.Goals as goal
 
 pub returns : goal.returns

@@ -1,8 +1,8 @@
 use Rattle.std.proofs.Common.{List, refl, sym, subst}
 use Rattle.std.specs.Prelude.{Contains}
 use Rattle.lalrpop_base.specs.Words.{Bits, Dotted}
-use Rattle.lalrpop_base.proofs.EachLemmas.{each_below_more, each_of_below}
-use Rattle.lalrpop_tables.proofs.Lists.{place}
+use Rattle.lalrpop_base.proofs.theory.lists.EachLemmas.{each_below_more, each_of_below}
+use Rattle.lalrpop_base.proofs.theory.lists.Members.{place}
 use Rattle.lalrpop_tables.proofs.check.states.are_right_items.Goals as goal
 
 pub loop-item-preserved : goal.loop-item-preserved

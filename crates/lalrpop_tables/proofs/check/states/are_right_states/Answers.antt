@@ -6,8 +6,8 @@ use Rattle.std.proofs.lemmas.Bool.{cases_lt}
 use Rattle.lalrpop_base.specs.Words.{Bits, Dotted}
 use Rattle.lalrpop_base.specs.declared.lookahead.nil.Nil.{Nil}
 use Rattle.lalrpop_base.specs.declared.lr1_core.state.State.{State}
-use Rattle.lalrpop_tables.specs.Words.{IsRightState}
-use Rattle.lalrpop_tables.proofs.Places.{slice_get_at, same_some}
+use Rattle.lalrpop_base.specs.Words.{IsRightState}
+use Rattle.lalrpop_base.proofs.theory.lists.Places.{slice_get_at, same_some}
 use Rattle.lalrpop_tables.proofs.check.states.are_right_states.Goals as goal
 
 pub returns-then-not-branch : goal.returns-then-not-branch

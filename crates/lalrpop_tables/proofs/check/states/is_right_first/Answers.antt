@@ -1,6 +1,6 @@
 use Rattle.std.proofs.Common.{◌≡◌, arith}
 use Rattle.lalrpop_base.specs.Words.{IsAtStart, productions}
-use Rattle.lalrpop_tables.proofs.CheckStates.{same_closure}
+use Rattle.lalrpop_base.proofs.theory.states.CheckStates.{same_closure}
 use Rattle.lalrpop_tables.proofs.check.states.is_right_first.Goals as goal
 
 pub returns : goal.returns

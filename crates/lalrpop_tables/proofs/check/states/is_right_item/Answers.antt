@@ -1,6 +1,6 @@
 use Rattle.std.proofs.Common.{◌≡◌, ◌∙◌, refl}
-use Rattle.lalrpop_tables.specs.Words.{finished}
-use Rattle.lalrpop_tables.proofs.Tables.{same_lr0}
+use Rattle.lalrpop_base.specs.Words.{finished}
+use Rattle.lalrpop_base.proofs.theory.grammars.Tables.{same_lr0}
 use Rattle.lalrpop_tables.proofs.check.states.is_right_item.Goals as goal
 
 pub returns : goal.returns

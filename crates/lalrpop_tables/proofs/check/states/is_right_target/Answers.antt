@@ -1,6 +1,7 @@
 use Rattle.std.proofs.Common.{◌∙◌, length, arith, eqb-true, sym}
-use Rattle.lalrpop_tables.specs.Words.{IsMovedIn, dots}
-use Rattle.lalrpop_tables.proofs.CheckStates.{same_closure, has_number, some_of}
+use Rattle.lalrpop_base.specs.states.CheckStates.{dots}
+use Rattle.lalrpop_base.specs.Words.{IsMovedIn}
+use Rattle.lalrpop_base.proofs.theory.states.CheckStates.{same_closure, has_number, some_of}
 use Rattle.lalrpop_tables.proofs.check.states.is_right_target.Goals as goal
 
 pub returns-then-is_empty : goal.returns-then-is_empty

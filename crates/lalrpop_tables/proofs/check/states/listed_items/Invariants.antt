@@ -1,5 +1,5 @@
 use Rattle.std.proofs.Common.{take}
-use Rattle.lalrpop_tables.specs.Words.{Lists}
+use Rattle.lalrpop_base.specs.Words.{Lists}
 use Rattle.lalrpop_tables.proofs.check.states.listed_items.Given as goal
 
 abbrev pub invariant-loop-item : goal.invariant-loop-item

@@ -1,5 +1,5 @@
 use Rattle.std.proofs.Common.{take}
-use Rattle.lalrpop_tables.specs.CheckStates.{AreListed}
+use Rattle.lalrpop_base.specs.states.CheckStates.{AreListed}
 use Rattle.lalrpop_tables.proofs.check.states.listed_states.Given as goal
 
 abbrev pub invariant-loop-state : goal.invariant-loop-state

@@ -1,6 +1,6 @@
 use Rattle.std.proofs.Common.{ℕ, ◌↔◌, take}
 use Rattle.std.specs.Prelude.{Contains}
-use Rattle.lalrpop_tables.specs.Words.{IsTarget}
+use Rattle.lalrpop_base.specs.Words.{IsTarget}
 use Rattle.lalrpop_tables.proofs.check.states.targets.Given as goal
 
 abbrev pub invariant-loop-state : goal.invariant-loop-state

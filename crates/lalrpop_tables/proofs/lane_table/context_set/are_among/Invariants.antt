@@ -3,7 +3,7 @@ use Rattle.std.specs.Prelude.{slice_get}
 use Rattle.std.specs.Borrow.{Bor}
 use Rattle.lalrpop_base.specs.Words.{Bits}
 use Rattle.lalrpop_base.specs.declared.repr.Production.{Production}
-use Rattle.lalrpop_tables.specs.Words.{IsReductionAt}
+use Rattle.lalrpop_base.specs.Words.{IsReductionAt}
 use Rattle.lalrpop_tables.proofs.lane_table.context_set.are_among.Given as goal
 
 abbrev pub invariant-loop-tokens : goal.invariant-loop-tokens

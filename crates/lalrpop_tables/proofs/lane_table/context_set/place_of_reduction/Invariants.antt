@@ -1,6 +1,6 @@
 use Rattle.std.proofs.Common.{◌+◌, ◌<◌}
 use Prim.Native.Nat.{◌^◌}
-use Rattle.lalrpop_tables.proofs.Contexts.{IsNotBefore}
+use Rattle.lalrpop_base.proofs.theory.lanes.Contexts.{IsNotBefore}
 use Rattle.lalrpop_tables.proofs.lane_table.context_set.place_of_reduction.Given as goal
 
 abbrev pub invariant-loop-place : goal.invariant-loop-place

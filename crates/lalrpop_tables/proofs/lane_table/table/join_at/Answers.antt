@@ -2,8 +2,8 @@ use Rattle.std.proofs.Common.{sym}
 use Rattle.std.specs.BTreeMap.{is_at}
 use Rattle.std.proofs.lemmas.Map.Steps.{set_value_same}
 use Rattle.std.proofs.lemmas.Result.{err_from_is_err_and}
-use Rattle.lalrpop_tables.proofs.LaneTables.{cell_cmp, cell_exact, cell_total, joined_known, joined_fresh}
-use Rattle.lalrpop_tables.proofs.Updates.{inserted, set_replaced}
+use Rattle.lalrpop_tables.proofs.theory.lane_tables.LaneTables.{cell_cmp, cell_exact, cell_total, joined_known, joined_fresh}
+use Rattle.lalrpop_base.proofs.theory.lists.Updates.{inserted, set_replaced}
 use Rattle.lalrpop_tables.proofs.lane_table.table.join_at.Goals as goal
 
 pub returns-in_err-grew-clause-err : goal.returns-in_err-grew-clause-err

@@ -1,8 +1,8 @@
 use Rattle.std.proofs.Common.{◌++◌, ap, ◌∙◌}
 use Rattle.std.specs.Prelude.{◌==◌}
 use Rattle.lalrpop_tables.specs.Words.{edge, origin_of, targets_of, origins_of}
-use Rattle.lalrpop_tables.specs.StateGraph.{target_of}
-use Rattle.lalrpop_tables.proofs.StateGraphs.{map_cond}
+use Rattle.lalrpop_tables.specs.graphs.StateGraph.{target_of}
+use Rattle.lalrpop_tables.proofs.theory.graphs.StateGraphs.{map_cond}
 use Rattle.lalrpop_tables.proofs.state_graph.StateGraph.add_edge.Goals as goal
 
 pub returns : goal.returns

@@ -1,7 +1,7 @@
 use Rattle.std.proofs.Common.{◌≡◌, ap}
 use Rattle.lalrpop_base.specs.declared.repr.Symbol.TheVariants.{Nonterminal}
 use Rattle.lalrpop_tables.specs.Words.{edge, goto_edges}
-use Rattle.lalrpop_tables.proofs.StateGraphs.{adding_start, adding_more, adding_end}
+use Rattle.lalrpop_tables.proofs.theory.graphs.StateGraphs.{adding_start, adding_more, adding_end}
 use Rattle.lalrpop_tables.proofs.state_graph.StateGraph.add_gotos.Goals as goal
 
 pub loop-name-init : goal.loop-name-init

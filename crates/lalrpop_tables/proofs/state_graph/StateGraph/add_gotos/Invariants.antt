@@ -1,5 +1,5 @@
 use Rattle.lalrpop_tables.specs.Words.{goto_edges}
-use Rattle.lalrpop_tables.proofs.StateGraphs.{IsAdding}
+use Rattle.lalrpop_tables.proofs.theory.graphs.StateGraphs.{IsAdding}
 use Rattle.lalrpop_tables.proofs.state_graph.StateGraph.add_gotos.Given as goal
 
 abbrev pub invariant-loop-name : goal.invariant-loop-name

@@ -1,5 +1,5 @@
 use Rattle.lalrpop_tables.specs.Words.{shift_edges}
-use Rattle.lalrpop_tables.proofs.StateGraphs.{IsAdding}
+use Rattle.lalrpop_tables.proofs.theory.graphs.StateGraphs.{IsAdding}
 use Rattle.lalrpop_tables.proofs.state_graph.StateGraph.add_shifts.Given as goal
 
 abbrev pub invariant-loop-terminal : goal.invariant-loop-terminal

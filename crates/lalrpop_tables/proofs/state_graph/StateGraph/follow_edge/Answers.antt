@@ -1,7 +1,7 @@
 use Rattle.std.proofs.Common.{◌∙◌, ap, sym}
 use Rattle.lalrpop_base.specs.declared.lr1_core.state.StateIndex.{StateIndex}
 use Rattle.lalrpop_tables.specs.Words.{edge}
-use Rattle.lalrpop_tables.proofs.GraphCopies.{edge_moves, edge_stays}
+use Rattle.lalrpop_tables.proofs.theory.graphs.GraphCopies.{edge_moves, edge_stays}
 use Rattle.lalrpop_tables.proofs.state_graph.StateGraph.follow_edge.Goals as goal
 
 pub returns-then-original-target : goal.returns-then-original-target

@@ -1,5 +1,5 @@
 use Rattle.lalrpop_tables.specs.Words.{shift_edges}
-use Rattle.lalrpop_tables.proofs.GraphCopies.{IsFollowing}
+use Rattle.lalrpop_tables.proofs.theory.graphs.GraphCopies.{IsFollowing}
 use Rattle.lalrpop_tables.proofs.state_graph.StateGraph.follow_shifts.Given as goal
 
 abbrev pub invariant-loop-terminal : goal.invariant-loop-terminal

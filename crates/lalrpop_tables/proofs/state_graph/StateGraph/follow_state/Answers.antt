@@ -1,5 +1,5 @@
 use Rattle.std.proofs.Common.{refl}
-use Rattle.lalrpop_tables.proofs.GraphCopies.{state_followed, state_unmoved}
+use Rattle.lalrpop_tables.proofs.theory.graphs.GraphCopies.{state_followed, state_unmoved}
 use Rattle.lalrpop_tables.proofs.state_graph.StateGraph.follow_state.Goals as goal
 
 pub returns-then-not-leads_to_copies : goal.returns-then-not-leads_to_copies

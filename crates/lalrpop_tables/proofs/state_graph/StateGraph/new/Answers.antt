@@ -1,4 +1,4 @@
-use Rattle.lalrpop_tables.proofs.StateGraphs.{empty_graph}
+use Rattle.lalrpop_tables.proofs.theory.graphs.StateGraphs.{empty_graph}
 use Rattle.lalrpop_tables.proofs.state_graph.StateGraph.new.Goals as goal
 
 pub returns : goal.returns

@@ -1,6 +1,6 @@
 use Rattle.std.proofs.Common.{refl, ap, ◌∙◌}
 use Rattle.lalrpop_tables.specs.Words.{sources_left}
-use Rattle.lalrpop_tables.proofs.Stepping.{adding_states, one_more_state, all_added}
+use Rattle.lalrpop_tables.proofs.theory.graphs.Stepping.{adding_states, one_more_state, all_added}
 use Rattle.lalrpop_tables.proofs.state_graph.StateGraph.push_sources.Goals as goal
 
 pub loop-source-init : goal.loop-source-init

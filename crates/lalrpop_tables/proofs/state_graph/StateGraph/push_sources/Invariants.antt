@@ -1,5 +1,5 @@
 use Rattle.lalrpop_tables.specs.Words.{sources_left}
-use Rattle.lalrpop_tables.proofs.Stepping.{IsAddingStates}
+use Rattle.lalrpop_tables.proofs.theory.graphs.Stepping.{IsAddingStates}
 use Rattle.lalrpop_tables.proofs.state_graph.StateGraph.push_sources.Given as goal
 
 abbrev pub invariant-loop-source : goal.invariant-loop-source

@@ -1,6 +1,6 @@
 use Rattle.std.proofs.Common.{refl}
 use Rattle.std.proofs.lemmas.List.{drop_more, drop_all}
-use Rattle.lalrpop_tables.proofs.Stepping.{stepping_none, stepping_more, stepping_all, step_moved}
+use Rattle.lalrpop_tables.proofs.theory.graphs.Stepping.{stepping_none, stepping_more, stepping_all, step_moved}
 use Rattle.lalrpop_tables.proofs.state_graph.StateGraph.step_back.Goals as goal
 
 pub loop-state-init : goal.loop-state-init

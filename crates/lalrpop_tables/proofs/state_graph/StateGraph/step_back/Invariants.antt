@@ -1,5 +1,5 @@
 use Rattle.std.proofs.Common.{drop}
-use Rattle.lalrpop_tables.proofs.Stepping.{IsSteppingBack}
+use Rattle.lalrpop_tables.proofs.theory.graphs.Stepping.{IsSteppingBack}
 use Rattle.lalrpop_tables.proofs.state_graph.StateGraph.step_back.Given as goal
 
 abbrev pub invariant-loop-state : goal.invariant-loop-state

@@ -1,4 +1,4 @@
-use Rattle.lalrpop_tables.proofs.Stepping.{tracing_start, tracing_more, tracing_all}
+use Rattle.lalrpop_tables.proofs.theory.graphs.Stepping.{tracing_start, tracing_more, tracing_all}
 use Rattle.lalrpop_tables.proofs.state_graph.StateGraph.trace_back.Goals as goal
 
 pub loop-symbol-init : goal.loop-symbol-init

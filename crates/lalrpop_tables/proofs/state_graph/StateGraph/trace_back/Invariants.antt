@@ -1,5 +1,5 @@
 use Rattle.std.proofs.Common.{length}
-use Rattle.lalrpop_tables.proofs.Stepping.{IsTracing}
+use Rattle.lalrpop_tables.proofs.theory.graphs.Stepping.{IsTracing}
 use Rattle.lalrpop_tables.proofs.state_graph.StateGraph.trace_back.Given as goal
 
 abbrev pub invariant-loop-symbol : goal.invariant-loop-symbol

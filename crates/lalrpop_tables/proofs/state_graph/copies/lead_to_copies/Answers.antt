@@ -1,8 +1,8 @@
 use Rattle.std.proofs.Common.{◌∙◌, ap, sym}
 use Rattle.lalrpop_base.specs.declared.lr1_core.state.StateIndex.{StateIndex}
-use Rattle.lalrpop_tables.specs.Words.{number_in, retargeted_all}
-use Rattle.lalrpop_tables.proofs.GraphCopies.{unmoved_more}
-use Rattle.lalrpop_tables.proofs.Updates.{keys_differ}
+use Rattle.lalrpop_base.specs.Words.{number_in, retargeted_all}
+use Rattle.lalrpop_tables.proofs.theory.graphs.GraphCopies.{unmoved_more}
+use Rattle.lalrpop_base.proofs.theory.lists.Updates.{keys_differ}
 use Rattle.lalrpop_tables.proofs.state_graph.copies.lead_to_copies.Goals as goal
 
 pub loop-key-preserved : goal.loop-key-preserved

@@ -1,5 +1,5 @@
 use Rattle.std.proofs.Common.{◌≡◌}
-use Rattle.lalrpop_tables.specs.Words.{number_in, retargeted_all}
+use Rattle.lalrpop_base.specs.Words.{number_in, retargeted_all}
 use Rattle.lalrpop_tables.proofs.state_graph.copies.lead_to_copies.Given as goal
 
 -- if no transition that is left leads to a copy, none does

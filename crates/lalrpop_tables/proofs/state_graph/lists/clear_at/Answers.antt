@@ -1,6 +1,6 @@
 use Rattle.std.proofs.Common.{refl, arith}
-use Rattle.lalrpop_tables.specs.StateGraph.{nothing}
-use Rattle.lalrpop_tables.proofs.MovedOrigins.{changed_at, changed_past}
+use Rattle.lalrpop_tables.specs.graphs.StateGraph.{nothing}
+use Rattle.lalrpop_tables.proofs.theory.graphs.MovedOrigins.{changed_at, changed_past}
 use Rattle.lalrpop_tables.proofs.state_graph.lists.clear_at.Goals as goal
 
 pub returns-then-number-count : goal.returns-then-number-count

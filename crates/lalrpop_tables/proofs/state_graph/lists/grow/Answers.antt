@@ -2,7 +2,7 @@ use Rattle.std.proofs.Common.{List, length, length-append, refl, ap, ◌∙◌, 
 use Rattle.std.specs.declared.alloc.Global.{Global}
 use Rattle.std.specs.declared.vec.Vec.{Vec}
 use Rattle.lalrpop_tables.specs.Words.{list_at}
-use Rattle.lalrpop_tables.proofs.StateGraphs.{one_list_more}
+use Rattle.lalrpop_tables.proofs.theory.graphs.StateGraphs.{one_list_more}
 use Rattle.lalrpop_tables.proofs.state_graph.lists.grow.Goals as goal
 
 pub loop-alloc-init : goal.loop-alloc-init

@@ -1,4 +1,4 @@
-use Rattle.lalrpop_tables.proofs.StateGraphs.{listed_more}
+use Rattle.lalrpop_tables.proofs.theory.graphs.StateGraphs.{listed_more}
 use Rattle.lalrpop_tables.proofs.state_graph.lists.push_at.Goals as goal
 
 pub returns : goal.returns

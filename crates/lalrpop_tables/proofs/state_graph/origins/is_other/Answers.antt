@@ -1,5 +1,5 @@
 use Rattle.std.proofs.Common.{sym}
-use Rattle.lalrpop_tables.proofs.MovedOrigins.{other_source, other_told}
+use Rattle.lalrpop_tables.proofs.theory.graphs.MovedOrigins.{other_source, other_told}
 use Rattle.lalrpop_tables.proofs.state_graph.origins.is_other.Goals as goal
 
 pub returns-then-from-source : goal.returns-then-from-source

@@ -1,7 +1,7 @@
 use Rattle.std.proofs.Common.{filter, refl, rules, arith}
 use Rattle.std.proofs.lemmas.Fn.{filter_same}
-use Rattle.lalrpop_tables.specs.GraphCopies.{is_other}
-use Rattle.lalrpop_tables.proofs.MovedOrigins.{changed_at, changed_past}
+use Rattle.lalrpop_tables.specs.graphs.GraphCopies.{is_other}
+use Rattle.lalrpop_tables.proofs.theory.graphs.MovedOrigins.{changed_at, changed_past}
 use Rattle.lalrpop_tables.proofs.state_graph.origins.remove_origin.Goals as goal
 
 pub returns-then-number-count : goal.returns-then-number-count

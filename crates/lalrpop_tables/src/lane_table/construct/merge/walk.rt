@@ -1,10 +1,10 @@
 //! The walk along the successors of a lane table.
 ghost use Rattle.std.specs.Prelude.{◌≡◌, ◌≤◌, ◌<◌, ◌++◌, length, reverse, slice_get, Some, IfOk, IfErr, IsTrue, OnOk};
 ghost use Rattle.std.specs.BTreeSet.{IsOrdered};
-ghost use Rattle.lalrpop_tables.specs.LaneTables.{ColumnsOverlap};
-ghost use Rattle.lalrpop_tables.specs.MergeWalks.{ComesTo, joins_to, most_joins};
-ghost use Rattle.lalrpop_tables.specs.Merges.{Advances, AreUnited, HasWalked, HaveNoNewMarks, IsJoinedCopy, IsJoinedIfAny, IsMergeError, IsMerging, IsWalked, LeadsTo, index as index_of, unvisited};
-ghost use Rattle.lalrpop_tables.specs.StateGraph.{state_cmp};
+ghost use Rattle.lalrpop_tables.specs.lane_tables.LaneTables.{ColumnsOverlap};
+ghost use Rattle.lalrpop_tables.specs.merges.MergeWalks.{ComesTo, joins_to, most_joins};
+ghost use Rattle.lalrpop_tables.specs.merges.Merges.{Advances, AreUnited, HasWalked, HaveNoNewMarks, IsJoinedCopy, IsJoinedIfAny, IsMergeError, IsMerging, IsWalked, LeadsTo, index as index_of, unvisited};
+ghost use Rattle.lalrpop_tables.specs.graphs.StateGraph.{state_cmp};
 
 use super::{Merge, MergeError};
 use lalrpop_base::collections::Set;

@@ -5,7 +5,7 @@ use Rattle.std.specs.Map.{keys_of}
 use Rattle.std.specs.Vec.Iter.{into_iter_items}
 use Rattle.std.proofs.lemmas.Map.Made.{keys_of-zip}
 use Rattle.lalrpop_base.specs.Words.{Bits, Table, name_cmp}
-use Rattle.lalrpop_base.proofs.FirstNumbers.{Table-more, zip_none}
+use Rattle.lalrpop_base.proofs.theory.first.FirstNumbers.{Table-more, zip_none}
 use Rattle.lalrpop_base.proofs.first.names.Names.into_table.Goals as goal
 
 fewer : (items more : List Bits) (set : Bits) (m n : ℕ) → items ≡ set ∷ more → n + 1 ≡ m → m ≡ length items → n ≡ length more

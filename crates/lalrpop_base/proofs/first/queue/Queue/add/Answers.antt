@@ -1,5 +1,5 @@
 use Rattle.std.proofs.Common.{◌≡◌, ◌<◌, false, rules, length, get_or}
-use Rattle.lalrpop_base.proofs.FirstQueues.{Marked-few, Marked-added}
+use Rattle.lalrpop_base.proofs.theory.first.FirstQueues.{Marked-few, Marked-added}
 use Rattle.lalrpop_base.proofs.first.queue.Queue.add.Goals as goal
 
 pub returns-then-index-clause-few : goal.returns-then-index-clause-few

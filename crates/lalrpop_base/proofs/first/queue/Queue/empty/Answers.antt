@@ -1,4 +1,4 @@
-use Rattle.lalrpop_base.proofs.FirstQueues.{Marked-none}
+use Rattle.lalrpop_base.proofs.theory.first.FirstQueues.{Marked-none}
 use Rattle.lalrpop_base.proofs.first.queue.Queue.empty.Goals as goal
 
 pub invariant_of-result : goal.invariant_of-result

@@ -1,7 +1,7 @@
 use Rattle.std.proofs.Common.{◌≡◌, ◌∙◌, ◌+◌, ◌∷◌, [], List, Option, ℕ, sym, subst, refl, ap, length, rules}
 use Rattle.std.specs.Iterator.{YieldsFirst}
-use Rattle.lalrpop_base.specs.BitVectors.{members_from}
-use Rattle.lalrpop_base.proofs.BitVectorLemmas.{members-next, members-none}
+use Rattle.lalrpop_base.specs.lists.BitVectors.{members_from}
+use Rattle.lalrpop_base.proofs.theory.sets.BitVectorLemmas.{members-next, members-none}
 use Rattle.lalrpop_base.proofs.lookahead.bit_iter.BitIterIterator.next.Goals as goal
 
 pub returns-in_err-number-clause-steps : goal.returns-in_err-number-clause-steps

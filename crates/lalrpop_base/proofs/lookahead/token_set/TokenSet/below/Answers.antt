@@ -1,5 +1,5 @@
 use Rattle.std.proofs.Common.{◌∙◌}
-use Rattle.lalrpop_base.proofs.BitVectorLemmas.{has-bits_of_words}
+use Rattle.lalrpop_base.proofs.theory.sets.BitVectorLemmas.{has-bits_of_words}
 use Rattle.lalrpop_base.proofs.lookahead.token_set.TokenSet.below.Goals as goal
 
 pub returns : goal.returns

@@ -1,6 +1,6 @@
 use Rattle.std.proofs.Common.{◌∙◌, sym, ap, subst}
-use Rattle.lalrpop_base.specs.BitVectors.{bits_of_words, IsBitVector}
-use Rattle.lalrpop_base.proofs.TokenSetLemmas.{no_words, no_words_vector}
+use Rattle.lalrpop_base.specs.lists.BitVectors.{bits_of_words, IsBitVector}
+use Rattle.lalrpop_base.proofs.theory.sets.TokenSetLemmas.{no_words, no_words_vector}
 use Rattle.lalrpop_base.proofs.lookahead.token_set.TokenSet.empty_set.Goals as goal
 
 pub invariant_of-result : goal.invariant_of-result

@@ -1,5 +1,5 @@
 use Rattle.std.proofs.Common.{◌∙◌, sym}
-use Rattle.lalrpop_base.proofs.TokenSetLemmas.{seen_at}
+use Rattle.lalrpop_base.proofs.theory.sets.TokenSetLemmas.{seen_at}
 use Rattle.lalrpop_base.proofs.lookahead.token_set.TokenSet.has_greater_bit.Goals as goal
 
 pub returns-clause-yes : goal.returns-clause-yes

@@ -1,4 +1,4 @@
-use Rattle.lalrpop_base.proofs.TokenSetLemmas.{met_set}
+use Rattle.lalrpop_base.proofs.theory.sets.TokenSetLemmas.{met_set}
 use Rattle.lalrpop_base.proofs.lookahead.token_set.TokenSet.intersection.Goals as goal
 
 pub returns : goal.returns

@@ -1,8 +1,8 @@
 use Rattle.std.proofs.Common.{◌≡◌, ◌∙◌, ℕ, List, take, drop, ◌++◌, length, slice_index, sym, ap, arith, true}
 use Rattle.std.proofs.lemmas.List.{with_items_is}
-use Rattle.lalrpop_base.specs.BitVectors.{bits_of_words, has_bit}
-use Rattle.lalrpop_base.proofs.BitVectorLemmas.{has_bit-within}
-use Rattle.lalrpop_base.proofs.TokenSetLemmas.{seen_at, taken_set}
+use Rattle.lalrpop_base.specs.lists.BitVectors.{bits_of_words, has_bit}
+use Rattle.lalrpop_base.proofs.theory.sets.BitVectorLemmas.{has_bit-within}
+use Rattle.lalrpop_base.proofs.theory.sets.TokenSetLemmas.{seen_at, taken_set}
 use Rattle.lalrpop_base.proofs.lookahead.token_set.TokenSet.take_bit.Goals as goal
 
 pub take-requires : goal.take-requires

@@ -1,5 +1,5 @@
 use Rattle.std.proofs.Common.{◌∙◌, sym, ap, subst}
-use Rattle.lalrpop_base.specs.BitVectors.{bits_of_words, IsBitVector}
+use Rattle.lalrpop_base.specs.lists.BitVectors.{bits_of_words, IsBitVector}
 use Rattle.lalrpop_base.proofs.lookahead.token_set.TokenSet.words.Goals as goal
 
 pub returns-clause-view : goal.returns-clause-view

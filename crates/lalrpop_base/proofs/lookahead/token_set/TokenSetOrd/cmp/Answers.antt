@@ -2,8 +2,8 @@ use Rattle.std.proofs.Common.{◌∙◌, ap, List, ℕ}
 use Rattle.std.specs.Ordering.{nat_cmp}
 use Rattle.std.specs.Cmp.Lexicographic.{slice_cmp}
 use Rattle.lalrpop_base.specs.Words.{rising}
-use Rattle.lalrpop_base.specs.BitVectors.{members_from}
-use Rattle.lalrpop_base.proofs.TokenSetLemmas.{members_rising}
+use Rattle.lalrpop_base.specs.lists.BitVectors.{members_from}
+use Rattle.lalrpop_base.proofs.theory.sets.TokenSetLemmas.{members_rising}
 use Rattle.lalrpop_base.proofs.lookahead.token_set.TokenSetOrd.cmp.Goals as goal
 
 pub returns : goal.returns

@@ -1,5 +1,5 @@
 use Rattle.std.proofs.Common.{◌∙◌}
-use Rattle.lalrpop_base.proofs.TokenSetLemmas.{equal_sets}
+use Rattle.lalrpop_base.proofs.theory.sets.TokenSetLemmas.{equal_sets}
 use Rattle.lalrpop_base.proofs.lookahead.token_set.TokenSetPartialEq.eq.Goals as goal
 
 pub returns : goal.returns

@@ -1,5 +1,5 @@
 use Rattle.std.proofs.Common.{arith, ap, length}
-use Rattle.lalrpop_base.proofs.ViewLemmas.{longest_end}
+use Rattle.lalrpop_base.proofs.theory.states.ViewLemmas.{longest_end}
 use Rattle.lalrpop_base.proofs.lr1_core.state.State.max_prefix.Goals as goal
 
 pub returns : goal.returns

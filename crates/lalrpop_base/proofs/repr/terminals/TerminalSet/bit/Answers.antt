@@ -1,7 +1,7 @@
 use Rattle.std.specs.BTreeMap.{BTreeMap}
 use Rattle.lalrpop_base.specs.declared.repr.TerminalString.{TerminalString}
 use Rattle.lalrpop_base.specs.Words.{HasPlaces, ArePlaced}
-use Rattle.lalrpop_base.proofs.PlaceLemmas.{place_found, place_only}
+use Rattle.lalrpop_base.proofs.theory.sets.PlaceLemmas.{place_found, place_only}
 use Rattle.std.proofs.lemmas.Option.{slice_get_read}
 use Rattle.std.specs.Prelude.{Option, IsNone}
 use mathlib.Core.Bool.{true≢false}

@@ -5,7 +5,7 @@ use Rattle.std.proofs.lemmas.Option.{slice_get_within, slice_get_read}
 use Rattle.lalrpop_base.specs.declared.repr.terminals.Indexed.{Indexed}
 use Rattle.lalrpop_base.specs.declared.repr.TerminalString.{TerminalString}
 use Rattle.lalrpop_base.specs.Words.{HasPlaces, IsIndexed, IsFirstRepeat}
-use Rattle.lalrpop_base.proofs.PlaceLemmas.{all_differ}
+use Rattle.lalrpop_base.proofs.theory.sets.PlaceLemmas.{all_differ}
 use Rattle.lalrpop_base.proofs.repr.terminals.TerminalSet.new.Goals as goal
 
 pub invariant_of-result : goal.invariant_of-result

@@ -1,4 +1,4 @@
-use Rattle.lalrpop_lr1.proofs.AnyStart.{old_again, is_above_old}
+use Rattle.lalrpop_lr1.proofs.theory.runs.AnyStart.{old_again, is_above_old}
 use Rattle.lalrpop_lr1.proofs.headline.any_start.AugmentedGrammar.new.Goals as goal
 
 pub invariant_of-result : goal.invariant_of-result

@@ -6,8 +6,8 @@ use Rattle.lalrpop_base.specs.declared.repr.Production.{Production}
 use Rattle.lalrpop_lr1.specs.declared.inline.graph.depth_first.Frame.{Frame}
 use Rattle.lalrpop_lr1.specs.declared.inline.graph.depth_first.Walk.{Walk}
 use Rattle.lalrpop_lr1.specs.Words.{mentioned_in, IsWalked}
-use Rattle.lalrpop_lr1.proofs.InlineWalks.{Sets}
-use Rattle.lalrpop_lr1.proofs.InlineFrames.{entered_walk}
+use Rattle.lalrpop_lr1.proofs.theory.inlining.InlineWalks.{Sets}
+use Rattle.lalrpop_lr1.proofs.theory.inlining.InlineFrames.{entered_walk}
 use Rattle.lalrpop_lr1.proofs.inline.graph.depth_first.enter.Goals as goal
 
 pub returns-clause-walked : goal.returns-clause-walked

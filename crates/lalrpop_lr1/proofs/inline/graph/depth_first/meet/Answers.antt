@@ -1,7 +1,7 @@
 use Rattle.std.proofs.Common.{◌≡◌, true, sym, ◌∙◌}
 use Rattle.std.specs.BTreeSet.{contains}
 use Rattle.lalrpop_base.specs.Words.{name_cmp}
-use Rattle.lalrpop_lr1.proofs.InlineRings.{met}
+use Rattle.lalrpop_lr1.proofs.theory.inlining.InlineRings.{met}
 use Rattle.lalrpop_lr1.proofs.inline.graph.depth_first.meet.Goals as goal
 
 pub returns-then-contains-clause-refused : goal.returns-then-contains-clause-refused

@@ -4,7 +4,7 @@ use Rattle.std.proofs.lemmas.List.Elements.{Contains-append_left, Contains-push}
 use Rattle.lalrpop_base.specs.declared.repr.NonterminalString.{NonterminalString}
 use Rattle.lalrpop_lr1.specs.declared.inline.graph.depth_first.Frame.{Frame}
 use Rattle.lalrpop_lr1.specs.Words.{IsCycleOf}
-use Rattle.lalrpop_lr1.proofs.InlineFrames.{visited, found}
+use Rattle.lalrpop_lr1.proofs.theory.inlining.InlineFrames.{visited, found}
 use Rattle.lalrpop_lr1.proofs.inline.graph.depth_first.next_pending.Goals as goal
 
 pub returns-then-contains-clause-next : goal.returns-then-contains-clause-next

@@ -4,7 +4,7 @@ use Rattle.lalrpop_base.specs.declared.repr.NonterminalString.{NonterminalString
 use Rattle.lalrpop_lr1.specs.declared.inline.graph.depth_first.Frame.{Frame}
 use Rattle.lalrpop_lr1.specs.declared.inline.graph.depth_first.Walk.{Walk}
 use Rattle.lalrpop_lr1.specs.Words.{IsFrame, HasFrames}
-use Rattle.lalrpop_lr1.proofs.InlineFrames.{lead_to, gone_on, left_walk}
+use Rattle.lalrpop_lr1.proofs.theory.inlining.InlineFrames.{lead_to, gone_on, left_walk}
 use Rattle.lalrpop_lr1.proofs.inline.graph.depth_first.step.Goals as goal
 
 pub next_pending-requires-clause-frame : goal.next_pending-requires-clause-frame

@@ -7,8 +7,8 @@ use Rattle.lalrpop_lr1.specs.declared.interpret.error.InterpretError.{InterpretE
 use Rattle.lalrpop_lr1.specs.declared.interpret.machine.Progress.{Progress}
 use Rattle.lalrpop_lr1.specs.declared.interpret.machine.Progress.TheVariants.{Stuck, GoesOn, Ended}
 use Rattle.lalrpop_lr1.specs.declared.interpret.tree.ParseTree.{ParseTree}
-use Rattle.lalrpop_lr1.proofs.MachineRuns.{lead, top_within, reaches_on, halted_ends, ends_stuck, ended_answer, raised_answer}
-use Rattle.lalrpop_lr1.proofs.Stacks.{step_keeps}
+use Rattle.lalrpop_lr1.proofs.theory.runs.MachineRuns.{lead, top_within, reaches_on, halted_ends, ends_stuck, ended_answer, raised_answer}
+use Rattle.lalrpop_lr1.proofs.theory.runs.Stacks.{step_keeps}
 use Rattle.lalrpop_lr1.proofs.interpret.machine.Machine.finish.Goals as goal
 
 pub reducing-init : goal.reducing-init

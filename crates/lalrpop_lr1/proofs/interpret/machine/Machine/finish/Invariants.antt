@@ -1,7 +1,7 @@
 use Rattle.std.proofs.Common.{[]}
 use Rattle.lalrpop_base.specs.Words.{contents_in}
 use Rattle.lalrpop_lr1.specs.Words.{configuration, IsStacked}
-use Rattle.lalrpop_lr1.proofs.MachineRuns.{HasReached}
+use Rattle.lalrpop_lr1.proofs.theory.runs.MachineRuns.{HasReached}
 use Rattle.lalrpop_lr1.proofs.interpret.machine.Machine.finish.Given as goal
 
 abbrev pub invariant-reducing : goal.invariant-reducing

@@ -6,8 +6,8 @@ use Rattle.lalrpop_lr1.specs.Words.{numbers, tree_of}
 use Rattle.lalrpop_lr1.specs.declared.interpret.tree.ParseTree.TheOpen as Open
 use Rattle.lalrpop_lr1.specs.declared.interpret.tree.ParseTree.TheViews.{roll-ParseTree}
 use denote.Hole.Carrier.{roll}
-use Rattle.lalrpop_lr1.proofs.TreeViews.{tree_of_roll}
-use Rattle.lalrpop_lr1.proofs.Popping.{reduced_trees, numbers_left, topped, stands_in}
+use Rattle.lalrpop_lr1.proofs.theory.trees.TreeViews.{tree_of_roll}
+use Rattle.lalrpop_lr1.proofs.theory.runs.Popping.{reduced_trees, numbers_left, topped, stands_in}
 use Rattle.lalrpop_lr1.proofs.interpret.machine.Machine.gather.Goals as goal
 
 pub returns-clause-gathered : goal.returns-clause-gathered

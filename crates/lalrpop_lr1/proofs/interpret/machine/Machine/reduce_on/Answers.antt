@@ -1,5 +1,5 @@
 use Rattle.std.proofs.Common.{◌-◌}
-use Rattle.lalrpop_lr1.proofs.MachineRuns.{top_within, can_pop}
+use Rattle.lalrpop_lr1.proofs.theory.runs.MachineRuns.{top_within, can_pop}
 use Rattle.lalrpop_lr1.proofs.interpret.machine.Machine.reduce_on.Goals as goal
 
 pub top-requires : goal.top-requires

@@ -1,7 +1,7 @@
 use Rattle.std.proofs.Common.{[], refl}
 use Rattle.lalrpop_base.specs.Words.{contents_in, HasOutcome}
-use Rattle.lalrpop_lr1.proofs.Interpreted.{start_stacked, read_stacked, read_from_start, stop_answer, last_answer}
-use Rattle.lalrpop_lr1.proofs.MachineRuns.{raised_answer}
+use Rattle.lalrpop_lr1.proofs.theory.runs.Interpreted.{start_stacked, read_stacked, read_from_start, stop_answer, last_answer}
+use Rattle.lalrpop_lr1.proofs.theory.runs.MachineRuns.{raised_answer}
 use Rattle.lalrpop_lr1.proofs.interpret.machine.Machine.run.Goals as goal
 
 pub shift_all-requires-clause-stacked : goal.shift_all-requires-clause-stacked

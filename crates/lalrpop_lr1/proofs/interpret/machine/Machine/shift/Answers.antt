@@ -5,8 +5,8 @@ use Rattle.lalrpop_lr1.specs.Words.{configuration, shift_on, reduction_move, Has
 use Rattle.lalrpop_base.specs.declared.lookahead.token.Token.TheVariants.{Terminal}
 use Rattle.lalrpop_lr1.specs.declared.interpret.error.InterpretError.{InterpretError}
 use Rattle.lalrpop_lr1.specs.declared.interpret.machine.Progress.TheVariants.{GoesOn}
-use Rattle.lalrpop_lr1.specs.Reading.{read}
-use Rattle.lalrpop_lr1.proofs.MachineRuns.{top_within, shift_goes, shift_is_a_step, no_shift, reads_on, stops_spent, halted_stops, reduces_on, reduces_stacked, refused_stops, progressed, on_ok, if_err, raised}
+use Rattle.lalrpop_lr1.specs.runs.Reading.{read}
+use Rattle.lalrpop_lr1.proofs.theory.runs.MachineRuns.{top_within, shift_goes, shift_is_a_step, no_shift, reads_on, stops_spent, halted_stops, reduces_on, reduces_stacked, refused_stops, progressed, on_ok, if_err, raised}
 use Rattle.lalrpop_lr1.proofs.interpret.machine.Machine.shift.Goals as goal
 
 pub reducing-init : goal.reducing-init

@@ -3,8 +3,8 @@ use Rattle.std.specs.Vec.Iter.{into_iter_items}
 use Rattle.lalrpop_base.specs.Words.{contents_in}
 use Rattle.lalrpop_lr1.specs.Words.{IsFailure, configuration, HasRead, StopsReading}
 use Rattle.lalrpop_lr1.specs.declared.interpret.error.InterpretError.{InterpretError}
-use Rattle.lalrpop_lr1.proofs.Interpreted.{read_stacked, nothing_read}
-use Rattle.lalrpop_lr1.proofs.MachineRuns.{read_on, fail_later, raised}
+use Rattle.lalrpop_lr1.proofs.theory.runs.Interpreted.{read_stacked, nothing_read}
+use Rattle.lalrpop_lr1.proofs.theory.runs.MachineRuns.{read_on, fail_later, raised}
 use Rattle.lalrpop_lr1.proofs.interpret.machine.Machine.shift_all.Goals as goal
 
 pub loop-terminal-init : goal.loop-terminal-init

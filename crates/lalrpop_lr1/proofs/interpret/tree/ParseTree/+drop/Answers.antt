@@ -1,6 +1,6 @@
 use Rattle.std.proofs.Common.{◌≡◌, ◌<◌, [], sym, subst, rules}
 use denote.Param.Weighed.{most}
-use Rattle.lalrpop_lr1.proofs.DroppedTrees.{bare_node, some_depth}
+use Rattle.lalrpop_lr1.proofs.theory.trees.DroppedTrees.{bare_node, some_depth}
 use Rattle.lalrpop_lr1.proofs.interpret.tree.ParseTree.TheLaws.{the_size}
 use Rattle.lalrpop_lr1.proofs.interpret.tree.ParseTree.+drop.Goals as goal
 

@@ -4,7 +4,7 @@ use Rattle.lalrpop_lr1.specs.Words.{tree_of}
 use Rattle.lalrpop_lr1.specs.declared.interpret.tree.ParseTree.TheOpen as Open
 use Rattle.lalrpop_lr1.specs.declared.interpret.tree.ParseTree.TheViews.{roll-ParseTree}
 use denote.Hole.Carrier.{roll}
-use Rattle.lalrpop_lr1.proofs.TreeViews.{tree_of_roll, children_of}
+use Rattle.lalrpop_lr1.proofs.theory.trees.TreeViews.{tree_of_roll, children_of}
 use Rattle.lalrpop_lr1.proofs.interpret.tree.ParseTree.into_children.Goals as goal
 
 pub returns-in-Nonterminal : goal.returns-in-Nonterminal

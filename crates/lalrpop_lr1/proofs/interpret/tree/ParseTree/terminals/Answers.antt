@@ -6,8 +6,8 @@ use Rattle.lalrpop_lr1.specs.declared.interpret.tree.ParseTree.{ParseTree}
 use Rattle.lalrpop_lr1.specs.declared.interpret.tree.ParseTree.TheOpen as Open
 use Rattle.lalrpop_lr1.specs.declared.interpret.tree.ParseTree.TheViews.{roll-ParseTree}
 use denote.Hole.Carrier.{roll}
-use Rattle.lalrpop_lr1.proofs.TreeViews.{tree_of_roll}
-use Rattle.lalrpop_lr1.proofs.TreeLeaves.{leaf_read, leaf_fewer, node_read, node_fewer}
+use Rattle.lalrpop_lr1.proofs.theory.trees.TreeViews.{tree_of_roll}
+use Rattle.lalrpop_lr1.proofs.theory.trees.TreeLeaves.{leaf_read, leaf_fewer, node_read, node_fewer}
 use Rattle.lalrpop_lr1.proofs.interpret.tree.ParseTree.terminals.Goals as goal
 
 pub loop-tree-smaller-in_ok-push_children-in-Nonterminal : goal.loop-tree-smaller-in_ok-push_children-in-Nonterminal

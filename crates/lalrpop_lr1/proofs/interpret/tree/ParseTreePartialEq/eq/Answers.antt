@@ -1,5 +1,5 @@
 use Rattle.lalrpop_lr1.specs.Words.{tree_of}
-use Rattle.lalrpop_lr1.proofs.TreeViews.{same_as_equal}
+use Rattle.lalrpop_lr1.proofs.theory.trees.TreeViews.{same_as_equal}
 use Rattle.lalrpop_lr1.proofs.interpret.tree.ParseTreePartialEq.eq.Goals as goal
 
 pub returns-clause-eq : goal.returns-clause-eq

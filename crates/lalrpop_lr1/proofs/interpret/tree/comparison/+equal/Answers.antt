@@ -4,7 +4,7 @@ use Rattle.lalrpop_lr1.specs.Words.{tree_of}
 use Rattle.lalrpop_lr1.specs.declared.interpret.tree.ParseTree.TheOpen as Open
 use Rattle.lalrpop_lr1.specs.declared.interpret.tree.ParseTree.TheViews.{roll-ParseTree}
 use denote.Hole.Carrier.{roll}
-use Rattle.lalrpop_lr1.proofs.TreeViews.{tree_of_roll, same_nodes}
+use Rattle.lalrpop_lr1.proofs.theory.trees.TreeViews.{tree_of_roll, same_nodes}
 use Rattle.lalrpop_lr1.proofs.interpret.tree.comparison.+equal.Goals as goal
 
 pub are_equal_by_depth-returns-then-equal : goal.are_equal_by_depth-returns-then-equal

@@ -1,6 +1,6 @@
 use Rattle.std.proofs.Common.{◌≡◌, map, ap, sym, ◌∙◌}
 use Rattle.lalrpop_lr1.specs.Words.{forest_of, steps_of, steps_over, tree_of}
-use Rattle.lalrpop_lr1.proofs.TreeSteps.{same_steps}
+use Rattle.lalrpop_lr1.proofs.theory.trees.TreeSteps.{same_steps}
 use Rattle.lalrpop_lr1.proofs.interpret.tree.comparison.have_same_steps.Goals as goal
 
 pub steps-init : goal.steps-init

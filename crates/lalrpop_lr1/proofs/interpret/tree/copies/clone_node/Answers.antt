@@ -1,6 +1,6 @@
 use Rattle.std.proofs.Common.{◌≡◌, [], map, reverse, ap, ◌∙◌}
 use Rattle.lalrpop_lr1.specs.Words.{forest_of, open_node, steps_of, steps_over, tree_by, tree_of}
-use Rattle.lalrpop_lr1.proofs.TreeSteps.{made_whole}
+use Rattle.lalrpop_lr1.proofs.theory.trees.TreeSteps.{made_whole}
 use Rattle.lalrpop_lr1.proofs.interpret.tree.copies.clone_node.Goals as goal
 
 pub steps-init : goal.steps-init

@@ -2,7 +2,7 @@ use Rattle.std.proofs.Common.{◌≡◌, Option, [], ◌∷◌, ◌++◌, true, 
 use Rattle.std.proofs.Output.{has_written_append}
 use Rattle.lalrpop_lr1.specs.Words.{GivesStep, forest_of, step_of, step_text, steps_of, steps_over, steps_text, trees_text}
 use Rattle.lalrpop_lr1.specs.declared.interpret.tree.walk.TreeStep.{TreeStep}
-use Rattle.lalrpop_lr1.proofs.TreeSteps.{written_whole}
+use Rattle.lalrpop_lr1.proofs.theory.trees.TreeSteps.{written_whole}
 use Rattle.lalrpop_lr1.proofs.interpret.tree.text.show_children.Goals as goal
 
 pub steps-init : goal.steps-init

@@ -1,6 +1,6 @@
 use mathlib.Core.Bool.{true≢false}
 use Rattle.std.proofs.Common.{sym}
-use Rattle.lalrpop_lr1.proofs.ReportTexts.{no_rising}
+use Rattle.lalrpop_lr1.proofs.theory.reports.ReportTexts.{no_rising}
 use Rattle.lalrpop_lr1.proofs.report.printer.NilLookaheadPrinter.has_anything_to_print.Goals as goal
 
 pub returns : goal.returns

@@ -1,5 +1,5 @@
 use Rattle.std.proofs.Output.{writes_in_calls_nil}
-use Rattle.lalrpop_lr1.proofs.ReportTexts.{no_rising}
+use Rattle.lalrpop_lr1.proofs.theory.reports.ReportTexts.{no_rising}
 use Rattle.lalrpop_lr1.proofs.report.printer.NilLookaheadPrinter.print.Goals as goal
 
 pub returns : goal.returns

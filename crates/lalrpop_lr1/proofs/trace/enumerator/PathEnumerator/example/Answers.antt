@@ -4,8 +4,8 @@ use Rattle.lalrpop_base.specs.declared.repr.Production.{Production}
 use Rattle.lalrpop_lr1.specs.Words.{IsExampleOf, SpellsDerivation, CarryRightSides, path_of, IsPath}
 use Rattle.lalrpop_lr1.specs.declared.trace.enumerator.EnumeratorState.{EnumeratorState}
 use Rattle.lalrpop_lr1.specs.declared.trace.example.Example.{Example}
-use Rattle.lalrpop_lr1.proofs.PathsExact.{if_ok}
-use Rattle.lalrpop_lr1.proofs.SpelledDerivations.{derivation}
+use Rattle.lalrpop_lr1.proofs.theory.traces.PathsExact.{if_ok}
+use Rattle.lalrpop_lr1.proofs.theory.traces.SpelledDerivations.{derivation}
 use Rattle.lalrpop_lr1.proofs.trace.enumerator.PathEnumerator.example.Goals as goal
 
 pub returns-clause-derivation : goal.returns-clause-derivation

@@ -1,7 +1,7 @@
 use Rattle.std.proofs.Common.{◌-◌, sym, ◌∙◌, arith}
 use Rattle.lalrpop_lr1.specs.Words.{node_count, frames}
-use Rattle.lalrpop_lr1.proofs.PathsLeft.{taken_paths, none_paths}
-use Rattle.lalrpop_lr1.proofs.Walks.{taken_load, none_load}
+use Rattle.lalrpop_lr1.proofs.theory.traces.PathsLeft.{taken_paths, none_paths}
+use Rattle.lalrpop_lr1.proofs.theory.traces.Walks.{taken_load, none_load}
 use Rattle.lalrpop_lr1.proofs.trace.enumerator.PathEnumerator.next_edge.Goals as goal
 
 pub returns-in-Some-clause-taken : goal.returns-in-Some-clause-taken

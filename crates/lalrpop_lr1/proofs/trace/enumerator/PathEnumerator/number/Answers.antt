@@ -1,6 +1,6 @@
 use Rattle.std.proofs.Common.{◌≡◌, ℕ, ◌-◌, List, length, sym, ◌∙◌, ap, subst}
 use Rattle.std.specs.Prelude.{slice_get, Some}
-use Rattle.lalrpop_lr1.proofs.Walks.{at_last}
+use Rattle.lalrpop_lr1.proofs.theory.traces.Walks.{at_last}
 use Rattle.lalrpop_lr1.proofs.trace.enumerator.PathEnumerator.number.Goals as goal
 
 pub returns-in-Some : goal.returns-in-Some

@@ -1,5 +1,5 @@
 use Rattle.std.proofs.Common.{inr, sym, ◌∙◌, arith}
-use Rattle.lalrpop_lr1.proofs.PathsLeft.{again_among}
+use Rattle.lalrpop_lr1.proofs.theory.traces.PathsLeft.{again_among}
 use Rattle.lalrpop_lr1.proofs.trace.enumerator.PathEnumerator.passes.Goals as goal
 
 pub returns-then-come_together-clause-again : goal.returns-then-come_together-clause-again

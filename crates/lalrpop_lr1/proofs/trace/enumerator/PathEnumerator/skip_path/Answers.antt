@@ -1,4 +1,4 @@
-use Rattle.lalrpop_lr1.proofs.Walks.{standing_bound, refused_less}
+use Rattle.lalrpop_lr1.proofs.theory.traces.Walks.{standing_bound, refused_less}
 use Rattle.lalrpop_lr1.proofs.trace.enumerator.PathEnumerator.skip_path.Goals as goal
 
 pub returns-in-Err-clause-falls : goal.returns-in-Err-clause-falls

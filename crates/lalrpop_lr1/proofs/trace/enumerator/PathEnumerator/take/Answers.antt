@@ -1,7 +1,7 @@
 use Rattle.std.proofs.Common.{refl, sym}
 use Rattle.lalrpop_lr1.specs.Words.{frames}
-use Rattle.lalrpop_lr1.proofs.PathsLeft.{stopped_walk}
-use Rattle.lalrpop_lr1.proofs.Walks.{entered_load}
+use Rattle.lalrpop_lr1.proofs.theory.traces.PathsLeft.{stopped_walk}
+use Rattle.lalrpop_lr1.proofs.theory.traces.Walks.{entered_load}
 use Rattle.lalrpop_lr1.proofs.trace.enumerator.PathEnumerator.take.Goals as goal
 
 pub returns-clause-falls : goal.returns-clause-falls

@@ -1,7 +1,7 @@
 use Rattle.std.proofs.Common.{subst}
 use Rattle.std.specs.Prelude.{IsTrue}
 use Rattle.lalrpop_base.specs.Words.{Bits, has}
-use Rattle.lalrpop_base.proofs.FirstTokens.{First-same}
+use Rattle.lalrpop_base.proofs.theory.first.FirstTokens.{First-same}
 use Rattle.lalrpop_lr1.proofs.trace.filtered.FilteredPathEnumerator.fits.Goals as goal
 
 pub returns-clause-yes : goal.returns-clause-yes

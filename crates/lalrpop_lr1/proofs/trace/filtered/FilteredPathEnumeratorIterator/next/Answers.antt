@@ -1,5 +1,5 @@
 use Rattle.std.proofs.Common.{refl, ◌∙◌, arith}
-use Rattle.lalrpop_lr1.proofs.FilteredWalks.{skipped_more, gives_standing, gives_last}
+use Rattle.lalrpop_lr1.proofs.theory.traces.FilteredWalks.{skipped_more, gives_standing, gives_last}
 use Rattle.lalrpop_lr1.proofs.trace.filtered.FilteredPathEnumeratorIterator.next.Goals as goal
 
 pub returns-in-Ok-true-clause-steps : goal.returns-in-Ok-true-clause-steps

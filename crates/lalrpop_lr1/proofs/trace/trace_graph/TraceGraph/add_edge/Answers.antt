@@ -1,7 +1,7 @@
 use Rattle.std.proofs.Common.{refl, sym, ap, ◌∙◌, subst}
 use mathlib.Core.Bool.{true≢false}
 use Rattle.lalrpop_lr1.specs.Words.{Graph, IsGraph}
-use Rattle.lalrpop_lr1.proofs.TraceGraphs.{kept_graph, on_ok, adds_both, adds_edge, has_edge_already, numbered_there, no_other_first, no_other_second, no_other_same, nodes_stay}
+use Rattle.lalrpop_lr1.proofs.theory.traces.TraceGraphs.{kept_graph, on_ok, adds_both, adds_edge, has_edge_already, numbered_there, no_other_first, no_other_second, no_other_same, nodes_stay}
 use Rattle.lalrpop_lr1.proofs.trace.trace_graph.TraceGraph.add_edge.Goals as goal
 
 pub returns-in_err-clone-clause-graph : goal.returns-in_err-clone-clause-graph

@@ -1,12 +1,12 @@
 use Rattle.std.proofs.Common.{◌≡◌, List, [], ◌∷◌, sym, ap, ◌∙◌, subst}
 use Rattle.std.specs.Prelude.{slice_get, Some}
 use Rattle.lalrpop_base.specs.Words.{AddsOnce, by_number}
-use Rattle.lalrpop_base.proofs.KernelLemmas.{IsNext, adds_known, adds_fresh, at_number, list_grows}
-use Rattle.lalrpop_tables.proofs.Places.{slice_get-longer}
+use Rattle.lalrpop_base.proofs.theory.states.KernelLemmas.{IsNext, adds_known, adds_fresh, at_number, list_grows}
+use Rattle.lalrpop_base.proofs.theory.lists.Places.{slice_get-longer}
 use Rattle.lalrpop_lr1.specs.Words.{Graph, IsGraph, IsKept}
 use Rattle.lalrpop_lr1.specs.contracts.trace.node.TraceGraphNodeOrd.TheImpl as node_ord
 use Rattle.lalrpop_lr1.specs.declared.trace.node.TraceGraphNode.{TraceGraphNode}
-use Rattle.lalrpop_lr1.proofs.TraceGraphs.{kept_graph, kept_more, kept_same}
+use Rattle.lalrpop_lr1.proofs.theory.traces.TraceGraphs.{kept_graph, kept_more, kept_same}
 use Rattle.lalrpop_lr1.proofs.trace.trace_graph.TraceGraph.add_node.Goals as goal
 
 pub returns-in-Some-clause-graph : goal.returns-in-Some-clause-graph

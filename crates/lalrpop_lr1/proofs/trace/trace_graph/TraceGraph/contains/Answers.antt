@@ -4,7 +4,7 @@ use Rattle.std.specs.BTreeMap.{get}
 use Rattle.lalrpop_lr1.specs.Words.{Graph}
 use Rattle.lalrpop_lr1.specs.contracts.trace.node.TraceGraphNodeOrd.TheImpl as node_ord
 use Rattle.lalrpop_lr1.specs.declared.trace.node.TraceGraphNode.TheVariants.{Item}
-use Rattle.lalrpop_lr1.proofs.TraceGraphs.{kept_node, same_item}
+use Rattle.lalrpop_lr1.proofs.theory.traces.TraceGraphs.{kept_node, same_item}
 use Rattle.lalrpop_lr1.proofs.trace.trace_graph.TraceGraph.contains.Goals as goal
 
 pub returns : goal.returns

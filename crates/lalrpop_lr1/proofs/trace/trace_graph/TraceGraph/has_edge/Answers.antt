@@ -3,9 +3,9 @@ use Rattle.std.specs.Prelude.{slice_get, Some, Contains}
 use Rattle.std.proofs.lemmas.Option.{slice_get_within}
 use Rattle.std.proofs.lemmas.Bool.{cases_lt}
 use mathlib.Core.Bool.{true≢false}
-use Rattle.lalrpop_tables.proofs.Places.{same_some}
+use Rattle.lalrpop_base.proofs.theory.lists.Places.{same_some}
 use Rattle.lalrpop_lr1.specs.Words.{PlainEdge, plain, plain_edge, numbers_to}
-use Rattle.lalrpop_lr1.proofs.TraceGraphs.{place_sound, place_complete, plain_from, from_plain, plain_place, plain_there}
+use Rattle.lalrpop_lr1.proofs.theory.traces.TraceGraphs.{place_sound, place_complete, plain_from, from_plain, plain_place, plain_there}
 use Rattle.lalrpop_lr1.proofs.trace.trace_graph.TraceGraph.has_edge.Goals as goal
 
 found : (xs : List ℕ) (i : ℕ) → i < length xs → slice_get xs i ≡ Some (get_or xs i 0)

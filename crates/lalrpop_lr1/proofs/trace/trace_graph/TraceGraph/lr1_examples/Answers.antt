@@ -5,9 +5,9 @@ use Rattle.lalrpop_base.specs.declared.repr.Production.{Production}
 use Rattle.lalrpop_lr1.specs.Words.{IsExampleOf, CarryRightSides, SpellsDerivation, IsGraph, IsPath, item_node, paths, to_come}
 use Rattle.lalrpop_lr1.specs.declared.trace.filtered.FilteredPathEnumerator.{FilteredPathEnumerator}
 use Rattle.lalrpop_lr1.specs.declared.trace.example.Example.{Example}
-use Rattle.lalrpop_lr1.proofs.SpelledDerivations.{derivation}
-use Rattle.lalrpop_lr1.proofs.PathsExact.{paths_exact, paths_once, if_ok}
-use Rattle.lalrpop_lr1.proofs.TraceGraphs.{kept_graph}
+use Rattle.lalrpop_lr1.proofs.theory.traces.SpelledDerivations.{derivation}
+use Rattle.lalrpop_lr1.proofs.theory.traces.PathsExact.{paths_exact, paths_once, if_ok}
+use Rattle.lalrpop_lr1.proofs.theory.traces.TraceGraphs.{kept_graph}
 use Rattle.lalrpop_lr1.proofs.trace.trace_graph.TraceGraph.lr1_examples.Goals as goal
 
 pub returns-clause-exact : goal.returns-clause-exact

@@ -2,7 +2,7 @@ use Rattle.std.proofs.Common.{◌≡◌, ◌++◌, ◌∷◌, [], map, cond, ref
 use Rattle.std.specs.Prelude.{is_ok, Contains}
 use Rattle.lalrpop_base.specs.Words.{by_number}
 use Rattle.lalrpop_lr1.specs.Words.{Graph, IsKept, plain}
-use Rattle.lalrpop_lr1.proofs.TraceGraphs.{kept_graph, kept_refused, kept_pushed, graph_same}
+use Rattle.lalrpop_lr1.proofs.theory.traces.TraceGraphs.{kept_graph, kept_refused, kept_pushed, graph_same}
 use Rattle.lalrpop_lr1.proofs.trace.trace_graph.TraceGraph.push_edge.Goals as goal
 
 pub returns-in_err-reserve-clause-graph : goal.returns-in_err-reserve-clause-graph

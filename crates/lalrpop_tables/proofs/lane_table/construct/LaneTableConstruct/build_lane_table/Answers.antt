@@ -1,7 +1,7 @@
 use Rattle.std.proofs.Common.{◌∙◌, length, sym, subst}
 use Rattle.lalrpop_tables.specs.Words.{AreInRange, HasRow, IsClosed}
 use Rattle.lalrpop_tables.specs.declared.lane_table.table.LaneTable.{LaneTable}
-use Rattle.lalrpop_tables.proofs.LaneTracing.{tracing_start, tracing_within, tracing_more, tracing_end, tracing_row}
+use Rattle.lalrpop_tables.proofs.theory.lanes.LaneTracing.{tracing_start, tracing_within, tracing_more, tracing_end, tracing_row}
 use Rattle.lalrpop_tables.proofs.lane_table.construct.LaneTableConstruct.build_lane_table.Goals as goal
 
 pub loop-action-init : goal.loop-action-init

@@ -1,4 +1,4 @@
-use Rattle.lalrpop_tables.proofs.LaneTracing.{IsTracing}
+use Rattle.lalrpop_tables.proofs.theory.lanes.LaneTracing.{IsTracing}
 use Rattle.lalrpop_tables.proofs.lane_table.construct.LaneTableConstruct.build_lane_table.Given as goal
 
 abbrev pub invariant-loop-action : goal.invariant-loop-action

@@ -1,12 +1,12 @@
 use Rattle.std.proofs.Common.{◌≡◌, List, ◌∙◌, ap, arith, eqb-true, sym}
+use Rattle.std.proofs.lemmas.List.{nil_from_length}
 use Rattle.std.specs.Prelude.{vec_len}
 use Rattle.std.specs.List.{flat_map}
 use Rattle.lalrpop_base.specs.Words.{Bits, state_conflicts, rules_of}
 use Rattle.lalrpop_base.specs.declared.lr1_core.state.State.{State}
-use Rattle.lalrpop_tables.proofs.CheckStates.{some_of}
-use Rattle.lalrpop_tables.proofs.LaneAnswers.{was_met, was_resolved}
-use Rattle.lalrpop_tables.proofs.Lr0Copies.{copied_conflicts, copied_free, copied_tables}
-use Rattle.lalrpop_tables.proofs.Merging.{none_left}
+use Rattle.lalrpop_base.proofs.theory.states.CheckStates.{some_of}
+use Rattle.lalrpop_tables.proofs.theory.lane_states.LaneAnswers.{was_met, was_resolved}
+use Rattle.lalrpop_tables.proofs.theory.lane_states.Lr0Copies.{copied_conflicts, copied_free, copied_tables}
 use Rattle.lalrpop_tables.proofs.lane_table.construct.LaneTableConstruct.construct.Goals as goal
 
 -- ---- the states were tables at once
@@ -25,7 +25,7 @@ returns-then-is_empty-clause-tables c =
     let all = c.in_ok-conflicts.ensures ∙ ap (λ (xs : List (State Bits)). flat_map (state_conflicts g.terminals) xs) c.deref.ensures.value in
     let none : vec_len c.in_ok-conflicts.conflicts ≡ 0 = eqb-true (vec_len c.in_ok-conflicts.conflicts) 0 (sym c.is_empty.ensures ∙ c.if-is_empty.true) in
     copied_tables (rules_of g) c.args.self.start c.args.self.max_copies c.in_ok-states.states.items c.in_ok-states.ensures.copies c.in_ok-conflicts.conflicts.items all
-    (none_left c.in_ok-conflicts.conflicts.items (let k = c.in_ok-conflicts.conflicts.ok in omega arith))
+    (nil_from_length c.in_ok-conflicts.conflicts.items (let k = c.in_ok-conflicts.conflicts.ok in omega arith))
 
 pub returns-then-is_empty-clause-lalr : goal.returns-then-is_empty-clause-lalr
 returns-then-is_empty-clause-lalr c alone lalr = absurd (was_met c.in_ok-states.at_once _ _ c.if-at_once.false (c.in_ok-states.ensures.lalr alone) lalr)

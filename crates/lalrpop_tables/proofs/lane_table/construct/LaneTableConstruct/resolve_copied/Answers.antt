@@ -3,8 +3,8 @@ use Rattle.lalrpop_base.specs.Words.{Bits, rules_of}
 use Rattle.lalrpop_base.specs.declared.lr1_core.state.State.{State}
 use Rattle.lalrpop_tables.specs.Words.{AreLr0Copies, edges, IsGraphOf}
 use Rattle.lalrpop_tables.specs.declared.lane_table.construct.copying.Copying.{Copying}
-use Rattle.lalrpop_tables.proofs.LaneShape.{lane_shape}
-use Rattle.lalrpop_tables.proofs.Resolving.{no_copies, own_numbers, resolving_copies}
+use Rattle.lalrpop_tables.proofs.theory.lane_states.LaneShape.{lane_shape}
+use Rattle.lalrpop_tables.proofs.theory.lane_states.Resolving.{no_copies, own_numbers, resolving_copies}
 use Rattle.lalrpop_tables.proofs.lane_table.construct.LaneTableConstruct.resolve_copied.Goals as goal
 use Rattle.lalrpop_tables.proofs.lane_table.construct.LaneTableConstruct.resolve_copied.Goals.{else-loop-index-test, then-loop-index-test+in_ok-next+then-not-resolved}
 

@@ -2,14 +2,15 @@ use Rattle.std.proofs.Common.{◌∙◌, List, refl, sym, subst, arith, ap}
 use Rattle.std.specs.Prelude.{slice_get, vec_len}
 use Rattle.lalrpop_base.specs.Words.{Bits, AreCoherent, rules_of, productions}
 use Rattle.lalrpop_base.specs.declared.lr1_core.state.State.{State}
-use Rattle.lalrpop_tables.specs.Words.{AreAmong, edges, HaveOwnItems, IsGraphOf}
-use Rattle.lalrpop_tables.proofs.CheckStates.{some_of}
-use Rattle.lalrpop_tables.proofs.LaneAnswers.{was_met, was_resolved}
-use Rattle.lalrpop_tables.proofs.LaneAsked.{among_asked}
-use Rattle.lalrpop_tables.proofs.Merging.{set_back}
-use Rattle.lalrpop_tables.proofs.Lr0Copies.{asked_own, copied_coherent, copied_own}
-use Rattle.lalrpop_tables.proofs.Places.{same_some, slice_get_at}
-use Rattle.lalrpop_tables.proofs.Resolving.{copied_answers, resolving_same, resolving_taken, some_asked}
+use Rattle.lalrpop_base.specs.Words.{AreAmong}
+use Rattle.lalrpop_tables.specs.Words.{edges, HaveOwnItems, IsGraphOf}
+use Rattle.lalrpop_base.proofs.theory.states.CheckStates.{some_of}
+use Rattle.lalrpop_tables.proofs.theory.lane_states.LaneAnswers.{was_met, was_resolved}
+use Rattle.lalrpop_tables.proofs.theory.lanes.LaneAsked.{among_asked}
+use Rattle.lalrpop_base.proofs.theory.collapse.Merging.{set_back}
+use Rattle.lalrpop_tables.proofs.theory.lane_states.Lr0Copies.{asked_own, copied_coherent, copied_own}
+use Rattle.lalrpop_base.proofs.theory.lists.Places.{same_some, slice_get_at}
+use Rattle.lalrpop_tables.proofs.theory.lane_states.Resolving.{copied_answers, resolving_same, resolving_taken, some_asked}
 use Rattle.lalrpop_tables.proofs.lane_table.construct.LaneTableConstruct.resolve_one.Goals as goal
 
 pub build_lane_table-requires-clause-coherent : goal.build_lane_table-requires-clause-coherent

@@ -1,10 +1,10 @@
 use Rattle.std.proofs.Common.{List, length, refl, sym, ◌∙◌, ap, arith}
 use Rattle.lalrpop_base.specs.Words.{Bits, rules_of}
 use Rattle.lalrpop_base.specs.declared.lr1_core.state.State.{State}
-use Rattle.lalrpop_tables.proofs.FoundResolving.{found_meet, found_step, found_written, sets_counted}
-use Rattle.lalrpop_tables.proofs.LaneAnswers.{was_met, was_resolved}
-use Rattle.lalrpop_tables.proofs.LaneLoop.{idle_step}
-use Rattle.lalrpop_tables.proofs.Places.{filled, slice_get_at}
+use Rattle.lalrpop_tables.proofs.theory.lane_states.FoundResolving.{found_meet, found_step, found_written, sets_counted}
+use Rattle.lalrpop_tables.proofs.theory.lane_states.LaneAnswers.{was_met, was_resolved}
+use Rattle.lalrpop_tables.proofs.theory.lane_states.LaneLoop.{idle_step}
+use Rattle.lalrpop_base.proofs.theory.lists.Places.{filled, slice_get_at}
 use Rattle.lalrpop_tables.proofs.lane_table.construct.LaneTableConstruct.resolve_state.Goals as goal
 
 pub returns-then-is_empty-clause-step : goal.returns-then-is_empty-clause-step

@@ -1,13 +1,13 @@
 use Rattle.std.proofs.Common.{List, arith, length, sym, subst}
 use Rattle.lalrpop_base.specs.Words.{Bits, AreClosed, AreCoherent, productions, rules_of}
 use Rattle.lalrpop_base.specs.declared.lr1_core.state.State.{State}
-use Rattle.lalrpop_tables.specs.FollowNodes.{AreAllReached, AreOfGrammar}
+use Rattle.lalrpop_tables.specs.follow_sets.FollowNodes.{AreAllReached, AreOfGrammar}
 use Rattle.lalrpop_tables.specs.Words.{places_in}
-use Rattle.lalrpop_tables.proofs.LaneFound.{found_at, lane_closed, lane_numbered, lane_own, lane_reached}
-use Rattle.lalrpop_tables.proofs.LaneLoop.{lane_states_on, resolved_more}
-use Rattle.lalrpop_tables.proofs.LaneShape.{lane_shape}
-use Rattle.lalrpop_tables.proofs.Places.{slice_get_at}
-use Rattle.lalrpop_tables.proofs.LaneAnswers.{lane_tables, all_done, was_resolved, were_met}
+use Rattle.lalrpop_tables.proofs.theory.lane_states.LaneFound.{found_at, lane_closed, lane_numbered, lane_own, lane_reached}
+use Rattle.lalrpop_tables.proofs.theory.lane_states.LaneLoop.{lane_states_on, resolved_more}
+use Rattle.lalrpop_tables.proofs.theory.lane_states.LaneShape.{lane_shape}
+use Rattle.lalrpop_base.proofs.theory.lists.Places.{slice_get_at}
+use Rattle.lalrpop_tables.proofs.theory.lane_states.LaneAnswers.{lane_tables, all_done, was_resolved, were_met}
 use Rattle.lalrpop_tables.proofs.lane_table.construct.LaneTableConstruct.resolve_states.Goals as goal
 
 -- ---- the pass

@@ -1,5 +1,5 @@
 use Rattle.lalrpop_base.specs.Words.{rules_of}
-use Rattle.lalrpop_tables.proofs.LaneLoop.{AreResolvedTo}
+use Rattle.lalrpop_tables.proofs.theory.lane_states.LaneLoop.{AreResolvedTo}
 use Rattle.lalrpop_tables.proofs.lane_table.construct.LaneTableConstruct.resolve_states.Given as goal
 
 abbrev pub invariant-loop-index : goal.invariant-loop-index

@@ -1,6 +1,6 @@
 use Rattle.lalrpop_base.specs.Words.{rules_of}
-use Rattle.lalrpop_tables.proofs.LaneAnswers.{meet_not_lalr, none_told, some_told, tables_lalr}
-use Rattle.lalrpop_tables.proofs.Lr0Copies.{lanes_copied}
+use Rattle.lalrpop_tables.proofs.theory.lane_states.LaneAnswers.{meet_not_lalr, none_told, some_told, tables_lalr}
+use Rattle.lalrpop_tables.proofs.theory.lane_states.Lr0Copies.{lanes_copied}
 use Rattle.lalrpop_tables.proofs.lane_table.construct.LaneTableConstruct.resolved.Goals as goal
 
 -- ---- no two actions of a state share a token

@@ -1,13 +1,13 @@
 use Rattle.std.proofs.Common.{◌↔◌, ◌++◌, ℕ, List, [], ap, map, subst}
 use Rattle.std.specs.Prelude.{IsTrue}
 use Rattle.std.specs.List.{flat_map}
-use Rattle.lalrpop_base.specs.StateConflicts.{Reduction}
+use Rattle.lalrpop_base.specs.conflicts.StateConflicts.{Reduction}
 use Rattle.lalrpop_base.specs.Words.{has}
 use Rattle.lalrpop_base.specs.declared.lr1_core.state.Action.{Action as TheAction}
-use Rattle.lalrpop_tables.specs.HeldShifts.{held_shift, IsHeldBit}
+use Rattle.lalrpop_base.specs.conflicts.HeldShifts.{held_shift, IsHeldBit}
 use Rattle.lalrpop_tables.specs.Words.{reduce_action}
-use Rattle.lalrpop_tables.proofs.HeldShifts.{gathered_asked}
-use Rattle.lalrpop_tables.proofs.LaneActions.{asked_same, no_actions}
+use Rattle.lalrpop_tables.proofs.theory.conflicts.HeldShifts.{gathered_asked}
+use Rattle.lalrpop_tables.proofs.theory.lanes.LaneActions.{asked_same, no_actions}
 use Rattle.lalrpop_tables.proofs.lane_table.construct.actions.actions_of.Goals as goal
 
 pub returns-clause-actions : goal.returns-clause-actions

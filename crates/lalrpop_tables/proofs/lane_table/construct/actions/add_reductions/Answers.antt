@@ -5,7 +5,7 @@ use Rattle.lalrpop_base.specs.Words.{Bits}
 use Rattle.lalrpop_base.specs.declared.lr1_core.state.Action.{Action}
 use Rattle.lalrpop_base.specs.declared.repr.Production.{Production}
 use Rattle.lalrpop_tables.specs.Words.{AreActions, reduce_action}
-use Rattle.lalrpop_tables.proofs.LaneActions.{asked_same, one_action}
+use Rattle.lalrpop_tables.proofs.theory.lanes.LaneActions.{asked_same, one_action}
 use Rattle.lalrpop_tables.proofs.lane_table.construct.actions.add_reductions.Goals as goal
 
 pub loop-reduction-init : goal.loop-reduction-init

@@ -1,5 +1,5 @@
 use Rattle.std.proofs.Common.{◌≡◌, ◌+◌, ◌++◌, drop, length}
-use Rattle.lalrpop_tables.specs.FoundLookaheads.{with_sets}
+use Rattle.lalrpop_tables.specs.lane_states.FoundLookaheads.{with_sets}
 use Rattle.lalrpop_tables.proofs.lane_table.construct.lookaheads.put_sets.Given as goal
 
 abbrev pub invariant-loop-set : goal.invariant-loop-set

@@ -1,4 +1,4 @@
-use Rattle.lalrpop_tables.proofs.Resolving.{copied_none}
+use Rattle.lalrpop_tables.proofs.theory.lane_states.Resolving.{copied_none}
 use Rattle.lalrpop_tables.proofs.lane_table.construct.merging.merge_along.Goals as goal
 
 pub returns-in-Err-State : goal.returns-in-Err-State

@@ -5,8 +5,8 @@ use Rattle.lalrpop_base.specs.Words.{Bits}
 use Rattle.lalrpop_base.specs.declared.lr1_core.state.State.{State}
 use Rattle.lalrpop_tables.specs.Words.{HasRow}
 use Rattle.lalrpop_tables.specs.declared.lane_table.table.LaneTable.{LaneTable}
-use Rattle.lalrpop_tables.proofs.GraphCopies.{copies_longer}
-use Rattle.lalrpop_tables.proofs.Resolving.{merged_copied, patchable_from}
+use Rattle.lalrpop_tables.proofs.theory.graphs.GraphCopies.{copies_longer}
+use Rattle.lalrpop_tables.proofs.theory.lane_states.Resolving.{merged_copied, patchable_from}
 use Rattle.lalrpop_tables.proofs.lane_table.construct.merging.merge_states.Goals as goal
 
 pub walk_and_patch-requires-clause-rows : goal.walk_and_patch-requires-clause-rows

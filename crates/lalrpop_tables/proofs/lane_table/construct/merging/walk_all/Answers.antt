@@ -1,7 +1,7 @@
 use Rattle.std.proofs.Common.{◌∙◌, []}
 use Rattle.lalrpop_tables.specs.Words.{Advances}
-use Rattle.lalrpop_tables.proofs.LaneTableStates.{far_in, far_more}
-use Rattle.lalrpop_tables.proofs.Merges.{advances_none, advances_on, row_on}
+use Rattle.lalrpop_tables.proofs.theory.lane_tables.LaneTableStates.{far_in, far_more}
+use Rattle.lalrpop_tables.proofs.theory.merges.Merges.{advances_none, advances_on, row_on}
 use Rattle.lalrpop_tables.proofs.lane_table.construct.merging.walk_all.Goals as goal
 
 pub loop-state-init : goal.loop-state-init

@@ -1,5 +1,5 @@
 use Rattle.std.proofs.Common.{true}
-use Rattle.lalrpop_tables.proofs.Resolving.{copied_weaker, patchable_on}
+use Rattle.lalrpop_tables.proofs.theory.lane_states.Resolving.{copied_weaker, patchable_on}
 use Rattle.lalrpop_tables.proofs.lane_table.construct.merging.walk_and_patch.Goals as goal
 
 pub patch_target_starts-requires-clause-patchable : goal.patch_target_starts-requires-clause-patchable

@@ -1,8 +1,9 @@
 use Rattle.std.proofs.Common.{[], ◌∷◌, ◌++◌, sym, subst, ap, ◌∙◌, append-nil, arith}
+use Rattle.std.proofs.lemmas.List.{nil_from_length}
 use Rattle.std.specs.List.{AllZip}
+use Rattle.lalrpop_base.proofs.theory.first.FirstNumbers.{AllZip-last}
 use Rattle.lalrpop_tables.specs.Words.{IsPromoted}
-use Rattle.lalrpop_tables.proofs.LanePromoted.{zip_push}
-use Rattle.lalrpop_tables.proofs.Merging.{taken, none_left}
+use Rattle.lalrpop_base.proofs.theory.collapse.Merging.{taken}
 use Rattle.lalrpop_tables.proofs.lane_table.construct.promote.promote_states.Goals as goal
 
 pub loop-state-init : goal.loop-state-init
@@ -13,13 +14,13 @@ loop-state-preserved c =
     let h = c.loop-state.invariant in
     let P = IsPromoted c.args.all.now in
     record {
-      promoted = subst (AllZip P (c.loop-state.yielded ++ c.in-Some.state ∷ [])) (sym c.in_ok-push.ensures.items) (zip_push P c.loop-state.yielded c.loop-state.promoted.items c.in-Some.state _ h.promoted c.in_ok-promote_state.ensures);
+      promoted = subst (AllZip P (c.loop-state.yielded ++ c.in-Some.state ∷ [])) (sym c.in_ok-push.ensures.items) (AllZip-last P c.loop-state.yielded c.loop-state.promoted.items c.in-Some.state _ h.promoted c.in_ok-promote_state.ensures);
       left = taken _ _ c.loop-state.yielded _ c.in-Some.state h.left c.in-Some.ensures.steps.0;
     }
 
 pub returns : goal.returns
 returns c =
     let h = c.loop-state.invariant in
-    let rest = none_left c.loop-state.state-iterator.rest.items (let k = c.loop-state.state-iterator.rest.ok in let none = c.in-None.ensures.steps.0 in omega arith) in
+    let rest = nil_from_length c.loop-state.state-iterator.rest.items (let k = c.loop-state.state-iterator.rest.ok in let none = c.in-None.ensures.steps.0 in omega arith) in
     let all = sym (append-nil c.loop-state.yielded) ∙ ap (λ ys. c.loop-state.yielded ++ ys) (sym rest) ∙ h.left in
     subst (λ xs. AllZip (IsPromoted c.args.all.now) xs c.loop-state.promoted.items) all h.promoted

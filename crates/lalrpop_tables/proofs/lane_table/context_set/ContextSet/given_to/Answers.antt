@@ -1,8 +1,8 @@
 use Rattle.std.proofs.Common.{◌≡◌, arith, List, sym, ap, ◌∙◌, slice_get, length, ◌<◌}
 use Rattle.std.proofs.lemmas.Option.{slice_get_within}
 use Rattle.lalrpop_base.specs.Words.{Bits}
-use Rattle.lalrpop_tables.proofs.Contexts.{took_more}
-use Rattle.lalrpop_tables.proofs.Places.{slice_get_at}
+use Rattle.lalrpop_base.proofs.theory.lanes.Contexts.{took_more}
+use Rattle.lalrpop_base.proofs.theory.lists.Places.{slice_get_at}
 use Rattle.lalrpop_tables.proofs.lane_table.context_set.ContextSet.given_to.Goals as goal
 
 pub loop-tokens-preserved : goal.loop-tokens-preserved

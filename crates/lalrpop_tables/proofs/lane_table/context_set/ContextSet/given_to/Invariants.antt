@@ -1,4 +1,4 @@
-use Rattle.lalrpop_tables.proofs.Contexts.{TookUntil}
+use Rattle.lalrpop_base.proofs.theory.lanes.Contexts.{TookUntil}
 use Rattle.lalrpop_tables.proofs.lane_table.context_set.ContextSet.given_to.Given as goal
 
 abbrev pub invariant-loop-tokens : goal.invariant-loop-tokens

@@ -1,7 +1,7 @@
 use Rattle.std.proofs.Common.{◌≡◌, refl, length, List, Some, sym, ap, ◌∙◌, arith, slice_get}
 use Rattle.lalrpop_base.specs.Words.{Bits, has}
-use Rattle.lalrpop_tables.proofs.Contexts.{apart_more, apart_all}
-use Rattle.lalrpop_tables.proofs.Places.{slice_get_at, same_some}
+use Rattle.lalrpop_base.proofs.theory.lanes.Contexts.{apart_more, apart_all}
+use Rattle.lalrpop_base.proofs.theory.lists.Places.{slice_get_at, same_some}
 use Rattle.lalrpop_tables.proofs.lane_table.context_set.ContextSet.meets_other.Goals as goal
 use Rattle.lalrpop_tables.proofs.lane_table.context_set.ContextSet.meets_other.Goals.{else-other-index-via-then-other-index+else-is_intersecting, else-other-index-via-else-other-index}
 

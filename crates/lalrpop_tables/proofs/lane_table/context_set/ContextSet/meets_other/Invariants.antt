@@ -1,4 +1,4 @@
-use Rattle.lalrpop_tables.proofs.Contexts.{AreApartUntil}
+use Rattle.lalrpop_base.proofs.theory.lanes.Contexts.{AreApartUntil}
 use Rattle.lalrpop_tables.proofs.lane_table.context_set.ContextSet.meets_other.Given as goal
 
 abbrev pub invariant-loop-other : goal.invariant-loop-other

@@ -1,8 +1,8 @@
 use Rattle.std.proofs.Common.{◌≡◌, length, List, Some, sym, ap, ◌∙◌, arith, slice_get, Err, rules}
 use Rattle.std.proofs.lemmas.Grind.{common_steps}
 use Rattle.lalrpop_base.specs.Words.{Bits}
-use Rattle.lalrpop_tables.proofs.Contexts.{union_meets, union_more, union_all, union_apart}
-use Rattle.lalrpop_tables.proofs.Places.{slice_get_at}
+use Rattle.lalrpop_base.proofs.theory.lanes.Contexts.{union_meets, union_more, union_all, union_apart}
+use Rattle.lalrpop_base.proofs.theory.lists.Places.{slice_get_at}
 use Rattle.lalrpop_tables.proofs.lane_table.context_set.ContextSet.union.Goals as goal
 
 pub returns-in_err-insert-clause-overlapping : goal.returns-in_err-insert-clause-overlapping

@@ -1,4 +1,4 @@
-use Rattle.lalrpop_tables.proofs.Contexts.{IsUnionUntil}
+use Rattle.lalrpop_base.proofs.theory.lanes.Contexts.{IsUnionUntil}
 use Rattle.lalrpop_tables.proofs.lane_table.context_set.ContextSet.union.Given as goal
 
 abbrev pub invariant-loop-index : goal.invariant-loop-index

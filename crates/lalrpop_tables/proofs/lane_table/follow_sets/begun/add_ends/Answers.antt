@@ -3,9 +3,9 @@ use Rattle.std.specs.Prelude.{slice_get}
 use Rattle.std.specs.declared.alloc.Global.{Global}
 use Rattle.std.specs.declared.vec.Vec.{Vec}
 use Rattle.lalrpop_base.specs.Words.{Bits}
-use Rattle.lalrpop_tables.specs.FollowWalks.{TakesBits}
-use Rattle.lalrpop_tables.proofs.FollowBegun.{EndBelow, ends_all, ends_here, ends_none, ends_past}
-use Rattle.lalrpop_tables.proofs.Places.{slice_get_at}
+use Rattle.lalrpop_tables.specs.follow_sets.FollowWalks.{TakesBits}
+use Rattle.lalrpop_tables.proofs.theory.follow_sets.FollowBegun.{EndBelow, ends_all, ends_here, ends_none, ends_past}
+use Rattle.lalrpop_base.proofs.theory.lists.Places.{slice_get_at}
 use Rattle.lalrpop_tables.proofs.lane_table.follow_sets.begun.add_ends.Goals as goal
 use Rattle.lalrpop_tables.proofs.lane_table.follow_sets.begun.add_ends.Goals.{then-index-pass+in_ok-insert_eof, else-index-pass}
 

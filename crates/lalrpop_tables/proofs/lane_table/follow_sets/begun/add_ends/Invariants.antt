@@ -1,5 +1,5 @@
-use Rattle.lalrpop_tables.specs.FollowWalks.{TakesBits}
-use Rattle.lalrpop_tables.proofs.FollowBegun.{EndBelow}
+use Rattle.lalrpop_tables.specs.follow_sets.FollowWalks.{TakesBits}
+use Rattle.lalrpop_tables.proofs.theory.follow_sets.FollowBegun.{EndBelow}
 use Rattle.lalrpop_tables.proofs.lane_table.follow_sets.begun.add_ends.Given as goal
 
 abbrev pub invariant-loop-node : goal.invariant-loop-node

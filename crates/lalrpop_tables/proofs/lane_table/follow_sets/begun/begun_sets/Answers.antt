@@ -1,5 +1,5 @@
 use Rattle.std.proofs.Common.{◌≡◌, arith, length}
-use Rattle.lalrpop_tables.proofs.FollowBegun.{begun_is}
+use Rattle.lalrpop_tables.proofs.theory.follow_sets.FollowBegun.{begun_is}
 use Rattle.lalrpop_tables.proofs.lane_table.follow_sets.begun.begun_sets.Goals as goal
 
 pub returns : goal.returns

@@ -1,6 +1,6 @@
 use Rattle.std.proofs.Common.{◌≡◌, ◌+◌, ℕ, arith, subst, sym}
-use Rattle.lalrpop_tables.specs.FollowWalks.{AreEmptySets}
-use Rattle.lalrpop_tables.proofs.FollowBits.{empty_more, empty_none}
+use Rattle.lalrpop_tables.specs.follow_sets.FollowWalks.{AreEmptySets}
+use Rattle.lalrpop_tables.proofs.theory.follow_sets.FollowBits.{empty_more, empty_none}
 use Rattle.lalrpop_tables.proofs.lane_table.follow_sets.begun.empty_sets.Goals as goal
 
 pub loop-place-init : goal.loop-place-init

@@ -1,5 +1,5 @@
 use Rattle.std.proofs.Common.{◌∙◌}
-use Rattle.lalrpop_tables.proofs.FollowBegun.{below_all, below_more, below_none}
+use Rattle.lalrpop_tables.proofs.theory.follow_sets.FollowBegun.{below_all, below_more, below_none}
 use Rattle.lalrpop_tables.proofs.lane_table.follow_sets.begun.join_all.Goals as goal
 
 pub loop-state-init : goal.loop-state-init

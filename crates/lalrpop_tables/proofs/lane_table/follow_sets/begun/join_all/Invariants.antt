@@ -1,5 +1,5 @@
-use Rattle.lalrpop_tables.specs.FollowWalks.{TakesBits}
-use Rattle.lalrpop_tables.proofs.FollowBegun.{RestBelow}
+use Rattle.lalrpop_tables.specs.follow_sets.FollowWalks.{TakesBits}
+use Rattle.lalrpop_tables.proofs.theory.follow_sets.FollowBegun.{RestBelow}
 use Rattle.lalrpop_tables.proofs.lane_table.follow_sets.begun.join_all.Given as goal
 
 abbrev pub invariant-loop-state : goal.invariant-loop-state

@@ -1,7 +1,7 @@
 use Rattle.std.proofs.Common.{◌∙◌, Some, ap, arith, refl}
-use Rattle.lalrpop_tables.proofs.FollowBegun.{behind_listed, finished_gives, no_place_gives, node_listed, other_gives, rest_gives, rest_listed}
-use Rattle.lalrpop_tables.proofs.FollowNodes.{ascend_read}
-use Rattle.lalrpop_tables.proofs.Places.{slice_get_at}
+use Rattle.lalrpop_tables.proofs.theory.follow_sets.FollowBegun.{behind_listed, finished_gives, no_place_gives, node_listed, other_gives, rest_gives, rest_listed}
+use Rattle.lalrpop_tables.proofs.theory.follow_sets.FollowNodes.{ascend_read}
+use Rattle.lalrpop_base.proofs.theory.lists.Places.{slice_get_at}
 use Rattle.lalrpop_tables.proofs.lane_table.follow_sets.begun.join_rest.Goals as goal
 
 pub index-requires : goal.index-requires

@@ -2,9 +2,9 @@ use Rattle.std.proofs.Common.{◌≡◌, ◌∙◌, ◌+◌, ◌++◌, ◌∷◌
 use Rattle.std.specs.Prelude.{Contains}
 use Rattle.std.proofs.lemmas.List.{take_all, take_more}
 use Rattle.std.proofs.lemmas.List.Elements.{Contains-get_or}
-use Rattle.lalrpop_tables.specs.FollowWalks.{TakesBits}
-use Rattle.lalrpop_tables.proofs.FollowBegun.{RestAmong, among_more, among_none}
-use Rattle.lalrpop_tables.proofs.FollowNodes.{items_read}
+use Rattle.lalrpop_tables.specs.follow_sets.FollowWalks.{TakesBits}
+use Rattle.lalrpop_tables.proofs.theory.follow_sets.FollowBegun.{RestAmong, among_more, among_none}
+use Rattle.lalrpop_tables.proofs.theory.follow_sets.FollowNodes.{items_read}
 use Rattle.lalrpop_tables.proofs.lane_table.follow_sets.begun.join_rests.Goals as goal
 
 pub loop-item-init : goal.loop-item-init

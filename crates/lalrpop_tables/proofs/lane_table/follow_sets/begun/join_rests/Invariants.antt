@@ -1,6 +1,6 @@
 use Rattle.std.proofs.Common.{take}
-use Rattle.lalrpop_tables.specs.FollowWalks.{TakesBits}
-use Rattle.lalrpop_tables.proofs.FollowBegun.{RestAmong}
+use Rattle.lalrpop_tables.specs.follow_sets.FollowWalks.{TakesBits}
+use Rattle.lalrpop_tables.proofs.theory.follow_sets.FollowBegun.{RestAmong}
 use Rattle.lalrpop_tables.proofs.lane_table.follow_sets.begun.join_rests.Given as goal
 
 abbrev pub invariant-loop-item : goal.invariant-loop-item

@@ -1,5 +1,5 @@
 use Rattle.std.proofs.Common.{ℕ, ◌+◌, ◌-◌, ◌/◌, arith}
-use Rattle.lalrpop_tables.proofs.EdgePlaces.{none_behind, none_between, read_found, rises_from, rises_to}
+use Rattle.lalrpop_tables.proofs.theory.states.EdgePlaces.{none_behind, none_between, read_found, rises_from, rises_to}
 use Rattle.lalrpop_tables.proofs.lane_table.follow_sets.edges.place_of.Goals as goal
 use Rattle.lalrpop_tables.proofs.lane_table.follow_sets.edges.place_of.Goals.{else-low-edges-via-then-low-edges+else-edges-low, else-low-edges-via-else-low-edges}
 

@@ -1,5 +1,5 @@
 use Rattle.std.proofs.Common.{refl}
-use Rattle.lalrpop_tables.proofs.FollowFound.{ends_within, finds_lookaheads}
+use Rattle.lalrpop_tables.proofs.theory.follow_sets.FollowFound.{ends_within, finds_lookaheads}
 use Rattle.lalrpop_tables.proofs.lane_table.follow_sets.found.find.Goals as goal
 
 pub spread-requires-clause-in_range : goal.spread-requires-clause-in_range

@@ -1,4 +1,4 @@
-use Rattle.lalrpop_tables.proofs.FrontWalks.{WalksFrom}
+use Rattle.lalrpop_tables.proofs.theory.follow_sets.FrontWalks.{WalksFrom}
 use Rattle.lalrpop_tables.proofs.lane_table.follow_sets.includes.includes.Given as goal
 
 abbrev pub invariant-loop-node : goal.invariant-loop-node

@@ -1,6 +1,6 @@
 use Rattle.std.proofs.Common.{◌+◌, subst, sym}
-use Rattle.lalrpop_tables.specs.FollowWalks.{AreEmptyLists}
-use Rattle.lalrpop_tables.proofs.Lookbacks.{empty_more, empty_none}
+use Rattle.lalrpop_tables.specs.follow_sets.FollowWalks.{AreEmptyLists}
+use Rattle.lalrpop_tables.proofs.theory.follow_sets.Lookbacks.{empty_more, empty_none}
 use Rattle.lalrpop_tables.proofs.lane_table.follow_sets.lookback.empty_lookback.Goals as goal
 
 pub loop-place-init : goal.loop-place-init

@@ -1,4 +1,4 @@
-use Rattle.lalrpop_tables.specs.FollowWalks.{AreEmptyLists}
+use Rattle.lalrpop_tables.specs.follow_sets.FollowWalks.{AreEmptyLists}
 use Rattle.lalrpop_tables.proofs.lane_table.follow_sets.lookback.empty_lookback.Given as goal
 
 abbrev pub invariant-loop-place : goal.invariant-loop-place

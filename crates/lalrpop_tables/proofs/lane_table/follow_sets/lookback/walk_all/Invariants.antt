@@ -1,5 +1,5 @@
 use Rattle.std.proofs.Common.{take}
-use Rattle.lalrpop_tables.proofs.FrontWalks.{WalksOver}
+use Rattle.lalrpop_tables.proofs.theory.follow_sets.FrontWalks.{WalksOver}
 use Rattle.lalrpop_tables.proofs.lane_table.follow_sets.lookback.walk_all.Given as goal
 
 abbrev pub invariant-loop-front : goal.invariant-loop-front

@@ -1,6 +1,6 @@
 use Rattle.std.proofs.Common.{◌≡◌, ◌<◌, length, subst, arith}
-use Rattle.lalrpop_tables.specs.FollowWalks.{EndsAt, IsEndOfWalk}
-use Rattle.lalrpop_tables.proofs.Lookbacks.{ends_there, note_as, note_one}
+use Rattle.lalrpop_tables.specs.follow_sets.FollowWalks.{EndsAt, IsEndOfWalk}
+use Rattle.lalrpop_tables.proofs.theory.follow_sets.Lookbacks.{ends_there, note_as, note_one}
 use Rattle.lalrpop_tables.proofs.lane_table.follow_sets.lookback.walk_from.Goals as goal
 
 pub index_mut-requires : goal.index_mut-requires

@@ -1,5 +1,5 @@
 use Rattle.std.proofs.Common.{◌≡◌, ◌++◌, drop}
-use Rattle.lalrpop_tables.specs.FollowNodes.{nonterminals_of}
+use Rattle.lalrpop_tables.specs.follow_sets.FollowNodes.{nonterminals_of}
 use Rattle.lalrpop_tables.proofs.lane_table.follow_sets.nodes.add_nodes.Given as goal
 
 abbrev pub invariant-loop-edge : goal.invariant-loop-edge

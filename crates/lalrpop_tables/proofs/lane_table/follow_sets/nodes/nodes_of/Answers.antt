@@ -1,13 +1,13 @@
 use Rattle.std.proofs.Common.{◌≡◌, ◌<◌, ◌∙◌, ℕ, length, List, Some, ap, sym, subst}
 use Rattle.std.specs.Prelude.{slice_get, Contains}
 use Rattle.lalrpop_base.specs.declared.repr.Symbol.{Symbol}
-use Rattle.lalrpop_tables.specs.FollowNodes.{AreNodes}
-use Rattle.lalrpop_tables.specs.NumberedStates.{transitions_at}
+use Rattle.lalrpop_tables.specs.follow_sets.FollowNodes.{AreNodes}
+use Rattle.lalrpop_tables.specs.states.NumberedStates.{transitions_at}
 use Rattle.lalrpop_tables.specs.declared.lane_table.follow_sets.nodes.Nodes.{Nodes}
 use Rattle.lalrpop_tables.specs.declared.lane_table.follow_sets.numbered_state.NumberedState.{NumberedState as ByNumbers}
-use Rattle.lalrpop_tables.proofs.Places.{contains_at, slice_get_at}
-use Rattle.lalrpop_tables.proofs.StartNode.{Nodes-more, Nodes-same, of_some}
-use Rattle.lalrpop_tables.proofs.TransitionNodes.{edges_are}
+use Rattle.lalrpop_base.proofs.theory.lists.Places.{contains_at, slice_get_at}
+use Rattle.lalrpop_tables.proofs.theory.follow_sets.StartNode.{Nodes-more, Nodes-same, of_some}
+use Rattle.lalrpop_tables.proofs.theory.follow_sets.TransitionNodes.{edges_are}
 use Rattle.lalrpop_tables.proofs.lane_table.follow_sets.nodes.nodes_of.Goals as goal
 use Rattle.lalrpop_tables.proofs.lane_table.follow_sets.nodes.nodes_of.Goals.{then-is_none+in_ok-push, else-is_none}
 

@@ -1,5 +1,5 @@
 use Rattle.std.proofs.Common.{take}
-use Rattle.lalrpop_tables.proofs.TransitionNodes.{HaveNodes}
+use Rattle.lalrpop_tables.proofs.theory.follow_sets.TransitionNodes.{HaveNodes}
 use Rattle.lalrpop_tables.proofs.lane_table.follow_sets.nodes.transition_nodes.Given as goal
 
 abbrev pub invariant-loop-state : goal.invariant-loop-state

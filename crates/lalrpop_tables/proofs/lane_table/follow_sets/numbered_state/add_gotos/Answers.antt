@@ -1,7 +1,7 @@
 use Rattle.std.proofs.Common.{◌≡◌, ap}
 use Rattle.lalrpop_base.specs.declared.repr.Symbol.TheVariants.{Nonterminal}
-use Rattle.lalrpop_tables.specs.NumberedStates.{goto_transitions}
-use Rattle.lalrpop_tables.proofs.NumberedTransitions.{Partly-all, Partly-more, Partly-none}
+use Rattle.lalrpop_tables.specs.states.NumberedStates.{goto_transitions}
+use Rattle.lalrpop_tables.proofs.theory.states.NumberedTransitions.{Partly-all, Partly-more, Partly-none}
 use Rattle.lalrpop_tables.proofs.lane_table.follow_sets.numbered_state.add_gotos.Goals as goal
 
 pub loop-name-init : goal.loop-name-init

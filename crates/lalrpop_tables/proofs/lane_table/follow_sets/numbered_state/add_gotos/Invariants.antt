@@ -1,5 +1,5 @@
-use Rattle.lalrpop_tables.specs.NumberedStates.{goto_transitions}
-use Rattle.lalrpop_tables.proofs.NumberedTransitions.{IsPartly}
+use Rattle.lalrpop_tables.specs.states.NumberedStates.{goto_transitions}
+use Rattle.lalrpop_tables.proofs.theory.states.NumberedTransitions.{IsPartly}
 use Rattle.lalrpop_tables.proofs.lane_table.follow_sets.numbered_state.add_gotos.Given as goal
 
 abbrev pub invariant-loop-name : goal.invariant-loop-name

@@ -1,7 +1,7 @@
 use Rattle.std.proofs.Common.{◌≡◌, ap}
 use Rattle.lalrpop_base.specs.declared.repr.Symbol.TheVariants.{Terminal}
-use Rattle.lalrpop_tables.specs.NumberedStates.{shift_transitions}
-use Rattle.lalrpop_tables.proofs.NumberedTransitions.{Partly-all, Partly-more, Partly-none}
+use Rattle.lalrpop_tables.specs.states.NumberedStates.{shift_transitions}
+use Rattle.lalrpop_tables.proofs.theory.states.NumberedTransitions.{Partly-all, Partly-more, Partly-none}
 use Rattle.lalrpop_tables.proofs.lane_table.follow_sets.numbered_state.add_shifts.Goals as goal
 
 pub loop-terminal-init : goal.loop-terminal-init

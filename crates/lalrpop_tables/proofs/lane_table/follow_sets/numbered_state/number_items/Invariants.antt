@@ -1,5 +1,5 @@
 use Rattle.std.proofs.Common.{take}
-use Rattle.lalrpop_tables.proofs.NumberedItems.{AreNumbered}
+use Rattle.lalrpop_tables.proofs.theory.states.NumberedItems.{AreNumbered}
 use Rattle.lalrpop_tables.proofs.lane_table.follow_sets.numbered_state.number_items.Given as goal
 
 abbrev pub invariant-loop-item : goal.invariant-loop-item

@@ -5,10 +5,10 @@ use Rattle.std.proofs.lemmas.List.{take_all, take_more}
 use Rattle.lalrpop_base.specs.Words.{Bits, Dotted}
 use Rattle.lalrpop_base.specs.declared.lookahead.nil.Nil.{Nil}
 use Rattle.lalrpop_base.specs.declared.repr.Production.{Production}
-use Rattle.lalrpop_tables.specs.NumberedStates.{AreReducedNumbers}
-use Rattle.lalrpop_tables.specs.Numbering.{with_dot}
-use Rattle.lalrpop_tables.proofs.NumberedItems.{Reduced-more, Reduced-none, some_if}
-use Rattle.lalrpop_tables.proofs.Places.{contains_at, slice_get_at}
+use Rattle.lalrpop_tables.specs.states.NumberedStates.{AreReducedNumbers}
+use Rattle.lalrpop_tables.specs.grammars.Numbering.{with_dot}
+use Rattle.lalrpop_tables.proofs.theory.states.NumberedItems.{Reduced-more, Reduced-none, some_if}
+use Rattle.lalrpop_base.proofs.theory.lists.Places.{contains_at, slice_get_at}
 use Rattle.lalrpop_tables.proofs.lane_table.follow_sets.numbered_state.number_reductions.Goals as goal
 
 pub loop-reduction-init : goal.loop-reduction-init

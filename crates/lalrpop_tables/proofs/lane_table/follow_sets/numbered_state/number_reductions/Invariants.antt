@@ -1,5 +1,5 @@
 use Rattle.std.proofs.Common.{take}
-use Rattle.lalrpop_tables.specs.NumberedStates.{AreReducedNumbers}
+use Rattle.lalrpop_tables.specs.states.NumberedStates.{AreReducedNumbers}
 use Rattle.lalrpop_tables.proofs.lane_table.follow_sets.numbered_state.number_reductions.Given as goal
 
 abbrev pub invariant-loop-reduction : goal.invariant-loop-reduction

@@ -2,9 +2,9 @@ use Rattle.std.proofs.Common.{◌≡◌, ◌∙◌, ◌+◌, ◌++◌, ◌∷◌
 use Rattle.std.proofs.lemmas.List.{take_all, take_more}
 use Rattle.lalrpop_base.specs.Words.{Bits}
 use Rattle.lalrpop_base.specs.declared.lr1_core.state.State.{State}
-use Rattle.lalrpop_tables.specs.NumberedStates.{AreNumberedStates}
-use Rattle.lalrpop_tables.proofs.NumberedStates.{States-more, States-none}
-use Rattle.lalrpop_tables.proofs.Places.{slice_get_at}
+use Rattle.lalrpop_tables.specs.states.NumberedStates.{AreNumberedStates}
+use Rattle.lalrpop_tables.proofs.theory.states.NumberedStates.{States-more, States-none}
+use Rattle.lalrpop_base.proofs.theory.lists.Places.{slice_get_at}
 use Rattle.lalrpop_tables.proofs.lane_table.follow_sets.numbered_state.number_states.Goals as goal
 
 pub loop-state-init : goal.loop-state-init

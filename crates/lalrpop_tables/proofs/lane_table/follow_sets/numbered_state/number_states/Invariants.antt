@@ -1,5 +1,5 @@
 use Rattle.std.proofs.Common.{take}
-use Rattle.lalrpop_tables.specs.NumberedStates.{AreNumberedStates}
+use Rattle.lalrpop_tables.specs.states.NumberedStates.{AreNumberedStates}
 use Rattle.lalrpop_tables.proofs.lane_table.follow_sets.numbered_state.number_states.Given as goal
 
 abbrev pub invariant-loop-state : goal.invariant-loop-state

@@ -5,8 +5,8 @@ use Rattle.lalrpop_base.specs.Words.{Dotted}
 use Rattle.lalrpop_base.specs.declared.lookahead.nil.Nil.{Nil}
 use Rattle.lalrpop_base.specs.declared.repr.NonterminalString.{NonterminalString}
 use Rattle.lalrpop_base.specs.declared.repr.Symbol.TheVariants.{Nonterminal}
-use Rattle.lalrpop_tables.specs.Numbers.{AreExpansions}
-use Rattle.lalrpop_tables.proofs.FrontNumbers.{Fronts-more, Fronts-none, Fronts-same}
+use Rattle.lalrpop_tables.specs.grammars.Numbers.{AreExpansions}
+use Rattle.lalrpop_tables.proofs.theory.grammars.FrontNumbers.{Fronts-more, Fronts-none, Fronts-same}
 use Rattle.lalrpop_tables.proofs.lane_table.follow_sets.start.fronts_of.Goals as goal
 use Rattle.lalrpop_tables.proofs.lane_table.follow_sets.start.fronts_of.Goals.{then-item-eq0+then-equal+in_ok-push, else-item-eq0, else-item-eq0-via-then-item-eq0+else-equal, else-item-eq0-via-else-item-eq0}
 

@@ -1,6 +1,6 @@
 use Rattle.std.proofs.Common.{◌+◌, refl, subst, sym}
-use Rattle.lalrpop_tables.proofs.FollowTokens.{ShareNoneBefore, share_begin, share_found, share_more, share_none}
-use Rattle.lalrpop_tables.proofs.Places.{slice_get_at}
+use Rattle.lalrpop_tables.proofs.theory.follow_sets.FollowTokens.{ShareNoneBefore, share_begin, share_found, share_more, share_none}
+use Rattle.lalrpop_base.proofs.theory.lists.Places.{slice_get_at}
 use Rattle.lalrpop_tables.proofs.lane_table.follow_sets.tokens.share_token.Goals as goal
 
 pub loop-set-init : goal.loop-set-init

@@ -1,4 +1,4 @@
-use Rattle.lalrpop_tables.proofs.FollowTokens.{ShareNoneBefore}
+use Rattle.lalrpop_tables.proofs.theory.follow_sets.FollowTokens.{ShareNoneBefore}
 use Rattle.lalrpop_tables.proofs.lane_table.follow_sets.tokens.share_token.Given as goal
 
 abbrev pub invariant-loop-set : goal.invariant-loop-set

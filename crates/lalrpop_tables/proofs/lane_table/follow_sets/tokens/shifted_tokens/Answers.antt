@@ -2,9 +2,9 @@ use Rattle.std.proofs.Common.{◌≡◌, ◌+◌, ◌<◌, ◌++◌, ◌∷◌, 
 use Rattle.std.proofs.lemmas.List.{take_all, take_more}
 use Rattle.std.proofs.lemmas.List.Elements.{Contains-get_or}
 use Rattle.lalrpop_base.specs.Words.{Bits, has}
-use Rattle.lalrpop_tables.specs.FollowWalks.{HoldsSomeOf}
-use Rattle.lalrpop_tables.proofs.FollowTokens.{some_of_more, some_of_none}
-use Rattle.lalrpop_tables.proofs.Places.{slice_get_at}
+use Rattle.lalrpop_tables.specs.follow_sets.FollowWalks.{HoldsSomeOf}
+use Rattle.lalrpop_tables.proofs.theory.follow_sets.FollowTokens.{some_of_more, some_of_none}
+use Rattle.lalrpop_base.proofs.theory.lists.Places.{slice_get_at}
 use Rattle.lalrpop_tables.proofs.lane_table.follow_sets.tokens.shifted_tokens.Goals as goal
 
 pub loop-edge-init : goal.loop-edge-init

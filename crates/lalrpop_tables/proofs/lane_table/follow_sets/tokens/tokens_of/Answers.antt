@@ -2,8 +2,8 @@ use Rattle.std.proofs.Common.{◌≡◌, ◌∙◌, ◌+◌, ◌++◌, ◌∷◌
 use Rattle.std.proofs.lemmas.List.{take_all, take_more}
 use Rattle.lalrpop_base.specs.Words.{Bits}
 use Rattle.lalrpop_base.specs.declared.repr.Symbol.{Symbol}
-use Rattle.lalrpop_tables.specs.FollowWalks.{AreTokensOfSymbols}
-use Rattle.lalrpop_tables.proofs.FollowTokens.{tokens_more, tokens_none}
+use Rattle.lalrpop_tables.specs.follow_sets.FollowWalks.{AreTokensOfSymbols}
+use Rattle.lalrpop_tables.proofs.theory.follow_sets.FollowTokens.{tokens_more, tokens_none}
 use Rattle.lalrpop_tables.proofs.lane_table.follow_sets.tokens.tokens_of.Goals as goal
 
 pub loop-symbol-init : goal.loop-symbol-init

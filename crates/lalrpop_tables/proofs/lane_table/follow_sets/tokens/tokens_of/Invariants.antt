@@ -1,5 +1,5 @@
 use Rattle.std.proofs.Common.{take}
-use Rattle.lalrpop_tables.specs.FollowWalks.{AreTokensOfSymbols}
+use Rattle.lalrpop_tables.specs.follow_sets.FollowWalks.{AreTokensOfSymbols}
 use Rattle.lalrpop_tables.proofs.lane_table.follow_sets.tokens.tokens_of.Given as goal
 
 abbrev pub invariant-loop-symbol : goal.invariant-loop-symbol

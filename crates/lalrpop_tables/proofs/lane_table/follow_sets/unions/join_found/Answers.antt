@@ -2,8 +2,8 @@ use Rattle.std.proofs.Common.{◌+◌, subst, sym}
 use Rattle.std.specs.declared.alloc.Global.{Global}
 use Rattle.std.specs.declared.vec.Vec.{Vec}
 use Rattle.lalrpop_base.specs.Words.{Bits}
-use Rattle.lalrpop_tables.specs.FollowWalks.{TakesBits}
-use Rattle.lalrpop_tables.proofs.FollowUnions.{GoesBefore, goes_begin, goes_end, goes_past, goes_there}
+use Rattle.lalrpop_tables.specs.follow_sets.FollowWalks.{TakesBits}
+use Rattle.lalrpop_tables.proofs.theory.follow_sets.FollowUnions.{GoesBefore, goes_begin, goes_end, goes_past, goes_there}
 use Rattle.lalrpop_tables.proofs.lane_table.follow_sets.unions.join_found.Goals as goal
 use Rattle.lalrpop_tables.proofs.lane_table.follow_sets.unions.join_found.Goals.{then-reductions-place+in_ok-union_with, else-reductions-place}
 

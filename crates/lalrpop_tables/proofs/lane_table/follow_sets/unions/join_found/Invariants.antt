@@ -1,5 +1,5 @@
-use Rattle.lalrpop_tables.specs.FollowWalks.{TakesBits}
-use Rattle.lalrpop_tables.proofs.FollowUnions.{GoesBefore}
+use Rattle.lalrpop_tables.specs.follow_sets.FollowWalks.{TakesBits}
+use Rattle.lalrpop_tables.proofs.theory.follow_sets.FollowUnions.{GoesBefore}
 use Rattle.lalrpop_tables.proofs.lane_table.follow_sets.unions.join_found.Given as goal
 
 abbrev pub invariant-loop-place : goal.invariant-loop-place

@@ -2,9 +2,9 @@ use Rattle.std.proofs.Common.{◌≡◌, ◌+◌, ◌<◌, ◌++◌, ◌∷◌, 
 use Rattle.std.proofs.lemmas.List.{take_all, take_more}
 use Rattle.std.proofs.lemmas.List.Elements.{Contains-get_or}
 use Rattle.lalrpop_base.specs.Words.{Bits}
-use Rattle.lalrpop_tables.specs.FollowWalks.{AreUnions}
-use Rattle.lalrpop_tables.proofs.FollowUnions.{unions_more, unions_none}
-use Rattle.lalrpop_tables.proofs.Places.{slice_get_at}
+use Rattle.lalrpop_tables.specs.follow_sets.FollowWalks.{AreUnions}
+use Rattle.lalrpop_tables.proofs.theory.follow_sets.FollowUnions.{unions_more, unions_none}
+use Rattle.lalrpop_base.proofs.theory.lists.Places.{slice_get_at}
 use Rattle.lalrpop_tables.proofs.lane_table.follow_sets.unions.unions_of.Goals as goal
 
 pub loop-entry-init : goal.loop-entry-init

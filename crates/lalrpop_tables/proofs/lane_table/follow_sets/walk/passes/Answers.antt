@@ -1,7 +1,7 @@
 use Rattle.std.proofs.Common.{◌∙◌, ◌<◌, ap, arith, length}
 use Rattle.std.specs.Prelude.{Some, None}
-use Rattle.lalrpop_tables.proofs.FollowSteps.{no_rest_tells, rest_tells}
-use Rattle.lalrpop_tables.proofs.Places.{slice_get_at}
+use Rattle.lalrpop_tables.proofs.theory.follow_sets.FollowSteps.{no_rest_tells, rest_tells}
+use Rattle.lalrpop_base.proofs.theory.lists.Places.{slice_get_at}
 use Rattle.lalrpop_tables.proofs.lane_table.follow_sets.walk.passes.Goals as goal
 
 pub returns-in-Some : goal.returns-in-Some

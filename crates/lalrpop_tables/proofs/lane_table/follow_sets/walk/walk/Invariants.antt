@@ -1,5 +1,5 @@
 use Rattle.std.proofs.Common.{◌-◌, length}
-use Rattle.lalrpop_tables.proofs.FollowWalks.{IsWalking}
+use Rattle.lalrpop_tables.proofs.theory.follow_sets.FollowWalks.{IsWalking}
 use Rattle.lalrpop_tables.proofs.lane_table.follow_sets.walk.walk.Given as goal
 
 abbrev pub invariant-loop-symbol : goal.invariant-loop-symbol

@@ -2,9 +2,10 @@ use Rattle.std.proofs.Common.{◌≡◌, ℕ, rules, subst}
 use Rattle.std.specs.Prelude.{Contains}
 use Rattle.lalrpop_base.specs.declared.repr.NonterminalString.{NonterminalString}
 use Rattle.lalrpop_base.specs.Words.{rules_of}
-use Rattle.lalrpop_tables.specs.Words.{GivesBit, GivesCell, GivesSuccessor, IsAdded, places_in}
-use Rattle.lalrpop_tables.proofs.Expanded.{Expanded-kept, Expanded-known, Expanded-new}
-use Rattle.lalrpop_tables.proofs.GainsSome.{GainsSome-all, on_err}
+use Rattle.lalrpop_base.specs.lists.CheckSets.{IsAdded}
+use Rattle.lalrpop_tables.specs.Words.{GivesBit, GivesCell, GivesSuccessor, places_in}
+use Rattle.lalrpop_tables.proofs.theory.lanes.Expanded.{Expanded-kept, Expanded-known, Expanded-new}
+use Rattle.lalrpop_tables.proofs.theory.lanes.GainsSome.{GainsSome-all, on_err}
 use Rattle.lalrpop_tables.proofs.lane_table.lane.trace_back.step.Goals as goal
 
 -- ---- over edges

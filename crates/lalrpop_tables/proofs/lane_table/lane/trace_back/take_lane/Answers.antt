@@ -3,8 +3,8 @@ use Rattle.lalrpop_base.specs.Words.{Dotted}
 use Rattle.lalrpop_base.specs.declared.lookahead.nil.Nil.{Nil}
 use Rattle.lalrpop_tables.specs.Words.{at_place}
 use Rattle.lalrpop_tables.specs.declared.place.Place.{Place}
-use Rattle.lalrpop_tables.proofs.LanesTaken.{lane_taken, nothing_taken, part_taken}
-use Rattle.lalrpop_tables.proofs.GainsSome.{on_err}
+use Rattle.lalrpop_tables.proofs.theory.lanes.LanesTaken.{lane_taken, nothing_taken, part_taken}
+use Rattle.lalrpop_tables.proofs.theory.lanes.GainsSome.{on_err}
 use Rattle.lalrpop_tables.proofs.lane_table.lane.trace_back.take_lane.Goals as goal
 
 pub returns-clause-taken : goal.returns-clause-taken

@@ -2,9 +2,9 @@ use Rattle.std.proofs.Common.{◌≡◌, [], refl, rules, arith}
 use Rattle.std.proofs.lemmas.Grind.{common_steps}
 use Rattle.std.proofs.lemmas.List.{nil_from_length}
 use Rattle.lalrpop_tables.specs.declared.lane_table.lane.walk.Walk.{Walk}
-use Rattle.lalrpop_tables.proofs.Expanded.{Expanded-kept, Expanded-none}
-use Rattle.lalrpop_tables.proofs.LaneTraces.{Tracing-start, Tracing-step, Tracing-smaller, Tracing-end, Tracing-part, nothing_traced, place_listed}
-use Rattle.lalrpop_tables.proofs.GainsSome.{kept_all, on_err}
+use Rattle.lalrpop_tables.proofs.theory.lanes.Expanded.{Expanded-kept, Expanded-none}
+use Rattle.lalrpop_tables.proofs.theory.lanes.LaneTraces.{Tracing-start, Tracing-step, Tracing-smaller, Tracing-end, Tracing-part, nothing_traced, place_listed}
+use Rattle.lalrpop_tables.proofs.theory.lanes.GainsSome.{kept_all, on_err}
 use Rattle.lalrpop_tables.proofs.lane_table.lane.trace_back.trace_back.Goals as goal
 
 pub loop-place-init : goal.loop-place-init

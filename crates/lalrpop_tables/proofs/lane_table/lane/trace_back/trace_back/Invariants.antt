@@ -1,6 +1,6 @@
 use Rattle.std.proofs.Common.{length, ◌+◌, ◌-◌}
 use Rattle.lalrpop_tables.specs.Words.{AreExpanded}
-use Rattle.lalrpop_tables.proofs.LaneTraces.{IsTracing, all_places}
+use Rattle.lalrpop_tables.proofs.theory.lanes.LaneTraces.{IsTracing, all_places}
 use Rattle.lalrpop_tables.proofs.lane_table.lane.trace_back.trace_back.Given as goal
 
 abbrev pub invariant-loop-place : goal.invariant-loop-place

@@ -2,9 +2,9 @@ use Rattle.std.proofs.Common.{◌+◌, sym, ◌∙◌, subst}
 use mathlib.Core.Bool.{true≢false}
 use Rattle.lalrpop_base.specs.Words.{IsFirstSet, Rules, rules_of, HasKnownTerminals}
 use Rattle.lalrpop_tables.specs.Words.{IsFollowBit, IsHere, IsParent, Nothing}
-use Rattle.lalrpop_tables.proofs.Following.{no_follow, no_passed, follow_gained, follow_passed}
-use Rattle.lalrpop_tables.proofs.GainsSome.{on_err, GainsSome-all, GainsSome-none, GainsSome-same}
-use Rattle.lalrpop_tables.proofs.Grammars.{known_symbols, known_rest}
+use Rattle.lalrpop_tables.proofs.theory.grammars.Following.{no_follow, no_passed, follow_gained, follow_passed}
+use Rattle.lalrpop_tables.proofs.theory.lanes.GainsSome.{on_err, GainsSome-all, GainsSome-none, GainsSome-same}
+use Rattle.lalrpop_base.proofs.theory.grammars.Grammars.{known_symbols, known_rest}
 use Rattle.lalrpop_tables.proofs.lane_table.lane.unepsilon.follow.Goals as goal
 
 pub returns-then-not-can_shift_nonterminal-clause-gains : goal.returns-then-not-can_shift_nonterminal-clause-gains

@@ -1,8 +1,8 @@
 use Rattle.std.proofs.Common.{◌≡◌, sym, ◌∙◌, refl}
 use Rattle.lalrpop_tables.specs.Words.{at_place, IsPlaceIf}
 use Rattle.lalrpop_tables.specs.declared.place.Place.{Place}
-use Rattle.lalrpop_tables.proofs.CheckSending.{same_place}
-use Rattle.lalrpop_tables.proofs.Walks.{Visits-same}
+use Rattle.lalrpop_tables.proofs.theory.check.CheckSending.{same_place}
+use Rattle.lalrpop_tables.proofs.theory.lanes.Walks.{Visits-same}
 use Rattle.lalrpop_tables.proofs.lane_table.lane.unepsilon.pass_on.Goals as goal
 
 pub returns : goal.returns

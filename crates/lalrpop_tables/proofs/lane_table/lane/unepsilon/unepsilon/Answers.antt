@@ -4,10 +4,10 @@ use Rattle.std.proofs.lemmas.List.{take_more, take_all}
 use Rattle.std.proofs.lemmas.Option.{slice_get-get_or}
 use Rattle.lalrpop_base.specs.Words.{Dotted, rules_of}
 use Rattle.lalrpop_tables.specs.Words.{GivesBit, GivesCell, GivesSuccessor, places_in}
-use Rattle.lalrpop_tables.proofs.GainsSome.{on_err, GainsSome-same}
-use Rattle.lalrpop_tables.proofs.Lists.{Contains-take}
-use Rattle.lalrpop_tables.proofs.Places.{slice_get_at, contains_at}
-use Rattle.lalrpop_tables.proofs.Unepsilon.{IsFollowing, Following-start, Following-more, Unepsilon-gains, Unepsilon-part, Unepsilon-visits}
+use Rattle.lalrpop_tables.proofs.theory.lanes.GainsSome.{on_err, GainsSome-same}
+use Rattle.lalrpop_base.proofs.theory.lists.Members.{Contains-take}
+use Rattle.lalrpop_base.proofs.theory.lists.Places.{slice_get_at, contains_at}
+use Rattle.lalrpop_tables.proofs.theory.lanes.Unepsilon.{IsFollowing, Following-start, Following-more, Unepsilon-gains, Unepsilon-part, Unepsilon-visits}
 use Rattle.lalrpop_tables.proofs.lane_table.lane.unepsilon.unepsilon.Goals as goal
 
 pub loop-item-init : goal.loop-item-init

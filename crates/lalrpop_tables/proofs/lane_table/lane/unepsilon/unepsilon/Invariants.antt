@@ -1,6 +1,6 @@
 use Rattle.std.proofs.Common.{take}
 use Rattle.lalrpop_base.specs.Words.{rules_of}
-use Rattle.lalrpop_tables.proofs.Unepsilon.{IsFollowing}
+use Rattle.lalrpop_tables.proofs.theory.lanes.Unepsilon.{IsFollowing}
 use Rattle.lalrpop_tables.proofs.lane_table.lane.unepsilon.unepsilon.Given as goal
 
 abbrev pub invariant-loop-item : goal.invariant-loop-item

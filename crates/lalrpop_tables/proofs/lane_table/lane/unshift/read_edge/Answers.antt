@@ -1,5 +1,5 @@
-use Rattle.lalrpop_tables.proofs.EdgeLeads.{edge_leads}
-use Rattle.lalrpop_tables.proofs.Places.{slice_get_at}
+use Rattle.lalrpop_tables.proofs.theory.states.EdgeLeads.{edge_leads}
+use Rattle.lalrpop_base.proofs.theory.lists.Places.{slice_get_at}
 use Rattle.lalrpop_tables.proofs.lane_table.lane.unshift.read_edge.Goals as goal
 
 pub returns : goal.returns

@@ -1,9 +1,9 @@
 use Rattle.std.proofs.Common.{ap, ◌∙◌}
 use Rattle.std.proofs.lemmas.Option.{slice_get_within}
 use Rattle.lalrpop_tables.specs.Words.{sources_left}
-use Rattle.lalrpop_tables.proofs.EdgeLeads.{source_of_edge}
-use Rattle.lalrpop_tables.proofs.Unshifting.{Unshifting-start, Unshifting-more, left_edge, Unshifting-gains, Unshifting-part, Unshifting-visits}
-use Rattle.lalrpop_tables.proofs.GainsSome.{on_err}
+use Rattle.lalrpop_tables.proofs.theory.states.EdgeLeads.{source_of_edge}
+use Rattle.lalrpop_tables.proofs.theory.lanes.Unshifting.{Unshifting-start, Unshifting-more, left_edge, Unshifting-gains, Unshifting-part, Unshifting-visits}
+use Rattle.lalrpop_tables.proofs.theory.lanes.GainsSome.{on_err}
 use Rattle.lalrpop_tables.proofs.lane_table.lane.unshift.unshift.Goals as goal
 
 pub loop-source-init : goal.loop-source-init

@@ -1,5 +1,5 @@
 use Rattle.lalrpop_tables.specs.Words.{sources_left}
-use Rattle.lalrpop_tables.proofs.Unshifting.{IsUnshifting}
+use Rattle.lalrpop_tables.proofs.theory.lanes.Unshifting.{IsUnshifting}
 use Rattle.lalrpop_tables.proofs.lane_table.lane.unshift.unshift.Given as goal
 
 abbrev pub invariant-loop-source : goal.invariant-loop-source

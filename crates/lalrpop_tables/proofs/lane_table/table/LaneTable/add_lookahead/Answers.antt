@@ -1,7 +1,7 @@
 use Rattle.std.proofs.Common.{refl}
 use Rattle.std.proofs.lemmas.Result.{err_from_is_err_and}
 use Rattle.lalrpop_tables.specs.declared.lane_table.table.LaneTable.{LaneTable}
-use Rattle.lalrpop_tables.proofs.LaneTables.{same_tables, adds_tokens, in_range_of, still_below}
+use Rattle.lalrpop_tables.proofs.theory.lane_tables.LaneTables.{same_tables, adds_tokens, in_range_of, still_below}
 use Rattle.lalrpop_tables.proofs.lane_table.table.LaneTable.add_lookahead.Goals as goal
 
 pub invariant_of-self : goal.invariant_of-self

@@ -1,6 +1,7 @@
 use Rattle.std.proofs.Common.{refl, sym}
+use Rattle.std.proofs.lemmas.List.{nil_from_length}
 use mathlib.Core.Bool.{true≢false}
-use Rattle.lalrpop_tables.proofs.LaneRows.{adding_past, adding_more, no_keys, some_keys}
+use Rattle.lalrpop_tables.proofs.theory.lane_tables.LaneRows.{adding_past, adding_more, some_keys}
 use Rattle.lalrpop_tables.proofs.lane_table.table.LaneTable.add_rows.Goals as goal
 
 pub loop-state-preserved-in-Continue-1 : goal.loop-state-preserved-in-Continue-1
@@ -11,4 +12,4 @@ loop-state-preserved-in-Continue-1 c =
 pub loop-state-preserved : goal.loop-state-preserved
 loop-state-preserved c =
     adding_past _ _ _ _ _ _ c.loop-state.invariant c.in-Some.state.now c.in-Some.successors.now c.in-Some.ensures.steps
-    (no_keys c.in-Some.successors.now.keys (c.if-not-is_empty.ensures.0 refl))
+    (nil_from_length c.in-Some.successors.now.keys (c.if-not-is_empty.ensures.0 refl))

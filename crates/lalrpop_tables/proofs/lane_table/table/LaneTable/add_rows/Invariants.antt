@@ -1,4 +1,4 @@
-use Rattle.lalrpop_tables.proofs.LaneRows.{AreAdding}
+use Rattle.lalrpop_tables.proofs.theory.lane_tables.LaneRows.{AreAdding}
 use Rattle.lalrpop_tables.proofs.lane_table.table.LaneTable.add_rows.Given as goal
 
 abbrev pub invariant-loop-state : goal.invariant-loop-state

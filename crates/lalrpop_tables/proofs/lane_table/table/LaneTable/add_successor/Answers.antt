@@ -1,6 +1,6 @@
 use Rattle.std.proofs.Common.{refl}
 use Rattle.std.proofs.lemmas.Result.{err_from_is_err_and}
-use Rattle.lalrpop_tables.proofs.LaneTables.{same_successors, adds_successor}
+use Rattle.lalrpop_tables.proofs.theory.lane_tables.LaneTables.{same_successors, adds_successor}
 use Rattle.lalrpop_tables.proofs.lane_table.table.LaneTable.add_successor.Goals as goal
 
 pub returns-in_err-pushed-clause-err : goal.returns-in_err-pushed-clause-err

@@ -1,6 +1,6 @@
 use Rattle.std.proofs.Common.{refl}
 use Rattle.lalrpop_tables.specs.Words.{IsClosedEdge}
-use Rattle.lalrpop_tables.proofs.LaneTableStates.{EachSoFar, far_in, far_more, far_end, each_more}
+use Rattle.lalrpop_tables.proofs.theory.lane_tables.LaneTableStates.{EachSoFar, far_in, far_more, far_end, each_more}
 use Rattle.lalrpop_tables.proofs.lane_table.table.LaneTable.are_closed.Goals as goal
 
 pub returns-then-not-is_closed_edge : goal.returns-then-not-is_closed_edge

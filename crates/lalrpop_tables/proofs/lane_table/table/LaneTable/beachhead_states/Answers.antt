@@ -1,9 +1,9 @@
 use Rattle.std.proofs.Common.{sym, ◌∙◌}
 use mathlib.Core.Bool.{true≢false}
 use Rattle.std.proofs.lemmas.Map.Views.{btree_set_contains_iff}
-use Rattle.lalrpop_tables.proofs.LaneTableStates.{BeachSoFar, far_more, far_end, beach_more, beach_past, beachheads}
-use Rattle.lalrpop_tables.proofs.LaneTables.{state_exact}
-use Rattle.lalrpop_tables.proofs.StateGraphs.{state_total}
+use Rattle.lalrpop_tables.proofs.theory.lane_tables.LaneTableStates.{BeachSoFar, far_more, far_end, beach_more, beach_past, beachheads}
+use Rattle.lalrpop_tables.proofs.theory.lane_tables.LaneTables.{state_exact}
+use Rattle.lalrpop_tables.proofs.theory.graphs.StateGraphs.{state_total}
 use Rattle.lalrpop_tables.proofs.lane_table.table.LaneTable.beachhead_states.Goals as goal
 
 pub loop-state-preserved-in_ok-insert : goal.loop-state-preserved-in_ok-insert

@@ -1,7 +1,7 @@
 use Rattle.std.proofs.Common.{◌≡◌, ◌<◌, Err, rules, arith, subst, sym}
 use Rattle.std.proofs.lemmas.Grind.{common_steps}
-use Rattle.lalrpop_tables.proofs.LaneColumns.{AnyRow, gathering_start, gathering_more, gathering_overlap, gathering_end, stands_in, columns_of, columns_overlap}
-use Rattle.lalrpop_tables.proofs.LaneTables.{in_range_of}
+use Rattle.lalrpop_tables.proofs.theory.lane_tables.LaneColumns.{AnyRow, gathering_start, gathering_more, gathering_overlap, gathering_end, stands_in, columns_of, columns_overlap}
+use Rattle.lalrpop_tables.proofs.theory.lane_tables.LaneTables.{in_range_of}
 use Rattle.lalrpop_tables.proofs.lane_table.table.LaneTable.columns.Goals as goal
 
 pub loop-state-init : goal.loop-state-init

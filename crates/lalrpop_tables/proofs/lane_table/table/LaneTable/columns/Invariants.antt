@@ -1,4 +1,4 @@
-use Rattle.lalrpop_tables.proofs.LaneColumns.{IsGathering, AnyRow}
+use Rattle.lalrpop_tables.proofs.theory.lane_tables.LaneColumns.{IsGathering, AnyRow}
 use Rattle.lalrpop_tables.proofs.lane_table.table.LaneTable.columns.Given as goal
 
 abbrev pub invariant-loop-state : goal.invariant-loop-state

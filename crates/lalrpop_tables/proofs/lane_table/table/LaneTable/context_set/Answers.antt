@@ -1,8 +1,8 @@
 use Rattle.std.proofs.Common.{◌≡◌, ◌<◌, ◌∙◌, Err, rules, arith, subst, sym}
 use Rattle.std.proofs.lemmas.Grind.{common_steps}
 use Rattle.lalrpop_tables.specs.Words.{ThisRow}
-use Rattle.lalrpop_tables.proofs.LaneColumns.{gathering_start, gathering_more, gathering_past, gathering_overlap, gathering_end, stands_in, row_of, row_overlaps, same_state, other_state}
-use Rattle.lalrpop_tables.proofs.LaneTables.{in_range_of}
+use Rattle.lalrpop_tables.proofs.theory.lane_tables.LaneColumns.{gathering_start, gathering_more, gathering_past, gathering_overlap, gathering_end, stands_in, row_of, row_overlaps, same_state, other_state}
+use Rattle.lalrpop_tables.proofs.theory.lane_tables.LaneTables.{in_range_of}
 use Rattle.lalrpop_tables.proofs.lane_table.table.LaneTable.context_set.Goals as goal
 
 pub loop-row-init : goal.loop-row-init

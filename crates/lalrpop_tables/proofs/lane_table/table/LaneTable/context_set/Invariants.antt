@@ -1,4 +1,4 @@
-use Rattle.lalrpop_tables.proofs.LaneColumns.{IsGathering}
+use Rattle.lalrpop_tables.proofs.theory.lane_tables.LaneColumns.{IsGathering}
 use Rattle.lalrpop_tables.specs.Words.{ThisRow}
 use Rattle.lalrpop_tables.proofs.lane_table.table.LaneTable.context_set.Given as goal
 

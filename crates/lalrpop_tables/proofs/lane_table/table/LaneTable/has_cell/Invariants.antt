@@ -1,4 +1,4 @@
-use Rattle.lalrpop_tables.proofs.LaneTableStates.{HoldsSoFar, EachSoFar, IsOther}
+use Rattle.lalrpop_tables.proofs.theory.lane_tables.LaneTableStates.{HoldsSoFar, EachSoFar, IsOther}
 use Rattle.lalrpop_tables.proofs.lane_table.table.LaneTable.has_cell.Given as goal
 
 abbrev pub invariant-loop-row : goal.invariant-loop-row

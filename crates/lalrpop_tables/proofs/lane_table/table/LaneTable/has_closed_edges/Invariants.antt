@@ -1,4 +1,4 @@
-use Rattle.lalrpop_tables.proofs.LaneTableStates.{HoldsSoFar, EachSoFar, HasClosed}
+use Rattle.lalrpop_tables.proofs.theory.lane_tables.LaneTableStates.{HoldsSoFar, EachSoFar, HasClosed}
 use Rattle.lalrpop_tables.proofs.lane_table.table.LaneTable.has_closed_edges.Given as goal
 
 abbrev pub invariant-loop-state : goal.invariant-loop-state

@@ -1,5 +1,5 @@
 use Rattle.std.proofs.Common.{refl}
-use Rattle.lalrpop_tables.proofs.LaneTableStates.{row_by_next, row_by_none}
+use Rattle.lalrpop_tables.proofs.theory.lane_tables.LaneTableStates.{row_by_next, row_by_none}
 use Rattle.lalrpop_tables.proofs.lane_table.table.LaneTable.has_row.Goals as goal
 
 pub returns-in-Some : goal.returns-in-Some

@@ -1,5 +1,5 @@
 use Rattle.std.proofs.Common.{refl}
-use Rattle.lalrpop_tables.proofs.LaneTableStates.{closed_table, closed_edges}
+use Rattle.lalrpop_tables.proofs.theory.lane_tables.LaneTableStates.{closed_table, closed_edges}
 use Rattle.lalrpop_tables.proofs.lane_table.table.LaneTable.is_closed.Goals as goal
 
 pub returns-then-has_cells_below : goal.returns-then-has_cells_below

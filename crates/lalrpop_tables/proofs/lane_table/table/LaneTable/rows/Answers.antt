@@ -1,4 +1,4 @@
-use Rattle.lalrpop_tables.proofs.LaneRows.{row_is, has_row}
+use Rattle.lalrpop_tables.proofs.theory.lane_tables.LaneRows.{row_is, has_row}
 use Rattle.lalrpop_tables.proofs.lane_table.table.LaneTable.rows.Goals as goal
 
 pub returns-clause-states : goal.returns-clause-states

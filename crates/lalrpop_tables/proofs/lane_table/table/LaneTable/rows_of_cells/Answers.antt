@@ -1,6 +1,6 @@
 use Rattle.std.proofs.Common.{◌≡◌, refl}
-use Rattle.lalrpop_tables.proofs.LaneRows.{taken_start, taken_in, taken_more, taken_counted, taken_overlaps, none_smaller}
-use Rattle.lalrpop_tables.proofs.LaneTables.{in_range_of}
+use Rattle.lalrpop_tables.proofs.theory.lane_tables.LaneRows.{taken_start, taken_in, taken_more, taken_counted, taken_overlaps, none_smaller}
+use Rattle.lalrpop_tables.proofs.theory.lane_tables.LaneTables.{in_range_of}
 use Rattle.lalrpop_tables.proofs.lane_table.table.LaneTable.rows_of_cells.Goals as goal
 
 pub loop-state-init : goal.loop-state-init

@@ -1,4 +1,4 @@
-use Rattle.lalrpop_tables.proofs.LaneRows.{AreTaken}
+use Rattle.lalrpop_tables.proofs.theory.lane_tables.LaneRows.{AreTaken}
 use Rattle.lalrpop_tables.proofs.lane_table.table.LaneTable.rows_of_cells.Given as goal
 
 abbrev pub invariant-loop-state : goal.invariant-loop-state

@@ -1,4 +1,4 @@
-use Rattle.lalrpop_tables.proofs.LaneTables.{exactly_next, none_next, entry_next}
+use Rattle.lalrpop_tables.proofs.theory.lane_tables.LaneTables.{exactly_next, none_next, entry_next}
 use Rattle.lalrpop_tables.proofs.lane_table.table.LaneTable.successors.Goals as goal
 
 pub returns-clause-exactly : goal.returns-clause-exactly

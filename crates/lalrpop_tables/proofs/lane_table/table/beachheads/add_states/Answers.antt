@@ -1,4 +1,4 @@
-use Rattle.lalrpop_tables.proofs.LaneTableStates.{AddedSoFar, far_more, far_end, added_more}
+use Rattle.lalrpop_tables.proofs.theory.lane_tables.LaneTableStates.{AddedSoFar, far_more, far_end, added_more}
 use Rattle.lalrpop_tables.proofs.lane_table.table.beachheads.add_states.Goals as goal
 
 pub loop-state-preserved : goal.loop-state-preserved

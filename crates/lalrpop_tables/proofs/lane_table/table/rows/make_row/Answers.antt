@@ -1,5 +1,5 @@
 use Rattle.std.proofs.Common.{sym, ◌∙◌}
-use Rattle.lalrpop_tables.proofs.LaneRows.{made_already}
+use Rattle.lalrpop_tables.proofs.theory.lane_tables.LaneRows.{made_already}
 use Rattle.lalrpop_tables.proofs.lane_table.table.rows.make_row.Goals as goal
 
 pub returns-then-contains_key : goal.returns-then-contains_key

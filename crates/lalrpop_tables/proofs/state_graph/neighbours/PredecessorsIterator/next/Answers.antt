@@ -1,6 +1,6 @@
 use Rattle.std.proofs.Common.{refl, sym, ◌∙◌, ap, length, arith}
 use mathlib.Core.Bool.{true≢false}
-use Rattle.lalrpop_tables.proofs.StateGraphs.{same_symbol, other_symbol}
+use Rattle.lalrpop_tables.proofs.theory.graphs.StateGraphs.{same_symbol, other_symbol}
 use Rattle.lalrpop_tables.proofs.state_graph.neighbours.PredecessorsIterator.next.Goals as goal
 
 pub returns-then-equal-clause-steps : goal.returns-then-equal-clause-steps

@@ -6,8 +6,8 @@ use Rattle.lalrpop_lr1.specs.declared.interpret.tree.ParseTree.{ParseTree}
 use Rattle.lalrpop_lr1.specs.declared.interpret.tree.ParseTree.TheOpen as Open
 use Rattle.lalrpop_lr1.specs.declared.interpret.tree.ParseTree.TheViews.{roll-ParseTree}
 use denote.Hole.Carrier.{roll}
-use Rattle.lalrpop_lr1.proofs.TreeSteps.{enters_first, meets_first}
-use Rattle.lalrpop_lr1.proofs.TreeViews.{tree_of_roll}
+use Rattle.lalrpop_lr1.proofs.theory.trees.TreeSteps.{enters_first, meets_first}
+use Rattle.lalrpop_lr1.proofs.theory.trees.TreeViews.{tree_of_roll}
 use Rattle.lalrpop_lr1.proofs.interpret.tree.walk.TreeWalk.come_to.Goals as goal
 
 pub returns-in_ok-push-in-Nonterminal : goal.returns-in_ok-push-in-Nonterminal

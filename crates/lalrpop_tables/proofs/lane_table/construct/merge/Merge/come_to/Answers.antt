@@ -3,10 +3,10 @@ use Rattle.std.specs.Prelude.{slice_get}
 use Rattle.std.proofs.lemmas.List.{append-nil}
 use Rattle.lalrpop_base.specs.declared.lr1_core.state.StateIndex.{StateIndex}
 use Rattle.lalrpop_tables.specs.Words.{unvisited}
-use Rattle.lalrpop_tables.proofs.Lists.{Contains-none}
-use Rattle.lalrpop_tables.proofs.MergeWalks.{comes_newly, falls_newly, few}
-use Rattle.lalrpop_tables.proofs.Merges.{mark_advance, mark_less, mark_listed, marked, on_ok}
-use Rattle.lalrpop_tables.proofs.Places.{slice_get_at}
+use Rattle.lalrpop_base.proofs.theory.lists.Members.{Contains-none}
+use Rattle.lalrpop_tables.proofs.theory.merges.MergeWalks.{comes_newly, falls_newly, few}
+use Rattle.lalrpop_tables.proofs.theory.merges.Merges.{mark_advance, mark_less, mark_listed, marked, on_ok}
+use Rattle.lalrpop_base.proofs.theory.lists.Places.{slice_get_at}
 use Rattle.lalrpop_tables.proofs.lane_table.construct.merge.Merge.come_to.Goals as goal
 
 pub returns-in-Some-clause-came : goal.returns-in-Some-clause-came

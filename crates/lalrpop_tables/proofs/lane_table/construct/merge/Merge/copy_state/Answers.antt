@@ -1,8 +1,8 @@
 use Rattle.std.proofs.Common.{◌≡◌, length, arith}
 use Rattle.lalrpop_tables.specs.Words.{index}
-use Rattle.lalrpop_tables.proofs.Merges.{row_walked, walked_listed}
-use Rattle.lalrpop_tables.proofs.NewCopies.{pushed_advance, pushed_fresh, pushed_marks, unmade_advance, unpushed_advance, unpushed_marks}
-use Rattle.lalrpop_tables.proofs.Places.{slice_get_at}
+use Rattle.lalrpop_tables.proofs.theory.merges.Merges.{row_walked, walked_listed}
+use Rattle.lalrpop_tables.proofs.theory.merges.NewCopies.{pushed_advance, pushed_fresh, pushed_marks, unmade_advance, unpushed_advance, unpushed_marks}
+use Rattle.lalrpop_base.proofs.theory.lists.Places.{slice_get_at}
 use Rattle.lalrpop_tables.proofs.lane_table.construct.merge.Merge.copy_state.Goals as goal
 
 pub row_of-requires : goal.row_of-requires

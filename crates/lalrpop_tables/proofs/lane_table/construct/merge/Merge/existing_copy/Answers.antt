@@ -1,4 +1,4 @@
-use Rattle.lalrpop_tables.proofs.Merges.{walked_on}
+use Rattle.lalrpop_tables.proofs.theory.merges.Merges.{walked_on}
 use Rattle.lalrpop_tables.proofs.lane_table.construct.merge.Merge.existing_copy.Goals as goal
 
 pub joins_copy-requires-clause-walked : goal.joins_copy-requires-clause-walked

@@ -1,4 +1,4 @@
-use Rattle.lalrpop_tables.proofs.LaneCopies.{copies_copying}
+use Rattle.lalrpop_tables.proofs.theory.merges.LaneCopies.{copies_copying}
 use Rattle.lalrpop_tables.proofs.lane_table.construct.merge.Merge.into_states.Goals as goal
 
 pub returns-clause-copying : goal.returns-clause-copying

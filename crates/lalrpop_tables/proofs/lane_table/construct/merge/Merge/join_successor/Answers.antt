@@ -1,6 +1,6 @@
 use Rattle.std.proofs.Common.{subst}
 use Rattle.lalrpop_tables.specs.Words.{AreUnited}
-use Rattle.lalrpop_tables.proofs.Merges.{advances_on, walked_on, successor_own, successor_walked}
+use Rattle.lalrpop_tables.proofs.theory.merges.Merges.{advances_on, walked_on, successor_own, successor_walked}
 use Rattle.lalrpop_tables.proofs.lane_table.construct.merge.Merge.join_successor.Goals as goal
 
 pub union-requires-clause-target : goal.union-requires-clause-target

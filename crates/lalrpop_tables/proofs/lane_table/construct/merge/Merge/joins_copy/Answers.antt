@@ -2,8 +2,8 @@ use Rattle.std.proofs.Common.{◌≡◌, ◌∙◌, ap, arith, Some}
 use Rattle.std.specs.Prelude.{slice_get}
 use Rattle.std.proofs.lemmas.Result.{IfOk-weaker}
 use Rattle.lalrpop_tables.specs.Words.{index}
-use Rattle.lalrpop_tables.proofs.Merges.{copy_walked, successor_row, united_copy}
-use Rattle.lalrpop_tables.proofs.Places.{slice_get_at}
+use Rattle.lalrpop_tables.proofs.theory.merges.Merges.{copy_walked, successor_row, united_copy}
+use Rattle.lalrpop_base.proofs.theory.lists.Places.{slice_get_at}
 use Rattle.lalrpop_tables.proofs.lane_table.construct.merge.Merge.joins_copy.Goals as goal
 
 pub union-requires-clause-target : goal.union-requires-clause-target

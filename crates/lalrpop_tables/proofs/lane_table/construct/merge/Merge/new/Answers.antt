@@ -1,6 +1,6 @@
 use Rattle.std.proofs.Common.{◌≡◌, length, arith}
-use Rattle.lalrpop_tables.proofs.LaneCopies.{copies_own}
-use Rattle.lalrpop_tables.proofs.Merges.{new_merging}
+use Rattle.lalrpop_tables.proofs.theory.merges.LaneCopies.{copies_own}
+use Rattle.lalrpop_tables.proofs.theory.merges.Merges.{new_merging}
 use Rattle.lalrpop_tables.proofs.lane_table.construct.merge.Merge.new.Goals as goal
 
 pub returns-clause-ready : goal.returns-clause-ready

@@ -3,7 +3,7 @@ use Rattle.std.specs.Prelude.{slice_get}
 use Rattle.std.proofs.lemmas.Option.{slice_get_within}
 use Rattle.lalrpop_tables.specs.Words.{IsApart, AreUnited}
 use Rattle.lalrpop_tables.specs.declared.lane_table.construct.merge.Merge.{Merge}
-use Rattle.lalrpop_tables.proofs.Merges.{advances_on, row_on, walked_on, leads_on, copy_walked, successor_row, apart_copy}
+use Rattle.lalrpop_tables.proofs.theory.merges.Merges.{advances_on, row_on, walked_on, leads_on, copy_walked, successor_row, apart_copy}
 use Rattle.lalrpop_tables.proofs.lane_table.construct.merge.Merge.new_copy.Goals as goal
 
 pub copy_state-requires-clause-row : goal.copy_state-requires-clause-row

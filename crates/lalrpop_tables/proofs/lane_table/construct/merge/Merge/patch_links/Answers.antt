@@ -1,8 +1,8 @@
 use Rattle.std.proofs.Common.{refl}
-use Rattle.lalrpop_tables.proofs.LaneCopies.{copies_patched}
-use Rattle.lalrpop_tables.proofs.Merges.{states_advance, walked_listed}
-use Rattle.lalrpop_tables.proofs.Merging.{set_here, set_elsewhere, set_length}
-use Rattle.lalrpop_tables.proofs.Places.{slice_get_at}
+use Rattle.lalrpop_tables.proofs.theory.merges.LaneCopies.{copies_patched}
+use Rattle.lalrpop_tables.proofs.theory.merges.Merges.{states_advance, walked_listed}
+use Rattle.lalrpop_base.proofs.theory.collapse.Merging.{set_here, set_elsewhere, set_length}
+use Rattle.lalrpop_base.proofs.theory.lists.Places.{slice_get_at}
 use Rattle.lalrpop_tables.proofs.lane_table.construct.merge.Merge.patch_links.Goals as goal
 
 pub returns-clause-advances : goal.returns-clause-advances

@@ -2,10 +2,11 @@ use Rattle.std.proofs.Common.{◌≡◌, ◌∙◌, ap, subst, arith, length, So
 use Rattle.std.specs.Prelude.{slice_get}
 use Rattle.lalrpop_base.specs.Words.{Bits}
 use Rattle.std.proofs.Common.{List}
-use Rattle.lalrpop_tables.specs.Words.{IsApplied, index, IsWalked}
-use Rattle.lalrpop_tables.proofs.Merges.{on_ok, walked_context}
-use Rattle.lalrpop_tables.proofs.Merging.{set_here, set_elsewhere, set_length}
-use Rattle.lalrpop_tables.proofs.Places.{slice_get_at}
+use Rattle.lalrpop_base.specs.Words.{IsApplied}
+use Rattle.lalrpop_tables.specs.Words.{index, IsWalked}
+use Rattle.lalrpop_tables.proofs.theory.merges.Merges.{on_ok, walked_context}
+use Rattle.lalrpop_base.proofs.theory.collapse.Merging.{set_here, set_elsewhere, set_length}
+use Rattle.lalrpop_base.proofs.theory.lists.Places.{slice_get_at}
 use Rattle.lalrpop_tables.proofs.lane_table.construct.merge.Merge.patch_target_start.Goals as goal
 
 pub context_set-context_set-requires : goal.context_set-context_set-requires

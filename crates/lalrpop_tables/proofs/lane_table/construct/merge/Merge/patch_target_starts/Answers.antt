@@ -1,7 +1,7 @@
 use Rattle.std.proofs.Common.{ap, ◌∙◌, arith}
 use Rattle.lalrpop_tables.specs.declared.lane_table.construct.merge.Merge.{Merge}
-use Rattle.lalrpop_tables.proofs.LanePatches.{targets_among, patched_start, patched_ready, patched_among, patched_copies, patched_all, patched_taken, patched_none, patched_more}
-use Rattle.lalrpop_tables.proofs.Merges.{merging_coherent}
+use Rattle.lalrpop_tables.proofs.theory.merges.LanePatches.{targets_among, patched_start, patched_ready, patched_among, patched_copies, patched_all, patched_taken, patched_none, patched_more}
+use Rattle.lalrpop_tables.proofs.theory.merges.Merges.{merging_coherent}
 use Rattle.lalrpop_tables.proofs.lane_table.construct.merge.Merge.patch_target_starts.Goals as goal
 
 pub loop-index-init : goal.loop-index-init

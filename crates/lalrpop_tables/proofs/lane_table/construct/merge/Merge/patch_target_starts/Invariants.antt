@@ -1,4 +1,4 @@
-use Rattle.lalrpop_tables.proofs.LanePatches.{ArePatched}
+use Rattle.lalrpop_tables.proofs.theory.merges.LanePatches.{ArePatched}
 use Rattle.lalrpop_tables.proofs.lane_table.construct.merge.Merge.patch_target_starts.Given as goal
 
 abbrev pub invariant-loop-index : goal.invariant-loop-index

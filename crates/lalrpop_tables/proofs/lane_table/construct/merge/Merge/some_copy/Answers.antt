@@ -1,4 +1,4 @@
-use Rattle.lalrpop_tables.proofs.Merges.{advances_on, walked_on}
+use Rattle.lalrpop_tables.proofs.theory.merges.Merges.{advances_on, walked_on}
 use Rattle.lalrpop_tables.proofs.lane_table.construct.merge.Merge.some_copy.Goals as goal
 
 pub new_copy-requires-clause-walked : goal.new_copy-requires-clause-walked

@@ -1,4 +1,4 @@
-use Rattle.lalrpop_tables.proofs.Merges.{merging_coherent}
+use Rattle.lalrpop_tables.proofs.theory.merges.Merges.{merging_coherent}
 use Rattle.lalrpop_tables.proofs.lane_table.construct.merge.Merge.start.Goals as goal
 
 pub returns-clause-coherent : goal.returns-clause-coherent

@@ -1,5 +1,5 @@
 use Rattle.std.proofs.lemmas.Result.{IfOk-weaker}
-use Rattle.lalrpop_tables.proofs.Merges.{contexts_counted, union_advances, union_united}
+use Rattle.lalrpop_tables.proofs.theory.merges.Merges.{contexts_counted, union_advances, union_united}
 use Rattle.lalrpop_tables.proofs.lane_table.construct.merge.Merge.union.Goals as goal
 
 pub union-requires-clause-counted : goal.union-requires-clause-counted

@@ -1,7 +1,7 @@
 use Rattle.std.proofs.Common.{◌≡◌, arith}
 use Rattle.std.specs.Prelude.{vec_len}
-use Rattle.lalrpop_tables.proofs.MergeWalks.{falls_joining, last_join, walk_begins, walk_ends, walk_joins}
-use Rattle.lalrpop_tables.proofs.Merges.{advances_on, copy_walked, row_on, successor_row}
+use Rattle.lalrpop_tables.proofs.theory.merges.MergeWalks.{falls_joining, last_join, walk_begins, walk_ends, walk_joins}
+use Rattle.lalrpop_tables.proofs.theory.merges.Merges.{advances_on, copy_walked, row_on, successor_row}
 use Rattle.lalrpop_tables.proofs.lane_table.construct.merge.Merge.walk.Goals as goal
 
 pub loop-join-init : goal.loop-join-init

@@ -1,4 +1,4 @@
-use Rattle.lalrpop_tables.proofs.Merges.{numbers_more}
+use Rattle.lalrpop_tables.proofs.theory.merges.Merges.{numbers_more}
 use Rattle.lalrpop_tables.proofs.lane_table.construct.merge.copies.own_numbers.Goals as goal
 
 pub loop-number-preserved : goal.loop-number-preserved

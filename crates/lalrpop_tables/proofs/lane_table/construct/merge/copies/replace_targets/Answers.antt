@@ -1,6 +1,7 @@
 use Rattle.std.proofs.Common.{rules}
 use Rattle.std.proofs.lemmas.Map.Made.{map_same_pairs}
-use Rattle.lalrpop_tables.specs.Words.{replaced, retargeted}
+use Rattle.lalrpop_base.specs.Words.{retargeted}
+use Rattle.lalrpop_tables.specs.Words.{replaced}
 use Rattle.lalrpop_tables.proofs.lane_table.construct.merge.copies.replace_targets.Goals as goal
 
 pub returns : goal.returns

@@ -1,7 +1,7 @@
 use Rattle.std.proofs.Common.{inl, inr, ℕ, ◌<◌, List, length, sym, subst}
 use Rattle.lalrpop_base.specs.declared.repr.NonterminalString.{NonterminalString}
 use Rattle.lalrpop_base.specs.declared.repr.Symbol.{Symbol}
-use Rattle.lalrpop_tables.specs.FollowNodes.{IsNonterminalOrCount, IsNumberOrCount}
+use Rattle.lalrpop_tables.specs.follow_sets.FollowNodes.{IsNonterminalOrCount, IsNumberOrCount}
 use Rattle.lalrpop_tables.proofs.lane_table.follow_sets.found.Found.new.Goals as goal
 
 pub nodes_of-requires-clause-named : goal.nodes_of-requires-clause-named

@@ -1,6 +1,6 @@
 use Rattle.std.proofs.Common.{◌≡◌, sym, ap, ◌∙◌}
-use Rattle.lalrpop_tables.specs.FollowWalks.{entries_at, listed_entries}
-use Rattle.lalrpop_tables.proofs.Places.{slice_get_at}
+use Rattle.lalrpop_tables.specs.follow_sets.FollowWalks.{entries_at, listed_entries}
+use Rattle.lalrpop_base.proofs.theory.lists.Places.{slice_get_at}
 use Rattle.lalrpop_tables.proofs.lane_table.follow_sets.found.Found.unions.Goals as goal
 
 -- the entries that are passed are those of the state

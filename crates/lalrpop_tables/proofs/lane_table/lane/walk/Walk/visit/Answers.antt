@@ -1,5 +1,5 @@
 use Rattle.std.proofs.Common.{refl}
-use Rattle.lalrpop_tables.proofs.Walks.{Visits-new, Visits-known}
+use Rattle.lalrpop_tables.proofs.theory.lanes.Walks.{Visits-new, Visits-known}
 use Rattle.lalrpop_tables.proofs.lane_table.lane.walk.Walk.visit.Goals as goal
 
 pub returns-in_ok-push_back : goal.returns-in_ok-push_back

@@ -1,6 +1,6 @@
 use Rattle.std.proofs.Common.{◌∙◌, ◌∷◌, ◌++◌, [], ap, sym, subst, append-nil, append_assoc}
 use Rattle.lalrpop_tables.specs.Words.{Rows, OwnSets}
-use Rattle.lalrpop_tables.proofs.StateSets.{own_none, own_more}
+use Rattle.lalrpop_tables.proofs.theory.merges.StateSets.{own_none, own_more}
 use Rattle.lalrpop_tables.proofs.lane_table.construct.merge.context_sets.ContextSets.new.Goals as goal
 
 pub loop-state-init : goal.loop-state-init

@@ -1,5 +1,5 @@
 use Rattle.std.proofs.Common.{arith}
-use Rattle.lalrpop_tables.proofs.StateSets.{set_made}
+use Rattle.lalrpop_tables.proofs.theory.merges.StateSets.{set_made}
 use Rattle.lalrpop_tables.proofs.lane_table.construct.merge.context_sets.ContextSets.new_state.Goals as goal
 
 pub returns-clause-made : goal.returns-clause-made

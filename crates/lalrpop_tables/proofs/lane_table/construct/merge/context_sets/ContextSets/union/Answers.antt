@@ -1,8 +1,8 @@
 use Rattle.std.proofs.Common.{sym, ap, ◌∙◌, arith, slice_set}
 use Rattle.std.specs.Prelude.{slice_get}
 use Rattle.std.specs.Vec.{with_item}
-use Rattle.lalrpop_tables.proofs.Places.{slice_get_at}
-use Rattle.lalrpop_tables.proofs.StateSets.{sets_joined, listed_at}
+use Rattle.lalrpop_base.proofs.theory.lists.Places.{slice_get_at}
+use Rattle.lalrpop_tables.proofs.theory.merges.StateSets.{sets_joined, listed_at}
 use Rattle.lalrpop_tables.proofs.lane_table.construct.merge.context_sets.ContextSets.union.Goals as goal
 
 pub returns-clause-joined : goal.returns-clause-joined

@@ -1,0 +1,21 @@
+-- Lists, ordered sets and the entries of maps.
+pub mod Ascending
+pub mod BothFacts
+pub mod Bounded
+pub mod CheckSets
+pub mod EachLemmas
+pub mod Gathering
+pub mod Growth
+pub mod Halving
+pub mod Lists
+pub mod Members
+pub mod MultimapLemmas
+pub mod Orders
+pub mod Partitions
+pub mod Places
+pub mod RisingLemmas
+pub mod RisingOrder
+pub mod SetLemmas
+pub mod SortedPlaces
+pub mod Spreading
+pub mod Updates

@@ -1,0 +1,5 @@
+-- States under other numbers.
+pub mod Moved
+pub mod Renumbered
+pub mod RenumberedCanonical
+pub mod Renumbering

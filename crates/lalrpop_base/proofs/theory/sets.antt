@@ -1,0 +1,10 @@
+-- Sets of bits and of tokens, and the words that hold them.
+pub mod BitCounts
+pub mod BitLemmas
+pub mod BitSets
+pub mod BitVectorLemmas
+pub mod HeldTokens
+pub mod PlaceLemmas
+pub mod Subsets
+pub mod TokenSetLemmas
+pub mod WordLemmas

@@ -1,0 +1,6 @@
+-- Closures of kernels, and valid items.
+pub mod CheckClosing
+pub mod Closing
+pub mod Closure
+pub mod Closures
+pub mod EpsilonMoves

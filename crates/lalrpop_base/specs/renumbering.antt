@@ -1,0 +1,4 @@
+-- States under other numbers.
+pub mod Moved
+pub mod Renumbered
+pub mod Renumbering

@@ -1,0 +1,21 @@
+-- A production with a dot, and a lookahead.
+use Rattle.std.specs.Prelude.{◌≡◌, ℕ, Bool, true, ◌==◌, ◌&&◌}
+use Rattle.std.proofs.Common.{ap, ◌∙◌, eqb-true}
+use Rattle.lalrpop_base.specs.lists.Exact.{Exactly, both}
+use Rattle.lalrpop_base.specs.declared.repr.Production.{Production}
+
+pub record Dotted (L : Type 0) : Type 0 where
+  pub production : Production
+  pub index : ℕ
+  pub lookahead : L
+
+-- items are equal where their parts are
+pub dotted_exact : {L : Type 0} (E : Production → Production → Bool) (F : L → L → Bool) → Exactly E → Exactly F →
+    (a b : Dotted L) → (E a.production b.production && ((a.index == b.index) && F a.lookahead b.lookahead)) ≡ true → a ≡ b
+dotted_exact {L} E F e f a b h =
+    let make : Production → ℕ → L → Dotted L = λ p i l. record { production = p; index = i; lookahead = l } in
+    let first = both (E a.production b.production) ((a.index == b.index) && F a.lookahead b.lookahead) h in
+    let second = both (a.index == b.index) (F a.lookahead b.lookahead) first.1 in
+    ap (λ p. make p a.index a.lookahead) (e _ _ first.0)
+    ∙ ap (λ i. make b.production i a.lookahead) (eqb-true _ _ second.0)
+    ∙ ap (λ l. make b.production b.index l) (f _ _ second.1)

@@ -1,0 +1,5 @@
+-- The text of a report.
+pub mod ReportNumbers
+pub mod ReportPadding
+pub mod ReportPlaces
+pub mod ReportTexts

@@ -1,0 +1,83 @@
+-- Facts on the texts of a report.
+use Rattle.std.proofs.Common.{◌≡◌, ◌≢◌, ℕ, ◌++◌, Bool, true, false, List, [], ◌∷◌, map, refl, sym, ap, ◌∙◌, append_assoc, arith, codes, Result, Ok, Err, OnOk, is_ok, String, string_bytes, take, length, get_or, ◌+◌, ◌<◌, Option, Some, slice_get}
+use Rattle.lalrpop_base.specs.Words.{Bits, rising, no_bits, token_of}
+use Rattle.lalrpop_base.specs.declared.repr.TerminalString.{TerminalString}
+use Rattle.lalrpop_base.specs.declared.lookahead.token.Token.{Token}
+use Rattle.lalrpop_base.proofs.theory.sets.BitLemmas.{rising-bits_of}
+use Rattle.lalrpop_lr1.specs.Words.{tokens_line, tokens_text, tokens_in}
+use Rattle.std.specs.List.{flat_map}
+use Rattle.std.proofs.lemmas.List.{flat_map_more, take_more, map-append}
+use mathlib.Core.Bool.{true≢false}
+use Rattle.std.specs.Fmt.{WritesInCalls}
+use Rattle.std.proofs.Output.{contents_after_writes}
+
+-- the empty set has no bits
+pub no_rising : rising no_bits ≡ []
+no_rising = rising-bits_of [] (λ i j l inside. omega arith)
+
+-- where there are tokens, there is a line
+pub some_line : (tokens : List Token) → tokens ≢ [] → tokens_line tokens ≡ codes "        lookahead" ++ (tokens_text tokens ++ codes "\n")
+some_line [] some = absurd (some refl)
+some_line (t ∷ tokens) some = refl
+
+mapped_nil : {A B : Type 0} (f : A → B) (xs : List A) → map f xs ≡ [] → xs ≡ []
+mapped_nil f [] none = refl
+mapped_nil f (x ∷ xs) none = cc
+
+-- a list of tokens has as many as the set has bits
+pub some_tokens : (terminals : List TerminalString) (set : Bits) → rising set ≢ [] → tokens_in terminals set ≢ []
+some_tokens terminals set some none = some (mapped_nil (token_of terminals) (rising set) none)
+
+-- what holds on success holds where there was one
+pub on_ok : {T E P : Type 0} → (r : Result T E) → is_ok r ≡ true → OnOk r P → P
+on_ok (Ok x) good holds = holds
+on_ok (Err e) good holds = absurd (true≢false (sym good))
+
+-- a text that grew by what was written
+pub text_after : {A T E : Type 0} (r : Result T E) (old new : String A) (written : List ℕ) → is_ok r ≡ true →
+    OnOk r (WritesInCalls (λ (s : String A) (bytes : List ℕ) (t : String A). string_bytes t ≡ string_bytes s ++ bytes) old written new) → string_bytes new ≡ string_bytes old ++ written
+text_after r old new written good wrote = contents_after_writes _ string_bytes (λ s bytes t e. e) old written new (on_ok r good wrote)
+
+-- without tokens there is no line
+pub no_line : (terminals : List TerminalString) (bits : List ℕ) (told : Bool) → (bits ≢ [] → told ≡ true) → told ≡ false → tokens_line (map (token_of terminals) bits) ≡ []
+no_line terminals [] told some none = refl
+no_line terminals (b ∷ bits) told some none = absurd (true≢false (sym (some (λ e. cc)) ∙ none))
+
+-- a text that grew by the text of one item more
+pub one_more : {X : Type 0} (f : X → List ℕ) (xs : List X) (i : ℕ) (x : X) (start now next : List ℕ) → i < length xs → x ≡ get_or xs i x → now ≡ start ++ flat_map f (take i xs) → next ≡ now ++ f x →
+    next ≡ start ++ flat_map f (take (i + 1) xs)
+one_more f xs i x start now next inside same so_far grew =
+    grew ∙ ap (λ text. text ++ f x) so_far ∙ append_assoc start (flat_map f (take i xs)) (f x) ∙ ap (λ text. start ++ text) (ap (λ y. flat_map f (take i xs) ++ f y) same ∙ flat_map_more f (flat_map f []) (take i xs) (get_or xs i x) ∙ ap (flat_map f) (sym (take_more xs i x inside)))
+
+-- the blocks of the conflicts at the places of a list are those of the list
+pub blocks_at_places : {C : Type 0} (block : C → List ℕ) (at : Option C → List ℕ) (conflicts : List C) (places : List ℕ) (own : List C) → ((c : C) → at (Some c) ≡ block c) →
+    map (slice_get conflicts) places ≡ map (λ (c : C). Some c) own → flat_map (λ place. at (slice_get conflicts place)) places ≡ flat_map block own
+blocks_at_places block at conflicts [] [] each same = refl
+blocks_at_places block at conflicts [] (c ∷ own) each same = cc
+blocks_at_places block at conflicts (p ∷ places) [] each same = cc
+blocks_at_places block at conflicts (p ∷ places) (c ∷ own) each same =
+    let here : slice_get conflicts p ≡ Some c = cc in
+    let later : map (slice_get conflicts) places ≡ map (λ (d : _). Some d) own = cc in
+    ap (λ t. t ++ flat_map (λ place. at (slice_get conflicts place)) places) (ap at here ∙ each c) ∙ ap (λ t. block c ++ t) (blocks_at_places block at conflicts places own each later)
+
+-- two pieces, one after the other
+pub two_pieces : (start first second a b : List ℕ) → first ≡ start ++ a → second ≡ first ++ b → second ≡ start ++ (a ++ b)
+two_pieces start first second a b e f = f ∙ ap (λ t. t ++ b) e ∙ append_assoc start a b
+
+-- six pieces, one after another
+pub six_pieces : (start t1 t2 t3 t4 t5 t6 a b c d e f : List ℕ) → t1 ≡ start ++ a → t2 ≡ t1 ++ b → t3 ≡ t2 ++ c → t4 ≡ t3 ++ d → t5 ≡ t4 ++ e → t6 ≡ t5 ++ f →
+    t6 ≡ start ++ (a ++ (b ++ (c ++ (d ++ (e ++ f)))))
+six_pieces start t1 t2 t3 t4 t5 t6 a b c d e f p q r s t u =
+    two_pieces start t1 t6 a _ p (two_pieces t1 t2 t6 b _ q (two_pieces t2 t3 t6 c _ r (two_pieces t3 t4 t6 d _ s (two_pieces t4 t5 t6 e f t u))))
+
+-- three pieces, one after another
+pub three_pieces : (start t1 t2 t3 a b c : List ℕ) → t1 ≡ start ++ a → t2 ≡ t1 ++ b → t3 ≡ t2 ++ c → t3 ≡ start ++ (a ++ (b ++ c))
+three_pieces start t1 t2 t3 a b c p q r = two_pieces start t1 t3 a _ p (two_pieces t1 t2 t3 b c q r)
+
+-- four pieces, one after another
+pub four_pieces : (start t1 t2 t3 t4 a b c d : List ℕ) → t1 ≡ start ++ a → t2 ≡ t1 ++ b → t3 ≡ t2 ++ c → t4 ≡ t3 ++ d → t4 ≡ start ++ (a ++ (b ++ (c ++ d)))
+four_pieces start t1 t2 t3 t4 a b c d p q r s = two_pieces start t1 t4 a _ p (three_pieces t1 t2 t3 t4 b c d q r s)
+
+-- the texts of one item more
+pub mapped_more : {X Y : Type 0} (f : X → Y) (xs : List X) (i : ℕ) (x : X) → i < length xs → x ≡ get_or xs i x → map f (take (i + 1) xs) ≡ map f (take i xs) ++ f x ∷ []
+mapped_more f xs i x inside same = ap (map f) (take_more xs i x inside) ∙ map-append f (take i xs) (get_or xs i x ∷ []) ∙ ap (λ y. map f (take i xs) ++ f y ∷ []) (sym same)

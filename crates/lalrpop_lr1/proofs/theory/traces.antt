@@ -1,0 +1,20 @@
+-- Backtraces, their graphs and their example paths.
+pub mod Counting
+pub mod FilteredWalks
+pub mod KnownLabels
+pub mod Meetings
+pub mod Nullable
+pub mod PathLists
+pub mod Paths
+pub mod PathsExact
+pub mod PathsLeft
+pub mod SpelledDerivations
+pub mod Spelling
+pub mod TraceGraphs
+pub mod TraceOrder
+pub mod TraceOrderOne
+pub mod TraceSteps
+pub mod TracedRightSides
+pub mod TracedWalks
+pub mod Traces
+pub mod Walks

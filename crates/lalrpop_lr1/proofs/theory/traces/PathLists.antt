@@ -1,0 +1,42 @@
+-- Lists of lists without repeats.
+use Rattle.std.proofs.Common.{◌≡◌, inl, inr, List, [], ◌∷◌, ◌++◌, reverse, sym, ◌∙◌, ap, subst, append_assoc}
+use Rattle.std.specs.Prelude.{Contains}
+use Rattle.std.specs.List.{flat_map}
+use Rattle.std.proofs.lemmas.List.{reverse-append, reverse-reverse}
+use Rattle.std.proofs.lemmas.List.Sorted.{IsPermutation-reverse, Contains-permutation}
+use mathlib.Core.List.{tail-eq_of_cons-eq}
+use Rattle.lalrpop_base.proofs.theory.lists.Lists.{contains-cons, contains-nil}
+use Rattle.lalrpop_lr1.proofs.theory.inlining.InlineApart.{Apart, Apart-append}
+use Rattle.lalrpop_lr1.proofs.theory.inlining.InlineMembers.{from_flat_map}
+
+pub in_reverse : {A : Type 0} (xs : List A) (x : A) → Contains xs x → Contains (reverse xs) x
+in_reverse xs x c = Contains-permutation xs (reverse xs) x (IsPermutation-reverse xs) c
+
+pub from_reverse : {A : Type 0} (xs : List A) (x : A) → Contains (reverse xs) x → Contains xs x
+from_reverse {A} xs x c = subst (λ (ys : List A). Contains ys x) (reverse-reverse xs) (in_reverse (reverse xs) x c)
+
+pub apart_one : {A : Type 0} (x : A) → Apart (x ∷ [])
+apart_one x = (λ c. contains-nil c, tt)
+
+pub apart_reverse : {A : Type 0} (xs : List A) → Apart xs → Apart (reverse xs)
+apart_reverse [] h = tt
+apart_reverse {A} (x ∷ xs) h =
+    subst Apart (sym (reverse-append (x ∷ []) xs))
+    (Apart-append (reverse xs) (x ∷ []) (apart_reverse xs h.1) (apart_one x)
+    (λ y c d. elim (contains-cons x [] y d) [ inl e ↦ h.0 (subst (λ (z : A). Contains xs z) (sym e) (from_reverse xs y c)) | inr n ↦ contains-nil n ]))
+
+-- lists that are joined repeat nothing where none does, and no two have an element in common
+pub apart_flat_map : {A B : Type 0} (f : A → List B) (xs : List A) → Apart xs → ((x : A) → Apart (f x)) → ((x y : A) (p : B) → Contains (f x) p → Contains (f y) p → x ≡ y) → Apart (flat_map f xs)
+apart_flat_map f [] h each differ = tt
+apart_flat_map {A} {B} f (x ∷ xs) h each differ =
+    Apart-append (f x) (flat_map f xs) (each x) (apart_flat_map f xs h.1 each differ)
+    (λ p c d. let r = from_flat_map f xs p d in h.0 (subst (λ (z : A). Contains xs z) (sym (differ x r.0 p c r.2)) r.1))
+
+-- the same beginning is taken off
+pub same_behind : {A : Type 0} (front xs ys : List A) → front ++ xs ≡ front ++ ys → xs ≡ ys
+same_behind [] xs ys e = e
+same_behind (z ∷ front) xs ys e = same_behind front xs ys (tail-eq_of_cons-eq e)
+
+-- an element at the end of a beginning stands before what follows
+pub reverse_more : {A : Type 0} (x : A) (xs rest : List A) → reverse (x ∷ xs) ++ rest ≡ reverse xs ++ (x ∷ rest)
+reverse_more x xs rest = ap (λ ys. ys ++ rest) (reverse-append (x ∷ []) xs) ∙ append_assoc (reverse xs) (x ∷ []) rest

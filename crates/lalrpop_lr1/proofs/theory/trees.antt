@@ -1,0 +1,5 @@
+-- Parse trees, walked from the left.
+pub mod DroppedTrees
+pub mod TreeLeaves
+pub mod TreeSteps
+pub mod TreeViews

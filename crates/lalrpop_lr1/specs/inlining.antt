@@ -1,0 +1,8 @@
+-- Nonterminals that are inlined.
+pub mod InlineChoices
+pub mod InlineOrder
+pub mod InlineRefusals
+pub mod InlineSteps
+pub mod InlineUsers
+pub mod InlineWalks
+pub mod Inlined

@@ -1,0 +1,28 @@
+-- What is promised from a grammar to its trees: that LR(1) grammars have deterministic parsers (Knuth 1965), in this library's words.
+use Rattle.std.specs.Prelude.{◌≡◌, ℕ, ◌≤◌, List, Result, IfOk, IfErr}
+use Rattle.lalrpop_base.specs.Words.{Bits, contents, HasOutcome, beside, no_trees, leaves, nodes, IsLR1, IsLALR1, productions}
+use Rattle.lalrpop_base.specs.declared.lr1_core.state.State.{State}
+use Rattle.lalrpop_base.specs.declared.repr.NonterminalString.{NonterminalString}
+use Rattle.lalrpop_base.specs.declared.repr.TerminalString.{TerminalString}
+use Rattle.lalrpop_base.specs.declared.repr.grammar.Grammar.{Grammar}
+use Rattle.lalrpop_tables.specs.Words.{Collapses, AreTablesOf}
+use Rattle.lalrpop_tables.specs.declared.build.options.Options.{Options}
+use Rattle.lalrpop_lr1.specs.runs.FaithfulAnswers.{IsCutOff}
+use Rattle.lalrpop_lr1.specs.runs.ParseAnswers.{IsOutcomeTold, IfLimitTold}
+use Rattle.lalrpop_lr1.specs.trees.ParseTrees.{tree_of}
+use Rattle.lalrpop_lr1.specs.declared.headline.parse_error.ParseError.{ParseError}
+use Rattle.lalrpop_lr1.specs.declared.interpret.tree.ParseTree.{ParseTree}
+
+-- the grammar is LR(1), or LALR(1) where its states are collapsed
+pub record IsAccepted (collapsed : Type 0) (g : Grammar) (start : NonterminalString) : Type 0 where
+  pub lr1 : ¬ collapsed → IsLR1 (productions g) start
+  pub lalr1 : collapsed → IsLALR1 (productions g) start
+
+-- the answer tells what the run by the grammar's tables comes to. A tree has the list as its leaves, and its nodes are within the limit
+pub record IsToldByTables (g : Grammar) (options : Options) (start : NonterminalString) (w : List TerminalString) (limit : ℕ) (answer : Result ParseTree ParseError) : Type 0 where
+  pub tables : List (State Bits)
+  pub made : AreTablesOf (Collapses g options) options.method options.max_copies g start tables
+  pub told : IsOutcomeTold (HasOutcome (contents g.terminals tables) w limit) answer
+  pub of_list : IfOk answer (λ tree. leaves (beside (tree_of tree) no_trees) ≡ w)
+  pub within : IfOk answer (λ tree. nodes (beside (tree_of tree) no_trees) ≤ limit)
+  pub cut_off : IfErr answer (IfLimitTold (IsCutOff (contents g.terminals tables) w limit))

@@ -1,0 +1,9 @@
+-- Backtraces, their graphs and their example paths.
+pub mod Examples
+pub mod Meetings
+pub mod NodeItems
+pub mod Paths
+pub mod TraceGraphs
+pub mod TraceOrder
+pub mod Traces
+pub mod Walks

@@ -1,0 +1,4 @@
+-- Parse trees, walked from the left.
+pub mod EqualTrees
+pub mod ParseTrees
+pub mod TreeSteps

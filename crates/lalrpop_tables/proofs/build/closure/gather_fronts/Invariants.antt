@@ -1,8 +1,0 @@
-use Rattle.std.proofs.Common.{take}
-use Rattle.lalrpop_tables.specs.Entries.{GathersMore}
-use Rattle.lalrpop_tables.specs.Sharing.{with_tokens}
-use Rattle.lalrpop_tables.specs.Words.{readings}
-use Rattle.lalrpop_tables.proofs.build.closure.gather_fronts.Given as goal
-
-abbrev pub invariant-loop-number : goal.invariant-loop-number
-invariant-loop-number g l = GathersMore (with_tokens (g.L.Lookahead.meaning l.tokens) (take l.number-index l.fronts)) (readings g.L.Lookahead.meaning l.fn.table.entries) (readings g.L.Lookahead.meaning l.table.entries)

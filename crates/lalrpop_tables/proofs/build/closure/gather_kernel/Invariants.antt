@@ -1,8 +1,0 @@
-use Rattle.std.proofs.Common.{take}
-use Rattle.lalrpop_tables.specs.Entries.{GathersMore}
-use Rattle.lalrpop_tables.specs.Sharing.{parts_in}
-use Rattle.lalrpop_tables.specs.Words.{readings}
-use Rattle.lalrpop_tables.proofs.build.closure.gather_kernel.Given as goal
-
-abbrev pub invariant-loop-item : goal.invariant-loop-item
-invariant-loop-item g l = GathersMore (parts_in g.L.Lookahead.meaning (take l.item-index l.kernel)) (readings g.L.Lookahead.meaning l.fn.table.entries) (readings g.L.Lookahead.meaning l.table.entries)

@@ -1,6 +1,0 @@
-use Rattle.std.proofs.Common.{◌≡◌, take, map}
-use Rattle.lalrpop_tables.specs.Words.{reductions_of, seen}
-use Rattle.lalrpop_tables.proofs.build.reductions.reductions.Given as goal
-
-abbrev pub invariant-loop-item : goal.invariant-loop-item
-invariant-loop-item g l = map seen l.reductions.items ≡ reductions_of (take l.item-index l.items)

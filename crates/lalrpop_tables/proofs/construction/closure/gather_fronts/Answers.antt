@@ -1,0 +1,30 @@
+use Rattle.std.proofs.Common.{◌≡◌, ◌+◌, ◌++◌, ◌∷◌, [], ℕ, sym, subst, take, map, List}
+use Rattle.std.specs.Prelude.{get_or}
+use Rattle.std.proofs.lemmas.List.{take_all}
+use Rattle.lalrpop_base.specs.Words.{Bits}
+use Rattle.lalrpop_base.specs.lists.Entries.{GathersMore}
+use Rattle.lalrpop_tables.specs.closures.Sharing.{with_tokens}
+use Rattle.lalrpop_base.specs.Words.{readings}
+use Rattle.lalrpop_base.proofs.theory.lists.Gathering.{More-none, More-one, More-then}
+use Rattle.lalrpop_base.proofs.theory.closures.Readings.{readings_differ}
+use Rattle.lalrpop_tables.proofs.theory.closures.SharedItems.{mapped_more, read_within}
+use Rattle.lalrpop_tables.proofs.construction.closure.gather_fronts.Goals as goal
+
+pub loop-number-init : goal.loop-number-init
+loop-number-init g c = More-none _
+
+pub loop-number-preserved : goal.loop-number-preserved
+loop-number-preserved g c =
+    let m = g.L.Lookahead.meaning in
+    let xs : List ℕ = c.args.fronts.now in
+    let i = c.loop-number.number-index in
+    let x = get_or xs i 0 in
+    let part : ℕ → ℕ × Bits = λ k. (k, m c.args.tokens.now) in
+    let more : map part (take (i + 1) xs) ≡ map part (take i xs) ++ part x ∷ [] = mapped_more part xs i x c.loop-number-test.true (read_within xs i c.loop-number-test.true) in
+    let one = More-one x (m c.args.tokens.now) c.in_ok-add_tokens.field-0 _ _ c.in_ok-add_tokens.ensures.joined (readings_differ m _ c.in_ok-add_tokens.ensures.differ) in
+    subst (λ (ps : List (ℕ × Bits)). GathersMore ps (readings m c.args.table.now.entries) (readings m c.add_tokens.new.map.entries)) (sym more) (More-then (map part (take i xs)) (part x ∷ []) _ _ _ c.loop-number.invariant one)
+
+pub returns : goal.returns
+returns g c =
+    let m = g.L.Lookahead.meaning in
+    subst (λ (xs : List ℕ). GathersMore (with_tokens (m c.args.tokens.now) xs) (readings m c.args.table.now.entries) (readings m c.loop-number.table.entries)) (take_all c.loop-number.number-index c.args.fronts.now c.loop-number-test.false) c.loop-number.invariant

@@ -1,0 +1,57 @@
+use Rattle.std.proofs.Common.{◌≡◌, ◌∙◌, ap, subst, refl, length, Some, arith, ◌+◌, drop}
+use Rattle.std.specs.Prelude.{slice_get}
+use Rattle.std.proofs.lemmas.Result.{IfOk-weaker}
+use Rattle.lalrpop_base.specs.Words.{Bits, Dotted}
+use Rattle.lalrpop_base.specs.declared.lookahead.nil.Nil.{Nil}
+use Rattle.lalrpop_tables.proofs.theory.grammars.Numbers.{finished}
+use Rattle.lalrpop_base.proofs.theory.lists.Places.{slice_get_at}
+use Rattle.lalrpop_tables.proofs.theory.closures.SharedItems.{read_item, rest_known, Finished-shares, Terminal-shares, Restless-shares, rest_is, Barren-shares, Given-shares}
+use Rattle.lalrpop_tables.proofs.construction.closure.share.Goals as goal
+
+pub returns-in_default : goal.returns-in_default
+returns-in_default g c =
+    let counted = c.requires.numbers.counted in
+    let at = slice_get_at c.args.numbers.now.behind.items c.args.number c.index.result.now (omega (arith, c.requires.known)) c.index.ensures in
+    Finished-shares _ _ _ _ c.requires.numbers c.args.number _ (finished c.args.lr.now.construction.rules c.args.numbers.now c.requires.numbers {L = Bits} (record { number = c.args.number; lookahead = g.L.Lookahead.meaning c.args.tokens.now }) (at ∙ ap Some c.in_default.is)) _ _
+
+pub returns-in_default-index : goal.returns-in_default-index
+returns-in_default-index g c =
+    let counted = c.requires.numbers.rests.counted in
+    let at = slice_get_at c.args.numbers.now.rests.items c.args.number c.index-2.result.now (omega (arith, c.requires.known)) c.index-2.ensures in
+    Restless-shares _ _ _ _ c.requires.numbers c.args.number _ c.requires.known (at ∙ ap Some c.in_default-index.is) _ _
+
+pub returns-in_default-shift_symbol : goal.returns-in_default-shift_symbol
+returns-in_default-shift_symbol g c =
+    let e = read_item c.args.numbers.now.items.items c.args.number c.index-3.result.now c.requires.known c.index-3.ensures in
+    Finished-shares _ _ _ _ c.requires.numbers c.args.number _ (subst (λ (i : Dotted Nil). i.index ≡ length i.production.symbols) e (c.in_default-shift_symbol.ensures.none refl)) _ _
+
+pub returns-in_default-next : goal.returns-in_default-next
+returns-in_default-next g c =
+    let e = read_item c.args.numbers.now.items.items c.args.number c.index-3.result.now c.requires.known c.index-3.ensures in
+    Terminal-shares _ _ _ _ c.requires.numbers c.args.number _ c.in-Some-shift_symbol.next.now (subst (λ (i : Dotted Nil). slice_get i.production.symbols i.index ≡ Some c.in-Some-shift_symbol.next.now) e c.in-Some-shift_symbol.ensures.next) (λ name is. let no = c.in_default-next.is in cc) _ _
+
+pub given-requires : goal.given-requires
+given-requires g c =
+    let e = read_item c.args.numbers.now.items.items c.args.number c.index-3.result.now c.requires.known c.index-3.ensures in
+    let is = subst (λ (i : Dotted Nil). c.in-Some-shift_symbol.remainder.now ≡ drop (i.index + 1) i.production.symbols) e c.in-Some-shift_symbol.ensures.rest in
+    let counted = c.requires.numbers.rests.counted in
+    let at = slice_get_at c.args.numbers.now.rests.items c.args.number c.index-2.result.now (omega (arith, c.requires.known)) c.index-2.ensures in
+    record {
+      known = rest_known c.grammar-grammar.result.now c.args.lr.now.construction.rules c.args.numbers.now c.requires.numbers c.grammar-grammar.ensures.rules c.grammar-grammar.ensures.well_formed c.args.number c.requires.known c.in-Some-shift_symbol.remainder.now is;
+      rest = rest_is g.L.LookaheadBuild.begins g.L.LookaheadBuild.passes c.args.lr.now.construction.rules c.args.numbers.now c.requires.numbers c.args.number (g.L.Lookahead.meaning c.args.tokens.now) c.requires.known c.in-Some-index.rest (at ∙ ap Some c.in-Some-index.is) c.in-Some-shift_symbol.remainder.now is;
+    }
+
+pub returns-in_default-2 : goal.returns-in_default-2
+returns-in_default-2 g c =
+    let e = read_item c.args.numbers.now.items.items c.args.number c.index-3.result.now c.requires.known c.index-3.ensures in
+    let next = subst (λ (i : Dotted Nil). slice_get i.production.symbols i.index ≡ Some c.in-Some-shift_symbol.next.now) e c.in-Some-shift_symbol.ensures.next in
+    Barren-shares _ _ _ _ c.requires.numbers c.args.number _ c.in-Nonterminal.name (next ∙ ap Some c.in-Nonterminal.is) (rw c.in_default-2.is at c.in_ok-given.ensures.given) _ _
+
+pub returns : goal.returns
+returns g c =
+    let counted = c.requires.numbers.counted in
+    let at = slice_get_at c.args.numbers.now.behind.items c.args.number c.index.result.now (omega (arith, c.requires.known)) c.index.ensures in
+    let e = read_item c.args.numbers.now.items.items c.args.number c.index-3.result.now c.requires.known c.index-3.ensures in
+    let next = subst (λ (i : Dotted Nil). slice_get i.production.symbols i.index ≡ Some c.in-Some-shift_symbol.next.now) e c.in-Some-shift_symbol.ensures.next in
+    let is = subst (λ (i : Dotted Nil). c.in-Some-shift_symbol.remainder.now ≡ drop (i.index + 1) i.production.symbols) e c.in-Some-shift_symbol.ensures.rest in
+    IfOk-weaker c.add_shared.result _ _ (λ _ queued. Given-shares _ _ _ _ c.requires.numbers c.args.number _ c.in-Some.symbol c.in-Nonterminal.name c.in-Some-shift_symbol.remainder.now c.requires.known (at ∙ ap Some c.in-Some.is) (next ∙ ap Some c.in-Nonterminal.is) is g.L.Lookahead.meaning c.args.tokens.now c.in-Some-2.given refl (rw c.in-Some-2.is at c.in_ok-given.ensures.given) _ _ _ _ queued) c.add_shared.ensures

@@ -1,0 +1,36 @@
+use Rattle.std.proofs.Common.{◌≡◌, ◌∙◌, ◌+◌, ◌++◌, ◌∷◌, [], ap, sym, subst, take, map, List}
+use Rattle.std.proofs.lemmas.List.{take_all, map-append}
+use Rattle.lalrpop_base.specs.Words.{Bits, Dotted}
+use Rattle.lalrpop_tables.specs.grammars.Numbers.{item_by, items_by}
+use Rattle.lalrpop_tables.specs.closures.Sharing.{Shares}
+use Rattle.lalrpop_base.specs.Words.{meant, readings}
+use Rattle.lalrpop_tables.specs.declared.construction.numbered.Numbered.{Numbered}
+use Rattle.lalrpop_base.proofs.theory.lists.Members.{Contains-none}
+use Rattle.lalrpop_tables.proofs.theory.closures.SharedItems.{mapped_more}
+use Rattle.lalrpop_tables.proofs.theory.closures.Sharing.{Shares-nothing, Shares-then}
+use Rattle.lalrpop_tables.proofs.construction.closure.share_kernel.Goals as goal
+
+pub loop-item-init : goal.loop-item-init
+loop-item-init g c = Shares-nothing g.L.LookaheadBuild.begins g.L.LookaheadBuild.passes c.args.lr.now.construction.rules c.args.numbers.now [] _ _ (λ i h. absurd (Contains-none i h))
+
+pub share-requires-clause-known : goal.share-requires-clause-known
+share-requires-clause-known g c = c.requires.known c.item-item.result (c.loop-item.item-index, c.loop-item-test.true, sym c.item-item.is)
+
+pub loop-item-preserved : goal.loop-item-preserved
+loop-item-preserved g c =
+    let m = g.L.Lookahead.meaning in
+    let items = c.args.numbers.now.items.items in
+    let xs : List (Numbered g.row.L.Denot) = c.args.kernel.now in
+    let i = c.loop-item.item-index in
+    let one : Dotted Bits = meant m (item_by items c.item-item.result) in
+    let more : map (meant m) (items_by items (take (i + 1) xs)) ≡ map (meant m) (items_by items (take i xs)) ++ one ∷ [] =
+    ap (map (meant m)) (mapped_more (item_by items) xs i c.item-item.result c.loop-item-test.true c.item-item.is) ∙ map-append (meant m) (items_by items (take i xs)) (item_by items c.item-item.result ∷ []) in
+    subst (λ (is : List (Dotted Bits)). Shares g.L.LookaheadBuild.begins g.L.LookaheadBuild.passes c.args.lr.now.construction.rules c.args.numbers.now is (readings m c.args.shared.now.entries) (readings m c.share.new.shared.entries) c.args.queue.now.items c.share.new.queue.items) (sym more)
+    (Shares-then g.L.LookaheadBuild.begins g.L.LookaheadBuild.passes c.args.lr.now.construction.rules c.args.numbers.now (map (meant m) (items_by items (take i xs))) (one ∷ []) _ _ _ _ _ _ c.loop-item.invariant c.in_ok-share.ensures)
+
+pub returns : goal.returns
+returns g c =
+    let m = g.L.Lookahead.meaning in
+    let items = c.args.numbers.now.items.items in
+    subst (λ (xs : List (Numbered g.row.L.Denot)). Shares g.L.LookaheadBuild.begins g.L.LookaheadBuild.passes c.args.lr.now.construction.rules c.args.numbers.now (map (meant m) (items_by items xs)) (readings m c.args.shared.now.entries) (readings m c.loop-item.shared.entries) c.args.queue.now.items c.loop-item.queue.items)
+    (take_all c.loop-item.item-index c.args.kernel.now c.loop-item-test.false) c.loop-item.invariant

@@ -1,0 +1,23 @@
+use Rattle.std.proofs.Common.{sym, subst}
+use Rattle.std.specs.Prelude.{Contains}
+use Rattle.std.proofs.lemmas.Result.{IfOk-weaker}
+use Rattle.lalrpop_base.specs.Words.{IsFirstSetBefore, FitsTokens, Rules, HasKnownTerminals}
+use Rattle.lalrpop_base.specs.declared.repr.Production.{Production}
+use Rattle.lalrpop_tables.proofs.theory.closures.EpsilonMoves.{First-holds}
+use Rattle.lalrpop_base.proofs.theory.grammars.Grammars.{known_symbols}
+use Rattle.lalrpop_tables.proofs.construction.epsilon_moves.TokenSetLookaheadBuild.epsilon_moves.Goals as goal
+
+pub returns : goal.returns
+returns c =
+    let rules : Rules = c.args.lr.now.construction.rules in
+    let same = c.first_sets.ensures in
+    let first : IsFirstSetBefore rules c.args.remainder.now c.args.lookahead.now c.in_ok-given.given = rw same at c.in_ok-given.ensures.first in
+    let fits : FitsTokens rules.terminals c.args.lookahead.now → FitsTokens rules.terminals c.in_ok-given.given = rw same at c.in_ok-given.ensures.fits in
+    let known : (p : Production) → Contains rules.productions p → HasKnownTerminals rules.terminals p.symbols = λ p among.
+    subst (λ (r : Rules). HasKnownTerminals r.terminals p.symbols) c.grammar-grammar.ensures.rules (known_symbols c.grammar-grammar.result.now p c.grammar-grammar.ensures.well_formed (subst (λ (r : Rules). Contains r.productions p) (sym c.grammar-grammar.ensures.rules) among)) in
+    let given = IfOk-weaker c.begun_items.result _ _ (λ items begun. record {
+      given = c.in_ok-given.given;
+      begun = begun;
+      is = record { fits = fits; holds = First-holds rules known c.args.remainder.now c.requires.known c.args.lookahead.now c.in_ok-given.given first };
+    }) c.begun_items.ensures in
+    record { moves = given }

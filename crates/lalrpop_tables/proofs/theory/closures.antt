@@ -1,0 +1,6 @@
+-- Closures of kernels.
+pub mod EpsilonMoves
+pub mod SharedItems
+pub mod Sharing
+pub mod TokenTables
+pub mod Unfolded

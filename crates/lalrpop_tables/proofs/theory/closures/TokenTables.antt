@@ -1,0 +1,111 @@
+-- What the construction makes with sets of tokens: closures with FIRST, and conflicts of tokens.
+use Rattle.std.proofs.Common.{◌≡◌, ℕ, zero, suc, List, [], ◌∷◌, ◌++◌, map, refl, sym, subst}
+use Rattle.std.specs.Prelude.{Contains, slice_get, drop, Some}
+use Rattle.std.specs.List.{flat_map}
+use Rattle.lalrpop_base.specs.Words.{Bits, InTokenClosure, with_token, begins_rest, inherits, IsNullable, Dotted, state_conflicts, Rules}
+use Rattle.lalrpop_base.specs.declared.lookahead.token.Token.{Token}
+use Rattle.lalrpop_base.specs.declared.lookahead.token.Token.TheVariants.{Eof, Error, Terminal as TokenOf}
+use Rattle.lalrpop_base.specs.declared.lr1_core.state.BuildError.{BuildError}
+use Rattle.lalrpop_base.specs.declared.lr1_core.state.BuildError.TheVariants.{Conflicts, Memory}
+use Rattle.lalrpop_base.specs.declared.lr1_core.state.Conflict.{Conflict}
+use Rattle.lalrpop_base.specs.declared.lr1_core.state.State.{State}
+use Rattle.lalrpop_base.specs.declared.repr.Production.{Production}
+use Rattle.lalrpop_base.specs.declared.repr.Symbol.{Symbol}
+use Rattle.lalrpop_base.specs.declared.repr.Symbol.TheVariants.{Nonterminal}
+use Rattle.lalrpop_base.specs.declared.repr.TerminalString.{TerminalString}
+use Rattle.lalrpop_base.proofs.theory.conflicts.ConflictLemmas.{none_exactly}
+use Rattle.lalrpop_base.specs.closures.Closure.{itself}
+use Rattle.lalrpop_base.specs.Words.{Begins, IsClosureOf, IsClosureBy, InTokenClosureBy, own_token, from_rest, from_parent, HaveNoConflict, ListsAll}
+use Rattle.lalrpop_tables.specs.Words.{Construction, AreStatesOf, AreStatesFor, AreTables, AreTablesFor, FailsBy, FailsFor, begun, AreBuiltBy}
+use Rattle.lalrpop_tables.proofs.theory.conflicts.ConflictLists.{All-listed}
+use Rattle.lalrpop_base.proofs.theory.lists.Places.{same_some}
+
+-- symbols let tokens pass where they are nullable
+abbrev pub Passes : Rules → List Symbol → Type 0
+Passes g rest = IsNullable g.productions rest
+
+abbrev pub Lists : State Bits → List TerminalString → List (Conflict Bits) → Type 0
+Lists s terminals list = list ≡ state_conflicts terminals s
+
+-- ---- the tokens of a closure
+module _ (g : Rules) (items : Production → ℕ → Type 0) (kernel : Production → ℕ → Token → Type 0) where
+  begun_token : (t : Token) {p : Production} {dot : ℕ} (q : Production) (after : List Symbol) → items p dot → drop dot p.symbols ≡ Nonterminal q.nonterminal ∷ after → Contains g.productions q → Begins g after t → InTokenClosure g.productions items kernel q 0 t
+  begun_token Eof q after i e c b = absurd b
+  begun_token Error q after i e c b = absurd b
+  begun_token (TokenOf t) q after i e c b = begins_rest q after i e c b
+
+  with_first : {p : Production} {dot : ℕ} {t : Token} → InTokenClosureBy (Begins g) (Passes g) g.productions items kernel p dot t → InTokenClosure g.productions items kernel p dot t
+  with_first (own_token k) = with_token k
+  with_first (from_rest {t} q after i e c b) = begun_token t q after i e c b
+  with_first (from_parent q after h e c n) = inherits q after (with_first h) e c n
+
+  without_first : {p : Production} {dot : ℕ} {t : Token} → InTokenClosure g.productions items kernel p dot t → InTokenClosureBy (Begins g) (Passes g) g.productions items kernel p dot t
+  without_first (with_token k) = own_token k
+  without_first (begins_rest q after i e c b) = from_rest q after i e c b
+  without_first (inherits q after h e c n) = from_parent q after (without_first h) e c n
+
+pub closed : (g : Rules) (kernel items : List (Dotted Bits)) → IsClosureBy itself Begins Passes g kernel items → IsClosureOf g kernel items
+closed g kernel items c = record {
+  are_items = c.are_items;
+  ascend = c.ascend;
+  begun = c.begun;
+  exact = c.exact;
+  tokens = λ p dot t. (λ h. with_first g _ _ ((c.tokens p dot t).0 h), λ h. (c.tokens p dot t).1 (without_first g _ _ h));
+}
+
+-- ---- the states
+built_by : {L : Type 0} (C D : List (Dotted L) → List (Dotted L) → Type 0) → ((kernel items : List (Dotted L)) → C kernel items → D kernel items) → (first : List (Dotted L)) (states : List (State L)) → AreBuiltBy C first states → AreBuiltBy D first states
+built_by C D grows first states b = record {
+  kernels = b.kernels;
+  counted = b.counted;
+  differ = b.differ;
+  start = b.start;
+  each = λ n state at.
+      let e = b.each n state at in
+      record {
+        kernel = e.kernel;
+        numbered = e.numbered;
+        built = record {
+          index = e.built.index;
+          closure = grows e.kernel state.items.vec.items e.built.closure;
+          leads = e.built.leads;
+          all = e.built.all;
+          ascend = e.built.ascend;
+          finished = e.built.finished;
+        };
+      };
+  led = b.led;
+}
+
+pub states_of : (c : Construction Bits) (states : List (State Bits)) → AreStatesFor itself Begins Passes Lists c states → AreStatesOf c states
+states_of c states s = record {
+  built = built_by (IsClosureBy itself Begins Passes c.rules) (IsClosureOf c.rules) (closed c.rules) (map (begun c.lookahead) c.first) states s.built;
+  some = s.some;
+  coherent = s.coherent;
+}
+
+-- ---- the conflicts
+module _ (terminals : List TerminalString) where
+  append_nil_left : {X : Type 0} (xs ys : List X) → xs ++ ys ≡ [] → xs ≡ []
+  append_nil_left [] ys e = refl
+  append_nil_left (x ∷ xs) ys e = cc
+
+  append_nil_right : {X : Type 0} (xs ys : List X) → xs ++ ys ≡ [] → ys ≡ []
+  append_nil_right [] ys e = e
+  append_nil_right (x ∷ xs) ys e = cc
+
+  none_at : (states : List (State Bits)) (k : ℕ) (s : State Bits) → flat_map (state_conflicts terminals) states ≡ [] → slice_get states k ≡ Some s → state_conflicts terminals s ≡ []
+  none_at [] k s e at = cc
+  none_at (t ∷ states) zero s e at = subst (λ (u : State Bits). state_conflicts terminals u ≡ []) (same_some t s at) (append_nil_left (state_conflicts terminals t) (flat_map (state_conflicts terminals) states) e)
+  none_at (t ∷ states) (suc k) s e at = none_at states k s (append_nil_right (state_conflicts terminals t) (flat_map (state_conflicts terminals) states) e) at
+
+  no_conflict : (states : List (State Bits)) → ListsAll Lists terminals states [] → HaveNoConflict terminals states
+  no_conflict states l k s at = (none_exactly terminals s).0 (none_at states k s (sym (All-listed state_conflicts terminals l)) at)
+
+-- ---- what is made of them
+pub Tables-of : (c : Construction Bits) (states : List (State Bits)) → AreTablesFor itself Begins Passes Lists c states → AreTables c states
+Tables-of c states t = record { made = states_of c states t.made; free = no_conflict c.rules.terminals states t.free }
+
+pub Fails-of : (c : Construction Bits) (error : BuildError Bits) → FailsFor itself Begins Passes Lists c error → FailsBy c error
+Fails-of c (Conflicts error) f = (states_of c error.states.items f.0, record { all = All-listed state_conflicts c.rules.terminals f.1; some = f.2 })
+Fails-of c Memory f = tt

@@ -1,0 +1,4 @@
+-- The conflicts of states.
+pub mod ConflictFree
+pub mod ConflictLists
+pub mod HeldShifts

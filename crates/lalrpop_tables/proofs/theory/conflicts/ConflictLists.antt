@@ -1,0 +1,41 @@
+-- The conflicts of states, one state more, and the states as an answer.
+use Rattle.std.proofs.Common.{◌≡◌, List, [], ◌∷◌, ◌++◌, map, refl, sym, ◌∙◌, ap}
+use Rattle.std.specs.List.{flat_map}
+use Rattle.std.proofs.lemmas.List.{append-nil}
+use Rattle.std.proofs.lemmas.Grind.{flat_map-append}
+use Rattle.lalrpop_base.specs.Words.{Bits, Rules}
+use Rattle.lalrpop_base.specs.declared.lookahead.token.Token.{Token}
+use Rattle.lalrpop_base.specs.declared.lr1_core.state.Conflict.{Conflict}
+use Rattle.lalrpop_base.specs.declared.lr1_core.state.State.{State}
+use Rattle.lalrpop_base.specs.declared.repr.Symbol.{Symbol}
+use Rattle.lalrpop_base.specs.declared.repr.TerminalString.{TerminalString}
+use Rattle.lalrpop_base.specs.Words.{IsClosureBy, ListsAll, more}
+use Rattle.lalrpop_tables.specs.Words.{Construction, AreStatesFor, begun, AreBuiltBy}
+use Rattle.lalrpop_base.specs.conflicts.AllConflicts.{none}
+use Rattle.lalrpop_tables.proofs.theory.states.Coherence.{Built-coherent, Built-some}
+use Rattle.lalrpop_tables.proofs.theory.states.Shifting.{begun_zero}
+
+module _ {L : Type 0} (lists : State L → List TerminalString → List (Conflict L) → Type 0) (terminals : List TerminalString) where
+  -- the conflicts of the states, and those of the next
+  pub Listed-more : (states grown : List (State L)) (state : State L) (old new : List (Conflict L)) → ListsAll lists terminals states old → (own : List (Conflict L)) × lists state terminals own × (new ≡ old ++ own) → grown ≡ states ++ state ∷ [] → ListsAll lists terminals grown new
+  Listed-more states grown state old new a o e = more state o.0 a o.1 e o.2
+
+-- where each state's conflicts are one list, so are all of them
+module _ {L : Type 0} (own : List TerminalString → State L → List (Conflict L)) (terminals : List TerminalString) where
+  pub All-listed : {states : List (State L)} {list : List (Conflict L)} → ListsAll (λ s ts cs. cs ≡ own ts s) terminals states list → list ≡ flat_map (own terminals) states
+  All-listed none = refl
+  All-listed (more {before} {all} {old} {new} state here h e s n) =
+      let f = own terminals in
+      let one : flat_map f (state ∷ []) ≡ f state = append-nil (f state) in
+      n ∙ ap (λ cs. cs ++ here) (All-listed h) ∙ ap (λ cs. flat_map f before ++ cs) (e ∙ sym one) ∙ sym (flat_map-append f before (state ∷ [])) ∙ ap (flat_map f) (sym s)
+
+-- ---- the states
+module _ {L : Type 0} (meaning : L → Bits) (begins : Rules → List Symbol → Token → Type 0) (passes : Rules → List Symbol → Type 0) (lists : State L → List TerminalString → List (Conflict L) → Type 0) (c : Construction L) where
+  pub States-of : (states : List (State L)) → AreBuiltBy (IsClosureBy meaning begins passes c.rules) (map (begun c.lookahead) c.first) states → AreStatesFor meaning begins passes lists c states
+  States-of states b =
+      let first = map (begun c.lookahead) c.first in
+      record {
+        built = b;
+        some = Built-some (IsClosureBy meaning begins passes c.rules) (λ k is x. x.begun) first states b;
+        coherent = Built-coherent (IsClosureBy meaning begins passes c.rules) (λ k is x. x.begun) first states b (begun_zero c.lookahead c.first);
+      }

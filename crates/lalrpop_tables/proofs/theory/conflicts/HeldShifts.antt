@@ -1,0 +1,103 @@
+-- The shifts whose terminals some reduction holds, and all reductions, are the actions that are asked for.
+use Rattle.std.proofs.Common.{◌≡◌, ◌∙◌, ◌↔◌, inl, inr, ℕ, Bool, true, false, cond, List, [], ◌∷◌, ◌++◌, map, refl, sym, ap, subst, append-nil}
+use Rattle.std.specs.Prelude.{Contains, IsTrue}
+use Rattle.std.specs.Borrow.{Bor}
+use Rattle.std.specs.List.{flat_map}
+use Rattle.std.proofs.lemmas.List.Elements.{Contains-append_left, Contains-append_right, Contains-append_cases}
+use Rattle.lalrpop_base.specs.Words.{Bits, has, HasToken, holds_token, join, no_bits, AllDiffer}
+use Rattle.lalrpop_base.specs.conflicts.StateConflicts.{Reduction}
+use Rattle.lalrpop_base.specs.declared.lookahead.token.Token.TheVariants.{Terminal as TokenOf}
+use Rattle.lalrpop_base.specs.declared.lr1_core.state.Action.{Action}
+use Rattle.lalrpop_base.specs.declared.lr1_core.state.Action.TheVariants.{Shift, Reduce}
+use Rattle.lalrpop_base.specs.declared.lr1_core.state.State.{State}
+use Rattle.lalrpop_base.specs.declared.lr1_core.state.StateIndex.{StateIndex}
+use Rattle.lalrpop_base.specs.declared.repr.Production.{Production}
+use Rattle.lalrpop_base.specs.declared.repr.TerminalString.{TerminalString}
+use Rattle.lalrpop_base.proofs.theory.states.ContentsViews.{contains_map, contains_of_map}
+use Rattle.lalrpop_base.proofs.theory.sets.HeldTokens.{holds_has}
+use Rattle.lalrpop_base.specs.conflicts.HeldShifts.{held_shift, IsHeldBit}
+use Rattle.lalrpop_tables.specs.Words.{AreActions, asked_actions, reduce_action}
+use Rattle.lalrpop_base.proofs.theory.lists.Bounded.{in_flat_map}
+use Rattle.lalrpop_tables.proofs.theory.follow_sets.FollowBits.{join_bits, no_bit}
+use Rattle.lalrpop_base.proofs.theory.grammars.KnownTerminals.{bit_held, held_bit}
+use Rattle.lalrpop_tables.proofs.theory.lanes.LaneAsked.{asked_of, IsAskedOf, reduction_asked, shift_asked}
+use Rattle.lalrpop_base.proofs.theory.lists.Members.{contains-cons, contains_head, Contains-none, of_flat}
+
+-- ---- the tokens of reductions, one more
+-- without reductions no bit is held
+pub held_none : (bits : Bits) → bits ≡ no_bits → (bit : ℕ) → IsTrue (has bits bit) ↔ IsHeldBit [] bit
+held_none bits empty bit = (λ h. absurd (no_bit bits bit empty h), λ h. absurd (Contains-none h.0 h.1))
+
+-- one reduction more adds its tokens
+pub held_more : (rs : List Reduction) (r : Reduction) (old : Bits) → ((bit : ℕ) → IsTrue (has old bit) ↔ IsHeldBit rs bit) → (bit : ℕ) → IsTrue (has (join old r.0) bit) ↔ IsHeldBit (rs ++ r ∷ []) bit
+held_more rs r old before bit = (
+  λ h. elim ((join_bits old r.0 bit).0 h) [
+    | inl there ↦ let f = (before bit).0 there in (f.0, Contains-append_left rs (r ∷ []) f.0 f.1, f.2)
+    | inr came ↦ (r, Contains-append_right rs (r ∷ []) r (contains_head r []), came)
+  ],
+  λ h. (join_bits old r.0 bit).1 (elim (Contains-append_cases rs (r ∷ []) h.0 h.1) [
+    | inl c ↦ inl ((before bit).1 (h.0, c, h.2))
+    | inr c ↦ elim (contains-cons r [] h.0 c) [
+      | inl same ↦ inr (subst (λ (q : Reduction). has q.0 bit ≡ true) (sym same) h.2)
+      | inr none ↦ absurd (Contains-none h.0 none)
+    ]
+  ]),
+)
+
+-- ---- one shift
+-- a test that does not answer true answers false
+not_true : (b : Bool) → (b ≡ true → ⊥) → b ≡ false
+not_true true none = absurd (none refl)
+not_true false none = refl
+
+module _ (terminals : List TerminalString) (differ : AllDiffer terminals) (held : Bits) (t : TerminalString) (target : StateIndex) where
+  -- a shift whose terminal is not held adds nothing
+  pub shift_passed : ¬ HasToken terminals held (TokenOf t) → (asked keys : List Action) → AreActions asked keys → AreActions (asked ++ held_shift terminals held (t, target)) keys
+  shift_passed none asked keys h =
+      let out = not_true (holds_token terminals held (TokenOf t)) (λ e. none ((holds_has terminals differ held (TokenOf t)).0 e)) in
+      subst (λ (xs : List Action). AreActions xs keys) (sym (ap (λ (b : Bool). asked ++ cond b (Shift t target ∷ []) []) out ∙ append-nil asked)) h
+
+  -- one whose terminal is held is taken
+  pub shift_taken : HasToken terminals held (TokenOf t) → (asked keys : List Action) → AreActions (asked ++ Shift t target ∷ []) keys → AreActions (asked ++ held_shift terminals held (t, target)) keys
+  shift_taken some asked keys h =
+      let yes = (holds_has terminals differ held (TokenOf t)).1 some in
+      subst (λ (xs : List Action). AreActions xs keys) (sym (ap (λ (b : Bool). asked ++ cond b (Shift t target ∷ []) []) yes)) h
+
+-- ---- all that is asked for
+module _ (terminals : List TerminalString) (state : State Bits) (held : Bits) (of : (bit : ℕ) → IsTrue (has held bit) ↔ IsHeldBit state.reductions.items bit) where
+  abbrev entries : List (TerminalString × StateIndex)
+  entries = state.shifts.entries
+
+  -- the shifts whose terminals are held, and all reductions
+  abbrev gathered : List Action
+  gathered = flat_map (held_shift terminals held) entries ++ map reduce_action state.reductions.items
+
+  shift_at : (t : TerminalString) (target : StateIndex) → Contains entries (t, target) → (a : Action) (b : Bool) → holds_token terminals held (TokenOf t) ≡ b → Contains (cond b (Shift t target ∷ []) []) a → Contains (asked_actions terminals state) a
+  shift_at t target among a true e c =
+      let bit = held_bit terminals held (TokenOf t) e in
+      elim (contains-cons (Shift t target) [] a c) [
+        | inl same ↦ subst (Contains (asked_actions terminals state)) same (shift_asked terminals state t target bit.0 among bit.1 ((of bit.0).0 bit.2))
+        | inr none ↦ absurd (Contains-none a none)
+      ]
+  shift_at t target among a false e c = absurd (Contains-none a c)
+
+  -- what is gathered is asked for
+  is_asked : (a : Action) → Contains gathered a → Contains (asked_actions terminals state) a
+  is_asked a c = elim (Contains-append_cases (flat_map (held_shift terminals held) entries) (map reduce_action state.reductions.items) a c) [
+    | inl s ↦ let e = of_flat (held_shift terminals held) entries a s in shift_at (e.0).0 (e.0).1 e.1 a (holds_token terminals held (TokenOf (e.0).0)) refl e.2
+    | inr r ↦ let q = contains_of_map reduce_action state.reductions.items a r in subst (Contains (asked_actions terminals state)) q.2 (reduction_asked terminals state q.0 q.1)
+  ]
+
+  gathered_of : (a : Action) → IsAskedOf terminals state a → Contains gathered a
+  gathered_of (Shift t target) h =
+      let yes = bit_held terminals held (TokenOf t) h.1.0 h.1.1 ((of h.1.0).1 h.1.2) in
+      let here = subst (λ (b : Bool). Contains (cond b (Shift t target ∷ []) []) (Shift t target)) (sym yes) (contains_head (Shift t target) []) in
+      Contains-append_left (flat_map (held_shift terminals held) entries) (map reduce_action state.reductions.items) (Shift t target)
+      (in_flat_map (held_shift terminals held) entries (t, target) (Shift t target) h.0 here)
+  gathered_of (Reduce p) h =
+      Contains-append_right (flat_map (held_shift terminals held) entries) (map reduce_action state.reductions.items) (Reduce p)
+      (subst (λ (q : Bor Production). Contains (map reduce_action state.reductions.items) (Reduce q)) h.2 (contains_map reduce_action state.reductions.items h.0 h.1))
+
+  -- and the other way round
+  pub gathered_asked : (keys : List Action) → AreActions gathered keys → AreActions (asked_actions terminals state) keys
+  gathered_asked keys h = record { of = λ a c. is_asked a (h.of a c); all = λ a c. h.all a (gathered_of a (asked_of terminals state a c)) }

@@ -1,0 +1,5 @@
+-- Graphs of states.
+pub mod GraphCopies
+pub mod MovedOrigins
+pub mod StateGraphs
+pub mod Stepping

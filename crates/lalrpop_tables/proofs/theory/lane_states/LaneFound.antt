@@ -1,0 +1,81 @@
+-- What a pass over the states of lane tables asks for.
+use Rattle.std.proofs.Common.{◌≡◌, ℕ, zero, suc, ◌<◌, ◌≤◌, List, [], ◌∷◌, drop, length, refl, arith, Option, Some, None, Bool, true}
+use Rattle.std.specs.Prelude.{Contains, slice_get}
+use Rattle.std.proofs.lemmas.Option.{slice_get_within}
+use Rattle.lalrpop_base.specs.Words.{Bits, AreClosed, contents_at, Contents, expands, Rules, shifts, starts, Valid}
+use Rattle.lalrpop_base.specs.declared.lookahead.token.Token.{Token}
+use Rattle.lalrpop_base.specs.declared.lr1_core.state.State.{State}
+use Rattle.lalrpop_base.specs.declared.repr.NonterminalString.{NonterminalString}
+use Rattle.lalrpop_base.specs.declared.repr.Production.{Production}
+use Rattle.lalrpop_base.specs.declared.repr.Symbol.{Symbol}
+use Rattle.lalrpop_base.proofs.theory.closures.Closures.{reached_at}
+use Rattle.lalrpop_base.proofs.theory.lists.Lists.{grown}
+use Rattle.lalrpop_base.proofs.theory.closures.Valid.{of_grammar}
+use Rattle.lalrpop_tables.specs.follow_sets.FollowNodes.{AreAllReached, AreOfGrammar}
+use Rattle.lalrpop_tables.specs.follow_sets.FollowWalks.{FindsLookaheads}
+use Rattle.lalrpop_tables.specs.lane_states.FoundLookaheads.{IsFoundAt}
+use Rattle.lalrpop_tables.specs.states.NumberedStates.{AreNumberedStates, HaveReducedNumbers}
+use Rattle.lalrpop_tables.specs.grammars.Numbers.{AreNumbers}
+use Rattle.lalrpop_tables.specs.Words.{AreLaneStates, places_in}
+use Rattle.lalrpop_tables.specs.declared.construction.numbers.Numbers.{Numbers}
+use Rattle.lalrpop_tables.specs.declared.lane_table.follow_sets.found.Found.{Found}
+use Rattle.lalrpop_tables.specs.declared.lane_table.follow_sets.numbered_state.NumberedState.{NumberedState}
+use Rattle.lalrpop_tables.proofs.theory.lane_states.LaneShape.{here_closed, reduced_item, right_at}
+
+-- a dot with something behind it is before the end
+before_end : {A : Type 0} (dot : ℕ) (xs : List A) {x : A} {after : List A} → drop dot xs ≡ x ∷ after → dot < length xs
+before_end zero [] e = cc
+before_end zero (y ∷ xs) e = omega arith
+before_end (suc dot) [] e = cc
+before_end (suc dot) (y ∷ xs) e = omega (arith, before_end dot xs e)
+
+-- the dot of a valid item is not past the end
+valid_within : {g : List Production} {start : NonterminalString} {u : List Symbol} {p : Production} {dot : ℕ} → Valid g start u p dot → dot ≤ length p.symbols
+valid_within (starts p h e) = omega arith
+valid_within (shifts {p = p} {dot = dot} x after v e) = omega (arith, before_end dot p.symbols e)
+valid_within (expands q after v e h) = omega arith
+
+module _ (g : Rules) (start : NonterminalString) (states : List (State Bits)) (made : AreLaneStates g start states) where
+  abbrev any : Bits → Token → Bool
+  any lookahead t = true
+
+  abbrev places : ℕ → Contents
+  places = places_in states
+
+  -- the states are closed
+  pub lane_closed : AreClosed g.productions start places
+  lane_closed = here_closed g start states made any
+
+  -- each state is reached
+  pub lane_reached : AreAllReached places (length states)
+  lane_reached n l =
+      let a = right_at g start states made any n l in
+      reached_at g.productions start places lane_closed (grown a.prefix) n a.after
+
+  -- each item is of the grammar
+  pub lane_own : AreOfGrammar g.productions places
+  lane_own s q dot item = by_case (slice_get states s) refl item
+    where
+      by_case : (o : Option (State Bits)) → slice_get states s ≡ o → Contains (contents_at any o).items (q, dot) → Contains g.productions q × (dot ≤ length q.symbols)
+      by_case None e c = absurd (let l = c.1 in omega arith)
+      by_case (Some state) e c =
+          let r = right_at g start states made any s (slice_get_within states s state e) in
+          let v = (r.right.items q dot).0 item in
+          (of_grammar v, valid_within v)
+
+  module _ (n : Numbers) (numbers : AreNumbers g n) where
+    -- each reduction has a number
+    pub lane_numbered : (s : ℕ) (state : State Bits) → slice_get states s ≡ Some state → HaveReducedNumbers n.items.items state.reductions.items
+    lane_numbered s state at r among =
+        let own = lane_own s r.1.now (length r.1.now.symbols) (reduced_item g start states made any s state r at among) in
+        numbers.items.all r.1.now (length r.1.now.symbols) own.0 own.1
+
+    -- what is found is so at each state
+    pub found_at : (found : Found) (list : List NumberedState) → FindsLookaheads g start n places (length states) found → AreNumberedStates n states list → (s : ℕ) (state : NumberedState) → slice_get list s ≡ Some state → IsFoundAt g start states s found state
+    found_at found list finds numbered s state at = record {
+      numbers = n;
+      of_grammar = numbers;
+      finds = finds;
+      numbered = numbered.each s state at;
+      reduced = λ old at_old. numbered.reduced s old state at_old at;
+    }

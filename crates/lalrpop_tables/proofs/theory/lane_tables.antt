@@ -1,0 +1,6 @@
+-- Lane tables, and the tokens of their columns.
+pub mod LaneClosed
+pub mod LaneColumns
+pub mod LaneRows
+pub mod LaneTableStates
+pub mod LaneTables

@@ -1,0 +1,12 @@
+-- Lanes, traced back over states.
+pub mod Expanded
+pub mod Gains
+pub mod GainsSome
+pub mod LaneActions
+pub mod LaneAsked
+pub mod LaneTraces
+pub mod LaneTracing
+pub mod LanesTaken
+pub mod Unepsilon
+pub mod Unshifting
+pub mod Walks

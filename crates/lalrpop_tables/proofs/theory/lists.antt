@@ -1,0 +1,2 @@
+-- Lists, sets and the entries of maps.
+pub mod SomeOf

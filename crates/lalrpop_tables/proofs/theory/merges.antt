@@ -1,0 +1,7 @@
+-- The states of a lane table joined and copied.
+pub mod LaneCopies
+pub mod LanePatches
+pub mod MergeWalks
+pub mod Merges
+pub mod NewCopies
+pub mod StateSets

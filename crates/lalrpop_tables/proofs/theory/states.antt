@@ -1,0 +1,21 @@
+-- The states that a construction makes: kernels, transitions and reductions.
+pub mod Building
+pub mod ClosedStates
+pub mod Coherence
+pub mod Contained
+pub mod EdgeLeads
+pub mod EdgePlaces
+pub mod ListedTransitions
+pub mod Lookaheads
+pub mod Moves
+pub mod NonterminalEdges
+pub mod NumberedBuilding
+pub mod NumberedEdges
+pub mod NumberedItems
+pub mod NumberedMoves
+pub mod NumberedStates
+pub mod NumberedTransitions
+pub mod Reductions
+pub mod SameKernels
+pub mod Shifting
+pub mod StateEdges

@@ -1,0 +1,283 @@
+-- The kernels that items move to, one item more, and the edges to them, one edge more.
+use Rattle.std.proofs.Common.{◌≡◌, ℕ, suc, ◌⊎◌, inl, inr, List, [], ◌∷◌, ◌++◌, length, refl, sym, ◌∙◌, ap, subst, arith, append_assoc, Bool, true, false, cond, Some}
+use Rattle.std.specs.Prelude.{Contains, slice_get, ◌==◌}
+use Rattle.std.specs.Map.{keys_of}
+use Rattle.std.proofs.lemmas.List.Elements.{Contains-append_left, Contains-append_right, Contains-append_cases}
+use Rattle.lalrpop_base.specs.Words.{Dotted, AllDiffer, Kernels}
+use Rattle.lalrpop_base.specs.declared.lr1_core.state.StateIndex.{StateIndex}
+use Rattle.lalrpop_base.specs.declared.repr.Symbol.{Symbol}
+use Rattle.lalrpop_base.specs.declared.repr.Symbol.TheVariants.{Nonterminal, Terminal}
+use Rattle.lalrpop_base.specs.declared.repr.NonterminalString.{NonterminalString}
+use Rattle.lalrpop_base.specs.declared.repr.TerminalString.{TerminalString}
+use Rattle.lalrpop_base.specs.declared.repr.Production.{Production}
+use Rattle.lalrpop_base.specs.contracts.repr.TerminalStringOrd.TheImpl as terminal_ord
+use Rattle.lalrpop_base.specs.Words.{IsPushedAt}
+use Rattle.lalrpop_tables.specs.Words.{IsBehind, IsBehindOne, moved, Shifts, Groups, HasNoGroup, AreMoves, IsMoveAdded, HasEdge, ShiftsAscend}
+use Rattle.lalrpop_tables.specs.Words.{IsEdgeAdded, AreEdges, reductions_of}
+use Rattle.lalrpop_base.specs.lists.Entries.IsPushedAt.{fresh, known}
+use Rattle.lalrpop_tables.specs.declared.construction.transitions.Edges.{Edges}
+use Rattle.lalrpop_tables.specs.states.Transitions.{LeadsTo, IsReached}
+use Rattle.lalrpop_tables.specs.states.Transitions.Shifts.{none, moves, stays}
+use Rattle.lalrpop_tables.specs.states.Transitions.IsMoveAdded.{over, at_end}
+use Rattle.lalrpop_base.proofs.theory.lists.Members.{Contains-none, contains_head, contains_tail, contains-cons, contains_map, place}
+use Rattle.lalrpop_base.proofs.theory.lists.Places.{midst, around, at_midst, differ_front, same_some, slice_get-longer}
+use Rattle.std.proofs.lemmas.Option.{slice_get_within}
+use Rattle.std.proofs.lemmas.List.{map-append}
+use Rattle.std.specs.declared.cmp.Ordering.{Ordering}
+use Rattle.std.specs.BTreeMap.{BTreeMap, IsOrdered, insert_entry}
+use Rattle.std.specs.Cmp.{IsTotalOrder}
+use Rattle.std.specs.List.Sorted.{IsStrictlySortedBy}
+use Rattle.std.proofs.lemmas.Map.Lookups.{CmpEqualImpliesEq}
+use Rattle.lalrpop_base.proofs.theory.lists.Updates.{put_there, put_kept, put_from}
+
+pub differ_tail : {X : Type 0} (x : X) (xs : List X) → AllDiffer (x ∷ xs) → AllDiffer xs
+differ_tail x xs d i j y l at_i at_j = d (suc i) (suc j) y (omega arith) at_i at_j
+
+pub differ_head : {X : Type 0} (x : X) (xs : List X) → AllDiffer (x ∷ xs) → (y : X) → Contains xs y → x ≡ y → ⊥
+differ_head x xs d y c e = let at = place xs y c in d 0 (suc at.0) y (omega arith) (ap Some e) at.2
+
+abbrev Group : Type 0 → Type 0
+Group L = Symbol × List (Dotted L)
+
+module _ {L : Type 0} where
+  -- ---- one item more
+  pub Shifts-over : (x : Symbol) (i : Dotted L) (items kernel : List (Dotted L)) → IsBehind x i → Shifts x items kernel → Shifts x (items ++ i ∷ []) (kernel ++ moved i ∷ [])
+  Shifts-over x i items kernel b none = moves b none
+  Shifts-over x i items kernel b (moves {items = is} {kernel = ks} c s) = moves c (Shifts-over x i is ks b s)
+  Shifts-over x i items kernel b (stays {items = is} {kernel = ks} c s) = stays c (Shifts-over x i is ks b s)
+
+  pub Shifts-other : (x : Symbol) (i : Dotted L) (items kernel : List (Dotted L)) → ¬ IsBehind x i → Shifts x items kernel → Shifts x (items ++ i ∷ []) kernel
+  Shifts-other x i items kernel b none = stays b none
+  Shifts-other x i items kernel b (moves {items = is} {kernel = ks} c s) = moves c (Shifts-other x i is ks b s)
+  Shifts-other x i items kernel b (stays {items = is} {kernel = ks} c s) = stays c (Shifts-other x i is ks b s)
+
+  key_in : (groups : Groups L) (g : Group L) → Contains groups g → Contains (keys_of groups) g.0
+  key_in groups g c = contains_map (λ (g : Group L). g.0) groups g c
+
+  -- the key in the midst stands nowhere else
+  midst_differs : (front back : Groups L) (g h : Group L) → AllDiffer (keys_of (front ++ g ∷ back)) → Contains (front ++ back) h → g.0 ≡ h.0 → ⊥
+  midst_differs [] back g h d c e = differ_head g.0 (keys_of back) d h.0 (key_in back h c) e
+  midst_differs (f ∷ front) back g h d c e = elim (contains-cons f (front ++ back) h c) [
+    | inl same ↦ differ_head f.0 (keys_of (front ++ g ∷ back)) d g.0 (key_in (front ++ g ∷ back) g (Contains-append_right front (g ∷ back) g (contains_head g back))) (ap (λ (g : Group L). g.0) same ∙ sym e)
+    | inr later ↦ midst_differs front back g h (differ_tail f.0 (keys_of (front ++ g ∷ back)) d) later e
+  ]
+
+  behind_longer : (items : List (Dotted L)) (i : Dotted L) (x : Symbol) → IsBehindOne x items → IsBehindOne x (items ++ i ∷ [])
+  behind_longer items i x b = record { item = b.item; among = Contains-append_left items (i ∷ []) b.item b.among; behind = b.behind }
+
+  module _ (items : List (Dotted L)) (i : Dotted L) (y : Symbol) (behind : IsBehind y i) where
+    not_behind : (x : Symbol) → (y ≡ x → ⊥) → ¬ IsBehind x i
+    not_behind x other b = other (same_some y x (sym behind ∙ b))
+
+    -- each kernel of the old groups and of the new, where all but that of y stay
+    over_each : (front back : Groups L) (kernel : List (Dotted L)) (old new : Groups L) → new ≡ front ++ (y, kernel ++ moved i ∷ []) ∷ back → AllDiffer (keys_of new) → Shifts y items kernel → ((h : Group L) → Contains (front ++ back) h → Shifts h.0 items h.1) →
+        (x : Symbol) (ks : List (Dotted L)) → Contains new (x, ks) → Shifts x (items ++ i ∷ []) ks
+    over_each front back kernel old new after d s each x ks c = elim (midst front back (y, kernel ++ moved i ∷ []) (x, ks) (subst (λ (gs : Groups L). Contains gs (x, ks)) after c)) [
+      | inl same ↦ subst (λ (g : Group L). Shifts g.0 (items ++ i ∷ []) g.1) same (Shifts-over y i items kernel behind s)
+      | inr other ↦ Shifts-other x i items ks (not_behind x (λ e. midst_differs front back (y, kernel ++ moved i ∷ []) (x, ks) (subst (λ (gs : Groups L). AllDiffer (keys_of gs)) after d) other e)) (each (x, ks) other)
+    ]
+
+    over_other : (front back : Groups L) (g : Group L) (new : Groups L) → new ≡ front ++ g ∷ back → g.0 ≡ y → ((x : Symbol) → ((ks : List (Dotted L)) → Contains new (x, ks) → ⊥) → Shifts x items []) → (x : Symbol) → HasNoGroup new x → Shifts x (items ++ i ∷ []) []
+    over_other front back g new after key old x none_new =
+        Shifts-other x i items [] (not_behind x (λ e. none_new g.1 (subst (λ (gs : Groups L). Contains gs (x, g.1)) (sym after) (subst (λ (s : Symbol). Contains (front ++ g ∷ back) (s, g.1)) (key ∙ e) (at_midst front back g))))) (old x none_new)
+
+    -- a symbol with a group stands behind a dot: y behind that of the new item
+    over_some : (front back : Groups L) (g : Group L) (new : Groups L) → new ≡ front ++ g ∷ back → g.0 ≡ y → ((h : Group L) → Contains (front ++ back) h → IsBehindOne h.0 items) → (x : Symbol) (ks : List (Dotted L)) → Contains new (x, ks) → IsBehindOne x (items ++ i ∷ [])
+    over_some front back g new after key each x ks c = elim (midst front back g (x, ks) (subst (λ (gs : Groups L). Contains gs (x, ks)) after c)) [
+      | inl same ↦ record { item = i; among = Contains-append_right items (i ∷ []) i (contains_head i []); behind = subst (λ (s : Symbol). IsBehind s i) (sym key ∙ ap (λ (h : Group L). h.0) same) behind }
+      | inr other ↦ behind_longer items i x (each (x, ks) other)
+    ]
+
+    -- each symbol that had a group has one, and so has y
+    over_has : (old new : Groups L) → AreMoves items old → ((h : Group L) → Contains old h → (ks : List (Dotted L)) × Contains new (h.0, ks)) → (ks : List (Dotted L)) → Contains new (y, ks) → (x : Symbol) (j : Dotted L) → Contains (items ++ i ∷ []) j → IsBehind x j → (ks : List (Dotted L)) × Contains new (x, ks)
+    over_has old new m kept ks there x j c b = elim (Contains-append_cases items (i ∷ []) j c) [
+      | inl had ↦ let g = m.has x j had b in kept (x, g.0) g.1
+      | inr last ↦ elim (contains-cons i [] j last) [
+        | inl same ↦ (ks, subst (λ (s : Symbol). Contains new (s, ks)) (same_some y x (sym behind ∙ subst (λ (k : Dotted L). IsBehind x k) (sym same) b)) there)
+        | inr n ↦ absurd (Contains-none j n)
+      ]
+    ]
+
+    pub Moves-over : (old new : Groups L) → AreMoves items old → IsPushedAt y (moved i) old new → AllDiffer (keys_of new) → AreMoves (items ++ i ∷ []) new
+    Moves-over old new m (fresh front back before after) d =
+        let differ = subst (λ (gs : Groups L). AllDiffer (keys_of gs)) after d in
+        let none_y : HasNoGroup old y = λ ks c. midst_differs front back (y, moved i ∷ []) (y, ks) differ (subst (λ (gs : Groups L). Contains gs (y, ks)) before c) refl in
+        record {
+          each = over_each front back [] old new after d (m.other y none_y) (λ h c. m.each h.0 h.1 (subst (λ (gs : Groups L). Contains gs h) (sym before) c));
+          has = over_has old new m (λ h c. (h.1, subst (λ (gs : Groups L). Contains gs h) (sym after) (around front back (y, moved i ∷ []) h (subst (λ (gs : Groups L). Contains gs h) before c)))) (moved i ∷ []) (subst (λ (gs : Groups L). Contains gs (y, moved i ∷ [])) (sym after) (at_midst front back (y, moved i ∷ [])));
+          some = over_some front back (y, moved i ∷ []) new after refl (λ h c. m.some h.0 h.1 (subst (λ (gs : Groups L). Contains gs h) (sym before) c));
+          other = over_other front back (y, moved i ∷ []) new after refl (λ x none_new. m.other x (λ ks c. none_new ks (subst (λ (gs : Groups L). Contains gs (x, ks)) (sym after) (around front back (y, moved i ∷ []) (x, ks) (subst (λ (gs : Groups L). Contains gs (x, ks)) before c)))));
+          differ = d;
+        }
+    Moves-over old new m (known front back vs before after) d =
+        record {
+          each = over_each front back vs old new after d (m.each y vs (subst (λ (gs : Groups L). Contains gs (y, vs)) (sym before) (at_midst front back (y, vs)))) (λ h c. m.each h.0 h.1 (subst (λ (gs : Groups L). Contains gs h) (sym before) (around front back (y, vs) h c)));
+          has = over_has old new m (λ h c. elim (midst front back (y, vs) h (subst (λ (gs : Groups L). Contains gs h) before c)) [
+            | inl same ↦ (vs ++ moved i ∷ [], subst (λ (gs : Groups L). Contains gs (h.0, vs ++ moved i ∷ [])) (sym after) (subst (λ (s : Symbol). Contains (front ++ (y, vs ++ moved i ∷ []) ∷ back) (s, vs ++ moved i ∷ [])) (ap (λ (g : Group L). g.0) same) (at_midst front back (y, vs ++ moved i ∷ []))))
+            | inr out ↦ (h.1, subst (λ (gs : Groups L). Contains gs h) (sym after) (around front back (y, vs ++ moved i ∷ []) h out))
+          ]) (vs ++ moved i ∷ []) (subst (λ (gs : Groups L). Contains gs (y, vs ++ moved i ∷ [])) (sym after) (at_midst front back (y, vs ++ moved i ∷ [])));
+          some = over_some front back (y, vs ++ moved i ∷ []) new after refl (λ h c. m.some h.0 h.1 (subst (λ (gs : Groups L). Contains gs h) (sym before) (around front back (y, vs) h c)));
+          other = over_other front back (y, vs ++ moved i ∷ []) new after refl (λ x none_new. m.other x (λ ks c. elim (midst front back (y, vs) (x, ks) (subst (λ (gs : Groups L). Contains gs (x, ks)) before c)) [
+            | inl same ↦ none_new (vs ++ moved i ∷ []) (subst (λ (gs : Groups L). Contains gs (x, vs ++ moved i ∷ [])) (sym after) (subst (λ (s : Symbol). Contains (front ++ (y, vs ++ moved i ∷ []) ∷ back) (s, vs ++ moved i ∷ [])) (ap (λ (g : Group L). g.0) same) (at_midst front back (y, vs ++ moved i ∷ []))))
+            | inr out ↦ none_new ks (subst (λ (gs : Groups L). Contains gs (x, ks)) (sym after) (around front back (y, vs ++ moved i ∷ []) (x, ks) out))
+          ]));
+          differ = d;
+        }
+
+  past_end : (i : Dotted L) (x : Symbol) → i.index ≡ length i.production.symbols → ¬ IsBehind x i
+  past_end i x e b = let l = slice_get_within i.production.symbols i.index x b in absurd (omega arith)
+
+  pub Moves-more : (items : List (Dotted L)) (i : Dotted L) (old new : Groups L) → AreMoves items old → IsMoveAdded i old new → AreMoves (items ++ i ∷ []) new
+  Moves-more items i old new m (over x b p d) = Moves-over items i x b old new m p d
+  Moves-more items i old new m (at_end e same) = subst (AreMoves (items ++ i ∷ [])) (sym same) (record {
+    each = λ x ks c. Shifts-other x i items ks (past_end i x e) (m.each x ks c);
+    other = λ x n. Shifts-other x i items [] (past_end i x e) (m.other x n);
+    some = λ x ks c. behind_longer items i x (m.some x ks c);
+    has = λ x j c b. elim (Contains-append_cases items (i ∷ []) j c) [
+      | inl had ↦ m.has x j had b
+      | inr last ↦ elim (contains-cons i [] j last) [ inl same ↦ absurd (past_end i x e (subst (λ (k : Dotted L). IsBehind x k) (sym same) b)) | inr n ↦ absurd (Contains-none j n) ]
+    ];
+    differ = m.differ;
+  })
+
+  pub Moves-none : AreMoves {L = L} [] []
+  Moves-none = record { each = λ x ks c. absurd (Contains-none (x, ks) c); other = λ x n. none; some = λ x ks c. absurd (Contains-none (x, ks) c); has = λ x i c b. absurd (Contains-none i c); differ = λ i j x l at. cc }
+
+  -- ---- one edge more
+  -- the edges to the kernels of the first groups
+  pub record AreSomeEdges (groups first : Groups L) (old new : Kernels (List (Dotted L))) (edges : Edges) : Type 0 where
+    pub leads : (x : Symbol) (target : StateIndex) → HasEdge x target edges → LeadsTo groups new.list x target
+    pub among : (x : Symbol) (target : StateIndex) → HasEdge x target edges → Contains (keys_of first) x
+    pub all : (x : Symbol) (kernel : List (Dotted L)) → Contains first (x, kernel) → (target : StateIndex) × HasEdge x target edges
+    pub reached : IsReached groups old new
+    pub ascend : ShiftsAscend edges
+
+  leads_longer : (groups : Groups L) (list more : List (List (Dotted L))) (new : List (List (Dotted L))) → new ≡ list ++ more → (x : Symbol) (target : StateIndex) → LeadsTo groups list x target → LeadsTo groups new x target
+  leads_longer groups list more new e x target l = record { kernel = l.kernel; group = l.group; numbered = subst (λ (ks : List (List (Dotted L))). slice_get ks target.0 ≡ Some l.kernel) (sym e) (slice_get-longer list more target.0 l.kernel l.numbered) }
+
+  module _ (groups : Groups L) (x : Symbol) (kernel : List (Dotted L)) (group : Contains groups (x, kernel)) where
+    more_of : (old middle new : List (List (Dotted L))) → (new ≡ middle) ⊎ (new ≡ middle ++ kernel ∷ []) → (more : List (List (Dotted L))) × (new ≡ middle ++ more) × ((k : List (Dotted L)) → Contains more k → (z : Symbol) × Contains groups (z, k))
+    more_of old middle new either = elim either [
+      | inl same ↦ ([], same ∙ sym (append_nil middle), λ k c. absurd (Contains-none k c))
+      | inr push ↦ (kernel ∷ [], push, λ k c. elim (contains-cons kernel [] k c) [ inl e ↦ (x, subst (λ (ks : List (Dotted L)). Contains groups (x, ks)) e group) | inr n ↦ absurd (Contains-none k n) ])
+    ]
+      where
+        append_nil : {X : Type 0} (xs : List X) → xs ++ [] ≡ xs
+        append_nil [] = refl
+        append_nil (x ∷ xs) = ap (λ ys. x ∷ ys) (append_nil xs)
+
+    pub Reached-more : (old middle new : Kernels (List (Dotted L))) → IsReached groups old middle → (new.list ≡ middle.list) ⊎ (new.list ≡ middle.list ++ kernel ∷ []) → new.handed ≡ middle.handed → AllDiffer new.list → IsReached groups old new
+    Reached-more old middle new r either handed differ =
+        let more = more_of old.list middle.list new.list either in
+        record {
+          added = r.added ++ more.0;
+          stay = more.1 ∙ ap (λ xs. xs ++ more.0) r.stay ∙ append_assoc old.list r.added more.0;
+          of = λ k c. elim (Contains-append_cases r.added more.0 k c) [ inl d ↦ r.of k d | inr d ↦ more.2 k d ];
+          handed = handed ∙ r.handed;
+          differ = λ d. differ;
+        }
+
+    pub Edges-more : (first : Groups L) (old middle new : Kernels (List (Dotted L))) (edges after : Edges) (number : ℕ) → AreSomeEdges groups first old middle edges → AllDiffer (keys_of (first ++ (x, kernel) ∷ [])) → slice_get new.list number ≡ Some kernel →
+        (new.list ≡ middle.list) ⊎ (new.list ≡ middle.list ++ kernel ∷ []) → new.handed ≡ middle.handed → AllDiffer new.list → IsEdgeAdded x (record { 0 = number }) edges after → AreSomeEdges groups (first ++ (x, kernel) ∷ []) old new after
+    Edges-more first old middle new edges after number s apart numbered either handed differ a =
+        let more = more_of old.list middle.list new.list either in
+        record {
+          leads = λ y n h. elim (a.from y n h) [
+            | inl had ↦ leads_longer groups middle.list more.0 new.list more.1 y n (s.leads y n had)
+            | inr is ↦ subst (λ (z : Symbol). LeadsTo groups new.list z n) (sym is.0) (subst (λ (m : StateIndex). LeadsTo groups new.list x m) (sym is.1) (record { kernel = kernel; group = group; numbered = numbered }))
+          ];
+          among = λ y n h. elim (a.from y n h) [
+            | inl had ↦ key_append first y (s.among y n had)
+            | inr is ↦ subst (Contains (keys_of (first ++ (x, kernel) ∷ []))) (sym is.0) (key_in (first ++ (x, kernel) ∷ []) (x, kernel) (Contains-append_right first ((x, kernel) ∷ []) (x, kernel) (contains_head (x, kernel) [])))
+          ];
+          all = λ y k c. elim (Contains-append_cases first ((x, kernel) ∷ []) (y, k) c) [
+            | inl had ↦ let e = s.all y k had in (e.0, a.kept y e.0 (λ same. midst_differs first [] (x, kernel) (y, k) apart (Contains-append_left first [] (y, k) had) (sym same)) e.1)
+            | inr is ↦ elim (contains-cons (x, kernel) [] (y, k) is) [
+              | inl same ↦ (record { 0 = number }, subst (λ (g : Group L). HasEdge g.0 (record { 0 = number }) after) same a.there)
+              | inr n ↦ absurd (Contains-none (y, k) n)
+            ]
+          ];
+          reached = Reached-more old middle new s.reached either handed differ;
+          ascend = a.ascend s.ascend;
+        }
+      where
+        key_append : (first : Groups L) (y : Symbol) → Contains (keys_of first) y → Contains (keys_of (first ++ (x, kernel) ∷ [])) y
+        key_append [] y c = absurd (Contains-none y c)
+        key_append (g ∷ gs) y c = elim (contains-cons g.0 (keys_of gs) y c) [
+          | inl e ↦ subst (λ (z : Symbol). Contains (z ∷ keys_of (gs ++ (x, kernel) ∷ [])) y) (sym e) (contains_head y (keys_of (gs ++ (x, kernel) ∷ [])))
+          | inr later ↦ contains_tail g.0 (keys_of (gs ++ (x, kernel) ∷ [])) y (key_append gs y later)
+        ]
+
+  -- ---- all edges
+  pub Edges-none : (groups : Groups L) (old : Kernels (List (Dotted L))) (edges : Edges) → edges.shifts.entries ≡ [] → edges.gotos.entries ≡ [] → AreSomeEdges groups [] old old edges
+  unfolding IsStrictlySortedBy
+  Edges-none groups old edges s t = record {
+    leads = λ x n h. absurd (no_edge x n h);
+    among = λ x n h. absurd (no_edge x n h);
+    all = λ x k c. absurd (Contains-none (x, k) c);
+    reached = record { added = []; stay = sym (append_nil old.list); of = λ k c. absurd (Contains-none k c); handed = refl; differ = λ d. d };
+    ascend = subst (λ (es : List (TerminalString × StateIndex)). IsStrictlySortedBy terminal_ord.ghosts.cmp (keys_of es)) (sym s) tt;
+  }
+    where
+      append_nil : {X : Type 0} (xs : List X) → xs ++ [] ≡ xs
+      append_nil [] = refl
+      append_nil (x ∷ xs) = ap (λ ys. x ∷ ys) (append_nil xs)
+
+      no_edge : (x : Symbol) (n : StateIndex) → HasEdge x n edges → ⊥
+      no_edge (Nonterminal a) n h = Contains-none (a, n) (subst (λ (es : List (NonterminalString × StateIndex)). Contains es (a, n)) t h)
+      no_edge (Terminal a) n h = Contains-none (a, n) (subst (λ (es : List (TerminalString × StateIndex)). Contains es (a, n)) s h)
+
+  pub Edges-all : (groups first : Groups L) (old new : Kernels (List (Dotted L))) (edges : Edges) → first ≡ groups → AreSomeEdges groups first old new edges → AreEdges groups new.list edges
+  Edges-all groups first old new edges e s = record { leads = s.leads; all = λ x k c. s.all x k (subst (λ (gs : Groups L). Contains gs (x, k)) (sym e) c); ascend = s.ascend }
+
+  -- ---- one reduction more
+  reductions_at : (b : Bool) (r : L × Production) (xs ys : List (L × Production)) → cond b (r ∷ (xs ++ ys)) (xs ++ ys) ≡ cond b (r ∷ xs) xs ++ ys
+  reductions_at true r xs ys = refl
+  reductions_at false r xs ys = refl
+
+  pub reductions_of-append : (xs ys : List (Dotted L)) → reductions_of (xs ++ ys) ≡ reductions_of xs ++ reductions_of ys
+  reductions_of-append [] ys = refl
+  reductions_of-append (i ∷ xs) ys = ap (λ rs. cond (i.index == length i.production.symbols) ((i.lookahead, i.production) ∷ rs) rs) (reductions_of-append xs ys) ∙ reductions_at (i.index == length i.production.symbols) (i.lookahead, i.production) (reductions_of xs) (reductions_of ys)
+
+-- ---- a goto or a shift more
+module _ (cmp : NonterminalString → NonterminalString → Ordering) (exact : CmpEqualImpliesEq cmp) (total : IsTotalOrder cmp) where
+  pub Added-goto : (a : NonterminalString) (target : StateIndex) (old new : Edges) → IsStrictlySortedBy cmp (keys_of old.gotos.entries) → new.gotos.entries ≡ insert_entry cmp old.gotos.entries a target → new.shifts ≡ old.shifts → IsEdgeAdded (Nonterminal a) target old new
+  Added-goto a target old new sorted e same = record {
+    there = subst (λ (es : List (NonterminalString × StateIndex)). Contains es (a, target)) (sym e) (put_there cmp exact total old.gotos.entries sorted a target);
+    kept = elim [
+      | Nonterminal b ↦ λ n other h. subst (λ (es : List (NonterminalString × StateIndex)). Contains es (b, n)) (sym e) (put_kept cmp exact total old.gotos.entries sorted a target (b, n) (λ f. other (ap Nonterminal f)) h)
+      | Terminal t ↦ λ n other h. rw same h
+    ];
+    from = elim [
+      | Nonterminal b ↦ λ n h. elim (put_from cmp exact total old.gotos.entries sorted a target (b, n) (subst (λ (es : List (NonterminalString × StateIndex)). Contains es (b, n)) e h)) [
+        | inl had ↦ inl had
+        | inr is ↦ inr (ap (λ (x : NonterminalString × StateIndex). Nonterminal x.0) (sym is), ap (λ (x : NonterminalString × StateIndex). x.1) (sym is))
+      ]
+      | Terminal t ↦ λ n h. inl (rw (← same) h)
+    ];
+    ascend = λ o. subst (λ (m : BTreeMap TerminalString StateIndex). IsOrdered terminal_ord.ghosts.cmp m) (sym same) o;
+  }
+
+module _ (cmp : TerminalString → TerminalString → Ordering) (exact : CmpEqualImpliesEq cmp) (total : IsTotalOrder cmp) where
+  pub Added-shift : (a : TerminalString) (target : StateIndex) (old new : Edges) → IsStrictlySortedBy cmp (keys_of old.shifts.entries) → new.shifts.entries ≡ insert_entry cmp old.shifts.entries a target → new.gotos ≡ old.gotos → ShiftsAscend new → IsEdgeAdded (Terminal a) target old new
+  Added-shift a target old new sorted e same after = record {
+    there = subst (λ (es : List (TerminalString × StateIndex)). Contains es (a, target)) (sym e) (put_there cmp exact total old.shifts.entries sorted a target);
+    kept = elim [
+      | Terminal b ↦ λ n other h. subst (λ (es : List (TerminalString × StateIndex)). Contains es (b, n)) (sym e) (put_kept cmp exact total old.shifts.entries sorted a target (b, n) (λ f. other (ap Terminal f)) h)
+      | Nonterminal t ↦ λ n other h. rw same h
+    ];
+    from = elim [
+      | Terminal b ↦ λ n h. elim (put_from cmp exact total old.shifts.entries sorted a target (b, n) (subst (λ (es : List (TerminalString × StateIndex)). Contains es (b, n)) e h)) [
+        | inl had ↦ inl had
+        | inr is ↦ inr (ap (λ (x : TerminalString × StateIndex). Terminal x.0) (sym is), ap (λ (x : TerminalString × StateIndex). x.1) (sym is))
+      ]
+      | Nonterminal t ↦ λ n h. inl (rw (← same) h)
+    ];
+    ascend = λ o. after;
+  }
+
+module _ {L : Type 0} where
+  -- ---- the next group of those that are left
+  pub groups_differ : (groups first rest : Groups L) (g : Group L) → (first ++ g ∷ []) ++ rest ≡ groups → AllDiffer (keys_of groups) → AllDiffer (keys_of (first ++ g ∷ []))
+  groups_differ groups first rest g e d =
+      differ_front (keys_of (first ++ g ∷ [])) (keys_of rest) (subst AllDiffer (ap keys_of (sym e) ∙ map-append (λ (g : Group L). g.0) (first ++ g ∷ []) rest) d)

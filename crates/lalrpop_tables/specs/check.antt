@@ -1,0 +1,4 @@
+-- The check of tables.
+pub mod Check
+pub mod CheckCarrying
+pub mod CheckPlaces

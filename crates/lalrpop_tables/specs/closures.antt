@@ -1,0 +1,2 @@
+-- Closures of kernels.
+pub mod Sharing

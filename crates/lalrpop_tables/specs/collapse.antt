@@ -1,0 +1,2 @@
+-- The collapse of canonical states to LALR(1) states.
+pub mod Lalr

@@ -1,0 +1,60 @@
+-- LALR(1) tables: what the collapse of a grammar's canonical states tells of the grammar.
+use Rattle.std.specs.Prelude.{◌≡◌, ◌⊎◌, ℕ, List, IsTrue}
+use Rattle.lalrpop_base.specs.Words.{Bits, AreCoherent, contents, IfConflicts, AreFaithful, IsLALR1, productions, rules_of}
+use Rattle.lalrpop_base.specs.declared.lr1_core.state.BuildError.{BuildError}
+use Rattle.lalrpop_base.specs.declared.lr1_core.state.State.{State}
+use Rattle.lalrpop_base.specs.declared.repr.NonterminalString.{NonterminalString}
+use Rattle.lalrpop_base.specs.declared.repr.Production.{Production}
+use Rattle.lalrpop_base.specs.declared.repr.grammar.Grammar.{Grammar}
+use Rattle.lalrpop_base.specs.collapse.Collapsed.{AreOrdered, AreCollapsedTables, FailsByCollapse}
+use Rattle.lalrpop_tables.specs.early_stop.EarlyStop.{FailsAfter}
+use Rattle.lalrpop_base.specs.renumbering.Renumbered.{AreRenumbered}
+use Rattle.lalrpop_base.specs.conflicts.AllConflicts.{HaveNoConflict}
+use Rattle.lalrpop_tables.specs.answers.Results.{AreTables, canonical_of}
+use Rattle.lalrpop_tables.specs.declared.build.options.Method.TheVariants.{Canonical}
+use Rattle.lalrpop_tables.specs.declared.build.options.Options.{Options}
+
+-- the states are to be collapsed: the grammar asks for it, and the canonical construction decides
+pub record Collapses (g : Grammar) (options : Options) : Type 0 where
+  pub asked : IsTrue g.algorithm.lalr
+  pub canonical : options.method ≡ Canonical
+
+-- the grammar is LALR(1), and the tables are faithful to it
+pub record AreLalrTables (g : Grammar) (start : NonterminalString) (tables : List (State Bits)) : Type 0 where
+  pub lalr : IsLALR1 (productions g) start
+  pub faithful : AreFaithful (productions g) start (contents g.terminals tables)
+
+-- an error with conflicts comes of a grammar that is not LALR(1); want of memory says nothing
+abbrev pub TellsNotLALR1 : List Production → NonterminalString → BuildError Bits → Type 0
+TellsNotLALR1 g start = IfConflicts (λ error. ¬ IsLALR1 g start)
+
+-- the states of an error are coherent; want of memory says nothing
+abbrev pub HasCoherentStates : BuildError Bits → Type 0
+HasCoherentStates = IfConflicts (λ error. AreCoherent error.states.items)
+
+-- the transitions of an error's states ascend; want of memory says nothing
+abbrev pub HasOrderedStates : BuildError Bits → Type 0
+HasOrderedStates = IfConflicts (λ error. AreOrdered error.states.items)
+
+-- canonical states of the grammar without a conflict, merged into states without one
+pub record AreMergedTables (g : Grammar) (start : NonterminalString) (tables : List (State Bits)) : Type 0 where
+  pub before : List (State Bits)
+  pub canonical : AreTables (canonical_of g start) before
+  pub merged : AreCollapsedTables g.terminals before tables
+
+-- those, renumbered
+pub record AreRenumberedMerged (g : Grammar) (start : NonterminalString) (tables : List (State Bits)) : Type 0 where
+  pub built : List (State Bits)
+  pub made : AreMergedTables g start built
+  pub renumbered : AreRenumbered g.terminals built tables
+  pub free : HaveNoConflict g.terminals tables
+
+-- canonical states of the grammar without a conflict, and an error of their collapse
+pub record FailsMerged (g : Grammar) (start : NonterminalString) (error : BuildError Bits) : Type 0 where
+  pub before : List (State Bits)
+  pub canonical : AreTables (canonical_of g start) before
+  pub merged : FailsByCollapse g.terminals before error
+
+-- an error of the canonical construction, or of the collapse of what it makes
+abbrev pub FailsAsLalr : Grammar → NonterminalString → ℕ → BuildError Bits → Type 0
+FailsAsLalr g start stop_after error = FailsAfter (rules_of g) start stop_after error ⊎ FailsMerged g start error

@@ -1,0 +1,2 @@
+-- A construction that stops early.
+pub mod EarlyStop

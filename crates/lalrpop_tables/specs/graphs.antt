@@ -1,0 +1,4 @@
+-- Graphs of states.
+pub mod GraphCopies
+pub mod Neighbours
+pub mod StateGraph

@@ -1,0 +1,99 @@
+-- The transitions and reductions of a state with given items.
+use Rattle.std.specs.Prelude.{◌≡◌, ◌≢◌, ◌+◌, ◌⊎◌, ◌==◌, cond, List, [], ◌∷◌, ◌++◌, length, slice_get, Some, Contains}
+use Rattle.std.specs.Borrow.{Bor}
+use Rattle.std.specs.BTreeMap.{IsOrdered}
+use Rattle.std.specs.Map.{keys_of}
+use Rattle.lalrpop_base.specs.Words.{Dotted, AllDiffer, Kernels}
+use Rattle.lalrpop_base.specs.declared.lr1_core.state.StateIndex.{StateIndex}
+use Rattle.lalrpop_base.specs.declared.repr.Production.{Production}
+use Rattle.lalrpop_base.specs.declared.repr.Symbol.{Symbol}
+use Rattle.lalrpop_base.specs.declared.repr.Symbol.TheVariants.{Nonterminal, Terminal}
+use Rattle.lalrpop_base.specs.contracts.repr.TerminalStringOrd.TheImpl as terminal_ord
+use Rattle.lalrpop_base.specs.lists.Entries.{IsPushedAt}
+use Rattle.lalrpop_tables.specs.declared.construction.transitions.Edges.{Edges}
+
+-- x stands behind the item's dot
+abbrev pub IsBehind : {L : Type 0} → Symbol → Dotted L → Type 0
+IsBehind x i = slice_get i.production.symbols i.index ≡ Some x
+
+-- x stands behind the dot of one of the items
+pub record IsBehindOne {L : Type 0} (x : Symbol) (items : List (Dotted L)) : Type 0 where
+  pub item : Dotted L
+  pub among : Contains items item
+  pub behind : IsBehind x item
+
+-- the item with its dot one symbol further
+abbrev pub moved : {L : Type 0} → Dotted L → Dotted L
+moved i = record { production = i.production; index = i.index + 1; lookahead = i.lookahead }
+
+-- the kernel is the items with x behind the dot, moved over it, in order
+pub data Shifts {L : Type 0} (x : Symbol) : List (Dotted L) → List (Dotted L) → Type 0 where
+  none : Shifts x [] []
+  moves : {i : Dotted L} {items kernel : List (Dotted L)} → IsBehind x i → Shifts x items kernel → Shifts x (i ∷ items) (moved i ∷ kernel)
+  stays : {i : Dotted L} {items kernel : List (Dotted L)} → ¬ IsBehind x i → Shifts x items kernel → Shifts x (i ∷ items) kernel
+
+-- kernels by the symbols that lead to them
+abbrev pub Groups : Type 0 → Type 0
+Groups L = List (Symbol × List (Dotted L))
+
+abbrev pub HasNoGroup : {L : Type 0} → Groups L → Symbol → Type 0
+HasNoGroup {L} groups x = (kernel : List (Dotted L)) → Contains groups (x, kernel) → ⊥
+
+-- each symbol behind a dot has its kernel, and no other symbol has one
+pub record AreMoves {L : Type 0} (items : List (Dotted L)) (groups : Groups L) : Type 0 where
+  pub each : (x : Symbol) (kernel : List (Dotted L)) → Contains groups (x, kernel) → Shifts x items kernel
+  pub other : (x : Symbol) → HasNoGroup groups x → Shifts x items []
+  pub some : (x : Symbol) (kernel : List (Dotted L)) → Contains groups (x, kernel) → IsBehindOne x items
+  pub has : (x : Symbol) (i : Dotted L) → Contains items i → IsBehind x i → (kernel : List (Dotted L)) × Contains groups (x, kernel)
+  pub differ : AllDiffer (keys_of groups)
+
+-- the moved item went to the kernel of the symbol behind its dot; where there is none, nothing changed
+pub data IsMoveAdded {L : Type 0} (i : Dotted L) (old new : Groups L) : Type 0 where
+  over : (x : Symbol) → IsBehind x i → IsPushedAt x (moved i) old new → AllDiffer (keys_of new) → IsMoveAdded i old new
+  at_end : i.index ≡ length i.production.symbols → new ≡ old → IsMoveAdded i old new
+
+-- the edges have the entry of a symbol, with its target
+abbrev pub HasEdge : Symbol → StateIndex → Edges → Type 0
+HasEdge (Nonterminal a) target edges = Contains edges.gotos.entries (a, target)
+HasEdge (Terminal t) target edges = Contains edges.shifts.entries (t, target)
+
+-- the shifts ascend by their terminals
+abbrev pub ShiftsAscend : Edges → Type 0
+ShiftsAscend edges = IsOrdered terminal_ord.ghosts.cmp edges.shifts
+
+-- an edge more, in the place of one with the same symbol if there was one
+pub record IsEdgeAdded (x : Symbol) (target : StateIndex) (old new : Edges) : Type 0 where
+  pub there : HasEdge x target new
+  pub kept : (y : Symbol) (n : StateIndex) → y ≢ x → HasEdge y n old → HasEdge y n new
+  pub from : (y : Symbol) (n : StateIndex) → HasEdge y n new → HasEdge y n old ⊎ ((y ≡ x) × (n ≡ target))
+  pub ascend : ShiftsAscend old → ShiftsAscend new
+
+-- the symbol leads to the number of its kernel
+pub record LeadsTo {L : Type 0} (groups : Groups L) (list : List (List (Dotted L))) (x : Symbol) (target : StateIndex) : Type 0 where
+  pub kernel : List (Dotted L)
+  pub group : Contains groups (x, kernel)
+  pub numbered : slice_get list target.0 ≡ Some kernel
+
+-- the edges lead from each symbol to the number of its kernel, and the shifts ascend
+pub record AreEdges {L : Type 0} (groups : Groups L) (list : List (List (Dotted L))) (edges : Edges) : Type 0 where
+  pub leads : (x : Symbol) (target : StateIndex) → HasEdge x target edges → LeadsTo groups list x target
+  pub all : (x : Symbol) (kernel : List (Dotted L)) → Contains groups (x, kernel) → (target : StateIndex) × HasEdge x target edges
+  pub ascend : ShiftsAscend edges
+
+-- the kernels are those of before and others of the groups
+pub record IsReached {L : Type 0} (groups : Groups L) (old new : Kernels (List (Dotted L))) : Type 0 where
+  pub added : List (List (Dotted L))
+  pub stay : new.list ≡ old.list ++ added
+  pub of : (kernel : List (Dotted L)) → Contains added kernel → (x : Symbol) × Contains groups (x, kernel)
+  pub handed : new.handed ≡ old.handed
+  pub differ : AllDiffer old.list → AllDiffer new.list
+
+-- ---- reductions
+-- a reduction, with its production as a value
+abbrev pub seen : {L : Type 0} → L × Bor Production → L × Production
+seen r = (r.0, r.1.now)
+
+-- the productions of the finished items, with their tokens, in order
+abbrev pub reductions_of : {L : Type 0} → List (Dotted L) → List (L × Production)
+reductions_of [] = []
+reductions_of (i ∷ items) = cond (i.index == length i.production.symbols) ((i.lookahead, i.production) ∷ reductions_of items) (reductions_of items)

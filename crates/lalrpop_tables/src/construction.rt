@@ -1,0 +1,15 @@
+//! The construction of LR(0) and LR(1) states, for every lookahead.
+pub(crate) mod canonical;
+mod closure;
+mod epsilon_moves;
+pub(crate) mod kernel;
+pub mod lookahead_build;
+pub mod lr;
+pub(crate) mod lr0;
+mod numbered;
+pub(crate) mod numbers;
+mod reductions;
+pub(crate) mod results;
+mod states;
+pub mod tables_or_count;
+mod transitions;

@@ -1,0 +1,74 @@
+//! What items give without lookahead, and with sets of tokens.
+ghost use Rattle.lalrpop_base.specs.Words.{IsNullable};
+ghost use Rattle.lalrpop_base.specs.closures.Closing.{Begins};
+
+use super::lookahead_build::LookaheadBuild;
+use super::lr::Lr;
+use super::numbers::rests::Rest;
+use lalrpop_base::lookahead::nil::Nil;
+use lalrpop_base::lookahead::token_set::TokenSet;
+use lalrpop_base::lr1_core::item::Item;
+use lalrpop_base::memory::OutOfMemory;
+use lalrpop_base::repr::{NonterminalString, Symbol};
+use std::alloc::Global;
+
+impl LookaheadBuild for Nil {
+    ghost begins = { λ _ _ _. ⊥ };
+
+    ghost passes = { λ _ _. ⊥ };
+
+    fn epsilon_moves<'grammar>(
+        alloc: Global,
+        lr: &Lr<'grammar, Nil>,
+        nonterminal: &NonterminalString,
+        _remainder: &[Symbol],
+        lookahead: &Nil,
+    ) -> Result<Vec<Item<'grammar, Nil>>, OutOfMemory> {
+        lr.begun_items(alloc, nonterminal, lookahead)
+    }
+
+    fn given<'grammar>(
+        _alloc: Global,
+        _lr: &Lr<'grammar, Nil>,
+        _nonterminal: &NonterminalString,
+        _remainder: &[Symbol],
+        _rest: &Rest,
+        _lookahead: &Nil,
+    ) -> Result<Option<Nil>, OutOfMemory> {
+        Ok(Some(Nil))
+    }
+}
+
+impl LookaheadBuild for TokenSet {
+    ghost begins = { Begins };
+
+    ghost passes = { λ g rest. IsNullable g.productions rest };
+
+    fn epsilon_moves<'grammar>(
+        alloc: Global,
+        lr: &Lr<'grammar, TokenSet>,
+        nonterminal: &NonterminalString,
+        remainder: &[Symbol],
+        lookahead: &TokenSet,
+    ) -> Result<Vec<Item<'grammar, TokenSet>>, OutOfMemory> {
+        let _grammar = lr.grammar();
+        let given = lr.first_sets().first1(alloc, remainder, lookahead)?;
+        lr.begun_items(alloc, nonterminal, &given)
+    }
+
+    fn given<'grammar>(
+        alloc: Global,
+        lr: &Lr<'grammar, TokenSet>,
+        _nonterminal: &NonterminalString,
+        _remainder: &[Symbol],
+        rest: &Rest,
+        lookahead: &TokenSet,
+    ) -> Result<Option<TokenSet>, OutOfMemory> {
+        let _grammar = lr.grammar();
+        let mut tokens = rest.first.clone(alloc)?;
+        if rest.nullable {
+            tokens.union_with(lookahead)?;
+        }
+        Ok(Some(tokens))
+    }
+}

@@ -1,0 +1,39 @@
+//! The reductions of a state.
+ghost use Rattle.std.specs.Prelude.{◌≡◌, ◌++◌, ◌∷◌, [], IfOk, OnOk, map};
+ghost use Rattle.lalrpop_tables.specs.states.Transitions.{reductions_of, seen};
+
+use lalrpop_base::lookahead::Lookahead;
+use lalrpop_base::lr1_core::item::Item;
+use lalrpop_base::memory::OutOfMemory;
+use lalrpop_base::repr::Production;
+use std::alloc::Global;
+
+// Puts a reduction by an item behind the others, where its dot is at the end.
+fn push_finished<'grammar, L: Lookahead>(
+    alloc: Global,
+    item: &Item<'grammar, L>,
+    reductions: &mut Vec<(L, &'grammar Production)>,
+) -> Result<(), OutOfMemory>
+    ensures { OnOk result (map seen reductions.new.items ≡ map seen reductions.old.items ++
+        reductions_of (item.now ∷ [])) }
+{
+    if item.can_reduce() {
+        let tokens = item.lookahead.copy(alloc)?;
+        reductions.push((tokens, item.production))?;
+    }
+    Ok(())
+}
+
+/// The productions of the finished items, with their tokens, in order.
+pub fn reductions<'grammar, L: Lookahead>(
+    alloc: Global,
+    items: &[Item<'grammar, L>],
+) -> Result<Vec<(L, &'grammar Production)>, OutOfMemory>
+    ensures { IfOk result (λ list. map seen list.items ≡ reductions_of items.now) }
+{
+    let mut reductions = Vec::new(alloc);
+    for item in items {
+        push_finished(alloc, item, &mut reductions)?;
+    }
+    Ok(reductions)
+}
