@@ -8,10 +8,16 @@ import tempfile
 
 import deep
 import grammars
+import shown_deep
+import shown_verdicts
+import shown_words
 import verdicts
 import words
 from chance import Chance
 
+# What the runs of `lrshow` begin with; the others are of `lrtab`.
+SHOWN = "shown_"
+DEEP = {**deep.DEEP, **{f"{SHOWN}{name}": it for name, it in shown_deep.SHOWN_DEEP.items()}}
 VARIABLE = "LALRPOP_LANE_TABLE"
 METHODS = ("Lane", "Canonical")
 # Words of the variable that ask for no method, so that it is the lane way.
@@ -26,10 +32,20 @@ Case = collections.namedtuple("Case", "text words lane")
 Limits = collections.namedtuple("Limits", "seconds work stack memory")
 
 
-def case_of(number):
-    chance = Chance(number)
+def is_random(run):
+    return run.removeprefix(SHOWN).isdecimal()
+
+
+def case_of(run):
+    """The text and the words of a random run."""
+    chance = Chance(int(run.removeprefix(SHOWN)))
     text, rules = grammars.random_text(chance)
-    return Case(text, words.random_words(chance, rules, text), chance.one_of(OTHER_WORDS))
+    if run.startswith(SHOWN):
+        text = shown_words.with_hostile_literals(chance, text)
+        given = shown_words.random_words(chance, rules)
+    else:
+        given = words.random_words(chance, rules, text)
+    return Case(text, given, chance.one_of(OTHER_WORDS))
 
 
 def environment_of(method, lane=None):
@@ -87,24 +103,47 @@ def told(answer):
     return f"status {answer.status}, standard output {cut(answer.stdout)}, standard error {cut(answer.stderr)}"
 
 
-def try_random(program, seconds, number):
-    """The faults of a random run, by both methods."""
-    case = case_of(number)
+def try_random(programs, seconds, run):
+    """How many runs a random input has, and their faults."""
+    case = case_of(run)
     environments = [environment_of(method, case.lane) for method in METHODS]
     limits = limits_of(seconds, SECONDS, deep.SMALL_STACK, MEMORY)
+    if run.startswith(SHOWN):
+        count, answers, whys, difference = tried_shown(programs[1], case, environments, limits)
+    else:
+        count, answers, whys, difference = tried_told(programs[0], case, environments, limits)
+    faults = [
+        f"random run {run} by {method}: {why}; got {told(answer)}"
+        for method, answer, why in zip(METHODS, answers, whys)
+        if why
+    ]
+    if difference and not faults:
+        faults = [f"random run {run}: {difference}: {' and '.join(map(told, answers))}"]
+    return count, faults
+
+
+def tried_told(program, case, environments, limits):
+    """How many runs of `lrtab`, its answers by each method, what is wrong with each, and where they differ."""
     answers = answers_of(program, case.text, case.words, environments, limits)
-    faults = []
-    for method, answer in zip(METHODS, answers):
-        why = verdicts.fault_of(case.text, case.words, answer)
-        if why:
-            faults.append(f"random run {number} by {method}: {why}; got {told(answer)}")
-    why = None if faults else verdicts.difference_of(case.text, case.words, *answers)
-    return faults if not why else [f"random run {number}: {why}: {' and '.join(map(told, answers))}"]
+    whys = [verdicts.fault_of(case.text, case.words, it) for it in answers]
+    difference = None if any(whys) else verdicts.difference_of(case.text, case.words, *answers)
+    return len(answers), answers, whys, difference
 
 
-def try_deep(program, seconds, name):
+def tried_shown(program, case, environments, limits):
+    """The same of `lrshow`, which is asked for the data of what it draws, too."""
+    answers = answers_of(program, case.text, case.words, environments, limits)
+    asking = shown_verdicts.asks_for_data(case.words)
+    datas = answers if asking == case.words else answers_of(program, case.text, asking, environments, limits)
+    whys = [shown_verdicts.fault_of(case.text, case.words, *it) for it in zip(answers, datas)]
+    count = len(answers) + (0 if datas is answers else len(datas))
+    return count, answers, whys, shown_verdicts.difference_of(*datas)
+
+
+def try_deep(programs, seconds, name):
     """How many runs a deep input has, and their faults."""
-    case = deep.DEEP[name]()
+    case = DEEP[name]()
+    program = programs[1 if name.startswith(SHOWN) else 0]
     environments = [environment_of(method) for method in case.methods]
     limits = limits_of(seconds, case.seconds, case.stack, case.memory)
     answers = answers_of(program, case.text, case.words, environments, limits)

@@ -4,3 +4,4 @@ pub mod Explained
 pub mod Explaining
 pub mod Shown
 pub mod Answers
+pub mod Told

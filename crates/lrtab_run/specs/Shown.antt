@@ -127,8 +127,8 @@ most_copies = 10000
 abbrev pub IsShown : Method → Grammar → Asked → ℕ → List ℕ → Type 0
 IsShown method g request = IsTaskShown method most_copies g (name_of request.start) request.task
 
--- and of a grammar whose marked nonterminals are still to be inlined
-pub record IsShownInlined (method : Method) (g : Grammar) (request : Asked) (status : ℕ) (text : List ℕ) : Type 0 where
+-- what is shown of a grammar whose marked nonterminals are still to be inlined
+pub record IsShownInlined (IsShown : Grammar → Type 0) (g : Grammar) : Type 0 where
   pub inlined : Grammar
   pub inlining : IsInlining g inlined
-  pub shown : IsShown method inlined request status text
+  pub shown : IsShown inlined

@@ -2,7 +2,11 @@
 #![tactic(auto)]
 
 pub mod answer;
+pub mod ask;
 pub mod explain;
+pub mod host;
 pub mod output;
 pub mod run;
+mod shown;
+pub mod tell;
 pub mod words;

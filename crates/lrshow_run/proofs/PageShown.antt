@@ -1,0 +1,20 @@
+-- What is shown of the text of a page.
+use Rattle.std.proofs.Common.{◌≡◌, ℕ, List, [], Result, Ok, Err, ◌∙◌}
+use Rattle.std.specs.Prelude.{IfOk}
+use Rattle.lalrpop_base.specs.Words.{Bits}
+use Rattle.lalrpop_base.specs.declared.lr1_core.state.Conflict.{Conflict}
+use Rattle.lalrpop_base.specs.declared.lr1_core.state.State.{State}
+use Rattle.lalrpop_base.specs.declared.memory.OutOfMemory.{OutOfMemory}
+use Rattle.lalrpop_base.specs.declared.repr.NonterminalString.{NonterminalString}
+use Rattle.lalrpop_base.specs.declared.repr.grammar.Grammar.{Grammar}
+use Rattle.lrtab_run.specs.declared.answer.Shown.{Shown}
+use Rattle.table_data.specs.Whole.{IsData}
+use Rattle.table_pictures.specs.Page.{page}
+use Rattle.lrshow_run.specs.Shown.{IsFormShown, IsOutput}
+use Rattle.lrshow_run.specs.Words.{Page}
+
+-- what is put out with the text of the page of some data is shown for a page
+pub page_shown : (g : Grammar) (start : NonterminalString) (status : ℕ) (states : List (State Bits)) (conflicts : List (Conflict Bits)) (json text : List ℕ) → IsData g start states conflicts json → text ≡ page json → (r : Result Shown OutOfMemory) → IfOk r (IsOutput status text []) →
+    IfOk r (IsFormShown g start status states conflicts Page)
+page_shown g start status states conflicts json text held is (Ok s) out = (json, held, record { ended = out.ended; whole = out.whole ∙ is; remarked = out.remarked })
+page_shown g start status states conflicts json text held is (Err e) out = tt

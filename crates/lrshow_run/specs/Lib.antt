@@ -1,0 +1,4 @@
+pub mod Words
+pub mod Built
+pub mod Shown
+pub mod Answers

@@ -1,0 +1,57 @@
+//! The program `lrshow`, over any reader and writers.
+ghost use Rattle.std.specs.Prelude.{◌≡◌, map, option_map, string_bytes};
+ghost use Rattle.lrtab_run.specs.Answers.{file_name};
+ghost use Rattle.lrtab_run.specs.Told.{IsTold};
+ghost use Rattle.lrtab_run.specs.declared.answer.Answer.{Answer};
+ghost use Rattle.lrshow_run.specs.Answers.{usage, IsAnswer};
+ghost use Rattle.lrshow_run.specs.Words.{request_of};
+
+use crate::words::request_of;
+use lalrpop_tables::build::Method;
+use lrtab_run::answer::{Answer, answer_to, first_word};
+use lrtab_run::tell::tell;
+use std::alloc::Global;
+use std::io::{Read, Write};
+
+/// Runs the program on its words, and answers its status. Nothing goes to `out` before the whole
+/// text is made.
+pub fn run<R: Read, O: Write, E: Write>(
+    alloc: Global,
+    words: &[String],
+    method: Method,
+    file: Option<R>,
+    out: &mut O,
+    err: &mut E,
+) -> u8
+where
+    R: Drop,
+    ensures { (answer : Answer)
+        × IsAnswer method (request_of (map string_bytes words.now))
+        (file_name (map string_bytes words.now)) (option_map R.remaining file) answer
+        × IsTold usage answer result
+        (O.contents out.old) (O.contents out.new) (E.contents err.old) (E.contents err.new) }
+{
+    let answer = answer_of(alloc, words, method, file);
+    tell(&answer, USAGE, out, err)
+}
+
+const USAGE: &str = "usage: lrshow FILE START (json | dot [--around STATE] | html)\n";
+
+/// What the program has to tell on its words.
+pub fn answer_of<R: Read + Drop>(
+    alloc: Global,
+    words: &[String],
+    method: Method,
+    file: Option<R>,
+) -> Answer
+    ensures { IsAnswer method (request_of (map string_bytes words.now))
+        (file_name (map string_bytes words.now)) (option_map R.remaining file) result }
+{
+    let Some(request) = request_of(words) else {
+        return Answer::Usage;
+    };
+    match answer_to(alloc, &request, first_word(words), method, file) {
+        Ok(answer) => answer,
+        Err(_) => Answer::Memory,
+    }
+}

@@ -1,0 +1,195 @@
+//! What is shown of the tables of a grammar, or of its conflicts.
+ghost use Rattle.std.specs.Prelude.{◌≡◌, IfOk, Some, None, [], string_bytes};
+ghost use Rattle.lalrpop_base.specs.Words.{IsWellFormed};
+ghost use Rattle.lrshow_run.specs.Shown.{IsGraphShown, IsFormShown, IsOutput, IsShown, how_to_cut, no_state};
+ghost use Rattle.lrshow_run.specs.Words.{Json, Page, form_view, request_view};
+ghost use Rattle.table_data.specs.Whole.{IsData};
+ghost use Rattle.table_pictures.specs.Edges.{shown_of};
+ghost use Rattle.table_pictures.specs.Graphs.{graph};
+
+use crate::built::{Built, build};
+use crate::words::{Form, Request};
+use grammar_text::symbols::name_of;
+use lalrpop_base::memory::OutOfMemory;
+use lalrpop_base::repr::NonterminalString;
+use lalrpop_base::repr::grammar::Grammar;
+use lalrpop_tables::build::Method;
+use lrtab_run::answer::Shown;
+use lrtab_run::ask::Ask;
+use std::alloc::Global;
+use table_data::whole::tables_json;
+use table_pictures::dot::graph_text;
+use table_pictures::page::page_text;
+
+impl Ask for Request<'_> {
+    ghost IsShown = { λ request method g s. IsShown method g (request_view request) s };
+
+    fn shown(
+        &self,
+        alloc: Global,
+        method: Method,
+        grammar: &Grammar,
+    ) -> Result<Shown, OutOfMemory> {
+        let start = name_of(alloc, self.start)?;
+        let built = build(alloc, grammar, start.clone(alloc)?, method)?;
+        form_shown(alloc, grammar, &start, &built, self.form)
+    }
+}
+
+// What is shown for a form of what was built.
+fn form_shown<'grammar>(
+    alloc: Global,
+    grammar: &'grammar Grammar,
+    start: &NonterminalString,
+    built: &Built<'grammar>,
+    form: Form,
+) -> Result<Shown, OutOfMemory>
+    requires well_formed { IsWellFormed grammar.now }
+    ensures { IfOk result (IsFormShown grammar.now start.now built.now.status
+        built.now.states.items built.now.conflicts.items (form_view form)) }
+{
+    match form {
+        Form::Json => json(alloc, grammar, start, built),
+        Form::Page => page(alloc, grammar, start, built),
+        Form::Graph(None) => whole_graph(alloc, grammar, start, built),
+        Form::Graph(Some(number)) => graph_around(alloc, grammar, start, built, number),
+    }
+}
+
+// The data of what was built.
+fn data<'grammar>(
+    alloc: Global,
+    grammar: &'grammar Grammar,
+    start: &NonterminalString,
+    built: &Built<'grammar>,
+) -> Result<String, OutOfMemory>
+    requires well_formed { IsWellFormed grammar.now }
+    ensures { IfOk result (λ text. IsData grammar.now start.now built.now.states.items
+        built.now.conflicts.items (string_bytes text)) }
+{
+    tables_json(alloc, grammar, start, &built.states, &built.conflicts)
+}
+
+// A status and a text, with nothing to remark.
+fn whole(alloc: Global, status: u8, text: String) -> Result<Shown, OutOfMemory>
+    ensures { IfOk result (IsOutput status (string_bytes text) []) }
+{
+    Ok(Shown {
+        status,
+        text,
+        remark: String::new(alloc),
+    })
+}
+
+// The JSON of what was built.
+fn json<'grammar>(
+    alloc: Global,
+    grammar: &'grammar Grammar,
+    start: &NonterminalString,
+    built: &Built<'grammar>,
+) -> Result<Shown, OutOfMemory>
+    requires well_formed { IsWellFormed grammar.now }
+    ensures { IfOk result (IsFormShown grammar.now start.now built.now.status
+        built.now.states.items built.now.conflicts.items Json) }
+{
+    let text = data(alloc, grammar, start, built)?;
+    whole(alloc, built.status, text)
+}
+
+// The page of what was built.
+fn page<'grammar>(
+    alloc: Global,
+    grammar: &'grammar Grammar,
+    start: &NonterminalString,
+    built: &Built<'grammar>,
+) -> Result<Shown, OutOfMemory>
+    requires well_formed { IsWellFormed grammar.now }
+    ensures { IfOk result (IsFormShown grammar.now start.now built.now.status
+        built.now.states.items built.now.conflicts.items Page) }
+{
+    let json = data(alloc, grammar, start, built)?;
+    let text = page_text(alloc, json.as_str())?;
+    whole(alloc, built.status, text)
+}
+
+// How many states a graph has at most without a word on how to cut it.
+const MANY: usize = 300;
+
+// The graph of all states that were built, and how to cut it where they are many.
+fn whole_graph<'grammar>(
+    alloc: Global,
+    grammar: &'grammar Grammar,
+    start: &NonterminalString,
+    built: &Built<'grammar>,
+) -> Result<Shown, OutOfMemory>
+    ensures { IfOk result (IsGraphShown grammar.now start.now built.now.status
+        built.now.states.items built.now.conflicts.items None) }
+{
+    let remark = how_to_cut(alloc, built.states.len())?;
+    let text = graph(alloc, grammar, start, built, None)?;
+    Ok(Shown {
+        status: built.status,
+        text,
+        remark,
+    })
+}
+
+// The graph of a state that was built and of its neighbours, or that there is no such state.
+fn graph_around<'grammar>(
+    alloc: Global,
+    grammar: &'grammar Grammar,
+    start: &NonterminalString,
+    built: &Built<'grammar>,
+    number: usize,
+) -> Result<Shown, OutOfMemory>
+    ensures { IfOk result (IsGraphShown grammar.now start.now built.now.status
+        built.now.states.items built.now.conflicts.items (Some number)) }
+{
+    if number >= built.states.len() {
+        return no_state(alloc, number);
+    }
+    let text = graph(alloc, grammar, start, built, Some(number))?;
+    whole(alloc, built.status, text)
+}
+
+// The text of a graph of what was built.
+fn graph<'grammar>(
+    alloc: Global,
+    grammar: &'grammar Grammar,
+    start: &NonterminalString,
+    built: &Built<'grammar>,
+    around: Option<usize>,
+) -> Result<String, OutOfMemory>
+    ensures { IfOk result (λ text. string_bytes text ≡ graph start.now grammar.now.terminals
+        built.now.states.items built.now.conflicts.items (shown_of around)) }
+{
+    graph_text(
+        alloc,
+        start,
+        &grammar.terminals,
+        &built.states,
+        &built.conflicts,
+        around,
+    )
+}
+
+// The message where there is no state with a number.
+fn no_state(alloc: Global, number: usize) -> Result<Shown, OutOfMemory>
+    ensures { IfOk result (IsOutput 2 [] (no_state number)) }
+{
+    Ok(Shown {
+        status: 2,
+        text: String::new(alloc),
+        remark: format!(in alloc; "no state {number}\n")?,
+    })
+}
+
+// How to cut a graph that shows so many states.
+fn how_to_cut(alloc: Global, count: usize) -> Result<String, OutOfMemory>
+    ensures { IfOk result (λ text. string_bytes text ≡ how_to_cut count) }
+{
+    if count <= MANY {
+        return Ok(String::new(alloc));
+    }
+    Ok(format!(in alloc; "{count} states: --around STATE shows one and its neighbours\n")?)
+}

@@ -1,7 +1,0 @@
-use Rattle.std.proofs.Common.{◌≡◌, ◌++◌, map, drop, string_bytes}
-use Rattle.lalrpop_base.specs.declared.repr.TerminalString.TheVariants.{Literal}
-use Rattle.lrtab_run.proofs.answer.tokens_of.Given as goal
-
--- the literals so far, and those of the words that are left
-abbrev pub invariant-loop-word : goal.invariant-loop-word
-invariant-loop-word l = l.tokens.items ++ map Literal (map string_bytes (drop l.word-index l.words)) ≡ map Literal (map string_bytes l.words)

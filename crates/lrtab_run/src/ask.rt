@@ -1,0 +1,24 @@
+//! What a program may be asked of a grammar.
+ghost use Rattle.std.specs.Prelude.{◌≡◌, IfOk, false};
+ghost use Rattle.lalrpop_base.specs.Words.{IsWellFormed};
+ghost use Rattle.lalrpop_base.specs.declared.repr.grammar.Grammar.{Grammar};
+ghost use Rattle.lalrpop_tables.specs.declared.build.options.Method.{Method};
+ghost use Rattle.lrtab_run.specs.declared.answer.Shown.{Shown};
+
+use crate::answer::Shown;
+use lalrpop_base::memory::OutOfMemory;
+use lalrpop_base::repr::grammar::Grammar;
+use lalrpop_tables::build::Method;
+use std::alloc::Global;
+
+/// What a program may be asked of a grammar whose marked nonterminals are inlined.
+pub trait Ask {
+    // Whether this is what is shown of a grammar, by the method.
+    ghost IsShown: { Self → Method → Grammar → Shown → Type 0 };
+
+    /// What is shown of a grammar, by the method.
+    fn shown(&self, alloc: Global, method: Method, grammar: &Grammar) -> Result<Shown, OutOfMemory>
+        requires well_formed { IsWellFormed grammar.now }
+        requires canonical { grammar.now.algorithm.lalr ≡ false }
+        ensures { IfOk result (IsShown self.now method grammar.now) };
+}

@@ -1,0 +1,48 @@
+//! How an answer is told.
+ghost use Rattle.std.specs.Prelude.{◌≡◌, ◌⊎◌, string_bytes};
+ghost use Rattle.lrtab_run.specs.Told.{IsTold, IsWritten, IsCutOff};
+ghost use Rattle.lrtab_run.specs.Output.{AppendsBeginning};
+
+use crate::answer::{Answer, Shown};
+use crate::output::write_whole;
+use std::io::Write;
+
+/// Tells an answer, and answers the status. The usage text is a program's own.
+pub fn tell<O: Write, E: Write>(answer: &Answer, usage: &str, out: &mut O, err: &mut E) -> u8
+    ensures { IsTold usage.now answer.now result (O.contents out.old) (O.contents out.new)
+        (E.contents err.old) (E.contents err.new) }
+{
+    match answer {
+        Answer::Output(shown) => tell_shown(shown, out, err),
+        Answer::Fault(text) => complain(err, text.as_str(), 2),
+        Answer::Usage => complain(err, usage, 2),
+        Answer::TooManyActions => complain(err, "too many actions\n", 2),
+        Answer::Memory => complain(err, "out of memory\n", 3),
+    }
+}
+
+// Tells what is shown, and answers the status.
+fn tell_shown<O: Write, E: Write>(shown: &Shown, out: &mut O, err: &mut E) -> u8
+    ensures { ((result ≡ shown.now.status)
+        × IsWritten (string_bytes shown.now.text) (string_bytes shown.now.remark)
+        (O.contents out.old) (O.contents out.new) (E.contents err.old) (E.contents err.new))
+        ⊎ ((result ≡ 2) × IsCutOff (string_bytes shown.now.text)
+        (O.contents out.old) (O.contents out.new) (E.contents err.old) (E.contents err.new)) }
+{
+    if !write_whole(out, shown.text.as_bytes()) {
+        return complain(err, "cannot write\n", 2);
+    }
+    if shown.remark.is_empty() {
+        return shown.status;
+    }
+    complain(err, shown.remark.as_str(), shown.status)
+}
+
+/// Writes a message, and answers the status. A fault of the writer is not told.
+pub fn complain<E: Write>(err: &mut E, message: &str, status: u8) -> u8
+    ensures status { result ≡ status }
+    ensures told { AppendsBeginning (E.contents err.old) (E.contents err.new) message.now }
+{
+    let _ = write_whole(err, message.as_bytes());
+    status
+}

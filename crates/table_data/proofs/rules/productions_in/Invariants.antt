@@ -1,0 +1,13 @@
+use Rattle.std.proofs.Common.{◌≡◌, ◌++◌, map}
+use Rattle.std.specs.Borrow.{Bor}
+use Rattle.std.specs.List.{flat_map}
+use Rattle.lalrpop_base.specs.declared.repr.NonterminalString.{NonterminalString}
+use Rattle.lalrpop_base.specs.declared.repr.grammar.NonterminalData.{NonterminalData}
+use Rattle.lalrpop_base.specs.declared.repr.Production.{Production}
+use Rattle.lalrpop_base.specs.Words.{productions}
+use Rattle.table_data.proofs.rules.productions_in.Given as goal
+
+-- the productions of the names so far, and of those that are left, are all
+abbrev pub invariant-loop-name : goal.invariant-loop-name
+invariant-loop-name l =
+    map (λ (p : Bor Production). p.now) l.all.items ++ flat_map (λ (e : NonterminalString × NonterminalData). e.1.productions.items) l._name-iterator ≡ productions l.grammar

@@ -1,0 +1,25 @@
+use Rattle.std.proofs.Common.{refl, codes, string_bytes}
+use Rattle.table_data.specs.Conflicts.{conflict_json}
+use Rattle.table_data.specs.Json.{array}
+use Rattle.table_data.specs.Names.{terminal_json}
+use Rattle.table_data.proofs.Loops.{before, from_nothing, grew_by}
+use Rattle.table_data.proofs.whole.tables_json.Goals as goal
+
+pub returns : goal.returns
+returns c = record {
+  shown = c.in_ok-shown.shown.items;
+  each = c.in_ok-shown.ensures;
+  is = from_nothing _ _ _ c.new-text.ensures.bytes (
+      before (string_bytes c.new-text.result) _ _ _ _ _ c.in_ok-push_str.ensures.bytes (
+      before (string_bytes c.push_str.new.self) _ _ _ _ _ c.in_ok-push_json.ensures (
+      before (string_bytes c.push_json.new.text) _ _ _ _ _ c.in_ok-push_str-2.ensures.bytes (
+      before (string_bytes c.push_str-2.new.self) _ _ _ _ _ (grew_by (array (codes ",") terminal_json) _ _ _ _ c.in_ok-push_array.ensures c.all.ensures.value) (
+      before (string_bytes c.push_array.new.text) _ _ _ _ _ c.in_ok-push_str-3.ensures.bytes (
+      before (string_bytes c.push_str-3.new.self) _ _ _ _ _ c.in_ok-push_productions.ensures (
+      before (string_bytes c.push_productions.new.text) _ _ _ _ _ c.in_ok-push_str-4.ensures.bytes (
+      before (string_bytes c.push_str-4.new.self) _ _ _ _ _ c.in_ok-push_array-2.ensures (
+      before (string_bytes c.push_array-2.new.text) _ _ _ _ _ c.in_ok-push_str-5.ensures.bytes (
+      before (string_bytes c.push_str-5.new.self) _ _ _ _ _ (grew_by (array (codes ",\n") (conflict_json c.args.grammar.now.terminals)) _ _ _ _ c.in_ok-push_array-3.ensures c.deref.ensures.value) (
+      c.in_ok-push_str-6.ensures.bytes) refl) refl) refl) refl) refl) refl) refl) refl) refl) refl
+      );
+}

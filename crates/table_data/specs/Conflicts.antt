@@ -1,0 +1,86 @@
+-- Conflicts as JSON, and the items of their actions, of which examples are shown.
+use Rattle.std.specs.Prelude.{◌≡◌, ℕ, Bool, false, cond, List, [], ◌∷◌, ◌++◌, length, map, codes, slice_get, Option, Some, None}
+use Rattle.std.specs.Fmt.{decimal}
+use Rattle.std.specs.List.{All, flat_map}
+use Rattle.lalrpop_base.specs.Words.{Bits, Dotted}
+use Rattle.lalrpop_base.specs.declared.lr1_core.state.Action.{Action}
+use Rattle.lalrpop_base.specs.declared.lr1_core.state.Action.TheVariants.{Shift, Reduce}
+use Rattle.lalrpop_base.specs.declared.lr1_core.state.Conflict.{Conflict}
+use Rattle.lalrpop_base.specs.declared.lr1_core.state.State.{State}
+use Rattle.lalrpop_base.specs.declared.lr1_core.state.StateIndex.{StateIndex}
+use Rattle.lalrpop_base.specs.declared.repr.Production.{Production}
+use Rattle.lalrpop_base.specs.declared.repr.Symbol.{Symbol}
+use Rattle.lalrpop_base.specs.declared.repr.Symbol.TheVariants.{Nonterminal, Terminal}
+use Rattle.lalrpop_base.specs.declared.repr.TerminalString.{TerminalString}
+use Rattle.lalrpop_base.specs.contracts.repr.TerminalStringPartialEq.TheImpl as terminal_eq
+use Rattle.table_data.specs.declared.conflicts.ShownConflict.{ShownConflict}
+use Rattle.table_data.specs.declared.examples.ShownItem.{ShownItem}
+use Rattle.table_data.specs.Json.{array}
+use Rattle.table_data.specs.Names.{terminal_json, tokens_json}
+use Rattle.table_data.specs.Examples.{shown_json}
+
+-- ---- the texts
+-- a reduction: the number of its production, and its items
+abbrev pub reduce_json : Production → List ShownItem → List ℕ
+reduce_json p shown = codes "{\"reduce\":" ++ (decimal p.action.0 ++ (codes ",\"items\":" ++ (array (codes ",") shown_json shown ++ codes "}")))
+
+-- a shift: its terminal, the state to which it leads, and its items
+abbrev pub shift_json : TerminalString → StateIndex → List ShownItem → List ℕ
+shift_json t target shown = codes "{\"shift\":" ++ (terminal_json t ++ (codes ",\"state\":" ++ (decimal target.0 ++ (codes ",\"items\":" ++ (array (codes ",") shown_json shown ++ codes "}")))))
+
+-- an action, with its items
+abbrev pub action_json : Action → List ShownItem → List ℕ
+action_json (Shift t target) shown = shift_json t target shown
+action_json (Reduce p) shown = reduce_json p.now shown
+
+-- a conflict: its state, its tokens, its reduction and its other action
+abbrev pub conflict_json : List TerminalString → ShownConflict → List ℕ
+conflict_json terminals shown = codes "{\"state\":" ++ (decimal shown.conflict.now.state.0 ++ (codes ",\"lookahead\":" ++ (tokens_json terminals shown.conflict.now.lookahead
+    ++ (codes ",\"actions\":[" ++ (reduce_json shown.conflict.now.production.now shown.reduction.items ++ (codes "," ++ (action_json shown.conflict.now.action shown.other.items ++ codes "]}")))))))
+
+-- ---- what items are shown
+-- the items of a state, none where there is no state
+abbrev pub items_at : Option (State Bits) → List (Dotted Bits)
+items_at None = []
+items_at (Some state) = state.items.vec.items
+
+-- whether a symbol that is there is the terminal
+abbrev pub is_terminal : TerminalString → Option Symbol → Bool
+is_terminal t None = false
+is_terminal t (Some (Nonterminal name)) = false
+is_terminal t (Some (Terminal u)) = terminal_eq.ghosts.eq u t
+
+-- whether the terminal stands behind the dot
+abbrev pub shifts : TerminalString → Dotted Bits → Bool
+shifts t item = is_terminal t (slice_get item.production.symbols item.index)
+
+-- the number of the production of an item that is shown, and the place of its dot
+abbrev pub place_of_shown : ShownItem → ℕ × ℕ
+place_of_shown shown = (shown.production, shown.dot)
+
+-- those of an item, if something holds
+abbrev pub place_if : Bool → Dotted Bits → List (ℕ × ℕ)
+place_if test item = cond test ((item.production.action.0, item.index) ∷ []) []
+
+-- those of the items that shift a terminal
+abbrev pub shifted_places : TerminalString → List (Dotted Bits) → List (ℕ × ℕ)
+shifted_places t items = flat_map (λ (item : Dotted Bits). place_if (shifts t item) item) items
+
+-- those of the finished item of a production
+abbrev pub reduced_places : Production → List (ℕ × ℕ)
+reduced_places p = (p.action.0, length p.symbols) ∷ []
+
+-- those of the items of an action in a state
+abbrev pub places_of : List (State Bits) → StateIndex → Action → List (ℕ × ℕ)
+places_of states state (Shift t target) = shifted_places t (items_at (slice_get states state.0))
+places_of states state (Reduce p) = reduced_places p.now
+
+-- what is shown of a conflict are the items of its actions
+pub record IsShown (states : List (State Bits)) (shown : ShownConflict) : Type 0 where
+  pub reduction : map place_of_shown shown.reduction.items ≡ reduced_places shown.conflict.now.production.now
+  pub other : map place_of_shown shown.other.items ≡ places_of states shown.conflict.now.state shown.conflict.now.action
+
+-- what is shown are all conflicts, in their order
+pub record AreShown (states : List (State Bits)) (conflicts : List (Conflict Bits)) (shown : List ShownConflict) : Type 0 where
+  pub each : map (λ (s : ShownConflict). s.conflict.now) shown ≡ conflicts
+  pub items : All (IsShown states) shown

@@ -1,0 +1,26 @@
+-- Arrays and objects of JSON (RFC 8259), as texts: lists of bytes.
+use Rattle.std.specs.Prelude.{ℕ, List, [], ◌∷◌, ◌++◌, codes}
+use Rattle.std.specs.Fmt.{decimal}
+use Rattle.std.specs.List.{flat_map}
+use Rattle.lalrpop_base.specs.declared.lr1_core.state.StateIndex.{StateIndex}
+
+-- the text of a value behind a separator
+abbrev pub behind : {X : Type 0} → List ℕ → (X → List ℕ) → X → List ℕ
+behind separator text x = separator ++ text x
+
+-- the texts of values, with a separator between them
+abbrev pub listed : {X : Type 0} → List ℕ → (X → List ℕ) → List X → List ℕ
+listed separator text [] = []
+listed separator text (x ∷ xs) = text x ++ flat_map (behind separator text) xs
+
+-- an array: the values between brackets
+abbrev pub array : {X : Type 0} → List ℕ → (X → List ℕ) → List X → List ℕ
+array separator text xs = codes "[" ++ (listed separator text xs ++ codes "]")
+
+-- an object: its members between braces
+abbrev pub object : {X : Type 0} → (X → List ℕ) → List X → List ℕ
+object text xs = codes "{" ++ (listed (codes ",") text xs ++ codes "}")
+
+-- a member of an object: a key, whose text is given, and the number of a state
+abbrev pub member : {X : Type 0} → (X → List ℕ) → X × StateIndex → List ℕ
+member key (x, target) = key x ++ (codes ":" ++ decimal target.0)

@@ -1,0 +1,118 @@
+//! Arrays, and objects of targets.
+ghost use Rattle.std.specs.Prelude.{◌≡◌, ◌++◌, OnOk, codes, string_bytes};
+ghost use Rattle.std.specs.List.{flat_map};
+ghost use Rattle.table_data.specs.Json.{array, behind, listed, member, object};
+
+use super::to_json::ToJson;
+use lalrpop_base::lr1_core::state::StateIndex;
+use lalrpop_base::memory::OutOfMemory;
+use lalrpop_base::repr::terminals::TerminalSet;
+use std::alloc::Global;
+use std::collections::BTreeMap;
+
+/// Appends an array of values.
+pub(crate) fn push_array<T: ToJson>(
+    alloc: Global,
+    text: &mut String,
+    separator: &str,
+    values: &[T],
+    terminals: &TerminalSet,
+) -> Result<(), OutOfMemory>
+    ensures { OnOk result (string_bytes text.new ≡ string_bytes text.old ++ array separator.now
+        (T.json terminals.now) values.now) }
+{
+    text.push_str("[")?;
+    push_listed(alloc, text, separator, values, terminals)?;
+    text.push_str("]")?;
+    Ok(())
+}
+
+// Appends values with a separator between them.
+fn push_listed<T: ToJson>(
+    alloc: Global,
+    text: &mut String,
+    separator: &str,
+    values: &[T],
+    terminals: &TerminalSet,
+) -> Result<(), OutOfMemory>
+    ensures { OnOk result (string_bytes text.new ≡ string_bytes text.old ++ listed separator.now
+        (T.json terminals.now) values.now) }
+{
+    let [first, others @ ..] = values else {
+        return Ok(());
+    };
+    first.push_json(alloc, text, terminals)?;
+    push_others(alloc, text, separator, others, terminals)?;
+    Ok(())
+}
+
+// Appends values, each behind a separator.
+fn push_others<T: ToJson>(
+    alloc: Global,
+    text: &mut String,
+    separator: &str,
+    values: &[T],
+    terminals: &TerminalSet,
+) -> Result<(), OutOfMemory>
+    ensures { OnOk result (string_bytes text.new ≡ string_bytes text.old ++ flat_map
+        (behind separator.now (T.json terminals.now)) values.now) }
+{
+    for value in values {
+        push_other(alloc, text, separator, value, terminals)?;
+    }
+    Ok(())
+}
+
+// Appends a value behind a separator.
+fn push_other<T: ToJson>(
+    alloc: Global,
+    text: &mut String,
+    separator: &str,
+    value: &T,
+    terminals: &TerminalSet,
+) -> Result<(), OutOfMemory>
+    ensures { OnOk result (string_bytes text.new ≡ string_bytes text.old ++ behind separator.now
+        (T.json terminals.now) value.now) }
+{
+    text.push_str(separator)?;
+    value.push_json(alloc, text, terminals)?;
+    Ok(())
+}
+
+/// Appends an object that has, for each symbol, the state to which it leads.
+pub(crate) fn push_targets<K: Ord + ToJson>(
+    alloc: Global,
+    text: &mut String,
+    targets: &BTreeMap<K, StateIndex>,
+    terminals: &TerminalSet,
+) -> Result<(), OutOfMemory>
+    ensures { OnOk result (string_bytes text.new ≡ string_bytes text.old ++ object
+        (member (K.json terminals.now)) targets.now.entries) }
+{
+    text.push_str("{")?;
+    let mut separator = "";
+    for (symbol, target) in targets.iter() {
+        push_target(alloc, text, separator, symbol, *target, terminals)?;
+        separator = ",";
+    }
+    text.push_str("}")?;
+    Ok(())
+}
+
+// Appends a member of such an object behind a separator.
+fn push_target<K: ToJson>(
+    alloc: Global,
+    text: &mut String,
+    separator: &str,
+    symbol: &K,
+    target: StateIndex,
+    terminals: &TerminalSet,
+) -> Result<(), OutOfMemory>
+    ensures { OnOk result (string_bytes text.new ≡ string_bytes text.old ++ behind separator.now
+        (member (K.json terminals.now)) (symbol.now, target)) }
+{
+    text.push_str(separator)?;
+    symbol.push_json(alloc, text, terminals)?;
+    write!(text, ":{target}")?;
+    Ok(())
+}

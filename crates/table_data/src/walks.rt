@@ -1,0 +1,216 @@
+//! Examples of how the items of the actions of conflicts come about.
+ghost use Rattle.std.specs.Prelude.{◌≡◌, ◌++◌, Some, IfOk, OnOk, map, slice_get};
+ghost use Rattle.table_data.specs.Conflicts.{AreShown, IsShown, is_terminal, items_at, place_if, place_of_shown, places_of, reduced_places, shifted_places, shifts};
+
+use super::conflicts::ShownConflict;
+use super::examples::ShownItem;
+use lalrpop_base::first::FirstSets;
+use lalrpop_base::lr1_core::item::{Item, Lr1Item};
+use lalrpop_base::lr1_core::state::{Action, Lr1Conflict, Lr1State, StateIndex};
+use lalrpop_base::memory::OutOfMemory;
+use lalrpop_base::repr::terminals::TerminalSet;
+use lalrpop_base::repr::{Production, Symbol, TerminalString};
+use lalrpop_lr1::trace::{Example, Tracer};
+use std::alloc::Global;
+
+// How many examples are shown of an item.
+const MOST: usize = 3;
+
+/// States, with the first sets and the terminals of their grammar, and what traces back over them.
+#[derive(Drop)]
+pub(crate) struct Ground<'ground, 'grammar> {
+    pub(crate) states: &'ground [Lr1State<'grammar>],
+    pub(crate) first_sets: &'ground FirstSets<'grammar>,
+    pub(crate) terminals: &'ground TerminalSet,
+    pub(crate) tracer: &'ground Tracer<'ground, 'grammar>,
+    ghost numbered: { terminals.now ≡ first_sets.now.terminals },
+}
+
+/// Conflicts, each with examples of how its actions come about.
+pub(crate) fn shown_conflicts<'conflicts, 'grammar>(
+    alloc: Global,
+    ground: &Ground<'_, 'grammar>,
+    conflicts: &'conflicts [Lr1Conflict<'grammar>],
+) -> Result<Vec<ShownConflict<'conflicts, 'grammar>>, OutOfMemory>
+    ensures { IfOk result (λ shown. AreShown ground.now.states.now conflicts.now shown.items) }
+{
+    let mut shown = Vec::new(alloc);
+    for conflict in conflicts {
+        shown.push(shown_conflict(alloc, ground, conflict)?)?;
+    }
+    Ok(shown)
+}
+
+// A conflict with examples of how its actions come about.
+fn shown_conflict<'conflicts, 'grammar>(
+    alloc: Global,
+    ground: &Ground<'_, 'grammar>,
+    conflict: &'conflicts Lr1Conflict<'grammar>,
+) -> Result<ShownConflict<'conflicts, 'grammar>, OutOfMemory>
+    ensures conflict { IfOk result (λ shown. shown.conflict.now ≡ conflict.now) }
+    ensures items { IfOk result (IsShown ground.now.states.now) }
+{
+    let reduction = shown_reduction(alloc, ground, conflict, conflict.production)?;
+    let other = shown_action(alloc, ground, conflict)?;
+    Ok(ShownConflict {
+        conflict,
+        reduction,
+        other,
+    })
+}
+
+// The items of the other action of a conflict, with examples.
+fn shown_action<'grammar>(
+    alloc: Global,
+    ground: &Ground<'_, 'grammar>,
+    conflict: &Lr1Conflict<'grammar>,
+) -> Result<Vec<ShownItem>, OutOfMemory>
+    ensures { IfOk result (λ shown. map place_of_shown shown.items ≡ places_of
+        ground.now.states.now conflict.now.state conflict.now.action) }
+{
+    match &conflict.action {
+        Action::Shift(terminal, _) => shown_shifts(alloc, ground, conflict.state, terminal),
+        Action::Reduce(production) => shown_reduction(alloc, ground, conflict, *production),
+    }
+}
+
+// The finished item of a reduction of a conflict, with examples that go on with a token of the
+// conflict.
+fn shown_reduction<'grammar>(
+    alloc: Global,
+    ground: &Ground<'_, 'grammar>,
+    conflict: &Lr1Conflict<'grammar>,
+    production: &'grammar Production,
+) -> Result<Vec<ShownItem>, OutOfMemory>
+    ensures { IfOk result
+        (λ shown. map place_of_shown shown.items ≡ reduced_places production.now) }
+{
+    let item = Item {
+        production,
+        index: production.symbols.len(),
+        lookahead: conflict.lookahead.clone(alloc)?,
+    };
+    let examples = meeting_examples(alloc, ground, conflict.state, &item)?;
+    let mut shown = Vec::new(alloc);
+    shown.push(ShownItem {
+        production: production.action.index(),
+        dot: production.symbols.len(),
+        examples,
+    })?;
+    Ok(shown)
+}
+
+// The items of a state that shift a terminal, with examples.
+fn shown_shifts<'grammar>(
+    alloc: Global,
+    ground: &Ground<'_, 'grammar>,
+    state: StateIndex,
+    terminal: &TerminalString,
+) -> Result<Vec<ShownItem>, OutOfMemory>
+    ensures { IfOk result (λ shown. map place_of_shown shown.items ≡ shifted_places terminal.now
+        (items_at (slice_get ground.now.states.now state.0))) }
+{
+    let mut shown = Vec::new(alloc);
+    let items = items_in(ground.states, state);
+    for item in items {
+        add_shift(alloc, &mut shown, ground, state, terminal, item)?;
+    }
+    Ok(shown)
+}
+
+// Adds an item with examples, if it shifts the terminal.
+fn add_shift<'grammar>(
+    alloc: Global,
+    shown: &mut Vec<ShownItem>,
+    ground: &Ground<'_, 'grammar>,
+    state: StateIndex,
+    terminal: &TerminalString,
+    item: &Lr1Item<'grammar>,
+) -> Result<(), OutOfMemory>
+    ensures { OnOk result (map place_of_shown shown.new.items ≡ map place_of_shown
+        shown.old.items ++ place_if (shifts terminal.now item.now) item.now) }
+{
+    if !is_shifted(item, terminal) {
+        return Ok(());
+    }
+    let examples = shifting_examples(alloc, ground, state, item)?;
+    shown.push(ShownItem {
+        production: item.production.action.index(),
+        dot: item.index,
+        examples,
+    })?;
+    Ok(())
+}
+
+// The first examples of a state's item that shifts.
+fn shifting_examples<'grammar>(
+    alloc: Global,
+    ground: &Ground<'_, 'grammar>,
+    state: StateIndex,
+    item: &Lr1Item<'grammar>,
+) -> Result<Vec<Example>, OutOfMemory> {
+    let begun = Item::lr0(item.production, item.index);
+    let graph = ground.tracer.backtrace_shift(alloc, state, begun)?;
+    let walk = graph.lr0_examples(alloc, Item::lr0(item.production, item.index))?;
+    let mut examples = Vec::new(alloc);
+    for example in walk.take(MOST) {
+        examples.push(example?)?;
+    }
+    Ok(examples)
+}
+
+// The first examples of a finished item in a state that go on with a token of its lookahead: none
+// where the states have terminals that the grammar lacks.
+fn meeting_examples<'grammar>(
+    alloc: Global,
+    ground: &Ground<'_, 'grammar>,
+    state: StateIndex,
+    item: &Lr1Item<'grammar>,
+) -> Result<Vec<Example>, OutOfMemory> {
+    let finished = Item::lr0(item.production, item.index);
+    let graph = ground.tracer.backtrace_reduce(alloc, state, finished)?;
+    let mut examples = Vec::new(alloc);
+    if !graph.is_known(ground.terminals) {
+        return Ok(examples);
+    }
+    for example in graph.lr1_examples(alloc, ground.first_sets, item)? {
+        if examples.len() == MOST {
+            return Ok(examples);
+        }
+        examples.push(example?)?;
+    }
+    Ok(examples)
+}
+
+// The items of a state, none where there is no such state.
+fn items_in<'a, 'grammar>(
+    states: &'a [Lr1State<'grammar>],
+    state: StateIndex,
+) -> &'a [Lr1Item<'grammar>]
+    ensures { result.now ≡ items_at (slice_get states.now state.0) }
+{
+    if state.0 < states.len() {
+        return states[state.0].items.vec.as_slice();
+    }
+    &[]
+}
+
+// Whether the terminal stands behind the dot.
+fn is_shifted(item: &Lr1Item<'_>, terminal: &TerminalString) -> bool
+    ensures { result ≡ shifts terminal.now item.now }
+{
+    match item.shift_symbol() {
+        Some((symbol, _)) => is_same(symbol, terminal),
+        None => false,
+    }
+}
+
+// Whether a symbol is the terminal.
+fn is_same(symbol: &Symbol, terminal: &TerminalString) -> bool
+    ensures { result ≡ is_terminal terminal.now (Some symbol.now) }
+{
+    match symbol {
+        Symbol::Terminal(other) => *other == *terminal,
+        Symbol::Nonterminal(_) => false,
+    }
+}

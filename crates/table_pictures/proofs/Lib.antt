@@ -1,0 +1,6 @@
+pub mod Counts
+pub mod FirstTokens
+pub mod InertTexts
+pub mod NoMarkup
+pub mod Pieces
+pub mod XmlTexts

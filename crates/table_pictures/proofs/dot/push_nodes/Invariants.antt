@@ -1,0 +1,7 @@
+use Rattle.std.proofs.Common.{◌≡◌, ◌++◌, string_bytes, take}
+use Rattle.std.specs.List.{flat_map}
+use Rattle.table_pictures.specs.Graphs.{shown_node}
+use Rattle.table_pictures.proofs.dot.push_nodes.Given as goal
+
+abbrev pub invariant-loop-state : goal.invariant-loop-state
+invariant-loop-state l = string_bytes l.text ≡ string_bytes l.fn.text ++ flat_map (shown_node l.start l.terminals l.states l.conflicts l.shown) (take l.state-index l.states)

@@ -1,0 +1,63 @@
+-- The edges of a state in the text of a graph.
+use Rattle.std.specs.Prelude.{ℕ, ◌==◌, ◌||◌, ◌&&◌, Bool, true, false, List, [], ◌++◌, Option, None, Some, codes, if◌then◌else◌}
+use Rattle.std.specs.Fmt.{decimal}
+use Rattle.std.specs.List.{flat_map, list_any}
+use Rattle.lalrpop_base.specs.Words.{Bits, nonterminal_text, terminal_text}
+use Rattle.lalrpop_base.specs.contracts.repr.TerminalStringPartialEq.TheImpl as terminal_eq
+use Rattle.lalrpop_base.specs.declared.repr.NonterminalString.{NonterminalString}
+use Rattle.lalrpop_base.specs.declared.repr.TerminalString.{TerminalString}
+use Rattle.lalrpop_base.specs.declared.lr1_core.state.Action.{Action}
+use Rattle.lalrpop_base.specs.declared.lr1_core.state.Action.TheVariants.{Shift, Reduce}
+use Rattle.lalrpop_base.specs.declared.lr1_core.state.Conflict.{Conflict}
+use Rattle.lalrpop_base.specs.declared.lr1_core.state.State.{State}
+use Rattle.lalrpop_base.specs.declared.lr1_core.state.StateIndex.{StateIndex}
+use Rattle.table_pictures.specs.Escape.{xml_text}
+use Rattle.table_pictures.specs.declared.edges.Shown.{Shown}
+use Rattle.table_pictures.specs.declared.edges.Shown.TheVariants.{All, Around}
+
+-- which states and edges are shown: all, or those near the state with a number
+abbrev pub shown_of : Option ℕ → Shown
+shown_of None = All
+shown_of (Some number) = Around number
+
+-- an edge is shown: all are, or those that begin or end at a state
+abbrev pub shows_edge : Shown → ℕ → ℕ → Bool
+shows_edge All from to = true
+shows_edge (Around number) from to = from == number || to == number
+
+-- an action is the shift of a terminal
+abbrev pub shifts_terminal : TerminalString → Action → Bool
+shifts_terminal t (Shift other target) = terminal_eq.ghosts.eq other t
+shifts_terminal t (Reduce p) = false
+
+-- a conflict is one of the shift of a terminal in a state
+abbrev pub is_shift_conflict : ℕ → TerminalString → Conflict Bits → Bool
+is_shift_conflict number t conflict = shifts_terminal t conflict.action && (conflict.state.0 == number)
+
+-- the line of an edge: the numbers of the states, the label and what follows it
+abbrev pub edge_line : ℕ → ℕ → List ℕ → List ℕ → List ℕ
+edge_line from to label style = codes "  " ++ (decimal from ++ (codes " -> " ++ (decimal to ++ (codes " [label=< " ++ (xml_text label ++ style)))))
+
+-- what follows the label of a shift: it is red or not
+abbrev pub shift_end : Bool → List ℕ
+shift_end red = if red then codes "> color=red fontcolor=red];\n" else codes ">];\n"
+
+-- the line of a shift, red or not
+abbrev pub shift_line : Bool → ℕ → TerminalString → ℕ → List ℕ
+shift_line red from t to = edge_line from to (terminal_text t) (shift_end red)
+
+-- the line of a goto, dashed
+abbrev pub goto_line : ℕ → NonterminalString → ℕ → List ℕ
+goto_line from name to = edge_line from to (nonterminal_text name) (codes "> style=dashed];\n")
+
+-- the line of a shift that is shown, red if a conflict is one of this shift
+abbrev pub shown_shift : List (Conflict Bits) → Shown → ℕ → TerminalString × StateIndex → List ℕ
+shown_shift conflicts shown from (t, target) = if shows_edge shown from target.0 then shift_line (list_any (is_shift_conflict from t) conflicts) from t target.0 else []
+
+-- the line of a goto that is shown
+abbrev pub shown_goto : Shown → ℕ → NonterminalString × StateIndex → List ℕ
+shown_goto shown from (name, target) = if shows_edge shown from target.0 then goto_line from name target.0 else []
+
+-- the edges of a state that are shown: a line each, the shifts first
+abbrev pub edges : List (Conflict Bits) → Shown → State Bits → List ℕ
+edges conflicts shown state = flat_map (shown_shift conflicts shown state.index.0) state.shifts.entries ++ flat_map (shown_goto shown state.index.0) state.gotos.entries

@@ -1,0 +1,50 @@
+-- The text of a graph of states.
+use Rattle.std.specs.Prelude.{ℕ, ◌==◌, ◌||◌, Bool, true, false, List, [], ◌++◌, Option, None, Some, codes, map, slice_get, if◌then◌else◌}
+use Rattle.std.specs.List.{flat_map, list_any}
+use Rattle.lalrpop_base.specs.Words.{Bits}
+use Rattle.lalrpop_base.specs.declared.repr.NonterminalString.{NonterminalString}
+use Rattle.lalrpop_base.specs.declared.repr.TerminalString.{TerminalString}
+use Rattle.lalrpop_base.specs.declared.lr1_core.state.Conflict.{Conflict}
+use Rattle.lalrpop_base.specs.declared.lr1_core.state.State.{State}
+use Rattle.lalrpop_base.specs.declared.lr1_core.state.StateIndex.{StateIndex}
+use Rattle.table_pictures.specs.Edges.{edges}
+use Rattle.table_pictures.specs.Nodes.{node}
+use Rattle.table_pictures.specs.declared.dot.TheConstants.{OPENING}
+use Rattle.table_pictures.specs.declared.edges.Shown.{Shown}
+use Rattle.table_pictures.specs.declared.edges.Shown.TheVariants.{All, Around}
+
+-- the index is the number
+abbrev pub has_number : ℕ → StateIndex → Bool
+has_number number index = index.0 == number
+
+-- one of these edges leads to the state with a number
+abbrev pub leads_by : {K : Type 0} → ℕ → List (K × StateIndex) → Bool
+leads_by {K} number edges = list_any (has_number number) (map (λ (e : K × StateIndex). e.1) edges)
+
+-- an edge of a state leads to the state with a number
+abbrev pub leads_there : ℕ → State Bits → Bool
+leads_there number state = leads_by number state.shifts.entries || leads_by number state.gotos.entries
+
+-- the state, if there is one, leads to the state with a number
+abbrev pub comes_from : Option (State Bits) → ℕ → Bool
+comes_from None number = false
+comes_from (Some state) number = leads_there number state
+
+-- a state is shown: all are, or the one with a number, those that lead there and those where it leads
+abbrev pub shows_state : List (State Bits) → Shown → State Bits → Bool
+shows_state states All state = true
+shows_state states (Around number) state = state.index.0 == number || leads_there number state || comes_from (slice_get states number) state.index.0
+
+-- a graph of all states lies from top to bottom, one of a state and its neighbours from left to right
+abbrev pub direction : Shown → List ℕ
+direction All = []
+direction (Around number) = codes "  rankdir=LR;\n"
+
+module _ (start : NonterminalString) (terminals : List TerminalString) (states : List (State Bits)) (conflicts : List (Conflict Bits)) (shown : Shown) where
+  -- the node of a state that is shown
+  abbrev pub shown_node : State Bits → List ℕ
+  shown_node state = if shows_state states shown state then node terminals start conflicts state else []
+
+  -- the graph: a node for each state that is shown, and then the edges of each state that are shown
+  abbrev pub graph : List ℕ
+  graph = OPENING.now ++ (direction shown ++ (flat_map shown_node states ++ (flat_map (edges conflicts shown) states ++ codes "}\n")))

@@ -1,0 +1,68 @@
+-- The node of a state in the text of a graph.
+use Rattle.std.specs.Prelude.{ℕ, ◌==◌, ◌||◌, ◌&&◌, nat_lt, Bool, List, [], ◌++◌, codes, if◌then◌else◌}
+use Rattle.std.specs.Borrow.{Bor}
+use Rattle.std.specs.Fmt.{decimal}
+use Rattle.std.specs.List.{flat_map, list_any}
+use Rattle.lalrpop_base.specs.Words.{Bits, Dotted, nonterminal_text, prefix_of, rest_of}
+use Rattle.lalrpop_base.specs.contracts.repr.NonterminalStringPartialEq.TheImpl as name_eq
+use Rattle.lalrpop_base.specs.declared.repr.NonterminalString.{NonterminalString}
+use Rattle.lalrpop_base.specs.declared.repr.Production.{Production}
+use Rattle.lalrpop_base.specs.declared.repr.TerminalString.{TerminalString}
+use Rattle.lalrpop_base.specs.declared.lr1_core.state.Action.{Action}
+use Rattle.lalrpop_base.specs.declared.lr1_core.state.Action.TheVariants.{Shift, Reduce}
+use Rattle.lalrpop_base.specs.declared.lr1_core.state.Conflict.{Conflict}
+use Rattle.lalrpop_base.specs.declared.lr1_core.state.State.{State}
+use Rattle.table_pictures.specs.Escape.{xml_text}
+use Rattle.table_pictures.specs.Symbols.{production_xml, symbols_xml, tokens_xml}
+use Rattle.table_pictures.specs.declared.nodes.TheConstants.{LINE_END}
+
+-- an item is of the kernel: its dot is past the start, or it is of the start and in the first state
+abbrev pub is_kernel_item : NonterminalString → ℕ → Dotted Bits → Bool
+is_kernel_item start number item = nat_lt 0 item.index || ((number == 0) && name_eq.ghosts.eq item.production.nonterminal start)
+
+-- the line of an item, with the dot between its symbols
+abbrev pub item_line : Dotted Bits → List ℕ
+item_line item = xml_text (nonterminal_text item.production.nonterminal) ++ (codes " -&gt;" ++ (symbols_xml (prefix_of item) ++ (codes " &bull;" ++ (symbols_xml (rest_of item) ++ LINE_END.now))))
+
+-- the line of an item of the kernel; other items have none
+abbrev pub kernel_line : NonterminalString → ℕ → Dotted Bits → List ℕ
+kernel_line start number item = if is_kernel_item start number item then item_line item else []
+
+-- the action of a conflict that is not its own reduction
+abbrev pub action_xml : Action → List ℕ
+action_xml (Shift t target) = codes "shift to " ++ (decimal target.0 ++ codes ", or reduce ")
+action_xml (Reduce other) = codes "reduce " ++ (production_xml other.now ++ codes ", or ")
+
+-- the two actions of a conflict
+abbrev pub conflict_xml : Conflict Bits → List ℕ
+conflict_xml conflict = action_xml conflict.action ++ (production_xml conflict.production.now ++ codes ", on")
+
+-- a state has a conflict among those of all states
+abbrev pub has_conflict : List (Conflict Bits) → ℕ → Bool
+has_conflict conflicts number = list_any (λ (c : Conflict Bits). c.state.0 == number) conflicts
+
+-- the end of a node, which is red or not
+abbrev pub node_end : Bool → List ℕ
+node_end red = if red then codes "> color=red penwidth=2];\n" else codes ">];\n"
+
+-- the head of a node: the number of its state
+abbrev pub node_head : ℕ → List ℕ
+node_head number = codes "  " ++ (decimal number ++ (codes " [label=<<B>State " ++ (decimal number ++ codes "</B><BR ALIGN=\"LEFT\"/>")))
+
+module _ (terminals : List TerminalString) where
+  -- the line of a reduction
+  abbrev pub reduction_line : Bits × Bor Production → List ℕ
+  reduction_line (set, p) = codes "<I>reduce</I> " ++ (production_xml p.now ++ (codes " <I>on</I>" ++ (tokens_xml terminals set ++ LINE_END.now)))
+
+  -- the red line of a conflict
+  abbrev pub red_line : Conflict Bits → List ℕ
+  red_line conflict = codes "<FONT COLOR=\"red\">" ++ (conflict_xml conflict ++ (tokens_xml terminals conflict.lookahead ++ (codes "</FONT>" ++ LINE_END.now)))
+
+  -- the line of a conflict of a state; those of other states have none
+  abbrev pub conflict_line : ℕ → Conflict Bits → List ℕ
+  conflict_line number conflict = if conflict.state.0 == number then red_line conflict else []
+
+  -- the node of a state: its number, its kernel, its reductions and its conflicts
+  abbrev pub node : NonterminalString → List (Conflict Bits) → State Bits → List ℕ
+  node start conflicts state = node_head state.index.0 ++ (flat_map (kernel_line start state.index.0) state.items.vec.items ++ (flat_map reduction_line state.reductions.items
+      ++ (flat_map (conflict_line state.index.0) conflicts ++ node_end (has_conflict conflicts state.index.0))))

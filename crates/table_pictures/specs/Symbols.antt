@@ -1,0 +1,42 @@
+-- Symbols, productions and tokens as XML.
+use Rattle.std.specs.Prelude.{ℕ, ◌-◌, nat_lt, List, [], ◌++◌, codes, length, map, take, if◌then◌else◌}
+use Rattle.std.specs.Fmt.{decimal}
+use Rattle.std.specs.List.{flat_map}
+use Rattle.lalrpop_base.specs.Words.{Bits, rising, nonterminal_text, terminal_text, symbol_text, token_of}
+use Rattle.lalrpop_base.specs.declared.repr.Production.{Production}
+use Rattle.lalrpop_base.specs.declared.repr.Symbol.{Symbol}
+use Rattle.lalrpop_base.specs.declared.repr.TerminalString.{TerminalString}
+use Rattle.lalrpop_base.specs.declared.lookahead.token.Token.{Token}
+use Rattle.lalrpop_base.specs.declared.lookahead.token.Token.TheVariants.{Eof, Error as ErrorToken, Terminal as TerminalToken}
+use Rattle.table_pictures.specs.Escape.{xml_text}
+use Rattle.table_pictures.specs.declared.nodes.TheConstants.{MOST}
+
+-- a symbol behind a space
+abbrev pub symbol_xml : Symbol → List ℕ
+symbol_xml symbol = xml_text (codes " " ++ symbol_text symbol)
+
+-- symbols, each behind a space
+abbrev pub symbols_xml : List Symbol → List ℕ
+symbols_xml symbols = flat_map symbol_xml symbols
+
+-- a production: its nonterminal, an arrow and its symbols
+abbrev pub production_xml : Production → List ℕ
+production_xml p = xml_text (nonterminal_text p.nonterminal) ++ (codes " -&gt;" ++ symbols_xml p.symbols)
+
+-- a terminal behind a space
+abbrev pub terminal_xml : TerminalString → List ℕ
+terminal_xml t = xml_text (codes " " ++ terminal_text t)
+
+-- a token behind a space
+abbrev pub token_xml : Token → List ℕ
+token_xml Eof = codes " Eof"
+token_xml ErrorToken = codes " Error"
+token_xml (TerminalToken t) = terminal_xml t
+
+-- how many tokens there are past those that are shown, if there are some
+abbrev pub more_tokens : ℕ → List ℕ
+more_tokens count = if nat_lt MOST count then codes " <I>and " ++ (decimal (count - MOST) ++ codes " more</I>") else []
+
+-- the first tokens of a set by rising bit, and how many more there are
+abbrev pub tokens_xml : List TerminalString → Bits → List ℕ
+tokens_xml terminals set = flat_map token_xml (take MOST (map (token_of terminals) (rising set))) ++ more_tokens (length (rising set))

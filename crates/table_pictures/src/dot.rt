@@ -1,0 +1,142 @@
+//! The graph of the states, for Graphviz.
+ghost use Rattle.std.specs.Prelude.{◌≡◌, ◌++◌, IfOk, OnOk, string_bytes};
+ghost use Rattle.std.specs.List.{flat_map};
+ghost use Rattle.table_pictures.specs.Edges.{edges, shown_of};
+ghost use Rattle.table_pictures.specs.Graphs.{direction, graph, leads_by, leads_there, shown_node, shows_state};
+
+use super::edges::{Shown, push_edges};
+use super::nodes::push_node;
+use lalrpop_base::lr1_core::state::{Lr1Conflict, Lr1State, StateIndex};
+use lalrpop_base::memory::OutOfMemory;
+use lalrpop_base::repr::NonterminalString;
+use lalrpop_base::repr::terminals::TerminalSet;
+use std::alloc::Global;
+use std::collections::BTreeMap;
+
+/// The graph of all states, or of one and its neighbours.
+pub fn graph_text<'grammar>(
+    alloc: Global,
+    start: &NonterminalString,
+    terminals: &TerminalSet,
+    states: &[Lr1State<'grammar>],
+    conflicts: &[Lr1Conflict<'grammar>],
+    around: Option<usize>,
+) -> Result<String, OutOfMemory>
+    ensures { IfOk result (λ text. string_bytes text ≡ graph start.now terminals.now states.now
+        conflicts.now (shown_of around)) }
+{
+    let shown = Shown::around(around);
+    let mut text = String::new(alloc);
+    text.push_str(OPENING)?;
+    text.push_str(direction(shown))?;
+    push_nodes(alloc, &mut text, start, states, conflicts, terminals, shown)?;
+    push_all_edges(alloc, &mut text, states, conflicts, shown)?;
+    text.push_str("}\n")?;
+    Ok(text)
+}
+
+// What a graph begins with.
+const OPENING: &str =
+    "digraph states {\n  node [shape=box fontname=monospace];\n  edge [fontname=monospace];\n";
+
+// How a graph lies: all states from top to bottom, one state and its neighbours from left to right,
+// where many of them stand one below the other.
+fn direction(shown: Shown) -> &'static str
+    ensures { result.now ≡ direction shown }
+{
+    match shown {
+        Shown::All => "",
+        Shown::Around(_) => "  rankdir=LR;\n",
+    }
+}
+
+// Appends the nodes of the states that are shown.
+fn push_nodes<'grammar>(
+    alloc: Global,
+    text: &mut String,
+    start: &NonterminalString,
+    states: &[Lr1State<'grammar>],
+    conflicts: &[Lr1Conflict<'grammar>],
+    terminals: &TerminalSet,
+    shown: Shown,
+) -> Result<(), OutOfMemory>
+    ensures { OnOk result (string_bytes text.new ≡ string_bytes text.old ++ flat_map
+        (shown_node start.now terminals.now states.now conflicts.now shown) states.now) }
+{
+    for state in states {
+        push_shown_node(
+            alloc, text, start, states, conflicts, terminals, shown, state,
+        )?;
+    }
+    Ok(())
+}
+
+// Appends the node of a state if that is shown.
+fn push_shown_node<'grammar>(
+    alloc: Global,
+    text: &mut String,
+    start: &NonterminalString,
+    states: &[Lr1State<'grammar>],
+    conflicts: &[Lr1Conflict<'grammar>],
+    terminals: &TerminalSet,
+    shown: Shown,
+    state: &Lr1State<'grammar>,
+) -> Result<(), OutOfMemory>
+    ensures { OnOk result (string_bytes text.new ≡ string_bytes text.old ++ shown_node start.now
+        terminals.now states.now conflicts.now shown state.now) }
+{
+    if is_shown(states, shown, state) {
+        push_node(alloc, text, start, state, conflicts, terminals)?;
+    }
+    Ok(())
+}
+
+// Whether a state is shown.
+fn is_shown(states: &[Lr1State<'_>], shown: Shown, state: &Lr1State<'_>) -> bool
+    ensures { result ≡ shows_state states.now shown state.now }
+{
+    match shown {
+        Shown::All => true,
+        Shown::Around(number) => is_near(states, number, state),
+    }
+}
+
+// Whether a state is the one with a number, leads there, or is where that one leads.
+fn is_near(states: &[Lr1State<'_>], number: usize, state: &Lr1State<'_>) -> bool
+    ensures { result ≡ shows_state states.now (Shown.Around number) state.now }
+{
+    state.index.0 == number
+        || leads_to(state, number)
+        || (number < states.len() && leads_to(&states[number], state.index.0))
+}
+
+// Whether an edge of a state leads to the one with a number.
+fn leads_to(state: &Lr1State<'_>, number: usize) -> bool
+    ensures { result ≡ leads_there number state.now }
+{
+    has_target(&state.shifts, number) || has_target(&state.gotos, number)
+}
+
+// Whether one of these edges leads to the state with a number.
+fn has_target<K: Ord>(edges: &BTreeMap<K, StateIndex>, number: usize) -> bool
+    ensures { result ≡ leads_by number edges.now.entries }
+{
+    edges.values().any(|target| target.0 == number)
+}
+
+// Appends the edges of all states that are shown.
+fn push_all_edges<'grammar>(
+    alloc: Global,
+    text: &mut String,
+    states: &[Lr1State<'grammar>],
+    conflicts: &[Lr1Conflict<'grammar>],
+    shown: Shown,
+) -> Result<(), OutOfMemory>
+    ensures { OnOk result (string_bytes text.new ≡ string_bytes text.old ++ flat_map
+        (edges conflicts.now shown) states.now) }
+{
+    for state in states {
+        push_edges(alloc, text, state, conflicts, shown)?;
+    }
+    Ok(())
+}

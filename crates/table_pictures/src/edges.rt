@@ -1,0 +1,198 @@
+//! The edges of a graph: a symbol that leads from a state to a state each.
+ghost use Rattle.std.specs.Prelude.{◌≡◌, ◌++◌, OnOk, string_bytes};
+ghost use Rattle.std.specs.List.{flat_map, list_any};
+ghost use Rattle.table_pictures.specs.Edges.{edges, goto_line, is_shift_conflict, shift_end, shift_line, shown_goto, shown_of, shown_shift, shows_edge};
+
+use super::escape::push_xml;
+use lalrpop_base::lr1_core::state::{Action, Lr1Conflict, Lr1State, StateIndex};
+use lalrpop_base::memory::OutOfMemory;
+use lalrpop_base::repr::{NonterminalString, TerminalString};
+use std::alloc::Global;
+use std::collections::BTreeMap;
+
+/// Which states and edges are shown.
+#[derive(Clone, Copy)]
+pub(crate) enum Shown {
+    All,
+    /// A state and its neighbours, and the edges that begin or end at it.
+    Around(usize),
+}
+
+impl Shown {
+    /// All, or the state with a number and its neighbours.
+    pub(crate) fn around(number: Option<usize>) -> Shown
+        ensures { result ≡ shown_of number }
+    {
+        match number {
+            None => Shown::All,
+            Some(number) => Shown::Around(number),
+        }
+    }
+
+    /// Whether an edge from one state to another is shown.
+    pub(crate) fn has_edge(self, from: usize, to: usize) -> bool
+        ensures { result ≡ shows_edge self from to }
+    {
+        match self {
+            Shown::All => true,
+            Shown::Around(number) => from == number || to == number,
+        }
+    }
+}
+
+/// Appends the edges of a state: those of terminals, and dashed ones of nonterminals.
+pub(crate) fn push_edges(
+    alloc: Global,
+    text: &mut String,
+    state: &Lr1State<'_>,
+    conflicts: &[Lr1Conflict<'_>],
+    shown: Shown,
+) -> Result<(), OutOfMemory>
+    ensures { OnOk result
+        (string_bytes text.new ≡ string_bytes text.old ++ edges conflicts.now shown state.now) }
+{
+    push_shifts(alloc, text, state.index, &state.shifts, conflicts, shown)?;
+    push_gotos(text, state.index, &state.gotos, shown)?;
+    Ok(())
+}
+
+// Appends the shifts of a state that are shown.
+fn push_shifts(
+    alloc: Global,
+    text: &mut String,
+    from: StateIndex,
+    shifts: &BTreeMap<TerminalString, StateIndex>,
+    conflicts: &[Lr1Conflict<'_>],
+    shown: Shown,
+) -> Result<(), OutOfMemory>
+    ensures { OnOk result (string_bytes text.new ≡ string_bytes text.old ++ flat_map
+        (shown_shift conflicts.now shown from.0) shifts.now.entries) }
+{
+    for (terminal, target) in shifts.iter() {
+        push_shown_shift(alloc, text, from, terminal, *target, conflicts, shown)?;
+    }
+    Ok(())
+}
+
+// Appends the edge of a shift if that is shown.
+fn push_shown_shift(
+    alloc: Global,
+    text: &mut String,
+    from: StateIndex,
+    terminal: &TerminalString,
+    target: StateIndex,
+    conflicts: &[Lr1Conflict<'_>],
+    shown: Shown,
+) -> Result<(), OutOfMemory>
+    ensures { OnOk result (string_bytes text.new ≡ string_bytes text.old ++ shown_shift
+        conflicts.now shown from.0 (terminal.now, target)) }
+{
+    if !shown.has_edge(from.0, target.0) {
+        return Ok(());
+    }
+    let is_red = is_in_conflict(conflicts, from, terminal);
+    push_shift(alloc, text, from, terminal, target, is_red)?;
+    Ok(())
+}
+
+// Whether a shift of a state is in a conflict.
+fn is_in_conflict(
+    conflicts: &[Lr1Conflict<'_>],
+    state: StateIndex,
+    terminal: &TerminalString,
+) -> bool
+    ensures { result ≡ list_any (is_shift_conflict state.0 terminal.now) conflicts.now }
+{
+    conflicts.iter().any(|c| is_of_shift(c, state, terminal))
+}
+
+// Whether a conflict is one of a shift in a state.
+fn is_of_shift(conflict: &Lr1Conflict<'_>, state: StateIndex, terminal: &TerminalString) -> bool
+    ensures { result ≡ is_shift_conflict state.0 terminal.now conflict.now }
+{
+    match &conflict.action {
+        Action::Shift(other, _) => other == terminal && conflict.state.0 == state.0,
+        Action::Reduce(_) => false,
+    }
+}
+
+// Appends the edge of a shift.
+fn push_shift(
+    alloc: Global,
+    text: &mut String,
+    from: StateIndex,
+    terminal: &TerminalString,
+    target: StateIndex,
+    is_red: bool,
+) -> Result<(), OutOfMemory>
+    ensures { OnOk result (string_bytes text.new ≡ string_bytes text.old ++ shift_line is_red from.0
+        terminal.now target.0) }
+{
+    let label = format!(in alloc; "{terminal}")?;
+    write!(text, "  {from} -> {target} [label=< ")?;
+    push_xml(text, label.as_str())?;
+    push_shift_end(text, is_red)?;
+    Ok(())
+}
+
+// Appends what follows the label of a shift.
+fn push_shift_end(text: &mut String, is_red: bool) -> Result<(), OutOfMemory>
+    ensures { OnOk result (string_bytes text.new ≡ string_bytes text.old ++ shift_end is_red) }
+{
+    if is_red {
+        text.push_str("> color=red fontcolor=red];\n")?;
+        return Ok(());
+    }
+    text.push_str(">];\n")?;
+    Ok(())
+}
+
+// Appends the gotos of a state that are shown.
+fn push_gotos(
+    text: &mut String,
+    from: StateIndex,
+    gotos: &BTreeMap<NonterminalString, StateIndex>,
+    shown: Shown,
+) -> Result<(), OutOfMemory>
+    ensures { OnOk result (string_bytes text.new ≡ string_bytes text.old ++ flat_map
+        (shown_goto shown from.0) gotos.now.entries) }
+{
+    for (name, target) in gotos.iter() {
+        push_shown_goto(text, from, name, *target, shown)?;
+    }
+    Ok(())
+}
+
+// Appends the edge of a goto if that is shown.
+fn push_shown_goto(
+    text: &mut String,
+    from: StateIndex,
+    name: &NonterminalString,
+    target: StateIndex,
+    shown: Shown,
+) -> Result<(), OutOfMemory>
+    ensures { OnOk result (string_bytes text.new ≡ string_bytes text.old ++ shown_goto shown from.0
+        (name.now, target)) }
+{
+    if !shown.has_edge(from.0, target.0) {
+        return Ok(());
+    }
+    push_goto(text, from, name, target)?;
+    Ok(())
+}
+
+// Appends the edge of a goto.
+fn push_goto(
+    text: &mut String,
+    from: StateIndex,
+    name: &NonterminalString,
+    target: StateIndex,
+) -> Result<(), OutOfMemory>
+    ensures { OnOk result (string_bytes text.new ≡ string_bytes text.old ++ goto_line from.0
+        name.now target.0) }
+{
+    write!(text, "  {from} -> {target} [label=< ")?;
+    push_xml(text, name.text.as_str())?;
+    text.push_str("> style=dashed];\n")?;
+    Ok(())
+}

@@ -1,0 +1,68 @@
+//! Texts of a grammar inside other texts.
+ghost use Rattle.std.specs.Prelude.{◌≡◌, ◌++◌, OnOk, count_by, string_bytes};
+ghost use Rattle.table_pictures.specs.Escape.{inert, is_markup, is_opening, pictured, xml_char, xml_text};
+
+use lalrpop_base::memory::OutOfMemory;
+
+/// Appends a text as XML. A control character is shown by its picture, and a character that XML
+/// doesn't have by the sign of replacement. A backslash stands twice, since Graphviz puts other texts
+/// in place of some letters behind one.
+pub(crate) fn push_xml(text: &mut String, shown: &str) -> Result<(), OutOfMemory>
+    ensures text { OnOk result
+        (string_bytes text.new ≡ string_bytes text.old ++ xml_text shown.now) }
+    ensures no_markup { OnOk result (count_by is_markup (string_bytes text.new) ≡ count_by is_markup
+        (string_bytes text.old)) }
+{
+    for c in shown.chars() {
+        push_xml_char(text, c)?;
+    }
+    Ok(())
+}
+
+// Appends a character as XML.
+fn push_xml_char(text: &mut String, c: char) -> Result<(), OutOfMemory>
+    ensures { OnOk result (string_bytes text.new ≡ string_bytes text.old ++ xml_char c) }
+{
+    match c {
+        '&' => text.push_str("&amp;")?,
+        '<' => text.push_str("&lt;")?,
+        '>' => text.push_str("&gt;")?,
+        '"' => text.push_str("&quot;")?,
+        '\\' => text.push_str("\\\\")?,
+        '\u{FFFE}' | '\u{FFFF}' => text.push('\u{FFFD}')?,
+        _ => text.push(visible(c))?,
+    }
+    Ok(())
+}
+
+// The picture of a control character, and any other character as it is.
+fn visible(c: char) -> char
+    ensures { result ≡ pictured c }
+{
+    let code = c as u32;
+    if code < 32 {
+        return char::from_u32(0x2400 + code).unwrap_or('\u{FFFD}');
+    }
+    if code == 127 {
+        return '\u{2421}';
+    }
+    c
+}
+
+/// Appends a JSON text so that no part of it ends or begins anything in HTML. In JSON `<` stands in
+/// strings alone, where its number means the same.
+pub(crate) fn push_inert(text: &mut String, json: &str) -> Result<(), OutOfMemory>
+    ensures text { OnOk result
+        (string_bytes text.new ≡ string_bytes text.old ++ inert json.now) }
+    ensures no_opening { OnOk result (count_by is_opening (string_bytes text.new) ≡ count_by
+        is_opening (string_bytes text.old)) }
+{
+    let mut rest = json;
+    while let Some((before, behind)) = rest.split_once('<') {
+        text.push_str(before)?;
+        text.push_str("\\u003c")?;
+        rest = behind;
+    }
+    text.push_str(rest)?;
+    Ok(())
+}

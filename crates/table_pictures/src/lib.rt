@@ -1,0 +1,10 @@
+//! Pictures of tables: a graph for Graphviz, and a page.
+#![tactic(auto)]
+
+pub mod dot;
+mod edges;
+pub mod escape;
+mod nodes;
+pub mod page;
+mod script;
+mod style;
