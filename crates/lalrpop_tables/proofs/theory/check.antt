@@ -1,7 +1,12 @@
 -- The check of tables.
+pub mod CarriedLookaheads
 pub mod CheckAll
 pub mod CheckCarried
 pub mod CheckCarrying
 pub mod CheckClosing
 pub mod CheckSending
 pub mod CheckTables
+pub mod NumberedClosures
+pub mod NumberedItems
+pub mod NumberedRight
+pub mod NumberedSteps
