@@ -8,5 +8,6 @@ pub mod CheckSending
 pub mod CheckTables
 pub mod NumberedClosures
 pub mod NumberedItems
+pub mod NumberedPass
 pub mod NumberedRight
 pub mod NumberedSteps

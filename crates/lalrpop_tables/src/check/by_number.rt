@@ -45,6 +45,7 @@ fn numbered_pass<'grammar>(
     requires listed { AreListedByNumber numbers.now start.now states.now numbered.now }
     ensures { IfOk result (λ yes. IsTrue yes → PassCheck grammar.now start.now states.now) }
 {
+    let _terminals = grammar.terminals.all();
     if !all_lead_on(numbers, numbered) {
         return Ok(false);
     }

@@ -1,7 +1,7 @@
 -- Closures by number: the steps of their worklist, and which dotted productions they stand for.
-use Rattle.std.proofs.Common.{◌≡◌, ◌∙◌, ◌⊎◌, inl, inr, ℕ, zero, suc, ◌<◌, ◌≤◌, ◌+◌, List, [], ◌∷◌, ◌++◌, length, set, map, drop, refl, sym, ap, subst, arith, Some, None}
+use Rattle.std.proofs.Common.{◌≡◌, ◌∙◌, ◌⊎◌, inl, inr, ℕ, zero, suc, ◌<◌, ◌≤◌, ◌+◌, List, [], ◌∷◌, ◌++◌, length, set, map, drop, refl, sym, ap, subst, arith, Some, None, ⊎_elim}
 use Rattle.std.specs.Prelude.{◌↔◌, slice_get, Contains}
-use Rattle.std.proofs.lemmas.Bool.{cases_eq}
+use Rattle.std.proofs.lemmas.Bool.{cases_eq, cases_lt}
 use Rattle.std.proofs.lemmas.List.{length-set}
 use Rattle.std.proofs.lemmas.List.Elements.{Contains-append_left, Contains-append_right, Contains-append_cases}
 use Rattle.std.proofs.lemmas.Option.{slice_get_within}
@@ -20,7 +20,6 @@ use Rattle.lalrpop_tables.specs.grammars.Numbering.{with_dot}
 use Rattle.lalrpop_tables.specs.grammars.Numbers.{AreExpansions, AreNumbers}
 use Rattle.lalrpop_tables.specs.declared.construction.numbers.Numbers.{Numbers}
 use Rattle.lalrpop_tables.proofs.theory.closures.Unfolded.{list_stands}
-use Rattle.lalrpop_tables.proofs.theory.grammars.Numbers.{is_behind, within}
 
 -- ---- a value put at a place
 put_here : (xs : List ℕ) (i v : ℕ) → i < length xs → slice_get (set xs i v) i ≡ Some v
@@ -38,6 +37,24 @@ put_other (x ∷ xs) (suc i) (suc j) v apart = put_other xs i j v (λ e. apart (
 -- what stands at a place stands in a list that keeps places
 kept_there : (old new : List ℕ) → ((i x : ℕ) → slice_get old i ≡ Some x → slice_get new i ≡ Some x) → (x : ℕ) → Contains old x → Contains new x
 kept_there old new kept x c = let p = place old x c in contains_at new x p.0 (kept p.0 x p.2)
+
+-- the number of a symbol behind a dot is one of a symbol
+pub symbol_within : (g : Rules) (n : Numbers) → AreNumbers g n → (k x : ℕ) → k < length n.items.items → slice_get n.behind.items k ≡ Some (Some x) → x < length n.symbols.items
+symbol_within g n numbers k x l at =
+    let i = filled n.items.items k l in
+    let b = numbers.behind k i.0 (Some x) i.1 at in
+    slice_get_within n.symbols.items x b.0 b.1
+
+-- a number in a closure is one of a dotted production
+pub closure_within : (g : Rules) (n : Numbers) → AreNumbers g n → (kernel : List ℕ) → ((k : ℕ) → Contains kernel k → k < length n.items.items) → {k : ℕ} → InNumberedClosure n kernel k → k < length n.items.items
+closure_within g n numbers kernel within (of_kernel k c) = within k c
+closure_within g n numbers kernel within (of_front k x q h behind c) =
+    let i = filled n.items.items k (closure_within g n numbers kernel within h) in
+    let b = numbers.behind k i.0 (Some x) i.1 behind in
+    let l = slice_get_within n.symbols.items x b.0 b.1 in
+    let same = numbers.expanded in
+    let e = (numbers.expansions x b.0 (list_at n.expansions.items x) b.1 (list_stands n.expansions.items x (omega (arith, l, same))) q).0 c in
+    slice_get_within n.items.items q e.0 e.1
 
 module _ (n : Numbers) where
   -- ---- symbols behind dots
@@ -186,45 +203,42 @@ module _ (n : Numbers) where
       ];
       from = λ x c. elim (adds.from x c) [
         | inl was ↦ behind_more closure more first x (before.from x was)
-        | inr b ↦ behind_more fronts more last x b
+        | inr b ↦ behind_more (list_at n.expansions.items symbol) more last x b
       ];
       expanded = λ i x k l at_i c. elim (cases_eq i done) [
         | inl e ↦ let s : x ≡ symbol = same_some x symbol (sym at_i ∙ ap (slice_get new) e ∙ adds.kept done symbol at) in last k (subst (λ (y : ℕ). Contains (list_at n.expansions.items y) k) s c)
-        | inr apart ↦ first k (before.expanded i x k (omega (arith, l, apart_less i l apart)) (earlier i x l apart at_i) c)
+        | inr apart ↦ first k (before.expanded i x k (apart_less i l apart) (earlier i x l apart at_i) c)
       ];
-      within = omega arith;
+      within = omega (arith, room);
     }
       where
-        abbrev fronts : List ℕ
-        fronts = list_at n.expansions.items symbol
-
-        cases : (k : ℕ) → Contains more k → Contains closure k ⊎ Contains fronts k
-        cases k c = Contains-append_cases closure fronts k (subst (λ (ks : List ℕ). Contains ks k) same c)
+        cases : (k : ℕ) → Contains more k → Contains closure k ⊎ Contains (list_at n.expansions.items symbol) k
+        cases k c = Contains-append_cases closure (list_at n.expansions.items symbol) k (subst (λ (ks : List ℕ). Contains ks k) same c)
 
         first : (k : ℕ) → Contains closure k → Contains more k
-        first k c = subst (λ (ks : List ℕ). Contains ks k) (sym same) (Contains-append_left closure fronts k c)
+        first k c = subst (λ (ks : List ℕ). Contains ks k) (sym same) (Contains-append_left closure (list_at n.expansions.items symbol) k c)
 
-        last : (k : ℕ) → Contains fronts k → Contains more k
-        last k c = subst (λ (ks : List ℕ). Contains ks k) (sym same) (Contains-append_right closure fronts k c)
+        last : (k : ℕ) → Contains (list_at n.expansions.items symbol) k → Contains more k
+        last k c = subst (λ (ks : List ℕ). Contains ks k) (sym same) (Contains-append_right closure (list_at n.expansions.items symbol) k c)
 
         apart_less : (i : ℕ) → i < done + 1 → (i ≡ done → ⊥) → i < done
-        apart_less i l apart = elim (cases_eq i done) [ inl e ↦ absurd (apart e) | inr other ↦ omega (arith, l, other) ]
+        apart_less i l apart = ⊎_elim (λ less. less) (λ far. absurd (apart (omega (arith, l, far)))) (cases_lt i done)
 
         earlier : (i x : ℕ) → i < done + 1 → (i ≡ done → ⊥) → slice_get new i ≡ Some x → slice_get symbols i ≡ Some x
         earlier i x l apart at_i =
             let below = apart_less i l apart in
             let w = slice_get_within symbols done symbol at in
-            let f = filled symbols i (omega arith) in
+            let f = filled symbols i (omega (arith, below, w)) in
             f.1 ∙ ap Some (same_some f.0 x (sym (adds.kept i f.0 f.1) ∙ at_i))
 
   -- all symbols are expanded
   pub Closing-end : (kernel : List ℕ) (mark : ℕ) (base marks closure symbols : List ℕ) (done : ℕ) → IsClosingBy kernel mark base marks closure symbols done → length symbols ≤ done → IsNumberedClosure n kernel closure
-  Closing-end kernel mark base marks closure symbols done are all k = (are.sound k, complete k)
+  Closing-end kernel mark base marks closure symbols done are all k = (are.sound k, λ h. complete h)
     where
-      complete : (j : ℕ) → InNumberedClosure n kernel j → Contains closure j
-      complete j (of_kernel j c) = are.kernel j c
-      complete q (of_front i x q h b c) =
-          let s = place symbols x (are.behind x (record { item = i; among = complete i h; behind = b })) in
+      complete : {j : ℕ} → InNumberedClosure n kernel j → Contains closure j
+      complete (of_kernel j c) = are.kernel j c
+      complete (of_front i x q h b c) =
+          let s = place symbols x (are.behind x (record { item = i; among = complete h; behind = b })) in
           are.expanded s.0 x q (omega (arith, s.1, all)) s.2 c
 
   pub Closing-below : (kernel : List ℕ) (mark : ℕ) (base marks closure symbols : List ℕ) (done : ℕ) → IsClosingBy kernel mark base marks closure symbols done → MarksBelow mark base → MarksBelow (mark + 1) marks

@@ -89,12 +89,12 @@ module _ (g : Rules) (n : Numbers) (numbers : AreNumbers g n) where
       pub at : slice_get known k ≡ Some item
       pub closed : InClosure g.productions KernelAt item.production item.index
 
-    pub closure_sound : ((k : ℕ) → Contains kernel k → k < length known) → (k : ℕ) → InNumberedClosure n kernel k → IsInAt k
-    closure_sound within k (of_kernel k c) =
+    pub closure_sound : ((k : ℕ) → Contains kernel k → k < length known) → {k : ℕ} → InNumberedClosure n kernel k → IsInAt k
+    closure_sound within (of_kernel k c) =
         let f = filled known k (within k c) in
         record { item = f.0; at = f.1; closed = in_kernel (k, c, f.1 ∙ ap Some (by_parts f.0)) }
-    closure_sound within q (of_front k x q h behind c) =
-        let f = closure_sound within k h in
+    closure_sound within (of_front k x q h behind c) =
+        let f = closure_sound within h in
         let b = numbers.behind k f.item (Some x) f.at behind in
         let e = (fronts_of x b.0 b.1 q).0 c in
         let split = drop_split (f.item).index (f.item).production.symbols b.0 b.2 in
@@ -122,9 +122,9 @@ module _ (g : Rules) (n : Numbers) (numbers : AreNumbers g n) where
         record { number = m.0; at = m.1; closed = of_front f.number s.number m.0 f.closed s.at front }
 
     -- a moved one is in the kernel
-    pub moved_in_kernel : (k : ℕ) (i : Dotted Nil) → slice_get known k ≡ Some i → 0 < i.index → InNumberedClosure n kernel k → Contains kernel k
-    moved_in_kernel k i at moved (of_kernel k c) = c
-    moved_in_kernel q i at moved (of_front k x q h behind c) =
+    pub moved_in_kernel : {k : ℕ} (i : Dotted Nil) → slice_get known k ≡ Some i → 0 < i.index → InNumberedClosure n kernel k → Contains kernel k
+    moved_in_kernel i at moved (of_kernel k c) = c
+    moved_in_kernel i at moved (of_front k x q h behind c) =
         let f = filled n.items.items k (front_within k x behind) in
         let b = numbers.behind k f.0 (Some x) f.1 behind in
         let e = (fronts_of x b.0 b.1 q).0 c in

@@ -1,8 +1,9 @@
 -- States by number that list closures, and lead on, are what the check asks of states.
-use Rattle.std.proofs.Common.{◌≡◌, ◌∙◌, ◌⊎◌, ℕ, zero, suc, Bool, ◌<◌, ◌≤◌, ◌+◌, ◌-◌, List, [], ◌∷◌, length, drop, map, refl, sym, ap, subst, arith, inl, inr, true, Option, Some, None, option_map}
+use Rattle.std.proofs.Common.{◌≡◌, ◌∙◌, ◌⊎◌, ℕ, zero, suc, Bool, ◌<◌, ◌≤◌, ◌+◌, ◌-◌, List, [], ◌∷◌, length, drop, map, refl, sym, ap, subst, arith, inl, inr, true, Option, Some, None, option_map, ⊎_elim}
 use Rattle.std.specs.Prelude.{◌↔◌, slice_get, Contains}
 use Rattle.std.specs.Borrow.{Bor}
 use Rattle.std.specs.BTreeSet.{BTreeSet}
+use Rattle.std.proofs.lemmas.Bool.{cases_lt}
 use Rattle.std.proofs.lemmas.List.{length-map}
 use Rattle.std.proofs.lemmas.Option.{slice_get_within, slice_get-map}
 use Rattle.lalrpop_base.specs.Words.{AllDiffer, AreCoherent, Bits, Contents, Dotted, InClosure, IsAtStart, contents, contents_at, contents_of, holds_token, leads, productions, rules_of}
@@ -43,10 +44,10 @@ positive (suc n) = suc n ∷ positive n
 
 pub in_positive : (n m : ℕ) → 0 < m → m ≤ n → Contains (positive n) m
 in_positive zero m l h = absurd (omega (arith, l, h))
-in_positive (suc n) m l h = elim (cases m n) [ inl e ↦ subst (λ (k : ℕ). Contains (suc n ∷ positive n) k) (sym e) (contains_head (suc n) (positive n)) | inr less ↦ contains_tail (suc n) (positive n) m (in_positive n m l less) ]
-  where
-    cases : (m n : ℕ) → (m ≡ suc n) ⊎ (m ≤ n)
-    cases m n = elim (cases_le m n) [ inl le ↦ inr le | inr gt ↦ inl (omega (arith, gt, h)) ]
+in_positive (suc n) m l h =
+    ⊎_elim (λ last. let e : suc n ≡ m = omega (arith, last, h) in subst (λ (k : ℕ). Contains (suc n ∷ positive n) k) e (contains_head (suc n) (positive n)))
+    (λ less. contains_tail (suc n) (positive n) m (in_positive n m l less))
+    (cases_lt n m)
 
 pub from_positive : (n m : ℕ) → Contains (positive n) m → (0 < m) × (m ≤ n)
 from_positive zero m c = absurd (Contains-none m c)
@@ -126,7 +127,7 @@ module _ (g : Grammar) (n : Numbers) (numbers : AreNumbers (rules_of g) n) (star
     pub closed_to : (p : Production) (dot : ℕ) → Contains olds (p, dot) → InClosure (productions g) Kernel p dot
     closed_to p dot c =
         let k = listed_as p dot c in
-        let f = closure_sound (rules_of g) n numbers h.kernel kernel_within k.number ((h.closed k.number).0 k.among) in
+        let f = closure_sound (rules_of g) n numbers h.kernel kernel_within ((h.closed k.number).0 k.among) in
         let same : f.item ≡ with_dot p dot = same_some f.item (with_dot p dot) (sym f.at ∙ k.at) in
         subst (λ (i : Dotted Nil). InClosure (productions g) Kernel i.production i.index) same f.closed
 
@@ -182,7 +183,7 @@ module _ (g : Grammar) (n : Numbers) (numbers : AreNumbers (rules_of g) n) (star
         back : (p : Production) (dot : ℕ) → IsMovedIn olds p dot → Kernel p dot
         back p dot m =
             let k = listed_as p dot m.1 in
-            (k.number, moved_in_kernel (rules_of g) n numbers h.kernel k.number (with_dot p dot) k.at m.0 ((h.closed k.number).0 k.among), k.at)
+            (k.number, moved_in_kernel (rules_of g) n numbers h.kernel (with_dot p dot) k.at m.0 ((h.closed k.number).0 k.among), k.at)
 
     -- finished items are reduced
     pub finished_reduced : (i : Dotted Bits) → Contains old.items.vec.items i → i.index ≡ length i.production.symbols → Contains (reduced old.reductions.items) i.production
@@ -248,12 +249,12 @@ module _ (g : Grammar) (n : Numbers) (numbers : AreNumbers (rules_of g) n) (star
         go None at d = absurd (Contains-none (x, m) d)
         go (Some state) at d = edge_of s state x m at d
 
-    reached_of : (s : ℕ) → IsReachedByNumber list s → IsReached (places_in states) s
-    reached_of s at_first = at_zero
-    reached_of m (over_transition s x m r c) = let e = edge_from s x m c in over_edge m e.0 (reached_of s r) e.1
+    reached_of : {s : ℕ} → IsReachedByNumber list s → IsReached (places_in states) s
+    reached_of at_first = at_zero
+    reached_of (over_transition s x m r c) = let e = edge_from s x m c in over_edge m e.0 (reached_of r) e.1
 
     pub all_reached : AreReachedByNumber list → AreAllReached (places_in states) (length states)
-    all_reached reached s l = let c = listed.counted in reached_of s (reached s (omega (arith, l, c)))
+    all_reached reached s l = let c = listed.counted in reached_of (reached s (omega (arith, l, c)))
 
     -- the dotted productions are the grammar's
     pub of_grammar : AreOfGrammar (productions g) (places_in states)
@@ -272,12 +273,9 @@ module _ (g : Grammar) (n : Numbers) (numbers : AreNumbers (rules_of g) n) (star
       counted = listed.counted;
       each = λ s state at.
           let o = state_at s state at in
-          subst (λ (q : Option (State Bits)). IsNumberedAt q state) (sym o.at) o.is.over.numbered;
+          subst (λ (q : Option (State Bits)). IsNumberedState n (contents_at (λ (lookahead : Bits) (t : Token). true) q) state) (sym o.at) o.is.over.numbered;
       reduced = λ s old state at_old at. (listed.each s old state at_old at).over.reduced;
     }
-      where
-        abbrev IsNumberedAt : Option (State Bits) → NumberedState → Type 0
-        IsNumberedAt q state = IsNumberedState n (contents_at (λ (lookahead : Bits) (t : Token). true) q) state
 
     -- ---- what is asked of each
     module _ (coherent : AreCoherent states) (free : HaveNoConflict g.terminals states) (lead : AllLeadOn n list) (reached : AreReachedByNumber list) (none : IsTarget states 0 → ⊥) where
@@ -333,9 +331,9 @@ module _ (g : Grammar) (n : Numbers) (numbers : AreNumbers (rules_of g) n) (star
             free = free s old at;
           })
 
-      is_target : (m : ℕ) → 0 < m → IsReachedByNumber list m → IsTarget states m
-      is_target m l at_first = absurd (omega (arith, l))
-      is_target m l (over_transition s x m r c) = go (slice_get list s) refl c
+      is_target : {m : ℕ} → IsReachedByNumber list m → 0 < m → IsTarget states m
+      is_target at_first l = absurd (omega (arith, l))
+      is_target (over_transition s x m r c) l = go (slice_get list s) refl c
         where
           go : (o : Option NumberedState) → slice_get list s ≡ o → Contains (listed_transitions o) (x, m) → IsTarget states m
           go None at d = absurd (Contains-none (x, m) d)
@@ -361,7 +359,7 @@ module _ (g : Grammar) (n : Numbers) (numbers : AreNumbers (rules_of g) n) (star
         λ c.
             let r = from_positive (length states - 1) m c in
             let counted = listed.counted in
-            is_target m r.0 (reached m (omega (arith, r.0, r.1, counted))),
+            is_target (reached m (omega (arith, r.0, r.1, counted))) r.0,
         λ t.
             let l = target_within m t in
             in_positive (length states - 1) m (above m t) (omega (arith, l)),

@@ -1,7 +1,9 @@
 -- The steps by which states are listed by number.
-use Rattle.std.proofs.Common.{◌≡◌, ◌∙◌, ◌⊎◌, inl, inr, ℕ, zero, suc, ◌<◌, ◌≤◌, ◌+◌, Bool, true, List, [], ◌∷◌, ◌++◌, length, length-append, refl, sym, ap, subst, arith, Some, None}
+use Rattle.std.proofs.Common.{◌≡◌, ◌∙◌, ◌⊎◌, inl, inr, ℕ, zero, suc, ◌<◌, ◌≤◌, ◌+◌, Bool, true, List, [], ◌∷◌, ◌++◌, length, length-append, set, refl, sym, ap, subst, arith, Option, Some, None}
 use Rattle.std.specs.Prelude.{◌↔◌, slice_get, Contains}
 use Rattle.std.proofs.lemmas.Bool.{cases_eq, cases_lt}
+use Rattle.std.proofs.lemmas.List.{length-set}
+use Rattle.std.proofs.lemmas.List.Elements.{Contains-append_left, Contains-append_right, Contains-append_cases}
 use Rattle.std.proofs.lemmas.Option.{slice_get_within}
 use Rattle.lalrpop_base.specs.Words.{AllDiffer, Bits, Dotted}
 use Rattle.lalrpop_base.specs.declared.lookahead.nil.Nil.{Nil}
@@ -10,10 +12,11 @@ use Rattle.lalrpop_base.specs.declared.repr.NonterminalString.{NonterminalString
 use Rattle.lalrpop_base.specs.declared.repr.Production.{Production}
 use Rattle.lalrpop_base.specs.grammars.Ascending.{Ascend}
 use Rattle.lalrpop_base.proofs.theory.grammars.Tables.{same_lr0}
-use Rattle.lalrpop_base.proofs.theory.lists.Members.{place}
+use Rattle.lalrpop_base.proofs.theory.lists.Members.{Contains-none, contains-cons, contains_head, place}
 use Rattle.lalrpop_base.proofs.theory.lists.Places.{contains_at, filled, one_place, push_cases, same_some}
-use Rattle.lalrpop_tables.specs.check.ByNumber.{AreItemsAt, AreListedByNumber, IsListedState}
+use Rattle.lalrpop_tables.specs.check.ByNumber.{AreItemsAt, AreListedByNumber, AreMarkedReached, HasFinished, IsKernelOf, IsListedState, IsReachedByNumber, MarksTargets, over_transition}
 use Rattle.lalrpop_tables.specs.grammars.Numbering.{with_dot}
+use Rattle.lalrpop_tables.specs.states.NumberedStates.{listed_transitions}
 use Rattle.lalrpop_tables.specs.declared.construction.numbers.Numbers.{Numbers}
 use Rattle.lalrpop_tables.specs.declared.lane_table.follow_sets.numbered_state.NumberedState.{NumberedState}
 use Rattle.lalrpop_tables.proofs.theory.states.NumberedItems.{AreNumbered, items_differ}
@@ -93,3 +96,80 @@ Listed-more n start done old list state before is =
             ]
       ];
     }
+
+-- ---- finished items
+pub Finished-none : (n : Numbers) (finished : List ℕ) → HasFinished n [] finished
+Finished-none n finished k c end = absurd (Contains-none k c)
+
+-- one more, which is there
+pub Finished-more : (n : Numbers) (done : List ℕ) (item : ℕ) (old new : List ℕ) → HasFinished n done old → new ≡ old ++ item ∷ [] → HasFinished n (done ++ item ∷ []) new
+Finished-more n done item old new before more k c end = elim (Contains-append_cases done (item ∷ []) k c) [
+  | inl was ↦ subst (λ (ks : List ℕ). Contains ks k) (sym more) (Contains-append_left old (item ∷ []) k (before k was end))
+  | inr last ↦ elim (contains-cons item [] k last) [
+    | inl e ↦ subst (λ (ks : List ℕ). Contains ks k) (sym more) (subst (Contains (old ++ item ∷ [])) e (Contains-append_right old (item ∷ []) item (contains_head item [])))
+    | inr none ↦ absurd (Contains-none k none)
+  ]
+]
+
+-- one more, which is not finished
+pub Finished-other : (n : Numbers) (done : List ℕ) (item x : ℕ) (old : List ℕ) → HasFinished n done old → slice_get n.behind.items item ≡ Some (Some x) → HasFinished n (done ++ item ∷ []) old
+Finished-other n done item x old before other k c end = elim (Contains-append_cases done (item ∷ []) k c) [
+  | inl was ↦ before k was end
+  | inr last ↦ elim (contains-cons item [] k last) [
+    | inl e ↦ absurd (some_none (same_some (Some x) None (sym other ∙ ap (slice_get n.behind.items) e ∙ end)))
+    | inr none ↦ absurd (Contains-none k none)
+  ]
+]
+  where
+    some_none : Some x ≡ None → ⊥
+    some_none e = cc
+
+-- ---- marked targets
+pub Targets-none : (marks : List Bool) → MarksTargets [] marks marks
+Targets-none marks = record { counted = refl; from = λ m at. inl at }
+
+-- a target that is marked
+pub Targets-mark : (done : List (ℕ × ℕ)) (edge : ℕ × ℕ) (base old new : List Bool) → MarksTargets done base old → edge.1 < length old → new ≡ set old edge.1 true → MarksTargets (done ++ edge ∷ []) base new
+Targets-mark done edge base old new before within marks = record {
+  counted = ap length marks ∙ length-set old edge.1 true ∙ before.counted;
+  from = λ m at. elim (cases_eq m edge.1) [
+    | inl e ↦ inr (edge.0, subst (λ (k : ℕ). Contains (done ++ edge ∷ []) (edge.0, k)) (sym e) (Contains-append_right done (edge ∷ []) edge (contains_head edge [])))
+    | inr apart ↦ elim (before.from m (sym (put_other_mark old edge.1 m true apart) ∙ ap (λ (bs : List Bool). slice_get bs m) (sym marks) ∙ at)) [
+      | inl was ↦ inl was
+      | inr t ↦ inr (t.0, Contains-append_left done (edge ∷ []) (t.0, m) t.1)
+    ]
+  ];
+}
+  where
+    put_other_mark : (xs : List Bool) (i j : ℕ) (v : Bool) → (j ≡ i → ⊥) → slice_get (set xs i v) j ≡ slice_get xs j
+    put_other_mark [] i j v apart = refl
+    put_other_mark (x ∷ xs) zero zero v apart = absurd (apart refl)
+    put_other_mark (x ∷ xs) zero (suc j) v apart = refl
+    put_other_mark (x ∷ xs) (suc i) zero v apart = refl
+    put_other_mark (x ∷ xs) (suc i) (suc j) v apart = put_other_mark xs i j v (λ e. apart (ap suc e))
+
+-- one that is none
+pub Targets-pass : (done : List (ℕ × ℕ)) (edge : ℕ × ℕ) (base old : List Bool) → MarksTargets done base old → MarksTargets (done ++ edge ∷ []) base old
+Targets-pass done edge base old before = record {
+  counted = before.counted;
+  from = λ m at. elim (before.from m at) [
+    | inl was ↦ inl was
+    | inr t ↦ inr (t.0, Contains-append_left done (edge ∷ []) (t.0, m) t.1)
+  ];
+}
+
+-- what is marked by the edges of a state that is reached, is reached
+pub Reached-more : (list : List NumberedState) (s : ℕ) (state : NumberedState) (old new : List Bool) → slice_get list s ≡ Some state → IsReachedByNumber list s → AreMarkedReached list old → MarksTargets state.edges.items old new → AreMarkedReached list new
+Reached-more list s state old new at reached before marks m marked = elim (marks.from m marked) [
+  | inl was ↦ before m was
+  | inr t ↦ over_transition s t.0 m reached (subst (λ (o : Option NumberedState). Contains (listed_transitions o) (t.0, m)) (sym at) t.1)
+]
+
+-- of new marks none is set
+pub Reached-none : (list : List NumberedState) (marks : List Bool) → ((m : ℕ) → slice_get marks m ≡ Some true → ⊥) → AreMarkedReached list marks
+Reached-none list marks none m at = absurd (none m at)
+
+-- the numbers of a kernel are those of dotted productions
+pub kernel_within : (n : Numbers) (start : NonterminalString) (s : ℕ) (kernel : List ℕ) → IsKernelOf n start s kernel → (k : ℕ) → Contains kernel k → k < length n.items.items
+kernel_within n start zero kernel is k c = let e = (is.first refl k).0 c in slice_get_within n.items.items k e.0 e.1
+kernel_within n start (suc s) kernel is k c = let m = (is.other (omega arith)).each k c in slice_get_within n.items.items k m.item m.at

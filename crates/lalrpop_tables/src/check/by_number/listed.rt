@@ -24,25 +24,23 @@ use std::alloc::Global;
 fn state_over<'grammar>(
     alloc: Global,
     numbers: &Numbers<'grammar>,
-    closing: Closing,
+    items: Vec<usize>,
+    symbols: &[usize],
     state: &Lr1State<'grammar>,
 ) -> Result<Option<NumberedState>, OutOfMemory>
     requires numbers { (g : Rules) × AreNumbers g numbers.now }
-    requires known { (k : ℕ) →
-        Contains closing.items.items k →
-        k < length numbers.now.items.items }
+    requires known { (k : ℕ) → Contains items.items k → k < length numbers.now.items.items }
     ensures { IfOk result (λ answer. IfSome answer
-        (λ new. IsListedOver numbers.now closing.entry.items.items state.now new)) }
+        (λ new. IsListedOver numbers.now items.items state.now new)) }
 {
-    let Closing { items, symbols } = closing;
     if !are_items(numbers, &items, &state.items.vec) {
         return Ok(None);
     }
     let mut edges = Vec::with_capacity(alloc, symbols.len())?;
-    if !take_gotos(&numbers.symbols, &symbols, &state.gotos, &mut edges)? {
+    if !take_gotos(&numbers.symbols, symbols, &state.gotos, &mut edges)? {
         return Ok(None);
     }
-    if !take_shifts(&numbers.symbols, &symbols, &state.shifts, &mut edges)? {
+    if !take_shifts(&numbers.symbols, symbols, &state.shifts, &mut edges)? {
         return Ok(None);
     }
     let reductions = finished_of(alloc, numbers, &items)?;
@@ -100,7 +98,8 @@ fn listed_state<'grammar>(
     let Some(closing) = closure_by_number(alloc, numbers, kernel, mark, marks)? else {
         return Ok(None);
     };
-    state_over(alloc, numbers, closing, state)
+    let Closing { items, symbols } = closing;
+    state_over(alloc, numbers, items, &symbols, state)
 }
 
 /// The states by number, where each lists the closure of its kernel and reduces its finished items.

@@ -1,0 +1,6 @@
+use Rattle.std.proofs.Common.{◌≡◌, ◌<◌, ◌≤◌, ◌+◌, ℕ, arith, length, refl, subst}
+use Rattle.lalrpop_tables.proofs.theory.check.NumberedSteps.{RiseBelow, rising_differ}
+use Rattle.lalrpop_tables.proofs.check.by_number.transitions.rise.Goals as goal
+
+pub loop-place-init : goal.loop-place-init
+loop-place-init c j a b less at_a at_b = absurd (omega (arith, less))
