@@ -1,5 +1,5 @@
 //! The check of tables: whoever made them, a yes says that they are faithful.
-pub mod by_number;
+mod by_number;
 mod carrying;
 mod closing;
 mod states;

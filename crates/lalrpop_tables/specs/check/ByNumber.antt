@@ -27,6 +27,11 @@ pub record AreItemsAt (known : List (Dotted Nil)) (numbers : List ℕ) (items : 
 abbrev pub HasFinished : Numbers → List ℕ → List ℕ → Type 0
 HasFinished n items finished = (k : ℕ) → Contains items k → slice_get n.behind.items k ≡ Some None → Contains finished k
 
+-- the item was added, if its dot is at the end
+pub record AddsFinished (n : Numbers) (item : ℕ) (old new : List ℕ) : Type 0 where
+  pub kept : (k : ℕ) → Contains old k → Contains new k
+  pub there : slice_get n.behind.items item ≡ Some None → Contains new item
+
 -- the state by number has these items, which are those of the state, its transitions, and its reductions: all of its finished items, each once
 pub record IsListedOver (n : Numbers) (items : List ℕ) (old : State Bits) (state : NumberedState) : Type 0 where
   pub same : state.items.items ≡ items
@@ -79,6 +84,11 @@ pub data IsReachedByNumber (list : List NumberedState) : ℕ → Type 0 where
 -- what is marked is reached
 abbrev pub AreMarkedReached : List NumberedState → List Bool → Type 0
 AreMarkedReached list marks = (m : ℕ) → slice_get marks m ≡ Some true → IsReachedByNumber list m
+
+-- what is marked was, or is the state
+pub record MarksTarget (target : ℕ) (old new : List Bool) : Type 0 where
+  pub counted : length new ≡ length old
+  pub from : (m : ℕ) → slice_get new m ≡ Some true → (slice_get old m ≡ Some true) ⊎ (m ≡ target)
 
 -- what is marked was, or is a target of the edges
 pub record MarksTargets (edges : List (ℕ × ℕ)) (old new : List Bool) : Type 0 where

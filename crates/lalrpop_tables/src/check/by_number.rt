@@ -64,7 +64,7 @@ fn numbered_pass<'grammar>(
 }
 
 /// Whether the numbers of their items tell of states that they are tables of a grammar.
-pub fn pass_by_number<'grammar>(
+pub(super) fn pass_by_number<'grammar>(
     alloc: Global,
     grammar: &'grammar Grammar,
     start: &NonterminalString,
@@ -81,51 +81,4 @@ pub fn pass_by_number<'grammar>(
         return Ok(false);
     };
     numbered_pass(alloc, grammar, start, states, &numbers, &numbered)
-}
-
-/// The parts up to one, to be timed.
-pub fn parts_by_number<'grammar>(
-    alloc: Global,
-    grammar: &'grammar Grammar,
-    start: &NonterminalString,
-    states: &[Lr1State<'grammar>],
-    part: usize,
-) -> Result<bool, OutOfMemory> {
-    let first_sets = FirstSets::new(alloc, grammar)?;
-    if part == 1 {
-        return Ok(true);
-    }
-    let numbers = Numbers::new(alloc, grammar, &first_sets)?;
-    if part == 2 {
-        return Ok(true);
-    }
-    let Some(numbered) = listed_by_number(alloc, &numbers, start, states)? else {
-        return Ok(false);
-    };
-    if part == 3 {
-        return Ok(true);
-    }
-    if !all_lead_on(&numbers, &numbered) {
-        return Ok(false);
-    }
-    if part == 4 {
-        return Ok(true);
-    }
-    if lead_to_first(states) || !are_reached(alloc, &numbered)? {
-        return Ok(false);
-    }
-    if part == 5 {
-        return Ok(true);
-    }
-    if !have_no_conflict(alloc, states, &grammar.terminals)? {
-        return Ok(false);
-    }
-    if part == 6 {
-        return Ok(true);
-    }
-    let found = Found::new(alloc, grammar, start, states, &numbers, &numbered)?;
-    if part == 7 {
-        return Ok(true);
-    }
-    hold_lookaheads(alloc, grammar, states, &found, &numbered)
 }

@@ -14,7 +14,7 @@ use Rattle.lalrpop_base.specs.grammars.Ascending.{Ascend}
 use Rattle.lalrpop_base.proofs.theory.grammars.Tables.{same_lr0}
 use Rattle.lalrpop_base.proofs.theory.lists.Members.{Contains-none, contains-cons, contains_head, place}
 use Rattle.lalrpop_base.proofs.theory.lists.Places.{contains_at, filled, one_place, push_cases, same_some}
-use Rattle.lalrpop_tables.specs.check.ByNumber.{AreItemsAt, AreListedByNumber, AreMarkedReached, HasFinished, IsKernelOf, IsListedState, IsReachedByNumber, MarksTargets, over_transition}
+use Rattle.lalrpop_tables.specs.check.ByNumber.{AddsFinished, AreItemsAt, AreListedByNumber, AreMarkedReached, HasFinished, IsKernelOf, IsListedState, IsReachedByNumber, MarksTarget, MarksTargets, over_transition}
 use Rattle.lalrpop_tables.specs.grammars.Numbering.{with_dot}
 use Rattle.lalrpop_tables.specs.states.NumberedStates.{listed_transitions}
 use Rattle.lalrpop_tables.specs.declared.construction.numbers.Numbers.{Numbers}
@@ -101,60 +101,51 @@ Listed-more n start done old list state before is =
 pub Finished-none : (n : Numbers) (finished : List ℕ) → HasFinished n [] finished
 Finished-none n finished k c end = absurd (Contains-none k c)
 
--- one more, which is there
-pub Finished-more : (n : Numbers) (done : List ℕ) (item : ℕ) (old new : List ℕ) → HasFinished n done old → new ≡ old ++ item ∷ [] → HasFinished n (done ++ item ∷ []) new
-Finished-more n done item old new before more k c end = elim (Contains-append_cases done (item ∷ []) k c) [
-  | inl was ↦ subst (λ (ks : List ℕ). Contains ks k) (sym more) (Contains-append_left old (item ∷ []) k (before k was end))
+-- one item more
+pub Finished-more : (n : Numbers) (done : List ℕ) (item : ℕ) (old new : List ℕ) → HasFinished n done old → AddsFinished n item old new → HasFinished n (done ++ item ∷ []) new
+Finished-more n done item old new before adds k c end = elim (Contains-append_cases done (item ∷ []) k c) [
+  | inl was ↦ adds.kept k (before k was end)
   | inr last ↦ elim (contains-cons item [] k last) [
-    | inl e ↦ subst (λ (ks : List ℕ). Contains ks k) (sym more) (subst (Contains (old ++ item ∷ [])) e (Contains-append_right old (item ∷ []) item (contains_head item [])))
+    | inl e ↦ subst (Contains new) e (adds.there (ap (slice_get n.behind.items) e ∙ end))
     | inr none ↦ absurd (Contains-none k none)
   ]
 ]
-
--- one more, which is not finished
-pub Finished-other : (n : Numbers) (done : List ℕ) (item x : ℕ) (old : List ℕ) → HasFinished n done old → slice_get n.behind.items item ≡ Some (Some x) → HasFinished n (done ++ item ∷ []) old
-Finished-other n done item x old before other k c end = elim (Contains-append_cases done (item ∷ []) k c) [
-  | inl was ↦ before k was end
-  | inr last ↦ elim (contains-cons item [] k last) [
-    | inl e ↦ absurd (some_none (same_some (Some x) None (sym other ∙ ap (slice_get n.behind.items) e ∙ end)))
-    | inr none ↦ absurd (Contains-none k none)
-  ]
-]
-  where
-    some_none : Some x ≡ None → ⊥
-    some_none e = cc
 
 -- ---- marked targets
 pub Targets-none : (marks : List Bool) → MarksTargets [] marks marks
 Targets-none marks = record { counted = refl; from = λ m at. inl at }
 
--- a target that is marked
-pub Targets-mark : (done : List (ℕ × ℕ)) (edge : ℕ × ℕ) (base old new : List Bool) → MarksTargets done base old → edge.1 < length old → new ≡ set old edge.1 true → MarksTargets (done ++ edge ∷ []) base new
-Targets-mark done edge base old new before within marks = record {
-  counted = ap length marks ∙ length-set old edge.1 true ∙ before.counted;
-  from = λ m at. elim (cases_eq m edge.1) [
-    | inl e ↦ inr (edge.0, subst (λ (k : ℕ). Contains (done ++ edge ∷ []) (edge.0, k)) (sym e) (Contains-append_right done (edge ∷ []) edge (contains_head edge [])))
-    | inr apart ↦ elim (before.from m (sym (put_other_mark old edge.1 m true apart) ∙ ap (λ (bs : List Bool). slice_get bs m) (sym marks) ∙ at)) [
-      | inl was ↦ inl was
-      | inr t ↦ inr (t.0, Contains-append_left done (edge ∷ []) (t.0, m) t.1)
-    ]
+put_other_mark : (xs : List Bool) (i j : ℕ) (v : Bool) → (j ≡ i → ⊥) → slice_get (set xs i v) j ≡ slice_get xs j
+put_other_mark [] i j v apart = refl
+put_other_mark (x ∷ xs) zero zero v apart = absurd (apart refl)
+put_other_mark (x ∷ xs) zero (suc j) v apart = refl
+put_other_mark (x ∷ xs) (suc i) zero v apart = refl
+put_other_mark (x ∷ xs) (suc i) (suc j) v apart = put_other_mark xs i j v (λ e. apart (ap suc e))
+
+-- a state that is marked
+pub Target-marked : (target : ℕ) (old new : List Bool) → new ≡ set old target true → MarksTarget target old new
+Target-marked target old new marks = record {
+  counted = ap length marks ∙ length-set old target true;
+  from = λ m at. elim (cases_eq m target) [
+    | inl e ↦ inr e
+    | inr apart ↦ inl (sym (put_other_mark old target m true apart) ∙ ap (λ (bs : List Bool). slice_get bs m) (sym marks) ∙ at)
   ];
 }
-  where
-    put_other_mark : (xs : List Bool) (i j : ℕ) (v : Bool) → (j ≡ i → ⊥) → slice_get (set xs i v) j ≡ slice_get xs j
-    put_other_mark [] i j v apart = refl
-    put_other_mark (x ∷ xs) zero zero v apart = absurd (apart refl)
-    put_other_mark (x ∷ xs) zero (suc j) v apart = refl
-    put_other_mark (x ∷ xs) (suc i) zero v apart = refl
-    put_other_mark (x ∷ xs) (suc i) (suc j) v apart = put_other_mark xs i j v (λ e. apart (ap suc e))
 
--- one that is none
-pub Targets-pass : (done : List (ℕ × ℕ)) (edge : ℕ × ℕ) (base old : List Bool) → MarksTargets done base old → MarksTargets (done ++ edge ∷ []) base old
-Targets-pass done edge base old before = record {
-  counted = before.counted;
-  from = λ m at. elim (before.from m at) [
-    | inl was ↦ inl was
-    | inr t ↦ inr (t.0, Contains-append_left done (edge ∷ []) (t.0, m) t.1)
+-- a state that there is not
+pub Target-none : (target : ℕ) (old : List Bool) → MarksTarget target old old
+Target-none target old = record { counted = refl; from = λ m at. inl at }
+
+-- one target more
+pub Targets-more : (done : List (ℕ × ℕ)) (edge : ℕ × ℕ) (base old new : List Bool) → MarksTargets done base old → MarksTarget edge.1 old new → MarksTargets (done ++ edge ∷ []) base new
+Targets-more done edge base old new before marks = record {
+  counted = marks.counted ∙ before.counted;
+  from = λ m at. elim (marks.from m at) [
+    | inl was ↦ elim (before.from m was) [
+      | inl first ↦ inl first
+      | inr t ↦ inr (t.0, Contains-append_left done (edge ∷ []) (t.0, m) t.1)
+    ]
+    | inr e ↦ inr (edge.0, subst (λ (k : ℕ). Contains (done ++ edge ∷ []) (edge.0, k)) (sym e) (Contains-append_right done (edge ∷ []) edge (contains_head edge [])))
   ];
 }
 

@@ -1,7 +1,7 @@
 //! Whether states are reached from the first, to which no edge leads.
 ghost use Rattle.std.specs.Prelude.{IfOk, IsFalse, IsTrue};
 ghost use Rattle.lalrpop_base.specs.states.CheckStates.{LeadsBy, IsTarget};
-ghost use Rattle.lalrpop_tables.specs.check.ByNumber.{AreReachedByNumber, MarksTargets};
+ghost use Rattle.lalrpop_tables.specs.check.ByNumber.{AreReachedByNumber, MarksTarget, MarksTargets};
 
 use crate::lane_table::follow_sets::numbered_state::NumberedState;
 use lalrpop_base::lr1_core::state::{Lr1State, StateIndex};
@@ -37,14 +37,22 @@ pub(super) fn lead_to_first<'grammar>(states: &[Lr1State<'grammar>]) -> bool
     false
 }
 
+// Marks a state, if there is one with the number.
+fn mark_target(target: usize, marks: &mut Vec<bool>)
+    ensures { MarksTarget target marks.old.items marks.new.items }
+{
+    if target >= marks.len() {
+        return;
+    }
+    marks[target] = true;
+}
+
 // Marks the states to which edges lead.
 fn mark_targets(edges: &[(usize, usize)], marks: &mut Vec<bool>)
     ensures { MarksTargets edges.now marks.old.items marks.new.items }
 {
     for edge in edges {
-        if edge.1 < marks.len() {
-            marks[edge.1] = true;
-        }
+        mark_target(edge.1, marks);
     }
 }
 

@@ -1,7 +1,7 @@
 //! Items, transitions and reductions that have the numbers which are expected of them.
-ghost use Rattle.std.specs.Prelude.{◌≡◌, ◌<◌, ℕ, length, slice_get, Contains, Some, IfOk, IsTrue};
+ghost use Rattle.std.specs.Prelude.{◌≡◌, ◌<◌, ℕ, length, slice_get, Contains, Some, IfOk, IsTrue, OnOk};
 ghost use Rattle.lalrpop_base.specs.Words.{AllDiffer, Rules};
-ghost use Rattle.lalrpop_tables.specs.check.ByNumber.{AreItemsAt, HasFinished};
+ghost use Rattle.lalrpop_tables.specs.check.ByNumber.{AddsFinished, AreItemsAt, HasFinished};
 ghost use Rattle.lalrpop_tables.specs.grammars.Numbering.{with_dot};
 ghost use Rattle.lalrpop_tables.specs.grammars.Numbers.{AreNumbers};
 ghost use Rattle.lalrpop_tables.specs.states.NumberedStates.{AddTransitions, AreReducedNumbers, GotosAscend, ShiftsAscend, goto_transitions, shift_transitions};
@@ -47,6 +47,24 @@ pub(super) fn are_items<'grammar>(
     true
 }
 
+// Adds an item if it is finished.
+fn add_if_finished(
+    numbers: &Numbers<'_>,
+    item: usize,
+    finished: &mut Vec<usize>,
+) -> Result<(), OutOfMemory>
+    requires numbers { (g : Rules) × AreNumbers g numbers.now }
+    requires known { item < length numbers.now.items.items }
+    ensures { OnOk result
+        (AddsFinished numbers.now item finished.old.items finished.new.items) }
+{
+    if let Some(_symbol) = numbers.behind[item] {
+        return Ok(());
+    }
+    finished.push(item)?;
+    Ok(())
+}
+
 /// The finished ones of items.
 pub(super) fn finished_of(
     alloc: Global,
@@ -59,9 +77,7 @@ pub(super) fn finished_of(
 {
     let mut finished = Vec::new(alloc);
     for item in items {
-        if numbers.behind[*item].is_none() {
-            finished.push(*item)?;
-        }
+        add_if_finished(numbers, *item, &mut finished)?;
     }
     Ok(finished)
 }

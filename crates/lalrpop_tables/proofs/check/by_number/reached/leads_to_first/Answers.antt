@@ -21,4 +21,4 @@ pub returns : goal.returns
 returns g c =
     let none : values c.loop-target.target-iterator ≡ [] = ap values c.in-None.ensures.steps.0 in
     let order = g.K.Ord.cmp in
-    λ h leads. Contains-none 0 (subst (λ (xs : List ℕ). Contains xs 0) none (c.loop-target.invariant (value_of_leads order g.met.K.Ord.total c.args.edges.now c.len-_count.ensures.ordered 0 leads)))
+    λ h leads. Contains-none 0 (subst (λ (xs : List ℕ). Contains xs 0) none (c.loop-target.invariant (value_of_leads order g.met.K.Ord.total c.args.edges.now c.len-count.ensures.ordered 0 leads)))
