@@ -39,4 +39,4 @@ pub returns : goal.returns
 returns c = λ yes.
     passed c.args.grammar.now c.args.start.now c.args.numbers.now c.requires.numbers c.args.states.now c.args.numbered.now c.requires.listed c.requires.coherent c.requires.some
     (c.if-not-all_lead_on.ensures refl) (c.if-lead_to_first.ensures refl) (c.in_ok-are_reached.ensures c.if-not-branch.false) (c.in_ok-have_no_conflict.ensures.0 c.if-not-branch-2.false)
-    c.requires.well_formed c.all-_terminals.ensures.distinct c.in_ok-found.found c.in_ok-found.ensures (c.in_ok-held.ensures yes)
+    c.requires.well_formed c.all-terminals.ensures.distinct c.in_ok-found.found c.in_ok-found.ensures (c.in_ok-held.ensures yes)
