@@ -1,4 +1,5 @@
 //! The check of tables: whoever made them, a yes says that they are faithful.
+mod by_number;
 mod carrying;
 mod closing;
 mod states;

@@ -1,7 +1,13 @@
 -- The check of tables.
+pub mod CarriedLookaheads
 pub mod CheckAll
 pub mod CheckCarried
 pub mod CheckCarrying
 pub mod CheckClosing
 pub mod CheckSending
 pub mod CheckTables
+pub mod NumberedClosures
+pub mod NumberedItems
+pub mod NumberedPass
+pub mod NumberedRight
+pub mod NumberedSteps

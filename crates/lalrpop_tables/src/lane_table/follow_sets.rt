@@ -1,14 +1,14 @@
 //! The lookahead sets of all reductions by one pass over the states: the follow sets of
 //! nonterminals in states, and their unions (DeRemer and Pennello 1982).
 mod begun;
-mod edges;
+pub(crate) mod edges;
 mod found;
 mod includes;
 mod lookback;
 mod nodes;
 pub(crate) mod numbered_state;
 mod pass;
-mod start;
+pub(crate) mod start;
 mod tokens;
 mod unions;
 mod walk;

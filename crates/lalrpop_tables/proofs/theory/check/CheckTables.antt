@@ -44,7 +44,7 @@ kernel_of g K {p} {dot} (in_kernel k) = (p, dot, k)
 kernel_of g K (expanded q after c b a) = kernel_of g K c
 
 -- an item that is listed stands in the items
-item_at : (items : List (Dotted Bits)) (p : Production) (dot : ℕ) → Contains (dots items) (p, dot) → (i : Dotted Bits) × Contains items i × (i.production ≡ p) × (i.index ≡ dot)
+pub item_at : (items : List (Dotted Bits)) (p : Production) (dot : ℕ) → Contains (dots items) (p, dot) → (i : Dotted Bits) × Contains items i × (i.production ≡ p) × (i.index ≡ dot)
 item_at items p dot c = let h = contains_of_map dotted_of items (p, dot) c in (h.0, h.1, ap (λ (d : Production × ℕ). d.0) h.2, ap (λ (d : Production × ℕ). d.1) h.2)
 
 some_listed : {X : Type 0} (xs : List X) (x : X) → Contains xs x → 0 < length xs

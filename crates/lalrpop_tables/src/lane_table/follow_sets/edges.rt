@@ -3,7 +3,7 @@ ghost use Rattle.std.specs.Prelude.{◌≡◌, ℕ, slice_get, Some, Contains, I
 ghost use Rattle.lalrpop_tables.specs.states.NumberedStates.{EdgesAscend};
 
 /// The place of the transition over a symbol, found by halving.
-pub(super) fn place_of(edges: &[(usize, usize)], symbol: usize) -> Option<usize>
+pub(crate) fn place_of(edges: &[(usize, usize)], symbol: usize) -> Option<usize>
     requires { EdgesAscend edges.now }
     ensures found { IfSome result (λ place.
         (target : ℕ) × (slice_get edges.now place ≡ Some (symbol, target))) }

@@ -36,8 +36,8 @@ fn number_or_count(
     }
 }
 
-// The numbers of the productions of a nonterminal with the dot in front.
-fn fronts_of(
+/// The numbers of the productions of a nonterminal with the dot in front.
+pub(crate) fn fronts_of(
     alloc: Global,
     numbers: &Numbers,
     name: &NonterminalString,

@@ -1,0 +1,8 @@
+use Rattle.std.proofs.Common.{◌≡◌, ℕ}
+use Rattle.lalrpop_base.specs.Words.{EachBelow, Bits}
+use Rattle.lalrpop_base.specs.states.CheckStates.{LeadsFrom}
+use Rattle.lalrpop_base.specs.declared.lr1_core.state.State.{State}
+use Rattle.lalrpop_tables.proofs.check.by_number.reached.lead_to_first.Given as goal
+
+abbrev pub invariant-loop-state : goal.invariant-loop-state
+invariant-loop-state l = EachBelow (λ (s : State Bits). LeadsFrom s 0 → ⊥) l.states l.state-index

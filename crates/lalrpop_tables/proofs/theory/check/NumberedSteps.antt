@@ -1,0 +1,166 @@
+-- The steps by which states are listed by number.
+use Rattle.std.proofs.Common.{◌≡◌, ◌∙◌, ◌⊎◌, inl, inr, ℕ, zero, suc, ◌<◌, ◌≤◌, ◌+◌, Bool, true, List, [], ◌∷◌, ◌++◌, length, length-append, set, refl, sym, ap, subst, arith, Option, Some, None}
+use Rattle.std.specs.Prelude.{◌↔◌, slice_get, Contains}
+use Rattle.std.proofs.lemmas.Bool.{cases_eq, cases_lt}
+use Rattle.std.proofs.lemmas.List.{length-set}
+use Rattle.std.proofs.lemmas.List.Elements.{Contains-append_left, Contains-append_right, Contains-append_cases}
+use Rattle.std.proofs.lemmas.Option.{slice_get_within}
+use Rattle.lalrpop_base.specs.Words.{AllDiffer, Bits, Dotted}
+use Rattle.lalrpop_base.specs.declared.lookahead.nil.Nil.{Nil}
+use Rattle.lalrpop_base.specs.declared.lr1_core.state.State.{State}
+use Rattle.lalrpop_base.specs.declared.repr.NonterminalString.{NonterminalString}
+use Rattle.lalrpop_base.specs.declared.repr.Production.{Production}
+use Rattle.lalrpop_base.specs.grammars.Ascending.{Ascend}
+use Rattle.lalrpop_base.proofs.theory.grammars.Tables.{same_lr0}
+use Rattle.lalrpop_base.proofs.theory.lists.Members.{Contains-none, contains-cons, contains_head, place}
+use Rattle.lalrpop_base.proofs.theory.lists.Places.{contains_at, filled, one_place, push_cases, same_some}
+use Rattle.lalrpop_tables.specs.check.ByNumber.{AddsFinished, AreItemsAt, AreListedByNumber, AreMarkedReached, HasFinished, IsKernelOf, IsListedState, IsReachedByNumber, MarksTarget, MarksTargets, over_transition}
+use Rattle.lalrpop_tables.specs.grammars.Numbering.{with_dot}
+use Rattle.lalrpop_tables.specs.states.NumberedStates.{listed_transitions}
+use Rattle.lalrpop_tables.specs.declared.construction.numbers.Numbers.{Numbers}
+use Rattle.lalrpop_tables.specs.declared.lane_table.follow_sets.numbered_state.NumberedState.{NumberedState}
+use Rattle.lalrpop_tables.proofs.theory.states.NumberedItems.{AreNumbered, items_differ}
+
+-- ---- items with their numbers
+-- items that have the numbers one by one are numbered by these
+pub Items-numbered : (known : List (Dotted Nil)) → Ascend known → (numbers : List ℕ) (items : List (Dotted Bits)) → AreItemsAt known numbers items → ((k : ℕ) → Contains numbers k → k < length known) → AreNumbered known items numbers
+Items-numbered known ascend numbers items at within = record {
+  known = within;
+  numbered = λ k i at_i. (
+    λ c.
+        let f = place numbers k c in
+        let counted = at.counted in
+        let j = filled items f.0 (omega (arith, f.1, counted)) in
+        let same : with_dot (j.0).production (j.0).index ≡ i = same_some (with_dot (j.0).production (j.0).index) i (sym (at.each f.0 k j.0 j.1 f.2) ∙ at_i) in
+        (j.0, contains_at items j.0 f.0 j.1, ap (λ (d : Dotted Nil). d.production) same, ap (λ (d : Dotted Nil). d.index) same),
+    λ h.
+        let f = place items h.0 h.1 in
+        let counted = at.counted in
+        let m = filled numbers f.0 (omega (arith, f.1, counted)) in
+        let same : with_dot (h.0).production (h.0).index ≡ i = same_lr0 (with_dot (h.0).production (h.0).index) i h.2 h.3 in
+        let number : m.0 ≡ k = one_place known (items_differ known ascend) m.0 k i (at.each f.0 m.0 h.0 f.2 m.1 ∙ ap Some same) at_i in
+        subst (Contains numbers) number (contains_at numbers m.0 f.0 m.1),
+  );
+}
+
+-- ---- numbers that rise
+-- each of the first so many is less than the next
+abbrev pub RiseBelow : List ℕ → ℕ → Type 0
+RiseBelow xs n = (j a b : ℕ) → j + 1 < n → slice_get xs j ≡ Some a → slice_get xs (j + 1) ≡ Some b → a < b
+
+pub rise_further : (xs : List ℕ) → RiseBelow xs (length xs) → (i d a b : ℕ) → slice_get xs i ≡ Some a → slice_get xs (i + suc d) ≡ Some b → a < b
+rise_further xs rise i zero a b at_a at_b =
+    let l = slice_get_within xs (i + 1) b at_b in
+    rise i a b (omega (arith, l)) at_a at_b
+rise_further xs rise i (suc d) a b at_a at_b =
+    let l = slice_get_within xs (i + suc (suc d)) b at_b in
+    let m = filled xs (i + suc d) (omega (arith, l)) in
+    let one : i + suc (suc d) ≡ i + suc d + 1 = omega arith in
+    let first = rise_further xs rise i d a m.0 at_a m.1 in
+    let last = rise (i + suc d) m.0 b (omega (arith, l)) m.1 (ap (slice_get xs) (sym one) ∙ at_b) in
+    omega (arith, first, last)
+
+pub rising_differ : (xs : List ℕ) → RiseBelow xs (length xs) → AllDiffer xs
+rising_differ xs rise i j x l at_i at_j =
+    let d = step i j l in
+    let less = rise_further xs rise i d.0 x x at_i (ap (slice_get xs) (sym d.1) ∙ at_j) in
+    absurd (omega (arith, less))
+  where
+    step : (i j : ℕ) → i < j → (d : ℕ) × (j ≡ i + suc d)
+    step zero zero l = absurd (omega (arith, l))
+    step zero (suc j) l = (j, omega arith)
+    step (suc i) zero l = absurd (omega (arith, l))
+    step (suc i) (suc j) l = let s = step i j (omega (arith, l)) in (s.0, omega (arith, s.1))
+
+-- ---- states that are listed
+pub Listed-none : (n : Numbers) (start : NonterminalString) → AreListedByNumber n start [] []
+Listed-none n start = record { counted = refl; each = λ s old state at_old at. cc }
+
+pub Listed-more : (n : Numbers) (start : NonterminalString) (done : List (State Bits)) (old : State Bits) (list : List NumberedState) (state : NumberedState) → AreListedByNumber n start done list → IsListedState n start (length list) old state → AreListedByNumber n start (done ++ old ∷ []) (list ++ state ∷ [])
+Listed-more n start done old list state before is =
+    let same = before.counted in
+    record {
+      counted = length-append list (state ∷ []) ∙ ap (λ (m : ℕ). m + 1) before.counted ∙ sym (length-append done (old ∷ []));
+      each = λ s p q at_p at_q. elim (push_cases done old s p at_p) [
+        | inl was ↦
+            let l = slice_get_within done s p was in
+            elim (push_cases list state s q at_q) [
+              | inl there ↦ before.each s p q was there
+              | inr end ↦ let e = end.0 in absurd (omega (arith, e, l, same))
+            ]
+        | inr last ↦
+            let e = last.0 in
+            elim (push_cases list state s q at_q) [
+              | inl there ↦ let l = slice_get_within list s q there in absurd (omega (arith, e, l, same))
+              | inr end ↦ subst (λ (m : ℕ). IsListedState n start m p q) (sym end.0) (subst (λ (x : NumberedState). IsListedState n start (length list) p x) end.1 (subst (λ (x : State Bits). IsListedState n start (length list) x state) last.1 is))
+            ]
+      ];
+    }
+
+-- ---- finished items
+pub Finished-none : (n : Numbers) (finished : List ℕ) → HasFinished n [] finished
+Finished-none n finished k c end = absurd (Contains-none k c)
+
+-- one item more
+pub Finished-more : (n : Numbers) (done : List ℕ) (item : ℕ) (old new : List ℕ) → HasFinished n done old → AddsFinished n item old new → HasFinished n (done ++ item ∷ []) new
+Finished-more n done item old new before adds k c end = elim (Contains-append_cases done (item ∷ []) k c) [
+  | inl was ↦ adds.kept k (before k was end)
+  | inr last ↦ elim (contains-cons item [] k last) [
+    | inl e ↦ subst (Contains new) e (adds.there (ap (slice_get n.behind.items) e ∙ end))
+    | inr none ↦ absurd (Contains-none k none)
+  ]
+]
+
+-- ---- marked targets
+pub Targets-none : (marks : List Bool) → MarksTargets [] marks marks
+Targets-none marks = record { counted = refl; from = λ m at. inl at }
+
+put_other_mark : (xs : List Bool) (i j : ℕ) (v : Bool) → (j ≡ i → ⊥) → slice_get (set xs i v) j ≡ slice_get xs j
+put_other_mark [] i j v apart = refl
+put_other_mark (x ∷ xs) zero zero v apart = absurd (apart refl)
+put_other_mark (x ∷ xs) zero (suc j) v apart = refl
+put_other_mark (x ∷ xs) (suc i) zero v apart = refl
+put_other_mark (x ∷ xs) (suc i) (suc j) v apart = put_other_mark xs i j v (λ e. apart (ap suc e))
+
+-- a state that is marked
+pub Target-marked : (target : ℕ) (old new : List Bool) → new ≡ set old target true → MarksTarget target old new
+Target-marked target old new marks = record {
+  counted = ap length marks ∙ length-set old target true;
+  from = λ m at. elim (cases_eq m target) [
+    | inl e ↦ inr e
+    | inr apart ↦ inl (sym (put_other_mark old target m true apart) ∙ ap (λ (bs : List Bool). slice_get bs m) (sym marks) ∙ at)
+  ];
+}
+
+-- a state that there is not
+pub Target-none : (target : ℕ) (old : List Bool) → MarksTarget target old old
+Target-none target old = record { counted = refl; from = λ m at. inl at }
+
+-- one target more
+pub Targets-more : (done : List (ℕ × ℕ)) (edge : ℕ × ℕ) (base old new : List Bool) → MarksTargets done base old → MarksTarget edge.1 old new → MarksTargets (done ++ edge ∷ []) base new
+Targets-more done edge base old new before marks = record {
+  counted = marks.counted ∙ before.counted;
+  from = λ m at. elim (marks.from m at) [
+    | inl was ↦ elim (before.from m was) [
+      | inl first ↦ inl first
+      | inr t ↦ inr (t.0, Contains-append_left done (edge ∷ []) (t.0, m) t.1)
+    ]
+    | inr e ↦ inr (edge.0, subst (λ (k : ℕ). Contains (done ++ edge ∷ []) (edge.0, k)) (sym e) (Contains-append_right done (edge ∷ []) edge (contains_head edge [])))
+  ];
+}
+
+-- what is marked by the edges of a state that is reached, is reached
+pub Reached-more : (list : List NumberedState) (s : ℕ) (state : NumberedState) (old new : List Bool) → slice_get list s ≡ Some state → IsReachedByNumber list s → AreMarkedReached list old → MarksTargets state.edges.items old new → AreMarkedReached list new
+Reached-more list s state old new at reached before marks m marked = elim (marks.from m marked) [
+  | inl was ↦ before m was
+  | inr t ↦ over_transition s t.0 m reached (subst (λ (o : Option NumberedState). Contains (listed_transitions o) (t.0, m)) (sym at) t.1)
+]
+
+-- of new marks none is set
+pub Reached-none : (list : List NumberedState) (marks : List Bool) → ((m : ℕ) → slice_get marks m ≡ Some true → ⊥) → AreMarkedReached list marks
+Reached-none list marks none m at = absurd (none m at)
+
+-- the numbers of a kernel are those of dotted productions
+pub kernel_within : (n : Numbers) (start : NonterminalString) (s : ℕ) (kernel : List ℕ) → IsKernelOf n start s kernel → (k : ℕ) → Contains kernel k → k < length n.items.items
+kernel_within n start zero kernel is k c = let e = (is.first refl k).0 c in slice_get_within n.items.items k e.0 e.1
+kernel_within n start (suc s) kernel is k c = let m = (is.other (omega arith)).each k c in slice_get_within n.items.items k m.item m.at

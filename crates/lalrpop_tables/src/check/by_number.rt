@@ -1,0 +1,84 @@
+//! The check of states by the numbers of their items. A yes says that they are tables; a no, that
+//! these means do not tell.
+mod closing;
+mod kernels;
+mod leading;
+mod listed;
+mod reached;
+mod tokens;
+mod transitions;
+
+ghost use Rattle.std.specs.Prelude.{◌<◌, length, IfOk, IsTrue};
+ghost use Rattle.lalrpop_base.specs.Words.{AreCoherent, IsWellFormed, rules_of};
+ghost use Rattle.lalrpop_tables.specs.check.ByNumber.{AreListedByNumber};
+ghost use Rattle.lalrpop_tables.specs.check.Check.{PassCheck};
+ghost use Rattle.lalrpop_tables.specs.grammars.Numbers.{AreNumbers};
+
+use self::leading::all_lead_on;
+use self::listed::listed_by_number;
+use self::reached::{are_reached, lead_to_first};
+use self::tokens::hold_lookaheads;
+use crate::conflicts::have_no_conflict;
+use crate::construction::numbers::Numbers;
+use crate::lane_table::follow_sets::Found;
+use crate::lane_table::follow_sets::numbered_state::NumberedState;
+use lalrpop_base::first::FirstSets;
+use lalrpop_base::lr1_core::state::Lr1State;
+use lalrpop_base::memory::OutOfMemory;
+use lalrpop_base::repr::NonterminalString;
+use lalrpop_base::repr::grammar::Grammar;
+use std::alloc::Global;
+
+// Whether states by number that list closures pass.
+fn numbered_pass<'grammar>(
+    alloc: Global,
+    grammar: &'grammar Grammar,
+    start: &NonterminalString,
+    states: &[Lr1State<'grammar>],
+    numbers: &Numbers<'grammar>,
+    numbered: &[NumberedState],
+) -> Result<bool, OutOfMemory>
+    requires well_formed { IsWellFormed grammar.now }
+    requires coherent { AreCoherent states.now }
+    requires some { 0 < length states.now }
+    requires numbers { AreNumbers (rules_of grammar.now) numbers.now }
+    requires listed { AreListedByNumber numbers.now start.now states.now numbered.now }
+    ensures { IfOk result (λ yes. IsTrue yes → PassCheck grammar.now start.now states.now) }
+{
+    let _terminals = grammar.terminals.all();
+    if !all_lead_on(numbers, numbered) {
+        return Ok(false);
+    }
+    if lead_to_first(states) {
+        return Ok(false);
+    }
+    if !are_reached(alloc, numbered)? {
+        return Ok(false);
+    }
+    if !have_no_conflict(alloc, states, &grammar.terminals)? {
+        return Ok(false);
+    }
+    let found = Found::new(alloc, grammar, start, states, numbers, numbered)?;
+    let held = hold_lookaheads(alloc, grammar, states, &found, numbered)?;
+    Ok(held)
+}
+
+/// Whether the numbers of their items tell of states that they are tables of a grammar.
+pub(super) fn pass_by_number<'grammar>(
+    alloc: Global,
+    grammar: &'grammar Grammar,
+    start: &NonterminalString,
+    states: &[Lr1State<'grammar>],
+) -> Result<bool, OutOfMemory>
+    requires well_formed { IsWellFormed grammar.now }
+    requires coherent { AreCoherent states.now }
+    requires some { 0 < length states.now }
+    ensures { IfOk result (λ yes. IsTrue yes → PassCheck grammar.now start.now states.now) }
+{
+    let first_sets = FirstSets::new(alloc, grammar)?;
+    let numbers = Numbers::new(alloc, grammar, &first_sets)?;
+    let Some(numbered) = listed_by_number(alloc, &numbers, start, states)? else {
+        return Ok(false);
+    };
+    numbered_pass(alloc, grammar, start, states, &numbers, &numbered)
+}
