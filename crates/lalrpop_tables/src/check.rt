@@ -8,6 +8,7 @@ ghost use Rattle.std.specs.Prelude.{◌↔◌, ◌<◌, IfOk, IsTrue, length};
 ghost use Rattle.lalrpop_base.specs.Words.{AreClosed, AreChecked, AreCoherent, contents, AreFaithful, IsWellFormed, productions};
 ghost use Rattle.lalrpop_tables.specs.check.Check.{PassCheck, HoldCarried};
 
+use self::by_number::pass_by_number;
 use self::carrying::{all_have_carried, carried};
 use self::states::{are_right_states, listed_states, targets};
 use lalrpop_base::first::FirstSets;
@@ -56,6 +57,9 @@ pub fn check_tables<'grammar>(
     ensures faithful { IfOk result (λ yes. IsTrue yes →
         AreFaithful (productions grammar.now) start (contents grammar.now.terminals states.now)) }
 {
+    if pass_by_number(alloc, grammar, &start, states)? {
+        return Ok(true);
+    }
     let listed = listed_states(alloc, states)?;
     let targets = targets(alloc, states)?;
     if !are_right_states(alloc, grammar, &start, &listed, &targets, states)? {

@@ -1,6 +1,16 @@
+use Rattle.std.proofs.Common.{refl}
 use Rattle.lalrpop_tables.proofs.theory.check.CheckTables.{Right-closed}
 use Rattle.lalrpop_tables.proofs.theory.check.CheckAll.{Pass-all, All-right, Checked, Faithful}
 use Rattle.lalrpop_tables.proofs.check.check_tables.Goals as goal
+
+pub returns-then-branch-clause-exact : goal.returns-then-branch-clause-exact
+returns-then-branch-clause-exact c = (λ h. c.in_ok-pass_by_number.ensures c.if-branch.true, λ pass. refl)
+
+pub returns-then-branch-clause-checked : goal.returns-then-branch-clause-checked
+returns-then-branch-clause-checked c = λ h. Checked c.args.grammar.now c.args.start c.args.states.now (c.in_ok-pass_by_number.ensures c.if-branch.true)
+
+pub returns-then-branch-clause-faithful : goal.returns-then-branch-clause-faithful
+returns-then-branch-clause-faithful c = λ h. Faithful c.args.grammar.now c.args.start c.args.states.now (c.in_ok-pass_by_number.ensures c.if-branch.true)
 
 pub are_right_states-requires-clause-counted : goal.are_right_states-requires-clause-counted
 are_right_states-requires-clause-counted c = rw c.deref.ensures.value c.in_ok-listed.ensures.counted

@@ -163,7 +163,7 @@ module _ (n : Numbers) where
     pub marked : AreMarked mark marks symbols
     pub others : (x m : ℕ) → slice_get marks x ≡ Some m → (m ≡ mark) ⊎ (slice_get base x ≡ Some m)
     pub sound : (k : ℕ) → Contains closure k → InNumberedClosure n kernel k
-    pub kernel : (k : ℕ) → Contains kernel k → Contains closure k
+    pub begun : (k : ℕ) → Contains kernel k → Contains closure k
     pub behind : (x : ℕ) → IsBehindNumber n closure x → Contains symbols x
     pub from : (x : ℕ) → Contains symbols x → IsBehindNumber n closure x
     pub expanded : (i x k : ℕ) → i < done → slice_get symbols i ≡ Some x → Contains (list_at n.expansions.items x) k → Contains closure k
@@ -175,7 +175,7 @@ module _ (n : Numbers) where
     marked = adds.marked;
     others = adds.others;
     sound = λ k c. of_kernel k (subst (λ (ks : List ℕ). Contains ks k) same c);
-    kernel = λ k c. subst (λ (ks : List ℕ). Contains ks k) (sym same) c;
+    begun = λ k c. subst (λ (ks : List ℕ). Contains ks k) (sym same) c;
     behind = λ x b. adds.there x (behind_more closure kernel (λ k c. subst (λ (ks : List ℕ). Contains ks k) same c) x b);
     from = λ x c. elim (adds.from x c) [
       | inl none ↦ absurd (Contains-none x none)
@@ -187,8 +187,14 @@ module _ (n : Numbers) where
 
   -- the next symbol is expanded
   module _ (kernel : List ℕ) (mark : ℕ) (base marks closure symbols : List ℕ) (done symbol : ℕ) (before : IsClosingBy kernel mark base marks closure symbols done) (at : slice_get symbols done ≡ Some symbol) where
-    front_in : (k : ℕ) → Contains (list_at n.expansions.items symbol) k → InNumberedClosure n kernel k
+    pub front_in : (k : ℕ) → Contains (list_at n.expansions.items symbol) k → InNumberedClosure n kernel k
     front_in k c = let b = before.from symbol (contains_at symbols symbol done at) in of_front b.item symbol k (before.sound b.item b.among) b.behind c
+
+    -- the next symbol is one of the grammar
+    pub next_within : (g : Rules) → AreNumbers g n → ((k : ℕ) → Contains kernel k → k < length n.items.items) → symbol < length n.symbols.items
+    next_within g numbers within =
+        let b = before.from symbol (contains_at symbols symbol done at) in
+        symbol_within g n numbers b.item symbol (closure_within g n numbers kernel within (before.sound b.item b.among)) b.behind
 
     pub Closing-more : (new_marks more new : List ℕ) → done < length n.symbols.items → more ≡ closure ++ list_at n.expansions.items symbol → AddsBehind n (list_at n.expansions.items symbol) mark marks new_marks symbols new → IsClosingBy kernel mark base new_marks more new (done + 1)
     Closing-more new_marks more new room same adds = record {
@@ -196,7 +202,7 @@ module _ (n : Numbers) where
       marked = adds.marked;
       others = λ x m at_x. elim (adds.others x m at_x) [ inl is ↦ inl is | inr old ↦ before.others x m old ];
       sound = λ k c. elim (cases k c) [ inl was ↦ before.sound k was | inr front ↦ front_in k front ];
-      kernel = λ k c. first k (before.kernel k c);
+      begun = λ k c. first k (before.begun k c);
       behind = λ x b. elim (cases b.item b.among) [
         | inl was ↦ kept_there symbols new adds.kept x (before.behind x (record { item = b.item; among = was; behind = b.behind }))
         | inr front ↦ adds.there x (record { item = b.item; among = front; behind = b.behind })
@@ -236,7 +242,7 @@ module _ (n : Numbers) where
   Closing-end kernel mark base marks closure symbols done are all k = (are.sound k, λ h. complete h)
     where
       complete : {j : ℕ} → InNumberedClosure n kernel j → Contains closure j
-      complete (of_kernel j c) = are.kernel j c
+      complete (of_kernel j c) = are.begun j c
       complete (of_front i x q h b c) =
           let s = place symbols x (are.behind x (record { item = i; among = complete h; behind = b })) in
           are.expanded s.0 x q (omega (arith, s.1, all)) s.2 c
