@@ -43,6 +43,7 @@ positive zero = []
 positive (suc n) = suc n ∷ positive n
 
 pub in_positive : (n m : ℕ) → 0 < m → m ≤ n → Contains (positive n) m
+unfolding positive
 in_positive zero m l h = absurd (omega (arith, l, h))
 in_positive (suc n) m l h =
     ⊎_elim (λ last. let e : suc n ≡ m = omega (arith, last, h) in subst (λ (k : ℕ). Contains (suc n ∷ positive n) k) e (contains_head (suc n) (positive n)))
@@ -50,8 +51,13 @@ in_positive (suc n) m l h =
     (cases_lt n m)
 
 pub from_positive : (n m : ℕ) → Contains (positive n) m → (0 < m) × (m ≤ n)
+unfolding positive
 from_positive zero m c = absurd (Contains-none m c)
 from_positive (suc n) m c = elim (contains-cons (suc n) (positive n) m c) [ inl e ↦ (omega (arith, e), omega (arith, e)) | inr rest ↦ let r = from_positive n m rest in (r.0, omega (arith, r.1)) ]
+
+-- names of one symbol are one
+one_name : (a b : NonterminalString) → Nonterminal a ≡ Nonterminal b → a ≡ b
+one_name a b e = cc
 
 -- where symbols lead is read of the state
 lead_target : (h : Bits → Token → Bool) (s : State Bits) (x : Symbol) → leads (contents_of h s) x ≡ target_of s x
