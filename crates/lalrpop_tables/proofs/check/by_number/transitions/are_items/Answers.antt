@@ -21,7 +21,7 @@ loop-place-preserved c j k item less at_item at_k =
     let number = slice_get_at c.args.expected.now c.loop-place.place met room (get_or_default c.args.expected.now c.loop-place.place 0 met room) in
     let is_number : met ≡ k = same_some met k (sym number ∙ ap (slice_get c.args.expected.now) same ∙ at_k) in
     subst (λ (m : ℕ). slice_get c.args.numbers.now.items.items m ≡ Some (with_dot item.production item.index)) is_number
-    (subst (λ (i : Dotted Bits). slice_get c.args.numbers.now.items.items met ≡ Some (with_dot i.production i.index)) is (c.if-not-is_number_of.ensures refl)))
+    (subst (λ (i : Dotted Bits). slice_get c.args.numbers.now.items.items met ≡ Some (with_dot i.production i.index)) is (c.if-not-is_number_of.ensures refl ∙ ap (λ (i : Dotted Bits). Some (with_dot i.production i.index)) c.item.view_is)))
     (cases_lt j c.loop-place.place)
 
 pub returns : goal.returns
