@@ -118,10 +118,11 @@ pub(super) fn listed_by_number<'grammar>(
     let mut marks = vec![in alloc; 0; numbers.symbols.len()]?;
     let mut list = Vec::with_capacity(alloc, states.len())?;
     for state in states {
-        let Some(kernel) = kernel_of(numbers, name, &start, &kernels, list.len()) else {
+        let place = list.len();
+        let Some(kernel) = kernel_of(numbers, name, &start, &kernels, place) else {
             return Ok(None);
         };
-        let mark = list.len() + 1;
+        let mark = place + 1;
         let Some(new) = listed_state(alloc, numbers, kernel, mark, &mut marks, state)? else {
             return Ok(None);
         };
