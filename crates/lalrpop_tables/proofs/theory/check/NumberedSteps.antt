@@ -1,10 +1,11 @@
 -- The steps by which states are listed by number.
-use Rattle.std.proofs.Common.{◌≡◌, ◌∙◌, ◌⊎◌, inl, inr, ℕ, zero, suc, ◌<◌, ◌≤◌, ◌+◌, Bool, true, List, [], ◌∷◌, ◌++◌, length, length-append, set, refl, sym, ap, subst, arith, Option, Some, None}
+use Rattle.std.proofs.Common.{◌≡◌, ◌∙◌, ◌⊎◌, inl, inr, ℕ, zero, suc, ◌<◌, ◌≤◌, ◌+◌, Bool, true, false, List, [], ◌∷◌, ◌++◌, length, length-append, get_or, replicate, set, refl, sym, ap, subst, arith, Option, Some, None}
 use Rattle.std.specs.Prelude.{◌↔◌, slice_get, Contains}
-use Rattle.std.proofs.lemmas.Bool.{cases_eq, cases_lt}
-use Rattle.std.proofs.lemmas.List.{length-set}
+use Rattle.std.specs.Borrow.{Bor}
+use Rattle.std.proofs.lemmas.Bool.{cases_eq, cases_lt, false≢true}
+use Rattle.std.proofs.lemmas.List.{get_or-replicate, length-replicate, length-set}
 use Rattle.std.proofs.lemmas.List.Elements.{Contains-append_left, Contains-append_right, Contains-append_cases}
-use Rattle.std.proofs.lemmas.Option.{slice_get_within}
+use Rattle.std.proofs.lemmas.Option.{get_or_from_slice_get, slice_get_within}
 use Rattle.lalrpop_base.specs.Words.{AllDiffer, Bits, Dotted}
 use Rattle.lalrpop_base.specs.declared.lookahead.nil.Nil.{Nil}
 use Rattle.lalrpop_base.specs.declared.lr1_core.state.State.{State}
@@ -14,11 +15,13 @@ use Rattle.lalrpop_base.specs.grammars.Ascending.{Ascend}
 use Rattle.lalrpop_base.proofs.theory.grammars.Tables.{same_lr0}
 use Rattle.lalrpop_base.proofs.theory.lists.Members.{Contains-none, contains-cons, contains_head, place}
 use Rattle.lalrpop_base.proofs.theory.lists.Places.{contains_at, filled, one_place, push_cases, same_some}
-use Rattle.lalrpop_tables.specs.check.ByNumber.{AddsFinished, AreItemsAt, AreListedByNumber, AreMarkedReached, HasFinished, IsKernelOf, IsListedState, IsReachedByNumber, MarksTarget, MarksTargets, over_transition}
+use Rattle.lalrpop_tables.specs.check.ByNumber.{AddsFinished, AreItemsAt, AreListedByNumber, AreMarkedReached, HasFinished, HoldSets, HoldsUnion, IsKernelOf, IsListedState, IsReachedByNumber, MarksTarget, MarksTargets, over_transition}
+use Rattle.lalrpop_tables.specs.follow_sets.FollowWalks.{AreUnions}
 use Rattle.lalrpop_tables.specs.grammars.Numbering.{with_dot}
 use Rattle.lalrpop_tables.specs.states.NumberedStates.{listed_transitions}
 use Rattle.lalrpop_tables.specs.declared.construction.numbers.Numbers.{Numbers}
 use Rattle.lalrpop_tables.specs.declared.lane_table.follow_sets.numbered_state.NumberedState.{NumberedState}
+use Rattle.lalrpop_tables.proofs.theory.follow_sets.FollowBits.{held_at}
 use Rattle.lalrpop_tables.proofs.theory.states.NumberedItems.{AreNumbered, items_differ}
 
 -- ---- items with their numbers
@@ -159,6 +162,29 @@ Reached-more list s state old new at reached before marks m marked = elim (marks
 -- of new marks none is set
 pub Reached-none : (list : List NumberedState) (marks : List Bool) → ((m : ℕ) → slice_get marks m ≡ Some true → ⊥) → AreMarkedReached list marks
 Reached-none list marks none m at = absurd (none m at)
+
+-- marks that are all false
+pub Marks-counted : (marks : List Bool) (count : ℕ) → marks ≡ replicate count false → length marks ≡ count
+Marks-counted marks count none = ap length none ∙ length-replicate count false
+
+pub Marks-none : (list : List NumberedState) (marks : List Bool) (count : ℕ) → marks ≡ replicate count false → AreMarkedReached list marks
+Marks-none list marks count none m at =
+    let l = slice_get_within marks m true at in
+    let counted = Marks-counted marks count none in
+    let unset : get_or marks m true ≡ false = ap (λ (bs : List Bool). get_or bs m true) none ∙ get_or-replicate count m false true (omega (arith, l, counted)) in
+    absurd (false≢true (sym unset ∙ get_or_from_slice_get marks m true true at))
+
+-- ---- reductions that hold unions
+pub Union-held : (follow : List Bits) (entries : List (ℕ × ℕ)) (numbers : List ℕ) (sets : List Bits) (reductions : List (Bits × Bor Production)) → AreUnions follow entries numbers sets → HoldSets reductions sets → (j k : ℕ) (r : Bits × Bor Production) → slice_get reductions j ≡ Some r → slice_get numbers j ≡ Some k → HoldsUnion follow entries k r.0
+Union-held follow entries numbers sets reductions unions holds j k r at_r at_k =
+    let counted = unions.counted in
+    let l = slice_get_within numbers j k at_k in
+    let f = filled sets j (omega (arith, l, counted)) in
+    record {
+      set = f.0;
+      union = λ bit. (λ h. (unions.each j k bit at_k).0 ((held_at sets j bit f.0 f.1).1 h), λ u. (held_at sets j bit f.0 f.1).0 ((unions.each j k bit at_k).1 u));
+      within = λ bit h. holds j bit r f.0 at_r f.1 h;
+    }
 
 -- the numbers of a kernel are those of dotted productions
 pub kernel_within : (n : Numbers) (start : NonterminalString) (s : ℕ) (kernel : List ℕ) → IsKernelOf n start s kernel → (k : ℕ) → Contains kernel k → k < length n.items.items

@@ -16,8 +16,8 @@ loop-place-preserved c j bit r set less at_r at_set h =
     let there = slice_get_at c.args.reductions.now c.loop-place.place c.index-reductions-place.result c.loop-place-test.true c.index-reductions-place.is in
     let is : c.index-reductions-place.result ≡ r = same_some c.index-reductions-place.result r (sym there ∙ ap (slice_get c.args.reductions.now) same ∙ at_r) in
     let within = slice_get_within c.args.sets.now j set at_set in
-    let read = slice_get_at c.args.sets.now c.loop-place.place c.index.result.now (omega (arith, within, same)) c.index.ensures in
-    let is_set : c.index.result.now ≡ set = same_some c.index.result.now set (sym read ∙ ap (slice_get c.args.sets.now) same ∙ at_set) in
+    let read = slice_get_at c.args.sets.now c.loop-place.place c.index-sets-place.result (omega (arith, within, same)) c.index-sets-place.is in
+    let is_set : c.index-sets-place.result ≡ set = same_some c.index-sets-place.result set (sym read ∙ ap (slice_get c.args.sets.now) same ∙ at_set) in
     let holds = c.in_ok-holds_all.ensures c.if-not-branch.false in
     subst (λ (q : Bits × Bor Production). has q.0 bit ≡ true) is (holds bit (subst (λ (s : Bits). has s bit ≡ true) (sym is_set) h)))
     (cases_lt j c.loop-place.place)
