@@ -1,5 +1,5 @@
 //! Whether states are reached from the first, to which no edge leads.
-ghost use Rattle.std.specs.Prelude.{IfOk, IsFalse, IsTrue};
+ghost use Rattle.std.specs.Prelude.{◌≡◌, ◌<◌, ◌⊎◌, length, slice_get, Some, true, IfOk, IsFalse, IsTrue};
 ghost use Rattle.lalrpop_base.specs.states.CheckStates.{LeadsBy, IsTarget};
 ghost use Rattle.lalrpop_tables.specs.check.ByNumber.{AreReachedByNumber, MarksTarget, MarksTargets};
 
@@ -56,13 +56,24 @@ fn mark_targets(edges: &[(usize, usize)], marks: &mut Vec<bool>)
     }
 }
 
+// Whether a state is the first, or is marked.
+fn is_marked(place: usize, marks: &[bool]) -> bool
+    requires { place < length marks.now }
+    ensures { IsTrue result → (place ≡ 0) ⊎ (slice_get marks.now place ≡ Some true) }
+{
+    if place == 0 {
+        return true;
+    }
+    marks[place]
+}
+
 /// Whether an earlier state that is reached leads to each but the first.
 pub(super) fn are_reached(alloc: Global, states: &[NumberedState]) -> Result<bool, OutOfMemory>
     ensures { IfOk result (λ yes. IsTrue yes → AreReachedByNumber states.now) }
 {
     let mut marks = vec![in alloc; false; states.len()]?;
     for place in 0..states.len() {
-        if place > 0 && !marks[place] {
+        if !is_marked(place, &marks) {
             return Ok(false);
         }
         mark_targets(&states[place].edges, &mut marks);
