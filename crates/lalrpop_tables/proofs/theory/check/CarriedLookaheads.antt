@@ -3,7 +3,7 @@ use Rattle.std.proofs.Common.{◌≡◌, ◌∙◌, ℕ, zero, suc, Bool, true, 
 use Rattle.std.specs.Prelude.{slice_get, Contains}
 use Rattle.std.specs.Borrow.{Bor}
 use Rattle.std.proofs.lemmas.Option.{slice_get_within}
-use Rattle.lalrpop_base.specs.Words.{AllDiffer, AreClosed, AreCoherent, Bits, Contents, IsBitOf, IsCarried, IsLaneToken, IsLookahead, IsWellFormed, behind_parent, contents, contents_at, has, holds_token, of_start, productions, reduction_of, rules_of}
+use Rattle.lalrpop_base.specs.Words.{AllDiffer, AreClosed, AreCoherent, Bits, Contents, IsBitOf, IsCarried, IsLaneToken, IsLookahead, IsWellFormed, behind_parent, contents, contents_at, holds_token, of_start, productions, reduction_of, rules_of}
 use Rattle.lalrpop_base.specs.lanes.Lanes.{Gives}
 use Rattle.lalrpop_base.specs.states.States.{Reduction}
 use Rattle.lalrpop_base.specs.declared.lookahead.token.Token.{Token}

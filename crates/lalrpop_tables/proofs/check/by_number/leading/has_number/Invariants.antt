@@ -1,4 +1,4 @@
-use Rattle.std.proofs.Common.{ℕ, ◌≤◌, ◌-◌, length}
+use Rattle.std.proofs.Common.{◌≤◌, ◌-◌, length}
 use Rattle.lalrpop_tables.proofs.check.by_number.leading.has_number.Given as goal
 
 abbrev pub invariant-loop-low : goal.invariant-loop-low

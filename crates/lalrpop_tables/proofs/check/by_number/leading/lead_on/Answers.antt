@@ -4,7 +4,6 @@ use Rattle.std.proofs.lemmas.List.{get_or_default}
 use Rattle.std.proofs.lemmas.List.Elements.{Contains-get_or}
 use Rattle.lalrpop_base.proofs.theory.lists.EachLemmas.{each_below_more, each_of_below}
 use Rattle.lalrpop_base.proofs.theory.lists.Members.{place}
-use Rattle.lalrpop_tables.specs.check.ByNumber.{LeadsOn}
 use Rattle.lalrpop_tables.proofs.check.by_number.leading.lead_on.Goals as goal
 
 pub leads_on-requires-clause-known : goal.leads_on-requires-clause-known

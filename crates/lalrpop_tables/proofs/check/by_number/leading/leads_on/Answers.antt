@@ -1,8 +1,8 @@
-use Rattle.std.proofs.Common.{◌≡◌, ◌∙◌, ◌<◌, ◌+◌, ℕ, ap, get_or, subst, arith, length, sym, Some, None, List, Option}
-use Rattle.std.specs.Prelude.{slice_get, Contains}
+use Rattle.std.proofs.Common.{◌≡◌, ◌∙◌, ◌+◌, ℕ, ap, get_or, subst, arith, sym, Some, None, List, Option}
+use Rattle.std.specs.Prelude.{Contains}
 use Rattle.std.proofs.lemmas.Option.{slice_get-get_or, slice_get_within}
 use Rattle.lalrpop_base.proofs.theory.lists.Places.{contains_at, same_some, slice_get_at}
-use Rattle.lalrpop_tables.specs.states.NumberedStates.{items_at, listed_items}
+use Rattle.lalrpop_tables.specs.states.NumberedStates.{listed_items}
 use Rattle.lalrpop_tables.specs.declared.lane_table.follow_sets.numbered_state.NumberedState.{NumberedState}
 use Rattle.lalrpop_tables.proofs.check.by_number.leading.leads_on.Goals as goal
 

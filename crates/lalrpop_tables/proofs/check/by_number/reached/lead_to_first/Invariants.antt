@@ -1,4 +1,3 @@
-use Rattle.std.proofs.Common.{◌≡◌, ℕ}
 use Rattle.lalrpop_base.specs.Words.{EachBelow, Bits}
 use Rattle.lalrpop_base.specs.states.CheckStates.{LeadsFrom}
 use Rattle.lalrpop_base.specs.declared.lr1_core.state.State.{State}

@@ -1,4 +1,4 @@
-use Rattle.std.proofs.Common.{◌≡◌, ◌∷◌, [], ℕ, ap, inl, inr, List, subst, arith, refl}
+use Rattle.std.proofs.Common.{◌≡◌, ◌∷◌, [], ℕ, ap, inl, inr, List, subst, arith}
 use Rattle.std.specs.Prelude.{Contains}
 use Rattle.lalrpop_base.proofs.theory.lists.Members.{contains-cons, Contains-none}
 use Rattle.lalrpop_base.proofs.theory.states.CheckStates.{values, value_of_leads}

@@ -1,12 +1,10 @@
-use Rattle.std.proofs.Common.{◌≡◌, ◌∙◌, ◌<◌, ◌+◌, ℕ, List, ap, subst, arith, length, refl, sym, Some, true, ⊎_elim}
+use Rattle.std.proofs.Common.{◌≡◌, ◌∙◌, ℕ, List, ap, subst, arith, length, sym, ⊎_elim}
 use Rattle.std.specs.Prelude.{slice_get}
-use Rattle.std.specs.Borrow.{Bor}
 use Rattle.std.proofs.lemmas.Bool.{cases_lt}
 use Rattle.std.proofs.lemmas.Option.{slice_get_within}
 use Rattle.lalrpop_base.specs.Words.{Bits}
 use Rattle.lalrpop_base.specs.declared.lr1_core.state.State.{State}
-use Rattle.lalrpop_base.specs.declared.repr.Production.{Production}
-use Rattle.lalrpop_base.proofs.theory.lists.Places.{filled, same_some, slice_get_at}
+use Rattle.lalrpop_base.proofs.theory.lists.Places.{same_some, slice_get_at}
 use Rattle.lalrpop_tables.specs.check.ByNumber.{HoldSets, HoldsUnion}
 use Rattle.lalrpop_tables.specs.follow_sets.FollowWalks.{AreUnions, entries_at}
 use Rattle.lalrpop_tables.specs.declared.lane_table.follow_sets.numbered_state.NumberedState.{NumberedState}
