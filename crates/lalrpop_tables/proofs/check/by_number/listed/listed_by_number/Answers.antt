@@ -1,5 +1,5 @@
-use Rattle.std.proofs.Common.{◌≡◌, ◌∙◌, ◌<◌, ◌+◌, ◌++◌, ◌∷◌, [], ℕ, List, ap, subst, arith, length, length-append, refl, sym, take, Some}
-use Rattle.std.specs.Prelude.{slice_get, Contains, IfSome, Option}
+use Rattle.std.proofs.Common.{◌≡◌, ◌∙◌, ◌+◌, ◌++◌, ◌∷◌, [], ℕ, List, ap, subst, arith, length, length-append, sym, take}
+use Rattle.std.specs.Prelude.{IfSome, Option}
 use Rattle.std.proofs.lemmas.List.{take_all, take_more}
 use Rattle.lalrpop_base.specs.Words.{Bits}
 use Rattle.lalrpop_base.specs.declared.lr1_core.state.State.{State}
@@ -8,7 +8,7 @@ use Rattle.lalrpop_tables.specs.check.ByNumber.{AreListedByNumber, IsKernelOf, I
 use Rattle.lalrpop_tables.specs.check.NumberedClosures.{IsNumberedClosure}
 use Rattle.lalrpop_tables.specs.grammars.Numbers.{AreExpansions}
 use Rattle.lalrpop_tables.specs.declared.lane_table.follow_sets.numbered_state.NumberedState.{NumberedState}
-use Rattle.lalrpop_tables.proofs.theory.check.NumberedSteps.{Listed-more, Listed-none, kernel_within}
+use Rattle.lalrpop_tables.proofs.theory.check.NumberedSteps.{Listed-more, kernel_within}
 use Rattle.lalrpop_tables.proofs.check.by_number.listed.listed_by_number.Goals as goal
 
 pub kernel_of-requires : goal.kernel_of-requires

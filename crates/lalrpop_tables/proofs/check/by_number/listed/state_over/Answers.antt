@@ -1,4 +1,4 @@
-use Rattle.std.proofs.Common.{◌≡◌, ◌<◌, ℕ, List, [], length, refl, subst, sym}
+use Rattle.std.proofs.Common.{◌<◌, ℕ, List, [], length, refl, subst, sym}
 use Rattle.std.specs.Prelude.{Contains}
 use Rattle.std.specs.Borrow.{Bor}
 use Rattle.lalrpop_base.specs.Words.{AllDiffer, Bits, Dotted}

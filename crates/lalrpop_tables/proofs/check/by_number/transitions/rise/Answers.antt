@@ -1,5 +1,5 @@
-use Rattle.std.proofs.Common.{◌≡◌, ◌<◌, ◌≤◌, ◌+◌, ℕ, arith, length, refl, subst}
-use Rattle.lalrpop_tables.proofs.theory.check.NumberedSteps.{RiseBelow, rising_differ}
+use Rattle.std.proofs.Common.{arith}
+use Rattle.lalrpop_tables.proofs.theory.check.NumberedSteps.{rising_differ}
 use Rattle.lalrpop_tables.proofs.check.by_number.transitions.rise.Goals as goal
 
 pub loop-place-init : goal.loop-place-init
