@@ -8,9 +8,7 @@ ghost use Rattle.lalrpop_tables.specs.grammars.Numbers.{AreExpansions, AreNumber
 
 use super::closing::{Closing, closure_by_number};
 use super::kernels::Kernels;
-use super::transitions::{
-    are_items, are_reductions, finished_of, rise, take_gotos, take_shifts,
-};
+use super::transitions::{are_items, are_reductions, finished_of, rise, take_gotos, take_shifts};
 use crate::construction::numbers::Numbers;
 use crate::lane_table::follow_sets::numbered_state::NumberedState;
 use crate::lane_table::follow_sets::start::fronts_of;

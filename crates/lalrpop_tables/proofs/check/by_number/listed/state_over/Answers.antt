@@ -25,13 +25,13 @@ returns c =
     let edges : List (ℕ × ℕ) = c.take_shifts.new.edges.items in
     let state : NumberedState = record { items = c.args.items; edges = c.take_shifts.new.edges; reductions = c.in_ok-reductions.reductions } in
     let at : AreItemsAt n.items.items numbers old.items.vec.items =
-        subst (λ (ks : List ℕ). AreItemsAt n.items.items ks old.items.vec.items) c.deref.ensures.value
-        (subst (λ (items : List (Dotted Bits)). AreItemsAt n.items.items c.deref.result.now items) c.deref-2.ensures.value (c.if-not-are_items.ensures refl)) in
+    subst (λ (ks : List ℕ). AreItemsAt n.items.items ks old.items.vec.items) c.deref.ensures.value
+    (subst (λ (items : List (Dotted Bits)). AreItemsAt n.items.items c.deref.result.now items) c.deref-2.ensures.value (c.if-not-are_items.ensures refl)) in
     let gotos : AddTransitions n.symbols.items [] (goto_transitions old.gotos.entries) middle =
-        subst (λ (es : List (ℕ × ℕ)). AddTransitions n.symbols.items es (goto_transitions old.gotos.entries) middle) c.in_ok-edges.ensures.items
-        (subst (λ (ss : List Symbol). AddTransitions ss c.in_ok-edges.edges.items (goto_transitions old.gotos.entries) middle) c.deref-3.ensures.value (c.in_ok-take_gotos.ensures.taken c.if-not-branch.false)) in
+    subst (λ (es : List (ℕ × ℕ)). AddTransitions n.symbols.items es (goto_transitions old.gotos.entries) middle) c.in_ok-edges.ensures.items
+    (subst (λ (ss : List Symbol). AddTransitions ss c.in_ok-edges.edges.items (goto_transitions old.gotos.entries) middle) c.deref-3.ensures.value (c.in_ok-take_gotos.ensures.taken c.if-not-branch.false)) in
     let shifts : AddTransitions n.symbols.items middle (shift_transitions old.shifts.entries) edges =
-        subst (λ (ss : List Symbol). AddTransitions ss middle (shift_transitions old.shifts.entries) edges) c.deref-4.ensures.value (c.in_ok-take_shifts.ensures.taken c.if-not-branch-2.false) in
+    subst (λ (ss : List Symbol). AddTransitions ss middle (shift_transitions old.shifts.entries) edges) c.deref-4.ensures.value (c.in_ok-take_shifts.ensures.taken c.if-not-branch-2.false) in
     record {
       same = refl;
       listed = at;
