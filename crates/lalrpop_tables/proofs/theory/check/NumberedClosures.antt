@@ -1,23 +1,16 @@
 -- Closures by number: the steps of their worklist, and which dotted productions they stand for.
-use Rattle.std.proofs.Common.{◌≡◌, ◌∙◌, ◌⊎◌, inl, inr, ℕ, zero, suc, ◌<◌, ◌≤◌, ◌+◌, List, [], ◌∷◌, ◌++◌, length, set, map, drop, refl, sym, ap, subst, arith, Some, None, ⊎_elim}
-use Rattle.std.specs.Prelude.{◌↔◌, slice_get, Contains}
+use Rattle.std.proofs.Common.{◌≡◌, ◌∙◌, ◌⊎◌, inl, inr, ℕ, zero, suc, ◌<◌, ◌≤◌, ◌+◌, List, [], ◌∷◌, ◌++◌, length, set, refl, sym, ap, subst, arith, Some, None, ⊎_elim}
+use Rattle.std.specs.Prelude.{slice_get, Contains}
 use Rattle.std.proofs.lemmas.Bool.{cases_eq, cases_lt}
 use Rattle.std.proofs.lemmas.List.{length-set}
 use Rattle.std.proofs.lemmas.List.Elements.{Contains-append_left, Contains-append_right, Contains-append_cases}
 use Rattle.std.proofs.lemmas.Option.{slice_get_within}
-use Rattle.lalrpop_base.specs.Words.{Dotted, InClosure, in_kernel, expanded, Rules}
-use Rattle.lalrpop_base.specs.declared.lookahead.nil.Nil.{Nil}
-use Rattle.lalrpop_base.specs.declared.repr.NonterminalString.{NonterminalString}
-use Rattle.lalrpop_base.specs.declared.repr.Production.{Production}
-use Rattle.lalrpop_base.specs.declared.repr.Symbol.{Symbol}
-use Rattle.lalrpop_base.specs.declared.repr.Symbol.TheVariants.{Nonterminal}
-use Rattle.lalrpop_base.proofs.theory.closures.Closing.{drop_split, split_drop}
+use Rattle.lalrpop_base.specs.Words.{Rules}
 use Rattle.lalrpop_base.proofs.theory.lists.Members.{Contains-none, contains-cons, contains_head, place}
-use Rattle.lalrpop_base.proofs.theory.lists.Places.{contains_at, filled, same_some, slice_get-longer, slice_get-push_at}
+use Rattle.lalrpop_base.proofs.theory.lists.Places.{contains_at, filled, same_some, slice_get-longer}
 use Rattle.lalrpop_tables.specs.check.NumberedClosures.{AddsBehind, AreMarked, InNumberedClosure, IsBehindNumber, IsNumberedClosure, MarksBelow, of_front, of_kernel}
 use Rattle.lalrpop_tables.specs.closures.Sharing.{list_at}
-use Rattle.lalrpop_tables.specs.grammars.Numbering.{with_dot}
-use Rattle.lalrpop_tables.specs.grammars.Numbers.{AreExpansions, AreNumbers}
+use Rattle.lalrpop_tables.specs.grammars.Numbers.{AreNumbers}
 use Rattle.lalrpop_tables.specs.declared.construction.numbers.Numbers.{Numbers}
 use Rattle.lalrpop_tables.proofs.theory.closures.Unfolded.{list_stands}
 

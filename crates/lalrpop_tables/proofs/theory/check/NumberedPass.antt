@@ -17,7 +17,7 @@ use Rattle.lalrpop_tables.specs.declared.lane_table.follow_sets.numbered_state.N
 use Rattle.lalrpop_tables.proofs.theory.check.CarriedLookaheads.{Unions-carried, here_there}
 use Rattle.lalrpop_tables.proofs.theory.check.CheckAll.{Pass-all}
 use Rattle.lalrpop_tables.proofs.theory.check.CheckTables.{Right-closed}
-use Rattle.lalrpop_tables.proofs.theory.check.NumberedRight.{are_targets, keys_of_state, listed_all, numbered_states, of_grammar, right_states, sets, state_at, targets}
+use Rattle.lalrpop_tables.proofs.theory.check.NumberedRight.{are_targets, keys_of_state, listed_all, numbered_states, of_grammar, right_states, state_at, targets}
 use Rattle.lalrpop_tables.proofs.theory.lane_states.LanePlaces.{closed_there}
 
 module _ (g : Grammar) (start : NonterminalString) (n : Numbers) (numbers : AreNumbers (rules_of g) n) (states : List (State Bits)) (list : List NumberedState) (listed : AreListedByNumber n start states list) where

@@ -1,17 +1,17 @@
 -- States by number that list closures, and lead on, are what the check asks of states.
-use Rattle.std.proofs.Common.{◌≡◌, ◌∙◌, ◌⊎◌, ℕ, zero, suc, Bool, ◌<◌, ◌≤◌, ◌+◌, ◌-◌, List, [], ◌∷◌, length, drop, map, refl, sym, ap, subst, arith, inl, inr, true, Option, Some, None, option_map, ⊎_elim}
+use Rattle.std.proofs.Common.{◌≡◌, ◌∙◌, ℕ, zero, suc, Bool, ◌<◌, ◌≤◌, ◌+◌, ◌-◌, List, [], ◌∷◌, length, map, refl, sym, ap, subst, arith, inl, inr, true, Option, Some, None, option_map, ⊎_elim}
 use Rattle.std.specs.Prelude.{◌↔◌, slice_get, Contains}
 use Rattle.std.specs.Borrow.{Bor}
 use Rattle.std.specs.BTreeSet.{BTreeSet}
 use Rattle.std.proofs.lemmas.Bool.{cases_lt}
 use Rattle.std.proofs.lemmas.List.{length-map}
 use Rattle.std.proofs.lemmas.Option.{slice_get_within, slice_get-map}
-use Rattle.lalrpop_base.specs.Words.{AllDiffer, AreCoherent, Bits, Contents, Dotted, InClosure, IsAtStart, contents, contents_at, contents_of, holds_token, leads, productions, rules_of}
+use Rattle.lalrpop_base.specs.Words.{AllDiffer, AreCoherent, Bits, Dotted, InClosure, IsAtStart, contents_at, contents_of, leads, productions, rules_of}
 use Rattle.lalrpop_base.specs.Words.{HaveNoConflict, IsMovedIn, IsReached, IsRightItem, IsRightState, IsRightTarget, IsTarget, AreRightStates, at_zero, lr0}
 use Rattle.lalrpop_base.specs.closures.Closures.{over_edge}
 use Rattle.lalrpop_base.specs.closures.Closure.{dotted_of}
 use Rattle.lalrpop_base.specs.closures.CheckClosing.{AreClosure}
-use Rattle.lalrpop_base.specs.states.CheckStates.{AreListed, IsListed, LeadsOn, dots, reduced, target_of}
+use Rattle.lalrpop_base.specs.states.CheckStates.{AreListed, IsListed, dots, reduced, target_of}
 use Rattle.lalrpop_base.specs.declared.lookahead.nil.Nil.{Nil}
 use Rattle.lalrpop_base.specs.declared.lookahead.token.Token.{Token}
 use Rattle.lalrpop_base.specs.declared.lr1_core.state.State.{State}

@@ -1,4 +1,4 @@
-use Rattle.std.proofs.Common.{ap, refl, length, sym, ◌∙◌}
+use Rattle.std.proofs.Common.{refl}
 use Rattle.lalrpop_tables.proofs.theory.check.NumberedPass.{edges_rise, items_within, passed, passed_places}
 use Rattle.lalrpop_tables.proofs.theory.check.NumberedRight.{all_reached, numbered_states, of_grammar}
 use Rattle.lalrpop_tables.proofs.check.by_number.numbered_pass.Goals as goal

@@ -1,7 +1,5 @@
-use Rattle.std.proofs.Common.{◌≡◌, ◌∙◌, ◌<◌, ℕ, ap, arith, length, refl, sym, Some}
-use Rattle.std.specs.Prelude.{slice_get}
-use Rattle.std.proofs.lemmas.Option.{slice_get_within}
-use Rattle.lalrpop_base.proofs.theory.lists.Places.{filled, slice_get_at}
+use Rattle.std.proofs.Common.{◌≡◌, ◌∙◌, ap, arith, refl, Some}
+use Rattle.lalrpop_base.proofs.theory.lists.Places.{slice_get_at}
 use Rattle.lalrpop_tables.proofs.theory.check.NumberedClosures.{Behind-end, Behind-known, Behind-new, symbol_within}
 use Rattle.lalrpop_tables.proofs.check.by_number.closing.add_symbol.Goals as goal
 

@@ -1,4 +1,4 @@
-use Rattle.std.proofs.Common.{ℕ, ◌-◌, length}
+use Rattle.std.proofs.Common.{◌-◌, length}
 use Rattle.lalrpop_tables.proofs.theory.check.NumberedClosures.{IsClosingBy}
 use Rattle.lalrpop_tables.proofs.check.by_number.closing.closure_by_number.Given as goal
 
