@@ -1,12 +1,8 @@
 //! The check of states by the numbers of their items. A yes says that they are tables; a no, that
 //! these means do not tell.
-mod closing;
-mod kernels;
 mod leading;
-mod listed;
 mod reached;
 mod tokens;
-mod transitions;
 
 ghost use Rattle.std.specs.Prelude.{◌<◌, length, IfOk, IsTrue};
 ghost use Rattle.lalrpop_base.specs.Words.{AreCoherent, IsWellFormed, rules_of};
@@ -15,13 +11,13 @@ ghost use Rattle.lalrpop_tables.specs.check.Check.{PassCheck};
 ghost use Rattle.lalrpop_tables.specs.grammars.Numbers.{AreNumbers};
 
 use self::leading::all_lead_on;
-use self::listed::listed_by_number;
 use self::reached::{are_reached, lead_to_first};
 use self::tokens::hold_lookaheads;
 use crate::conflicts::have_no_conflict;
 use crate::construction::numbers::Numbers;
 use crate::lane_table::follow_sets::Found;
 use crate::lane_table::follow_sets::numbered_state::NumberedState;
+use crate::lane_table::numbered_states::listed::listed_by_number;
 use lalrpop_base::first::FirstSets;
 use lalrpop_base::lr1_core::state::Lr1State;
 use lalrpop_base::memory::OutOfMemory;

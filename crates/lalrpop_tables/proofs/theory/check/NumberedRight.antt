@@ -29,12 +29,13 @@ use Rattle.lalrpop_tables.specs.follow_sets.FollowNodes.{AreAllReached, AreOfGra
 use Rattle.lalrpop_tables.specs.grammars.Numbering.{with_dot}
 use Rattle.lalrpop_tables.specs.grammars.Numbers.{AreNumbers}
 use Rattle.lalrpop_tables.specs.lanes.LaneTraces.{places_in}
-use Rattle.lalrpop_tables.specs.states.NumberedStates.{AreNumberedStates, IsNumberedState, items_at, listed_items, listed_transitions, transitions_at}
+use Rattle.lalrpop_tables.specs.states.NumberedStates.{AreNumberedStates, items_at, listed_items, listed_transitions, transitions_at}
 use Rattle.lalrpop_tables.specs.declared.construction.numbers.Numbers.{Numbers}
 use Rattle.lalrpop_tables.specs.declared.lane_table.follow_sets.numbered_state.NumberedState.{NumberedState}
 use Rattle.lalrpop_tables.proofs.theory.canonical.Canonical.{InClosure-more}
 use Rattle.lalrpop_tables.proofs.theory.check.CheckTables.{item_at}
 use Rattle.lalrpop_tables.proofs.theory.check.NumberedItems.{KernelAt, behind_none, behind_some, by_parts, closure_complete, closure_sound, moved_in_kernel, number_there, one_dot, one_production}
+use Rattle.lalrpop_tables.proofs.theory.check.NumberedSteps.{Listed-numbered}
 use Rattle.lalrpop_tables.proofs.theory.states.NumberedItems.{items_differ}
 
 -- ---- the numbers from one to a count
@@ -275,13 +276,7 @@ module _ (g : Grammar) (n : Numbers) (numbers : AreNumbers (rules_of g) n) (star
 
     -- these are states by number
     pub numbered_states : AreNumberedStates n states list
-    numbered_states = record {
-      counted = listed.counted;
-      each = λ s state at.
-          let o = state_at s state at in
-          subst (λ (q : Option (State Bits)). IsNumberedState n (contents_at (λ (lookahead : Bits) (t : Token). true) q) state) (sym o.at) o.is.over.numbered;
-      reduced = λ s old state at_old at. (listed.each s old state at_old at).over.reduced;
-    }
+    numbered_states = Listed-numbered n start states list listed
 
     -- ---- what is asked of each
     module _ (coherent : AreCoherent states) (free : HaveNoConflict g.terminals states) (lead : AllLeadOn n list) (reached : AreReachedByNumber list) (none : IsTarget states 0 → ⊥) where

@@ -6,8 +6,9 @@ use Rattle.std.proofs.lemmas.Bool.{cases_eq, false≢true}
 use Rattle.std.proofs.lemmas.List.{get_or-replicate, length-replicate, length-set}
 use Rattle.std.proofs.lemmas.List.Elements.{Contains-append_left, Contains-append_right, Contains-append_cases}
 use Rattle.std.proofs.lemmas.Option.{get_or_from_slice_get, slice_get_within}
-use Rattle.lalrpop_base.specs.Words.{AllDiffer, Bits, Dotted}
+use Rattle.lalrpop_base.specs.Words.{AllDiffer, Bits, Dotted, contents_at}
 use Rattle.lalrpop_base.specs.declared.lookahead.nil.Nil.{Nil}
+use Rattle.lalrpop_base.specs.declared.lookahead.token.Token.{Token}
 use Rattle.lalrpop_base.specs.declared.lr1_core.state.State.{State}
 use Rattle.lalrpop_base.specs.declared.repr.NonterminalString.{NonterminalString}
 use Rattle.lalrpop_base.specs.declared.repr.Production.{Production}
@@ -18,7 +19,7 @@ use Rattle.lalrpop_base.proofs.theory.lists.Places.{contains_at, filled, one_pla
 use Rattle.lalrpop_tables.specs.check.ByNumber.{AddsFinished, AreItemsAt, AreListedByNumber, AreMarkedReached, HasFinished, HoldSets, HoldsUnion, IsKernelOf, IsListedState, IsReachedByNumber, MarksTarget, MarksTargets, over_transition}
 use Rattle.lalrpop_tables.specs.follow_sets.FollowWalks.{AreUnions}
 use Rattle.lalrpop_tables.specs.grammars.Numbering.{with_dot}
-use Rattle.lalrpop_tables.specs.states.NumberedStates.{listed_transitions}
+use Rattle.lalrpop_tables.specs.states.NumberedStates.{AreNumberedStates, IsNumberedState, listed_transitions}
 use Rattle.lalrpop_tables.specs.declared.construction.numbers.Numbers.{Numbers}
 use Rattle.lalrpop_tables.specs.declared.lane_table.follow_sets.numbered_state.NumberedState.{NumberedState}
 use Rattle.lalrpop_tables.proofs.theory.follow_sets.FollowBits.{held_at}
@@ -99,6 +100,18 @@ Listed-more n start done old list state before is =
             ]
       ];
     }
+
+-- they are states by number
+pub Listed-numbered : (n : Numbers) (start : NonterminalString) (states : List (State Bits)) (list : List NumberedState) → AreListedByNumber n start states list → AreNumberedStates n states list
+Listed-numbered n start states list listed = record {
+  counted = listed.counted;
+  each = λ s state at.
+      let l = slice_get_within list s state at in
+      let c = listed.counted in
+      let f = filled states s (omega (arith, l, c)) in
+      subst (λ (q : Option (State Bits)). IsNumberedState n (contents_at (λ (lookahead : Bits) (t : Token). true) q) state) (sym f.1) (listed.each s f.0 state f.1 at).over.numbered;
+  reduced = λ s old state at_old at. (listed.each s old state at_old at).over.reduced;
+}
 
 -- ---- finished items
 pub Finished-none : (n : Numbers) (finished : List ℕ) → HasFinished n [] finished

@@ -7,7 +7,7 @@ use super::LaneTableConstruct;
 use super::promote::{lr0_states, promote_states};
 use crate::construction::numbers::Numbers;
 use crate::lane_table::follow_sets::Found;
-use crate::lane_table::follow_sets::numbered_state::number_states;
+use crate::lane_table::numbered_states::states_by_number;
 use lalrpop_base::lookahead::token_set::TokenSet;
 use lalrpop_base::lr1_core::state::Lr1State;
 use lalrpop_base::memory::OutOfMemory;
@@ -53,7 +53,7 @@ impl<'grammar> LaneTableConstruct<'grammar> {
         let grammar = self.grammar;
         let _terminals = grammar.terminals.all();
         let numbers = Numbers::new(alloc, grammar, &self.first_sets)?;
-        let numbered = number_states(alloc, &numbers, states)?;
+        let numbered = states_by_number(alloc, &numbers, &self.start, states)?;
         let found = Found::new(alloc, grammar, &self.start, states, &numbers, &numbered)?;
         let count = states.len();
         for index in 0..count {

@@ -11,8 +11,8 @@ use Rattle.lalrpop_tables.proofs.theory.lane_states.LaneAnswers.{lane_tables, al
 use Rattle.lalrpop_tables.proofs.lane_table.construct.LaneTableConstruct.resolve_states.Goals as goal
 
 -- ---- the pass
-pub number_states-requires-clause-numbered : goal.number_states-requires-clause-numbered
-number_states-requires-clause-numbered c s state at =
+pub states_by_number-requires-clause-numbered : goal.states_by_number-requires-clause-numbered
+states_by_number-requires-clause-numbered c s state at =
     let there = rw c.deref.ensures.value at at in
     lane_numbered (rules_of c.args.self.now.grammar.now) c.args.self.now.start c.args.states.now.items c.requires.lanes c.in_ok-numbers.numbers c.in_ok-numbers.ensures s state there
 
