@@ -198,10 +198,11 @@ pub record AreLalrLaneTables (g : Rules) (start : NonterminalString) (tables : L
   pub faithful : AreFaithful g.productions start (contents g.terminals tables)
 
 -- ---- the construction
--- the grammar is well-formed, and the first sets are its own
+-- the grammar is well-formed, and LR(0) states are made of it and of the start symbol
 pub record IsReadyToConstruct (construct : LaneTableConstruct) : Type 0 where
   pub well_formed : IsWellFormed construct.grammar.now
-  pub firsts : construct.first_sets ≡ rules_of construct.grammar.now
+  pub rules : construct.lr.construction.rules ≡ rules_of construct.grammar.now
+  pub start : construct.lr.construction.start ≡ construct.start
 
 -- the columns of the table share no token, and the state's reductions took them
 pub record IsAttempted (actions : List CodeAction) (table : LaneTable) (old new : State Bits) : Type 0 where

@@ -17,12 +17,13 @@ use super::lookahead_build::LookaheadBuild;
 use super::numbered::{Numbered, NumberedKernel};
 use super::numbers::Numbers;
 use super::results::tables_or_conflicts;
-use super::states::build_states;
+use super::states::{all_states, build_states};
 use lalrpop_base::first::FirstSets;
 use lalrpop_base::lookahead::Lookahead;
 use lalrpop_base::lookahead::nil::Nil;
 use lalrpop_base::lookahead::token_set::TokenSet;
 use lalrpop_base::lr1_core::item::Item;
+use lalrpop_base::lr1_core::lr0::Lr0State;
 use lalrpop_base::lr1_core::state::{Lr1Result, LrResult};
 use lalrpop_base::memory::OutOfMemory;
 use lalrpop_base::repr::NonterminalString;
@@ -130,7 +131,7 @@ impl<'grammar, L: Lookahead> Lr<'grammar, L> {
     }
 
     /// The symbols and dotted productions of the grammar by number.
-    pub(super) fn numbers(&self) -> &Numbers<'grammar>
+    pub(crate) fn numbers(&self) -> &Numbers<'grammar>
         ensures { AreNumbers self.now.construction.rules result.now }
     {
         &self.numbers
@@ -219,6 +220,16 @@ impl<'grammar> Lr<'grammar, Nil> {
     {
         let _grammar = self.grammar;
         self.build_states(alloc)
+    }
+
+    /// The states without lookahead, whatever conflicts they have: none is looked for.
+    pub(crate) fn lr0_states(&self, alloc: Global) -> Result<Vec<Lr0State<'grammar>>, OutOfMemory>
+        ensures { IfOk result (λ states. AreLr0States self.now.construction.rules
+            self.now.construction.start states.items) }
+    {
+        let _own = self.grammar;
+        let states = all_states(alloc, self)?;
+        Ok(states)
     }
 }
 

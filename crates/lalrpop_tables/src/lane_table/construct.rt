@@ -18,7 +18,8 @@ ghost use Rattle.lalrpop_tables.specs.lane_states.Lr0Copies.{AreCopiedTables, Ar
 ghost use Rattle.lalrpop_base.specs.conflicts.AllConflicts.{HaveNoConflict};
 
 use crate::conflicts::{conflicts_of, have_no_conflict};
-use lalrpop_base::first::FirstSets;
+use crate::construction::lr::Lr;
+use lalrpop_base::lookahead::nil::Nil;
 use lalrpop_base::lr1_core::state::{BuildError, Lr1Result, Lr1State, TableConstructionError};
 use lalrpop_base::memory::OutOfMemory;
 use lalrpop_base::repr::NonterminalString;
@@ -29,13 +30,14 @@ use std::alloc::Global;
 #[derive(Drop)]
 pub struct LaneTableConstruct<'grammar> {
     grammar: &'grammar Grammar,
-    first_sets: FirstSets<'grammar>,
+    lr: Lr<'grammar, Nil>,
     start: NonterminalString,
     max_copies: usize,
 }
 
 impl<'grammar> LaneTableConstruct<'grammar> {
     /// States are copied at most so often.
+    #[tactic(auto, using(crate::proofs::theory::states::Lookaheads::nothing_fits))]
     pub fn new(
         alloc: Global,
         grammar: &'grammar Grammar,
@@ -47,10 +49,10 @@ impl<'grammar> LaneTableConstruct<'grammar> {
         ensures over { IfOk result (λ construct. (construct.grammar.now ≡ grammar.now) ×
             (construct.start ≡ start) × (construct.max_copies ≡ max_copies)) }
     {
-        let first_sets = FirstSets::new(alloc, grammar)?;
+        let lr = Lr::new(alloc, grammar, start.clone(alloc)?, Nil)?;
         Ok(LaneTableConstruct {
             grammar,
-            first_sets,
+            lr,
             start,
             max_copies,
         })

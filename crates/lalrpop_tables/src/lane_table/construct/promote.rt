@@ -1,39 +1,16 @@
 //! LR(0) states with all tokens.
 ghost use Rattle.std.specs.Prelude.{◌≡◌, IfOk, map};
 ghost use Rattle.std.specs.List.{AllZip};
-ghost use Rattle.lalrpop_base.specs.Words.{IsWellFormed, rules_of};
 ghost use Rattle.lalrpop_tables.specs.lane_states.LaneStates.{IsPromoted, promoted_item, promoted_reduction};
-ghost use Rattle.lalrpop_base.specs.states.Lr0.{AreLr0States};
 
-use crate::construction::lr0::build_lr0_states;
 use lalrpop_base::lookahead::nil::Nil;
 use lalrpop_base::lookahead::token_set::TokenSet;
 use lalrpop_base::lr1_core::item::{Lr0Item, Lr1Item};
 use lalrpop_base::lr1_core::lr0::Lr0State;
-use lalrpop_base::lr1_core::state::{BuildError, Items, Lr1State, State, TableConstructionError};
+use lalrpop_base::lr1_core::state::{Items, Lr1State, State};
 use lalrpop_base::memory::OutOfMemory;
-use lalrpop_base::repr::grammar::Grammar;
-use lalrpop_base::repr::{NonterminalString, Production};
+use lalrpop_base::repr::Production;
 use std::alloc::Global;
-
-/// The LR(0) states of a grammar, whether they have conflicts or not.
-pub(super) fn lr0_states<'grammar>(
-    alloc: Global,
-    grammar: &'grammar Grammar,
-    start: NonterminalString,
-) -> Result<Vec<Lr0State<'grammar>>, OutOfMemory>
-    requires { IsWellFormed grammar.now }
-    ensures { IfOk result (λ states. AreLr0States (rules_of grammar.now) start states.items) }
-{
-    match build_lr0_states(alloc, grammar, start) {
-        Ok(states) => Ok(states),
-        Err(BuildError::Conflicts(error)) => {
-            let TableConstructionError { states, .. } = error;
-            Ok(states)
-        }
-        Err(BuildError::Memory) => Err(OutOfMemory),
-    }
-}
 
 // The items with the tokens.
 fn promote_items<'grammar>(

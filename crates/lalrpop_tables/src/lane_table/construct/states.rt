@@ -2,9 +2,10 @@
 ghost use Rattle.std.specs.Prelude.{IfOk, OnOk, MatchOption};
 ghost use Rattle.lalrpop_base.specs.Words.{rules_of};
 ghost use Rattle.lalrpop_tables.specs.lane_states.LaneStates.{AreLaneStates, AreLaneTables, HaveMeetingLanes, HoldAllFrom, IsReadyToConstruct};
+ghost use Rattle.lalrpop_tables.specs.grammars.Numbers.{AreNumbers};
 
 use super::LaneTableConstruct;
-use super::promote::{lr0_states, promote_states};
+use super::promote::promote_states;
 use crate::construction::numbers::Numbers;
 use crate::lane_table::follow_sets::Found;
 use crate::lane_table::numbered_states::states_by_number;
@@ -27,7 +28,7 @@ impl<'grammar> LaneTableConstruct<'grammar> {
     {
         let grammar = self.grammar;
         let all = TokenSet::all(alloc, &grammar.terminals)?;
-        let states = lr0_states(alloc, grammar, self.start.clone(alloc)?)?;
+        let states = self.lr.lr0_states(alloc)?;
         promote_states(alloc, states, &all)
     }
 
@@ -50,11 +51,33 @@ impl<'grammar> LaneTableConstruct<'grammar> {
             (λ _. HaveMeetingLanes (rules_of self.now.grammar.now) self.now.start
             states.new.items)) }
     {
+        let numbers = self.lr.numbers();
+        self.resolve_by_number(alloc, states, numbers)
+    }
+
+    // The same, with the numbers of the grammar at hand.
+    fn resolve_by_number(
+        &self,
+        alloc: Global,
+        states: &mut Vec<Lr1State<'grammar>>,
+        numbers: &Numbers<'grammar>,
+    ) -> Result<Option<usize>, OutOfMemory>
+        requires ready { IsReadyToConstruct self.now }
+        requires lanes { AreLaneStates (rules_of self.now.grammar.now) self.now.start
+            states.old.items }
+        requires full { HoldAllFrom self.now.grammar.now.terminals 0 states.old.items }
+        requires numbers { AreNumbers (rules_of self.now.grammar.now) numbers.now }
+        ensures lanes { OnOk result
+            (AreLaneStates (rules_of self.now.grammar.now) self.now.start states.new.items) }
+        ensures resolved { IfOk result (λ first. MatchOption first
+            (AreLaneTables (rules_of self.now.grammar.now) self.now.start states.new.items)
+            (λ _. HaveMeetingLanes (rules_of self.now.grammar.now) self.now.start
+            states.new.items)) }
+    {
         let grammar = self.grammar;
         let _terminals = grammar.terminals.all();
-        let numbers = Numbers::new(alloc, grammar, &self.first_sets)?;
-        let numbered = states_by_number(alloc, &numbers, &self.start, states)?;
-        let found = Found::new(alloc, grammar, &self.start, states, &numbers, &numbered)?;
+        let numbered = states_by_number(alloc, numbers, &self.start, states)?;
+        let found = Found::new(alloc, grammar, &self.start, states, numbers, &numbered)?;
         let count = states.len();
         for index in 0..count {
             if !self.resolve_state(alloc, states, index, &found, &numbered[index])? {

@@ -46,15 +46,8 @@ impl<'grammar> LaneTableConstruct<'grammar> {
         let grammar = self.grammar;
         let start = self.start.clone(alloc)?;
         let count = actions.len();
-        let mut tracer = LaneTracer::new(
-            alloc,
-            grammar,
-            start,
-            states,
-            &self.first_sets,
-            graph,
-            count,
-        );
+        let first_sets = self.lr.first_sets();
+        let mut tracer = LaneTracer::new(alloc, grammar, start, states, first_sets, graph, count);
         let mut place = 0;
         for action in actions.iter() {
             let conflict = ConflictIndex::new(place);
