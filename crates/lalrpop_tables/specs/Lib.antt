@@ -12,6 +12,7 @@ pub mod lane_tables
 pub mod lanes
 pub mod merges
 pub mod renumbering
+pub mod SparseMaps
 pub mod states
 pub mod Words
 pub use Rattle.lalrpop_base.specs.Words as BaseWords

@@ -1,5 +1,6 @@
 -- Closures of kernels.
 pub mod EpsilonMoves
+pub mod Rising
 pub mod SharedItems
 pub mod Sharing
 pub mod TokenTables

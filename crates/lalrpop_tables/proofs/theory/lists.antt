@@ -1,2 +1,3 @@
 -- Lists, sets and the entries of maps.
 pub mod SomeOf
+pub mod SparseMaps

@@ -15,6 +15,7 @@ pub mod NumberedItems
 pub mod NumberedMoves
 pub mod NumberedStates
 pub mod NumberedTransitions
+pub mod PermutedMoves
 pub mod Reductions
 pub mod SameKernels
 pub mod Shifting

@@ -2,37 +2,36 @@
 //! the same tokens, so that these are kept by nonterminal.
 ghost use Rattle.std.specs.Prelude.{◌≡◌, ◌<◌, ◌∷◌, [], ℕ, IfOk, OnOk, IfSome, IfNone, Contains, length, map};
 ghost use Rattle.std.specs.Map.{keys_of};
-ghost use Rattle.lalrpop_base.specs.Words.{Bits, Ordered};
+ghost use Rattle.lalrpop_base.specs.Words.{Bits};
 ghost use Rattle.lalrpop_base.specs.closures.Closure.{AreItemsBy, IsClosureBy, meant};
 ghost use Rattle.lalrpop_base.specs.lists.Entries.{IsQueued, GathersMore, readings};
 ghost use Rattle.lalrpop_tables.specs.grammars.Numbers.{AreNumbered, AreNumbers, item_by, items_by};
-ghost use Rattle.lalrpop_tables.specs.declared.construction.numbered.Numbered.{Numbered as ItemBy};
 ghost use Rattle.lalrpop_tables.specs.closures.Sharing.{IsSharing, Shares, fronts_in, numbered_of, parts_in, unfolded, with_tokens};
 
 use super::lookahead_build::LookaheadBuild;
 use super::lr::Lr;
 use super::numbered::Numbered;
 use super::numbers::Numbers;
-use crate::tokens::{add_tokens, put_tokens, tokens_of};
+use crate::sparse_map::SparseMap;
 use lalrpop_base::lookahead::Lookahead;
 use lalrpop_base::memory::OutOfMemory;
 use lalrpop_base::repr::Symbol;
 use std::alloc::Global;
-use std::collections::{BTreeMap, VecDeque};
+use std::collections::VecDeque;
 
 // Joins the tokens to those of a nonterminal, which goes into the queue if it is new or has more
 // now.
 fn add_shared<L: Lookahead>(
     symbol: usize,
     tokens: L,
-    shared: &mut BTreeMap<usize, L>,
+    shared: &mut SparseMap<L>,
     queue: &mut VecDeque<usize>,
 ) -> Result<(), OutOfMemory>
     ensures { OnOk result (IsQueued symbol (L.meaning tokens)
-        (readings L.meaning shared.old.entries) (readings L.meaning shared.new.entries)
+        (readings L.meaning shared.old) (readings L.meaning shared.new)
         queue.old.items queue.new.items) }
 {
-    if put_tokens(shared, symbol, tokens)? {
+    if shared.join(symbol, tokens)? {
         queue.push_back(symbol)?;
     }
     Ok(())
@@ -45,7 +44,7 @@ fn share<'grammar, L: LookaheadBuild>(
     numbers: &Numbers<'grammar>,
     number: usize,
     tokens: &L,
-    shared: &mut BTreeMap<usize, L>,
+    shared: &mut SparseMap<L>,
     queue: &mut VecDeque<usize>,
 ) -> Result<(), OutOfMemory>
     requires numbers { AreNumbers lr.now.construction.rules numbers.now }
@@ -53,7 +52,7 @@ fn share<'grammar, L: LookaheadBuild>(
     ensures { OnOk result (Shares L.begins L.passes lr.now.construction.rules numbers.now
         (item_by numbers.now.items.items (record
         { number = number; lookahead = L.meaning tokens.now }) ∷ [])
-        (readings L.meaning shared.old.entries) (readings L.meaning shared.new.entries)
+        (readings L.meaning shared.old) (readings L.meaning shared.new)
         queue.old.items queue.new.items) }
 {
     let Some(symbol) = numbers.behind[number] else {
@@ -81,14 +80,14 @@ fn share_kernel<'grammar, L: LookaheadBuild>(
     lr: &Lr<'grammar, L>,
     numbers: &Numbers<'grammar>,
     kernel: &[Numbered<L>],
-    shared: &mut BTreeMap<usize, L>,
+    shared: &mut SparseMap<L>,
     queue: &mut VecDeque<usize>,
 ) -> Result<(), OutOfMemory>
     requires numbers { AreNumbers lr.now.construction.rules numbers.now }
     requires known { AreNumbered numbers.now.items.items kernel.now }
     ensures { OnOk result (Shares L.begins L.passes lr.now.construction.rules numbers.now
         (map (meant L.meaning) (items_by numbers.now.items.items kernel.now))
-        (readings L.meaning shared.old.entries) (readings L.meaning shared.new.entries)
+        (readings L.meaning shared.old) (readings L.meaning shared.new)
         queue.old.items queue.new.items) }
 {
     for item in kernel {
@@ -112,7 +111,7 @@ fn share_fronts<'grammar, L: LookaheadBuild>(
     numbers: &Numbers<'grammar>,
     fronts: &[usize],
     tokens: &L,
-    shared: &mut BTreeMap<usize, L>,
+    shared: &mut SparseMap<L>,
     queue: &mut VecDeque<usize>,
 ) -> Result<(), OutOfMemory>
     requires numbers { AreNumbers lr.now.construction.rules numbers.now }
@@ -120,7 +119,7 @@ fn share_fronts<'grammar, L: LookaheadBuild>(
         (fronts_in (L.meaning tokens.now) fronts.now) }
     ensures { OnOk result (Shares L.begins L.passes lr.now.construction.rules numbers.now
         (items_by numbers.now.items.items (fronts_in (L.meaning tokens.now) fronts.now))
-        (readings L.meaning shared.old.entries) (readings L.meaning shared.new.entries)
+        (readings L.meaning shared.old) (readings L.meaning shared.new)
         queue.old.items queue.new.items) }
 {
     for number in fronts {
@@ -132,58 +131,59 @@ fn share_fronts<'grammar, L: LookaheadBuild>(
 // The tokens of a nonterminal, as a copy of its own.
 fn shared_tokens<L: Lookahead>(
     alloc: Global,
-    shared: &BTreeMap<usize, L>,
+    shared: &SparseMap<L>,
     symbol: usize,
 ) -> Result<Option<L>, OutOfMemory>
     ensures found { IfOk result (λ answer. IfSome answer
-        (λ tokens. Contains (readings L.meaning shared.now.entries) (symbol, L.meaning tokens))) }
+        (λ tokens. Contains (readings L.meaning shared.now) (symbol, L.meaning tokens))) }
     ensures none { IfOk result (λ answer. IfNone answer
-        (¬ Contains (keys_of shared.now.entries) symbol)) }
+        (¬ Contains (keys_of shared.now) symbol)) }
 {
-    match tokens_of(shared, &symbol) {
+    match shared.get(symbol) {
         Some(tokens) => Ok(Some(tokens.copy(alloc)?)),
         None => Ok(None),
     }
 }
 
 // The tokens that a kernel gives to each nonterminal of its closure.
-fn shared_by<'grammar, L: LookaheadBuild>(
+fn share_all<'grammar, L: LookaheadBuild>(
     alloc: Global,
     lr: &Lr<'grammar, L>,
     numbers: &Numbers<'grammar>,
     kernel: &[Numbered<L>],
-) -> Result<BTreeMap<usize, L>, OutOfMemory>
+    shared: &mut SparseMap<L>,
+) -> Result<(), OutOfMemory>
     requires numbers { AreNumbers lr.now.construction.rules numbers.now }
     requires known { AreNumbered numbers.now.items.items kernel.now }
     requires kernel { AreItemsBy L.meaning lr.now.construction.rules
         (items_by numbers.now.items.items kernel.now) }
-    ensures { IfOk result (λ shared. IsSharing L.begins L.passes lr.now.construction.rules
+    ensures { OnOk result (IsSharing L.begins L.passes lr.now.construction.rules
         numbers.now (map (meant L.meaning) (items_by numbers.now.items.items kernel.now))
-        (readings L.meaning shared.entries) []) }
+        (readings L.meaning shared.new) []) }
 {
-    let mut shared = BTreeMap::new(alloc);
+    shared.clear();
     let mut queue = VecDeque::new(alloc);
-    share_kernel(alloc, lr, numbers, kernel, &mut shared, &mut queue)?;
+    share_kernel(alloc, lr, numbers, kernel, shared, &mut queue)?;
     while let Some(symbol) = queue.pop_front() {
-        if let Some(tokens) = shared_tokens(alloc, &shared, symbol)? {
+        if let Some(tokens) = shared_tokens(alloc, shared, symbol)? {
             let fronts = &numbers.expansions[symbol];
-            share_fronts(alloc, lr, numbers, fronts, &tokens, &mut shared, &mut queue)?;
+            share_fronts(alloc, lr, numbers, fronts, &tokens, shared, &mut queue)?;
         }
     }
-    Ok(shared)
+    Ok(())
 }
 
 // Adds the items of a kernel.
 fn gather_kernel<L: Lookahead>(
     alloc: Global,
     kernel: &[Numbered<L>],
-    table: &mut BTreeMap<usize, L>,
+    table: &mut SparseMap<L>,
 ) -> Result<(), OutOfMemory>
     ensures { OnOk result (GathersMore (parts_in L.meaning kernel.now)
-        (readings L.meaning table.old.entries) (readings L.meaning table.new.entries)) }
+        (readings L.meaning table.old) (readings L.meaning table.new)) }
 {
     for item in kernel {
-        add_tokens(alloc, table, item.number, &item.lookahead)?;
+        table.join_copy(alloc, item.number, &item.lookahead)?;
     }
     Ok(())
 }
@@ -193,13 +193,13 @@ fn gather_fronts<L: Lookahead>(
     alloc: Global,
     fronts: &[usize],
     tokens: &L,
-    table: &mut BTreeMap<usize, L>,
+    table: &mut SparseMap<L>,
 ) -> Result<(), OutOfMemory>
     ensures { OnOk result (GathersMore (with_tokens (L.meaning tokens.now) fronts.now)
-        (readings L.meaning table.old.entries) (readings L.meaning table.new.entries)) }
+        (readings L.meaning table.old) (readings L.meaning table.new)) }
 {
     for number in fronts {
-        add_tokens(alloc, table, *number, tokens)?;
+        table.join_copy(alloc, *number, tokens)?;
     }
     Ok(())
 }
@@ -208,18 +208,18 @@ fn gather_fronts<L: Lookahead>(
 fn gather_shared<'grammar, L: Lookahead>(
     alloc: Global,
     numbers: &Numbers<'grammar>,
-    shared: &BTreeMap<usize, L>,
-    table: &mut BTreeMap<usize, L>,
+    shared: &SparseMap<L>,
+    table: &mut SparseMap<L>,
 ) -> Result<(), OutOfMemory>
     requires { (e : ℕ × Bits) →
-        Contains (readings L.meaning shared.now.entries) e →
+        Contains (readings L.meaning shared.now) e →
         e.0 < length numbers.now.expansions.items }
     ensures { OnOk result (GathersMore
-        (unfolded numbers.now (readings L.meaning shared.now.entries))
-        (readings L.meaning table.old.entries) (readings L.meaning table.new.entries)) }
+        (unfolded numbers.now (readings L.meaning shared.now))
+        (readings L.meaning table.old) (readings L.meaning table.new)) }
 {
-    for (symbol, tokens) in shared.iter() {
-        gather_fronts(alloc, &numbers.expansions[*symbol], tokens, table)?;
+    for entry in shared.entries() {
+        gather_fronts(alloc, &numbers.expansions[entry.0], &entry.1, table)?;
     }
     Ok(())
 }
@@ -227,17 +227,23 @@ fn gather_shared<'grammar, L: Lookahead>(
 // The entries of a table as items.
 fn items_of<L: Lookahead>(
     alloc: Global,
-    table: BTreeMap<usize, L>,
+    entries: Vec<(usize, L)>,
 ) -> Result<Vec<Numbered<L>>, OutOfMemory>
-    ensures items { IfOk result (λ items. items.items ≡ map numbered_of table.entries) }
-    ensures rising { IfOk result
-        (λ items. Ordered (λ (d e : ItemBy L). d.number < e.number) items.items) }
+    ensures { IfOk result (λ items. items.items ≡ map numbered_of entries.items) }
 {
-    let mut items = Vec::new(alloc);
-    for (number, lookahead) in table {
+    let mut items = Vec::with_capacity(alloc, entries.len())?;
+    for (number, lookahead) in entries {
         items.push(Numbered { number, lookahead })?;
     }
     Ok(items)
+}
+
+/// What a closure is gathered in: the tokens of nonterminals, and those of items. It may be used
+/// for one closure after the other.
+#[derive(Drop)]
+pub struct Gathered<L: Lookahead> {
+    pub shared: SparseMap<L>,
+    pub items: SparseMap<L>,
 }
 
 /// The items to which a kernel leads without a symbol, with the tokens that may follow them,
@@ -247,6 +253,7 @@ pub fn closure<'grammar, L: LookaheadBuild>(
     lr: &Lr<'grammar, L>,
     numbers: &Numbers<'grammar>,
     kernel: &[Numbered<L>],
+    gathered: &mut Gathered<L>,
 ) -> Result<Vec<Numbered<L>>, OutOfMemory>
     requires numbers { AreNumbers lr.now.construction.rules numbers.now }
     requires known { AreNumbered numbers.now.items.items kernel.now }
@@ -257,9 +264,9 @@ pub fn closure<'grammar, L: LookaheadBuild>(
         lr.now.construction.rules (items_by numbers.now.items.items kernel.now)
         (items_by numbers.now.items.items items.items)) }
 {
-    let shared = shared_by(alloc, lr, numbers, kernel)?;
-    let mut table = BTreeMap::new(alloc);
-    gather_kernel(alloc, kernel, &mut table)?;
-    gather_shared(alloc, numbers, &shared, &mut table)?;
-    items_of(alloc, table)
+    share_all(alloc, lr, numbers, kernel, &mut gathered.shared)?;
+    gathered.items.clear();
+    gather_kernel(alloc, kernel, &mut gathered.items)?;
+    gather_shared(alloc, numbers, &gathered.shared, &mut gathered.items)?;
+    items_of(alloc, gathered.items.take_rising(alloc))
 }

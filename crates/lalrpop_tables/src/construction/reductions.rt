@@ -35,5 +35,6 @@ pub fn reductions<'grammar, L: Lookahead>(
     for item in items {
         push_finished(alloc, item, &mut reductions)?;
     }
+    reductions.shrink_to_fit();
     Ok(reductions)
 }

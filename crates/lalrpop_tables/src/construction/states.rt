@@ -6,14 +6,15 @@ ghost use Rattle.lalrpop_tables.specs.grammars.Numbers.{AreAllNumbered, AreNumbe
 ghost use Rattle.lalrpop_tables.specs.answers.Results.{AreStatesFor};
 ghost use Rattle.lalrpop_tables.specs.states.States.{IsBuiltBy, Extends, LeadsToAdded, begun};
 
-use super::closure::closure;
+use super::closure::{Gathered, closure};
 use super::lookahead_build::LookaheadBuild;
 use super::lr::Lr;
 use super::numbered::{Numbered, NumberedKernel};
 use super::numbers::Numbers;
 use super::reductions::reductions;
 use super::results::push_conflicts;
-use super::transitions::{Edges, edges_of, moves_of};
+use super::transitions::{Edges, Moves, edges_of, moves_of};
+use crate::sparse_map::SparseMap;
 use lalrpop_base::kernel_set::KernelSet;
 use lalrpop_base::lookahead::Lookahead;
 use lalrpop_base::lr1_core::item::Item;
@@ -23,6 +24,25 @@ use std::alloc::Global;
 
 /// States, and their conflicts.
 pub type States<'grammar, L> = (Vec<State<'grammar, L>>, Vec<Conflict<'grammar, L>>);
+
+// What one state after the other is gathered in.
+#[derive(Drop)]
+struct Workspace<L: Lookahead> {
+    gathered: Gathered<L>,
+    moves: Moves<L>,
+}
+
+impl<L: Lookahead> Workspace<L> {
+    fn new(alloc: Global) -> Self {
+        Workspace {
+            gathered: Gathered {
+                shared: SparseMap::new(alloc),
+                items: SparseMap::new(alloc),
+            },
+            moves: SparseMap::new(alloc),
+        }
+    }
+}
 
 // Items by number as items.
 fn items_of<'grammar, L: Lookahead>(
@@ -34,7 +54,7 @@ fn items_of<'grammar, L: Lookahead>(
     ensures { IfOk result
         (λ items. items.items ≡ items_by numbers.now.items.items list.items) }
 {
-    let mut items = Vec::new(alloc);
+    let mut items = Vec::with_capacity(alloc, list.len())?;
     for item in list {
         items.push(numbers.items[item.number].with_lookahead(item.lookahead))?;
     }
@@ -49,6 +69,7 @@ fn build_state<'grammar, L: LookaheadBuild>(
     kernel: &NumberedKernel<L>,
     number: usize,
     kernels: &mut KernelSet<NumberedKernel<L>>,
+    work: &mut Workspace<L>,
 ) -> Result<State<'grammar, L>, OutOfMemory>
     requires numbers { AreNumbers lr.now.construction.rules numbers.now }
     requires known { AreNumbered numbers.now.items.items kernel.now }
@@ -67,8 +88,9 @@ fn build_state<'grammar, L: LookaheadBuild>(
         (LeadsToAdded (kernels_by numbers.now.items.items kernels.old)
         (kernels_by numbers.now.items.items kernels.new)) }
 {
-    let list = closure(alloc, lr, numbers, kernel.as_slice())?;
-    let moves = moves_of(alloc, numbers, &list)?;
+    let list = closure(alloc, lr, numbers, kernel.as_slice(), &mut work.gathered)?;
+    moves_of(alloc, numbers, &list, &mut work.moves)?;
+    let moves = work.moves.take_rising(alloc);
     let Edges { shifts, gotos } = edges_of(alloc, numbers, moves, kernels)?;
     let items = items_of(alloc, numbers, list)?;
     let reductions = reductions(alloc, &items)?;
@@ -120,11 +142,12 @@ pub fn build_states<'grammar, L: LookaheadBuild>(
 {
     let numbers = lr.numbers();
     let mut kernels = first_kernels(alloc, lr, numbers)?;
+    let mut work = Workspace::new(alloc);
     let mut states = Vec::new(alloc);
     let mut conflicts = Vec::new(alloc);
     while let Some(kernel) = kernels.next() {
         let number = states.len();
-        let state = build_state(alloc, lr, numbers, &kernel, number, &mut kernels)?;
+        let state = build_state(alloc, lr, numbers, &kernel, number, &mut kernels, &mut work)?;
         push_conflicts(alloc, lr, &state, &mut conflicts)?;
         states.push(state)?;
         if are_enough(lr.stop_after(), conflicts.len()) {
@@ -144,10 +167,11 @@ pub fn all_states<'grammar, L: LookaheadBuild>(
 {
     let numbers = lr.numbers();
     let mut kernels = first_kernels(alloc, lr, numbers)?;
+    let mut work = Workspace::new(alloc);
     let mut states = Vec::new(alloc);
     while let Some(kernel) = kernels.next() {
         let number = states.len();
-        let state = build_state(alloc, lr, numbers, &kernel, number, &mut kernels)?;
+        let state = build_state(alloc, lr, numbers, &kernel, number, &mut kernels, &mut work)?;
         states.push(state)?;
     }
     Ok(states)

@@ -1,13 +1,13 @@
 //! The transitions of a state.
 ghost use Rattle.std.specs.Prelude.{◌<◌, IfOk, OnOk, length, Some};
-ghost use Rattle.std.specs.BTreeMap.{keys};
+ghost use Rattle.std.specs.Map.{keys_of};
 ghost use Rattle.lalrpop_base.specs.Words.{AllDiffer, Rules};
-ghost use Rattle.lalrpop_base.specs.lists.Entries.{IsPushedAt};
 ghost use Rattle.lalrpop_tables.specs.grammars.Numbers.{AreAllNumbered, AreGroupsOf, AreNumbered, AreNumbers, groups_by, item_by, items_by, kernels_by};
 ghost use Rattle.lalrpop_tables.specs.states.Transitions.{AreMoves, IsMoveAdded, IsEdgeAdded, AreEdges, IsReached};
 
 use super::numbered::{Numbered, NumberedKernel};
 use super::numbers::Numbers;
+use crate::sparse_map::SparseMap;
 use lalrpop_base::kernel_set::KernelSet;
 use lalrpop_base::lookahead::Lookahead;
 use lalrpop_base::lr1_core::state::StateIndex;
@@ -18,34 +18,13 @@ use std::alloc::Global;
 use std::collections::BTreeMap;
 
 /// The items to which each symbol behind a dot leads, by its number.
-pub type Moves<L> = BTreeMap<usize, Sequence<Numbered<L>>>;
+pub type Moves<L> = SparseMap<Sequence<Numbered<L>>>;
 
 /// The transitions of a state.
 #[derive(Drop)]
 pub struct Edges {
     pub shifts: BTreeMap<TerminalString, StateIndex>,
     pub gotos: BTreeMap<NonterminalString, StateIndex>,
-}
-
-// Puts an item behind those that came over the same symbol.
-fn push_moved<L: Lookahead>(
-    alloc: Global,
-    symbol: usize,
-    item: Numbered<L>,
-    moves: &mut Moves<L>,
-) -> Result<(), OutOfMemory>
-    ensures pushed { OnOk result
-        (IsPushedAt symbol item moves.old.entries moves.new.entries) }
-    ensures differ { OnOk result (AllDiffer (keys moves.new)) }
-{
-    if let Some(items) = moves.get_mut(&symbol) {
-        items.push(item)?;
-        return Ok(());
-    }
-    let mut items = Sequence::new(alloc);
-    items.push(item)?;
-    moves.insert(symbol, items)?;
-    Ok(())
 }
 
 // Moves the dot of an item over the symbol behind it, if there is one.
@@ -58,17 +37,17 @@ fn add_move<'grammar, L: Lookahead>(
     requires numbers { (g : Rules) × AreNumbers g numbers.now }
     requires known { item.now.number < length numbers.now.items.items }
     ensures known { OnOk result
-        (AreGroupsOf numbers.now moves.old.entries → AreGroupsOf numbers.now moves.new.entries) }
-    ensures added { OnOk result (AreGroupsOf numbers.now moves.old.entries →
+        (AreGroupsOf numbers.now moves.old → AreGroupsOf numbers.now moves.new) }
+    ensures added { OnOk result (AreGroupsOf numbers.now moves.old →
         IsMoveAdded (item_by numbers.now.items.items item.now)
-        (groups_by numbers.now moves.old.entries) (groups_by numbers.now moves.new.entries)) }
+        (groups_by numbers.now moves.old) (groups_by numbers.now moves.new)) }
 {
     if let Some(symbol) = numbers.behind[item.number] {
         let moved = Numbered {
             number: item.number + 1,
             lookahead: item.lookahead.copy(alloc)?,
         };
-        push_moved(alloc, symbol, moved, moves)?;
+        moves.push_at(alloc, symbol, moved)?;
     }
     Ok(())
 }
@@ -78,18 +57,19 @@ pub fn moves_of<'grammar, L: Lookahead>(
     alloc: Global,
     numbers: &Numbers<'grammar>,
     items: &[Numbered<L>],
-) -> Result<Moves<L>, OutOfMemory>
+    moves: &mut Moves<L>,
+) -> Result<(), OutOfMemory>
     requires numbers { (g : Rules) × AreNumbers g numbers.now }
     requires known { AreNumbered numbers.now.items.items items.now }
-    ensures known { IfOk result (λ moves. AreGroupsOf numbers.now moves.entries) }
-    ensures moves { IfOk result (λ moves. AreMoves (items_by numbers.now.items.items items.now)
-        (groups_by numbers.now moves.entries)) }
+    ensures known { OnOk result (AreGroupsOf numbers.now moves.new) }
+    ensures moves { OnOk result (AreMoves (items_by numbers.now.items.items items.now)
+        (groups_by numbers.now moves.new)) }
 {
-    let mut moves = BTreeMap::new(alloc);
+    moves.clear();
     for item in items {
-        add_move(alloc, numbers, item, &mut moves)?;
+        add_move(alloc, numbers, item, moves)?;
     }
-    Ok(moves)
+    Ok(())
 }
 
 // Adds a transition.
@@ -111,16 +91,17 @@ fn add_edge(symbol: Symbol, target: StateIndex, edges: &mut Edges) -> Result<(),
 pub fn edges_of<'grammar, L: Lookahead>(
     alloc: Global,
     numbers: &Numbers<'grammar>,
-    moves: Moves<L>,
+    moves: Vec<(usize, Sequence<Numbered<L>>)>,
     kernels: &mut KernelSet<NumberedKernel<L>>,
 ) -> Result<Edges, OutOfMemory>
     requires numbers { (g : Rules) × AreNumbers g numbers.now }
-    requires known { AreGroupsOf numbers.now moves.entries }
+    requires known { AreGroupsOf numbers.now moves.items }
+    requires differ { AllDiffer (keys_of moves.items) }
     requires kernels { AreAllNumbered numbers.now.items.items kernels.old.list }
     ensures known { OnOk result (AreAllNumbered numbers.now.items.items kernels.new.list) }
-    ensures edges { IfOk result (λ edges. AreEdges (groups_by numbers.now moves.entries)
+    ensures edges { IfOk result (λ edges. AreEdges (groups_by numbers.now moves.items)
         (kernels_by numbers.now.items.items kernels.new).list edges) }
-    ensures reached { OnOk result (IsReached (groups_by numbers.now moves.entries)
+    ensures reached { OnOk result (IsReached (groups_by numbers.now moves.items)
         (kernels_by numbers.now.items.items kernels.old)
         (kernels_by numbers.now.items.items kernels.new)) }
 {

@@ -1,13 +1,8 @@
 -- A closure by nonterminals, item by item: the kernel, and all productions of the nonterminals with the dot in front.
 use Rattle.std.proofs.Common.{◌≡◌, ℕ, zero, suc, ◌<◌, ◌⊎◌, inl, inr, List, [], ◌∷◌, ◌++◌, length, map, drop, refl, sym, ◌∙◌, ap, subst, arith, true, Some, option_map, Vec, Global}
 use Rattle.std.specs.Prelude.{Contains, slice_get, get_or}
-use Rattle.std.specs.Map.{keys_of}
 use Rattle.std.proofs.lemmas.List.Elements.{Contains-append_left, Contains-append_right, Contains-append_cases}
-use Rattle.std.specs.declared.cmp.Ordering.TheVariants.{Less}
-use Rattle.std.specs.List.Sorted.{IsStrictlySortedBy}
-use Rattle.std.specs.Ordering.{nat_cmp}
-use Rattle.std.proofs.lemmas.Map.Keys.{Less-from_sorted}
-use Rattle.std.proofs.lemmas.Option.{get_or_from_slice_get, slice_get-map, slice_get_within}
+use Rattle.std.proofs.lemmas.Option.{slice_get-map, slice_get_within}
 use Rattle.lalrpop_base.specs.Words.{Bits, holds_token, Dotted, AllDiffer, FitsTokens, Ordered, Rules}
 use Rattle.lalrpop_base.specs.declared.lookahead.nil.Nil.{Nil}
 use Rattle.lalrpop_base.specs.declared.lookahead.token.Token.{Token}
@@ -23,7 +18,7 @@ use Rattle.lalrpop_tables.specs.grammars.Numbers.{AreExpansions, AreNumbered, Ar
 use Rattle.lalrpop_tables.specs.closures.Sharing.{HasShare, IsFront, IsNamed, IsShared, IsSharing, Shared, list_at, numbered_of, parts_in, unfolded, with_tokens}
 use Rattle.lalrpop_tables.specs.declared.construction.numbered.Numbered.{Numbered}
 use Rattle.lalrpop_tables.specs.declared.construction.numbers.Numbers.{Numbers}
-use Rattle.lalrpop_base.proofs.theory.grammars.AscendingItems.{less_apart, less_number}
+use Rattle.lalrpop_base.proofs.theory.grammars.AscendingItems.{less_apart}
 use Rattle.lalrpop_base.proofs.theory.lists.Bounded.{in_flat_map}
 use Rattle.lalrpop_base.proofs.theory.closures.Closing.{Tokens-end, all_listed}
 use Rattle.lalrpop_base.proofs.theory.grammars.KnownTerminals.{bit_held, held_bit, holds_more}
@@ -32,7 +27,7 @@ use Rattle.lalrpop_tables.proofs.theory.grammars.Numbers.{at_number, items_ascen
 use Rattle.lalrpop_base.proofs.theory.closures.Readings.{Meant-closure}
 use Rattle.lalrpop_base.proofs.theory.lists.Places.{contains_at, filled, one_place, same_some, slice_get_at}
 use Rattle.lalrpop_tables.proofs.theory.closures.Sharing.{Reached, ReachedWith, kernel_reached, kernel_token}
-use Rattle.lalrpop_base.proofs.theory.lists.Updates.{key_stands, one_value}
+use Rattle.lalrpop_base.proofs.theory.lists.Updates.{one_value}
 
 -- items that ascend have no dotted production twice
 pub ascend_differ : {L : Type 0} (items : List (Dotted L)) → Ascend items → AllDiffer (map dotted_of items)
@@ -67,19 +62,6 @@ meant_ascend meaning items ascend i j x y l at_i at_j =
     let a = some_of_map (meant meaning) (slice_get items i) x (sym (slice_get-map (meant meaning) items i) ∙ at_i) in
     let b = some_of_map (meant meaning) (slice_get items j) y (sym (slice_get-map (meant meaning) items j) ∙ at_j) in
     subst (λ (z : Dotted Bits). Precedes x z) b.2 (subst (λ (z : Dotted Bits). Precedes z (meant meaning b.0)) a.2 (ascend i j a.0 b.0 l a.1 b.1))
-
--- entries whose keys rise, as items by number
-pub numbers_rise : {L : Type 0} (es : List (ℕ × L)) → IsStrictlySortedBy nat_cmp (keys_of es) → Ordered (λ (d e : Numbered L). d.number < e.number) (map numbered_of es)
-numbers_rise {L} es s i j a b l at_i at_j =
-    let e = some_of_map (numbered_of {L = L}) (slice_get es i) a (sym (slice_get-map numbered_of es i) ∙ at_i) in
-    let f = some_of_map (numbered_of {L = L}) (slice_get es j) b (sym (slice_get-map numbered_of es j) ∙ at_j) in
-    let key_i = key_stands es i e.0 e.1 in
-    let key_j = key_stands es j f.0 f.1 in
-    let d = e.0.0 in
-    let less : nat_cmp (get_or (keys_of es) i d) (get_or (keys_of es) j d) ≡ Less = Less-from_sorted nat_cmp (keys_of es) i j d s l (slice_get_within (keys_of es) j f.0.0 key_j) in
-    let first : nat_cmp e.0.0 (get_or (keys_of es) j d) ≡ Less = subst (λ (k : ℕ). nat_cmp k (get_or (keys_of es) j d) ≡ Less) (get_or_from_slice_get (keys_of es) i e.0.0 d key_i) less in
-    let both : nat_cmp e.0.0 f.0.0 ≡ Less = subst (λ (k : ℕ). nat_cmp e.0.0 k ≡ Less) (get_or_from_slice_get (keys_of es) j f.0.0 d key_j) first in
-    subst (λ (x : Numbered L). a.number < x.number) f.2 (subst (λ (x : Numbered L). x.number < (numbered_of f.0).number) e.2 (less_number e.0.0 f.0.0 both))
 
 module _ {L : Type 0} (meaning : L → Bits) (begins : Rules → List Symbol → Token → Type 0) (passes : Rules → List Symbol → Type 0) (g : Rules) (n : Numbers) (numbers : AreNumbers g n) (list : List (Numbered L)) (known : AreNumbered n.items.items list)
     (are_items : AreItemsBy meaning g (items_by n.items.items list)) (shared : Shared) (sharing : IsSharing begins passes g n (map (meant meaning) (items_by n.items.items list)) shared []) where

@@ -22,7 +22,7 @@ use Rattle.lalrpop_base.proofs.theory.collapse.Collapse.{collapsed_lr0, collapse
 use Rattle.lalrpop_base.proofs.theory.collapse.LalrStates.{lalr_faithful, no_conflict_lalr, lalr_no_conflict}
 use Rattle.lalrpop_base.proofs.theory.lists.Lists.{Grown, from_nothing, more, grown}
 use Rattle.lalrpop_base.proofs.theory.runs.Steps.{state_from-more}
-use Rattle.lalrpop_base.proofs.theory.closures.Valid.{valid, action_live}
+use Rattle.lalrpop_base.proofs.theory.closures.Valid.{action_live}
 use Rattle.lalrpop_base.specs.Words.{tokens_of, FitReductions, AreOrderedCanonical, IsCollapsed, AreCollapsedTables, FailsByCollapse}
 use Rattle.lalrpop_tables.specs.Words.{AreLalrTables}
 use Rattle.lalrpop_base.specs.Words.{HaveNoConflict, AreAllConflicts}

@@ -21,10 +21,10 @@ loop-number-preserved g c =
     let x = get_or xs i 0 in
     let part : ℕ → ℕ × Bits = λ k. (k, m c.args.tokens.now) in
     let more : map part (take (i + 1) xs) ≡ map part (take i xs) ++ part x ∷ [] = mapped_more part xs i x c.loop-number-test.true (read_within xs i c.loop-number-test.true) in
-    let one = More-one x (m c.args.tokens.now) c.in_ok-add_tokens.field-0 _ _ c.in_ok-add_tokens.ensures.joined (readings_differ m _ c.in_ok-add_tokens.ensures.differ) in
-    subst (λ (ps : List (ℕ × Bits)). GathersMore ps (readings m c.args.table.now.entries) (readings m c.add_tokens.new.map.entries)) (sym more) (More-then (map part (take i xs)) (part x ∷ []) _ _ _ c.loop-number.invariant one)
+    let one = More-one x (m c.args.tokens.now) c.in_ok-join_copy.field-0 _ _ c.in_ok-join_copy.ensures.joined (readings_differ m _ c.in_ok-join_copy.ensures.differ) in
+    subst (λ (ps : List (ℕ × Bits)). GathersMore ps (readings m c.args.table.now) (readings m c.join_copy.new.self)) (sym more) (More-then (map part (take i xs)) (part x ∷ []) _ _ _ c.loop-number.invariant one)
 
 pub returns : goal.returns
 returns g c =
     let m = g.L.Lookahead.meaning in
-    subst (λ (xs : List ℕ). GathersMore (with_tokens (m c.args.tokens.now) xs) (readings m c.args.table.now.entries) (readings m c.loop-number.table.entries)) (take_all c.loop-number.number-index c.args.fronts.now c.loop-number-test.false) c.loop-number.invariant
+    subst (λ (xs : List ℕ). GathersMore (with_tokens (m c.args.tokens.now) xs) (readings m c.args.table.now) (readings m c.loop-number.table)) (take_all c.loop-number.number-index c.args.fronts.now c.loop-number-test.false) c.loop-number.invariant

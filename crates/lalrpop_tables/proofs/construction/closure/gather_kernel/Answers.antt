@@ -20,10 +20,10 @@ loop-item-preserved g c =
     let i = c.loop-item.item-index in
     let part : Numbered g.row.L.Denot → ℕ × Bits = λ e. (e.number, m e.lookahead) in
     let more : map part (take (i + 1) xs) ≡ map part (take i xs) ++ part c.item-item.result ∷ [] = mapped_more part xs i c.item-item.result c.loop-item-test.true c.item-item.is in
-    let one = More-one c.item-item.result.number (m c.item-item.result.lookahead) c.in_ok-add_tokens.field-0 _ _ c.in_ok-add_tokens.ensures.joined (readings_differ m _ c.in_ok-add_tokens.ensures.differ) in
-    subst (λ (ps : List (ℕ × Bits)). GathersMore ps (readings m c.args.table.now.entries) (readings m c.add_tokens.new.map.entries)) (sym more) (More-then (map part (take i xs)) (part c.item-item.result ∷ []) _ _ _ c.loop-item.invariant one)
+    let one = More-one c.item-item.result.number (m c.item-item.result.lookahead) c.in_ok-join_copy.field-0 _ _ c.in_ok-join_copy.ensures.joined (readings_differ m _ c.in_ok-join_copy.ensures.differ) in
+    subst (λ (ps : List (ℕ × Bits)). GathersMore ps (readings m c.args.table.now) (readings m c.join_copy.new.self)) (sym more) (More-then (map part (take i xs)) (part c.item-item.result ∷ []) _ _ _ c.loop-item.invariant one)
 
 pub returns : goal.returns
 returns g c =
     let m = g.L.Lookahead.meaning in
-    subst (λ (xs : List (Numbered g.row.L.Denot)). GathersMore (parts_in m xs) (readings m c.args.table.now.entries) (readings m c.loop-item.table.entries)) (take_all c.loop-item.item-index c.args.kernel.now c.loop-item-test.false) c.loop-item.invariant
+    subst (λ (xs : List (Numbered g.row.L.Denot)). GathersMore (parts_in m xs) (readings m c.args.table.now) (readings m c.loop-item.table)) (take_all c.loop-item.item-index c.args.kernel.now c.loop-item-test.false) c.loop-item.invariant

@@ -5,4 +5,4 @@ use Rattle.lalrpop_base.specs.Words.{readings}
 use Rattle.lalrpop_tables.proofs.construction.closure.gather_kernel.Given as goal
 
 abbrev pub invariant-loop-item : goal.invariant-loop-item
-invariant-loop-item g l = GathersMore (parts_in g.L.Lookahead.meaning (take l.item-index l.kernel)) (readings g.L.Lookahead.meaning l.fn.table.entries) (readings g.L.Lookahead.meaning l.table.entries)
+invariant-loop-item g l = GathersMore (parts_in g.L.Lookahead.meaning (take l.item-index l.kernel)) (readings g.L.Lookahead.meaning l.fn.table) (readings g.L.Lookahead.meaning l.table)

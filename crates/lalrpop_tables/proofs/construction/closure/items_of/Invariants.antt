@@ -3,4 +3,7 @@ use Rattle.lalrpop_tables.specs.closures.Sharing.{numbered_of}
 use Rattle.lalrpop_tables.proofs.construction.closure.items_of.Given as goal
 
 abbrev pub invariant-loop-number : goal.invariant-loop-number
-invariant-loop-number g l = l.items.items ++ map numbered_of l.number-iterator ≡ map numbered_of l.fn.table.entries
+invariant-loop-number g l = record {
+  made : l.items.items ≡ map numbered_of l.yielded;
+  left : l.yielded ++ l.number-iterator.rest.items ≡ l.fn.entries.items;
+}

@@ -32,12 +32,12 @@ loop-number-preserved g c =
     let one : Dotted Bits = item_by items (front x) in
     let more : items_by items (map front (take (i + 1) xs)) ≡ items_by items (map front (take i xs)) ++ one ∷ [] =
     ap (items_by items) (mapped_more front xs i x c.loop-number-test.true (read_within xs i c.loop-number-test.true)) ∙ map-append (item_by items) (map front (take i xs)) (front x ∷ []) in
-    subst (λ (is : List (Dotted Bits)). Shares g.L.LookaheadBuild.begins g.L.LookaheadBuild.passes c.args.lr.now.construction.rules c.args.numbers.now is (readings m c.args.shared.now.entries) (readings m c.share.new.shared.entries) c.args.queue.now.items c.share.new.queue.items) (sym more)
+    subst (λ (is : List (Dotted Bits)). Shares g.L.LookaheadBuild.begins g.L.LookaheadBuild.passes c.args.lr.now.construction.rules c.args.numbers.now is (readings m c.args.shared.now) (readings m c.share.new.shared) c.args.queue.now.items c.share.new.queue.items) (sym more)
     (Shares-then g.L.LookaheadBuild.begins g.L.LookaheadBuild.passes c.args.lr.now.construction.rules c.args.numbers.now (items_by items (map front (take i xs))) (one ∷ []) _ _ _ _ _ _ c.loop-number.invariant c.in_ok-share.ensures)
 
 pub returns : goal.returns
 returns g c =
     let m = g.L.Lookahead.meaning in
     let items = c.args.numbers.now.items.items in
-    subst (λ (xs : List ℕ). Shares g.L.LookaheadBuild.begins g.L.LookaheadBuild.passes c.args.lr.now.construction.rules c.args.numbers.now (items_by items (fronts_in (m c.args.tokens.now) xs)) (readings m c.args.shared.now.entries) (readings m c.loop-number.shared.entries) c.args.queue.now.items c.loop-number.queue.items)
+    subst (λ (xs : List ℕ). Shares g.L.LookaheadBuild.begins g.L.LookaheadBuild.passes c.args.lr.now.construction.rules c.args.numbers.now (items_by items (fronts_in (m c.args.tokens.now) xs)) (readings m c.args.shared.now) (readings m c.loop-number.shared) c.args.queue.now.items c.loop-number.queue.items)
     (take_all c.loop-number.number-index c.args.fronts.now c.loop-number-test.false) c.loop-number.invariant

@@ -7,4 +7,4 @@ use Rattle.lalrpop_tables.proofs.construction.closure.share_fronts.Given as goal
 abbrev pub invariant-loop-number : goal.invariant-loop-number
 invariant-loop-number g l =
     Shares g.L.LookaheadBuild.begins g.L.LookaheadBuild.passes l.lr.construction.rules l.numbers (items_by l.numbers.items.items (fronts_in (g.L.Lookahead.meaning l.tokens) (take l.number-index l.fronts)))
-    (readings g.L.Lookahead.meaning l.fn.shared.entries) (readings g.L.Lookahead.meaning l.shared.entries) l.fn.queue.items l.queue.items
+    (readings g.L.Lookahead.meaning l.fn.shared) (readings g.L.Lookahead.meaning l.shared) l.fn.queue.items l.queue.items

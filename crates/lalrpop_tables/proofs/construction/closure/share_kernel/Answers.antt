@@ -25,12 +25,12 @@ loop-item-preserved g c =
     let one : Dotted Bits = meant m (item_by items c.item-item.result) in
     let more : map (meant m) (items_by items (take (i + 1) xs)) ≡ map (meant m) (items_by items (take i xs)) ++ one ∷ [] =
     ap (map (meant m)) (mapped_more (item_by items) xs i c.item-item.result c.loop-item-test.true c.item-item.is) ∙ map-append (meant m) (items_by items (take i xs)) (item_by items c.item-item.result ∷ []) in
-    subst (λ (is : List (Dotted Bits)). Shares g.L.LookaheadBuild.begins g.L.LookaheadBuild.passes c.args.lr.now.construction.rules c.args.numbers.now is (readings m c.args.shared.now.entries) (readings m c.share.new.shared.entries) c.args.queue.now.items c.share.new.queue.items) (sym more)
+    subst (λ (is : List (Dotted Bits)). Shares g.L.LookaheadBuild.begins g.L.LookaheadBuild.passes c.args.lr.now.construction.rules c.args.numbers.now is (readings m c.args.shared.now) (readings m c.share.new.shared) c.args.queue.now.items c.share.new.queue.items) (sym more)
     (Shares-then g.L.LookaheadBuild.begins g.L.LookaheadBuild.passes c.args.lr.now.construction.rules c.args.numbers.now (map (meant m) (items_by items (take i xs))) (one ∷ []) _ _ _ _ _ _ c.loop-item.invariant c.in_ok-share.ensures)
 
 pub returns : goal.returns
 returns g c =
     let m = g.L.Lookahead.meaning in
     let items = c.args.numbers.now.items.items in
-    subst (λ (xs : List (Numbered g.row.L.Denot)). Shares g.L.LookaheadBuild.begins g.L.LookaheadBuild.passes c.args.lr.now.construction.rules c.args.numbers.now (map (meant m) (items_by items xs)) (readings m c.args.shared.now.entries) (readings m c.loop-item.shared.entries) c.args.queue.now.items c.loop-item.queue.items)
+    subst (λ (xs : List (Numbered g.row.L.Denot)). Shares g.L.LookaheadBuild.begins g.L.LookaheadBuild.passes c.args.lr.now.construction.rules c.args.numbers.now (map (meant m) (items_by items xs)) (readings m c.args.shared.now) (readings m c.loop-item.shared) c.args.queue.now.items c.loop-item.queue.items)
     (take_all c.loop-item.item-index c.args.kernel.now c.loop-item-test.false) c.loop-item.invariant

@@ -7,4 +7,4 @@ use Rattle.lalrpop_tables.proofs.construction.closure.share_kernel.Given as goal
 abbrev pub invariant-loop-item : goal.invariant-loop-item
 invariant-loop-item g l =
     Shares g.L.LookaheadBuild.begins g.L.LookaheadBuild.passes l.lr.construction.rules l.numbers (map (meant g.L.Lookahead.meaning) (items_by l.numbers.items.items (take l.item-index l.kernel)))
-    (readings g.L.Lookahead.meaning l.fn.shared.entries) (readings g.L.Lookahead.meaning l.shared.entries) l.fn.queue.items l.queue.items
+    (readings g.L.Lookahead.meaning l.fn.shared) (readings g.L.Lookahead.meaning l.shared) l.fn.queue.items l.queue.items

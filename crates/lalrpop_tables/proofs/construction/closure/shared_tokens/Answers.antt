@@ -9,5 +9,5 @@ pub returns-in_ok-copy-in-Some-clause-found : goal.returns-in_ok-copy-in-Some-cl
 returns-in_ok-copy-in-Some-clause-found g c =
     let m = g.L.Lookahead.meaning in
     let read : ℕ × g.row.L.Denot → ℕ × Bits = λ e. (e.0, m e.1) in
-    subst (λ (t : g.row.L.Denot). Contains (readings m c.args.shared.now.entries) (c.args.symbol, m t)) (sym c.in_ok-copy-in-Some.ensures)
-    (contains_map read c.args.shared.now.entries (c.args.symbol, c.in-Some.tokens.now) c.in-Some.ensures.found)
+    subst (λ (t : g.row.L.Denot). Contains (readings m c.args.shared.now) (c.args.symbol, m t)) (sym c.in_ok-copy-in-Some.ensures)
+    (contains_map read c.args.shared.now (c.args.symbol, c.in-Some.tokens.now) c.in-Some.ensures.found)

@@ -13,7 +13,7 @@ use Rattle.lalrpop_tables.proofs.theory.closures.SharedItems.{read_item}
 use Rattle.lalrpop_tables.proofs.construction.states.items_of.Goals as goal
 
 pub loop-item-init : goal.loop-item-init
-loop-item-init g c = record { made = c.new-items.ensures.items; left = c.into_iter-item-iterator.ensures.into_iter_gives.0 }
+loop-item-init g c = record { made = c.in_ok-items.ensures.items; left = c.into_iter-item-iterator.ensures.into_iter_gives.0 }
 
 pub index-requires : goal.index-requires
 index-requires g c =

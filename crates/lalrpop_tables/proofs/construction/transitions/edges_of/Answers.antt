@@ -1,8 +1,6 @@
-use Rattle.std.proofs.Common.{◌≡◌, ◌∙◌, ◌<◌, ◌++◌, ◌∷◌, [], ℕ, List, Some, ap, sym, subst, append-nil}
-use Rattle.std.specs.Cmp.{nat_cmp_total}
-use Rattle.std.specs.Ordering.{nat_cmp}
+use Rattle.std.proofs.Common.{◌≡◌, ◌∙◌, ◌<◌, ◌++◌, ◌∷◌, [], ℕ, List, Some, ap, sym, subst, append-nil, arith}
 use Rattle.std.specs.Prelude.{slice_get}
-use Rattle.std.proofs.lemmas.List.{map-append}
+use Rattle.std.proofs.lemmas.List.{map-append, nil_from_length}
 use Rattle.lalrpop_base.specs.Words.{AddsOnce, Dotted}
 use Rattle.lalrpop_base.specs.declared.lr1_core.state.StateIndex.{StateIndex}
 use Rattle.lalrpop_base.specs.declared.repr.Symbol.{Symbol}
@@ -15,36 +13,35 @@ use Rattle.lalrpop_tables.proofs.theory.states.Moves.{AreSomeEdges, Edges-none, 
 use Rattle.lalrpop_tables.proofs.theory.states.NumberedEdges.{all_known, differ_by, either_by, numbered_by, split_by, taken, taken_among}
 use Rattle.lalrpop_tables.proofs.theory.states.NumberedMoves.{group_by, keys_differ_by, symbol_is}
 use Rattle.lalrpop_base.proofs.theory.lists.Places.{slice_get_at}
-use Rattle.lalrpop_base.proofs.theory.lists.Updates.{keys_differ}
 use Rattle.lalrpop_tables.proofs.construction.transitions.edges_of.Goals as goal
 
 pub loop-symbol-init : goal.loop-symbol-init
 loop-symbol-init g c = record {
-  edges = Edges-none (groups_by c.args.numbers.now c.args.moves.entries) (kernels_by c.args.numbers.now.items.items c.args.kernels.now) _ c.new.ensures.empty c.new-2.ensures.empty;
+  edges = Edges-none (groups_by c.args.numbers.now c.args.moves.items) (kernels_by c.args.numbers.now.items.items c.args.kernels.now) _ c.new.ensures.empty c.new-2.ensures.empty;
   known = c.requires.kernels;
   left = c.into_iter-symbol-iterator.ensures.into_iter_gives.0;
 }
 
 pub index-requires : goal.index-requires
 index-requires g c =
-    let groups : NumberedGroups g.row.L.Denot = c.args.moves.entries in
-    let among = taken_among groups c.loop-symbol.yielded c.loop-symbol.symbol-iterator c.next.new.self (c.in-Some.symbol, c.in-Some.items) c.loop-symbol.invariant.left c.in-Some.ensures.steps in
+    let groups : NumberedGroups g.row.L.Denot = c.args.moves.items in
+    let among = taken_among groups c.loop-symbol.yielded c.loop-symbol.symbol-iterator.rest.items c.next.new.self.rest.items (c.in-Some.symbol, c.in-Some.items) c.loop-symbol.invariant.left c.in-Some.ensures.steps.0 in
     subst (λ (k : ℕ). c.in-Some.symbol < k) (sym c.args.numbers.now.symbols.ok.0) (c.requires.known (c.in-Some.symbol, c.in-Some.items) among).0
 
 pub loop-symbol-preserved : goal.loop-symbol-preserved
 loop-symbol-preserved g c =
     let n = c.args.numbers.now in
     let items = n.items.items in
-    let groups : NumberedGroups g.row.L.Denot = c.args.moves.entries in
+    let groups : NumberedGroups g.row.L.Denot = c.args.moves.items in
     let first : NumberedGroups g.row.L.Denot = c.loop-symbol.yielded in
     let group : ℕ × List (Numbered g.row.L.Denot) = (c.in-Some.symbol, c.in-Some.items) in
     let x : Symbol = symbol_at n.symbols.items c.in-Some.symbol in
     let kernel : List (Dotted g.row.L.Denot) = items_by items c.in-Some.items in
-    let split = taken groups first c.loop-symbol.symbol-iterator c.next.new.self group c.loop-symbol.invariant.left c.in-Some.ensures.steps in
-    let among = taken_among groups first c.loop-symbol.symbol-iterator c.next.new.self group c.loop-symbol.invariant.left c.in-Some.ensures.steps in
+    let split = taken groups first c.loop-symbol.symbol-iterator.rest.items c.next.new.self.rest.items group c.loop-symbol.invariant.left c.in-Some.ensures.steps.0 in
+    let among = taken_among groups first c.loop-symbol.symbol-iterator.rest.items c.next.new.self.rest.items group c.loop-symbol.invariant.left c.in-Some.ensures.steps.0 in
     let known = c.requires.known group among in
-    let differ = keys_differ_by c.requires.numbers.0 n c.requires.numbers.1 groups c.requires.known (keys_differ nat_cmp nat_cmp_total groups c.into_iter-symbol-iterator.ensures.into_iter_gives.5) in
-    let decoded : (groups_by n first ++ (x, kernel) ∷ []) ++ groups_by n c.next.new.self ≡ groups_by n groups = split_by n groups first c.next.new.self group split in
+    let differ = keys_differ_by c.requires.numbers.0 n c.requires.numbers.1 groups c.requires.known c.requires.differ in
+    let decoded : (groups_by n first ++ (x, kernel) ∷ []) ++ groups_by n c.next.new.self.rest.items ≡ groups_by n groups = split_by n groups first c.next.new.self.rest.items group split in
     let state = c.in_ok-target.ensures in
     let kernels : List (List (Numbered g.row.L.Denot)) = c.add_state.new.self.list in
     let numbered : slice_get kernels c.in_ok-target.target.0 ≡ Some c.in-Some.items = ap (λ (t : StateIndex). slice_get kernels t.0) state.numbered.1 ∙ state.numbered.2 ∙ ap Some c.new-in-loop-symbol.ensures in
@@ -55,7 +52,7 @@ loop-symbol-preserved g c =
     record {
       edges = subst (λ (first : Groups g.row.L.Denot). AreSomeEdges (groups_by n groups) first (kernels_by items c.args.kernels.now) (kernels_by items c.add_state.new.self) c.add_edge.new.edges) (sym (map-append (group_by n) first (group ∷ [])))
           (Edges-more (groups_by n groups) x kernel (contains_map (group_by n) groups group among) (groups_by n first) (kernels_by items c.args.kernels.now) (kernels_by items c.loop-symbol.kernels) (kernels_by items c.add_state.new.self) c.loop-symbol.edges c.add_edge.new.edges c.in_ok-target.target.0 c.loop-symbol.invariant.edges
-          (groups_differ (groups_by n groups) (groups_by n first) (groups_by n c.next.new.self) (x, kernel) decoded differ) (numbered_by items kernels c.in_ok-target.target.0 c.in-Some.items numbered) (either_by items c.loop-symbol.kernels.list kernels c.in-Some.items either) state.handed
+          (groups_differ (groups_by n groups) (groups_by n first) (groups_by n c.next.new.self.rest.items) (x, kernel) decoded differ) (numbered_by items kernels c.in_ok-target.target.0 c.in-Some.items numbered) (either_by items c.loop-symbol.kernels.list kernels c.in-Some.items either) state.handed
           (differ_by items c.requires.numbers.1.items.ascend kernels all state.differ) (subst (λ (y : Symbol). IsEdgeAdded y c.in_ok-target.target c.loop-symbol.edges c.add_edge.new.edges) symbol c.in_ok-add_edge.ensures));
       known = all;
       left = split;
@@ -68,8 +65,9 @@ pub returns-clause-edges : goal.returns-clause-edges
 returns-clause-edges g c =
     let n = c.args.numbers.now in
     let first : NumberedGroups g.row.L.Denot = c.loop-symbol.yielded in
-    let all : first ≡ c.args.moves.entries = sym (append-nil first) ∙ ap (λ (t : NumberedGroups g.row.L.Denot). first ++ t) (sym c.in-None.ensures.steps.0) ∙ c.loop-symbol.invariant.left in
-    Edges-all (groups_by n c.args.moves.entries) (groups_by n first) (kernels_by n.items.items c.args.kernels.now) (kernels_by n.items.items c.loop-symbol.kernels) c.loop-symbol.edges (ap (groups_by n) all) c.loop-symbol.invariant.edges
+    let rest = nil_from_length c.loop-symbol.symbol-iterator.rest.items (let k = c.loop-symbol.symbol-iterator.rest.ok in let none = c.in-None.ensures.steps.0 in omega arith) in
+    let all : first ≡ c.args.moves.items = sym (append-nil first) ∙ ap (λ (t : NumberedGroups g.row.L.Denot). first ++ t) (sym rest) ∙ c.loop-symbol.invariant.left in
+    Edges-all (groups_by n c.args.moves.items) (groups_by n first) (kernels_by n.items.items c.args.kernels.now) (kernels_by n.items.items c.loop-symbol.kernels) c.loop-symbol.edges (ap (groups_by n) all) c.loop-symbol.invariant.edges
 
 pub returns-clause-reached : goal.returns-clause-reached
 returns-clause-reached g c = c.loop-symbol.invariant.edges.reached

@@ -11,8 +11,8 @@ use Rattle.lalrpop_tables.proofs.construction.transitions.moves_of.Goals as goal
 
 pub loop-item-init : goal.loop-item-init
 loop-item-init g c = record {
-  known = subst (λ (gs : NumberedGroups g.row.L.Denot). AreGroupsOf c.args.numbers.now gs) (sym c.new-moves.ensures.empty) (λ h d. absurd (Contains-none h d));
-  moves = subst (λ (gs : NumberedGroups g.row.L.Denot). AreMoves [] (groups_by c.args.numbers.now gs)) (sym c.new-moves.ensures.empty) Moves-none;
+  known = subst (λ (gs : NumberedGroups g.row.L.Denot). AreGroupsOf c.args.numbers.now gs) (sym c.clear.ensures) (λ h d. absurd (Contains-none h d));
+  moves = subst (λ (gs : NumberedGroups g.row.L.Denot). AreMoves [] (groups_by c.args.numbers.now gs)) (sym c.clear.ensures) Moves-none;
 }
 
 pub add_move-requires-clause-known : goal.add_move-requires-clause-known
@@ -29,8 +29,8 @@ loop-item-preserved g c =
     let before = c.loop-item.invariant in
     record {
       known = c.in_ok-add_move.ensures.known before.known;
-      moves = subst (λ (is : List (Dotted g.row.L.Denot)). AreMoves is (groups_by n c.add_move.new.moves.entries)) (sym more)
-          (Moves-more (items_by items (take i xs)) (item_by items x) (groups_by n c.loop-item.moves.entries) (groups_by n c.add_move.new.moves.entries) before.moves (c.in_ok-add_move.ensures.added before.known));
+      moves = subst (λ (is : List (Dotted g.row.L.Denot)). AreMoves is (groups_by n c.add_move.new.moves)) (sym more)
+          (Moves-more (items_by items (take i xs)) (item_by items x) (groups_by n c.loop-item.moves) (groups_by n c.add_move.new.moves) before.moves (c.in_ok-add_move.ensures.added before.known));
     }
 
 pub returns-clause-known : goal.returns-clause-known
@@ -38,4 +38,4 @@ returns-clause-known g c = c.loop-item.invariant.known
 
 pub returns-clause-moves : goal.returns-clause-moves
 returns-clause-moves g c =
-    subst (λ (xs : List (Numbered g.row.L.Denot)). AreMoves (items_by c.args.numbers.now.items.items xs) (groups_by c.args.numbers.now c.loop-item.moves.entries)) (take_all c.loop-item.item-index c.args.items.now c.loop-item-test.false) c.loop-item.invariant.moves
+    subst (λ (xs : List (Numbered g.row.L.Denot)). AreMoves (items_by c.args.numbers.now.items.items xs) (groups_by c.args.numbers.now c.loop-item.moves)) (take_all c.loop-item.item-index c.args.items.now c.loop-item-test.false) c.loop-item.invariant.moves

@@ -9,14 +9,14 @@ use Rattle.lalrpop_base.proofs.theory.lists.Members.{contains_head}
 use Rattle.lalrpop_base.proofs.theory.closures.Readings.{items_meant, readings_keys}
 use Rattle.lalrpop_tables.proofs.theory.closures.SharedItems.{front_known, fronts_are, number_known}
 use Rattle.lalrpop_tables.proofs.theory.closures.Sharing.{Sharing-start, Sharing-step, Sharing-smaller}
-use Rattle.lalrpop_tables.proofs.construction.closure.shared_by.Goals as goal
+use Rattle.lalrpop_tables.proofs.construction.closure.share_all.Goals as goal
 
 pub loop-symbol-init : goal.loop-symbol-init
 loop-symbol-init g c =
     let m = g.L.Lookahead.meaning in
     let kernel : List (Dotted Bits) = map (meant m) (items_by c.args.numbers.now.items.items c.args.kernel.now) in
     let items = items_meant m c.args.lr.now.construction.rules (items_by c.args.numbers.now.items.items c.args.kernel.now) c.requires.kernel in
-    Sharing-start g.L.LookaheadBuild.begins g.L.LookaheadBuild.passes c.args.lr.now.construction.rules c.args.numbers.now kernel _ _ (λ i h. (items.each i h).tokens) (rw (c.new-shared.ensures.empty, c.new-queue.ensures.items) at c.in_ok-share_kernel.ensures)
+    Sharing-start g.L.LookaheadBuild.begins g.L.LookaheadBuild.passes c.args.lr.now.construction.rules c.args.numbers.now kernel _ _ (λ i h. (items.each i h).tokens) (rw (c.clear.ensures, c.new-queue.ensures.items) at c.in_ok-share_kernel.ensures)
 
 pub index-fronts-requires : goal.index-fronts-requires
 index-fronts-requires g c =
@@ -53,13 +53,13 @@ pub loop-symbol-smaller : goal.loop-symbol-smaller
 loop-symbol-smaller g c =
     let before = rw c.in-Some.ensures.items at c.loop-symbol.invariant in
     let key = before.queued c.in-Some.symbol (contains_head c.in-Some.symbol c.pop_front.new.self.items) in
-    absurd ((rw c.in_default-2.is at c.in_ok-tokens.ensures.none) (subst (λ (ks : List ℕ). Contains ks c.in-Some.symbol) (readings_keys g.L.Lookahead.meaning c.loop-symbol.shared.entries) key))
+    absurd ((rw c.in_default-2.is at c.in_ok-tokens.ensures.none) (subst (λ (ks : List ℕ). Contains ks c.in-Some.symbol) (readings_keys g.L.Lookahead.meaning c.loop-symbol.shared) key))
 
 pub loop-symbol-preserved : goal.loop-symbol-preserved
 loop-symbol-preserved g c =
     let before = rw c.in-Some.ensures.items at c.loop-symbol.invariant in
     let key = before.queued c.in-Some.symbol (contains_head c.in-Some.symbol c.pop_front.new.self.items) in
-    absurd ((rw c.in_default-2.is at c.in_ok-tokens.ensures.none) (subst (λ (ks : List ℕ). Contains ks c.in-Some.symbol) (readings_keys g.L.Lookahead.meaning c.loop-symbol.shared.entries) key))
+    absurd ((rw c.in_default-2.is at c.in_ok-tokens.ensures.none) (subst (λ (ks : List ℕ). Contains ks c.in-Some.symbol) (readings_keys g.L.Lookahead.meaning c.loop-symbol.shared) key))
 
 pub returns : goal.returns
 returns g c =
