@@ -69,6 +69,7 @@ impl<V> SparseMap<V> {
     pub fn get(&self, number: usize) -> Option<&V>
         ensures found { IfSome result (λ value. Contains self.now (number, value.now)) }
         ensures none { IsNone result → ¬ Contains (keys_of self.now) number }
+        ensures differ { AllDiffer (keys_of self.now) }
     {
         match self.place_of(number) {
             Some(place) => Some(&self.entries[place].1),

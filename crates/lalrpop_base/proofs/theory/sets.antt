@@ -8,3 +8,4 @@ pub mod PlaceLemmas
 pub mod Subsets
 pub mod TokenSetLemmas
 pub mod WordLemmas
+pub mod WordsOf

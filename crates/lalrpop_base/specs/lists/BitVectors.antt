@@ -1,5 +1,5 @@
 -- Bit vectors, the representation of sets of small numbers that Rust's crate `bit-set` has too: words of 64 bits, the first with the numbers below 64; number n is bit n % 64 of word n / 64.
-use Rattle.std.specs.Prelude.{◌≡◌, ◌≢◌, ℕ, zero, suc, ◌+◌, ◌-◌, ◌*◌, ◌/◌, ◌%◌, ◌^◌, ◌<◌, ◌≤◌, ◌==◌, Bool, true, false, List, [], ◌∷◌, length, slice_index}
+use Rattle.std.specs.Prelude.{◌≡◌, ◌≢◌, ℕ, zero, suc, ◌+◌, ◌-◌, ◌*◌, ◌/◌, ◌%◌, ◌^◌, ◌<◌, ◌≤◌, ◌==◌, Bool, true, false, List, [], ◌∷◌, length, slice_index, bit_or}
 use Rattle.std.specs.Int.{bit_at}
 use Rattle.std.specs.List.{filter}
 use Rattle.lalrpop_base.specs.lists.Bits.{Bits, bits_of}
@@ -45,3 +45,15 @@ pub record IsLeastFrom (words : List ℕ) (first n : ℕ) : Type 0 where
 pub record IsLeastApart (p q : ℕ → Bool) (n : ℕ) : Type 0 where
   pub apart : p n ≢ q n
   pub same : (k : ℕ) → k < n → p k ≡ q k
+
+-- a word joined to that at a place, behind words 0 where there are fewer
+abbrev pub word_joined : ℕ → ℕ → List ℕ → List ℕ
+word_joined zero word [] = word ∷ []
+word_joined zero word (w ∷ ws) = bit_or w word ∷ ws
+word_joined (suc place) word [] = 0 ∷ word_joined place word []
+word_joined (suc place) word (w ∷ ws) = w ∷ word_joined place word ws
+
+-- the words of the bit vector that has just these numbers
+abbrev pub words_of : List ℕ → List ℕ
+words_of [] = []
+words_of (n ∷ ns) = word_joined (n / 64) (2 ^ (n % 64)) (words_of ns)

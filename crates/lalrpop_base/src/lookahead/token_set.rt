@@ -8,11 +8,11 @@ ghost use Rattle.std.specs.Hash as fed;
 ghost use Rattle.std.proofs.Common.{rules};
 ghost use lib.Pointwise.{pointwise};
 ghost use Rattle.lalrpop_base.specs.lists.Bits.{no_bits, has, rising, with_bit, join, bits_exact};
-ghost use Rattle.lalrpop_base.specs.lists.BitVectors.{IsBitVector, bits_of_words};
+ghost use Rattle.lalrpop_base.specs.lists.BitVectors.{IsBitVector, bits_of_words, words_of};
 
 use super::bit_iter::BitIter;
 use super::word_changes::{join_words, meet_words, pad, put, take, trim, words_below};
-use super::words::{compare, has_greater, has_number, share_number};
+use super::words::{are_within, compare, has_greater, has_number, share_number};
 use crate::exact::Exact;
 use crate::memory::OutOfMemory;
 use std::alloc::Global;
@@ -159,6 +159,18 @@ impl TokenSet {
         !self.is_disjoint(other)
     }
 
+    /// Whether each bit is in another set, too.
+    pub fn is_subset(&self, other: &TokenSet) -> bool
+        ensures yes { IsTrue result →
+            (bit : ℕ) →
+            IsTrue (has self.now bit) →
+            IsTrue (has other.now bit) }
+        ensures no { IsFalse result →
+            (bit : ℕ) × IsTrue (has self.now bit) × (has other.now bit ≡ false) }
+    {
+        are_within(self.words(), other.words())
+    }
+
     /// Makes room for more bits.
     pub fn reserve(&mut self, len: usize) -> Result<(), OutOfMemory>
         ensures { self.new ≡ self.old }
@@ -240,15 +252,12 @@ impl PartialOrd for TokenSet {
 }
 
 impl Hash for TokenSet {
-    ghost hash_input = { λ s. fed.slice fed.usize (rising s) };
+    ghost hash_input = { λ s. fed.slice fed.u64 (words_of (rising s)) };
 
     ghost respects_eq = { Prim.search (hashing, rules) };
 
     fn hash<H: Hasher>(&self, state: &mut H) {
-        state.write_usize(self.len());
-        for bit in self.bits() {
-            state.write_usize(bit);
-        }
+        self.words().hash(state);
     }
 }
 

@@ -139,3 +139,18 @@ pub(crate) fn share_number(left: &[u64], right: &[u64]) -> bool
     }
     false
 }
+
+/// Whether each number of a bit vector is in another.
+pub(crate) fn are_within(left: &[u64], right: &[u64]) -> bool
+    ensures yes { IsTrue result →
+        (n : ℕ) → IsTrue (has_bit left.now n) → IsTrue (has_bit right.now n) }
+    ensures no { IsFalse result →
+        (n : ℕ) × IsTrue (has_bit left.now n) × (has_bit right.now n ≡ false) }
+{
+    for place in 0..left.len() {
+        if left[place] & !word_at(right, place) != 0 {
+            return false;
+        }
+    }
+    true
+}

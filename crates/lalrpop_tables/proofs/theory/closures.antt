@@ -1,5 +1,6 @@
 -- Closures of kernels.
 pub mod EpsilonMoves
+pub mod GivenAlready
 pub mod Rising
 pub mod SharedItems
 pub mod Sharing

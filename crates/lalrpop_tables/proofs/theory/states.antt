@@ -6,6 +6,7 @@ pub mod Contained
 pub mod EdgeLeads
 pub mod EdgePlaces
 pub mod ListedTransitions
+pub mod InsertedKernels
 pub mod Lookaheads
 pub mod Moves
 pub mod NonterminalEdges

@@ -37,6 +37,16 @@ impl LookaheadBuild for Nil {
     ) -> Result<Option<Nil>, OutOfMemory> {
         Ok(Some(Nil))
     }
+
+    fn has_given<'grammar>(
+        _lr: &Lr<'grammar, Nil>,
+        _remainder: &[Symbol],
+        _rest: &Rest,
+        _lookahead: &Nil,
+        _known: &Nil,
+    ) -> bool {
+        true
+    }
 }
 
 impl LookaheadBuild for TokenSet {
@@ -70,5 +80,16 @@ impl LookaheadBuild for TokenSet {
             tokens.union_with(lookahead)?;
         }
         Ok(Some(tokens))
+    }
+
+    fn has_given<'grammar>(
+        lr: &Lr<'grammar, TokenSet>,
+        _remainder: &[Symbol],
+        rest: &Rest,
+        lookahead: &TokenSet,
+        known: &TokenSet,
+    ) -> bool {
+        let _grammar = lr.grammar();
+        rest.first.is_subset(known) && (!rest.nullable || lookahead.is_subset(known))
     }
 }

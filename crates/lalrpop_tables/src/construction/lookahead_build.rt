@@ -1,9 +1,9 @@
 //! What an item gives to those to which it leads without a symbol.
-ghost use Rattle.std.specs.Prelude.{IfOk, List, MatchOption};
+ghost use Rattle.std.specs.Prelude.{IfOk, IsTrue, List, MatchOption};
 ghost use Rattle.lalrpop_base.specs.Words.{HasKnownTerminals, Rules};
 ghost use Rattle.lalrpop_base.specs.declared.lookahead.token.Token.{Token};
 ghost use Rattle.lalrpop_base.specs.declared.repr.Symbol.{Symbol};
-ghost use Rattle.lalrpop_base.specs.closures.EpsilonMoves.{AreEpsilonMoves, HasNoProduction, IsGiven};
+ghost use Rattle.lalrpop_base.specs.closures.EpsilonMoves.{AreEpsilonMoves, HasGiven, HasNoProduction, IsGiven};
 ghost use Rattle.lalrpop_tables.specs.grammars.Rests.{IsRest};
 
 use super::lr::Lr;
@@ -59,5 +59,23 @@ pub trait LookaheadBuild: Lookahead {
             Some(item) => Ok(Some(item.lookahead)),
             None => Ok(None),
         }
+    }
+
+    /// Whether a lookahead has already all that `given` gives. One that can't tell may say no.
+    fn has_given<'grammar>(
+        lr: &Lr<'grammar, Self>,
+        remainder: &[Symbol],
+        _rest: &Rest,
+        _lookahead: &Self,
+        _known: &Self,
+    ) -> bool
+        requires known { HasKnownTerminals lr.now.construction.rules.terminals remainder.now }
+        requires rest { IsRest lr.now.construction.rules remainder.now _rest.now }
+        ensures { IsTrue result → HasGiven Self.meaning begins passes lr.now.construction.rules
+            remainder.now _lookahead.now _known.now }
+    {
+        let _rules = lr.grammar();
+        let _symbols = remainder.len();
+        false
     }
 }

@@ -1,9 +1,8 @@
 //! Items by number, and the kernels of states.
-ghost use Rattle.std.specs.Prelude.{◌≡◌};
-ghost use Rattle.lalrpop_base.specs.Words.{list_exact};
-ghost use Rattle.lalrpop_tables.specs.grammars.Numbers.{numbered_exact};
+ghost use Rattle.std.specs.Prelude.{◌≡◌, ◌+◌, [], length, slice_get, Some, IfOk, OnOk, OnErr, IfSome, IfNone};
+ghost use Rattle.lalrpop_base.specs.Words.{AddsOnce, AllDiffer};
 
-use lalrpop_base::kernel_set;
+use indexmap::IndexSet;
 use lalrpop_base::lookahead::Lookahead;
 use lalrpop_base::lr1_core::state::StateIndex;
 use lalrpop_base::memory::OutOfMemory;
@@ -49,20 +48,10 @@ impl<L: Lookahead> NumberedKernel<L> {
     {
         self.items.as_slice()
     }
-}
 
-impl<L: Lookahead> kernel_set::Kernel for NumberedKernel<L> {
-    type Index = StateIndex;
-
-    ghost numbered = { λ n. record { 0 = n } };
-
-    fn index(number: usize) -> StateIndex
-        ensures { result ≡ record { 0 = number } }
+    fn copy(&self, alloc: Global) -> Result<Self, OutOfMemory>
+        ensures { IfOk result (λ copy. copy ≡ self.now) }
     {
-        StateIndex(number)
-    }
-
-    fn copy(&self, alloc: Global) -> Result<Self, OutOfMemory> {
         let mut items = Sequence::new(alloc);
         for item in self.as_slice() {
             items.push(Numbered {
@@ -72,6 +61,68 @@ impl<L: Lookahead> kernel_set::Kernel for NumberedKernel<L> {
         }
         Ok(NumberedKernel { items })
     }
+}
 
-    ghost equal_is_same = { list_exact (numbered_exact _ L.equal_is_same) };
+/// Kernels that differ, in the order of their numbers, of which the first were handed out. Each
+/// stands once, and is found by its hash.
+#[derive(Drop)]
+pub struct NumberedKernels<L: Lookahead> {
+    kernels: IndexSet<NumberedKernel<L>>,
+    handed: usize,
+}
+
+impl<L: Lookahead> Model for NumberedKernels<L> {
+    ghost use Rattle.std.specs.Prelude.{List, length, ◌≤◌};
+    ghost use Rattle.lalrpop_base.specs.states.Kernels.{Kernels};
+    ghost use Rattle.lalrpop_base.specs.lists.Places.{AllDiffer};
+    ghost use Rattle.lalrpop_tables.specs.declared.construction.numbered.Numbered.{Numbered};
+
+    ghost Value = { Kernels (List (Numbered L)) };
+
+    ghost view = { λ k. record { list = k.kernels.keys; handed = k.handed } };
+
+    ghost invariant = { λ k. AllDiffer k.kernels.keys × (k.handed ≤ length k.kernels.keys) };
+}
+
+impl<L: Lookahead> NumberedKernels<L> {
+    /// No kernels.
+    pub fn new(alloc: Global) -> Self
+        ensures { result ≡ record { list = []; handed = 0 } }
+    {
+        NumberedKernels {
+            kernels: IndexSet::new(alloc),
+            handed: 0,
+        }
+    }
+
+    /// The number of an equal kernel, or the next number.
+    pub fn add_state(&mut self, kernel: NumberedKernel<L>) -> Result<StateIndex, OutOfMemory>
+        ensures added { OnOk result (AddsOnce self.old.list self.new.list kernel) }
+        ensures numbered { IfOk result
+            (λ index. slice_get self.new.list index.0 ≡ Some kernel) }
+        ensures differ { OnOk result (AllDiffer self.new.list) }
+        ensures handed { self.new.handed ≡ self.old.handed }
+        ensures err { OnErr result (self.new ≡ self.old) }
+    {
+        let (number, _) = self.kernels.insert_full(kernel)?;
+        Ok(StateIndex(number))
+    }
+
+    /// A copy of the next kernel by number, which is handed out.
+    pub fn next(&mut self, alloc: Global) -> Result<Option<NumberedKernel<L>>, OutOfMemory>
+        ensures next { IfOk result (λ found. IfSome found
+            (λ kernel. slice_get self.old.list self.old.handed ≡ Some kernel)) }
+        ensures some { IfOk result (λ found. IfSome found
+            (λ _. self.new ≡ record { list = self.old.list; handed = self.old.handed + 1 })) }
+        ensures none { IfOk result (λ found. IfNone found (self.new ≡ self.old)) }
+        ensures all { IfOk result
+            (λ found. IfNone found (self.old.handed ≡ length self.old.list)) }
+    {
+        if self.handed == self.kernels.len() {
+            return Ok(None);
+        }
+        let copy = self.kernels.as_slice()[self.handed].copy(alloc)?;
+        self.handed += 1;
+        Ok(Some(copy))
+    }
 }

@@ -9,13 +9,12 @@ ghost use Rattle.lalrpop_tables.specs.states.States.{IsBuiltBy, Extends, LeadsTo
 use super::closure::{Gathered, closure};
 use super::lookahead_build::LookaheadBuild;
 use super::lr::Lr;
-use super::numbered::{Numbered, NumberedKernel};
+use super::numbered::{Numbered, NumberedKernel, NumberedKernels};
 use super::numbers::Numbers;
 use super::reductions::reductions;
 use super::results::push_conflicts;
 use super::transitions::{Edges, Moves, edges_of, moves_of};
 use crate::sparse_map::SparseMap;
-use lalrpop_base::kernel_set::KernelSet;
 use lalrpop_base::lookahead::Lookahead;
 use lalrpop_base::lr1_core::item::Item;
 use lalrpop_base::lr1_core::state::{Conflict, Items, State, StateIndex};
@@ -68,7 +67,7 @@ fn build_state<'grammar, L: LookaheadBuild>(
     numbers: &Numbers<'grammar>,
     kernel: &NumberedKernel<L>,
     number: usize,
-    kernels: &mut KernelSet<NumberedKernel<L>>,
+    kernels: &mut NumberedKernels<L>,
     work: &mut Workspace<L>,
 ) -> Result<State<'grammar, L>, OutOfMemory>
     requires numbers { AreNumbers lr.now.construction.rules numbers.now }
@@ -115,7 +114,7 @@ fn first_kernels<'grammar, L: LookaheadBuild>(
     alloc: Global,
     lr: &Lr<'grammar, L>,
     numbers: &Numbers<'grammar>,
-) -> Result<KernelSet<NumberedKernel<L>>, OutOfMemory>
+) -> Result<NumberedKernels<L>, OutOfMemory>
     requires { AreNumbers lr.now.construction.rules numbers.now }
     ensures known { IfOk result
         (λ kernels. AreAllNumbered numbers.now.items.items kernels.list) }
@@ -126,7 +125,7 @@ fn first_kernels<'grammar, L: LookaheadBuild>(
     ensures items { IfOk result (λ _. AreItemsBy L.meaning lr.now.construction.rules
         (map (begun lr.now.construction.lookahead) lr.now.construction.first)) }
 {
-    let mut kernels = KernelSet::new(alloc);
+    let mut kernels = NumberedKernels::new(alloc);
     kernels.add_state(lr.start_kernel(alloc, numbers)?)?;
     Ok(kernels)
 }
@@ -145,7 +144,7 @@ pub fn build_states<'grammar, L: LookaheadBuild>(
     let mut work = Workspace::new(alloc);
     let mut states = Vec::new(alloc);
     let mut conflicts = Vec::new(alloc);
-    while let Some(kernel) = kernels.next() {
+    while let Some(kernel) = kernels.next(alloc)? {
         let number = states.len();
         let state = build_state(alloc, lr, numbers, &kernel, number, &mut kernels, &mut work)?;
         push_conflicts(alloc, lr, &state, &mut conflicts)?;
@@ -169,7 +168,7 @@ pub fn all_states<'grammar, L: LookaheadBuild>(
     let mut kernels = first_kernels(alloc, lr, numbers)?;
     let mut work = Workspace::new(alloc);
     let mut states = Vec::new(alloc);
-    while let Some(kernel) = kernels.next() {
+    while let Some(kernel) = kernels.next(alloc)? {
         let number = states.len();
         let state = build_state(alloc, lr, numbers, &kernel, number, &mut kernels, &mut work)?;
         states.push(state)?;

@@ -5,10 +5,9 @@ ghost use Rattle.lalrpop_base.specs.Words.{AllDiffer, Rules};
 ghost use Rattle.lalrpop_tables.specs.grammars.Numbers.{AreAllNumbered, AreGroupsOf, AreNumbered, AreNumbers, groups_by, item_by, items_by, kernels_by};
 ghost use Rattle.lalrpop_tables.specs.states.Transitions.{AreMoves, IsMoveAdded, IsEdgeAdded, AreEdges, IsReached};
 
-use super::numbered::{Numbered, NumberedKernel};
+use super::numbered::{Numbered, NumberedKernel, NumberedKernels};
 use super::numbers::Numbers;
 use crate::sparse_map::SparseMap;
-use lalrpop_base::kernel_set::KernelSet;
 use lalrpop_base::lookahead::Lookahead;
 use lalrpop_base::lr1_core::state::StateIndex;
 use lalrpop_base::memory::OutOfMemory;
@@ -92,7 +91,7 @@ pub fn edges_of<'grammar, L: Lookahead>(
     alloc: Global,
     numbers: &Numbers<'grammar>,
     moves: Vec<(usize, Sequence<Numbered<L>>)>,
-    kernels: &mut KernelSet<NumberedKernel<L>>,
+    kernels: &mut NumberedKernels<L>,
 ) -> Result<Edges, OutOfMemory>
     requires numbers { (g : Rules) × AreNumbers g numbers.now }
     requires known { AreGroupsOf numbers.now moves.items }

@@ -4,7 +4,7 @@ use Rattle.std.specs.Prelude.{nat_lt}
 use Rattle.std.specs.Int.{bit_at, bit_not, trailing_zeros}
 use Rattle.std.proofs.lemmas.List.{get_or_past, get_or-set_same, get_or-set_other, get_or-take, get_or-replicate, get_or_append_left, get_or_push, length_push, length-replicate}
 use Rattle.std.proofs.lemmas.Nat.{xor_lt, or_disjoint, pow_below, shr-shr, shr_below, and_le_l, and_le_r}
-use Rattle.std.proofs.lemmas.Nat.Bits.{bit_at-zero, bit_at-lt, bit_at-suc, bit_at_and, bit_at_xor, bit_at_above, bit_at_ones, bit_at_ones_above, bit_at-trailing_zeros, bit_at_set_same, bit_at_set_other, bit_at_clear_same, bit_at_clear_other}
+use Rattle.std.proofs.lemmas.Nat.Bits.{bit_at-zero, bit_at-lt, bit_at-suc, bit_at_and, bit_at_not, bit_at_xor, bit_at_above, bit_at_ones, bit_at_ones_above, bit_at-trailing_zeros, bit_at_set_same, bit_at_set_other, bit_at_clear_same, bit_at_clear_other}
 use Rattle.std.proofs.lemmas.Bool.{cases_eq, cases_lt, lt-ltb, le-ltb, and_parts, or_left}
 use Rattle.lalrpop_base.specs.lists.BitVectors.{has_bit, IsBitVector, IsLeastApart, IsLeastFrom}
 use Rattle.lalrpop_base.proofs.theory.sets.BitVectorLemmas.{has_bit-at, has_bit-is, has_bit-past, has_bit-within, and_test, one_bit, lowest, none_in, none_below}
@@ -84,6 +84,34 @@ apart_words xs ys n none here there =
     let other = is_one (bit_at y i) (sym (has_bit-is ys n) ∙ there) in
     let zero_bit : min (bit_at x i) (bit_at y i) ≡ 0 = sym (bit_at_and x y i) ∙ ap (λ (w : ℕ). bit_at w i) none ∙ bit_at-zero i in
     omega (arith, one, other, zero_bit)
+
+-- ---- a word that has a bit more than another, or none
+pub bit_more : (xs ys : List ℕ) (k : ℕ) → bit_and (slice_index xs k) (bit_not w64 (slice_index ys k)) ≢ 0 → slice_index xs k < 2 ^ 64 → slice_index ys k < 2 ^ 64 →
+    (n : ℕ) × (has_bit xs n ≡ true) × (has_bit ys n ≡ false)
+bit_more xs ys k some low_x low_y =
+    let x = slice_index xs k in
+    let y = slice_index ys k in
+    let z = bit_not w64 y in
+    let t = bit_at-trailing_zeros w64 (bit_and x z) (omega arith) (omega (arith, and_le_l x z)) in
+    let i = trailing_zeros w64 (bit_and x z) in
+    let both : min (bit_at x i) (bit_at z i) ≡ 1 = sym (bit_at_and x z i) ∙ t.1 in
+    let flipped : bit_at z i ≡ 1 - bit_at y i = bit_at_not w64 y i low_y t.0 in
+    let one : bit_at x i ≡ 1 = omega (arith, both, bit_at-lt x i, bit_at-lt z i) in
+    let none : bit_at y i ≡ 0 = omega (arith, both, flipped, bit_at-lt x i, bit_at-lt y i) in
+    (64 * k + i, has_bit-at xs k i t.0 ∙ ap (λ (b : ℕ). b == 1) one, has_bit-at ys k i t.0 ∙ ap (λ (b : ℕ). b == 1) none)
+
+pub no_bit_more : (xs ys : List ℕ) (n : ℕ) → bit_and (slice_index xs (n / 64)) (bit_not w64 (slice_index ys (n / 64))) ≡ 0 → slice_index ys (n / 64) < 2 ^ 64 →
+    has_bit xs n ≡ true → has_bit ys n ≡ true
+no_bit_more xs ys n none low here =
+    let x = slice_index xs (n / 64) in
+    let y = slice_index ys (n / 64) in
+    let z = bit_not w64 y in
+    let i = n % 64 in
+    let one : bit_at x i ≡ 1 = is_one (bit_at x i) (sym (has_bit-is xs n) ∙ here) in
+    let flipped : bit_at z i ≡ 1 - bit_at y i = bit_at_not w64 y i low (omega arith) in
+    let zero_bit : min (bit_at x i) (bit_at z i) ≡ 0 = sym (bit_at_and x z i) ∙ ap (λ (w : ℕ). bit_at w i) none ∙ bit_at-zero i in
+    let other : bit_at y i ≡ 1 = omega (arith, one, flipped, zero_bit, bit_at-lt y i) in
+    has_bit-is ys n ∙ ap (λ (b : ℕ). b == 1) other
 
 pub and_zero_left : (x y : ℕ) → x ≡ 0 → bit_and x y ≡ 0
 and_zero_left x y e = omega (arith, and_le_l x y, e)

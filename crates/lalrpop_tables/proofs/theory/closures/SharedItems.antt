@@ -1,9 +1,10 @@
 -- What an item by its number gives to the nonterminal behind its dot.
-use Rattle.std.proofs.Common.{◌≡◌, ◌≢◌, ◌↔◌, ◌⊎◌, inl, inr, ℕ, zero, suc, ◌+◌, ◌<◌, List, [], ◌∷◌, length, drop, refl, sym, ◌∙◌, ap, subst, arith, Some, None, true, map, take, ◌++◌, option_map, Vec, Global}
+use Rattle.std.proofs.Common.{◌≡◌, ◌≢◌, ◌↔◌, ◌⊎◌, inl, inr, ℕ, zero, suc, ◌+◌, ◌<◌, List, [], ◌∷◌, length, drop, refl, sym, ◌∙◌, ap, subst, arith, Some, None, true, false, map, take, ◌++◌, option_map, Vec, Global}
 use Rattle.std.specs.Prelude.{Contains, slice_get, get_or}
 use Rattle.std.proofs.lemmas.List.{map-append, take_more}
 use Rattle.std.proofs.lemmas.Option.{slice_get-map, slice_get_within}
-use Rattle.lalrpop_base.specs.Words.{Bits, Dotted, has, HasKnownTerminals, IsWellFormed, Rules, holds_token, rules_of}
+use Rattle.std.specs.Map.{keys_of}
+use Rattle.lalrpop_base.specs.Words.{AllDiffer, Bits, Dotted, has, join, HasKnownTerminals, IsWellFormed, Rules, holds_token, rules_of}
 use Rattle.lalrpop_base.specs.declared.lookahead.nil.Nil.{Nil}
 use Rattle.lalrpop_base.specs.declared.lookahead.token.Token.{Token}
 use Rattle.lalrpop_base.specs.declared.repr.NonterminalString.{NonterminalString}
@@ -16,6 +17,7 @@ use Rattle.lalrpop_tables.specs.grammars.Rests.{IsRest}
 use Rattle.lalrpop_tables.specs.declared.construction.numbers.rests.Rest.{Rest}
 use Rattle.lalrpop_tables.specs.closures.Sharing.{IsFront, IsNamed, IsShared, Shared, Shares, fronts_in}
 use Rattle.lalrpop_base.specs.lists.Entries.{IsQueued}
+use Rattle.lalrpop_base.specs.lists.Entries.IsJoinedAt.{known as join_known}
 use Rattle.lalrpop_base.proofs.theory.states.ContentsViews.{contains_of_map}
 use Rattle.lalrpop_base.proofs.theory.lists.Lists.{drop_past}
 use Rattle.lalrpop_tables.specs.declared.construction.numbered.Numbered.{Numbered}
@@ -88,6 +90,25 @@ module _ (begins : Rules → List Symbol → Token → Type 0) (passes : Rules �
       (λ t. subst (λ (b : Bits). (holds_token g.terminals (meaning given) t ≡ true) ↔ (begins g rest t ⊎ (passes g rest × (holds_token g.terminals b t ≡ true)))) of (gives.holds t))
       (λ fit. gives.fits (λ bit h. fit bit (subst (λ (b : Bits). has b bit ≡ true) of h)))
       old new queue pushed queued
+
+-- ---- a key that has its tokens already
+split_of : {X : Type 0} (xs : List X) (x : X) → Contains xs x → (front : List X) × (back : List X) × (xs ≡ front ++ x ∷ back)
+split_of [] x c = absurd (Contains-none x c)
+split_of {X} (y ∷ ys) x c = elim (contains-cons y ys x c) [
+  | inl same ↦ ([], ys, ap (λ (z : X). z ∷ ys) same)
+  | inr later ↦ let h = split_of ys x later in (y ∷ h.0, h.1, ap (λ (zs : List X). y ∷ zs) h.2)
+]
+
+-- nothing changes, and it need not wait
+pub queued_again : {K : Type 0} (key : K) (tokens s : Bits) (table : List (K × Bits)) (queue : List K) → Contains table (key, s) → join s tokens ≡ s → AllDiffer (keys_of table) → IsQueued key tokens table table queue queue
+queued_again {K} key tokens s table queue there same differ =
+    let h = split_of table (key, s) there in
+    record {
+      told = false;
+      joined = join_known h.0 h.1 s h.2 (h.2 ∙ ap (λ (t : Bits). h.0 ++ (key, t) ∷ h.1) (sym same)) same;
+      grown = refl;
+      differ = differ;
+    }
 
 -- ---- one item more of a list
 pub mapped_more : {X Y : Type 0} (f : X → Y) (xs : List X) (i : ℕ) (x : X) → i < length xs → x ≡ get_or xs i x → map f (take (i + 1) xs) ≡ map f (take i xs) ++ f x ∷ []

@@ -1,11 +1,13 @@
-use Rattle.std.proofs.Common.{◌≡◌, ◌∙◌, ap, subst, refl, length, Some, arith, ◌+◌, drop}
+use Rattle.std.proofs.Common.{◌≡◌, ◌∙◌, ℕ, ap, subst, refl, length, Some, arith, ◌+◌, drop}
 use Rattle.std.specs.Prelude.{slice_get}
 use Rattle.std.proofs.lemmas.Result.{IfOk-weaker}
-use Rattle.lalrpop_base.specs.Words.{Bits, Dotted}
+use Rattle.lalrpop_base.specs.Words.{Bits, Dotted, readings}
+use Rattle.lalrpop_base.proofs.theory.closures.Readings.{readings_differ}
+use Rattle.lalrpop_base.proofs.theory.lists.Members.{contains_map}
 use Rattle.lalrpop_base.specs.declared.lookahead.nil.Nil.{Nil}
 use Rattle.lalrpop_tables.proofs.theory.grammars.Numbers.{finished}
 use Rattle.lalrpop_base.proofs.theory.lists.Places.{slice_get_at}
-use Rattle.lalrpop_tables.proofs.theory.closures.SharedItems.{read_item, rest_known, Finished-shares, Terminal-shares, Restless-shares, rest_is, Barren-shares, Given-shares}
+use Rattle.lalrpop_tables.proofs.theory.closures.SharedItems.{read_item, rest_known, Finished-shares, Terminal-shares, Restless-shares, rest_is, Barren-shares, Given-shares, queued_again}
 use Rattle.lalrpop_tables.proofs.construction.closure.share.Goals as goal
 
 pub returns-in_default : goal.returns-in_default
@@ -30,6 +32,17 @@ returns-in_default-next g c =
     let e = read_item c.args.numbers.now.items.items c.args.number c.index-3.result.now c.requires.known c.index-3.ensures in
     Terminal-shares _ _ _ _ c.requires.numbers c.args.number _ c.in-Some-shift_symbol.next.now (subst (λ (i : Dotted Nil). slice_get i.production.symbols i.index ≡ Some c.in-Some-shift_symbol.next.now) e c.in-Some-shift_symbol.ensures.next) (λ name is. let no = c.in_default-next.is in cc) _ _
 
+pub is_shared-requires : goal.is_shared-requires
+is_shared-requires g c =
+    let e = read_item c.args.numbers.now.items.items c.args.number c.index-3.result.now c.requires.known c.index-3.ensures in
+    let is = subst (λ (i : Dotted Nil). c.in-Some-shift_symbol.remainder.now ≡ drop (i.index + 1) i.production.symbols) e c.in-Some-shift_symbol.ensures.rest in
+    let counted = c.requires.numbers.rests.counted in
+    let at = slice_get_at c.args.numbers.now.rests.items c.args.number c.index-2.result.now (omega (arith, c.requires.known)) c.index-2.ensures in
+    record {
+      known = rest_known c.grammar-grammar.result.now c.args.lr.now.construction.rules c.args.numbers.now c.requires.numbers c.grammar-grammar.ensures.rules c.grammar-grammar.ensures.well_formed c.args.number c.requires.known c.in-Some-shift_symbol.remainder.now is;
+      rest = rest_is g.L.LookaheadBuild.begins g.L.LookaheadBuild.passes c.args.lr.now.construction.rules c.args.numbers.now c.requires.numbers c.args.number (g.L.Lookahead.meaning c.args.tokens.now) c.requires.known c.in-Some-index.rest (at ∙ ap Some c.in-Some-index.is) c.in-Some-shift_symbol.remainder.now is;
+    }
+
 pub given-requires : goal.given-requires
 given-requires g c =
     let e = read_item c.args.numbers.now.items.items c.args.number c.index-3.result.now c.requires.known c.index-3.ensures in
@@ -40,6 +53,19 @@ given-requires g c =
       known = rest_known c.grammar-grammar.result.now c.args.lr.now.construction.rules c.args.numbers.now c.requires.numbers c.grammar-grammar.ensures.rules c.grammar-grammar.ensures.well_formed c.args.number c.requires.known c.in-Some-shift_symbol.remainder.now is;
       rest = rest_is g.L.LookaheadBuild.begins g.L.LookaheadBuild.passes c.args.lr.now.construction.rules c.args.numbers.now c.requires.numbers c.args.number (g.L.Lookahead.meaning c.args.tokens.now) c.requires.known c.in-Some-index.rest (at ∙ ap Some c.in-Some-index.is) c.in-Some-shift_symbol.remainder.now is;
     }
+
+pub returns-then-is_shared : goal.returns-then-is_shared
+returns-then-is_shared g c =
+    let counted = c.requires.numbers.counted in
+    let at = slice_get_at c.args.numbers.now.behind.items c.args.number c.index.result.now (omega (arith, c.requires.known)) c.index.ensures in
+    let e = read_item c.args.numbers.now.items.items c.args.number c.index-3.result.now c.requires.known c.index-3.ensures in
+    let next = subst (λ (i : Dotted Nil). slice_get i.production.symbols i.index ≡ Some c.in-Some-shift_symbol.next.now) e c.in-Some-shift_symbol.ensures.next in
+    let is = subst (λ (i : Dotted Nil). c.in-Some-shift_symbol.remainder.now ≡ drop (i.index + 1) i.production.symbols) e c.in-Some-shift_symbol.ensures.rest in
+    let had = c.if-is_shared.ensures.has refl in
+    let m = g.L.Lookahead.meaning in
+    let read : ℕ × g.row.L.Denot → ℕ × Bits = λ e. (e.0, m e.1) in
+    Given-shares _ _ _ _ c.requires.numbers c.args.number _ c.in-Some.symbol c.in-Nonterminal.name c.in-Some-shift_symbol.remainder.now c.requires.known (at ∙ ap Some c.in-Some.is) (next ∙ ap Some c.in-Nonterminal.is) is m c.args.tokens.now had.2.given refl had.2.is _ _ _ _
+    (queued_again c.in-Some.symbol (m had.2.given) (m had.0) (readings m c.args.shared.now) c.args.queue.now.items (contains_map read c.args.shared.now (c.in-Some.symbol, had.0) had.1) had.2.same (readings_differ m c.args.shared.now c.if-is_shared.ensures.differ))
 
 pub returns-in_default-2 : goal.returns-in_default-2
 returns-in_default-2 g c =

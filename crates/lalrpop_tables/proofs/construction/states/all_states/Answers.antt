@@ -10,8 +10,8 @@ use Rattle.lalrpop_tables.proofs.theory.states.NumberedBuilding.{Building-begun,
 use Rattle.lalrpop_base.proofs.theory.lists.Places.{contains_at}
 use Rattle.lalrpop_tables.proofs.construction.states.all_states.Goals as goal
 
-pub loop-kernel-init : goal.loop-kernel-init
-loop-kernel-init g c =
+pub loop-states-init : goal.loop-states-init
+loop-states-init g c =
     let first : List (Dotted g.row.L.Denot) = map (begun c.args.lr.now.construction.lookahead) c.args.lr.now.construction.first in
     let says = c.in_ok-kernels.ensures in
     record {
@@ -20,30 +20,38 @@ loop-kernel-init g c =
     }
 
 pub build_state-requires-clause-known : goal.build_state-requires-clause-known
-build_state-requires-clause-known g c = c.loop-kernel.invariant.known c.in-Some.kernel (contains_at c.loop-kernel.kernels.list c.in-Some.kernel c.loop-kernel.kernels.handed c.in-Some.ensures.next)
+build_state-requires-clause-known g c =
+    let next = rw c.in-Some.is at c.in_ok-kernel.ensures.next in
+    c.loop-states.invariant.known c.in-Some.kernel (contains_at c.loop-states.kernels.list c.in-Some.kernel c.loop-states.kernels.handed next)
 
 pub build_state-requires-clause-kernels : goal.build_state-requires-clause-kernels
 build_state-requires-clause-kernels g c =
-    subst (AreAllNumbered c.numbers-numbers.result.now.items.items) (sym (ap (λ s. s.list) c.in-Some.ensures.some)) c.loop-kernel.invariant.known
+    let some = rw c.in-Some.is at c.in_ok-kernel.ensures.some in
+    subst (AreAllNumbered c.numbers-numbers.result.now.items.items) (sym (ap (λ s. s.list) some)) c.loop-states.invariant.known
 
 pub build_state-requires-clause-kernel : goal.build_state-requires-clause-kernel
 build_state-requires-clause-kernel g c =
+    let next = rw c.in-Some.is at c.in_ok-kernel.ensures.next in
     let items = c.numbers-numbers.result.now.items.items in
-    c.loop-kernel.invariant.building.of (items_by items c.in-Some.kernel) (contains_map (items_by items) c.loop-kernel.kernels.list c.in-Some.kernel (contains_at c.loop-kernel.kernels.list c.in-Some.kernel c.loop-kernel.kernels.handed c.in-Some.ensures.next))
+    c.loop-states.invariant.building.of (items_by items c.in-Some.kernel) (contains_map (items_by items) c.loop-states.kernels.list c.in-Some.kernel (contains_at c.loop-states.kernels.list c.in-Some.kernel c.loop-states.kernels.handed next))
 
-pub loop-kernel-smaller : goal.loop-kernel-smaller
-loop-kernel-smaller g c =
-    Fewer-left _ _ _ _ c.numbers-numbers.result.now.items.items c.loop-kernel.kernels c.next.new.self c.build_state.new.kernels c.loop-kernel.states.items c.in-Some.kernel c.loop-kernel.invariant.building c.in-Some.ensures.next c.in-Some.ensures.some c.in_ok-state.ensures.extends g.met.L.Lookahead.same_by_meaning
+pub loop-states-smaller : goal.loop-states-smaller
+loop-states-smaller g c =
+    let next = rw c.in-Some.is at c.in_ok-kernel.ensures.next in
+    let some = rw c.in-Some.is at c.in_ok-kernel.ensures.some in
+    Fewer-left _ _ _ _ c.numbers-numbers.result.now.items.items c.loop-states.kernels c.next.new.self c.build_state.new.kernels c.loop-states.states.items c.in-Some.kernel c.loop-states.invariant.building next some c.in_ok-state.ensures.extends g.met.L.Lookahead.same_by_meaning
 
-pub loop-kernel-preserved : goal.loop-kernel-preserved
-loop-kernel-preserved g c =
+pub loop-states-preserved : goal.loop-states-preserved
+loop-states-preserved g c =
+    let next = rw c.in-Some.is at c.in_ok-kernel.ensures.next in
+    let some = rw c.in-Some.is at c.in_ok-kernel.ensures.some in
     let items = c.numbers-numbers.result.now.items.items in
-    let built = rw (c.len-number.ensures, c.loop-kernel.states.ok.0) at c.in_ok-state.ensures.built in
-    let building = Building-grown _ _ _ _ items c.loop-kernel.kernels c.next.new.self c.build_state.new.kernels c.loop-kernel.states.items c.in-Some.kernel c.loop-kernel.invariant.building c.in-Some.ensures.next c.in-Some.ensures.some c.in_ok-state.ensures.extends c.in_ok-state.state built c.in_ok-state.ensures.led in
+    let built = rw (c.len-number.ensures, c.loop-states.states.ok.0) at c.in_ok-state.ensures.built in
+    let building = Building-grown _ _ _ _ items c.loop-states.kernels c.next.new.self c.build_state.new.kernels c.loop-states.states.items c.in-Some.kernel c.loop-states.invariant.building next some c.in_ok-state.ensures.extends c.in_ok-state.state built c.in_ok-state.ensures.led in
     record { building = rw c.in_ok-push.ensures.items building; known = c.in_ok-state.ensures.known }
 
 pub returns : goal.returns
 returns g c =
     let items = c.numbers-numbers.result.now.items.items in
-    let all = c.in_default.ensures.all ∙ sym (length-map c.loop-kernel.kernels.list (items_by items)) in
-    States-of g.L.Lookahead.meaning g.L.LookaheadBuild.begins g.L.LookaheadBuild.passes g.L.Lookahead.lists_conflicts c.args.lr.now.construction c.loop-kernel.states.items (Building-all _ _ _ _ (kernels_by items c.loop-kernel.kernels) c.loop-kernel.states.items c.loop-kernel.invariant.building all)
+    let all = (rw c.in_default.is at c.in_ok-kernel.ensures.all) ∙ sym (length-map c.loop-states.kernels.list (items_by items)) in
+    States-of g.L.Lookahead.meaning g.L.LookaheadBuild.begins g.L.LookaheadBuild.passes g.L.Lookahead.lists_conflicts c.args.lr.now.construction c.loop-states.states.items (Building-all _ _ _ _ (kernels_by items c.loop-states.kernels) c.loop-states.states.items c.loop-states.invariant.building all)

@@ -28,7 +28,9 @@ returns-clause-built g c =
     let closed = subst (λ (is : List (Dotted g.row.L.Denot)). C kernel is) (sym c.in_ok-items.ensures) (rw c.as_slice.ensures at c.in_ok-list.ensures.closed) in
     let n = c.args.numbers.now in
     let rising : NumberedGroups g.row.L.Denot = c.take_rising-moves.result.items in
-    let held : AreMoves (items_by n.items.items c.in_ok-list.list.items) (groups_by n rising) = moves_permuted n c.moves_of.new.moves rising c.take_rising-moves.ensures.same c.args.lr.now.construction.rules c.requires.numbers (items_by n.items.items c.in_ok-list.list.items) c.in_ok-moves_of.ensures.known (rising_differ rising c.take_rising-moves.ensures.rising) (rw c.deref.ensures.value at c.in_ok-moves_of.ensures.moves) in
+    let held : AreMoves (items_by n.items.items c.in_ok-list.list.items) (groups_by n rising) =
+        moves_permuted n c.moves_of.new.moves rising c.take_rising-moves.ensures.same c.args.lr.now.construction.rules c.requires.numbers (items_by n.items.items c.in_ok-list.list.items) c.in_ok-moves_of.ensures.known
+        (rising_differ rising c.take_rising-moves.ensures.rising) (rw c.deref.ensures.value at c.in_ok-moves_of.ensures.moves) in
     let moves = subst (λ (is : List (Dotted g.row.L.Denot)). AreMoves is (groups_by n rising)) (sym c.in_ok-items.ensures) held in
     Built-made C kernel c.in_ok-items.items.items (groups_by n rising) _ c.in_ok-shifts.field-0 c.args.number _ refl refl refl refl (rw c.deref-2.ensures.value at c.in_ok-reductions.ensures) closed moves c.in_ok-shifts.ensures.edges
 
@@ -40,7 +42,9 @@ returns-clause-extends g c =
     let closed = subst (λ (is : List (Dotted g.row.L.Denot)). C kernel is) (sym c.in_ok-items.ensures) (rw c.as_slice.ensures at c.in_ok-list.ensures.closed) in
     let n = c.args.numbers.now in
     let rising : NumberedGroups g.row.L.Denot = c.take_rising-moves.result.items in
-    let held : AreMoves (items_by n.items.items c.in_ok-list.list.items) (groups_by n rising) = moves_permuted n c.moves_of.new.moves rising c.take_rising-moves.ensures.same c.args.lr.now.construction.rules c.requires.numbers (items_by n.items.items c.in_ok-list.list.items) c.in_ok-moves_of.ensures.known (rising_differ rising c.take_rising-moves.ensures.rising) (rw c.deref.ensures.value at c.in_ok-moves_of.ensures.moves) in
+    let held : AreMoves (items_by n.items.items c.in_ok-list.list.items) (groups_by n rising) =
+        moves_permuted n c.moves_of.new.moves rising c.take_rising-moves.ensures.same c.args.lr.now.construction.rules c.requires.numbers (items_by n.items.items c.in_ok-list.list.items) c.in_ok-moves_of.ensures.known
+        (rising_differ rising c.take_rising-moves.ensures.rising) (rw c.deref.ensures.value at c.in_ok-moves_of.ensures.moves) in
     let moves = subst (λ (is : List (Dotted g.row.L.Denot)). AreMoves is (groups_by n rising)) (sym c.in_ok-items.ensures) held in
     Reached-extends g.L.Lookahead.meaning c.args.lr.now.construction.rules c.in_ok-items.items.items (groups_by n rising) _ _ closed.are_items moves c.in_ok-shifts.ensures.reached
 
@@ -48,6 +52,8 @@ pub returns-clause-led : goal.returns-clause-led
 returns-clause-led g c =
     let n = c.args.numbers.now in
     let rising : NumberedGroups g.row.L.Denot = c.take_rising-moves.result.items in
-    let held : AreMoves (items_by n.items.items c.in_ok-list.list.items) (groups_by n rising) = moves_permuted n c.moves_of.new.moves rising c.take_rising-moves.ensures.same c.args.lr.now.construction.rules c.requires.numbers (items_by n.items.items c.in_ok-list.list.items) c.in_ok-moves_of.ensures.known (rising_differ rising c.take_rising-moves.ensures.rising) (rw c.deref.ensures.value at c.in_ok-moves_of.ensures.moves) in
+    let held : AreMoves (items_by n.items.items c.in_ok-list.list.items) (groups_by n rising) =
+        moves_permuted n c.moves_of.new.moves rising c.take_rising-moves.ensures.same c.args.lr.now.construction.rules c.requires.numbers (items_by n.items.items c.in_ok-list.list.items) c.in_ok-moves_of.ensures.known
+        (rising_differ rising c.take_rising-moves.ensures.rising) (rw c.deref.ensures.value at c.in_ok-moves_of.ensures.moves) in
     let moves = subst (λ (is : List (Dotted g.row.L.Denot)). AreMoves is (groups_by n rising)) (sym c.in_ok-items.ensures) held in
     Reached-led c.in_ok-items.items.items (groups_by n rising) _ _ c.in_ok-shifts.field-0 _ refl refl moves c.in_ok-shifts.ensures.edges c.in_ok-shifts.ensures.reached

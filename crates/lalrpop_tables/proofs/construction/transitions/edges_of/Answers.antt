@@ -2,7 +2,6 @@ use Rattle.std.proofs.Common.{◌≡◌, ◌∙◌, ◌<◌, ◌++◌, ◌∷◌
 use Rattle.std.specs.Prelude.{slice_get}
 use Rattle.std.proofs.lemmas.List.{map-append, nil_from_length}
 use Rattle.lalrpop_base.specs.Words.{AddsOnce, Dotted}
-use Rattle.lalrpop_base.specs.declared.lr1_core.state.StateIndex.{StateIndex}
 use Rattle.lalrpop_base.specs.declared.repr.Symbol.{Symbol}
 use Rattle.lalrpop_tables.specs.Words.{Groups, IsEdgeAdded}
 use Rattle.lalrpop_tables.specs.grammars.Numbers.{NumberedGroups, groups_by, items_by, kernels_by, symbol_at}
@@ -44,14 +43,16 @@ loop-symbol-preserved g c =
     let decoded : (groups_by n first ++ (x, kernel) ∷ []) ++ groups_by n c.next.new.self.rest.items ≡ groups_by n groups = split_by n groups first c.next.new.self.rest.items group split in
     let state = c.in_ok-target.ensures in
     let kernels : List (List (Numbered g.row.L.Denot)) = c.add_state.new.self.list in
-    let numbered : slice_get kernels c.in_ok-target.target.0 ≡ Some c.in-Some.items = ap (λ (t : StateIndex). slice_get kernels t.0) state.numbered.1 ∙ state.numbered.2 ∙ ap Some c.new-in-loop-symbol.ensures in
-    let either = added_or_not (decided_list (decided_numbered (decided g.L.PartialEq.eq g.met.L.Lookahead.equal_is_same (λ x. g.met.L.Eq.laws.refl x)))) c.loop-symbol.kernels.list kernels c.in-Some.items (subst (AddsOnce c.loop-symbol.kernels.list kernels) c.new-in-loop-symbol.ensures state.added) in
+    let numbered : slice_get kernels c.in_ok-target.target.0 ≡ Some c.in-Some.items = state.numbered ∙ ap Some c.new-in-loop-symbol.ensures in
+    let either =
+        added_or_not (decided_list (decided_numbered (decided g.L.PartialEq.eq g.met.L.Lookahead.equal_is_same (λ x. g.met.L.Eq.laws.refl x)))) c.loop-symbol.kernels.list kernels c.in-Some.items (subst (AddsOnce c.loop-symbol.kernels.list kernels) c.new-in-loop-symbol.ensures state.added) in
     let all = all_known items c.loop-symbol.kernels.list kernels c.in-Some.items c.loop-symbol.invariant.known known.1 either in
     let at = slice_get_at n.symbols.items c.in-Some.symbol c.index.result.now known.0 c.index.ensures in
     let symbol : c.in_ok-clone.field-0 ≡ x = c.in_ok-clone.ensures ∙ sym (symbol_is n.symbols.items c.in-Some.symbol c.index.result.now at) in
     record {
       edges = subst (λ (first : Groups g.row.L.Denot). AreSomeEdges (groups_by n groups) first (kernels_by items c.args.kernels.now) (kernels_by items c.add_state.new.self) c.add_edge.new.edges) (sym (map-append (group_by n) first (group ∷ [])))
-          (Edges-more (groups_by n groups) x kernel (contains_map (group_by n) groups group among) (groups_by n first) (kernels_by items c.args.kernels.now) (kernels_by items c.loop-symbol.kernels) (kernels_by items c.add_state.new.self) c.loop-symbol.edges c.add_edge.new.edges c.in_ok-target.target.0 c.loop-symbol.invariant.edges
+          (Edges-more (groups_by n groups) x kernel (contains_map (group_by n) groups group among) (groups_by n first) (kernels_by items c.args.kernels.now)
+          (kernels_by items c.loop-symbol.kernels) (kernels_by items c.add_state.new.self) c.loop-symbol.edges c.add_edge.new.edges c.in_ok-target.target.0 c.loop-symbol.invariant.edges
           (groups_differ (groups_by n groups) (groups_by n first) (groups_by n c.next.new.self.rest.items) (x, kernel) decoded differ) (numbered_by items kernels c.in_ok-target.target.0 c.in-Some.items numbered) (either_by items c.loop-symbol.kernels.list kernels c.in-Some.items either) state.handed
           (differ_by items c.requires.numbers.1.items.ascend kernels all state.differ) (subst (λ (y : Symbol). IsEdgeAdded y c.in_ok-target.target c.loop-symbol.edges c.add_edge.new.edges) symbol c.in_ok-add_edge.ensures));
       known = all;
