@@ -10,5 +10,6 @@ pub mod Multimaps
 pub mod Partitions
 pub mod Places
 pub mod Queues
+pub mod SparseMaps
 pub mod Spreading
 pub mod Ties

@@ -12,7 +12,6 @@ pub mod lane_tables
 pub mod lanes
 pub mod merges
 pub mod renumbering
-pub mod SparseMaps
 pub mod states
 pub mod Words
 pub use Rattle.lalrpop_base.specs.Words as BaseWords

@@ -13,3 +13,4 @@ pub(crate) mod results;
 mod states;
 pub mod tables_or_count;
 mod transitions;
+mod workspace;

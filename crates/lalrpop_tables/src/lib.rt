@@ -12,6 +12,5 @@ pub mod lr1;
 mod place;
 mod renumber;
 mod sets;
-mod sparse_map;
 pub mod state_graph;
 mod tokens;

@@ -17,5 +17,6 @@ pub mod RisingLemmas
 pub mod RisingOrder
 pub mod SetLemmas
 pub mod SortedPlaces
+pub mod SparseMaps
 pub mod Spreading
 pub mod Updates

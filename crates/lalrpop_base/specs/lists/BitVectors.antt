@@ -1,7 +1,8 @@
 -- Bit vectors, the representation of sets of small numbers that Rust's crate `bit-set` has too: words of 64 bits, the first with the numbers below 64; number n is bit n % 64 of word n / 64.
-use Rattle.std.specs.Prelude.{◌≡◌, ◌≢◌, ℕ, zero, suc, ◌+◌, ◌-◌, ◌*◌, ◌/◌, ◌%◌, ◌^◌, ◌<◌, ◌≤◌, ◌==◌, Bool, true, false, List, [], ◌∷◌, length, slice_index, bit_or}
+use Rattle.std.specs.Prelude.{◌≡◌, ◌≢◌, ℕ, zero, suc, ◌+◌, ◌-◌, ◌*◌, ◌/◌, ◌%◌, ◌^◌, ◌<◌, ◌≤◌, ◌==◌, Bool, true, false, List, [], ◌∷◌, length, slice_index, bit_or, bit_xor}
 use Rattle.std.specs.Int.{bit_at}
-use Rattle.std.specs.List.{filter}
+use Rattle.std.specs.Hash.FoldHasher.{folded_multiply}
+use Rattle.std.specs.List.{filter, fold}
 use Rattle.lalrpop_base.specs.lists.Bits.{Bits, bits_of}
 
 -- whether the number is in the bit vector: its bit is 1, and behind the last word all bits are 0
@@ -57,3 +58,11 @@ word_joined (suc place) word (w ∷ ws) = w ∷ word_joined place word ws
 abbrev pub words_of : List ℕ → List ℕ
 words_of [] = []
 words_of (n ∷ ns) = word_joined (n / 64) (2 ^ (n % 64)) (words_of ns)
+
+-- a word mixed into a state, as the kit's FoldHasher mixes a word, but that no length is joined to the multiplier
+abbrev pub mixed : ℕ → ℕ → ℕ
+mixed state word = folded_multiply (bit_xor state word) 0x9e37_79b9_7f4a_7c15
+
+-- the words mixed into one number, the first word first; it starts from a number that is not 0, so that a first word 0 counts
+unfoldable pub folded : List ℕ → ℕ
+folded words = fold mixed 0x243f_6a88_85a3_08d3 words

@@ -8,11 +8,11 @@ ghost use Rattle.std.specs.Hash as fed;
 ghost use Rattle.std.proofs.Common.{rules};
 ghost use lib.Pointwise.{pointwise};
 ghost use Rattle.lalrpop_base.specs.lists.Bits.{no_bits, has, rising, with_bit, join, bits_exact};
-ghost use Rattle.lalrpop_base.specs.lists.BitVectors.{IsBitVector, bits_of_words, words_of};
+ghost use Rattle.lalrpop_base.specs.lists.BitVectors.{IsBitVector, bits_of_words, folded, words_of};
 
 use super::bit_iter::BitIter;
 use super::word_changes::{join_words, meet_words, pad, put, take, trim, words_below};
-use super::words::{are_within, compare, has_greater, has_number, share_number};
+use super::words::{are_within, compare, fold_words, has_greater, has_number, share_number};
 use crate::exact::Exact;
 use crate::memory::OutOfMemory;
 use std::alloc::Global;
@@ -252,12 +252,12 @@ impl PartialOrd for TokenSet {
 }
 
 impl Hash for TokenSet {
-    ghost hash_input = { λ s. fed.slice fed.u64 (words_of (rising s)) };
+    ghost hash_input = { λ s. fed.u64 (folded (words_of (rising s))) };
 
     ghost respects_eq = { Prim.search (hashing, rules) };
 
     fn hash<H: Hasher>(&self, state: &mut H) {
-        self.words().hash(state);
+        fold_words(self.words()).hash(state);
     }
 }
 

@@ -1,11 +1,14 @@
 //! Bit vectors, as they are read: number n is bit n % 64 of word n / 64, and behind the last word
 //! all bits are 0.
 ghost use Rattle.std.specs.Prelude.{◌≡◌, ◌+◌, ◌*◌, ◌/◌, ◌^◌, ◌<◌, ◌≤◌, ℕ, List, length, slice_index, true, false, IsTrue, IsFalse, IfSome, IsNone};
-ghost use Rattle.lalrpop_base.specs.lists.BitVectors.{has_bit, members_from, IsBitVector, IsLeastFrom, IsLeastApart};
+ghost use Rattle.lalrpop_base.specs.lists.BitVectors.{has_bit, members_from, folded, IsBitVector, IsLeastFrom, IsLeastApart};
+ghost use Rattle.std.specs.Hash.FoldHasher.{folded_multiply};
 ghost use Rattle.std.specs.Ordering.{nat_cmp};
 ghost use Rattle.std.specs.Cmp.Lexicographic.{slice_cmp};
 
 use std::cmp::Ordering;
+
+const MULTIPLIER: u64 = 0x9e37_79b9_7f4a_7c15;
 
 // The word at a place, or 0 behind the last.
 fn word_at(words: &[u64], place: usize) -> u64
@@ -153,4 +156,23 @@ pub(crate) fn are_within(left: &[u64], right: &[u64]) -> bool
         }
     }
     true
+}
+
+// The two halves of a product of 128 bits, joined by xor.
+fn folded_multiply(a: u64, b: u64) -> u64
+    ensures { result ≡ folded_multiply a b }
+{
+    let product = a as u128 * b as u128;
+    (product & 0xFFFF_FFFF_FFFF_FFFF) as u64 ^ (product >> 64) as u64
+}
+
+/// The words folded into one, in their order.
+pub(crate) fn fold_words(words: &[u64]) -> u64
+    ensures { result ≡ folded words.now }
+{
+    let mut state = 0x243f_6a88_85a3_08d3;
+    for &word in words {
+        state = folded_multiply(state ^ word, MULTIPLIER);
+    }
+    state
 }

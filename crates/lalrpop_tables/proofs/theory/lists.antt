@@ -1,3 +1,2 @@
 -- Lists, sets and the entries of maps.
 pub mod SomeOf
-pub mod SparseMaps

@@ -1,15 +1,17 @@
 -- The transitions and reductions of a state with given items.
 use Rattle.std.specs.Prelude.{◌≡◌, ◌≢◌, ◌+◌, ◌⊎◌, ◌==◌, cond, List, [], ◌∷◌, ◌++◌, length, slice_get, Some, Contains}
 use Rattle.std.specs.Borrow.{Bor}
-use Rattle.std.specs.BTreeMap.{IsOrdered}
+use Rattle.std.specs.BTreeMap.{IsFromIterResult, IsOrdered}
 use Rattle.std.specs.Map.{keys_of}
 use Rattle.lalrpop_base.specs.Words.{Dotted, AllDiffer, Kernels}
 use Rattle.lalrpop_base.specs.declared.lr1_core.state.StateIndex.{StateIndex}
 use Rattle.lalrpop_base.specs.declared.repr.Production.{Production}
 use Rattle.lalrpop_base.specs.declared.repr.Symbol.{Symbol}
 use Rattle.lalrpop_base.specs.declared.repr.Symbol.TheVariants.{Nonterminal, Terminal}
+use Rattle.lalrpop_base.specs.contracts.repr.NonterminalStringOrd.TheImpl as name_ord
 use Rattle.lalrpop_base.specs.contracts.repr.TerminalStringOrd.TheImpl as terminal_ord
 use Rattle.lalrpop_base.specs.lists.Entries.{IsPushedAt}
+use Rattle.lalrpop_tables.specs.declared.construction.transitions.EdgeLists.{EdgeLists}
 use Rattle.lalrpop_tables.specs.declared.construction.transitions.Edges.{Edges}
 
 -- x stands behind the item's dot
@@ -61,12 +63,20 @@ HasEdge (Terminal t) target edges = Contains edges.shifts.entries (t, target)
 abbrev pub ShiftsAscend : Edges → Type 0
 ShiftsAscend edges = IsOrdered terminal_ord.ghosts.cmp edges.shifts
 
--- an edge more, in the place of one with the same symbol if there was one
-pub record IsEdgeAdded (x : Symbol) (target : StateIndex) (old new : Edges) : Type 0 where
-  pub there : HasEdge x target new
-  pub kept : (y : Symbol) (n : StateIndex) → y ≢ x → HasEdge y n old → HasEdge y n new
-  pub from : (y : Symbol) (n : StateIndex) → HasEdge y n new → HasEdge y n old ⊎ ((y ≡ x) × (n ≡ target))
-  pub ascend : ShiftsAscend old → ShiftsAscend new
+-- the lists have an edge of the symbol, with its target
+abbrev pub IsListed : EdgeLists → Symbol → StateIndex → Type 0
+IsListed lists (Nonterminal a) target = Contains lists.gotos.items (a, target)
+IsListed lists (Terminal t) target = Contains lists.shifts.items (t, target)
+
+-- an edge more, behind the others of its kind
+abbrev pub IsEdgeAdded : Symbol → StateIndex → EdgeLists → EdgeLists → Type 0
+IsEdgeAdded (Nonterminal a) target old new = (new.gotos.items ≡ old.gotos.items ++ (a, target) ∷ []) × (new.shifts.items ≡ old.shifts.items)
+IsEdgeAdded (Terminal t) target old new = (new.shifts.items ≡ old.shifts.items ++ (t, target) ∷ []) × (new.gotos.items ≡ old.gotos.items)
+
+-- the maps that the lists make
+pub record AreEdgesListed (lists : EdgeLists) (edges : Edges) : Type 0 where
+  pub shifts : IsFromIterResult terminal_ord.ghosts.cmp lists.shifts.items edges.shifts
+  pub gotos : IsFromIterResult name_ord.ghosts.cmp lists.gotos.items edges.gotos
 
 -- the symbol leads to the number of its kernel
 pub record LeadsTo {L : Type 0} (groups : Groups L) (list : List (List (Dotted L))) (x : Symbol) (target : StateIndex) : Type 0 where

@@ -15,7 +15,8 @@ use super::lr::Lr;
 use super::numbered::Numbered;
 use super::numbers::Numbers;
 use super::numbers::rests::Rest;
-use crate::sparse_map::SparseMap;
+use super::workspace::Workspace;
+use lalrpop_base::collections::sparse_map::SparseMap;
 use lalrpop_base::lookahead::Lookahead;
 use lalrpop_base::memory::OutOfMemory;
 use lalrpop_base::repr::Symbol;
@@ -266,14 +267,6 @@ fn items_of<L: Lookahead>(
     Ok(items)
 }
 
-/// What a closure is gathered in: the tokens of nonterminals, and those of items. It may be used
-/// for one closure after the other.
-#[derive(Drop)]
-pub struct Gathered<L: Lookahead> {
-    pub shared: SparseMap<L>,
-    pub items: SparseMap<L>,
-}
-
 /// The items to which a kernel leads without a symbol, with the tokens that may follow them,
 /// ascending.
 pub fn closure<'grammar, L: LookaheadBuild>(
@@ -281,7 +274,7 @@ pub fn closure<'grammar, L: LookaheadBuild>(
     lr: &Lr<'grammar, L>,
     numbers: &Numbers<'grammar>,
     kernel: &[Numbered<L>],
-    gathered: &mut Gathered<L>,
+    work: &mut Workspace<L>,
 ) -> Result<Vec<Numbered<L>>, OutOfMemory>
     requires numbers { AreNumbers lr.now.construction.rules numbers.now }
     requires known { AreNumbered numbers.now.items.items kernel.now }
@@ -292,9 +285,9 @@ pub fn closure<'grammar, L: LookaheadBuild>(
         lr.now.construction.rules (items_by numbers.now.items.items kernel.now)
         (items_by numbers.now.items.items items.items)) }
 {
-    share_all(alloc, lr, numbers, kernel, &mut gathered.shared)?;
-    gathered.items.clear();
-    gather_kernel(alloc, kernel, &mut gathered.items)?;
-    gather_shared(alloc, numbers, &gathered.shared, &mut gathered.items)?;
-    items_of(alloc, gathered.items.take_rising(alloc))
+    share_all(alloc, lr, numbers, kernel, &mut work.shared)?;
+    work.items.clear();
+    gather_kernel(alloc, kernel, &mut work.items)?;
+    gather_shared(alloc, numbers, &work.shared, &mut work.items)?;
+    items_of(alloc, work.items.take_rising(alloc))
 }

@@ -6,15 +6,15 @@ ghost use Rattle.lalrpop_tables.specs.grammars.Numbers.{AreAllNumbered, AreNumbe
 ghost use Rattle.lalrpop_tables.specs.answers.Results.{AreStatesFor};
 ghost use Rattle.lalrpop_tables.specs.states.States.{IsBuiltBy, Extends, LeadsToAdded, begun};
 
-use super::closure::{Gathered, closure};
+use super::closure::closure;
 use super::lookahead_build::LookaheadBuild;
 use super::lr::Lr;
 use super::numbered::{Numbered, NumberedKernel, NumberedKernels};
 use super::numbers::Numbers;
 use super::reductions::reductions;
 use super::results::push_conflicts;
-use super::transitions::{Edges, Moves, edges_of, moves_of};
-use crate::sparse_map::SparseMap;
+use super::transitions::{Edges, edges_of, moves_of};
+use super::workspace::Workspace;
 use lalrpop_base::lookahead::Lookahead;
 use lalrpop_base::lr1_core::item::Item;
 use lalrpop_base::lr1_core::state::{Conflict, Items, State, StateIndex};
@@ -23,25 +23,6 @@ use std::alloc::Global;
 
 /// States, and their conflicts.
 pub type States<'grammar, L> = (Vec<State<'grammar, L>>, Vec<Conflict<'grammar, L>>);
-
-// What one state after the other is gathered in.
-#[derive(Drop)]
-struct Workspace<L: Lookahead> {
-    gathered: Gathered<L>,
-    moves: Moves<L>,
-}
-
-impl<L: Lookahead> Workspace<L> {
-    fn new(alloc: Global) -> Self {
-        Workspace {
-            gathered: Gathered {
-                shared: SparseMap::new(alloc),
-                items: SparseMap::new(alloc),
-            },
-            moves: SparseMap::new(alloc),
-        }
-    }
-}
 
 // Items by number as items.
 fn items_of<'grammar, L: Lookahead>(
@@ -87,7 +68,7 @@ fn build_state<'grammar, L: LookaheadBuild>(
         (LeadsToAdded (kernels_by numbers.now.items.items kernels.old)
         (kernels_by numbers.now.items.items kernels.new)) }
 {
-    let list = closure(alloc, lr, numbers, kernel.as_slice(), &mut work.gathered)?;
+    let list = closure(alloc, lr, numbers, kernel.as_slice(), work)?;
     moves_of(alloc, numbers, &list, &mut work.moves)?;
     let moves = work.moves.take_rising(alloc);
     let Edges { shifts, gotos } = edges_of(alloc, numbers, moves, kernels)?;

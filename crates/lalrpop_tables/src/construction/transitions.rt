@@ -1,13 +1,12 @@
 //! The transitions of a state.
 ghost use Rattle.std.specs.Prelude.{◌<◌, IfOk, OnOk, length, Some};
-ghost use Rattle.std.specs.Map.{keys_of};
-ghost use Rattle.lalrpop_base.specs.Words.{AllDiffer, Rules};
+ghost use Rattle.lalrpop_base.specs.Words.{Rules};
 ghost use Rattle.lalrpop_tables.specs.grammars.Numbers.{AreAllNumbered, AreGroupsOf, AreNumbered, AreNumbers, groups_by, item_by, items_by, kernels_by};
-ghost use Rattle.lalrpop_tables.specs.states.Transitions.{AreMoves, IsMoveAdded, IsEdgeAdded, AreEdges, IsReached};
+ghost use Rattle.lalrpop_tables.specs.states.Transitions.{AreEdges, AreEdgesListed, AreMoves, IsEdgeAdded, IsMoveAdded, IsReached};
 
 use super::numbered::{Numbered, NumberedKernel, NumberedKernels};
 use super::numbers::Numbers;
-use crate::sparse_map::SparseMap;
+use lalrpop_base::collections::sparse_map::SparseMap;
 use lalrpop_base::lookahead::Lookahead;
 use lalrpop_base::lr1_core::state::StateIndex;
 use lalrpop_base::memory::OutOfMemory;
@@ -71,22 +70,40 @@ pub fn moves_of<'grammar, L: Lookahead>(
     Ok(())
 }
 
-// Adds a transition.
-fn add_edge(symbol: Symbol, target: StateIndex, edges: &mut Edges) -> Result<(), OutOfMemory>
-    ensures { OnOk result (IsEdgeAdded symbol target edges.old edges.new) }
+// Transitions, as they come.
+#[derive(Drop)]
+struct EdgeLists {
+    shifts: Vec<(TerminalString, StateIndex)>,
+    gotos: Vec<(NonterminalString, StateIndex)>,
+}
+
+// Puts a transition behind the others of its kind.
+fn add_edge(symbol: Symbol, target: StateIndex, lists: &mut EdgeLists) -> Result<(), OutOfMemory>
+    ensures { OnOk result (IsEdgeAdded symbol target lists.old lists.new) }
 {
     match symbol {
         Symbol::Nonterminal(name) => {
-            edges.gotos.insert(name, target)?;
+            lists.gotos.push((name, target))?;
         }
         Symbol::Terminal(terminal) => {
-            edges.shifts.insert(terminal, target)?;
+            lists.shifts.push((terminal, target))?;
         }
     }
     Ok(())
 }
 
-/// A transition to the state of each kernel, in the order of the symbols.
+// The transitions as maps.
+fn edge_maps(alloc: Global, lists: EdgeLists) -> Result<Edges, OutOfMemory>
+    ensures { IfOk result (AreEdgesListed lists) }
+{
+    Ok(Edges {
+        shifts: BTreeMap::from_iter(alloc, lists.shifts)?,
+        gotos: BTreeMap::from_iter(alloc, lists.gotos)?,
+    })
+}
+
+/// A transition to the state of each kernel. New states are numbered in the order of the list; it is
+/// soonest done where its symbols rise.
 pub fn edges_of<'grammar, L: Lookahead>(
     alloc: Global,
     numbers: &Numbers<'grammar>,
@@ -95,7 +112,6 @@ pub fn edges_of<'grammar, L: Lookahead>(
 ) -> Result<Edges, OutOfMemory>
     requires numbers { (g : Rules) × AreNumbers g numbers.now }
     requires known { AreGroupsOf numbers.now moves.items }
-    requires differ { AllDiffer (keys_of moves.items) }
     requires kernels { AreAllNumbered numbers.now.items.items kernels.old.list }
     ensures known { OnOk result (AreAllNumbered numbers.now.items.items kernels.new.list) }
     ensures edges { IfOk result (λ edges. AreEdges (groups_by numbers.now moves.items)
@@ -104,13 +120,13 @@ pub fn edges_of<'grammar, L: Lookahead>(
         (kernels_by numbers.now.items.items kernels.old)
         (kernels_by numbers.now.items.items kernels.new)) }
 {
-    let mut edges = Edges {
-        shifts: BTreeMap::new(alloc),
-        gotos: BTreeMap::new(alloc),
+    let mut lists = EdgeLists {
+        shifts: Vec::new(alloc),
+        gotos: Vec::new(alloc),
     };
     for (symbol, items) in moves {
         let target = kernels.add_state(NumberedKernel::new(items))?;
-        add_edge(numbers.symbols[symbol].clone(alloc)?, target, &mut edges)?;
+        add_edge(numbers.symbols[symbol].clone(alloc)?, target, &mut lists)?;
     }
-    Ok(edges)
+    edge_maps(alloc, lists)
 }

@@ -17,6 +17,11 @@ use Rattle.lalrpop_base.specs.lists.Entries.IsJoinedAt.{fresh as join_fresh, kno
 use Rattle.lalrpop_base.proofs.theory.lists.Members.{contains_map}
 use Rattle.lalrpop_base.proofs.theory.lists.Updates.{IsInserted, IsReplaced}
 
+-- what holds, where a call went well
+pub on_ok : {T E A : Type 0} (r : Result T E) → A → OnOk r A
+on_ok (Ok x) a = a
+on_ok (Err e) a = tt
+
 -- what holds of a call that went well and of its answer, together
 pub where_ok : {E A : Type 0} {B C : Bool → Type 0} (r : Result Bool E) → OnOk r A → IfOk r B → ((told : Bool) → A → B told → C told) → IfOk r C
 where_ok (Ok told) a b f = f told a b

@@ -101,42 +101,6 @@ exact_order E R exact ties x y h = exact x y (ties x y ∙ ap is_eq h)
 pub keys_differ : {K V : Type 0} (R : K → K → Ordering) → IsTotalOrder R → (es : List (K × V)) → IsStrictlySortedBy R (keys_of es) → AllDiffer (keys_of es)
 keys_differ R total es s = differ_from_apart (keys_of es) (apart-from_sorted R total (keys_of es) s)
 
--- ---- an entry goes into a map, in the place of one with its key if there was one
-module _ {K V : Type 0} (cmp : K → K → Ordering) (exact : CmpEqualImpliesEq cmp) (total : IsTotalOrder cmp) (es : List (K × V)) (sorted : IsStrictlySortedBy cmp (keys_of es)) (k : K) (v : V) where
-  put_at : (o : Option V) → lookup (is_at (cmp k)) es ≡ o → IsInserted k v es (insert_entry cmp es k v) ⊎ ((w : V) × IsReplaced k w v es (insert_entry cmp es k v))
-  put_at None e = inl (inserted cmp exact total k v es e)
-  put_at (Some w) e = inr (w, replaced cmp exact total k v w es sorted e)
-
-  put : IsInserted k v es (insert_entry cmp es k v) ⊎ ((w : V) × IsReplaced k w v es (insert_entry cmp es k v))
-  put = put_at (lookup (is_at (cmp k)) es) refl
-
-  pub put_there : Contains (insert_entry cmp es k v) (k, v)
-  put_there = elim put [
-    | inl i ↦ subst (λ (xs : List (K × V)). Contains xs (k, v)) (sym i.after) (at_midst i.front i.back (k, v))
-    | inr r ↦ subst (λ (xs : List (K × V)). Contains xs (k, v)) (sym r.1.after) (at_midst r.1.front r.1.back (k, v))
-  ]
-
-  pub put_kept : (e : K × V) → e.0 ≢ k → Contains es e → Contains (insert_entry cmp es k v) e
-  put_kept e other c = elim put [
-    | inl i ↦ subst (λ (xs : List (K × V)). Contains xs e) (sym i.after) (around i.front i.back (k, v) e (subst (λ (xs : List (K × V)). Contains xs e) i.before c))
-    | inr r ↦ elim (midst r.1.front r.1.back (k, r.0) e (subst (λ (xs : List (K × V)). Contains xs e) r.1.before c)) [
-      | inl same ↦ absurd (other (sym (ap (λ (x : K × V). x.0) same)))
-      | inr out ↦ subst (λ (xs : List (K × V)). Contains xs e) (sym r.1.after) (around r.1.front r.1.back (k, v) e out)
-    ]
-  ]
-
-  pub put_from : (e : K × V) → Contains (insert_entry cmp es k v) e → Contains es e ⊎ ((k, v) ≡ e)
-  put_from e c = elim put [
-    | inl i ↦ elim (midst i.front i.back (k, v) e (subst (λ (xs : List (K × V)). Contains xs e) i.after c)) [
-      | inl same ↦ inr same
-      | inr out ↦ inl (subst (λ (xs : List (K × V)). Contains xs e) (sym i.before) out)
-    ]
-    | inr r ↦ elim (midst r.1.front r.1.back (k, v) e (subst (λ (xs : List (K × V)). Contains xs e) r.1.after c)) [
-      | inl same ↦ inr same
-      | inr out ↦ inl (subst (λ (xs : List (K × V)). Contains xs e) (sym r.1.before) (around r.1.front r.1.back (k, r.0) e out))
-    ]
-  ]
-
 module _ {K V : Type 0} (k : K) (v : V) where
   pub pushed_fresh : (vs : List V) (old new : List (K × List V)) → vs ≡ v ∷ [] → IsInserted k vs old new → IsPushedAt k v old new
   pushed_fresh vs old new e i = push_fresh i.front i.back i.before (i.after ∙ ap (λ (xs : List V). i.front ++ (k, xs) ∷ i.back) e)

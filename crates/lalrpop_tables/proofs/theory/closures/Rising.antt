@@ -10,7 +10,7 @@ use Rattle.lalrpop_tables.specs.closures.Sharing.{numbered_of}
 use Rattle.lalrpop_tables.specs.declared.construction.numbered.Numbered.{Numbered}
 use Rattle.lalrpop_base.proofs.theory.closures.Readings.{readings_differ}
 use Rattle.lalrpop_base.proofs.theory.states.ContentsViews.{some_of_map}
-use Rattle.lalrpop_tables.proofs.theory.lists.SparseMaps.{rising_differ}
+use Rattle.lalrpop_base.proofs.theory.lists.SparseMaps.{rising_differ}
 
 -- a table gathers the same in another order
 Gathers-permutation : {K : Type 0} (list old new : List (K × Bits)) → IsPermutation old new → AllDiffer (keys_of new) → Gathers list old → Gathers list new

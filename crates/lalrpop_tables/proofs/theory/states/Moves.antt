@@ -1,5 +1,5 @@
 -- The kernels that items move to, one item more, and the edges to them, one edge more.
-use Rattle.std.proofs.Common.{◌≡◌, ℕ, suc, ◌⊎◌, inl, inr, List, [], ◌∷◌, ◌++◌, length, refl, sym, ◌∙◌, ap, subst, arith, append_assoc, Bool, true, false, cond, Some}
+use Rattle.std.proofs.Common.{◌≡◌, ℕ, suc, ◌⊎◌, inl, inr, List, [], ◌∷◌, ◌++◌, length, refl, sym, ◌∙◌, ap, subst, arith, append_assoc, Bool, true, false, true≢false, cond, IfSome, IsSome, None, Option, Some}
 use Rattle.std.specs.Prelude.{Contains, slice_get, ◌==◌}
 use Rattle.std.specs.Map.{keys_of}
 use Rattle.std.proofs.lemmas.List.Elements.{Contains-append_left, Contains-append_right, Contains-append_cases}
@@ -10,13 +10,13 @@ use Rattle.lalrpop_base.specs.declared.repr.Symbol.TheVariants.{Nonterminal, Ter
 use Rattle.lalrpop_base.specs.declared.repr.NonterminalString.{NonterminalString}
 use Rattle.lalrpop_base.specs.declared.repr.TerminalString.{TerminalString}
 use Rattle.lalrpop_base.specs.declared.repr.Production.{Production}
-use Rattle.lalrpop_base.specs.contracts.repr.TerminalStringOrd.TheImpl as terminal_ord
 use Rattle.lalrpop_base.specs.Words.{IsPushedAt}
-use Rattle.lalrpop_tables.specs.Words.{IsBehind, IsBehindOne, moved, Shifts, Groups, HasNoGroup, AreMoves, IsMoveAdded, HasEdge, ShiftsAscend}
+use Rattle.lalrpop_tables.specs.Words.{IsBehind, IsBehindOne, moved, Shifts, Groups, HasNoGroup, AreMoves, IsMoveAdded, HasEdge}
 use Rattle.lalrpop_tables.specs.Words.{IsEdgeAdded, AreEdges, reductions_of}
 use Rattle.lalrpop_base.specs.lists.Entries.IsPushedAt.{fresh, known}
+use Rattle.lalrpop_tables.specs.declared.construction.transitions.EdgeLists.{EdgeLists}
 use Rattle.lalrpop_tables.specs.declared.construction.transitions.Edges.{Edges}
-use Rattle.lalrpop_tables.specs.states.Transitions.{LeadsTo, IsReached}
+use Rattle.lalrpop_tables.specs.states.Transitions.{AreEdgesListed, IsListed, IsReached, LeadsTo}
 use Rattle.lalrpop_tables.specs.states.Transitions.Shifts.{none, moves, stays}
 use Rattle.lalrpop_tables.specs.states.Transitions.IsMoveAdded.{over, at_end}
 use Rattle.lalrpop_base.proofs.theory.lists.Members.{Contains-none, contains_head, contains_tail, contains-cons, contains_map, place}
@@ -24,17 +24,73 @@ use Rattle.lalrpop_base.proofs.theory.lists.Places.{midst, around, at_midst, dif
 use Rattle.std.proofs.lemmas.Option.{slice_get_within}
 use Rattle.std.proofs.lemmas.List.{map-append}
 use Rattle.std.specs.declared.cmp.Ordering.{Ordering}
-use Rattle.std.specs.BTreeMap.{BTreeMap, IsOrdered, insert_entry}
+use Rattle.std.specs.BTreeMap.{BTreeMap, IsFromIterResult, get}
 use Rattle.std.specs.Cmp.{IsTotalOrder}
-use Rattle.std.specs.List.Sorted.{IsStrictlySortedBy}
 use Rattle.std.proofs.lemmas.Map.Lookups.{CmpEqualImpliesEq}
-use Rattle.lalrpop_base.proofs.theory.lists.Updates.{put_there, put_kept, put_from}
+use Rattle.std.proofs.lemmas.Map.Views.{IfSome-btree_map_get_from_list, btree_map_contains_key_from_list, btree_map_get_iff}
+use Rattle.lalrpop_base.proofs.theory.lists.Orders.{name_exact, name_total, terminal_exact, terminal_total}
 
 pub differ_tail : {X : Type 0} (x : X) (xs : List X) → AllDiffer (x ∷ xs) → AllDiffer xs
 differ_tail x xs d i j y l at_i at_j = d (suc i) (suc j) y (omega arith) at_i at_j
 
 pub differ_head : {X : Type 0} (x : X) (xs : List X) → AllDiffer (x ∷ xs) → (y : X) → Contains xs y → x ≡ y → ⊥
 differ_head x xs d y c e = let at = place xs y c in d 0 (suc at.0) y (omega arith) (ap Some e) at.2
+
+-- ---- an edge more in the lists
+last_of : {K V : Type 0} (es : List (K × V)) (e f : K × V) → Contains (es ++ e ∷ []) f → Contains es f ⊎ (e ≡ f)
+last_of es e f c = elim (Contains-append_cases es (e ∷ []) f c) [
+  | inl had ↦ inl had
+  | inr last ↦ elim (contains-cons e [] f last) [ inl same ↦ inr same | inr n ↦ absurd (Contains-none f n) ]
+]
+
+abbrev Gotos : Type 0
+Gotos = List (NonterminalString × StateIndex)
+
+abbrev ShiftList : Type 0
+ShiftList = List (TerminalString × StateIndex)
+
+listed_there : (x : Symbol) (target : StateIndex) (old new : EdgeLists) → IsEdgeAdded x target old new → IsListed new x target
+listed_there (Nonterminal a) target old new e = subst (λ (es : Gotos). Contains es (a, target)) (sym e.0) (at_midst old.gotos.items [] (a, target))
+listed_there (Terminal t) target old new e = subst (λ (es : ShiftList). Contains es (t, target)) (sym e.0) (at_midst old.shifts.items [] (t, target))
+
+listed_kept : (x : Symbol) (target : StateIndex) (old new : EdgeLists) → IsEdgeAdded x target old new → (y : Symbol) (n : StateIndex) → IsListed old y n → IsListed new y n
+listed_kept (Nonterminal a) target old new e (Nonterminal b) n h = subst (λ (es : Gotos). Contains es (b, n)) (sym e.0) (Contains-append_left old.gotos.items ((a, target) ∷ []) (b, n) h)
+listed_kept (Nonterminal a) target old new e (Terminal u) n h = subst (λ (es : ShiftList). Contains es (u, n)) (sym e.1) h
+listed_kept (Terminal t) target old new e (Nonterminal b) n h = subst (λ (es : Gotos). Contains es (b, n)) (sym e.1) h
+listed_kept (Terminal t) target old new e (Terminal u) n h = subst (λ (es : ShiftList). Contains es (u, n)) (sym e.0) (Contains-append_left old.shifts.items ((t, target) ∷ []) (u, n) h)
+
+listed_from : (x : Symbol) (target : StateIndex) (old new : EdgeLists) → IsEdgeAdded x target old new → (y : Symbol) (n : StateIndex) → IsListed new y n → IsListed old y n ⊎ ((y ≡ x) × (n ≡ target))
+listed_from (Nonterminal a) target old new e (Nonterminal b) n h = elim (last_of old.gotos.items (a, target) (b, n) (subst (λ (es : Gotos). Contains es (b, n)) e.0 h)) [
+  | inl had ↦ inl had
+  | inr is ↦ inr (ap (λ (p : NonterminalString × StateIndex). Nonterminal p.0) (sym is), ap (λ (p : NonterminalString × StateIndex). p.1) (sym is))
+]
+listed_from (Nonterminal a) target old new e (Terminal u) n h = inl (subst (λ (es : ShiftList). Contains es (u, n)) e.1 h)
+listed_from (Terminal t) target old new e (Nonterminal b) n h = inl (subst (λ (es : Gotos). Contains es (b, n)) e.1 h)
+listed_from (Terminal t) target old new e (Terminal u) n h = elim (last_of old.shifts.items (t, target) (u, n) (subst (λ (es : ShiftList). Contains es (u, n)) e.0 h)) [
+  | inl had ↦ inl had
+  | inr is ↦ inr (ap (λ (p : TerminalString × StateIndex). Terminal p.0) (sym is), ap (λ (p : TerminalString × StateIndex). p.1) (sym is))
+]
+
+-- ---- the lists as maps
+module _ {K V : Type 0} {cmp : K → K → Ordering} (total : IsTotalOrder cmp) (exact : CmpEqualImpliesEq cmp) (xs : List (K × V)) (m : BTreeMap K V) (made : IsFromIterResult cmp xs m) where
+  made_of : (k : K) (v : V) → Contains m.entries (k, v) → Contains xs (k, v)
+  made_of k v c = subst (λ (o : Option V). IfSome o (λ (w : V). Contains xs (k, w))) ((btree_map_get_iff total exact m made.1 k v).1 c) (IfSome-btree_map_get_from_list total exact xs m made k)
+
+  made_has : (k : K) (v : V) → Contains xs (k, v) → (w : V) × Contains m.entries (k, w)
+  made_has k v c = by (get cmp m k) refl ((btree_map_contains_key_from_list total exact xs m made k).1 (contains_map (λ (e : K × V). e.0) xs (k, v) c))
+    where
+      by : (o : Option V) → get cmp m k ≡ o → IsSome o → (w : V) × Contains m.entries (k, w)
+      by None e s = absurd (true≢false (sym s))
+      by (Some w) e s = (w, (btree_map_get_iff total exact m made.1 k w).0 e)
+
+module _ (lists : EdgeLists) (edges : Edges) (made : AreEdgesListed lists edges) where
+  listed_of : (x : Symbol) (n : StateIndex) → HasEdge x n edges → IsListed lists x n
+  listed_of (Nonterminal a) n h = made_of name_total name_exact lists.gotos.items edges.gotos made.gotos a n h
+  listed_of (Terminal t) n h = made_of terminal_total terminal_exact lists.shifts.items edges.shifts made.shifts t n h
+
+  edge_of : (x : Symbol) (n : StateIndex) → IsListed lists x n → (target : StateIndex) × HasEdge x target edges
+  edge_of (Nonterminal a) n h = made_has name_total name_exact lists.gotos.items edges.gotos made.gotos a n h
+  edge_of (Terminal t) n h = made_has terminal_total terminal_exact lists.shifts.items edges.shifts made.shifts t n h
 
 abbrev Group : Type 0 → Type 0
 Group L = Symbol × List (Dotted L)
@@ -144,13 +200,11 @@ module _ {L : Type 0} where
   Moves-none = record { each = λ x ks c. absurd (Contains-none (x, ks) c); other = λ x n. none; some = λ x ks c. absurd (Contains-none (x, ks) c); has = λ x i c b. absurd (Contains-none i c); differ = λ i j x l at. cc }
 
   -- ---- one edge more
-  -- the edges to the kernels of the first groups
-  pub record AreSomeEdges (groups first : Groups L) (old new : Kernels (List (Dotted L))) (edges : Edges) : Type 0 where
-    pub leads : (x : Symbol) (target : StateIndex) → HasEdge x target edges → LeadsTo groups new.list x target
-    pub among : (x : Symbol) (target : StateIndex) → HasEdge x target edges → Contains (keys_of first) x
-    pub all : (x : Symbol) (kernel : List (Dotted L)) → Contains first (x, kernel) → (target : StateIndex) × HasEdge x target edges
+  -- the lists have the edges to the kernels of the first groups
+  pub record AreSomeEdges (groups first : Groups L) (old new : Kernels (List (Dotted L))) (lists : EdgeLists) : Type 0 where
+    pub leads : (x : Symbol) (target : StateIndex) → IsListed lists x target → LeadsTo groups new.list x target
+    pub all : (x : Symbol) (kernel : List (Dotted L)) → Contains first (x, kernel) → (target : StateIndex) × IsListed lists x target
     pub reached : IsReached groups old new
-    pub ascend : ShiftsAscend edges
 
   leads_longer : (groups : Groups L) (list more : List (List (Dotted L))) (new : List (List (Dotted L))) → new ≡ list ++ more → (x : Symbol) (target : StateIndex) → LeadsTo groups list x target → LeadsTo groups new x target
   leads_longer groups list more new e x target l = record { kernel = l.kernel; group = l.group; numbered = subst (λ (ks : List (List (Dotted L))). slice_get ks target.0 ≡ Some l.kernel) (sym e) (slice_get-longer list more target.0 l.kernel l.numbered) }
@@ -177,58 +231,48 @@ module _ {L : Type 0} where
           differ = λ d. differ;
         }
 
-    pub Edges-more : (first : Groups L) (old middle new : Kernels (List (Dotted L))) (edges after : Edges) (number : ℕ) → AreSomeEdges groups first old middle edges → AllDiffer (keys_of (first ++ (x, kernel) ∷ [])) → slice_get new.list number ≡ Some kernel →
-        (new.list ≡ middle.list) ⊎ (new.list ≡ middle.list ++ kernel ∷ []) → new.handed ≡ middle.handed → AllDiffer new.list → IsEdgeAdded x (record { 0 = number }) edges after → AreSomeEdges groups (first ++ (x, kernel) ∷ []) old new after
-    Edges-more first old middle new edges after number s apart numbered either handed differ a =
+    pub Edges-more : (first : Groups L) (old middle new : Kernels (List (Dotted L))) (lists after : EdgeLists) (number : ℕ) → AreSomeEdges groups first old middle lists → slice_get new.list number ≡ Some kernel →
+        (new.list ≡ middle.list) ⊎ (new.list ≡ middle.list ++ kernel ∷ []) → new.handed ≡ middle.handed → AllDiffer new.list → IsEdgeAdded x (record { 0 = number }) lists after → AreSomeEdges groups (first ++ (x, kernel) ∷ []) old new after
+    Edges-more first old middle new lists after number s numbered either handed differ a =
         let more = more_of old.list middle.list new.list either in
+        let target : StateIndex = record { 0 = number } in
         record {
-          leads = λ y n h. elim (a.from y n h) [
+          leads = λ y n h. elim (listed_from x target lists after a y n h) [
             | inl had ↦ leads_longer groups middle.list more.0 new.list more.1 y n (s.leads y n had)
             | inr is ↦ subst (λ (z : Symbol). LeadsTo groups new.list z n) (sym is.0) (subst (λ (m : StateIndex). LeadsTo groups new.list x m) (sym is.1) (record { kernel = kernel; group = group; numbered = numbered }))
           ];
-          among = λ y n h. elim (a.from y n h) [
-            | inl had ↦ key_append first y (s.among y n had)
-            | inr is ↦ subst (Contains (keys_of (first ++ (x, kernel) ∷ []))) (sym is.0) (key_in (first ++ (x, kernel) ∷ []) (x, kernel) (Contains-append_right first ((x, kernel) ∷ []) (x, kernel) (contains_head (x, kernel) [])))
-          ];
           all = λ y k c. elim (Contains-append_cases first ((x, kernel) ∷ []) (y, k) c) [
-            | inl had ↦ let e = s.all y k had in (e.0, a.kept y e.0 (λ same. midst_differs first [] (x, kernel) (y, k) apart (Contains-append_left first [] (y, k) had) (sym same)) e.1)
+            | inl had ↦ let e = s.all y k had in (e.0, listed_kept x target lists after a y e.0 e.1)
             | inr is ↦ elim (contains-cons (x, kernel) [] (y, k) is) [
-              | inl same ↦ (record { 0 = number }, subst (λ (g : Group L). HasEdge g.0 (record { 0 = number }) after) same a.there)
+              | inl same ↦ (target, subst (λ (g : Group L). IsListed after g.0 target) same (listed_there x target lists after a))
               | inr n ↦ absurd (Contains-none (y, k) n)
             ]
           ];
           reached = Reached-more old middle new s.reached either handed differ;
-          ascend = a.ascend s.ascend;
         }
-      where
-        key_append : (first : Groups L) (y : Symbol) → Contains (keys_of first) y → Contains (keys_of (first ++ (x, kernel) ∷ [])) y
-        key_append [] y c = absurd (Contains-none y c)
-        key_append (g ∷ gs) y c = elim (contains-cons g.0 (keys_of gs) y c) [
-          | inl e ↦ subst (λ (z : Symbol). Contains (z ∷ keys_of (gs ++ (x, kernel) ∷ [])) y) (sym e) (contains_head y (keys_of (gs ++ (x, kernel) ∷ [])))
-          | inr later ↦ contains_tail g.0 (keys_of (gs ++ (x, kernel) ∷ [])) y (key_append gs y later)
-        ]
 
   -- ---- all edges
-  pub Edges-none : (groups : Groups L) (old : Kernels (List (Dotted L))) (edges : Edges) → edges.shifts.entries ≡ [] → edges.gotos.entries ≡ [] → AreSomeEdges groups [] old old edges
-  unfolding IsStrictlySortedBy
-  Edges-none groups old edges s t = record {
-    leads = λ x n h. absurd (no_edge x n h);
-    among = λ x n h. absurd (no_edge x n h);
+  pub Edges-none : (groups : Groups L) (old : Kernels (List (Dotted L))) (lists : EdgeLists) → lists.shifts.items ≡ [] → lists.gotos.items ≡ [] → AreSomeEdges groups [] old old lists
+  Edges-none groups old lists s t = record {
+    leads = λ x n h. absurd (none_listed x n h);
     all = λ x k c. absurd (Contains-none (x, k) c);
     reached = record { added = []; stay = sym (append_nil old.list); of = λ k c. absurd (Contains-none k c); handed = refl; differ = λ d. d };
-    ascend = subst (λ (es : List (TerminalString × StateIndex)). IsStrictlySortedBy terminal_ord.ghosts.cmp (keys_of es)) (sym s) tt;
   }
     where
       append_nil : {X : Type 0} (xs : List X) → xs ++ [] ≡ xs
       append_nil [] = refl
       append_nil (x ∷ xs) = ap (λ ys. x ∷ ys) (append_nil xs)
 
-      no_edge : (x : Symbol) (n : StateIndex) → HasEdge x n edges → ⊥
-      no_edge (Nonterminal a) n h = Contains-none (a, n) (subst (λ (es : List (NonterminalString × StateIndex)). Contains es (a, n)) t h)
-      no_edge (Terminal a) n h = Contains-none (a, n) (subst (λ (es : List (TerminalString × StateIndex)). Contains es (a, n)) s h)
+      none_listed : (x : Symbol) (n : StateIndex) → IsListed lists x n → ⊥
+      none_listed (Nonterminal a) n h = Contains-none (a, n) (subst (λ (es : List (NonterminalString × StateIndex)). Contains es (a, n)) t h)
+      none_listed (Terminal a) n h = Contains-none (a, n) (subst (λ (es : List (TerminalString × StateIndex)). Contains es (a, n)) s h)
 
-  pub Edges-all : (groups first : Groups L) (old new : Kernels (List (Dotted L))) (edges : Edges) → first ≡ groups → AreSomeEdges groups first old new edges → AreEdges groups new.list edges
-  Edges-all groups first old new edges e s = record { leads = s.leads; all = λ x k c. s.all x k (subst (λ (gs : Groups L). Contains gs (x, k)) (sym e) c); ascend = s.ascend }
+  pub Edges-all : (groups first : Groups L) (old new : Kernels (List (Dotted L))) (lists : EdgeLists) (edges : Edges) → first ≡ groups → AreSomeEdges groups first old new lists → AreEdgesListed lists edges → AreEdges groups new.list edges
+  Edges-all groups first old new lists edges e s made = record {
+    leads = λ x n h. s.leads x n (listed_of lists edges made x n h);
+    all = λ x k c. let there = s.all x k (subst (λ (gs : Groups L). Contains gs (x, k)) (sym e) c) in edge_of lists edges made x there.0 there.1;
+    ascend = made.shifts.1;
+  }
 
   -- ---- one reduction more
   reductions_at : (b : Bool) (r : L × Production) (xs ys : List (L × Production)) → cond b (r ∷ (xs ++ ys)) (xs ++ ys) ≡ cond b (r ∷ xs) xs ++ ys
@@ -238,46 +282,3 @@ module _ {L : Type 0} where
   pub reductions_of-append : (xs ys : List (Dotted L)) → reductions_of (xs ++ ys) ≡ reductions_of xs ++ reductions_of ys
   reductions_of-append [] ys = refl
   reductions_of-append (i ∷ xs) ys = ap (λ rs. cond (i.index == length i.production.symbols) ((i.lookahead, i.production) ∷ rs) rs) (reductions_of-append xs ys) ∙ reductions_at (i.index == length i.production.symbols) (i.lookahead, i.production) (reductions_of xs) (reductions_of ys)
-
--- ---- a goto or a shift more
-module _ (cmp : NonterminalString → NonterminalString → Ordering) (exact : CmpEqualImpliesEq cmp) (total : IsTotalOrder cmp) where
-  pub Added-goto : (a : NonterminalString) (target : StateIndex) (old new : Edges) → IsStrictlySortedBy cmp (keys_of old.gotos.entries) → new.gotos.entries ≡ insert_entry cmp old.gotos.entries a target → new.shifts ≡ old.shifts → IsEdgeAdded (Nonterminal a) target old new
-  Added-goto a target old new sorted e same = record {
-    there = subst (λ (es : List (NonterminalString × StateIndex)). Contains es (a, target)) (sym e) (put_there cmp exact total old.gotos.entries sorted a target);
-    kept = elim [
-      | Nonterminal b ↦ λ n other h. subst (λ (es : List (NonterminalString × StateIndex)). Contains es (b, n)) (sym e) (put_kept cmp exact total old.gotos.entries sorted a target (b, n) (λ f. other (ap Nonterminal f)) h)
-      | Terminal t ↦ λ n other h. rw same h
-    ];
-    from = elim [
-      | Nonterminal b ↦ λ n h. elim (put_from cmp exact total old.gotos.entries sorted a target (b, n) (subst (λ (es : List (NonterminalString × StateIndex)). Contains es (b, n)) e h)) [
-        | inl had ↦ inl had
-        | inr is ↦ inr (ap (λ (x : NonterminalString × StateIndex). Nonterminal x.0) (sym is), ap (λ (x : NonterminalString × StateIndex). x.1) (sym is))
-      ]
-      | Terminal t ↦ λ n h. inl (rw (← same) h)
-    ];
-    ascend = λ o. subst (λ (m : BTreeMap TerminalString StateIndex). IsOrdered terminal_ord.ghosts.cmp m) (sym same) o;
-  }
-
-module _ (cmp : TerminalString → TerminalString → Ordering) (exact : CmpEqualImpliesEq cmp) (total : IsTotalOrder cmp) where
-  pub Added-shift : (a : TerminalString) (target : StateIndex) (old new : Edges) → IsStrictlySortedBy cmp (keys_of old.shifts.entries) → new.shifts.entries ≡ insert_entry cmp old.shifts.entries a target → new.gotos ≡ old.gotos → ShiftsAscend new → IsEdgeAdded (Terminal a) target old new
-  Added-shift a target old new sorted e same after = record {
-    there = subst (λ (es : List (TerminalString × StateIndex)). Contains es (a, target)) (sym e) (put_there cmp exact total old.shifts.entries sorted a target);
-    kept = elim [
-      | Terminal b ↦ λ n other h. subst (λ (es : List (TerminalString × StateIndex)). Contains es (b, n)) (sym e) (put_kept cmp exact total old.shifts.entries sorted a target (b, n) (λ f. other (ap Terminal f)) h)
-      | Nonterminal t ↦ λ n other h. rw same h
-    ];
-    from = elim [
-      | Terminal b ↦ λ n h. elim (put_from cmp exact total old.shifts.entries sorted a target (b, n) (subst (λ (es : List (TerminalString × StateIndex)). Contains es (b, n)) e h)) [
-        | inl had ↦ inl had
-        | inr is ↦ inr (ap (λ (x : TerminalString × StateIndex). Terminal x.0) (sym is), ap (λ (x : TerminalString × StateIndex). x.1) (sym is))
-      ]
-      | Nonterminal t ↦ λ n h. inl (rw (← same) h)
-    ];
-    ascend = λ o. after;
-  }
-
-module _ {L : Type 0} where
-  -- ---- the next group of those that are left
-  pub groups_differ : (groups first rest : Groups L) (g : Group L) → (first ++ g ∷ []) ++ rest ≡ groups → AllDiffer (keys_of groups) → AllDiffer (keys_of (first ++ g ∷ []))
-  groups_differ groups first rest g e d =
-      differ_front (keys_of (first ++ g ∷ [])) (keys_of rest) (subst AllDiffer (ap keys_of (sym e) ∙ map-append (λ (g : Group L). g.0) (first ++ g ∷ []) rest) d)

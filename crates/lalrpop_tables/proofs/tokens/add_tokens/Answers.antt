@@ -1,6 +1,5 @@
-use Rattle.std.proofs.Common.{Err, Ok, Result, sym}
-use Rattle.std.specs.Prelude.{OnOk}
-use Rattle.lalrpop_base.proofs.theory.closures.Readings.{joined_fresh, joined_known, where_ok}
+use Rattle.std.proofs.Common.{sym}
+use Rattle.lalrpop_base.proofs.theory.closures.Readings.{joined_fresh, joined_known, on_ok, where_ok}
 use Rattle.lalrpop_base.proofs.theory.lists.Updates.{exact_order, inserted, set_replaced, keys_differ}
 use Rattle.lalrpop_tables.proofs.tokens.add_tokens.Goals as goal
 
@@ -13,11 +12,7 @@ returns-in-Some-clause-joined g c =
     (rw holds.0 (set_replaced _ exact g.met.K.Ord.total c.args.key c.join.new.into c.in-Some.known.now c.args.map.now.entries (sym c.in-Some.ensures.value))))
 
 pub returns-in-Some-clause-differ : goal.returns-in-Some-clause-differ
-returns-in-Some-clause-differ g c = where_differ c.join.result (keys_differ g.K.Ord.cmp g.met.K.Ord.total _ (c.get_mut.follows.holds c.join.new.into).4)
-  where
-    where_differ : {V E A : Type 0} (r : Result V E) → A → OnOk r A
-    where_differ (Ok v) a = a
-    where_differ (Err e) a = tt
+returns-in-Some-clause-differ g c = on_ok c.join.result (keys_differ g.K.Ord.cmp g.met.K.Ord.total _ (c.get_mut.follows.holds c.join.new.into).4)
 
 pub returns-clause-joined : goal.returns-clause-joined
 returns-clause-joined g c =

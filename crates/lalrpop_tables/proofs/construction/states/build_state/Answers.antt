@@ -4,7 +4,7 @@ use Rattle.lalrpop_tables.specs.grammars.Numbers.{AreNumbered, NumberedGroups, g
 use Rattle.lalrpop_base.specs.Words.{IsClosureBy}
 use Rattle.lalrpop_tables.specs.Words.{AreMoves}
 use Rattle.lalrpop_tables.proofs.theory.states.Coherence.{Built-made, Reached-extends, Reached-led}
-use Rattle.lalrpop_tables.proofs.theory.lists.SparseMaps.{rising_differ}
+use Rattle.lalrpop_base.proofs.theory.lists.SparseMaps.{rising_differ}
 use Rattle.lalrpop_tables.proofs.theory.states.PermutedMoves.{groups_permuted, moves_permuted}
 use Rattle.lalrpop_tables.proofs.construction.states.build_state.Goals as goal
 
@@ -17,9 +17,6 @@ moves_of-requires-clause-known g c = subst (AreNumbered c.args.numbers.now.items
 pub edges_of-requires-clause-known : goal.edges_of-requires-clause-known
 edges_of-requires-clause-known g c = groups_permuted c.args.numbers.now c.moves_of.new.moves c.take_rising-moves.result.items c.take_rising-moves.ensures.same c.in_ok-moves_of.ensures.known
 
-pub edges_of-requires-clause-differ : goal.edges_of-requires-clause-differ
-edges_of-requires-clause-differ g c = rising_differ c.take_rising-moves.result.items c.take_rising-moves.ensures.rising
-
 pub returns-clause-built : goal.returns-clause-built
 returns-clause-built g c =
     let items = c.args.numbers.now.items.items in
@@ -29,8 +26,8 @@ returns-clause-built g c =
     let n = c.args.numbers.now in
     let rising : NumberedGroups g.row.L.Denot = c.take_rising-moves.result.items in
     let held : AreMoves (items_by n.items.items c.in_ok-list.list.items) (groups_by n rising) =
-        moves_permuted n c.moves_of.new.moves rising c.take_rising-moves.ensures.same c.args.lr.now.construction.rules c.requires.numbers (items_by n.items.items c.in_ok-list.list.items) c.in_ok-moves_of.ensures.known
-        (rising_differ rising c.take_rising-moves.ensures.rising) (rw c.deref.ensures.value at c.in_ok-moves_of.ensures.moves) in
+    moves_permuted n c.moves_of.new.moves rising c.take_rising-moves.ensures.same c.args.lr.now.construction.rules c.requires.numbers (items_by n.items.items c.in_ok-list.list.items) c.in_ok-moves_of.ensures.known
+    (rising_differ rising c.take_rising-moves.ensures.rising) (rw c.deref.ensures.value at c.in_ok-moves_of.ensures.moves) in
     let moves = subst (λ (is : List (Dotted g.row.L.Denot)). AreMoves is (groups_by n rising)) (sym c.in_ok-items.ensures) held in
     Built-made C kernel c.in_ok-items.items.items (groups_by n rising) _ c.in_ok-shifts.field-0 c.args.number _ refl refl refl refl (rw c.deref-2.ensures.value at c.in_ok-reductions.ensures) closed moves c.in_ok-shifts.ensures.edges
 
@@ -43,8 +40,8 @@ returns-clause-extends g c =
     let n = c.args.numbers.now in
     let rising : NumberedGroups g.row.L.Denot = c.take_rising-moves.result.items in
     let held : AreMoves (items_by n.items.items c.in_ok-list.list.items) (groups_by n rising) =
-        moves_permuted n c.moves_of.new.moves rising c.take_rising-moves.ensures.same c.args.lr.now.construction.rules c.requires.numbers (items_by n.items.items c.in_ok-list.list.items) c.in_ok-moves_of.ensures.known
-        (rising_differ rising c.take_rising-moves.ensures.rising) (rw c.deref.ensures.value at c.in_ok-moves_of.ensures.moves) in
+    moves_permuted n c.moves_of.new.moves rising c.take_rising-moves.ensures.same c.args.lr.now.construction.rules c.requires.numbers (items_by n.items.items c.in_ok-list.list.items) c.in_ok-moves_of.ensures.known
+    (rising_differ rising c.take_rising-moves.ensures.rising) (rw c.deref.ensures.value at c.in_ok-moves_of.ensures.moves) in
     let moves = subst (λ (is : List (Dotted g.row.L.Denot)). AreMoves is (groups_by n rising)) (sym c.in_ok-items.ensures) held in
     Reached-extends g.L.Lookahead.meaning c.args.lr.now.construction.rules c.in_ok-items.items.items (groups_by n rising) _ _ closed.are_items moves c.in_ok-shifts.ensures.reached
 
@@ -53,7 +50,7 @@ returns-clause-led g c =
     let n = c.args.numbers.now in
     let rising : NumberedGroups g.row.L.Denot = c.take_rising-moves.result.items in
     let held : AreMoves (items_by n.items.items c.in_ok-list.list.items) (groups_by n rising) =
-        moves_permuted n c.moves_of.new.moves rising c.take_rising-moves.ensures.same c.args.lr.now.construction.rules c.requires.numbers (items_by n.items.items c.in_ok-list.list.items) c.in_ok-moves_of.ensures.known
-        (rising_differ rising c.take_rising-moves.ensures.rising) (rw c.deref.ensures.value at c.in_ok-moves_of.ensures.moves) in
+    moves_permuted n c.moves_of.new.moves rising c.take_rising-moves.ensures.same c.args.lr.now.construction.rules c.requires.numbers (items_by n.items.items c.in_ok-list.list.items) c.in_ok-moves_of.ensures.known
+    (rising_differ rising c.take_rising-moves.ensures.rising) (rw c.deref.ensures.value at c.in_ok-moves_of.ensures.moves) in
     let moves = subst (λ (is : List (Dotted g.row.L.Denot)). AreMoves is (groups_by n rising)) (sym c.in_ok-items.ensures) held in
     Reached-led c.in_ok-items.items.items (groups_by n rising) _ _ c.in_ok-shifts.field-0 _ refl refl moves c.in_ok-shifts.ensures.edges c.in_ok-shifts.ensures.reached

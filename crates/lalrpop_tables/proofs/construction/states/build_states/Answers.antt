@@ -77,7 +77,7 @@ returns-then-are_enough g c =
     let built = rw (c.len-number.ensures, c.loop-conflicts.states.ok.0) at c.in_ok-state.ensures.built in
     let building = Building-grown _ _ _ _ items c.loop-conflicts.kernels c.next.new.self c.build_state.new.kernels c.loop-conflicts.states.items c.in-Some.kernel h.building next some c.in_ok-state.ensures.extends c.in_ok-state.state built c.in_ok-state.ensures.led in
     let listed = Listed-more g.L.Lookahead.lists_conflicts c.args.lr.now.construction.rules.terminals c.loop-conflicts.states.items c.push.new.self.items
-        c.in_ok-state.state c.loop-conflicts.conflicts.items c.push_conflicts.new.list.items h.listed c.in_ok-push_conflicts.ensures c.in_ok-push.ensures.items in
+    c.in_ok-state.state c.loop-conflicts.conflicts.items c.push_conflicts.new.list.items h.listed c.in_ok-push_conflicts.ensures c.in_ok-push.ensures.items in
     let counted : c.len.result ≡ length c.push_conflicts.new.list.items = c.len.ensures ∙ c.push_conflicts.new.list.ok.0 in
     let enough = enough_for c.stop_after.ensures counted (c.if-are_enough.ensures.0 refl) in
     let rules = c.args.lr.now.construction.rules in

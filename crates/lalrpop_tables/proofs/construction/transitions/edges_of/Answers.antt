@@ -1,4 +1,5 @@
 use Rattle.std.proofs.Common.{◌≡◌, ◌∙◌, ◌<◌, ◌++◌, ◌∷◌, [], ℕ, List, Some, ap, sym, subst, append-nil, arith}
+use Rattle.std.proofs.lemmas.Result.{IfOk-weaker}
 use Rattle.std.specs.Prelude.{slice_get}
 use Rattle.std.proofs.lemmas.List.{map-append, nil_from_length}
 use Rattle.lalrpop_base.specs.Words.{AddsOnce, Dotted}
@@ -8,15 +9,16 @@ use Rattle.lalrpop_tables.specs.grammars.Numbers.{NumberedGroups, groups_by, ite
 use Rattle.lalrpop_tables.specs.declared.construction.numbered.Numbered.{Numbered}
 use Rattle.lalrpop_tables.proofs.theory.states.Contained.{added_or_not, decided, decided_list, decided_numbered}
 use Rattle.lalrpop_base.proofs.theory.lists.Members.{contains_map}
-use Rattle.lalrpop_tables.proofs.theory.states.Moves.{AreSomeEdges, Edges-none, Edges-more, Edges-all, groups_differ}
+use Rattle.lalrpop_tables.proofs.theory.states.Moves.{AreSomeEdges, Edges-none, Edges-more, Edges-all}
 use Rattle.lalrpop_tables.proofs.theory.states.NumberedEdges.{all_known, differ_by, either_by, numbered_by, split_by, taken, taken_among}
-use Rattle.lalrpop_tables.proofs.theory.states.NumberedMoves.{group_by, keys_differ_by, symbol_is}
+use Rattle.lalrpop_tables.proofs.theory.states.NumberedMoves.{group_by, symbol_is}
 use Rattle.lalrpop_base.proofs.theory.lists.Places.{slice_get_at}
+use Rattle.lalrpop_base.proofs.theory.closures.Readings.{on_ok}
 use Rattle.lalrpop_tables.proofs.construction.transitions.edges_of.Goals as goal
 
 pub loop-symbol-init : goal.loop-symbol-init
 loop-symbol-init g c = record {
-  edges = Edges-none (groups_by c.args.numbers.now c.args.moves.items) (kernels_by c.args.numbers.now.items.items c.args.kernels.now) _ c.new.ensures.empty c.new-2.ensures.empty;
+  edges = Edges-none (groups_by c.args.numbers.now c.args.moves.items) (kernels_by c.args.numbers.now.items.items c.args.kernels.now) _ c.new.ensures.items c.new-2.ensures.items;
   known = c.requires.kernels;
   left = c.into_iter-symbol-iterator.ensures.into_iter_gives.0;
 }
@@ -39,28 +41,26 @@ loop-symbol-preserved g c =
     let split = taken groups first c.loop-symbol.symbol-iterator.rest.items c.next.new.self.rest.items group c.loop-symbol.invariant.left c.in-Some.ensures.steps.0 in
     let among = taken_among groups first c.loop-symbol.symbol-iterator.rest.items c.next.new.self.rest.items group c.loop-symbol.invariant.left c.in-Some.ensures.steps.0 in
     let known = c.requires.known group among in
-    let differ = keys_differ_by c.requires.numbers.0 n c.requires.numbers.1 groups c.requires.known c.requires.differ in
-    let decoded : (groups_by n first ++ (x, kernel) ∷ []) ++ groups_by n c.next.new.self.rest.items ≡ groups_by n groups = split_by n groups first c.next.new.self.rest.items group split in
     let state = c.in_ok-target.ensures in
     let kernels : List (List (Numbered g.row.L.Denot)) = c.add_state.new.self.list in
     let numbered : slice_get kernels c.in_ok-target.target.0 ≡ Some c.in-Some.items = state.numbered ∙ ap Some c.new-in-loop-symbol.ensures in
     let either =
-        added_or_not (decided_list (decided_numbered (decided g.L.PartialEq.eq g.met.L.Lookahead.equal_is_same (λ x. g.met.L.Eq.laws.refl x)))) c.loop-symbol.kernels.list kernels c.in-Some.items (subst (AddsOnce c.loop-symbol.kernels.list kernels) c.new-in-loop-symbol.ensures state.added) in
+    added_or_not (decided_list (decided_numbered (decided g.L.PartialEq.eq g.met.L.Lookahead.equal_is_same (λ x. g.met.L.Eq.laws.refl x)))) c.loop-symbol.kernels.list kernels c.in-Some.items (subst (AddsOnce c.loop-symbol.kernels.list kernels) c.new-in-loop-symbol.ensures state.added) in
     let all = all_known items c.loop-symbol.kernels.list kernels c.in-Some.items c.loop-symbol.invariant.known known.1 either in
     let at = slice_get_at n.symbols.items c.in-Some.symbol c.index.result.now known.0 c.index.ensures in
     let symbol : c.in_ok-clone.field-0 ≡ x = c.in_ok-clone.ensures ∙ sym (symbol_is n.symbols.items c.in-Some.symbol c.index.result.now at) in
     record {
-      edges = subst (λ (first : Groups g.row.L.Denot). AreSomeEdges (groups_by n groups) first (kernels_by items c.args.kernels.now) (kernels_by items c.add_state.new.self) c.add_edge.new.edges) (sym (map-append (group_by n) first (group ∷ [])))
+      edges = subst (λ (first : Groups g.row.L.Denot). AreSomeEdges (groups_by n groups) first (kernels_by items c.args.kernels.now) (kernels_by items c.add_state.new.self) c.add_edge.new.lists) (sym (map-append (group_by n) first (group ∷ [])))
           (Edges-more (groups_by n groups) x kernel (contains_map (group_by n) groups group among) (groups_by n first) (kernels_by items c.args.kernels.now)
-          (kernels_by items c.loop-symbol.kernels) (kernels_by items c.add_state.new.self) c.loop-symbol.edges c.add_edge.new.edges c.in_ok-target.target.0 c.loop-symbol.invariant.edges
-          (groups_differ (groups_by n groups) (groups_by n first) (groups_by n c.next.new.self.rest.items) (x, kernel) decoded differ) (numbered_by items kernels c.in_ok-target.target.0 c.in-Some.items numbered) (either_by items c.loop-symbol.kernels.list kernels c.in-Some.items either) state.handed
-          (differ_by items c.requires.numbers.1.items.ascend kernels all state.differ) (subst (λ (y : Symbol). IsEdgeAdded y c.in_ok-target.target c.loop-symbol.edges c.add_edge.new.edges) symbol c.in_ok-add_edge.ensures));
+          (kernels_by items c.loop-symbol.kernels) (kernels_by items c.add_state.new.self) c.loop-symbol.lists c.add_edge.new.lists c.in_ok-target.target.0 c.loop-symbol.invariant.edges
+          (numbered_by items kernels c.in_ok-target.target.0 c.in-Some.items numbered) (either_by items c.loop-symbol.kernels.list kernels c.in-Some.items either) state.handed
+          (differ_by items c.requires.numbers.1.items.ascend kernels all state.differ) (subst (λ (y : Symbol). IsEdgeAdded y c.in_ok-target.target c.loop-symbol.lists c.add_edge.new.lists) symbol c.in_ok-add_edge.ensures));
       known = all;
       left = split;
     }
 
 pub returns-clause-known : goal.returns-clause-known
-returns-clause-known g c = c.loop-symbol.invariant.known
+returns-clause-known g c = on_ok c.edge_maps.result c.loop-symbol.invariant.known
 
 pub returns-clause-edges : goal.returns-clause-edges
 returns-clause-edges g c =
@@ -68,7 +68,7 @@ returns-clause-edges g c =
     let first : NumberedGroups g.row.L.Denot = c.loop-symbol.yielded in
     let rest = nil_from_length c.loop-symbol.symbol-iterator.rest.items (let k = c.loop-symbol.symbol-iterator.rest.ok in let none = c.in-None.ensures.steps.0 in omega arith) in
     let all : first ≡ c.args.moves.items = sym (append-nil first) ∙ ap (λ (t : NumberedGroups g.row.L.Denot). first ++ t) (sym rest) ∙ c.loop-symbol.invariant.left in
-    Edges-all (groups_by n c.args.moves.items) (groups_by n first) (kernels_by n.items.items c.args.kernels.now) (kernels_by n.items.items c.loop-symbol.kernels) c.loop-symbol.edges (ap (groups_by n) all) c.loop-symbol.invariant.edges
+    IfOk-weaker c.edge_maps.result _ _ (λ edges made. Edges-all (groups_by n c.args.moves.items) (groups_by n first) (kernels_by n.items.items c.args.kernels.now) (kernels_by n.items.items c.loop-symbol.kernels) c.loop-symbol.lists edges (ap (groups_by n) all) c.loop-symbol.invariant.edges made) c.edge_maps.ensures
 
 pub returns-clause-reached : goal.returns-clause-reached
-returns-clause-reached g c = c.loop-symbol.invariant.edges.reached
+returns-clause-reached g c = on_ok c.edge_maps.result c.loop-symbol.invariant.edges.reached

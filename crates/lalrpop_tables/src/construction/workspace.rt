@@ -1,0 +1,25 @@
+//! What the states of a construction are made in, one after the other.
+
+use super::transitions::Moves;
+use lalrpop_base::collections::sparse_map::SparseMap;
+use lalrpop_base::lookahead::Lookahead;
+use std::alloc::Global;
+
+/// The tokens of nonterminals and those of items, of a closure, and the moves of its items. What a
+/// state leaves here is taken out before the next.
+#[derive(Drop)]
+pub struct Workspace<L: Lookahead> {
+    pub shared: SparseMap<L>,
+    pub items: SparseMap<L>,
+    pub moves: Moves<L>,
+}
+
+impl<L: Lookahead> Workspace<L> {
+    pub fn new(alloc: Global) -> Self {
+        Workspace {
+            shared: SparseMap::new(alloc),
+            items: SparseMap::new(alloc),
+            moves: SparseMap::new(alloc),
+        }
+    }
+}
