@@ -27,3 +27,13 @@ fn each_growth_refused<A: Attempt>(
     }
     Ok(())
 }
+
+// A call answers as it should where no growth is granted.
+fn no_growth_needed<A: Attempt>(rt: &impl Abort, alloc: Global, call: &mut A) -> Result<(), Fail> {
+    match refused_in_turn(alloc, call)? {
+        Outcome::Refused(turns) => assert!(rt; turns == 0, "{turns} growths were refused"),
+        Outcome::Wrong(turn) => panic!(rt; "another answer in turn {turn}"),
+        Outcome::TooLarge => panic!(rt; "too little memory in each turn"),
+    }
+    Ok(())
+}

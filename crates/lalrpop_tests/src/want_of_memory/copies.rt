@@ -1,7 +1,7 @@
 // Copies of values.
 ghost use Rattle.lalrpop_base.specs.Words.{IsWellFormed};
 
-use super::each_growth_refused;
+use super::{each_growth_refused, no_growth_needed};
 use crate::fixtures::{EMPTY_FIRST, ONE, first_production, grammar, literal, only};
 use grammar_text::symbols::name_of;
 use lalrpop_base::first::FirstSets;
@@ -124,16 +124,16 @@ fn conflict_of<'g>(alloc: Global, grammar: &'g Grammar) -> Result<Lr1Conflict<'g
     })
 }
 
-// A value of each kind, by a number.
+// A value of each kind, by a number; the first two hold a text alone.
 fn value_of<'g>(alloc: Global, grammar: &'g Grammar, number: usize) -> Result<Copied<'g>, Fail>
     requires { IsWellFormed grammar.now }
 {
     match number {
         0 => Ok(Copied::Token(Token::Terminal(literal(alloc, "x")?))),
-        1 => Ok(Copied::Conflict(conflict_of(alloc, grammar)?)),
-        2 => Ok(Copied::Attribute(Attribute {
+        1 => Ok(Copied::Attribute(Attribute {
             id: Text::new(alloc, "inline")?,
         })),
+        2 => Ok(Copied::Conflict(conflict_of(alloc, grammar)?)),
         3 => Ok(Copied::Action(action_of(alloc)?)),
         4 => Ok(Copied::Kind(ActionFnDefnKind::Inline(action_of(alloc)?))),
         _ => Ok(Copied::First(FirstSets::new(alloc, grammar)?)),
@@ -144,9 +144,20 @@ fn value_of<'g>(alloc: Global, grammar: &'g Grammar, number: usize) -> Result<Co
 fn copies(rt: HostRuntime) -> Result<(), Fail> {
     let alloc = rt.alloc();
     let grammar = grammar(alloc, EMPTY_FIRST)?;
-    for number in 0..6 {
+    for number in 2..6 {
         let mut value = value_of(alloc, &grammar, number)?;
         each_growth_refused(&rt, alloc, &mut value)?;
+    }
+    Ok(())
+}
+
+#[test]
+fn copies_of_texts(rt: HostRuntime) -> Result<(), Fail> {
+    let alloc = rt.alloc();
+    let grammar = grammar(alloc, EMPTY_FIRST)?;
+    for number in 0..2 {
+        let mut value = value_of(alloc, &grammar, number)?;
+        no_growth_needed(&rt, alloc, &mut value)?;
     }
     Ok(())
 }

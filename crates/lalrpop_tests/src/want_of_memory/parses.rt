@@ -2,7 +2,7 @@
 ghost use Rattle.std.specs.Prelude.{◌<◌, length};
 ghost use Rattle.lalrpop_base.specs.Words.{AreCoherent, IsWellFormed};
 
-use super::each_growth_refused;
+use super::{each_growth_refused, no_growth_needed};
 use crate::fixtures::{ONE, SUMS, grammar, literal, literals};
 use grammar_text::symbols::name_of;
 use lalrpop_base::lr1_core::coherent::are_coherent;
@@ -100,7 +100,7 @@ fn what_a_state_will_produce(rt: HostRuntime) -> Result<(), Fail> {
         panic!(rt; "one state alone");
     };
     let name = name_of(alloc, "S")?;
-    each_growth_refused(&rt, alloc, &mut Produced { state, name })
+    no_growth_needed(&rt, alloc, &mut Produced { state, name })
 }
 
 // A grammar by which a list is parsed, and the list's tree.

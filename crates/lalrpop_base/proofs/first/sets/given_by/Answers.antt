@@ -16,7 +16,7 @@ pub insert_bit-requires : goal.insert_bit-requires
 insert_bit-requires c =
     let there : Contains c.args.symbols.now (Bit c.in-Bit.bit) = subst (λ (x : NumberedSymbol). Contains c.args.symbols.now x) c.in-Bit.is (Contains-get_or c.args.symbols.now c.loop-symbol.symbol-index (Bit 0) c.loop-symbol-test.true) in
     let below : c.in-Bit.bit < length c.args.terminals.now = c.requires c.in-Bit.bit there in
-    let few : length c.all-all.result.now * 32 < 9223372036854775808 = c.all-all.type_inv.1 in
+    let few = c.all-all.type_inv.1 in
     let same : length c.all-all.result.now ≡ length c.args.terminals.now = ap (λ (ts : _). length {A = TerminalString} ts) c.all-all.ensures.value in
     omega (arith, below, few, same)
 
