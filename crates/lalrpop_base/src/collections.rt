@@ -1,5 +1,6 @@
 //! What values are pushed into: lists, sets, maps of them, and nothing at all.
 pub mod multimap;
+pub mod queue;
 pub mod sparse_map;
 
 ghost use Rattle.std.specs.Prelude.{◌≡◌, ◌++◌, ◌∷◌, [], false, MatchBool, IfOk, OnErr, List, ⊤, refl};

@@ -2,7 +2,6 @@
 mod fixpoint;
 mod names;
 mod numbered;
-mod queue;
 mod sets;
 mod table;
 mod uses;

@@ -1,56 +1,12 @@
 //! Least sets over the edges of a graph.
 ghost use Rattle.std.specs.Prelude.{◌≡◌, ◌<◌, ℕ, length, Contains, IfOk, IfSome, IfNone, OnOk, [], ◌↔◌};
-ghost use Rattle.lalrpop_base.specs.lists.Spreading.{AllBelowWait, HoldsBit, NowWaits, IsJoinedInto, IsQueue, IsSent, IsSpread, IsFirstTaken, edge_ends};
+ghost use Rattle.lalrpop_base.specs.lists.Spreading.{HoldsBit, IsJoinedInto, IsSent, IsSpread, edge_ends};
 
+use crate::collections::queue::Queue;
 use crate::lookahead::token_set::TokenSet;
 use crate::memory::OutOfMemory;
 use std::alloc::Global;
-use std::collections::VecDeque;
 use std::mem::replace;
-
-// The numbers that wait to be looked at, each marked.
-#[derive(Drop)]
-struct Waiting {
-    queue: VecDeque<usize>,
-    marked: Vec<bool>,
-}
-
-impl Waiting {
-    // All the numbers below a count.
-    fn all(alloc: Global, count: usize) -> Result<Waiting, OutOfMemory>
-        ensures { IfOk result (λ all. AllBelowWait count all) }
-    {
-        let mut queue = VecDeque::new(alloc);
-        for number in 0..count {
-            queue.push_back(number)?;
-        }
-        let marked = vec![in alloc; true; count]?;
-        Ok(Waiting { queue, marked })
-    }
-
-    // Has a number wait, if it doesn't yet.
-    fn add(&mut self, number: usize) -> Result<(), OutOfMemory>
-        requires { number < length self.old.marked.items }
-        ensures { OnOk result (NowWaits number self.old self.new) }
-    {
-        if !self.marked[number] {
-            self.queue.push_back(number)?;
-            self.marked[number] = true;
-        }
-        Ok(())
-    }
-
-    // Takes the number that waits the longest.
-    fn take(&mut self) -> Option<usize>
-        requires { IsQueue self.old }
-        ensures some { IfSome result (λ number. IsFirstTaken number self.old self.new) }
-        ensures none { IfNone result (self.old.queue.items ≡ []) }
-    {
-        let number = self.queue.pop_front()?;
-        self.marked[number] = false;
-        Some(number)
-    }
-}
 
 /// Each set joined with those of all numbers from which edges lead to its own. Nothing is copied.
 pub fn spread(
@@ -67,7 +23,7 @@ pub fn spread(
         HoldsBit spread.items n bit ↔ IsSpread sets.items edges.now n bit) }
 {
     let mut sets = sets;
-    let mut waiting = Waiting::all(alloc, sets.len())?;
+    let mut waiting = Queue::full(alloc, sets.len())?;
     while let Some(from) = waiting.take() {
         send(alloc, from, &edges[from], &mut sets, &mut waiting)?;
     }
@@ -80,11 +36,11 @@ fn send(
     from: usize,
     ends: &[usize],
     sets: &mut Vec<TokenSet>,
-    waiting: &mut Waiting,
+    waiting: &mut Queue,
 ) -> Result<(), OutOfMemory>
     requires from { from < length sets.old.items }
     requires ends { (to : ℕ) → Contains ends.now to → to < length sets.old.items }
-    requires marked { length waiting.old.marked.items ≡ length sets.old.items }
+    requires limit { waiting.old.limit ≡ length sets.old.items }
     ensures { OnOk result (IsSent from ends.now (length ends.now) sets.old.items sets.new.items
         waiting.old waiting.new) }
 {

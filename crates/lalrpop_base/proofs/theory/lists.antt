@@ -13,6 +13,7 @@ pub mod MultimapLemmas
 pub mod Orders
 pub mod Partitions
 pub mod Places
+pub mod Queues
 pub mod RisingLemmas
 pub mod RisingOrder
 pub mod SetLemmas

@@ -10,11 +10,16 @@ pub data IsJoinedAt {K : Type 0} (k : K) (tokens : Bits) (told : Bool) (old new 
   fresh : (front back : List (K × Bits)) → old ≡ front ++ back → new ≡ front ++ (k, tokens) ∷ back → told ≡ true → IsJoinedAt k tokens told old new
   known : (front back : List (K × Bits)) (s : Bits) → old ≡ front ++ (k, s) ∷ back → new ≡ front ++ (k, join s tokens) ∷ back → MatchBool told (join s tokens ≢ s) (join s tokens ≡ s) → IsJoinedAt k tokens told old new
 
+-- a key that has something new came behind the queue, or waits there already; one that has nothing new did not come
+pub data IsPut {K : Type 0} (key : K) (told : Bool) (queue pushed : List K) : Type 0 where
+  came : pushed ≡ cond told (queue ++ key ∷ []) queue → IsPut key told queue pushed
+  waited : Contains queue key → pushed ≡ queue → IsPut key told queue pushed
+
 -- the tokens went to the key, which was put into the queue where it has something new
 pub record IsQueued {K : Type 0} (key : K) (tokens : Bits) (old new : List (K × Bits)) (queue pushed : List K) : Type 0 where
   pub told : Bool
   pub joined : IsJoinedAt key tokens told old new
-  pub grown : pushed ≡ cond told (queue ++ key ∷ []) queue
+  pub put : IsPut key told queue pushed
   pub differ : AllDiffer (keys_of new)
 
 -- the key is found, with at least these tokens

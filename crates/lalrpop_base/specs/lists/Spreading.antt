@@ -3,7 +3,7 @@ use Rattle.std.specs.Prelude.{◌≡◌, ◌≢◌, ℕ, ◌+◌, ◌<◌, ◌�
 use Rattle.std.specs.declared.alloc.Global.{Global}
 use Rattle.std.specs.declared.vec.Vec.{Vec}
 use Rattle.lalrpop_base.specs.lists.Bits.{Bits, has, rising, join, no_bits}
-use Rattle.lalrpop_base.specs.declared.spread.Waiting.{Waiting}
+use Rattle.lalrpop_base.specs.lists.Queues.{Waiting}
 
 -- ---- the least sets
 -- the set with the number, an empty one behind the last
@@ -27,38 +27,6 @@ pub data IsSpread (sets : List Bits) (edges : List (Vec ℕ Global)) : ℕ → �
   held : (n bit : ℕ) → HoldsBit sets n bit → IsSpread sets edges n bit
   sent_on : (from to bit : ℕ) → Contains (edge_ends edges from) to → IsSpread sets edges from bit → IsSpread sets edges to bit
 
--- ---- the numbers that wait
--- the number is marked as waiting
-abbrev pub Waits : Waiting → ℕ → Type 0
-Waits waiting n = IsTrue (get_or waiting.marked.items n false)
-
--- what is marked is in the queue, and what is in the queue has a mark to set
-pub record IsQueue (waiting : Waiting) : Type 0 where
-  pub queued : (n : ℕ) → Waits waiting n → Contains waiting.queue.items n
-  pub marks : (n : ℕ) → Contains waiting.queue.items n → n < length waiting.marked.items
-
--- the numbers below the count all wait
-pub record AllBelowWait (count : ℕ) (waiting : Waiting) : Type 0 where
-  pub counted : length waiting.marked.items ≡ count
-  pub each : (n : ℕ) → n < count → Waits waiting n
-  pub queue : IsQueue waiting
-
--- the number waits, and all that waited does: at most one number came to the queue
-pub record NowWaits (number : ℕ) (old new : Waiting) : Type 0 where
-  pub counted : length new.marked.items ≡ length old.marked.items
-  pub here : Waits new number
-  pub kept : (n : ℕ) → Waits old n → Waits new n
-  pub queue : IsQueue old → IsQueue new
-  pub longer : length new.queue.items ≤ length old.queue.items + 1
-
--- the number was the first of the queue, and waits no more, and all others that waited do
-pub record IsFirstTaken (number : ℕ) (old new : Waiting) : Type 0 where
-  pub counted : length new.marked.items ≡ length old.marked.items
-  pub listed : number < length old.marked.items
-  pub kept : (n : ℕ) → n ≢ number → Waits old n → Waits new n
-  pub queue : IsQueue new
-  pub shorter : length old.queue.items ≡ length new.queue.items + 1
-
 -- ---- steps
 -- the set of the first number is joined into that of the second; it is told whether that one grew
 pub record IsJoinedInto (grew : Bool) (from to : ℕ) (old new : List Bits) : Type 0 where
@@ -72,11 +40,10 @@ size sets = sum_by (λ s. length (rising s)) sets
 -- the set of a number is joined into those of the first few ends of its edges: what they have they had, or it was sent; those that grew wait, no more of them than bits came
 pub record IsSent (from : ℕ) (ends : List ℕ) (few : ℕ) (old new : List Bits) (before after : Waiting) : Type 0 where
   pub counted : length new ≡ length old
-  pub marks : length after.marked.items ≡ length before.marked.items
+  pub limit : after.limit ≡ before.limit
   pub kept : (n bit : ℕ) → HoldsBit old n bit → HoldsBit new n bit
   pub came : (n bit : ℕ) → HoldsBit new n bit → HoldsBit old n bit ⊎ (Contains ends n × HoldsBit old from bit)
   pub sent : (k bit : ℕ) → k < few → HoldsBit old from bit → HoldsBit new (get_or ends k 0) bit
-  pub waits : (n : ℕ) → Waits before n → Waits after n
-  pub others : (n : ℕ) → (Waits after n → ⊥) → set_at new n ≡ set_at old n
-  pub queue : IsQueue before → IsQueue after
-  pub weighed : size old + length after.queue.items ≤ size new + length before.queue.items
+  pub waits : (n : ℕ) → Contains before.numbers n → Contains after.numbers n
+  pub others : (n : ℕ) → ¬ Contains after.numbers n → set_at new n ≡ set_at old n
+  pub weighed : size old + length after.numbers ≤ size new + length before.numbers

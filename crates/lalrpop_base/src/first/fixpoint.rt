@@ -10,10 +10,10 @@ ghost use Rattle.lalrpop_base.specs.first.FirstTurns.{IsAdded, IsQueued, IsTurn}
 
 use super::names::Names;
 use super::numbered::{NumberedProduction, number_productions};
-use super::queue::Queue;
 use super::sets::{empty_sets, given_by};
 use super::table::Table;
 use super::uses::{Uses, uses_of};
+use crate::collections::queue::Queue;
 use crate::lookahead::token_set::TokenSet;
 use crate::memory::OutOfMemory;
 use crate::repr::grammar::Grammar;

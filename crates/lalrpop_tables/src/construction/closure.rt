@@ -1,6 +1,6 @@
 //! The closure of a kernel. All productions of a nonterminal have the dot in front there and get
 //! the same tokens, so that these are kept by nonterminal.
-ghost use Rattle.std.specs.Prelude.{◌≡◌, ◌<◌, ◌∷◌, [], ℕ, IfOk, OnOk, IfSome, IfNone, Contains, IsTrue, length, map};
+ghost use Rattle.std.specs.Prelude.{◌≡◌, ◌<◌, ◌≤◌, ◌∷◌, [], ℕ, IfOk, OnOk, IfSome, IfNone, Contains, IsTrue, length, map};
 ghost use Rattle.std.specs.Map.{keys_of};
 ghost use Rattle.lalrpop_base.specs.Words.{AllDiffer, Bits, HasKnownTerminals};
 ghost use Rattle.lalrpop_base.specs.closures.Closure.{AreItemsBy, IsClosureBy, meant};
@@ -16,12 +16,12 @@ use super::numbered::Numbered;
 use super::numbers::Numbers;
 use super::numbers::rests::Rest;
 use super::workspace::Workspace;
+use lalrpop_base::collections::queue::Queue;
 use lalrpop_base::collections::sparse_map::SparseMap;
 use lalrpop_base::lookahead::Lookahead;
 use lalrpop_base::memory::OutOfMemory;
 use lalrpop_base::repr::Symbol;
 use std::alloc::Global;
-use std::collections::VecDeque;
 
 // Joins the tokens to those of a nonterminal, which goes into the queue if it is new or has more
 // now.
@@ -29,14 +29,16 @@ fn add_shared<L: Lookahead>(
     symbol: usize,
     tokens: L,
     shared: &mut SparseMap<L>,
-    queue: &mut VecDeque<usize>,
+    queue: &mut Queue,
 ) -> Result<(), OutOfMemory>
-    ensures { OnOk result (IsQueued symbol (L.meaning tokens)
+    requires { symbol < queue.old.limit }
+    ensures queued { OnOk result (IsQueued symbol (L.meaning tokens)
         (readings L.meaning shared.old) (readings L.meaning shared.new)
-        queue.old.items queue.new.items) }
+        queue.old.numbers queue.new.numbers) }
+    ensures limit { queue.new.limit ≡ queue.old.limit }
 {
     if shared.join(symbol, tokens)? {
-        queue.push_back(symbol)?;
+        queue.add(symbol)?;
     }
     Ok(())
 }
@@ -71,15 +73,17 @@ fn share<'grammar, L: LookaheadBuild>(
     number: usize,
     tokens: &L,
     shared: &mut SparseMap<L>,
-    queue: &mut VecDeque<usize>,
+    queue: &mut Queue,
 ) -> Result<(), OutOfMemory>
     requires numbers { AreNumbers lr.now.construction.rules numbers.now }
     requires known { number < length numbers.now.items.items }
-    ensures { OnOk result (Shares L.begins L.passes lr.now.construction.rules numbers.now
+    requires limit { length numbers.now.symbols.items ≤ queue.old.limit }
+    ensures limit { queue.new.limit ≡ queue.old.limit }
+    ensures shares { OnOk result (Shares L.begins L.passes lr.now.construction.rules numbers.now
         (item_by numbers.now.items.items (record
         { number = number; lookahead = L.meaning tokens.now }) ∷ [])
         (readings L.meaning shared.old) (readings L.meaning shared.new)
-        queue.old.items queue.new.items) }
+        queue.old.numbers queue.new.numbers) }
 {
     let Some(symbol) = numbers.behind[number] else {
         return Ok(());
@@ -110,14 +114,16 @@ fn share_kernel<'grammar, L: LookaheadBuild>(
     numbers: &Numbers<'grammar>,
     kernel: &[Numbered<L>],
     shared: &mut SparseMap<L>,
-    queue: &mut VecDeque<usize>,
+    queue: &mut Queue,
 ) -> Result<(), OutOfMemory>
     requires numbers { AreNumbers lr.now.construction.rules numbers.now }
     requires known { AreNumbered numbers.now.items.items kernel.now }
-    ensures { OnOk result (Shares L.begins L.passes lr.now.construction.rules numbers.now
+    requires limit { length numbers.now.symbols.items ≤ queue.old.limit }
+    ensures limit { queue.new.limit ≡ queue.old.limit }
+    ensures shares { OnOk result (Shares L.begins L.passes lr.now.construction.rules numbers.now
         (map (meant L.meaning) (items_by numbers.now.items.items kernel.now))
         (readings L.meaning shared.old) (readings L.meaning shared.new)
-        queue.old.items queue.new.items) }
+        queue.old.numbers queue.new.numbers) }
 {
     for item in kernel {
         share(
@@ -141,15 +147,17 @@ fn share_fronts<'grammar, L: LookaheadBuild>(
     fronts: &[usize],
     tokens: &L,
     shared: &mut SparseMap<L>,
-    queue: &mut VecDeque<usize>,
+    queue: &mut Queue,
 ) -> Result<(), OutOfMemory>
     requires numbers { AreNumbers lr.now.construction.rules numbers.now }
     requires known { AreNumbered numbers.now.items.items
         (fronts_in (L.meaning tokens.now) fronts.now) }
-    ensures { OnOk result (Shares L.begins L.passes lr.now.construction.rules numbers.now
+    requires limit { length numbers.now.symbols.items ≤ queue.old.limit }
+    ensures limit { queue.new.limit ≡ queue.old.limit }
+    ensures shares { OnOk result (Shares L.begins L.passes lr.now.construction.rules numbers.now
         (items_by numbers.now.items.items (fronts_in (L.meaning tokens.now) fronts.now))
         (readings L.meaning shared.old) (readings L.meaning shared.new)
-        queue.old.items queue.new.items) }
+        queue.old.numbers queue.new.numbers) }
 {
     for number in fronts {
         share(alloc, lr, numbers, *number, tokens, shared, queue)?;
@@ -181,6 +189,7 @@ fn share_all<'grammar, L: LookaheadBuild>(
     numbers: &Numbers<'grammar>,
     kernel: &[Numbered<L>],
     shared: &mut SparseMap<L>,
+    queue: &mut Queue,
 ) -> Result<(), OutOfMemory>
     requires numbers { AreNumbers lr.now.construction.rules numbers.now }
     requires known { AreNumbered numbers.now.items.items kernel.now }
@@ -191,12 +200,12 @@ fn share_all<'grammar, L: LookaheadBuild>(
         (readings L.meaning shared.new) []) }
 {
     shared.clear();
-    let mut queue = VecDeque::new(alloc);
-    share_kernel(alloc, lr, numbers, kernel, shared, &mut queue)?;
-    while let Some(symbol) = queue.pop_front() {
+    queue.restart(numbers.symbols.len())?;
+    share_kernel(alloc, lr, numbers, kernel, shared, queue)?;
+    while let Some(symbol) = queue.take() {
         if let Some(tokens) = shared_tokens(alloc, shared, symbol)? {
             let fronts = &numbers.expansions[symbol];
-            share_fronts(alloc, lr, numbers, fronts, &tokens, shared, &mut queue)?;
+            share_fronts(alloc, lr, numbers, fronts, &tokens, shared, queue)?;
         }
     }
     Ok(())
@@ -285,7 +294,7 @@ pub fn closure<'grammar, L: LookaheadBuild>(
         lr.now.construction.rules (items_by numbers.now.items.items kernel.now)
         (items_by numbers.now.items.items items.items)) }
 {
-    share_all(alloc, lr, numbers, kernel, &mut work.shared)?;
+    share_all(alloc, lr, numbers, kernel, &mut work.shared, &mut work.queue)?;
     work.items.clear();
     gather_kernel(alloc, kernel, &mut work.items)?;
     gather_shared(alloc, numbers, &work.shared, &mut work.items)?;

@@ -1,15 +1,17 @@
 //! What the states of a construction are made in, one after the other.
 
 use super::transitions::Moves;
+use lalrpop_base::collections::queue::Queue;
 use lalrpop_base::collections::sparse_map::SparseMap;
 use lalrpop_base::lookahead::Lookahead;
 use std::alloc::Global;
 
-/// The tokens of nonterminals and those of items, of a closure, and the moves of its items. What a
-/// state leaves here is taken out before the next.
+/// The tokens of nonterminals and those of items, of a closure, the nonterminals that wait to give
+/// theirs on, and the moves of the items. What a state leaves here is taken out before the next.
 #[derive(Drop)]
 pub struct Workspace<L: Lookahead> {
     pub shared: SparseMap<L>,
+    pub queue: Queue,
     pub items: SparseMap<L>,
     pub moves: Moves<L>,
 }
@@ -18,6 +20,7 @@ impl<L: Lookahead> Workspace<L> {
     pub fn new(alloc: Global) -> Self {
         Workspace {
             shared: SparseMap::new(alloc),
+            queue: Queue::new(alloc),
             items: SparseMap::new(alloc),
             moves: SparseMap::new(alloc),
         }

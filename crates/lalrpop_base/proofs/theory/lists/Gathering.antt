@@ -7,6 +7,7 @@ use Rattle.std.proofs.lemmas.List.{map-append}
 use Rattle.lalrpop_base.specs.Words.{Bits, AllDiffer}
 use Rattle.lalrpop_base.specs.Words.{Adds, IsFound, IsJoinedAt}
 use Rattle.lalrpop_base.specs.lists.Entries.{Gathers, GathersMore}
+use Rattle.lalrpop_base.specs.lists.Entries.IsPut.{came}
 use Rattle.lalrpop_base.proofs.theory.lists.Growth.{Adds-one, entry_key, found_kept, key_entry}
 use Rattle.lalrpop_base.proofs.theory.lists.Members.{contains-cons, contains_head, Contains-none}
 
@@ -28,7 +29,7 @@ module _ {K : Type 0} where
     queued = cond told ([] ++ k ∷ []) []
 
     adds : Adds (λ j. k ≡ j) tokens old new [] queued
-    adds = Adds-one k tokens old new [] queued (record { told = told; joined = joined; grown = refl; differ = differ })
+    adds = Adds-one k tokens old new [] queued (record { told = told; joined = joined; put = came refl; differ = differ })
 
     last : Contains (list ++ (k, tokens) ∷ []) (k, tokens)
     last = Contains-append_right list ((k, tokens) ∷ []) (k, tokens) (contains_head (k, tokens) [])

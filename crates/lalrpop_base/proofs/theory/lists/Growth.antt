@@ -1,11 +1,12 @@
 -- How a table of tokens grows, by one key and by many.
-use Rattle.std.proofs.Common.{◌≡◌, ◌≢◌, ◌≤◌, ◌+◌, ℕ, ◌⊎◌, inl, inr, List, [], ◌∷◌, ◌++◌, length, sym, ◌∙◌, ap, subst, arith, length-append, Bool, true, false, cond}
+use Rattle.std.proofs.Common.{◌≡◌, ◌≢◌, ◌≤◌, ◌+◌, ℕ, ◌⊎◌, inl, inr, List, [], ◌∷◌, ◌++◌, length, sym, ◌∙◌, ap, subst, arith, length-append, Bool, true, false, cond, refl}
 use Rattle.std.specs.Prelude.{Contains, MatchBool}
 use Rattle.std.specs.Map.{keys_of}
 use Rattle.std.proofs.lemmas.List.Elements.{Contains-append_left, Contains-append_right, Contains-append_cases}
 use Rattle.std.proofs.lemmas.List.Sums.{sum_by-append, sum_by-cons}
 use Rattle.lalrpop_base.specs.Words.{Bits, has, join}
-use Rattle.lalrpop_base.specs.lists.Entries.{IsQueued}
+use Rattle.lalrpop_base.specs.lists.Entries.{IsPut, IsQueued}
+use Rattle.lalrpop_base.specs.lists.Entries.IsPut.{came, waited}
 use Rattle.lalrpop_base.specs.Words.{IsJoinedAt, IsFound, IsFoundWith, Grows, Adds, burden, AllBelow, count, IsBelow}
 use Rattle.lalrpop_base.specs.lists.Entries.IsJoinedAt.{fresh, known}
 use Rattle.lalrpop_base.proofs.theory.lists.Members.{contains_head, contains_tail, contains-cons, Contains-none, contains_map}
@@ -89,36 +90,55 @@ module _ {K : Type 0} (key : K) (tokens : Bits) where
     | inr out ↦ inl (entry_key old e (subst (λ (xs : Joined). Contains xs e) (sym before) (around front back (key, s) e out)))
   ]
 
-  changed_by : (told : Bool) (s : Bits) (front back old : Joined) (queue pushed : List K) → pushed ≡ cond told (queue ++ key ∷ []) queue → MatchBool told (join s tokens ≢ s) (join s tokens ≡ s) → old ≡ front ++ (key, s) ∷ back → Contains pushed key ⊎ Contains old (key, join s tokens)
-  changed_by true s front back old queue pushed grown m before = inl (subst (λ (xs : List K). Contains xs key) (sym grown) (Contains-append_right queue (key ∷ []) key (contains_head key [])))
-  changed_by false s front back old queue pushed grown m before = inr (subst (λ (t : Bits). Contains old (key, t)) (sym m) (subst (λ (xs : Joined). Contains xs (key, s)) (sym before) (at_midst front back (key, s))))
+  -- the key waits where it has something new
+  put_there : (told : Bool) (queue pushed : List K) → IsPut key told queue pushed → told ≡ true → Contains pushed key
+  put_there told queue pushed (came e) t = subst (λ (xs : List K). Contains xs key) (sym (e ∙ ap (λ b. cond b (queue ++ key ∷ []) queue) t)) (Contains-append_right queue (key ∷ []) key (contains_head key []))
+  put_there told queue pushed (waited c e) t = subst (λ (xs : List K). Contains xs key) (sym e) c
 
-  joined_changed : (told : Bool) (old new : Joined) (queue pushed : List K) → IsJoinedAt key tokens told old new → pushed ≡ cond told (queue ++ key ∷ []) queue → (e : K × Bits) → Contains new e → Contains pushed e.0 ⊎ Contains old e
-  joined_changed told old new queue pushed (fresh front back before after t) grown e c = elim (midst front back (key, tokens) e (subst (λ (xs : Joined). Contains xs e) after c)) [
-    | inl same ↦
-        let now : pushed ≡ queue ++ key ∷ [] = grown ∙ ap (λ b. cond b (queue ++ key ∷ []) queue) t in
-        inl (subst (λ (x : K × Bits). Contains pushed x.0) same (subst (λ (xs : List K). Contains xs key) (sym now) (Contains-append_right queue (key ∷ []) key (contains_head key []))))
+  changed_by : (told : Bool) (s : Bits) (front back old : Joined) (queue pushed : List K) → IsPut key told queue pushed → MatchBool told (join s tokens ≢ s) (join s tokens ≡ s) → old ≡ front ++ (key, s) ∷ back → Contains pushed key ⊎ Contains old (key, join s tokens)
+  changed_by true s front back old queue pushed put m before = inl (put_there true queue pushed put refl)
+  changed_by false s front back old queue pushed put m before = inr (subst (λ (t : Bits). Contains old (key, t)) (sym m) (subst (λ (xs : Joined). Contains xs (key, s)) (sym before) (at_midst front back (key, s))))
+
+  joined_changed : (told : Bool) (old new : Joined) (queue pushed : List K) → IsJoinedAt key tokens told old new → IsPut key told queue pushed → (e : K × Bits) → Contains new e → Contains pushed e.0 ⊎ Contains old e
+  joined_changed told old new queue pushed (fresh front back before after t) put e c = elim (midst front back (key, tokens) e (subst (λ (xs : Joined). Contains xs e) after c)) [
+    | inl same ↦ inl (subst (λ (x : K × Bits). Contains pushed x.0) same (put_there told queue pushed put t))
     | inr out ↦ inr (subst (λ (xs : Joined). Contains xs e) (sym before) out)
   ]
-  joined_changed told old new queue pushed (known front back s before after t) grown e c = elim (midst front back (key, join s tokens) e (subst (λ (xs : Joined). Contains xs e) after c)) [
-    | inl same ↦ subst (λ (x : K × Bits). Contains pushed x.0 ⊎ Contains old x) same (changed_by told s front back old queue pushed grown t before)
+  joined_changed told old new queue pushed (known front back s before after t) put e c = elim (midst front back (key, join s tokens) e (subst (λ (xs : Joined). Contains xs e) after c)) [
+    | inl same ↦ subst (λ (x : K × Bits). Contains pushed x.0 ⊎ Contains old x) same (changed_by told s front back old queue pushed put t before)
     | inr out ↦ inr (subst (λ (xs : Joined). Contains xs e) (sym before) (around front back (key, s) e out))
   ]
 
-  queued_stays : (told : Bool) (queue pushed : List K) → pushed ≡ cond told (queue ++ key ∷ []) queue → (k : K) → Contains queue k → Contains pushed k
-  queued_stays true queue pushed e k c = subst (λ (ks : List K). Contains ks k) (sym e) (Contains-append_left queue (key ∷ []) k c)
-  queued_stays false queue pushed e k c = subst (λ (ks : List K). Contains ks k) (sym e) c
+  pushed_stays : (told : Bool) (queue pushed : List K) → pushed ≡ cond told (queue ++ key ∷ []) queue → (k : K) → Contains queue k → Contains pushed k
+  pushed_stays true queue pushed e k c = subst (λ (ks : List K). Contains ks k) (sym e) (Contains-append_left queue (key ∷ []) k c)
+  pushed_stays false queue pushed e k c = subst (λ (ks : List K). Contains ks k) (sym e) c
 
-  pub queued_found : (told : Bool) (queue pushed : List K) → pushed ≡ cond told (queue ++ key ∷ []) queue → (k : K) → Contains pushed k → Contains queue k ⊎ (key ≡ k)
-  queued_found true queue pushed e k c = elim (Contains-append_cases queue (key ∷ []) k (subst (λ (ks : List K). Contains ks k) e c)) [
+  queued_stays : (told : Bool) (queue pushed : List K) → IsPut key told queue pushed → (k : K) → Contains queue k → Contains pushed k
+  queued_stays told queue pushed (came e) k c = pushed_stays told queue pushed e k c
+  queued_stays told queue pushed (waited h e) k c = subst (λ (ks : List K). Contains ks k) (sym e) c
+
+  pushed_found : (told : Bool) (queue pushed : List K) → pushed ≡ cond told (queue ++ key ∷ []) queue → (k : K) → Contains pushed k → Contains queue k ⊎ (key ≡ k)
+  pushed_found true queue pushed e k c = elim (Contains-append_cases queue (key ∷ []) k (subst (λ (ks : List K). Contains ks k) e c)) [
     | inl d ↦ inl d
     | inr d ↦ elim (contains-cons key [] k d) [ inl same ↦ inr same | inr n ↦ absurd (Contains-none k n) ]
   ]
-  queued_found false queue pushed e k c = inl (subst (λ (ks : List K). Contains ks k) e c)
+  pushed_found false queue pushed e k c = inl (subst (λ (ks : List K). Contains ks k) e c)
 
-  pub queued_length : (told : Bool) (queue pushed : List K) → pushed ≡ cond told (queue ++ key ∷ []) queue → length pushed ≡ cond told (length queue + 1) (length queue)
-  queued_length true queue pushed e = ap length e ∙ length-append queue (key ∷ [])
-  queued_length false queue pushed e = ap length e
+  queued_found : (told : Bool) (queue pushed : List K) → IsPut key told queue pushed → (k : K) → Contains pushed k → Contains queue k ⊎ (key ≡ k)
+  queued_found told queue pushed (came e) k c = pushed_found told queue pushed e k c
+  queued_found told queue pushed (waited h e) k c = inl (subst (λ (ks : List K). Contains ks k) e c)
+
+  pushed_length : (told : Bool) (queue pushed : List K) → pushed ≡ cond told (queue ++ key ∷ []) queue → length pushed ≤ cond told (length queue + 1) (length queue)
+  pushed_length true queue pushed e = let l = ap length e ∙ length-append queue (key ∷ []) in omega arith
+  pushed_length false queue pushed e = let l = ap length e in omega arith
+
+  kept_length : (told : Bool) (n m : ℕ) → n ≡ m → n ≤ cond told (m + 1) m
+  kept_length true n m e = omega arith
+  kept_length false n m e = omega arith
+
+  queued_length : (told : Bool) (queue pushed : List K) → IsPut key told queue pushed → length pushed ≤ cond told (length queue + 1) (length queue)
+  queued_length told queue pushed (came e) = pushed_length told queue pushed e
+  queued_length told queue pushed (waited h e) = kept_length told (length pushed) (length queue) (ap length e)
 
   module _ (n : ℕ) where
     burden_midst : (front back : Joined) (x : K × Bits) → burden n (front ++ x ∷ back) ≡ burden n (front ++ back) + (1 + count n x.1)
@@ -150,7 +170,7 @@ module _ {K : Type 0} (key : K) (tokens : Bits) where
         omega arith
 
   pub queued_among : (old new : Joined) (queue pushed : List K) → IsQueued key tokens old new queue pushed → (k : K) → Contains pushed k → Contains queue k ⊎ Contains (keys_of new) k
-  queued_among old new queue pushed s k c = elim (queued_found s.told queue pushed s.grown k c) [
+  queued_among old new queue pushed s k c = elim (queued_found s.told queue pushed s.put k c) [
     | inl o ↦ inl o
     | inr e ↦ inr (subst (Contains (keys_of new)) e (let h = joined_there s.told old new s.joined in entry_key new (key, h.set) h.entry))
   ]
@@ -158,12 +178,12 @@ module _ {K : Type 0} (key : K) (tokens : Bits) where
   pub queued_weighed : (old new : Joined) (queue pushed : List K) → IsQueued key tokens old new queue pushed → (n : ℕ) → IsBelow n tokens → AllBelow n old → burden n old + length pushed ≤ burden n new + length queue
   queued_weighed old new queue pushed s n f each =
       let l = joined_weighed n s.told old new (length queue) s.joined f each in
-      let m = queued_length s.told queue pushed s.grown in
+      let m = queued_length s.told queue pushed s.put in
       omega arith
 
   pub Adds-one : (old new : Joined) (queue pushed : List K) → IsQueued key tokens old new queue pushed → Adds (λ k. key ≡ k) tokens old new queue pushed
   Adds-one old new queue pushed s = record {
-    grows = record { kept = joined_kept s.told old new s.joined; stays = queued_stays s.told queue pushed s.grown; changed = joined_changed s.told old new queue pushed s.joined s.grown };
+    grows = record { kept = joined_kept s.told old new s.joined; stays = queued_stays s.told queue pushed s.put; changed = joined_changed s.told old new queue pushed s.joined s.put };
     keys = joined_keys s.told old new s.joined;
     bits = joined_bits s.told old new s.joined;
     there = λ k e. subst (λ (x : K). IsFound new x tokens) e (joined_there s.told old new s.joined);

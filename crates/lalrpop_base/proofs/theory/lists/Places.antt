@@ -1,5 +1,5 @@
 -- Lists whose values differ, and a value more.
-use Rattle.std.proofs.Common.{◌≡◌, ◌≢◌, ℕ, zero, suc, ◌+◌, ◌<◌, ◌≤◌, ◌⊎◌, inl, inr, List, [], ◌∷◌, ◌++◌, length, get_or, refl, sym, ◌∙◌, ap, subst, arith, ⊎_elim, length-append, drop}
+use Rattle.std.proofs.Common.{◌≡◌, ◌≢◌, ℕ, zero, suc, ◌+◌, ◌<◌, ◌≤◌, ◌⊎◌, inl, inr, List, [], ◌∷◌, ◌++◌, length, get_or, refl, sym, ◌∙◌, ap, subst, arith, ⊎_elim, length-append, drop, set}
 use Rattle.std.specs.Prelude.{slice_get, Some, Contains, unwrap_or, AllPairs}
 use Rattle.std.proofs.lemmas.Option.{slice_get_within, get_or_from_slice_get, slice_get-get_or, slice_get_read}
 use Rattle.std.proofs.lemmas.Bool.{cases_lt}
@@ -67,6 +67,27 @@ module _ {X : Type 0} (front back : List X) (x : X) where
 
 pub differ_front : {X : Type 0} (xs ys : List X) → AllDiffer (xs ++ ys) → AllDiffer xs
 differ_front xs ys d i j x l at_i at_j = d i j x l (slice_get-longer xs ys i x at_i) (slice_get-longer xs ys j x at_j)
+
+-- a value more that stands nowhere before
+pub differ_push : {X : Type 0} (xs : List X) (x : X) → AllDiffer xs → ¬ Contains xs x → AllDiffer (xs ++ x ∷ [])
+differ_push xs x d out i j y l at_i at_j = elim (push_cases xs x j y at_j) [
+  | inl in_j ↦ elim (push_cases xs x i y at_i) [
+    | inl in_i ↦ d i j y l in_i in_j
+    | inr e ↦ let w = slice_get_within xs j y in_j in let m = e.0 in absurd (omega arith)
+  ]
+  | inr e ↦ elim (push_cases xs x i y at_i) [
+    | inl in_i ↦ out (contains_at xs x i (in_i ∙ ap Some (sym e.1)))
+    | inr f ↦ let m = e.0 in let n = f.0 in absurd (omega arith)
+  ]
+]
+
+-- a value that is put into a place leaves the others
+pub put_other : {X : Type 0} (xs : List X) (i j : ℕ) (v : X) → (j ≡ i → ⊥) → slice_get (set xs i v) j ≡ slice_get xs j
+put_other [] i j v apart = refl
+put_other (x ∷ xs) zero zero v apart = absurd (apart refl)
+put_other (x ∷ xs) zero (suc j) v apart = refl
+put_other (x ∷ xs) (suc i) zero v apart = refl
+put_other (x ∷ xs) (suc i) (suc j) v apart = put_other xs i j v (λ e. apart (ap suc e))
 
 -- what is read at a place stands there
 pub slice_get_at : {X : Type 0} (xs : List X) (i : ℕ) (x : X) → i < length xs → x ≡ get_or xs i x → slice_get xs i ≡ Some x

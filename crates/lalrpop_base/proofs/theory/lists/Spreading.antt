@@ -9,8 +9,10 @@ use Rattle.std.proofs.lemmas.Option.{slice_get-get_or}
 use Rattle.std.proofs.lemmas.List.Elements.{Contains-get_or, Contains-push, Contains-push_cases, Contains-append_left}
 use Rattle.std.proofs.lemmas.List.Sums.{sum_by-set, sum_by-le, get_or-le-sum_by}
 use Rattle.lalrpop_base.specs.Words.{Bits, has, rising, join, no_bits, has-no_bits, has-join, has-place, same_bits}
-use Rattle.lalrpop_base.specs.lists.Spreading.{set_at, HoldsBit, listed_ends, edge_ends, IsSpread, held, sent_on, Waits, IsQueue, AllBelowWait, NowWaits, IsFirstTaken, IsJoinedInto, size, IsSent}
-use Rattle.lalrpop_base.specs.declared.spread.Waiting.{Waiting}
+use Rattle.lalrpop_base.specs.lists.Spreading.{set_at, HoldsBit, listed_ends, edge_ends, IsSpread, held, sent_on, IsJoinedInto, size, IsSent}
+use Rattle.lalrpop_base.specs.lists.Queues.{Waiting, waiting_with, waits}
+use Rattle.lalrpop_base.proofs.theory.lists.Members.{Contains-none}
+use Rattle.lalrpop_base.proofs.theory.lists.Queues.{left_kept, waits_among, with_here, with_kept, with_longer}
 use Rattle.lalrpop_base.proofs.theory.sets.BitCounts.{join_larger, rising_small}
 
 -- ---- one join
@@ -87,130 +89,17 @@ joined_larger {from} {to} {old} {new} end j =
 joined_same : {from to : ℕ} {old new : List Bits} → IsJoinedInto false from to old new → new ≡ old
 joined_same {from} {to} {old} j = j.joined ∙ ap (set old to) j.told ∙ set-get_or old to no_bits
 
--- ---- the numbers that wait
-contains_none : {X : Type 0} {x : X} → Contains [] x → ⊥
-contains_none h = absurd (omega (arith, h.1))
-
--- what is in a queue that begins with a number
-front_or_rest : (x : ℕ) (xs : List ℕ) (n : ℕ) → Contains (x ∷ xs) n → (n ≡ x) ⊎ Contains xs n
-front_or_rest x xs n (zero, l, e) = inl (sym e)
-front_or_rest x xs n (suc k, l, e) = inr (k, omega (arith, l), e)
-
-front_there : (x : ℕ) (xs : List ℕ) → Contains (x ∷ xs) x
-front_there x xs = (0, omega arith, refl)
-
-rest_there : (x : ℕ) (xs : List ℕ) (n : ℕ) → Contains xs n → Contains (x ∷ xs) n
-rest_there x xs n h = (suc h.0, omega (arith, h.1), h.2)
-
--- a queue of the numbers below a count
-pub record HasAllBelow (count : ℕ) (xs : List ℕ) : Type 0 where
-  pub each : (n : ℕ) → n < count → Contains xs n
-  pub only : (n : ℕ) → Contains xs n → n < count
-
-pub none_below : HasAllBelow 0 []
-none_below = record { each = λ n l. absurd (omega (arith, l)); only = λ n h. absurd (contains_none h) }
-
-pub next_below : (count : ℕ) (xs : List ℕ) → HasAllBelow count xs → HasAllBelow (count + 1) (xs ++ count ∷ [])
-next_below count xs all = record {
-  each = λ n l. elim (cases_eq n count) [
-    | inl e ↦ subst (Contains (xs ++ count ∷ [])) (sym e) (Contains-push xs count)
-    | inr apart ↦ Contains-append_left xs (count ∷ []) n (all.each n (omega (arith, l, apart)))
-  ];
-  only = λ n h. elim (Contains-push_cases xs count n h) [ inl old ↦ omega (arith, all.only n old) | inr e ↦ omega (arith, e) ];
-}
-
-pub all_wait : (count : ℕ) (waiting : Waiting) → HasAllBelow count waiting.queue.items → waiting.marked.items ≡ replicate count true → AllBelowWait count waiting
-all_wait count waiting all marks =
-    let counted : length waiting.marked.items ≡ count = ap length marks ∙ length-replicate count true in
-    record {
-      counted = counted;
-      each = λ n l. ap (λ (xs : List Bool). get_or xs n false) marks ∙ get_or-replicate count n true false l;
-      queue = record {
-        queued = λ n w. elim (cases_lt n (length waiting.marked.items)) [
-          | inl l ↦ all.each n (omega (arith, l, counted))
-          | inr past ↦ absurd (true≢false (sym w ∙ get_or_past waiting.marked.items n false past))
-        ];
-        marks = λ n h. omega (arith, all.only n h, counted);
-      };
-    }
-
--- a number that waits need not be added
-pub already_waits : (number : ℕ) (waiting : Waiting) → Waits waiting number → NowWaits number waiting waiting
-already_waits number waiting here = record { counted = refl; here = here; kept = λ n w. w; queue = λ q. q; longer = omega arith }
-
-pub now_waits : (number : ℕ) (old new : Waiting) → number < length old.marked.items → new.queue.items ≡ old.queue.items ++ number ∷ [] → new.marked.items ≡ set old.marked.items number true → NowWaits number old new
-now_waits number old new listed queued marks = record {
-  counted = counted;
-  here = here;
-  kept = kept;
-  queue = λ q. record {
-    queued = λ n w. elim (cases_eq n number) [
-      | inl e ↦ subst (Contains new.queue.items) (sym e) (subst (λ (xs : List ℕ). Contains xs number) (sym queued) (Contains-push old.queue.items number))
-      | inr apart ↦ subst (λ (xs : List ℕ). Contains xs n) (sym queued) (Contains-append_left old.queue.items (number ∷ []) n (q.queued n (sym (other n apart) ∙ w)))
-    ];
-    marks = λ n h. elim (Contains-push_cases old.queue.items number n (subst (λ (xs : List ℕ). Contains xs n) queued h)) [
-      | inl there ↦ omega (arith, q.marks n there, counted)
-      | inr e ↦ omega (arith, e, listed, counted)
-    ];
-  };
-  longer = omega (arith, ap length queued, length_push old.queue.items number);
-}
-  where
-    counted : length new.marked.items ≡ length old.marked.items
-    counted = ap length marks ∙ length-set old.marked.items number true
-
-    here : Waits new number
-    here = ap (λ (xs : List Bool). get_or xs number false) marks ∙ get_or-set_same old.marked.items number true false listed
-
-    other : (n : ℕ) → (n ≡ number → ⊥) → get_or new.marked.items n false ≡ get_or old.marked.items n false
-    other n apart = ap (λ (xs : List Bool). get_or xs n false) marks ∙ get_or-set_other old.marked.items number n true false apart
-
-    kept : (n : ℕ) → Waits old n → Waits new n
-    kept n w = elim (cases_eq n number) [ inl e ↦ subst (Waits new) (sym e) here | inr apart ↦ other n apart ∙ w ]
-
--- the first of a queue has a mark to clear
-pub first_listed : (number : ℕ) (rest : List ℕ) (waiting : Waiting) → waiting.queue.items ≡ number ∷ rest → IsQueue waiting → number < length waiting.marked.items
-first_listed number rest waiting queued q = q.marks number (subst (λ (xs : List ℕ). Contains xs number) (sym queued) (front_there number rest))
-
-pub first_taken : (number : ℕ) (old new : Waiting) → old.queue.items ≡ number ∷ new.queue.items → new.marked.items ≡ set old.marked.items number false → IsQueue old → IsFirstTaken number old new
-first_taken number old new queued marks q = record {
-  counted = counted;
-  listed = listed;
-  kept = λ n apart w. other n apart ∙ w;
-  queue = record {
-    queued = λ n w. elim (cases_eq n number) [
-      | inl e ↦ absurd (true≢false (sym (subst (Waits new) e w) ∙ here))
-      | inr apart ↦ elim (front_or_rest number new.queue.items n (subst (λ (xs : List ℕ). Contains xs n) queued (q.queued n (sym (other n apart) ∙ w)))) [ inl e ↦ absurd (apart e) | inr rest ↦ rest ]
-    ];
-    marks = λ n h. omega (arith, q.marks n (subst (λ (xs : List ℕ). Contains xs n) (sym queued) (rest_there number new.queue.items n h)), counted);
-  };
-  shorter = omega (arith, ap length queued);
-}
-  where
-    counted : length new.marked.items ≡ length old.marked.items
-    counted = ap length marks ∙ length-set old.marked.items number false
-
-    listed : number < length old.marked.items
-    listed = first_listed number new.queue.items old queued q
-
-    here : get_or new.marked.items number false ≡ false
-    here = ap (λ (xs : List Bool). get_or xs number false) marks ∙ get_or-set_same old.marked.items number false false listed
-
-    other : (n : ℕ) → (n ≡ number → ⊥) → get_or new.marked.items n false ≡ get_or old.marked.items n false
-    other n apart = ap (λ (xs : List Bool). get_or xs n false) marks ∙ get_or-set_other old.marked.items number n false false apart
-
 -- ---- the edges of a number
 module _ (from : ℕ) (ends : List ℕ) where
   pub sent_none : (sets : List Bits) (waiting : Waiting) → IsSent from ends 0 sets sets waiting waiting
   sent_none sets waiting = record {
     counted = refl;
-    marks = refl;
+    limit = refl;
     kept = λ n bit h. h;
     came = λ n bit h. inl h;
     sent = λ k bit l h. absurd (omega (arith, l));
     waits = λ n w. w;
     others = λ n w. refl;
-    queue = λ q. q;
     weighed = omega arith;
   }
 
@@ -237,30 +126,34 @@ module _ (from : ℕ) (ends : List ℕ) where
       | inr apart ↦ joined_kept end j (get_or ends k 0) bit (s.sent k bit (omega (arith, l, apart)) h)
     ]
 
-  pub sent_grown : {few : ℕ} {old mid new : List Bits} {before between after : Waiting} → few < length ends → get_or ends few 0 < length old → IsSent from ends few old mid before between → IsJoinedInto true from (get_or ends few 0) mid new → NowWaits (get_or ends few 0) between after →
+  pub sent_grown : {few : ℕ} {old mid new : List Bits} {before between after : Waiting} → few < length ends → get_or ends few 0 < length old → IsSent from ends few old mid before between → IsJoinedInto true from (get_or ends few 0) mid new → after.limit ≡ between.limit → after.numbers ≡ waiting_with (get_or ends few 0) between.numbers →
       IsSent from ends (few + 1) old new before after
-  sent_grown {few} {old} {mid} {new} {before} {between} {after} listed in_range s j a = record {
+  sent_grown {few} {old} {mid} {new} {before} {between} {after} listed in_range s j limit added = record {
     counted = joined_counted (end listed in_range s j) j ∙ s.counted;
-    marks = a.counted ∙ s.marks;
+    limit = limit ∙ s.limit;
     kept = next_kept listed in_range s j;
     came = next_came listed in_range s j;
     sent = next_sent listed in_range s j;
-    waits = λ n w. a.kept n (s.waits n w);
-    others = λ n rests. at_other (end listed in_range s j) j n (λ e. rests (subst (Waits after) (sym e) a.here)) ∙ s.others n (λ w. rests (a.kept n w));
-    queue = λ q. a.queue (s.queue q);
-    weighed = omega (arith, s.weighed, joined_larger (end listed in_range s j) j, a.longer);
+    waits = λ n w. kept n (s.waits n w);
+    others = λ n rests. at_other (end listed in_range s j) j n (λ e. rests (subst (Contains after.numbers) (sym e) here)) ∙ s.others n (λ w. rests (kept n w));
+    weighed = omega (arith, s.weighed, joined_larger (end listed in_range s j) j, ap length added, with_longer between.numbers (get_or ends few 0));
   }
+    where
+      here : Contains after.numbers (get_or ends few 0)
+      here = subst (λ (ns : List ℕ). Contains ns (get_or ends few 0)) (sym added) (with_here between.numbers (get_or ends few 0))
+
+      kept : (n : ℕ) → Contains between.numbers n → Contains after.numbers n
+      kept n c = subst (λ (ns : List ℕ). Contains ns n) (sym added) (with_kept between.numbers (get_or ends few 0) n c)
 
   pub sent_same : {few : ℕ} {old mid new : List Bits} {before between : Waiting} → few < length ends → get_or ends few 0 < length old → IsSent from ends few old mid before between → IsJoinedInto false from (get_or ends few 0) mid new → IsSent from ends (few + 1) old new before between
   sent_same {few} {old} {mid} {new} {before} {between} listed in_range s j = record {
     counted = joined_counted (end listed in_range s j) j ∙ s.counted;
-    marks = s.marks;
+    limit = s.limit;
     kept = next_kept listed in_range s j;
     came = next_came listed in_range s j;
     sent = next_sent listed in_range s j;
     waits = s.waits;
     others = λ n rests. ap (λ (sets : List Bits). set_at sets n) (joined_same j) ∙ s.others n rests;
-    queue = s.queue;
     weighed = omega (arith, s.weighed, ap size (joined_same j));
   }
 
@@ -269,21 +162,19 @@ module _ (base : List Bits) (edges : List (Vec ℕ Global)) where
   -- the sets so far: between the first ones and the least, and of a number that does not wait the ends of its edges have all
   pub record SpreadSoFar (sets : List Bits) (waiting : Waiting) : Type 0 where
     pub counted : length sets ≡ length base
-    pub marks : length waiting.marked.items ≡ length base
-    pub queue : IsQueue waiting
+    pub limit : waiting.limit ≡ length base
     pub kept : (n bit : ℕ) → HoldsBit base n bit → HoldsBit sets n bit
     pub only : (n bit : ℕ) → HoldsBit sets n bit → IsSpread base edges n bit
-    pub settled : (from to bit : ℕ) → (Waits waiting from → ⊥) → Contains (edge_ends edges from) to → HoldsBit sets from bit → HoldsBit sets to bit
+    pub settled : (from to bit : ℕ) → ¬ Contains waiting.numbers from → Contains (edge_ends edges from) to → HoldsBit sets from bit → HoldsBit sets to bit
 
-  pub nothing_spread : (waiting : Waiting) → length edges ≡ length base → AllBelowWait (length base) waiting → SpreadSoFar base waiting
-  nothing_spread waiting counted all = record {
+  pub nothing_spread : (waiting : Waiting) → length edges ≡ length base → waiting.limit ≡ length base → ((k : ℕ) → k < length base → waits waiting.numbers k ≡ true) → SpreadSoFar base waiting
+  nothing_spread waiting counted limit all = record {
     counted = refl;
-    marks = all.counted;
-    queue = all.queue;
+    limit = limit;
     kept = λ n bit h. h;
     only = λ n bit h. held n bit h;
     settled = λ from to bit rests edge h. elim (cases_lt from (length base)) [
-      | inl listed ↦ absurd (rests (all.each from listed))
+      | inl listed ↦ absurd (rests (waits_among waiting.numbers from (all from listed)))
       | inr past ↦ absurd (none_past from bit past h)
     ];
   }
@@ -291,16 +182,15 @@ module _ (base : List Bits) (edges : List (Vec ℕ Global)) where
       none_past : (n bit : ℕ) → length base ≤ n → HoldsBit base n bit → ⊥
       none_past n bit past h = true≢false (sym h ∙ ap (λ (s : Bits). has s bit) (get_or_past base n no_bits past) ∙ has-no_bits bit)
 
-  pub spread_further : (from : ℕ) (sets new : List Bits) (waiting taken after : Waiting) → SpreadSoFar sets waiting → IsFirstTaken from waiting taken → IsSent from (edge_ends edges from) (length (edge_ends edges from)) sets new taken after → SpreadSoFar new after
-  spread_further from sets new waiting taken after so t s = record {
+  pub spread_further : (from : ℕ) (sets new : List Bits) (waiting taken after : Waiting) → SpreadSoFar sets waiting → taken.limit ≡ waiting.limit → waiting.numbers ≡ from ∷ taken.numbers → IsSent from (edge_ends edges from) (length (edge_ends edges from)) sets new taken after → SpreadSoFar new after
+  spread_further from sets new waiting taken after so limit first s = record {
     counted = s.counted ∙ so.counted;
-    marks = s.marks ∙ t.counted ∙ so.marks;
-    queue = s.queue t.queue;
+    limit = s.limit ∙ limit ∙ so.limit;
     kept = λ n bit h. s.kept n bit (so.kept n bit h);
     only = λ n bit h. elim (s.came n bit h) [ inl there ↦ so.only n bit there | inr sent ↦ sent_on from n bit sent.0 (so.only from bit sent.1) ];
     settled = λ m n bit rests edge h. elim (cases_eq m from) [
       | inl e ↦ sent_to n bit (subst (λ k. Contains (edge_ends edges k) n) e edge) (subst (λ k. HoldsBit new k bit) e h)
-      | inr apart ↦ s.kept n bit (so.settled m n bit (λ w. rests (s.waits m (t.kept m apart w))) edge (sym (ap (λ (x : Bits). has x bit) (s.others m rests)) ∙ h))
+      | inr apart ↦ s.kept n bit (so.settled m n bit (λ w. rests (s.waits m (left_kept waiting.numbers taken.numbers from m first apart w))) edge (sym (ap (λ (x : Bits). has x bit) (s.others m rests)) ∙ h))
     ];
   }
     where
@@ -309,12 +199,12 @@ module _ (base : List Bits) (edges : List (Vec ℕ Global)) where
           let old : HoldsBit sets from bit = elim (s.came from bit h) [ inl there ↦ there | inr sent ↦ sent.1 ] in
           subst (λ k. HoldsBit new k bit) (get_or_default (edge_ends edges from) edge.0 0 n edge.1 ∙ edge.2) (s.sent edge.0 bit edge.1 old)
 
-  pub all_spread : (sets : List Bits) (waiting : Waiting) → SpreadSoFar sets waiting → waiting.queue.items ≡ [] → (n bit : ℕ) → HoldsBit sets n bit ↔ IsSpread base edges n bit
+  pub all_spread : (sets : List Bits) (waiting : Waiting) → SpreadSoFar sets waiting → waiting.numbers ≡ [] → (n bit : ℕ) → HoldsBit sets n bit ↔ IsSpread base edges n bit
   all_spread sets waiting so empty n bit = (so.only n bit, back)
     where
       back : {n bit : ℕ} → IsSpread base edges n bit → HoldsBit sets n bit
       back (held n bit h) = so.kept n bit h
-      back (sent_on from to bit edge k) = so.settled from to bit (λ w. contains_none (subst (λ (xs : List ℕ). Contains xs from) empty (so.queue.queued from w))) edge (back k)
+      back (sent_on from to bit edge k) = so.settled from to bit (λ w. Contains-none from (subst (λ (xs : List ℕ). Contains xs from) empty w)) edge (back k)
 
   -- ---- how long it can go on
   -- above each bit of the sets
@@ -343,13 +233,13 @@ module _ (base : List Bits) (edges : List (Vec ℕ Global)) where
 
   -- the bits that can still come, and the numbers that wait
   pub left_to_spread : List Bits → Waiting → ℕ
-  left_to_spread sets waiting = (length base * above - size sets) + length waiting.queue.items
+  left_to_spread sets waiting = (length base * above - size sets) + length waiting.numbers
 
-  pub spread_falls : (from : ℕ) (sets new : List Bits) (waiting taken after : Waiting) → SpreadSoFar sets waiting → IsFirstTaken from waiting taken → IsSent from (edge_ends edges from) (length (edge_ends edges from)) sets new taken after → left_to_spread new after < left_to_spread sets waiting
+  pub spread_falls : (from : ℕ) (sets new : List Bits) (waiting taken after : Waiting) → SpreadSoFar sets waiting → taken.limit ≡ waiting.limit → waiting.numbers ≡ from ∷ taken.numbers → IsSent from (edge_ends edges from) (length (edge_ends edges from)) sets new taken after → left_to_spread new after < left_to_spread sets waiting
   unfolding left_to_spread
-  spread_falls from sets new waiting taken after so t s =
-      let bound = size_below new after (spread_further from sets new waiting taken after so t s) in
-      omega (arith, bound, t.shorter, s.weighed)
+  spread_falls from sets new waiting taken after so limit first s =
+      let bound = size_below new after (spread_further from sets new waiting taken after so limit first s) in
+      omega (arith, bound, ap length first, s.weighed)
 
 -- the ends of the edges as they are read
 pub ends_read : (edges : List (Vec ℕ Global)) (from : ℕ) (list : Vec ℕ Global) (ends : List ℕ) → from < length edges → list ≡ get_or edges from list → ends ≡ list.items → ends ≡ edge_ends edges from

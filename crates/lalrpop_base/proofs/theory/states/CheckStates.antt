@@ -33,7 +33,7 @@ use Rattle.lalrpop_base.specs.declared.repr.Symbol.TheVariants.{Nonterminal, Ter
 use Rattle.lalrpop_base.proofs.theory.states.ContentsViews.{some_of_map, contains_of_map}
 use Rattle.lalrpop_base.specs.states.CheckStates.{target_of, AreListed}
 use Rattle.lalrpop_base.proofs.theory.lists.Members.{Contains-none, contains_head, contains_tail, contains-cons, contains_map, place}
-use Rattle.lalrpop_base.proofs.theory.lists.Places.{contains_at, same_some, push_cases, slice_get-longer, slice_get-push_at}
+use Rattle.lalrpop_base.proofs.theory.lists.Places.{contains_at, differ_push, same_some, push_cases, slice_get-longer, slice_get-push_at}
 use Rattle.lalrpop_base.proofs.theory.grammars.Tables.{same_lr0}
 
 -- ---- edges
@@ -198,18 +198,6 @@ Reduced-none keys e = record {
 reduced_push : (rs : Reductions) (r : Bits × Bor Production) → reduced (rs ++ r ∷ []) ≡ reduced rs ++ r.1.now ∷ []
 reduced_push [] r = refl
 reduced_push (q ∷ rs) r = ap (λ ps. q.1.now ∷ ps) (reduced_push rs r)
-
-differ_push : {X : Type 0} (xs : List X) (x : X) → AllDiffer xs → ¬ Contains xs x → AllDiffer (xs ++ x ∷ [])
-differ_push xs x d out i j y l at_i at_j = elim (push_cases xs x j y at_j) [
-  | inl in_j ↦ elim (push_cases xs x i y at_i) [
-    | inl in_i ↦ d i j y l in_i in_j
-    | inr e ↦ let w = slice_get_within xs j y in_j in let m = e.0 in absurd (omega arith)
-  ]
-  | inr e ↦ elim (push_cases xs x i y at_i) [
-    | inl in_i ↦ out (contains_at xs x i (in_i ∙ ap Some (sym e.1)))
-    | inr f ↦ let m = e.0 in let n = f.0 in absurd (omega arith)
-  ]
-]
 
 pub finished_same : (p q : Production) → finished p ≡ finished q → p ≡ q
 finished_same p q e = ap (λ (k : Dotted Nil). k.production) e

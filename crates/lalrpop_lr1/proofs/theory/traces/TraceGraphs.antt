@@ -28,7 +28,7 @@ use Rattle.lalrpop_base.proofs.theory.lists.MultimapLemmas.{tied_at, everywhere}
 use Rattle.lalrpop_tables.specs.Words.{listed}
 use Rattle.lalrpop_tables.proofs.theory.states.Contained.{Decided, decided, added_or_not}
 use Rattle.lalrpop_base.proofs.theory.lists.Members.{contains_map, place}
-use Rattle.lalrpop_base.proofs.theory.lists.Places.{push_cases, contains_at, same_some}
+use Rattle.lalrpop_base.proofs.theory.lists.Places.{differ_push, push_cases, contains_at, same_some}
 use Rattle.lalrpop_lr1.specs.Words.{Graph, PlainEdge, plain, plain_edge, IsGraph, IsKept, IsFrom, SameLabels, HaveEnds, KeepPlaces, AddsBoth, AddsNoOther}
 use Rattle.lalrpop_lr1.specs.Words.{AddsEdge, places_from}
 use Rattle.lalrpop_lr1.specs.contracts.trace.node.TraceGraphNodeOrd.TheImpl as node_ord
@@ -93,19 +93,6 @@ kept_more {old} {new} {edges} {incoming} {k} {v} kept step = record {
 }
 
 -- ---- edges
-
-pub differ_push : {X : Type 0} (xs : List X) (x : X) → AllDiffer xs → ¬ Contains xs x → AllDiffer (xs ++ x ∷ [])
-differ_push xs x differ out i j y l at_i at_j =
-    elim (push_cases xs x j y at_j) [
-      | inl b ↦ elim (push_cases xs x i y at_i) [
-        | inl a ↦ differ i j y l a b
-        | inr a ↦ let w = slice_get_within xs j y b in let e = a.0 in omega arith
-      ]
-      | inr b ↦ elim (push_cases xs x i y at_i) [
-        | inl a ↦ out (subst (Contains xs) (sym b.1) (contains_at xs y i a))
-        | inr a ↦ let e = a.0 in let f = b.0 in omega arith
-      ]
-    ]
 
 pub ends_push : (nodes : List TraceGraphNode) (edges : List TraceGraphEdge) (e : TraceGraphEdge) → HaveEnds nodes edges → Contains nodes e.from → Contains nodes e.to → HaveEnds nodes (edges ++ e ∷ [])
 ends_push nodes edges e ends from to k f at =

@@ -18,7 +18,8 @@ use Rattle.lalrpop_lr1.specs.declared.trace.ground.Traced.{Traced}
 use Rattle.lalrpop_lr1.specs.declared.trace.ground.Traced.TheVariants.{Shift, Reduce}
 use Rattle.lalrpop_lr1.specs.declared.trace.node.TraceGraphNode.{TraceGraphNode}
 use Rattle.lalrpop_lr1.proofs.theory.inlining.InlineMembers.{in_map, from_map, in_flat_map, from_flat_map}
-use Rattle.lalrpop_lr1.proofs.theory.traces.TraceGraphs.{differ_push, plain_there}
+use Rattle.lalrpop_base.proofs.theory.lists.Places.{differ_push}
+use Rattle.lalrpop_lr1.proofs.theory.traces.TraceGraphs.{plain_there}
 
 -- ---- values added in turn
 

@@ -7,7 +7,7 @@ use Rattle.std.proofs.lemmas.List.Elements.{Contains-append_left, Contains-appen
 use Rattle.std.proofs.lemmas.Option.{slice_get_within}
 use Rattle.lalrpop_base.specs.Words.{Rules}
 use Rattle.lalrpop_base.proofs.theory.lists.Members.{Contains-none, contains-cons, contains_head, place}
-use Rattle.lalrpop_base.proofs.theory.lists.Places.{contains_at, filled, same_some, slice_get-longer}
+use Rattle.lalrpop_base.proofs.theory.lists.Places.{contains_at, filled, same_some, slice_get-longer, put_other}
 use Rattle.lalrpop_tables.specs.check.NumberedClosures.{AddsBehind, AreMarked, InNumberedClosure, IsBehindNumber, IsNumberedClosure, MarksBelow, of_front, of_kernel}
 use Rattle.lalrpop_tables.specs.closures.Sharing.{list_at}
 use Rattle.lalrpop_tables.specs.grammars.Numbers.{AreNumbers}
@@ -19,13 +19,6 @@ put_here : (xs : List ℕ) (i v : ℕ) → i < length xs → slice_get (set xs i
 put_here [] i v l = absurd (omega arith)
 put_here (x ∷ xs) zero v l = refl
 put_here (x ∷ xs) (suc i) v l = put_here xs i v (omega arith)
-
-put_other : (xs : List ℕ) (i j v : ℕ) → (j ≡ i → ⊥) → slice_get (set xs i v) j ≡ slice_get xs j
-put_other [] i j v apart = refl
-put_other (x ∷ xs) zero zero v apart = absurd (apart refl)
-put_other (x ∷ xs) zero (suc j) v apart = refl
-put_other (x ∷ xs) (suc i) zero v apart = refl
-put_other (x ∷ xs) (suc i) (suc j) v apart = put_other xs i j v (λ e. apart (ap suc e))
 
 -- what stands at a place stands in a list that keeps places
 kept_there : (old new : List ℕ) → ((i x : ℕ) → slice_get old i ≡ Some x → slice_get new i ≡ Some x) → (x : ℕ) → Contains old x → Contains new x

@@ -15,7 +15,7 @@ use Rattle.lalrpop_base.specs.declared.repr.Production.{Production}
 use Rattle.lalrpop_base.specs.grammars.Ascending.{Ascend}
 use Rattle.lalrpop_base.proofs.theory.grammars.Tables.{same_lr0}
 use Rattle.lalrpop_base.proofs.theory.lists.Members.{Contains-none, contains-cons, contains_head, place}
-use Rattle.lalrpop_base.proofs.theory.lists.Places.{contains_at, filled, one_place, push_cases, same_some}
+use Rattle.lalrpop_base.proofs.theory.lists.Places.{contains_at, filled, one_place, push_cases, same_some, put_other}
 use Rattle.lalrpop_tables.specs.check.ByNumber.{AddsFinished, AreItemsAt, AreListedByNumber, AreMarkedReached, HasFinished, HoldSets, HoldsUnion, IsKernelOf, IsListedState, IsReachedByNumber, MarksTarget, MarksTargets, over_transition}
 use Rattle.lalrpop_tables.specs.follow_sets.FollowWalks.{AreUnions}
 use Rattle.lalrpop_tables.specs.grammars.Numbering.{with_dot}
@@ -131,20 +131,13 @@ Finished-more n done item old new before adds k c end = elim (Contains-append_ca
 pub Targets-none : (marks : List Bool) → MarksTargets [] marks marks
 Targets-none marks = record { counted = refl; from = λ m at. inl at }
 
-put_other_mark : (xs : List Bool) (i j : ℕ) (v : Bool) → (j ≡ i → ⊥) → slice_get (set xs i v) j ≡ slice_get xs j
-put_other_mark [] i j v apart = refl
-put_other_mark (x ∷ xs) zero zero v apart = absurd (apart refl)
-put_other_mark (x ∷ xs) zero (suc j) v apart = refl
-put_other_mark (x ∷ xs) (suc i) zero v apart = refl
-put_other_mark (x ∷ xs) (suc i) (suc j) v apart = put_other_mark xs i j v (λ e. apart (ap suc e))
-
 -- a state that is marked
 pub Target-marked : (target : ℕ) (old new : List Bool) → new ≡ set old target true → MarksTarget target old new
 Target-marked target old new marks = record {
   counted = ap length marks ∙ length-set old target true;
   from = λ m at. elim (cases_eq m target) [
     | inl e ↦ inr e
-    | inr apart ↦ inl (sym (put_other_mark old target m true apart) ∙ ap (λ (bs : List Bool). slice_get bs m) (sym marks) ∙ at)
+    | inr apart ↦ inl (sym (put_other old target m true apart) ∙ ap (λ (bs : List Bool). slice_get bs m) (sym marks) ∙ at)
   ];
 }
 

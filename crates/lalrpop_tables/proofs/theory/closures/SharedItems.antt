@@ -17,6 +17,7 @@ use Rattle.lalrpop_tables.specs.grammars.Rests.{IsRest}
 use Rattle.lalrpop_tables.specs.declared.construction.numbers.rests.Rest.{Rest}
 use Rattle.lalrpop_tables.specs.closures.Sharing.{IsFront, IsNamed, IsShared, Shared, Shares, fronts_in}
 use Rattle.lalrpop_base.specs.lists.Entries.{IsQueued}
+use Rattle.lalrpop_base.specs.lists.Entries.IsPut.{came}
 use Rattle.lalrpop_base.specs.lists.Entries.IsJoinedAt.{known as join_known}
 use Rattle.lalrpop_base.proofs.theory.states.ContentsViews.{contains_of_map}
 use Rattle.lalrpop_base.proofs.theory.lists.Lists.{drop_past}
@@ -106,7 +107,7 @@ queued_again {K} key tokens s table queue there same differ =
     record {
       told = false;
       joined = join_known h.0 h.1 s h.2 (h.2 ∙ ap (λ (t : Bits). h.0 ++ (key, t) ∷ h.1) (sym same)) same;
-      grown = refl;
+      put = came refl;
       differ = differ;
     }
 

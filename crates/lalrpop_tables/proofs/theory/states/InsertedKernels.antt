@@ -8,19 +8,7 @@ use Rattle.std.proofs.lemmas.Option.{slice_get_within}
 use mathlib.Core.Bool.{true≢false}
 use Rattle.indexmap.specs.IndexSet.{insert_key}
 use Rattle.lalrpop_base.specs.Words.{AddsOnce, AllDiffer, Exactly}
-use Rattle.lalrpop_base.proofs.theory.lists.Places.{contains_at, push_cases}
-
-differ_push : {X : Type 0} (xs : List X) (x : X) → AllDiffer xs → ¬ Contains xs x → AllDiffer (xs ++ x ∷ [])
-differ_push xs x differ out i j y l at_i at_j = elim (push_cases xs x j y at_j) [
-  | inl in_j ↦ elim (push_cases xs x i y at_i) [
-    | inl in_i ↦ differ i j y l in_i in_j
-    | inr e ↦ let w = slice_get_within xs j y in_j in let m = e.0 in absurd (omega arith)
-  ]
-  | inr e ↦ elim (push_cases xs x i y at_i) [
-    | inl in_i ↦ out (contains_at xs x i (in_i ∙ ap Some (sym e.1)))
-    | inr f ↦ let m = e.0 in let n = f.0 in absurd (omega arith)
-  ]
-]
+use Rattle.lalrpop_base.proofs.theory.lists.Places.{differ_push}
 
 -- the values before and after, and where an equal value stands after
 module _ {X : Type 0} (E : X → X → Bool) (exact : Exactly E) (old new : List X) (x : X) (n : ℕ) (keys : new ≡ insert_key E old x) (stored : (k : X) × (slice_get new n ≡ Some k) × (E x k ≡ true)) where

@@ -1,6 +1,7 @@
 use Rattle.std.proofs.Common.{◌≡◌, Bool, true, false, refl, ap, subst, List, [], ◌∷◌}
 use Rattle.lalrpop_base.specs.Words.{Bits}
 use Rattle.lalrpop_base.specs.Words.{IsJoinedAt, readings}
+use Rattle.lalrpop_base.specs.lists.Entries.IsPut.{came}
 use Rattle.lalrpop_tables.proofs.check.carrying.send.Goals as goal
 
 -- sets of tokens stand for themselves
@@ -15,7 +16,7 @@ pub returns-in_ok-push_back : goal.returns-in_ok-push_back
 returns-in_ok-push_back c = record {
   told = true;
   joined = rw (← c.copy-copy.ensures, ← c.if-branch.true) (joined_sets _ _ _ _ _ c.in_ok-add_tokens.ensures.joined);
-  grown = c.in_ok-push_back.ensures.items;
+  put = came c.in_ok-push_back.ensures.items;
   differ = c.in_ok-add_tokens.ensures.differ;
 }
 
@@ -23,6 +24,6 @@ pub returns-else-branch : goal.returns-else-branch
 returns-else-branch c = record {
   told = false;
   joined = rw (← c.copy-copy.ensures, ← c.if-branch.false) (joined_sets _ _ _ _ _ c.in_ok-add_tokens.ensures.joined);
-  grown = refl;
+  put = came refl;
   differ = c.in_ok-add_tokens.ensures.differ;
 }

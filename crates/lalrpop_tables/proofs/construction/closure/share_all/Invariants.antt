@@ -1,4 +1,4 @@
-use Rattle.std.proofs.Common.{map}
+use Rattle.std.proofs.Common.{◌≤◌, length, map}
 use Rattle.lalrpop_tables.specs.grammars.Numbers.{items_by}
 use Rattle.lalrpop_tables.specs.closures.Sharing.{IsSharing}
 use Rattle.lalrpop_base.specs.Words.{meant, readings}
@@ -6,8 +6,10 @@ use Rattle.lalrpop_tables.proofs.theory.closures.Sharing.{work}
 use Rattle.lalrpop_tables.proofs.construction.closure.share_all.Given as goal
 
 abbrev pub invariant-loop-symbol : goal.invariant-loop-symbol
-invariant-loop-symbol g l =
-    IsSharing g.L.LookaheadBuild.begins g.L.LookaheadBuild.passes l.lr.construction.rules l.numbers (map (meant g.L.Lookahead.meaning) (items_by l.numbers.items.items l.kernel)) (readings g.L.Lookahead.meaning l.shared) l.queue.items
+invariant-loop-symbol g l = record {
+  limit : length l.numbers.symbols.items ≤ l.queue.limit;
+  sharing : IsSharing g.L.LookaheadBuild.begins g.L.LookaheadBuild.passes l.lr.construction.rules l.numbers (map (meant g.L.Lookahead.meaning) (items_by l.numbers.items.items l.kernel)) (readings g.L.Lookahead.meaning l.shared) l.queue.numbers;
+}
 
 abbrev pub decreases-loop-symbol : goal.decreases-loop-symbol
-decreases-loop-symbol g l = work l.lr.construction.rules l.numbers (readings g.L.Lookahead.meaning l.shared) l.queue.items
+decreases-loop-symbol g l = work l.lr.construction.rules l.numbers (readings g.L.Lookahead.meaning l.shared) l.queue.numbers

@@ -1,6 +1,6 @@
 use Rattle.std.proofs.Common.{◌≡◌, ◌<◌, ◌∷◌, length, rules}
-use Rattle.lalrpop_base.proofs.theory.first.FirstQueues.{Marked-taken, taken_within}
-use Rattle.lalrpop_base.proofs.first.queue.Queue.take.Goals as goal
+use Rattle.lalrpop_base.proofs.theory.lists.Queues.{Marked-taken, taken_within}
+use Rattle.lalrpop_base.proofs.collections.queue.Queue.take.Goals as goal
 
 pub index_mut-requires : goal.index_mut-requires
 index_mut-requires c =

@@ -1,0 +1,6 @@
+use Rattle.std.proofs.Common.{◌≡◌, false, get_or, ℕ, rules}
+use Rattle.lalrpop_base.proofs.theory.lists.Queues.{Marked-none, no_mark}
+use Rattle.lalrpop_base.proofs.collections.queue.Queue.new.Goals as goal
+
+pub invariant_of-result : goal.invariant_of-result
+invariant_of-result c = Marked-none _ _ c.new.ensures.items (no_mark _ c.new-2.ensures.items)
