@@ -6,6 +6,7 @@ pub mod Counts
 pub mod Each
 pub mod Entries
 pub mod Exact
+pub mod LeadingBytes
 pub mod Multimaps
 pub mod Partitions
 pub mod Places

@@ -1,5 +1,5 @@
 -- Productions whose names and terminals are numbers, and what sets by number give for them.
-use Rattle.std.specs.Prelude.{◌≡◌, ◌≢◌, ℕ, zero, suc, ◌<◌, ◌⊎◌, ◌↔◌, true, cond, List, [], ◌∷◌, length, slice_get, slice_index_or, Some, Contains}
+use Rattle.std.specs.Prelude.{◌≡◌, ◌≢◌, ℕ, zero, suc, ◌<◌, ◌⊎◌, ◌↔◌, true, cond, List, [], ◌∷◌, length, slice_get, Some, Contains}
 use Rattle.std.specs.List.{AllZip}
 use Rattle.std.specs.BTreeMap.{is_at}
 pub use Rattle.lalrpop_base.specs.lists.Spreading.{set_at}
@@ -11,7 +11,7 @@ use Rattle.lalrpop_base.specs.declared.repr.Production.{Production}
 use Rattle.lalrpop_base.specs.declared.first.numbered.NumberedSymbol.{NumberedSymbol}
 use Rattle.lalrpop_base.specs.declared.first.numbered.NumberedSymbol.TheVariants.{Bit, Name}
 use Rattle.lalrpop_base.specs.declared.first.numbered.NumberedProduction.{NumberedProduction}
-use Rattle.lalrpop_base.specs.lists.Bits.{Bits, has, no_bits}
+use Rattle.lalrpop_base.specs.lists.Bits.{Bits, has}
 use Rattle.lalrpop_base.specs.grammars.WellFormed.{name_cmp, HasKnownTerminals}
 
 -- the place of the name among the names, and the count of all where it is none of them

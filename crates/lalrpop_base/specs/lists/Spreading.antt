@@ -1,5 +1,5 @@
 -- Least sets over the edges of a graph: the least solution of F(n) = base(n) ∪ ⋃ { F(m) | an edge leads from m to n }, by which DeRemer and Pennello 1982 find follow sets.
-use Rattle.std.specs.Prelude.{◌≡◌, ◌≢◌, ℕ, ◌+◌, ◌<◌, ◌≤◌, ◌⊎◌, Bool, false, List, [], length, get_or, set, slice_get, sum_by, Contains, Option, Some, None, IsTrue, MatchBool}
+use Rattle.std.specs.Prelude.{◌≡◌, ◌≢◌, ℕ, ◌+◌, ◌<◌, ◌≤◌, ◌⊎◌, Bool, List, [], length, get_or, set, slice_get, sum_by, Contains, Option, Some, None, IsTrue, MatchBool}
 use Rattle.std.specs.declared.alloc.Global.{Global}
 use Rattle.std.specs.declared.vec.Vec.{Vec}
 use Rattle.lalrpop_base.specs.lists.Bits.{Bits, has, rising, join, no_bits}

@@ -105,15 +105,17 @@ impl<V> SparseMap<V> {
         self.entries.clear();
     }
 
-    /// Takes all entries out, by rising numbers.
-    pub fn take_rising(&mut self, alloc: Global) -> Vec<(usize, V)>
-        ensures same { IsPermutation self.old result.items }
-        ensures rising { Ordered (λ (d e : ℕ × V). d.0 < e.0) result.items }
-        ensures empty { self.new ≡ [] }
+    /// Takes all entries out, by rising numbers. Room for as many is left.
+    pub fn take_rising(&mut self, alloc: Global) -> Result<Vec<(usize, V)>, OutOfMemory>
+        ensures same { IfOk result (λ list. IsPermutation self.old list.items) }
+        ensures rising { IfOk result
+            (λ list. Ordered (λ (d e : ℕ × V). d.0 < e.0) list.items) }
+        ensures empty { OnOk result (self.new ≡ []) }
     {
-        let mut entries = replace(&mut self.entries, Vec::new(alloc));
+        let room = Vec::with_capacity(alloc, self.entries.len())?;
+        let mut entries = replace(&mut self.entries, room);
         entries.sort_unstable_by_key(|entry| entry.0);
-        entries
+        Ok(entries)
     }
 }
 
@@ -170,7 +172,7 @@ impl<T: Drop> SparseMap<Sequence<T>> {
             self.entries[place].1.push(item)?;
             return Ok(());
         }
-        let mut items = Sequence::new(alloc);
+        let mut items = Sequence::with_capacity(alloc, 1)?;
         items.push(item)?;
         self.push(number, items)
     }

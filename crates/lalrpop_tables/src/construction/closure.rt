@@ -298,5 +298,6 @@ pub fn closure<'grammar, L: LookaheadBuild>(
     work.items.clear();
     gather_kernel(alloc, kernel, &mut work.items)?;
     gather_shared(alloc, numbers, &work.shared, &mut work.items)?;
-    items_of(alloc, work.items.take_rising(alloc))
+    let entries = work.items.take_rising(alloc)?;
+    items_of(alloc, entries)
 }

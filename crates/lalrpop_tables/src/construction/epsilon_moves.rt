@@ -75,10 +75,11 @@ impl LookaheadBuild for TokenSet {
         lookahead: &TokenSet,
     ) -> Result<Option<TokenSet>, OutOfMemory> {
         let _grammar = lr.grammar();
-        let mut tokens = rest.first.clone(alloc)?;
-        if rest.nullable {
-            tokens.union_with(lookahead)?;
+        if !rest.nullable {
+            return Ok(Some(rest.first.clone(alloc)?));
         }
+        let mut tokens = lookahead.clone(alloc)?;
+        tokens.union_with(&rest.first)?;
         Ok(Some(tokens))
     }
 

@@ -70,7 +70,7 @@ fn build_state<'grammar, L: LookaheadBuild>(
 {
     let list = closure(alloc, lr, numbers, kernel.as_slice(), work)?;
     moves_of(alloc, numbers, &list, &mut work.moves)?;
-    let moves = work.moves.take_rising(alloc);
+    let moves = work.moves.take_rising(alloc)?;
     let Edges { shifts, gotos } = edges_of(alloc, numbers, moves, kernels)?;
     let items = items_of(alloc, numbers, list)?;
     let reductions = reductions(alloc, &items)?;

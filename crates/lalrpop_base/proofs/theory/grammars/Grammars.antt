@@ -9,7 +9,7 @@ use Rattle.std.proofs.lemmas.Map.Entries.{place_from_lookup, btree_map_get_place
 use Rattle.std.proofs.lemmas.Map.Lookups.{exact_bytes}
 use Rattle.std.proofs.lemmas.List.Elements.{Contains-append_left, Contains-append_right, Contains-append_cases}
 use Rattle.lalrpop_base.specs.Words.{IsWellFormed, AreWellFormedEntries, IsWellFormedEntry, HasKnownTerminals, productions, productions_of, listed_productions}
-use Rattle.lalrpop_base.specs.Words.{name_cmp}
+use Rattle.lalrpop_base.specs.Words.{Rules, name_cmp, rules_of}
 use Rattle.lalrpop_base.specs.declared.repr.NonterminalString.{NonterminalString}
 use Rattle.lalrpop_base.specs.declared.repr.TerminalString.{TerminalString}
 use Rattle.lalrpop_base.specs.declared.repr.Symbol.{Symbol}
@@ -56,6 +56,11 @@ known_in terminals actions (e ∷ es) p w c = elim (Contains-append_cases (liste
 
 pub known_symbols : (g : Grammar) (p : Production) → IsWellFormed g → Contains (productions g) p → HasKnownTerminals g.terminals p.symbols
 known_symbols g p w c = known_in g.terminals _ g.nonterminals.entries p w c
+
+-- of rules that are those of a well-formed grammar
+pub known_by_rules : (g : Grammar) (rules : Rules) → rules_of g ≡ rules → IsWellFormed g → (p : Production) → Contains rules.productions p → HasKnownTerminals rules.terminals p.symbols
+known_by_rules g rules is well p among =
+    subst (λ (r : Rules). HasKnownTerminals r.terminals p.symbols) is (known_symbols g p well (subst (λ (r : Rules). Contains r.productions p) (sym is) among))
 
 pub known_rest : (terminals : List TerminalString) (n : ℕ) (symbols rest : List Symbol) → HasKnownTerminals terminals symbols → rest ≡ drop n symbols → HasKnownTerminals terminals rest
 known_rest terminals n symbols rest h e k t at = h (n + k) t (sym (slice_get-drop n symbols k) ∙ ap (λ (xs : List Symbol). slice_get xs k) (sym e) ∙ at)

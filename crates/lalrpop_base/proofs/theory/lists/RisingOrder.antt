@@ -12,7 +12,7 @@ use Rattle.lalrpop_base.proofs.theory.lists.RisingLemmas.{RisesFrom, among, belo
 clash : (b : Bool) → b ≡ true → b ≡ false → ⊥
 clash b t f = true≢false (sym t ∙ f)
 
-less_is : (x y : ℕ) → x < y → nat_cmp x y ≡ Less
+pub less_is : (x y : ℕ) → x < y → nat_cmp x y ≡ Less
 less_is x y l = rw (lt-ltb x y l) refl
 
 head_in : (x : ℕ) (xs : List ℕ) → among x (x ∷ xs) ≡ true

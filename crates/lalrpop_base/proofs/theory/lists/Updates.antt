@@ -16,11 +16,10 @@ use Rattle.std.proofs.lemmas.Map.{lookup-none}
 use Rattle.std.proofs.lemmas.Map.Entries.{none_below_head}
 use Rattle.std.proofs.lemmas.Map.Keys.{sorted_tail}
 use Rattle.std.proofs.lemmas.Map.Lookups.{CmpEqualImpliesEq}
-use Rattle.std.specs.Prelude.{◌≢◌, Contains}
-use Rattle.std.proofs.Common.{◌⊎◌, inl, inr, subst}
+use Rattle.std.specs.Prelude.{Contains}
 use Rattle.lalrpop_base.specs.Words.{AllDiffer}
 use Rattle.lalrpop_base.proofs.theory.lists.Members.{apart-from_sorted}
-use Rattle.lalrpop_base.proofs.theory.lists.Places.{differ_from_apart, midst, around, at_midst}
+use Rattle.lalrpop_base.proofs.theory.lists.Places.{differ_from_apart}
 use Rattle.lalrpop_base.specs.Words.{IsPushedAt}
 use Rattle.lalrpop_base.specs.lists.Entries.IsPushedAt.{fresh as push_fresh, known as push_known}
 

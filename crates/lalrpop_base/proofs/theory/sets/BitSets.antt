@@ -1,7 +1,8 @@
 -- The bits of sets that are joined, and of sets of one bit.
 use Rattle.std.proofs.Common.{◌≡◌, ℕ, ◌⊎◌, refl, sym, ◌∙◌, Bool, true, false, ◌||◌, inl, inr, ap, ◌==◌, eqb-true, eq-eqb}
+use Rattle.std.proofs.Math.Bool.{or_comm}
 use Rattle.std.proofs.lemmas.Bool.{or_cases, false≢true}
-use Rattle.lalrpop_base.specs.Words.{Bits, has, join, has-join, no_bits, with_bit, has-no_bits, has-with_bit}
+use Rattle.lalrpop_base.specs.Words.{Bits, has, join, has-join, same_bits, no_bits, with_bit, has-no_bits, has-with_bit}
 
 or_left : (a b : Bool) → a ≡ true → (a || b) ≡ true
 or_left true b h = refl
@@ -20,6 +21,9 @@ join_right s t bit h = has-join s t bit ∙ or_right (has s bit) (has t bit) h
 
 pub join_cases : (s t : Bits) (bit : ℕ) → has (join s t) bit ≡ true → (has s bit ≡ true) ⊎ (has t bit ≡ true)
 join_cases s t bit h = or_cases (has s bit) (has t bit) (sym (has-join s t bit) ∙ h)
+
+pub join_turned : (s t : Bits) → join s t ≡ join t s
+join_turned s t = same_bits (join s t) (join t s) (λ bit. has-join s t bit ∙ or_comm (has s bit) (has t bit) ∙ sym (has-join t s bit))
 
 -- ---- a set of one bit
 -- it has that bit alone

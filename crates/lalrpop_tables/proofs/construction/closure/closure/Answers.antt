@@ -14,11 +14,11 @@ gather_shared-requires g c = λ e h. number_known c.args.lr.now.construction.rul
 
 pub returns-clause-known : goal.returns-clause-known
 returns-clause-known g c =
-    let entries = c.take_rising.result.items in
-    let rise = c.take_rising.ensures.rising in
+    let entries = c.in_ok-entries.entries.items in
+    let rise = c.in_ok-entries.ensures.rising in
     let first = rw c.clear.ensures at c.in_ok-gather_kernel.ensures in
     let gathers = c.in_ok-gather_shared.ensures _ (first _ Gathers-none) in
-    let all = Gathers-rising entries rise g.L.Lookahead.meaning _ _ c.take_rising.ensures.same gathers in
+    let all = Gathers-rising entries rise g.L.Lookahead.meaning _ _ c.in_ok-entries.ensures.same gathers in
     IfOk-weaker c.items_of.result _ _ (λ list h.
     subst (AreNumbered c.args.numbers.now.items.items) (sym h) (Closure-of g.L.Lookahead.meaning g.L.LookaheadBuild.begins g.L.LookaheadBuild.passes c.args.lr.now.construction.rules c.args.numbers.now c.requires.numbers c.args.kernel.now c.requires.known c.requires.kernel _ c.in_ok-share_all.ensures entries all (numbers_rise entries rise)).0)
     c.items_of.ensures
@@ -27,11 +27,11 @@ pub returns-clause-closed : goal.returns-clause-closed
 returns-clause-closed g c =
     let rules = c.args.lr.now.construction.rules in
     let items = c.args.numbers.now.items.items in
-    let entries = c.take_rising.result.items in
-    let rise = c.take_rising.ensures.rising in
+    let entries = c.in_ok-entries.entries.items in
+    let rise = c.in_ok-entries.ensures.rising in
     let first = rw c.clear.ensures at c.in_ok-gather_kernel.ensures in
     let gathers = c.in_ok-gather_shared.ensures _ (first _ Gathers-none) in
-    let all = Gathers-rising entries rise g.L.Lookahead.meaning _ _ c.take_rising.ensures.same gathers in
+    let all = Gathers-rising entries rise g.L.Lookahead.meaning _ _ c.in_ok-entries.ensures.same gathers in
     IfOk-weaker c.items_of.result _ _ (λ list h.
     subst (λ (xs : List (Numbered g.row.L.Denot)). IsClosureBy g.L.Lookahead.meaning g.L.LookaheadBuild.begins g.L.LookaheadBuild.passes rules (items_by items c.args.kernel.now) (items_by items xs)) (sym h)
     (Closure-of g.L.Lookahead.meaning g.L.LookaheadBuild.begins g.L.LookaheadBuild.passes rules c.args.numbers.now c.requires.numbers c.args.kernel.now c.requires.known c.requires.kernel _ c.in_ok-share_all.ensures entries all (numbers_rise entries rise)).1)

@@ -15,7 +15,7 @@ pub moves_of-requires-clause-known : goal.moves_of-requires-clause-known
 moves_of-requires-clause-known g c = subst (AreNumbered c.args.numbers.now.items.items) (sym c.deref.ensures.value) c.in_ok-list.ensures.known
 
 pub edges_of-requires-clause-known : goal.edges_of-requires-clause-known
-edges_of-requires-clause-known g c = groups_permuted c.args.numbers.now c.moves_of.new.moves c.take_rising-moves.result.items c.take_rising-moves.ensures.same c.in_ok-moves_of.ensures.known
+edges_of-requires-clause-known g c = groups_permuted c.args.numbers.now c.moves_of.new.moves c.in_ok-moves.moves.items c.in_ok-moves.ensures.same c.in_ok-moves_of.ensures.known
 
 pub returns-clause-built : goal.returns-clause-built
 returns-clause-built g c =
@@ -24,10 +24,10 @@ returns-clause-built g c =
     let kernel : List (Dotted g.row.L.Denot) = items_by items c.args.kernel.now in
     let closed = subst (λ (is : List (Dotted g.row.L.Denot)). C kernel is) (sym c.in_ok-items.ensures) (rw c.as_slice.ensures at c.in_ok-list.ensures.closed) in
     let n = c.args.numbers.now in
-    let rising : NumberedGroups g.row.L.Denot = c.take_rising-moves.result.items in
+    let rising : NumberedGroups g.row.L.Denot = c.in_ok-moves.moves.items in
     let held : AreMoves (items_by n.items.items c.in_ok-list.list.items) (groups_by n rising) =
-    moves_permuted n c.moves_of.new.moves rising c.take_rising-moves.ensures.same c.args.lr.now.construction.rules c.requires.numbers (items_by n.items.items c.in_ok-list.list.items) c.in_ok-moves_of.ensures.known
-    (rising_differ rising c.take_rising-moves.ensures.rising) (rw c.deref.ensures.value at c.in_ok-moves_of.ensures.moves) in
+    moves_permuted n c.moves_of.new.moves rising c.in_ok-moves.ensures.same c.args.lr.now.construction.rules c.requires.numbers (items_by n.items.items c.in_ok-list.list.items) c.in_ok-moves_of.ensures.known
+    (rising_differ rising c.in_ok-moves.ensures.rising) (rw c.deref.ensures.value at c.in_ok-moves_of.ensures.moves) in
     let moves = subst (λ (is : List (Dotted g.row.L.Denot)). AreMoves is (groups_by n rising)) (sym c.in_ok-items.ensures) held in
     Built-made C kernel c.in_ok-items.items.items (groups_by n rising) _ c.in_ok-shifts.field-0 c.args.number _ refl refl refl refl (rw c.deref-2.ensures.value at c.in_ok-reductions.ensures) closed moves c.in_ok-shifts.ensures.edges
 
@@ -38,19 +38,19 @@ returns-clause-extends g c =
     let kernel : List (Dotted g.row.L.Denot) = items_by items c.args.kernel.now in
     let closed = subst (λ (is : List (Dotted g.row.L.Denot)). C kernel is) (sym c.in_ok-items.ensures) (rw c.as_slice.ensures at c.in_ok-list.ensures.closed) in
     let n = c.args.numbers.now in
-    let rising : NumberedGroups g.row.L.Denot = c.take_rising-moves.result.items in
+    let rising : NumberedGroups g.row.L.Denot = c.in_ok-moves.moves.items in
     let held : AreMoves (items_by n.items.items c.in_ok-list.list.items) (groups_by n rising) =
-    moves_permuted n c.moves_of.new.moves rising c.take_rising-moves.ensures.same c.args.lr.now.construction.rules c.requires.numbers (items_by n.items.items c.in_ok-list.list.items) c.in_ok-moves_of.ensures.known
-    (rising_differ rising c.take_rising-moves.ensures.rising) (rw c.deref.ensures.value at c.in_ok-moves_of.ensures.moves) in
+    moves_permuted n c.moves_of.new.moves rising c.in_ok-moves.ensures.same c.args.lr.now.construction.rules c.requires.numbers (items_by n.items.items c.in_ok-list.list.items) c.in_ok-moves_of.ensures.known
+    (rising_differ rising c.in_ok-moves.ensures.rising) (rw c.deref.ensures.value at c.in_ok-moves_of.ensures.moves) in
     let moves = subst (λ (is : List (Dotted g.row.L.Denot)). AreMoves is (groups_by n rising)) (sym c.in_ok-items.ensures) held in
     Reached-extends g.L.Lookahead.meaning c.args.lr.now.construction.rules c.in_ok-items.items.items (groups_by n rising) _ _ closed.are_items moves c.in_ok-shifts.ensures.reached
 
 pub returns-clause-led : goal.returns-clause-led
 returns-clause-led g c =
     let n = c.args.numbers.now in
-    let rising : NumberedGroups g.row.L.Denot = c.take_rising-moves.result.items in
+    let rising : NumberedGroups g.row.L.Denot = c.in_ok-moves.moves.items in
     let held : AreMoves (items_by n.items.items c.in_ok-list.list.items) (groups_by n rising) =
-    moves_permuted n c.moves_of.new.moves rising c.take_rising-moves.ensures.same c.args.lr.now.construction.rules c.requires.numbers (items_by n.items.items c.in_ok-list.list.items) c.in_ok-moves_of.ensures.known
-    (rising_differ rising c.take_rising-moves.ensures.rising) (rw c.deref.ensures.value at c.in_ok-moves_of.ensures.moves) in
+    moves_permuted n c.moves_of.new.moves rising c.in_ok-moves.ensures.same c.args.lr.now.construction.rules c.requires.numbers (items_by n.items.items c.in_ok-list.list.items) c.in_ok-moves_of.ensures.known
+    (rising_differ rising c.in_ok-moves.ensures.rising) (rw c.deref.ensures.value at c.in_ok-moves_of.ensures.moves) in
     let moves = subst (λ (is : List (Dotted g.row.L.Denot)). AreMoves is (groups_by n rising)) (sym c.in_ok-items.ensures) held in
     Reached-led c.in_ok-items.items.items (groups_by n rising) _ _ c.in_ok-shifts.field-0 _ refl refl moves c.in_ok-shifts.ensures.edges c.in_ok-shifts.ensures.reached

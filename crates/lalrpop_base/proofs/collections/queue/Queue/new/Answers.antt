@@ -1,4 +1,3 @@
-use Rattle.std.proofs.Common.{◌≡◌, false, get_or, ℕ, rules}
 use Rattle.lalrpop_base.proofs.theory.lists.Queues.{Marked-none, no_mark}
 use Rattle.lalrpop_base.proofs.collections.queue.Queue.new.Goals as goal
 

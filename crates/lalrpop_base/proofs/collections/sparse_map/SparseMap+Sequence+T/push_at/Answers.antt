@@ -20,5 +20,5 @@ returns-in-Some-clause-differ g c =
 
 pub returns-clause-pushed : goal.returns-clause-pushed
 returns-clause-pushed g c =
-    let one : c.push-2.new.self ≡ c.args.item ∷ [] = c.in_ok-push-2.ensures.ok ∙ ap (λ xs. xs ++ c.args.item ∷ []) c.new-items.ensures in
+    let one : c.push-2.new.self ≡ c.args.item ∷ [] = c.in_ok-push-2.ensures.ok ∙ ap (λ xs. xs ++ c.args.item ∷ []) c.in_ok-items.ensures in
     on_ok_weaker c.push-3.result (λ pushed. pushed_fresh c.args.number c.args.item c.push-2.new.self c.args.self.now c.push-3.new.self one (pushed_inserted c.args.self.now c.push-3.new.self c.args.number c.push-2.new.self pushed)) c.push-3.ensures.pushed

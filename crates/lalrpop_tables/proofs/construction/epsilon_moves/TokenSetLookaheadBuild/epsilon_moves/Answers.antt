@@ -1,10 +1,8 @@
 use Rattle.std.proofs.Common.{sym, subst}
-use Rattle.std.specs.Prelude.{Contains}
 use Rattle.std.proofs.lemmas.Result.{IfOk-weaker}
-use Rattle.lalrpop_base.specs.Words.{IsFirstSetBefore, FitsTokens, Rules, HasKnownTerminals}
-use Rattle.lalrpop_base.specs.declared.repr.Production.{Production}
+use Rattle.lalrpop_base.specs.Words.{IsFirstSetBefore, FitsTokens, Rules}
 use Rattle.lalrpop_tables.proofs.theory.closures.EpsilonMoves.{First-holds}
-use Rattle.lalrpop_base.proofs.theory.grammars.Grammars.{known_symbols}
+use Rattle.lalrpop_base.proofs.theory.grammars.Grammars.{known_by_rules}
 use Rattle.lalrpop_tables.proofs.construction.epsilon_moves.TokenSetLookaheadBuild.epsilon_moves.Goals as goal
 
 pub returns : goal.returns
@@ -13,8 +11,7 @@ returns c =
     let same = c.first_sets.ensures in
     let first : IsFirstSetBefore rules c.args.remainder.now c.args.lookahead.now c.in_ok-given.given = rw same at c.in_ok-given.ensures.first in
     let fits : FitsTokens rules.terminals c.args.lookahead.now → FitsTokens rules.terminals c.in_ok-given.given = rw same at c.in_ok-given.ensures.fits in
-    let known : (p : Production) → Contains rules.productions p → HasKnownTerminals rules.terminals p.symbols = λ p among.
-    subst (λ (r : Rules). HasKnownTerminals r.terminals p.symbols) c.grammar-grammar.ensures.rules (known_symbols c.grammar-grammar.result.now p c.grammar-grammar.ensures.well_formed (subst (λ (r : Rules). Contains r.productions p) (sym c.grammar-grammar.ensures.rules) among)) in
+    let known = known_by_rules c.grammar-grammar.result.now rules c.grammar-grammar.ensures.rules c.grammar-grammar.ensures.well_formed in
     let given = IfOk-weaker c.begun_items.result _ _ (λ items begun. record {
       given = c.in_ok-given.given;
       begun = begun;

@@ -1,21 +1,27 @@
-use Rattle.std.proofs.Common.{◌∙◌, ap, sym, subst, inl, inr}
-use Rattle.std.specs.Prelude.{Contains}
+use Rattle.std.proofs.Common.{◌∙◌, ap, sym, subst, inl, inr, refl}
 use Rattle.std.proofs.lemmas.Bool.{false≢true}
-use Rattle.lalrpop_base.specs.Words.{Bits, join, Rules, HasKnownTerminals}
-use Rattle.lalrpop_base.specs.declared.repr.Production.{Production}
-use Rattle.lalrpop_base.proofs.theory.grammars.Grammars.{known_symbols}
+use Rattle.lalrpop_base.specs.Words.{Bits, join, Rules}
+use Rattle.lalrpop_base.proofs.theory.grammars.Grammars.{known_by_rules}
+use Rattle.lalrpop_base.proofs.theory.sets.BitSets.{join_turned}
+use Rattle.lalrpop_tables.proofs.theory.closures.GivenAlready.{not_false}
 use Rattle.lalrpop_tables.proofs.theory.grammars.RestsGiven.{rest_gives}
 use Rattle.lalrpop_tables.proofs.construction.epsilon_moves.TokenSetLookaheadBuild.given.Goals as goal
-use Rattle.lalrpop_tables.proofs.construction.epsilon_moves.TokenSetLookaheadBuild.given.Goals.{then-rest+in_ok-union_with, else-rest}
+
+pub returns-then-not-rest : goal.returns-then-not-rest
+returns-then-not-rest c =
+    let rules : Rules = c.args.lr.now.construction.rules in
+    let known = known_by_rules c.grammar-grammar.result.now rules c.grammar-grammar.ensures.rules c.grammar-grammar.ensures.well_formed in
+    record {
+      given = rest_gives rules c.args._remainder.now c.args.rest.now c.requires.rest known c.requires.known c.args.lookahead.now _
+      (inr (λ is. false≢true (sym (not_false c.args.rest.now.nullable c.if-not-rest.true) ∙ is), c.in_ok-clone.ensures));
+    }
 
 pub returns : goal.returns
 returns c =
     let rules : Rules = c.args.lr.now.construction.rules in
-    let known : (p : Production) → Contains rules.productions p → HasKnownTerminals rules.terminals p.symbols = λ p among.
-    subst (λ (r : Rules). HasKnownTerminals r.terminals p.symbols) c.grammar-grammar.ensures.rules (known_symbols c.grammar-grammar.result.now p c.grammar-grammar.ensures.well_formed (subst (λ (r : Rules). Contains r.productions p) (sym c.grammar-grammar.ensures.rules) among)) in
+    let first = c.args.rest.now.first in
+    let known = known_by_rules c.grammar-grammar.result.now rules c.grammar-grammar.ensures.rules c.grammar-grammar.ensures.well_formed in
     record {
-      given = rest_gives rules c.args._remainder.now c.args.rest.now c.requires.rest known c.requires.known c.args.lookahead.now _ (elim c.if-rest.branch [
-        | then-rest+in_ok-union_with w ↦ inl (w.if-rest.true, w.tokens-is ∙ w.in_ok-union_with.ensures.joined ∙ ap (λ (s : Bits). join s c.args.lookahead.now) c.in_ok-tokens.ensures)
-        | else-rest w ↦ inr (λ is. false≢true (sym w.if-rest.false ∙ is), w.tokens-is ∙ c.in_ok-tokens.ensures)
-      ]);
+      given = rest_gives rules c.args._remainder.now c.args.rest.now c.requires.rest known c.requires.known c.args.lookahead.now _
+      (inl (c.if-not-rest.false, c.in_ok-union_with.ensures.joined ∙ ap (λ (s : Bits). join s first) c.in_ok-tokens.ensures ∙ join_turned c.args.lookahead.now first));
     }

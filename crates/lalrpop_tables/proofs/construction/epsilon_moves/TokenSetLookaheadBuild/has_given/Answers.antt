@@ -1,9 +1,7 @@
 use Rattle.std.proofs.Common.{◌∙◌, sym, subst, inl, inr, refl, ap}
-use Rattle.std.specs.Prelude.{Contains, not}
 use Rattle.std.proofs.lemmas.Bool.{false≢true}
-use Rattle.lalrpop_base.specs.Words.{join, Rules, HasKnownTerminals}
-use Rattle.lalrpop_base.specs.declared.repr.Production.{Production}
-use Rattle.lalrpop_base.proofs.theory.grammars.Grammars.{known_symbols}
+use Rattle.lalrpop_base.specs.Words.{join, Rules}
+use Rattle.lalrpop_base.proofs.theory.grammars.Grammars.{known_by_rules}
 use Rattle.lalrpop_tables.proofs.theory.closures.GivenAlready.{join_within, both_within, not_false}
 use Rattle.lalrpop_tables.proofs.theory.grammars.RestsGiven.{rest_gives}
 use Rattle.lalrpop_tables.proofs.construction.epsilon_moves.TokenSetLookaheadBuild.has_given.Goals as goal
@@ -12,8 +10,7 @@ pub returns-then-not-rest : goal.returns-then-not-rest
 returns-then-not-rest c = λ shut.
     let rules : Rules = c.args.lr.now.construction.rules in
     let first = c.args.rest.now.first in
-    let known : (p : Production) → Contains rules.productions p → HasKnownTerminals rules.terminals p.symbols = λ p among.
-    subst (λ (r : Rules). HasKnownTerminals r.terminals p.symbols) c.grammar-grammar.ensures.rules (known_symbols c.grammar-grammar.result.now p c.grammar-grammar.ensures.well_formed (subst (λ (r : Rules). Contains r.productions p) (sym c.grammar-grammar.ensures.rules) among)) in
+    let known = known_by_rules c.grammar-grammar.result.now rules c.grammar-grammar.ensures.rules c.grammar-grammar.ensures.well_formed in
     record {
       given = first;
       is = rest_gives rules c.args._remainder.now c.args.rest.now c.requires.rest known c.requires.known c.args.lookahead.now first (inr (λ is. false≢true (sym (not_false c.args.rest.now.nullable shut) ∙ is), refl));
@@ -25,8 +22,7 @@ returns-else-not-rest c = λ within.
     let rules : Rules = c.args.lr.now.construction.rules in
     let first = c.args.rest.now.first in
     let given = join first c.args.lookahead.now in
-    let known : (p : Production) → Contains rules.productions p → HasKnownTerminals rules.terminals p.symbols = λ p among.
-    subst (λ (r : Rules). HasKnownTerminals r.terminals p.symbols) c.grammar-grammar.ensures.rules (known_symbols c.grammar-grammar.result.now p c.grammar-grammar.ensures.well_formed (subst (λ (r : Rules). Contains r.productions p) (sym c.grammar-grammar.ensures.rules) among)) in
+    let known = known_by_rules c.grammar-grammar.result.now rules c.grammar-grammar.ensures.rules c.grammar-grammar.ensures.well_formed in
     record {
       given = given;
       is = rest_gives rules c.args._remainder.now c.args.rest.now c.requires.rest known c.requires.known c.args.lookahead.now given (inl (c.if-not-rest.false, refl));
