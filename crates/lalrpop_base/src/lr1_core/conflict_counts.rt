@@ -33,6 +33,9 @@ fn count_shift_conflicts<'grammar>(
         (shift_conflict_count terminals.now reductions.now shifts.now.entries < 2 ^ 64)
         (shift_conflict_count terminals.now reductions.now shifts.now.entries) }
 {
+    if reductions.is_empty() {
+        return Some(0);
+    }
     let mut count: usize = 0;
     for (terminal, _) in shifts.iter() {
         count = count.checked_add(count_on_place(reductions, terminals.bit(terminal)))?;

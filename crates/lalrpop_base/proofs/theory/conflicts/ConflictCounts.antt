@@ -1,5 +1,5 @@
 -- The numbers of conflicts, one shift or reduction at a time, and that they are the lengths of the lists.
-use Rattle.std.proofs.Common.{◌≡◌, ℕ, ◌+◌, ◌-◌, Bool, true, false, List, [], ◌∷◌, map, length, refl, sym, ◌∙◌, ap, arith, take, drop, get_or}
+use Rattle.std.proofs.Common.{◌≡◌, ℕ, ◌+◌, ◌-◌, Bool, true, false, List, [], ◌∷◌, map, length, refl, sym, ◌∙◌, ap, arith, take, drop, get_or, ◌==◌, eqb-true}
 use Rattle.std.specs.Prelude.{Option, Some, None, count_by, slice_get, IfSome}
 use Rattle.std.specs.List.{filter, flat_map}
 use Rattle.std.proofs.lemmas.List.{length-append, length-map, length-drop, take_all, at_drop_more}
@@ -70,3 +70,16 @@ all_counted terminals state first second is_first is_second =
     let shifts = shift_lengths terminals state.index state.reductions.items state.shifts.entries ∙ ap (λ rs. shift_conflict_count terminals rs state.shifts.entries) (sym is_first) in
     let reduces = reduce_lengths state.index state.reductions.items ∙ ap reduce_conflict_count (sym is_second) in
     length-append (flat_map (shift_conflicts terminals state.index state.reductions.items) state.shifts.entries) (reduce_conflicts state.index state.reductions.items) ∙ omega (arith, shifts, reduces)
+
+-- no reduction holds the bit of a terminal where there is none
+none_on_place : (bit : Option ℕ) → count_on_place [] bit ≡ 0
+none_on_place None = refl
+none_on_place (Some bit) = refl
+
+without_reductions : (terminals : List TerminalString) (shifts : List (TerminalString × StateIndex)) → shift_conflict_count terminals [] shifts ≡ 0
+without_reductions terminals [] = refl
+without_reductions terminals (shift ∷ rest) = omega (arith, none_on_place (place_in terminals shift.0), without_reductions terminals rest)
+
+pub no_shift_conflict : (terminals : List TerminalString) (rs : List Reduction) (shifts : List (TerminalString × StateIndex)) → (length rs == 0) ≡ true → shift_conflict_count terminals rs shifts ≡ 0
+no_shift_conflict terminals [] shifts none = without_reductions terminals shifts
+no_shift_conflict terminals (r ∷ rs) shifts none = let e = eqb-true (length (r ∷ rs)) 0 none in absurd (omega (arith, e))

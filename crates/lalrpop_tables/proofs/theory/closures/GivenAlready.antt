@@ -1,5 +1,5 @@
 -- Tokens that are joined to a set which has them already.
-use Rattle.std.proofs.Common.{◌≡◌, ◌⊎◌, inl, inr, ℕ, Bool, true, false, refl, sym, ◌∙◌, ⊎_elim}
+use Rattle.std.proofs.Common.{◌≡◌, ℕ, Bool, true, false, refl, sym, ◌∙◌, ⊎_elim}
 use Rattle.std.specs.Prelude.{not, ◌||◌}
 use Rattle.lalrpop_base.specs.Words.{Bits, has, has-join, join, same_bits}
 use Rattle.lalrpop_base.proofs.theory.sets.BitSets.{join_cases}

@@ -19,10 +19,9 @@ use Rattle.lalrpop_tables.specs.declared.construction.transitions.Edges.{Edges}
 use Rattle.lalrpop_tables.specs.states.Transitions.{AreEdgesListed, IsListed, IsReached, LeadsTo}
 use Rattle.lalrpop_tables.specs.states.Transitions.Shifts.{none, moves, stays}
 use Rattle.lalrpop_tables.specs.states.Transitions.IsMoveAdded.{over, at_end}
-use Rattle.lalrpop_base.proofs.theory.lists.Members.{Contains-none, contains_head, contains_tail, contains-cons, contains_map, place}
-use Rattle.lalrpop_base.proofs.theory.lists.Places.{midst, around, at_midst, differ_front, same_some, slice_get-longer}
+use Rattle.lalrpop_base.proofs.theory.lists.Members.{Contains-none, contains_head, contains-cons, contains_map, place}
+use Rattle.lalrpop_base.proofs.theory.lists.Places.{midst, around, at_midst, same_some, slice_get-longer}
 use Rattle.std.proofs.lemmas.Option.{slice_get_within}
-use Rattle.std.proofs.lemmas.List.{map-append}
 use Rattle.std.specs.declared.cmp.Ordering.{Ordering}
 use Rattle.std.specs.BTreeMap.{BTreeMap, IsFromIterResult, get}
 use Rattle.std.specs.Cmp.{IsTotalOrder}

@@ -1,6 +1,6 @@
-use Rattle.std.proofs.Common.{◌+◌, ◌∙◌, ap, arith}
+use Rattle.std.proofs.Common.{◌+◌, ◌∙◌, ap, arith, sym}
 use Rattle.lalrpop_base.specs.Words.{shift_conflict_count}
-use Rattle.lalrpop_base.proofs.theory.conflicts.ConflictCounts.{shifts_more}
+use Rattle.lalrpop_base.proofs.theory.conflicts.ConflictCounts.{no_shift_conflict, shifts_more}
 use Rattle.lalrpop_base.proofs.lr1_core.conflict_counts.count_shift_conflicts.Goals as goal
 
 pub returns-in_err-count : goal.returns-in_err-count
@@ -22,3 +22,8 @@ returns c =
     let left = c.loop-terminal.invariant.left in
     let within = c.loop-terminal.invariant.within in
     (omega (arith, rest, left, within), omega (arith, rest, left))
+
+pub returns-then-is_empty : goal.returns-then-is_empty
+returns-then-is_empty c =
+    let none = no_shift_conflict c.args.terminals.now c.args.reductions.now c.args.shifts.now.entries (sym c.is_empty.ensures ∙ c.if-is_empty.true) in
+    (omega (arith, none), sym none)

@@ -1,5 +1,5 @@
 use Rattle.std.proofs.Common.{inl, inr}
-use Rattle.lalrpop_base.specs.Words.{join, no_bits, same_bits}
+use Rattle.lalrpop_base.specs.Words.{no_bits}
 use Rattle.lalrpop_tables.proofs.theory.closures.EpsilonMoves.{holds_none}
 use Rattle.lalrpop_tables.proofs.theory.closures.GivenAlready.{join_within}
 use Rattle.lalrpop_tables.proofs.construction.epsilon_moves.NilLookaheadBuild.has_given.Goals as goal

@@ -1,4 +1,3 @@
-use Rattle.std.proofs.Common.{sym, subst}
 use Rattle.std.proofs.lemmas.Result.{IfOk-weaker}
 use Rattle.lalrpop_base.specs.Words.{IsFirstSetBefore, FitsTokens, Rules}
 use Rattle.lalrpop_tables.proofs.theory.closures.EpsilonMoves.{First-holds}

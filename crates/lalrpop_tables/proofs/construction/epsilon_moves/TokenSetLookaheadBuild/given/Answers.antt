@@ -1,9 +1,8 @@
-use Rattle.std.proofs.Common.{◌∙◌, ap, sym, subst, inl, inr, refl}
+use Rattle.std.proofs.Common.{◌∙◌, ap, sym, inl, inr}
 use Rattle.std.proofs.lemmas.Bool.{false≢true}
 use Rattle.lalrpop_base.specs.Words.{Bits, join, Rules}
 use Rattle.lalrpop_base.proofs.theory.grammars.Grammars.{known_by_rules}
 use Rattle.lalrpop_base.proofs.theory.sets.BitSets.{join_turned}
-use Rattle.lalrpop_tables.proofs.theory.closures.GivenAlready.{not_false}
 use Rattle.lalrpop_tables.proofs.theory.grammars.RestsGiven.{rest_gives}
 use Rattle.lalrpop_tables.proofs.construction.epsilon_moves.TokenSetLookaheadBuild.given.Goals as goal
 
@@ -13,7 +12,7 @@ returns-then-not-rest c =
     let known = known_by_rules c.grammar-grammar.result.now rules c.grammar-grammar.ensures.rules c.grammar-grammar.ensures.well_formed in
     record {
       given = rest_gives rules c.args._remainder.now c.args.rest.now c.requires.rest known c.requires.known c.args.lookahead.now _
-      (inr (λ is. false≢true (sym (not_false c.args.rest.now.nullable c.if-not-rest.true) ∙ is), c.in_ok-clone.ensures));
+      (inr (λ is. false≢true (sym c.if-not-rest.true ∙ is), c.in_ok-clone.ensures));
     }
 
 pub returns : goal.returns

@@ -1,4 +1,4 @@
-use Rattle.std.proofs.Common.{◌∙◌, sym, subst, inl, inr, refl, ap}
+use Rattle.std.proofs.Common.{◌∙◌, sym, inl, inr, refl}
 use Rattle.std.proofs.lemmas.Bool.{false≢true}
 use Rattle.lalrpop_base.specs.Words.{join, Rules}
 use Rattle.lalrpop_base.proofs.theory.grammars.Grammars.{known_by_rules}
