@@ -294,7 +294,14 @@ pub fn closure<'grammar, L: LookaheadBuild>(
         lr.now.construction.rules (items_by numbers.now.items.items kernel.now)
         (items_by numbers.now.items.items items.items)) }
 {
-    share_all(alloc, lr, numbers, kernel, &mut work.shared, &mut work.queue)?;
+    share_all(
+        alloc,
+        lr,
+        numbers,
+        kernel,
+        &mut work.shared,
+        &mut work.queue,
+    )?;
     work.items.clear();
     gather_kernel(alloc, kernel, &mut work.items)?;
     gather_shared(alloc, numbers, &work.shared, &mut work.items)?;

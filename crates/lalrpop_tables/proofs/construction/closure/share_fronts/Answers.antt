@@ -32,8 +32,11 @@ loop-number-preserved g c =
     let one : Dotted Bits = item_by items (front x) in
     let more : items_by items (map front (take (i + 1) xs)) ≡ items_by items (map front (take i xs)) ++ one ∷ [] =
     ap (items_by items) (mapped_more front xs i x c.loop-number-test.true (read_within xs i c.loop-number-test.true)) ∙ map-append (item_by items) (map front (take i xs)) (front x ∷ []) in
-    record { limit = c.in_ok-share.ensures.limit ∙ c.loop-number.invariant.limit; shares = subst (λ (is : List (Dotted Bits)). Shares g.L.LookaheadBuild.begins g.L.LookaheadBuild.passes c.args.lr.now.construction.rules c.args.numbers.now is (readings m c.args.shared.now) (readings m c.share.new.shared) c.args.queue.now.numbers c.share.new.queue.numbers) (sym more)
-    (Shares-then g.L.LookaheadBuild.begins g.L.LookaheadBuild.passes c.args.lr.now.construction.rules c.args.numbers.now (items_by items (map front (take i xs))) (one ∷ []) _ _ _ _ _ _ c.loop-number.invariant.shares c.in_ok-share.ensures.shares) }
+    record {
+      limit = c.in_ok-share.ensures.limit ∙ c.loop-number.invariant.limit;
+      shares = subst (λ (is : List (Dotted Bits)). Shares g.L.LookaheadBuild.begins g.L.LookaheadBuild.passes c.args.lr.now.construction.rules c.args.numbers.now is (readings m c.args.shared.now) (readings m c.share.new.shared) c.args.queue.now.numbers c.share.new.queue.numbers) (sym more)
+          (Shares-then g.L.LookaheadBuild.begins g.L.LookaheadBuild.passes c.args.lr.now.construction.rules c.args.numbers.now (items_by items (map front (take i xs))) (one ∷ []) _ _ _ _ _ _ c.loop-number.invariant.shares c.in_ok-share.ensures.shares);
+    }
 
 pub returns-clause-shares : goal.returns-clause-shares
 returns-clause-shares g c =

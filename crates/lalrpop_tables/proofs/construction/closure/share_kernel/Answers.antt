@@ -25,8 +25,11 @@ loop-item-preserved g c =
     let one : Dotted Bits = meant m (item_by items c.item-item.result) in
     let more : map (meant m) (items_by items (take (i + 1) xs)) ≡ map (meant m) (items_by items (take i xs)) ++ one ∷ [] =
     ap (map (meant m)) (mapped_more (item_by items) xs i c.item-item.result c.loop-item-test.true c.item-item.is) ∙ map-append (meant m) (items_by items (take i xs)) (item_by items c.item-item.result ∷ []) in
-    record { limit = c.in_ok-share.ensures.limit ∙ c.loop-item.invariant.limit; shares = subst (λ (is : List (Dotted Bits)). Shares g.L.LookaheadBuild.begins g.L.LookaheadBuild.passes c.args.lr.now.construction.rules c.args.numbers.now is (readings m c.args.shared.now) (readings m c.share.new.shared) c.args.queue.now.numbers c.share.new.queue.numbers) (sym more)
-    (Shares-then g.L.LookaheadBuild.begins g.L.LookaheadBuild.passes c.args.lr.now.construction.rules c.args.numbers.now (map (meant m) (items_by items (take i xs))) (one ∷ []) _ _ _ _ _ _ c.loop-item.invariant.shares c.in_ok-share.ensures.shares) }
+    record {
+      limit = c.in_ok-share.ensures.limit ∙ c.loop-item.invariant.limit;
+      shares = subst (λ (is : List (Dotted Bits)). Shares g.L.LookaheadBuild.begins g.L.LookaheadBuild.passes c.args.lr.now.construction.rules c.args.numbers.now is (readings m c.args.shared.now) (readings m c.share.new.shared) c.args.queue.now.numbers c.share.new.queue.numbers) (sym more)
+          (Shares-then g.L.LookaheadBuild.begins g.L.LookaheadBuild.passes c.args.lr.now.construction.rules c.args.numbers.now (map (meant m) (items_by items (take i xs))) (one ∷ []) _ _ _ _ _ _ c.loop-item.invariant.shares c.in_ok-share.ensures.shares);
+    }
 
 pub returns-clause-shares : goal.returns-clause-shares
 returns-clause-shares g c =

@@ -12,7 +12,7 @@ returns-then-not-rest c =
     let known = known_by_rules c.grammar-grammar.result.now rules c.grammar-grammar.ensures.rules c.grammar-grammar.ensures.well_formed in
     record {
       given = rest_gives rules c.args._remainder.now c.args.rest.now c.requires.rest known c.requires.known c.args.lookahead.now _
-      (inr (λ is. false≢true (sym c.if-not-rest.true ∙ is), c.in_ok-clone.ensures));
+          (inr (λ is. false≢true (sym c.if-not-rest.true ∙ is), c.in_ok-clone.ensures));
     }
 
 pub returns : goal.returns
@@ -22,5 +22,5 @@ returns c =
     let known = known_by_rules c.grammar-grammar.result.now rules c.grammar-grammar.ensures.rules c.grammar-grammar.ensures.well_formed in
     record {
       given = rest_gives rules c.args._remainder.now c.args.rest.now c.requires.rest known c.requires.known c.args.lookahead.now _
-      (inl (c.if-not-rest.false, c.in_ok-union_with.ensures.joined ∙ ap (λ (s : Bits). join s first) c.in_ok-tokens.ensures ∙ join_turned c.args.lookahead.now first));
+          (inl (c.if-not-rest.false, c.in_ok-union_with.ensures.joined ∙ ap (λ (s : Bits). join s first) c.in_ok-tokens.ensures ∙ join_turned c.args.lookahead.now first));
     }
