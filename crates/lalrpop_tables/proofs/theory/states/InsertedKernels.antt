@@ -4,7 +4,6 @@ use Rattle.std.specs.Prelude.{Contains, slice_get, Some}
 use Rattle.std.specs.List.{list_any}
 use Rattle.std.proofs.lemmas.List.Folds.{list_any_at}
 use Rattle.std.proofs.lemmas.Map.Views.{Contains-from_any}
-use Rattle.std.proofs.lemmas.Option.{slice_get_within}
 use mathlib.Core.Bool.{true≢false}
 use Rattle.indexmap.specs.IndexSet.{insert_key}
 use Rattle.lalrpop_base.specs.Words.{AddsOnce, AllDiffer, Exactly}

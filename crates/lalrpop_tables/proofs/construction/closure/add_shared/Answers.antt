@@ -1,4 +1,4 @@
-use Rattle.std.proofs.Common.{◌≡◌, ℕ, List, true, false, refl}
+use Rattle.std.proofs.Common.{true, false, refl}
 use Rattle.lalrpop_base.specs.lists.Entries.IsPut.{came}
 use Rattle.lalrpop_base.proofs.theory.closures.Readings.{readings_differ}
 use Rattle.lalrpop_base.proofs.theory.lists.Queues.{put_with}

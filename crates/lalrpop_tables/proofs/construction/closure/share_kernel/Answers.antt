@@ -1,4 +1,4 @@
-use Rattle.std.proofs.Common.{refl, ◌<◌, ◌≤◌, arith, length, ◌≡◌, ◌∙◌, ◌+◌, ◌++◌, ◌∷◌, [], ap, sym, subst, take, map, List}
+use Rattle.std.proofs.Common.{refl, arith, ◌≡◌, ◌∙◌, ◌+◌, ◌++◌, ◌∷◌, [], ap, sym, subst, take, map, List}
 use Rattle.std.proofs.lemmas.List.{take_all, map-append}
 use Rattle.lalrpop_base.specs.Words.{Bits, Dotted}
 use Rattle.lalrpop_tables.specs.grammars.Numbers.{item_by, items_by}

@@ -1,4 +1,4 @@
-use Rattle.std.proofs.Common.{rules, subst, ◌∙◌}
+use Rattle.std.proofs.Common.{subst, ◌∙◌}
 use Rattle.std.specs.BTreeMap.{IsFromIterResult}
 use Rattle.std.proofs.IntoIterSteps.{All-taken}
 use Rattle.lalrpop_base.proofs.theory.lists.Orders.{name_order, terminal_order}

@@ -10,7 +10,7 @@ use Rattle.lalrpop_tables.specs.declared.construction.numbered.Numbered.{Numbere
 use Rattle.lalrpop_tables.proofs.theory.states.Contained.{added_or_not, decided, decided_list, decided_numbered}
 use Rattle.lalrpop_base.proofs.theory.lists.Members.{contains_map}
 use Rattle.lalrpop_tables.proofs.theory.states.Moves.{AreSomeEdges, Edges-none, Edges-more, Edges-all}
-use Rattle.lalrpop_tables.proofs.theory.states.NumberedEdges.{all_known, differ_by, either_by, numbered_by, split_by, taken, taken_among}
+use Rattle.lalrpop_tables.proofs.theory.states.NumberedEdges.{all_known, differ_by, either_by, numbered_by, taken, taken_among}
 use Rattle.lalrpop_tables.proofs.theory.states.NumberedMoves.{group_by, symbol_is}
 use Rattle.lalrpop_base.proofs.theory.lists.Places.{slice_get_at}
 use Rattle.lalrpop_base.proofs.theory.closures.Readings.{on_ok}
