@@ -4,7 +4,7 @@ use Rattle.std.specs.List.{list_any}
 use Rattle.std.specs.Ordering.{is_eq, nat_cmp}
 use Rattle.std.specs.Cmp.Lexicographic.{slice_cmp}
 use Rattle.std.specs.Str.{bytes_eq}
-use Rattle.std.specs.BTreeMap.{BTreeMap, get, is_at}
+use Rattle.std.specs.BTreeMap.{BTreeMap, get, is_at, IsOrdered}
 use Rattle.std.proofs.lemmas.Map.Text.{is_eq-slice_cmp}
 use Rattle.lalrpop_base.specs.Words.{name_cmp, name_exact}
 use Rattle.lalrpop_base.specs.declared.repr.NonterminalString.{NonterminalString}
@@ -15,7 +15,6 @@ use Rattle.lalrpop_base.specs.declared.repr.grammar.NonterminalData.{Nonterminal
 use Rattle.std.proofs.lemmas.List.{map-append, append-nil, length-map}
 use Rattle.std.proofs.lemmas.List.Folds.{list_any-append}
 use Rattle.std.proofs.lemmas.Grind.{flat_map-append}
-use Rattle.std.specs.BTreeMap.{IsOrdered}
 use Rattle.std.specs.BTreeSet.{contains}
 use Rattle.lalrpop_base.specs.declared.repr.ActionFn.{ActionFn}
 use Rattle.lalrpop_base.specs.declared.repr.Span.{Span}

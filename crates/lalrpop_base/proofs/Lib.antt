@@ -1,1 +1,2 @@
+mod Types
 pub mod theory

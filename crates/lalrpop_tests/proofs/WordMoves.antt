@@ -4,8 +4,7 @@ use Rattle.std.specs.Prelude.{Contains, slice_get, MatchBool, bit_or}
 use Rattle.std.proofs.lemmas.Bool.{or_cases, cases_eq, cases_Bool, false≢true}
 use Rattle.std.proofs.lemmas.Option.{slice_get_within}
 use Rattle.std.proofs.lemmas.Nat.Bits.{bit_at-pow_same, bit_at-pow_other}
-use Rattle.lalrpop_base.specs.Words.{Bits, has, has-join, has-no_bits, holds_token, IsFirstSet, IsNullable, AllDiffer, FitsTokens, HasToken, Rules}
-use Rattle.lalrpop_base.specs.Words.{HasKnownTerminals}
+use Rattle.lalrpop_base.specs.Words.{Bits, has, has-join, has-no_bits, holds_token, IsFirstSet, IsNullable, AllDiffer, FitsTokens, HasToken, Rules, HasKnownTerminals}
 use Rattle.lalrpop_base.specs.declared.lookahead.token.Token.{Token}
 use Rattle.lalrpop_base.specs.declared.lookahead.token.Token.TheVariants.{Eof, Error, Terminal as TokenOf}
 use Rattle.lalrpop_base.specs.declared.repr.Production.{Production}

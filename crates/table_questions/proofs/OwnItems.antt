@@ -2,7 +2,7 @@
 use Rattle.std.proofs.Common.{◌≡◌, ◌∙◌, ◌<◌, ℕ, List, length, sym, ap, subst, arith, Some}
 use Rattle.std.specs.Prelude.{Contains, slice_get}
 use Rattle.std.proofs.lemmas.Option.{slice_get_within}
-use Rattle.lalrpop_base.specs.Words.{AreCoherent, contents_at, Dotted, Contents, Rules, IsWellFormed, productions, productions_of, rules_of}
+use Rattle.lalrpop_base.specs.Words.{AreCoherent, contents_at, Dotted, Contents, Rules, IsWellFormed, productions, productions_of, rules_of, AreLr0States, on_any, lr0_contents}
 use Rattle.lalrpop_base.specs.declared.lookahead.nil.Nil.{Nil}
 use Rattle.lalrpop_base.specs.declared.lr1_core.state.Action.{Action}
 use Rattle.lalrpop_base.specs.declared.lr1_core.state.State.{State}
@@ -15,7 +15,6 @@ use Rattle.lalrpop_base.proofs.theory.closures.Valid.{of_grammar}
 use Rattle.table_questions.specs.Traces.{AreReady, IsTracing}
 use Rattle.table_questions.specs.declared.ask.lane_tables.Traces.{Traces}
 use Rattle.lalrpop_base.proofs.theory.grammars.Grammars.{productions_among}
-use Rattle.lalrpop_base.specs.Words.{AreLr0States, on_any, lr0_contents}
 use Rattle.lalrpop_tables.specs.Words.{dot_of, HaveOwnItems, IsReadyToTrace, ReducesOwn}
 use Rattle.lalrpop_tables.specs.declared.lane_table.lane.LaneTracer.{LaneTracer}
 

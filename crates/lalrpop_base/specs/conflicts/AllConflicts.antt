@@ -2,9 +2,8 @@
 use Rattle.std.specs.Prelude.{◌≡◌, ◌≢◌, ℕ, ◌++◌, ◌∷◌, List, [], slice_get, Some}
 use Rattle.std.specs.List.{flat_map}
 use Rattle.lalrpop_base.specs.conflicts.Failures.{IfConflicts}
-use Rattle.lalrpop_base.specs.conflicts.StateConflicts.{state_conflicts}
+use Rattle.lalrpop_base.specs.conflicts.StateConflicts.{state_conflicts, HasNoConflict}
 use Rattle.lalrpop_base.specs.lists.Bits.{Bits}
-use Rattle.lalrpop_base.specs.conflicts.StateConflicts.{HasNoConflict}
 use Rattle.lalrpop_base.specs.declared.lr1_core.state.BuildError.{BuildError}
 use Rattle.lalrpop_base.specs.declared.lr1_core.state.Conflict.{Conflict}
 use Rattle.lalrpop_base.specs.declared.lr1_core.state.State.{State}

@@ -105,15 +105,24 @@ impl<V> SparseMap<V> {
         self.entries.clear();
     }
 
-    /// Takes all entries out, by rising numbers. Room for as many is left.
+    /// Takes all entries out, in the order in which their numbers came. Room for as many is left.
+    pub fn take_all(&mut self, alloc: Global) -> Result<Vec<(usize, V)>, OutOfMemory>
+        ensures same { IfOk result (λ list. list.items ≡ self.old) }
+        ensures differ { IfOk result (λ list. AllDiffer (keys_of list.items)) }
+        ensures empty { OnOk result (self.new ≡ []) }
+    {
+        let room = Vec::with_capacity(alloc, self.entries.len())?;
+        Ok(replace(&mut self.entries, room))
+    }
+
+    /// As `take_all`, by rising numbers.
     pub fn take_rising(&mut self, alloc: Global) -> Result<Vec<(usize, V)>, OutOfMemory>
         ensures same { IfOk result (λ list. IsPermutation self.old list.items) }
         ensures rising { IfOk result
             (λ list. Ordered (λ (d e : ℕ × V). d.0 < e.0) list.items) }
         ensures empty { OnOk result (self.new ≡ []) }
     {
-        let room = Vec::with_capacity(alloc, self.entries.len())?;
-        let mut entries = replace(&mut self.entries, room);
+        let mut entries = self.take_all(alloc)?;
         entries.sort_unstable_by_key(|entry| entry.0);
         Ok(entries)
     }

@@ -6,8 +6,7 @@ use Rattle.std.specs.Borrow.{Bor}
 use Rattle.std.specs.List.{flat_map}
 use Rattle.std.specs.List.Sorted.{IsStrictlySortedBy}
 use Rattle.lalrpop_base.specs.Words.{Bits, has, AreClosed, AreChecked, AreCoherent, contents, Dotted, AreLr0, IsLaneToken, HoldLaneTokens}
-use Rattle.lalrpop_base.specs.Words.{state_conflicts, Contents, ReducesFinished, AreFaithful, IsBitOf, Action, Shift, Reduce, IsLALR1, Rules, IsWellFormed}
-use Rattle.lalrpop_base.specs.Words.{rules_of}
+use Rattle.lalrpop_base.specs.Words.{state_conflicts, Contents, ReducesFinished, AreFaithful, IsBitOf, Action, Shift, Reduce, IsLALR1, Rules, IsWellFormed, rules_of}
 use Rattle.lalrpop_base.specs.conflicts.StateConflicts.{HasNoConflict}
 use Rattle.lalrpop_base.specs.contracts.lr1_core.state.ActionOrd.TheImpl as action_ord
 use Rattle.lalrpop_base.specs.declared.lookahead.nil.Nil.{Nil}

@@ -226,19 +226,24 @@ fn gather_kernel<L: Lookahead>(
     Ok(())
 }
 
-// Adds the productions of a nonterminal, with the dot in front and its tokens.
+// Adds the productions of a nonterminal, with the dot in front and its tokens, which the last one
+// keeps.
 fn gather_fronts<L: Lookahead>(
     alloc: Global,
     fronts: &[usize],
-    tokens: &L,
+    tokens: L,
     table: &mut SparseMap<L>,
 ) -> Result<(), OutOfMemory>
-    ensures { OnOk result (GathersMore (with_tokens (L.meaning tokens.now) fronts.now)
+    ensures { OnOk result (GathersMore (with_tokens (L.meaning tokens) fronts.now)
         (readings L.meaning table.old) (readings L.meaning table.new)) }
 {
-    for number in fronts {
-        table.join_copy(alloc, *number, tokens)?;
+    let Some((last, others)) = fronts.split_last() else {
+        return Ok(());
+    };
+    for number in others {
+        table.join_copy(alloc, *number, &tokens)?;
     }
+    table.join(*last, tokens)?;
     Ok(())
 }
 
@@ -246,18 +251,18 @@ fn gather_fronts<L: Lookahead>(
 fn gather_shared<'grammar, L: Lookahead>(
     alloc: Global,
     numbers: &Numbers<'grammar>,
-    shared: &SparseMap<L>,
+    shared: Vec<(usize, L)>,
     table: &mut SparseMap<L>,
 ) -> Result<(), OutOfMemory>
     requires { (e : ℕ × Bits) →
-        Contains (readings L.meaning shared.now) e →
+        Contains (readings L.meaning shared.items) e →
         e.0 < length numbers.now.expansions.items }
     ensures { OnOk result (GathersMore
-        (unfolded numbers.now (readings L.meaning shared.now))
+        (unfolded numbers.now (readings L.meaning shared.items))
         (readings L.meaning table.old) (readings L.meaning table.new)) }
 {
-    for entry in shared.entries() {
-        gather_fronts(alloc, &numbers.expansions[entry.0], &entry.1, table)?;
+    for (symbol, tokens) in shared {
+        gather_fronts(alloc, &numbers.expansions[symbol], tokens, table)?;
     }
     Ok(())
 }
@@ -304,7 +309,8 @@ pub fn closure<'grammar, L: LookaheadBuild>(
     )?;
     work.items.clear();
     gather_kernel(alloc, kernel, &mut work.items)?;
-    gather_shared(alloc, numbers, &work.shared, &mut work.items)?;
+    let shared = work.shared.take_all(alloc)?;
+    gather_shared(alloc, numbers, shared, &mut work.items)?;
     let entries = work.items.take_rising(alloc)?;
     items_of(alloc, entries)
 }

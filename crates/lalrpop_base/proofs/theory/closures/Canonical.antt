@@ -1,11 +1,7 @@
 -- Canonical states hold exactly the valid tokens, so that they are faithful exactly where the grammar is LR(1); and a valid token is one with which what was read can go on: by induction on the prefix and on what is valid.
 use Rattle.std.proofs.Common.{◌↔◌, Some, ◌≡◌, ℕ, suc, List, [], ◌∷◌, ◌++◌, drop, length, append_assoc, append-nil, sym, subst, refl, ap, ◌∙◌}
-use Rattle.lalrpop_base.specs.declared.repr.Production.{Production}
-use Rattle.lalrpop_base.specs.declared.repr.NonterminalString.{NonterminalString}
-use Rattle.lalrpop_base.specs.declared.repr.Symbol.{Symbol}
+use Rattle.lalrpop_base.proofs.Types.{NonterminalString, Production, Symbol, TerminalString, Token}
 use Rattle.lalrpop_base.specs.declared.repr.Symbol.TheVariants.{Nonterminal, Terminal}
-use Rattle.lalrpop_base.specs.declared.repr.TerminalString.{TerminalString}
-use Rattle.lalrpop_base.specs.declared.lookahead.token.Token.{Token}
 use Rattle.lalrpop_base.specs.declared.lookahead.token.Token.TheVariants.{Eof, Terminal as TokenOf}
 use Rattle.lalrpop_base.specs.Words.{Derives, replace, IsLR1, Action, Shift, Reduce, IsValidAction, Valid, ValidToken, at_start, kept, begins_behind, passed_on}
 use Rattle.lalrpop_base.specs.Words.{IsLive, Contents, state_after, Allows, HasRightItems, AreFaithful, InTokenClosure, with_token, begins_rest, inherits}

@@ -2,15 +2,11 @@
 use Rattle.std.proofs.Common.{◌≡◌, ◌↔◌, ℕ, zero, suc, ◌+◌, List, [], ◌∷◌, map, drop, sym, ◌∙◌, ap, subst, arith, true, Some}
 use Rattle.std.specs.Prelude.{Contains, slice_get}
 use Rattle.lalrpop_base.specs.Words.{Bits, InClosure, in_kernel, expanded, holds_token, Dotted, Rules}
-use Rattle.lalrpop_base.specs.declared.lookahead.nil.Nil.{Nil}
-use Rattle.lalrpop_base.specs.declared.lookahead.token.Token.{Token}
-use Rattle.lalrpop_base.specs.declared.repr.Production.{Production}
-use Rattle.lalrpop_base.specs.declared.repr.Symbol.{Symbol}
+use Rattle.lalrpop_base.proofs.Types.{Nil, Production, Symbol, Token}
 use Rattle.lalrpop_base.specs.declared.repr.Symbol.TheVariants.{Nonterminal}
 use Rattle.lalrpop_base.proofs.theory.states.ContentsViews.{contains_of_map}
 use Rattle.lalrpop_base.specs.closures.Closure.{dotted_of}
-use Rattle.lalrpop_base.specs.Words.{InKernel, HasItemToken, InTokenClosureBy, own_token, from_rest, from_parent, Found, item_of}
-use Rattle.lalrpop_base.specs.Words.{HasGiven, IsTokenClosed}
+use Rattle.lalrpop_base.specs.Words.{InKernel, HasItemToken, InTokenClosureBy, own_token, from_rest, from_parent, Found, item_of, HasGiven, IsTokenClosed}
 use Rattle.lalrpop_base.proofs.theory.grammars.KnownTerminals.{holds_more}
 use Rattle.lalrpop_base.proofs.theory.lists.Members.{contains_map}
 use Rattle.lalrpop_base.proofs.theory.lists.Places.{same_some}

@@ -1,11 +1,8 @@
 -- States built by closures have exactly the valid dotted productions, and the valid tokens are carried over their edges, so that checked tables are faithful: by induction on the prefix and on what is valid.
 use Rattle.std.proofs.Common.{◌≡◌, ℕ, suc, inl, inr, ◌↔◌, List, [], ◌∷◌, ◌++◌, drop, length, sym, subst, refl, ap, ◌∙◌, Option, Some, None}
 use Rattle.std.specs.Prelude.{Contains}
-use Rattle.lalrpop_base.specs.declared.repr.Production.{Production}
-use Rattle.lalrpop_base.specs.declared.repr.NonterminalString.{NonterminalString}
-use Rattle.lalrpop_base.specs.declared.repr.Symbol.{Symbol}
+use Rattle.lalrpop_base.proofs.Types.{NonterminalString, Production, Symbol, Token}
 use Rattle.lalrpop_base.specs.declared.repr.Symbol.TheVariants.{Nonterminal, Terminal}
-use Rattle.lalrpop_base.specs.declared.lookahead.token.Token.{Token}
 use Rattle.lalrpop_base.specs.Words.{Valid, starts, shifts, expands, ValidToken, at_start, kept, begins_behind, passed_on, IsLive, Action, Shift, Reduce}
 use Rattle.lalrpop_base.specs.Words.{IsValidAction, Contents, leads, onward, state_from, state_after, Allows, ReducesFinished, HasRightItems, HaveRightItems}
 use Rattle.lalrpop_base.specs.Words.{AreFaithful, InClosure, in_kernel, expanded, IsAtStart, IsMoved, AreClosed, IsReached, at_zero, IsCarried, eof_at_start}

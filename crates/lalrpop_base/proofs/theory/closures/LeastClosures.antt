@@ -1,12 +1,8 @@
 -- Closures, token closures, reached states and carried tokens are least: whatever holds what they begin with and keeps their rules holds them: by induction on each.
 use Rattle.std.proofs.Common.{◌≡◌, ℕ, suc, List, ◌∷◌, drop, Some}
 use Rattle.std.specs.Prelude.{Contains}
-use Rattle.lalrpop_base.specs.declared.repr.NonterminalString.{NonterminalString}
-use Rattle.lalrpop_base.specs.declared.repr.Production.{Production}
-use Rattle.lalrpop_base.specs.declared.repr.Symbol.{Symbol}
+use Rattle.lalrpop_base.proofs.Types.{NonterminalString, Production, Symbol, TerminalString, Token}
 use Rattle.lalrpop_base.specs.declared.repr.Symbol.TheVariants.{Nonterminal}
-use Rattle.lalrpop_base.specs.declared.repr.TerminalString.{TerminalString}
-use Rattle.lalrpop_base.specs.declared.lookahead.token.Token.{Token}
 use Rattle.lalrpop_base.specs.declared.lookahead.token.Token.TheVariants.{Eof, Terminal as TokenOf}
 use Rattle.lalrpop_base.specs.Words.{IsFirst, IsNullable, Contents, leads, InClosure, in_kernel, expanded, InTokenClosure, with_token, begins_rest, inherits}
 use Rattle.lalrpop_base.specs.Words.{items_of, IsReached, IsCarried, eof_at_start, over, first_of_rest, through_rest}

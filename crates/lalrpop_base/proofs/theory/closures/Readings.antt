@@ -4,13 +4,9 @@ use Rattle.std.specs.Prelude.{Contains, MatchBool, OnOk}
 use Rattle.std.specs.Map.{keys_of}
 use Rattle.std.proofs.lemmas.List.{map-append}
 use Rattle.lalrpop_base.specs.Words.{Bits, join, InClosure, holds_token, Dotted, AllDiffer, Rules}
-use Rattle.lalrpop_base.specs.declared.lookahead.token.Token.{Token}
-use Rattle.lalrpop_base.specs.declared.repr.Production.{Production}
-use Rattle.lalrpop_base.specs.declared.repr.Symbol.{Symbol}
-use Rattle.lalrpop_base.specs.declared.repr.TerminalString.{TerminalString}
+use Rattle.lalrpop_base.proofs.Types.{Production, Symbol, TerminalString, Token}
 use Rattle.lalrpop_base.proofs.theory.states.ContentsViews.{contains_of_map}
-use Rattle.lalrpop_base.specs.closures.Closure.{dotted_of}
-use Rattle.lalrpop_base.specs.closures.Closure.{itself}
+use Rattle.lalrpop_base.specs.closures.Closure.{dotted_of, itself}
 use Rattle.lalrpop_base.specs.Words.{Ascend, meant, IsItemBy, AreItemsBy, AreItems, HasItemTokenBy, HasItemToken, IsClosureBy}
 use Rattle.lalrpop_base.specs.Words.{InTokenClosureBy, own_token, from_rest, from_parent, IsJoinedAt, readings}
 use Rattle.lalrpop_base.specs.lists.Entries.IsJoinedAt.{fresh as join_fresh, known as join_known}

@@ -1,11 +1,8 @@
 -- What follows from a dotted production or a token being valid for a prefix: how the prefix ends, and what the start symbol derives: by induction on what is valid.
 use Rattle.std.proofs.Common.{◌≡◌, ℕ, suc, ◌⊎◌, inl, inr, List, [], ◌∷◌, ◌++◌, take, drop, length, append_assoc, append-nil, sym, subst, refl, ap, ◌∙◌, ◌+◌, arith}
 use Rattle.std.specs.Prelude.{Contains}
-use Rattle.lalrpop_base.specs.declared.repr.Production.{Production}
-use Rattle.lalrpop_base.specs.declared.repr.NonterminalString.{NonterminalString}
-use Rattle.lalrpop_base.specs.declared.repr.Symbol.{Symbol}
+use Rattle.lalrpop_base.proofs.Types.{NonterminalString, Production, Symbol, Token}
 use Rattle.lalrpop_base.specs.declared.repr.Symbol.TheVariants.{Nonterminal}
-use Rattle.lalrpop_base.specs.declared.lookahead.token.Token.{Token}
 use Rattle.lalrpop_base.specs.Words.{Derives, as_it_is, replace, Valid, starts, shifts, expands, ValidToken, at_start, kept, begins_behind, passed_on}
 use Rattle.lalrpop_base.specs.Words.{IsAwaited, IsLive, Action, Shift, Reduce, IsValidAction}
 use Rattle.lalrpop_base.proofs.theory.lists.Lists.{drop_past, take_past}

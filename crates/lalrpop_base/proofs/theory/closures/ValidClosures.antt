@@ -2,11 +2,8 @@
 use Rattle.std.proofs.Common.{◌≡◌, ◌+◌, ℕ, List, [], ◌∷◌, ◌++◌, length, refl, sym, ◌∙◌, ap, subst, arith, length-append}
 use Rattle.lalrpop_base.specs.Words.{InClosure, in_kernel, expanded, InTokenClosure, with_token, begins_rest, inherits, IsAtStart, IsAtStartWith, IsMoved}
 use Rattle.lalrpop_base.specs.Words.{IsMovedWith, Valid, starts, shifts, expands, ValidToken, at_start, kept, begins_behind, passed_on}
-use Rattle.lalrpop_base.specs.declared.lookahead.token.Token.{Token}
+use Rattle.lalrpop_base.proofs.Types.{NonterminalString, Production, Symbol, Token}
 use Rattle.lalrpop_base.specs.declared.lookahead.token.Token.TheVariants.{Eof}
-use Rattle.lalrpop_base.specs.declared.repr.NonterminalString.{NonterminalString}
-use Rattle.lalrpop_base.specs.declared.repr.Production.{Production}
-use Rattle.lalrpop_base.specs.declared.repr.Symbol.{Symbol}
 use Rattle.lalrpop_base.proofs.theory.lists.Lists.{same_last}
 
 longer≢nil : (u : List Symbol) (x : Symbol) → u ++ x ∷ [] ≡ [] → ⊥

@@ -1,9 +1,6 @@
 -- Canonical states merged where they have the same dotted productions are LR(0) states that hold their LALR tokens: each is after the prefixes of those merged into it.
 use Rattle.std.proofs.Common.{◌≡◌, ℕ, List, length, sym, subst, ap, ◌∙◌, Some}
-use Rattle.lalrpop_base.specs.declared.repr.NonterminalString.{NonterminalString}
-use Rattle.lalrpop_base.specs.declared.repr.Production.{Production}
-use Rattle.lalrpop_base.specs.declared.repr.Symbol.{Symbol}
-use Rattle.lalrpop_base.specs.declared.lookahead.token.Token.{Token}
+use Rattle.lalrpop_base.proofs.Types.{NonterminalString, Production, Symbol, Token}
 use Rattle.lalrpop_base.specs.Words.{HaveSameItems, IsLalrToken, Contents, state_after, IsBehindDot, LeadsOverDots, HasRightItems, items_of, IsReached}
 use Rattle.lalrpop_base.specs.Words.{AreCanonical, HoldsInGroup, LeadsInGroup, IsCollapse, AreLr0, HoldLalrTokens}
 use Rattle.lalrpop_base.proofs.theory.lists.Lists.{Grown, from_nothing, more, grown, same_some}

@@ -8,16 +8,12 @@ use Rattle.std.proofs.lemmas.Map.Entries.{btree_map_get_place}
 use Rattle.std.proofs.lemmas.Map.Lookups.{CmpEqualImpliesEq}
 use Rattle.std.proofs.lemmas.Map.Views.{IfSome-get}
 use Rattle.std.proofs.lemmas.Option.{slice_get_within}
-use Rattle.lalrpop_base.specs.Words.{Bits, HasItem, IsCoherentStep, StartsAtZero, AreFinished, AreCoherent}
+use Rattle.lalrpop_base.specs.Words.{Bits, HasItem, IsCoherentStep, StartsAtZero, AreFinished, AreCoherent, dots_in, IsCollapsed, AreOrdered, retargeted}
 use Rattle.lalrpop_base.specs.contracts.repr.NonterminalStringOrd.TheImpl as name_ord
 use Rattle.lalrpop_base.specs.contracts.repr.TerminalStringOrd.TheImpl as terminal_ord
-use Rattle.lalrpop_base.specs.declared.lr1_core.state.State.{State}
-use Rattle.lalrpop_base.specs.declared.lr1_core.state.StateIndex.{StateIndex}
-use Rattle.lalrpop_base.specs.declared.repr.Production.{Production}
-use Rattle.lalrpop_base.specs.declared.repr.Symbol.{Symbol}
+use Rattle.lalrpop_base.proofs.Types.{Production, State, StateIndex, Symbol}
 use Rattle.lalrpop_base.specs.declared.repr.Symbol.TheVariants.{Nonterminal, Terminal}
 use Rattle.lalrpop_base.proofs.theory.states.ContentsViews.{terminals_ordered, names_ordered}
-use Rattle.lalrpop_base.specs.Words.{dots_in, IsCollapsed, AreOrdered, retargeted}
 use Rattle.lalrpop_base.proofs.theory.collapse.CollapseDots.{item_at, has_item_over, edge_over, group, merged_of, first_group}
 use Rattle.lalrpop_base.proofs.theory.lists.Members.{place}
 use Rattle.lalrpop_base.proofs.theory.lists.Places.{contains_at, filled}

@@ -2,14 +2,11 @@
 use Rattle.std.proofs.Common.{◌≡◌, ℕ, zero, suc, ◌-◌, ◌<◌, List, length, map, refl, sym, ◌∙◌, ap, subst, arith, Some, option_map}
 use Rattle.std.specs.Prelude.{Contains, slice_get, unwrap_or}
 use Rattle.std.proofs.lemmas.Option.{slice_get_within, slice_get-map}
-use Rattle.lalrpop_base.specs.Words.{Bits, HasItem, IsShifted, IsCoherentEdge, dots, Ordered, Dotted}
-use Rattle.lalrpop_base.specs.declared.lr1_core.state.State.{State}
-use Rattle.lalrpop_base.specs.declared.repr.Production.{Production}
-use Rattle.lalrpop_base.specs.declared.repr.Symbol.{Symbol}
+use Rattle.lalrpop_base.specs.Words.{Bits, HasItem, IsShifted, IsCoherentEdge, dots, Ordered, Dotted, Precedes, Ascend, lr0, dots_in, IsCollapsed, number_in}
+use Rattle.lalrpop_base.proofs.Types.{Production, State, Symbol}
 use Rattle.lalrpop_base.proofs.theory.states.ContentsViews.{some_of_map}
 use Rattle.lalrpop_base.proofs.theory.lists.Ascending.{ascending_same}
 use Rattle.lalrpop_base.specs.closures.Closure.{dotted_of}
-use Rattle.lalrpop_base.specs.Words.{Precedes, Ascend, lr0, dots_in, IsCollapsed, number_in}
 use Rattle.lalrpop_base.proofs.theory.grammars.AscendingItems.{precedes_asymmetric}
 use Rattle.lalrpop_base.proofs.theory.lists.Places.{filled}
 

@@ -1,10 +1,7 @@
 -- LR(0) states whose reductions hold their LALR tokens are faithful exactly where the grammar is LALR(1): from what such a state allows.
 use Rattle.std.proofs.Common.{◌≡◌, ◌↔◌, ℕ, List, sym, subst, ◌∙◌, length, Some}
-use Rattle.lalrpop_base.specs.declared.repr.NonterminalString.{NonterminalString}
-use Rattle.lalrpop_base.specs.declared.repr.Production.{Production}
-use Rattle.lalrpop_base.specs.declared.repr.Symbol.{Symbol}
+use Rattle.lalrpop_base.proofs.Types.{NonterminalString, Production, Symbol, Token}
 use Rattle.lalrpop_base.specs.declared.repr.Symbol.TheVariants.{Terminal}
-use Rattle.lalrpop_base.specs.declared.lookahead.token.Token.{Token}
 use Rattle.lalrpop_base.specs.Words.{IsLive, Action, Shift, Reduce, IsValidAction, IsLalrToken, IsLalrAction, IsLALR1, Contents, state_after, Allows}
 use Rattle.lalrpop_base.specs.Words.{HasRightItems, CanStandNext, AreFaithful, AreLr0, HoldLalrTokens}
 use Rattle.lalrpop_base.proofs.theory.closures.Valid.{valid}

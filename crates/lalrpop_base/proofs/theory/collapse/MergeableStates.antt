@@ -10,8 +10,7 @@ use Rattle.std.proofs.lemmas.Map.Made.{lookup-map_values}
 use Rattle.std.proofs.lemmas.Option.{slice_get_within, slice_get-map}
 use Rattle.lalrpop_base.specs.Words.{Bits, dots, dots_at, dots_of, LeadAlike, AreAlike, AreCollapsible, name_cmp}
 use Rattle.lalrpop_base.specs.contracts.repr.TerminalStringOrd.TheImpl as terminal_ord
-use Rattle.lalrpop_base.specs.declared.lr1_core.state.State.{State}
-use Rattle.lalrpop_base.specs.declared.lr1_core.state.StateIndex.{StateIndex}
+use Rattle.lalrpop_base.proofs.Types.{State, StateIndex}
 use Rattle.lalrpop_base.specs.Words.{dots_in, AreFirstNumbers, AreMoved, number_in, retargeted, retargeted_all, IsRenumberedState}
 use Rattle.lalrpop_base.specs.collapse.Collapsed.{LeadsTo}
 use Rattle.lalrpop_base.proofs.theory.collapse.MergedStates.{Agree, CanJoin, CanMerge}

@@ -2,10 +2,8 @@
 use Rattle.std.proofs.Common.{◌≡◌, ℕ, zero, suc, ◌+◌, ◌<◌, ◌⊎◌, inl, inr, List, [], ◌∷◌, ◌++◌, length, map, refl, sym, ap, ◌∙◌, subst, arith, Option, Some, None, option_map, length-append}
 use Rattle.std.specs.Prelude.{slice_get}
 use Rattle.std.proofs.lemmas.Option.{slice_get_within, slice_get-map}
-use Rattle.lalrpop_base.specs.Words.{Dotted, AllDiffer}
-use Rattle.lalrpop_base.specs.declared.lookahead.nil.Nil.{Nil}
-use Rattle.lalrpop_base.specs.declared.repr.Production.{Production}
-use Rattle.lalrpop_base.specs.Words.{AreFirstNumbers, bare}
+use Rattle.lalrpop_base.specs.Words.{Dotted, AllDiffer, AreFirstNumbers, bare}
+use Rattle.lalrpop_base.proofs.Types.{Nil, Production}
 use Rattle.lalrpop_base.proofs.theory.lists.Places.{same_some, slice_get-longer, slice_get-push_at, push_cases, one_place}
 
 module _ {X : Type 0} where

@@ -8,16 +8,10 @@ use Rattle.std.specs.declared.cmp.Ordering.{Ordering}
 use Rattle.std.proofs.lemmas.Bool.{or_cases, cases_eq, cases_lt}
 use Rattle.std.proofs.lemmas.List.Elements.{Contains-append_left, Contains-append_right, Contains-append_cases}
 use Rattle.std.proofs.lemmas.Option.{slice_get_within}
-use Rattle.lalrpop_base.specs.Words.{Bits, has, has-join, dots, Dotted, name_cmp}
+use Rattle.lalrpop_base.specs.Words.{Bits, has, has-join, dots, Dotted, name_cmp, dots_in, HoldsAt, OfMember, joined_item, joined_items, IsJoined, IsPlacedAt, pushed, joined}
 use Rattle.lalrpop_base.specs.contracts.repr.TerminalStringOrd.TheImpl as terminal_ord
-use Rattle.lalrpop_base.specs.declared.lr1_core.state.State.{State}
-use Rattle.lalrpop_base.specs.declared.lr1_core.state.StateIndex.{StateIndex}
-use Rattle.lalrpop_base.specs.declared.repr.NonterminalString.{NonterminalString}
-use Rattle.lalrpop_base.specs.declared.repr.Production.{Production}
-use Rattle.lalrpop_base.specs.declared.repr.TerminalString.{TerminalString}
-use Rattle.lalrpop_base.specs.collapse.Merging.{ArePlaced}
-use Rattle.lalrpop_base.specs.Words.{dots_in, HoldsAt, OfMember, joined_item, joined_items, IsJoined, IsPlacedAt, pushed, joined}
-use Rattle.lalrpop_base.specs.collapse.Merging.{none}
+use Rattle.lalrpop_base.proofs.Types.{NonterminalString, Production, State, StateIndex, TerminalString}
+use Rattle.lalrpop_base.specs.collapse.Merging.{ArePlaced, none}
 use Rattle.lalrpop_base.proofs.theory.lists.Places.{same_some, push_cases, slice_get-longer, slice_get-push_at}
 
 abbrev Reduction : Type 0

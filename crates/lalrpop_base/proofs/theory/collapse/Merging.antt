@@ -3,9 +3,8 @@ use Rattle.std.proofs.Common.{◌≡◌, ℕ, zero, suc, ◌<◌, ◌≤◌, Lis
 use Rattle.std.specs.Prelude.{slice_get}
 use Rattle.std.proofs.lemmas.List.{set-get_or}
 use Rattle.std.proofs.lemmas.Option.{get_or_from_slice_get}
-use Rattle.lalrpop_base.specs.Words.{Bits}
-use Rattle.lalrpop_base.specs.declared.lr1_core.state.State.{State}
-use Rattle.lalrpop_base.specs.Words.{IsJoined, Places, pushed, joined}
+use Rattle.lalrpop_base.specs.Words.{Bits, IsJoined, Places, pushed, joined}
+use Rattle.lalrpop_base.proofs.Types.{State}
 
 -- ---- what a loop over a list has taken, and what is left
 pub taken : {X : Type 0} (all rest yielded left : List X) (x : X) → yielded ++ rest ≡ all → rest ≡ x ∷ left → (yielded ++ x ∷ []) ++ left ≡ all

@@ -1,8 +1,7 @@
 -- Items joined place by place.
 use Rattle.std.proofs.Common.{◌≡◌, ℕ, zero, suc, ◌<◌, List, [], ◌∷◌, ◌++◌, length, refl, sym, ap, Some, slice_set, arith}
 use Rattle.std.specs.Prelude.{slice_get}
-use Rattle.lalrpop_base.specs.Words.{Bits, Dotted}
-use Rattle.lalrpop_base.specs.Words.{joined_item, joined_at, joined_items}
+use Rattle.lalrpop_base.specs.Words.{Bits, Dotted, joined_item, joined_at, joined_items}
 use Rattle.lalrpop_base.proofs.theory.lists.Places.{same_some}
 
 pub joined_there : (is : List (Dotted Bits)) (n : ℕ) (i j : Dotted Bits) → slice_get is n ≡ Some i → slice_set is n (joined_item i j) ≡ joined_at is n j

@@ -16,7 +16,7 @@ use Rattle.std.proofs.lemmas.Map.Keys.{IsDistinct-from_sorted}
 use Rattle.std.proofs.lemmas.Option.{slice_get-map}
 use mathlib.Core.Bool.{true≢false}
 use Rattle.lalrpop_base.specs.Words.{Bits, has, no_bits, join, has-join, has-no_bits, PushesAt}
-use Rattle.lalrpop_base.specs.declared.repr.Production.{Production}
+use Rattle.lalrpop_base.proofs.Types.{Production}
 use Rattle.lalrpop_base.proofs.theory.states.ContentsViews.{some_of_map}
 use Rattle.lalrpop_base.specs.Words.{production_order, HasReduction, HasReductionOn, AreTokensOf, HasTokensOf, AreJoinedReductions}
 use Rattle.lalrpop_base.specs.collapse.Merging.{tokens_at, AreListed}

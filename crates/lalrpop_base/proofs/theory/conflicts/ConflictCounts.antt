@@ -8,9 +8,7 @@ use Rattle.std.proofs.lemmas.Option.{get_or_from_slice_get, slice_get_within}
 use Rattle.lalrpop_base.specs.Words.{Bits, has, share, place_in, conflicts_on_place, shift_conflicts, later_conflicts, reduce_conflicts, state_conflicts}
 use Rattle.lalrpop_base.specs.Words.{shift_conflict, reduce_conflict, count_on_place, shift_conflict_count, later_count, reduce_conflict_count}
 use Rattle.lalrpop_base.specs.conflicts.StateConflicts.{Reduction}
-use Rattle.lalrpop_base.specs.declared.repr.TerminalString.{TerminalString}
-use Rattle.lalrpop_base.specs.declared.lr1_core.state.StateIndex.{StateIndex}
-use Rattle.lalrpop_base.specs.declared.lr1_core.state.State.{State}
+use Rattle.lalrpop_base.proofs.Types.{State, StateIndex, TerminalString}
 use Rattle.lalrpop_base.proofs.theory.conflicts.ConflictLemmas.{shared, share_none, bit_is_place}
 
 -- an answer that is true where a bit is in both sets, and false where none is

@@ -1,21 +1,17 @@
 -- The conflicts of a state, one shift or reduction at a time.
 use Rattle.std.proofs.Common.{◌≡◌, ℕ, zero, suc, ◌<◌, ⊎_elim, Bool, true, false, ◌&&◌, List, [], ◌∷◌, ◌++◌, map, length, get_or, refl, sym, ◌∙◌, ap, arith, append_assoc}
 use Rattle.std.specs.Prelude.{cond, slice_get, Option, Some, None, unwrap_or, is_some, nat_lt, IfSome, ◌↔◌}
-use Rattle.std.specs.List.{filter, flat_map, list_any}
+use Rattle.std.specs.List.{filter, flat_map, list_any, position_or_len}
 use Rattle.std.proofs.lemmas.List.{append-nil}
 use Rattle.std.proofs.lemmas.List.Folds.{list_any_at}
 use Rattle.std.proofs.lemmas.Bool.{cases_Bool, or_cases, lt-ltb}
 use Rattle.std.proofs.lemmas.Option.{slice_get_read, slice_get_within, get_or_from_slice_get}
 use Rattle.std.proofs.lemmas.List.Sums.{position_or_len_is}
-use Rattle.std.specs.List.{position_or_len}
 use Rattle.lalrpop_base.specs.Words.{place_in, Bits, has, rising, has-at, has-place, same_bits, meet, share, conflicts_on_place, shift_conflicts}
 use Rattle.lalrpop_base.specs.Words.{reduce_conflicts, later_conflicts, reduce_conflict, shift_conflict, state_conflicts}
 use Rattle.lalrpop_base.proofs.theory.sets.HeldTokens.{place_there}
 use mathlib.Core.Bool.{true≢false}
-use Rattle.lalrpop_base.specs.declared.repr.TerminalString.{TerminalString}
-use Rattle.lalrpop_base.specs.declared.lr1_core.state.StateIndex.{StateIndex}
-use Rattle.lalrpop_base.specs.declared.lr1_core.state.State.{State}
-use Rattle.lalrpop_base.specs.declared.lr1_core.state.Conflict.{Conflict}
+use Rattle.lalrpop_base.proofs.Types.{Conflict, State, StateIndex, TerminalString}
 use Rattle.lalrpop_base.specs.declared.lr1_core.state.Action.TheVariants.{Reduce}
 use Rattle.lalrpop_base.specs.contracts.repr.TerminalStringPartialEq.TheImpl as terminal
 use Rattle.lalrpop_base.specs.contracts.repr.TerminalStringEq.TheImpl.Laws as equality

@@ -4,9 +4,7 @@ use Rattle.std.specs.Prelude.{Contains, slice_get}
 use Rattle.std.specs.declared.cmp.Ordering.{Ordering}
 use Rattle.std.proofs.lemmas.Bool.{cases_order}
 use Rattle.std.proofs.lemmas.List.Elements.{Contains-append_left, Contains-append_right, Contains-append_cases}
-use Rattle.lalrpop_base.specs.declared.repr.Production.{Production}
-use Rattle.lalrpop_base.specs.declared.repr.TerminalString.{TerminalString}
-use Rattle.lalrpop_base.specs.declared.lookahead.token.Token.{Token}
+use Rattle.lalrpop_base.proofs.Types.{Production, TerminalString, Token}
 use Rattle.lalrpop_base.specs.declared.lookahead.token.Token.TheVariants.{Terminal as TokenOf}
 use Rattle.lalrpop_base.specs.Words.{Action, Shift, Reduce, Contents, HasNoRepeat, Allows, IsInConflict, ConflictContents, IsConflict, ActionPrecedes, IsLess}
 use Rattle.lalrpop_base.specs.Words.{StandsBefore, AreConflictsOf, Ordered, IsShiftConflict, ShiftPart, no_more, in_conflict, apart, ShiftParts, no_shifts}

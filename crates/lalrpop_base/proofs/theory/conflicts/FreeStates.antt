@@ -5,9 +5,7 @@ use Rattle.std.proofs.lemmas.Option.{slice_get_within}
 use Rattle.lalrpop_base.specs.Words.{AllDiffer, Bits, has, HasToken}
 use Rattle.lalrpop_base.specs.conflicts.StateConflicts.{HasNoConflict, Reduction}
 use Rattle.lalrpop_base.specs.declared.lookahead.token.Token.TheVariants.{Terminal as TokenOf}
-use Rattle.lalrpop_base.specs.declared.lr1_core.state.State.{State}
-use Rattle.lalrpop_base.specs.declared.lr1_core.state.StateIndex.{StateIndex}
-use Rattle.lalrpop_base.specs.declared.repr.TerminalString.{TerminalString}
+use Rattle.lalrpop_base.proofs.Types.{State, StateIndex, TerminalString}
 use Rattle.lalrpop_base.proofs.theory.states.ContentsViews.{at_contains, contains_at}
 use Rattle.lalrpop_base.proofs.theory.sets.HeldTokens.{place_is, place_there}
 use Rattle.lalrpop_base.specs.conflicts.HeldShifts.{HoldsNoShift, IsHeldBit, ShareNoBit}

@@ -16,22 +16,16 @@ use Rattle.lalrpop_base.specs.Words.{Bits, has, no_bits, with_bit, Ordered, Shif
 use Rattle.lalrpop_base.specs.Words.{no_shifts, shift_first, LaterPart, no_later, with_later, shares_none, ReduceParts, no_reductions, reduce_first, IsLess}
 use Rattle.lalrpop_base.specs.Words.{ConflictContents, AreConflictsOf, holds_token, number_of, reduction_of, contents_of, AllDiffer, meet, share}
 use Rattle.lalrpop_base.specs.Words.{shift_conflict, conflicts_on_bit, conflicts_on_place, shift_conflicts, reduce_conflict, later_conflicts, reduce_conflicts}
-use Rattle.lalrpop_base.specs.Words.{state_conflicts, HasNoRepeat, place_in, FitsTokens}
+use Rattle.lalrpop_base.specs.Words.{state_conflicts, HasNoRepeat, place_in, FitsTokens, conflict_of, conflicts_of}
 use Rattle.lalrpop_base.specs.states.States.{Reduction}
-use Rattle.lalrpop_base.specs.declared.lookahead.token.Token.{Token}
+use Rattle.lalrpop_base.proofs.Types.{Conflict, Production, State, StateIndex, TerminalString, Token}
 use Rattle.lalrpop_base.specs.declared.lookahead.token.Token.TheVariants.{Eof, Error, Terminal as TokenOf}
-use Rattle.lalrpop_base.specs.declared.lr1_core.state.Conflict.{Conflict}
-use Rattle.lalrpop_base.specs.declared.lr1_core.state.State.{State}
-use Rattle.lalrpop_base.specs.declared.lr1_core.state.StateIndex.{StateIndex}
-use Rattle.lalrpop_base.specs.declared.repr.Production.{Production}
-use Rattle.lalrpop_base.specs.declared.repr.TerminalString.{TerminalString}
 use Rattle.lalrpop_base.specs.lists.Exact.{both}
 use Rattle.lalrpop_base.proofs.theory.conflicts.ConflictLemmas.{shared, share_some}
 use Rattle.lalrpop_base.proofs.theory.states.ContentsViews.{contains_of_map, contains_map, some_of_map, contains_at}
 use Rattle.lalrpop_base.proofs.theory.sets.HeldTokens.{place_there, place_is}
 use Rattle.lalrpop_base.proofs.theory.lists.RisingLemmas.{filter_bits}
 use Rattle.lalrpop_base.proofs.theory.conflicts.ConflictLists.{conflict_list}
-use Rattle.lalrpop_base.specs.Words.{conflict_of, conflicts_of}
 use Rattle.lalrpop_base.proofs.theory.grammars.KnownTerminals.{token_bit, held_bit, bit_held}
 use Rattle.lalrpop_base.proofs.theory.lists.Members.{contains_head, contains_tail}
 use Rattle.lalrpop_base.proofs.theory.lists.Orders.{terminal_order, terminal_exact, terminal_total}

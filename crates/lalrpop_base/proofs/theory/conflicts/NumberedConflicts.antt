@@ -5,15 +5,11 @@ use Rattle.std.specs.List.{filter, flat_map}
 use Rattle.std.proofs.lemmas.List.{append-nil}
 use Rattle.std.proofs.lemmas.List.Elements.{filter-append, Contains-append_cases}
 use Rattle.lalrpop_base.specs.Words.{Bits, has, share, shift_conflict, conflicts_on_place, shift_conflicts, reduce_conflict, later_conflicts, reduce_conflicts}
-use Rattle.lalrpop_base.specs.Words.{state_conflicts, place_in}
+use Rattle.lalrpop_base.specs.Words.{state_conflicts, place_in, listed_of, StatesAscend}
 use Rattle.lalrpop_base.specs.declared.lr1_core.state.Action.TheVariants.{Shift}
-use Rattle.lalrpop_base.specs.declared.lr1_core.state.Conflict.{Conflict}
-use Rattle.lalrpop_base.specs.declared.lr1_core.state.State.{State}
-use Rattle.lalrpop_base.specs.declared.lr1_core.state.StateIndex.{StateIndex}
-use Rattle.lalrpop_base.specs.declared.repr.TerminalString.{TerminalString}
+use Rattle.lalrpop_base.proofs.Types.{Conflict, State, StateIndex, TerminalString}
 use Rattle.lalrpop_base.proofs.theory.states.ContentsViews.{contains_of_map, at_contains}
 use Rattle.lalrpop_base.proofs.theory.conflicts.ConflictLists.{ordered-nil, ordered-append}
-use Rattle.lalrpop_base.specs.Words.{listed_of, StatesAscend}
 use Rattle.lalrpop_base.proofs.theory.conflicts.ListedConflicts.{CodeReduction}
 use Rattle.lalrpop_base.proofs.theory.lists.Members.{Contains-none, contains_head, contains_tail}
 

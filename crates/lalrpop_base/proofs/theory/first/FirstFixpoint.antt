@@ -9,13 +9,8 @@ use Rattle.std.proofs.lemmas.List.Elements.{Contains-append_cases}
 use Rattle.std.proofs.lemmas.Nat.{mul-le}
 use native.Mathlib.Nat.{suc-mul}
 use Rattle.std.proofs.lemmas.Option.{slice_get_read, slice_get_within}
-use Rattle.lalrpop_base.specs.declared.repr.NonterminalString.{NonterminalString}
-use Rattle.lalrpop_base.specs.declared.repr.TerminalString.{TerminalString}
-use Rattle.lalrpop_base.specs.declared.repr.Symbol.{Symbol}
+use Rattle.lalrpop_base.proofs.Types.{Grammar, NonterminalData, NonterminalString, Production, Symbol, TerminalString}
 use Rattle.lalrpop_base.specs.declared.repr.Symbol.TheVariants.{Nonterminal, Terminal}
-use Rattle.lalrpop_base.specs.declared.repr.Production.{Production}
-use Rattle.lalrpop_base.specs.declared.repr.grammar.NonterminalData.{NonterminalData}
-use Rattle.lalrpop_base.specs.declared.repr.grammar.Grammar.{Grammar}
 use Rattle.lalrpop_base.specs.declared.first.numbered.NumberedSymbol.{NumberedSymbol}
 use Rattle.lalrpop_base.specs.declared.first.numbered.NumberedSymbol.TheVariants.{Bit, Name}
 use Rattle.lalrpop_base.specs.declared.first.numbered.NumberedProduction.{NumberedProduction}

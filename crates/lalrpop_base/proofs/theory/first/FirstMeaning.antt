@@ -4,12 +4,9 @@ use Rattle.std.specs.Prelude.{slice_get}
 use Rattle.std.proofs.lemmas.Bool.{false≢true, or_cases, or_left, or_right, cases_lt, and_parts, and_from, eqb-false, ne_eqb, not-true, not_from_false}
 use Rattle.std.proofs.lemmas.Option.{slice_get_within}
 use mathlib.Core.List.{cons≢nil}
-use Rattle.lalrpop_base.specs.declared.repr.TerminalString.{TerminalString}
-use Rattle.lalrpop_base.specs.declared.repr.Symbol.{Symbol}
+use Rattle.lalrpop_base.proofs.Types.{Production, Symbol, TerminalString}
 use Rattle.lalrpop_base.specs.declared.repr.Symbol.TheVariants.{Nonterminal, Terminal}
-use Rattle.lalrpop_base.specs.declared.repr.Production.{Production}
-use Rattle.lalrpop_base.specs.Words.{Bits, has, join, has-join, as_it_is, IsFirst, IsNullable, Rules, FitsTokens, IsFirstSet, IsFirstSetBefore, AreFirstSetsOf}
-use Rattle.lalrpop_base.specs.Words.{Table, IsRight}
+use Rattle.lalrpop_base.specs.Words.{Bits, has, join, has-join, as_it_is, IsFirst, IsNullable, Rules, FitsTokens, IsFirstSet, IsFirstSetBefore, AreFirstSetsOf, Table, IsRight}
 use Rattle.lalrpop_base.specs.first.FirstTables.{Gives}
 use Rattle.lalrpop_base.proofs.theory.grammars.Forests.{nullable-cons, first-cons, first-nil, forest-terminal, derives_forest}
 

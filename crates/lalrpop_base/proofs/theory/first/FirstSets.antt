@@ -1,10 +1,7 @@
 -- Sets that each production keeps, and that hold only what they should, say FIRST of each list and whether it is nullable: by induction on forests.
 use Rattle.std.proofs.Common.{◌≡◌, ◌↔◌, inl, inr, List, [], ◌∷◌, sym, subst, refl, ap}
 use mathlib.Core.List.{head-eq_of_cons-eq, nil≢cons, cons≢nil}
-use Rattle.lalrpop_base.specs.declared.repr.NonterminalString.{NonterminalString}
-use Rattle.lalrpop_base.specs.declared.repr.TerminalString.{TerminalString}
-use Rattle.lalrpop_base.specs.declared.repr.Production.{Production}
-use Rattle.lalrpop_base.specs.declared.repr.Symbol.{Symbol}
+use Rattle.lalrpop_base.proofs.Types.{NonterminalString, Production, Symbol, TerminalString}
 use Rattle.lalrpop_base.specs.declared.repr.Symbol.TheVariants.{Nonterminal, Terminal}
 use Rattle.lalrpop_base.specs.Words.{Derives, as_it_is, IsFirst, IsNullable, NullableBy, FirstBy, AreFirstSets}
 use Rattle.lalrpop_base.proofs.theory.lists.Lists.{same_terminal, not_both}

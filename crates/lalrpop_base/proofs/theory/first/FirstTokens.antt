@@ -1,7 +1,7 @@
 -- First sets by their tokens; that their contracts leave one set alone, and carry joins to joins.
 use Rattle.std.proofs.Common.{◌≡◌, ℕ, inl, inr, List, length, sym, subst, arith, true}
 use Rattle.std.proofs.lemmas.Bool.{cases_lt}
-use Rattle.lalrpop_base.specs.declared.repr.Symbol.{Symbol}
+use Rattle.lalrpop_base.proofs.Types.{Symbol}
 use Rattle.lalrpop_base.specs.Words.{Bits, has, same_bits, Rules, IsFirstSet}
 use Rattle.lalrpop_base.proofs.theory.sets.HeldTokens.{same_test}
 use Rattle.lalrpop_base.proofs.theory.first.FirstMeaning.{terminal_at}

@@ -2,15 +2,11 @@
 use Rattle.std.proofs.Common.{◌≡◌, ◌↔◌, ◌≤◌, ℕ, suc, ◌⊎◌, inl, inr, List, [], ◌∷◌, ◌++◌, append-nil, sym, subst, refl, ap, ap₂, ◌∙◌, arith}
 use Rattle.std.specs.Prelude.{Contains}
 use mathlib.Core.List.{head-eq_of_cons-eq, tail-eq_of_cons-eq, nil≢cons, cons≢nil}
-use Rattle.lalrpop_base.specs.declared.repr.NonterminalString.{NonterminalString}
-use Rattle.lalrpop_base.specs.declared.repr.TerminalString.{TerminalString}
-use Rattle.lalrpop_base.specs.declared.repr.Production.{Production}
-use Rattle.lalrpop_base.specs.declared.repr.Symbol.{Symbol}
+use Rattle.lalrpop_base.proofs.Types.{NonterminalString, Production, Symbol, TerminalString, Token}
 use Rattle.lalrpop_base.specs.declared.repr.Symbol.TheVariants.{Nonterminal, Terminal}
 use Rattle.lalrpop_base.specs.Words.{Derives, as_it_is, replace, symbols_of, IsSentence, IsBeginning, IsOnNoRightSide, Tree, Leaf, Node, Trees, no_trees}
 use Rattle.lalrpop_base.specs.Words.{beside, root, roots, leaves, nodes, IsNode, AreOfGrammar, IsParseTree, IsAugmented, Contents, AreFaithful, HasOutcome}
 use Rattle.lalrpop_base.specs.Words.{Parsed, Refused, IsFirstWrong, at_terminal, at_end}
-use Rattle.lalrpop_base.specs.declared.lookahead.token.Token.{Token}
 use Rattle.lalrpop_base.proofs.theory.lists.Lists.{same_nonterminal, not_both, contains-cons, contains-nil, contains_head, contains_tail}
 use Rattle.lalrpop_base.proofs.theory.grammars.Derivations.{Derives-to, Derives-from, Derives-trans, Derives-production}
 use Rattle.lalrpop_base.proofs.theory.grammars.Forests.{Forest, empty, leaf, node, Forest-from, forest_derives, derives_forest, forest-nil}

@@ -1,9 +1,7 @@
 -- The entries of a grammar, one at a time.
 use Rattle.std.proofs.Common.{◌≡◌, ℕ, zero, suc, List, ◌∷◌, refl, subst, ap}
 use Rattle.std.specs.Prelude.{Option, unwrap_or}
-use Rattle.lalrpop_base.specs.declared.repr.NonterminalString.{NonterminalString}
-use Rattle.lalrpop_base.specs.declared.repr.TerminalString.{TerminalString}
-use Rattle.lalrpop_base.specs.declared.repr.grammar.NonterminalData.{NonterminalData}
+use Rattle.lalrpop_base.proofs.Types.{NonterminalData, NonterminalString, TerminalString}
 use Rattle.lalrpop_base.specs.Words.{IsWellFormedEntry, AreWellFormedEntries}
 
 module _ (terminals : List TerminalString) (actions : ℕ) where

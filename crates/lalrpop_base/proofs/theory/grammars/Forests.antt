@@ -2,10 +2,8 @@
 use Rattle.std.proofs.Common.{◌≡◌, ◌↔◌, ◌⊎◌, inl, inr, List, [], ◌∷◌, ◌++◌, append_assoc, sym, subst, refl, ap, ◌∙◌}
 use Rattle.std.specs.Prelude.{Contains}
 use mathlib.Core.List.{head-eq_of_cons-eq, nil≢cons, cons≢nil}
-use Rattle.lalrpop_base.specs.declared.repr.Production.{Production}
-use Rattle.lalrpop_base.specs.declared.repr.Symbol.{Symbol}
+use Rattle.lalrpop_base.proofs.Types.{Production, Symbol, TerminalString}
 use Rattle.lalrpop_base.specs.declared.repr.Symbol.TheVariants.{Nonterminal, Terminal}
-use Rattle.lalrpop_base.specs.declared.repr.TerminalString.{TerminalString}
 use Rattle.lalrpop_base.specs.Words.{Derives, as_it_is, replace, IsNullable, IsFirst}
 use Rattle.lalrpop_base.proofs.theory.grammars.Derivations.{Derives-to, Derives-append}
 

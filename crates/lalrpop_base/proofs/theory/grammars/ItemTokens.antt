@@ -5,17 +5,14 @@ use Rattle.std.specs.List.{list_any}
 use Rattle.std.proofs.lemmas.Bool.{or_cases, and_parts, cases_lt}
 use Rattle.std.proofs.lemmas.List.Folds.{list_any_at}
 use Rattle.std.proofs.lemmas.Option.{slice_get-map}
-use Rattle.lalrpop_base.specs.Words.{Bits, has, same_bits, holds_token, Dotted, AllDiffer, FitsTokens}
+use Rattle.lalrpop_base.specs.Words.{Bits, has, same_bits, holds_token, Dotted, AllDiffer, FitsTokens, is_with_token, HasItemToken}
 use Rattle.lalrpop_base.specs.contracts.exact.ProductionExact.TheImpl as production_exactly
 use Rattle.lalrpop_base.specs.contracts.repr.ProductionEq.TheImpl as production_laws
 use Rattle.lalrpop_base.specs.contracts.repr.ProductionPartialEq.TheImpl as production_eq
-use Rattle.lalrpop_base.specs.declared.lookahead.token.Token.{Token}
+use Rattle.lalrpop_base.proofs.Types.{Production, TerminalString, Token}
 use Rattle.lalrpop_base.specs.declared.lookahead.token.Token.TheVariants.{Eof, Error, Terminal as TokenOf}
-use Rattle.lalrpop_base.specs.declared.repr.Production.{Production}
-use Rattle.lalrpop_base.specs.declared.repr.TerminalString.{TerminalString}
 use Rattle.lalrpop_base.proofs.theory.sets.HeldTokens.{place_is, same_test}
 use Rattle.lalrpop_base.specs.closures.Closure.{dotted_of}
-use Rattle.lalrpop_base.specs.Words.{is_with_token, HasItemToken}
 use Rattle.lalrpop_base.proofs.theory.grammars.KnownTerminals.{token_bit, held_bit, bit_held}
 use Rattle.lalrpop_base.proofs.theory.lists.Members.{contains_head, contains_tail, place}
 use Rattle.lalrpop_base.proofs.theory.lists.Places.{same_some, filled, one_place}

@@ -5,16 +5,12 @@ use Rattle.std.proofs.lemmas.List.Elements.{Contains-append_left, Contains-appen
 use Rattle.std.proofs.lemmas.List.Sums.{fails_before_first}
 use Rattle.std.specs.List.{position_or_len}
 use Rattle.std.proofs.lemmas.Bool.{lt-ltb, cases_lt, false≢true}
-use Rattle.lalrpop_base.specs.Words.{Bits, has, has_at, holds_token, IsFirst, Derives, as_it_is, replace, place_in, Rules, HasKnownTerminals}
-use Rattle.lalrpop_base.specs.declared.lookahead.token.Token.{Token}
+use Rattle.lalrpop_base.specs.Words.{Bits, has, has_at, holds_token, IsFirst, Derives, as_it_is, replace, place_in, Rules, HasKnownTerminals, Begins}
+use Rattle.lalrpop_base.proofs.Types.{Production, Symbol, TerminalString, Token}
 use Rattle.lalrpop_base.specs.declared.lookahead.token.Token.TheVariants.{Eof, Error, Terminal as TokenOf}
-use Rattle.lalrpop_base.specs.declared.repr.Production.{Production}
-use Rattle.lalrpop_base.specs.declared.repr.Symbol.{Symbol}
 use Rattle.lalrpop_base.specs.declared.repr.Symbol.TheVariants.{Nonterminal, Terminal}
-use Rattle.lalrpop_base.specs.declared.repr.TerminalString.{TerminalString}
 use Rattle.lalrpop_base.specs.contracts.repr.TerminalStringPartialEq.TheImpl as terminal_eq
 use Rattle.lalrpop_base.specs.contracts.repr.TerminalStringEq.TheImpl as terminal_laws
-use Rattle.lalrpop_base.specs.Words.{Begins}
 use Rattle.lalrpop_base.proofs.theory.lists.Members.{contains_head, place}
 use Rattle.lalrpop_base.proofs.theory.lists.Places.{same_some}
 

@@ -1,11 +1,8 @@
 -- A list of terminals is a sentence exactly where it has a parse tree: since a forest whose leaves are terminals is one of parse trees.
 use Rattle.std.proofs.Common.{◌≡◌, ◌↔◌, List, [], ◌∷◌, ◌++◌, sym, refl, ap, ap₂, ◌∙◌}
 use mathlib.Core.List.{head-eq_of_cons-eq, tail-eq_of_cons-eq, nil≢cons, cons≢nil}
-use Rattle.lalrpop_base.specs.declared.repr.Production.{Production}
-use Rattle.lalrpop_base.specs.declared.repr.NonterminalString.{NonterminalString}
-use Rattle.lalrpop_base.specs.declared.repr.Symbol.{Symbol}
+use Rattle.lalrpop_base.proofs.Types.{NonterminalString, Production, Symbol, TerminalString}
 use Rattle.lalrpop_base.specs.declared.repr.Symbol.TheVariants.{Nonterminal}
-use Rattle.lalrpop_base.specs.declared.repr.TerminalString.{TerminalString}
 use Rattle.lalrpop_base.specs.Words.{Derives, symbols_of, IsSentence, Tree, Leaf, Node, Trees, no_trees, beside, roots, leaves, AreOfGrammar, IsParseTree}
 use Rattle.lalrpop_base.proofs.theory.lists.Lists.{TerminalParts, terminal_parts}
 use Rattle.lalrpop_base.proofs.theory.grammars.Derivations.{Derives-from, Derives-to}

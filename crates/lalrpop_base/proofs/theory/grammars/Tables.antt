@@ -1,9 +1,7 @@
 -- What tells dotted productions and bits of tokens.
 use Rattle.std.proofs.Common.{◌≡◌, ℕ, ◌+◌, length, ap, ◌∙◌, arith}
-use Rattle.lalrpop_base.specs.Words.{Bits, Dotted, FitsTokens, Rules}
-use Rattle.lalrpop_base.specs.declared.lookahead.nil.Nil.{Nil}
-use Rattle.lalrpop_base.specs.declared.repr.Production.{Production}
-use Rattle.lalrpop_base.specs.Words.{IsBelow}
+use Rattle.lalrpop_base.specs.Words.{Bits, Dotted, FitsTokens, Rules, IsBelow}
+use Rattle.lalrpop_base.proofs.Types.{Nil, Production}
 
 -- a bit of a token is below the number of tokens
 pub fits_below : (g : Rules) (s : Bits) → FitsTokens g.terminals s → IsBelow (length g.terminals + 2) s

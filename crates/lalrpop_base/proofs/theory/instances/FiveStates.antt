@@ -1,16 +1,11 @@
 -- The grammar S = A B; A = "x"; B = () | "y" and its five states pass the check, so that they are faithful: by going through the rows.
 use Rattle.std.proofs.Common.{◌≡◌, ◌↔◌, ℕ, zero, suc, Bool, true, false, List, [], ◌∷◌, drop, sym, subst, refl, ap, Some, arith}
 use Rattle.std.specs.Prelude.{Contains}
-use Rattle.lalrpop_base.specs.declared.repr.NonterminalString.{NonterminalString}
-use Rattle.lalrpop_base.specs.declared.repr.Production.{Production}
-use Rattle.lalrpop_base.specs.declared.repr.Symbol.{Symbol}
+use Rattle.lalrpop_base.proofs.Types.{NonterminalString, Production, Symbol, TerminalString, Token}
 use Rattle.lalrpop_base.specs.declared.repr.Symbol.TheVariants.{Nonterminal, Terminal}
-use Rattle.lalrpop_base.specs.declared.repr.TerminalString.{TerminalString}
 use Rattle.lalrpop_base.specs.declared.repr.TerminalString.TheVariants.{Literal, Bare, Error}
-use Rattle.lalrpop_base.specs.declared.lookahead.token.Token.{Token}
 use Rattle.lalrpop_base.specs.declared.lookahead.token.Token.TheVariants.{Eof, Terminal as TokenOf, Error as ErrorToken}
-use Rattle.lalrpop_base.specs.Words.{Contents, leads, IsBehindDot, LeadsOverDots, ReducesFinished, InClosure, in_kernel, expanded, IsAtStart, IsMoved, items_of}
-use Rattle.lalrpop_base.specs.Words.{AreClosed}
+use Rattle.lalrpop_base.specs.Words.{Contents, leads, IsBehindDot, LeadsOverDots, ReducesFinished, InClosure, in_kernel, expanded, IsAtStart, IsMoved, items_of, AreClosed}
 use Rattle.lalrpop_base.specs.states.States.{Reduction}
 use Rattle.lalrpop_base.proofs.theory.lists.Lists.{not_both}
 use Rattle.lalrpop_base.proofs.theory.instances.Rows.{each_at, same_text, Row, state_of, edge_at, row_edges, row_closure, row_moved, row_reductions, none_repeats, one_repeats}

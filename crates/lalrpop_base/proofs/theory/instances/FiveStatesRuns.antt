@@ -2,12 +2,9 @@
 use Rattle.std.proofs.Common.{◌≡◌, ◌<◌, ℕ, zero, suc, true, true≢false, List, [], ◌∷◌, ◌++◌, append-nil, drop, sym, subst, refl, ap, ◌∙◌, Some, length, arith, inl, inr}
 use Rattle.std.specs.Prelude.{Contains, slice_get}
 use mathlib.Core.List.{head-eq_of_cons-eq, tail-eq_of_cons-eq, nil≢cons}
-use Rattle.lalrpop_base.specs.declared.repr.Production.{Production}
-use Rattle.lalrpop_base.specs.declared.repr.Symbol.{Symbol}
+use Rattle.lalrpop_base.proofs.Types.{Production, Symbol, TerminalString, Token}
 use Rattle.lalrpop_base.specs.declared.repr.Symbol.TheVariants.{Nonterminal, Terminal}
-use Rattle.lalrpop_base.specs.declared.repr.TerminalString.{TerminalString}
 use Rattle.lalrpop_base.specs.declared.repr.TerminalString.TheVariants.{Literal, Bare, Error}
-use Rattle.lalrpop_base.specs.declared.lookahead.token.Token.{Token}
 use Rattle.lalrpop_base.specs.declared.lookahead.token.Token.TheVariants.{Eof, Terminal as TokenOf}
 use Rattle.lalrpop_base.specs.Words.{IsFirst, IsOnNoRightSide, leads, AreFaithful, IsCarried, eof_at_start, over, first_of_rest, through_rest, AreChecked, Tree}
 use Rattle.lalrpop_base.specs.Words.{Leaf, Node, no_trees, beside, here, further, HasOutcome, Parsed, parsed}

@@ -3,17 +3,12 @@ use Rattle.std.proofs.Common.{◌≡◌, ◌↔◌, ℕ, zero, suc, Bool, true, 
 use Rattle.std.specs.Prelude.{Contains, slice_get, eqb}
 use Rattle.std.proofs.lemmas.Bool.{eqb-true}
 use mathlib.Core.List.{head-eq_of_cons-eq, nil≢cons}
-use Rattle.lalrpop_base.specs.declared.repr.NonterminalString.{NonterminalString}
-use Rattle.lalrpop_base.specs.declared.repr.Production.{Production}
-use Rattle.lalrpop_base.specs.declared.repr.Symbol.{Symbol}
+use Rattle.lalrpop_base.proofs.Types.{NonterminalString, Production, Symbol, TerminalString, Token}
 use Rattle.lalrpop_base.specs.declared.repr.Symbol.TheVariants.{Nonterminal, Terminal}
-use Rattle.lalrpop_base.specs.declared.repr.TerminalString.{TerminalString}
 use Rattle.lalrpop_base.specs.declared.repr.TerminalString.TheVariants.{Literal, Bare, Error}
-use Rattle.lalrpop_base.specs.declared.lookahead.token.Token.{Token}
 use Rattle.lalrpop_base.specs.declared.lookahead.token.Token.TheVariants.{Eof, Terminal as TokenOf, Error as ErrorToken}
 use Rattle.lalrpop_base.specs.Words.{IsOnNoRightSide, Contents, leads, IsBehindDot, LeadsOverDots, HasNoRepeat, ReducesFinished, AreFaithful, InClosure}
-use Rattle.lalrpop_base.specs.Words.{in_kernel, expanded, IsAtStart, IsMoved, items_of, AreClosed, IsCarried, eof_at_start, over, first_of_rest, through_rest}
-use Rattle.lalrpop_base.specs.Words.{AreChecked}
+use Rattle.lalrpop_base.specs.Words.{in_kernel, expanded, IsAtStart, IsMoved, items_of, AreClosed, IsCarried, eof_at_start, over, first_of_rest, through_rest, AreChecked}
 use Rattle.lalrpop_base.specs.states.States.{Reduction}
 use Rattle.lalrpop_base.specs.conflicts.Conflicts.{HasNoConflict}
 use Rattle.lalrpop_base.proofs.theory.lists.Lists.{not_both, contains-nil, contains-cons, contains_head, some≢none, same_some}

@@ -2,11 +2,9 @@
 use Rattle.std.proofs.Common.{◌≡◌, ◌↔◌, ℕ, zero, suc, Bool, true, false, cond, true≢false, List, [], ◌∷◌, sym, subst, refl, ap, ◌∙◌, length, inr}
 use Rattle.std.specs.Prelude.{Contains, eqb}
 use Rattle.std.proofs.lemmas.Bool.{eqb-true}
-use Rattle.lalrpop_base.specs.declared.repr.Production.{Production}
-use Rattle.lalrpop_base.specs.declared.repr.Symbol.{Symbol}
+use Rattle.lalrpop_base.proofs.Types.{Production, Symbol, Token}
 use Rattle.lalrpop_base.specs.declared.repr.Symbol.TheVariants.{Nonterminal, Terminal}
 use Rattle.lalrpop_base.specs.declared.repr.TerminalString.TheVariants.{Literal, Bare, Error}
-use Rattle.lalrpop_base.specs.declared.lookahead.token.Token.{Token}
 use Rattle.lalrpop_base.specs.declared.lookahead.token.Token.TheVariants.{Eof, Terminal as TokenOf, Error as ErrorToken}
 use Rattle.lalrpop_base.specs.Words.{Valid, starts, shifts, expands, ValidToken, at_start, kept, begins_behind, passed_on, IsLR1, IsLALR1, IsLalrToken}
 use Rattle.lalrpop_base.specs.Words.{InTokenClosure, with_token, begins_rest, inherits, IsAtStartWith, IsMovedWith, items_of, IsReached, at_zero, AreCanonical}

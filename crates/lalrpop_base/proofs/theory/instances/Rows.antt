@@ -2,10 +2,8 @@
 use Rattle.std.proofs.Common.{◌≡◌, ◌↔◌, ℕ, zero, suc, Bool, true, false, cond, true≢false, List, [], ◌∷◌, drop, length, sym, subst, refl, ap₂, Option, Some, None, inl, inr, arith}
 use Rattle.std.specs.Prelude.{Contains, eqb}
 use Rattle.std.proofs.lemmas.Bool.{eqb-true}
-use Rattle.lalrpop_base.specs.declared.repr.Production.{Production}
-use Rattle.lalrpop_base.specs.declared.repr.Symbol.{Symbol}
+use Rattle.lalrpop_base.proofs.Types.{Production, Symbol, TerminalString}
 use Rattle.lalrpop_base.specs.declared.repr.Symbol.TheVariants.{Nonterminal, Terminal}
-use Rattle.lalrpop_base.specs.declared.repr.TerminalString.{TerminalString}
 use Rattle.lalrpop_base.specs.declared.repr.TerminalString.TheVariants.{Literal, Bare, Error}
 use Rattle.lalrpop_base.specs.Words.{Contents, leads, IsBehindDot, LeadsOverDots, HasNoRepeat, ReducesFinished, InClosure, in_kernel, expanded, IsMoved}
 use Rattle.lalrpop_base.specs.states.States.{Reduction}

@@ -1,7 +1,7 @@
 -- Spoilt states of S = "x" are not faithful: the reduction is dropped, stands twice, or lacks its token, or an edge is too many: each by the sentence of the definition that it breaks.
 use Rattle.std.proofs.Common.{◌≡◌, ℕ, zero, suc, true, false, true≢false, List, [], ◌∷◌, drop, sym, subst, refl, ap, ◌∙◌, None, arith, inr}
 use mathlib.Core.List.{nil≢cons}
-use Rattle.lalrpop_base.specs.declared.repr.Production.{Production}
+use Rattle.lalrpop_base.proofs.Types.{Production}
 use Rattle.lalrpop_base.specs.declared.repr.Symbol.TheVariants.{Terminal}
 use Rattle.lalrpop_base.specs.declared.lookahead.token.Token.TheVariants.{Eof}
 use Rattle.lalrpop_base.specs.Words.{starts, shifts, ValidToken, at_start, kept, IsLive, Reduce, Contents, AreFaithful, IsRightFor}

@@ -4,11 +4,9 @@ use Rattle.std.specs.Prelude.{slice_get, option_map, Contains}
 use Rattle.std.specs.Borrow.{Bor}
 use Rattle.std.proofs.lemmas.Bool.{cases_Bool, cases_lt, or_cases}
 use Rattle.std.proofs.lemmas.Option.{slice_get_within}
-use Rattle.lalrpop_base.specs.Words.{Bits, has, join, has-join}
-use Rattle.lalrpop_base.specs.declared.lr1_core.state.Action.{Action}
+use Rattle.lalrpop_base.specs.Words.{Bits, has, join, has-join, HasAt, MeetsOther, IsJoinedIn, IsUnion, MeetInUnion, AreDisjoint, IsReductionAt, TookColumn, Reduces}
+use Rattle.lalrpop_base.proofs.Types.{Action, Production}
 use Rattle.lalrpop_base.specs.declared.lr1_core.state.Action.TheVariants.{Reduce}
-use Rattle.lalrpop_base.specs.declared.repr.Production.{Production}
-use Rattle.lalrpop_base.specs.Words.{HasAt, MeetsOther, IsJoinedIn, IsUnion, MeetInUnion, AreDisjoint, IsReductionAt, TookColumn, Reduces}
 use Rattle.lalrpop_base.proofs.theory.lists.Members.{place}
 use Rattle.lalrpop_base.proofs.theory.lists.Places.{same_some, contains_at, filled, places_apart, push_cases}
 

@@ -1,11 +1,8 @@
 -- LR(0) states that are closed and hold their lane tokens pass the check of tables where the grammar is LALR(1): what is carried over edges is found by tracing back over them.
 use Rattle.std.proofs.Common.{◌≡◌, ℕ, suc, List, ◌∷◌, drop, length, subst, refl, Some}
 use Rattle.std.specs.Prelude.{Contains}
-use Rattle.lalrpop_base.specs.declared.repr.NonterminalString.{NonterminalString}
-use Rattle.lalrpop_base.specs.declared.repr.Production.{Production}
-use Rattle.lalrpop_base.specs.declared.repr.Symbol.{Symbol}
+use Rattle.lalrpop_base.proofs.Types.{NonterminalString, Production, Symbol, Token}
 use Rattle.lalrpop_base.specs.declared.repr.Symbol.TheVariants.{Nonterminal, Terminal}
-use Rattle.lalrpop_base.specs.declared.lookahead.token.Token.{Token}
 use Rattle.lalrpop_base.specs.Words.{IsOnNoRightSide, Action, Shift, Reduce, IsLALR1, IsLalrAction, Contents, state_after, ReducesFinished, HasRightItems}
 use Rattle.lalrpop_base.specs.Words.{Allows, in_kernel, items_of, AreClosed, IsReached, at_zero, IsCarried, eof_at_start, over, first_of_rest, through_rest}
 use Rattle.lalrpop_base.specs.Words.{AreChecked, AreLr0, to_parent, behind_parent, of_start, IsLaneToken, HoldLaneTokens}

@@ -1,10 +1,7 @@
 -- Tracing backwards over LR(0) states finds exactly the LALR tokens, with the start symbol on no right side: by induction on what is valid one way, and on the steps back the other.
 use Rattle.std.proofs.Common.{◌≡◌, ℕ, suc, inl, inr, ◌↔◌, List, [], ◌∷◌, ◌++◌, drop, length, sym, subst, refl, ap, ◌∙◌, Some}
-use Rattle.lalrpop_base.specs.declared.repr.Production.{Production}
-use Rattle.lalrpop_base.specs.declared.repr.NonterminalString.{NonterminalString}
-use Rattle.lalrpop_base.specs.declared.repr.Symbol.{Symbol}
+use Rattle.lalrpop_base.proofs.Types.{NonterminalString, Production, Symbol, Token}
 use Rattle.lalrpop_base.specs.declared.repr.Symbol.TheVariants.{Nonterminal, Terminal}
-use Rattle.lalrpop_base.specs.declared.lookahead.token.Token.{Token}
 use Rattle.lalrpop_base.specs.Words.{IsOnNoRightSide, IsLALR1, IsLalrAction, Action, Shift, Reduce, IsValidAction, Valid, shifts, ValidToken, at_start, kept}
 use Rattle.lalrpop_base.specs.Words.{begins_behind, passed_on, IsLive, IsLalrToken, Contents, state_after, Allows, HasRightItems, AreFaithful, AreLr0}
 use Rattle.lalrpop_base.specs.Words.{LeadsBack, to_parent, behind_parent, of_start, IsTracedTo, itself, back, IsLaneToken, HoldLaneTokens}

@@ -7,9 +7,8 @@ use Rattle.std.specs.BTreeSet.{BTreeSet, insert_key, contains, IsSubset}
 use Rattle.std.specs.List.Sorted.{IsStrictlySortedBy}
 use Rattle.std.proofs.lemmas.Map.Lookups.{CmpEqualImpliesEq}
 use Rattle.std.proofs.lemmas.Map.Views.{btree_set_contains_iff}
-use Rattle.lalrpop_base.specs.Words.{AllDiffer}
+use Rattle.lalrpop_base.specs.Words.{AllDiffer, HaveSame}
 use Rattle.lalrpop_base.specs.lists.CheckSets.{IsAdded}
-use Rattle.lalrpop_base.specs.Words.{HaveSame}
 use Rattle.lalrpop_base.proofs.theory.lists.Members.{insert_key-has, insert_key-kept, insert_key-from, apart-from_sorted}
 use Rattle.lalrpop_base.proofs.theory.lists.Places.{differ_from_apart}
 

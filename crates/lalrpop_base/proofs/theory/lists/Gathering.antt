@@ -4,8 +4,7 @@ use Rattle.std.specs.Prelude.{Contains}
 use Rattle.std.specs.Map.{keys_of}
 use Rattle.std.proofs.lemmas.List.Elements.{Contains-append_left, Contains-append_right, Contains-append_cases}
 use Rattle.std.proofs.lemmas.List.{map-append}
-use Rattle.lalrpop_base.specs.Words.{Bits, AllDiffer}
-use Rattle.lalrpop_base.specs.Words.{Adds, IsFound, IsJoinedAt}
+use Rattle.lalrpop_base.specs.Words.{Bits, AllDiffer, Adds, IsFound, IsJoinedAt}
 use Rattle.lalrpop_base.specs.lists.Entries.{Gathers, GathersMore}
 use Rattle.lalrpop_base.specs.lists.Entries.IsPut.{came}
 use Rattle.lalrpop_base.proofs.theory.lists.Growth.{Adds-one, entry_key, found_kept, key_entry}

@@ -4,10 +4,9 @@ use Rattle.std.specs.Prelude.{Contains, MatchBool}
 use Rattle.std.specs.Map.{keys_of}
 use Rattle.std.proofs.lemmas.List.Elements.{Contains-append_left, Contains-append_right, Contains-append_cases}
 use Rattle.std.proofs.lemmas.List.Sums.{sum_by-append, sum_by-cons}
-use Rattle.lalrpop_base.specs.Words.{Bits, has, join}
+use Rattle.lalrpop_base.specs.Words.{Bits, has, join, IsJoinedAt, IsFound, IsFoundWith, Grows, Adds, burden, AllBelow, count, IsBelow}
 use Rattle.lalrpop_base.specs.lists.Entries.{IsPut, IsQueued}
 use Rattle.lalrpop_base.specs.lists.Entries.IsPut.{came, waited}
-use Rattle.lalrpop_base.specs.Words.{IsJoinedAt, IsFound, IsFoundWith, Grows, Adds, burden, AllBelow, count, IsBelow}
 use Rattle.lalrpop_base.specs.lists.Entries.IsJoinedAt.{fresh, known}
 use Rattle.lalrpop_base.proofs.theory.lists.Members.{contains_head, contains_tail, contains-cons, Contains-none, contains_map}
 use Rattle.lalrpop_base.proofs.theory.lists.Places.{midst, around, at_midst}

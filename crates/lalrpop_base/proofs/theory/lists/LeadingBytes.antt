@@ -1,11 +1,13 @@
 -- Texts whose leading numbers differ are ordered as these.
-use Rattle.std.proofs.Common.{◌≡◌, ◌≢◌, ℕ, zero, suc, ◌<◌, ◌+◌, ◌*◌, List, [], ◌∷◌, refl, sym, ◌∙◌, ap, inl, inr, arith, slice_index, subst}
+use Rattle.std.proofs.Common.{◌≡◌, ◌≢◌, ℕ, zero, suc, ◌<◌, ◌+◌, ◌*◌, List, [], ◌∷◌, refl, sym, ◌∙◌, ap, inl, inr, arith, slice_index, subst, ◌≤◌, length, Bool, true, false, ◌==◌, eqb-true, eq-eqb}
 use Rattle.std.specs.declared.cmp.Ordering.{Ordering}
-use Rattle.std.specs.declared.cmp.Ordering.TheVariants.{Less, Equal}
+use Rattle.std.specs.declared.cmp.Ordering.TheVariants.{Less, Equal, Greater}
 use Rattle.std.specs.Ordering.{nat_cmp, ordering_then, ordering_reverse}
-use Rattle.std.specs.Cmp.Lexicographic.{slice_cmp}
+use Rattle.std.specs.Cmp.Lexicographic.{slice_cmp, bytes_decides}
+use Rattle.std.proofs.lemmas.List.{ext_get_or}
+use lib.Pointwise.{pointwise}
 use Rattle.std.specs.Cmp.{nat_cmp_total, tied_itself}
-use Rattle.std.proofs.lemmas.Bool.{cases_order, lt-ltb}
+use Rattle.std.proofs.lemmas.Bool.{cases_order, lt-ltb, false≢true, false_from_ne_true}
 use Rattle.lalrpop_base.specs.lists.LeadingBytes.{AreBytes, written_on, leading_number}
 use Rattle.lalrpop_base.proofs.theory.lists.RisingOrder.{cmp_turned, less_is}
 
@@ -68,3 +70,59 @@ ordered_by_number xs ys bx by o is unequal = elim (cases_order (leading_number x
         ∙ sym (cmp_turned xs ys)
   ]
 ]
+
+-- ---- texts with one leading number agree on the leading bytes
+greater_is : (a b : ℕ) → b < a → nat_cmp a b ≡ Greater
+greater_is a b l = nat_cmp_total.antisymm a b ∙ ap ordering_reverse (less_is b a l)
+
+agree : (count a b place : ℕ) (xs ys : List ℕ) → AreBytes xs → AreBytes ys → written_on a xs place count ≡ written_on b ys place count
+    → (a ≡ b) × ((j : ℕ) → place ≤ j → j < place + count → slice_index xs j ≡ slice_index ys j)
+agree zero a b place xs ys bx by is = (is, λ j l m. absurd (omega arith))
+agree (suc count) a b place xs ys bx by is =
+    let x : slice_index xs place < 256 = bx place in
+    let y : slice_index ys place < 256 = by place in
+    let rest = agree count (a * 256 + slice_index xs place) (b * 256 + slice_index ys place) (suc place) xs ys bx by is in
+    let here : slice_index xs place ≡ slice_index ys place = omega (arith, rest.0, x, y) in (
+      omega (arith, rest.0, x, y),
+      λ j l m. elim (cases_order j place) [
+        | inl same ↦ ap (slice_index xs) same ∙ here ∙ ap (slice_index ys) (sym same)
+        | inr other ↦ elim other [ inl below ↦ absurd (omega arith) | inr above ↦ rest.1 j (omega arith) (omega arith) ]
+      ],
+    )
+
+agree_below : (xs ys : List ℕ) → AreBytes xs → AreBytes ys → leading_number xs ≡ leading_number ys → AgreeBelow 8 xs ys
+unfolding leading_number
+agree_below xs ys bx by is j l = (agree 8 0 0 0 xs ys bx by is).1 j (omega arith) (omega arith)
+
+one_up : (a b : ℕ) → nat_cmp a b ≡ nat_cmp (suc a) (suc b)
+one_up a b = elim (cases_order a b) [
+  | inl is ↦ ap (nat_cmp a) (sym is) ∙ tied_itself nat_cmp_total a ∙ sym (tied_itself nat_cmp_total (suc a)) ∙ ap (λ (z : ℕ). nat_cmp (suc a) (suc z)) is
+  | inr other ↦ elim other [
+    | inl less ↦ less_is a b less ∙ sym (less_is (suc a) (suc b) (omega arith))
+    | inr more ↦ greater_is a b more ∙ sym (greater_is (suc a) (suc b) (omega arith))
+  ]
+]
+
+by_lengths : (n : ℕ) (xs ys : List ℕ) → AgreeBelow n xs ys → length xs ≤ n → length ys ≤ n → nat_cmp (length xs) (length ys) ≡ slice_cmp nat_cmp xs ys
+by_lengths n [] [] same lx ly = tied_itself nat_cmp_total 0
+by_lengths n [] (y ∷ ys) same lx ly = less_is 0 (length (y ∷ ys)) (omega arith)
+by_lengths n (x ∷ xs) [] same lx ly = greater_is (length (x ∷ xs)) 0 (omega arith)
+by_lengths zero (x ∷ xs) (y ∷ ys) same lx ly = absurd (omega arith)
+by_lengths (suc n) (x ∷ xs) (y ∷ ys) same lx ly =
+    let first : x ≡ y = same 0 (omega arith) in
+    sym (one_up (length xs) (length ys))
+    ∙ by_lengths n xs ys (λ j m. same (suc j) (omega arith)) (omega arith) (omega arith)
+    ∙ ap (λ (o : Ordering). ordering_then o (slice_cmp nat_cmp xs ys)) (sym (tied_itself nat_cmp_total x))
+    ∙ ap (λ (z : ℕ). ordering_then (nat_cmp x z) (slice_cmp nat_cmp xs ys)) first
+
+-- where no byte stands behind the leading ones, the lengths tell texts apart
+pub ordered_by_length : (xs ys : List ℕ) → AreBytes xs → AreBytes ys → leading_number xs ≡ leading_number ys → length xs ≤ 8 → length ys ≤ 8
+    → nat_cmp (length xs) (length ys) ≡ slice_cmp nat_cmp xs ys
+ordered_by_length xs ys bx by is lx ly = by_lengths 8 xs ys (agree_below xs ys bx by is) lx ly
+
+pub equal_by_length : (xs ys : List ℕ) → AreBytes xs → AreBytes ys → leading_number xs ≡ leading_number ys → length xs ≤ 8 → (length xs == length ys) ≡ pointwise ◌==◌ xs ys
+equal_by_length xs ys bx by is lx = told (length xs == length ys) refl
+  where
+    told : (b : Bool) → (length xs == length ys) ≡ b → b ≡ pointwise ◌==◌ xs ys
+    told true e = sym ((bytes_decides xs ys).1 (ext_get_or 0 xs ys (eqb-true (length xs) (length ys) e) (λ j l. agree_below xs ys bx by is j (omega arith))))
+    told false e = sym (false_from_ne_true (pointwise ◌==◌ xs ys) (λ t. false≢true (sym e ∙ eq-eqb (length xs) (length ys) (ap length ((bytes_decides xs ys).0 t)))))

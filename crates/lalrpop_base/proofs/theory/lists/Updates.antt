@@ -1,26 +1,21 @@
 -- An insert into the entries of a map, as a list with the key in its midst.
-use Rattle.std.proofs.Common.{◌≡◌, List, [], ◌∷◌, ◌++◌, refl, sym, ap, ◌∙◌, Option, Some, None, Bool, true, cond}
+use Rattle.std.proofs.Common.{◌≡◌, List, [], ◌∷◌, ◌++◌, refl, sym, ap, ◌∙◌, Option, Some, None, Bool, true, cond, ℕ, zero, suc, IsSome, option_map, slice_get}
 use Rattle.std.specs.declared.cmp.Ordering.{Ordering}
 use Rattle.std.specs.declared.cmp.Ordering.TheVariants.{Less, Equal, Greater}
-use Rattle.std.specs.Ordering.{is_eq, match_ordering}
+use Rattle.std.specs.Ordering.{is_eq, match_ordering, eq_by_cmp}
 use Rattle.std.specs.BTreeMap.{insert_entry, is_at}
 use Rattle.std.specs.Map.{keys_of, lookup, set_value}
 use Rattle.std.specs.Cmp.{IsTotalOrder, eq_by_cmp_equiv}
 use Rattle.std.proofs.lemmas.Map.Views.{IsSome-lookup_from_Contains, Contains-from_lookup}
-use Rattle.std.specs.Ordering.{eq_by_cmp}
-use Rattle.std.proofs.Common.{ℕ, zero, suc, IsSome, option_map, slice_get}
-use Rattle.lalrpop_base.proofs.theory.lists.Places.{same_some, one_place}
-use Rattle.lalrpop_base.proofs.theory.lists.Members.{place}
+use Rattle.lalrpop_base.proofs.theory.lists.Places.{same_some, one_place, differ_from_apart}
+use Rattle.lalrpop_base.proofs.theory.lists.Members.{place, apart-from_sorted}
 use Rattle.std.specs.List.Sorted.{IsStrictlySortedBy}
 use Rattle.std.proofs.lemmas.Map.{lookup-none}
 use Rattle.std.proofs.lemmas.Map.Entries.{none_below_head}
 use Rattle.std.proofs.lemmas.Map.Keys.{sorted_tail}
 use Rattle.std.proofs.lemmas.Map.Lookups.{CmpEqualImpliesEq}
 use Rattle.std.specs.Prelude.{Contains}
-use Rattle.lalrpop_base.specs.Words.{AllDiffer}
-use Rattle.lalrpop_base.proofs.theory.lists.Members.{apart-from_sorted}
-use Rattle.lalrpop_base.proofs.theory.lists.Places.{differ_from_apart}
-use Rattle.lalrpop_base.specs.Words.{IsPushedAt}
+use Rattle.lalrpop_base.specs.Words.{AllDiffer, IsPushedAt}
 use Rattle.lalrpop_base.specs.lists.Entries.IsPushedAt.{fresh as push_fresh, known as push_known}
 
 module _ {K V : Type 0} where

@@ -4,10 +4,9 @@ use Rattle.std.specs.Prelude.{slice_get}
 use Rattle.std.specs.List.{filter}
 use Rattle.std.proofs.lemmas.List.{append-nil}
 use Rattle.std.proofs.lemmas.List.Elements.{filter-append}
-use Rattle.lalrpop_base.specs.Words.{Bits}
-use Rattle.lalrpop_base.specs.declared.lr1_core.state.State.{State}
+use Rattle.lalrpop_base.specs.Words.{Bits, AreMoved, and_one, GrowsBy, IsRenumberedState}
+use Rattle.lalrpop_base.proofs.Types.{State}
 use Rattle.lalrpop_base.specs.renumbering.Moved.{no_more}
-use Rattle.lalrpop_base.specs.Words.{AreMoved, and_one, GrowsBy, IsRenumberedState}
 use Rattle.lalrpop_base.proofs.theory.lists.Places.{same_some}
 
 module _ (new : ℕ → ℕ) where

@@ -7,19 +7,13 @@ use Rattle.std.proofs.lemmas.Bool.{cases_lt, cases_Bool, or_cases}
 use Rattle.std.proofs.lemmas.Map.Made.{lookup-map_values}
 use Rattle.std.proofs.lemmas.Option.{slice_get_past, slice_get_within, slice_get_cases, slice_get-map}
 use Rattle.lalrpop_base.specs.Words.{Bits, IsCoherentEdge, IsCoherentStep, StartsAtZero, AreFinished, AreCoherent, holds_token, number_of, reduction_of}
-use Rattle.lalrpop_base.specs.Words.{contents_of, contents_at, contents, EachEntry, Dotted, renumbered, IsRenumbering, HasGoto, PutsGotosFirst, Contents, leads}
-use Rattle.lalrpop_base.specs.Words.{name_cmp}
-use Rattle.lalrpop_base.specs.declared.lr1_core.state.State.{State}
-use Rattle.lalrpop_base.specs.declared.lr1_core.state.StateIndex.{StateIndex}
-use Rattle.lalrpop_base.specs.declared.repr.NonterminalString.{NonterminalString}
-use Rattle.lalrpop_base.specs.declared.repr.Symbol.{Symbol}
+use Rattle.lalrpop_base.specs.Words.{contents_of, contents_at, contents, EachEntry, Dotted, renumbered, IsRenumbering, HasGoto, PutsGotosFirst, Contents, leads, name_cmp}
+use Rattle.lalrpop_base.proofs.Types.{NonterminalString, State, StateIndex, Symbol, TerminalString}
 use Rattle.lalrpop_base.specs.declared.repr.Symbol.TheVariants.{Nonterminal, Terminal}
-use Rattle.lalrpop_base.specs.declared.repr.TerminalString.{TerminalString}
 use Rattle.lalrpop_base.proofs.theory.states.ContentsViews.{some_of_map}
 use Rattle.lalrpop_base.proofs.theory.sets.HeldTokens.{same_test}
 use Rattle.lalrpop_base.proofs.theory.first.FirstNames.{name_self}
-use Rattle.lalrpop_base.specs.Words.{AreMoved, parted, new_place, ArePlaces, retargeted, retargeted_all, IsRenumberedState, KeepsOrder, AreRenumbered}
-use Rattle.lalrpop_base.specs.Words.{stands_first, number_in}
+use Rattle.lalrpop_base.specs.Words.{AreMoved, parted, new_place, ArePlaces, retargeted, retargeted_all, IsRenumberedState, KeepsOrder, AreRenumbered, stands_first, number_in}
 use Rattle.lalrpop_base.proofs.theory.renumbering.Moved.{Moved-length, Moved-at}
 use Rattle.lalrpop_base.proofs.theory.lists.Orders.{terminal_order}
 use Rattle.lalrpop_base.proofs.theory.lists.Partitions.{front_place, past_place, parted_length, stands_there, front_before_back, parts_keep_order, places_differ, place_taken}

@@ -6,15 +6,10 @@ use Rattle.std.proofs.lemmas.Bool.{cases_lt}
 use Rattle.std.proofs.lemmas.Option.{slice_get_past, slice_get_cases}
 use Rattle.lalrpop_base.specs.Words.{Bits, InClosure, InTokenClosure, IsAtStart, IsAtStartWith, IsMoved, IsMovedWith, AreClosed, IsReached, at_zero}
 use Rattle.lalrpop_base.specs.Words.{TokenKernelsDiffer, contents, holds_token, AreCanonicalWith, AllDiffer, renumbered, IsRenumbering, Contents, leads}
-use Rattle.lalrpop_base.specs.Words.{IsBehindDot, LeadsOverDots, HasNoRepeat, ReducesFinished, Rules}
+use Rattle.lalrpop_base.specs.Words.{IsBehindDot, LeadsOverDots, HasNoRepeat, ReducesFinished, Rules, is_with_token, tokens_of, AreCanonicalStates, AreRenumbered}
 use Rattle.lalrpop_base.specs.closures.Closures.{over_edge}
 use Rattle.lalrpop_base.specs.states.States.{Reduction}
-use Rattle.lalrpop_base.specs.declared.lookahead.token.Token.{Token}
-use Rattle.lalrpop_base.specs.declared.lr1_core.state.State.{State}
-use Rattle.lalrpop_base.specs.declared.repr.NonterminalString.{NonterminalString}
-use Rattle.lalrpop_base.specs.declared.repr.Production.{Production}
-use Rattle.lalrpop_base.specs.declared.repr.Symbol.{Symbol}
-use Rattle.lalrpop_base.specs.Words.{is_with_token, tokens_of, AreCanonicalStates, AreRenumbered}
+use Rattle.lalrpop_base.proofs.Types.{NonterminalString, Production, State, Symbol, Token}
 use Rattle.lalrpop_base.specs.states.Canonical.{tokens_at}
 
 -- tests of the tokens of dotted productions

@@ -1,11 +1,8 @@
 -- Faithful states stay faithful under other numbers: from the definition of a renumbering.
 use Rattle.std.proofs.Common.{◌≡◌, ◌↔◌, ℕ, List, [], ◌∷◌, sym, subst, refl, ap, ◌∙◌, length, Option, Some, None}
 use Rattle.std.specs.Prelude.{Contains}
-use Rattle.lalrpop_base.specs.declared.repr.NonterminalString.{NonterminalString}
-use Rattle.lalrpop_base.specs.declared.repr.Production.{Production}
-use Rattle.lalrpop_base.specs.declared.repr.Symbol.{Symbol}
+use Rattle.lalrpop_base.proofs.Types.{NonterminalString, Production, Symbol, Token}
 use Rattle.lalrpop_base.specs.declared.repr.Symbol.TheVariants.{Terminal}
-use Rattle.lalrpop_base.specs.declared.lookahead.token.Token.{Token}
 use Rattle.lalrpop_base.specs.Words.{Action, Shift, Reduce, Contents, leads, onward, state_from, Allows, IsBehindDot, HasNoRepeat, ReducesFinished, IsRightFor}
 use Rattle.lalrpop_base.specs.Words.{AreFaithful, renumbered, IsRenumbering}
 use Rattle.lalrpop_base.proofs.theory.lists.Lists.{some≢none}

@@ -2,14 +2,10 @@
 use Rattle.std.proofs.Common.{◌≡◌, ℕ, suc, ◌+◌, List, [], ◌∷◌, ◌++◌, drop, append_assoc, append-nil, sym, refl, ap, ◌∙◌, Some}
 use Rattle.std.specs.Prelude.{Contains}
 use mathlib.Core.List.{head-eq_of_cons-eq, tail-eq_of_cons-eq, nil≢cons}
-use Rattle.lalrpop_base.specs.declared.repr.Production.{Production}
-use Rattle.lalrpop_base.specs.declared.repr.NonterminalString.{NonterminalString}
-use Rattle.lalrpop_base.specs.declared.repr.Symbol.{Symbol}
+use Rattle.lalrpop_base.proofs.Types.{NonterminalString, Production, Symbol, TerminalString}
 use Rattle.lalrpop_base.specs.declared.repr.Symbol.TheVariants.{Nonterminal, Terminal}
-use Rattle.lalrpop_base.specs.declared.repr.TerminalString.{TerminalString}
 use Rattle.lalrpop_base.specs.Words.{Derives, symbols_of, IsBeginning, Valid, starts, shifts, expands, ValidToken, begins_behind, IsAwaited, Contents}
-use Rattle.lalrpop_base.specs.Words.{state_after, AreFaithful, Tree, Leaf, Node, leaves, nodes, IsNode, Configuration, next_token, shifts_or, Reaches, here}
-use Rattle.lalrpop_base.specs.Words.{further, begin}
+use Rattle.lalrpop_base.specs.Words.{state_after, AreFaithful, Tree, Leaf, Node, leaves, nodes, IsNode, Configuration, next_token, shifts_or, Reaches, here, further, begin}
 use Rattle.lalrpop_base.proofs.theory.lists.Lists.{drop_past, same_nonterminal, not_both, inside, behind, place, symbols_of-append}
 use Rattle.lalrpop_base.proofs.theory.grammars.Derivations.{Derives-to}
 use Rattle.lalrpop_base.proofs.theory.grammars.Forests.{Forest, empty, leaf, node, forest_derives, derives_forest, forest-nil, Forest-from}

@@ -1,8 +1,7 @@
 -- Each run has exactly one outcome: by going on for as many steps as the limit allows, and since a run goes no two ways.
 use Rattle.std.proofs.Common.{ap, ap₂, ◌≤◌, ◌≡◌, ℕ, zero, suc, ◌<◌, ◌⊎◌, inl, inr, List, [], ◌∷◌, sym, subst, refl, ◌∙◌, arith}
 use mathlib.Core.List.{tail-eq_of_cons-eq, nil≢cons, cons≢nil}
-use Rattle.lalrpop_base.specs.declared.repr.TerminalString.{TerminalString}
-use Rattle.lalrpop_base.specs.declared.lookahead.token.Token.{Token}
+use Rattle.lalrpop_base.proofs.Types.{TerminalString, Token}
 use Rattle.lalrpop_base.specs.Words.{Contents, Tree, Configuration, next_token, Move, Stands, Goes, Ends, move, Reaches, here, further, begin, Outcome, Parsed}
 use Rattle.lalrpop_base.specs.Words.{Refused, Limit, HasOutcome, parsed, stuck, other_end, cut_off, IsParse}
 use Rattle.lalrpop_base.proofs.theory.runs.Steps.{IsGoing, IsEnding, Halts, ends_halts, stands_halts, goes_on_from, together, no_longer, same_length}

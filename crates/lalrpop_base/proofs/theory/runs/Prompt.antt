@@ -1,12 +1,8 @@
 -- Over canonical states of an LR(1) grammar each step is made on a right token, so that a wrong one is refused right behind the last right one, and each run ends: from their tokens being exactly the valid ones.
 use Rattle.std.proofs.Common.{◌≡◌, ℕ, suc, ◌+◌, ◌≤◌, ◌⊎◌, inl, inr, Option, Some, None, List, [], ◌∷◌, ◌++◌, drop, length, append_assoc, append-nil, sym, subst, refl, ap, ◌∙◌, arith}
 use Rattle.std.proofs.lemmas.List.{append_cancel_right}
-use Rattle.lalrpop_base.specs.declared.repr.Production.{Production}
-use Rattle.lalrpop_base.specs.declared.repr.NonterminalString.{NonterminalString}
-use Rattle.lalrpop_base.specs.declared.repr.Symbol.{Symbol}
+use Rattle.lalrpop_base.proofs.Types.{NonterminalString, Production, Symbol, TerminalString, Token}
 use Rattle.lalrpop_base.specs.declared.repr.Symbol.TheVariants.{Nonterminal, Terminal}
-use Rattle.lalrpop_base.specs.declared.repr.TerminalString.{TerminalString}
-use Rattle.lalrpop_base.specs.declared.lookahead.token.Token.{Token}
 use Rattle.lalrpop_base.specs.Words.{Derives, symbols_of, IsSentence, IsOnNoRightSide, ValidToken, IsLR1, Reduce, Contents, AreFaithful, AreCanonical, Tree}
 use Rattle.lalrpop_base.specs.Words.{Leaf, Configuration, next_token, Move, Stands, Goes, goes_on, received, moves_on, shifts_or, move, Reaches, here, further}
 use Rattle.lalrpop_base.specs.Words.{begin, Refused, Limit, IsRightNext, HasOutcome, stuck, other_end, cut_off, IsPromptRefusal, before_all, behind_shift}

@@ -1,12 +1,8 @@
 -- Over faithful states a tree is read from the left, in as many steps as it has nodes: by induction on the tree, from what a state right for its prefix allows.
 use Rattle.std.proofs.Common.{◌≡◌, ℕ, suc, ◌+◌, inr, List, [], ◌∷◌, ◌++◌, drop, length, append_assoc, append-nil, sym, subst, refl, ap, ◌∙◌, Option, Some, None, arith}
 use Rattle.std.specs.Prelude.{Contains}
-use Rattle.lalrpop_base.specs.declared.repr.Production.{Production}
-use Rattle.lalrpop_base.specs.declared.repr.NonterminalString.{NonterminalString}
-use Rattle.lalrpop_base.specs.declared.repr.Symbol.{Symbol}
+use Rattle.lalrpop_base.proofs.Types.{NonterminalString, Production, Symbol, TerminalString, Token}
 use Rattle.lalrpop_base.specs.declared.repr.Symbol.TheVariants.{Nonterminal, Terminal}
-use Rattle.lalrpop_base.specs.declared.repr.TerminalString.{TerminalString}
-use Rattle.lalrpop_base.specs.declared.lookahead.token.Token.{Token}
 use Rattle.lalrpop_base.specs.declared.lookahead.token.Token.TheVariants.{Eof, Terminal as TokenOf}
 use Rattle.lalrpop_base.specs.Words.{Derives, as_it_is, replace, symbols_of, ValidToken, kept, begins_behind, passed_on, IsAwaited, IsLive, Action, Shift}
 use Rattle.lalrpop_base.specs.Words.{Reduce, Contents, leads, state_after, IsRightFor, AreFaithful, Tree, Leaf, Node, Trees, no_trees, beside, roots, leaves}

@@ -1,11 +1,7 @@
 -- Over faithful states, with the start symbol on no right side, a refusal names the first wrong token: since the run would shift a right one, and ends with a tree on a sentence.
 use Rattle.std.proofs.Common.{◌≡◌, ℕ, suc, ◌≤◌, inl, inr, List, [], ◌∷◌, ◌++◌, drop, length, append-nil, sym, subst, refl, ap, ◌∙◌, Option, Some, None, arith}
-use Rattle.lalrpop_base.specs.declared.repr.Production.{Production}
-use Rattle.lalrpop_base.specs.declared.repr.NonterminalString.{NonterminalString}
-use Rattle.lalrpop_base.specs.declared.repr.Symbol.{Symbol}
+use Rattle.lalrpop_base.proofs.Types.{NonterminalString, Production, Symbol, TerminalString, Token}
 use Rattle.lalrpop_base.specs.declared.repr.Symbol.TheVariants.{Nonterminal}
-use Rattle.lalrpop_base.specs.declared.repr.TerminalString.{TerminalString}
-use Rattle.lalrpop_base.specs.declared.lookahead.token.Token.{Token}
 use Rattle.lalrpop_base.specs.Words.{as_it_is, symbols_of, IsSentence, IsBeginning, IsOnNoRightSide, IsLive, Contents, AreFaithful, Tree, Leaf, Configuration}
 use Rattle.lalrpop_base.specs.Words.{next_token, Move, Goes, Ends, received, goes_on, shifts_or, moves_on, move, Reaches, here, further, begin, Refused}
 use Rattle.lalrpop_base.specs.Words.{HasOutcome, stuck, other_end, IsFirstWrong, at_terminal, at_end, IsRightNext}

@@ -1,12 +1,8 @@
 -- Over faithful states each configuration of a run stands at a live prefix that derives what was read, so that what it answers is a parse tree and what it shifts continues a beginning: by induction on the run.
 use Rattle.std.proofs.Common.{◌≡◌, ℕ, suc, ◌≤◌, inl, inr, Bool, true, false, cond, List, [], ◌∷◌, ◌++◌, drop, length, append_assoc, append-nil, sym, subst, refl, ap, ◌∙◌, Option, Some, None, arith}
 use mathlib.Core.List.{head-eq_of_cons-eq}
-use Rattle.lalrpop_base.specs.declared.repr.Production.{Production}
-use Rattle.lalrpop_base.specs.declared.repr.NonterminalString.{NonterminalString}
-use Rattle.lalrpop_base.specs.declared.repr.Symbol.{Symbol}
+use Rattle.lalrpop_base.proofs.Types.{NonterminalString, Production, Symbol, TerminalString, Token}
 use Rattle.lalrpop_base.specs.declared.repr.Symbol.TheVariants.{Nonterminal, Terminal}
-use Rattle.lalrpop_base.specs.declared.repr.TerminalString.{TerminalString}
-use Rattle.lalrpop_base.specs.declared.lookahead.token.Token.{Token}
 use Rattle.lalrpop_base.specs.declared.lookahead.token.Token.TheVariants.{Eof, Terminal as TokenOf}
 use Rattle.lalrpop_base.specs.Words.{symbols_of, IsBeginning, IsOnNoRightSide, Valid, IsAwaited, Contents, IsRightFor, AreFaithful, Tree, Leaf, Node, no_trees}
 use Rattle.lalrpop_base.specs.Words.{beside, root, leaves, nodes, AreOfGrammar, IsParseTree, Configuration, next_token, reduction_on, Move, Stands, Goes, Ends}

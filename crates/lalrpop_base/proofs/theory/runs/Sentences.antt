@@ -2,10 +2,8 @@
 use Rattle.std.proofs.Common.{◌≡◌, ℕ, zero, suc, ◌≤◌, inl, List, [], ◌∷◌, drop, length, sym, refl, ap, ◌∙◌, Option, Some, None, arith}
 use Rattle.std.specs.Prelude.{Contains}
 use mathlib.Core.List.{head-eq_of_cons-eq, nil≢cons}
-use Rattle.lalrpop_base.specs.declared.repr.Production.{Production}
-use Rattle.lalrpop_base.specs.declared.repr.NonterminalString.{NonterminalString}
+use Rattle.lalrpop_base.proofs.Types.{NonterminalString, Production, TerminalString}
 use Rattle.lalrpop_base.specs.declared.repr.Symbol.TheVariants.{Nonterminal}
-use Rattle.lalrpop_base.specs.declared.repr.TerminalString.{TerminalString}
 use Rattle.lalrpop_base.specs.declared.lookahead.token.Token.TheVariants.{Eof}
 use Rattle.lalrpop_base.specs.Words.{IsOnNoRightSide, ValidToken, at_start, Contents, state_after, IsRightFor, AreFaithful, Tree, Leaf, Node, no_trees, beside}
 use Rattle.lalrpop_base.specs.Words.{nodes, IsParseTree, Configuration, Ends, reduced, goes_on, received, move, Reaches, begin, Parsed, HasOutcome, parsed}

@@ -1,9 +1,6 @@
 -- What stands on the stack of a run: the states after the prefixes of a live prefix, whose symbols are the roots of the trees. From it the trees of a reduction are taken off.
 use Rattle.std.proofs.Common.{◌≡◌, ℕ, inl, List, [], ◌∷◌, ◌++◌, drop, length, append_assoc, append-nil, sym, subst, refl, ap, ap₂, ◌∙◌, Some}
-use Rattle.lalrpop_base.specs.declared.repr.Production.{Production}
-use Rattle.lalrpop_base.specs.declared.repr.NonterminalString.{NonterminalString}
-use Rattle.lalrpop_base.specs.declared.repr.Symbol.{Symbol}
-use Rattle.lalrpop_base.specs.declared.repr.TerminalString.{TerminalString}
+use Rattle.lalrpop_base.proofs.Types.{NonterminalString, Production, Symbol, TerminalString}
 use Rattle.lalrpop_base.specs.Words.{Derives, as_it_is, symbols_of, IsLive, Contents, leads, state_after, AreFaithful, Tree, Leaf, Node, Trees, no_trees}
 use Rattle.lalrpop_base.specs.Words.{beside, root, roots, leaves, AreOfGrammar}
 use Rattle.lalrpop_base.proofs.theory.lists.Lists.{Ended, nothing, last, ended, same_last, nil≢more, length-more, symbols_of-append}

@@ -4,9 +4,7 @@ use Rattle.std.specs.Prelude.{Contains}
 use Rattle.std.proofs.lemmas.List.{reverse-reverse, length-reverse}
 use Rattle.std.proofs.Math.Seq.{take-append_seam, drop-append_seam}
 use mathlib.Core.List.{reverse_aux, reverse_aux-eq}
-use Rattle.lalrpop_base.specs.declared.repr.Production.{Production}
-use Rattle.lalrpop_base.specs.declared.repr.Symbol.{Symbol}
-use Rattle.lalrpop_base.specs.declared.lookahead.token.Token.{Token}
+use Rattle.lalrpop_base.proofs.Types.{Production, Symbol, Token}
 use Rattle.lalrpop_base.specs.Words.{Contents, leads, onward, state_from, Tree, Node, Trees, no_trees, beside, trees_of, roots, Configuration, reduction_on}
 use Rattle.lalrpop_base.specs.Words.{Move, Stands, Goes, Ends, reduced, move, Reaches, here, further}
 use Rattle.lalrpop_base.specs.states.States.{Reduction}

@@ -10,8 +10,7 @@ use Rattle.lalrpop_base.specs.Words.{Bits, has, AllDiffer, place_in, HasToken, h
 use Rattle.lalrpop_base.specs.contracts.repr.TerminalStringPartialEq.TheImpl as terminal_eq
 use Rattle.lalrpop_base.specs.contracts.repr.TerminalStringEq.TheImpl as terminal_laws
 use Rattle.lalrpop_base.specs.contracts.exact.TerminalStringExact.TheImpl as terminal_exact
-use Rattle.lalrpop_base.specs.declared.repr.TerminalString.{TerminalString}
-use Rattle.lalrpop_base.specs.declared.lookahead.token.Token.{Token}
+use Rattle.lalrpop_base.proofs.Types.{TerminalString, Token}
 use Rattle.lalrpop_base.specs.declared.lookahead.token.Token.TheVariants.{Eof, Error, Terminal}
 
 module _ (terminals : List TerminalString) where

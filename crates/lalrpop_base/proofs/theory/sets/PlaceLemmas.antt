@@ -5,7 +5,7 @@ use mathlib.Core.Bool.{true≢false}
 use Rattle.std.specs.BTreeMap.{BTreeMap, get, is_at, Updates}
 use Rattle.std.proofs.lemmas.Bool.{cases_Bool, cases_lt}
 use Rattle.std.proofs.lemmas.Option.{slice_get_within}
-use Rattle.lalrpop_base.specs.declared.repr.TerminalString.{TerminalString}
+use Rattle.lalrpop_base.proofs.Types.{TerminalString}
 use Rattle.lalrpop_base.specs.contracts.repr.TerminalStringOrd.TheImpl as terminal
 use Rattle.lalrpop_base.specs.contracts.repr.TerminalStringOrd.TheImpl.Laws as order
 use Rattle.lalrpop_base.specs.contracts.exact.TerminalStringExact.TheImpl.Laws.{exact-law}

@@ -1,9 +1,8 @@
 -- The sets of bits below a number: how many of the bits a set has, and a list of all such sets.
-use Rattle.std.proofs.Common.{◌≡◌, ◌≢◌, ℕ, zero, suc, ◌<◌, ◌≤◌, List, [], ◌∷◌, ◌++◌, map, refl, sym, ap, subst, ◌∙◌, arith, Bool, true, false, cond, eqb-true, eq-eqb}
+use Rattle.std.proofs.Common.{◌≡◌, ◌≢◌, ℕ, zero, suc, ◌<◌, ◌≤◌, List, [], ◌∷◌, ◌++◌, map, refl, sym, ap, subst, ◌∙◌, arith, Bool, true, false, cond, eqb-true, eq-eqb, ⊎_elim}
 use Rattle.std.specs.Prelude.{Contains, ◌||◌, ◌==◌}
 use Rattle.std.proofs.lemmas.List.Elements.{Contains-append_left, Contains-append_right}
 use Rattle.std.proofs.lemmas.Bool.{cases_eq, cases_lt}
-use Rattle.std.proofs.Common.{⊎_elim}
 use Rattle.lalrpop_base.specs.Words.{Bits, has, no_bits, with_bit, join, has-no_bits, has-with_bit, same_bits}
 use Rattle.lalrpop_base.proofs.theory.lists.Members.{contains_head, contains_map}
 use Rattle.lalrpop_base.proofs.theory.sets.BitSets.{join_left, join_cases}

@@ -1,37 +1,27 @@
 -- What the check asks of each state by itself: targets, listed items and reductions, one more.
 use Rattle.std.proofs.Common.{◌≡◌, ◌↔◌, ◌<◌, ◌≤◌, ◌+◌, ℕ, zero, suc, ◌⊎◌, inl, inr, List, [], ◌∷◌, ◌++◌, length, map, take, refl, sym, ◌∙◌, ap, subst, arith, eqb-true, length-append, Some, None, option_map}
-use Rattle.std.specs.Prelude.{Contains, slice_get, false, ◌==◌}
+use Rattle.std.specs.Prelude.{Contains, slice_get, false, ◌==◌, IsTrue}
 use Rattle.std.proofs.lemmas.Bool.{false≢true}
 use Rattle.std.specs.Borrow.{Bor}
 use Rattle.std.specs.BTreeMap.{BTreeMap, get, IsOrdered, is_at}
-use Rattle.std.specs.BTreeSet.{BTreeSet}
+use Rattle.std.specs.BTreeSet.{BTreeSet, insert_key, contains}
 use Rattle.std.specs.Cmp.{IsTotalOrder, nat_cmp_total, unsigned_tied}
 use Rattle.std.specs.Ordering.{nat_cmp, is_eq}
-use Rattle.std.specs.BTreeSet.{insert_key, contains}
-use Rattle.std.specs.Prelude.{IsTrue}
 use Rattle.std.proofs.lemmas.Map.Lookups.{CmpEqualImpliesEq}
 use Rattle.std.proofs.lemmas.Map.Views.{btree_set_contains_iff}
-use Rattle.lalrpop_base.specs.Words.{name_cmp, Bits, number_of, Dotted, AllDiffer}
+use Rattle.lalrpop_base.specs.Words.{name_cmp, Bits, number_of, Dotted, AllDiffer, AreClosure, HaveSame, LeadsBy, LeadsFrom, IsTarget, lr0, Lists, LeadsOn, finished}
 use Rattle.lalrpop_base.specs.contracts.repr.TerminalStringOrd.TheImpl as terminal_ord
-use Rattle.lalrpop_base.specs.declared.repr.grammar.Grammar.{Grammar}
+use Rattle.lalrpop_base.proofs.Types.{Grammar, Nil, Production, State, StateIndex, Symbol}
 use Rattle.lalrpop_base.specs.closures.Closure.{dotted_of}
 use Rattle.lalrpop_base.specs.lists.CheckSets.{IsAdded}
-use Rattle.lalrpop_base.specs.states.CheckStates.{reduced}
-use Rattle.lalrpop_base.specs.states.CheckStates.{dots}
-use Rattle.lalrpop_base.specs.Words.{AreClosure, HaveSame, LeadsBy, LeadsFrom, IsTarget, lr0, Lists, LeadsOn, finished}
+use Rattle.lalrpop_base.specs.states.CheckStates.{reduced, dots, target_of, AreListed}
 use Rattle.lalrpop_base.proofs.theory.lists.CheckSets.{inserted}
 use Rattle.std.specs.declared.cmp.Ordering.{Ordering}
 use Rattle.std.proofs.lemmas.List.Elements.{Contains-append_left, Contains-append_right, Contains-append_cases}
 use Rattle.std.proofs.lemmas.Map.Entries.{place_from_lookup, btree_map_get_place}
 use Rattle.std.proofs.lemmas.Option.{slice_get_within}
-use Rattle.lalrpop_base.specs.declared.lookahead.nil.Nil.{Nil}
-use Rattle.lalrpop_base.specs.declared.lr1_core.state.State.{State}
-use Rattle.lalrpop_base.specs.declared.lr1_core.state.StateIndex.{StateIndex}
-use Rattle.lalrpop_base.specs.declared.repr.Production.{Production}
-use Rattle.lalrpop_base.specs.declared.repr.Symbol.{Symbol}
 use Rattle.lalrpop_base.specs.declared.repr.Symbol.TheVariants.{Nonterminal, Terminal}
 use Rattle.lalrpop_base.proofs.theory.states.ContentsViews.{some_of_map, contains_of_map}
-use Rattle.lalrpop_base.specs.states.CheckStates.{target_of, AreListed}
 use Rattle.lalrpop_base.proofs.theory.lists.Members.{Contains-none, contains_head, contains_tail, contains-cons, contains_map, place}
 use Rattle.lalrpop_base.proofs.theory.lists.Places.{contains_at, differ_push, same_some, push_cases, slice_get-longer, slice_get-push_at}
 use Rattle.lalrpop_base.proofs.theory.grammars.Tables.{same_lr0}

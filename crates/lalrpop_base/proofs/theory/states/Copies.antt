@@ -1,8 +1,6 @@
 -- Copies of closed states are closed, so that they have the right dotted productions: since closures and edges go by dotted productions alone.
 use Rattle.std.proofs.Common.{◌↔◌, ℕ, List, sym, subst}
-use Rattle.lalrpop_base.specs.declared.repr.NonterminalString.{NonterminalString}
-use Rattle.lalrpop_base.specs.declared.repr.Production.{Production}
-use Rattle.lalrpop_base.specs.declared.repr.Symbol.{Symbol}
+use Rattle.lalrpop_base.proofs.Types.{NonterminalString, Production, Symbol}
 use Rattle.lalrpop_base.specs.Words.{Contents, IsBehindDot, InClosure, in_kernel, expanded, IsMoved, items_of, AreClosed, IsCopying}
 use Rattle.lalrpop_base.proofs.theory.closures.LeastClosures.{closure_within}
 

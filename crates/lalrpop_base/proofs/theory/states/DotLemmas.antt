@@ -4,7 +4,7 @@ use Rattle.std.specs.Prelude.{slice_get, Some}
 use Rattle.std.proofs.lemmas.Bool.{cases_lt}
 use Rattle.lalrpop_base.proofs.theory.lists.EachLemmas.{same_at}
 use Rattle.lalrpop_base.specs.Words.{dots, Dotted}
-use Rattle.lalrpop_base.specs.declared.repr.Production.{Production}
+use Rattle.lalrpop_base.proofs.Types.{Production}
 
 -- items that agree at each place below a number
 abbrev pub AgreeBelow : {L : Type 0} → List (Dotted L) → List (Dotted L) → ℕ → Type 0

@@ -1,9 +1,6 @@
 -- States built by closures whose kernels do not repeat are LR(0) states, since the dotted productions of a state give its kernel back: from what closures add, which are dots at the start alone.
 use Rattle.std.proofs.Common.{◌≡◌, ◌↔◌, ℕ, suc, List, sym, subst, refl, ◌∙◌, Some, arith}
-use Rattle.lalrpop_base.specs.declared.repr.NonterminalString.{NonterminalString}
-use Rattle.lalrpop_base.specs.declared.repr.Production.{Production}
-use Rattle.lalrpop_base.specs.declared.repr.Symbol.{Symbol}
-use Rattle.lalrpop_base.specs.declared.lookahead.token.Token.{Token}
+use Rattle.lalrpop_base.proofs.Types.{NonterminalString, Production, Symbol, Token}
 use Rattle.lalrpop_base.specs.Words.{Valid, ValidToken, HaveSameItems, HaveSameTokens, Contents, leads, state_after, ReducesFinished, AreLr0, InClosure}
 use Rattle.lalrpop_base.specs.Words.{in_kernel, expanded, IsAtStart, items_of, AreClosed, IsReached, AreCanonical, KernelsDiffer, TokenKernelsDiffer}
 use Rattle.lalrpop_base.proofs.theory.lists.Lists.{Grown, from_nothing, more, grown, same_some}

@@ -3,10 +3,9 @@ use Rattle.std.proofs.Common.{◌≡◌, ℕ, ◌+◌, ◌≤◌, List, [], ◌�
 use Rattle.std.specs.Prelude.{Contains, slice_get}
 use Rattle.std.specs.List.{flat_map, range_with_len}
 use Rattle.std.proofs.lemmas.Option.{slice_get-map}
-use Rattle.lalrpop_base.specs.Words.{Bits, Dotted, AllDiffer, Rules}
-use Rattle.lalrpop_base.specs.declared.repr.Production.{Production}
+use Rattle.lalrpop_base.specs.Words.{Bits, Dotted, AllDiffer, Rules, meant, IsItemOf, AreItems, AreItemsBy}
+use Rattle.lalrpop_base.proofs.Types.{Production}
 use Rattle.lalrpop_base.specs.closures.Closure.{dotted_of}
-use Rattle.lalrpop_base.specs.Words.{meant, IsItemOf, AreItems, AreItemsBy}
 use Rattle.std.proofs.lemmas.List.{length-map}
 use Rattle.lalrpop_base.proofs.theory.states.ContentsViews.{contains_of_map, some_of_map}
 use Rattle.lalrpop_base.proofs.theory.lists.Bounded.{lists, in_flat_map, kernels_few}

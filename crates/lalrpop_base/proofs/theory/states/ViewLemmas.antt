@@ -5,8 +5,7 @@ use Rattle.std.proofs.lemmas.List.{append-nil, drop_all}
 use Rattle.std.proofs.lemmas.Bool.{cases_Bool, ltb-true, ltb-false, lt-ltb}
 use Rattle.lalrpop_base.specs.Words.{Dotted, IsLastLongest, IsFirstShortest, IsFirstShortestOrEmpty, prefix_of, name_of, has_moved, moved, AreAll, shorter_of}
 use Rattle.lalrpop_base.specs.Words.{longer_of, shortest_from, longest_from, EachItem}
-use Rattle.lalrpop_base.specs.declared.repr.Symbol.{Symbol}
-use Rattle.lalrpop_base.specs.declared.repr.NonterminalString.{NonterminalString}
+use Rattle.lalrpop_base.proofs.Types.{NonterminalString, Symbol}
 
 module _ {X : Type 0} where
   -- what stands in a list with one more at its end

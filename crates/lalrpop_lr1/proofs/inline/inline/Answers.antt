@@ -1,5 +1,5 @@
 use Rattle.std.proofs.Common.{rules, List, drop, arith, refl, sym, ◌∙◌, subst}
-use Rattle.lalrpop_base.specs.declared.repr.NonterminalString.{NonterminalString}
+use Rattle.lalrpop_lr1.proofs.Types.{NonterminalString}
 use Rattle.lalrpop_lr1.specs.Words.{IsMarked, IsInlineOrder, view_of, inlined_by, IsRefusalOf}
 use Rattle.lalrpop_lr1.proofs.theory.inlining.InlineStages.{first_stage, one_inlined, inlined_past, all_inlined, refusal_past, inlined_well_formed, inlined_unmentioned, inlined_lists, inlined_kept, inlined_laid_out}
 use Rattle.lalrpop_lr1.proofs.theory.inlining.InlineUsers.{first_mentioned, stage_on, mentioned_on, next_covered, stage_ordered}

@@ -2,15 +2,12 @@
 use Rattle.std.proofs.Common.{◌≡◌, ℕ, ◌+◌, ◌≤◌, ◌<◌, inl, inr, Bool, true, false, ◌||◌, cond, List, [], ◌∷◌, ◌++◌, map, length, refl, sym, ◌∙◌, ap, subst, arith, length-append}
 use Rattle.std.specs.Prelude.{Contains}
 use Rattle.std.proofs.lemmas.List.Elements.{Contains-append_left, Contains-append_right, Contains-append_cases}
-use Rattle.lalrpop_base.specs.declared.repr.NonterminalString.{NonterminalString}
-use Rattle.lalrpop_base.specs.declared.repr.Symbol.{Symbol}
-use Rattle.lalrpop_base.specs.declared.repr.Production.{Production}
+use Rattle.lalrpop_lr1.proofs.Types.{NonterminalString, Production, Symbol}
 use Rattle.lalrpop_base.specs.declared.repr.inlined.InlinedSymbol.{InlinedSymbol}
 use Rattle.lalrpop_base.specs.declared.repr.inlined.InlinedSymbol.TheVariants.{Original}
 use Rattle.lalrpop_base.specs.declared.repr.grammar.ActionFnDefn.{ActionFnDefn}
 use Rattle.lalrpop_base.proofs.theory.lists.Lists.{contains-cons, contains-nil, contains_head, contains_tail}
-use Rattle.lalrpop_lr1.specs.Words.{is_named, mentions, inlined, choices, laid_out, choice_defn, choice_production, Made, made_of, chosen, replaced}
-use Rattle.lalrpop_lr1.specs.Words.{replaced_all}
+use Rattle.lalrpop_lr1.specs.Words.{is_named, mentions, inlined, choices, laid_out, choice_defn, choice_production, Made, made_of, chosen, replaced, replaced_all}
 use Rattle.lalrpop_lr1.proofs.theory.inlining.InlineForests.{choice_cons, first_part, which_part}
 use Rattle.lalrpop_lr1.proofs.theory.inlining.InlineSteps.{more_longer, chosen_more, replaced_more, replaced_all_more}
 

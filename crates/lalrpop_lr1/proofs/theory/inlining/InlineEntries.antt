@@ -3,9 +3,7 @@ use Rattle.std.proofs.Common.{◌≡◌, Bool, true, false, cond, List, [], ◌�
 use Rattle.std.specs.BTreeMap.{is_at}
 use Rattle.std.specs.Map.{lookup}
 use Rattle.lalrpop_base.specs.Words.{name_cmp, listed_productions, productions_of}
-use Rattle.lalrpop_base.specs.declared.repr.NonterminalString.{NonterminalString}
-use Rattle.lalrpop_base.specs.declared.repr.grammar.NonterminalData.{NonterminalData}
-use Rattle.lalrpop_base.specs.declared.repr.grammar.Grammar.{Grammar}
+use Rattle.lalrpop_lr1.proofs.Types.{Grammar, NonterminalData, NonterminalString}
 use Rattle.lalrpop_lr1.specs.Words.{Entry, entry_view, view_of, listed, alternatives_in}
 
 pick : (m : Bool) (e : NonterminalString × NonterminalData) (x : Option Entry) (y : Option NonterminalData) → listed x ≡ listed_productions y → listed (cond m (Some (entry_view e).1) x) ≡ listed_productions (cond m (Some e.1) y)

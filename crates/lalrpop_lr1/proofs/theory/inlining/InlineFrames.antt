@@ -9,8 +9,7 @@ use Rattle.std.proofs.lemmas.List.Elements.{Contains-append_left, Contains-push,
 use Rattle.std.proofs.lemmas.Option.{none-some, same_Some}
 use mathlib.Core.Bool.{true≢false}
 use Rattle.lalrpop_base.specs.Words.{name_cmp, productions_of}
-use Rattle.lalrpop_base.specs.declared.repr.NonterminalString.{NonterminalString}
-use Rattle.lalrpop_base.specs.declared.repr.grammar.Grammar.{Grammar}
+use Rattle.lalrpop_lr1.proofs.Types.{Grammar, NonterminalString}
 use Rattle.lalrpop_base.proofs.theory.lists.Lists.{contains-cons, contains-nil, contains_head, contains_tail}
 use Rattle.lalrpop_lr1.specs.declared.inline.graph.depth_first.Frame.{Frame}
 use Rattle.lalrpop_lr1.specs.declared.inline.graph.depth_first.Walk.{Walk}

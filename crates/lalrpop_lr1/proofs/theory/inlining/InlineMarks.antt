@@ -6,9 +6,7 @@ use Rattle.std.proofs.lemmas.List.Elements.{Contains-append_left, Contains-push,
 use Rattle.std.proofs.lemmas.Map.Entries.{place_from_lookup, btree_map_get_place}
 use Rattle.lalrpop_base.specs.Words.{name_cmp, inline_mark}
 use Rattle.lalrpop_base.specs.contracts.repr.NonterminalStringOrd.TheImpl.Laws as name_order
-use Rattle.lalrpop_base.specs.declared.repr.NonterminalString.{NonterminalString}
-use Rattle.lalrpop_base.specs.declared.repr.grammar.NonterminalData.{NonterminalData}
-use Rattle.lalrpop_base.specs.declared.repr.grammar.Grammar.{Grammar}
+use Rattle.lalrpop_lr1.proofs.Types.{Grammar, NonterminalData, NonterminalString}
 use Rattle.lalrpop_base.proofs.theory.lists.Lists.{contains_place, place_contains}
 use Rattle.lalrpop_lr1.specs.Words.{IsMarkedEntry, IsMarked}
 use Rattle.std.specs.BTreeSet.{BTreeSet, contains}

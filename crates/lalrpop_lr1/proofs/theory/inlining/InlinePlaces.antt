@@ -13,12 +13,10 @@ use Rattle.std.proofs.lemmas.Map.Keys.{sorted_head, sorted_tail}
 use mathlib.Core.Bool.{true≢false}
 use Rattle.lalrpop_base.specs.Words.{name_cmp}
 use Rattle.lalrpop_base.specs.contracts.repr.NonterminalStringOrd.TheImpl.Laws as name_order
-use Rattle.lalrpop_base.specs.declared.repr.NonterminalString.{NonterminalString}
-use Rattle.lalrpop_base.specs.declared.repr.Production.{Production}
+use Rattle.lalrpop_lr1.proofs.Types.{NonterminalData, NonterminalString, Production}
 use Rattle.lalrpop_base.specs.declared.repr.Span.{Span}
 use Rattle.lalrpop_base.specs.declared.repr.grammar.Attribute.{Attribute}
 use Rattle.lalrpop_base.specs.declared.repr.grammar.ActionFnDefn.{ActionFnDefn}
-use Rattle.lalrpop_base.specs.declared.repr.grammar.NonterminalData.{NonterminalData}
 use Rattle.lalrpop_base.specs.declared.repr.norm_error.NormError.{NormError}
 use Rattle.lalrpop_base.proofs.theory.lists.Lists.{contains-cons, contains-nil, contains_head, contains_tail}
 use Rattle.lalrpop_lr1.specs.Words.{choices, mentions, Made, made_of, in_front, replaced, replaced_all, Entry, View, entry_view, entry_with, replaced_entries}

@@ -8,12 +8,8 @@ use Rattle.std.specs.Map.{keys_of}
 use Rattle.std.proofs.lemmas.Bool.{cases_Bool}
 use mathlib.Core.Bool.{true≢false}
 use Rattle.lalrpop_base.specs.Words.{IsSentence, name_cmp, IsWellFormed, IsWellFormedEntry, productions, productions_of}
-use Rattle.lalrpop_base.specs.declared.repr.NonterminalString.{NonterminalString}
-use Rattle.lalrpop_base.specs.declared.repr.TerminalString.{TerminalString}
+use Rattle.lalrpop_lr1.proofs.Types.{Grammar, NonterminalData, NonterminalString, Production, TerminalString}
 use Rattle.lalrpop_base.specs.declared.repr.Symbol.TheVariants.{Nonterminal}
-use Rattle.lalrpop_base.specs.declared.repr.Production.{Production}
-use Rattle.lalrpop_base.specs.declared.repr.grammar.NonterminalData.{NonterminalData}
-use Rattle.lalrpop_base.specs.declared.repr.grammar.Grammar.{Grammar}
 use Rattle.lalrpop_base.proofs.theory.lists.Lists.{contains-cons, contains-nil, contains_head, contains_tail, contains_place, place_contains}
 use Rattle.lalrpop_lr1.specs.Words.{is_named, mentions, Entry, View, entry_view, view_of, alternatives_in, productions_in, inlined_of, inlined_by, IsMarked}
 use Rattle.lalrpop_lr1.specs.Words.{Mentions, IsInlineOrder, IsPastLast, IsRefusalOf, IsLaidOut}

@@ -1,14 +1,12 @@
 -- Inlining, one production and one choice at a time.
 use Rattle.std.proofs.Common.{◌≡◌, ℕ, ◌+◌, ◌≤◌, ◌<◌, ◌^◌, Bool, true, false, cond, List, [], ◌∷◌, ◌++◌, length, refl, sym, ◌∙◌, ap, append_assoc, arith, length-append}
 use Rattle.std.proofs.lemmas.List.{append-nil}
-use Rattle.lalrpop_base.specs.declared.repr.NonterminalString.{NonterminalString}
-use Rattle.lalrpop_base.specs.declared.repr.Production.{Production}
+use Rattle.lalrpop_lr1.proofs.Types.{NonterminalString, Production}
 use Rattle.lalrpop_base.specs.declared.repr.inlined.InlinedSymbol.{InlinedSymbol}
 use Rattle.lalrpop_base.specs.declared.repr.grammar.ActionFnDefn.{ActionFnDefn}
 use Rattle.lalrpop_base.specs.declared.repr.norm_error.NormError.{NormError}
 use Rattle.lalrpop_base.specs.declared.repr.norm_error.NormError.TheVariants.{Cycle, TooManyActions, Memory}
-use Rattle.lalrpop_lr1.specs.Words.{mentions, choices, choice_defn, Made, made_of, in_front, chosen, replaced, replaced_all, Entry, replaced_entries}
-use Rattle.lalrpop_lr1.specs.Words.{IsPastLast}
+use Rattle.lalrpop_lr1.specs.Words.{mentions, choices, choice_defn, Made, made_of, in_front, chosen, replaced, replaced_all, Entry, replaced_entries, IsPastLast}
 
 -- definitions behind definitions
 abbrev pub IsMore : List ActionFnDefn → List ActionFnDefn → Type 0

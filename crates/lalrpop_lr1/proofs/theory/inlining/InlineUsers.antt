@@ -13,13 +13,8 @@ use Rattle.std.proofs.lemmas.List.Elements.{Contains-push_cases}
 use Rattle.std.proofs.lemmas.Map.Entries.{place_from_lookup, btree_map_get_place}
 use Rattle.lalrpop_base.specs.Words.{collection_at, PushesAt, name_cmp, listed_productions, productions_of, IsWellFormed}
 use Rattle.lalrpop_base.specs.contracts.repr.NonterminalStringOrd.TheImpl.Laws as name_order
-use Rattle.lalrpop_base.specs.declared.repr.NonterminalString.{NonterminalString}
-use Rattle.lalrpop_base.specs.declared.repr.TerminalString.{TerminalString}
-use Rattle.lalrpop_base.specs.declared.repr.Symbol.{Symbol}
+use Rattle.lalrpop_lr1.proofs.Types.{Grammar, NonterminalData, NonterminalString, Production, Symbol, TerminalString}
 use Rattle.lalrpop_base.specs.declared.repr.Symbol.TheVariants.{Nonterminal}
-use Rattle.lalrpop_base.specs.declared.repr.Production.{Production}
-use Rattle.lalrpop_base.specs.declared.repr.grammar.NonterminalData.{NonterminalData}
-use Rattle.lalrpop_base.specs.declared.repr.grammar.Grammar.{Grammar}
 use Rattle.lalrpop_base.proofs.theory.lists.Lists.{same_nonterminal, contains-cons, contains-nil, contains_head, contains_tail, contains_place, place_contains}
 use Rattle.lalrpop_lr1.specs.Words.{Entry, View, entry_view, view_of, productions_in, inlined_of, IsMarked, Mentions, IsInlineOrder}
 use Rattle.lalrpop_lr1.specs.Words.{listed_names, users_at, KeepsUsers, HasUsers, replaced_places, replaced_entries}

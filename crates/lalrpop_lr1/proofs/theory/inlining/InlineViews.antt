@@ -12,11 +12,8 @@ use Rattle.std.proofs.lemmas.Map.Keys.{IsDistinct-from_sorted}
 use Rattle.std.proofs.lemmas.Map.Text.{is_eq-slice_cmp}
 use Rattle.lalrpop_base.specs.Words.{name_exact, AllDiffer, IsSentence, name_cmp, HasKnownTerminals, IsWellFormedProduction, IsWellFormedEntry}
 use Rattle.lalrpop_base.specs.contracts.repr.NonterminalStringOrd.TheImpl.Laws as name_order
-use Rattle.lalrpop_base.specs.declared.repr.NonterminalString.{NonterminalString}
-use Rattle.lalrpop_base.specs.declared.repr.TerminalString.{TerminalString}
-use Rattle.lalrpop_base.specs.declared.repr.Symbol.{Symbol}
+use Rattle.lalrpop_lr1.proofs.Types.{NonterminalString, Production, Symbol, TerminalString}
 use Rattle.lalrpop_base.specs.declared.repr.Symbol.TheVariants.{Nonterminal, Terminal}
-use Rattle.lalrpop_base.specs.declared.repr.Production.{Production}
 use Rattle.lalrpop_base.specs.declared.repr.inlined.InlinedSymbol.{InlinedSymbol}
 use Rattle.lalrpop_base.specs.declared.repr.inlined.InlinedSymbol.TheVariants.{Original}
 use Rattle.lalrpop_base.specs.declared.repr.grammar.ActionFnDefn.{ActionFnDefn}

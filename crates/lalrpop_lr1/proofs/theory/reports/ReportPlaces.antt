@@ -8,7 +8,7 @@ use Rattle.std.specs.Ordering.{nat_cmp, is_eq}
 use Rattle.std.specs.Cmp.{unsigned_tied}
 use Rattle.std.specs.declared.vec.Vec.{Vec}
 use Rattle.lalrpop_base.specs.Words.{collection_at, PushesAt}
-use Rattle.lalrpop_base.specs.declared.lr1_core.state.Conflict.{Conflict}
+use Rattle.lalrpop_lr1.proofs.Types.{Conflict}
 use Rattle.lalrpop_lr1.specs.Words.{conflicts_in, places_of, ArePlacesOf}
 
 -- a push lists a place behind the others

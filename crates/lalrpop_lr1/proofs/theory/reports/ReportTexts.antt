@@ -1,8 +1,7 @@
 -- Facts on the texts of a report.
 use Rattle.std.proofs.Common.{◌≡◌, ◌≢◌, ℕ, ◌++◌, Bool, true, false, List, [], ◌∷◌, map, refl, sym, ap, ◌∙◌, append_assoc, arith, codes, Result, Ok, Err, OnOk, is_ok, String, string_bytes, take, length, get_or, ◌+◌, ◌<◌, Option, Some, slice_get}
 use Rattle.lalrpop_base.specs.Words.{Bits, rising, no_bits, token_of}
-use Rattle.lalrpop_base.specs.declared.repr.TerminalString.{TerminalString}
-use Rattle.lalrpop_base.specs.declared.lookahead.token.Token.{Token}
+use Rattle.lalrpop_lr1.proofs.Types.{TerminalString, Token}
 use Rattle.lalrpop_base.proofs.theory.sets.BitLemmas.{rising-bits_of}
 use Rattle.lalrpop_lr1.specs.Words.{tokens_line, tokens_text, tokens_in}
 use Rattle.std.specs.List.{flat_map}

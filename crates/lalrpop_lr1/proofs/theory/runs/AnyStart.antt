@@ -9,11 +9,7 @@ use Rattle.std.specs.Map.{lookup}
 use Rattle.std.proofs.lemmas.List.Elements.{filter-append}
 use Rattle.lalrpop_base.specs.Words.{IsAugmented, contents, IsOnNoRightSide, start_production, HasNewStart, Outcome, Parsed, HasOutcome, IsFirstWrong, Tree}
 use Rattle.lalrpop_base.specs.Words.{Node, no_trees, beside, trees_of, nodes, IsParseTree, IsWellFormed, name_cmp, productions}
-use Rattle.lalrpop_base.specs.declared.repr.NonterminalString.{NonterminalString}
-use Rattle.lalrpop_base.specs.declared.repr.Production.{Production}
-use Rattle.lalrpop_base.specs.declared.repr.TerminalString.{TerminalString}
-use Rattle.lalrpop_base.specs.declared.repr.grammar.Grammar.{Grammar}
-use Rattle.lalrpop_base.specs.declared.repr.grammar.NonterminalData.{NonterminalData}
+use Rattle.lalrpop_lr1.proofs.Types.{Grammar, NonterminalData, NonterminalString, Production, TerminalString}
 use Rattle.lalrpop_base.proofs.theory.first.FirstNames.{name_same, name_self}
 use Rattle.lalrpop_base.proofs.theory.grammars.NewStart.{Entry, listed, is_augmented}
 use Rattle.lalrpop_base.proofs.theory.grammars.Augmented.{alone, from_old, one_more, augmented_trees, same_wrong}

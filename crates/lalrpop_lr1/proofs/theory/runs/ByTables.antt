@@ -2,11 +2,7 @@
 use Rattle.std.proofs.Common.{◌≡◌, ℕ, ◌<◌, List, length, sym, subst}
 use Rattle.std.specs.Prelude.{Result, Ok, Err, IfOk, IfErr}
 use Rattle.lalrpop_base.specs.Words.{AreCoherent, AreFaithful, Bits, contents, Contents, IsFirstWrong, IsOnNoRightSide, productions}
-use Rattle.lalrpop_base.specs.declared.lr1_core.state.State.{State}
-use Rattle.lalrpop_base.specs.declared.repr.NonterminalString.{NonterminalString}
-use Rattle.lalrpop_base.specs.declared.repr.Production.{Production}
-use Rattle.lalrpop_base.specs.declared.repr.TerminalString.{TerminalString}
-use Rattle.lalrpop_base.specs.declared.repr.grammar.Grammar.{Grammar}
+use Rattle.lalrpop_lr1.proofs.Types.{Grammar, NonterminalString, Production, State, TerminalString}
 use Rattle.lalrpop_tables.specs.Words.{AreTablesOf}
 use Rattle.lalrpop_tables.specs.declared.build.options.Method.{Method}
 use Rattle.lalrpop_lr1.specs.Words.{ForEachGrammar, IfRefused, IsTreeWithin, tree_of}

@@ -3,10 +3,7 @@ use Rattle.std.proofs.Common.{◌≡◌, ℕ, zero, suc, ◌<◌, ◌≤◌, ◌
 use Rattle.std.specs.Prelude.{Result, Ok, Err, IfOk, IfErr}
 use Rattle.lalrpop_base.specs.Words.{Configuration, begin, Stands, Ends, move, Reaches, here, Outcome, Parsed, Refused, Limit, HasOutcome, cut_off}
 use Rattle.lalrpop_base.specs.Words.{IsFirstWrong, IsPromptRefusal, Contents, AreFaithful, IsOnNoRightSide, Tree, beside, no_trees, nodes, IsParseTree}
-use Rattle.lalrpop_base.specs.declared.lr1_core.state.State.{State}
-use Rattle.lalrpop_base.specs.declared.repr.NonterminalString.{NonterminalString}
-use Rattle.lalrpop_base.specs.declared.repr.Production.{Production}
-use Rattle.lalrpop_base.specs.declared.repr.TerminalString.{TerminalString}
+use Rattle.lalrpop_lr1.proofs.Types.{NonterminalString, Production, State, StateIndex, TerminalString}
 use Rattle.lalrpop_base.proofs.theory.runs.Outcomes.{Came, halted, goes, came, one_outcome}
 use Rattle.lalrpop_base.proofs.theory.runs.Prompt.{limit_enough, refused_promptly, steps_on_right}
 use Rattle.lalrpop_base.proofs.theory.runs.Refusals.{refused_wrong}
@@ -14,7 +11,6 @@ use Rattle.lalrpop_base.proofs.theory.runs.Runs.{answered_is_tree, answered_with
 use Rattle.lalrpop_base.proofs.theory.runs.Sentences.{EndsWith, one_tree, tree_parsed, tree_run}
 use Rattle.lalrpop_base.proofs.theory.runs.Steps.{ends_halts, stands_halts, together}
 use Rattle.std.specs.declared.vec.Vec.{Vec}
-use Rattle.lalrpop_base.specs.declared.lr1_core.state.StateIndex.{StateIndex}
 use Rattle.lalrpop_lr1.specs.Words.{IsAnswer, IsPartialAnswer, StopsReading, PartialOutcome, Stack, Stop, HasPartialOutcome, all_read, stopped, ForEachGrammar}
 use Rattle.lalrpop_lr1.specs.Words.{ForEachCanonical, HasEnough, HasOneTree, StepsAreRight, IsTreeWithin, IsCutOff, IsOutcomeFor, AnswersTrees, IfRefused, IfLimit, IsLimit, tree_of}
 use Rattle.lalrpop_lr1.proofs.theory.runs.Outcomes.{stop_outcome, whole_outcome}

@@ -5,14 +5,9 @@ use Rattle.std.specs.declared.vec.Vec.{Vec}
 use Rattle.std.proofs.lemmas.List.{map-append}
 use Rattle.lalrpop_base.specs.Words.{number_of, IsBeginning, symbols_of, Derives, Configuration, begin, Reaches, Outcome, Refused, IsFirstWrong, at_terminal}
 use Rattle.lalrpop_base.specs.Words.{at_end, Contents, AreFaithful}
-use Rattle.lalrpop_base.specs.declared.lookahead.token.Token.{Token}
+use Rattle.lalrpop_lr1.proofs.Types.{NonterminalString, Production, State, StateIndex, TerminalString, Token}
 use Rattle.lalrpop_base.specs.declared.lookahead.token.Token.TheVariants.{Eof, Terminal as TokenOf}
-use Rattle.lalrpop_base.specs.declared.lr1_core.state.State.{State}
-use Rattle.lalrpop_base.specs.declared.lr1_core.state.StateIndex.{StateIndex}
-use Rattle.lalrpop_base.specs.declared.repr.NonterminalString.{NonterminalString}
-use Rattle.lalrpop_base.specs.declared.repr.Production.{Production}
 use Rattle.lalrpop_base.specs.declared.repr.Symbol.TheVariants.{Nonterminal, Terminal}
-use Rattle.lalrpop_base.specs.declared.repr.TerminalString.{TerminalString}
 use Rattle.lalrpop_base.proofs.theory.runs.Refusals.{stack_begins, refused_wrong}
 use Rattle.lalrpop_base.proofs.theory.runs.Runs.{Tracks, run_tracks, begin_tracks}
 use Rattle.lalrpop_base.proofs.theory.runs.Stacks.{spelled}

@@ -2,12 +2,8 @@
 use Rattle.std.proofs.Common.{Bool, ◌≡◌, ℕ, ◌+◌, ◌≤◌, List, [], ◌∷◌, ◌++◌, length, map, reverse, refl, sym, ap, subst, ◌∙◌, arith}
 use Rattle.std.specs.Prelude.{Result, Ok, Err, IfOk}
 use Rattle.std.proofs.lemmas.List.{reverse-reverse}
-use Rattle.lalrpop_base.specs.Words.{AreCoherent, number_of, contents_in, reduced_productions, Contents, beside, no_trees, leaves, nodes, AreOfGrammar, here}
-use Rattle.lalrpop_base.specs.Words.{begin, HasOutcome}
-use Rattle.lalrpop_base.specs.declared.lookahead.token.Token.{Token}
-use Rattle.lalrpop_base.specs.declared.repr.TerminalString.{TerminalString}
-use Rattle.lalrpop_base.specs.declared.lr1_core.state.State.{State}
-use Rattle.lalrpop_base.specs.declared.lr1_core.state.StateIndex.{StateIndex}
+use Rattle.lalrpop_base.specs.Words.{AreCoherent, number_of, contents_in, reduced_productions, Contents, beside, no_trees, leaves, nodes, AreOfGrammar, here, begin, HasOutcome}
+use Rattle.lalrpop_lr1.proofs.Types.{State, StateIndex, TerminalString, Token}
 use Rattle.lalrpop_lr1.specs.Words.{IsFailure, IsAnswer, numbers, trees_on, configuration, bottom, IsAtStart, IsStacked, HasRead, tree_of, Reads, StopsReading}
 use Rattle.lalrpop_lr1.specs.Words.{HasPartialOutcome, Stack, Stop, all_read, stopped, HasOutcomeFrom, IsParsedIn}
 use Rattle.lalrpop_lr1.specs.runs.Reading.{read}

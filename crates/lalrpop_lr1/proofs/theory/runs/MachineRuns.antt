@@ -10,12 +10,8 @@ use Rattle.std.proofs.lemmas.Option.{slice_get_read, slice_get_within, get_or_fr
 use Rattle.lalrpop_base.specs.Words.{AreCoherent, number_of, contents_of, contents_at, contents_in, Contents, Tree, Leaf, Configuration, reduction_on, Stands}
 use Rattle.lalrpop_base.specs.Words.{Goes, Ends, shifts_or, move, Reaches, here, further, Outcome, Parsed, Refused, Limit}
 use Rattle.lalrpop_base.specs.contracts.repr.TerminalStringOrd.TheImpl as terminal_ord
-use Rattle.lalrpop_base.specs.declared.repr.Production.{Production}
-use Rattle.lalrpop_base.specs.declared.repr.TerminalString.{TerminalString}
-use Rattle.lalrpop_base.specs.declared.lookahead.token.Token.{Token}
+use Rattle.lalrpop_lr1.proofs.Types.{Production, State, StateIndex, TerminalString, Token}
 use Rattle.lalrpop_base.specs.declared.lookahead.token.Token.TheVariants.{Eof, Terminal as TokenOf}
-use Rattle.lalrpop_base.specs.declared.lr1_core.state.State.{State}
-use Rattle.lalrpop_base.specs.declared.lr1_core.state.StateIndex.{StateIndex}
 use Rattle.lalrpop_base.proofs.theory.states.ContentsViews.{LeadAsItemsSay, lead_as_items_say}
 use Rattle.lalrpop_lr1.specs.Words.{numbers, trees_on, configuration, IsStacked, CanPop, reduction_move, IsProgress, IsHalted, IsSpent, IsShifted, HasRead}
 use Rattle.lalrpop_lr1.specs.Words.{Reads, before, StopsReading, stuck, early_end, cut_off, PartialOutcome, Stop, tree_of, HasOutcomeFrom, parsed_from}

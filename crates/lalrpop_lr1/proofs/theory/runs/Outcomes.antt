@@ -1,11 +1,9 @@
 -- Runs put together, and the outcomes of what is left of them.
 use Rattle.std.proofs.Common.{◌≡◌, ℕ, ◌+◌, List, [], ◌∷◌, sym, subst, ap, ◌∙◌, arith}
-use Rattle.lalrpop_base.specs.declared.repr.TerminalString.{TerminalString}
-use Rattle.lalrpop_base.specs.declared.lr1_core.state.State.{State}
+use Rattle.lalrpop_lr1.proofs.Types.{State, TerminalString}
 use Rattle.lalrpop_base.specs.Words.{Contents, Tree, Configuration, next_token, Reaches, here, further, begin, Outcome, Refused, Limit, IsParse, HasOutcome}
 use Rattle.lalrpop_base.specs.Words.{parsed, stuck as stuck_at, other_end, cut_off as cut_off_at}
-use Rattle.lalrpop_lr1.specs.Words.{Reads, before, StopsReading, stuck, early_end, cut_off, HasOutcomeFrom, parsed_from, stuck_from, other_end_from}
-use Rattle.lalrpop_lr1.specs.Words.{cut_off_from, IsFailure}
+use Rattle.lalrpop_lr1.specs.Words.{Reads, before, StopsReading, stuck, early_end, cut_off, HasOutcomeFrom, parsed_from, stuck_from, other_end_from, cut_off_from, IsFailure}
 use Rattle.lalrpop_lr1.specs.runs.Reading.{read}
 use Rattle.lalrpop_lr1.specs.declared.interpret.error.InterpretError.{InterpretError}
 use Rattle.lalrpop_lr1.specs.declared.interpret.error.InterpretError.TheVariants.{Refused as RefusedBy, Limit as LimitPassed, Memory}

@@ -7,11 +7,8 @@ use Rattle.lalrpop_base.specs.Words.{contents_in, contents_at, reduction_of, red
 use Rattle.lalrpop_base.specs.Words.{leaves, nodes, IsNode, AreOfGrammar, Configuration, reduction_on, Goes, Ends, goes_on, reduces, shifts_or, moves_on, move}
 use Rattle.lalrpop_base.specs.Words.{Reaches, here, further, begin, Parsed, HasOutcome, parsed}
 use Rattle.lalrpop_base.specs.states.States.{Reduction}
-use Rattle.lalrpop_base.specs.declared.repr.Production.{Production}
-use Rattle.lalrpop_base.specs.declared.repr.TerminalString.{TerminalString}
-use Rattle.lalrpop_base.specs.declared.lookahead.token.Token.{Token}
+use Rattle.lalrpop_lr1.proofs.Types.{Production, State, TerminalString, Token}
 use Rattle.lalrpop_base.specs.declared.lookahead.token.Token.TheVariants.{Eof, Terminal as TokenOf}
-use Rattle.lalrpop_base.specs.declared.lr1_core.state.State.{State}
 use Rattle.lalrpop_base.proofs.theory.states.ContentsViews.{LeadAsItemsSay, contains_at, at_contains, contains_map, contains_of_map}
 use Rattle.lalrpop_lr1.specs.Words.{bottom, IsParsedIn}
 use Rattle.lalrpop_lr1.proofs.theory.trees.TreeViews.{leaves_cons}

@@ -2,11 +2,7 @@
 use Rattle.std.proofs.Common.{◌≡◌, ℕ, ◌≤◌, List, sym, subst}
 use Rattle.std.specs.Prelude.{Result, Ok, Err, IfOk, IfErr}
 use Rattle.lalrpop_base.specs.Words.{Bits, contents, IsOnNoRightSide, Outcome, HasOutcome, IsFirstWrong, beside, no_trees, leaves, nodes, productions}
-use Rattle.lalrpop_base.specs.declared.lookahead.token.Token.{Token}
-use Rattle.lalrpop_base.specs.declared.lr1_core.state.State.{State}
-use Rattle.lalrpop_base.specs.declared.repr.NonterminalString.{NonterminalString}
-use Rattle.lalrpop_base.specs.declared.repr.TerminalString.{TerminalString}
-use Rattle.lalrpop_base.specs.declared.repr.grammar.Grammar.{Grammar}
+use Rattle.lalrpop_lr1.proofs.Types.{Grammar, NonterminalString, State, TerminalString, Token}
 use Rattle.lalrpop_tables.specs.Words.{Collapses, AreTablesOf}
 use Rattle.lalrpop_tables.specs.declared.build.options.Options.{Options}
 use Rattle.lalrpop_lr1.proofs.theory.runs.ByTables.{made_states}

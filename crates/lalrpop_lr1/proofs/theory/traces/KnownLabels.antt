@@ -4,9 +4,8 @@ use mathlib.Core.Bool.{true≢false}
 use Rattle.lalrpop_base.proofs.theory.states.ContentsViews.{at_contains}
 use Rattle.std.specs.Prelude.{Contains, IfSome, Option, Some, None, IsNone, is_some, slice_get}
 use Rattle.lalrpop_base.specs.Words.{HasKnownTerminals}
-use Rattle.lalrpop_base.specs.declared.repr.Symbol.{Symbol}
+use Rattle.lalrpop_lr1.proofs.Types.{Symbol, TerminalString}
 use Rattle.lalrpop_base.specs.declared.repr.Symbol.TheVariants.{Terminal}
-use Rattle.lalrpop_base.specs.declared.repr.TerminalString.{TerminalString}
 
 pub known_append : (terminals : List TerminalString) (xs ys : List Symbol) → HasKnownTerminals terminals xs → HasKnownTerminals terminals ys → HasKnownTerminals terminals (xs ++ ys)
 known_append terminals [] ys a b k t at = b k t at

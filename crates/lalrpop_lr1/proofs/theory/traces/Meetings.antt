@@ -11,11 +11,7 @@ use Rattle.std.proofs.lemmas.List.Sums.{sum_by-cons, sum_by-append}
 use Rattle.std.proofs.lemmas.Option.{slice_get_past, slice_get_within}
 use mathlib.Core.Bool.{true≢false}
 use Rattle.lalrpop_base.specs.Words.{Bits, Dotted}
-use Rattle.lalrpop_base.specs.declared.repr.NonterminalString.{NonterminalString}
-use Rattle.lalrpop_base.specs.declared.repr.Production.{Production}
-use Rattle.lalrpop_base.specs.declared.repr.Symbol.{Symbol}
-use Rattle.lalrpop_base.specs.declared.lr1_core.state.State.{State}
-use Rattle.lalrpop_base.specs.declared.lr1_core.state.StateIndex.{StateIndex}
+use Rattle.lalrpop_lr1.proofs.Types.{NonterminalString, Production, State, StateIndex, Symbol}
 use Rattle.lalrpop_tables.specs.Words.{edges, over, nowhere, state_cmp}
 use Rattle.lalrpop_tables.specs.graphs.StateGraph.{LeadsTo}
 use Rattle.lalrpop_base.proofs.theory.lists.Bounded.{in_flat_map}

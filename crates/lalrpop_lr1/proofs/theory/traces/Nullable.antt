@@ -4,10 +4,8 @@ use Rattle.std.specs.Prelude.{IsFalse}
 use Rattle.std.proofs.lemmas.Bool.{cases_Bool, cases_lt}
 use mathlib.Core.List.{nil≢cons}
 use Rattle.lalrpop_base.specs.Words.{Bits, has, IsFirstSet, IsNullable, Rules}
-use Rattle.lalrpop_base.specs.declared.repr.Production.{Production}
-use Rattle.lalrpop_base.specs.declared.repr.Symbol.{Symbol}
+use Rattle.lalrpop_lr1.proofs.Types.{Production, Symbol, TerminalString}
 use Rattle.lalrpop_base.specs.declared.repr.Symbol.TheVariants.{Terminal}
-use Rattle.lalrpop_base.specs.declared.repr.TerminalString.{TerminalString}
 use Rattle.lalrpop_base.proofs.theory.grammars.Forests.{derives_forest, forest-terminal, first-nil, nullable-nil, nullable-cons}
 use Rattle.lalrpop_base.proofs.theory.lists.Places.{filled}
 

@@ -20,17 +20,15 @@ use Rattle.lalrpop_base.specs.Words.{list_exact, both, Dotted, IsNumbering, by_n
 use Rattle.lalrpop_base.specs.contracts.exact.SymbolExact.TheImpl as symbol_exactly
 use Rattle.lalrpop_base.specs.contracts.repr.SymbolEq.TheImpl.Laws as symbol_equality
 use Rattle.lalrpop_base.specs.contracts.repr.SymbolPartialEq.TheImpl as symbol_eq
-use Rattle.lalrpop_base.specs.declared.lookahead.nil.Nil.{Nil}
+use Rattle.lalrpop_lr1.proofs.Types.{Nil, Symbol}
 use Rattle.lalrpop_base.specs.declared.lr1_core.symbol_sets.SymbolSets.{SymbolSets}
-use Rattle.lalrpop_base.specs.declared.repr.Symbol.{Symbol}
 use Rattle.lalrpop_base.proofs.theory.states.KernelLemmas.{IsNext, all_differ, list_grows, next_numbering, exact_by_cmp}
 use Rattle.lalrpop_base.proofs.theory.lists.MultimapLemmas.{tied_at, everywhere}
 use Rattle.lalrpop_tables.specs.Words.{listed}
 use Rattle.lalrpop_tables.proofs.theory.states.Contained.{Decided, decided, added_or_not}
 use Rattle.lalrpop_base.proofs.theory.lists.Members.{contains_map, place}
 use Rattle.lalrpop_base.proofs.theory.lists.Places.{differ_push, push_cases, contains_at, same_some}
-use Rattle.lalrpop_lr1.specs.Words.{Graph, PlainEdge, plain, plain_edge, IsGraph, IsKept, IsFrom, SameLabels, HaveEnds, KeepPlaces, AddsBoth, AddsNoOther}
-use Rattle.lalrpop_lr1.specs.Words.{AddsEdge, places_from}
+use Rattle.lalrpop_lr1.specs.Words.{Graph, PlainEdge, plain, plain_edge, IsGraph, IsKept, IsFrom, SameLabels, HaveEnds, KeepPlaces, AddsBoth, AddsNoOther, AddsEdge, places_from}
 use Rattle.lalrpop_lr1.specs.contracts.trace.node.TraceGraphNodeOrd.TheImpl as node_ord
 use Rattle.lalrpop_lr1.specs.contracts.trace.node.TraceGraphNodeEq.TheImpl as node_equality
 use Rattle.lalrpop_lr1.specs.contracts.trace.node.TraceGraphNodePartialEq.TheImpl as node_eq

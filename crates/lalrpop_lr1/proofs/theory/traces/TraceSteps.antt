@@ -6,10 +6,8 @@ use Rattle.std.proofs.lemmas.List.{drop_all, drop_more, length_push, map-append,
 use Rattle.std.proofs.lemmas.List.Elements.{Contains-append_cases, Contains-append_right}
 use Rattle.std.proofs.lemmas.Option.{slice_get_within}
 use Rattle.lalrpop_base.specs.Words.{Bits, Dotted}
-use Rattle.lalrpop_base.specs.declared.repr.NonterminalString.{NonterminalString}
-use Rattle.lalrpop_base.specs.declared.repr.Production.{Production}
+use Rattle.lalrpop_lr1.proofs.Types.{NonterminalString, Production, StateIndex}
 use Rattle.lalrpop_base.specs.declared.repr.Symbol.TheVariants.{Nonterminal}
-use Rattle.lalrpop_base.specs.declared.lr1_core.state.StateIndex.{StateIndex}
 use Rattle.lalrpop_base.proofs.theory.lists.Members.{contains_head, contains_tail}
 use Rattle.lalrpop_lr1.specs.Words.{Backtrace, Meeting, Takes, GoesOn, Duty, come_to, take_up, come_to_each, take_up_each, items_at, stop_edge, onward_edges, AreSources}
 use Rattle.lalrpop_lr1.specs.Words.{IsInsertedPair, AddsInOrder, duties_of, duties_left, names_in, AreNamed, work, WalksOn, IsStep}

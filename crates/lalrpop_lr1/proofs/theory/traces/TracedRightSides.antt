@@ -4,11 +4,8 @@ use Rattle.std.specs.Prelude.{Contains, Option, Some, None, option_copied, slice
 use Rattle.std.proofs.lemmas.List.{take-append-drop, drop_all}
 use Rattle.std.proofs.lemmas.Option.{slice_get_cases}
 use Rattle.lalrpop_base.specs.Words.{Rules, HasKnownTerminals}
-use Rattle.lalrpop_base.specs.declared.repr.NonterminalString.{NonterminalString}
-use Rattle.lalrpop_base.specs.declared.repr.Production.{Production}
-use Rattle.lalrpop_base.specs.declared.repr.Symbol.{Symbol}
+use Rattle.lalrpop_lr1.proofs.Types.{NonterminalString, Production, Symbol, TerminalString}
 use Rattle.lalrpop_base.specs.declared.repr.Symbol.TheVariants.{Nonterminal as NonterminalOf, Terminal}
-use Rattle.lalrpop_base.specs.declared.repr.TerminalString.{TerminalString}
 use Rattle.lalrpop_base.proofs.theory.states.ContentsViews.{contains_map, at_contains}
 use Rattle.lalrpop_base.proofs.theory.closures.Closing.{drop_split}
 use Rattle.lalrpop_lr1.specs.Words.{name_of, cursor_list, IsRightSide, CarryRightSides, Graph, PlainEdge, plain, AreKnownEdges, Backtrace, IsTraced, first}

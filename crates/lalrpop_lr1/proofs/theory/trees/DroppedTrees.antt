@@ -1,7 +1,7 @@
 -- Trees that are dropped: how many nodes are left.
 use Rattle.std.proofs.Common.{◌≡◌, ◌+◌, ◌<◌, ℕ, suc, List, [], ◌∷◌, ◌++◌, Vec, Global, map, refl, ap, ◌∙◌, arith}
 use Rattle.lalrpop_base.specs.Words.{Tree, Leaf, Node, Trees, no_trees, beside, trees_of, nodes}
-use Rattle.lalrpop_base.specs.declared.repr.NonterminalString.{NonterminalString}
+use Rattle.lalrpop_lr1.proofs.Types.{NonterminalString}
 use Rattle.lalrpop_lr1.specs.Words.{tree_of, tree_nodes}
 use Rattle.lalrpop_lr1.specs.declared.interpret.tree.ParseTree.{ParseTree}
 use Rattle.lalrpop_lr1.specs.declared.interpret.tree.ParseTree.TheOpen as Open

@@ -2,8 +2,7 @@
 use Rattle.std.proofs.Common.{◌≡◌, ◌+◌, ◌<◌, suc, List, [], ◌∷◌, ◌++◌, reverse, refl, ap, sym, ◌∙◌, arith, append_assoc}
 use Rattle.std.proofs.lemmas.List.{reverse-append, reverse-reverse}
 use Rattle.lalrpop_base.specs.Words.{Tree, Leaf, Node, trees_of, nodes, leaves}
-use Rattle.lalrpop_base.specs.declared.repr.NonterminalString.{NonterminalString}
-use Rattle.lalrpop_base.specs.declared.repr.TerminalString.{TerminalString}
+use Rattle.lalrpop_lr1.proofs.Types.{NonterminalString, TerminalString}
 
 pub leaves_append : (ts us : List Tree) → leaves (trees_of (ts ++ us)) ≡ leaves (trees_of ts) ++ leaves (trees_of us)
 leaves_append [] us = refl

@@ -1,8 +1,7 @@
 -- Steps over trees: how a walk makes them, what tree they make again, and what they write.
 use Rattle.std.proofs.Common.{◌≡◌, ◌↔◌, ℕ, Bool, true, false, List, [], ◌∷◌, ◌++◌, codes, refl, ap, sym, ◌∙◌, append-nil, append_assoc}
 use Rattle.lalrpop_base.specs.Words.{Tree, Leaf, Node, Trees, no_trees, beside, trees_of, terminal_text, nonterminal_text}
-use Rattle.lalrpop_base.specs.declared.repr.NonterminalString.{NonterminalString}
-use Rattle.lalrpop_base.specs.declared.repr.TerminalString.{TerminalString}
+use Rattle.lalrpop_lr1.proofs.Types.{NonterminalString, TerminalString}
 use Rattle.lalrpop_lr1.specs.Words.{Step, enters, meets_leaf, leaves_node, steps_over, steps_left, steps_text, tree_by, trees_text, separator_text}
 use Rattle.lalrpop_lr1.proofs.theory.trees.TreeViews.{listed, listed-trees, trees-listed, children_of}
 

@@ -1,7 +1,7 @@
 use Rattle.std.proofs.Common.{◌≡◌, List}
 use Rattle.std.proofs.lemmas.Result.{IfOk-weaker}
 use Rattle.lalrpop_base.specs.Words.{Bits, IsLALR1, IsOnNoRightSide, productions, rules_of}
-use Rattle.lalrpop_base.specs.declared.lr1_core.state.State.{State}
+use Rattle.lalrpop_tables.proofs.Types.{State}
 use Rattle.lalrpop_tables.specs.Words.{AreLaneTables}
 use Rattle.lalrpop_tables.specs.declared.build.options.Method.TheVariants.{Lane}
 use Rattle.lalrpop_tables.proofs.theory.answers.ByLanes.{if_told, not_there}

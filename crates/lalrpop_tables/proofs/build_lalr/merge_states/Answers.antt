@@ -1,9 +1,8 @@
 use Rattle.std.proofs.Common.{◌≡◌, ◌∙◌, List, ℕ, map, subst, ap}
 use Rattle.std.specs.List.{flat_map}
 use Rattle.std.proofs.lemmas.Result.{IfOk-weaker, IfErr-weaker}
-use Rattle.lalrpop_base.specs.Words.{Bits, state_conflicts}
-use Rattle.lalrpop_base.specs.declared.lr1_core.state.State.{State}
-use Rattle.lalrpop_base.specs.Words.{dots_in, IsCollapsed, AreOrdered, AreFirstNumbers, AreMoved, number_in}
+use Rattle.lalrpop_base.specs.Words.{Bits, state_conflicts, dots_in, IsCollapsed, AreOrdered, AreFirstNumbers, AreMoved, number_in}
+use Rattle.lalrpop_tables.proofs.Types.{State}
 use Rattle.lalrpop_base.proofs.theory.lists.BothFacts.{MatchResult-both}
 use Rattle.lalrpop_tables.proofs.theory.collapse.CollapseTold.{Answer-ordered}
 use Rattle.lalrpop_tables.proofs.theory.collapse.MergedCollapse.{Merged-collapsed, Collapse-tables, Collapse-failure}

@@ -1,6 +1,6 @@
 use Rattle.lalrpop_base.specs.conflicts.StateConflicts.{HasNoConflict}
 use Rattle.lalrpop_base.specs.Words.{Bits, EachBelow}
-use Rattle.lalrpop_base.specs.declared.lr1_core.state.State.{State}
+use Rattle.lalrpop_tables.proofs.Types.{State}
 use Rattle.lalrpop_tables.proofs.conflicts.have_no_conflict.Given as goal
 
 abbrev pub invariant-loop-state : goal.invariant-loop-state

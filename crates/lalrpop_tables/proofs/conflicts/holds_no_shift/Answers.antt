@@ -2,8 +2,7 @@ use Rattle.std.proofs.Common.{◌≡◌, List, [], refl, subst, sym}
 use Rattle.std.specs.Prelude.{Contains}
 use Rattle.lalrpop_base.specs.Words.{HasToken}
 use Rattle.lalrpop_base.specs.declared.lookahead.token.Token.TheVariants.{Terminal as TokenOf}
-use Rattle.lalrpop_base.specs.declared.lr1_core.state.StateIndex.{StateIndex}
-use Rattle.lalrpop_base.specs.declared.repr.TerminalString.{TerminalString}
+use Rattle.lalrpop_tables.proofs.Types.{StateIndex, TerminalString}
 use Rattle.lalrpop_base.proofs.theory.conflicts.FreeStates.{shift_behind}
 use Rattle.lalrpop_base.proofs.theory.lists.Members.{contains_head, Contains-none, contains_tail}
 use Rattle.lalrpop_tables.proofs.conflicts.holds_no_shift.Goals as goal

@@ -1,8 +1,7 @@
 use Rattle.std.specs.Prelude.{Contains}
 use Rattle.lalrpop_base.specs.Words.{HasToken}
 use Rattle.lalrpop_base.specs.declared.lookahead.token.Token.TheVariants.{Terminal as TokenOf}
-use Rattle.lalrpop_base.specs.declared.lr1_core.state.StateIndex.{StateIndex}
-use Rattle.lalrpop_base.specs.declared.repr.TerminalString.{TerminalString}
+use Rattle.lalrpop_tables.proofs.Types.{StateIndex, TerminalString}
 use Rattle.lalrpop_tables.proofs.conflicts.holds_no_shift.Given as goal
 
 abbrev pub invariant-loop-terminal : goal.invariant-loop-terminal

@@ -2,7 +2,7 @@ use Rattle.std.proofs.Common.{◌↔◌, subst}
 use Rattle.std.specs.Prelude.{IsTrue}
 use Rattle.lalrpop_base.specs.Words.{HasToken}
 use Rattle.lalrpop_base.specs.declared.lookahead.token.Token.TheVariants.{Terminal as TokenOf}
-use Rattle.lalrpop_base.specs.declared.repr.TerminalString.{TerminalString}
+use Rattle.lalrpop_tables.proofs.Types.{TerminalString}
 use Rattle.lalrpop_tables.proofs.conflicts.holds_terminal.Goals as goal
 
 pub returns : goal.returns

@@ -1,8 +1,7 @@
 use Rattle.std.proofs.Common.{ℕ, subst}
 use Rattle.std.specs.Prelude.{IfErr, IfOk, MatchResult}
 use Rattle.lalrpop_base.specs.Words.{IsLALR1, IsOnNoRightSide, productions, rules_of}
-use Rattle.lalrpop_base.specs.declared.repr.NonterminalString.{NonterminalString}
-use Rattle.lalrpop_base.specs.declared.repr.grammar.Grammar.{Grammar}
+use Rattle.lalrpop_tables.proofs.Types.{Grammar, NonterminalString}
 use Rattle.lalrpop_tables.specs.Words.{TellsNotLALR1, AreLalrLaneTables, AreCopiedTables, FailsByCopies}
 use Rattle.lalrpop_tables.proofs.lane_table.build_lane_table_states.Goals as goal
 

@@ -1,8 +1,7 @@
 use Rattle.std.proofs.Common.{◌≡◌, List, [], ◌∷◌, ◌++◌, length, sym, subst, ap, ◌∙◌, append_assoc, append-nil, refl, arith}
-use Rattle.lalrpop_base.specs.Words.{Bits}
-use Rattle.lalrpop_base.specs.declared.lr1_core.state.State.{State}
+use Rattle.lalrpop_base.specs.Words.{Bits, AreMoved, fails, parted, stands_first, number_in}
+use Rattle.lalrpop_tables.proofs.Types.{State}
 use Rattle.lalrpop_base.specs.renumbering.Moved.{no_more}
-use Rattle.lalrpop_base.specs.Words.{AreMoved, fails, parted, stands_first, number_in}
 use Rattle.lalrpop_base.proofs.theory.renumbering.Moved.{Moved-append, Moved-grows}
 use Rattle.lalrpop_tables.proofs.renumber.move_states.Goals as goal
 

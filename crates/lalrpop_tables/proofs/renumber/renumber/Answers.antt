@@ -1,8 +1,7 @@
 use Rattle.std.proofs.Common.{subst, List, ℕ, length}
-use Rattle.lalrpop_base.specs.Words.{Bits}
-use Rattle.lalrpop_base.specs.declared.lr1_core.state.State.{State}
+use Rattle.lalrpop_base.specs.Words.{Bits, AreMoved, ArePlaces, parted, stands_first, number_in}
+use Rattle.lalrpop_tables.proofs.Types.{State}
 use Rattle.std.proofs.lemmas.Result.{IfOk-weaker}
-use Rattle.lalrpop_base.specs.Words.{AreMoved, ArePlaces, parted, stands_first, number_in}
 use Rattle.lalrpop_base.proofs.theory.renumbering.Renumbered.{States-renumbered}
 use Rattle.lalrpop_tables.proofs.renumber.renumber.Goals as goal
 

@@ -4,9 +4,7 @@ use Rattle.std.specs.Prelude.{IfOk, IfSome, IsSomeAnd, MatchOption, is_some}
 use Rattle.std.specs.declared.result.Result.{Result}
 use Rattle.std.specs.declared.result.Result.TheVariants.{Ok, Err}
 use Rattle.lalrpop_base.specs.Words.{AreFaithful, Bits, IsLALR1, IsOnNoRightSide, contents, productions, rules_of}
-use Rattle.lalrpop_base.specs.declared.lr1_core.state.State.{State}
-use Rattle.lalrpop_base.specs.declared.repr.NonterminalString.{NonterminalString}
-use Rattle.lalrpop_base.specs.declared.repr.grammar.Grammar.{Grammar}
+use Rattle.lalrpop_tables.proofs.Types.{Grammar, NonterminalString, State}
 use Rattle.lalrpop_tables.specs.Words.{AreBuiltTablesOf, AreCopiedTables, AreLaneTables, PassCheck, AreLalrLaneTables}
 use Rattle.lalrpop_tables.specs.declared.build.options.Method.TheVariants.{Lane}
 use Rattle.lalrpop_tables.proofs.theory.answers.Lr1Answers.{Lane-answer}

@@ -1,13 +1,9 @@
 -- Tables, or the number of conflicts: what is answered of states whose conflicts were counted, by either method, and under other numbers.
 use Rattle.std.proofs.Common.{◌≡◌, ◌≢◌, ℕ, ◌<◌, List, [], length, refl, sym, ap, subst, arith}
 use Rattle.std.specs.List.{flat_map}
-use Rattle.lalrpop_base.specs.Words.{AllDiffer, Bits, IsLALR1, IsOnNoRightSide, IsWellFormed, productions, rules_of, state_conflicts}
-use Rattle.lalrpop_base.specs.declared.lr1_core.state.Conflict.{Conflict}
-use Rattle.lalrpop_base.specs.declared.lr1_core.state.State.{State}
-use Rattle.lalrpop_base.specs.declared.repr.NonterminalString.{NonterminalString}
-use Rattle.lalrpop_base.specs.declared.repr.grammar.Grammar.{Grammar}
+use Rattle.lalrpop_base.specs.Words.{AllDiffer, Bits, IsLALR1, IsOnNoRightSide, IsWellFormed, productions, rules_of, state_conflicts, AreOwn, Begins, HaveNoConflict}
+use Rattle.lalrpop_tables.proofs.Types.{Conflict, Grammar, NonterminalString, State}
 use Rattle.lalrpop_base.specs.closures.Closure.{itself}
-use Rattle.lalrpop_base.specs.Words.{AreOwn, Begins, HaveNoConflict}
 use Rattle.lalrpop_tables.specs.Words.{AreBuiltTablesOrCount, AreLaneTables, AreStatesFor, AreStatesOf, MatchTablesOrCount, canonical_of}
 use Rattle.lalrpop_tables.specs.declared.build.options.Method.{Method}
 use Rattle.lalrpop_tables.specs.declared.build.options.Method.TheVariants.{Canonical, Lane}

@@ -1,15 +1,8 @@
 -- The laws that lead from what the construction says with any lookahead to canonical states and to LR(0) states.
 use Rattle.std.proofs.Common.{ℕ, List, refl}
-use Rattle.lalrpop_base.specs.Words.{Bits, rules_of}
-use Rattle.lalrpop_base.specs.declared.lookahead.nil.Nil.{Nil}
-use Rattle.lalrpop_base.specs.declared.lr1_core.state.BuildError.{BuildError}
-use Rattle.lalrpop_base.specs.declared.lr1_core.state.State.{State}
-use Rattle.lalrpop_base.specs.declared.repr.NonterminalString.{NonterminalString}
-use Rattle.lalrpop_base.specs.declared.repr.grammar.Grammar.{Grammar}
-use Rattle.lalrpop_base.specs.Words.{AreOwn, AreLr0States}
-use Rattle.lalrpop_tables.specs.Words.{FailsAfterLr0, IsKeptGrammar, AreSetTables, StopsWithSets, AreNilTables, StopsWithNil, lr0_of}
-use Rattle.lalrpop_base.specs.Words.{HasLr0States}
-use Rattle.lalrpop_tables.specs.Words.{AreBuiltTablesOf, FailsOn}
+use Rattle.lalrpop_base.specs.Words.{Bits, rules_of, AreOwn, AreLr0States, HasLr0States}
+use Rattle.lalrpop_tables.proofs.Types.{BuildError, Grammar, Nil, NonterminalString, State}
+use Rattle.lalrpop_tables.specs.Words.{FailsAfterLr0, IsKeptGrammar, AreSetTables, StopsWithSets, AreNilTables, StopsWithNil, lr0_of, AreBuiltTablesOf, FailsOn}
 use Rattle.lalrpop_tables.specs.declared.build.options.Method.TheVariants.{Canonical}
 use Rattle.lalrpop_tables.proofs.theory.canonical.CanonicalAnswers.{Set-tables, Set-fails}
 use Rattle.lalrpop_base.proofs.theory.grammars.Grammars.{productions_own}

@@ -3,15 +3,9 @@ use Rattle.std.proofs.Common.{◌≡◌, ◌↔◌, ℕ, suc, ◌+◌, inl, inr,
 use Rattle.std.specs.Prelude.{Contains}
 use Rattle.std.proofs.lemmas.Option.{slice_get_within}
 use Rattle.lalrpop_base.specs.Words.{Bits, no_bits, with_bit, InClosure, in_kernel, expanded, InTokenClosure, with_token}
-use Rattle.lalrpop_base.specs.Words.{begins_rest, inherits, IsAtStart, IsAtStartWith, IsMoved, IsMovedWith, holds_token, Dotted, productions, productions_of}
-use Rattle.lalrpop_base.specs.Words.{IsWellFormed}
-use Rattle.lalrpop_base.specs.declared.lookahead.token.Token.{Token}
+use Rattle.lalrpop_base.specs.Words.{begins_rest, inherits, IsAtStart, IsAtStartWith, IsMoved, IsMovedWith, holds_token, Dotted, productions, productions_of, IsWellFormed}
+use Rattle.lalrpop_tables.proofs.Types.{Grammar, NonterminalString, Production, Symbol, TerminalString, Token}
 use Rattle.lalrpop_base.specs.declared.lookahead.token.Token.TheVariants.{Eof, Error, Terminal as TokenOf}
-use Rattle.lalrpop_base.specs.declared.repr.NonterminalString.{NonterminalString}
-use Rattle.lalrpop_base.specs.declared.repr.Production.{Production}
-use Rattle.lalrpop_base.specs.declared.repr.Symbol.{Symbol}
-use Rattle.lalrpop_base.specs.declared.repr.TerminalString.{TerminalString}
-use Rattle.lalrpop_base.specs.declared.repr.grammar.Grammar.{Grammar}
 use Rattle.lalrpop_base.proofs.theory.sets.HeldTokens.{place_there}
 use Rattle.lalrpop_base.specs.closures.Closure.{dotted_of}
 use Rattle.lalrpop_base.specs.Words.{AreOwn, InKernel, HasItemToken}

@@ -1,17 +1,10 @@
 -- What the construction says with sets of tokens, where Eof follows the start symbol: the tables of the canonical method, or the canonical conflicts.
 use Rattle.std.proofs.Common.{◌≡◌, ◌∙◌, ℕ, List, true}
-use Rattle.lalrpop_base.specs.Words.{Bits, AllDiffer, rules_of, IsWellFormed}
-use Rattle.lalrpop_base.specs.declared.lr1_core.state.BuildError.{BuildError}
+use Rattle.lalrpop_base.specs.Words.{Bits, AllDiffer, rules_of, IsWellFormed, AreCanonicalStates, tokens_of, AreOwn, Begins, AreAllConflicts, IsClosureOf}
+use Rattle.lalrpop_tables.proofs.Types.{BuildError, Conflict, Grammar, NonterminalString, State}
 use Rattle.lalrpop_base.specs.declared.lr1_core.state.BuildError.TheVariants.{Conflicts, Memory}
-use Rattle.lalrpop_base.specs.declared.lr1_core.state.Conflict.{Conflict}
-use Rattle.lalrpop_base.specs.declared.lr1_core.state.State.{State}
-use Rattle.lalrpop_base.specs.declared.repr.NonterminalString.{NonterminalString}
-use Rattle.lalrpop_base.specs.declared.repr.grammar.Grammar.{Grammar}
 use Rattle.lalrpop_base.specs.closures.Closure.{itself}
-use Rattle.lalrpop_base.specs.Words.{AreCanonicalStates, tokens_of, AreOwn, Begins}
-use Rattle.lalrpop_tables.specs.Words.{StopsFor, AreBuiltTablesOf, FailsOn, AreTables, AreTablesFor}
-use Rattle.lalrpop_base.specs.Words.{AreAllConflicts, IsClosureOf}
-use Rattle.lalrpop_tables.specs.Words.{AreStatesOf, FailsBy, LacksTables, canonical_of}
+use Rattle.lalrpop_tables.specs.Words.{StopsFor, AreBuiltTablesOf, FailsOn, AreTables, AreTablesFor, AreStatesOf, FailsBy, LacksTables, canonical_of}
 use Rattle.lalrpop_tables.specs.declared.build.options.Method.TheVariants.{Canonical}
 use Rattle.lalrpop_tables.proofs.theory.canonical.CanonicalConflicts.{canonical_failure}
 use Rattle.lalrpop_tables.proofs.theory.canonical.CanonicalContents.{are_canonical}

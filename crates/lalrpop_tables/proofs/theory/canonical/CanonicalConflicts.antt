@@ -15,22 +15,13 @@ use Rattle.lalrpop_base.specs.Words.{FitsTokens, Rules, rules_of, productions, I
 use Rattle.lalrpop_base.specs.contracts.exact.ProductionExact.TheImpl as production_exactly
 use Rattle.lalrpop_base.specs.contracts.repr.ProductionOrd.TheImpl as production_ord
 use Rattle.lalrpop_base.specs.contracts.repr.ProductionPartialEq.TheImpl as production_eq
-use Rattle.lalrpop_base.specs.declared.lookahead.token.Token.{Token}
+use Rattle.lalrpop_tables.proofs.Types.{Conflict, Grammar, NonterminalString, Production, State, StateIndex, Symbol, TerminalString, Token}
 use Rattle.lalrpop_base.specs.declared.lr1_core.state.Action.TheVariants.{Shift}
-use Rattle.lalrpop_base.specs.declared.lr1_core.state.Conflict.{Conflict}
-use Rattle.lalrpop_base.specs.declared.lr1_core.state.State.{State}
-use Rattle.lalrpop_base.specs.declared.lr1_core.state.StateIndex.{StateIndex}
-use Rattle.lalrpop_base.specs.declared.repr.NonterminalString.{NonterminalString}
-use Rattle.lalrpop_base.specs.declared.repr.Production.{Production}
-use Rattle.lalrpop_base.specs.declared.repr.Symbol.{Symbol}
 use Rattle.lalrpop_base.specs.declared.repr.Symbol.TheVariants.{Terminal}
-use Rattle.lalrpop_base.specs.declared.repr.TerminalString.{TerminalString}
-use Rattle.lalrpop_base.specs.declared.repr.grammar.Grammar.{Grammar}
 use Rattle.lalrpop_base.proofs.theory.states.ContentsViews.{contains_at}
 use Rattle.lalrpop_base.proofs.theory.conflicts.Conflicts.{state_conflicts as canonical_conflicts, empty_list}
 use Rattle.lalrpop_base.specs.Words.{listed_of, AreCanonicalConflictsOf, FailByCanonicalConflicts, AreItems, conflicts_of, AreAllConflicts}
-use Rattle.lalrpop_tables.specs.Words.{AreStatesOf}
-use Rattle.lalrpop_tables.specs.Words.{canonical_of, reductions_of, seen}
+use Rattle.lalrpop_tables.specs.Words.{AreStatesOf, canonical_of, reductions_of, seen}
 use Rattle.lalrpop_base.proofs.theory.closures.Closing.{split_drop}
 use Rattle.lalrpop_base.proofs.theory.grammars.Grammars.{known_symbols}
 use Rattle.lalrpop_base.proofs.theory.conflicts.ListedConflicts.{CodeReduction, keys_shifted, conflicts_are_listed}

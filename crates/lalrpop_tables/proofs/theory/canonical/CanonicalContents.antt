@@ -3,19 +3,11 @@ use Rattle.std.proofs.Common.{◌≡◌, ◌↔◌, ℕ, suc, Bool, true, List, 
 use Rattle.std.specs.Prelude.{Contains, slice_get}
 use Rattle.lalrpop_base.specs.Words.{Bits, InClosure, InTokenClosure, IsAtStart, IsAtStartWith, IsMoved, IsMovedWith, items_of, TokenKernelsDiffer}
 use Rattle.lalrpop_base.specs.Words.{ReducesInOrder, contents, contents_at, no_contents, holds_token, Dotted, AllDiffer, Contents, leads, LeadsOverDots}
-use Rattle.lalrpop_base.specs.Words.{ReducesFinished, productions, rules_of, IsWellFormed}
+use Rattle.lalrpop_base.specs.Words.{ReducesFinished, productions, rules_of, IsWellFormed, production_order, tokens_of, AreCanonicalStates, AreOwn, HasItemToken, IsClosureOf}
 use Rattle.lalrpop_base.specs.states.States.{Reduction}
-use Rattle.lalrpop_base.specs.declared.lookahead.token.Token.{Token}
-use Rattle.lalrpop_base.specs.declared.lr1_core.state.State.{State}
-use Rattle.lalrpop_base.specs.declared.repr.NonterminalString.{NonterminalString}
-use Rattle.lalrpop_base.specs.declared.repr.Production.{Production}
-use Rattle.lalrpop_base.specs.declared.repr.Symbol.{Symbol}
-use Rattle.lalrpop_base.specs.declared.repr.grammar.Grammar.{Grammar}
-use Rattle.lalrpop_base.specs.closures.Closure.{dotted_of}
-use Rattle.lalrpop_base.specs.closures.Closure.{itself}
-use Rattle.lalrpop_base.specs.Words.{production_order, tokens_of, AreCanonicalStates, AreOwn, HasItemToken, IsClosureOf}
-use Rattle.lalrpop_tables.specs.Words.{AreStatesOf}
-use Rattle.lalrpop_tables.specs.Words.{canonical_of}
+use Rattle.lalrpop_tables.proofs.Types.{Grammar, NonterminalString, Production, State, Symbol, Token}
+use Rattle.lalrpop_base.specs.closures.Closure.{dotted_of, itself}
+use Rattle.lalrpop_tables.specs.Words.{AreStatesOf, canonical_of}
 use Rattle.lalrpop_base.specs.states.Canonical.{tokens_at}
 use Rattle.lalrpop_tables.proofs.theory.canonical.Canonical.{InTokenClosure-more}
 use Rattle.lalrpop_tables.proofs.theory.canonical.CanonicalStates.{IsTarget, target_of, target_items, target_tokens, first_items, first_tokens}

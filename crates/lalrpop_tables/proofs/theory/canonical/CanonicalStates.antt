@@ -8,20 +8,13 @@ use Rattle.std.proofs.lemmas.Map.Lookups.{CmpEqualImpliesEq}
 use Rattle.std.proofs.lemmas.Map.Views.{IfSome-get}
 use Rattle.std.proofs.lemmas.Option.{slice_get_within}
 use Rattle.lalrpop_base.specs.Words.{Bits, no_bits, with_bit, InClosure, InTokenClosure, IsAtStart, IsAtStartWith, IsMoved, IsMovedWith, number_of, contents_of}
-use Rattle.lalrpop_base.specs.Words.{holds_token, Dotted, leads, productions, productions_of, rules_of, IsWellFormed}
+use Rattle.lalrpop_base.specs.Words.{holds_token, Dotted, leads, productions, productions_of, rules_of, IsWellFormed, AreOwn, InKernel, HasItemToken, IsClosureOf}
 use Rattle.lalrpop_base.specs.contracts.repr.TerminalStringOrd.TheImpl as terminal_ord
 use Rattle.lalrpop_base.specs.contracts.repr.NonterminalStringOrd.TheImpl as name_ord
-use Rattle.lalrpop_base.specs.declared.lookahead.token.Token.{Token}
-use Rattle.lalrpop_base.specs.declared.lr1_core.state.State.{State}
-use Rattle.lalrpop_base.specs.declared.lr1_core.state.StateIndex.{StateIndex}
-use Rattle.lalrpop_base.specs.declared.repr.NonterminalString.{NonterminalString}
-use Rattle.lalrpop_base.specs.declared.repr.Production.{Production}
-use Rattle.lalrpop_base.specs.declared.repr.Symbol.{Symbol}
+use Rattle.lalrpop_tables.proofs.Types.{Grammar, NonterminalString, Production, State, StateIndex, Symbol, Token}
 use Rattle.lalrpop_base.specs.declared.repr.Symbol.TheVariants.{Nonterminal, Terminal}
-use Rattle.lalrpop_base.specs.declared.repr.grammar.Grammar.{Grammar}
 use Rattle.lalrpop_base.proofs.theory.states.ContentsViews.{some_of_map, terminals_ordered, names_ordered}
 use Rattle.lalrpop_base.specs.closures.Closure.{dotted_of}
-use Rattle.lalrpop_base.specs.Words.{AreOwn, InKernel, HasItemToken, IsClosureOf}
 use Rattle.lalrpop_tables.specs.Words.{AreStatesOf, canonical_of, begun, HasTransition, Shifts}
 use Rattle.lalrpop_tables.proofs.theory.canonical.Canonical.{InClosure-more, InTokenClosure-more, start_items, start_tokens, moved_items, moved_tokens}
 use Rattle.lalrpop_base.proofs.theory.lists.Places.{same_some, filled}

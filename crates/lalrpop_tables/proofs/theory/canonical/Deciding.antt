@@ -3,13 +3,10 @@ use Rattle.std.proofs.Common.{◌≡◌, ℕ, true, List, refl, arith, Option, S
 use Rattle.std.specs.Prelude.{slice_get}
 use Rattle.lalrpop_base.specs.Words.{Bits, contents, contents_at, holds_token, Dotted, AllDiffer, Contents, AreFaithful, productions, rules_of, IsWellFormed}
 use Rattle.lalrpop_base.specs.conflicts.Conflicts.{HasNoConflict as HoldsNoConflict}
-use Rattle.lalrpop_base.specs.declared.lr1_core.state.State.{State}
-use Rattle.lalrpop_base.specs.declared.repr.NonterminalString.{NonterminalString}
-use Rattle.lalrpop_base.specs.declared.repr.grammar.Grammar.{Grammar}
+use Rattle.lalrpop_tables.proofs.Types.{Grammar, NonterminalString, State}
 use Rattle.lalrpop_base.proofs.theory.closures.Canonical.{no_conflict_faithful}
 use Rattle.lalrpop_base.specs.Words.{tokens_of, AreCanonicalStates, AreOwn, IsClosureOf, HaveNoConflict}
-use Rattle.lalrpop_tables.specs.Words.{ArePartlyBuiltBy, AreSomeCanonicalStates}
-use Rattle.lalrpop_tables.specs.Words.{AreStatesOf, AreTables, canonical_of, AreBuiltBy}
+use Rattle.lalrpop_tables.specs.Words.{ArePartlyBuiltBy, AreSomeCanonicalStates, AreStatesOf, AreTables, canonical_of, AreBuiltBy}
 use Rattle.lalrpop_tables.proofs.theory.canonical.CanonicalContents.{are_canonical}
 use Rattle.lalrpop_tables.proofs.theory.conflicts.ConflictFree.{nowhere_conflict, free_contents}
 use Rattle.lalrpop_tables.proofs.theory.early_stop.StoppedStates.{first_kernel, some_canonical_states}

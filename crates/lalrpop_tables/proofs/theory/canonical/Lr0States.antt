@@ -2,23 +2,13 @@
 use Rattle.std.proofs.Common.{◌≡◌, ◌↔◌, ℕ, suc, List, map, sym, ◌∙◌, ap, subst}
 use Rattle.std.specs.Prelude.{Contains}
 use Rattle.lalrpop_base.specs.Words.{Bits, no_bits, Dotted, nil_conflicts, Rules, rules_of, productions, productions_of, IsWellFormed}
-use Rattle.lalrpop_base.specs.declared.lookahead.nil.Nil.{Nil}
-use Rattle.lalrpop_base.specs.declared.lookahead.token.Token.{Token}
-use Rattle.lalrpop_base.specs.declared.lr1_core.state.BuildError.{BuildError}
+use Rattle.lalrpop_tables.proofs.Types.{BuildError, Conflict, Grammar, Nil, NonterminalString, Production, State, Symbol, TerminalString, Token}
 use Rattle.lalrpop_base.specs.declared.lr1_core.state.BuildError.TheVariants.{Conflicts, Memory}
-use Rattle.lalrpop_base.specs.declared.lr1_core.state.Conflict.{Conflict}
-use Rattle.lalrpop_base.specs.declared.lr1_core.state.State.{State}
-use Rattle.lalrpop_base.specs.declared.repr.NonterminalString.{NonterminalString}
-use Rattle.lalrpop_base.specs.declared.repr.Production.{Production}
-use Rattle.lalrpop_base.specs.declared.repr.Symbol.{Symbol}
-use Rattle.lalrpop_base.specs.declared.repr.TerminalString.{TerminalString}
-use Rattle.lalrpop_base.specs.declared.repr.grammar.Grammar.{Grammar}
 use Rattle.lalrpop_base.proofs.theory.lists.Ascending.{ascending_same}
 use Rattle.lalrpop_base.proofs.theory.closures.Closures.{reached_live}
 use Rattle.lalrpop_base.proofs.theory.states.Lr0.{closed_lr0}
 use Rattle.lalrpop_base.specs.closures.Closure.{dotted_of}
-use Rattle.lalrpop_base.specs.Words.{Precedes, Ascend, AreOwn, InKernel, IsClosureBy, on_any, AreLr0States, HasLr0States, HaveNoNilConflict}
-use Rattle.lalrpop_base.specs.Words.{ListsNilConflicts}
+use Rattle.lalrpop_base.specs.Words.{Precedes, Ascend, AreOwn, InKernel, IsClosureBy, on_any, AreLr0States, HasLr0States, HaveNoNilConflict, ListsNilConflicts}
 use Rattle.lalrpop_tables.specs.Words.{StopsFor, Construction, Settings, AreStatesFor, AreTablesFor, FailsFor, begun, Shifts}
 use Rattle.lalrpop_base.proofs.theory.grammars.AscendingItems.{precedes_asymmetric}
 use Rattle.lalrpop_tables.proofs.theory.canonical.Canonical.{start_items}

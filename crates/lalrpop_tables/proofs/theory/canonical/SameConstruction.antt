@@ -3,17 +3,10 @@ use Rattle.std.proofs.Common.{◌≡◌, ℕ, List, sym, subst, Some}
 use Rattle.lalrpop_base.specs.Words.{Bits, AreCanonicalConflicts, contents, AreFaithful, state_after, IsLR1}
 use Rattle.lalrpop_base.specs.contracts.repr.ProductionOrd.TheImpl as production_ord
 use Rattle.lalrpop_base.specs.contracts.repr.TerminalStringOrd.TheImpl as terminal_ord
-use Rattle.lalrpop_base.specs.declared.lr1_core.state.BuildError.{BuildError}
+use Rattle.lalrpop_tables.proofs.Types.{BuildError, Conflict, Grammar, NonterminalString, State}
 use Rattle.lalrpop_base.specs.declared.lr1_core.state.BuildError.TheVariants.{Conflicts, Memory}
-use Rattle.lalrpop_base.specs.declared.lr1_core.state.Conflict.{Conflict}
-use Rattle.lalrpop_base.specs.declared.lr1_core.state.State.{State}
-use Rattle.lalrpop_base.specs.declared.repr.NonterminalString.{NonterminalString}
-use Rattle.lalrpop_base.specs.declared.repr.grammar.Grammar.{Grammar}
-use Rattle.lalrpop_base.specs.Words.{AreCanonicalStates, AreOrderedCanonical, FitReductions, FailByCanonicalConflicts, ShiftsLead, listed_of}
-use Rattle.lalrpop_base.specs.Words.{conflicts_of}
-use Rattle.lalrpop_tables.specs.Words.{AreSomeCanonicalStates, StopsAfter, AreBuiltTablesOf, FailsOn, Construction, AreStatesOf, AreTables}
-use Rattle.lalrpop_base.specs.Words.{AreAllConflicts}
-use Rattle.lalrpop_tables.specs.Words.{canonical_of}
+use Rattle.lalrpop_base.specs.Words.{AreCanonicalStates, AreOrderedCanonical, FitReductions, FailByCanonicalConflicts, ShiftsLead, listed_of, conflicts_of, AreAllConflicts}
+use Rattle.lalrpop_tables.specs.Words.{AreSomeCanonicalStates, StopsAfter, AreBuiltTablesOf, FailsOn, Construction, AreStatesOf, AreTables, canonical_of}
 use Rattle.lalrpop_tables.specs.declared.build.options.Method.TheVariants.{Canonical}
 
 module _ (g h : Grammar) (start other : NonterminalString) (same : canonical_of g start ≡ canonical_of h other) where

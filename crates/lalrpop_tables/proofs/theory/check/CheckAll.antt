@@ -2,13 +2,9 @@
 use Rattle.std.proofs.Common.{◌↔◌, ◌<◌, ℕ, List, length}
 use Rattle.std.specs.Prelude.{Contains}
 use Rattle.std.specs.BTreeSet.{BTreeSet}
-use Rattle.lalrpop_base.specs.Words.{Bits, AreChecked, AreCoherent, contents, Dotted, AreFaithful, productions}
-use Rattle.lalrpop_base.specs.declared.lookahead.nil.Nil.{Nil}
-use Rattle.lalrpop_base.specs.declared.lr1_core.state.State.{State}
-use Rattle.lalrpop_base.specs.declared.repr.NonterminalString.{NonterminalString}
-use Rattle.lalrpop_base.specs.declared.repr.grammar.Grammar.{Grammar}
+use Rattle.lalrpop_base.specs.Words.{Bits, AreChecked, AreCoherent, contents, Dotted, AreFaithful, productions, IsTarget, AreRightStates}
+use Rattle.lalrpop_tables.proofs.Types.{Grammar, Nil, NonterminalString, State}
 use Rattle.lalrpop_base.proofs.theory.closures.Closures.{checked_faithful}
-use Rattle.lalrpop_base.specs.Words.{IsTarget, AreRightStates}
 use Rattle.lalrpop_tables.specs.Words.{HoldCarried, PassCheck}
 use Rattle.lalrpop_base.specs.states.CheckStates.{AreListed}
 use Rattle.lalrpop_tables.proofs.theory.check.CheckTables.{Right-closed, Right-reductions, Right-free, Closed-right, free_states}

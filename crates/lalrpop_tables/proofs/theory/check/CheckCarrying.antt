@@ -8,19 +8,13 @@ use Rattle.std.proofs.lemmas.List.Sums.{sum_by-cons}
 use Rattle.lalrpop_base.specs.Words.{Bits, has, no_bits, with_bit, has-with_bit, InClosure, in_kernel, expanded, IsAtStart, IsMoved, items_of, AreClosed}
 use Rattle.lalrpop_base.specs.Words.{IsReached, at_zero, IsCarried, eof_at_start, over, first_of_rest, through_rest, contents, contents_at, holds_token}
 use Rattle.lalrpop_base.specs.Words.{IsFirstSetBefore, IsNullable, AllDiffer, Contents, leads, FitsTokens, Rules, IsWellFormed, productions, productions_of}
-use Rattle.lalrpop_base.specs.Words.{rules_of, HasKnownTerminals}
+use Rattle.lalrpop_base.specs.Words.{rules_of, HasKnownTerminals, AreOwn, Begins, count, IsFound, burden, AllBelow, IsBelow}
 use Rattle.lalrpop_base.specs.closures.Closures.{over_edge}
-use Rattle.lalrpop_base.specs.declared.lookahead.token.Token.{Token}
+use Rattle.lalrpop_tables.proofs.Types.{Grammar, NonterminalString, Production, State, Symbol, Token}
 use Rattle.lalrpop_base.specs.declared.lookahead.token.Token.TheVariants.{Eof, Error, Terminal as TokenOf}
-use Rattle.lalrpop_base.specs.declared.lr1_core.state.State.{State}
-use Rattle.lalrpop_base.specs.declared.repr.NonterminalString.{NonterminalString}
-use Rattle.lalrpop_base.specs.declared.repr.Production.{Production}
-use Rattle.lalrpop_base.specs.declared.repr.Symbol.{Symbol}
 use Rattle.lalrpop_base.specs.declared.repr.Symbol.TheVariants.{Nonterminal, Terminal}
-use Rattle.lalrpop_base.specs.declared.repr.grammar.Grammar.{Grammar}
 use Rattle.lalrpop_base.proofs.theory.sets.HeldTokens.{place_there}
 use Rattle.lalrpop_base.specs.states.CheckStates.{dots}
-use Rattle.lalrpop_base.specs.Words.{AreOwn, Begins, count, IsFound, burden, AllBelow, IsBelow}
 use Rattle.lalrpop_tables.specs.Words.{Carried, at_place, target_from, target_in, Sends, IsBegunAt}
 use Rattle.lalrpop_tables.specs.Words.{IsOver, IsInto, Gives, IsCarriedTo, AreCarriedTo, HasBegun, HasStarted, AreCarried, begun}
 use Rattle.lalrpop_tables.specs.check.CheckCarrying.{IsSettled}

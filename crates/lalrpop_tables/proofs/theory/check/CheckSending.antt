@@ -4,17 +4,11 @@ use Rattle.std.specs.Prelude.{Contains, MatchBool, IsTrue, slice_get}
 use Rattle.std.proofs.lemmas.List.Elements.{Contains-append_left, Contains-append_right, Contains-append_cases}
 use Rattle.std.proofs.lemmas.Bool.{false≢true}
 use Rattle.std.proofs.lemmas.Option.{slice_get_within}
-use Rattle.lalrpop_base.specs.Words.{Bits, has, join, same_bits, IsFirstSetBefore, FitsTokens, productions_of, rules_of}
-use Rattle.lalrpop_base.specs.declared.lr1_core.state.State.{State}
-use Rattle.lalrpop_base.specs.declared.repr.NonterminalString.{NonterminalString}
-use Rattle.lalrpop_base.specs.declared.repr.Symbol.{Symbol}
+use Rattle.lalrpop_base.specs.Words.{Bits, has, join, same_bits, IsFirstSetBefore, FitsTokens, productions_of, rules_of, AllBelow, IsBelow}
+use Rattle.lalrpop_tables.proofs.Types.{Grammar, NonterminalString, Production, State, Symbol}
 use Rattle.lalrpop_base.specs.declared.repr.Symbol.TheVariants.{Nonterminal}
-use Rattle.lalrpop_base.specs.declared.repr.grammar.Grammar.{Grammar}
-use Rattle.lalrpop_base.specs.declared.repr.Production.{Production}
 use Rattle.lalrpop_base.specs.lists.Entries.{IsQueued}
-use Rattle.lalrpop_base.specs.Words.{AllBelow, IsBelow}
-use Rattle.lalrpop_tables.specs.Words.{Carried, Sends, IsBegunAt, IsOver, IsInto, Gives, at_place}
-use Rattle.lalrpop_tables.specs.Words.{target_in}
+use Rattle.lalrpop_tables.specs.Words.{Carried, Sends, IsBegunAt, IsOver, IsInto, Gives, at_place, target_in}
 use Rattle.lalrpop_tables.specs.declared.place.Place.{Place}
 use Rattle.lalrpop_base.proofs.theory.lists.Growth.{Adds-one, Adds-none, Adds-then, Adds-same, queued_weighed, known_kept, queued_among}
 use Rattle.lalrpop_base.proofs.theory.lists.Members.{Contains-none, contains_head, contains-cons}

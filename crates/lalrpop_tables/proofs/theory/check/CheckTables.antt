@@ -6,28 +6,17 @@ use Rattle.std.specs.BTreeSet.{BTreeSet}
 use Rattle.std.proofs.lemmas.Option.{slice_get_within, slice_get-map}
 use Rattle.lalrpop_base.specs.Words.{Bits, has, InClosure, in_kernel, expanded, IsMoved, items_of, AreClosed, AreCoherent, contents, contents_at, contents_of}
 use Rattle.lalrpop_base.specs.Words.{no_contents, reduction_of, holds_token, Dotted, AllDiffer, Contents, leads, IsBehindDot, LeadsOverDots, HasNoRepeat}
-use Rattle.lalrpop_base.specs.Words.{ReducesFinished, productions}
+use Rattle.lalrpop_base.specs.Words.{ReducesFinished, productions, HaveNoConflict, IsMovedIn, lr0, IsTarget, IsRightItem, IsRightTarget, IsRightState, AreRightStates}
 use Rattle.lalrpop_base.specs.conflicts.Conflicts.{HasNoConflict as HoldsNoConflict}
 use Rattle.lalrpop_base.specs.conflicts.StateConflicts.{HasNoConflict}
 use Rattle.lalrpop_base.specs.states.States.{Reduction}
-use Rattle.lalrpop_base.specs.declared.lookahead.nil.Nil.{Nil}
-use Rattle.lalrpop_base.specs.declared.lookahead.token.Token.{Token}
+use Rattle.lalrpop_tables.proofs.Types.{Grammar, Nil, NonterminalString, Production, State, Symbol, TerminalString, Token}
 use Rattle.lalrpop_base.specs.declared.lookahead.token.Token.TheVariants.{Terminal as TokenOf}
-use Rattle.lalrpop_base.specs.declared.lr1_core.state.State.{State}
-use Rattle.lalrpop_base.specs.declared.repr.NonterminalString.{NonterminalString}
-use Rattle.lalrpop_base.specs.declared.repr.Production.{Production}
-use Rattle.lalrpop_base.specs.declared.repr.Symbol.{Symbol}
 use Rattle.lalrpop_base.specs.declared.repr.Symbol.TheVariants.{Terminal}
-use Rattle.lalrpop_base.specs.declared.repr.TerminalString.{TerminalString}
-use Rattle.lalrpop_base.specs.declared.repr.grammar.Grammar.{Grammar}
 use Rattle.lalrpop_base.proofs.theory.states.ContentsViews.{LeadAsItemsSay, lead_as_items_say, some_of_map, contains_of_map}
 use Rattle.lalrpop_base.specs.closures.Closure.{dotted_of}
-use Rattle.lalrpop_base.specs.states.CheckStates.{dots}
-use Rattle.lalrpop_base.specs.states.CheckStates.{reduced}
-use Rattle.lalrpop_base.specs.Words.{HaveNoConflict, IsMovedIn, lr0, IsTarget, IsRightItem, IsRightTarget, IsRightState}
-use Rattle.lalrpop_base.specs.Words.{AreRightStates}
+use Rattle.lalrpop_base.specs.states.CheckStates.{dots, reduced, target_of, AreListed}
 use Rattle.lalrpop_tables.specs.Words.{target_from}
-use Rattle.lalrpop_base.specs.states.CheckStates.{target_of, AreListed}
 use Rattle.lalrpop_tables.proofs.theory.canonical.Canonical.{InClosure-more}
 use Rattle.lalrpop_tables.proofs.theory.canonical.CanonicalStates.{leads_transition}
 use Rattle.lalrpop_tables.proofs.theory.check.CheckCarrying.{leads_in}

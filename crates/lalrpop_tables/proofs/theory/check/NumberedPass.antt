@@ -2,9 +2,7 @@
 use Rattle.std.proofs.Common.{ℕ, ◌<◌, List, length, map, Some}
 use Rattle.std.specs.Prelude.{◌≡◌, slice_get, Contains}
 use Rattle.lalrpop_base.specs.Words.{AllDiffer, AreClosed, AreCoherent, Bits, HaveNoConflict, IsTarget, IsWellFormed, contents, productions, rules_of}
-use Rattle.lalrpop_base.specs.declared.lr1_core.state.State.{State}
-use Rattle.lalrpop_base.specs.declared.repr.NonterminalString.{NonterminalString}
-use Rattle.lalrpop_base.specs.declared.repr.grammar.Grammar.{Grammar}
+use Rattle.lalrpop_tables.proofs.Types.{Grammar, NonterminalString, State}
 use Rattle.lalrpop_tables.specs.check.ByNumber.{AllLeadOn, AreListedByNumber, AreReachedByNumber, HoldUnions}
 use Rattle.lalrpop_tables.specs.check.Check.{PassCheck}
 use Rattle.lalrpop_tables.specs.follow_sets.FollowWalks.{FindsLookaheads}

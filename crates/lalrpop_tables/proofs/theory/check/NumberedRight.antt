@@ -12,14 +12,8 @@ use Rattle.lalrpop_base.specs.closures.Closures.{over_edge}
 use Rattle.lalrpop_base.specs.closures.Closure.{dotted_of}
 use Rattle.lalrpop_base.specs.closures.CheckClosing.{AreClosure}
 use Rattle.lalrpop_base.specs.states.CheckStates.{AreListed, IsListed, dots, reduced, target_of}
-use Rattle.lalrpop_base.specs.declared.lookahead.nil.Nil.{Nil}
-use Rattle.lalrpop_base.specs.declared.lookahead.token.Token.{Token}
-use Rattle.lalrpop_base.specs.declared.lr1_core.state.State.{State}
-use Rattle.lalrpop_base.specs.declared.repr.NonterminalString.{NonterminalString}
-use Rattle.lalrpop_base.specs.declared.repr.Production.{Production}
-use Rattle.lalrpop_base.specs.declared.repr.Symbol.{Symbol}
+use Rattle.lalrpop_tables.proofs.Types.{Grammar, Nil, NonterminalString, Production, State, Symbol, Token}
 use Rattle.lalrpop_base.specs.declared.repr.Symbol.TheVariants.{Nonterminal, Terminal}
-use Rattle.lalrpop_base.specs.declared.repr.grammar.Grammar.{Grammar}
 use Rattle.lalrpop_base.proofs.theory.lists.Members.{Contains-none, contains-cons, contains_head, contains_map, contains_tail, place}
 use Rattle.lalrpop_base.proofs.theory.lists.Places.{contains_at, filled, one_place, same_some}
 use Rattle.lalrpop_base.proofs.theory.states.ContentsViews.{contains_of_map, lead_as_items_say, some_of_map}

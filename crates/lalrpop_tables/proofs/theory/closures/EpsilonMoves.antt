@@ -3,17 +3,11 @@ use Rattle.std.proofs.Common.{◌≡◌, ◌↔◌, ℕ, ◌+◌, ◌⊎◌, inl
 use Rattle.std.specs.Prelude.{Contains}
 use Rattle.std.proofs.lemmas.Bool.{false≢true}
 use Rattle.lalrpop_base.specs.Words.{Bits, has, no_bits, has-no_bits, holds_token, IsFirstSetBefore, IsNullable, Dotted, Rules, rules_of, IsWellFormed}
-use Rattle.lalrpop_base.specs.Words.{productions_of, HasKnownTerminals}
-use Rattle.lalrpop_base.specs.declared.lookahead.token.Token.{Token}
+use Rattle.lalrpop_base.specs.Words.{productions_of, HasKnownTerminals, AreOwn, Begins, IsBegunWith, AreBegunWith}
+use Rattle.lalrpop_tables.proofs.Types.{Grammar, NonterminalString, Production, Symbol, TerminalString, Token}
 use Rattle.lalrpop_base.specs.declared.lookahead.token.Token.TheVariants.{Eof, Error, Terminal as TokenOf}
-use Rattle.lalrpop_base.specs.declared.repr.NonterminalString.{NonterminalString}
-use Rattle.lalrpop_base.specs.declared.repr.Production.{Production}
-use Rattle.lalrpop_base.specs.declared.repr.Symbol.{Symbol}
-use Rattle.lalrpop_base.specs.declared.repr.TerminalString.{TerminalString}
-use Rattle.lalrpop_base.specs.declared.repr.grammar.Grammar.{Grammar}
 use Rattle.lalrpop_base.proofs.theory.sets.HeldTokens.{place_there}
 use Rattle.lalrpop_base.specs.closures.Closure.{dotted_of}
-use Rattle.lalrpop_base.specs.Words.{AreOwn, Begins, IsBegunWith, AreBegunWith}
 use Rattle.lalrpop_tables.specs.Words.{begun}
 use Rattle.lalrpop_base.proofs.theory.grammars.Grammars.{productions_among, productions_named}
 use Rattle.lalrpop_base.proofs.theory.grammars.KnownTerminals.{token_bit, held_bit, bit_held, begun_bit}

@@ -5,12 +5,8 @@ use Rattle.std.proofs.lemmas.List.{map-append, take_more}
 use Rattle.std.proofs.lemmas.Option.{slice_get-map, slice_get_within}
 use Rattle.std.specs.Map.{keys_of}
 use Rattle.lalrpop_base.specs.Words.{AllDiffer, Bits, Dotted, has, join, HasKnownTerminals, IsWellFormed, Rules, holds_token, rules_of}
-use Rattle.lalrpop_base.specs.declared.lookahead.nil.Nil.{Nil}
-use Rattle.lalrpop_base.specs.declared.lookahead.token.Token.{Token}
-use Rattle.lalrpop_base.specs.declared.repr.NonterminalString.{NonterminalString}
-use Rattle.lalrpop_base.specs.declared.repr.Symbol.{Symbol}
+use Rattle.lalrpop_tables.proofs.Types.{Grammar, Nil, NonterminalString, Symbol, Token}
 use Rattle.lalrpop_base.specs.declared.repr.Symbol.TheVariants.{Nonterminal}
-use Rattle.lalrpop_base.specs.declared.repr.grammar.Grammar.{Grammar}
 use Rattle.lalrpop_base.specs.closures.EpsilonMoves.{HasNoProduction, IsGiven}
 use Rattle.lalrpop_tables.specs.grammars.Numbers.{AreExpansions, AreNumbered, AreNumbers, dotted_at, item_by, items_by}
 use Rattle.lalrpop_tables.specs.grammars.Rests.{IsRest}

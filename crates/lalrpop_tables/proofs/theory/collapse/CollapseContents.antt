@@ -9,14 +9,8 @@ use Rattle.lalrpop_base.specs.Words.{Bits, has, IsReached, at_zero, items_of, Ho
 use Rattle.lalrpop_base.specs.Words.{contents_at, holds_token, reduction_of, Contents, leads, HasNoRepeat, ReducesFinished}
 use Rattle.lalrpop_base.specs.closures.Closures.{over_edge}
 use Rattle.lalrpop_base.specs.states.States.{Reduction}
-use Rattle.lalrpop_base.specs.declared.lookahead.token.Token.{Token}
-use Rattle.lalrpop_base.specs.declared.lr1_core.state.State.{State}
-use Rattle.lalrpop_base.specs.declared.lr1_core.state.StateIndex.{StateIndex}
-use Rattle.lalrpop_base.specs.declared.repr.NonterminalString.{NonterminalString}
-use Rattle.lalrpop_base.specs.declared.repr.Production.{Production}
-use Rattle.lalrpop_base.specs.declared.repr.Symbol.{Symbol}
+use Rattle.lalrpop_tables.proofs.Types.{Grammar, NonterminalString, Production, State, StateIndex, Symbol, Token}
 use Rattle.lalrpop_base.specs.declared.repr.Symbol.TheVariants.{Nonterminal, Terminal}
-use Rattle.lalrpop_base.specs.declared.repr.grammar.Grammar.{Grammar}
 use Rattle.lalrpop_base.proofs.theory.states.ContentsViews.{some_of_map, contains_of_map, contains_map, lead_as_items_say}
 use Rattle.lalrpop_base.specs.Words.{production_order, AreOrderedCanonical, dots_in, ReducesBy, IsCollapsed, retargeted}
 use Rattle.lalrpop_base.proofs.theory.grammars.AscendingItems.{less_apart}

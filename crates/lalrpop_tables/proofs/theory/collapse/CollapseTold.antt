@@ -3,13 +3,9 @@ use Rattle.std.proofs.Common.{[], sym, subst, ◌≡◌, ◌<◌, List, length}
 use Rattle.std.specs.Prelude.{MatchResult, IfOk, IfErr}
 use Rattle.std.specs.declared.result.Result.{Result}
 use Rattle.std.specs.declared.result.Result.TheVariants.{Ok, Err}
-use Rattle.lalrpop_base.specs.Words.{Bits, AreCoherent}
-use Rattle.lalrpop_base.specs.declared.lr1_core.state.BuildError.{BuildError}
+use Rattle.lalrpop_base.specs.Words.{Bits, AreCoherent, AreOrdered, AreCollapsedTables, FailsByCollapse, FailWith}
+use Rattle.lalrpop_tables.proofs.Types.{BuildError, Conflict, State, TerminalString}
 use Rattle.lalrpop_base.specs.declared.lr1_core.state.BuildError.TheVariants.{Conflicts, Memory}
-use Rattle.lalrpop_base.specs.declared.lr1_core.state.Conflict.{Conflict}
-use Rattle.lalrpop_base.specs.declared.lr1_core.state.State.{State}
-use Rattle.lalrpop_base.specs.declared.repr.TerminalString.{TerminalString}
-use Rattle.lalrpop_base.specs.Words.{AreOrdered, AreCollapsedTables, FailsByCollapse, FailWith}
 use Rattle.lalrpop_tables.specs.Words.{HasCoherentStates, HasOrderedStates}
 use Rattle.lalrpop_base.proofs.theory.collapse.CollapseCoherent.{Collapsed-coherent}
 use Rattle.lalrpop_base.proofs.theory.collapse.CollapseDots.{Collapsed-some}

@@ -8,14 +8,8 @@ use Rattle.std.proofs.lemmas.Option.{slice_get_within}
 use Rattle.lalrpop_base.specs.Words.{Bits, dots, AreCollapsible, state_conflicts, name_cmp}
 use Rattle.lalrpop_base.specs.conflicts.StateConflicts.{HasNoConflict}
 use Rattle.lalrpop_base.specs.contracts.repr.TerminalStringOrd.TheImpl as terminal_ord
-use Rattle.lalrpop_base.specs.declared.lr1_core.state.BuildError.{BuildError}
+use Rattle.lalrpop_tables.proofs.Types.{BuildError, Conflict, NonterminalString, Production, State, StateIndex, TerminalString}
 use Rattle.lalrpop_base.specs.declared.lr1_core.state.BuildError.TheVariants.{Conflicts, Memory}
-use Rattle.lalrpop_base.specs.declared.lr1_core.state.Conflict.{Conflict}
-use Rattle.lalrpop_base.specs.declared.lr1_core.state.State.{State}
-use Rattle.lalrpop_base.specs.declared.lr1_core.state.StateIndex.{StateIndex}
-use Rattle.lalrpop_base.specs.declared.repr.NonterminalString.{NonterminalString}
-use Rattle.lalrpop_base.specs.declared.repr.Production.{Production}
-use Rattle.lalrpop_base.specs.declared.repr.TerminalString.{TerminalString}
 use Rattle.lalrpop_base.proofs.theory.conflicts.ConflictLemmas.{none_exactly}
 use Rattle.lalrpop_base.specs.Words.{dots_in, HoldsAt, ReducesBy, ReducesOn, OfMember, IsMerge, IsNumbered, IsCollapsed, AreCollapsedTables, FailsByCollapse}
 use Rattle.lalrpop_base.specs.collapse.Merging.{ArePlaced}

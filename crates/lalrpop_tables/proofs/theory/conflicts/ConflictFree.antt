@@ -4,19 +4,15 @@ use Rattle.std.specs.Prelude.{Contains, slice_get}
 use Rattle.std.specs.Borrow.{Bor}
 use Rattle.std.specs.List.{flat_map}
 use Rattle.std.proofs.lemmas.Option.{slice_get-map}
-use Rattle.lalrpop_base.specs.Words.{Bits, has, contents_of, holds_token, no_contents, reduction_of, AllDiffer, state_conflicts}
+use Rattle.lalrpop_base.specs.Words.{Bits, has, contents_of, holds_token, no_contents, reduction_of, AllDiffer, state_conflicts, FitReductions}
 use Rattle.lalrpop_base.specs.conflicts.Conflicts.{HasNoConflict as HoldsNoConflict}
 use Rattle.lalrpop_base.specs.conflicts.StateConflicts.{HasNoConflict}
 use Rattle.lalrpop_base.specs.states.States.{Reduction}
-use Rattle.lalrpop_base.specs.declared.lookahead.token.Token.{Token}
+use Rattle.lalrpop_tables.proofs.Types.{Production, State, TerminalString, Token}
 use Rattle.lalrpop_base.specs.declared.lookahead.token.Token.TheVariants.{Terminal as TokenOf}
-use Rattle.lalrpop_base.specs.declared.lr1_core.state.State.{State}
-use Rattle.lalrpop_base.specs.declared.repr.Production.{Production}
 use Rattle.lalrpop_base.specs.declared.repr.Symbol.TheVariants.{Terminal}
-use Rattle.lalrpop_base.specs.declared.repr.TerminalString.{TerminalString}
 use Rattle.lalrpop_base.proofs.theory.conflicts.ConflictLemmas.{none_exactly}
 use Rattle.lalrpop_base.proofs.theory.states.ContentsViews.{some_of_map, contains_of_map, contains_map, at_contains}
-use Rattle.lalrpop_base.specs.Words.{FitReductions}
 use Rattle.lalrpop_tables.proofs.theory.canonical.CanonicalStates.{leads_transition}
 use Rattle.lalrpop_base.proofs.theory.grammars.ItemTokens.{token_with}
 use Rattle.lalrpop_base.proofs.theory.grammars.KnownTerminals.{held_bit, bit_held}

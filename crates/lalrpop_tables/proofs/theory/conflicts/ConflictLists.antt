@@ -3,13 +3,8 @@ use Rattle.std.proofs.Common.{◌≡◌, List, [], ◌∷◌, ◌++◌, map, ref
 use Rattle.std.specs.List.{flat_map}
 use Rattle.std.proofs.lemmas.List.{append-nil}
 use Rattle.std.proofs.lemmas.Grind.{flat_map-append}
-use Rattle.lalrpop_base.specs.Words.{Bits, Rules}
-use Rattle.lalrpop_base.specs.declared.lookahead.token.Token.{Token}
-use Rattle.lalrpop_base.specs.declared.lr1_core.state.Conflict.{Conflict}
-use Rattle.lalrpop_base.specs.declared.lr1_core.state.State.{State}
-use Rattle.lalrpop_base.specs.declared.repr.Symbol.{Symbol}
-use Rattle.lalrpop_base.specs.declared.repr.TerminalString.{TerminalString}
-use Rattle.lalrpop_base.specs.Words.{IsClosureBy, ListsAll, more}
+use Rattle.lalrpop_base.specs.Words.{Bits, Rules, IsClosureBy, ListsAll, more}
+use Rattle.lalrpop_tables.proofs.Types.{Conflict, State, Symbol, TerminalString, Token}
 use Rattle.lalrpop_tables.specs.Words.{Construction, AreStatesFor, begun, AreBuiltBy}
 use Rattle.lalrpop_base.specs.conflicts.AllConflicts.{none}
 use Rattle.lalrpop_tables.proofs.theory.states.Coherence.{Built-coherent, Built-some}

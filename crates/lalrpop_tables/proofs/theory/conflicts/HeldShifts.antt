@@ -7,12 +7,8 @@ use Rattle.std.proofs.lemmas.List.Elements.{Contains-append_left, Contains-appen
 use Rattle.lalrpop_base.specs.Words.{Bits, has, HasToken, holds_token, join, no_bits, AllDiffer}
 use Rattle.lalrpop_base.specs.conflicts.StateConflicts.{Reduction}
 use Rattle.lalrpop_base.specs.declared.lookahead.token.Token.TheVariants.{Terminal as TokenOf}
-use Rattle.lalrpop_base.specs.declared.lr1_core.state.Action.{Action}
+use Rattle.lalrpop_tables.proofs.Types.{Action, Production, State, StateIndex, TerminalString}
 use Rattle.lalrpop_base.specs.declared.lr1_core.state.Action.TheVariants.{Shift, Reduce}
-use Rattle.lalrpop_base.specs.declared.lr1_core.state.State.{State}
-use Rattle.lalrpop_base.specs.declared.lr1_core.state.StateIndex.{StateIndex}
-use Rattle.lalrpop_base.specs.declared.repr.Production.{Production}
-use Rattle.lalrpop_base.specs.declared.repr.TerminalString.{TerminalString}
 use Rattle.lalrpop_base.proofs.theory.states.ContentsViews.{contains_map, contains_of_map}
 use Rattle.lalrpop_base.proofs.theory.sets.HeldTokens.{holds_has}
 use Rattle.lalrpop_base.specs.conflicts.HeldShifts.{held_shift, IsHeldBit}

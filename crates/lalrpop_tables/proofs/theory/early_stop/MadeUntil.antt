@@ -1,17 +1,10 @@
 -- The loop that makes states until enough conflicts are listed, and what its states and conflicts are as an answer.
 use Rattle.std.proofs.Common.{◌≡◌, ℕ, ◌+◌, ◌-◌, ◌<◌, inl, inr, List, [], ◌∷◌, ◌++◌, length, take, refl, sym, ◌∙◌, ap, subst, arith, length-append}
 use Rattle.std.proofs.lemmas.Bool.{cases_lt}
-use Rattle.lalrpop_base.specs.Words.{Bits, Dotted, Kernels, Rules}
-use Rattle.lalrpop_base.specs.declared.lookahead.token.Token.{Token}
-use Rattle.lalrpop_base.specs.declared.lr1_core.state.BuildError.{BuildError}
+use Rattle.lalrpop_base.specs.Words.{Bits, Dotted, Kernels, Rules, FailWith, ListsAll, more}
+use Rattle.lalrpop_tables.proofs.Types.{BuildError, Conflict, State, Symbol, TerminalString, Token}
 use Rattle.lalrpop_base.specs.declared.lr1_core.state.BuildError.TheVariants.{Conflicts, Memory}
-use Rattle.lalrpop_base.specs.declared.lr1_core.state.Conflict.{Conflict}
-use Rattle.lalrpop_base.specs.declared.lr1_core.state.State.{State}
-use Rattle.lalrpop_base.specs.declared.repr.Symbol.{Symbol}
-use Rattle.lalrpop_base.specs.declared.repr.TerminalString.{TerminalString}
-use Rattle.lalrpop_base.specs.Words.{FailWith, ListsAll, more}
-use Rattle.lalrpop_tables.specs.Words.{ArePartlyBuiltBy, AreEnough, ListFewer, AreMadeUntilBy, AreMadeFor, StopsFor, Settings}
-use Rattle.lalrpop_tables.specs.Words.{AreStatesFor, AreTablesFor, FailsFor}
+use Rattle.lalrpop_tables.specs.Words.{ArePartlyBuiltBy, AreEnough, ListFewer, AreMadeUntilBy, AreMadeFor, StopsFor, Settings, AreStatesFor, AreTablesFor, FailsFor}
 use Rattle.lalrpop_base.specs.conflicts.AllConflicts.{none}
 use Rattle.lalrpop_tables.proofs.theory.states.Building.{Building, Building-all}
 use Rattle.lalrpop_tables.proofs.theory.conflicts.ConflictLists.{States-of}

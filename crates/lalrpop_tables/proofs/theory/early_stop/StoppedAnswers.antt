@@ -3,14 +3,10 @@ use Rattle.std.proofs.Common.{◌≡◌, ◌≢◌, ℕ, ◌<◌, ◌≤◌, ◌
 use Rattle.std.specs.List.{flat_map}
 use Rattle.std.proofs.lemmas.Bool.{cases_lt}
 use Rattle.lalrpop_base.specs.Words.{Bits, Dotted, AllDiffer, state_conflicts, IsLR1, rules_of, productions, IsWellFormed}
-use Rattle.lalrpop_base.specs.declared.lr1_core.state.Conflict.{Conflict}
-use Rattle.lalrpop_base.specs.declared.lr1_core.state.State.{State}
-use Rattle.lalrpop_base.specs.declared.repr.NonterminalString.{NonterminalString}
-use Rattle.lalrpop_base.specs.declared.repr.grammar.Grammar.{Grammar}
+use Rattle.lalrpop_tables.proofs.Types.{Conflict, Grammar, NonterminalString, State}
 use Rattle.lalrpop_base.specs.closures.Closure.{itself}
 use Rattle.lalrpop_base.specs.Words.{AreCanonicalStates, AreOwn, Begins, IsClosureOf, IsClosureBy}
-use Rattle.lalrpop_tables.specs.Words.{ArePartlyBuiltBy, ArePartlyBuilt, AreEnough}
-use Rattle.lalrpop_tables.specs.Words.{GoesOnBeforeLast, AreMadeFor, StopsAfter, Settings, canonical_of}
+use Rattle.lalrpop_tables.specs.Words.{ArePartlyBuiltBy, ArePartlyBuilt, AreEnough, GoesOnBeforeLast, AreMadeFor, StopsAfter, Settings, canonical_of}
 use Rattle.lalrpop_tables.proofs.theory.canonical.CanonicalContents.{are_canonical}
 use Rattle.lalrpop_tables.proofs.theory.conflicts.ConflictLists.{All-listed, States-of}
 use Rattle.lalrpop_tables.proofs.theory.early_stop.StoppedConflicts.{conflict_not_lr1}

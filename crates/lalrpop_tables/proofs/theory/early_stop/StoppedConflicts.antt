@@ -3,21 +3,14 @@ use Rattle.std.proofs.Common.{◌≡◌, ℕ, List, [], length, refl, ◌∙◌,
 use Rattle.std.specs.Prelude.{Contains}
 use Rattle.std.specs.List.{flat_map}
 use Rattle.lalrpop_base.specs.Words.{Bits, holds_token, contents_of, Dotted, AllDiffer, state_conflicts, Contents, Action, Shift, Reduce, IsValidAction, IsLR1}
-use Rattle.lalrpop_base.specs.Words.{rules_of, productions, IsWellFormed}
+use Rattle.lalrpop_base.specs.Words.{rules_of, productions, IsWellFormed, AreOwn, HasItemToken, IsClosureOf}
 use Rattle.lalrpop_base.specs.conflicts.StateConflicts.{HasNoConflict}
 use Rattle.lalrpop_base.specs.states.States.{Reduction}
-use Rattle.lalrpop_base.specs.declared.lookahead.token.Token.{Token}
+use Rattle.lalrpop_tables.proofs.Types.{Grammar, NonterminalString, Production, State, Symbol, TerminalString, Token}
 use Rattle.lalrpop_base.specs.declared.lookahead.token.Token.TheVariants.{Terminal as TokenOf}
-use Rattle.lalrpop_base.specs.declared.lr1_core.state.State.{State}
-use Rattle.lalrpop_base.specs.declared.repr.NonterminalString.{NonterminalString}
-use Rattle.lalrpop_base.specs.declared.repr.Production.{Production}
-use Rattle.lalrpop_base.specs.declared.repr.Symbol.{Symbol}
 use Rattle.lalrpop_base.specs.declared.repr.Symbol.TheVariants.{Terminal}
-use Rattle.lalrpop_base.specs.declared.repr.TerminalString.{TerminalString}
-use Rattle.lalrpop_base.specs.declared.repr.grammar.Grammar.{Grammar}
 use Rattle.lalrpop_base.proofs.theory.lists.Lists.{place_contains}
 use Rattle.lalrpop_base.specs.closures.Closure.{dotted_of}
-use Rattle.lalrpop_base.specs.Words.{AreOwn, HasItemToken, IsClosureOf}
 use Rattle.lalrpop_tables.specs.Words.{ArePartlyBuilt, IsStateFor, IsBuilt}
 use Rattle.lalrpop_tables.proofs.theory.canonical.CanonicalConflicts.{reductions_fit}
 use Rattle.lalrpop_tables.proofs.theory.conflicts.ConflictFree.{contents_free, none_listed}

@@ -3,22 +3,12 @@ use Rattle.std.proofs.Common.{◌≡◌, ◌≢◌, ◌↔◌, ◌⊎◌, ℕ, z
 use Rattle.std.specs.Prelude.{Contains, slice_get}
 use Rattle.std.proofs.lemmas.Bool.{cases_lt}
 use Rattle.std.proofs.lemmas.Option.{slice_get_within}
-use Rattle.lalrpop_base.specs.Words.{InClosure, in_kernel, IsAtStart, IsMoved, Dotted, nil_conflicts, Valid, shifts, Rules, rules_of, productions}
-use Rattle.lalrpop_base.specs.Words.{productions_of, IsWellFormed}
-use Rattle.lalrpop_base.specs.declared.lookahead.nil.Nil.{Nil}
-use Rattle.lalrpop_base.specs.declared.lr1_core.state.BuildError.{BuildError}
+use Rattle.lalrpop_base.specs.Words.{InClosure, in_kernel, IsAtStart, IsMoved, Dotted, nil_conflicts, Valid, shifts, Rules, rules_of, productions, productions_of, IsWellFormed}
+use Rattle.lalrpop_tables.proofs.Types.{BuildError, Conflict, Grammar, Nil, NonterminalString, Production, State, StateIndex, Symbol}
 use Rattle.lalrpop_base.specs.declared.lr1_core.state.BuildError.TheVariants.{Conflicts, Memory}
-use Rattle.lalrpop_base.specs.declared.lr1_core.state.Conflict.{Conflict}
-use Rattle.lalrpop_base.specs.declared.lr1_core.state.State.{State}
-use Rattle.lalrpop_base.specs.declared.lr1_core.state.StateIndex.{StateIndex}
-use Rattle.lalrpop_base.specs.declared.repr.NonterminalString.{NonterminalString}
-use Rattle.lalrpop_base.specs.declared.repr.Production.{Production}
-use Rattle.lalrpop_base.specs.declared.repr.Symbol.{Symbol}
-use Rattle.lalrpop_base.specs.declared.repr.grammar.Grammar.{Grammar}
 use Rattle.lalrpop_base.specs.closures.Closure.{dotted_of}
-use Rattle.lalrpop_base.specs.Words.{Ascend, AreOwn, InKernel}
+use Rattle.lalrpop_base.specs.Words.{Ascend, AreOwn, InKernel, AreLr0States}
 use Rattle.lalrpop_tables.specs.Words.{ArePartlyBuiltBy, HasDotted, IsLr0StateFor, AreSomeLr0States, AreEnough, AreMadeFor}
-use Rattle.lalrpop_base.specs.Words.{AreLr0States}
 use Rattle.lalrpop_tables.specs.Words.{StopsFor, Lr0StopsAfter, FailsAfterLr0, Settings, begun, HasTransition, Shifts, moved}
 use Rattle.lalrpop_tables.proofs.theory.canonical.Canonical.{start_items, moved_items, Shifts-onto, InClosure-more}
 use Rattle.lalrpop_tables.proofs.theory.states.ClosedStates.{IsExactClosure}

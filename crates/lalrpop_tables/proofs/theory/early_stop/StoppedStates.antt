@@ -3,19 +3,10 @@ use Rattle.std.proofs.Common.{◌≡◌, ◌↔◌, ℕ, zero, suc, ◌<◌, inl
 use Rattle.std.specs.Prelude.{Contains, slice_get}
 use Rattle.std.proofs.lemmas.Option.{slice_get_within}
 use Rattle.lalrpop_base.specs.Words.{Bits, no_bits, with_bit, InClosure, InTokenClosure, IsAtStart, IsAtStartWith, IsMoved, IsMovedWith, Dotted, AllDiffer}
-use Rattle.lalrpop_base.specs.Words.{Valid, shifts, ValidToken, rules_of, productions, productions_of, IsWellFormed}
-use Rattle.lalrpop_base.specs.declared.lookahead.token.Token.{Token}
-use Rattle.lalrpop_base.specs.declared.lr1_core.state.State.{State}
-use Rattle.lalrpop_base.specs.declared.lr1_core.state.StateIndex.{StateIndex}
-use Rattle.lalrpop_base.specs.declared.repr.NonterminalString.{NonterminalString}
-use Rattle.lalrpop_base.specs.declared.repr.Production.{Production}
-use Rattle.lalrpop_base.specs.declared.repr.Symbol.{Symbol}
-use Rattle.lalrpop_base.specs.declared.repr.grammar.Grammar.{Grammar}
-use Rattle.lalrpop_base.specs.closures.Closure.{itself}
-use Rattle.lalrpop_base.specs.closures.Closure.{dotted_of}
-use Rattle.lalrpop_base.specs.Words.{AreOwn, InKernel, HasItemToken, IsClosureOf}
-use Rattle.lalrpop_tables.specs.Words.{ArePartlyBuilt, HasDotted, IsStateFor, HaveSameContents}
-use Rattle.lalrpop_tables.specs.Words.{AreSomeCanonicalStates, begun, HasTransition, moved}
+use Rattle.lalrpop_base.specs.Words.{Valid, shifts, ValidToken, rules_of, productions, productions_of, IsWellFormed, AreOwn, InKernel, HasItemToken, IsClosureOf}
+use Rattle.lalrpop_tables.proofs.Types.{Grammar, NonterminalString, Production, State, StateIndex, Symbol, Token}
+use Rattle.lalrpop_base.specs.closures.Closure.{itself, dotted_of}
+use Rattle.lalrpop_tables.specs.Words.{ArePartlyBuilt, HasDotted, IsStateFor, HaveSameContents, AreSomeCanonicalStates, begun, HasTransition, moved}
 use Rattle.lalrpop_tables.proofs.theory.canonical.Canonical.{start_items, start_tokens, moved_items, moved_tokens, Shifts-onto, InClosure-more}
 use Rattle.lalrpop_base.proofs.theory.closures.Closing.{drop_split}
 use Rattle.lalrpop_base.proofs.theory.lists.Members.{contains_map}

@@ -4,9 +4,7 @@ use Rattle.std.specs.Prelude.{Contains}
 use Rattle.std.specs.declared.alloc.Global.{Global}
 use Rattle.std.specs.declared.vec.Vec.{Vec}
 use Rattle.lalrpop_base.specs.Words.{Bits, IsBitOf, Contents, state_from, Rules, HoldsBit, IsSpread, held, sent_on, edge_ends}
-use Rattle.lalrpop_base.specs.declared.lookahead.token.Token.{Token}
-use Rattle.lalrpop_base.specs.declared.repr.NonterminalString.{NonterminalString}
-use Rattle.lalrpop_base.specs.declared.repr.Production.{Production}
+use Rattle.lalrpop_tables.proofs.Types.{NonterminalString, Production, Token}
 use Rattle.lalrpop_base.proofs.theory.states.ContentsViews.{LeadAsItemsSay}
 use Rattle.lalrpop_base.proofs.theory.lists.Lists.{take_past, take_all, same_some}
 use Rattle.lalrpop_base.proofs.theory.closures.Closures.{state_from-last}

@@ -4,16 +4,11 @@ use Rattle.std.specs.Prelude.{Contains, slice_get}
 use Rattle.std.specs.declared.alloc.Global.{Global}
 use Rattle.std.specs.declared.vec.Vec.{Vec}
 use Rattle.std.proofs.lemmas.Option.{slice_get_within}
-use Rattle.lalrpop_base.specs.Words.{Bits, contents_at, Contents, items_of, IsReached, Rules, rules_of}
+use Rattle.lalrpop_base.specs.Words.{Bits, contents_at, Contents, items_of, IsReached, Rules, rules_of, HaveBegunNodes, IncludesFollow, IsFollowGraph, IsFollowNode}
 use Rattle.lalrpop_base.specs.states.States.{IsBehindDot}
-use Rattle.lalrpop_base.specs.declared.lookahead.token.Token.{Token}
-use Rattle.lalrpop_base.specs.declared.lr1_core.state.State.{State}
-use Rattle.lalrpop_base.specs.declared.repr.NonterminalString.{NonterminalString}
-use Rattle.lalrpop_base.specs.declared.repr.Production.{Production}
-use Rattle.lalrpop_base.specs.declared.repr.Symbol.{Symbol}
+use Rattle.lalrpop_tables.proofs.Types.{NonterminalString, Production, State, Symbol, Token}
 use Rattle.lalrpop_base.specs.declared.repr.Symbol.TheVariants.{Nonterminal}
 use Rattle.lalrpop_base.proofs.theory.states.ContentsViews.{at_contains, contains_at, lead_as_items_say}
-use Rattle.lalrpop_base.specs.Words.{HaveBegunNodes, IncludesFollow, IsFollowGraph, IsFollowNode}
 use Rattle.lalrpop_tables.specs.Words.{places_in}
 use Rattle.lalrpop_tables.specs.follow_sets.FollowNodes.{IsPass, nodes_of}
 use Rattle.lalrpop_tables.specs.follow_sets.FollowWalks.{AreBegun, AreIncludes, GoesThrough}

@@ -1,16 +1,11 @@
 -- The lanes of a reduction find exactly its lookahead set: each step back of a lane is a step of follow sets, and the other way round.
 use Rattle.std.proofs.Common.{◌≡◌, ◌↔◌, ℕ, zero, suc, ◌<◌, ◌≤◌, List, [], ◌∷◌, take, drop, length, refl, sym, ◌∙◌, ap, subst, arith, Some}
 use Rattle.std.specs.Prelude.{Contains}
-use Rattle.lalrpop_base.specs.Words.{Bits, Contents, state_from, to_parent, behind_parent, of_start, IsTracedTo, itself, back, IsLaneToken}
-use Rattle.lalrpop_base.specs.Words.{Rules, Shift, Reduce}
+use Rattle.lalrpop_base.specs.Words.{Bits, Contents, state_from, to_parent, behind_parent, of_start, IsTracedTo, itself, back, IsLaneToken, Rules, Shift, Reduce}
 use Rattle.lalrpop_base.specs.lanes.Lanes.{over_edge, Gives}
-use Rattle.lalrpop_base.specs.declared.lookahead.token.Token.{Token}
+use Rattle.lalrpop_tables.proofs.Types.{NonterminalString, Production, State, TerminalString, Token}
 use Rattle.lalrpop_base.specs.declared.lookahead.token.Token.TheVariants.{Eof, Terminal as TokenOf}
-use Rattle.lalrpop_base.specs.declared.lr1_core.state.State.{State}
-use Rattle.lalrpop_base.specs.declared.repr.NonterminalString.{NonterminalString}
-use Rattle.lalrpop_base.specs.declared.repr.Production.{Production}
 use Rattle.lalrpop_base.specs.declared.repr.Symbol.TheVariants.{Nonterminal}
-use Rattle.lalrpop_base.specs.declared.repr.TerminalString.{TerminalString}
 use Rattle.lalrpop_base.proofs.theory.lists.Lists.{take_past, take_all, same_some}
 use Rattle.lalrpop_base.proofs.theory.runs.Steps.{state_from-more}
 use Rattle.lalrpop_base.proofs.theory.closures.Closures.{state_from-last}

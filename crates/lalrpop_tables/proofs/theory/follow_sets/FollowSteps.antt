@@ -3,9 +3,7 @@ use Rattle.std.proofs.Common.{◌≡◌, ◌∙◌, ◌↔◌, inl, inr, ℕ, �
 use Rattle.std.specs.Prelude.{slice_get, Option, Some, None, Contains, IsTrue}
 use Rattle.std.proofs.lemmas.Option.{get_or_from_slice_get}
 use Rattle.lalrpop_base.specs.Words.{Dotted, leads, rules_of, IsNullable}
-use Rattle.lalrpop_base.specs.declared.lookahead.nil.Nil.{Nil}
-use Rattle.lalrpop_base.specs.declared.repr.NonterminalString.{NonterminalString}
-use Rattle.lalrpop_base.specs.declared.repr.Symbol.{Symbol}
+use Rattle.lalrpop_tables.proofs.Types.{Nil, NonterminalString, Symbol}
 use Rattle.lalrpop_base.specs.declared.repr.Symbol.TheVariants.{Nonterminal}
 use Rattle.lalrpop_base.specs.lanes.FollowGraphs.{IsFollowNode}
 use Rattle.lalrpop_tables.specs.follow_sets.FollowNodes.{IsPass, nodes_of}

@@ -8,8 +8,7 @@ use Rattle.std.specs.declared.vec.Vec.{Vec}
 use Rattle.std.proofs.lemmas.List.Elements.{Contains-append_left, Contains-append_right, Contains-append_cases}
 use Rattle.lalrpop_base.specs.Words.{edge_ends}
 use Rattle.lalrpop_base.specs.lists.Spreading.{listed_ends}
-use Rattle.lalrpop_base.specs.declared.repr.NonterminalString.{NonterminalString}
-use Rattle.lalrpop_base.specs.declared.repr.Production.{Production}
+use Rattle.lalrpop_tables.proofs.Types.{NonterminalString, Production}
 use Rattle.lalrpop_base.specs.declared.repr.Symbol.TheVariants.{Nonterminal}
 use Rattle.lalrpop_base.proofs.theory.lists.Lists.{same_nonterminal}
 use Rattle.lalrpop_base.specs.lanes.FollowGraphs.{IsFollowNode}

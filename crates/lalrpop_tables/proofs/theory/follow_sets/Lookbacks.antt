@@ -3,7 +3,7 @@ use Rattle.std.proofs.Common.{◌≡◌, ◌∙◌, ◌↔◌, ◌⊎◌, inl, i
 use Rattle.std.specs.Prelude.{slice_get, Option, Some, None, Contains}
 use Rattle.std.specs.declared.alloc.Global.{Global}
 use Rattle.std.specs.declared.vec.Vec.{Vec}
-use Rattle.lalrpop_base.specs.declared.repr.Production.{Production}
+use Rattle.lalrpop_tables.proofs.Types.{Production}
 use Rattle.lalrpop_tables.specs.follow_sets.FollowNodes.{IsPass}
 use Rattle.lalrpop_tables.specs.follow_sets.FollowWalks.{AreEmptyLists, EndsAt, IsEndOfWalk, NotesEnds, entries_at, listed_entries}
 use Rattle.lalrpop_tables.specs.grammars.Numbering.{with_dot}

@@ -5,8 +5,7 @@ use Rattle.std.proofs.lemmas.List.{get_or_append_left}
 use Rattle.std.proofs.Math.Seq.{get_or-append_seam}
 use Rattle.std.proofs.lemmas.Option.{slice_get_within}
 use Rattle.lalrpop_base.specs.Words.{AllDiffer}
-use Rattle.lalrpop_base.specs.declared.repr.NonterminalString.{NonterminalString}
-use Rattle.lalrpop_base.specs.declared.repr.Symbol.{Symbol}
+use Rattle.lalrpop_tables.proofs.Types.{NonterminalString, Symbol}
 use Rattle.lalrpop_base.specs.declared.repr.Symbol.TheVariants.{Nonterminal}
 use Rattle.lalrpop_tables.specs.follow_sets.FollowNodes.{IsTransitionNode, nonterminals_of}
 use Rattle.lalrpop_tables.specs.states.NumberedStates.{EdgesAscend, listed_transitions, transitions_at}

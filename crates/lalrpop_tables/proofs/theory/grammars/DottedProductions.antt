@@ -9,15 +9,13 @@ use Rattle.std.specs.declared.cmp.Ordering.{Ordering}
 use Rattle.std.proofs.lemmas.List.Elements.{Contains-append_left, Contains-append_right, Contains-append_cases}
 use Rattle.std.proofs.lemmas.List.FromFn.{length-map-range_with_len, get_or-map-range_with_len}
 use Rattle.std.proofs.lemmas.Option.{slice_get_within}
-use Rattle.lalrpop_base.specs.Words.{Dotted, IsLess, Rules}
-use Rattle.lalrpop_base.specs.declared.lookahead.nil.Nil.{Nil}
-use Rattle.lalrpop_base.specs.declared.repr.Production.{Production}
+use Rattle.lalrpop_base.specs.Words.{Dotted, IsLess, Rules, Ascend, Precedes, item_of, production_order}
+use Rattle.lalrpop_tables.proofs.Types.{Nil, Production}
 use Rattle.lalrpop_base.specs.contracts.lookahead.nil.NilOrd.TheImpl as nil_ord
 use Rattle.lalrpop_base.proofs.theory.conflicts.ConflictLists.{ordered-head, ordered-tail, ordered-nil, ordered-append}
 use Rattle.lalrpop_base.specs.lists.CheckSets.{IsAdded}
 use Rattle.lalrpop_tables.specs.grammars.Numbering.{AddsThose, IsStartOf, all_dots, with_dot, with_dots}
 use Rattle.lalrpop_tables.specs.grammars.Numbers.{AreItemsOf, MovesToNext}
-use Rattle.lalrpop_base.specs.Words.{Ascend, Precedes, item_of, production_order}
 use Rattle.lalrpop_tables.specs.Words.{moved}
 use Rattle.lalrpop_base.proofs.theory.grammars.AscendingItems.{Table-ascend}
 use Rattle.lalrpop_base.proofs.theory.lists.Bounded.{in_flat_map}

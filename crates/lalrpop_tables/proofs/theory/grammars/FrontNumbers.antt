@@ -3,8 +3,7 @@ use Rattle.std.proofs.Common.{◌≡◌, ◌∙◌, inl, inr, ℕ, List, [], ◌
 use Rattle.std.specs.Prelude.{slice_get, Some, Contains}
 use Rattle.std.proofs.lemmas.List.Elements.{Contains-append_left, Contains-append_right, Contains-append_cases}
 use Rattle.lalrpop_base.specs.Words.{Dotted}
-use Rattle.lalrpop_base.specs.declared.lookahead.nil.Nil.{Nil}
-use Rattle.lalrpop_base.specs.declared.repr.NonterminalString.{NonterminalString}
+use Rattle.lalrpop_tables.proofs.Types.{Nil, NonterminalString}
 use Rattle.lalrpop_base.specs.declared.repr.Symbol.TheVariants.{Nonterminal}
 use Rattle.lalrpop_tables.specs.grammars.Numbers.{AreExpansions}
 use Rattle.lalrpop_base.proofs.theory.lists.Members.{contains-cons, contains_head, Contains-none}

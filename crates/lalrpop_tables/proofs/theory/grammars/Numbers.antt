@@ -2,12 +2,10 @@
 use Rattle.std.proofs.Common.{◌≡◌, ◌∙◌, ℕ, zero, suc, ◌+◌, ◌<◌, List, [], ◌∷◌, length, map, refl, sym, ap, subst, arith, inl, inr, drop}
 use Rattle.std.specs.Prelude.{◌↔◌, slice_get, Option, Some, None, Contains}
 use Rattle.std.proofs.lemmas.Option.{slice_get_within, slice_get-map}
-use Rattle.lalrpop_base.specs.Words.{AllDiffer, Dotted, Ordered, Rules}
-use Rattle.lalrpop_base.specs.declared.lookahead.nil.Nil.{Nil}
-use Rattle.lalrpop_base.specs.declared.repr.Symbol.{Symbol}
+use Rattle.lalrpop_base.specs.Words.{AllDiffer, Dotted, Ordered, Rules, Ascend, Precedes}
+use Rattle.lalrpop_tables.proofs.Types.{Nil, Symbol}
 use Rattle.lalrpop_base.proofs.theory.states.ContentsViews.{some_of_map}
 use Rattle.lalrpop_tables.specs.grammars.Numbers.{AreNumbers, AreNumbered, IsNumberBehind, dotted_at, item_by, items_by}
-use Rattle.lalrpop_base.specs.Words.{Ascend, Precedes}
 use Rattle.lalrpop_tables.specs.Words.{IsBehind, moved}
 use Rattle.lalrpop_tables.specs.declared.construction.numbered.Numbered.{Numbered}
 use Rattle.lalrpop_tables.specs.declared.construction.numbers.Numbers.{Numbers}

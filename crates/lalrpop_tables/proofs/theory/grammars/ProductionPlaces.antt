@@ -3,12 +3,10 @@ use Rattle.std.proofs.Common.{◌≡◌, ◌∙◌, inl, inr, ℕ, zero, suc, �
 use Rattle.std.specs.Prelude.{slice_get, Some}
 use Rattle.std.specs.Ordering.{ordering_reverse}
 use Rattle.std.specs.declared.cmp.Ordering.TheVariants.{Less, Greater}
-use Rattle.lalrpop_base.specs.Words.{Dotted, Rules}
-use Rattle.lalrpop_base.specs.declared.lookahead.nil.Nil.{Nil}
-use Rattle.lalrpop_base.specs.declared.repr.Production.{Production}
+use Rattle.lalrpop_base.specs.Words.{Dotted, Rules, Ascend, Precedes, production_order}
+use Rattle.lalrpop_tables.proofs.Types.{Nil, Production}
 use Rattle.lalrpop_tables.specs.grammars.Numbering.{with_dot}
 use Rattle.lalrpop_tables.specs.grammars.Numbers.{AreItemsOf, MovesToNext}
-use Rattle.lalrpop_base.specs.Words.{Ascend, Precedes, production_order}
 use Rattle.lalrpop_base.proofs.theory.grammars.AscendingItems.{less_apart, less_asymmetric, production_total}
 use Rattle.lalrpop_base.proofs.theory.lists.Members.{place}
 use Rattle.lalrpop_tables.proofs.theory.states.NumberedItems.{items_differ}

@@ -6,11 +6,8 @@ use Rattle.std.proofs.lemmas.List.{length_push}
 use Rattle.std.proofs.lemmas.Option.{slice_get_within}
 use Rattle.lalrpop_base.specs.first.First.{IsFirstSet}
 use Rattle.lalrpop_base.specs.Words.{Bits, Dotted, Rules, has}
-use Rattle.lalrpop_base.specs.declared.lookahead.nil.Nil.{Nil}
-use Rattle.lalrpop_base.specs.declared.repr.NonterminalString.{NonterminalString}
-use Rattle.lalrpop_base.specs.declared.repr.Symbol.{Symbol}
+use Rattle.lalrpop_tables.proofs.Types.{Nil, NonterminalString, Symbol, TerminalString}
 use Rattle.lalrpop_base.specs.declared.repr.Symbol.TheVariants.{Nonterminal, Terminal}
-use Rattle.lalrpop_base.specs.declared.repr.TerminalString.{TerminalString}
 use Rattle.lalrpop_base.specs.lists.Exact.{both}
 use Rattle.lalrpop_tables.specs.grammars.Rests.{AreRests, HasRest, IsRest, IsRestOf}
 use Rattle.lalrpop_tables.specs.declared.construction.numbers.rests.Rest.{Rest}

@@ -4,9 +4,7 @@ use Rattle.std.specs.Prelude.{Contains, IsTrue, slice_get}
 use Rattle.std.proofs.lemmas.Bool.{or_cases}
 use Rattle.std.proofs.lemmas.Option.{slice_get_within}
 use Rattle.lalrpop_base.specs.Words.{Bits, has, has-join, join, HasKnownTerminals, IsFirst, IsFirstSetBefore, IsNullable, Rules}
-use Rattle.lalrpop_base.specs.declared.repr.Production.{Production}
-use Rattle.lalrpop_base.specs.declared.repr.Symbol.{Symbol}
-use Rattle.lalrpop_base.specs.declared.repr.TerminalString.{TerminalString}
+use Rattle.lalrpop_tables.proofs.Types.{Production, Symbol, TerminalString}
 use Rattle.lalrpop_base.specs.closures.Closing.{Begins}
 use Rattle.lalrpop_base.specs.closures.EpsilonMoves.{IsGiven}
 use Rattle.lalrpop_tables.specs.grammars.Rests.{IsRest}

@@ -12,14 +12,12 @@ use Rattle.lalrpop_base.specs.contracts.lr1_core.state.StateIndexEq.TheImpl.Laws
 use Rattle.lalrpop_tables.proofs.theory.graphs.StateGraphs.{state_total}
 use Rattle.std.proofs.lemmas.List.Elements.{Contains-append_left, Contains-append_right, Contains-append_cases}
 use Rattle.std.proofs.lemmas.List.{nil_from_length}
-use Rattle.lalrpop_base.specs.declared.lr1_core.state.StateIndex.{StateIndex}
-use Rattle.lalrpop_base.specs.declared.repr.Symbol.{Symbol}
+use Rattle.lalrpop_tables.proofs.Types.{StateIndex, Symbol}
 use Rattle.lalrpop_base.specs.contracts.repr.SymbolPartialEq.TheImpl as symbol_eq
 use Rattle.lalrpop_base.specs.contracts.repr.SymbolEq.TheImpl.Laws as symbol_equality
 use Rattle.lalrpop_base.specs.contracts.exact.SymbolExact.TheImpl as symbol_exactly
 use Rattle.lalrpop_tables.specs.declared.state_graph.StateGraph.{StateGraph}
-use Rattle.lalrpop_tables.specs.Words.{Edge, edge, state_cmp, AddsStates, HaveSameStates, IsStepBack, sources_over, origins_of, origins, origin_of, IsGraphOf}
-use Rattle.lalrpop_tables.specs.Words.{nowhere, over}
+use Rattle.lalrpop_tables.specs.Words.{Edge, edge, state_cmp, AddsStates, HaveSameStates, IsStepBack, sources_over, origins_of, origins, origin_of, IsGraphOf, nowhere, over}
 use Rattle.lalrpop_tables.specs.graphs.StateGraph.{LeadsTo}
 use Rattle.lalrpop_base.proofs.theory.lists.Members.{Contains-none, contains_head, contains_tail, contains-cons, Contains-reverse, Contains-from_reverse}
 use Rattle.lalrpop_tables.proofs.theory.lane_tables.LaneColumns.{same_state}

@@ -3,22 +3,14 @@ use Rattle.std.proofs.Common.{◌≡◌, ◌↔◌, ℕ, Bool, true, List, lengt
 use Rattle.std.specs.Prelude.{Contains, slice_get}
 use Rattle.std.specs.BTreeMap.{BTreeMap}
 use Rattle.std.proofs.lemmas.Option.{slice_get_within}
-use Rattle.lalrpop_base.specs.Words.{Bits, has, contents, contents_at, Contents, HoldsBit, IsBitOf, leads, place_in, Rules}
-use Rattle.lalrpop_base.specs.Words.{Action, Shift, Reduce}
+use Rattle.lalrpop_base.specs.Words.{Bits, has, contents, contents_at, Contents, HoldsBit, IsBitOf, leads, place_in, Rules, Action, Shift, Reduce, HasLookaheadBits, IsLookahead}
 use Rattle.lalrpop_base.specs.conflicts.StateConflicts.{HasNoConflict}
-use Rattle.lalrpop_base.specs.declared.lookahead.token.Token.{Token}
+use Rattle.lalrpop_tables.proofs.Types.{NonterminalString, Production, State, StateIndex, Symbol, TerminalString, Token}
 use Rattle.lalrpop_base.specs.declared.lookahead.token.Token.TheVariants.{Terminal as TokenOf}
 use Rattle.lalrpop_base.specs.declared.lr1_core.state.Items.{Items}
-use Rattle.lalrpop_base.specs.declared.lr1_core.state.State.{State}
-use Rattle.lalrpop_base.specs.declared.lr1_core.state.StateIndex.{StateIndex}
-use Rattle.lalrpop_base.specs.declared.repr.NonterminalString.{NonterminalString}
-use Rattle.lalrpop_base.specs.declared.repr.Production.{Production}
-use Rattle.lalrpop_base.specs.declared.repr.Symbol.{Symbol}
 use Rattle.lalrpop_base.specs.declared.repr.Symbol.TheVariants.{Terminal}
-use Rattle.lalrpop_base.specs.declared.repr.TerminalString.{TerminalString}
 use Rattle.lalrpop_base.proofs.theory.states.ContentsViews.{at_contains, contains_at}
 use Rattle.lalrpop_base.proofs.theory.sets.HeldTokens.{place_there}
-use Rattle.lalrpop_base.specs.Words.{HasLookaheadBits, IsLookahead}
 use Rattle.lalrpop_tables.specs.Words.{AreLaneStates, by, dot_of, IsLaneAction, IsResolved, IsResolvedAt, IsStep, LanesMeet, places_in}
 use Rattle.lalrpop_tables.specs.follow_sets.FollowWalks.{AreUnions, entries_at, HoldsSomeOf, ShareBits, with_first, with_other}
 use Rattle.lalrpop_tables.specs.lane_states.FoundLookaheads.{IsFoundAt, with_sets}

@@ -5,28 +5,20 @@ use Rattle.std.specs.Borrow.{Bor}
 use Rattle.std.proofs.lemmas.Option.{slice_get_within}
 use Rattle.lalrpop_base.specs.Words.{Bits, contents, contents_at, holds_token, reduction_of, IsOnNoRightSide, behind_parent, of_start, IsLaneToken}
 use Rattle.lalrpop_base.specs.Words.{HoldLaneTokens, HoldLalrTokens, AllDiffer, Contents, state_after, HasRightItems, IsBitOf, Action, Shift, Reduce}
-use Rattle.lalrpop_base.specs.Words.{IsLalrAction, IsLALR1, Rules, rules_of, productions, IsWellFormed}
+use Rattle.lalrpop_base.specs.Words.{IsLalrAction, IsLALR1, Rules, rules_of, productions, IsWellFormed, HaveNoConflict}
 use Rattle.lalrpop_base.specs.conflicts.Conflicts.{HasNoConflict as HoldsNoConflict}
 use Rattle.lalrpop_base.specs.lanes.Lanes.{Gives}
 use Rattle.lalrpop_base.specs.states.States.{Reduction}
-use Rattle.lalrpop_base.specs.declared.lookahead.token.Token.{Token}
+use Rattle.lalrpop_tables.proofs.Types.{Grammar, NonterminalString, Production, State, Symbol, Token}
 use Rattle.lalrpop_base.specs.declared.lookahead.token.Token.TheVariants.{Terminal as TokenOf}
-use Rattle.lalrpop_base.specs.declared.lr1_core.state.State.{State}
-use Rattle.lalrpop_base.specs.declared.repr.NonterminalString.{NonterminalString}
-use Rattle.lalrpop_base.specs.declared.repr.Production.{Production}
-use Rattle.lalrpop_base.specs.declared.repr.Symbol.{Symbol}
 use Rattle.lalrpop_base.specs.declared.repr.Symbol.TheVariants.{Nonterminal, Terminal}
-use Rattle.lalrpop_base.specs.declared.repr.grammar.Grammar.{Grammar}
 use Rattle.lalrpop_base.proofs.theory.states.ContentsViews.{contains_of_map}
 use Rattle.lalrpop_base.proofs.theory.sets.HeldTokens.{holds_has, place_there}
-use Rattle.lalrpop_base.proofs.theory.lanes.Lanes.{lane_tokens, lanes_faithful}
+use Rattle.lalrpop_base.proofs.theory.lanes.Lanes.{lane_tokens, lanes_faithful, items_at}
 use Rattle.lalrpop_base.proofs.theory.collapse.LalrStates.{no_conflict_lalr}
 use Rattle.lalrpop_base.proofs.theory.lanes.LaneTables.{lanes_checked}
 use Rattle.lalrpop_base.proofs.theory.states.RightStates.{edges_awaited, reductions_valid}
-use Rattle.lalrpop_base.proofs.theory.lanes.Lanes.{items_at}
-use Rattle.lalrpop_tables.specs.Words.{AreLaneStates, HasLaneBits, IsResolved, IsLaneAction, LanesMeet, HaveMeetingLanes, IsStep, AreLaneTables}
-use Rattle.lalrpop_base.specs.Words.{HaveNoConflict}
-use Rattle.lalrpop_tables.specs.Words.{AreLalrLaneTables, places_in}
+use Rattle.lalrpop_tables.specs.Words.{AreLaneStates, HasLaneBits, IsResolved, IsLaneAction, LanesMeet, HaveMeetingLanes, IsStep, AreLaneTables, AreLalrLaneTables, places_in}
 use Rattle.lalrpop_tables.specs.declared.construction.numbers.Numbers.{Numbers}
 use Rattle.lalrpop_tables.specs.declared.lane_table.follow_sets.found.Found.{Found}
 use Rattle.lalrpop_tables.specs.declared.lane_table.follow_sets.numbered_state.NumberedState.{NumberedState}

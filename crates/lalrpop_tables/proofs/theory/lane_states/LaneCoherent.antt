@@ -4,13 +4,8 @@ use Rattle.std.specs.Prelude.{slice_get}
 use Rattle.std.specs.BTreeMap.{BTreeMap}
 use Rattle.std.proofs.lemmas.Option.{slice_get_within, slice_get-map}
 use Rattle.lalrpop_base.specs.Words.{HasItem, IsShifted, IsCoherentStep, IsCoherentState, AreFinished, AreCoherent, Dotted}
-use Rattle.lalrpop_base.specs.declared.lr1_core.state.State.{State}
-use Rattle.lalrpop_base.specs.declared.lr1_core.state.StateIndex.{StateIndex}
-use Rattle.lalrpop_base.specs.declared.repr.NonterminalString.{NonterminalString}
-use Rattle.lalrpop_base.specs.declared.repr.Production.{Production}
-use Rattle.lalrpop_base.specs.declared.repr.Symbol.{Symbol}
+use Rattle.lalrpop_tables.proofs.Types.{NonterminalString, Production, State, StateIndex, Symbol, TerminalString}
 use Rattle.lalrpop_base.specs.declared.repr.Symbol.TheVariants.{Nonterminal, Terminal}
-use Rattle.lalrpop_base.specs.declared.repr.TerminalString.{TerminalString}
 use Rattle.lalrpop_base.proofs.theory.states.ContentsViews.{some_of_map}
 use Rattle.lalrpop_tables.specs.Words.{dot_of, by, HasSamePlace, HaveSamePlaces, Edge, edges_of, edges_from, edges, shift_edges, goto_edges}
 use Rattle.lalrpop_base.proofs.theory.lists.Places.{filled}

@@ -4,13 +4,10 @@ use Rattle.std.specs.Prelude.{Contains, slice_get}
 use Rattle.std.proofs.lemmas.Option.{slice_get_within}
 use Rattle.lalrpop_base.specs.Words.{Bits, Contents, Rules}
 use Rattle.lalrpop_base.specs.declared.lr1_core.state.Items.{Items}
-use Rattle.lalrpop_base.specs.declared.lr1_core.state.State.{State}
-use Rattle.lalrpop_base.specs.declared.repr.NonterminalString.{NonterminalString}
-use Rattle.lalrpop_base.specs.declared.repr.TerminalString.{TerminalString}
-use Rattle.lalrpop_tables.specs.Words.{HasSamePlace, HaveSamePlaces, AreLaneStates, HaveFullItems, HoldAllFrom, IsResolved, IsResolvedAt, IsStep, places_in}
+use Rattle.lalrpop_tables.proofs.Types.{NonterminalString, State, TerminalString}
+use Rattle.lalrpop_tables.specs.Words.{HasSamePlace, HaveSamePlaces, AreLaneStates, HaveFullItems, HoldAllFrom, IsResolved, IsResolvedAt, IsStep, places_in, edges, IsGraphOf}
 use Rattle.lalrpop_tables.specs.follow_sets.FollowWalks.{FindsLookaheads}
 use Rattle.lalrpop_tables.specs.states.NumberedStates.{AreNumberedStates}
-use Rattle.lalrpop_tables.specs.Words.{edges, IsGraphOf}
 use Rattle.lalrpop_tables.specs.declared.construction.numbers.Numbers.{Numbers}
 use Rattle.lalrpop_tables.specs.declared.lane_table.follow_sets.found.Found.{Found}
 use Rattle.lalrpop_tables.specs.declared.lane_table.follow_sets.numbered_state.NumberedState.{NumberedState}

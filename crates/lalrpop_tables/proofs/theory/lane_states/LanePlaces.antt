@@ -8,14 +8,8 @@ use Rattle.lalrpop_base.specs.Words.{behind_parent, of_start, IsTracedTo, itself
 use Rattle.lalrpop_base.specs.Words.{IsBehindDot, LeadsOverDots, HasNoRepeat, ReducesFinished, HasRightItems, name_cmp}
 use Rattle.lalrpop_base.specs.lanes.Lanes.{over_edge, Gives}
 use Rattle.lalrpop_base.specs.states.States.{Reduction}
-use Rattle.lalrpop_base.specs.declared.lookahead.token.Token.{Token}
-use Rattle.lalrpop_base.specs.declared.lr1_core.state.State.{State}
-use Rattle.lalrpop_base.specs.declared.lr1_core.state.StateIndex.{StateIndex}
-use Rattle.lalrpop_base.specs.declared.repr.NonterminalString.{NonterminalString}
-use Rattle.lalrpop_base.specs.declared.repr.Production.{Production}
-use Rattle.lalrpop_base.specs.declared.repr.Symbol.{Symbol}
+use Rattle.lalrpop_tables.proofs.Types.{NonterminalString, Production, State, StateIndex, Symbol, TerminalString, Token}
 use Rattle.lalrpop_base.specs.declared.repr.Symbol.TheVariants.{Nonterminal, Terminal}
-use Rattle.lalrpop_base.specs.declared.repr.TerminalString.{TerminalString}
 use Rattle.lalrpop_base.specs.contracts.repr.TerminalStringOrd.TheImpl as terminal_ord
 use Rattle.std.specs.BTreeMap.{BTreeMap, get}
 use Rattle.lalrpop_base.proofs.theory.states.ContentsViews.{some_of_map, contains_of_map, contains_map}

@@ -4,16 +4,10 @@ use Rattle.std.specs.Prelude.{slice_get, Contains, nat_le}
 use Rattle.std.proofs.lemmas.Bool.{le-leb, leb-true}
 use Rattle.std.specs.Borrow.{Bor}
 use Rattle.std.specs.List.{AllZip}
-use Rattle.lalrpop_base.specs.Words.{Bits, has, Dotted, Rules}
-use Rattle.lalrpop_base.specs.declared.lookahead.nil.Nil.{Nil}
-use Rattle.lalrpop_base.specs.declared.lr1_core.state.State.{State}
-use Rattle.lalrpop_base.specs.declared.repr.NonterminalString.{NonterminalString}
-use Rattle.lalrpop_base.specs.declared.repr.Production.{Production}
-use Rattle.lalrpop_base.specs.declared.repr.TerminalString.{TerminalString}
+use Rattle.lalrpop_base.specs.Words.{Bits, has, Dotted, Rules, AreLr0States}
+use Rattle.lalrpop_tables.proofs.Types.{Nil, NonterminalString, Production, State, TerminalString}
 use Rattle.lalrpop_base.proofs.theory.states.ContentsViews.{contains_of_map}
-use Rattle.lalrpop_tables.specs.Words.{dot_of, by, HasSamePlace, HaveSamePlaces, AreLaneStates, IsFull, HaveFullItems, HoldsAll, promoted_item}
-use Rattle.lalrpop_base.specs.Words.{AreLr0States}
-use Rattle.lalrpop_tables.specs.Words.{promoted_reduction, IsPromoted}
+use Rattle.lalrpop_tables.specs.Words.{dot_of, by, HasSamePlace, HaveSamePlaces, AreLaneStates, IsFull, HaveFullItems, HoldsAll, promoted_item, promoted_reduction, IsPromoted}
 use Rattle.lalrpop_base.proofs.theory.lists.Places.{same_some}
 use Rattle.lalrpop_base.proofs.theory.lists.Members.{zipped_length}
 

@@ -4,20 +4,14 @@ use Rattle.std.specs.Prelude.{Contains, slice_get}
 use Rattle.std.specs.Borrow.{Bor}
 use Rattle.std.proofs.lemmas.Option.{slice_get_within, slice_get-map}
 use Rattle.lalrpop_base.specs.Words.{Bits, AreClosed, IsReached, contents_of, contents_at, contents_in, holds_token, reduction_of, AreLr0, Contents}
-use Rattle.lalrpop_base.specs.Words.{state_after, ReducesFinished, HasRightItems, IsLive, Rules}
+use Rattle.lalrpop_base.specs.Words.{state_after, ReducesFinished, HasRightItems, IsLive, Rules, on_any, lr0_contents}
 use Rattle.lalrpop_base.specs.states.States.{Reduction}
-use Rattle.lalrpop_base.specs.declared.lookahead.nil.Nil.{Nil}
-use Rattle.lalrpop_base.specs.declared.lookahead.token.Token.{Token}
-use Rattle.lalrpop_base.specs.declared.lr1_core.state.State.{State}
-use Rattle.lalrpop_base.specs.declared.repr.NonterminalString.{NonterminalString}
-use Rattle.lalrpop_base.specs.declared.repr.Production.{Production}
-use Rattle.lalrpop_base.specs.declared.repr.Symbol.{Symbol}
+use Rattle.lalrpop_tables.proofs.Types.{Nil, NonterminalString, Production, State, Symbol, Token}
 use Rattle.lalrpop_base.proofs.theory.states.ContentsViews.{contains_map}
 use Rattle.lalrpop_base.proofs.theory.closures.Closures.{reached_at}
 use Rattle.lalrpop_base.proofs.theory.lanes.Lanes.{items_at}
 use Rattle.lalrpop_base.proofs.theory.lists.Lists.{grown}
 use Rattle.lalrpop_base.proofs.theory.closures.Valid.{of_grammar}
-use Rattle.lalrpop_base.specs.Words.{on_any, lr0_contents}
 use Rattle.lalrpop_tables.specs.Words.{dot_of, AreLaneStates, AreLr0Tables, HaveOwnItems}
 use Rattle.lalrpop_tables.proofs.theory.canonical.CanonicalContents.{nothing_reduced}
 use Rattle.lalrpop_tables.proofs.theory.lane_states.LaneCoherent.{coherent_there}

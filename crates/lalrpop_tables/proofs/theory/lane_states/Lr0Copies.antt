@@ -5,18 +5,12 @@ use Rattle.std.specs.Borrow.{Bor}
 use Rattle.std.specs.List.{flat_map}
 use Rattle.std.proofs.lemmas.Bool.{cases_lt}
 use Rattle.std.proofs.lemmas.Option.{slice_get_within}
-use Rattle.lalrpop_base.specs.Words.{Bits, AreCoherent, contents, contents_at, holds_token, Contents, Dotted, leads, ReducesFinished, Rules, state_conflicts}
-use Rattle.lalrpop_base.specs.declared.lr1_core.state.Action.{Action}
+use Rattle.lalrpop_base.specs.Words.{Bits, AreCoherent, contents, contents_at, holds_token, Contents, Dotted, leads, ReducesFinished, Rules, state_conflicts, HaveNoConflict}
+use Rattle.lalrpop_tables.proofs.Types.{Action, Conflict, NonterminalString, Production, State, Symbol}
 use Rattle.lalrpop_base.specs.declared.lr1_core.state.Action.TheVariants.{Shift, Reduce}
-use Rattle.lalrpop_base.specs.declared.lr1_core.state.Conflict.{Conflict}
-use Rattle.lalrpop_base.specs.declared.lr1_core.state.State.{State}
-use Rattle.lalrpop_base.specs.declared.repr.NonterminalString.{NonterminalString}
-use Rattle.lalrpop_base.specs.declared.repr.Production.{Production}
-use Rattle.lalrpop_base.specs.declared.repr.Symbol.{Symbol}
 use Rattle.lalrpop_base.specs.declared.repr.Symbol.TheVariants.{Nonterminal, Terminal}
 use Rattle.lalrpop_base.proofs.theory.states.ContentsViews.{contains_at, at_contains}
 use Rattle.lalrpop_base.proofs.theory.states.Copies.{copies_closed}
-use Rattle.lalrpop_base.specs.Words.{HaveNoConflict}
 use Rattle.lalrpop_tables.specs.Words.{AreActions, AreClosedTables, AreCopiedConflicts, AreCopiedTables, AreCopies, AreLaneStates, AreLaneTables, AreLr0Copies}
 use Rattle.lalrpop_base.specs.Words.{number_in}
 use Rattle.lalrpop_tables.specs.Words.{asked_actions, HaveOwnItems, ReducesOwn}

@@ -7,16 +7,10 @@ use Rattle.std.specs.declared.vec.Vec.{Vec}
 use Rattle.std.proofs.lemmas.Bool.{cases_lt}
 use Rattle.std.proofs.lemmas.List.{length-map}
 use Rattle.std.proofs.lemmas.Option.{slice_get_within, slice_get_past, slice_get-map}
-use Rattle.lalrpop_base.specs.Words.{Bits, AreCoherent, Rules}
-use Rattle.lalrpop_base.specs.declared.lr1_core.state.Action.{Action}
-use Rattle.lalrpop_base.specs.declared.lr1_core.state.State.{State}
-use Rattle.lalrpop_base.specs.declared.lr1_core.state.StateIndex.{StateIndex}
-use Rattle.lalrpop_base.specs.declared.repr.NonterminalString.{NonterminalString}
-use Rattle.lalrpop_base.specs.declared.repr.TerminalString.{TerminalString}
+use Rattle.lalrpop_base.specs.Words.{Bits, AreCoherent, Rules, AreAmong, number_in, retargeted, retargeted_all}
+use Rattle.lalrpop_tables.proofs.Types.{Action, NonterminalString, State, StateIndex, TerminalString}
 use Rattle.lalrpop_base.proofs.theory.states.ContentsViews.{at_contains}
-use Rattle.lalrpop_base.specs.Words.{AreAmong}
 use Rattle.lalrpop_tables.specs.Words.{Advances, AreActions, AreCopies, AreLr0Copies, IsCopied, IsAttempted, IsCopyOf, IsMerging, IsPatchable, IsResolving}
-use Rattle.lalrpop_base.specs.Words.{number_in, retargeted, retargeted_all}
 use Rattle.lalrpop_tables.specs.Words.{asked_actions, edges, index, IsGraphOf}
 use Rattle.lalrpop_tables.specs.graphs.GraphCopies.{FollowsCopies}
 use Rattle.lalrpop_tables.specs.declared.lane_table.construct.copying.Copying.{Copying}

@@ -2,11 +2,9 @@
 use Rattle.std.proofs.Common.{◌≡◌, ◌==◌, eqb-true, eq-eqb, ℕ, ◌<◌, ◌⊎◌, inl, inr, ⊎_elim, true, false, List, [], ◌∷◌, ◌++◌, length, refl, sym, ap, subst, ◌∙◌, append_assoc, append-nil}
 use Rattle.std.specs.Prelude.{Contains, slice_get, Some}
 use Rattle.std.proofs.lemmas.List.Elements.{Contains-append_left, Contains-append_right, Contains-append_cases}
-use Rattle.lalrpop_base.specs.Words.{Bits, has, no_bits, has-no_bits}
-use Rattle.lalrpop_base.specs.declared.lr1_core.state.StateIndex.{StateIndex}
-use Rattle.lalrpop_base.specs.Words.{HasAt, MeetsOther, IsJoinedIn}
-use Rattle.lalrpop_tables.specs.Words.{Cells, HasIn, AreGathered, ThisRow, column, AreColumns, ColumnsOverlap, IsRow}
-use Rattle.lalrpop_tables.specs.Words.{RowOverlaps}
+use Rattle.lalrpop_base.specs.Words.{Bits, has, no_bits, has-no_bits, HasAt, MeetsOther, IsJoinedIn}
+use Rattle.lalrpop_tables.proofs.Types.{StateIndex}
+use Rattle.lalrpop_tables.specs.Words.{Cells, HasIn, AreGathered, ThisRow, column, AreColumns, ColumnsOverlap, IsRow, RowOverlaps}
 use Rattle.lalrpop_tables.specs.declared.lane_table.context_set.ConflictIndex.{ConflictIndex}
 use Rattle.lalrpop_tables.specs.declared.lane_table.table.LaneTable.{LaneTable}
 use Rattle.lalrpop_base.proofs.theory.lanes.Contexts.{had_or_joined, still_has, has_joined, still_disjoint}

@@ -14,9 +14,8 @@ use Rattle.std.proofs.lemmas.Map.Keys.{sorted_tail, Less-from_sorted}
 use Rattle.std.proofs.lemmas.List.{map-append}
 use Rattle.std.proofs.lemmas.Grind.{common_steps}
 use Rattle.std.specs.BTreeSet.{BTreeSet as SortedSet}
-use Rattle.lalrpop_base.specs.Words.{Bits}
-use Rattle.lalrpop_base.specs.declared.lr1_core.state.StateIndex.{StateIndex}
-use Rattle.lalrpop_base.specs.Words.{AreDisjoint}
+use Rattle.lalrpop_base.specs.Words.{Bits, AreDisjoint}
+use Rattle.lalrpop_tables.proofs.Types.{StateIndex}
 use Rattle.lalrpop_tables.specs.Words.{Cells, AreGathered, ThisRow, Rows, row_at, StandsFor, MakesRow, JoinsRow, MeetsRow, HasCells, AreRowsOf}
 use Rattle.lalrpop_tables.specs.Words.{Successors, HasNext, AddsRows, column, IsRow, RowOverlaps, HasRow, state_cmp}
 use Rattle.lalrpop_tables.specs.declared.lane_table.context_set.ConflictIndex.{ConflictIndex}

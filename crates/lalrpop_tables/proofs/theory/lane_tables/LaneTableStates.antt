@@ -4,7 +4,7 @@ use Rattle.std.specs.Prelude.{Contains, ◌↔◌}
 use Rattle.std.specs.BTreeSet.{BTreeSet as SortedSet, insert_key}
 use Rattle.std.proofs.lemmas.List.Elements.{Contains-append_left, Contains-append_right, Contains-append_cases}
 use Rattle.lalrpop_base.specs.Words.{Bits}
-use Rattle.lalrpop_base.specs.declared.lr1_core.state.StateIndex.{StateIndex}
+use Rattle.lalrpop_tables.proofs.Types.{StateIndex}
 use Rattle.lalrpop_tables.specs.Words.{Cells, HasCells, Successors, HasNext, AddsKeys, AreReached, HasCellsBelow, IsClosedEdge, column, HasRow, IsBeachhead}
 use Rattle.lalrpop_tables.specs.Words.{IsClosed, IsSuccessor, state_cmp}
 use Rattle.lalrpop_tables.specs.declared.lane_table.table.LaneTable.{LaneTable}

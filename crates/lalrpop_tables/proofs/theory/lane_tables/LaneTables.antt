@@ -9,15 +9,13 @@ use Rattle.std.specs.BTreeMap.{is_at}
 use Rattle.std.specs.BTreeSet.{BTreeSet as SortedSet, insert_key}
 use Rattle.std.specs.List.Sorted.{IsStrictlySortedBy}
 use Rattle.std.specs.Map.{keys_of, lookup}
-use Rattle.std.proofs.lemmas.Bool.{cases_Bool}
+use Rattle.std.proofs.lemmas.Bool.{cases_Bool, or_cases}
 use Rattle.std.proofs.lemmas.Map.Keys.{IsDistinct-from_sorted}
 use Rattle.std.proofs.lemmas.Map.Lookups.{CmpEqualImpliesEq, exact_unsigned, exact_pairs}
 use Rattle.std.proofs.lemmas.Map.Views.{Contains-from_lookup, lookup-from_Contains, IsSome-lookup_from_Contains, tells_apart}
-use Rattle.lalrpop_base.specs.Words.{Bits, has, join, has-join, collection_at, PushesAt, SameAt}
-use Rattle.std.proofs.lemmas.Bool.{or_cases}
-use Rattle.lalrpop_base.specs.declared.lr1_core.state.StateIndex.{StateIndex}
+use Rattle.lalrpop_base.specs.Words.{Bits, has, join, has-join, collection_at, PushesAt, SameAt, IsJoinedAt}
+use Rattle.lalrpop_tables.proofs.Types.{StateIndex}
 use Rattle.lalrpop_base.specs.declared.memory.OutOfMemory.{OutOfMemory}
-use Rattle.lalrpop_base.specs.Words.{IsJoinedAt}
 use Rattle.lalrpop_tables.specs.Words.{column, AreSameTables, AddsTokens, AddsSuccessor, AreInRange, state_cmp}
 use Rattle.lalrpop_base.specs.lists.Entries.IsJoinedAt.{fresh, known}
 use Rattle.lalrpop_tables.specs.lane_tables.LaneCells.{AreBelow}

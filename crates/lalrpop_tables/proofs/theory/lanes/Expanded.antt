@@ -3,9 +3,7 @@ use Rattle.std.proofs.Common.{◌≡◌, ℕ, inl, inr, List, [], ◌∷◌, dro
 use Rattle.std.specs.Prelude.{Contains}
 use Rattle.lalrpop_base.specs.Words.{LeadsBack, to_parent, behind_parent, of_start, Contents, IsBehindDot, Rules, rules_of}
 use Rattle.lalrpop_base.specs.lanes.Lanes.{Gives}
-use Rattle.lalrpop_base.specs.declared.lookahead.token.Token.{Token}
-use Rattle.lalrpop_base.specs.declared.repr.NonterminalString.{NonterminalString}
-use Rattle.lalrpop_base.specs.declared.repr.Production.{Production}
+use Rattle.lalrpop_tables.proofs.Types.{NonterminalString, Production, Token}
 use Rattle.lalrpop_base.specs.declared.repr.Symbol.TheVariants.{Nonterminal}
 use Rattle.lalrpop_base.specs.lists.CheckSets.{IsAdded}
 use Rattle.lalrpop_tables.specs.Words.{AddsNothing, AreExpanded, GainsOf, GivesBit, GivesCell, GivesSuccessor, KeepsAll, VisitsOf, places_in}

@@ -2,7 +2,7 @@
 use Rattle.std.proofs.Common.{◌≡◌, ℕ, ◌⊎◌, inl, inr, sym, ◌∙◌, ap, refl, true}
 use Rattle.std.specs.Prelude.{◌↔◌}
 use Rattle.lalrpop_base.specs.Words.{Bits, has}
-use Rattle.lalrpop_base.specs.declared.lr1_core.state.StateIndex.{StateIndex}
+use Rattle.lalrpop_tables.proofs.Types.{StateIndex}
 use Rattle.lalrpop_tables.specs.Words.{Gains, Nowhere, Nothing, IsPair, AddsTokens, AddsSuccessor}
 use Rattle.lalrpop_tables.specs.declared.lane_table.table.LaneTable.{LaneTable}
 

@@ -1,6 +1,6 @@
 -- A table that keeps what it had gains some of what steps add.
 use Rattle.std.proofs.Common.{ℕ, inl, inr, ◌∙◌, refl, Result, Ok, Err, OnErr}
-use Rattle.lalrpop_base.specs.declared.lr1_core.state.StateIndex.{StateIndex}
+use Rattle.lalrpop_tables.proofs.Types.{StateIndex}
 use Rattle.lalrpop_tables.specs.Words.{AddsSuccessor, AreSameTables, Gains, GainsSome, IsPair, KeepsAll, Nothing, Nowhere}
 use Rattle.lalrpop_tables.specs.declared.lane_table.table.LaneTable.{LaneTable}
 use Rattle.lalrpop_tables.proofs.theory.lanes.Gains.{Gains-successor}

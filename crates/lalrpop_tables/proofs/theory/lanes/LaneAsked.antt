@@ -7,17 +7,11 @@ use Rattle.std.specs.declared.cmp.Ordering.TheVariants.{Equal}
 use Rattle.std.proofs.lemmas.Option.{slice_get_within}
 use Rattle.std.proofs.lemmas.List.Elements.{Contains-append_left, Contains-append_right, Contains-append_cases}
 use Rattle.lalrpop_base.specs.Words.{Bits, has, state_conflicts, shift_conflicts, shift_conflict, conflicts_on_place, reduce_conflicts, reduce_conflict}
-use Rattle.lalrpop_base.specs.Words.{later_conflicts, share, place_in}
-use Rattle.lalrpop_base.specs.declared.lr1_core.state.Action.{Action}
+use Rattle.lalrpop_base.specs.Words.{later_conflicts, share, place_in, AreAmong, IsReductionAt}
+use Rattle.lalrpop_tables.proofs.Types.{Action, Conflict, Production, State, StateIndex, TerminalString}
 use Rattle.lalrpop_base.specs.declared.lr1_core.state.Action.TheVariants.{Shift, Reduce}
-use Rattle.lalrpop_base.specs.declared.lr1_core.state.Conflict.{Conflict}
-use Rattle.lalrpop_base.specs.declared.lr1_core.state.State.{State}
-use Rattle.lalrpop_base.specs.declared.lr1_core.state.StateIndex.{StateIndex}
-use Rattle.lalrpop_base.specs.declared.repr.Production.{Production}
-use Rattle.lalrpop_base.specs.declared.repr.TerminalString.{TerminalString}
 use Rattle.lalrpop_base.proofs.theory.states.ContentsViews.{at_contains, contains_at, contains_of_map, contains_map}
 use Rattle.lalrpop_base.specs.conflicts.HeldShifts.{IsHeldBit}
-use Rattle.lalrpop_base.specs.Words.{AreAmong, IsReductionAt}
 use Rattle.lalrpop_tables.specs.Words.{action_order, AreActions, asked_actions, conflict_actions, reduce_action}
 use Rattle.lalrpop_base.proofs.theory.grammars.AscendingItems.{production_exact}
 use Rattle.lalrpop_base.proofs.theory.lists.Bounded.{in_flat_map}

@@ -4,7 +4,7 @@ use Rattle.std.specs.Prelude.{Contains, slice_get}
 use Rattle.std.specs.List.{flat_map, range_with_len}
 use Rattle.std.proofs.lemmas.Option.{slice_get_within, get_or_from_slice_get}
 use Rattle.lalrpop_base.specs.Words.{LeadsBack, IsTracedTo, itself, back, AllDiffer, Contents, Rules, productions, rules_of}
-use Rattle.lalrpop_base.specs.declared.repr.Production.{Production}
+use Rattle.lalrpop_tables.proofs.Types.{Production}
 use Rattle.lalrpop_base.specs.declared.repr.Symbol.TheVariants.{Nonterminal}
 use Rattle.lalrpop_tables.specs.Words.{at_place, IsGround, Gains, Visits, Some_of, GivesCell, GivesBit, GivesSuccessor, GainsOf, VisitsOf, Reaches, GainsAll}
 use Rattle.lalrpop_tables.specs.Words.{GainsSomeOf, GainsSomeOfAll, IsEndPlace, AreInRange, places_in}

@@ -3,12 +3,8 @@ use Rattle.std.proofs.Common.{◌≡◌, ◌↔◌, ◌⊎◌, inl, inr, ℕ, su
 use Rattle.std.specs.Prelude.{slice_get}
 use Rattle.lalrpop_base.specs.Words.{Bits, Contents, IsBitOf, Rules, rules_of}
 use Rattle.lalrpop_base.specs.declared.lookahead.token.Token.TheVariants.{Terminal as TokenOf}
-use Rattle.lalrpop_base.specs.declared.lr1_core.state.Action.{Action}
+use Rattle.lalrpop_tables.proofs.Types.{Action, Grammar, NonterminalString, State, StateIndex}
 use Rattle.lalrpop_base.specs.declared.lr1_core.state.Action.TheVariants.{Shift, Reduce}
-use Rattle.lalrpop_base.specs.declared.lr1_core.state.State.{State}
-use Rattle.lalrpop_base.specs.declared.lr1_core.state.StateIndex.{StateIndex}
-use Rattle.lalrpop_base.specs.declared.repr.NonterminalString.{NonterminalString}
-use Rattle.lalrpop_base.specs.declared.repr.grammar.Grammar.{Grammar}
 use Rattle.lalrpop_tables.specs.Words.{HasActionBit, AreTraced, HasRow, InColumn, IsClosed, IsEmptyTable, IsReadyToTrace, TakesAction, places_in}
 use Rattle.lalrpop_tables.specs.declared.lane_table.construct.LaneTableConstruct.{LaneTableConstruct}
 use Rattle.lalrpop_tables.specs.declared.lane_table.lane.LaneTracer.{LaneTracer}

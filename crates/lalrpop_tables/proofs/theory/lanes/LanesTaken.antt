@@ -2,8 +2,7 @@
 use Rattle.std.proofs.Common.{◌≡◌, ℕ, suc, ◌⊎◌, inl, inr, length, refl, sym, ◌∙◌, ap, subst, true}
 use mathlib.Core.Bool.{true≢false}
 use Rattle.lalrpop_base.specs.Words.{Bits, has, no_bits, has-no_bits, IsTracedTo, IsLaneSuccessor, Contents, Rules, rules_of}
-use Rattle.lalrpop_base.specs.declared.lr1_core.state.StateIndex.{StateIndex}
-use Rattle.lalrpop_base.specs.declared.repr.Production.{Production}
+use Rattle.lalrpop_tables.proofs.Types.{Production, StateIndex}
 use Rattle.lalrpop_tables.specs.Words.{at_place, Gains, GainsSomeOfAll, Nothing, GivesCell, GivesBit, GivesSuccessor, Reaches, GainsAll, AddsTokens}
 use Rattle.lalrpop_tables.specs.Words.{AreSameTables, places_in, GivesAt, IsLaneBit, TakesLane, TakesPartOfLane}
 use Rattle.lalrpop_tables.specs.declared.lane_table.lane.ground.Ground.{Ground}

@@ -1,17 +1,11 @@
 -- Steps back to the items of a state that expand to a nonterminal, and what a place at its production's start gives.
 use Rattle.std.proofs.Common.{◌≡◌, ℕ, suc, ◌+◌, ◌⊎◌, inl, inr, List, [], ◌∷◌, ◌++◌, drop, refl, sym, ◌∙◌, ap, subst, arith, true, Some, Option}
 use Rattle.std.specs.Prelude.{Contains, slice_get}
-use Rattle.lalrpop_base.specs.Words.{contents_at, IsFirst, IsNullable, Dotted, LeadsBack, to_parent, behind_parent, of_start, Contents, IsBehindDot, IsBitOf}
-use Rattle.lalrpop_base.specs.Words.{Rules, rules_of}
+use Rattle.lalrpop_base.specs.Words.{contents_at, IsFirst, IsNullable, Dotted, LeadsBack, to_parent, behind_parent, of_start, Contents, IsBehindDot, IsBitOf, Rules, rules_of}
 use Rattle.lalrpop_base.specs.lanes.Lanes.{Gives}
-use Rattle.lalrpop_base.specs.declared.lookahead.token.Token.{Token}
+use Rattle.lalrpop_tables.proofs.Types.{NonterminalString, Production, State, Symbol, TerminalString, Token}
 use Rattle.lalrpop_base.specs.declared.lookahead.token.Token.TheVariants.{Eof, Terminal as TokenOf}
-use Rattle.lalrpop_base.specs.declared.lr1_core.state.State.{State}
-use Rattle.lalrpop_base.specs.declared.repr.NonterminalString.{NonterminalString}
-use Rattle.lalrpop_base.specs.declared.repr.Production.{Production}
-use Rattle.lalrpop_base.specs.declared.repr.Symbol.{Symbol}
 use Rattle.lalrpop_base.specs.declared.repr.Symbol.TheVariants.{Nonterminal}
-use Rattle.lalrpop_base.specs.declared.repr.TerminalString.{TerminalString}
 use Rattle.lalrpop_base.proofs.theory.states.ContentsViews.{contains_of_map}
 use Rattle.lalrpop_tables.specs.Words.{at_place, Gains, Nothing, Visits, IsHere, IsEnd, IsEndBit, IsParent, IsFollowBit, IsPassedOn, rest_of, Some_of}
 use Rattle.lalrpop_tables.specs.Words.{GivesCell, GivesBit, GivesSuccessor, GainsOf, GainsSome, GainsSomeOf, VisitsOf, AreInRange, places_in}

@@ -8,16 +8,10 @@ use Rattle.std.proofs.lemmas.Bool.{cases_lt, cases_eq, cases_Bool}
 use Rattle.std.proofs.lemmas.Map.Made.{lookup-map_values}
 use Rattle.std.proofs.lemmas.Option.{slice_get_past, slice_get_within, slice_get_cases, slice_get-map}
 use Rattle.lalrpop_base.specs.Words.{Bits, IsCoherentEdge, IsCoherentStep, StartsAtZero, HasItem, AreFinished, AreCoherent, holds_token, number_of, contents_of}
-use Rattle.lalrpop_base.specs.Words.{contents_at, contents, IsCopying, EachEntry, Dotted, Contents, leads, name_cmp}
-use Rattle.lalrpop_base.specs.declared.lr1_core.state.Action.{Action}
-use Rattle.lalrpop_base.specs.declared.lr1_core.state.State.{State}
-use Rattle.lalrpop_base.specs.declared.lr1_core.state.StateIndex.{StateIndex}
-use Rattle.lalrpop_base.specs.declared.repr.Production.{Production}
-use Rattle.lalrpop_base.specs.declared.repr.Symbol.{Symbol}
+use Rattle.lalrpop_base.specs.Words.{contents_at, contents, IsCopying, EachEntry, Dotted, Contents, leads, name_cmp, number_in, retargeted, retargeted_all}
+use Rattle.lalrpop_tables.proofs.Types.{Action, Production, State, StateIndex, Symbol, TerminalString}
 use Rattle.lalrpop_base.specs.declared.repr.Symbol.TheVariants.{Nonterminal, Terminal}
-use Rattle.lalrpop_base.specs.declared.repr.TerminalString.{TerminalString}
 use Rattle.lalrpop_base.proofs.theory.states.ContentsViews.{some_of_map}
-use Rattle.lalrpop_base.specs.Words.{number_in, retargeted, retargeted_all}
 use Rattle.lalrpop_tables.specs.Words.{by, index, AreReductionsOf, IsCopyOf, AreCopies, replaced, IsTaken}
 use Rattle.lalrpop_tables.proofs.theory.lane_states.LaneResolved.{by_all}
 use Rattle.lalrpop_base.proofs.theory.collapse.Merging.{set_here, set_elsewhere, set_length}

@@ -4,16 +4,11 @@ use Rattle.std.specs.Prelude.{slice_get, option_map}
 use Rattle.std.specs.Borrow.{Bor}
 use Rattle.std.proofs.lemmas.Bool.{cases_lt, cases_eq}
 use Rattle.std.proofs.lemmas.Option.{slice_get_within, slice_get_cases, slice_get-map}
-use Rattle.lalrpop_base.specs.Words.{Bits}
-use Rattle.lalrpop_base.specs.declared.lr1_core.state.Action.{Action}
+use Rattle.lalrpop_base.specs.Words.{Bits, AreAmong, IsReductionAt, TookColumn, IsApplied}
+use Rattle.lalrpop_tables.proofs.Types.{Action, Production, State, StateIndex}
 use Rattle.lalrpop_base.specs.declared.lr1_core.state.Action.TheVariants.{Reduce}
-use Rattle.lalrpop_base.specs.declared.lr1_core.state.State.{State}
-use Rattle.lalrpop_base.specs.declared.lr1_core.state.StateIndex.{StateIndex}
-use Rattle.lalrpop_base.specs.declared.repr.Production.{Production}
 use Rattle.lalrpop_base.proofs.theory.states.ContentsViews.{some_of_map}
-use Rattle.lalrpop_base.specs.Words.{AreAmong, IsReductionAt, TookColumn, IsApplied}
-use Rattle.lalrpop_tables.specs.Words.{by, index, AreCopies, AreTargetsAmong, AreApart, IsMerging}
-use Rattle.lalrpop_tables.specs.Words.{IsResolvedCopy, IsTaken, TookOwnColumns, context_of}
+use Rattle.lalrpop_tables.specs.Words.{by, index, AreCopies, AreTargetsAmong, AreApart, IsMerging, IsResolvedCopy, IsTaken, TookOwnColumns, context_of}
 use Rattle.lalrpop_tables.specs.declared.lane_table.construct.merge.context_sets.ContextSets.{ContextSets}
 use Rattle.lalrpop_tables.specs.declared.lane_table.construct.merge.Merge.{Merge}
 use Rattle.lalrpop_tables.proofs.theory.merges.LaneCopies.{copies_taken, copies_weaker, number_at}

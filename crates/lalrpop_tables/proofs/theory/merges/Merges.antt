@@ -5,16 +5,13 @@ use Rattle.std.specs.Borrow.{Bor}
 use Rattle.std.specs.declared.alloc.Global.{Global}
 use Rattle.std.specs.declared.vec.Vec.{Vec}
 use Rattle.std.specs.Vec.{with_item}
-use Rattle.std.proofs.lemmas.Bool.{cases_lt, cases_eq}
+use Rattle.std.proofs.lemmas.Bool.{cases_lt, cases_eq, or_cases}
 use Rattle.std.proofs.lemmas.Option.{slice_get_within}
-use Rattle.lalrpop_base.specs.Words.{Bits, has, join, has-join, AreCoherent}
-use Rattle.lalrpop_base.specs.declared.lr1_core.state.State.{State}
-use Rattle.lalrpop_base.specs.declared.lr1_core.state.StateIndex.{StateIndex}
-use Rattle.std.proofs.lemmas.Bool.{or_cases}
+use Rattle.lalrpop_base.specs.Words.{Bits, has, join, has-join, AreCoherent, AreDisjoint, HasAt, IsUnion, MeetInUnion}
+use Rattle.lalrpop_tables.proofs.Types.{State, StateIndex}
 use Rattle.std.specs.Map.{keys_of}
 use mathlib.Core.Bool.{true≢false}
 use Rattle.lalrpop_base.proofs.theory.states.ContentsViews.{contains_of_map}
-use Rattle.lalrpop_base.specs.Words.{AreDisjoint, HasAt, IsUnion, MeetInUnion}
 use Rattle.lalrpop_tables.specs.Words.{Rows, ColumnsOverlap, HasRow, IsClosed, IsRow, IsSuccessor, RowOverlaps, index}
 use Rattle.lalrpop_tables.specs.Words.{IsVisited, AreCopies, IsContext, IsMerging, IsWalked, Advances, unset, unvisited}
 use Rattle.lalrpop_tables.specs.Words.{AreUnited, IsJoinedCopy, IsApart, set_of, context_of, HasSet, AreJoined, OwnSets}

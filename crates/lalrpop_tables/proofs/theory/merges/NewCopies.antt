@@ -2,10 +2,8 @@
 use Rattle.std.proofs.Common.{◌≡◌, ℕ, ◌<◌, ◌≤◌, inl, inr, Bool, true, false, List, [], ◌∷◌, ◌++◌, length, Some, sym, ap, subst, ◌∙◌, arith, length-append}
 use Rattle.std.specs.Prelude.{slice_get}
 use Rattle.std.specs.Borrow.{Bor}
-use Rattle.lalrpop_base.specs.Words.{Bits}
-use Rattle.lalrpop_base.specs.declared.lr1_core.state.State.{State}
-use Rattle.lalrpop_base.specs.declared.lr1_core.state.StateIndex.{StateIndex}
-use Rattle.lalrpop_base.specs.Words.{AreDisjoint}
+use Rattle.lalrpop_base.specs.Words.{Bits, AreDisjoint}
+use Rattle.lalrpop_tables.proofs.Types.{State, StateIndex}
 use Rattle.lalrpop_tables.specs.Words.{HasRow, IsRow, IsSuccessor, RowOverlaps, index, IsVisited, HaveNoNewMarks, AreCopies, IsContext, IsMerging}
 use Rattle.lalrpop_tables.specs.Words.{Advances, unset, IsPushed, IsLonger, IsFresh, set_of, context_of, HasSet, IsMade, AddsColumns}
 use Rattle.lalrpop_tables.specs.declared.lane_table.construct.merge.Merge.{Merge}

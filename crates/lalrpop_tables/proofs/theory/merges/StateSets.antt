@@ -11,9 +11,8 @@ use Rattle.std.proofs.lemmas.Bool.{cases_Bool, cases_eq}
 use Rattle.std.proofs.lemmas.Map.Made.{lookup-map_values}
 use Rattle.std.proofs.lemmas.Option.{slice_get_within}
 use Rattle.lalrpop_base.specs.Words.{Bits}
-use Rattle.lalrpop_base.specs.declared.lr1_core.state.StateIndex.{StateIndex}
-use Rattle.lalrpop_tables.specs.Words.{Rows, state_cmp, set_of, columns_of, context_of, HasSet, IsJoint, AreJoined, IsMade, AddsColumns, OwnSets, replaced_set}
-use Rattle.lalrpop_tables.specs.Words.{replaced_entry}
+use Rattle.lalrpop_tables.proofs.Types.{StateIndex}
+use Rattle.lalrpop_tables.specs.Words.{Rows, state_cmp, set_of, columns_of, context_of, HasSet, IsJoint, AreJoined, IsMade, AddsColumns, OwnSets, replaced_set, replaced_entry}
 use Rattle.lalrpop_tables.specs.declared.lane_table.construct.merge.context_sets.ContextSets.{ContextSets}
 use Rattle.lalrpop_tables.specs.declared.lane_table.construct.state_set.StateSet.{StateSet}
 use Rattle.lalrpop_tables.proofs.theory.lane_tables.LaneTables.{state_exact}

@@ -3,20 +3,13 @@ use Rattle.std.proofs.Common.{◌≡◌, ◌⊎◌, ◌<◌, ℕ, inl, inr, ⊎_
 use Rattle.std.specs.Prelude.{Contains, slice_get}
 use Rattle.std.proofs.lemmas.Bool.{cases_lt}
 use Rattle.std.proofs.lemmas.Option.{slice_get_within}
-use Rattle.lalrpop_base.specs.Words.{Bits, contents, AreFaithful, Rules, rules_of}
+use Rattle.lalrpop_base.specs.Words.{Bits, contents, AreFaithful, Rules, rules_of, IsRenumberedState, AreRenumbered, number_in, HaveNoConflict}
 use Rattle.lalrpop_base.specs.conflicts.StateConflicts.{HasNoConflict}
 use Rattle.lalrpop_base.specs.declared.lr1_core.state.Items.{Items}
-use Rattle.lalrpop_base.specs.declared.lr1_core.state.State.{State}
-use Rattle.lalrpop_base.specs.declared.repr.NonterminalString.{NonterminalString}
-use Rattle.lalrpop_base.specs.declared.repr.Production.{Production}
-use Rattle.lalrpop_base.specs.declared.repr.TerminalString.{TerminalString}
-use Rattle.lalrpop_base.specs.declared.repr.grammar.Grammar.{Grammar}
+use Rattle.lalrpop_tables.proofs.Types.{Grammar, NonterminalString, Production, State, TerminalString}
 use Rattle.lalrpop_base.proofs.theory.renumbering.Renumbering.{faithful-renumbered}
 use Rattle.lalrpop_tables.specs.Words.{AreMergedTables, AreRenumberedMerged, AreLaneTables, HaveFullItems, AreCopiedTables, AreLr0Copies}
-use Rattle.lalrpop_base.specs.Words.{IsRenumberedState, AreRenumbered, number_in}
-use Rattle.lalrpop_tables.specs.Words.{AreRenumberedCopies, AreRenumberedTables, AreRenumberedLaneTables}
-use Rattle.lalrpop_base.specs.Words.{HaveNoConflict}
-use Rattle.lalrpop_tables.specs.Words.{Construction, AreTables, canonical_of}
+use Rattle.lalrpop_tables.specs.Words.{AreRenumberedCopies, AreRenumberedTables, AreRenumberedLaneTables, Construction, AreTables, canonical_of}
 use Rattle.lalrpop_base.proofs.theory.lists.Places.{same_some, filled}
 use Rattle.lalrpop_base.proofs.theory.renumbering.Renumbered.{entry_from}
 

@@ -2,13 +2,9 @@
 use Rattle.std.proofs.Common.{◌≡◌, ◌↔◌, ℕ, ◌<◌, inl, inr, List, [], sym, ◌∙◌, ap, subst, arith, Some}
 use Rattle.std.specs.Prelude.{Contains, slice_get, map}
 use Rattle.std.proofs.lemmas.Bool.{cases_lt}
-use Rattle.lalrpop_base.specs.Words.{Bits, Valid, ValidToken, Rules}
-use Rattle.lalrpop_base.specs.declared.lr1_core.state.State.{State}
-use Rattle.lalrpop_base.specs.declared.repr.NonterminalString.{NonterminalString}
-use Rattle.lalrpop_base.specs.declared.repr.Symbol.{Symbol}
-use Rattle.lalrpop_base.specs.declared.repr.TerminalString.{TerminalString}
+use Rattle.lalrpop_base.specs.Words.{Bits, Valid, ValidToken, Rules, HasItemToken, AreRenumbered}
+use Rattle.lalrpop_tables.proofs.Types.{NonterminalString, State, Symbol, TerminalString}
 use Rattle.lalrpop_base.specs.closures.Closure.{dotted_of}
-use Rattle.lalrpop_base.specs.Words.{HasItemToken, AreRenumbered}
 use Rattle.lalrpop_tables.specs.Words.{IsStateFor, HaveSameContents, AreSomeCanonicalStates}
 use Rattle.lalrpop_tables.proofs.theory.renumbering.RenumberedTables.{state_before}
 use Rattle.lalrpop_base.proofs.theory.lists.BothFacts.{turned_both}

@@ -4,9 +4,8 @@ use Rattle.std.specs.Prelude.{Contains, slice_get, Some}
 use Rattle.std.proofs.lemmas.List.Elements.{Contains-append_cases}
 use Rattle.std.proofs.lemmas.Bool.{cases_lt}
 use Rattle.std.proofs.lemmas.Option.{slice_get_within}
-use Rattle.lalrpop_base.specs.Words.{Bits, Dotted, AllDiffer, Rules, Kernels}
-use Rattle.lalrpop_base.specs.declared.lr1_core.state.State.{State}
-use Rattle.lalrpop_base.specs.Words.{AreItemsBy}
+use Rattle.lalrpop_base.specs.Words.{Bits, Dotted, AllDiffer, Rules, Kernels, AreItemsBy}
+use Rattle.lalrpop_tables.proofs.Types.{State}
 use Rattle.lalrpop_tables.specs.Words.{IsBuiltBy, IsBuiltOfBy, Extends, LeadsToAdded, IsLedTo, AreBuiltBy}
 use Rattle.lalrpop_base.proofs.theory.lists.Members.{Contains-none, contains-cons}
 use Rattle.lalrpop_base.proofs.theory.lists.Places.{slice_get-longer, slice_get-push_at, push_cases}

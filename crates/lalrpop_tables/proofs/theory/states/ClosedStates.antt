@@ -3,14 +3,9 @@ use Rattle.std.proofs.Common.{◌≡◌, ◌↔◌, ℕ, suc, ◌<◌, ◌⊎◌
 use Rattle.std.specs.Prelude.{Contains, slice_get}
 use Rattle.std.proofs.lemmas.Option.{slice_get_within}
 use Rattle.lalrpop_base.specs.Words.{InClosure, in_kernel, IsAtStart, IsMoved, items_of, AreClosed, IsReached, KernelsDiffer, contents_of, contents_at}
-use Rattle.lalrpop_base.specs.Words.{contents_in, Dotted, Contents, leads, LeadsOverDots, ReducesFinished, Rules}
-use Rattle.lalrpop_base.specs.declared.lookahead.token.Token.{Token}
-use Rattle.lalrpop_base.specs.declared.lr1_core.state.State.{State}
-use Rattle.lalrpop_base.specs.declared.repr.NonterminalString.{NonterminalString}
-use Rattle.lalrpop_base.specs.declared.repr.Production.{Production}
-use Rattle.lalrpop_base.specs.declared.repr.Symbol.{Symbol}
+use Rattle.lalrpop_base.specs.Words.{contents_in, Dotted, Contents, leads, LeadsOverDots, ReducesFinished, Rules, Ascend, InKernel}
+use Rattle.lalrpop_tables.proofs.Types.{NonterminalString, Production, State, Symbol, Token}
 use Rattle.lalrpop_base.specs.closures.Closure.{dotted_of}
-use Rattle.lalrpop_base.specs.Words.{Ascend, InKernel}
 use Rattle.lalrpop_tables.specs.Words.{AreBuiltBy, Shifts}
 use Rattle.lalrpop_tables.proofs.theory.canonical.Canonical.{InClosure-more, moved_items}
 use Rattle.lalrpop_tables.proofs.theory.canonical.CanonicalStates.{leads_transition}

@@ -7,7 +7,7 @@ use Rattle.lalrpop_base.specs.Words.{Exactly, Dotted, AddsOnce}
 use Rattle.lalrpop_base.specs.contracts.exact.ProductionExact.TheImpl as production_exactly
 use Rattle.lalrpop_base.specs.contracts.repr.ProductionEq.TheImpl as production_laws
 use Rattle.lalrpop_base.specs.contracts.repr.ProductionPartialEq.TheImpl as production_eq
-use Rattle.lalrpop_base.specs.declared.repr.Production.{Production}
+use Rattle.lalrpop_tables.proofs.Types.{Production}
 use Rattle.lalrpop_tables.specs.declared.construction.numbered.Numbered.{Numbered}
 use Rattle.lalrpop_base.proofs.theory.lists.Members.{Contains-none, contains_head, contains_tail, contains-cons}
 

@@ -4,7 +4,7 @@ use Rattle.std.specs.Prelude.{◌==◌}
 use Rattle.std.proofs.lemmas.Bool.{or_cases}
 use mathlib.Core.Bool.{true≢false}
 use Rattle.lalrpop_base.specs.Words.{has, no_bits, with_bit, has-with_bit, has-no_bits, FitsTokens}
-use Rattle.lalrpop_base.specs.declared.repr.TerminalString.{TerminalString}
+use Rattle.lalrpop_tables.proofs.Types.{TerminalString}
 
 -- Eof is a token
 pub eof_fits : (terminals : List TerminalString) → FitsTokens terminals (with_bit no_bits (length terminals))

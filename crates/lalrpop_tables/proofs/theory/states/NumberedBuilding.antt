@@ -2,11 +2,9 @@
 use Rattle.std.proofs.Common.{◌≡◌, ◌∙◌, ℕ, ◌+◌, ◌-◌, ◌<◌, List, [], ◌∷◌, ◌++◌, length, map, refl, sym, ap, subst, arith}
 use Rattle.std.specs.Prelude.{slice_get, Some}
 use Rattle.std.proofs.lemmas.Option.{slice_get_within}
-use Rattle.lalrpop_base.specs.Words.{AllDiffer, Bits, Dotted, Kernels, Rules}
-use Rattle.lalrpop_base.specs.declared.lookahead.nil.Nil.{Nil}
-use Rattle.lalrpop_base.specs.declared.lr1_core.state.State.{State}
+use Rattle.lalrpop_base.specs.Words.{AllDiffer, Bits, Dotted, Kernels, Rules, AreItemsBy}
+use Rattle.lalrpop_tables.proofs.Types.{Nil, State}
 use Rattle.lalrpop_tables.specs.grammars.Numbers.{items_by, kernels_by}
-use Rattle.lalrpop_base.specs.Words.{AreItemsBy}
 use Rattle.lalrpop_tables.specs.Words.{Extends, IsBuiltBy, LeadsToAdded}
 use Rattle.lalrpop_tables.specs.declared.construction.numbered.Numbered.{Numbered}
 use Rattle.lalrpop_tables.proofs.theory.states.Building.{Building, Building-init, Building-smaller, Building-step, kernels_limit}

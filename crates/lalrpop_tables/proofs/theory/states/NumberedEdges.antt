@@ -4,9 +4,8 @@ use Rattle.std.specs.Prelude.{Contains, slice_get}
 use Rattle.std.proofs.lemmas.List.{map-append}
 use Rattle.std.proofs.lemmas.List.Elements.{Contains-append_cases, Contains-append_right}
 use Rattle.std.proofs.lemmas.Option.{slice_get-map}
-use Rattle.lalrpop_base.specs.Words.{AddsOnce, AllDiffer, Dotted}
-use Rattle.lalrpop_base.specs.declared.lookahead.nil.Nil.{Nil}
-use Rattle.lalrpop_base.specs.Words.{Ascend}
+use Rattle.lalrpop_base.specs.Words.{AddsOnce, AllDiffer, Dotted, Ascend}
+use Rattle.lalrpop_tables.proofs.Types.{Nil}
 use Rattle.lalrpop_tables.specs.Words.{Groups}
 use Rattle.lalrpop_tables.specs.grammars.Numbers.{AreAllNumbered, AreNumbered, NumberedGroups, groups_by, items_by}
 use Rattle.lalrpop_tables.specs.declared.construction.numbered.Numbered.{Numbered}

@@ -6,8 +6,7 @@ use Rattle.std.specs.Borrow.{Bor}
 use Rattle.std.proofs.lemmas.List.Elements.{Contains-append_left, Contains-append_right, Contains-append_cases}
 use Rattle.std.proofs.lemmas.Option.{slice_get_within}
 use Rattle.lalrpop_base.specs.Words.{AllDiffer, Bits, Dotted}
-use Rattle.lalrpop_base.specs.declared.lookahead.nil.Nil.{Nil}
-use Rattle.lalrpop_base.specs.declared.repr.Production.{Production}
+use Rattle.lalrpop_tables.proofs.Types.{Nil, Production}
 use Rattle.lalrpop_base.proofs.theory.states.ContentsViews.{contains_map, contains_of_map}
 use Rattle.lalrpop_base.specs.grammars.Ascending.{Ascend}
 use Rattle.lalrpop_tables.specs.states.NumberedStates.{AreReducedNumbers, HasDots}

@@ -4,11 +4,9 @@ use Rattle.std.specs.Prelude.{Contains, slice_get}
 use Rattle.std.specs.Map.{keys_of}
 use Rattle.std.proofs.lemmas.List.{map-append}
 use Rattle.std.proofs.lemmas.Option.{slice_get-map, slice_get_within}
-use Rattle.lalrpop_base.specs.Words.{AllDiffer, Dotted, Rules}
-use Rattle.lalrpop_base.specs.declared.lookahead.nil.Nil.{Nil}
-use Rattle.lalrpop_base.specs.declared.repr.Symbol.{Symbol}
+use Rattle.lalrpop_base.specs.Words.{AllDiffer, Dotted, Rules, IsPushedAt}
+use Rattle.lalrpop_tables.proofs.Types.{Nil, Symbol}
 use Rattle.lalrpop_base.proofs.theory.states.ContentsViews.{contains_of_map, some_of_map}
-use Rattle.lalrpop_base.specs.Words.{IsPushedAt}
 use Rattle.lalrpop_tables.specs.Words.{IsMoveAdded}
 use Rattle.lalrpop_base.specs.lists.Entries.IsPushedAt.{fresh, known}
 use Rattle.lalrpop_tables.specs.grammars.Numbers.{AreGroupsOf, AreNumbered, AreNumbers, NumberedGroups, dotted_at, groups_by, item_by, items_by, symbol_at}

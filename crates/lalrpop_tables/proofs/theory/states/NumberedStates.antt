@@ -3,9 +3,7 @@ use Rattle.std.proofs.Common.{◌≡◌, ◌∙◌, inl, inr, ℕ, ◌+◌, List
 use Rattle.std.specs.Prelude.{slice_get, Option, Some}
 use Rattle.std.proofs.lemmas.Option.{slice_get_within}
 use Rattle.lalrpop_base.specs.Words.{Bits, contents_at, contents_of, leads}
-use Rattle.lalrpop_base.specs.declared.lookahead.token.Token.{Token}
-use Rattle.lalrpop_base.specs.declared.lr1_core.state.State.{State}
-use Rattle.lalrpop_base.specs.declared.repr.Symbol.{Symbol}
+use Rattle.lalrpop_tables.proofs.Types.{State, Symbol, Token}
 use Rattle.lalrpop_tables.specs.states.NumberedStates.{AddTransitions, AreNumberedStates, AreReducedNumbers, GotosAscend, IsNumberedState, ShiftsAscend, goto_transitions, shift_transitions}
 use Rattle.lalrpop_tables.specs.grammars.Numbers.{SymbolsAscend}
 use Rattle.lalrpop_tables.specs.declared.construction.numbers.Numbers.{Numbers}

@@ -5,7 +5,7 @@ use Rattle.std.specs.declared.cmp.Ordering.TheVariants.{Less, Greater}
 use Rattle.std.specs.Ordering.{ordering_reverse}
 use Rattle.std.proofs.lemmas.List.Elements.{Contains-append_left, Contains-append_right, Contains-append_cases}
 use Rattle.lalrpop_base.specs.Words.{Ordered}
-use Rattle.lalrpop_base.specs.declared.repr.Symbol.{Symbol}
+use Rattle.lalrpop_tables.proofs.Types.{Symbol}
 use Rattle.lalrpop_base.proofs.theory.conflicts.ConflictLists.{ordered-append, ordered-cons, ordered-nil}
 use Rattle.lalrpop_tables.specs.states.NumberedStates.{AddTransitions, AddTransitions.none, AddTransitions.more, AddsTransition, EdgesAscend, numbered_transition}
 use Rattle.lalrpop_tables.specs.grammars.Numbering.{IsNumberOf}

@@ -4,15 +4,12 @@ use Rattle.std.specs.Prelude.{Contains, slice_get}
 use Rattle.std.specs.Borrow.{Bor}
 use Rattle.std.specs.declared.cmp.Ordering.TheVariants.{Less}
 use Rattle.std.proofs.lemmas.Option.{slice_get-map}
-use Rattle.lalrpop_base.specs.Words.{Ordered, ReducesInOrder, reduction_of, contents_of, Dotted, ReducesFinished}
+use Rattle.lalrpop_base.specs.Words.{Ordered, ReducesInOrder, reduction_of, contents_of, Dotted, ReducesFinished, production_order, Precedes, Ascend}
 use Rattle.lalrpop_base.specs.states.States.{Reduction}
-use Rattle.lalrpop_base.specs.declared.lookahead.token.Token.{Token}
-use Rattle.lalrpop_base.specs.declared.lr1_core.state.State.{State}
-use Rattle.lalrpop_base.specs.declared.repr.Production.{Production}
+use Rattle.lalrpop_tables.proofs.Types.{Production, State, Token}
 use Rattle.lalrpop_base.proofs.theory.states.ContentsViews.{some_of_map, contains_of_map, contains_map}
 use Rattle.lalrpop_base.proofs.theory.conflicts.ConflictLists.{ordered-cons, ordered-head, ordered-tail, ordered-nil}
 use Rattle.lalrpop_base.specs.closures.Closure.{dotted_of}
-use Rattle.lalrpop_base.specs.Words.{production_order, Precedes, Ascend}
 use Rattle.lalrpop_tables.specs.Words.{reductions_of, seen}
 use Rattle.lalrpop_base.proofs.theory.grammars.AscendingItems.{less_apart}
 use Rattle.lalrpop_base.proofs.theory.lists.Members.{Contains-none, contains_head, contains_tail, contains-cons}

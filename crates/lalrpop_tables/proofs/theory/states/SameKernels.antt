@@ -1,11 +1,8 @@
 -- Kernels with the same dotted productions and tokens are one, since their items stand in one order.
 use Rattle.std.proofs.Common.{◌≡◌, ◌↔◌, ℕ, suc, ◌+◌, inl, inr, true, List, map, refl, sym, ◌∙◌, ap, subst, arith}
 use Rattle.std.specs.Prelude.{Contains}
-use Rattle.lalrpop_base.specs.Words.{Bits, InClosure, in_kernel, expanded, InTokenClosure, with_token, begins_rest, inherits, holds_token, Dotted, AllDiffer}
-use Rattle.lalrpop_base.specs.Words.{Rules}
-use Rattle.lalrpop_base.specs.declared.lookahead.token.Token.{Token}
-use Rattle.lalrpop_base.specs.declared.repr.Production.{Production}
-use Rattle.lalrpop_base.specs.declared.repr.Symbol.{Symbol}
+use Rattle.lalrpop_base.specs.Words.{Bits, InClosure, in_kernel, expanded, InTokenClosure, with_token, begins_rest, inherits, holds_token, Dotted, AllDiffer, Rules}
+use Rattle.lalrpop_tables.proofs.Types.{Production, Symbol, Token}
 use Rattle.lalrpop_base.proofs.theory.lists.Ascending.{ascending_same}
 use Rattle.lalrpop_base.proofs.theory.conflicts.ConflictLists.{ordered-cons, ordered-head, ordered-tail}
 use Rattle.lalrpop_base.specs.closures.Closure.{dotted_of}

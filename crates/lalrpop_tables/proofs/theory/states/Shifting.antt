@@ -5,14 +5,9 @@ use Rattle.std.specs.Map.{lookup}
 use Rattle.std.specs.BTreeMap.{is_at}
 use Rattle.std.proofs.lemmas.Option.{slice_get_within}
 use Rattle.std.proofs.lemmas.Map.Entries.{place_from_lookup}
-use Rattle.lalrpop_base.specs.Words.{Bits, Dotted, AllDiffer, FitsTokens, Rules, rules_of, IsWellFormed, productions_of, listed_productions, name_cmp}
-use Rattle.lalrpop_base.specs.declared.repr.NonterminalString.{NonterminalString}
-use Rattle.lalrpop_base.specs.declared.repr.Production.{Production}
-use Rattle.lalrpop_base.specs.declared.repr.Symbol.{Symbol}
-use Rattle.lalrpop_base.specs.declared.repr.grammar.Grammar.{Grammar}
-use Rattle.lalrpop_base.specs.declared.repr.grammar.NonterminalData.{NonterminalData}
+use Rattle.lalrpop_base.specs.Words.{Bits, Dotted, AllDiffer, FitsTokens, Rules, rules_of, IsWellFormed, productions_of, listed_productions, name_cmp, IsItemBy, AreItemsBy}
+use Rattle.lalrpop_tables.proofs.Types.{Grammar, NonterminalData, NonterminalString, Production, Symbol}
 use Rattle.lalrpop_base.specs.closures.Closure.{dotted_of}
-use Rattle.lalrpop_base.specs.Words.{IsItemBy, AreItemsBy}
 use Rattle.lalrpop_tables.specs.Words.{begun, IsBehind, moved, Shifts}
 use Rattle.lalrpop_tables.specs.states.Transitions.Shifts.{none, moves, stays}
 use Rattle.lalrpop_base.proofs.theory.grammars.Grammars.{productions_among}

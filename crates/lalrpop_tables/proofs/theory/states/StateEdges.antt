@@ -7,16 +7,11 @@ use Rattle.std.specs.declared.cmp.Ordering.{Ordering}
 use Rattle.std.proofs.lemmas.Map.Lookups.{CmpEqualImpliesEq}
 use Rattle.std.proofs.lemmas.Map.Views.{IsSome-lookup_from_Contains}
 use Rattle.std.proofs.lemmas.Option.{slice_get_within}
-use Rattle.lalrpop_base.specs.Words.{IsReached, at_zero, number_of, contents_of, contents_at, contents_in, no_contents, Dotted, leads, IsBehindDot}
-use Rattle.lalrpop_base.specs.Words.{LeadsOverDots}
+use Rattle.lalrpop_base.specs.Words.{IsReached, at_zero, number_of, contents_of, contents_at, contents_in, no_contents, Dotted, leads, IsBehindDot, LeadsOverDots}
 use Rattle.lalrpop_base.specs.closures.Closures.{over_edge}
 use Rattle.lalrpop_base.specs.contracts.repr.TerminalStringOrd.TheImpl as terminal_ord
 use Rattle.lalrpop_base.specs.contracts.repr.NonterminalStringOrd.TheImpl as name_ord
-use Rattle.lalrpop_base.specs.declared.lookahead.token.Token.{Token}
-use Rattle.lalrpop_base.specs.declared.lr1_core.state.State.{State}
-use Rattle.lalrpop_base.specs.declared.lr1_core.state.StateIndex.{StateIndex}
-use Rattle.lalrpop_base.specs.declared.repr.Production.{Production}
-use Rattle.lalrpop_base.specs.declared.repr.Symbol.{Symbol}
+use Rattle.lalrpop_tables.proofs.Types.{Production, State, StateIndex, Symbol, Token}
 use Rattle.lalrpop_base.specs.declared.repr.Symbol.TheVariants.{Nonterminal, Terminal}
 use Rattle.lalrpop_base.proofs.theory.states.ContentsViews.{terminals_ordered, names_ordered}
 use Rattle.lalrpop_base.specs.closures.Closure.{dotted_of}

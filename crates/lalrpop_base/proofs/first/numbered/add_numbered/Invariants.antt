@@ -1,6 +1,6 @@
 use Rattle.std.proofs.Common.{◌++◌, List, take}
 use Rattle.std.specs.List.{AllZip}
-use Rattle.lalrpop_base.specs.declared.repr.Production.{Production}
+use Rattle.lalrpop_base.proofs.Types.{Production}
 use Rattle.lalrpop_base.specs.first.FirstNumbers.{IsNumberedProduction}
 use Rattle.lalrpop_base.proofs.first.numbered.add_numbered.Given as goal
 

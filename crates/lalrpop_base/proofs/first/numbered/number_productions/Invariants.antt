@@ -1,8 +1,6 @@
 use Rattle.std.proofs.Common.{◌≡◌, ◌++◌, List}
 use Rattle.std.specs.List.{AllZip, flat_map}
-use Rattle.lalrpop_base.specs.declared.repr.NonterminalString.{NonterminalString}
-use Rattle.lalrpop_base.specs.declared.repr.Production.{Production}
-use Rattle.lalrpop_base.specs.declared.repr.grammar.NonterminalData.{NonterminalData}
+use Rattle.lalrpop_base.proofs.Types.{NonterminalData, NonterminalString, Production}
 use Rattle.lalrpop_base.specs.Words.{productions}
 use Rattle.lalrpop_base.specs.first.FirstNumbers.{IsNumberedProduction, AreReady}
 use Rattle.lalrpop_base.proofs.first.numbered.number_productions.Given as goal

@@ -2,7 +2,7 @@ use Rattle.std.proofs.Common.{◌≡◌, ◌∷◌, ◌++◌, sym, ◌∙◌, ap
 use Rattle.std.specs.List.Sorted.{IsStrictlySortedBy}
 use Rattle.std.specs.Map.{keys_of}
 use Rattle.std.specs.BTreeMap.{insert_entry}
-use Rattle.lalrpop_base.specs.declared.repr.NonterminalString.{NonterminalString}
+use Rattle.lalrpop_base.proofs.Types.{NonterminalString}
 use Rattle.lalrpop_base.specs.Words.{Bits, name_cmp, Table}
 use Rattle.lalrpop_base.proofs.theory.first.FirstNames.{copied}
 use Rattle.lalrpop_base.proofs.first.table.clone_table.Goals as goal

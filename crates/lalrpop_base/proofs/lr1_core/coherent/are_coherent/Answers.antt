@@ -1,7 +1,7 @@
 use Rattle.std.proofs.Common.{◌≡◌, ◌<◌, ℕ, length, refl, sym, subst, arith, ⊎_elim}
 use Rattle.std.proofs.lemmas.Option.{slice_get_within}
 use Rattle.std.proofs.lemmas.Bool.{cases_lt}
-use Rattle.lalrpop_base.specs.declared.lr1_core.state.State.{State}
+use Rattle.lalrpop_base.proofs.Types.{State}
 use Rattle.lalrpop_base.specs.Words.{IsCoherentState}
 use Rattle.lalrpop_base.proofs.theory.lists.EachLemmas.{same_at}
 use Rattle.std.specs.Prelude.{slice_get, Some}

@@ -1,4 +1,4 @@
-use Rattle.lalrpop_base.specs.declared.lr1_core.state.State.{State}
+use Rattle.lalrpop_base.proofs.Types.{State}
 use Rattle.lalrpop_base.specs.Words.{IsCoherentState}
 use Rattle.std.proofs.Common.{◌≡◌, ℕ, ◌<◌}
 use Rattle.std.specs.Prelude.{slice_get, Some}

@@ -1,5 +1,5 @@
 use Rattle.std.proofs.Common.{Bor, length}
-use Rattle.lalrpop_base.specs.declared.repr.Production.{Production}
+use Rattle.lalrpop_base.proofs.Types.{Production}
 use Rattle.lalrpop_base.specs.Words.{HasItem, EachBelow}
 use Rattle.lalrpop_base.proofs.lr1_core.coherent.are_finished.Given as goal
 

@@ -1,6 +1,6 @@
 use Rattle.std.proofs.Common.{refl, subst}
 use Rattle.std.proofs.lemmas.Option.{slice_get_read}
-use Rattle.lalrpop_base.specs.declared.lr1_core.state.State.{State}
+use Rattle.lalrpop_base.proofs.Types.{State}
 use Rattle.lalrpop_base.specs.Words.{IsCoherentEdge, symbol_of}
 use Rattle.lalrpop_base.proofs.theory.lists.EachLemmas.{same_at}
 use Rattle.lalrpop_base.proofs.lr1_core.coherent.is_coherent_step.Goals as goal

@@ -1,5 +1,5 @@
 use Rattle.lalrpop_base.specs.Words.{IsAlikeTo, EachItem, EachBelow}
-use Rattle.lalrpop_base.specs.declared.lr1_core.state.State.{State}
+use Rattle.lalrpop_base.proofs.Types.{State}
 use Rattle.lalrpop_base.proofs.lr1_core.collapsible.are_all_alike.Given as goal
 
 abbrev pub invariant-loop-state : goal.invariant-loop-state

@@ -2,8 +2,7 @@ use Rattle.std.proofs.Common.{ℕ, ◌∙◌, ap, subst}
 use Rattle.std.specs.BTreeMap.{insert_entry}
 use Rattle.lalrpop_base.specs.Words.{same_production, start_production, IsEntryOf, name_cmp, productions}
 use Rattle.lalrpop_base.specs.declared.repr.ActionFn.{ActionFn}
-use Rattle.lalrpop_base.specs.declared.repr.NonterminalString.{NonterminalString}
-use Rattle.lalrpop_base.specs.declared.repr.Production.{Production}
+use Rattle.lalrpop_base.proofs.Types.{NonterminalString, Production}
 use Rattle.lalrpop_base.proofs.theory.grammars.NewStart.{is_augmented, well_formed}
 use Rattle.lalrpop_base.proofs.theory.grammars.Augmented.{alone, augmented_trees, same_sentences, same_beginnings, same_wrong}
 use Rattle.lalrpop_base.proofs.repr.augment.augment.Goals as goal

@@ -1,7 +1,6 @@
 use Rattle.std.proofs.Common.{rules, ◌≡◌, refl, sym, subst, List}
 use Rattle.lalrpop_base.specs.Words.{IsOnNoRightSide}
-use Rattle.lalrpop_base.specs.declared.repr.NonterminalString.{NonterminalString}
-use Rattle.lalrpop_base.specs.declared.repr.grammar.NonterminalData.{NonterminalData}
+use Rattle.lalrpop_base.proofs.Types.{NonterminalData, NonterminalString}
 use Rattle.lalrpop_base.proofs.theory.grammars.NewStart.{listed, sides_cons, sides_head, sides_tail}
 use Rattle.lalrpop_base.proofs.theory.lists.Lists.{contains-nil}
 use Rattle.lalrpop_base.proofs.repr.augment.is_on_no_right_side.Goals as goal

@@ -1,7 +1,7 @@
 use Rattle.std.proofs.Common.{◌≡◌, ℕ, ◌<◌}
 use Rattle.std.specs.Prelude.{slice_get, Some}
 use Rattle.lalrpop_base.specs.Words.{DifferBelow, IsWellFormedProduction}
-use Rattle.lalrpop_base.specs.declared.repr.Production.{Production}
+use Rattle.lalrpop_base.proofs.Types.{Production}
 use Rattle.lalrpop_base.proofs.repr.grammar.is_well_formed_entry.Given as goal
 
 abbrev pub invariant-loop-place : goal.invariant-loop-place

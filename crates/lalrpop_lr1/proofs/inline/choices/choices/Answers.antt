@@ -1,6 +1,6 @@
 use Rattle.std.proofs.Common.{◌≡◌, ◌++◌, ◌∷◌, ◌+◌, [], List, drop, ap, sym, ◌∙◌, arith}
 use Rattle.std.proofs.lemmas.List.{drop_all, drop_more}
-use Rattle.lalrpop_base.specs.declared.repr.Symbol.{Symbol}
+use Rattle.lalrpop_lr1.proofs.Types.{Symbol}
 use Rattle.lalrpop_lr1.specs.Words.{choices, completed, extended, parts}
 use Rattle.lalrpop_lr1.proofs.theory.inlining.InlineChoices.{completed-nil, completed-one, completed_step}
 use Rattle.lalrpop_lr1.proofs.inline.choices.choices.Goals as goal

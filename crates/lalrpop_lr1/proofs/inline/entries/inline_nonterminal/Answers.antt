@@ -1,7 +1,7 @@
 use Rattle.std.proofs.Common.{rules, ◌≡◌, [], List, length, refl, sym, ◌∙◌, ap, subst}
 use Rattle.std.specs.Prelude.{Contains}
 use Rattle.lalrpop_base.specs.Words.{productions_of}
-use Rattle.lalrpop_base.specs.declared.repr.NonterminalString.{NonterminalString}
+use Rattle.lalrpop_lr1.proofs.Types.{NonterminalString}
 use Rattle.lalrpop_lr1.specs.Words.{View, view_of, inlined_of, listed_names, users_at, replaced_places, IsPastLast}
 use Rattle.lalrpop_lr1.proofs.theory.inlining.InlinePlaces.{none_sorted}
 use Rattle.lalrpop_lr1.proofs.theory.inlining.InlineUsers.{inlined_at, users_found}

@@ -1,8 +1,7 @@
 use Rattle.std.proofs.Common.{rules, List, length, sym, ◌∙◌, ap, ap₂, subst, Vec, Global}
 use Rattle.std.specs.BTreeMap.{BTreeMap}
-use Rattle.lalrpop_base.specs.declared.repr.NonterminalString.{NonterminalString}
+use Rattle.lalrpop_lr1.proofs.Types.{NonterminalData, NonterminalString}
 use Rattle.lalrpop_base.specs.declared.repr.grammar.ActionFnDefn.{ActionFnDefn}
-use Rattle.lalrpop_base.specs.declared.repr.grammar.NonterminalData.{NonterminalData}
 use Rattle.lalrpop_lr1.specs.inlining.InlineSteps.{view_with}
 use Rattle.lalrpop_lr1.specs.Words.{View, IsPastLast}
 use Rattle.lalrpop_lr1.proofs.theory.inlining.InlinePlaces.{place_replaced, place_definitions, place_empty}

@@ -1,6 +1,6 @@
 use Rattle.std.proofs.Common.{rules, ◌≡◌, ◌∷◌, [], List, arith, sym, ◌∙◌, ap}
 use Rattle.std.proofs.lemmas.Grind.{common_steps}
-use Rattle.lalrpop_base.specs.declared.repr.NonterminalString.{NonterminalString}
+use Rattle.lalrpop_lr1.proofs.Types.{NonterminalString}
 use Rattle.lalrpop_lr1.specs.inlining.InlineSteps.{view_with}
 use Rattle.lalrpop_lr1.specs.Words.{replaced_places}
 use Rattle.lalrpop_lr1.proofs.theory.inlining.InlinePlaces.{place_past}

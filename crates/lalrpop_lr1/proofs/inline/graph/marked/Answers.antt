@@ -5,9 +5,8 @@ use Rattle.std.specs.Prelude.{Contains}
 use Rattle.std.specs.BTreeMap.{IsOrdered}
 use mathlib.Core.Bool.{true≢false}
 use Rattle.lalrpop_base.specs.Words.{name_cmp, inline_mark}
-use Rattle.lalrpop_base.specs.declared.repr.NonterminalString.{NonterminalString}
+use Rattle.lalrpop_lr1.proofs.Types.{NonterminalData, NonterminalString}
 use Rattle.lalrpop_base.specs.declared.repr.grammar.Attribute.{Attribute}
-use Rattle.lalrpop_base.specs.declared.repr.grammar.NonterminalData.{NonterminalData}
 use Rattle.lalrpop_lr1.proofs.theory.inlining.InlineMarks.{AreMarkedOf, marked_more, marked_same, all_marked}
 use Rattle.lalrpop_lr1.proofs.inline.graph.marked.Goals as goal
 

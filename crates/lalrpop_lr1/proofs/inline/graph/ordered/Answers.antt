@@ -5,7 +5,7 @@ use Rattle.std.specs.BTreeMap.{is_at}
 use Rattle.std.specs.BTreeSet.{contains}
 use Rattle.std.proofs.lemmas.List.{take_all}
 use Rattle.lalrpop_base.specs.Words.{name_cmp}
-use Rattle.lalrpop_base.specs.declared.repr.NonterminalString.{NonterminalString}
+use Rattle.lalrpop_lr1.proofs.Types.{NonterminalString}
 use Rattle.lalrpop_lr1.specs.declared.inline.graph.depth_first.Walk.{Walk}
 use Rattle.lalrpop_lr1.proofs.theory.inlining.InlineWalks.{nothing_walked}
 use Rattle.lalrpop_lr1.proofs.theory.inlining.InlineFrames.{HasLeft, none_left, one_left, all_left}

@@ -1,7 +1,7 @@
 use Rattle.std.proofs.Common.{◌≡◌, ◌↔◌, true, Contains, take}
 use Rattle.std.specs.BTreeSet.{contains}
 use Rattle.lalrpop_base.specs.Words.{name_cmp}
-use Rattle.lalrpop_base.specs.declared.repr.NonterminalString.{NonterminalString}
+use Rattle.lalrpop_lr1.proofs.Types.{NonterminalString}
 use Rattle.lalrpop_lr1.proofs.inline.graph.set_of.Given as goal
 
 abbrev pub invariant-loop-name : goal.invariant-loop-name

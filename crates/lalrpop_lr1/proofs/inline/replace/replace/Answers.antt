@@ -1,7 +1,6 @@
-use Rattle.std.proofs.Common.{◌≡◌, true, length, sym, ◌∙◌, ap, subst}
+use Rattle.std.proofs.Common.{◌≡◌, true, length, sym, ◌∙◌, ap, subst, List}
 use Rattle.std.specs.Prelude.{IfErr}
-use Rattle.lalrpop_base.specs.declared.repr.Symbol.{Symbol}
-use Rattle.std.proofs.Common.{List}
+use Rattle.lalrpop_lr1.proofs.Types.{Symbol}
 use Rattle.lalrpop_lr1.specs.Words.{mentions, choices, Made, IsPastLast}
 use Rattle.lalrpop_lr1.proofs.theory.inlining.InlineSteps.{replaced_by_choices}
 use Rattle.lalrpop_lr1.proofs.inline.replace.replace.Goals as goal

@@ -1,7 +1,7 @@
 use Rattle.std.proofs.Common.{◌≡◌, List, take, arith, subst, sym}
 use Rattle.std.specs.Prelude.{Contains}
 use Rattle.std.proofs.lemmas.List.{take_all}
-use Rattle.lalrpop_base.specs.declared.repr.Production.{Production}
+use Rattle.lalrpop_lr1.proofs.Types.{Production}
 use Rattle.lalrpop_base.proofs.theory.lists.Lists.{contains-nil}
 use Rattle.lalrpop_lr1.proofs.theory.inlining.InlineUsers.{production_added, keeps_twice}
 use Rattle.lalrpop_lr1.proofs.inline.users.add_to_mentioned.Goals as goal

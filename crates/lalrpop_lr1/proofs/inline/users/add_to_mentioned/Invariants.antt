@@ -1,7 +1,6 @@
 use Rattle.std.proofs.Common.{Contains, take}
-use Rattle.lalrpop_base.specs.declared.repr.NonterminalString.{NonterminalString}
+use Rattle.lalrpop_lr1.proofs.Types.{NonterminalString, Production}
 use Rattle.lalrpop_base.specs.declared.repr.Symbol.TheVariants.{Nonterminal}
-use Rattle.lalrpop_base.specs.declared.repr.Production.{Production}
 use Rattle.lalrpop_lr1.specs.Words.{IsMarked, users_at, KeepsUsers}
 use Rattle.lalrpop_lr1.proofs.inline.users.add_to_mentioned.Given as goal
 

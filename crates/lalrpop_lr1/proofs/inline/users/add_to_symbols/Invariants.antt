@@ -1,5 +1,5 @@
 use Rattle.std.proofs.Common.{Contains, take}
-use Rattle.lalrpop_base.specs.declared.repr.NonterminalString.{NonterminalString}
+use Rattle.lalrpop_lr1.proofs.Types.{NonterminalString}
 use Rattle.lalrpop_base.specs.declared.repr.Symbol.TheVariants.{Nonterminal}
 use Rattle.lalrpop_lr1.specs.Words.{IsMarked, users_at, KeepsUsers}
 use Rattle.lalrpop_lr1.proofs.inline.users.add_to_symbols.Given as goal

@@ -1,9 +1,7 @@
 use Rattle.std.proofs.Common.{◌≡◌, ◌∷◌, ◌++◌, [], List, arith, sym, ◌∙◌, ap, subst, append_assoc}
 use Rattle.std.proofs.lemmas.Grind.{common_steps}
 use Rattle.std.proofs.lemmas.List.{append-nil}
-use Rattle.lalrpop_base.specs.declared.repr.NonterminalString.{NonterminalString}
-use Rattle.lalrpop_base.specs.declared.repr.Production.{Production}
-use Rattle.lalrpop_base.specs.declared.repr.grammar.NonterminalData.{NonterminalData}
+use Rattle.lalrpop_lr1.proofs.Types.{NonterminalData, NonterminalString, Production}
 use Rattle.lalrpop_base.proofs.theory.lists.Lists.{contains-nil}
 use Rattle.lalrpop_lr1.proofs.theory.inlining.InlineUsers.{AreUsersOf, IsUnderMentioned, entry_added, all_users}
 use Rattle.lalrpop_lr1.proofs.inline.users.users_of.Goals as goal

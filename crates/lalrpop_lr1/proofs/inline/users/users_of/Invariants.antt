@@ -1,6 +1,5 @@
 use Rattle.std.proofs.Common.{◌≡◌, ◌++◌, List}
-use Rattle.lalrpop_base.specs.declared.repr.NonterminalString.{NonterminalString}
-use Rattle.lalrpop_base.specs.declared.repr.grammar.NonterminalData.{NonterminalData}
+use Rattle.lalrpop_lr1.proofs.Types.{NonterminalData, NonterminalString}
 use Rattle.lalrpop_lr1.proofs.theory.inlining.InlineUsers.{AreUsersOf}
 use Rattle.lalrpop_lr1.proofs.inline.users.users_of.Given as goal
 

@@ -1,7 +1,7 @@
 use Rattle.std.proofs.Common.{List, [], ◌∷◌, ◌++◌, take, refl, sym, ◌∙◌, ap, subst, arith}
 use Rattle.std.proofs.lemmas.List.{take_more, take_all}
 use Rattle.lalrpop_base.specs.Words.{HasKnownTerminals}
-use Rattle.lalrpop_base.specs.declared.repr.Symbol.{Symbol}
+use Rattle.lalrpop_lr1.proofs.Types.{Symbol}
 use Rattle.lalrpop_lr1.proofs.theory.traces.KnownLabels.{known_more}
 use Rattle.lalrpop_lr1.proofs.trace.known.are_known.Goals as goal
 

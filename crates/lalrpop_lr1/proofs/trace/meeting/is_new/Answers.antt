@@ -1,9 +1,8 @@
-use Rattle.std.proofs.Common.{subst, ◌≡◌, Bool, true, false, refl, sym, ap, ◌∙◌, cond}
+use Rattle.std.proofs.Common.{subst, ◌≡◌, Bool, true, false, refl, sym, ap, ◌∙◌, cond, ⊎_elim, inl, inr}
 use Rattle.lalrpop_lr1.specs.Words.{meeting_cmp, IsInsertedPair, Meeting}
-use Rattle.std.proofs.Common.{⊎_elim, inl, inr}
 use Rattle.std.specs.Ordering.{is_eq}
 use Rattle.std.proofs.lemmas.Bool.{cases_Bool}
-use Rattle.lalrpop_base.specs.declared.repr.NonterminalString.{NonterminalString}
+use Rattle.lalrpop_lr1.proofs.Types.{NonterminalString}
 use Rattle.lalrpop_lr1.proofs.theory.traces.Traces.{tied_meetings}
 use Rattle.lalrpop_lr1.proofs.trace.meeting.is_new.Goals as goal
 

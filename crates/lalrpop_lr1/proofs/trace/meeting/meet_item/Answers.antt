@@ -1,7 +1,7 @@
-use Rattle.std.proofs.Common.{◌≡◌, ◌++◌, sym, ◌∙◌, ap, subst}
+use Rattle.std.proofs.Common.{◌≡◌, ◌++◌, sym, ◌∙◌, ap, subst, refl}
 use mathlib.Core.Bool.{true≢false}
 use Rattle.lalrpop_base.specs.Words.{Bits, Dotted}
-use Rattle.lalrpop_base.specs.declared.repr.Production.{Production}
+use Rattle.lalrpop_lr1.proofs.Types.{Production}
 use Rattle.lalrpop_tables.specs.Words.{edges}
 use Rattle.lalrpop_lr1.specs.Words.{Meeting, come_to_each, asked, duties_left}
 use Rattle.lalrpop_lr1.specs.declared.trace.meeting.Met.{Met}
@@ -9,7 +9,6 @@ use Rattle.lalrpop_lr1.proofs.theory.traces.TraceOrder.{are_sources}
 use Rattle.lalrpop_lr1.proofs.theory.traces.TraceSteps.{step_stop, step_on}
 use Rattle.lalrpop_lr1.proofs.theory.traces.Traces.{on_ok_both}
 use Rattle.lalrpop_lr1.proofs.trace.meeting.meet_item.Goals as goal
-use Rattle.std.proofs.Common.{refl}
 
 pub returns-then-not-branch : goal.returns-then-not-branch
 returns-then-not-branch c =

@@ -3,7 +3,7 @@ use Rattle.std.specs.Prelude.{Contains, slice_get, Option}
 use Rattle.std.proofs.lemmas.Option.{slice_get-get_or, slice_get_past}
 use mathlib.Core.Bool.{true≢false}
 use Rattle.lalrpop_base.specs.Words.{Bits, Dotted}
-use Rattle.lalrpop_base.specs.declared.lr1_core.state.State.{State}
+use Rattle.lalrpop_lr1.proofs.Types.{State}
 use Rattle.lalrpop_lr1.specs.Words.{Meeting, take_up, take_up_each, items_at, asked, duties_left, IsStep}
 use Rattle.lalrpop_lr1.specs.declared.trace.meeting.Met.{Met}
 use Rattle.lalrpop_lr1.specs.declared.trace.meeting.Task.{Task}

@@ -1,6 +1,6 @@
 use Rattle.std.proofs.Common.{◌≡◌, ◌+◌, [], ◌++◌, List, length, map, refl, sym, ◌∙◌, ap, arith}
 use Rattle.std.proofs.lemmas.List.{length_push, nil_from_length}
-use Rattle.lalrpop_base.specs.declared.lr1_core.state.StateIndex.{StateIndex}
+use Rattle.lalrpop_lr1.proofs.Types.{StateIndex}
 use Rattle.lalrpop_lr1.specs.Words.{Duty, come_to, duties_left}
 use Rattle.lalrpop_lr1.specs.declared.trace.meeting.Task.{Task}
 use Rattle.lalrpop_lr1.specs.declared.trace.meeting.Task.TheVariants.{Meet}

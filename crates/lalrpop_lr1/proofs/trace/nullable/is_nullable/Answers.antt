@@ -2,7 +2,7 @@ use Rattle.std.proofs.Common.{List, refl, sym, ◌∙◌, subst}
 use mathlib.Core.Bool.{true≢false}
 use Rattle.std.proofs.lemmas.List.{drop_all}
 use Rattle.lalrpop_base.specs.Words.{IsNullable}
-use Rattle.lalrpop_base.specs.declared.repr.Symbol.{Symbol}
+use Rattle.lalrpop_lr1.proofs.Types.{Symbol}
 use Rattle.lalrpop_base.proofs.theory.grammars.Forests.{nullable-nil}
 use Rattle.lalrpop_lr1.proofs.theory.traces.Nullable.{null_on, null_stops}
 use Rattle.lalrpop_lr1.proofs.trace.nullable.is_nullable.Goals as goal

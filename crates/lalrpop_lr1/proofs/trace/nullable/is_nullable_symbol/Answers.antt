@@ -1,7 +1,7 @@
 use Rattle.std.proofs.Common.{[], ◌∷◌, sym, subst}
 use mathlib.Core.Bool.{true≢false}
 use Rattle.lalrpop_base.specs.Words.{IsNullable}
-use Rattle.lalrpop_base.specs.declared.repr.Symbol.{Symbol}
+use Rattle.lalrpop_lr1.proofs.Types.{Symbol}
 use Rattle.lalrpop_lr1.proofs.theory.traces.Nullable.{terminal_not_nullable}
 use Rattle.lalrpop_lr1.proofs.trace.nullable.is_nullable_symbol.Goals as goal
 

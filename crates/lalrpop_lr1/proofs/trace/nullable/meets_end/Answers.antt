@@ -1,6 +1,6 @@
 use Rattle.std.proofs.Common.{◌≡◌, List, [], ◌∷◌, ◌++◌, ap, ◌∙◌, subst}
 use Rattle.lalrpop_base.specs.Words.{IsFirstSet}
-use Rattle.lalrpop_base.specs.declared.repr.Symbol.{Symbol}
+use Rattle.lalrpop_lr1.proofs.Types.{Symbol}
 use Rattle.lalrpop_base.specs.declared.repr.Symbol.TheVariants.{Nonterminal}
 use Rattle.lalrpop_lr1.proofs.theory.traces.Nullable.{nullable_by_end}
 use Rattle.lalrpop_lr1.proofs.trace.nullable.meets_end.Goals as goal

@@ -1,6 +1,6 @@
 use Rattle.std.proofs.Common.{List, sym, ◌∙◌, subst}
 use Rattle.lalrpop_base.specs.Words.{IsFirstSet, HasKnownTerminals}
-use Rattle.lalrpop_base.specs.declared.repr.Symbol.{Symbol}
+use Rattle.lalrpop_lr1.proofs.Types.{Symbol}
 use Rattle.lalrpop_lr1.proofs.trace.spelling.first_of.Goals as goal
 
 pub first0-requires : goal.first0-requires

@@ -1,6 +1,6 @@
 use Rattle.std.proofs.Common.{◌≡◌, List, ◌++◌, length}
 use Rattle.lalrpop_base.specs.Words.{HasKnownTerminals}
-use Rattle.lalrpop_base.specs.declared.repr.TerminalString.{TerminalString}
+use Rattle.lalrpop_lr1.proofs.Types.{TerminalString}
 use Rattle.lalrpop_lr1.specs.Words.{path_of, suffixes, following, AreKnownEdges}
 use Rattle.lalrpop_lr1.proofs.trace.spelling.symbols_behind.Given as goal
 

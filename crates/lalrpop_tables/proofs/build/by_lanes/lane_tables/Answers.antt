@@ -1,8 +1,7 @@
 use Rattle.std.proofs.Common.{◌∙◌, ℕ, sym, subst}
 use Rattle.std.specs.Prelude.{IfOk, IfSome}
 use Rattle.lalrpop_base.specs.Words.{contents, IsOnNoRightSide, AreFaithful, IsLALR1, productions, rules_of}
-use Rattle.lalrpop_base.specs.declared.repr.NonterminalString.{NonterminalString}
-use Rattle.lalrpop_base.specs.declared.repr.grammar.Grammar.{Grammar}
+use Rattle.lalrpop_tables.proofs.Types.{Grammar, NonterminalString}
 use Rattle.lalrpop_tables.specs.Words.{AreCopiedTables, AreLalrLaneTables, AreLaneTables, PassCheck}
 use Rattle.lalrpop_tables.proofs.theory.answers.ByLanes.{Kept-said, Lanes-pass, Passing-said, and_told, if_told, nothing_told, there_told}
 use Rattle.lalrpop_tables.proofs.build.by_lanes.lane_tables.Goals as goal

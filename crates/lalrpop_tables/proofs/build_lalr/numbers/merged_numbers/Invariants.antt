@@ -1,7 +1,6 @@
 use Rattle.std.proofs.Common.{map, take}
-use Rattle.lalrpop_base.specs.Words.{Bits}
-use Rattle.lalrpop_base.specs.declared.lr1_core.state.State.{State}
-use Rattle.lalrpop_base.specs.Words.{dots_in, bare}
+use Rattle.lalrpop_base.specs.Words.{Bits, dots_in, bare}
+use Rattle.lalrpop_tables.proofs.Types.{State}
 use Rattle.lalrpop_base.proofs.theory.collapse.MergedNumbers.{AreListed}
 use Rattle.lalrpop_tables.proofs.build_lalr.numbers.merged_numbers.Given as goal
 

@@ -1,5 +1,4 @@
-use Rattle.lalrpop_base.specs.Words.{EachBelow}
-use Rattle.lalrpop_base.specs.Words.{IsOrderedState}
+use Rattle.lalrpop_base.specs.Words.{EachBelow, IsOrderedState}
 use Rattle.lalrpop_tables.proofs.build_lalr.order.read_order.Given as goal
 
 abbrev pub invariant-loop-state : goal.invariant-loop-state

@@ -2,9 +2,8 @@ use Rattle.std.proofs.Common.{List, [], ◌∷◌, ◌++◌, sym, subst, ap, ◌
 use Rattle.std.specs.List.{AllZip}
 use Rattle.std.proofs.lemmas.List.Elements.{AllZip-push}
 use Rattle.std.proofs.lemmas.List.{nil_from_length}
-use Rattle.lalrpop_base.specs.Words.{Bits}
-use Rattle.lalrpop_base.specs.declared.lr1_core.state.State.{State}
-use Rattle.lalrpop_base.specs.Words.{IsReduced}
+use Rattle.lalrpop_base.specs.Words.{Bits, IsReduced}
+use Rattle.lalrpop_tables.proofs.Types.{State}
 use Rattle.lalrpop_base.proofs.theory.collapse.Merging.{taken}
 use Rattle.lalrpop_tables.proofs.build_lalr.reductions.reduce_states.Goals as goal
 

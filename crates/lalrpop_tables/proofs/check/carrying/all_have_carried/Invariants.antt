@@ -1,7 +1,7 @@
 use Rattle.std.proofs.Common.{◌≡◌, ℕ, ◌<◌}
 use Rattle.std.specs.Prelude.{slice_get, Some}
 use Rattle.lalrpop_base.specs.Words.{Bits, EachItem}
-use Rattle.lalrpop_base.specs.declared.lr1_core.state.State.{State}
+use Rattle.lalrpop_tables.proofs.Types.{State}
 use Rattle.lalrpop_tables.specs.Words.{HoldsCarried}
 use Rattle.lalrpop_tables.proofs.check.carrying.all_have_carried.Given as goal
 

@@ -1,6 +1,5 @@
 use Rattle.std.proofs.Common.{◌≡◌, Bool, true, false, refl, ap, subst, List, [], ◌∷◌}
-use Rattle.lalrpop_base.specs.Words.{Bits}
-use Rattle.lalrpop_base.specs.Words.{IsJoinedAt, readings}
+use Rattle.lalrpop_base.specs.Words.{Bits, IsJoinedAt, readings}
 use Rattle.lalrpop_base.specs.lists.Entries.IsPut.{came}
 use Rattle.lalrpop_tables.proofs.check.carrying.send.Goals as goal
 

@@ -1,7 +1,6 @@
 use Rattle.std.proofs.Common.{◌≡◌, ◌∙◌, ◌+◌, ◌++◌, ◌∷◌, [], subst, sym, ap, take, List}
 use Rattle.std.proofs.lemmas.List.{take_more, take_all}
-use Rattle.lalrpop_base.specs.Words.{Bits, Dotted}
-use Rattle.lalrpop_base.specs.Words.{Widens, IsMovedOf}
+use Rattle.lalrpop_base.specs.Words.{Bits, Dotted, Widens, IsMovedOf}
 use Rattle.lalrpop_tables.proofs.theory.check.CheckClosing.{Moved-none, Moved-more}
 use Rattle.lalrpop_tables.proofs.check.closing.find_moved.Goals as goal
 

@@ -1,6 +1,6 @@
 use Rattle.std.proofs.Common.{◌≡◌, ◌∙◌, ◌+◌, ◌++◌, ◌∷◌, [], subst, sym, refl, ap, take, List}
 use Rattle.std.proofs.lemmas.List.{take_more, take_all}
-use Rattle.lalrpop_base.specs.declared.repr.Production.{Production}
+use Rattle.lalrpop_tables.proofs.Types.{Production}
 use Rattle.lalrpop_base.specs.Words.{Widens, IsBegun}
 use Rattle.lalrpop_tables.proofs.theory.check.CheckClosing.{Begun-none, Begun-more}
 use Rattle.lalrpop_tables.proofs.check.closing.find_productions.Goals as goal

@@ -1,6 +1,5 @@
-use Rattle.lalrpop_base.specs.Words.{Bits, EachBelow, Dotted}
+use Rattle.lalrpop_base.specs.Words.{Bits, EachBelow, Dotted, IsRightItem}
 use Rattle.lalrpop_base.specs.states.CheckStates.{reduced}
-use Rattle.lalrpop_base.specs.Words.{IsRightItem}
 use Rattle.lalrpop_tables.proofs.check.states.are_right_items.Given as goal
 
 abbrev pub invariant-loop-item : goal.invariant-loop-item

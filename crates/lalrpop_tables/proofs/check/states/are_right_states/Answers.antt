@@ -3,10 +3,8 @@ use Rattle.std.specs.Prelude.{slice_get}
 use Rattle.std.specs.BTreeSet.{BTreeSet}
 use Rattle.std.proofs.lemmas.Option.{slice_get_within}
 use Rattle.std.proofs.lemmas.Bool.{cases_lt}
-use Rattle.lalrpop_base.specs.Words.{Bits, Dotted}
-use Rattle.lalrpop_base.specs.declared.lookahead.nil.Nil.{Nil}
-use Rattle.lalrpop_base.specs.declared.lr1_core.state.State.{State}
-use Rattle.lalrpop_base.specs.Words.{IsRightState}
+use Rattle.lalrpop_base.specs.Words.{Bits, Dotted, IsRightState}
+use Rattle.lalrpop_tables.proofs.Types.{Nil, State}
 use Rattle.lalrpop_base.proofs.theory.lists.Places.{slice_get_at, same_some}
 use Rattle.lalrpop_tables.proofs.check.states.are_right_states.Goals as goal
 

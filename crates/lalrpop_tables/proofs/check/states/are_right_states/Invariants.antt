@@ -1,10 +1,8 @@
 use Rattle.std.proofs.Common.{◌≡◌, ℕ, ◌<◌}
 use Rattle.std.specs.Prelude.{slice_get, Some}
 use Rattle.std.specs.BTreeSet.{BTreeSet}
-use Rattle.lalrpop_base.specs.Words.{Bits, Dotted}
-use Rattle.lalrpop_base.specs.declared.lookahead.nil.Nil.{Nil}
-use Rattle.lalrpop_base.specs.declared.lr1_core.state.State.{State}
-use Rattle.lalrpop_base.specs.Words.{IsRightState}
+use Rattle.lalrpop_base.specs.Words.{Bits, Dotted, IsRightState}
+use Rattle.lalrpop_tables.proofs.Types.{Nil, State}
 use Rattle.lalrpop_tables.proofs.check.states.are_right_states.Given as goal
 
 abbrev pub invariant-loop-number : goal.invariant-loop-number

@@ -1,8 +1,7 @@
 use Rattle.std.proofs.Common.{◌≡◌, ◌∙◌, ◌+◌, sym, subst}
 use Rattle.std.specs.Prelude.{slice_get, Some, Contains}
-use Rattle.lalrpop_base.specs.Words.{Bits, Dotted}
-use Rattle.lalrpop_base.specs.declared.repr.Symbol.{Symbol}
-use Rattle.lalrpop_base.specs.Words.{lr0}
+use Rattle.lalrpop_base.specs.Words.{Bits, Dotted, lr0}
+use Rattle.lalrpop_tables.proofs.Types.{Symbol}
 use Rattle.lalrpop_base.proofs.theory.lists.Places.{slice_get_at}
 use Rattle.lalrpop_base.proofs.theory.states.CheckStates.{leads_nowhere, leads_outside, leads_inside}
 use Rattle.lalrpop_tables.proofs.check.states.leads_on.Goals as goal

@@ -1,7 +1,6 @@
 use Rattle.std.proofs.Common.{◌≡◌, ◌∙◌, ◌+◌, ◌++◌, ◌∷◌, [], subst, sym, ap, take, List}
 use Rattle.std.proofs.lemmas.List.{take_more, take_all}
-use Rattle.lalrpop_base.specs.Words.{Bits, Dotted}
-use Rattle.lalrpop_base.specs.Words.{Lists}
+use Rattle.lalrpop_base.specs.Words.{Bits, Dotted, Lists}
 use Rattle.lalrpop_base.proofs.theory.states.CheckStates.{Lists-none, Lists-more}
 use Rattle.lalrpop_tables.proofs.check.states.listed_items.Goals as goal
 

@@ -1,8 +1,7 @@
 use Rattle.std.proofs.Common.{◌≡◌, ◌∙◌, ◌+◌, ◌++◌, ◌∷◌, [], subst, sym, ap, take, List}
 use Rattle.std.proofs.lemmas.List.{take_more, take_all}
-use Rattle.lalrpop_base.specs.Words.{Bits, Dotted}
-use Rattle.lalrpop_base.specs.declared.lr1_core.state.State.{State}
-use Rattle.lalrpop_base.specs.Words.{Lists}
+use Rattle.lalrpop_base.specs.Words.{Bits, Dotted, Lists}
+use Rattle.lalrpop_tables.proofs.Types.{State}
 use Rattle.lalrpop_base.specs.states.CheckStates.{AreListed}
 use Rattle.lalrpop_base.proofs.theory.states.CheckStates.{Listed-none, Listed-more}
 use Rattle.lalrpop_tables.proofs.check.states.listed_states.Goals as goal

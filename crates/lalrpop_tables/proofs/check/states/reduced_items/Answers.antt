@@ -1,9 +1,8 @@
 use Rattle.std.proofs.Common.{◌≡◌, ◌∙◌, ◌+◌, ◌++◌, ◌∷◌, [], subst, sym, ap, take, List}
 use Rattle.std.specs.Borrow.{Bor}
 use Rattle.std.proofs.lemmas.List.{take_more, take_all}
-use Rattle.lalrpop_base.specs.Words.{Bits}
-use Rattle.lalrpop_base.specs.declared.repr.Production.{Production}
-use Rattle.lalrpop_base.specs.Words.{finished}
+use Rattle.lalrpop_base.specs.Words.{Bits, finished}
+use Rattle.lalrpop_tables.proofs.Types.{Production}
 use Rattle.lalrpop_base.proofs.theory.lists.Places.{slice_get_at}
 use Rattle.lalrpop_base.proofs.theory.states.CheckStates.{AreReduced, Reduced-none, Reduced-more, Reduced-twice, reduced_has}
 use Rattle.lalrpop_tables.proofs.check.states.reduced_items.Goals as goal

@@ -1,9 +1,8 @@
 use Rattle.std.proofs.Common.{◌≡◌, ◌∙◌, ◌+◌, ◌++◌, ◌∷◌, ◌↔◌, [], ℕ, subst, sym, ap, take, List}
 use Rattle.std.specs.Prelude.{Contains}
 use Rattle.std.proofs.lemmas.List.{take_more, take_all}
-use Rattle.lalrpop_base.specs.Words.{Bits}
-use Rattle.lalrpop_base.specs.declared.lr1_core.state.State.{State}
-use Rattle.lalrpop_base.specs.Words.{IsTarget}
+use Rattle.lalrpop_base.specs.Words.{Bits, IsTarget}
+use Rattle.lalrpop_tables.proofs.Types.{State}
 use Rattle.lalrpop_base.proofs.theory.states.CheckStates.{Targets-none, Targets-more}
 use Rattle.lalrpop_tables.proofs.check.states.targets.Goals as goal
 

@@ -1,8 +1,7 @@
 use Rattle.std.proofs.Common.{◌≡◌, subst}
 use Rattle.std.specs.Prelude.{IfOk}
 use Rattle.lalrpop_base.specs.Words.{Bits, rules_of, productions_of}
-use Rattle.lalrpop_base.specs.declared.repr.NonterminalString.{NonterminalString}
-use Rattle.lalrpop_base.specs.declared.repr.grammar.Grammar.{Grammar}
+use Rattle.lalrpop_tables.proofs.Types.{Grammar, NonterminalString}
 use Rattle.lalrpop_tables.specs.Words.{Settings}
 use Rattle.lalrpop_tables.proofs.construction.canonical.canonical_construction.Goals as goal
 

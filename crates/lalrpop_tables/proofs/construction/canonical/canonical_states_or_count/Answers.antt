@@ -1,8 +1,7 @@
 use Rattle.std.proofs.Common.{ap, subst}
 use Rattle.std.proofs.lemmas.Result.{IfOk-weaker}
-use Rattle.lalrpop_base.specs.Words.{Bits}
+use Rattle.lalrpop_base.specs.Words.{Bits, Begins}
 use Rattle.lalrpop_base.specs.closures.Closure.{itself}
-use Rattle.lalrpop_base.specs.Words.{Begins}
 use Rattle.lalrpop_tables.specs.Words.{AreStatesFor, Construction, Settings}
 use Rattle.lalrpop_base.proofs.theory.grammars.Grammars.{productions_own}
 use Rattle.lalrpop_tables.proofs.theory.answers.TablesOrCount.{Canonical-counted}

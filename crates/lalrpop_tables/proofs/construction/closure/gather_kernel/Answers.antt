@@ -1,9 +1,8 @@
 use Rattle.std.proofs.Common.{◌≡◌, ◌+◌, ◌++◌, ◌∷◌, [], ℕ, sym, subst, take, map, List}
 use Rattle.std.proofs.lemmas.List.{take_all}
-use Rattle.lalrpop_base.specs.Words.{Bits}
+use Rattle.lalrpop_base.specs.Words.{Bits, readings}
 use Rattle.lalrpop_base.specs.lists.Entries.{GathersMore}
 use Rattle.lalrpop_tables.specs.closures.Sharing.{parts_in}
-use Rattle.lalrpop_base.specs.Words.{readings}
 use Rattle.lalrpop_tables.specs.declared.construction.numbered.Numbered.{Numbered}
 use Rattle.lalrpop_base.proofs.theory.lists.Gathering.{More-none, More-one, More-then}
 use Rattle.lalrpop_base.proofs.theory.closures.Readings.{readings_differ}

@@ -4,7 +4,7 @@ use Rattle.std.proofs.lemmas.Result.{IfOk-weaker}
 use Rattle.lalrpop_base.specs.Words.{Bits, Dotted, readings}
 use Rattle.lalrpop_base.proofs.theory.closures.Readings.{readings_differ}
 use Rattle.lalrpop_base.proofs.theory.lists.Members.{contains_map}
-use Rattle.lalrpop_base.specs.declared.lookahead.nil.Nil.{Nil}
+use Rattle.lalrpop_tables.proofs.Types.{Nil}
 use Rattle.std.proofs.lemmas.Option.{slice_get_within}
 use Rattle.lalrpop_base.specs.declared.repr.Symbol.TheVariants.{Nonterminal}
 use Rattle.lalrpop_tables.proofs.theory.grammars.Numbers.{behind_is, finished}

@@ -2,9 +2,8 @@ use Rattle.std.proofs.Common.{◌≡◌, ◌<◌, ℕ, List, [], rules, arith, s
 use Rattle.std.specs.Prelude.{Contains}
 use Rattle.std.proofs.lemmas.Grind.{common_steps}
 use Rattle.std.proofs.lemmas.List.{nil_from_length}
-use Rattle.lalrpop_base.specs.Words.{Bits, Dotted}
+use Rattle.lalrpop_base.specs.Words.{Bits, Dotted, meant}
 use Rattle.lalrpop_tables.specs.grammars.Numbers.{items_by}
-use Rattle.lalrpop_base.specs.Words.{meant}
 use Rattle.lalrpop_base.proofs.theory.lists.Members.{contains_head}
 use Rattle.lalrpop_base.proofs.theory.closures.Readings.{items_meant, readings_keys}
 use Rattle.lalrpop_tables.proofs.theory.closures.SharedItems.{front_known, fronts_are, number_known}

@@ -1,9 +1,8 @@
 use Rattle.std.proofs.Common.{refl, arith, ◌≡◌, ◌∙◌, ◌+◌, ◌++◌, ◌∷◌, [], ap, sym, subst, take, map, List}
 use Rattle.std.proofs.lemmas.List.{take_all, map-append}
-use Rattle.lalrpop_base.specs.Words.{Bits, Dotted}
+use Rattle.lalrpop_base.specs.Words.{Bits, Dotted, meant, readings}
 use Rattle.lalrpop_tables.specs.grammars.Numbers.{item_by, items_by}
 use Rattle.lalrpop_tables.specs.closures.Sharing.{Shares}
-use Rattle.lalrpop_base.specs.Words.{meant, readings}
 use Rattle.lalrpop_tables.specs.declared.construction.numbered.Numbered.{Numbered}
 use Rattle.lalrpop_base.proofs.theory.lists.Members.{Contains-none}
 use Rattle.lalrpop_tables.proofs.theory.closures.SharedItems.{mapped_more}

@@ -1,7 +1,6 @@
 use Rattle.std.proofs.Common.{ℕ, sym, subst}
 use Rattle.std.specs.Prelude.{Contains}
-use Rattle.lalrpop_base.specs.Words.{Bits}
-use Rattle.lalrpop_base.specs.Words.{readings}
+use Rattle.lalrpop_base.specs.Words.{Bits, readings}
 use Rattle.lalrpop_base.proofs.theory.lists.Members.{contains_map}
 use Rattle.lalrpop_tables.proofs.construction.closure.shared_tokens.Goals as goal
 

@@ -2,11 +2,9 @@ use Rattle.std.proofs.Common.{◌≡◌, ◌∙◌, ◌+◌, ◌++◌, ◌∷◌
 use Rattle.std.specs.Prelude.{Contains, IsSome, IsNone, slice_get}
 use Rattle.std.proofs.lemmas.List.{map-append, take_all}
 use Rattle.std.proofs.lemmas.Option.{slice_get_within}
-use Rattle.lalrpop_base.specs.Words.{Dotted}
-use Rattle.lalrpop_base.specs.declared.lookahead.nil.Nil.{Nil}
-use Rattle.lalrpop_base.specs.declared.repr.Production.{Production}
+use Rattle.lalrpop_base.specs.Words.{Dotted, begun_of}
+use Rattle.lalrpop_tables.proofs.Types.{Nil, Production}
 use Rattle.lalrpop_tables.specs.grammars.Numbers.{AreNumbered, dotted_at, item_by, items_by}
-use Rattle.lalrpop_base.specs.Words.{begun_of}
 use Rattle.lalrpop_tables.specs.Words.{begun}
 use Rattle.lalrpop_tables.specs.declared.construction.numbered.Numbered.{Numbered}
 use Rattle.lalrpop_base.proofs.theory.grammars.Grammars.{productions_among}

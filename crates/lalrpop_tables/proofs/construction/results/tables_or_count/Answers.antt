@@ -2,7 +2,7 @@ use Rattle.std.proofs.Common.{◌≡◌, ◌∙◌, List, length, ap, arith, ref
 use Rattle.std.proofs.lemmas.List.{nil_from_length}
 use Rattle.std.specs.List.{flat_map}
 use Rattle.lalrpop_base.specs.Words.{Bits, state_conflicts}
-use Rattle.lalrpop_base.specs.declared.lr1_core.state.State.{State}
+use Rattle.lalrpop_tables.proofs.Types.{State}
 use Rattle.lalrpop_tables.proofs.theory.collapse.MergedCollapse.{free_states}
 use Rattle.lalrpop_tables.proofs.construction.results.tables_or_count.Goals as goal
 

@@ -1,7 +1,6 @@
 use Rattle.std.proofs.Common.{List, sym, subst, refl}
-use Rattle.lalrpop_base.specs.Words.{Dotted}
+use Rattle.lalrpop_base.specs.Words.{Dotted, IsClosureBy}
 use Rattle.lalrpop_tables.specs.grammars.Numbers.{AreNumbered, NumberedGroups, groups_by, items_by}
-use Rattle.lalrpop_base.specs.Words.{IsClosureBy}
 use Rattle.lalrpop_tables.specs.Words.{AreMoves}
 use Rattle.lalrpop_tables.proofs.theory.states.Coherence.{Built-made, Reached-extends, Reached-led}
 use Rattle.lalrpop_base.proofs.theory.lists.SparseMaps.{rising_differ}

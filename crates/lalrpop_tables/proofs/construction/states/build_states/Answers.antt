@@ -1,9 +1,8 @@
 use Rattle.std.proofs.Common.{◌≡◌, ◌∙◌, ap, subst, refl, sym, List, map, length}
 use Rattle.std.proofs.lemmas.Bool.{false≢true}
 use Rattle.std.proofs.lemmas.List.{length-map}
-use Rattle.lalrpop_base.specs.Words.{Dotted}
+use Rattle.lalrpop_base.specs.Words.{Dotted, IsClosureBy}
 use Rattle.lalrpop_tables.specs.grammars.Numbers.{AreAllNumbered, items_by, kernels_by}
-use Rattle.lalrpop_base.specs.Words.{IsClosureBy}
 use Rattle.lalrpop_tables.specs.Words.{begun}
 use Rattle.lalrpop_tables.proofs.theory.conflicts.ConflictLists.{Listed-more}
 use Rattle.lalrpop_base.proofs.theory.lists.Members.{contains_map}

@@ -3,7 +3,7 @@ use Rattle.std.proofs.lemmas.Result.{IfOk-weaker}
 use Rattle.std.specs.Prelude.{slice_get}
 use Rattle.std.proofs.lemmas.List.{map-append, nil_from_length}
 use Rattle.lalrpop_base.specs.Words.{AddsOnce, Dotted}
-use Rattle.lalrpop_base.specs.declared.repr.Symbol.{Symbol}
+use Rattle.lalrpop_tables.proofs.Types.{Symbol}
 use Rattle.lalrpop_tables.specs.Words.{Groups, IsEdgeAdded}
 use Rattle.lalrpop_tables.specs.grammars.Numbers.{NumberedGroups, groups_by, items_by, kernels_by, symbol_at}
 use Rattle.lalrpop_tables.specs.declared.construction.numbered.Numbered.{Numbered}

@@ -4,9 +4,8 @@ use Rattle.std.specs.Borrow.{Bor}
 use Rattle.std.specs.Prelude.{slice_get}
 use Rattle.std.proofs.lemmas.Bool.{cases_lt}
 use Rattle.std.proofs.lemmas.Option.{slice_get_within}
-use Rattle.lalrpop_base.specs.Words.{Bits}
-use Rattle.lalrpop_base.specs.declared.repr.Production.{Production}
-use Rattle.lalrpop_base.specs.Words.{IsReductionAt}
+use Rattle.lalrpop_base.specs.Words.{Bits, IsReductionAt}
+use Rattle.lalrpop_tables.proofs.Types.{Production}
 use Rattle.lalrpop_base.proofs.theory.lists.Places.{same_some, slice_get_at}
 use Rattle.lalrpop_tables.proofs.lane_table.context_set.are_among.Goals as goal
 

@@ -1,6 +1,6 @@
 use Rattle.std.proofs.Common.{refl, sym, ◌∙◌}
 use mathlib.Core.Bool.{true≢false}
-use Rattle.lalrpop_base.specs.declared.lr1_core.state.Action.{Action}
+use Rattle.lalrpop_tables.proofs.Types.{Action}
 use Rattle.lalrpop_base.specs.Words.{Reduces}
 use Rattle.lalrpop_base.proofs.theory.lanes.Contexts.{reduces_there, reduces_nowhere}
 use Rattle.lalrpop_tables.proofs.theory.lane_tables.LaneTableStates.{EachSoFar, far_in, far_more, far_end, each_more}

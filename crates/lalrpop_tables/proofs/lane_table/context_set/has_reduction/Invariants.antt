@@ -1,5 +1,5 @@
 use Rattle.lalrpop_base.specs.Words.{Reduces}
-use Rattle.lalrpop_base.specs.declared.lr1_core.state.Action.{Action}
+use Rattle.lalrpop_tables.proofs.Types.{Action}
 use Rattle.lalrpop_tables.proofs.theory.lane_tables.LaneTableStates.{HoldsSoFar, EachSoFar}
 use Rattle.lalrpop_tables.proofs.lane_table.context_set.has_reduction.Given as goal
 

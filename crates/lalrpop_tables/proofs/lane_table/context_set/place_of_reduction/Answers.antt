@@ -1,6 +1,6 @@
 use Rattle.std.proofs.Common.{refl, sym, arith, length, List, ap}
 use mathlib.Core.Bool.{true≢false}
-use Rattle.lalrpop_base.specs.declared.lr1_core.state.Action.{Action}
+use Rattle.lalrpop_tables.proofs.Types.{Action}
 use Rattle.lalrpop_base.proofs.theory.lanes.Contexts.{reduction_there, not_before_more, nowhere}
 use Rattle.lalrpop_tables.proofs.lane_table.context_set.place_of_reduction.Goals as goal
 

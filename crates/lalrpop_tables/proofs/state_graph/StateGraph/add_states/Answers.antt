@@ -1,6 +1,6 @@
 use Rattle.std.proofs.Common.{List, arith, subst}
 use Rattle.std.proofs.lemmas.List.{take_all}
-use Rattle.lalrpop_base.specs.declared.lr1_core.state.State.{State}
+use Rattle.lalrpop_tables.proofs.Types.{State}
 use Rattle.lalrpop_tables.specs.Words.{edges, IsGraphOf}
 use Rattle.lalrpop_tables.proofs.theory.graphs.StateGraphs.{edges_more, grown_on, graph_on}
 use Rattle.lalrpop_tables.proofs.state_graph.StateGraph.add_states.Goals as goal

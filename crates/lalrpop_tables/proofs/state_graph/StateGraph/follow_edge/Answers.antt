@@ -1,5 +1,5 @@
 use Rattle.std.proofs.Common.{◌∙◌, ap, sym}
-use Rattle.lalrpop_base.specs.declared.lr1_core.state.StateIndex.{StateIndex}
+use Rattle.lalrpop_tables.proofs.Types.{StateIndex}
 use Rattle.lalrpop_tables.specs.Words.{edge}
 use Rattle.lalrpop_tables.proofs.theory.graphs.GraphCopies.{edge_moves, edge_stays}
 use Rattle.lalrpop_tables.proofs.state_graph.StateGraph.follow_edge.Goals as goal

@@ -1,6 +1,6 @@
 use Rattle.std.proofs.Common.{◌≡◌, ℕ, List, arith, subst, take}
 use Rattle.lalrpop_base.specs.Words.{Bits}
-use Rattle.lalrpop_base.specs.declared.lr1_core.state.State.{State}
+use Rattle.lalrpop_tables.proofs.Types.{State}
 use Rattle.lalrpop_tables.specs.Words.{edges, IsGraphOf}
 use Rattle.lalrpop_tables.proofs.theory.graphs.GraphCopies.{all_states, one_state}
 use Rattle.lalrpop_tables.proofs.state_graph.StateGraph.follow_states.Goals as goal

@@ -1,6 +1,6 @@
 use Rattle.std.proofs.Common.{◌≡◌, false, List, length}
 use Rattle.lalrpop_base.specs.Words.{Bits}
-use Rattle.lalrpop_base.specs.declared.lr1_core.state.State.{State}
+use Rattle.lalrpop_tables.proofs.Types.{State}
 use Rattle.lalrpop_tables.specs.Words.{AreCopies, edges, IsGraphOf}
 use Rattle.lalrpop_tables.proofs.theory.graphs.GraphCopies.{partway}
 use Rattle.lalrpop_tables.proofs.state_graph.StateGraph.follow_states.Given as goal

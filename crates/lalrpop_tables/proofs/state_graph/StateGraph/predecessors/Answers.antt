@@ -1,8 +1,7 @@
 use Rattle.std.proofs.Common.{List, reverse, ap, ◌∙◌}
 use Rattle.std.specs.declared.alloc.Global.{Global}
 use Rattle.std.specs.declared.vec.Vec.{Vec}
-use Rattle.lalrpop_base.specs.declared.lr1_core.state.StateIndex.{StateIndex}
-use Rattle.lalrpop_base.specs.declared.repr.Symbol.{Symbol}
+use Rattle.lalrpop_tables.proofs.Types.{StateIndex, Symbol}
 use Rattle.lalrpop_tables.specs.Words.{list_at, with_symbol}
 use Rattle.lalrpop_tables.proofs.state_graph.StateGraph.predecessors.Goals as goal
 

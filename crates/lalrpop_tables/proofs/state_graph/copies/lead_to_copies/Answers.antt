@@ -1,5 +1,5 @@
 use Rattle.std.proofs.Common.{◌∙◌, ap, sym}
-use Rattle.lalrpop_base.specs.declared.lr1_core.state.StateIndex.{StateIndex}
+use Rattle.lalrpop_tables.proofs.Types.{StateIndex}
 use Rattle.lalrpop_base.specs.Words.{number_in, retargeted_all}
 use Rattle.lalrpop_tables.proofs.theory.graphs.GraphCopies.{unmoved_more}
 use Rattle.lalrpop_base.proofs.theory.lists.Updates.{keys_differ}

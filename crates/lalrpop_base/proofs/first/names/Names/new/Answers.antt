@@ -1,7 +1,6 @@
 use Rattle.std.proofs.Common.{◌≡◌, List, ◌∷◌, length, rules, sym, ◌∙◌, ap, append-nil}
 use Rattle.std.specs.Map.{keys_of}
-use Rattle.lalrpop_base.specs.declared.repr.NonterminalString.{NonterminalString}
-use Rattle.lalrpop_base.specs.declared.repr.grammar.NonterminalData.{NonterminalData}
+use Rattle.lalrpop_base.proofs.Types.{NonterminalData, NonterminalString}
 use Rattle.lalrpop_base.proofs.theory.first.FirstNumbers.{Numbers-more, Numbers-all}
 use Rattle.lalrpop_base.proofs.first.names.Names.new.Goals as goal
 

@@ -1,6 +1,6 @@
 use Rattle.std.proofs.Common.{[], List, arith, ap, subst, length, Bor}
 use Rattle.std.specs.Prelude.{map, unwrap_or, Option, option_copied}
-use Rattle.lalrpop_base.specs.declared.repr.Symbol.{Symbol}
+use Rattle.lalrpop_base.proofs.Types.{Symbol}
 use Rattle.lalrpop_base.specs.Words.{prefix_of, moved, IsFirstShortestOrEmpty}
 use Rattle.lalrpop_base.proofs.theory.states.ViewLemmas.{shortest_end}
 use Rattle.lalrpop_base.proofs.lr1_core.state.State.will_pop.Goals as goal

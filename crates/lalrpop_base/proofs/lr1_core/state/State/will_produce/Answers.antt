@@ -2,7 +2,7 @@ use Rattle.std.proofs.Common.{◌≡◌, List, refl, sym, ap, subst}
 use Rattle.std.specs.Prelude.{map}
 use mathlib.Core.Bool.{true≢false}
 use Rattle.lalrpop_base.specs.Words.{Dotted, name_of, moved, AreAll}
-use Rattle.lalrpop_base.specs.declared.repr.NonterminalString.{NonterminalString}
+use Rattle.lalrpop_base.proofs.Types.{NonterminalString}
 use Rattle.lalrpop_base.proofs.theory.states.ViewLemmas.{all_named, each_named, none_named}
 use Rattle.lalrpop_base.proofs.lr1_core.state.State.will_produce.Goals as goal
 

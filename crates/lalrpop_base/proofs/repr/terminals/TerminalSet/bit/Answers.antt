@@ -1,5 +1,5 @@
 use Rattle.std.specs.BTreeMap.{BTreeMap}
-use Rattle.lalrpop_base.specs.declared.repr.TerminalString.{TerminalString}
+use Rattle.lalrpop_base.proofs.Types.{TerminalString}
 use Rattle.lalrpop_base.specs.Words.{HasPlaces, ArePlaced}
 use Rattle.lalrpop_base.proofs.theory.sets.PlaceLemmas.{place_found, place_only}
 use Rattle.std.proofs.lemmas.Option.{slice_get_read}

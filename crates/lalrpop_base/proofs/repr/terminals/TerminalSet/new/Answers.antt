@@ -3,7 +3,7 @@ use Rattle.std.specs.Prelude.{slice_get, Some, unwrap_or}
 use Rattle.std.proofs.Common.{rules, ◌<◌, ◌≡◌, refl, sym, ◌∙◌, ap, subst, arith, length, List}
 use Rattle.std.proofs.lemmas.Option.{slice_get_within, slice_get_read}
 use Rattle.lalrpop_base.specs.declared.repr.terminals.Indexed.{Indexed}
-use Rattle.lalrpop_base.specs.declared.repr.TerminalString.{TerminalString}
+use Rattle.lalrpop_base.proofs.Types.{TerminalString}
 use Rattle.lalrpop_base.specs.Words.{HasPlaces, IsIndexed, IsFirstRepeat}
 use Rattle.lalrpop_base.proofs.theory.sets.PlaceLemmas.{all_differ}
 use Rattle.lalrpop_base.proofs.repr.terminals.TerminalSet.new.Goals as goal

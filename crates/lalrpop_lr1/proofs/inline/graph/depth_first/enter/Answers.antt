@@ -1,8 +1,7 @@
 use Rattle.std.proofs.Common.{◌≡◌, ◌∷◌, [], true, List, reverse, sym, ◌∙◌, ap, subst, refl}
 use Rattle.std.proofs.lemmas.List.{reverse-append}
 use Rattle.lalrpop_base.specs.Words.{productions_of}
-use Rattle.lalrpop_base.specs.declared.repr.NonterminalString.{NonterminalString}
-use Rattle.lalrpop_base.specs.declared.repr.Production.{Production}
+use Rattle.lalrpop_lr1.proofs.Types.{NonterminalString, Production}
 use Rattle.lalrpop_lr1.specs.declared.inline.graph.depth_first.Frame.{Frame}
 use Rattle.lalrpop_lr1.specs.declared.inline.graph.depth_first.Walk.{Walk}
 use Rattle.lalrpop_lr1.specs.Words.{mentioned_in, IsWalked}

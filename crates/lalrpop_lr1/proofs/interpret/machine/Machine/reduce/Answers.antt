@@ -3,7 +3,7 @@ use Rattle.std.proofs.lemmas.Option.{slice_get_read}
 use Rattle.std.specs.Prelude.{slice_get, Some}
 use Rattle.lalrpop_base.specs.Words.{contents_in, name_cmp, received}
 use Rattle.std.specs.BTreeMap.{get}
-use Rattle.lalrpop_base.specs.declared.lr1_core.state.State.{State}
+use Rattle.lalrpop_lr1.proofs.Types.{State}
 use Rattle.lalrpop_lr1.specs.Words.{numbers, trees_on}
 use Rattle.lalrpop_lr1.proofs.theory.runs.Popping.{goes_to, ends_at}
 use Rattle.lalrpop_lr1.proofs.interpret.machine.Machine.reduce.Goals as goal

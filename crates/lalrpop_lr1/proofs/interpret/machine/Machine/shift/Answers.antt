@@ -1,6 +1,6 @@
 use Rattle.std.proofs.Common.{◌≡◌, List, suc, ◌<◌, [], ◌∷◌, refl, sym, ap, subst, ◌∙◌, Some, None, arith}
 use Rattle.lalrpop_base.specs.Words.{contents_in, move}
-use Rattle.lalrpop_base.specs.declared.repr.TerminalString.{TerminalString}
+use Rattle.lalrpop_lr1.proofs.Types.{TerminalString}
 use Rattle.lalrpop_lr1.specs.Words.{configuration, shift_on, reduction_move, HasRead, IsShifted, IsSpent, IsProgress, IsFailure, StopsReading}
 use Rattle.lalrpop_base.specs.declared.lookahead.token.Token.TheVariants.{Terminal}
 use Rattle.lalrpop_lr1.specs.declared.interpret.error.InterpretError.{InterpretError}

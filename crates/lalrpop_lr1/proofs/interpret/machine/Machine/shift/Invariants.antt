@@ -1,6 +1,6 @@
 use Rattle.std.proofs.Common.{◌≡◌, List, ◌∷◌}
 use Rattle.lalrpop_base.specs.Words.{contents_in}
-use Rattle.lalrpop_base.specs.declared.repr.TerminalString.{TerminalString}
+use Rattle.lalrpop_lr1.proofs.Types.{TerminalString}
 use Rattle.lalrpop_base.specs.declared.lookahead.token.Token.TheVariants.{Terminal}
 use Rattle.lalrpop_lr1.specs.Words.{configuration, IsStacked, HasRead}
 use Rattle.lalrpop_lr1.proofs.interpret.machine.Machine.shift.Given as goal

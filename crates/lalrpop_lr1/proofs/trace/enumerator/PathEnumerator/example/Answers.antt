@@ -1,6 +1,6 @@
 use Rattle.std.proofs.Common.{List, subst}
 use Rattle.std.specs.Prelude.{IfOk}
-use Rattle.lalrpop_base.specs.declared.repr.Production.{Production}
+use Rattle.lalrpop_lr1.proofs.Types.{Production}
 use Rattle.lalrpop_lr1.specs.Words.{IsExampleOf, SpellsDerivation, CarryRightSides, path_of, IsPath}
 use Rattle.lalrpop_lr1.specs.declared.trace.enumerator.EnumeratorState.{EnumeratorState}
 use Rattle.lalrpop_lr1.specs.declared.trace.example.Example.{Example}

@@ -1,7 +1,7 @@
 use Rattle.std.proofs.Common.{◌≡◌, ℕ, List, sym, subst, ◌↔◌}
 use Rattle.std.specs.Prelude.{Contains}
 use Rattle.lalrpop_base.specs.Words.{AllDiffer}
-use Rattle.lalrpop_base.specs.declared.repr.Production.{Production}
+use Rattle.lalrpop_lr1.proofs.Types.{Production}
 use Rattle.lalrpop_lr1.specs.Words.{IsExampleOf, CarryRightSides, SpellsDerivation, IsGraph, IsPath, item_node, paths, to_come}
 use Rattle.lalrpop_lr1.specs.declared.trace.enumerator.PathEnumerator.{PathEnumerator}
 use Rattle.lalrpop_lr1.specs.declared.trace.example.Example.{Example}

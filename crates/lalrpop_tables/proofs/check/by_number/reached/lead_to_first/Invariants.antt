@@ -1,6 +1,6 @@
 use Rattle.lalrpop_base.specs.Words.{EachBelow, Bits}
 use Rattle.lalrpop_base.specs.states.CheckStates.{LeadsFrom}
-use Rattle.lalrpop_base.specs.declared.lr1_core.state.State.{State}
+use Rattle.lalrpop_tables.proofs.Types.{State}
 use Rattle.lalrpop_tables.proofs.check.by_number.reached.lead_to_first.Given as goal
 
 abbrev pub invariant-loop-state : goal.invariant-loop-state

@@ -2,8 +2,7 @@ use Rattle.std.proofs.Common.{◌≡◌, ℕ, ◌<◌, Some}
 use Rattle.std.specs.Prelude.{slice_get}
 use Rattle.std.specs.Borrow.{Bor}
 use Rattle.lalrpop_base.specs.Words.{Bits}
-use Rattle.lalrpop_base.specs.declared.lr1_core.state.State.{State}
-use Rattle.lalrpop_base.specs.declared.repr.Production.{Production}
+use Rattle.lalrpop_tables.proofs.Types.{Production, State}
 use Rattle.lalrpop_tables.specs.check.ByNumber.{HoldsUnion}
 use Rattle.lalrpop_tables.specs.follow_sets.FollowWalks.{entries_at}
 use Rattle.lalrpop_tables.specs.declared.lane_table.follow_sets.numbered_state.NumberedState.{NumberedState}

@@ -4,7 +4,7 @@ use Rattle.std.specs.Borrow.{Bor}
 use Rattle.std.proofs.lemmas.Bool.{cases_lt}
 use Rattle.std.proofs.lemmas.Option.{slice_get_within}
 use Rattle.lalrpop_base.specs.Words.{Bits, has}
-use Rattle.lalrpop_base.specs.declared.repr.Production.{Production}
+use Rattle.lalrpop_tables.proofs.Types.{Production}
 use Rattle.lalrpop_base.proofs.theory.lists.Places.{same_some, slice_get_at}
 use Rattle.lalrpop_tables.proofs.check.by_number.tokens.hold_sets.Goals as goal
 

@@ -1,6 +1,6 @@
 use Rattle.std.proofs.Common.{◌∙◌, ap, subst, sym}
 use Rattle.std.proofs.lemmas.Result.{IfOk-weaker, IfErr-weaker}
-use Rattle.lalrpop_base.specs.declared.lookahead.nil.Nil.{Nil}
+use Rattle.lalrpop_tables.proofs.Types.{Nil}
 use Rattle.lalrpop_tables.specs.Words.{StopsFor, Construction, Settings, AreTablesFor, FailsFor}
 use Rattle.lalrpop_base.proofs.theory.lists.BothFacts.{MatchResult-both, IfErr-given}
 use Rattle.lalrpop_tables.proofs.theory.canonical.Lr0States.{nothing, never, stopped, Lists, Tables-lr0, Fails-lr0, Tables-free, Stops-listed}

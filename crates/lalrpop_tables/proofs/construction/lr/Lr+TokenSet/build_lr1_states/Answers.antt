@@ -1,10 +1,8 @@
 use Rattle.std.proofs.Common.{◌≡◌, ℕ, ◌∙◌, ap, length, sym, subst}
 use Rattle.std.proofs.lemmas.Result.{IfOk-weaker, IfErr-weaker}
-use Rattle.lalrpop_base.specs.Words.{Bits, no_bits, with_bit, rules_of, productions_of}
-use Rattle.lalrpop_base.specs.declared.repr.NonterminalString.{NonterminalString}
-use Rattle.lalrpop_base.specs.declared.repr.grammar.Grammar.{Grammar}
+use Rattle.lalrpop_base.specs.Words.{Bits, no_bits, with_bit, rules_of, productions_of, Begins}
+use Rattle.lalrpop_tables.proofs.Types.{Grammar, NonterminalString}
 use Rattle.lalrpop_base.specs.closures.Closure.{itself}
-use Rattle.lalrpop_base.specs.Words.{Begins}
 use Rattle.lalrpop_tables.specs.Words.{StopsFor, Construction, Settings, AreTablesFor, canonical_of}
 use Rattle.lalrpop_base.proofs.theory.lists.BothFacts.{MatchResult-both, IfErr-given}
 use Rattle.lalrpop_tables.proofs.theory.canonical.CanonicalAnswers.{Set-tables, Set-fails}

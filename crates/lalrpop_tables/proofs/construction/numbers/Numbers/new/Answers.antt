@@ -1,8 +1,7 @@
 use Rattle.std.proofs.Common.{◌∙◌, ℕ, List, subst, sym}
 use Rattle.std.specs.Prelude.{Contains, Option}
 use Rattle.lalrpop_base.specs.Words.{Dotted, Rules, rules_of}
-use Rattle.lalrpop_base.specs.declared.lookahead.nil.Nil.{Nil}
-use Rattle.lalrpop_base.specs.declared.repr.Symbol.{Symbol}
+use Rattle.lalrpop_tables.proofs.Types.{Nil, Symbol}
 use Rattle.lalrpop_tables.specs.grammars.Numbering.{AreAllExpansions, AreNumbersBehind, lists_of}
 use Rattle.lalrpop_tables.specs.grammars.Numbers.{AreBehindDots}
 use Rattle.lalrpop_tables.specs.grammars.Rests.{AreRests}

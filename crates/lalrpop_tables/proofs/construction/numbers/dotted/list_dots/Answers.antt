@@ -2,7 +2,7 @@ use Rattle.std.proofs.Common.{◌≡◌, ◌∙◌, ◌++◌, [], List, ap}
 use Rattle.std.specs.List.{flat_map}
 use Rattle.std.proofs.lemmas.List.{flat_map_more}
 use Rattle.lalrpop_base.specs.Words.{Dotted}
-use Rattle.lalrpop_base.specs.declared.lookahead.nil.Nil.{Nil}
+use Rattle.lalrpop_tables.proofs.Types.{Nil}
 use Rattle.lalrpop_tables.specs.grammars.Numbering.{all_dots}
 use Rattle.lalrpop_tables.proofs.theory.grammars.DottedProductions.{keys_ascend}
 use Rattle.lalrpop_tables.proofs.theory.lane_tables.LaneTableStates.{far_more}

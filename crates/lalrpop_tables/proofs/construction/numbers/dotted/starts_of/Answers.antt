@@ -2,10 +2,7 @@ use Rattle.std.proofs.Common.{◌≡◌, ◌++◌, ◌∷◌, ◌∙◌, [], Lis
 use Rattle.std.specs.List.{flat_map}
 use Rattle.std.proofs.lemmas.List.{flat_map_more}
 use Rattle.lalrpop_base.specs.Words.{Dotted}
-use Rattle.lalrpop_base.specs.declared.lookahead.nil.Nil.{Nil}
-use Rattle.lalrpop_base.specs.declared.repr.NonterminalString.{NonterminalString}
-use Rattle.lalrpop_base.specs.declared.repr.Production.{Production}
-use Rattle.lalrpop_base.specs.declared.repr.grammar.NonterminalData.{NonterminalData}
+use Rattle.lalrpop_tables.proofs.Types.{Nil, NonterminalData, NonterminalString, Production}
 use Rattle.lalrpop_tables.specs.grammars.Numbering.{AddsThose, IsStartOf}
 use Rattle.lalrpop_tables.proofs.theory.grammars.DottedProductions.{starts_both, starts_none}
 use Rattle.lalrpop_tables.proofs.theory.lane_tables.LaneTableStates.{far_end, far_more}

@@ -1,7 +1,6 @@
 use Rattle.std.proofs.Common.{[], List}
 use Rattle.std.specs.List.{flat_map}
-use Rattle.lalrpop_base.specs.declared.repr.NonterminalString.{NonterminalString}
-use Rattle.lalrpop_base.specs.declared.repr.grammar.NonterminalData.{NonterminalData}
+use Rattle.lalrpop_tables.proofs.Types.{NonterminalData, NonterminalString}
 use Rattle.lalrpop_tables.specs.grammars.Numbering.{AddsThose, IsStartOf}
 use Rattle.lalrpop_tables.proofs.theory.lane_tables.LaneTableStates.{HoldsSoFar}
 use Rattle.lalrpop_tables.proofs.construction.numbers.dotted.starts_of.Given as goal

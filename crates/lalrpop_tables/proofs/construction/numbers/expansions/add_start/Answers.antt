@@ -1,7 +1,7 @@
 use Rattle.std.proofs.Common.{◌≡◌, Some, ap, arith, subst}
 use Rattle.std.specs.Prelude.{slice_get}
 use Rattle.lalrpop_base.specs.Words.{Dotted}
-use Rattle.lalrpop_base.specs.declared.lookahead.nil.Nil.{Nil}
+use Rattle.lalrpop_tables.proofs.Types.{Nil}
 use Rattle.lalrpop_base.specs.declared.repr.Symbol.TheVariants.{Nonterminal}
 use Rattle.lalrpop_tables.proofs.theory.grammars.Numbering.{start_put}
 use Rattle.lalrpop_tables.proofs.construction.numbers.expansions.add_start.Goals as goal

@@ -1,7 +1,7 @@
 use Rattle.std.proofs.Common.{◌≡◌, ◌∙◌, ◌+◌, ◌++◌, ◌∷◌, [], List, ℕ, ap, arith, length, subst, sym, take}
 use Rattle.std.proofs.lemmas.List.{length-take-le, take_more}
 use Rattle.lalrpop_base.specs.Words.{Dotted}
-use Rattle.lalrpop_base.specs.declared.lookahead.nil.Nil.{Nil}
+use Rattle.lalrpop_tables.proofs.Types.{Nil}
 use Rattle.lalrpop_tables.specs.grammars.Numbering.{AddsStart, AreAllExpansions, lists_of}
 use Rattle.lalrpop_tables.proofs.theory.grammars.Numbering.{expansions_more}
 use Rattle.lalrpop_tables.proofs.construction.numbers.expansions.expansions_of.Goals as goal

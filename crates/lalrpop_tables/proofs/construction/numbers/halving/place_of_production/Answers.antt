@@ -1,9 +1,8 @@
 use Rattle.std.proofs.Common.{◌≡◌, ℕ, ◌+◌, ◌-◌, ◌/◌, Some, sym, subst, arith}
 use Rattle.std.specs.Prelude.{slice_get}
 use Rattle.std.specs.declared.cmp.Ordering.TheVariants.{Less, Greater, Equal}
-use Rattle.lalrpop_base.specs.Words.{Dotted}
-use Rattle.lalrpop_base.specs.declared.lookahead.nil.Nil.{Nil}
-use Rattle.lalrpop_base.specs.Words.{production_order}
+use Rattle.lalrpop_base.specs.Words.{Dotted, production_order}
+use Rattle.lalrpop_tables.proofs.Types.{Nil}
 use Rattle.lalrpop_base.proofs.theory.grammars.AscendingItems.{production_exact}
 use Rattle.lalrpop_base.proofs.theory.lists.Members.{place}
 use Rattle.lalrpop_base.proofs.theory.lists.Places.{slice_get_at}

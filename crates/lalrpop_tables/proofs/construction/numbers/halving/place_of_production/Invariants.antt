@@ -1,6 +1,6 @@
 use Rattle.std.proofs.Common.{◌-◌, ◌≡◌, ℕ, slice_get, Some, ◌<◌, ◌≤◌, length}
 use Rattle.lalrpop_base.specs.Words.{Dotted}
-use Rattle.lalrpop_base.specs.declared.lookahead.nil.Nil.{Nil}
+use Rattle.lalrpop_tables.proofs.Types.{Nil}
 use Rattle.lalrpop_tables.proofs.construction.numbers.halving.place_of_production.Given as goal
 
 abbrev pub invariant-loop-low : goal.invariant-loop-low

@@ -1,6 +1,6 @@
 use Rattle.std.proofs.Common.{List, ap, length, subst, sym}
 use Rattle.lalrpop_base.specs.Words.{HasKnownTerminals}
-use Rattle.lalrpop_base.specs.declared.repr.TerminalString.{TerminalString}
+use Rattle.lalrpop_tables.proofs.Types.{TerminalString}
 use Rattle.lalrpop_tables.proofs.theory.grammars.Rests.{no_rest, rest_behind, rest_is}
 use Rattle.lalrpop_base.proofs.theory.grammars.Grammars.{known_rest}
 use Rattle.lalrpop_tables.proofs.construction.numbers.rests.rest_of.Goals as goal

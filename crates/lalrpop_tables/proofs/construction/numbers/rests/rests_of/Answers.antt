@@ -2,7 +2,7 @@ use Rattle.std.proofs.Common.{◌≡◌, ◌∙◌, ◌+◌, ◌++◌, ◌∷◌
 use Rattle.std.specs.Prelude.{Option}
 use Rattle.std.proofs.lemmas.List.{take_all, take_more}
 use Rattle.lalrpop_base.specs.Words.{Dotted}
-use Rattle.lalrpop_base.specs.declared.lookahead.nil.Nil.{Nil}
+use Rattle.lalrpop_tables.proofs.Types.{Nil}
 use Rattle.lalrpop_tables.specs.grammars.Rests.{AreRests}
 use Rattle.lalrpop_tables.specs.declared.construction.numbers.rests.Rest.{Rest}
 use Rattle.lalrpop_tables.proofs.theory.grammars.Rests.{rests_more, rests_none}

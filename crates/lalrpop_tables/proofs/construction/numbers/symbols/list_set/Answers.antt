@@ -1,5 +1,5 @@
 use Rattle.std.proofs.Common.{◌≡◌, ◌∙◌, ◌++◌, List, ap, append-nil, subst, sym}
-use Rattle.lalrpop_base.specs.declared.repr.Symbol.{Symbol}
+use Rattle.lalrpop_tables.proofs.Types.{Symbol}
 use Rattle.lalrpop_tables.specs.grammars.Numbers.{SymbolsAscend}
 use Rattle.lalrpop_tables.proofs.construction.numbers.symbols.list_set.Goals as goal
 

@@ -2,7 +2,7 @@ use Rattle.std.proofs.Common.{◌≡◌, ◌∙◌, ◌+◌, ◌++◌, ◌∷◌
 use Rattle.std.specs.Prelude.{Option}
 use Rattle.std.proofs.lemmas.List.{take_more}
 use Rattle.lalrpop_base.specs.Words.{Dotted}
-use Rattle.lalrpop_base.specs.declared.lookahead.nil.Nil.{Nil}
+use Rattle.lalrpop_tables.proofs.Types.{Nil}
 use Rattle.lalrpop_tables.specs.grammars.Numbering.{AreNumbersBehind}
 use Rattle.lalrpop_tables.proofs.theory.grammars.Numbering.{numbers_more}
 use Rattle.lalrpop_tables.proofs.construction.numbers.symbols.numbers_behind.Goals as goal

@@ -1,7 +1,7 @@
 use Rattle.std.proofs.Common.{◌≡◌, ◌∙◌, ◌+◌, ◌++◌, ◌∷◌, [], List, ap, subst, sym, take}
 use Rattle.std.proofs.lemmas.List.{take_all, take_more}
 use Rattle.lalrpop_base.specs.Words.{Dotted}
-use Rattle.lalrpop_base.specs.declared.lookahead.nil.Nil.{Nil}
+use Rattle.lalrpop_tables.proofs.Types.{Nil}
 use Rattle.lalrpop_tables.specs.grammars.Numbers.{AreBehindDots}
 use Rattle.lalrpop_tables.proofs.theory.grammars.Numbering.{dots_more}
 use Rattle.lalrpop_tables.proofs.construction.numbers.symbols.symbols_behind.Goals as goal

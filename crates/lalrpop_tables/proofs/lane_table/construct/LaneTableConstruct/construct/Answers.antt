@@ -3,7 +3,7 @@ use Rattle.std.proofs.lemmas.List.{nil_from_length}
 use Rattle.std.specs.Prelude.{vec_len}
 use Rattle.std.specs.List.{flat_map}
 use Rattle.lalrpop_base.specs.Words.{Bits, state_conflicts, rules_of}
-use Rattle.lalrpop_base.specs.declared.lr1_core.state.State.{State}
+use Rattle.lalrpop_tables.proofs.Types.{State}
 use Rattle.lalrpop_base.proofs.theory.states.CheckStates.{some_of}
 use Rattle.lalrpop_tables.proofs.theory.lane_states.LaneAnswers.{was_met, was_resolved}
 use Rattle.lalrpop_tables.proofs.theory.lane_states.Lr0Copies.{copied_conflicts, copied_free, copied_tables}

@@ -1,7 +1,6 @@
 use Rattle.std.proofs.Common.{List, subst, sym}
-use Rattle.lalrpop_base.specs.Words.{Bits, rules_of}
-use Rattle.lalrpop_base.specs.declared.lr1_core.state.State.{State}
-use Rattle.lalrpop_base.specs.Words.{HaveNoConflict}
+use Rattle.lalrpop_base.specs.Words.{Bits, rules_of, HaveNoConflict}
+use Rattle.lalrpop_tables.proofs.Types.{State}
 use Rattle.lalrpop_tables.proofs.theory.lane_states.LaneAnswers.{was_met, was_resolved}
 use Rattle.lalrpop_tables.proofs.theory.lane_states.Lr0Copies.{copied_free}
 use Rattle.lalrpop_tables.proofs.lane_table.construct.LaneTableConstruct.construct_told.Goals as goal

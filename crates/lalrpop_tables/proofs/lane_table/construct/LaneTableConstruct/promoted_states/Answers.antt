@@ -1,7 +1,6 @@
 use Rattle.std.proofs.Common.{subst}
 use Rattle.std.proofs.lemmas.Result.{IfOk-weaker}
-use Rattle.lalrpop_base.specs.Words.{Rules, rules_of}
-use Rattle.lalrpop_base.specs.Words.{AreLr0States}
+use Rattle.lalrpop_base.specs.Words.{Rules, rules_of, AreLr0States}
 use Rattle.lalrpop_tables.proofs.theory.lane_states.LanePromoted.{promoted_lanes, promoted_full, full_set}
 use Rattle.lalrpop_tables.proofs.lane_table.construct.LaneTableConstruct.promoted_states.Goals as goal
 

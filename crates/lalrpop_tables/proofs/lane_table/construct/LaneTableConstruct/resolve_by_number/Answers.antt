@@ -1,6 +1,6 @@
 use Rattle.std.proofs.Common.{List, arith, length, sym, subst}
 use Rattle.lalrpop_base.specs.Words.{Bits, AreClosed, AreCoherent, productions, rules_of}
-use Rattle.lalrpop_base.specs.declared.lr1_core.state.State.{State}
+use Rattle.lalrpop_tables.proofs.Types.{State}
 use Rattle.lalrpop_tables.specs.follow_sets.FollowNodes.{AreAllReached, AreOfGrammar}
 use Rattle.lalrpop_tables.specs.Words.{places_in}
 use Rattle.lalrpop_tables.proofs.theory.lane_states.LaneFound.{found_at, lane_closed, lane_numbered, lane_own, lane_reached}

@@ -1,6 +1,6 @@
 use Rattle.std.proofs.Common.{refl, sym, subst, arith, List}
 use Rattle.lalrpop_base.specs.Words.{Bits, rules_of}
-use Rattle.lalrpop_base.specs.declared.lr1_core.state.State.{State}
+use Rattle.lalrpop_tables.proofs.Types.{State}
 use Rattle.lalrpop_tables.specs.Words.{AreLr0Copies, edges, IsGraphOf}
 use Rattle.lalrpop_tables.specs.declared.lane_table.construct.copying.Copying.{Copying}
 use Rattle.lalrpop_tables.proofs.theory.lane_states.LaneShape.{lane_shape}

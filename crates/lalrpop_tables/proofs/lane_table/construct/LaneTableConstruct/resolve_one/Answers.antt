@@ -1,8 +1,7 @@
 use Rattle.std.proofs.Common.{◌∙◌, List, refl, sym, subst, arith, ap}
 use Rattle.std.specs.Prelude.{slice_get, vec_len}
-use Rattle.lalrpop_base.specs.Words.{Bits, AreCoherent, rules_of, productions}
-use Rattle.lalrpop_base.specs.declared.lr1_core.state.State.{State}
-use Rattle.lalrpop_base.specs.Words.{AreAmong}
+use Rattle.lalrpop_base.specs.Words.{Bits, AreCoherent, rules_of, productions, AreAmong}
+use Rattle.lalrpop_tables.proofs.Types.{State}
 use Rattle.lalrpop_tables.specs.Words.{edges, HaveOwnItems, IsGraphOf}
 use Rattle.lalrpop_base.proofs.theory.states.CheckStates.{some_of}
 use Rattle.lalrpop_tables.proofs.theory.lane_states.LaneAnswers.{was_met, was_resolved}

@@ -1,6 +1,6 @@
 use Rattle.std.proofs.Common.{List, length, refl, sym, ◌∙◌, ap, arith}
 use Rattle.lalrpop_base.specs.Words.{Bits, rules_of}
-use Rattle.lalrpop_base.specs.declared.lr1_core.state.State.{State}
+use Rattle.lalrpop_tables.proofs.Types.{State}
 use Rattle.lalrpop_tables.proofs.theory.lane_states.FoundResolving.{found_meet, found_step, found_written, sets_counted}
 use Rattle.lalrpop_tables.proofs.theory.lane_states.LaneAnswers.{was_met, was_resolved}
 use Rattle.lalrpop_tables.proofs.theory.lane_states.LaneLoop.{idle_step}

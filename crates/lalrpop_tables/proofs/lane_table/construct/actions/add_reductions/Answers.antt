@@ -2,8 +2,7 @@ use Rattle.std.proofs.Common.{◌≡◌, List, [], ◌∷◌, ◌++◌, ◌+◌,
 use Rattle.std.specs.Borrow.{Bor}
 use Rattle.std.proofs.lemmas.List.{take_more, take_all, map-append}
 use Rattle.lalrpop_base.specs.Words.{Bits}
-use Rattle.lalrpop_base.specs.declared.lr1_core.state.Action.{Action}
-use Rattle.lalrpop_base.specs.declared.repr.Production.{Production}
+use Rattle.lalrpop_tables.proofs.Types.{Action, Production}
 use Rattle.lalrpop_tables.specs.Words.{AreActions, reduce_action}
 use Rattle.lalrpop_tables.proofs.theory.lanes.LaneActions.{asked_same, one_action}
 use Rattle.lalrpop_tables.proofs.lane_table.construct.actions.add_reductions.Goals as goal

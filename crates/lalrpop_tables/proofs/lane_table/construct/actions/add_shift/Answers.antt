@@ -2,7 +2,7 @@ use Rattle.std.proofs.Common.{[], ◌∷◌, ◌++◌, subst}
 use Rattle.lalrpop_base.specs.Words.{HasToken}
 use Rattle.lalrpop_base.specs.declared.lookahead.token.Token.TheVariants.{Terminal as TokenOf}
 use Rattle.lalrpop_base.specs.declared.lr1_core.state.Action.TheVariants.{Shift}
-use Rattle.lalrpop_base.specs.declared.repr.TerminalString.{TerminalString}
+use Rattle.lalrpop_tables.proofs.Types.{TerminalString}
 use Rattle.lalrpop_tables.specs.Words.{AreActions}
 use Rattle.lalrpop_tables.proofs.theory.conflicts.HeldShifts.{shift_passed, shift_taken}
 use Rattle.lalrpop_tables.proofs.theory.lanes.LaneActions.{one_action}

@@ -1,8 +1,7 @@
 use Rattle.std.proofs.Common.{◌≡◌, ◌∙◌, ◌++◌, List, [], ap, append-nil, append_assoc, subst, sym}
 use Rattle.std.specs.List.{flat_map}
 use Rattle.lalrpop_base.specs.declared.lr1_core.state.Action.{Action as TheAction}
-use Rattle.lalrpop_base.specs.declared.lr1_core.state.StateIndex.{StateIndex}
-use Rattle.lalrpop_base.specs.declared.repr.TerminalString.{TerminalString}
+use Rattle.lalrpop_tables.proofs.Types.{StateIndex, TerminalString}
 use Rattle.lalrpop_base.specs.conflicts.HeldShifts.{held_shift}
 use Rattle.lalrpop_tables.specs.Words.{AreActions}
 use Rattle.lalrpop_tables.proofs.lane_table.construct.actions.add_shifts.Goals as goal

@@ -1,5 +1,5 @@
 use Rattle.std.proofs.Common.{◌∙◌, ℕ, List, arith, ap, refl}
-use Rattle.lalrpop_base.specs.declared.repr.Symbol.{Symbol}
+use Rattle.lalrpop_tables.proofs.Types.{Symbol}
 use Rattle.lalrpop_tables.proofs.theory.states.NonterminalEdges.{no_more, one_more, read_known, stops_here}
 use Rattle.std.proofs.lemmas.Option.{slice_get-get_or}
 use Rattle.std.specs.Prelude.{Some, get_or}

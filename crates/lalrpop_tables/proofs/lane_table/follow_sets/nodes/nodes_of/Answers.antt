@@ -1,6 +1,6 @@
 use Rattle.std.proofs.Common.{◌≡◌, ◌<◌, ◌∙◌, ℕ, length, List, Some, ap, sym, subst}
 use Rattle.std.specs.Prelude.{slice_get, Contains}
-use Rattle.lalrpop_base.specs.declared.repr.Symbol.{Symbol}
+use Rattle.lalrpop_tables.proofs.Types.{Symbol}
 use Rattle.lalrpop_tables.specs.follow_sets.FollowNodes.{AreNodes}
 use Rattle.lalrpop_tables.specs.states.NumberedStates.{transitions_at}
 use Rattle.lalrpop_tables.specs.declared.lane_table.follow_sets.nodes.Nodes.{Nodes}

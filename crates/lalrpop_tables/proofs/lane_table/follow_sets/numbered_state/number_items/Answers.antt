@@ -1,7 +1,7 @@
 use Rattle.std.proofs.Common.{◌≡◌, ◌∙◌, ◌+◌, ◌++◌, ◌∷◌, [], Global, List, ℕ, Vec, ap, refl, subst, sym, take}
 use Rattle.std.proofs.lemmas.List.{take_all, take_more}
 use Rattle.lalrpop_base.specs.Words.{Bits, Dotted}
-use Rattle.lalrpop_base.specs.declared.lookahead.nil.Nil.{Nil}
+use Rattle.lalrpop_tables.proofs.Types.{Nil}
 use Rattle.lalrpop_tables.proofs.theory.states.NumberedItems.{AreNumbered, Numbered-more, Numbered-none, Numbered-same}
 use Rattle.lalrpop_tables.proofs.lane_table.follow_sets.numbered_state.number_items.Goals as goal
 use Rattle.lalrpop_tables.proofs.lane_table.follow_sets.numbered_state.number_items.Goals.{in-Some+in_ok-push, in_default}

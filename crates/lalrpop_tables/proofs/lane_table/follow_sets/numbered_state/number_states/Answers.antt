@@ -1,7 +1,7 @@
 use Rattle.std.proofs.Common.{◌≡◌, ◌∙◌, ◌+◌, ◌++◌, ◌∷◌, [], List, ap, subst, sym, take}
 use Rattle.std.proofs.lemmas.List.{take_all, take_more}
 use Rattle.lalrpop_base.specs.Words.{Bits}
-use Rattle.lalrpop_base.specs.declared.lr1_core.state.State.{State}
+use Rattle.lalrpop_tables.proofs.Types.{State}
 use Rattle.lalrpop_tables.specs.states.NumberedStates.{AreNumberedStates}
 use Rattle.lalrpop_tables.proofs.theory.states.NumberedStates.{States-more, States-none}
 use Rattle.lalrpop_base.proofs.theory.lists.Places.{slice_get_at}

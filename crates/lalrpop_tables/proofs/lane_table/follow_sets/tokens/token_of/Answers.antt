@@ -1,7 +1,7 @@
 use Rattle.std.proofs.Common.{◌≡◌, ◌∙◌, List, Some, ap, sym}
 use Rattle.std.specs.Prelude.{slice_get}
 use Rattle.lalrpop_base.specs.Words.{Bits, with_bit}
-use Rattle.lalrpop_base.specs.declared.repr.TerminalString.{TerminalString}
+use Rattle.lalrpop_tables.proofs.Types.{TerminalString}
 use Rattle.lalrpop_tables.proofs.theory.follow_sets.FollowTokens.{found_none, found_some, no_terminal, token_absent, token_none, token_there}
 use Rattle.lalrpop_tables.proofs.lane_table.follow_sets.tokens.token_of.Goals as goal
 use Rattle.lalrpop_tables.proofs.lane_table.follow_sets.tokens.token_of.Goals.{in-Terminal+then-is_some+in_ok-clone+in_ok-insert, in-Terminal+else-is_some, in_default}

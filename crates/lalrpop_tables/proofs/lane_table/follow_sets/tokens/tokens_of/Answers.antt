@@ -1,7 +1,7 @@
 use Rattle.std.proofs.Common.{◌≡◌, ◌∙◌, ◌+◌, ◌++◌, ◌∷◌, [], List, ap, subst, sym, take}
 use Rattle.std.proofs.lemmas.List.{take_all, take_more}
 use Rattle.lalrpop_base.specs.Words.{Bits}
-use Rattle.lalrpop_base.specs.declared.repr.Symbol.{Symbol}
+use Rattle.lalrpop_tables.proofs.Types.{Symbol}
 use Rattle.lalrpop_tables.specs.follow_sets.FollowWalks.{AreTokensOfSymbols}
 use Rattle.lalrpop_tables.proofs.theory.follow_sets.FollowTokens.{tokens_more, tokens_none}
 use Rattle.lalrpop_tables.proofs.lane_table.follow_sets.tokens.tokens_of.Goals as goal

@@ -2,7 +2,7 @@ use Rattle.std.proofs.Common.{subst, arith}
 use Rattle.std.specs.Prelude.{Some, None}
 use Rattle.std.proofs.lemmas.Option.{slice_get_within}
 use Rattle.lalrpop_base.specs.Words.{Dotted}
-use Rattle.lalrpop_base.specs.declared.lookahead.nil.Nil.{Nil}
+use Rattle.lalrpop_tables.proofs.Types.{Nil}
 use Rattle.lalrpop_base.specs.declared.repr.Production.{Production as OfGrammar}
 use Rattle.lalrpop_tables.specs.follow_sets.FollowWalks.{GoesThrough, IsEndOfWalk, IsGoneOver}
 use Rattle.lalrpop_tables.specs.grammars.Numbering.{AddsThose, with_dot}

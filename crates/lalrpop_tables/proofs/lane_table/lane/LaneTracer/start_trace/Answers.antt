@@ -1,6 +1,6 @@
 use Rattle.std.proofs.Common.{refl, sym, subst}
 use Rattle.lalrpop_base.specs.Words.{rules_of}
-use Rattle.lalrpop_base.specs.declared.lr1_core.state.Action.{Action}
+use Rattle.lalrpop_tables.proofs.Types.{Action}
 use Rattle.lalrpop_tables.specs.Words.{TakesAction, TakesPartOfAction, places_in}
 use Rattle.lalrpop_tables.proofs.theory.lane_tables.LaneTables.{same_tables}
 use Rattle.lalrpop_tables.proofs.theory.lanes.GainsSome.{on_err}

@@ -1,6 +1,6 @@
 use Rattle.std.proofs.Common.{◌≡◌, ℕ, rules, subst}
 use Rattle.std.specs.Prelude.{Contains}
-use Rattle.lalrpop_base.specs.declared.repr.NonterminalString.{NonterminalString}
+use Rattle.lalrpop_tables.proofs.Types.{NonterminalString}
 use Rattle.lalrpop_base.specs.Words.{rules_of}
 use Rattle.lalrpop_base.specs.lists.CheckSets.{IsAdded}
 use Rattle.lalrpop_tables.specs.Words.{GivesBit, GivesCell, GivesSuccessor, places_in}

@@ -2,7 +2,7 @@ use Rattle.std.proofs.Common.{◌≡◌, ◌∙◌, ◌+◌, ◌++◌, ◌∷◌
 use Rattle.std.specs.Prelude.{IfSome, Option}
 use Rattle.std.proofs.lemmas.List.{take_all, take_more}
 use Rattle.lalrpop_base.specs.Words.{Bits}
-use Rattle.lalrpop_base.specs.declared.lr1_core.state.State.{State}
+use Rattle.lalrpop_tables.proofs.Types.{State}
 use Rattle.lalrpop_base.specs.declared.repr.Symbol.TheVariants.{Nonterminal}
 use Rattle.lalrpop_tables.specs.check.ByNumber.{AreListedByNumber, IsKernelOf, IsListedOver, IsListedState}
 use Rattle.lalrpop_tables.specs.check.NumberedClosures.{IsNumberedClosure}

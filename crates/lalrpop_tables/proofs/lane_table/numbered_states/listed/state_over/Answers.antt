@@ -2,9 +2,7 @@ use Rattle.std.proofs.Common.{◌<◌, ℕ, List, [], length, refl, subst, sym}
 use Rattle.std.specs.Prelude.{Contains}
 use Rattle.std.specs.Borrow.{Bor}
 use Rattle.lalrpop_base.specs.Words.{AllDiffer, Bits, Dotted}
-use Rattle.lalrpop_base.specs.declared.lr1_core.state.State.{State}
-use Rattle.lalrpop_base.specs.declared.repr.Production.{Production}
-use Rattle.lalrpop_base.specs.declared.repr.Symbol.{Symbol}
+use Rattle.lalrpop_tables.proofs.Types.{Production, State, Symbol}
 use Rattle.lalrpop_tables.specs.check.ByNumber.{AreItemsAt, HasFinished}
 use Rattle.lalrpop_tables.specs.states.NumberedStates.{AddTransitions, AreReducedNumbers, goto_transitions, shift_transitions}
 use Rattle.lalrpop_tables.specs.declared.lane_table.follow_sets.numbered_state.NumberedState.{NumberedState}

@@ -1,7 +1,7 @@
 use Rattle.std.proofs.Common.{◌≡◌, ◌∙◌, ◌+◌, List, [], Some, false, refl, sym, ap, arith}
 use Rattle.std.specs.Prelude.{slice_get}
 use Rattle.std.proofs.lemmas.List.{append-nil}
-use Rattle.lalrpop_base.specs.declared.lr1_core.state.StateIndex.{StateIndex}
+use Rattle.lalrpop_tables.proofs.Types.{StateIndex}
 use Rattle.lalrpop_tables.specs.Words.{unvisited}
 use Rattle.lalrpop_base.proofs.theory.lists.Members.{Contains-none}
 use Rattle.lalrpop_tables.proofs.theory.merges.MergeWalks.{comes_newly, falls_newly, few}

@@ -1,9 +1,7 @@
 use Rattle.std.proofs.Common.{◌≡◌, ◌∙◌, List, sym, subst, arith}
 use Rattle.std.specs.Borrow.{Bor}
-use Rattle.lalrpop_base.specs.Words.{Bits}
-use Rattle.lalrpop_base.specs.declared.lr1_core.state.State.{State}
-use Rattle.lalrpop_base.specs.declared.repr.Production.{Production}
-use Rattle.lalrpop_base.specs.Words.{AreReducedAmong}
+use Rattle.lalrpop_base.specs.Words.{Bits, AreReducedAmong}
+use Rattle.lalrpop_tables.proofs.Types.{Production, State}
 use Rattle.lalrpop_tables.proofs.theory.merges.Merges.{row_walked, walked_listed}
 use Rattle.lalrpop_base.proofs.theory.lists.Places.{same_some, slice_get_at}
 use Rattle.lalrpop_tables.proofs.lane_table.construct.merge.Merge.is_patchable.Goals as goal

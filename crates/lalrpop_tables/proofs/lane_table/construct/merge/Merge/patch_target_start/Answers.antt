@@ -1,8 +1,6 @@
-use Rattle.std.proofs.Common.{◌≡◌, ◌∙◌, ap, subst, arith, length, Some}
+use Rattle.std.proofs.Common.{◌≡◌, ◌∙◌, ap, subst, arith, length, Some, List}
 use Rattle.std.specs.Prelude.{slice_get}
-use Rattle.lalrpop_base.specs.Words.{Bits}
-use Rattle.std.proofs.Common.{List}
-use Rattle.lalrpop_base.specs.Words.{IsApplied}
+use Rattle.lalrpop_base.specs.Words.{Bits, IsApplied}
 use Rattle.lalrpop_tables.specs.Words.{index, IsWalked}
 use Rattle.lalrpop_tables.proofs.theory.merges.Merges.{on_ok, walked_context}
 use Rattle.lalrpop_base.proofs.theory.collapse.Merging.{set_here, set_elsewhere, set_length}

@@ -1,6 +1,6 @@
 use Rattle.std.proofs.Common.{ℕ, List, length, ap, arith, subst}
 use Rattle.lalrpop_base.specs.Words.{Bits}
-use Rattle.lalrpop_base.specs.declared.lr1_core.state.State.{State}
+use Rattle.lalrpop_tables.proofs.Types.{State}
 use Rattle.lalrpop_tables.specs.graphs.GraphCopies.{FollowsCopies}
 use Rattle.lalrpop_tables.proofs.lane_table.construct.merge.Merge.update_graph.Goals as goal
 

@@ -1,6 +1,5 @@
 use Rattle.std.proofs.Common.{inl, inr, ℕ, ◌<◌, List, length, sym, subst}
-use Rattle.lalrpop_base.specs.declared.repr.NonterminalString.{NonterminalString}
-use Rattle.lalrpop_base.specs.declared.repr.Symbol.{Symbol}
+use Rattle.lalrpop_tables.proofs.Types.{NonterminalString, Symbol}
 use Rattle.lalrpop_tables.specs.follow_sets.FollowNodes.{IsNonterminalOrCount, IsNumberOrCount}
 use Rattle.lalrpop_tables.proofs.lane_table.follow_sets.found.Found.new.Goals as goal
 
