@@ -2,6 +2,7 @@
 mod by_number;
 mod carrying;
 mod closing;
+mod numbered_states;
 mod states;
 
 ghost use Rattle.std.specs.Prelude.{◌↔◌, ◌<◌, IfOk, IsTrue, length};

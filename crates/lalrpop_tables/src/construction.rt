@@ -7,6 +7,7 @@ pub mod lookahead_build;
 pub mod lr;
 pub(crate) mod lr0;
 mod numbered;
+pub(crate) mod numbered_states;
 pub(crate) mod numbers;
 mod reductions;
 pub(crate) mod results;

@@ -4,7 +4,6 @@ pub mod construct;
 pub mod context_set;
 pub(crate) mod follow_sets;
 pub mod lane;
-pub(crate) mod numbered_states;
 pub mod table;
 
 ghost use Rattle.std.specs.Prelude.{IfOk, IfErr, MatchResult};

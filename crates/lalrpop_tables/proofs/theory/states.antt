@@ -5,8 +5,9 @@ pub mod Coherence
 pub mod Contained
 pub mod EdgeLeads
 pub mod EdgePlaces
-pub mod ListedTransitions
 pub mod InsertedKernels
+pub mod ItemNumbers
+pub mod ListedTransitions
 pub mod Lookaheads
 pub mod Moves
 pub mod NonterminalEdges

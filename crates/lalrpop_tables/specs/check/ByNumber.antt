@@ -1,8 +1,7 @@
 -- What the check of tables by number asks of states.
 use Rattle.std.specs.Prelude.{◌≡◌, ◌<◌, ◌+◌, ◌⊎◌, ◌↔◌, ℕ, Bool, true, List, length, slice_get, Some, None, Contains}
 use Rattle.std.specs.Borrow.{Bor}
-use Rattle.lalrpop_base.specs.Words.{AllDiffer, Bits, Dotted, contents_of, has}
-use Rattle.lalrpop_base.specs.declared.lookahead.nil.Nil.{Nil}
+use Rattle.lalrpop_base.specs.Words.{AllDiffer, Bits, contents_of, has}
 use Rattle.lalrpop_base.specs.declared.lookahead.token.Token.{Token}
 use Rattle.lalrpop_base.specs.declared.lr1_core.state.State.{State}
 use Rattle.lalrpop_base.specs.declared.repr.NonterminalString.{NonterminalString}
@@ -10,19 +9,13 @@ use Rattle.lalrpop_base.specs.declared.repr.Production.{Production}
 use Rattle.lalrpop_base.specs.declared.repr.Symbol.TheVariants.{Nonterminal}
 use Rattle.lalrpop_tables.specs.check.NumberedClosures.{AreMovedKernel, IsNumberedClosure}
 use Rattle.lalrpop_tables.specs.follow_sets.FollowWalks.{IsInUnion, entries_at}
-use Rattle.lalrpop_tables.specs.grammars.Numbering.{with_dot}
 use Rattle.lalrpop_tables.specs.grammars.Numbers.{AreExpansions}
-use Rattle.lalrpop_tables.specs.states.NumberedStates.{AreReducedNumbers, IsNumberedState, items_at, transitions_at}
+use Rattle.lalrpop_tables.specs.states.NumberedStates.{AreItemsAt, AreReducedNumbers, IsNumberedState, items_at, transitions_at}
 use Rattle.lalrpop_tables.specs.declared.construction.numbers.Numbers.{Numbers}
 use Rattle.lalrpop_tables.specs.declared.lane_table.follow_sets.found.Found.{Found}
 use Rattle.lalrpop_tables.specs.declared.lane_table.follow_sets.numbered_state.NumberedState.{NumberedState}
 
 -- ---- one state
--- the items have the numbers, one by one
-pub record AreItemsAt (known : List (Dotted Nil)) (numbers : List ℕ) (items : List (Dotted Bits)) : Type 0 where
-  pub counted : length numbers ≡ length items
-  pub each : (j k : ℕ) (item : Dotted Bits) → slice_get items j ≡ Some item → slice_get numbers j ≡ Some k → slice_get known k ≡ Some (with_dot item.production item.index)
-
 -- each item with its dot at the end is there
 abbrev pub HasFinished : Numbers → List ℕ → List ℕ → Type 0
 HasFinished n items finished = (k : ℕ) → Contains items k → slice_get n.behind.items k ≡ Some None → Contains finished k

@@ -2,6 +2,8 @@
 use Rattle.std.specs.Prelude.{◌≡◌, ◌<◌, ◌↔◌, ◌++◌, ℕ, List, [], ◌∷◌, length, map, slice_get, Option, Some, None, Contains}
 use Rattle.std.specs.Borrow.{Bor}
 use Rattle.std.specs.BTreeMap.{BTreeMap, IsOrdered}
+use Rattle.std.specs.declared.alloc.Global.{Global}
+use Rattle.std.specs.declared.vec.Vec.{Vec}
 use Rattle.lalrpop_base.specs.Words.{Bits, Contents, Dotted, Ordered, leads, name_cmp}
 use Rattle.lalrpop_base.specs.contracts.repr.TerminalStringOrd.TheImpl as terminal_ord
 use Rattle.lalrpop_base.specs.declared.lookahead.nil.Nil.{Nil}
@@ -14,6 +16,7 @@ use Rattle.lalrpop_base.specs.declared.repr.Symbol.TheVariants.{Nonterminal, Ter
 use Rattle.lalrpop_base.specs.declared.repr.TerminalString.{TerminalString}
 use Rattle.lalrpop_tables.specs.lanes.LaneTraces.{places_in}
 use Rattle.lalrpop_tables.specs.grammars.Numbering.{IsNumberOf, with_dot}
+use Rattle.lalrpop_tables.specs.declared.construction.numbered.Numbered.{Numbered}
 use Rattle.lalrpop_tables.specs.declared.construction.numbers.Numbers.{Numbers}
 use Rattle.lalrpop_tables.specs.declared.lane_table.follow_sets.numbered_state.NumberedState.{NumberedState}
 
@@ -28,6 +31,20 @@ pub record IsNumberedState (n : Numbers) (place : Contents) (state : NumberedSta
   pub named : (x m : ℕ) → Contains state.edges.items (x, m) → x < length n.symbols.items
   pub edges : (x m : ℕ) (s : Symbol) → slice_get n.symbols.items x ≡ Some s → Contains state.edges.items (x, m) ↔ (leads place s ≡ Some m)
   pub ascend : EdgesAscend state.edges.items
+
+-- the items have the numbers, one by one
+pub record AreItemsAt {L : Type 0} (known : List (Dotted Nil)) (numbers : List ℕ) (items : List (Dotted L)) : Type 0 where
+  pub counted : length numbers ≡ length items
+  pub each : (j k : ℕ) (item : Dotted L) → slice_get items j ≡ Some item → slice_get numbers j ≡ Some k → slice_get known k ≡ Some (with_dot item.production item.index)
+
+-- the items of each state have the numbers of the list at its place
+pub record HaveItemsAt {L : Type 0} (known : List (Dotted Nil)) (lists : List (Vec ℕ Global)) (states : List (State L)) : Type 0 where
+  pub counted : length lists ≡ length states
+  pub each : (s : ℕ) (list : Vec ℕ Global) (state : State L) → slice_get lists s ≡ Some list → slice_get states s ≡ Some state → AreItemsAt known list.items state.items.vec.items
+
+-- the number of an item by number
+abbrev pub number_in : {L : Type 0} → Numbered L → ℕ
+number_in e = e.number
 
 -- the numbers are those of the finished dotted productions of the reductions, in their order
 pub record AreReducedNumbers (items : List (Dotted Nil)) (reductions : List (Bits × Bor Production)) (numbers : List ℕ) : Type 0 where

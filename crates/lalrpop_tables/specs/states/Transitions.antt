@@ -98,6 +98,13 @@ pub record IsReached {L : Type 0} (groups : Groups L) (old new : Kernels (List (
   pub handed : new.handed ≡ old.handed
   pub differ : AllDiffer old.list → AllDiffer new.list
 
+-- the edges lead over the symbols behind the dots of the items to the kernels that these give, of which some came
+pub record AreTransitions {L : Type 0} (items : List (Dotted L)) (old new : Kernels (List (Dotted L))) (edges : Edges) : Type 0 where
+  pub groups : Groups L
+  pub moves : AreMoves items groups
+  pub lead : AreEdges groups new.list edges
+  pub reached : IsReached groups old new
+
 -- ---- reductions
 -- a reduction, with its production as a value
 abbrev pub seen : {L : Type 0} → L × Bor Production → L × Production

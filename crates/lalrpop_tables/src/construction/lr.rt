@@ -10,20 +10,21 @@ ghost use Rattle.lalrpop_base.specs.states.Lr0.{AreLr0States, HasLr0States, Have
 ghost use Rattle.lalrpop_tables.specs.answers.Lr1Answers.{AreBuiltTablesOf, FailsOn};
 ghost use Rattle.lalrpop_tables.specs.grammars.Numbers.{AreNumbered, AreNumbers, items_by};
 ghost use Rattle.lalrpop_tables.specs.answers.Results.{AreTables, AreTablesFor, FailsBy, FailsFor, canonical_of};
+ghost use Rattle.lalrpop_tables.specs.states.NumberedStates.{HaveItemsAt};
 ghost use Rattle.lalrpop_tables.specs.states.States.{begun};
 ghost use Rattle.lalrpop_tables.specs.declared.build.options.Method.TheVariants.{Canonical};
 
 use super::lookahead_build::LookaheadBuild;
 use super::numbered::{Numbered, NumberedKernel};
+use super::numbered_states::{NumberedStates, numbered_states};
 use super::numbers::Numbers;
 use super::results::tables_or_conflicts;
-use super::states::{all_states, build_states};
+use super::states::build_states;
 use lalrpop_base::first::FirstSets;
 use lalrpop_base::lookahead::Lookahead;
 use lalrpop_base::lookahead::nil::Nil;
 use lalrpop_base::lookahead::token_set::TokenSet;
 use lalrpop_base::lr1_core::item::Item;
-use lalrpop_base::lr1_core::lr0::Lr0State;
 use lalrpop_base::lr1_core::state::{Lr1Result, LrResult};
 use lalrpop_base::memory::OutOfMemory;
 use lalrpop_base::repr::NonterminalString;
@@ -222,14 +223,21 @@ impl<'grammar> Lr<'grammar, Nil> {
         self.build_states(alloc)
     }
 
-    /// The states without lookahead, whatever conflicts they have: none is looked for.
-    pub(crate) fn lr0_states(&self, alloc: Global) -> Result<Vec<Lr0State<'grammar>>, OutOfMemory>
-        ensures { IfOk result (λ states. AreLr0States self.now.construction.rules
-            self.now.construction.start states.items) }
+    /// The states without lookahead, whatever conflicts they have, and the numbers of their items.
+    pub(crate) fn lr0_states(
+        &self,
+        alloc: Global,
+        numbers: &Numbers<'grammar>,
+    ) -> Result<NumberedStates<'grammar, Nil>, OutOfMemory>
+        requires { AreNumbers self.now.construction.rules numbers.now }
+        ensures states { IfOk result (λ made. AreLr0States self.now.construction.rules
+            self.now.construction.start made.0.items) }
+        ensures items { IfOk result
+            (λ made. HaveItemsAt numbers.now.items.items made.1.items made.0.items) }
     {
         let _own = self.grammar;
-        let states = all_states(alloc, self)?;
-        Ok(states)
+        let (states, items) = numbered_states(alloc, self, numbers)?;
+        Ok((states, items))
     }
 }
 

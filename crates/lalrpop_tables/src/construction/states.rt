@@ -1,5 +1,6 @@
 //! The states of a grammar, by their kernels.
-ghost use Rattle.std.specs.Prelude.{◌≡◌, ◌↔◌, ◌∷◌, [], map, IsTrue, IfOk, OnOk, Some};
+ghost use Rattle.std.specs.Prelude.{◌≡◌, ◌↔◌, ◌∷◌, [], List, map, IsTrue, IfOk, OnOk};
+ghost use Rattle.lalrpop_base.specs.Words.{Dotted, Rules};
 ghost use Rattle.lalrpop_base.specs.closures.Closure.{AreItemsBy, IsClosureBy};
 ghost use Rattle.lalrpop_tables.specs.early_stop.EarlyStop.{AreEnough, AreMadeFor};
 ghost use Rattle.lalrpop_tables.specs.grammars.Numbers.{AreAllNumbered, AreNumbered, AreNumbers, items_by, kernels_by};
@@ -13,7 +14,7 @@ use super::numbered::{Numbered, NumberedKernel, NumberedKernels};
 use super::numbers::Numbers;
 use super::reductions::reductions;
 use super::results::push_conflicts;
-use super::transitions::{Edges, edges_of, moves_of};
+use super::transitions::{Edges, transitions};
 use super::workspace::Workspace;
 use lalrpop_base::lookahead::Lookahead;
 use lalrpop_base::lr1_core::item::Item;
@@ -39,6 +40,45 @@ fn items_of<'grammar, L: Lookahead>(
         items.push(numbers.items[item.number].with_lookahead(item.lookahead))?;
     }
     Ok(items)
+}
+
+/// The state of items by number, which has the number.
+pub(super) fn state_of<'grammar, L: LookaheadBuild>(
+    alloc: Global,
+    numbers: &Numbers<'grammar>,
+    list: Vec<Numbered<L>>,
+    number: usize,
+    kernels: &mut NumberedKernels<L>,
+    work: &mut Workspace<L>,
+) -> Result<State<'grammar, L>, OutOfMemory>
+    requires numbers { (g : Rules) × AreNumbers g numbers.now }
+    requires known { AreNumbered numbers.now.items.items list.items }
+    requires kernels { AreAllNumbered numbers.now.items.items kernels.old.list }
+    ensures known { OnOk result (AreAllNumbered numbers.now.items.items kernels.new.list) }
+    ensures items { IfOk result
+        (λ state. state.items.vec.items ≡ items_by numbers.now.items.items list.items) }
+    ensures built { IfOk result (λ state. (g : Rules) (kernel : List (Dotted L)) →
+        IsClosureBy L.meaning L.begins L.passes g kernel state.items.vec.items →
+        IsBuiltBy (IsClosureBy L.meaning L.begins L.passes g)
+        (kernels_by numbers.now.items.items kernels.new).list kernel number state) }
+    ensures extends { IfOk result (λ state. (g : Rules) →
+        AreItemsBy L.meaning g state.items.vec.items →
+        Extends L.meaning g (kernels_by numbers.now.items.items kernels.old)
+        (kernels_by numbers.now.items.items kernels.new)) }
+    ensures led { IfOk result
+        (LeadsToAdded (kernels_by numbers.now.items.items kernels.old)
+        (kernels_by numbers.now.items.items kernels.new)) }
+{
+    let Edges { shifts, gotos } = transitions(alloc, numbers, &list, kernels, &mut work.moves)?;
+    let items = items_of(alloc, numbers, list)?;
+    let reductions = reductions(alloc, &items)?;
+    Ok(State {
+        index: StateIndex(number),
+        items: Items { vec: items },
+        shifts,
+        reductions,
+        gotos,
+    })
 }
 
 // The state of the kernel, with the number.
@@ -69,18 +109,8 @@ fn build_state<'grammar, L: LookaheadBuild>(
         (kernels_by numbers.now.items.items kernels.new)) }
 {
     let list = closure(alloc, lr, numbers, kernel.as_slice(), work)?;
-    moves_of(alloc, numbers, &list, &mut work.moves)?;
-    let moves = work.moves.take_rising(alloc)?;
-    let Edges { shifts, gotos } = edges_of(alloc, numbers, moves, kernels)?;
-    let items = items_of(alloc, numbers, list)?;
-    let reductions = reductions(alloc, &items)?;
-    Ok(State {
-        index: StateIndex(number),
-        items: Items { vec: items },
-        shifts,
-        reductions,
-        gotos,
-    })
+    let state = state_of(alloc, numbers, list, number, kernels, work)?;
+    Ok(state)
 }
 
 // Whether so many conflicts are enough to stop; 0 is none.
@@ -90,8 +120,8 @@ fn are_enough(stop_after: usize, found: usize) -> bool
     stop_after > 0 && stop_after <= found
 }
 
-// The kernels when a construction begins: that of the start symbol, which has no state yet.
-fn first_kernels<'grammar, L: LookaheadBuild>(
+/// The kernels when a construction begins: that of the start symbol, which has no state yet.
+pub(super) fn first_kernels<'grammar, L: LookaheadBuild>(
     alloc: Global,
     lr: &Lr<'grammar, L>,
     numbers: &Numbers<'grammar>,

@@ -2,7 +2,7 @@
 ghost use Rattle.std.specs.Prelude.{◌<◌, IfOk, OnOk, length, Some};
 ghost use Rattle.lalrpop_base.specs.Words.{Rules};
 ghost use Rattle.lalrpop_tables.specs.grammars.Numbers.{AreAllNumbered, AreGroupsOf, AreNumbered, AreNumbers, groups_by, item_by, items_by, kernels_by};
-ghost use Rattle.lalrpop_tables.specs.states.Transitions.{AreEdges, AreEdgesListed, AreMoves, IsEdgeAdded, IsMoveAdded, IsReached};
+ghost use Rattle.lalrpop_tables.specs.states.Transitions.{AreEdges, AreEdgesListed, AreMoves, AreTransitions, IsEdgeAdded, IsMoveAdded, IsReached};
 
 use super::numbered::{Numbered, NumberedKernel, NumberedKernels};
 use super::numbers::Numbers;
@@ -50,8 +50,8 @@ fn add_move<'grammar, L: Lookahead>(
     Ok(())
 }
 
-/// The items whose dot can move, moved, by the symbol over which.
-pub fn moves_of<'grammar, L: Lookahead>(
+// The items whose dot can move, moved, by the symbol over which.
+fn moves_of<'grammar, L: Lookahead>(
     alloc: Global,
     numbers: &Numbers<'grammar>,
     items: &[Numbered<L>],
@@ -102,9 +102,9 @@ fn edge_maps(alloc: Global, lists: EdgeLists) -> Result<Edges, OutOfMemory>
     })
 }
 
-/// A transition to the state of each kernel. New states are numbered in the order of the list; it is
-/// soonest done where its symbols rise.
-pub fn edges_of<'grammar, L: Lookahead>(
+// A transition to the state of each kernel. New states are numbered in the order of the list; it is
+// soonest done where its symbols rise.
+fn edges_of<'grammar, L: Lookahead>(
     alloc: Global,
     numbers: &Numbers<'grammar>,
     moves: Vec<(usize, Sequence<Numbered<L>>)>,
@@ -129,4 +129,27 @@ pub fn edges_of<'grammar, L: Lookahead>(
         add_edge(numbers.symbols[symbol].clone(alloc)?, target, &mut lists)?;
     }
     edge_maps(alloc, lists)
+}
+
+/// The transitions over the symbols behind the dots of items, with a state for each kernel that
+/// these give.
+pub fn transitions<'grammar, L: Lookahead>(
+    alloc: Global,
+    numbers: &Numbers<'grammar>,
+    items: &[Numbered<L>],
+    kernels: &mut NumberedKernels<L>,
+    moves: &mut Moves<L>,
+) -> Result<Edges, OutOfMemory>
+    requires numbers { (g : Rules) × AreNumbers g numbers.now }
+    requires known { AreNumbered numbers.now.items.items items.now }
+    requires kernels { AreAllNumbered numbers.now.items.items kernels.old.list }
+    ensures known { OnOk result (AreAllNumbered numbers.now.items.items kernels.new.list) }
+    ensures transitions { IfOk result (AreTransitions (items_by numbers.now.items.items items.now)
+        (kernels_by numbers.now.items.items kernels.old)
+        (kernels_by numbers.now.items.items kernels.new)) }
+{
+    moves_of(alloc, numbers, items, moves)?;
+    let moves = moves.take_rising(alloc)?;
+    let edges = edges_of(alloc, numbers, moves, kernels)?;
+    Ok(edges)
 }

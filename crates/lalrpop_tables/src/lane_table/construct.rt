@@ -133,8 +133,9 @@ impl<'grammar> LaneTableConstruct<'grammar> {
     {
         let grammar = self.grammar;
         let _terminals = grammar.terminals.all();
-        let mut states = self.promoted_states(alloc)?;
-        let Some(first) = self.resolve_states(alloc, &mut states)? else {
+        let numbers = self.lr.numbers();
+        let (mut states, items) = self.promoted_states(alloc, numbers)?;
+        let Some(first) = self.resolve_states(alloc, numbers, items, &mut states)? else {
             return Ok((states, true));
         };
         let states = self.resolve_copied(alloc, states, first)?;

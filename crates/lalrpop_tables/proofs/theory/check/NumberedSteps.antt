@@ -6,42 +6,16 @@ use Rattle.std.proofs.lemmas.Bool.{cases_eq, false≢true}
 use Rattle.std.proofs.lemmas.List.{get_or-replicate, length-replicate, length-set}
 use Rattle.std.proofs.lemmas.List.Elements.{Contains-append_left, Contains-append_right, Contains-append_cases}
 use Rattle.std.proofs.lemmas.Option.{get_or_from_slice_get, slice_get_within}
-use Rattle.lalrpop_base.specs.Words.{AllDiffer, Bits, Dotted, contents_at}
-use Rattle.lalrpop_tables.proofs.Types.{Nil, NonterminalString, Production, State, Token}
-use Rattle.lalrpop_base.specs.grammars.Ascending.{Ascend}
-use Rattle.lalrpop_base.proofs.theory.grammars.Tables.{same_lr0}
-use Rattle.lalrpop_base.proofs.theory.lists.Members.{Contains-none, contains-cons, contains_head, place}
-use Rattle.lalrpop_base.proofs.theory.lists.Places.{contains_at, filled, one_place, push_cases, same_some, put_other}
-use Rattle.lalrpop_tables.specs.check.ByNumber.{AddsFinished, AreItemsAt, AreListedByNumber, AreMarkedReached, HasFinished, HoldSets, HoldsUnion, IsKernelOf, IsListedState, IsReachedByNumber, MarksTarget, MarksTargets, over_transition}
+use Rattle.lalrpop_base.specs.Words.{AllDiffer, Bits, contents_at}
+use Rattle.lalrpop_tables.proofs.Types.{NonterminalString, Production, State, Token}
+use Rattle.lalrpop_base.proofs.theory.lists.Members.{Contains-none, contains-cons, contains_head}
+use Rattle.lalrpop_base.proofs.theory.lists.Places.{filled, push_cases, put_other}
+use Rattle.lalrpop_tables.specs.check.ByNumber.{AddsFinished, AreListedByNumber, AreMarkedReached, HasFinished, HoldSets, HoldsUnion, IsKernelOf, IsListedState, IsReachedByNumber, MarksTarget, MarksTargets, over_transition}
 use Rattle.lalrpop_tables.specs.follow_sets.FollowWalks.{AreUnions}
-use Rattle.lalrpop_tables.specs.grammars.Numbering.{with_dot}
 use Rattle.lalrpop_tables.specs.states.NumberedStates.{AreNumberedStates, IsNumberedState, listed_transitions}
 use Rattle.lalrpop_tables.specs.declared.construction.numbers.Numbers.{Numbers}
 use Rattle.lalrpop_tables.specs.declared.lane_table.follow_sets.numbered_state.NumberedState.{NumberedState}
 use Rattle.lalrpop_tables.proofs.theory.follow_sets.FollowBits.{held_at}
-use Rattle.lalrpop_tables.proofs.theory.states.NumberedItems.{AreNumbered, items_differ}
-
--- ---- items with their numbers
--- items that have the numbers one by one are numbered by these
-pub Items-numbered : (known : List (Dotted Nil)) → Ascend known → (numbers : List ℕ) (items : List (Dotted Bits)) → AreItemsAt known numbers items → ((k : ℕ) → Contains numbers k → k < length known) → AreNumbered known items numbers
-Items-numbered known ascend numbers items at within = record {
-  known = within;
-  numbered = λ k i at_i. (
-    λ c.
-        let f = place numbers k c in
-        let counted = at.counted in
-        let j = filled items f.0 (omega (arith, f.1, counted)) in
-        let same : with_dot (j.0).production (j.0).index ≡ i = same_some (with_dot (j.0).production (j.0).index) i (sym (at.each f.0 k j.0 j.1 f.2) ∙ at_i) in
-        (j.0, contains_at items j.0 f.0 j.1, ap (λ (d : Dotted Nil). d.production) same, ap (λ (d : Dotted Nil). d.index) same),
-    λ h.
-        let f = place items h.0 h.1 in
-        let counted = at.counted in
-        let m = filled numbers f.0 (omega (arith, f.1, counted)) in
-        let same : with_dot (h.0).production (h.0).index ≡ i = same_lr0 (with_dot (h.0).production (h.0).index) i h.2 h.3 in
-        let number : m.0 ≡ k = one_place known (items_differ known ascend) m.0 k i (at.each f.0 m.0 h.0 f.2 m.1 ∙ ap Some same) at_i in
-        subst (Contains numbers) number (contains_at numbers m.0 f.0 m.1),
-  );
-}
 
 -- ---- numbers that rise
 -- each of the first so many is less than the next

@@ -1,9 +1,8 @@
 -- Items and reductions by the numbers of their dotted productions, one after the other.
-use Rattle.std.proofs.Common.{◌≡◌, ◌∙◌, ◌⊎◌, inl, inr, ℕ, ◌<◌, ◌+◌, List, [], ◌∷◌, ◌++◌, length, length-append, refl, sym, ap, subst, arith, map}
+use Rattle.std.proofs.Common.{◌≡◌, ◌∙◌, inl, inr, ℕ, ◌<◌, ◌+◌, List, [], ◌∷◌, ◌++◌, length, length-append, refl, sym, ap, subst, arith, map}
 use Rattle.std.specs.Prelude.{◌↔◌, slice_get, Option, Some, None, Contains, IsNone}
 use Rattle.std.specs.Option.{IsSome}
 use Rattle.std.specs.Borrow.{Bor}
-use Rattle.std.proofs.lemmas.List.Elements.{Contains-append_left, Contains-append_right, Contains-append_cases}
 use Rattle.std.proofs.lemmas.Option.{slice_get_within}
 use Rattle.lalrpop_base.specs.Words.{AllDiffer, Bits, Dotted}
 use Rattle.lalrpop_tables.proofs.Types.{Nil, Production}
@@ -12,9 +11,7 @@ use Rattle.lalrpop_base.specs.grammars.Ascending.{Ascend}
 use Rattle.lalrpop_tables.specs.states.NumberedStates.{AreReducedNumbers, HasDots}
 use Rattle.lalrpop_tables.specs.grammars.Numbering.{with_dot}
 use Rattle.lalrpop_base.proofs.theory.grammars.AscendingItems.{precedes_asymmetric}
-use Rattle.lalrpop_base.proofs.theory.lists.Members.{contains-cons, contains_head, Contains-none}
-use Rattle.lalrpop_base.proofs.theory.lists.Places.{contains_at, one_place, push_cases, same_some}
-use Rattle.lalrpop_base.proofs.theory.grammars.Tables.{same_lr0}
+use Rattle.lalrpop_base.proofs.theory.lists.Places.{push_cases}
 
 -- dotted productions that ascend differ
 pub items_differ : (items : List (Dotted Nil)) → Ascend items → AllDiffer items
@@ -25,73 +22,6 @@ items_differ items ascend i j x l at_i at_j = let before = ascend i j x x l at_i
 pub record AreNumbered (items : List (Dotted Nil)) (done : List (Dotted Bits)) (list : List ℕ) : Type 0 where
   pub known : (k : ℕ) → Contains list k → k < length items
   pub numbered : (k : ℕ) (i : Dotted Nil) → slice_get items k ≡ Some i → Contains list k ↔ HasDots done i
-
--- no items have none
-pub Numbered-none : (items : List (Dotted Nil)) → AreNumbered items [] []
-Numbered-none items = record {
-  known = λ k c. absurd (Contains-none k c);
-  numbered = λ k i at. (λ c. absurd (Contains-none k c), λ h. absurd (Contains-none h.0 h.1));
-}
-
-module _ (items : List (Dotted Nil)) (ascend : Ascend items) (done : List (Dotted Bits)) (item : Dotted Bits) (d : Dotted Nil) (production : d.production ≡ item.production) (dot : d.index ≡ item.index) (old : List ℕ) (before : AreNumbered items done old) where
-  abbrev more : List (Dotted Bits)
-  more = done ++ item ∷ []
-
-  -- what an earlier item has, one of all has
-  kept : (i : Dotted Nil) → HasDots done i → HasDots more i
-  kept i h = (h.0, Contains-append_left done (item ∷ []) h.0 h.1, h.2, h.3)
-
-  -- an item with the dots is an earlier one, or the new one
-  cases : (i : Dotted Nil) → HasDots more i → HasDots done i ⊎ (i ≡ d)
-  cases i h = elim (Contains-append_cases done (item ∷ []) h.0 h.1) [
-    | inl was ↦ inl (h.0, was, h.2, h.3)
-    | inr last ↦ elim (contains-cons item [] h.0 last) [
-      | inl same ↦ inr (same_lr0 i d (sym h.2 ∙ ap (λ (j : Dotted Bits). j.production) (sym same) ∙ sym production) (sym h.3 ∙ ap (λ (j : Dotted Bits). j.index) (sym same) ∙ sym dot))
-      | inr out ↦ absurd (Contains-none h.0 out)
-    ]
-  ]
-
-  -- the new one has a number
-  pub Numbered-more : (n : ℕ) → slice_get items n ≡ Some d → AreNumbered items more (old ++ n ∷ [])
-  Numbered-more n at = record {
-    known = λ k c. elim (Contains-append_cases old (n ∷ []) k c) [
-      | inl was ↦ before.known k was
-      | inr last ↦ elim (contains-cons n [] k last) [
-        | inl same ↦ let l = slice_get_within items n d at in omega arith
-        | inr out ↦ absurd (Contains-none k out)
-      ]
-    ];
-    numbered = λ k i at_k. (
-      λ c. elim (Contains-append_cases old (n ∷ []) k c) [
-        | inl was ↦ kept i ((before.numbered k i at_k).0 was)
-        | inr last ↦ elim (contains-cons n [] k last) [
-          | inl same ↦
-              let is : d ≡ i = same_some d i (sym at ∙ ap (slice_get items) same ∙ at_k) in
-              (item, Contains-append_right done (item ∷ []) item (contains_head item []), sym production ∙ ap (λ (j : Dotted Nil). j.production) is, sym dot ∙ ap (λ (j : Dotted Nil). j.index) is)
-          | inr out ↦ absurd (Contains-none k out)
-        ]
-      ],
-      λ h. elim (cases i h) [
-        | inl was ↦ Contains-append_left old (n ∷ []) k ((before.numbered k i at_k).1 was)
-        | inr is ↦
-            let same : n ≡ k = one_place items (items_differ items ascend) n k d at (at_k ∙ ap Some is) in
-            Contains-append_right old (n ∷ []) k (subst (λ (m : ℕ). Contains (n ∷ []) m) same (contains_head n []))
-      ],
-    );
-  }
-
-  -- the new one has none
-  pub Numbered-same : (Contains items d → ⊥) → AreNumbered items more old
-  Numbered-same none = record {
-    known = before.known;
-    numbered = λ k i at. (
-      λ c. kept i ((before.numbered k i at).0 c),
-      λ h. elim (cases i h) [
-        | inl was ↦ (before.numbered k i at).1 was
-        | inr is ↦ absurd (none (contains_at items d k (at ∙ ap Some is)))
-      ],
-    );
-  }
 
 -- a state has an item with the dots where its contents do
 pub dots_in : (items : List (Dotted Bits)) (i : Dotted Nil) → HasDots items i ↔ Contains {X = Production × ℕ} (map (λ (j : Dotted Bits). (j.production, j.index)) items) (i.production, i.index)

@@ -3,33 +3,40 @@ ghost use Rattle.std.specs.Prelude.{IfOk, OnOk, MatchOption};
 ghost use Rattle.lalrpop_base.specs.Words.{rules_of};
 ghost use Rattle.lalrpop_tables.specs.lane_states.LaneStates.{AreLaneStates, AreLaneTables, HaveMeetingLanes, HoldAllFrom, IsReadyToConstruct};
 ghost use Rattle.lalrpop_tables.specs.grammars.Numbers.{AreNumbers};
+ghost use Rattle.lalrpop_tables.specs.states.NumberedStates.{HaveItemsAt};
 
 use super::LaneTableConstruct;
 use super::promote::promote_states;
+use crate::construction::numbered_states::NumberedStates;
 use crate::construction::numbers::Numbers;
 use crate::lane_table::follow_sets::Found;
-use crate::lane_table::numbered_states::states_by_number;
+use crate::lane_table::follow_sets::numbered_state::number_states;
 use lalrpop_base::lookahead::token_set::TokenSet;
 use lalrpop_base::lr1_core::state::Lr1State;
 use lalrpop_base::memory::OutOfMemory;
 use std::alloc::Global;
 
 impl<'grammar> LaneTableConstruct<'grammar> {
-    /// The LR(0) states with all tokens.
+    /// The LR(0) states with all tokens, and the numbers of their items.
     pub(super) fn promoted_states(
         &self,
         alloc: Global,
-    ) -> Result<Vec<Lr1State<'grammar>>, OutOfMemory>
+        numbers: &Numbers<'grammar>,
+    ) -> Result<NumberedStates<'grammar, TokenSet>, OutOfMemory>
         requires ready { IsReadyToConstruct self.now }
-        ensures lanes { IfOk result
-            (λ states. AreLaneStates (rules_of self.now.grammar.now) self.now.start states.items) }
+        requires numbers { AreNumbers (rules_of self.now.grammar.now) numbers.now }
+        ensures lanes { IfOk result (λ made. AreLaneStates (rules_of self.now.grammar.now)
+            self.now.start made.0.items) }
         ensures full { IfOk result
-            (λ states. HoldAllFrom self.now.grammar.now.terminals 0 states.items) }
+            (λ made. HoldAllFrom self.now.grammar.now.terminals 0 made.0.items) }
+        ensures items { IfOk result
+            (λ made. HaveItemsAt numbers.now.items.items made.1.items made.0.items) }
     {
         let grammar = self.grammar;
         let all = TokenSet::all(alloc, &grammar.terminals)?;
-        let states = self.lr.lr0_states(alloc)?;
-        promote_states(alloc, states, &all)
+        let (states, items) = self.lr.lr0_states(alloc, numbers)?;
+        let states = promote_states(alloc, states, &all)?;
+        Ok((states, items))
     }
 
     /// Resolves the states by rising index, with the lookahead sets that one pass over them finds,
@@ -38,35 +45,16 @@ impl<'grammar> LaneTableConstruct<'grammar> {
     pub(super) fn resolve_states(
         &self,
         alloc: Global,
-        states: &mut Vec<Lr1State<'grammar>>,
-    ) -> Result<Option<usize>, OutOfMemory>
-        requires ready { IsReadyToConstruct self.now }
-        requires lanes { AreLaneStates (rules_of self.now.grammar.now) self.now.start
-            states.old.items }
-        requires full { HoldAllFrom self.now.grammar.now.terminals 0 states.old.items }
-        ensures lanes { OnOk result
-            (AreLaneStates (rules_of self.now.grammar.now) self.now.start states.new.items) }
-        ensures resolved { IfOk result (λ first. MatchOption first
-            (AreLaneTables (rules_of self.now.grammar.now) self.now.start states.new.items)
-            (λ _. HaveMeetingLanes (rules_of self.now.grammar.now) self.now.start
-            states.new.items)) }
-    {
-        let numbers = self.lr.numbers();
-        self.resolve_by_number(alloc, states, numbers)
-    }
-
-    // The same, with the numbers of the grammar at hand.
-    fn resolve_by_number(
-        &self,
-        alloc: Global,
-        states: &mut Vec<Lr1State<'grammar>>,
         numbers: &Numbers<'grammar>,
+        items: Vec<Vec<usize>>,
+        states: &mut Vec<Lr1State<'grammar>>,
     ) -> Result<Option<usize>, OutOfMemory>
         requires ready { IsReadyToConstruct self.now }
         requires lanes { AreLaneStates (rules_of self.now.grammar.now) self.now.start
             states.old.items }
         requires full { HoldAllFrom self.now.grammar.now.terminals 0 states.old.items }
         requires numbers { AreNumbers (rules_of self.now.grammar.now) numbers.now }
+        requires items { HaveItemsAt numbers.now.items.items items.items states.old.items }
         ensures lanes { OnOk result
             (AreLaneStates (rules_of self.now.grammar.now) self.now.start states.new.items) }
         ensures resolved { IfOk result (λ first. MatchOption first
@@ -76,7 +64,7 @@ impl<'grammar> LaneTableConstruct<'grammar> {
     {
         let grammar = self.grammar;
         let _terminals = grammar.terminals.all();
-        let numbered = states_by_number(alloc, numbers, &self.start, states)?;
+        let numbered = number_states(alloc, numbers, items, states)?;
         let found = Found::new(alloc, grammar, &self.start, states, numbers, &numbered)?;
         let count = states.len();
         for index in 0..count {

@@ -3,14 +3,14 @@ ghost use Rattle.std.specs.Prelude.{◌≡◌, ◌<◌, ◌↔◌, ℕ, true, le
 ghost use Rattle.lalrpop_base.specs.Words.{Bits, Dotted, Rules, contents_of};
 ghost use Rattle.lalrpop_base.specs.declared.lookahead.nil.Nil.{Nil as NoLookahead};
 ghost use Rattle.lalrpop_base.specs.declared.lr1_core.state.State.{State};
-ghost use Rattle.lalrpop_tables.specs.states.NumberedStates.{AddTransitions, AddsTransition, AreNumberedStates, AreReducedNumbers, GotosAscend, HasDots, HaveReducedNumbers, IsNumberedState, ShiftsAscend, goto_transitions, shift_transitions};
+ghost use Rattle.lalrpop_tables.specs.states.NumberedStates.{AddTransitions, AddsTransition, AreItemsAt, AreNumberedStates, AreReducedNumbers, GotosAscend, HaveItemsAt, HaveReducedNumbers, IsNumberedState, ShiftsAscend, goto_transitions, shift_transitions};
 ghost use Rattle.lalrpop_tables.specs.grammars.Numbers.{AreNumbers, SymbolsAscend};
 
 use crate::construction::numbers::Numbers;
 use crate::construction::numbers::symbols::number_of;
 use lalrpop_base::lookahead::nil::Nil;
 use lalrpop_base::lookahead::token_set::TokenSet;
-use lalrpop_base::lr1_core::item::{Item, Lr1Item};
+use lalrpop_base::lr1_core::item::Item;
 use lalrpop_base::lr1_core::state::{Lr1State, StateIndex};
 use lalrpop_base::memory::OutOfMemory;
 use lalrpop_base::repr::{NonterminalString, Production, Symbol, TerminalString};
@@ -28,28 +28,6 @@ pub(crate) struct NumberedState {
     /// The numbers of the finished items by which the state reduces, in the order of its
     /// reductions.
     pub(crate) reductions: Vec<usize>,
-}
-
-// The numbers of items.
-fn number_items<'grammar>(
-    alloc: Global,
-    numbers: &Numbers<'grammar>,
-    items: &[Lr1Item<'grammar>],
-) -> Result<Vec<usize>, OutOfMemory>
-    requires { (g : Rules) × AreNumbers g numbers.now }
-    ensures known { IfOk result
-        (λ list. (k : ℕ) → Contains list.items k → k < length numbers.now.items.items) }
-    ensures numbered { IfOk result (λ list. (k : ℕ) (i : Dotted NoLookahead) →
-        slice_get numbers.now.items.items k ≡ Some i →
-        Contains list.items k ↔ HasDots items.now i) }
-{
-    let mut list = Vec::new(alloc);
-    for item in items {
-        if let Some(number) = numbers.number_of(&item.to_lr0()) {
-            list.push(number)?;
-        }
-    }
-    Ok(list)
 }
 
 // Puts a transition behind the others, if its symbol has a number.
@@ -131,20 +109,21 @@ fn number_reductions<'grammar>(
     Ok(list)
 }
 
-// A state by numbers.
+// A state by numbers, those of its items being known.
 fn number_state<'grammar>(
     alloc: Global,
     numbers: &Numbers<'grammar>,
+    items: Vec<usize>,
     state: &Lr1State<'grammar>,
 ) -> Result<NumberedState, OutOfMemory>
     requires numbers { (g : Rules) × AreNumbers g numbers.now }
     requires numbered { HaveReducedNumbers numbers.now.items.items state.now.reductions.items }
+    requires items { AreItemsAt numbers.now.items.items items.items state.now.items.vec.items }
     ensures numbered { IfOk result (λ new. IsNumberedState numbers.now
         (contents_of (λ lookahead t. true) state.now) new) }
     ensures reduced { IfOk result (λ new. AreReducedNumbers numbers.now.items.items
         state.now.reductions.items new.reductions.items) }
 {
-    let items = number_items(alloc, numbers, &state.items.vec)?;
     let mut edges = Vec::new(alloc);
     add_gotos(alloc, numbers, &state.gotos, &mut edges)?;
     add_shifts(alloc, numbers, &state.shifts, &mut edges)?;
@@ -156,21 +135,25 @@ fn number_state<'grammar>(
     })
 }
 
-/// States by numbers. Each item is looked up by its production's text, each symbol by its own.
+/// States by numbers, those of their items being known. Each symbol and each reduction is looked
+/// up.
 pub(crate) fn number_states<'grammar>(
     alloc: Global,
     numbers: &Numbers<'grammar>,
+    lists: Vec<Vec<usize>>,
     states: &[Lr1State<'grammar>],
 ) -> Result<Vec<NumberedState>, OutOfMemory>
     requires numbers { (g : Rules) × AreNumbers g numbers.now }
+    requires items { HaveItemsAt numbers.now.items.items lists.items states.now }
     requires numbered { (s : ℕ) (state : State Bits) →
         slice_get states.now s ≡ Some state →
         HaveReducedNumbers numbers.now.items.items state.reductions.items }
     ensures { IfOk result (λ list. AreNumberedStates numbers.now states.now list.items) }
 {
-    let mut list = Vec::new(alloc);
-    for state in states {
-        list.push(number_state(alloc, numbers, state)?)?;
+    let mut list = Vec::with_capacity(alloc, states.len())?;
+    for items in lists {
+        let state = &states[list.len()];
+        list.push(number_state(alloc, numbers, items, state)?)?;
     }
     Ok(list)
 }

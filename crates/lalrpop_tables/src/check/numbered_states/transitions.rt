@@ -1,0 +1,195 @@
+//! Items, transitions and reductions that have the numbers which are expected of them.
+ghost use Rattle.std.specs.Prelude.{◌≡◌, ◌<◌, ℕ, length, slice_get, Contains, Some, IfOk, IsTrue, OnOk};
+ghost use Rattle.lalrpop_base.specs.Words.{AllDiffer, Rules};
+ghost use Rattle.lalrpop_tables.specs.check.ByNumber.{AddsFinished, HasFinished};
+ghost use Rattle.lalrpop_tables.specs.grammars.Numbering.{with_dot};
+ghost use Rattle.lalrpop_tables.specs.grammars.Numbers.{AreNumbers};
+ghost use Rattle.lalrpop_tables.specs.states.NumberedStates.{AddTransitions, AreItemsAt, AreReducedNumbers, GotosAscend, ShiftsAscend, goto_transitions, shift_transitions};
+
+use crate::construction::numbers::Numbers;
+use lalrpop_base::exact::equal;
+use lalrpop_base::lookahead::token_set::TokenSet;
+use lalrpop_base::lr1_core::item::Lr1Item;
+use lalrpop_base::lr1_core::state::StateIndex;
+use lalrpop_base::memory::OutOfMemory;
+use lalrpop_base::repr::{NonterminalString, Production, Symbol, TerminalString};
+use std::alloc::Global;
+use std::collections::BTreeMap;
+
+// Whether a number is that of a production with its dot at a place. Dots are compared first.
+fn is_number_of(numbers: &Numbers<'_>, number: usize, production: &Production, dot: usize) -> bool
+    ensures { IsTrue result →
+        slice_get numbers.now.items.items number ≡ Some (with_dot production.now dot) }
+{
+    if number >= numbers.items.len() {
+        return false;
+    }
+    let met = &numbers.items[number];
+    met.index == dot && equal(met.production, production)
+}
+
+/// Whether the items have the numbers, one by one.
+pub(super) fn are_items<'grammar>(
+    numbers: &Numbers<'grammar>,
+    expected: &[usize],
+    items: &[Lr1Item<'grammar>],
+) -> bool
+    ensures { IsTrue result → AreItemsAt numbers.now.items.items expected.now items.now }
+{
+    if expected.len() != items.len() {
+        return false;
+    }
+    for (place, item) in items.iter().enumerate() {
+        if !is_number_of(numbers, expected[place], item.production, item.index) {
+            return false;
+        }
+    }
+    true
+}
+
+// Adds an item if it is finished.
+fn add_if_finished(
+    numbers: &Numbers<'_>,
+    item: usize,
+    finished: &mut Vec<usize>,
+) -> Result<(), OutOfMemory>
+    requires numbers { (g : Rules) × AreNumbers g numbers.now }
+    requires known { item < length numbers.now.items.items }
+    ensures { OnOk result
+        (AddsFinished numbers.now item finished.old.items finished.new.items) }
+{
+    if let Some(_symbol) = numbers.behind[item] {
+        return Ok(());
+    }
+    finished.push(item)?;
+    Ok(())
+}
+
+/// The finished ones of items.
+pub(super) fn finished_of(
+    alloc: Global,
+    numbers: &Numbers<'_>,
+    items: &[usize],
+) -> Result<Vec<usize>, OutOfMemory>
+    requires numbers { (g : Rules) × AreNumbers g numbers.now }
+    requires known { (k : ℕ) → Contains items.now k → k < length numbers.now.items.items }
+    ensures { IfOk result (λ finished. HasFinished numbers.now items.now finished.items) }
+{
+    let mut finished = Vec::new(alloc);
+    for item in items {
+        add_if_finished(numbers, *item, &mut finished)?;
+    }
+    Ok(finished)
+}
+
+/// Whether numbers rise.
+pub(super) fn rise(numbers: &[usize]) -> bool
+    ensures { IsTrue result → AllDiffer numbers.now }
+{
+    for place in 1..numbers.len() {
+        if numbers[place - 1] >= numbers[place] {
+            return false;
+        }
+    }
+    true
+}
+
+/// Whether the finished items of the reductions have the numbers, one by one.
+pub(super) fn are_reductions<'grammar>(
+    numbers: &Numbers<'grammar>,
+    expected: &[usize],
+    reductions: &[(TokenSet, &'grammar Production)],
+) -> bool
+    ensures { IsTrue result →
+        AreReducedNumbers numbers.now.items.items reductions.now expected.now }
+{
+    if expected.len() != reductions.len() {
+        return false;
+    }
+    for (place, reduction) in reductions.iter().enumerate() {
+        let production = reduction.1;
+        let dot = production.symbols.len();
+        if !is_number_of(numbers, expected[place], production, dot) {
+            return false;
+        }
+    }
+    true
+}
+
+// Whether a number is that of a nonterminal.
+fn is_number_of_name(symbols: &[Symbol], number: usize, name: &NonterminalString) -> bool
+    ensures { IsTrue result → slice_get symbols.now number ≡ Some (Symbol.Nonterminal name.now) }
+{
+    if number >= symbols.len() {
+        return false;
+    }
+    match &symbols[number] {
+        Symbol::Nonterminal(met) => equal(met, name),
+        Symbol::Terminal(_) => false,
+    }
+}
+
+// Whether a number is that of a terminal.
+fn is_number_of_terminal(symbols: &[Symbol], number: usize, terminal: &TerminalString) -> bool
+    ensures { IsTrue result → slice_get symbols.now number ≡ Some (Symbol.Terminal terminal.now) }
+{
+    if number >= symbols.len() {
+        return false;
+    }
+    match &symbols[number] {
+        Symbol::Nonterminal(_) => false,
+        Symbol::Terminal(met) => equal(met, terminal),
+    }
+}
+
+// The number that is expected at a place, and 0 for none.
+fn expected_at(expected: &[usize], place: usize) -> usize {
+    if place < expected.len() {
+        expected[place]
+    } else {
+        0
+    }
+}
+
+/// Puts the gotos of a state behind the others, as far as they have the numbers that are expected,
+/// and tells whether all have. Who reads them learns their order.
+pub(super) fn take_gotos(
+    symbols: &[Symbol],
+    expected: &[usize],
+    gotos: &BTreeMap<NonterminalString, StateIndex>,
+    edges: &mut Vec<(usize, usize)>,
+) -> Result<bool, OutOfMemory>
+    ensures taken { IfOk result (λ yes. IsTrue yes → AddTransitions symbols.now edges.old.items
+        (goto_transitions gotos.now.entries) edges.new.items) }
+    ensures ordered { GotosAscend gotos.now }
+{
+    for (name, target) in gotos.iter() {
+        let number = expected_at(expected, edges.len());
+        if !is_number_of_name(symbols, number, name) {
+            return Ok(false);
+        }
+        edges.push((number, target.0))?;
+    }
+    Ok(true)
+}
+
+/// The same of the shifts.
+pub(super) fn take_shifts(
+    symbols: &[Symbol],
+    expected: &[usize],
+    shifts: &BTreeMap<TerminalString, StateIndex>,
+    edges: &mut Vec<(usize, usize)>,
+) -> Result<bool, OutOfMemory>
+    ensures taken { IfOk result (λ yes. IsTrue yes → AddTransitions symbols.now edges.old.items
+        (shift_transitions shifts.now.entries) edges.new.items) }
+    ensures ordered { ShiftsAscend shifts.now }
+{
+    for (terminal, target) in shifts.iter() {
+        let number = expected_at(expected, edges.len());
+        if !is_number_of_terminal(symbols, number, terminal) {
+            return Ok(false);
+        }
+        edges.push((number, target.0))?;
+    }
+    Ok(true)
+}
