@@ -1,4 +1,5 @@
 -- The states that a construction makes: kernels, transitions and reductions.
+pub mod Building
 pub mod NumberedStates
 pub mod Ready
 pub mod States

@@ -16,10 +16,9 @@ ghost use Rattle.lalrpop_tables.specs.declared.build.options.Method.TheVariants.
 
 use super::lookahead_build::LookaheadBuild;
 use super::numbered::{Numbered, NumberedKernel};
-use super::numbered_states::{NumberedStates, numbered_states};
 use super::numbers::Numbers;
 use super::results::tables_or_conflicts;
-use super::states::build_states;
+use super::states::{NumberedStates, build_states, numbered_states};
 use lalrpop_base::first::FirstSets;
 use lalrpop_base::lookahead::Lookahead;
 use lalrpop_base::lookahead::nil::Nil;

@@ -1,5 +1,5 @@
 //! Items by number, and the kernels of states.
-ghost use Rattle.std.specs.Prelude.{◌≡◌, ◌+◌, [], length, slice_get, Some, IfOk, OnOk, OnErr, IfSome, IfNone};
+ghost use Rattle.std.specs.Prelude.{◌≡◌, ◌+◌, ◌<◌, [], length, slice_get, Some, IfOk, OnOk, OnErr, IfSome, IsNone};
 ghost use Rattle.lalrpop_base.specs.Words.{AddsOnce, AllDiffer};
 
 use indexmap::IndexSet;
@@ -48,19 +48,6 @@ impl<L: Lookahead> NumberedKernel<L> {
     {
         self.items.as_slice()
     }
-
-    fn copy(&self, alloc: Global) -> Result<Self, OutOfMemory>
-        ensures { IfOk result (λ copy. copy ≡ self.now) }
-    {
-        let mut items = Sequence::new(alloc);
-        for item in self.as_slice() {
-            items.push(Numbered {
-                number: item.number,
-                lookahead: item.lookahead.copy(alloc)?,
-            })?;
-        }
-        Ok(NumberedKernel { items })
-    }
 }
 
 /// Kernels that differ, in the order of their numbers, of which the first were handed out. Each
@@ -108,21 +95,28 @@ impl<L: Lookahead> NumberedKernels<L> {
         Ok(StateIndex(number))
     }
 
-    /// A copy of the next kernel by number, which is handed out.
-    pub fn next(&mut self, alloc: Global) -> Result<Option<NumberedKernel<L>>, OutOfMemory>
-        ensures next { IfOk result (λ found. IfSome found
-            (λ kernel. slice_get self.old.list self.old.handed ≡ Some kernel)) }
-        ensures some { IfOk result (λ found. IfSome found
-            (λ _. self.new ≡ record { list = self.old.list; handed = self.old.handed + 1 })) }
-        ensures none { IfOk result (λ found. IfNone found (self.new ≡ self.old)) }
-        ensures all { IfOk result
-            (λ found. IfNone found (self.old.handed ≡ length self.old.list)) }
+    /// The number of the next kernel, which is handed out.
+    pub fn next(&mut self) -> Option<usize>
+        ensures next { IfSome result (λ number. number ≡ self.old.handed) }
+        ensures within { IfSome result (λ number. number < length self.old.list) }
+        ensures some { IfSome result (λ _. self.new ≡ record
+            { list = self.old.list; handed = self.old.handed + 1 }) }
+        ensures none { IsNone result → self.new ≡ self.old }
+        ensures all { IsNone result → self.old.handed ≡ length self.old.list }
     {
         if self.handed == self.kernels.len() {
-            return Ok(None);
+            return None;
         }
-        let copy = self.kernels.as_slice()[self.handed].copy(alloc)?;
+        let number = self.handed;
         self.handed += 1;
-        Ok(Some(copy))
+        Some(number)
+    }
+
+    /// The items of the kernel with the number.
+    pub fn items(&self, number: usize) -> &[Numbered<L>]
+        requires { number < length self.now.list }
+        ensures { slice_get self.now.list number ≡ Some result.now }
+    {
+        self.kernels.as_slice()[number].as_slice()
     }
 }

@@ -7,13 +7,15 @@ use lalrpop_base::lookahead::Lookahead;
 use std::alloc::Global;
 
 /// The tokens of nonterminals and those of items, of a closure, the nonterminals that wait to give
-/// theirs on, and the moves of the items. What a state leaves here is taken out before the next.
+/// theirs on, the moves of the items, and their numbers. What a state leaves here but the numbers
+/// is taken out before the next.
 #[derive(Drop)]
 pub struct Workspace<L: Lookahead> {
     pub shared: SparseMap<L>,
     pub queue: Queue,
     pub items: SparseMap<L>,
     pub moves: Moves<L>,
+    pub numbers: Vec<usize>,
 }
 
 impl<L: Lookahead> Workspace<L> {
@@ -23,6 +25,7 @@ impl<L: Lookahead> Workspace<L> {
             queue: Queue::new(alloc),
             items: SparseMap::new(alloc),
             moves: SparseMap::new(alloc),
+            numbers: Vec::new(alloc),
         }
     }
 }

@@ -4,9 +4,10 @@ use Rattle.std.proofs.lemmas.Bool.{cases_lt}
 use Rattle.lalrpop_base.specs.Words.{Bits, Dotted, Kernels, Rules, FailWith, ListsAll, more}
 use Rattle.lalrpop_tables.proofs.Types.{BuildError, Conflict, State, Symbol, TerminalString, Token}
 use Rattle.lalrpop_base.specs.declared.lr1_core.state.BuildError.TheVariants.{Conflicts, Memory}
+use Rattle.lalrpop_tables.specs.states.Building.{Building}
 use Rattle.lalrpop_tables.specs.Words.{ArePartlyBuiltBy, AreEnough, ListFewer, AreMadeUntilBy, AreMadeFor, StopsFor, Settings, AreStatesFor, AreTablesFor, FailsFor}
 use Rattle.lalrpop_base.specs.conflicts.AllConflicts.{none}
-use Rattle.lalrpop_tables.proofs.theory.states.Building.{Building, Building-all}
+use Rattle.lalrpop_tables.proofs.theory.states.Building.{Building-all}
 use Rattle.lalrpop_tables.proofs.theory.conflicts.ConflictLists.{States-of}
 
 -- ---- lists in two parts
@@ -32,12 +33,6 @@ nothing_is_few stop_after conflicts e h = let l : length conflicts ≡ 0 = ap le
 
 pub enough_for : {a b n m : ℕ} → a ≡ b → n ≡ m → AreEnough a n → AreEnough b m
 enough_for {a} {b} {n} {m} p q e = subst (λ (k : ℕ). AreEnough b k) q (subst (λ (k : ℕ). AreEnough k n) p e)
-
--- the states so far, all their conflicts, and these are not enough
-pub record Making {L : Type 0} (meaning : L → Bits) (C : List (Dotted L) → List (Dotted L) → Type 0) (lists : State L → List TerminalString → List (Conflict L) → Type 0) (g : Rules) (first : List (Dotted L)) (stop_after : ℕ) (kernels : Kernels (List (Dotted L))) (states : List (State L)) (conflicts : List (Conflict L)) : Type 0 where
-  pub building : Building meaning C g first kernels states
-  pub listed : ListsAll lists g.terminals states conflicts
-  pub few : ¬ AreEnough stop_after (length conflicts)
 
 module _ {L : Type 0} (meaning : L → Bits) (C : List (Dotted L) → List (Dotted L) → Type 0) (lists : State L → List TerminalString → List (Conflict L) → Type 0) (g : Rules) (first : List (Dotted L)) (stop_after : ℕ) where
   partly : (kernels : Kernels (List (Dotted L))) (states : List (State L)) → Building meaning C g first kernels states → ArePartlyBuiltBy C first states

@@ -1,28 +1,17 @@
 -- The loop that makes the states.
-use Rattle.std.proofs.Common.{◌≡◌, ℕ, ◌+◌, ◌<◌, ◌≤◌, inl, inr, List, [], ◌∷◌, ◌++◌, length, sym, ◌∙◌, ap, subst, arith, ⊎_elim, length-append}
+use Rattle.std.proofs.Common.{◌≡◌, ℕ, ◌+◌, ◌<◌, inl, inr, List, [], ◌∷◌, ◌++◌, length, sym, ◌∙◌, ap, subst, arith, ⊎_elim, length-append}
 use Rattle.std.specs.Prelude.{Contains, slice_get, Some}
 use Rattle.std.proofs.lemmas.List.Elements.{Contains-append_cases}
 use Rattle.std.proofs.lemmas.Bool.{cases_lt}
 use Rattle.std.proofs.lemmas.Option.{slice_get_within}
 use Rattle.lalrpop_base.specs.Words.{Bits, Dotted, AllDiffer, Rules, Kernels, AreItemsBy}
 use Rattle.lalrpop_tables.proofs.Types.{State}
+use Rattle.lalrpop_tables.specs.states.Building.{Building}
 use Rattle.lalrpop_tables.specs.Words.{IsBuiltBy, IsBuiltOfBy, Extends, LeadsToAdded, IsLedTo, AreBuiltBy}
 use Rattle.lalrpop_base.proofs.theory.lists.Members.{Contains-none, contains-cons}
 use Rattle.lalrpop_base.proofs.theory.lists.Places.{slice_get-longer, slice_get-push_at, push_cases}
-pub use Rattle.lalrpop_base.proofs.theory.states.Universe.{kernels_limit}
-use Rattle.lalrpop_base.proofs.theory.states.Universe.{kernels_few_by}
 
 module _ {L : Type 0} where
-  -- each kernel that was handed out has its state, all kernels are the grammar's, and a transition leads to each but the first
-  pub record Building (meaning : L → Bits) (C : List (Dotted L) → List (Dotted L) → Type 0) (g : Rules) (first : List (Dotted L)) (kernels : Kernels (List (Dotted L))) (states : List (State L)) : Type 0 where
-    pub handed : kernels.handed ≡ length states
-    pub fewer : kernels.handed ≤ length kernels.list
-    pub differ : AllDiffer kernels.list
-    pub of : (k : List (Dotted L)) → Contains kernels.list k → AreItemsBy meaning g k
-    pub start : slice_get kernels.list 0 ≡ Some first
-    pub each : (n : ℕ) (state : State L) → slice_get states n ≡ Some state → IsBuiltOfBy C kernels.list n state
-    pub led : (n : ℕ) → 0 < n → n < length kernels.list → IsLedTo states n
-
   led_longer : (states : List (State L)) (state : State L) (n : ℕ) → IsLedTo states n → IsLedTo (states ++ state ∷ []) n
   led_longer states state n l = record {
     place = l.place;
@@ -104,9 +93,6 @@ module _ {L : Type 0} where
               })
               (cases_lt n (length old.list));
         }
-
-    pub Building-smaller : ((a b : L) → meaning a ≡ meaning b → a ≡ b) → (old : Kernels (List (Dotted L))) (states : List (State L)) → Building meaning C g first old states → old.handed < length old.list → old.handed < kernels_limit g
-    Building-smaller told old states b l = let n = kernels_few_by meaning told g old.list b.differ b.of in omega arith
 
     pub Building-all : (kernels : Kernels (List (Dotted L))) (states : List (State L)) → Building meaning C g first kernels states → kernels.handed ≡ length kernels.list → AreBuiltBy C first states
     Building-all kernels states b all = record {

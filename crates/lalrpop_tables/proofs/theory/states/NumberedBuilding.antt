@@ -1,13 +1,16 @@
 -- The loop that makes the states, over kernels by number: how it begins, and one state more.
-use Rattle.std.proofs.Common.{◌≡◌, ◌∙◌, ℕ, ◌+◌, ◌-◌, ◌<◌, List, [], ◌∷◌, ◌++◌, length, map, refl, sym, ap, subst, arith}
+use Rattle.std.proofs.Common.{◌≡◌, ◌∙◌, ℕ, ◌+◌, ◌-◌, ◌<◌, List, [], ◌∷◌, ◌++◌, get_or, length, length-append, map, refl, sym, ap, subst, arith}
 use Rattle.std.specs.Prelude.{slice_get, Some}
 use Rattle.std.proofs.lemmas.Option.{slice_get_within}
 use Rattle.lalrpop_base.specs.Words.{AllDiffer, Bits, Dotted, Kernels, Rules, AreItemsBy}
+use Rattle.lalrpop_base.proofs.theory.lists.Places.{same_some, slice_get-push_at, slice_get_at}
 use Rattle.lalrpop_tables.proofs.Types.{Nil, State}
 use Rattle.lalrpop_tables.specs.grammars.Numbers.{items_by, kernels_by}
+use Rattle.lalrpop_tables.specs.states.Building.{Building}
 use Rattle.lalrpop_tables.specs.Words.{Extends, IsBuiltBy, LeadsToAdded}
 use Rattle.lalrpop_tables.specs.declared.construction.numbered.Numbered.{Numbered}
-use Rattle.lalrpop_tables.proofs.theory.states.Building.{Building, Building-init, Building-smaller, Building-step, kernels_limit}
+use Rattle.lalrpop_tables.proofs.theory.states.Building.{Building-init, Building-step}
+use Rattle.lalrpop_base.proofs.theory.states.Universe.{kernels_few_by, kernels_limit}
 use Rattle.lalrpop_tables.proofs.theory.states.NumberedEdges.{numbered_by}
 
 one_differs : {X : Type 0} (x : X) → AllDiffer (x ∷ [])
@@ -43,11 +46,18 @@ module _ {L : Type 0} (meaning : L → Bits) (C : List (Dotted L) → List (Dott
     Building-grown state built led =
         Building-step meaning C g first (kernels_by items old) (kernels_by items middle) (kernels_by items new) states (items_by items kernel) state building (numbered_by items old.list old.handed kernel next) (ap (λ (k : Kernels (List (Numbered L))). map (items_by items) k.list) handed) counted extends built led
 
-    -- fewer kernels are left
-    pub Fewer-left : ((a b : L) → meaning a ≡ meaning b → a ≡ b) → kernels_limit g - new.handed < kernels_limit g - old.handed
-    Fewer-left told =
-        let within = slice_get_within (kernels_by items old).list old.handed (items_by items kernel) (numbered_by items old.list old.handed kernel next) in
-        let small = Building-smaller meaning C g first told (kernels_by items old) states building within in
-        let more = extends.handed in
-        let one = counted in
-        omega arith
+-- where one more was handed out, fewer are left
+pub Fewer-left : {L : Type 0} (meaning : L → Bits) (C : List (Dotted L) → List (Dotted L) → Type 0) (g : Rules) (first : List (Dotted L)) → ((a b : L) → meaning a ≡ meaning b → a ≡ b) → (kernels : Kernels (List (Dotted L))) (states : List (State L)) → Building meaning C g first kernels states → (before : ℕ) → kernels.handed ≡ before + 1 → kernels_limit g - kernels.handed < kernels_limit g - before
+Fewer-left meaning C g first told kernels states b before one =
+    let few = kernels_few_by meaning told g kernels.list b.differ b.of in
+    let within = b.fewer in
+    omega (arith, few, within, one)
+
+-- what was put behind a list is what stands last
+pub last_added : {X : Type 0} (old new : List X) (x y : X) (k : ℕ) → new ≡ old ++ x ∷ [] → k ≡ length new → y ≡ get_or new (k - 1) y → new ≡ old ++ y ∷ []
+last_added {X} old new x y k e n at =
+    let longer : length new ≡ length old + 1 = ap length e ∙ length-append old (x ∷ []) in
+    let place : k - 1 ≡ length old = omega (arith, n, longer) in
+    let there : slice_get new (k - 1) ≡ Some y = slice_get_at new (k - 1) y (omega (arith, n, longer)) at in
+    let same : x ≡ y = same_some x y (sym (slice_get-push_at old x) ∙ ap (λ (xs : List X). slice_get xs (length old)) (sym e) ∙ ap (slice_get new) (sym place) ∙ there) in
+    e ∙ ap (λ (z : X). old ++ z ∷ []) same

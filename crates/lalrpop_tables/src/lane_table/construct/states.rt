@@ -7,8 +7,8 @@ ghost use Rattle.lalrpop_tables.specs.states.NumberedStates.{HaveItemsAt};
 
 use super::LaneTableConstruct;
 use super::promote::promote_states;
-use crate::construction::numbered_states::NumberedStates;
 use crate::construction::numbers::Numbers;
+use crate::construction::states::NumberedStates;
 use crate::lane_table::follow_sets::Found;
 use crate::lane_table::follow_sets::numbered_state::number_states;
 use lalrpop_base::lookahead::token_set::TokenSet;

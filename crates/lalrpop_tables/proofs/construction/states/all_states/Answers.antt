@@ -1,57 +1,19 @@
-use Rattle.std.proofs.Common.{◌∙◌, ap, subst, sym, List, map}
+use Rattle.std.proofs.Common.{◌∙◌, sym}
 use Rattle.std.proofs.lemmas.List.{length-map}
-use Rattle.lalrpop_base.specs.Words.{Dotted}
-use Rattle.lalrpop_tables.specs.grammars.Numbers.{AreAllNumbered, items_by, kernels_by}
-use Rattle.lalrpop_tables.specs.Words.{begun}
-use Rattle.lalrpop_tables.proofs.theory.states.Building.{Building-all}
+use Rattle.lalrpop_tables.specs.grammars.Numbers.{items_by, kernels_by}
 use Rattle.lalrpop_tables.proofs.theory.conflicts.ConflictLists.{States-of}
-use Rattle.lalrpop_base.proofs.theory.lists.Members.{contains_map}
-use Rattle.lalrpop_tables.proofs.theory.states.NumberedBuilding.{Building-begun, Building-grown, Fewer-left}
-use Rattle.lalrpop_base.proofs.theory.lists.Places.{contains_at}
+use Rattle.lalrpop_tables.proofs.theory.states.Building.{Building-all}
+use Rattle.lalrpop_tables.proofs.theory.states.NumberedBuilding.{Fewer-left}
 use Rattle.lalrpop_tables.proofs.construction.states.all_states.Goals as goal
-
-pub loop-states-init : goal.loop-states-init
-loop-states-init g c =
-    let first : List (Dotted g.row.L.Denot) = map (begun c.args.lr.now.construction.lookahead) c.args.lr.now.construction.first in
-    let says = c.in_ok-kernels.ensures in
-    record {
-      building = Building-begun _ _ c.args.lr.now.construction.rules first c.numbers-numbers.result.now.items.items c.in_ok-kernels.kernels _ says.begun c.new-states.ensures.items says.items;
-      known = says.known;
-    }
-
-pub build_state-requires-clause-known : goal.build_state-requires-clause-known
-build_state-requires-clause-known g c =
-    let next = rw c.in-Some.is at c.in_ok-kernel.ensures.next in
-    c.loop-states.invariant.known c.in-Some.kernel (contains_at c.loop-states.kernels.list c.in-Some.kernel c.loop-states.kernels.handed next)
-
-pub build_state-requires-clause-kernels : goal.build_state-requires-clause-kernels
-build_state-requires-clause-kernels g c =
-    let some = rw c.in-Some.is at c.in_ok-kernel.ensures.some in
-    subst (AreAllNumbered c.numbers-numbers.result.now.items.items) (sym (ap (λ s. s.list) some)) c.loop-states.invariant.known
-
-pub build_state-requires-clause-kernel : goal.build_state-requires-clause-kernel
-build_state-requires-clause-kernel g c =
-    let next = rw c.in-Some.is at c.in_ok-kernel.ensures.next in
-    let items = c.numbers-numbers.result.now.items.items in
-    c.loop-states.invariant.building.of (items_by items c.in-Some.kernel) (contains_map (items_by items) c.loop-states.kernels.list c.in-Some.kernel (contains_at c.loop-states.kernels.list c.in-Some.kernel c.loop-states.kernels.handed next))
 
 pub loop-states-smaller : goal.loop-states-smaller
 loop-states-smaller g c =
-    let next = rw c.in-Some.is at c.in_ok-kernel.ensures.next in
-    let some = rw c.in-Some.is at c.in_ok-kernel.ensures.some in
-    Fewer-left _ _ _ _ c.numbers-numbers.result.now.items.items c.loop-states.kernels c.next.new.self c.build_state.new.kernels c.loop-states.states.items c.in-Some.kernel c.loop-states.invariant.building next some c.in_ok-state.ensures.extends g.met.L.Lookahead.same_by_meaning
-
-pub loop-states-preserved : goal.loop-states-preserved
-loop-states-preserved g c =
-    let next = rw c.in-Some.is at c.in_ok-kernel.ensures.next in
-    let some = rw c.in-Some.is at c.in_ok-kernel.ensures.some in
-    let items = c.numbers-numbers.result.now.items.items in
-    let built = rw (c.len-number.ensures, c.loop-states.states.ok.0) at c.in_ok-state.ensures.built in
-    let building = Building-grown _ _ _ _ items c.loop-states.kernels c.next.new.self c.build_state.new.kernels c.loop-states.states.items c.in-Some.kernel c.loop-states.invariant.building next some c.in_ok-state.ensures.extends c.in_ok-state.state built c.in_ok-state.ensures.led in
-    record { building = rw c.in_ok-push.ensures.items building; known = c.in_ok-state.ensures.known }
+    let made = c.in_ok-add_state.ensures in
+    Fewer-left _ _ _ _ g.met.L.Lookahead.same_by_meaning (kernels_by c.numbers-numbers.result.now.items.items c.add_state.new.kernels) c.add_state.new.states.items made.made.building c.loop-states.kernels.handed (made.counted c.if-branch.true)
 
 pub returns : goal.returns
 returns g c =
     let items = c.numbers-numbers.result.now.items.items in
-    let all = (rw c.in_default.is at c.in_ok-kernel.ensures.all) ∙ sym (length-map c.loop-states.kernels.list (items_by items)) in
-    States-of g.L.Lookahead.meaning g.L.LookaheadBuild.begins g.L.LookaheadBuild.passes g.L.Lookahead.lists_conflicts c.args.lr.now.construction c.loop-states.states.items (Building-all _ _ _ _ (kernels_by items c.loop-states.kernels) c.loop-states.states.items c.loop-states.invariant.building all)
+    let made = c.in_ok-add_state.ensures in
+    let all = made.all c.if-branch.false ∙ sym (length-map c.add_state.new.kernels.list (items_by items)) in
+    States-of g.L.Lookahead.meaning g.L.LookaheadBuild.begins g.L.LookaheadBuild.passes g.L.Lookahead.lists_conflicts c.args.lr.now.construction c.add_state.new.states.items (Building-all _ _ _ _ (kernels_by items c.add_state.new.kernels) c.add_state.new.states.items made.made.building all)

@@ -9,7 +9,7 @@ use Rattle.lalrpop_tables.specs.declared.construction.numbered.Numbered.{Numbere
 use Rattle.lalrpop_base.proofs.theory.lists.Members.{contains_head}
 use Rattle.lalrpop_base.proofs.theory.collapse.Merging.{taken}
 use Rattle.lalrpop_tables.proofs.theory.closures.SharedItems.{read_item}
-use Rattle.lalrpop_tables.proofs.construction.states.items_of.Goals as goal
+use Rattle.lalrpop_tables.proofs.construction.state.items_of.Goals as goal
 
 pub loop-item-init : goal.loop-item-init
 loop-item-init g c = record { made = c.in_ok-items.ensures.items; left = c.into_iter-item-iterator.ensures.into_iter_gives.0 }

@@ -3,7 +3,7 @@ use Rattle.lalrpop_base.specs.Words.{Dotted, IsClosureBy}
 use Rattle.lalrpop_tables.specs.grammars.Numbers.{AreNumbered}
 use Rattle.lalrpop_tables.specs.Words.{AreMoves}
 use Rattle.lalrpop_tables.proofs.theory.states.Coherence.{Built-made, Reached-extends, Reached-led}
-use Rattle.lalrpop_tables.proofs.construction.states.state_of.Goals as goal
+use Rattle.lalrpop_tables.proofs.construction.state.state_of.Goals as goal
 
 pub transitions-requires-clause-known : goal.transitions-requires-clause-known
 transitions-requires-clause-known g c = subst (AreNumbered c.args.numbers.now.items.items) (sym c.deref.ensures.value) c.requires.known

@@ -1,6 +1,6 @@
 use Rattle.std.proofs.Common.{◌≡◌, ◌++◌}
 use Rattle.lalrpop_tables.specs.grammars.Numbers.{items_by}
-use Rattle.lalrpop_tables.proofs.construction.states.items_of.Given as goal
+use Rattle.lalrpop_tables.proofs.construction.state.items_of.Given as goal
 
 abbrev pub invariant-loop-item : goal.invariant-loop-item
 invariant-loop-item g l = record {

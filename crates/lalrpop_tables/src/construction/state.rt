@@ -1,0 +1,128 @@
+//! One state more of a construction.
+ghost use Rattle.std.specs.Prelude.{◌≡◌, ◌+◌, ◌++◌, ◌∷◌, [], List, length, map, IsTrue, IsFalse, IfOk, OnOk};
+ghost use Rattle.lalrpop_base.specs.Words.{Dotted, Rules};
+ghost use Rattle.lalrpop_base.specs.closures.Closure.{AreItemsBy, IsClosureBy};
+ghost use Rattle.lalrpop_base.specs.declared.lr1_core.state.State.{State as Made};
+ghost use Rattle.lalrpop_tables.specs.grammars.Numbers.{AreAllNumbered, AreNumbered, AreNumbers, items_by, kernels_by};
+ghost use Rattle.lalrpop_tables.specs.states.NumberedStates.{AreItemsAt, number_in};
+ghost use Rattle.lalrpop_tables.specs.states.Building.{AreMadeSoFar};
+ghost use Rattle.lalrpop_tables.specs.states.States.{IsBuiltBy, Extends, LeadsToAdded};
+
+use super::closure::closure;
+use super::lookahead_build::LookaheadBuild;
+use super::lr::Lr;
+use super::numbered::{Numbered, NumberedKernels};
+use super::numbers::Numbers;
+use super::reductions::reductions;
+use super::transitions::{Edges, Moves, transitions};
+use super::workspace::Workspace;
+use lalrpop_base::lookahead::Lookahead;
+use lalrpop_base::lr1_core::item::Item;
+use lalrpop_base::lr1_core::state::{Items, State, StateIndex};
+use lalrpop_base::memory::OutOfMemory;
+use std::alloc::Global;
+
+// Items by number as items.
+fn items_of<'grammar, L: Lookahead>(
+    alloc: Global,
+    numbers: &Numbers<'grammar>,
+    list: Vec<Numbered<L>>,
+) -> Result<Vec<Item<'grammar, L>>, OutOfMemory>
+    requires { AreNumbered numbers.now.items.items list.items }
+    ensures { IfOk result
+        (λ items. items.items ≡ items_by numbers.now.items.items list.items) }
+{
+    let mut items = Vec::with_capacity(alloc, list.len())?;
+    for item in list {
+        items.push(numbers.items[item.number].with_lookahead(item.lookahead))?;
+    }
+    Ok(items)
+}
+
+// The state of items by number, which has the number.
+fn state_of<'grammar, L: LookaheadBuild>(
+    alloc: Global,
+    numbers: &Numbers<'grammar>,
+    list: Vec<Numbered<L>>,
+    number: usize,
+    kernels: &mut NumberedKernels<L>,
+    moves: &mut Moves<L>,
+) -> Result<State<'grammar, L>, OutOfMemory>
+    requires numbers { (g : Rules) × AreNumbers g numbers.now }
+    requires known { AreNumbered numbers.now.items.items list.items }
+    requires kernels { AreAllNumbered numbers.now.items.items kernels.old.list }
+    ensures known { OnOk result (AreAllNumbered numbers.now.items.items kernels.new.list) }
+    ensures items { IfOk result
+        (λ state. state.items.vec.items ≡ items_by numbers.now.items.items list.items) }
+    ensures built { IfOk result (λ state. (g : Rules) (kernel : List (Dotted L)) →
+        IsClosureBy L.meaning L.begins L.passes g kernel state.items.vec.items →
+        IsBuiltBy (IsClosureBy L.meaning L.begins L.passes g)
+        (kernels_by numbers.now.items.items kernels.new).list kernel number state) }
+    ensures extends { IfOk result (λ state. (g : Rules) →
+        AreItemsBy L.meaning g state.items.vec.items →
+        Extends L.meaning g (kernels_by numbers.now.items.items kernels.old)
+        (kernels_by numbers.now.items.items kernels.new)) }
+    ensures led { IfOk result
+        (LeadsToAdded (kernels_by numbers.now.items.items kernels.old)
+        (kernels_by numbers.now.items.items kernels.new)) }
+{
+    let Edges { shifts, gotos } = transitions(alloc, numbers, &list, kernels, moves)?;
+    let items = items_of(alloc, numbers, list)?;
+    let reductions = reductions(alloc, &items)?;
+    Ok(State {
+        index: StateIndex(number),
+        items: Items { vec: items },
+        shifts,
+        reductions,
+        gotos,
+    })
+}
+
+// The numbers of items, in the place of others.
+fn list_numbers<L: Lookahead>(
+    list: &[Numbered<L>],
+    numbers: &mut Vec<usize>,
+) -> Result<(), OutOfMemory>
+    ensures { OnOk result (numbers.new.items ≡ map number_in list.now) }
+{
+    numbers.clear();
+    for item in list {
+        numbers.push(item.number)?;
+    }
+    Ok(())
+}
+
+/// Makes the state of the next kernel, if one is left, and tells whether one was. The numbers of its
+/// items are left in `work`.
+pub(super) fn add_state<'grammar, L: LookaheadBuild>(
+    alloc: Global,
+    lr: &Lr<'grammar, L>,
+    numbers: &Numbers<'grammar>,
+    kernels: &mut NumberedKernels<L>,
+    states: &mut Vec<State<'grammar, L>>,
+    work: &mut Workspace<L>,
+) -> Result<bool, OutOfMemory>
+    requires numbers { AreNumbers lr.now.construction.rules numbers.now }
+    requires made { AreMadeSoFar L.meaning L.begins L.passes lr.now.construction
+        numbers.now.items.items kernels.old states.old.items }
+    ensures made { OnOk result (AreMadeSoFar L.meaning L.begins L.passes lr.now.construction
+        numbers.now.items.items kernels.new states.new.items) }
+    ensures more { IfOk result (λ more. IsTrue more →
+        (state : Made L) × (states.new.items ≡ states.old.items ++ state ∷ []) ×
+        AreItemsAt numbers.now.items.items work.new.numbers.items state.items.vec.items) }
+    ensures counted { IfOk result
+        (λ more. IsTrue more → kernels.new.handed ≡ kernels.old.handed + 1) }
+    ensures none { IfOk result
+        (λ more. IsFalse more → states.new.items ≡ states.old.items) }
+    ensures all { IfOk result
+        (λ more. IsFalse more → kernels.new.handed ≡ length kernels.new.list) }
+{
+    let Some(number) = kernels.next() else {
+        return Ok(false);
+    };
+    let list = closure(alloc, lr, numbers, kernels.items(number), work)?;
+    list_numbers(&list, &mut work.numbers)?;
+    let state = state_of(alloc, numbers, list, number, kernels, &mut work.moves)?;
+    states.push(state)?;
+    Ok(true)
+}
