@@ -1,2 +1,4 @@
 -- Lists, sets and the entries of maps.
+pub mod Pushes
 pub mod SomeOf
+pub mod Walks

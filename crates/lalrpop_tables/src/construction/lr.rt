@@ -152,7 +152,7 @@ impl<'grammar, L: Lookahead> Lr<'grammar, L> {
     }
 
     /// The productions of the start symbol, dot first, with its lookahead.
-    pub(super) fn start_kernel(
+    pub(crate) fn start_kernel(
         &self,
         alloc: Global,
         numbers: &Numbers<'grammar>,

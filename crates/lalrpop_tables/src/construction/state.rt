@@ -4,14 +4,14 @@ ghost use Rattle.lalrpop_base.specs.Words.{Dotted, Rules};
 ghost use Rattle.lalrpop_base.specs.closures.Closure.{AreItemsBy, IsClosureBy};
 ghost use Rattle.lalrpop_base.specs.declared.lr1_core.state.State.{State as Made};
 ghost use Rattle.lalrpop_tables.specs.grammars.Numbers.{AreAllNumbered, AreNumbered, AreNumbers, items_by, kernels_by};
-ghost use Rattle.lalrpop_tables.specs.states.NumberedStates.{AreItemsAt, number_in};
+ghost use Rattle.lalrpop_tables.specs.states.NumberedStates.{AreItemsAt};
 ghost use Rattle.lalrpop_tables.specs.states.Building.{AreMadeSoFar};
 ghost use Rattle.lalrpop_tables.specs.states.States.{IsBuiltBy, Extends, LeadsToAdded};
 
 use super::closure::closure;
 use super::lookahead_build::LookaheadBuild;
 use super::lr::Lr;
-use super::numbered::{Numbered, NumberedKernels};
+use super::numbered::{Numbered, NumberedKernels, list_numbers};
 use super::numbers::Numbers;
 use super::reductions::reductions;
 use super::transitions::{Edges, Moves, transitions};
@@ -76,20 +76,6 @@ fn state_of<'grammar, L: LookaheadBuild>(
         reductions,
         gotos,
     })
-}
-
-// The numbers of items, in the place of others.
-fn list_numbers<L: Lookahead>(
-    list: &[Numbered<L>],
-    numbers: &mut Vec<usize>,
-) -> Result<(), OutOfMemory>
-    ensures { OnOk result (numbers.new.items ≡ map number_in list.now) }
-{
-    numbers.clear();
-    for item in list {
-        numbers.push(item.number)?;
-    }
-    Ok(())
 }
 
 /// Makes the state of the next kernel, if one is left, and tells whether one was. The numbers of its

@@ -23,14 +23,14 @@ use Rattle.lalrpop_base.proofs.theory.lists.Members.{contains-cons, contains_hea
 use Rattle.lalrpop_tables.proofs.theory.follow_sets.FollowNodes.{node_within, one_node, transition_node}
 use Rattle.lalrpop_base.proofs.theory.lists.Places.{contains_at, same_some, slice_get_at}
 use Rattle.lalrpop_base.proofs.theory.grammars.Grammars.{same_after}
-use Rattle.std.proofs.lemmas.List.Elements.{Contains-append_left, Contains-append_right, Contains-append_cases}
+use Rattle.std.proofs.lemmas.List.Elements.{Contains-append_left, Contains-append_right, Contains-push_cases}
 
 -- a list took one value behind the others
 pub those_pushed : {X : Type 0} (Such : X → Type 0) (old : List X) (key : X) → Such key → ((x : X) → Such x → key ≡ x) → AddsThose Such old (old ++ key ∷ [])
 those_pushed {X} Such old key is only x = (
-  λ c. elim (Contains-append_cases old (key ∷ []) x c) [
+  λ c. elim (Contains-push_cases old key x c) [
     | inl was ↦ inl was
-    | inr last ↦ elim (contains-cons key [] x last) [ inl e ↦ inr (subst Such e is) | inr none ↦ absurd (Contains-none x none) ]
+    | inr e ↦ inr (subst Such e is)
   ],
   λ e. elim e [
     | inl was ↦ Contains-append_left old (key ∷ []) x was

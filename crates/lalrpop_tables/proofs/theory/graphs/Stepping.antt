@@ -10,7 +10,7 @@ use Rattle.std.proofs.lemmas.List.Sorted.{Contains-permutation, IsPermutation-sy
 use Rattle.lalrpop_base.specs.contracts.lr1_core.state.StateIndexPartialEq.TheImpl as index_eq
 use Rattle.lalrpop_base.specs.contracts.lr1_core.state.StateIndexEq.TheImpl.Laws as index_equality
 use Rattle.lalrpop_tables.proofs.theory.graphs.StateGraphs.{state_total}
-use Rattle.std.proofs.lemmas.List.Elements.{Contains-append_left, Contains-append_right, Contains-append_cases}
+use Rattle.std.proofs.lemmas.List.Elements.{Contains-append_left, Contains-append_right, Contains-push_cases}
 use Rattle.std.proofs.lemmas.List.{nil_from_length}
 use Rattle.lalrpop_tables.proofs.Types.{StateIndex, Symbol}
 use Rattle.lalrpop_base.specs.contracts.repr.SymbolPartialEq.TheImpl as symbol_eq
@@ -40,7 +40,7 @@ one_more_state before left all start now next x first is a = record {
     | inr c ↦ elim (contains-cons x left r (rw first at c)) [ inl e ↦ inl (rw is (Contains-append_right now (x ∷ []) r (rw (← e) (contains_head x [])))) | inr d ↦ inr d ]
   ];
   only = λ r h. a.only r (elim h [
-    | inl c ↦ elim (Contains-append_cases now (x ∷ []) r (rw is at c)) [ inl d ↦ inl d | inr d ↦ elim (contains-cons x [] r d) [ inl e ↦ inr (rw (first, ← e) (contains_head x left)) | inr n ↦ absurd (Contains-none r n) ] ]
+    | inl c ↦ elim (Contains-push_cases now x r (rw is at c)) [ inl d ↦ inl d | inr e ↦ inr (rw (first, ← e) (contains_head x left)) ]
     | inr c ↦ inr (rw first (contains_tail x left r c))
   ]);
 }

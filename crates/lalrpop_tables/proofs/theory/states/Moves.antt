@@ -2,7 +2,7 @@
 use Rattle.std.proofs.Common.{◌≡◌, ℕ, suc, ◌⊎◌, inl, inr, List, [], ◌∷◌, ◌++◌, length, refl, sym, ◌∙◌, ap, subst, arith, append_assoc, Bool, true, false, true≢false, cond, IfSome, IsSome, None, Option, Some}
 use Rattle.std.specs.Prelude.{Contains, slice_get, ◌==◌}
 use Rattle.std.specs.Map.{keys_of}
-use Rattle.std.proofs.lemmas.List.Elements.{Contains-append_left, Contains-append_right, Contains-append_cases}
+use Rattle.std.proofs.lemmas.List.Elements.{Contains-append_left, Contains-append_right, Contains-append_cases, Contains-push_cases, Contains-push}
 use Rattle.lalrpop_base.specs.Words.{Dotted, AllDiffer, Kernels, IsPushedAt}
 use Rattle.lalrpop_tables.proofs.Types.{NonterminalString, Production, StateIndex, Symbol, TerminalString}
 use Rattle.lalrpop_base.specs.declared.repr.Symbol.TheVariants.{Nonterminal, Terminal}
@@ -31,9 +31,9 @@ differ_head x xs d y c e = let at = place xs y c in d 0 (suc at.0) y (omega arit
 
 -- ---- an edge more in the lists
 last_of : {K V : Type 0} (es : List (K × V)) (e f : K × V) → Contains (es ++ e ∷ []) f → Contains es f ⊎ (e ≡ f)
-last_of es e f c = elim (Contains-append_cases es (e ∷ []) f c) [
+last_of es e f c = elim (Contains-push_cases es e f c) [
   | inl had ↦ inl had
-  | inr last ↦ elim (contains-cons e [] f last) [ inl same ↦ inr same | inr n ↦ absurd (Contains-none f n) ]
+  | inr same ↦ inr same
 ]
 
 abbrev Gotos : Type 0
@@ -133,18 +133,15 @@ module _ {L : Type 0} where
     -- a symbol with a group stands behind a dot: y behind that of the new item
     over_some : (front back : Groups L) (g : Group L) (new : Groups L) → new ≡ front ++ g ∷ back → g.0 ≡ y → ((h : Group L) → Contains (front ++ back) h → IsBehindOne h.0 items) → (x : Symbol) (ks : List (Dotted L)) → Contains new (x, ks) → IsBehindOne x (items ++ i ∷ [])
     over_some front back g new after key each x ks c = elim (midst front back g (x, ks) (subst (λ (gs : Groups L). Contains gs (x, ks)) after c)) [
-      | inl same ↦ record { item = i; among = Contains-append_right items (i ∷ []) i (contains_head i []); behind = subst (λ (s : Symbol). IsBehind s i) (sym key ∙ ap (λ (h : Group L). h.0) same) behind }
+      | inl same ↦ record { item = i; among = Contains-push items i; behind = subst (λ (s : Symbol). IsBehind s i) (sym key ∙ ap (λ (h : Group L). h.0) same) behind }
       | inr other ↦ behind_longer items i x (each (x, ks) other)
     ]
 
     -- each symbol that had a group has one, and so has y
     over_has : (old new : Groups L) → AreMoves items old → ((h : Group L) → Contains old h → (ks : List (Dotted L)) × Contains new (h.0, ks)) → (ks : List (Dotted L)) → Contains new (y, ks) → (x : Symbol) (j : Dotted L) → Contains (items ++ i ∷ []) j → IsBehind x j → (ks : List (Dotted L)) × Contains new (x, ks)
-    over_has old new m kept ks there x j c b = elim (Contains-append_cases items (i ∷ []) j c) [
+    over_has old new m kept ks there x j c b = elim (Contains-push_cases items i j c) [
       | inl had ↦ let g = m.has x j had b in kept (x, g.0) g.1
-      | inr last ↦ elim (contains-cons i [] j last) [
-        | inl same ↦ (ks, subst (λ (s : Symbol). Contains new (s, ks)) (same_some y x (sym behind ∙ subst (λ (k : Dotted L). IsBehind x k) (sym same) b)) there)
-        | inr n ↦ absurd (Contains-none j n)
-      ]
+      | inr same ↦ (ks, subst (λ (s : Symbol). Contains new (s, ks)) (same_some y x (sym behind ∙ subst (λ (k : Dotted L). IsBehind x k) (sym same) b)) there)
     ]
 
     pub Moves-over : (old new : Groups L) → AreMoves items old → IsPushedAt y (moved i) old new → AllDiffer (keys_of new) → AreMoves (items ++ i ∷ []) new
@@ -182,9 +179,9 @@ module _ {L : Type 0} where
     each = λ x ks c. Shifts-other x i items ks (past_end i x e) (m.each x ks c);
     other = λ x n. Shifts-other x i items [] (past_end i x e) (m.other x n);
     some = λ x ks c. behind_longer items i x (m.some x ks c);
-    has = λ x j c b. elim (Contains-append_cases items (i ∷ []) j c) [
+    has = λ x j c b. elim (Contains-push_cases items i j c) [
       | inl had ↦ m.has x j had b
-      | inr last ↦ elim (contains-cons i [] j last) [ inl same ↦ absurd (past_end i x e (subst (λ (k : Dotted L). IsBehind x k) (sym same) b)) | inr n ↦ absurd (Contains-none j n) ]
+      | inr same ↦ absurd (past_end i x e (subst (λ (k : Dotted L). IsBehind x k) (sym same) b))
     ];
     differ = m.differ;
   })
@@ -234,12 +231,9 @@ module _ {L : Type 0} where
             | inl had ↦ leads_longer groups middle.list more.0 new.list more.1 y n (s.leads y n had)
             | inr is ↦ subst (λ (z : Symbol). LeadsTo groups new.list z n) (sym is.0) (subst (λ (m : StateIndex). LeadsTo groups new.list x m) (sym is.1) (record { kernel = kernel; group = group; numbered = numbered }))
           ];
-          all = λ y k c. elim (Contains-append_cases first ((x, kernel) ∷ []) (y, k) c) [
+          all = λ y k c. elim (Contains-push_cases first (x, kernel) (y, k) c) [
             | inl had ↦ let e = s.all y k had in (e.0, listed_kept x target lists after a y e.0 e.1)
-            | inr is ↦ elim (contains-cons (x, kernel) [] (y, k) is) [
-              | inl same ↦ (target, subst (λ (g : Group L). IsListed after g.0 target) same (listed_there x target lists after a))
-              | inr n ↦ absurd (Contains-none (y, k) n)
-            ]
+            | inr same ↦ (target, subst (λ (g : Group L). IsListed after g.0 target) same (listed_there x target lists after a))
           ];
           reached = Reached-more old middle new s.reached either handed differ;
         }

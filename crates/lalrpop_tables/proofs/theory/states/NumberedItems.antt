@@ -11,7 +11,7 @@ use Rattle.lalrpop_base.specs.grammars.Ascending.{Ascend}
 use Rattle.lalrpop_tables.specs.states.NumberedStates.{AreReducedNumbers, HasDots}
 use Rattle.lalrpop_tables.specs.grammars.Numbering.{with_dot}
 use Rattle.lalrpop_base.proofs.theory.grammars.AscendingItems.{precedes_asymmetric}
-use Rattle.lalrpop_base.proofs.theory.lists.Places.{push_cases}
+use Rattle.lalrpop_tables.proofs.theory.lists.Pushes.{push_both, push_counted}
 
 -- dotted productions that ascend differ
 pub items_differ : (items : List (Dotted Nil)) → Ascend items → AllDiffer items
@@ -49,21 +49,9 @@ Reduced-none items = record { counted = refl; each = λ j k r at. cc }
 -- one reduction more
 pub Reduced-more : (items : List (Dotted Nil)) (done : List (Bits × Bor Production)) (r : Bits × Bor Production) (list : List ℕ) (n : ℕ) → AreReducedNumbers items done list → slice_get items n ≡ Some (with_dot r.1.now (length r.1.now.symbols)) → AreReducedNumbers items (done ++ r ∷ []) (list ++ n ∷ [])
 Reduced-more items done r list n before at = record {
-  counted = length-append list (n ∷ []) ∙ ap (λ (m : ℕ). m + 1) before.counted ∙ sym (length-append done (r ∷ []));
-  each = λ j k q at_q at_k.
-      let same = before.counted in
-      elim (push_cases done r j q at_q) [
-        | inl was ↦
-            let l = slice_get_within done j q was in
-            elim (push_cases list n j k at_k) [
-              | inl there ↦ before.each j k q was there
-              | inr end ↦ let e = end.0 in absurd (omega arith)
-            ]
-        | inr new ↦
-            let e = new.0 in
-            elim (push_cases list n j k at_k) [
-              | inl there ↦ let l = slice_get_within list j k there in absurd (omega arith)
-              | inr end ↦ ap (slice_get items) (sym end.1) ∙ at ∙ ap (λ (p : Bits × Bor Production). Some (with_dot p.1.now (length p.1.now.symbols))) new.1
-            ]
-      ];
+  counted = push_counted done r list n before.counted;
+  each = λ j k q at_q at_k. elim (push_both done r list n before.counted j q k at_q at_k) [
+    | inl was ↦ before.each j k q was.0 was.1
+    | inr new ↦ ap (slice_get items) (sym new.2) ∙ at ∙ ap (λ (p : Bits × Bor Production). Some (with_dot p.1.now (length p.1.now.symbols))) new.1
+  ];
 }

@@ -11,6 +11,7 @@ use Rattle.lalrpop_tables.specs.declared.lane_table.follow_sets.numbered_state.N
 use Rattle.lalrpop_tables.proofs.theory.states.ListedTransitions.{Transitions-lead, Transitions-ordered}
 use Rattle.lalrpop_tables.proofs.theory.states.NumberedItems.{AreNumbered, dots_in}
 use Rattle.lalrpop_tables.proofs.theory.states.NumberedTransitions.{Edges-ascend, Members, Transitions-both}
+use Rattle.lalrpop_tables.proofs.theory.lists.Pushes.{push_both, push_counted}
 use Rattle.lalrpop_base.proofs.theory.lists.Places.{push_cases, same_some, slice_get-append_before, slice_get-push_at}
 
 -- a state with its items and transitions by number
@@ -42,7 +43,7 @@ pub States-more : (n : Numbers) (done : List (State Bits)) (old : State Bits) (l
 States-more n done old list state before is reduced =
     let same = before.counted in
     record {
-      counted = length-append list (state ∷ []) ∙ ap (λ (m : ℕ). m + 1) before.counted ∙ sym (length-append done (old ∷ []));
+      counted = push_counted done old list state same;
       each = λ s q at. elim (push_cases list state s q at) [
         | inl was ↦
             let l = slice_get_within list s q was in
@@ -53,18 +54,8 @@ States-more n done old list state before is reduced =
             subst (λ (o : Option (State Bits)). IsNumberedState n (contents_at (λ (lookahead : Bits) (t : Token). true) o) q) there
             (subst (IsNumberedState n (contents_of (λ (lookahead : Bits) (t : Token). true) old)) end.1 is)
       ];
-      reduced = λ s p q at_p at_q. elim (push_cases done old s p at_p) [
-        | inl was ↦
-            let l = slice_get_within done s p was in
-            elim (push_cases list state s q at_q) [
-              | inl there ↦ before.reduced s p q was there
-              | inr end ↦ let e = end.0 in absurd (omega arith)
-            ]
-        | inr last ↦
-            let e = last.0 in
-            elim (push_cases list state s q at_q) [
-              | inl there ↦ let l = slice_get_within list s q there in absurd (omega arith)
-              | inr end ↦ subst (λ (p : State Bits). AreReducedNumbers n.items.items p.reductions.items q.reductions.items) last.1 (subst (λ (q : NumberedState). AreReducedNumbers n.items.items old.reductions.items q.reductions.items) end.1 reduced)
-            ]
+      reduced = λ s p q at_p at_q. elim (push_both done old list state same s p q at_p at_q) [
+        | inl was ↦ before.reduced s p q was.0 was.1
+        | inr new ↦ subst (λ (p : State Bits). AreReducedNumbers n.items.items p.reductions.items q.reductions.items) new.1 (subst (λ (q : NumberedState). AreReducedNumbers n.items.items old.reductions.items q.reductions.items) new.2 reduced)
       ];
     }

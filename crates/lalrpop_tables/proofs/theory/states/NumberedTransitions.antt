@@ -3,7 +3,7 @@ use Rattle.std.proofs.Common.{◌≡◌, ◌∙◌, inl, inr, ℕ, ◌<◌, List
 use Rattle.std.specs.Prelude.{◌↔◌, slice_get, Option, Some, None, Contains}
 use Rattle.std.specs.declared.cmp.Ordering.TheVariants.{Less, Greater}
 use Rattle.std.specs.Ordering.{ordering_reverse}
-use Rattle.std.proofs.lemmas.List.Elements.{Contains-append_left, Contains-append_right, Contains-append_cases}
+use Rattle.std.proofs.lemmas.List.Elements.{Contains-append_left, Contains-append_right, Contains-append_cases, Contains-push_cases}
 use Rattle.lalrpop_base.specs.Words.{Ordered}
 use Rattle.lalrpop_tables.proofs.Types.{Symbol}
 use Rattle.lalrpop_base.proofs.theory.conflicts.ConflictLists.{ordered-append, ordered-cons, ordered-nil}
@@ -79,14 +79,11 @@ module _ (symbols : List Symbol) (ascend : SymbolsAscend symbols) where
           let h = numbered_here step.0 e step.1 x m last in
           record { symbol = e.0; at = h.0; among = Contains-append_right es (e ∷ []) (e.0, m) (subst (λ (k : ℕ). Contains (e ∷ []) (e.0, k)) (sym h.1) (contains_head e [])) }
     ],
-    λ h. subst (λ (l : List (ℕ × ℕ)). Contains l (x, m)) (sym step.2) (elim (Contains-append_cases es (e ∷ []) (h.symbol, m) h.among) [
+    λ h. subst (λ (l : List (ℕ × ℕ)). Contains l (x, m)) (sym step.2) (elim (Contains-push_cases es e (h.symbol, m) h.among) [
       | inl was ↦ Contains-append_left middle (numbered_transition step.0 e.1) (x, m) ((Members before x m).1 (record { symbol = h.symbol; at = h.at; among = was }))
-      | inr last ↦ elim (contains-cons e [] (h.symbol, m) last) [
-        | inl same ↦
+      | inr same ↦
             let at : slice_get symbols x ≡ Some e.0 = h.at ∙ ap (λ (p : Symbol × ℕ). Some p.0) (sym same) in
             Contains-append_right middle (numbered_transition step.0 e.1) (x, m) (subst (λ (k : ℕ). Contains (numbered_transition step.0 e.1) (x, k)) (ap (λ (p : Symbol × ℕ). p.1) same) (numbered_back step.0 e step.1 x at))
-        | inr out ↦ absurd (Contains-none (h.symbol, m) out)
-      ]
     ]),
   )
 

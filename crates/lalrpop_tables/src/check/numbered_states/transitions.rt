@@ -8,6 +8,7 @@ ghost use Rattle.lalrpop_tables.specs.states.NumberedStates.{AddTransitions, Are
 
 use crate::construction::numbers::Numbers;
 use lalrpop_base::exact::equal;
+use lalrpop_base::lookahead::nil::Nil;
 use lalrpop_base::lookahead::token_set::TokenSet;
 use lalrpop_base::lr1_core::item::Lr1Item;
 use lalrpop_base::lr1_core::state::StateIndex;
@@ -73,25 +74,14 @@ pub(super) fn finished_of(
 ) -> Result<Vec<usize>, OutOfMemory>
     requires numbers { (g : Rules) × AreNumbers g numbers.now }
     requires known { (k : ℕ) → Contains items.now k → k < length numbers.now.items.items }
-    ensures { IfOk result (λ finished. HasFinished numbers.now items.now finished.items) }
+    ensures all { IfOk result (λ finished. HasFinished numbers.now items.now finished.items) }
+    ensures once { AllDiffer items.now → IfOk result (λ finished. AllDiffer finished.items) }
 {
     let mut finished = Vec::new(alloc);
     for item in items {
         add_if_finished(numbers, *item, &mut finished)?;
     }
     Ok(finished)
-}
-
-/// Whether numbers rise.
-pub(super) fn rise(numbers: &[usize]) -> bool
-    ensures { IsTrue result → AllDiffer numbers.now }
-{
-    for place in 1..numbers.len() {
-        if numbers[place - 1] >= numbers[place] {
-            return false;
-        }
-    }
-    true
 }
 
 /// Whether the finished items of the reductions have the numbers, one by one.
@@ -143,9 +133,9 @@ fn is_number_of_terminal(symbols: &[Symbol], number: usize, terminal: &TerminalS
 }
 
 // The number that is expected at a place, and 0 for none.
-fn expected_at(expected: &[usize], place: usize) -> usize {
+fn expected_at(expected: &[(usize, Nil)], place: usize) -> usize {
     if place < expected.len() {
-        expected[place]
+        expected[place].0
     } else {
         0
     }
@@ -155,7 +145,7 @@ fn expected_at(expected: &[usize], place: usize) -> usize {
 /// and tells whether all have. Who reads them learns their order.
 pub(super) fn take_gotos(
     symbols: &[Symbol],
-    expected: &[usize],
+    expected: &[(usize, Nil)],
     gotos: &BTreeMap<NonterminalString, StateIndex>,
     edges: &mut Vec<(usize, usize)>,
 ) -> Result<bool, OutOfMemory>
@@ -176,7 +166,7 @@ pub(super) fn take_gotos(
 /// The same of the shifts.
 pub(super) fn take_shifts(
     symbols: &[Symbol],
-    expected: &[usize],
+    expected: &[(usize, Nil)],
     shifts: &BTreeMap<TerminalString, StateIndex>,
     edges: &mut Vec<(usize, usize)>,
 ) -> Result<bool, OutOfMemory>

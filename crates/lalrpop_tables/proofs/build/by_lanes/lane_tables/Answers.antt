@@ -1,8 +1,8 @@
-use Rattle.std.proofs.Common.{◌∙◌, ℕ, sym, subst}
+use Rattle.std.proofs.Common.{◌∙◌, ℕ, ap, sym, subst}
 use Rattle.std.specs.Prelude.{IfOk, IfSome}
 use Rattle.lalrpop_base.specs.Words.{contents, IsOnNoRightSide, AreFaithful, IsLALR1, productions, rules_of}
-use Rattle.lalrpop_tables.proofs.Types.{Grammar, NonterminalString}
-use Rattle.lalrpop_tables.specs.Words.{AreCopiedTables, AreLalrLaneTables, AreLaneTables, PassCheck}
+use Rattle.lalrpop_tables.proofs.Types.{Grammar, Nil, NonterminalString}
+use Rattle.lalrpop_tables.specs.Words.{AreCopiedTables, AreLalrLaneTables, AreLaneTables, PassCheck, Settings}
 use Rattle.lalrpop_tables.proofs.theory.answers.ByLanes.{Kept-said, Lanes-pass, Passing-said, and_told, if_told, nothing_told, there_told}
 use Rattle.lalrpop_tables.proofs.build.by_lanes.lane_tables.Goals as goal
 
@@ -72,3 +72,10 @@ returns-in_default-clause-lalr c alone lalr =
     let of_construct : Told of.grammar.now of.start = λ alone lalr. nothing_told c.in_ok-tables.field-0 _ c.in_default.is (c.in_ok-tables.ensures.lalr alone lalr) in
     let of_grammar = subst (λ g. Told g of.start) over.0 of_construct in
     absurd (subst (Told g) (over.1 ∙ c.in_ok-first.ensures) of_grammar alone lalr)
+
+-- ---- the check is handed the construction
+pub where_checked-requires-clause-rules : goal.where_checked-requires-clause-rules
+where_checked-requires-clause-rules c = ap (λ (lr : Settings Nil). lr.construction.rules) c.lr.ensures ∙ c.in_ok-construct.ensures.ready.rules ∙ ap rules_of c.in_ok-construct.ensures.over.0
+
+pub where_checked-requires-clause-start : goal.where_checked-requires-clause-start
+where_checked-requires-clause-start c = ap (λ (lr : Settings Nil). lr.construction.start) c.lr.ensures ∙ c.in_ok-construct.ensures.ready.start ∙ c.in_ok-construct.ensures.over.1 ∙ c.in_ok-first.ensures ∙ sym c.in_ok-clone.ensures

@@ -35,8 +35,8 @@ returns c =
       listed = at;
       numbered = Numbered-state n c.requires.numbers.1.symbols_ascend old state c.in_ok-take_gotos.ensures.ordered c.in_ok-take_shifts.ensures.ordered middle
           (Items-numbered n.items.items c.requires.numbers.1.items.ascend numbers old.items.vec.items at) gotos shifts;
-      reduced = subst (λ (ks : List ℕ). AreReducedNumbers n.items.items old.reductions.items ks) c.deref-7.ensures.value
-          (subst (λ (rs : List (Bits × Bor Production)). AreReducedNumbers n.items.items rs c.deref-7.result.now) c.deref-8.ensures.value (c.if-not-are_reductions.ensures refl));
-      finished = subst (λ (ks : List ℕ). HasFinished n ks reductions) c.deref-5.ensures.value c.in_ok-reductions.ensures;
-      once = subst (λ (ks : List ℕ). AllDiffer ks) c.deref-6.ensures.value (c.if-not-rise.ensures refl);
+      reduced = subst (λ (ks : List ℕ). AreReducedNumbers n.items.items old.reductions.items ks) c.deref-6.ensures.value
+          (subst (λ (rs : List (Bits × Bor Production)). AreReducedNumbers n.items.items rs c.deref-6.result.now) c.deref-7.ensures.value (c.if-not-are_reductions.ensures refl));
+      finished = subst (λ (ks : List ℕ). HasFinished n ks reductions) c.deref-5.ensures.value c.in_ok-reductions.ensures.all;
+      once = c.in_ok-reductions.ensures.once (subst AllDiffer (sym c.deref-5.ensures.value) c.requires.differ);
     }
