@@ -52,7 +52,7 @@ pub use Rattle.lalrpop_base.specs.lanes.FollowSets.{FollowsAtOnce, HasLookaheadB
 pub use Rattle.lalrpop_base.specs.lanes.FollowSets.{ends_input, included, is_first_behind}
 pub use Rattle.lalrpop_base.specs.lanes.Lanes.{AreLr0, HoldLalrTokens, HoldLaneTokens, IsLaneSuccessor, IsLaneToken, IsLaneTokenAt, IsTracedTo, LeadsBack, back}
 pub use Rattle.lalrpop_base.specs.lanes.Lanes.{behind_parent, itself, of_start, to_parent}
-pub use Rattle.lalrpop_base.specs.lists.Bits.{Bits, IsRising, bits_of, bits_of-rising, has, has-at, has-below, has-bits_of, has-join, has-no_bits, has-place}
+pub use Rattle.lalrpop_base.specs.lists.Bits.{Bits, IsRising, bits_of, has, has-at, has-bits_of, has-join, has-no_bits, has-place}
 pub use Rattle.lalrpop_base.specs.lists.Bits.{has-rising, has-with_bit, join, join_twice, new_bit, no_bits, rising, same_bits, with_bit}
 pub use Rattle.lalrpop_base.specs.lists.CheckSets.{HaveSame}
 pub use Rattle.lalrpop_base.specs.lists.Counts.{IsBelow, count, one_if}

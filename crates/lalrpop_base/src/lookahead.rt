@@ -35,6 +35,19 @@ pub trait Lookahead: fmt::Debug + Eq + Ord + Hash + Drop + Collection<Item = Sel
     fn copy(&self, alloc: Global) -> Result<Self, OutOfMemory>
         ensures { IfOk result (λ copy. copy ≡ self.now) };
 
+    /// Joins a value into this one, and tells whether this one changed. A lookahead that needs no
+    /// copy of the value for it may say how.
+    fn join_with(&mut self, alloc: Global, from: &Self) -> Result<bool, OutOfMemory>
+        ensures joined { OnOk result
+            (meaning self.new ≡ joined (meaning self.old) (meaning from.now)) }
+        ensures told { IfOk result
+            (λ changed. MatchBool changed (self.new ≢ self.old) (self.new ≡ self.old)) }
+        ensures err { OnErr result (self.new ≡ self.old) }
+    {
+        let copy = from.copy(alloc)?;
+        self.push(copy)
+    }
+
     /// What is printed behind an item.
     fn fmt_as_item_suffix<W: fmt::Write>(&self, f: &mut fmt::Formatter<W>) -> fmt::Result;
 
@@ -74,8 +87,7 @@ pub fn join<L: Lookahead>(alloc: Global, into: &mut L, from: &L) -> Result<bool,
         (λ changed. MatchBool changed (into.new ≢ into.old) (into.new ≡ into.old)) }
     ensures err { OnErr result (into.new ≡ into.old) }
 {
-    let copy = from.copy(alloc)?;
-    into.push(copy)
+    into.join_with(alloc, from)
 }
 
 /// A second join changes nothing.

@@ -34,7 +34,7 @@ pub use Rattle.lalrpop_tables.specs.renumbering.RenumberedTables.{AreRenumberedC
 pub use Rattle.lalrpop_tables.specs.lane_states.Resolving.{IsCopied, IsResolving}
 pub use Rattle.lalrpop_tables.specs.answers.Results.{AreStatesFor, AreStatesOf, AreTables, AreTablesFor, Construction, FailsBy, FailsFor}
 pub use Rattle.lalrpop_tables.specs.answers.Results.{Settings, canonical_of}
-pub use Rattle.lalrpop_tables.specs.graphs.StateGraph.{AddsStates, AreSameLists, Edge, HaveSameStates, IsChangedAt, IsGraphOf, IsGrown, IsListedAt, IsStepBack, edge, edges, edges_from, edges_of, goto_edges}
+pub use Rattle.lalrpop_tables.specs.graphs.StateGraph.{AddsStates, AreSameLists, Edge, edge_from, HaveSameStates, IsChangedAt, IsGraphOf, IsGrown, IsListedAt, IsStepBack, edge, edges, edges_from, edges_of, goto_edges}
 pub use Rattle.lalrpop_tables.specs.graphs.StateGraph.{list_at, listed, nowhere, origin_of, origins, origins_of, over, shift_edges, sources_over, state_cmp, targets_from}
 pub use Rattle.lalrpop_tables.specs.graphs.StateGraph.{targets_of, with_symbol}
 pub use Rattle.lalrpop_tables.specs.merges.StateSets.{AddsColumns, AreJoined, HasSet, IsJoint, IsMade, OwnSets, columns_of, context_of, replaced_entry, replaced_set}

@@ -8,15 +8,14 @@ ghost use Rattle.std.specs.Prelude.{◌≡◌, ◌↔◌, ◌∷◌, [], List, r
 ghost use Rattle.std.specs.List.Sorted.{IsStrictlySortedBy};
 ghost use Rattle.lalrpop_base.specs.declared.lr1_core.state.StateIndex.{StateIndex};
 ghost use Rattle.lalrpop_tables.specs.graphs.Neighbours.{targets_left, sources_left};
-ghost use Rattle.lalrpop_tables.specs.graphs.StateGraph.{Edge, edges, shift_edges, goto_edges, IsGraphOf, IsGrown, LeadsTo, targets_of, sources_over, edge, state_cmp, AddsStates, HaveSameStates, IsStepBack};
+ghost use Rattle.lalrpop_tables.specs.graphs.StateGraph.{Edge, edges, edges_of, IsGraphOf, IsGrown, LeadsTo, targets_of, sources_over, edge, state_cmp, AddsStates, HaveSameStates, IsStepBack};
 
 use self::lists::{list_of, push_at};
 use self::neighbours::{Predecessors, Successors};
 use lalrpop_base::lr1_core::state::{State, StateIndex};
 use lalrpop_base::memory::OutOfMemory;
-use lalrpop_base::repr::{NonterminalString, Symbol, TerminalString};
+use lalrpop_base::repr::Symbol;
 use std::alloc::Global;
-use std::collections::BTreeMap;
 
 /// The shifts and gotos of a list of states, by number. A target that is not in the list is a state
 /// without successors.
@@ -53,41 +52,22 @@ impl StateGraph {
             IsGraphOf (edges states.now) self.new) }
     {
         for number in first..states.len() {
-            let state = &states[number];
-            self.add_shifts(alloc, StateIndex(number), &state.shifts)?;
-            self.add_gotos(alloc, StateIndex(number), &state.gotos)?;
+            self.add_state(alloc, StateIndex(number), &states[number])?;
         }
         Ok(())
     }
 
-    // Adds the shifts of a state, in order.
-    fn add_shifts(
+    // Adds the edges of a state, in order.
+    fn add_state<L>(
         &mut self,
         alloc: Global,
         source: StateIndex,
-        shifts: &BTreeMap<TerminalString, StateIndex>,
+        state: &State<'_, L>,
     ) -> Result<(), OutOfMemory>
-        ensures { OnOk result (IsGrown (shift_edges source shifts.now.entries) self.old self.new) }
+        ensures { OnOk result (IsGrown (edges_of source state.now) self.old self.new) }
     {
-        for (terminal, target) in shifts.iter() {
-            let symbol = Symbol::Terminal(terminal.clone(alloc)?);
-            self.add_edge(alloc, source, symbol, *target)?;
-        }
-        Ok(())
-    }
-
-    // Adds the gotos of a state, in order.
-    fn add_gotos(
-        &mut self,
-        alloc: Global,
-        source: StateIndex,
-        gotos: &BTreeMap<NonterminalString, StateIndex>,
-    ) -> Result<(), OutOfMemory>
-        ensures { OnOk result (IsGrown (goto_edges source gotos.now.entries) self.old self.new) }
-    {
-        for (name, target) in gotos.iter() {
-            let symbol = Symbol::Nonterminal(name.clone(alloc)?);
-            self.add_edge(alloc, source, symbol, *target)?;
+        for (symbol, target) in state.edges() {
+            self.add_edge(alloc, source, symbol.to_symbol(alloc)?, target)?;
         }
         Ok(())
     }

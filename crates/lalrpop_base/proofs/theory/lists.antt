@@ -7,6 +7,7 @@ pub mod EachLemmas
 pub mod Gathering
 pub mod Growth
 pub mod Halving
+pub mod JoinedTwice
 pub mod LeadingBytes
 pub mod Lists
 pub mod Members

@@ -1,8 +1,10 @@
 -- What an item leads to without a symbol, with any lookahead: the items of the nonterminal behind its dot, and which tokens they get.
-use Rattle.std.specs.Prelude.{◌≡◌, ◌⊎◌, ◌↔◌, true, List, map, Contains}
+use Rattle.std.specs.Prelude.{◌≡◌, ◌⊎◌, ◌↔◌, Bool, true, false, List, map, Contains}
+use Rattle.std.specs.Map.{keys_of}
 use Rattle.lalrpop_base.specs.grammars.Tokens.{FitsTokens}
 use Rattle.lalrpop_base.specs.grammars.WellFormed.{Rules}
-use Rattle.lalrpop_base.specs.lists.Bits.{Bits, join}
+use Rattle.lalrpop_base.specs.lists.Bits.{Bits}
+use Rattle.lalrpop_base.specs.lists.Entries.{IsJoinedAt}
 use Rattle.lalrpop_base.specs.lists.Places.{AllDiffer}
 use Rattle.lalrpop_base.specs.states.Contents.{holds_token}
 use Rattle.lalrpop_base.specs.states.Items.{Dotted}
@@ -34,11 +36,10 @@ pub record IsGiven {L : Type 0} (meaning : L → Bits) (begins : Rules → List 
   pub fits : FitsTokens g.terminals (meaning lookahead) → FitsTokens g.terminals (meaning given)
   pub holds : (t : Token) → (holds_token g.terminals (meaning given) t ≡ true) ↔ (begins g rest t ⊎ (passes g rest × (holds_token g.terminals (meaning lookahead) t ≡ true)))
 
--- a lookahead has already what may follow a nonterminal there: joined to it, it would change nothing
-pub record HasGiven {L : Type 0} (meaning : L → Bits) (begins : Rules → List Symbol → Token → Type 0) (passes : Rules → List Symbol → Type 0) (g : Rules) (rest : List Symbol) (lookahead known : L) : Type 0 where
-  pub given : L
-  pub is : IsGiven meaning begins passes g rest lookahead given
-  pub same : join (meaning known) (meaning given) ≡ meaning known
+-- what may follow a nonterminal there went to its key, where it has a production; told is whether the key has something new
+pub data IsGivenAt {K L : Type 0} (meaning : L → Bits) (begins : Rules → List Symbol → Token → Type 0) (passes : Rules → List Symbol → Type 0) (g : Rules) (name : NonterminalString) (rest : List Symbol) (lookahead : L) (key : K) (told : Bool) (old new : List (K × Bits)) : Type 0 where
+  given : (tokens : L) → IsGiven meaning begins passes g rest lookahead tokens → IsJoinedAt key (meaning tokens) told old new → AllDiffer (keys_of new) → IsGivenAt meaning begins passes g name rest lookahead key told old new
+  barren : HasNoProduction g name → new ≡ old → told ≡ false → IsGivenAt meaning begins passes g name rest lookahead key told old new
 
 -- what an item gives to the productions of the nonterminal behind its dot: what may follow that there
 pub record AreEpsilonMoves {L : Type 0} (meaning : L → Bits) (begins : Rules → List Symbol → Token → Type 0) (passes : Rules → List Symbol → Type 0) (g : Rules) (name : NonterminalString) (rest : List Symbol) (lookahead : L) (moves : List (Dotted L)) : Type 0 where

@@ -1,5 +1,5 @@
 -- Finite sets of bits: maps from bits to nothing, which std keeps in order, so that equal members make equal sets.
-use Rattle.std.specs.Prelude.{◌≡◌, ◌≢◌, ℕ, suc, ◌<◌, ◌≤◌, ◌==◌, Bool, true, false, cond, ◌||◌, List, [], ◌∷◌, length, slice_index, is_some, Option, Some, None, IsTrue, refl}
+use Rattle.std.specs.Prelude.{◌≡◌, ◌≢◌, ℕ, suc, ◌<◌, ◌==◌, Bool, true, false, cond, ◌||◌, List, [], ◌∷◌, length, slice_index, is_some, Option, Some, None, IsTrue, refl}
 use Rattle.std.proofs.Common.{sym, ◌∙◌, ap, arith, eq-eqb, eqb-true, ⊎_elim}
 use Rattle.std.proofs.lemmas.Bool.{or_cases}
 use Rattle.std.proofs.lemmas.List.Folds.{list_any_at}
@@ -109,12 +109,6 @@ join_self = same_bits _ _ (λ q. grind (arith, has-join, has-no_bits))
 pub join_twice : (s t : Bits) → join (join s t) t ≡ join s t
 join_twice s t = same_bits _ _ (λ q. grind (arith, has-join))
 
-pub join-no_bits : (s : Bits) → join s no_bits ≡ s
-join-no_bits s = same_bits _ _ (λ q. grind (arith, has-join, has-no_bits))
-
-pub bits_of-rising : (s : Bits) → bits_of (rising s) ≡ s
-bits_of-rising s = same_bits _ _ (λ q. has-bits_of (rising s) q ∙ sym (has-rising s q))
-
 pub ruleset bit_laws = (has-no_bits, has-with_bit, has-join)
 
 -- a bit that was not there makes another set
@@ -124,15 +118,6 @@ new_bit s b out same = let there : has (with_bit s b) b ≡ true = has-with_bit 
 -- the set has the bit at each place of its list
 pub has-at : (s : Bits) (k : ℕ) → k < length (rising s) → has s (slice_index (rising s) k) ≡ true
 has-at s k l = has-rising s _ ∙ list_any_at (λ b. slice_index (rising s) k == b) (rising s) k 0 l (eq-eqb (slice_index (rising s) k) (slice_index (rising s) k) refl)
-
-any_below : (xs : List ℕ) (b m : ℕ) → ((k : ℕ) → k < length xs → slice_index xs k ≤ m) → list_any (λ x. b == x) xs ≡ true → b ≤ m
-any_below [] b m each found = absurd (true≢false (sym found))
-any_below (x ∷ xs) b m each found =
-    ⊎_elim (λ here. omega (arith, eqb-true b x here, each 0 (omega arith))) (λ later. any_below xs b m (λ k l. each (suc k) (omega arith)) later) (or_cases (b == x) (list_any (λ y. b == y) xs) found)
-
--- where each bit of the list is at most m, so is each bit of the set
-pub has-below : (s : Bits) (m : ℕ) → ((k : ℕ) → k < length (rising s) → slice_index (rising s) k ≤ m) → (b : ℕ) → IsTrue (has s b) → b ≤ m
-has-below s m each b there = any_below (rising s) b m each (sym (has-rising s b) ∙ there)
 
 place_in : (xs : List ℕ) (b : ℕ) → list_any (λ x. b == x) xs ≡ true → (k : ℕ) × (k < length xs) × (slice_index xs k ≡ b)
 place_in [] b found = absurd (true≢false (sym found))

@@ -1,4 +1,4 @@
--- The first bytes of a text as one number: texts whose numbers differ are ordered as these.
+-- The first bytes of a text as one number: texts whose numbers differ are ordered as these. A number is written in base 256, the greatest digit first (Knuth, "The Art of Computer Programming", volume 2, section 4.1).
 use Rattle.std.specs.Prelude.{ℕ, zero, suc, ◌+◌, ◌*◌, ◌<◌, List, slice_index}
 
 -- each is below 256

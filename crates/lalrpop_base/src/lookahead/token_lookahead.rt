@@ -40,6 +40,10 @@ impl Lookahead for TokenSet {
         self.clone(alloc)
     }
 
+    fn join_with(&mut self, _alloc: Global, from: &TokenSet) -> Result<bool, OutOfMemory> {
+        self.union_with(from)
+    }
+
     fn fmt_as_item_suffix<W: fmt::Write>(&self, f: &mut fmt::Formatter<W>) -> fmt::Result {
         write!(f, " {self:?}")
     }

@@ -4,7 +4,6 @@ pub mod Canonical
 pub mod CanonicalAnswers
 pub mod CanonicalConflicts
 pub mod CanonicalContents
-pub mod CanonicalStates
 pub mod Deciding
 pub mod Lr0States
 pub mod OrderedCanonical

@@ -1,6 +1,5 @@
 -- Closures of kernels.
 pub mod EpsilonMoves
-pub mod GivenAlready
 pub mod Rising
 pub mod SharedItems
 pub mod Sharing

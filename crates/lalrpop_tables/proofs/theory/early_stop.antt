@@ -1,5 +1,6 @@
 -- A construction that stops early.
 pub mod MadeUntil
+pub mod PartlyBuilt
 pub mod StoppedAnswers
 pub mod StoppedConflicts
 pub mod StoppedLr0

@@ -22,6 +22,10 @@ pub record Edge : Type 0 where
 abbrev pub edge : StateIndex → Symbol → StateIndex → Edge
 edge source symbol target = record { source = source; symbol = symbol; target = target }
 
+-- an edge of a state, from its source
+abbrev pub edge_from : StateIndex → Symbol × StateIndex → Edge
+edge_from source e = edge source e.0 e.1
+
 -- the shifts of a state, in order
 abbrev pub shift_edges : StateIndex → List (TerminalString × StateIndex) → List Edge
 shift_edges n shifts = map (λ (e : TerminalString × StateIndex). edge n (Terminal e.0) e.1) shifts

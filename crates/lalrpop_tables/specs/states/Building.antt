@@ -1,4 +1,4 @@
--- States as far as a construction has made them.
+-- States as far as a construction has made them: the sets-of-items construction of Aho, Sethi and Ullman, section 4.7, before its end.
 use Rattle.std.specs.Prelude.{◌≡◌, ◌<◌, ◌≤◌, ℕ, List, length, map, slice_get, Some, Contains}
 use Rattle.lalrpop_base.specs.Words.{AllDiffer, AreItemsBy, Bits, Dotted, IsClosureBy, Kernels, Rules}
 use Rattle.lalrpop_base.specs.declared.lookahead.nil.Nil.{Nil}

@@ -1,12 +1,10 @@
 //! The closure of a kernel. All productions of a nonterminal have the dot in front there and get
 //! the same tokens, so that these are kept by nonterminal.
-ghost use Rattle.std.specs.Prelude.{◌≡◌, ◌<◌, ◌≤◌, ◌∷◌, [], ℕ, IfOk, OnOk, IfSome, IfNone, Contains, IsTrue, length, map};
+ghost use Rattle.std.specs.Prelude.{◌≡◌, ◌<◌, ◌≤◌, ◌∷◌, [], ℕ, IfOk, OnOk, IfSome, IfNone, Contains, length, map};
 ghost use Rattle.std.specs.Map.{keys_of};
-ghost use Rattle.lalrpop_base.specs.Words.{AllDiffer, Bits, HasKnownTerminals};
+ghost use Rattle.lalrpop_base.specs.Words.{Bits};
 ghost use Rattle.lalrpop_base.specs.closures.Closure.{AreItemsBy, IsClosureBy, meant};
-ghost use Rattle.lalrpop_base.specs.closures.EpsilonMoves.{HasGiven};
-ghost use Rattle.lalrpop_base.specs.lists.Entries.{IsQueued, GathersMore, readings};
-ghost use Rattle.lalrpop_tables.specs.grammars.Rests.{IsRest};
+ghost use Rattle.lalrpop_base.specs.lists.Entries.{GathersMore, readings};
 ghost use Rattle.lalrpop_tables.specs.grammars.Numbers.{AreNumbered, AreNumbers, item_by, items_by};
 ghost use Rattle.lalrpop_tables.specs.closures.Sharing.{IsSharing, Shares, fronts_in, numbered_of, parts_in, unfolded, with_tokens};
 
@@ -14,7 +12,6 @@ use super::lookahead_build::LookaheadBuild;
 use super::lr::Lr;
 use super::numbered::Numbered;
 use super::numbers::Numbers;
-use super::numbers::rests::Rest;
 use super::workspace::Workspace;
 use lalrpop_base::collections::queue::Queue;
 use lalrpop_base::collections::sparse_map::SparseMap;
@@ -23,49 +20,8 @@ use lalrpop_base::memory::OutOfMemory;
 use lalrpop_base::repr::Symbol;
 use std::alloc::Global;
 
-// Joins the tokens to those of a nonterminal, which goes into the queue if it is new or has more
-// now.
-fn add_shared<L: Lookahead>(
-    symbol: usize,
-    tokens: L,
-    shared: &mut SparseMap<L>,
-    queue: &mut Queue,
-) -> Result<(), OutOfMemory>
-    requires { symbol < queue.old.limit }
-    ensures queued { OnOk result (IsQueued symbol (L.meaning tokens)
-        (readings L.meaning shared.old) (readings L.meaning shared.new)
-        queue.old.numbers queue.new.numbers) }
-    ensures limit { queue.new.limit ≡ queue.old.limit }
-{
-    if shared.join(symbol, tokens)? {
-        queue.add(symbol)?;
-    }
-    Ok(())
-}
-
-// Whether a nonterminal has already what an item gives it.
-fn is_shared<'grammar, L: LookaheadBuild>(
-    lr: &Lr<'grammar, L>,
-    remainder: &[Symbol],
-    rest: &Rest,
-    tokens: &L,
-    symbol: usize,
-    shared: &SparseMap<L>,
-) -> bool
-    requires known { HasKnownTerminals lr.now.construction.rules.terminals remainder.now }
-    requires rest { IsRest lr.now.construction.rules remainder.now rest.now }
-    ensures has { IsTrue result → (known : L) × Contains shared.now (symbol, known) ×
-        HasGiven L.meaning L.begins L.passes lr.now.construction.rules remainder.now tokens.now
-        known }
-    ensures differ { AllDiffer (keys_of shared.now) }
-{
-    match shared.get(symbol) {
-        Some(known) => L::has_given(lr, remainder, rest, tokens, known),
-        None => false,
-    }
-}
-
-// Adds what an item gives to the nonterminal behind its dot.
+// Adds what an item gives to the nonterminal behind its dot, which goes into the queue if it is new
+// or has more now.
 fn share<'grammar, L: LookaheadBuild>(
     alloc: Global,
     lr: &Lr<'grammar, L>,
@@ -98,13 +54,10 @@ fn share<'grammar, L: LookaheadBuild>(
         return Ok(());
     };
     let _grammar = lr.grammar();
-    if is_shared(lr, remainder, rest, tokens, symbol, shared) {
-        return Ok(());
+    if L::give(alloc, lr, name, remainder, rest, tokens, symbol, shared)? {
+        queue.add(symbol)?;
     }
-    let Some(given) = L::given(alloc, lr, name, remainder, rest, tokens)? else {
-        return Ok(());
-    };
-    add_shared(symbol, given, shared, queue)
+    Ok(())
 }
 
 // Adds what the items of a kernel give.

@@ -5,6 +5,7 @@ ghost use Rattle.lalrpop_base.specs.closures.Closing.{Begins};
 use super::lookahead_build::LookaheadBuild;
 use super::lr::Lr;
 use super::numbers::rests::Rest;
+use lalrpop_base::collections::sparse_map::SparseMap;
 use lalrpop_base::lookahead::nil::Nil;
 use lalrpop_base::lookahead::token_set::TokenSet;
 use lalrpop_base::lr1_core::item::Item;
@@ -27,25 +28,17 @@ impl LookaheadBuild for Nil {
         lr.begun_items(alloc, nonterminal, lookahead)
     }
 
-    fn given<'grammar>(
+    fn give<'grammar>(
         _alloc: Global,
         _lr: &Lr<'grammar, Nil>,
         _nonterminal: &NonterminalString,
         _remainder: &[Symbol],
         _rest: &Rest,
         _lookahead: &Nil,
-    ) -> Result<Option<Nil>, OutOfMemory> {
-        Ok(Some(Nil))
-    }
-
-    fn has_given<'grammar>(
-        _lr: &Lr<'grammar, Nil>,
-        _remainder: &[Symbol],
-        _rest: &Rest,
-        _lookahead: &Nil,
-        _known: &Nil,
-    ) -> bool {
-        true
+        number: usize,
+        shared: &mut SparseMap<Nil>,
+    ) -> Result<bool, OutOfMemory> {
+        shared.join(number, Nil)
     }
 }
 
@@ -66,31 +59,22 @@ impl LookaheadBuild for TokenSet {
         lr.begun_items(alloc, nonterminal, &given)
     }
 
-    fn given<'grammar>(
+    fn give<'grammar>(
         alloc: Global,
         lr: &Lr<'grammar, TokenSet>,
         _nonterminal: &NonterminalString,
         _remainder: &[Symbol],
         rest: &Rest,
         lookahead: &TokenSet,
-    ) -> Result<Option<TokenSet>, OutOfMemory> {
+        number: usize,
+        shared: &mut SparseMap<TokenSet>,
+    ) -> Result<bool, OutOfMemory> {
         let _grammar = lr.grammar();
         if !rest.nullable {
-            return Ok(Some(rest.first.clone(alloc)?));
+            return shared.join_copy(alloc, number, &rest.first);
         }
-        let mut tokens = lookahead.clone(alloc)?;
-        tokens.union_with(&rest.first)?;
-        Ok(Some(tokens))
-    }
-
-    fn has_given<'grammar>(
-        lr: &Lr<'grammar, TokenSet>,
-        _remainder: &[Symbol],
-        rest: &Rest,
-        lookahead: &TokenSet,
-        known: &TokenSet,
-    ) -> bool {
-        let _grammar = lr.grammar();
-        rest.first.is_subset(known) && (!rest.nullable || lookahead.is_subset(known))
+        let passed = shared.join_copy(alloc, number, lookahead)?;
+        let begun = shared.join_copy(alloc, number, &rest.first)?;
+        Ok(passed | begun)
     }
 }

@@ -1,13 +1,15 @@
 //! What an item gives to those to which it leads without a symbol.
-ghost use Rattle.std.specs.Prelude.{IfOk, IsTrue, List, MatchOption};
+ghost use Rattle.std.specs.Prelude.{IfOk, List};
 ghost use Rattle.lalrpop_base.specs.Words.{HasKnownTerminals, Rules};
 ghost use Rattle.lalrpop_base.specs.declared.lookahead.token.Token.{Token};
 ghost use Rattle.lalrpop_base.specs.declared.repr.Symbol.{Symbol};
-ghost use Rattle.lalrpop_base.specs.closures.EpsilonMoves.{AreEpsilonMoves, HasGiven, HasNoProduction, IsGiven};
+ghost use Rattle.lalrpop_base.specs.closures.EpsilonMoves.{AreEpsilonMoves, IsGivenAt};
+ghost use Rattle.lalrpop_base.specs.lists.Entries.{readings};
 ghost use Rattle.lalrpop_tables.specs.grammars.Rests.{IsRest};
 
 use super::lr::Lr;
 use super::numbers::rests::Rest;
+use lalrpop_base::collections::sparse_map::SparseMap;
 use lalrpop_base::lookahead::Lookahead;
 use lalrpop_base::lr1_core::item::Item;
 use lalrpop_base::memory::OutOfMemory;
@@ -35,47 +37,30 @@ pub trait LookaheadBuild: Lookahead {
         ensures moves { IfOk result (λ moves. AreEpsilonMoves Self.meaning begins passes
             lr.now.construction.rules nonterminal.now remainder.now lookahead.now moves.items) };
 
-    /// What may follow a nonterminal where it stands before the remainder of an item with the
-    /// lookahead. None tells that it has no production; where it has none, any answer will do. A
-    /// lookahead that finds it without the productions, by what the remainder can begin with, may
-    /// say how.
-    fn given<'grammar>(
+    /// Joins what may follow a nonterminal, where it stands before the remainder of an item with the
+    /// lookahead, to what a map has for its number, and tells whether the number is new or has more
+    /// now. A nonterminal without a production need get nothing. A lookahead that finds what may
+    /// follow by what the remainder can begin with, may say how.
+    fn give<'grammar>(
         alloc: Global,
         lr: &Lr<'grammar, Self>,
         nonterminal: &NonterminalString,
         remainder: &[Symbol],
         _rest: &Rest,
         lookahead: &Self,
-    ) -> Result<Option<Self>, OutOfMemory>
+        number: usize,
+        shared: &mut SparseMap<Self>,
+    ) -> Result<bool, OutOfMemory>
         requires known { HasKnownTerminals lr.now.construction.rules.terminals remainder.now }
         requires rest { IsRest lr.now.construction.rules remainder.now _rest.now }
-        ensures given { IfOk result (λ found. MatchOption found
-            (HasNoProduction lr.now.construction.rules nonterminal.now)
-            (IsGiven Self.meaning begins passes lr.now.construction.rules remainder.now
-            lookahead.now)) }
+        ensures given { IfOk result (λ told. IsGivenAt Self.meaning begins passes
+            lr.now.construction.rules nonterminal.now remainder.now lookahead.now number told
+            (readings Self.meaning shared.old) (readings Self.meaning shared.new)) }
     {
         let mut moves = Self::epsilon_moves(alloc, lr, nonterminal, remainder, lookahead)?;
         match moves.pop() {
-            Some(item) => Ok(Some(item.lookahead)),
-            None => Ok(None),
+            Some(item) => shared.join(number, item.lookahead),
+            None => Ok(false),
         }
-    }
-
-    /// Whether a lookahead has already all that `given` gives. One that can't tell may say no.
-    fn has_given<'grammar>(
-        lr: &Lr<'grammar, Self>,
-        remainder: &[Symbol],
-        _rest: &Rest,
-        _lookahead: &Self,
-        _known: &Self,
-    ) -> bool
-        requires known { HasKnownTerminals lr.now.construction.rules.terminals remainder.now }
-        requires rest { IsRest lr.now.construction.rules remainder.now _rest.now }
-        ensures { IsTrue result → HasGiven Self.meaning begins passes lr.now.construction.rules
-            remainder.now _lookahead.now _known.now }
-    {
-        let _rules = lr.grammar();
-        let _symbols = remainder.len();
-        false
     }
 }

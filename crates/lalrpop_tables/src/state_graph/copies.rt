@@ -4,7 +4,7 @@ ghost use Rattle.std.specs.Map.{keys_of};
 ghost use Rattle.lalrpop_base.specs.Words.{AllDiffer};
 ghost use Rattle.lalrpop_tables.specs.graphs.GraphCopies.{FollowsCopies, FollowsEdges, FollowsInTurn};
 ghost use Rattle.lalrpop_base.specs.renumbering.Renumbered.{number_in, retargeted_all};
-ghost use Rattle.lalrpop_tables.specs.graphs.StateGraph.{edge, edges_of, goto_edges, shift_edges};
+ghost use Rattle.lalrpop_tables.specs.graphs.StateGraph.{edge, edges_of};
 
 use super::StateGraph;
 use super::lists::{clear_at, push_at};
@@ -12,7 +12,7 @@ use super::origins::remove_origin;
 use crate::renumber::renumbered;
 use lalrpop_base::lr1_core::state::{Lr1State, State, StateIndex};
 use lalrpop_base::memory::OutOfMemory;
-use lalrpop_base::repr::{NonterminalString, Symbol, TerminalString};
+use lalrpop_base::repr::Symbol;
 use std::alloc::Global;
 use std::collections::BTreeMap;
 
@@ -99,43 +99,22 @@ impl StateGraph {
             return Ok(());
         }
         clear_at(&mut self.successors, source.0);
-        self.follow_shifts(alloc, source, &state.shifts, originals)?;
-        self.follow_gotos(alloc, source, &state.gotos, originals)?;
-        Ok(())
+        self.follow_edges(alloc, source, state, originals)
     }
 
-    // Brings the shifts of a state up to date, in order.
-    fn follow_shifts(
+    // Brings the edges of a state up to date, in order.
+    fn follow_edges<L>(
         &mut self,
         alloc: Global,
         source: StateIndex,
-        shifts: &BTreeMap<TerminalString, StateIndex>,
+        state: &State<'_, L>,
         originals: &[usize],
     ) -> Result<(), OutOfMemory>
-        ensures { OnOk result (FollowsInTurn originals.now
-            (shift_edges source shifts.now.entries) self.old self.new) }
+        ensures { OnOk result (FollowsInTurn originals.now (edges_of source state.now) self.old
+            self.new) }
     {
-        for (terminal, target) in shifts.iter() {
-            let symbol = Symbol::Terminal(terminal.clone(alloc)?);
-            self.follow_edge(alloc, source, symbol, *target, originals)?;
-        }
-        Ok(())
-    }
-
-    // Brings the gotos of a state up to date, in order.
-    fn follow_gotos(
-        &mut self,
-        alloc: Global,
-        source: StateIndex,
-        gotos: &BTreeMap<NonterminalString, StateIndex>,
-        originals: &[usize],
-    ) -> Result<(), OutOfMemory>
-        ensures { OnOk result (FollowsInTurn originals.now
-            (goto_edges source gotos.now.entries) self.old self.new) }
-    {
-        for (name, target) in gotos.iter() {
-            let symbol = Symbol::Nonterminal(name.clone(alloc)?);
-            self.follow_edge(alloc, source, symbol, *target, originals)?;
+        for (symbol, target) in state.edges() {
+            self.follow_edge(alloc, source, symbol.to_symbol(alloc)?, target, originals)?;
         }
         Ok(())
     }

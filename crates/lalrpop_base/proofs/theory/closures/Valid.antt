@@ -43,12 +43,6 @@ unshifted (shifts {u} {p} {dot} x after v e) =
       valid = r.valid;
     }
 
--- the same with a token
-pub record UnshiftedToken (g : List Production) (start : NonterminalString) (u : List Symbol) (p : Production) (dot : ℕ) (t : Token) : Type 0 where
-  pub prefix : List Symbol
-  pub ends : u ≡ prefix ++ take dot p.symbols
-  pub valid : ValidToken g start prefix p 0 t
-
 -- a dot at the start comes of the start symbol, or of an expansion
 pub at_the_start : {g : List Production} {start : NonterminalString} {u : List Symbol} {p : Production} → Valid g start u p 0 → ((u ≡ []) × (p.nonterminal ≡ start)) ⊎ IsAwaited g start u (Nonterminal p.nonterminal)
 at_the_start (starts p h e) = inl (refl, e)

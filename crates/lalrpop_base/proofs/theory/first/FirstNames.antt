@@ -1,19 +1,18 @@
 -- Names as the keys of a table.
-use Rattle.std.proofs.Common.{◌≡◌, ℕ, zero, suc, List, [], ◌∷◌, ◌++◌, refl, sym, ap, ◌∙◌, Option, Some, Bool, true, false, cond, unwrap_or, IsSome, is_some}
+use Rattle.std.proofs.Common.{◌≡◌, ℕ, zero, suc, List, [], ◌∷◌, ◌++◌, refl, ap, ◌∙◌, Option, Some, Bool, true, false, cond, unwrap_or, IsSome, is_some}
 use Rattle.std.specs.Prelude.{slice_get}
 use Rattle.std.specs.declared.cmp.Ordering.{Ordering}
 use Rattle.std.specs.declared.cmp.Ordering.TheVariants.{Less, Equal, Greater}
 use Rattle.std.specs.Ordering.{is_eq, ordering_reverse}
 use Rattle.std.specs.Cmp.{IsTotalOrder, IsEquivalence, eq_by_cmp_equiv}
 use Rattle.std.specs.Cmp.Lexicographic.{on_texts}
-use Rattle.std.specs.List.{AllByRecursion, list_any}
+use Rattle.std.specs.List.{AllByRecursion}
 use Rattle.std.specs.List.Sorted.{IsStrictlySortedBy}
 use Rattle.std.specs.BTreeMap.{is_at, insert_entry}
 use Rattle.std.specs.Map.{lookup, keys_of}
 use Rattle.std.proofs.lemmas.List.{append_assoc}
 use Rattle.std.proofs.lemmas.Map.Lookups.{exact_bytes}
 use Rattle.std.proofs.lemmas.Map.Keys.{sorted_head, sorted_tail}
-use Rattle.std.proofs.lemmas.Map.Made.{is_some-lookup}
 use Rattle.lalrpop_base.proofs.Types.{NonterminalString}
 use Rattle.lalrpop_base.specs.Words.{name_cmp}
 
@@ -34,10 +33,6 @@ name_same a b e = ap made (exact_bytes a.text b.text (tied (name_cmp a b) e))
 
 pub name_self : (a : NonterminalString) → is_at (name_cmp a) a ≡ true
 name_self a = IsEquivalence.refl (eq_by_cmp_equiv name_total) a
-
--- a table has a set for the names among its keys, whatever the sets are
-pub has_set : {X Y : Type 0} (m : List (NonterminalString × X)) (n : List (NonterminalString × Y)) (a : NonterminalString) → keys_of n ≡ keys_of m → IsSome (lookup (is_at (name_cmp a)) m) → IsSome (lookup (is_at (name_cmp a)) n)
-has_set m n a same h = is_some-lookup (is_at (name_cmp a)) n ∙ ap (list_any (is_at (name_cmp a))) same ∙ sym (is_some-lookup (is_at (name_cmp a)) m) ∙ h
 
 -- the name of an entry has one
 pub has_own : {X : Type 0} (m : List (NonterminalString × X)) (k : ℕ) (a : NonterminalString) (x : X) → slice_get m k ≡ Some (a, x) → IsSome (lookup (is_at (name_cmp a)) m)

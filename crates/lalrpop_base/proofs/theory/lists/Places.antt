@@ -65,9 +65,6 @@ module _ {X : Type 0} (front back : List X) (x : X) where
   pub at_midst : Contains (front ++ x ∷ back) x
   at_midst = Contains-append_right front (x ∷ back) x (contains_head x back)
 
-pub differ_front : {X : Type 0} (xs ys : List X) → AllDiffer (xs ++ ys) → AllDiffer xs
-differ_front xs ys d i j x l at_i at_j = d i j x l (slice_get-longer xs ys i x at_i) (slice_get-longer xs ys j x at_j)
-
 -- a value more that stands nowhere before
 pub differ_push : {X : Type 0} (xs : List X) (x : X) → AllDiffer xs → ¬ Contains xs x → AllDiffer (xs ++ x ∷ [])
 differ_push xs x d out i j y l at_i at_j = elim (push_cases xs x j y at_j) [

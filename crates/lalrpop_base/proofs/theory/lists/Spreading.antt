@@ -91,18 +91,6 @@ joined_same {from} {to} {old} j = j.joined ∙ ap (set old to) j.told ∙ set-ge
 
 -- ---- the edges of a number
 module _ (from : ℕ) (ends : List ℕ) where
-  pub sent_none : (sets : List Bits) (waiting : Waiting) → IsSent from ends 0 sets sets waiting waiting
-  sent_none sets waiting = record {
-    counted = refl;
-    limit = refl;
-    kept = λ n bit h. h;
-    came = λ n bit h. inl h;
-    sent = λ k bit l h. absurd (omega (arith, l));
-    waits = λ n w. w;
-    others = λ n w. refl;
-    weighed = omega arith;
-  }
-
   module _ {few : ℕ} {old mid new : List Bits} {before between : Waiting} {grew : Bool} (listed : few < length ends) (in_range : get_or ends few 0 < length old) (s : IsSent from ends few old mid before between) (j : IsJoinedInto grew from (get_or ends few 0) mid new) where
     end : get_or ends few 0 < length mid
     end = omega (arith, in_range, s.counted)

@@ -10,9 +10,6 @@ use Rattle.std.proofs.lemmas.Map.Views.{IsSome-lookup_from_Contains, Contains-fr
 use Rattle.lalrpop_base.proofs.theory.lists.Places.{same_some, one_place, differ_from_apart}
 use Rattle.lalrpop_base.proofs.theory.lists.Members.{place, apart-from_sorted}
 use Rattle.std.specs.List.Sorted.{IsStrictlySortedBy}
-use Rattle.std.proofs.lemmas.Map.{lookup-none}
-use Rattle.std.proofs.lemmas.Map.Entries.{none_below_head}
-use Rattle.std.proofs.lemmas.Map.Keys.{sorted_tail}
 use Rattle.std.proofs.lemmas.Map.Lookups.{CmpEqualImpliesEq}
 use Rattle.std.specs.Prelude.{Contains}
 use Rattle.lalrpop_base.specs.Words.{AllDiffer, IsPushedAt}
@@ -53,24 +50,6 @@ module _ {K V : Type 0} where
         let key : k ≡ e.0 = exact k e.0 h in
         let value : e.1 ≡ w = cc in
         ap (λ (x : K). (x, e.1)) (sym key) ∙ ap (λ (y : V). (k, y)) value
-
-    replaced_at : (k : K) (v w : V) (e : K × V) (es : List (K × V)) (o : Ordering) → cmp k e.0 ≡ o → IsStrictlySortedBy cmp (keys_of (e ∷ es)) → cond (is_eq o) (Some e.1) (lookup (is_at (cmp k)) es) ≡ Some w → (lookup (is_at (cmp k)) es ≡ Some w → IsReplaced k w v es (insert_entry cmp es k v)) →
-        IsReplaced k w v (e ∷ es) (match_ordering o ((k, v) ∷ e ∷ es) ((e.0, v) ∷ es) (e ∷ insert_entry cmp es k v))
-    replaced_at k v w e es Less c s h later =
-        let none : lookup (is_at (cmp k)) (e ∷ es) ≡ None = lookup-none (is_at (cmp k)) (e ∷ es) (none_below_head total k e es s c) in
-        let out : lookup (is_at (cmp k)) es ≡ None = ap (λ o. cond (is_eq o) (Some e.1) (lookup (is_at (cmp k)) es)) (sym c) ∙ none in
-        cc
-    replaced_at k v w e es Equal c s h later = record {
-      front = [];
-      back = es;
-      before = ap (λ x. x ∷ es) (same_entry k e w c h);
-      after = ap (λ (x : K). (x, v) ∷ es) (sym (exact k e.0 c));
-    }
-    replaced_at k v w e es Greater c s h later = replaced_later e k w v es (insert_entry cmp es k v) (later h)
-
-    pub replaced : (k : K) (v w : V) (es : List (K × V)) → IsStrictlySortedBy cmp (keys_of es) → lookup (is_at (cmp k)) es ≡ Some w → IsReplaced k w v es (insert_entry cmp es k v)
-    replaced k v w [] s h = cc
-    replaced k v w (e ∷ es) s h = replaced_at k v w e es (cmp k e.0) refl s h (replaced k v w es (sorted_tail cmp e.0 (keys_of es) s))
 
     set_at : (k : K) (v w : V) (e : K × V) (es : List (K × V)) (o : Ordering) → cmp k e.0 ≡ o → cond (is_eq o) (Some e.1) (lookup (is_at (cmp k)) es) ≡ Some w → (lookup (is_at (cmp k)) es ≡ Some w → IsReplaced k w v es (set_value (is_at (cmp k)) es v)) →
         IsReplaced k w v (e ∷ es) (cond (is_eq o) ((e.0, v) ∷ es) (e ∷ set_value (is_at (cmp k)) es v))

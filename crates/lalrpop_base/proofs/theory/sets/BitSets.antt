@@ -12,6 +12,11 @@ or_right : (a b : Bool) → b ≡ true → (a || b) ≡ true
 or_right true b h = refl
 or_right false b h = h
 
+or_absorbs : (a b : Bool) → (b ≡ true → a ≡ true) → (a || b) ≡ a
+or_absorbs true b h = refl
+or_absorbs false true h = sym (h refl)
+or_absorbs false false h = refl
+
 -- ---- joined sets
 pub join_left : (s t : Bits) (bit : ℕ) → has s bit ≡ true → has (join s t) bit ≡ true
 join_left s t bit h = has-join s t bit ∙ or_left (has s bit) (has t bit) h
@@ -24,6 +29,10 @@ join_cases s t bit h = or_cases (has s bit) (has t bit) (sym (has-join s t bit) 
 
 pub join_turned : (s t : Bits) → join s t ≡ join t s
 join_turned s t = same_bits (join s t) (join t s) (λ bit. has-join s t bit ∙ or_comm (has s bit) (has t bit) ∙ sym (has-join t s bit))
+
+-- what is there already changes nothing
+pub join_within : (s t : Bits) → ((bit : ℕ) → has t bit ≡ true → has s bit ≡ true) → join s t ≡ s
+join_within s t within = same_bits (join s t) s (λ bit. has-join s t bit ∙ or_absorbs (has s bit) (has t bit) (within bit))
 
 -- ---- a set of one bit
 -- it has that bit alone

@@ -1,13 +1,13 @@
 -- The bit vectors of token sets, as they are joined, cut and changed.
-use Rattle.std.proofs.Common.{◌≡◌, ◌≢◌, ℕ, ◌+◌, ◌/◌, ◌^◌, ◌<◌, ◌≤◌, ⊎_elim, ◌==◌, Bool, true, false, ◌||◌, ◌&&◌, not, List, [], length, slice_index, refl, sym, ◌∙◌, ap, subst, arith, bit_and, bit_or, max, MatchBool}
-use Rattle.std.proofs.lemmas.Nat.{and_le_l, le_or_l, le_or_r, or_lt}
+use Rattle.std.proofs.Common.{◌≡◌, ◌≢◌, ℕ, ◌+◌, ◌/◌, ◌^◌, ◌<◌, ⊎_elim, ◌==◌, Bool, true, false, ◌||◌, ◌&&◌, not, List, [], length, slice_index, refl, sym, ◌∙◌, ap, subst, arith, bit_and, bit_or, max, MatchBool}
+use Rattle.std.proofs.lemmas.Nat.{le_or_l, le_or_r, or_lt}
 use Rattle.std.proofs.lemmas.Bool.{cases_Bool, cases_eq, true≢false, false_from_ne_true}
 use Rattle.std.proofs.lemmas.Cmp.{nat_list_eq_equiv}
 use lib.Pointwise.{pointwise}
 use Rattle.lalrpop_base.specs.lists.Exact.{text_exact}
 use Rattle.lalrpop_base.specs.lists.Bits.{bits_exact}
 use Rattle.lalrpop_base.specs.Words.{Bits, has, rising, no_bits, with_bit, join, has-with_bit, same_bits}
-use Rattle.lalrpop_base.specs.lists.BitVectors.{has_bit, members_from, bits_of_words, IsBitVector, IsTrimmed, AreWords}
+use Rattle.lalrpop_base.specs.lists.BitVectors.{has_bit, members_from, bits_of_words, IsBitVector, AreWords}
 use Rattle.lalrpop_base.proofs.theory.sets.BitVectorLemmas.{has-bits_of_words, rising-bits_of_words, has_bit-same, has_bit-and, joined_sets, same_sets, same_vectors, other_sets}
 
 -- no words are the empty set
@@ -49,14 +49,6 @@ pub taken_set : (xs ys zs : List ℕ) (x : Bits) (bit : ℕ) → bits_of_words x
 taken_set xs ys zs x bit view taken same q =
     has-bits_of_words zs q ∙ has_bit-same zs ys same q ∙ taken q ∙ ap (λ b. b && not (q == bit)) (sym (has-bits_of_words xs q) ∙ ap (λ (s : Bits). has s q) view)
 
--- words that are no greater, trimmed
-pub trimmed_vector : (xs ys zs : List ℕ) → AreWords xs → length xs ≤ 2 ^ 57 → length ys ≤ length xs → ((k : ℕ) → slice_index ys k ≤ slice_index xs k) → IsTrimmed zs → length zs ≤ length ys → ((k : ℕ) → slice_index zs k ≡ slice_index ys k) → IsBitVector zs
-trimmed_vector xs ys zs low few len less trimmed shorter same = record {
-  trimmed = trimmed;
-  each = λ k. omega (arith, low k, less k, same k);
-  few = omega arith;
-}
-
 -- ---- a join
 module _ (xs ys ps zs : List ℕ) (same : (k : ℕ) → slice_index ps k ≡ slice_index xs k) (joined : (k : ℕ) → slice_index zs k ≡ bit_or (slice_index ps k) (slice_index ys k)) where
   or_at : (k : ℕ) → slice_index zs k ≡ bit_or (slice_index xs k) (slice_index ys k)
@@ -86,10 +78,6 @@ met_set xs ys ms zs x y view_x view_y met same q =
     has-bits_of_words zs q ∙ has_bit-and xs ys zs (λ k. same k ∙ met k) q
     ∙ ap (λ b. b && has_bit ys q) (sym (has-bits_of_words xs q) ∙ ap (λ (s : Bits). has s q) view_x)
     ∙ ap (λ b. has x q && b) (sym (has-bits_of_words ys q) ∙ ap (λ (s : Bits). has s q) view_y)
-
-pub met_vector : (xs ys ms zs : List ℕ) → IsBitVector xs → ((k : ℕ) → slice_index ms k ≡ bit_and (slice_index xs k) (slice_index ys k)) → length ms ≤ length xs → IsTrimmed zs → length zs ≤ length ms → ((k : ℕ) → slice_index zs k ≡ slice_index ms k) → IsBitVector zs
-met_vector xs ys ms zs is met len trimmed shorter same =
-    trimmed_vector xs ms zs is.each is.few len (λ k. omega (arith, met k, and_le_l (slice_index xs k) (slice_index ys k))) trimmed shorter same
 
 -- a set as its bit vector has it
 pub seen_at : (words : List ℕ) (s : Bits) (q : ℕ) → bits_of_words words ≡ s → has_bit words q ≡ has s q

@@ -1,8 +1,8 @@
 -- Words that are shifted, met, set, cleared and filled.
-use Rattle.std.proofs.Common.{◌≡◌, ◌≢◌, ℕ, zero, suc, ◌+◌, ◌-◌, ◌*◌, ◌/◌, ◌%◌, ◌^◌, ◌<◌, ◌≤◌, ⊎_elim, ◌==◌, Bool, true, false, ◌||◌, ◌&&◌, not, List, [], ◌∷◌, ◌++◌, length, slice_index, slice_set, refl, sym, ◌∙◌, ap, subst, arith, eqb-true, eq-eqb, ne_eqb, w64, bit_and, bit_or, min, take, replicate, length-take, Option, Some, None, IfSome, bit_xor}
+use Rattle.std.proofs.Common.{◌≡◌, ◌≢◌, ℕ, suc, ◌+◌, ◌-◌, ◌*◌, ◌/◌, ◌%◌, ◌^◌, ◌<◌, ◌≤◌, ⊎_elim, ◌==◌, Bool, true, false, ◌||◌, ◌&&◌, not, List, [], ◌∷◌, ◌++◌, length, slice_index, slice_set, refl, sym, ◌∙◌, ap, subst, arith, eqb-true, eq-eqb, ne_eqb, w64, bit_and, bit_or, min, replicate, Option, Some, None, IfSome, bit_xor}
 use Rattle.std.specs.Prelude.{nat_lt}
 use Rattle.std.specs.Int.{bit_at, bit_not, trailing_zeros}
-use Rattle.std.proofs.lemmas.List.{get_or_past, get_or-set_same, get_or-set_other, get_or-take, get_or-replicate, get_or_append_left, get_or_push, length_push, length-replicate}
+use Rattle.std.proofs.lemmas.List.{get_or_past, get_or-set_same, get_or-set_other, get_or-replicate, get_or_append_left, get_or_push, length_push, length-replicate}
 use Rattle.std.proofs.lemmas.Nat.{xor_lt, or_disjoint, pow_below, shr-shr, shr_below, and_le_l, and_le_r}
 use Rattle.std.proofs.lemmas.Nat.Bits.{bit_at-zero, bit_at-lt, bit_at-suc, bit_at_and, bit_at_not, bit_at_xor, bit_at_above, bit_at_ones, bit_at_ones_above, bit_at-trailing_zeros, bit_at_set_same, bit_at_set_other, bit_at_clear_same, bit_at_clear_other}
 use Rattle.std.proofs.lemmas.Bool.{cases_eq, cases_lt, lt-ltb, le-ltb, and_parts, or_left}
@@ -113,9 +113,6 @@ no_bit_more xs ys n none low here =
     let other : bit_at y i ≡ 1 = omega (arith, one, flipped, zero_bit, bit_at-lt y i) in
     has_bit-is ys n ∙ ap (λ (b : ℕ). b == 1) other
 
-pub and_zero_left : (x y : ℕ) → x ≡ 0 → bit_and x y ≡ 0
-and_zero_left x y e = omega (arith, and_le_l x y, e)
-
 pub and_zero_right : (x y : ℕ) → y ≡ 0 → bit_and x y ≡ 0
 and_zero_right x y e = omega (arith, and_le_r x y, e)
 
@@ -197,19 +194,6 @@ module _ (words : List ℕ) (number : ℕ) (within : number / 64 < length words)
       kept false b e = refl
 
 -- ---- words 0 at the end come and go
-pub padded_at : (xs : List ℕ) (n k : ℕ) → slice_index (xs ++ replicate n 0) k ≡ slice_index xs k
-padded_at [] zero k = refl
-padded_at [] (suc n) zero = refl
-padded_at [] (suc n) (suc k) = padded_at [] n k
-padded_at (x ∷ xs) n zero = refl
-padded_at (x ∷ xs) n (suc k) = padded_at xs n k
-
-pub cut_at : (xs : List ℕ) (n k : ℕ) → ((m : ℕ) → n ≤ m → slice_index xs m ≡ 0) → slice_index (take n xs) k ≡ slice_index xs k
-cut_at xs n k rest = ⊎_elim
-    (λ l. get_or-take n xs k 0 l)
-    (λ l. get_or_past (take n xs) k 0 (omega (arith, length-take n xs)) ∙ sym (rest k l))
-    (cases_lt k n)
-
 -- ---- the words of the numbers below a count
 module _ (words : List ℕ) (count : ℕ) (full : (k : ℕ) → k < count / 64 → slice_index words k ≡ 2 ^ 64 - 1) (part : slice_index words (count / 64) ≡ 2 ^ (count % 64) - 1) (past : (k : ℕ) → count / 64 < k → slice_index words k ≡ 0) where
   pub below_bit : (q : ℕ) → has_bit words q ≡ nat_lt q count
@@ -283,9 +267,6 @@ least_within words first None h = tt
 least_within words first (Some n) h = has_bit-within words n h.there
 
 -- ---- words of ones
-pub full_at : (n k : ℕ) (rest : List ℕ) → k < n → slice_index (replicate n (2 ^ 64 - 1) ++ rest) k ≡ 2 ^ 64 - 1
-full_at n k rest l = get_or_append_left (replicate n (2 ^ 64 - 1)) rest 0 k (omega (arith, length-replicate n (2 ^ 64 - 1))) ∙ get_or-replicate n k (2 ^ 64 - 1) 0 l
-
 module _ (count : ℕ) (low : count ≤ 2 ^ 63) where
   whole : (words : List ℕ) → words ≡ replicate (count / 64) (2 ^ 64 - 1) → length words ≡ count / 64
   whole words e = ap length e ∙ length-replicate (count / 64) (2 ^ 64 - 1)

@@ -122,10 +122,6 @@ module _ (g : Grammar) where
       go d (inr (inl e)) = absurd (none-some d e)
       go d (inr (inr k)) = inr (inr k)
 
-  -- none is to be visited
-  pub none_found : (w : Walk) (f : Frame) → IsFrame g w.order.items None f → f.others.items ≡ [] → HasNext g w f None
-  none_found w f is none = record { frame = is; pending = λ c e. absurd (none-some c e); none = λ e. none }
-
   -- the newest frame goes on to what it mentions next
   pub gone_on : (w : Walk) (f new : Frame) (older : List Frame) (next : Option NonterminalString) → HasFrames g w None (f ∷ older) → new.name ≡ f.name → IsFrame g w.order.items next new → HasFrames g w next (new ∷ older)
   gone_on w f new older next has same is = record {
@@ -200,10 +196,6 @@ module _ (g : Grammar) where
       go c (inl k) = absurd (contains-nil (subst (λ (l : List NonterminalString). Contains l c) none k))
       go c (inr (inl e)) = absurd (none-some c e)
       go c (inr (inr k)) = k
-
-  -- one step after others
-  pub walked_on : (old mid new : Walk) (fs gs : List Frame) → IsWalked g old mid fs → IsWalked g mid new gs → IsWalked g old new gs
-  walked_on old mid new fs gs before step = record { walk = step.walk; frames = step.frames; pending = λ a h. before.pending a (step.pending a h) }
 
   -- and what is not pending does not become so
   pub still_taken : (old new : Walk) (fs : List Frame) (a : NonterminalString) → IsWalked g old new fs → contains name_cmp old.pending a ≡ false → contains name_cmp new.pending a ≡ false

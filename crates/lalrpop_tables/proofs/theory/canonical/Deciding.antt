@@ -9,7 +9,7 @@ use Rattle.lalrpop_base.specs.Words.{tokens_of, AreCanonicalStates, AreOwn, IsCl
 use Rattle.lalrpop_tables.specs.Words.{ArePartlyBuiltBy, AreSomeCanonicalStates, AreStatesOf, AreTables, canonical_of, AreBuiltBy}
 use Rattle.lalrpop_tables.proofs.theory.canonical.CanonicalContents.{are_canonical}
 use Rattle.lalrpop_tables.proofs.theory.conflicts.ConflictFree.{nowhere_conflict, free_contents}
-use Rattle.lalrpop_tables.proofs.theory.early_stop.StoppedStates.{first_kernel, some_canonical_states}
+use Rattle.lalrpop_tables.proofs.theory.early_stop.StoppedStates.{begun_kernel, some_canonical_states}
 
 module _ (g : Grammar) (start : NonterminalString) (well : IsWellFormed g) (own : AreOwn g) (differ : AllDiffer g.terminals) (states : List (State Bits)) (made : AreStatesOf (canonical_of g start) states) where
   abbrev now : ℕ → Contents
@@ -45,4 +45,4 @@ module _ (g : Grammar) (start : NonterminalString) (well : IsWellFormed g) (own 
   tables_faithful tables t = free_faithful g start well own differ tables t.made t.free
 
   pub tables_valid : (tables : List (State Bits)) → AreTables (canonical_of g start) tables → AreSomeCanonicalStates (rules_of g) start tables
-  tables_valid tables t = some_canonical_states g start well own tables (whole_partly (IsClosureOf (rules_of g)) (first_kernel g start) tables t.made.built) differ
+  tables_valid tables t = some_canonical_states g start well own tables (whole_partly (IsClosureOf (rules_of g)) (begun_kernel g start) tables t.made.built) differ

@@ -18,14 +18,13 @@ use Rattle.lalrpop_base.specs.closures.Closure.{dotted_of}
 use Rattle.lalrpop_base.specs.states.CheckStates.{dots, reduced, target_of, AreListed}
 use Rattle.lalrpop_tables.specs.Words.{target_from}
 use Rattle.lalrpop_tables.proofs.theory.canonical.Canonical.{InClosure-more}
-use Rattle.lalrpop_tables.proofs.theory.canonical.CanonicalStates.{leads_transition}
 use Rattle.lalrpop_tables.proofs.theory.check.CheckCarrying.{leads_in}
 use Rattle.lalrpop_base.proofs.theory.closures.Closing.{drop_split, split_drop}
 use Rattle.lalrpop_base.proofs.theory.grammars.KnownTerminals.{held_bit}
 use Rattle.lalrpop_base.proofs.theory.lists.Members.{Contains-none, contains_map, place}
 use Rattle.lalrpop_base.proofs.theory.lists.Places.{contains_at, same_some, filled}
 use Rattle.lalrpop_tables.proofs.theory.conflicts.ConflictFree.{nowhere_conflict}
-use Rattle.lalrpop_tables.proofs.theory.states.StateEdges.{no_leads}
+use Rattle.lalrpop_tables.proofs.theory.states.StateEdges.{leads_transition, no_leads}
 
 -- where something is in a closure, something is in its kernel
 kernel_of : (g : List Production) (K : Production → ℕ → Type 0) {p : Production} {dot : ℕ} → InClosure g K p dot → (q : Production) × (d : ℕ) × K q d

@@ -8,7 +8,7 @@ use Rattle.std.proofs.lemmas.Option.{slice_get_within}
 use Rattle.lalrpop_base.specs.Words.{Rules}
 use Rattle.lalrpop_base.proofs.theory.lists.Members.{Contains-none, contains-cons, contains_head, place}
 use Rattle.lalrpop_base.proofs.theory.lists.Places.{contains_at, filled, same_some, slice_get-longer, put_other}
-use Rattle.lalrpop_tables.specs.check.NumberedClosures.{AddsBehind, AreMarked, InNumberedClosure, IsBehindNumber, IsNumberedClosure, MarksBelow, of_front, of_kernel}
+use Rattle.lalrpop_tables.specs.check.NumberedClosures.{AddsBehind, AreMarked, InNumberedClosure, IsBehindNumber, IsNumberedClosure, of_front, of_kernel}
 use Rattle.lalrpop_tables.specs.closures.Sharing.{list_at}
 use Rattle.lalrpop_tables.specs.grammars.Numbers.{AreNumbers}
 use Rattle.lalrpop_tables.specs.declared.construction.numbers.Numbers.{Numbers}
@@ -232,12 +232,6 @@ module _ (n : Numbers) where
       complete (of_front i x q h b c) =
           let s = place symbols x (are.behind x (record { item = i; among = complete h; behind = b })) in
           are.expanded s.0 x q (omega (arith, s.1, all)) s.2 c
-
-  pub Closing-below : (kernel : List ℕ) (mark : ℕ) (base marks closure symbols : List ℕ) (done : ℕ) → IsClosingBy kernel mark base marks closure symbols done → MarksBelow mark base → MarksBelow (mark + 1) marks
-  Closing-below kernel mark base marks closure symbols done are below x m at = elim (are.others x m at) [
-    | inl is ↦ omega (arith, is)
-    | inr old ↦ omega (arith, below x m old)
-  ]
 
   -- the same closure in another order
   pub Closure-same : (kernel a b : List ℕ) → ((k : ℕ) → Contains a k → Contains b k) → ((k : ℕ) → Contains b k → Contains a k) → IsNumberedClosure n kernel a → IsNumberedClosure n kernel b

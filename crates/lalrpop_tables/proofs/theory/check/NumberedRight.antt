@@ -161,9 +161,6 @@ module _ (g : Grammar) (n : Numbers) (numbers : AreNumbers (rules_of g) n) (star
             let front = (h.is.first zero_state k.0).1 (with_dot p 0, k.1, refl, ap Nonterminal (sym a.2)) in
             (k.0, front, k.1 ∙ ap (λ (d : ℕ). Some (with_dot p d)) (sym a.0))
 
-        one_name : (a b : NonterminalString) → Nonterminal a ≡ Nonterminal b → a ≡ b
-        one_name a b e = cc
-
     -- another one is the closure of what was moved
     pub moved_closed : 0 < s → IsRightTarget g old.items.vec.items (keys_of_state old).keys
     moved_closed other = record {

@@ -47,9 +47,6 @@ rising_differ xs rise i j x l at_i at_j =
     step (suc i) (suc j) l = let s = step i j (omega (arith, l)) in (s.0, omega (arith, s.1))
 
 -- ---- states that are listed
-pub Listed-none : (n : Numbers) (start : NonterminalString) → AreListedByNumber n start [] []
-Listed-none n start = record { counted = refl; each = λ s old state at_old at. cc }
-
 pub Listed-more : (n : Numbers) (start : NonterminalString) (done : List (State Bits)) (old : State Bits) (list : List NumberedState) (state : NumberedState) → AreListedByNumber n start done list → IsListedState n start (length list) old state → AreListedByNumber n start (done ++ old ∷ []) (list ++ state ∷ [])
 Listed-more n start done old list state before is =
     let same = before.counted in
@@ -134,10 +131,6 @@ Reached-more list s state old new at reached before marks m marked = elim (marks
   | inl was ↦ before m was
   | inr t ↦ over_transition s t.0 m reached (subst (λ (o : Option NumberedState). Contains (listed_transitions o) (t.0, m)) (sym at) t.1)
 ]
-
--- of new marks none is set
-pub Reached-none : (list : List NumberedState) (marks : List Bool) → ((m : ℕ) → slice_get marks m ≡ Some true → ⊥) → AreMarkedReached list marks
-Reached-none list marks none m at = absurd (none m at)
 
 -- marks that are all false
 pub Marks-counted : (marks : List Bool) (count : ℕ) → marks ≡ replicate count false → length marks ≡ count

@@ -1,20 +1,19 @@
 -- What an item by its number gives to the nonterminal behind its dot.
-use Rattle.std.proofs.Common.{◌≡◌, ◌≢◌, ◌↔◌, ◌⊎◌, inl, inr, ℕ, zero, suc, ◌+◌, ◌<◌, List, [], ◌∷◌, length, drop, refl, sym, ◌∙◌, ap, subst, arith, Some, None, true, false, map, take, ◌++◌, option_map, Vec, Global}
+use Rattle.std.proofs.Common.{◌≡◌, ◌≢◌, ◌↔◌, ◌⊎◌, inl, inr, Bool, ℕ, zero, suc, ◌+◌, ◌<◌, List, [], ◌∷◌, length, drop, refl, sym, ◌∙◌, ap, subst, arith, Some, None, true, false, map, take, ◌++◌, option_map, Vec, Global}
 use Rattle.std.specs.Prelude.{Contains, slice_get, get_or}
 use Rattle.std.proofs.lemmas.List.{map-append, take_more}
 use Rattle.std.proofs.lemmas.Option.{slice_get-map, slice_get_within}
-use Rattle.std.specs.Map.{keys_of}
-use Rattle.lalrpop_base.specs.Words.{AllDiffer, Bits, Dotted, has, join, HasKnownTerminals, IsWellFormed, Rules, holds_token, rules_of}
+use Rattle.lalrpop_base.specs.Words.{Bits, Dotted, has, HasKnownTerminals, IsWellFormed, Rules, holds_token, rules_of}
 use Rattle.lalrpop_tables.proofs.Types.{Grammar, Nil, NonterminalString, Symbol, Token}
 use Rattle.lalrpop_base.specs.declared.repr.Symbol.TheVariants.{Nonterminal}
-use Rattle.lalrpop_base.specs.closures.EpsilonMoves.{HasNoProduction, IsGiven}
+use Rattle.lalrpop_base.specs.closures.EpsilonMoves.{HasNoProduction, IsGiven, IsGivenAt}
+use Rattle.lalrpop_base.specs.closures.EpsilonMoves.IsGivenAt.{given as gave, barren}
 use Rattle.lalrpop_tables.specs.grammars.Numbers.{AreExpansions, AreNumbered, AreNumbers, dotted_at, item_by, items_by}
 use Rattle.lalrpop_tables.specs.grammars.Rests.{IsRest}
 use Rattle.lalrpop_tables.specs.declared.construction.numbers.rests.Rest.{Rest}
 use Rattle.lalrpop_tables.specs.closures.Sharing.{IsFront, IsNamed, IsShared, Shared, Shares, fronts_in}
-use Rattle.lalrpop_base.specs.lists.Entries.{IsQueued}
-use Rattle.lalrpop_base.specs.lists.Entries.IsPut.{came}
-use Rattle.lalrpop_base.specs.lists.Entries.IsJoinedAt.{known as join_known}
+use Rattle.lalrpop_base.specs.lists.Entries.{IsPut, IsQueued}
+use Rattle.lalrpop_base.specs.lists.Entries.IsPut.{came, waited}
 use Rattle.lalrpop_base.proofs.theory.states.ContentsViews.{contains_of_map}
 use Rattle.lalrpop_base.proofs.theory.lists.Lists.{drop_past}
 use Rattle.lalrpop_tables.specs.declared.construction.numbered.Numbered.{Numbered}
@@ -76,7 +75,7 @@ module _ (begins : Rules → List Symbol → Token → Type 0) (passes : Rules �
       same_name e = cc
 
   -- what may follow a nonterminal behind the dot goes to it
-  pub Given-shares : (x : ℕ) (name : NonterminalString) (rest : List Symbol) → number < length n.items.items → slice_get n.behind.items number ≡ Some (Some x) → slice_get item.production.symbols item.index ≡ Some (Nonterminal name) → rest ≡ drop (item.index + 1) item.production.symbols →
+  Given-shares : (x : ℕ) (name : NonterminalString) (rest : List Symbol) → number < length n.items.items → slice_get n.behind.items number ≡ Some (Some x) → slice_get item.production.symbols item.index ≡ Some (Nonterminal name) → rest ≡ drop (item.index + 1) item.production.symbols →
       {L : Type 0} (meaning : L → Bits) (lookahead given : L) → meaning lookahead ≡ tokens → IsGiven meaning begins passes g rest lookahead given →
       (old new : Shared) (queue pushed : List ℕ) → IsQueued x (meaning given) old new queue pushed → Shares begins passes g n (item ∷ []) old new queue pushed
   Given-shares x name rest known at next is meaning lookahead given of gives old new queue pushed queued =
@@ -88,24 +87,20 @@ module _ (begins : Rules → List Symbol → Token → Type 0) (passes : Rules �
       (λ fit. gives.fits (λ bit h. fit bit (subst (λ (b : Bits). has b bit ≡ true) of h)))
       old new queue pushed queued
 
--- ---- a key that has its tokens already
-split_of : {X : Type 0} (xs : List X) (x : X) → Contains xs x → (front : List X) × (back : List X) × (xs ≡ front ++ x ∷ back)
-split_of [] x c = absurd (Contains-none x c)
-split_of {X} (y ∷ ys) x c = elim (contains-cons y ys x c) [
-  | inl same ↦ ([], ys, ap (λ (z : X). z ∷ ys) same)
-  | inr later ↦ let h = split_of ys x later in (y ∷ h.0, h.1, ap (λ (zs : List X). y ∷ zs) h.2)
-]
+  put_nowhere : (x : ℕ) (queue pushed : List ℕ) → IsPut x false queue pushed → pushed ≡ queue
+  put_nowhere x queue pushed (came e) = e
+  put_nowhere x queue pushed (waited there e) = e
 
--- nothing changes, and it need not wait
-pub queued_again : {K : Type 0} (key : K) (tokens s : Bits) (table : List (K × Bits)) (queue : List K) → Contains table (key, s) → join s tokens ≡ s → AllDiffer (keys_of table) → IsQueued key tokens table table queue queue
-queued_again {K} key tokens s table queue there same differ =
-    let h = split_of table (key, s) there in
-    record {
-      told = false;
-      joined = join_known h.0 h.1 s h.2 (h.2 ∙ ap (λ (t : Bits). h.0 ++ (key, t) ∷ h.1) (sym same)) same;
-      put = came refl;
-      differ = differ;
-    }
+  -- so what the nonterminal behind the dot is given is shared, whether it has productions or not
+  pub Gave-shares : (x : ℕ) (name : NonterminalString) (rest : List Symbol) → number < length n.items.items → slice_get n.behind.items number ≡ Some (Some x) → slice_get item.production.symbols item.index ≡ Some (Nonterminal name) → rest ≡ drop (item.index + 1) item.production.symbols →
+      {L : Type 0} (meaning : L → Bits) (lookahead : L) → meaning lookahead ≡ tokens → (told : Bool) (old new : Shared) (queue pushed : List ℕ) →
+      IsGivenAt meaning begins passes g name rest lookahead x told old new → IsPut x told queue pushed → Shares begins passes g n (item ∷ []) old new queue pushed
+  Gave-shares x name rest known at next is meaning lookahead of told old new queue pushed (gave tokens gives joined differ) put =
+      Given-shares x name rest known at next is meaning lookahead tokens of gives old new queue pushed (record { told = told; joined = joined; put = put; differ = differ })
+  Gave-shares x name rest known at next is meaning lookahead of told old new queue pushed (barren none same not) put =
+      let stays : pushed ≡ queue = put_nowhere x queue pushed (rw not at put) in
+      let shares = Barren-shares name next none old queue in
+      subst (λ (t : Shared). Shares begins passes g n (item ∷ []) old t queue pushed) (sym same) (subst (λ (p : List ℕ). Shares begins passes g n (item ∷ []) old old queue p) (sym stays) shares)
 
 -- ---- one item more of a list
 pub mapped_more : {X Y : Type 0} (f : X → Y) (xs : List X) (i : ℕ) (x : X) → i < length xs → x ≡ get_or xs i x → map f (take (i + 1) xs) ≡ map f (take i xs) ++ f x ∷ []

@@ -1,5 +1,5 @@
 -- What the construction makes with sets of tokens: closures with FIRST, and conflicts of tokens.
-use Rattle.std.proofs.Common.{◌≡◌, ℕ, zero, suc, List, [], ◌∷◌, ◌++◌, map, refl, sym, subst}
+use Rattle.std.proofs.Common.{◌≡◌, ℕ, zero, suc, List, [], ◌∷◌, ◌++◌, refl, sym, subst}
 use Rattle.std.specs.Prelude.{Contains, slice_get, drop, Some}
 use Rattle.std.specs.List.{flat_map}
 use Rattle.lalrpop_base.specs.Words.{Bits, InTokenClosure, with_token, begins_rest, inherits, IsNullable, Dotted, state_conflicts, Rules}
@@ -10,7 +10,7 @@ use Rattle.lalrpop_base.specs.declared.repr.Symbol.TheVariants.{Nonterminal}
 use Rattle.lalrpop_base.proofs.theory.conflicts.ConflictLemmas.{none_exactly}
 use Rattle.lalrpop_base.specs.closures.Closure.{itself}
 use Rattle.lalrpop_base.specs.Words.{Begins, IsClosureOf, IsClosureBy, InTokenClosureBy, own_token, from_rest, from_parent, HaveNoConflict, ListsAll}
-use Rattle.lalrpop_tables.specs.Words.{Construction, AreStatesOf, AreStatesFor, AreTables, AreTablesFor, FailsBy, FailsFor, begun, AreBuiltBy}
+use Rattle.lalrpop_tables.specs.Words.{Construction, AreStatesOf, AreStatesFor, AreTables, AreTablesFor, FailsBy, FailsFor, IsBuiltOfBy}
 use Rattle.lalrpop_tables.proofs.theory.conflicts.ConflictLists.{All-listed}
 use Rattle.lalrpop_base.proofs.theory.lists.Places.{same_some}
 
@@ -48,32 +48,31 @@ closed g kernel items c = record {
 }
 
 -- ---- the states
-built_by : {L : Type 0} (C D : List (Dotted L) → List (Dotted L) → Type 0) → ((kernel items : List (Dotted L)) → C kernel items → D kernel items) → (first : List (Dotted L)) (states : List (State L)) → AreBuiltBy C first states → AreBuiltBy D first states
-built_by C D grows first states b = record {
-  kernels = b.kernels;
-  counted = b.counted;
-  differ = b.differ;
-  start = b.start;
-  each = λ n state at.
-      let e = b.each n state at in
-      record {
-        kernel = e.kernel;
-        numbered = e.numbered;
-        built = record {
-          index = e.built.index;
-          closure = grows e.kernel state.items.vec.items e.built.closure;
-          leads = e.built.leads;
-          all = e.built.all;
-          ascend = e.built.ascend;
-          finished = e.built.finished;
-        };
-      };
-  led = b.led;
+-- a state of a kernel is one by whatever each closure is
+pub built_of_by : {L : Type 0} (C D : List (Dotted L) → List (Dotted L) → Type 0) → ((kernel items : List (Dotted L)) → C kernel items → D kernel items) → (kernels : List (List (Dotted L))) (n : ℕ) (state : State L) → IsBuiltOfBy C kernels n state → IsBuiltOfBy D kernels n state
+built_of_by C D grows kernels n state e = record {
+  kernel = e.kernel;
+  numbered = e.numbered;
+  built = record {
+    index = e.built.index;
+    closure = grows e.kernel state.items.vec.items e.built.closure;
+    leads = e.built.leads;
+    all = e.built.all;
+    ascend = e.built.ascend;
+    finished = e.built.finished;
+  };
 }
 
 pub states_of : (c : Construction Bits) (states : List (State Bits)) → AreStatesFor itself Begins Passes Lists c states → AreStatesOf c states
 states_of c states s = record {
-  built = built_by (IsClosureBy itself Begins Passes c.rules) (IsClosureOf c.rules) (closed c.rules) (map (begun c.lookahead) c.first) states s.built;
+  built = record {
+    kernels = s.built.kernels;
+    counted = s.built.counted;
+    differ = s.built.differ;
+    start = s.built.start;
+    each = λ n state at. built_of_by (IsClosureBy itself Begins Passes c.rules) (IsClosureOf c.rules) (closed c.rules) s.built.kernels n state (s.built.each n state at);
+    led = s.built.led;
+  };
   some = s.some;
   coherent = s.coherent;
 }

@@ -14,7 +14,7 @@ use Rattle.lalrpop_base.specs.declared.repr.Symbol.TheVariants.{Nonterminal, Ter
 use Rattle.lalrpop_base.proofs.theory.states.ContentsViews.{some_of_map, contains_of_map, contains_map, lead_as_items_say}
 use Rattle.lalrpop_base.specs.Words.{production_order, AreOrderedCanonical, dots_in, ReducesBy, IsCollapsed, retargeted}
 use Rattle.lalrpop_base.proofs.theory.grammars.AscendingItems.{less_apart}
-use Rattle.lalrpop_tables.proofs.theory.canonical.CanonicalContents.{nothing_reduced}
+use Rattle.lalrpop_tables.proofs.theory.states.Reductions.{nothing_reduced}
 use Rattle.lalrpop_base.proofs.theory.collapse.CollapseDots.{same_dots, group, merged_of, first_group}
 use Rattle.lalrpop_base.proofs.theory.grammars.KnownTerminals.{held_bit, bit_held}
 use Rattle.lalrpop_base.proofs.theory.lists.Members.{Contains-none, place}

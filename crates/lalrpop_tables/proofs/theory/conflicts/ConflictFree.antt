@@ -13,12 +13,11 @@ use Rattle.lalrpop_base.specs.declared.lookahead.token.Token.TheVariants.{Termin
 use Rattle.lalrpop_base.specs.declared.repr.Symbol.TheVariants.{Terminal}
 use Rattle.lalrpop_base.proofs.theory.conflicts.ConflictLemmas.{none_exactly}
 use Rattle.lalrpop_base.proofs.theory.states.ContentsViews.{some_of_map, contains_of_map, contains_map, at_contains}
-use Rattle.lalrpop_tables.proofs.theory.canonical.CanonicalStates.{leads_transition}
 use Rattle.lalrpop_base.proofs.theory.grammars.ItemTokens.{token_with}
 use Rattle.lalrpop_base.proofs.theory.grammars.KnownTerminals.{held_bit, bit_held}
 use Rattle.lalrpop_base.proofs.theory.lists.Members.{place}
 use Rattle.lalrpop_base.proofs.theory.lists.Places.{same_some}
-use Rattle.lalrpop_tables.proofs.theory.states.StateEdges.{transition_leads}
+use Rattle.lalrpop_tables.proofs.theory.states.StateEdges.{leads_transition, transition_leads}
 
 abbrev CodeReduction : Type 0
 CodeReduction = Bits × Bor Production

@@ -16,7 +16,7 @@ use Rattle.lalrpop_tables.proofs.theory.canonical.CanonicalConflicts.{reductions
 use Rattle.lalrpop_tables.proofs.theory.conflicts.ConflictFree.{contents_free, none_listed}
 use Rattle.lalrpop_tables.proofs.theory.states.Reductions.{reduction_from, reduces_finished}
 use Rattle.lalrpop_tables.proofs.theory.states.StateEdges.{leads_over_dots}
-use Rattle.lalrpop_tables.proofs.theory.early_stop.StoppedStates.{first_kernel, some_canonical_states}
+use Rattle.lalrpop_tables.proofs.theory.early_stop.StoppedStates.{begun_kernel, some_canonical_states}
 
 -- an action that is a shift
 abbrev IsShift : Action → Type 0
@@ -54,7 +54,7 @@ module _ (g : Grammar) (start : NonterminalString) (list : List (List (Dotted Bi
   })
 
 -- a listed conflict tells that the grammar is not LR(1)
-pub conflict_not_lr1 : (g : Grammar) (start : NonterminalString) → IsWellFormed g → AreOwn g → AllDiffer g.terminals → (states : List (State Bits)) → ArePartlyBuilt (rules_of g) (first_kernel g start) states → (flat_map (state_conflicts g.terminals) states ≡ [] → ⊥) → ¬ IsLR1 (productions g) start
+pub conflict_not_lr1 : (g : Grammar) (start : NonterminalString) → IsWellFormed g → AreOwn g → AllDiffer g.terminals → (states : List (State Bits)) → ArePartlyBuilt (rules_of g) (begun_kernel g start) states → (flat_map (state_conflicts g.terminals) states ≡ [] → ⊥) → ¬ IsLR1 (productions g) start
 conflict_not_lr1 g start well own differ states b some lr =
     let canonical = some_canonical_states g start well own states b differ in
     some (none_listed g.terminals states (λ n s at.

@@ -81,10 +81,9 @@ module _ (originals : List ℕ) where
   pub state_unmoved : {L : Type 0} (source : StateIndex) (state : State L) (graph : StateGraph) → retargeted_all (number_in originals) state.shifts.entries ≡ state.shifts.entries → retargeted_all (number_in originals) state.gotos.entries ≡ state.gotos.entries → FollowsEdges originals source (edges_of source state) graph graph
   state_unmoved source state graph shifts gotos front back among g = subst (λ (es : List Edge). IsGraphOf (front ++ (es ++ back)) graph) (retraced_of source state state shifts gotos) g
 
-  -- the state has no targets, then those of its shifts and of its gotos
-  module _ {L : Type 0} (source : StateIndex) (state : State L) (old a b : StateGraph) (cleared : Vec (Vec StateIndex Global) Global) (shifts : AllDiffer (keys_of state.shifts.entries)) (gotos : AllDiffer (keys_of state.gotos.entries))
-      (gone : IsChangedAt source.0 nothing old.successors.items cleared.items) (f : FollowsInTurn originals (shift_edges source state.shifts.entries) (record old { successors = cleared }) a)
-      (g : FollowsInTurn originals (goto_edges source state.gotos.entries) a b) where
+  -- the state has no targets, and then those of its edges
+  module _ {L : Type 0} (source : StateIndex) (state : State L) (old b : StateGraph) (cleared : Vec (Vec StateIndex Global) Global) (shifts : AllDiffer (keys_of state.shifts.entries)) (gotos : AllDiffer (keys_of state.gotos.entries))
+      (gone : IsChangedAt source.0 nothing old.successors.items cleared.items) (follows : FollowsInTurn originals (edges_of source state) (record old { successors = cleared }) b) where
     abbrev es : List Edge
     es = edges_of source state
 
@@ -94,12 +93,6 @@ module _ (originals : List ℕ) where
     abbrev mid : StateGraph
     mid = record old { successors = cleared }
 
-    joined : (n : StateIndex) → targets_of b n ≡ targets_of mid n ++ targets_from n es
-    joined n =
-        g.targets n ∙ ap (λ ts. ts ++ targets_from n (goto_edges source state.gotos.entries)) (f.targets n)
-        ∙ append_assoc (targets_of mid n) (targets_from n (shift_edges source state.shifts.entries)) (targets_from n (goto_edges source state.gotos.entries))
-        ∙ ap (λ ts. targets_of mid n ++ ts) (sym (targets_append n (shift_edges source state.shifts.entries) (goto_edges source state.gotos.entries)))
-
     module _ (front back : List Edge) (among : StandAmong originals source front es back) (graph : IsGraphOf (front ++ (as_they_were ++ back)) old) where
       around : (n : StateIndex) (fs : List Edge) → targets_from n (front ++ (fs ++ back)) ≡ targets_from n front ++ (targets_from n fs ++ targets_from n back)
       around n fs = targets_append n front (fs ++ back) ∙ ap (λ ts. targets_from n front ++ ts) (targets_append n fs back)
@@ -107,7 +100,7 @@ module _ (originals : List ℕ) where
       here : (n : StateIndex) → (source.0 == n.0) ≡ true → targets_of b n ≡ targets_from n (front ++ (es ++ back))
       here n is =
           let same = eqb-true source.0 n.0 is in
-          joined n ∙ ap (λ ts. ts ++ targets_from n es) (gone n.0 ∙ ap (λ t. cond t [] (targets_of old n)) is)
+          follows.targets n ∙ ap (λ ts. ts ++ targets_from n es) (gone n.0 ∙ ap (λ t. cond t [] (targets_of old n)) is)
           ∙ sym (
           around n es ∙ ap (λ ts. ts ++ (targets_from n es ++ targets_from n back)) (none_from n front (λ e c from. among.before e c (from ∙ sym same)))
           ∙ ap (λ ts. targets_from n es ++ ts) (none_from n back (λ e c from. among.behind e c (from ∙ sym same))) ∙ append-nil (targets_from n es)
@@ -120,7 +113,7 @@ module _ (originals : List ℕ) where
           let none_were : targets_from n as_they_were ≡ [] = none_from n as_they_were (λ e c from.
           let h = contains_of_map (retraced originals) es e c in
           differs (sym (of_source source state h.0 h.1) ∙ ap (λ (d : Edge). d.source.0) h.2 ∙ from)) in
-          joined n ∙ ap (λ ts. targets_of mid n ++ ts) none ∙ append-nil (targets_of mid n)
+          follows.targets n ∙ ap (λ ts. targets_of mid n ++ ts) none ∙ append-nil (targets_of mid n)
           ∙ gone n.0 ∙ ap (λ t. cond t [] (targets_of old n)) is ∙ graph.targets n ∙ around n as_they_were
           ∙ ap (λ ts. targets_from n front ++ (ts ++ targets_from n back)) (none_were ∙ sym none) ∙ sym (around n es)
 
@@ -129,9 +122,7 @@ module _ (originals : List ℕ) where
 
       sources : (n : StateIndex) → origins_of b n ≡ origins n (front ++ (es ++ back))
       sources n =
-          g.sources n ∙ ap (followed_all originals (goto_edges source state.gotos.entries) n.0) (f.sources n)
-          ∙ sym (followed_append originals (shift_edges source state.shifts.entries) (goto_edges source state.gotos.entries) n.0 (origins_of old n))
-          ∙ ap (followed_all originals es n.0) (graph.sources n)
+          follows.sources n ∙ ap (followed_all originals es n.0) (graph.sources n)
           ∙ all_followed originals source front es back (of_source source state) (state_apart source state shifts gotos) (λ d e c k from is. among.before d c from) among.behind among.own n
 
     pub state_followed : FollowsEdges originals source (edges_of source state) old b

@@ -8,11 +8,13 @@ use Rattle.std.proofs.lemmas.Bool.{cases_Bool, eqb-true, eqb-false}
 use Rattle.std.proofs.lemmas.List.{map-append, reverse-append, length-take-le, take_more}
 use Rattle.std.proofs.lemmas.List.Elements.{filter-append}
 use Rattle.std.proofs.lemmas.Option.{slice_get_past}
-use Rattle.lalrpop_tables.proofs.Types.{State, StateIndex, Symbol}
+use Rattle.lalrpop_base.specs.Words.{state_edges}
+use Rattle.lalrpop_base.specs.declared.repr.Symbol.TheVariants.{Nonterminal, Terminal}
+use Rattle.lalrpop_tables.proofs.Types.{NonterminalString, State, StateIndex, Symbol, TerminalString}
 use Rattle.lalrpop_base.specs.contracts.repr.SymbolPartialEq.TheImpl as symbol_eq
 use Rattle.lalrpop_base.specs.contracts.repr.SymbolEq.TheImpl.Laws as symbol_equality
 use Rattle.lalrpop_base.specs.contracts.exact.SymbolExact.TheImpl as symbol_exactly
-use Rattle.lalrpop_tables.specs.Words.{Edge, edges, edges_of, edges_from, targets_from, origins, origin_of, list_at, listed, state_cmp, targets_of, origins_of}
+use Rattle.lalrpop_tables.specs.Words.{Edge, edge, edge_from, edges, edges_of, goto_edges, shift_edges, edges_from, targets_from, origins, origin_of, list_at, listed, state_cmp, targets_of, origins_of}
 use Rattle.lalrpop_tables.specs.Words.{with_symbol, AreSameLists, IsGrown, IsGraphOf, IsListedAt}
 use Rattle.lalrpop_tables.specs.graphs.StateGraph.{target_of}
 use Rattle.lalrpop_tables.specs.declared.state_graph.StateGraph.{StateGraph}
@@ -71,6 +73,12 @@ map_cond f true x = refl
 map_cond f false x = refl
 
 -- ---- edges in turn
+-- the edges of a state, shifts and gotos apart
+pub edges_listed : (n : StateIndex) (shifts : List (TerminalString × StateIndex)) (gotos : List (NonterminalString × StateIndex)) → map (edge_from n) (state_edges shifts gotos) ≡ shift_edges n shifts ++ goto_edges n gotos
+edges_listed n [] [] = refl
+edges_listed n [] (e ∷ gotos) = ap (λ es. edge n (Nonterminal e.0) e.1 ∷ es) (edges_listed n [] gotos)
+edges_listed n (e ∷ shifts) gotos = ap (λ es. edge n (Terminal e.0) e.1 ∷ es) (edges_listed n shifts gotos)
+
 pub targets_append : (n : StateIndex) (es fs : List Edge) → targets_from n (es ++ fs) ≡ targets_from n es ++ targets_from n fs
 targets_append n es fs = ap (map target_of) (filter-append (λ (e : Edge). e.source.0 == n.0) es fs) ∙ map-append target_of _ _
 

@@ -14,7 +14,7 @@ use Rattle.lalrpop_tables.proofs.Types.{NonterminalString, State, StateIndex, Sy
 use Rattle.lalrpop_base.specs.declared.repr.Symbol.TheVariants.{Nonterminal, Terminal}
 use Rattle.lalrpop_base.proofs.theory.states.ContentsViews.{contains_of_map}
 use Rattle.lalrpop_tables.specs.Words.{places_in, Edge, edge, edges, edges_of, edges_from, shift_edges, goto_edges, HasTransition}
-use Rattle.lalrpop_tables.proofs.theory.canonical.CanonicalStates.{leads_transition}
+use Rattle.lalrpop_tables.proofs.theory.states.StateEdges.{leads_transition}
 use Rattle.lalrpop_base.proofs.theory.lists.Members.{Contains-none, contains_map, place}
 
 -- the value of an entry

@@ -31,10 +31,6 @@ items_at_by {L} known list within = record {
 }
 
 module _ {L : Type 0} (known : List (Dotted Nil)) where
-  -- no states
-  pub Items-none : (lists : List (Vec ℕ Global)) (states : List (State L)) → lists ≡ [] → states ≡ [] → HaveItemsAt known lists states
-  Items-none lists states none bare = record { counted = ap length none ∙ sym (ap length bare); each = λ s list state at_list at. absurd (let l = slice_get_within states s state at in let e : length states ≡ 0 = ap length bare in omega arith) }
-
   -- a state more
   pub Items-more : (lists : List (Vec ℕ Global)) (states : List (State L)) (list : Vec ℕ Global) (state : State L) → HaveItemsAt known lists states → AreItemsAt known list.items state.items.vec.items → HaveItemsAt known (lists ++ list ∷ []) (states ++ state ∷ [])
   Items-more lists states list state before is =

@@ -17,7 +17,7 @@ use Rattle.lalrpop_base.proofs.theory.states.ContentsViews.{contains_map, contai
 use Rattle.lalrpop_base.proofs.theory.conflicts.ConflictLists.{ordered-append}
 use Rattle.lalrpop_tables.specs.states.NumberedStates.{GotosAscend, ShiftsAscend, goto_transitions, shift_transitions}
 use Rattle.lalrpop_tables.specs.grammars.Numbers.{symbol_order}
-use Rattle.lalrpop_tables.proofs.theory.canonical.CanonicalStates.{leads_transition}
+use Rattle.lalrpop_tables.proofs.theory.states.StateEdges.{leads_transition}
 use Rattle.lalrpop_base.proofs.theory.lists.Members.{place}
 use Rattle.lalrpop_tables.proofs.theory.states.NumberedTransitions.{IsBefore}
 use Rattle.lalrpop_base.proofs.theory.lists.Orders.{name_order, name_total, terminal_order, terminal_total}

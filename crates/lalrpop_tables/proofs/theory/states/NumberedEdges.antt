@@ -6,12 +6,9 @@ use Rattle.std.proofs.lemmas.List.Elements.{Contains-append_cases, Contains-appe
 use Rattle.std.proofs.lemmas.Option.{slice_get-map}
 use Rattle.lalrpop_base.specs.Words.{AddsOnce, AllDiffer, Dotted, Ascend}
 use Rattle.lalrpop_tables.proofs.Types.{Nil}
-use Rattle.lalrpop_tables.specs.Words.{Groups}
-use Rattle.lalrpop_tables.specs.grammars.Numbers.{AreAllNumbered, AreNumbered, NumberedGroups, groups_by, items_by}
+use Rattle.lalrpop_tables.specs.grammars.Numbers.{AreAllNumbered, AreNumbered, NumberedGroups, items_by}
 use Rattle.lalrpop_tables.specs.declared.construction.numbered.Numbered.{Numbered}
 use Rattle.lalrpop_base.proofs.theory.lists.Members.{contains-cons, contains_head, Contains-none}
-use Rattle.lalrpop_tables.specs.declared.construction.numbers.Numbers.{Numbers}
-use Rattle.lalrpop_tables.proofs.theory.states.NumberedMoves.{group_by}
 use Rattle.lalrpop_tables.proofs.theory.grammars.Numbers.{lists_differ}
 
 module _ {L : Type 0} (items : List (Dotted Nil)) where
@@ -45,10 +42,6 @@ module _ {L : Type 0} (groups first left rest : NumberedGroups L) (group : ℕ �
 
   pub taken_among : Contains groups group
   taken_among = subst (λ (gs : NumberedGroups L). Contains gs group) (ap (λ (xs : NumberedGroups L). first ++ xs) (sym next) ∙ split) (Contains-append_right first (group ∷ rest) group (contains_head group rest))
-
-pub split_by : {L : Type 0} (n : Numbers) (groups first rest : NumberedGroups L) (group : ℕ × List (Numbered L)) → (first ++ group ∷ []) ++ rest ≡ groups → (groups_by n first ++ group_by n group ∷ []) ++ groups_by n rest ≡ groups_by n groups
-split_by {L} n groups first rest group split =
-    ap (λ (xs : Groups L). xs ++ groups_by n rest) (sym (map-append (group_by n) first (group ∷ []))) ∙ sym (map-append (group_by n) (first ++ group ∷ []) rest) ∙ ap (groups_by n) split
 
 -- the first kernel
 pub first_numbered : {L : Type 0} (kernel : List (Numbered L)) (old new : List (List (Numbered L))) → old ≡ [] → AddsOnce old new kernel → new ≡ kernel ∷ []

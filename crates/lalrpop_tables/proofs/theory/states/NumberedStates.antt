@@ -1,5 +1,5 @@
 -- States by numbers: what one has, and one state more.
-use Rattle.std.proofs.Common.{◌≡◌, ◌∙◌, inl, inr, ℕ, ◌+◌, List, [], ◌∷◌, ◌++◌, length-append, refl, sym, ap, subst, arith, true}
+use Rattle.std.proofs.Common.{◌≡◌, ◌∙◌, inl, inr, ℕ, ◌+◌, List, [], ◌∷◌, ◌++◌, length-append, sym, ap, subst, arith, true}
 use Rattle.std.specs.Prelude.{slice_get, Option, Some}
 use Rattle.std.proofs.lemmas.Option.{slice_get_within}
 use Rattle.lalrpop_base.specs.Words.{Bits, contents_at, contents_of, leads}
@@ -35,10 +35,6 @@ module _ (n : Numbers) (ascend : SymbolsAscend n.symbols.items) (old : State Bit
         );
         ascend = Edges-ascend n.symbols.items ascend added (Transitions-ordered old gotos shifts);
       }
-
--- no states
-pub States-none : (n : Numbers) → AreNumberedStates n [] []
-States-none n = record { counted = refl; each = λ s state at. cc; reduced = λ s old state at_old at. cc }
 
 -- a state more
 pub States-more : (n : Numbers) (done : List (State Bits)) (old : State Bits) (list : List NumberedState) (state : NumberedState) → AreNumberedStates n done list → IsNumberedState n (contents_of (λ (lookahead : Bits) (t : Token). true) old) state → AreReducedNumbers n.items.items old.reductions.items state.reductions.items →

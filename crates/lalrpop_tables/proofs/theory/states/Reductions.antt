@@ -4,7 +4,7 @@ use Rattle.std.specs.Prelude.{Contains, slice_get}
 use Rattle.std.specs.Borrow.{Bor}
 use Rattle.std.specs.declared.cmp.Ordering.TheVariants.{Less}
 use Rattle.std.proofs.lemmas.Option.{slice_get-map}
-use Rattle.lalrpop_base.specs.Words.{Ordered, ReducesInOrder, reduction_of, contents_of, Dotted, ReducesFinished, production_order, Precedes, Ascend}
+use Rattle.lalrpop_base.specs.Words.{Ordered, ReducesInOrder, reduction_of, contents_of, no_contents, Dotted, ReducesFinished, production_order, Precedes, Ascend}
 use Rattle.lalrpop_base.specs.states.States.{Reduction}
 use Rattle.lalrpop_tables.proofs.Types.{Production, State, Token}
 use Rattle.lalrpop_base.proofs.theory.states.ContentsViews.{some_of_map, contains_of_map, contains_map}
@@ -125,3 +125,14 @@ module _ {L : Type 0} where
           );
           once = λ i j r q l at_i at_j same. less_apart r.production q.production (reduces_in_order i j r q l at_i at_j) same;
         }
+
+-- ---- where there is no state
+pub no_reduction : (r : Reduction) → Contains no_contents.reductions r → ⊥
+no_reduction r c = let l = c.1 in absurd (omega arith)
+
+-- nothing is reduced
+pub nothing_reduced : ReducesFinished no_contents
+nothing_reduced = record {
+  finished = λ p. (λ h. absurd (no_reduction h.0 h.1), λ c. let l = c.1 in absurd (omega arith));
+  once = λ i j r q l at. cc;
+}

@@ -47,12 +47,6 @@ module _ (g : List Production) where
   past_token I K d e (inherits q after c behind among n) = absurd (omega arith)
 
 module _ (g : Rules) (kernel items : List (Dotted Bits)) (c : IsClosureOf g kernel items) (p : Production) (d : ℕ) where
-  pub kernel_items : InKernel kernel p (suc d) ↔ Contains (map dotted_of items) (p, suc d)
-  kernel_items = (
-    λ k. (c.exact p (suc d)).1 (in_kernel k),
-    λ h. past_in_kernel g.productions (InKernel kernel) d refl ((c.exact p (suc d)).0 h),
-  )
-
   pub kernel_tokens : (t : Token) → HasItemToken g.terminals kernel p (suc d) t ↔ HasItemToken g.terminals items p (suc d) t
   kernel_tokens t = (
     λ k. (c.tokens p (suc d) t).1 (with_token k),

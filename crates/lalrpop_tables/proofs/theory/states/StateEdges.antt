@@ -1,11 +1,11 @@
 -- The shifts and gotos of a state of the construction: they are the symbols behind its dots, and each state is reached over them.
-use Rattle.std.proofs.Common.{◌≡◌, ℕ, zero, suc, ◌<◌, List, length, drop, refl, sym, ◌∙◌, ap, arith, Option, Some, None, IsSome, Bool, option_map}
-use Rattle.std.specs.Prelude.{Contains, slice_get}
+use Rattle.std.proofs.Common.{◌≡◌, ℕ, zero, suc, ◌<◌, List, length, drop, refl, sym, ◌∙◌, ap, subst, arith, Option, Some, None, IsSome, Bool, option_map}
+use Rattle.std.specs.Prelude.{Contains, slice_get, IfSome}
 use Rattle.std.specs.BTreeMap.{BTreeMap, get}
 use Rattle.std.specs.Cmp.{IsTotalOrder, eq_by_cmp_equiv}
 use Rattle.std.specs.declared.cmp.Ordering.{Ordering}
 use Rattle.std.proofs.lemmas.Map.Lookups.{CmpEqualImpliesEq}
-use Rattle.std.proofs.lemmas.Map.Views.{IsSome-lookup_from_Contains}
+use Rattle.std.proofs.lemmas.Map.Views.{IfSome-get, IsSome-lookup_from_Contains}
 use Rattle.std.proofs.lemmas.Option.{slice_get_within}
 use Rattle.lalrpop_base.specs.Words.{IsReached, at_zero, number_of, contents_of, contents_at, contents_in, no_contents, Dotted, leads, IsBehindDot, LeadsOverDots}
 use Rattle.lalrpop_base.specs.closures.Closures.{over_edge}
@@ -13,15 +13,24 @@ use Rattle.lalrpop_base.specs.contracts.repr.TerminalStringOrd.TheImpl as termin
 use Rattle.lalrpop_base.specs.contracts.repr.NonterminalStringOrd.TheImpl as name_ord
 use Rattle.lalrpop_tables.proofs.Types.{Production, State, StateIndex, Symbol, Token}
 use Rattle.lalrpop_base.specs.declared.repr.Symbol.TheVariants.{Nonterminal, Terminal}
-use Rattle.lalrpop_base.proofs.theory.states.ContentsViews.{terminals_ordered, names_ordered}
+use Rattle.lalrpop_base.proofs.theory.states.ContentsViews.{some_of_map, terminals_ordered, names_ordered}
 use Rattle.lalrpop_base.specs.closures.Closure.{dotted_of}
 use Rattle.lalrpop_tables.specs.Words.{HasTransition, IsBuiltBy, AreBuiltBy, IsBehind}
-use Rattle.lalrpop_tables.proofs.theory.canonical.CanonicalStates.{entry_of, leads_transition}
 use Rattle.lalrpop_base.proofs.theory.closures.Closing.{drop_split, split_drop}
 use Rattle.lalrpop_tables.proofs.theory.states.Coherence.{one_kernel}
 use Rattle.lalrpop_base.proofs.theory.lists.Members.{contains_map}
 use Rattle.lalrpop_base.proofs.theory.lists.Places.{one_place}
 use Rattle.lalrpop_tables.proofs.theory.states.Shifting.{of_dotted}
+
+-- ---- where a state leads
+pub entry_of : {K : Type 0} {R : K → K → Ordering} → IsTotalOrder R → CmpEqualImpliesEq R → (m : BTreeMap K StateIndex) (key : K) (n : ℕ) → option_map number_of (get R m key) ≡ Some n → (target : StateIndex) × (target.0 ≡ n) × Contains m.entries (key, target)
+entry_of {R = R} total exact m key n e =
+    let found = some_of_map number_of (get R m key) n e in
+    (found.0, found.2, subst (λ (o : Option StateIndex). IfSome o (λ v. Contains m.entries (key, v))) found.1 (IfSome-get total exact m key))
+
+pub leads_transition : {L : Type 0} (holds : L → Token → Bool) (s : State L) (x : Symbol) (m : ℕ) → leads (contents_of holds s) x ≡ Some m → (target : StateIndex) × (target.0 ≡ m) × HasTransition x target s
+leads_transition holds s (Nonterminal a) m e = entry_of name_ord.Laws.total-law names_ordered s.gotos a m e
+leads_transition holds s (Terminal t) m e = entry_of terminal_ord.Laws.total-law terminals_ordered s.shifts t m e
 
 -- ---- an entry is found
 some_of : {X : Type 0} (o : Option X) → IsSome o → (x : X) × (o ≡ Some x)

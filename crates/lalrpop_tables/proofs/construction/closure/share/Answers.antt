@@ -1,15 +1,14 @@
-use Rattle.std.proofs.Common.{◌≡◌, ◌∙◌, ℕ, ap, subst, refl, length, Some, arith, ◌+◌, drop}
+use Rattle.std.proofs.Common.{◌≡◌, ◌∙◌, ap, subst, refl, true, false, length, Some, arith, ◌+◌, drop}
 use Rattle.std.specs.Prelude.{slice_get}
-use Rattle.std.proofs.lemmas.Result.{IfOk-weaker}
-use Rattle.lalrpop_base.specs.Words.{Bits, Dotted, readings}
-use Rattle.lalrpop_base.proofs.theory.closures.Readings.{readings_differ}
-use Rattle.lalrpop_base.proofs.theory.lists.Members.{contains_map}
+use Rattle.lalrpop_base.specs.Words.{Bits, Dotted}
+use Rattle.lalrpop_base.specs.lists.Entries.IsPut.{came}
+use Rattle.lalrpop_base.proofs.theory.lists.Queues.{put_with}
 use Rattle.lalrpop_tables.proofs.Types.{Nil}
 use Rattle.std.proofs.lemmas.Option.{slice_get_within}
 use Rattle.lalrpop_base.specs.declared.repr.Symbol.TheVariants.{Nonterminal}
 use Rattle.lalrpop_tables.proofs.theory.grammars.Numbers.{behind_is, finished}
 use Rattle.lalrpop_base.proofs.theory.lists.Places.{slice_get_at}
-use Rattle.lalrpop_tables.proofs.theory.closures.SharedItems.{read_item, rest_known, Finished-shares, Terminal-shares, Restless-shares, rest_is, Barren-shares, Given-shares, queued_again}
+use Rattle.lalrpop_tables.proofs.theory.closures.SharedItems.{read_item, rest_known, Finished-shares, Terminal-shares, Restless-shares, rest_is, Gave-shares}
 use Rattle.lalrpop_tables.proofs.construction.closure.share.Goals as goal
 
 pub returns-in_default-clause-shares : goal.returns-in_default-clause-shares
@@ -34,8 +33,8 @@ returns-in_default-next-clause-shares g c =
     let e = read_item c.args.numbers.now.items.items c.args.number c.index-3.result.now c.requires.known c.index-3.ensures in
     Terminal-shares _ _ _ _ c.requires.numbers c.args.number _ c.in-Some-shift_symbol.next.now (subst (λ (i : Dotted Nil). slice_get i.production.symbols i.index ≡ Some c.in-Some-shift_symbol.next.now) e c.in-Some-shift_symbol.ensures.next) (λ name is. let no = c.in_default-next.is in cc) _ _
 
-pub is_shared-requires : goal.is_shared-requires
-is_shared-requires g c =
+pub give-requires : goal.give-requires
+give-requires g c =
     let e = read_item c.args.numbers.now.items.items c.args.number c.index-3.result.now c.requires.known c.index-3.ensures in
     let is = subst (λ (i : Dotted Nil). c.in-Some-shift_symbol.remainder.now ≡ drop (i.index + 1) i.production.symbols) e c.in-Some-shift_symbol.ensures.rest in
     let counted = c.requires.numbers.rests.counted in
@@ -45,47 +44,28 @@ is_shared-requires g c =
       rest = rest_is g.L.LookaheadBuild.begins g.L.LookaheadBuild.passes c.args.lr.now.construction.rules c.args.numbers.now c.requires.numbers c.args.number (g.L.Lookahead.meaning c.args.tokens.now) c.requires.known c.in-Some-index.rest (at ∙ ap Some c.in-Some-index.is) c.in-Some-shift_symbol.remainder.now is;
     }
 
-pub given-requires : goal.given-requires
-given-requires g c =
-    let e = read_item c.args.numbers.now.items.items c.args.number c.index-3.result.now c.requires.known c.index-3.ensures in
-    let is = subst (λ (i : Dotted Nil). c.in-Some-shift_symbol.remainder.now ≡ drop (i.index + 1) i.production.symbols) e c.in-Some-shift_symbol.ensures.rest in
-    let counted = c.requires.numbers.rests.counted in
-    let at = slice_get_at c.args.numbers.now.rests.items c.args.number c.index-2.result.now (omega (arith, c.requires.known)) c.index-2.ensures in
-    record {
-      known = rest_known c.grammar-grammar.result.now c.args.lr.now.construction.rules c.args.numbers.now c.requires.numbers c.grammar-grammar.ensures.rules c.grammar-grammar.ensures.well_formed c.args.number c.requires.known c.in-Some-shift_symbol.remainder.now is;
-      rest = rest_is g.L.LookaheadBuild.begins g.L.LookaheadBuild.passes c.args.lr.now.construction.rules c.args.numbers.now c.requires.numbers c.args.number (g.L.Lookahead.meaning c.args.tokens.now) c.requires.known c.in-Some-index.rest (at ∙ ap Some c.in-Some-index.is) c.in-Some-shift_symbol.remainder.now is;
-    }
-
-pub returns-then-is_shared-clause-shares : goal.returns-then-is_shared-clause-shares
-returns-then-is_shared-clause-shares g c =
+pub returns-in_ok-add-clause-shares : goal.returns-in_ok-add-clause-shares
+returns-in_ok-add-clause-shares g c =
     let counted = c.requires.numbers.counted in
     let at = slice_get_at c.args.numbers.now.behind.items c.args.number c.index.result.now (omega (arith, c.requires.known)) c.index.ensures in
     let e = read_item c.args.numbers.now.items.items c.args.number c.index-3.result.now c.requires.known c.index-3.ensures in
     let next = subst (λ (i : Dotted Nil). slice_get i.production.symbols i.index ≡ Some c.in-Some-shift_symbol.next.now) e c.in-Some-shift_symbol.ensures.next in
     let is = subst (λ (i : Dotted Nil). c.in-Some-shift_symbol.remainder.now ≡ drop (i.index + 1) i.production.symbols) e c.in-Some-shift_symbol.ensures.rest in
-    let had = c.if-is_shared.ensures.has refl in
-    let m = g.L.Lookahead.meaning in
-    let read : ℕ × g.row.L.Denot → ℕ × Bits = λ e. (e.0, m e.1) in
-    Given-shares _ _ _ _ c.requires.numbers c.args.number _ c.in-Some.symbol c.in-Nonterminal.name c.in-Some-shift_symbol.remainder.now c.requires.known (at ∙ ap Some c.in-Some.is) (next ∙ ap Some c.in-Nonterminal.is) is m c.args.tokens.now had.2.given refl had.2.is _ _ _ _
-    (queued_again c.in-Some.symbol (m had.2.given) (m had.0) (readings m c.args.shared.now) c.args.queue.now.numbers (contains_map read c.args.shared.now (c.in-Some.symbol, had.0) had.1) had.2.same (readings_differ m c.args.shared.now c.if-is_shared.ensures.differ))
+    Gave-shares _ _ _ _ c.requires.numbers c.args.number _ c.in-Some.symbol c.in-Nonterminal.name c.in-Some-shift_symbol.remainder.now c.requires.known (at ∙ ap Some c.in-Some.is) (next ∙ ap Some c.in-Nonterminal.is) is g.L.Lookahead.meaning c.args.tokens.now refl
+    true _ _ _ _ (rw (← c.if-branch.true) c.in_ok-give.ensures.given) (put_with c.in-Some.symbol c.args.queue.now.numbers c.add.new.self.numbers c.in_ok-add.ensures.added)
 
-pub returns-in_default-2-clause-shares : goal.returns-in_default-2-clause-shares
-returns-in_default-2-clause-shares g c =
-    let e = read_item c.args.numbers.now.items.items c.args.number c.index-3.result.now c.requires.known c.index-3.ensures in
-    let next = subst (λ (i : Dotted Nil). slice_get i.production.symbols i.index ≡ Some c.in-Some-shift_symbol.next.now) e c.in-Some-shift_symbol.ensures.next in
-    Barren-shares _ _ _ _ c.requires.numbers c.args.number _ c.in-Nonterminal.name (next ∙ ap Some c.in-Nonterminal.is) (rw c.in_default-2.is at c.in_ok-given.ensures.given) _ _
-
-pub returns-clause-shares : goal.returns-clause-shares
-returns-clause-shares g c =
+pub returns-else-branch-clause-shares : goal.returns-else-branch-clause-shares
+returns-else-branch-clause-shares g c =
     let counted = c.requires.numbers.counted in
     let at = slice_get_at c.args.numbers.now.behind.items c.args.number c.index.result.now (omega (arith, c.requires.known)) c.index.ensures in
     let e = read_item c.args.numbers.now.items.items c.args.number c.index-3.result.now c.requires.known c.index-3.ensures in
     let next = subst (λ (i : Dotted Nil). slice_get i.production.symbols i.index ≡ Some c.in-Some-shift_symbol.next.now) e c.in-Some-shift_symbol.ensures.next in
     let is = subst (λ (i : Dotted Nil). c.in-Some-shift_symbol.remainder.now ≡ drop (i.index + 1) i.production.symbols) e c.in-Some-shift_symbol.ensures.rest in
-    IfOk-weaker c.add_shared.result _ _ (λ _ queued. Given-shares _ _ _ _ c.requires.numbers c.args.number _ c.in-Some.symbol c.in-Nonterminal.name c.in-Some-shift_symbol.remainder.now c.requires.known (at ∙ ap Some c.in-Some.is) (next ∙ ap Some c.in-Nonterminal.is) is g.L.Lookahead.meaning c.args.tokens.now c.in-Some-2.given refl (rw c.in-Some-2.is at c.in_ok-given.ensures.given) _ _ _ _ queued) c.add_shared.ensures.queued
+    Gave-shares _ _ _ _ c.requires.numbers c.args.number _ c.in-Some.symbol c.in-Nonterminal.name c.in-Some-shift_symbol.remainder.now c.requires.known (at ∙ ap Some c.in-Some.is) (next ∙ ap Some c.in-Nonterminal.is) is g.L.Lookahead.meaning c.args.tokens.now refl
+    false _ _ _ _ (rw (← c.if-branch.false) c.in_ok-give.ensures.given) (came refl)
 
-pub add_shared-requires : goal.add_shared-requires
-add_shared-requires g c =
+pub add-requires : goal.add-requires
+add-requires g c =
     let rules = c.args.lr.now.construction.rules in
     let counted = c.requires.numbers.counted in
     let at = slice_get_at c.args.numbers.now.behind.items c.args.number c.index.result.now (omega (arith, c.requires.known)) c.index.ensures in

@@ -1,8 +1,0 @@
-use Rattle.std.proofs.Common.{inl, inr}
-use Rattle.lalrpop_tables.proofs.theory.closures.EpsilonMoves.{holds_none}
-use Rattle.lalrpop_tables.proofs.construction.epsilon_moves.NilLookaheadBuild.given.Goals as goal
-
-pub returns : goal.returns
-returns c = record {
-  given = record { fits = λ f. f; holds = λ t. (λ h. absurd (holds_none c.args._lr.now.construction.rules.terminals t h), λ h. elim h [ inl n ↦ absurd n | inr n ↦ absurd n.0 ]) };
-}
