@@ -13,5 +13,6 @@ pub mod lanes
 pub mod merges
 pub mod renumbering
 pub mod states
+pub mod Walks
 pub mod Words
 pub use Rattle.lalrpop_base.specs.Words as BaseWords

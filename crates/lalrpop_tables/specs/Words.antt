@@ -16,7 +16,8 @@ pub use Rattle.lalrpop_tables.specs.lane_states.LaneStates.{IsTokenOf, LanesMeet
 pub use Rattle.lalrpop_tables.specs.lane_states.LaneStates.{promoted_reduction, reduce_action}
 pub use Rattle.lalrpop_tables.specs.lanes.LaneSteps.{AddsNothing, AreExpanded, Gains, GainsAll, GainsOf, GainsSome, GainsSomeOf, GainsSomeOfAll, GivesBit, GivesCell}
 pub use Rattle.lalrpop_tables.specs.lanes.LaneSteps.{GivesSuccessor, IsEnd, IsEndBit, IsEndPlace, IsFollowBit, IsGround, IsHere, IsPair, IsParent, IsPassedOn, IsPlaceIf}
-pub use Rattle.lalrpop_tables.specs.lanes.LaneSteps.{Nothing, Nowhere, Reaches, Some_of, Visits, VisitsOf, rest_of}
+pub use Rattle.lalrpop_tables.specs.Walks.{AllWait, Visits}
+pub use Rattle.lalrpop_tables.specs.lanes.LaneSteps.{Nothing, Nowhere, Reaches, Some_of, VisitsOf, rest_of}
 pub use Rattle.lalrpop_tables.specs.lane_tables.LaneTableStates.{AddsKeys, AreReached, HasCellsBelow, IsClosedEdge}
 pub use Rattle.lalrpop_tables.specs.lane_tables.LaneTables.{AddsSuccessor, AddsTokens, AreColumns, AreInRange, AreSameTables, ColumnsOverlap, HasCell, HasRow, InColumn}
 pub use Rattle.lalrpop_tables.specs.lane_tables.LaneTables.{IsBeachhead, IsClosed, IsEmptyTable, IsRow, IsSuccessor, KeepsAll, RowOverlaps, column}
@@ -41,5 +42,5 @@ pub use Rattle.lalrpop_tables.specs.merges.StateSets.{AddsColumns, AreJoined, Ha
 pub use Rattle.lalrpop_tables.specs.merges.StateSets.{set_of}
 pub use Rattle.lalrpop_tables.specs.states.States.{AreBuiltBy, Extends, HasTransition, IsBuilt, IsBuiltBy, IsBuiltOfBy, IsLedTo, Leads, LeadsToAdded, begun}
 pub use Rattle.lalrpop_tables.specs.answers.TablesOrCount.{AreBuiltTablesOrCount, AreTablesOrCount, MatchTablesOrCount}
-pub use Rattle.lalrpop_tables.specs.states.Transitions.{AreEdges, AreMoves, Groups, HasEdge, HasNoGroup, IsBehind, IsBehindOne, IsEdgeAdded, IsMoveAdded}
+pub use Rattle.lalrpop_tables.specs.states.Transitions.{AreEdges, AreMoves, Groups, HasNoGroup, IsBehind, IsBehindOne, IsMoveAdded}
 pub use Rattle.lalrpop_tables.specs.states.Transitions.{Shifts, ShiftsAscend, moved, reductions_of, seen}

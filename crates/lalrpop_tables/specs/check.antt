@@ -3,4 +3,4 @@ pub mod ByNumber
 pub mod Check
 pub mod CheckCarrying
 pub mod CheckPlaces
-pub mod NumberedClosures
+pub mod ExpectedKernels

@@ -5,14 +5,16 @@ mod closing;
 mod numbered_states;
 mod states;
 
-ghost use Rattle.std.specs.Prelude.{◌↔◌, ◌<◌, IfOk, IsTrue, length};
-ghost use Rattle.lalrpop_base.specs.Words.{AreClosed, AreChecked, AreCoherent, contents, AreFaithful, IsWellFormed, productions};
+ghost use Rattle.std.specs.Prelude.{◌≡◌, ◌↔◌, ◌<◌, IfOk, IsTrue, length};
+ghost use Rattle.lalrpop_base.specs.Words.{AreClosed, AreChecked, AreCoherent, contents, AreFaithful, IsWellFormed, productions, rules_of};
 ghost use Rattle.lalrpop_tables.specs.check.Check.{PassCheck, HoldCarried};
 
 use self::by_number::pass_by_number;
 use self::carrying::{all_have_carried, carried};
 use self::states::{are_right_states, listed_states, targets};
+use crate::construction::lr::Lr;
 use lalrpop_base::first::FirstSets;
+use lalrpop_base::lookahead::nil::Nil;
 use lalrpop_base::lr1_core::state::Lr1State;
 use lalrpop_base::memory::OutOfMemory;
 use lalrpop_base::repr::NonterminalString;
@@ -43,6 +45,7 @@ fn hold_carried<'grammar>(
 /// tokens that are carried over the states' own edges lie inside those of the reductions, and no
 /// state has a conflict. Each item of a state is visited a small constant number of times for each
 /// token.
+#[tactic(auto, using(crate::proofs::theory::states::Lookaheads::nothing_fits))]
 pub fn check_tables<'grammar>(
     alloc: Global,
     grammar: &'grammar Grammar,
@@ -58,7 +61,30 @@ pub fn check_tables<'grammar>(
     ensures faithful { IfOk result (λ yes. IsTrue yes →
         AreFaithful (productions grammar.now) start (contents grammar.now.terminals states.now)) }
 {
-    if pass_by_number(alloc, grammar, &start, states)? {
+    let lr = Lr::new(alloc, grammar, start.clone(alloc)?, Nil)?;
+    check_over(alloc, grammar, &lr, start, states)
+}
+
+/// As `check_tables`, where a construction without lookahead is at hand.
+pub(crate) fn check_over<'grammar>(
+    alloc: Global,
+    grammar: &'grammar Grammar,
+    lr: &Lr<'grammar, Nil>,
+    start: NonterminalString,
+    states: &[Lr1State<'grammar>],
+) -> Result<bool, OutOfMemory>
+    requires well_formed { IsWellFormed grammar.now }
+    requires coherent { AreCoherent states.now }
+    requires some { 0 < length states.now }
+    requires rules { lr.now.construction.rules ≡ rules_of grammar.now }
+    requires start { lr.now.construction.start ≡ start }
+    ensures exact { IfOk result (λ yes. IsTrue yes ↔ PassCheck grammar.now start states.now) }
+    ensures checked { IfOk result (λ yes. IsTrue yes →
+        AreChecked (productions grammar.now) start (contents grammar.now.terminals states.now)) }
+    ensures faithful { IfOk result (λ yes. IsTrue yes →
+        AreFaithful (productions grammar.now) start (contents grammar.now.terminals states.now)) }
+{
+    if pass_by_number(alloc, grammar, lr, &start, states)? {
         return Ok(true);
     }
     let listed = listed_states(alloc, states)?;

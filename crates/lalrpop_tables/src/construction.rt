@@ -1,12 +1,13 @@
 //! The construction of LR(0) and LR(1) states, for every lookahead.
 pub(crate) mod canonical;
-mod closure;
+pub(crate) mod closure;
 mod epsilon_moves;
 pub(crate) mod kernel;
 pub mod lookahead_build;
 pub mod lr;
 pub(crate) mod lr0;
-mod numbered;
+pub(crate) mod numbered;
+pub(crate) mod numbered_state;
 pub(crate) mod numbers;
 mod reductions;
 pub(crate) mod results;
@@ -14,4 +15,4 @@ mod state;
 pub(crate) mod states;
 pub mod tables_or_count;
 mod transitions;
-mod workspace;
+pub(crate) mod workspace;

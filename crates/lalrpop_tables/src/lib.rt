@@ -14,3 +14,4 @@ mod renumber;
 mod sets;
 pub mod state_graph;
 mod tokens;
+mod walk;

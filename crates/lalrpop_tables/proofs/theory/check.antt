@@ -6,7 +6,7 @@ pub mod CheckCarrying
 pub mod CheckClosing
 pub mod CheckSending
 pub mod CheckTables
-pub mod NumberedClosures
+pub mod ExpectedKernels
 pub mod NumberedItems
 pub mod NumberedPass
 pub mod NumberedRight

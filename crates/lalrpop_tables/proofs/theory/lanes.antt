@@ -9,4 +9,3 @@ pub mod LaneTracing
 pub mod LanesTaken
 pub mod Unepsilon
 pub mod Unshifting
-pub mod Walks

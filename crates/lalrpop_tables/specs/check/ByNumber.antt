@@ -1,30 +1,20 @@
 -- What the check of tables by number asks of states.
-use Rattle.std.specs.Prelude.{◌≡◌, ◌<◌, ◌+◌, ◌⊎◌, ◌↔◌, ℕ, Bool, true, List, length, slice_get, Some, None, Contains}
+use Rattle.std.specs.Prelude.{◌≡◌, ◌<◌, ◌+◌, ◌⊎◌, ◌↔◌, ℕ, Bool, true, List, length, slice_get, Some, Contains}
 use Rattle.std.specs.Borrow.{Bor}
-use Rattle.lalrpop_base.specs.Words.{AllDiffer, Bits, contents_of, has}
+use Rattle.lalrpop_base.specs.Words.{AllDiffer, Bits, Dotted, InClosure, InKernel, Rules, contents_of, has}
+use Rattle.lalrpop_base.specs.declared.lookahead.nil.Nil.{Nil}
 use Rattle.lalrpop_base.specs.declared.lookahead.token.Token.{Token}
 use Rattle.lalrpop_base.specs.declared.lr1_core.state.State.{State}
 use Rattle.lalrpop_base.specs.declared.repr.NonterminalString.{NonterminalString}
 use Rattle.lalrpop_base.specs.declared.repr.Production.{Production}
-use Rattle.lalrpop_base.specs.declared.repr.Symbol.TheVariants.{Nonterminal}
-use Rattle.lalrpop_tables.specs.check.NumberedClosures.{AreMovedKernel, IsNumberedClosure}
+use Rattle.lalrpop_tables.specs.check.ExpectedKernels.{IsKernelAt}
 use Rattle.lalrpop_tables.specs.follow_sets.FollowWalks.{IsInUnion, entries_at}
-use Rattle.lalrpop_tables.specs.grammars.Numbers.{AreExpansions}
-use Rattle.lalrpop_tables.specs.states.NumberedStates.{AreItemsAt, AreReducedNumbers, IsNumberedState, items_at, transitions_at}
+use Rattle.lalrpop_tables.specs.states.NumberedStates.{AreItemsAt, AreReducedNumbers, HasFinished, IsNumberedState, items_at, transitions_at}
 use Rattle.lalrpop_tables.specs.declared.construction.numbers.Numbers.{Numbers}
 use Rattle.lalrpop_tables.specs.declared.lane_table.follow_sets.found.Found.{Found}
-use Rattle.lalrpop_tables.specs.declared.lane_table.follow_sets.numbered_state.NumberedState.{NumberedState}
+use Rattle.lalrpop_tables.specs.declared.construction.numbered_state.NumberedState.{NumberedState}
 
 -- ---- one state
--- each item with its dot at the end is there
-abbrev pub HasFinished : Numbers → List ℕ → List ℕ → Type 0
-HasFinished n items finished = (k : ℕ) → Contains items k → slice_get n.behind.items k ≡ Some None → Contains finished k
-
--- the item was added, if its dot is at the end
-pub record AddsFinished (n : Numbers) (item : ℕ) (old new : List ℕ) : Type 0 where
-  pub kept : (k : ℕ) → Contains old k → Contains new k
-  pub there : slice_get n.behind.items item ≡ Some None → Contains new item
-
 -- the state by number has these items, which are those of the state, its transitions, and its reductions: all of its finished items, each once
 pub record IsListedOver (n : Numbers) (items : List ℕ) (old : State Bits) (state : NumberedState) : Type 0 where
   pub same : state.items.items ≡ items
@@ -34,22 +24,21 @@ pub record IsListedOver (n : Numbers) (items : List ℕ) (old : State Bits) (sta
   pub finished : HasFinished n items state.reductions.items
   pub once : AllDiffer state.reductions.items
 
--- a kernel of the state with the number: of the first state the productions of the start symbol, and of another dotted productions whose dots moved
-pub record IsKernelOf (n : Numbers) (start : NonterminalString) (s : ℕ) (kernel : List ℕ) : Type 0 where
-  pub first : s ≡ 0 → AreExpansions n.items.items (Nonterminal start) kernel
-  pub other : 0 < s → AreMovedKernel n kernel
+-- the dotted productions of the state are the closure of the kernel
+abbrev pub ListsClosure : Rules → List (Dotted Nil) → State Bits → Type 0
+ListsClosure g kernel old = (p : Production) (dot : ℕ) → InKernel old.items.vec.items p dot ↔ InClosure g.productions (InKernel kernel) p dot
 
--- the state lists the closure of a kernel
-pub record IsListedState (n : Numbers) (start : NonterminalString) (s : ℕ) (old : State Bits) (state : NumberedState) : Type 0 where
-  pub kernel : List ℕ
-  pub is : IsKernelOf n start s kernel
-  pub closed : IsNumberedClosure n kernel state.items.items
+-- the state lists the closure of its kernel
+pub record IsListedState (g : Rules) (start : NonterminalString) (n : Numbers) (s : ℕ) (old : State Bits) (state : NumberedState) : Type 0 where
+  pub kernel : List (Dotted Nil)
+  pub is : IsKernelAt g start s kernel
+  pub closed : ListsClosure g kernel old
   pub over : IsListedOver n state.items.items old state
 
 -- and so does each
-pub record AreListedByNumber (n : Numbers) (start : NonterminalString) (states : List (State Bits)) (list : List NumberedState) : Type 0 where
+pub record AreListedByNumber (g : Rules) (start : NonterminalString) (n : Numbers) (states : List (State Bits)) (list : List NumberedState) : Type 0 where
   pub counted : length list ≡ length states
-  pub each : (s : ℕ) (old : State Bits) (state : NumberedState) → slice_get states s ≡ Some old → slice_get list s ≡ Some state → IsListedState n start s old state
+  pub each : (s : ℕ) (old : State Bits) (state : NumberedState) → slice_get states s ≡ Some old → slice_get list s ≡ Some state → IsListedState g start n s old state
 
 -- ---- where symbols lead
 -- the symbol behind the dot leads to a state that lists the moved item

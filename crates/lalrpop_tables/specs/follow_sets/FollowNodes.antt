@@ -11,7 +11,7 @@ use Rattle.lalrpop_tables.specs.states.NumberedStates.{AreNumberedStates, transi
 use Rattle.lalrpop_tables.specs.grammars.Rests.{AreRests}
 use Rattle.lalrpop_tables.specs.declared.construction.numbers.Numbers.{Numbers}
 use Rattle.lalrpop_tables.specs.declared.lane_table.follow_sets.nodes.Nodes.{Nodes}
-use Rattle.lalrpop_tables.specs.declared.lane_table.follow_sets.numbered_state.NumberedState.{NumberedState}
+use Rattle.lalrpop_tables.specs.declared.construction.numbered_state.NumberedState.{NumberedState}
 use Rattle.lalrpop_tables.specs.declared.lane_table.follow_sets.pass.Pass.{Pass}
 use Rattle.lalrpop_tables.specs.declared.lane_table.follow_sets.start.Start.{Start}
 

@@ -4,7 +4,7 @@ use Rattle.std.specs.declared.cmp.Ordering.{Ordering}
 use Rattle.std.specs.List.Sorted.{IsStrictlySortedBy}
 use Rattle.std.proofs.Common.{ap, ◌∙◌, eqb-true}
 use Rattle.lalrpop_base.specs.lists.Exact.{Exactly, both}
-use Rattle.lalrpop_base.specs.Words.{AllDiffer, Dotted, Kernels, Rules}
+use Rattle.lalrpop_base.specs.Words.{AllDiffer, Dotted, Kernels, Ordered, Rules}
 use Rattle.lalrpop_base.specs.declared.repr.TerminalString.TheVariants.{Error}
 use Rattle.lalrpop_base.specs.declared.lookahead.nil.Nil.{Nil}
 use Rattle.lalrpop_base.specs.declared.repr.Production.{Production}
@@ -109,6 +109,10 @@ groups_by {L} n groups = map (λ (g : ℕ × List (Numbered L)). (symbol_at n.sy
 -- the numbers of symbols and of items are those of the grammar
 abbrev pub AreGroupsOf : {L : Type 0} → Numbers → NumberedGroups L → Type 0
 AreGroupsOf {L} n groups = (g : ℕ × List (Numbered L)) → Contains groups g → (g.0 < length n.symbols.items) × AreNumbered n.items.items g.1
+
+-- the numbers in front rise
+abbrev pub NumbersAscend : {V : Type 0} → List (ℕ × V) → Type 0
+NumbersAscend {V} list = Ordered (λ (d e : ℕ × V). d.0 < e.0) list
 
 -- items by number are one where their parts are
 pub numbered_exact : {L : Type 0} (F : L → L → Bool) → Exactly F → (a b : Numbered L) → ((a.number == b.number) && F a.lookahead b.lookahead) ≡ true → a ≡ b

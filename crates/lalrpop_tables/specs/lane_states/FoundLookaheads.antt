@@ -11,7 +11,7 @@ use Rattle.lalrpop_tables.specs.states.NumberedStates.{AreReducedNumbers, IsNumb
 use Rattle.lalrpop_tables.specs.grammars.Numbers.{AreNumbers}
 use Rattle.lalrpop_tables.specs.declared.construction.numbers.Numbers.{Numbers}
 use Rattle.lalrpop_tables.specs.declared.lane_table.follow_sets.found.Found.{Found}
-use Rattle.lalrpop_tables.specs.declared.lane_table.follow_sets.numbered_state.NumberedState.{NumberedState}
+use Rattle.lalrpop_tables.specs.declared.construction.numbered_state.NumberedState.{NumberedState}
 
 -- the lookahead sets of the states are found, by the numbers of their grammar, and the state at the place is also given by these
 pub record IsFoundAt (g : Rules) (start : NonterminalString) (states : List (State Bits)) (n : ℕ) (found : Found) (state : NumberedState) : Type 0 where

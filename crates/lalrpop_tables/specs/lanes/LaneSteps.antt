@@ -1,6 +1,6 @@
 -- What the steps of a trace add to a lane table, and to the places that it visits.
 use Rattle.std.specs.Prelude.{◌≡◌, ◌⊎◌, ◌+◌, ◌↔◌, ◌<◌, ℕ, suc, Bool, true, List, ◌∷◌, drop, length, slice_get, Some, Contains}
-use Rattle.lalrpop_base.specs.Words.{IsFirst, IsNullable, Dotted, LeadsBack, IsTracedTo, AllDiffer, Contents, IsBehindDot, leads, IsBitOf, Rules, IsWellFormed}
+use Rattle.lalrpop_base.specs.Words.{IsFirst, IsNullable, Dotted, LeadsBack, IsTracedTo, Contents, IsBehindDot, leads, IsBitOf, Rules, IsWellFormed}
 use Rattle.lalrpop_base.specs.Words.{productions, rules_of}
 use Rattle.lalrpop_base.specs.lanes.Lanes.{Gives}
 use Rattle.lalrpop_base.specs.declared.lookahead.token.Token.{Token}
@@ -12,9 +12,10 @@ use Rattle.lalrpop_base.specs.declared.repr.TerminalString.{TerminalString}
 use Rattle.lalrpop_tables.specs.check.CheckCarrying.{at_place}
 use Rattle.lalrpop_tables.specs.lane_tables.LaneTables.{HasCell, HasBit, IsSuccessor, KeepsAll}
 use Rattle.lalrpop_tables.specs.lanes.LaneTraces.{HaveOwnItems, places_in}
+use Rattle.lalrpop_tables.specs.Walks.{Visits}
 use Rattle.lalrpop_tables.specs.graphs.StateGraph.{edges, IsGraphOf}
 use Rattle.lalrpop_tables.specs.declared.lane_table.lane.ground.Ground.{Ground}
-use Rattle.lalrpop_tables.specs.declared.lane_table.lane.walk.Walk.{Walk}
+use Rattle.lalrpop_tables.specs.declared.walk.Walk.{Walk}
 use Rattle.lalrpop_tables.specs.declared.lane_table.table.LaneTable.{LaneTable}
 use Rattle.lalrpop_tables.specs.declared.place.Place.{Place}
 
@@ -64,16 +65,6 @@ IsEnd start name state = IsHere state (name ≡ start)
 -- and the bit is that of Eof
 abbrev pub IsEndBit : Rules → NonterminalString → NonterminalString → ℕ → ℕ → ℕ → Type 0
 IsEndBit g start name state row bit = IsHere state ((name ≡ start) × (bit ≡ length g.terminals)) row
-
--- a walk went to all such places, and to no others; those that are new wait, and nothing else came there
-pub record Visits (Such : Place → Type 0) (old new : Walk) : Type 0 where
-  pub kept : (k : Place) → Contains old.visited.keys k → Contains new.visited.keys k
-  pub there : (k : Place) → Such k → Contains new.visited.keys k
-  pub only : (k : Place) → Contains new.visited.keys k → Contains old.visited.keys k ⊎ (Such k × Contains new.waiting.items k)
-  pub stays : (k : Place) → Contains old.waiting.items k → Contains new.waiting.items k
-  pub waits : (k : Place) → Contains new.waiting.items k → Contains old.waiting.items k ⊎ Contains new.visited.keys k
-  pub differ : AllDiffer old.visited.keys → AllDiffer new.visited.keys
-  pub weighed : length new.waiting.items + length old.visited.keys ≡ length old.waiting.items + length new.visited.keys
 
 -- ---- an item whose symbol behind the dot expands to what begins with the nonterminal
 -- the nonterminal stands behind the item's dot
@@ -147,16 +138,16 @@ module _ {L : Type 0} (ground : Ground L) (place : Place) where
   GainsSomeOf k = GainsSome k (GivesCell (rules_of ground.grammar.now) ground.start.now (places_in ground.states.now) place) (GivesBit (rules_of ground.grammar.now) ground.start.now (places_in ground.states.now) place) (GivesSuccessor (rules_of ground.grammar.now) ground.start.now (places_in ground.states.now) place)
 
   -- the walk went to all places to which it leads back
-  abbrev pub VisitsOf : Walk → Walk → Type 0
+  abbrev pub VisitsOf : Walk Place → Walk Place → Type 0
   VisitsOf = Visits (LeadsTo (rules_of ground.grammar.now) ground.start.now (places_in ground.states.now) place)
 
   -- the place adds nothing more: a table, in one column, and a walk that get what it gives stay as they are
-  pub record AddsNothing (k : ℕ) (table : LaneTable) (walk : Walk) : Type 0 where
+  pub record AddsNothing (k : ℕ) (table : LaneTable) (walk : Walk Place) : Type 0 where
     pub gains : GainsOf k table table
     pub visits : VisitsOf walk walk
 
 -- each place adds nothing more that stands at the start of a production of one of these nonterminals in its state
-abbrev pub AreExpanded : {L : Type 0} → Ground L → ℕ → LaneTable → Walk → List (ℕ × NonterminalString) → Type 0
+abbrev pub AreExpanded : {L : Type 0} → Ground L → ℕ → LaneTable → Walk Place → List (ℕ × NonterminalString) → Type 0
 AreExpanded ground k table walk expanded = (place : Place) → place.item.index ≡ 0 → Contains expanded (place.state, place.item.production.nonterminal) → AddsNothing ground place k table walk
 
 -- ---- what all places give to which a place leads back, itself among them

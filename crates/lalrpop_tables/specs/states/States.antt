@@ -4,21 +4,22 @@ use Rattle.std.specs.BTreeMap.{IsOrdered}
 use Rattle.lalrpop_base.specs.Words.{Bits, Dotted, Kernels, AllDiffer, Rules}
 use Rattle.lalrpop_base.specs.declared.lr1_core.state.State.{State}
 use Rattle.lalrpop_base.specs.declared.repr.Production.{Production}
-use Rattle.lalrpop_base.specs.declared.repr.Symbol.TheVariants.{Nonterminal, Terminal}
 use Rattle.lalrpop_base.specs.declared.lr1_core.state.StateIndex.{StateIndex}
 use Rattle.lalrpop_base.specs.declared.repr.Symbol.{Symbol}
 use Rattle.lalrpop_base.specs.contracts.repr.TerminalStringOrd.TheImpl as terminal_ord
 use Rattle.lalrpop_base.specs.closures.Closure.{AreItemsBy, IsClosureOf}
-use Rattle.lalrpop_tables.specs.states.Transitions.{IsBehind, IsBehindOne, Shifts, reductions_of, seen}
+use Rattle.lalrpop_tables.specs.states.Transitions.{Entries, HasEntry, IsBehind, IsBehindOne, Shifts, reductions_of, seen}
 
 -- a production with the dot at the start
 abbrev pub begun : {L : Type 0} → L → Production → Dotted L
 begun lookahead p = record { production = p; index = 0; lookahead = lookahead }
 
+abbrev pub state_entries : {L : Type 0} → State L → Entries
+state_entries state = record { shifts = state.shifts.entries; gotos = state.gotos.entries }
+
 -- the state has the entry of a symbol, with its target
 abbrev pub HasTransition : {L : Type 0} → Symbol → StateIndex → State L → Type 0
-HasTransition (Nonterminal a) target state = Contains state.gotos.entries (a, target)
-HasTransition (Terminal t) target state = Contains state.shifts.entries (t, target)
+HasTransition x target state = HasEntry (state_entries state) x target
 
 -- the symbol, which stands behind a dot, leads from the items to the number of the kernel that it gives
 pub record Leads {L : Type 0} (items : List (Dotted L)) (list : List (List (Dotted L))) (x : Symbol) (target : StateIndex) : Type 0 where

@@ -6,10 +6,12 @@ use Rattle.std.specs.Map.{keys_of}
 use Rattle.lalrpop_base.specs.Words.{Dotted, AllDiffer, Kernels}
 use Rattle.lalrpop_base.specs.declared.lr1_core.state.StateIndex.{StateIndex}
 use Rattle.lalrpop_base.specs.declared.repr.Production.{Production}
+use Rattle.lalrpop_base.specs.declared.repr.NonterminalString.{NonterminalString}
 use Rattle.lalrpop_base.specs.declared.repr.Symbol.{Symbol}
 use Rattle.lalrpop_base.specs.declared.repr.Symbol.TheVariants.{Nonterminal, Terminal}
 use Rattle.lalrpop_base.specs.contracts.repr.NonterminalStringOrd.TheImpl as name_ord
 use Rattle.lalrpop_base.specs.contracts.repr.TerminalStringOrd.TheImpl as terminal_ord
+use Rattle.lalrpop_base.specs.declared.repr.TerminalString.{TerminalString}
 use Rattle.lalrpop_base.specs.lists.Entries.{IsPushedAt}
 use Rattle.lalrpop_tables.specs.declared.construction.transitions.EdgeLists.{EdgeLists}
 use Rattle.lalrpop_tables.specs.declared.construction.transitions.Edges.{Edges}
@@ -54,24 +56,30 @@ pub data IsMoveAdded {L : Type 0} (i : Dotted L) (old new : Groups L) : Type 0 w
   over : (x : Symbol) → IsBehind x i → IsPushedAt x (moved i) old new → AllDiffer (keys_of new) → IsMoveAdded i old new
   at_end : i.index ≡ length i.production.symbols → new ≡ old → IsMoveAdded i old new
 
--- the edges have the entry of a symbol, with its target
-abbrev pub HasEdge : Symbol → StateIndex → Edges → Type 0
-HasEdge (Nonterminal a) target edges = Contains edges.gotos.entries (a, target)
-HasEdge (Terminal t) target edges = Contains edges.shifts.entries (t, target)
+-- the entries of the two maps of a state, or of the lists that make them
+pub record Entries : Type 0 where
+  pub shifts : List (TerminalString × StateIndex)
+  pub gotos : List (NonterminalString × StateIndex)
+
+abbrev pub edge_entries : Edges → Entries
+edge_entries edges = record { shifts = edges.shifts.entries; gotos = edges.gotos.entries }
+
+abbrev pub list_entries : EdgeLists → Entries
+list_entries lists = record { shifts = lists.shifts.items; gotos = lists.gotos.items }
+
+-- there is the entry of the symbol, with the target
+abbrev pub HasEntry : Entries → Symbol → StateIndex → Type 0
+HasEntry entries (Nonterminal a) target = Contains entries.gotos (a, target)
+HasEntry entries (Terminal t) target = Contains entries.shifts (t, target)
+
+-- an entry more, behind the others of its kind
+abbrev pub IsEntryAdded : Symbol → StateIndex → Entries → Entries → Type 0
+IsEntryAdded (Nonterminal a) target old new = (new.gotos ≡ old.gotos ++ (a, target) ∷ []) × (new.shifts ≡ old.shifts)
+IsEntryAdded (Terminal t) target old new = (new.shifts ≡ old.shifts ++ (t, target) ∷ []) × (new.gotos ≡ old.gotos)
 
 -- the shifts ascend by their terminals
 abbrev pub ShiftsAscend : Edges → Type 0
 ShiftsAscend edges = IsOrdered terminal_ord.ghosts.cmp edges.shifts
-
--- the lists have an edge of the symbol, with its target
-abbrev pub IsListed : EdgeLists → Symbol → StateIndex → Type 0
-IsListed lists (Nonterminal a) target = Contains lists.gotos.items (a, target)
-IsListed lists (Terminal t) target = Contains lists.shifts.items (t, target)
-
--- an edge more, behind the others of its kind
-abbrev pub IsEdgeAdded : Symbol → StateIndex → EdgeLists → EdgeLists → Type 0
-IsEdgeAdded (Nonterminal a) target old new = (new.gotos.items ≡ old.gotos.items ++ (a, target) ∷ []) × (new.shifts.items ≡ old.shifts.items)
-IsEdgeAdded (Terminal t) target old new = (new.shifts.items ≡ old.shifts.items ++ (t, target) ∷ []) × (new.gotos.items ≡ old.gotos.items)
 
 -- the maps that the lists make
 pub record AreEdgesListed (lists : EdgeLists) (edges : Edges) : Type 0 where
@@ -86,8 +94,8 @@ pub record LeadsTo {L : Type 0} (groups : Groups L) (list : List (List (Dotted L
 
 -- the edges lead from each symbol to the number of its kernel, and the shifts ascend
 pub record AreEdges {L : Type 0} (groups : Groups L) (list : List (List (Dotted L))) (edges : Edges) : Type 0 where
-  pub leads : (x : Symbol) (target : StateIndex) → HasEdge x target edges → LeadsTo groups list x target
-  pub all : (x : Symbol) (kernel : List (Dotted L)) → Contains groups (x, kernel) → (target : StateIndex) × HasEdge x target edges
+  pub leads : (x : Symbol) (target : StateIndex) → HasEntry (edge_entries edges) x target → LeadsTo groups list x target
+  pub all : (x : Symbol) (kernel : List (Dotted L)) → Contains groups (x, kernel) → (target : StateIndex) × HasEntry (edge_entries edges) x target
   pub ascend : ShiftsAscend edges
 
 -- the kernels are those of before and others of the groups

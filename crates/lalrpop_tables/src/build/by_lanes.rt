@@ -7,8 +7,10 @@ ghost use Rattle.lalrpop_tables.specs.lane_states.Lr0Copies.{AreCopiedTables};
 ghost use Rattle.lalrpop_tables.specs.answers.Lr1Answers.{AreBuiltTablesOf};
 
 use super::options::{Method, Options};
-use crate::check::check_tables;
+use crate::check::check_over;
+use crate::construction::lr::Lr;
 use crate::lane_table::construct::LaneTableConstruct;
+use lalrpop_base::lookahead::nil::Nil;
 use lalrpop_base::lr1_core::state::Lr1State;
 use lalrpop_base::memory::OutOfMemory;
 use lalrpop_base::repr::NonterminalString;
@@ -64,26 +66,29 @@ fn lane_tables<'grammar>(
     if at_once && is_on_no_right_side(grammar, start) {
         return Ok(Some(tables));
     }
-    where_checked(alloc, grammar, start.clone(alloc)?, tables)
+    where_checked(alloc, grammar, construct.lr(), start.clone(alloc)?, tables)
 }
 
-// The tables, where they pass the check.
+// The tables, where they pass the check, which takes numbers and first sets of the construction.
 fn where_checked<'grammar>(
     alloc: Global,
     grammar: &'grammar Grammar,
+    lr: &Lr<'grammar, Nil>,
     start: NonterminalString,
     tables: Vec<Lr1State<'grammar>>,
 ) -> Result<Option<Vec<Lr1State<'grammar>>>, OutOfMemory>
     requires well_formed { IsWellFormed grammar.now }
     requires coherent { AreCoherent tables.items }
     requires some { 0 < length tables.items }
+    requires rules { lr.now.construction.rules ≡ rules_of grammar.now }
+    requires start { lr.now.construction.start ≡ start }
     ensures kept { IfOk result (λ answer. IfSome answer (λ kept. kept.items ≡ tables.entry.items)) }
     ensures faithful { IfOk result (λ answer. IfSome answer (λ kept. AreFaithful
         (productions grammar.now) start (contents grammar.now.terminals kept.items))) }
     ensures passing { PassCheck grammar.now start tables.entry.items →
         IfOk result (λ answer. is_some answer ≡ true) }
 {
-    if !check_tables(alloc, grammar, start, &tables)? {
+    if !check_over(alloc, grammar, lr, start, &tables)? {
         return Ok(None);
     }
     Ok(Some(tables))

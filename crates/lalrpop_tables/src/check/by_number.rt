@@ -4,7 +4,7 @@ mod leading;
 mod reached;
 mod tokens;
 
-ghost use Rattle.std.specs.Prelude.{◌<◌, length, IfOk, IsTrue};
+ghost use Rattle.std.specs.Prelude.{◌≡◌, ◌<◌, length, IfOk, IsTrue};
 ghost use Rattle.lalrpop_base.specs.Words.{AreCoherent, IsWellFormed, rules_of};
 ghost use Rattle.lalrpop_tables.specs.check.ByNumber.{AreListedByNumber};
 ghost use Rattle.lalrpop_tables.specs.check.Check.{PassCheck};
@@ -15,10 +15,11 @@ use self::reached::{are_reached, lead_to_first};
 use self::tokens::hold_lookaheads;
 use crate::check::numbered_states::listed::listed_by_number;
 use crate::conflicts::have_no_conflict;
+use crate::construction::lr::Lr;
+use crate::construction::numbered_state::NumberedState;
 use crate::construction::numbers::Numbers;
 use crate::lane_table::follow_sets::Found;
-use crate::lane_table::follow_sets::numbered_state::NumberedState;
-use lalrpop_base::first::FirstSets;
+use lalrpop_base::lookahead::nil::Nil;
 use lalrpop_base::lr1_core::state::Lr1State;
 use lalrpop_base::memory::OutOfMemory;
 use lalrpop_base::repr::NonterminalString;
@@ -38,7 +39,8 @@ fn numbered_pass<'grammar>(
     requires coherent { AreCoherent states.now }
     requires some { 0 < length states.now }
     requires numbers { AreNumbers (rules_of grammar.now) numbers.now }
-    requires listed { AreListedByNumber numbers.now start.now states.now numbered.now }
+    requires listed { AreListedByNumber (rules_of grammar.now) start.now numbers.now
+        states.now numbered.now }
     ensures { IfOk result (λ yes. IsTrue yes → PassCheck grammar.now start.now states.now) }
 {
     let _terminals = grammar.terminals.all();
@@ -63,18 +65,20 @@ fn numbered_pass<'grammar>(
 pub(super) fn pass_by_number<'grammar>(
     alloc: Global,
     grammar: &'grammar Grammar,
+    lr: &Lr<'grammar, Nil>,
     start: &NonterminalString,
     states: &[Lr1State<'grammar>],
 ) -> Result<bool, OutOfMemory>
     requires well_formed { IsWellFormed grammar.now }
     requires coherent { AreCoherent states.now }
     requires some { 0 < length states.now }
+    requires rules { lr.now.construction.rules ≡ rules_of grammar.now }
+    requires start { lr.now.construction.start ≡ start.now }
     ensures { IfOk result (λ yes. IsTrue yes → PassCheck grammar.now start.now states.now) }
 {
-    let first_sets = FirstSets::new(alloc, grammar)?;
-    let numbers = Numbers::new(alloc, grammar, &first_sets)?;
-    let Some(numbered) = listed_by_number(alloc, &numbers, start, states)? else {
+    let numbers = lr.numbers();
+    let Some(numbered) = listed_by_number(alloc, lr, numbers, states)? else {
         return Ok(false);
     };
-    numbered_pass(alloc, grammar, start, states, &numbers, &numbered)
+    numbered_pass(alloc, grammar, start, states, numbers, &numbered)
 }

@@ -2,9 +2,10 @@
 ghost use Rattle.std.specs.Prelude.{◌≡◌, [], ◌∷◌, IfOk, OnOk, Contains, map};
 ghost use Rattle.lalrpop_base.specs.Words.{IsAtStart, IsWellFormed, productions, productions_of};
 ghost use Rattle.lalrpop_base.specs.closures.Closure.{dotted_of};
-ghost use Rattle.lalrpop_base.specs.closures.CheckClosing.{Widens, IsBegun, IsExpansionOf, IsMovedIn, IsMovedOf, AreClosure, AllWait};
+ghost use Rattle.lalrpop_base.specs.closures.CheckClosing.{IsBegun, IsExpansionOf, IsMovedIn, IsMovedOf, AreClosure};
+ghost use Rattle.lalrpop_tables.specs.Walks.{AllWait, Visits};
 
-use crate::sets::add_key;
+use crate::walk::Walk;
 use lalrpop_base::lookahead::nil::Nil;
 use lalrpop_base::lr1_core::item::{Item, Lr0Item, Lr1Item};
 use lalrpop_base::memory::OutOfMemory;
@@ -16,31 +17,24 @@ use std::collections::BTreeSet;
 /// Dotted productions.
 pub type Set<'grammar> = BTreeSet<Lr0Item<'grammar>>;
 
-// Finds an item, which goes on the stack if it is new.
-fn find<'grammar>(
+// Goes to an item.
+fn visit<'grammar>(
     item: Lr0Item<'grammar>,
-    found: &mut Set<'grammar>,
-    stack: &mut Vec<Lr0Item<'grammar>>,
+    walk: &mut Walk<Lr0Item<'grammar>>,
 ) -> Result<(), OutOfMemory>
-    ensures { OnOk result (Widens (λ k. item.entry ≡ k) found.old.keys found.new.keys
-        stack.old.items stack.new.items) }
+    ensures { OnOk result (Visits (λ k. item.entry ≡ k) walk.old walk.new) }
 {
-    let copy = item.to_lr0();
-    if add_key(found, copy)? {
-        stack.push(item)?;
-    }
-    Ok(())
+    walk.visit(item.to_lr0(), item)
 }
 
-// Finds the productions of a nonterminal, dot first.
-fn find_productions<'grammar>(
+// Goes to the productions of a nonterminal, dot first.
+fn visit_productions<'grammar>(
     grammar: &'grammar Grammar,
     name: &NonterminalString,
-    found: &mut Set<'grammar>,
-    stack: &mut Vec<Lr0Item<'grammar>>,
+    walk: &mut Walk<Lr0Item<'grammar>>,
 ) -> Result<(), OutOfMemory>
-    ensures { OnOk result (Widens (IsBegun (productions_of grammar.now name.now)) found.old.keys
-        found.new.keys stack.old.items stack.new.items) }
+    ensures { OnOk result
+        (Visits (IsBegun (productions_of grammar.now name.now)) walk.old walk.new) }
 {
     for production in grammar.productions_for(name) {
         let item = Item {
@@ -48,20 +42,18 @@ fn find_productions<'grammar>(
             index: 0,
             lookahead: Nil,
         };
-        find(item, found, stack)?;
+        visit(item, walk)?;
     }
     Ok(())
 }
 
-// Finds what an item leads to without a symbol.
-fn find_expansions<'grammar>(
+// Goes to what an item leads to without a symbol.
+fn visit_expansions<'grammar>(
     grammar: &'grammar Grammar,
     item: &Lr0Item<'grammar>,
-    found: &mut Set<'grammar>,
-    stack: &mut Vec<Lr0Item<'grammar>>,
+    walk: &mut Walk<Lr0Item<'grammar>>,
 ) -> Result<(), OutOfMemory>
-    ensures { OnOk result (Widens (IsExpansionOf grammar.now item.now) found.old.keys found.new.keys
-        stack.old.items stack.new.items) }
+    ensures { OnOk result (Visits (IsExpansionOf grammar.now item.now) walk.old walk.new) }
 {
     let Some((symbol, _)) = item.shift_symbol() else {
         return Ok(());
@@ -69,26 +61,26 @@ fn find_expansions<'grammar>(
     let Symbol::Nonterminal(name) = symbol else {
         return Ok(());
     };
-    find_productions(grammar, name, found, stack)?;
+    visit_productions(grammar, name, walk)?;
     Ok(())
 }
 
-// Finds all that those on the stack lead to without a symbol.
+// All that those which wait lead to without a symbol.
 fn close<'grammar>(
     grammar: &'grammar Grammar,
-    found: &mut Set<'grammar>,
-    mut stack: Vec<Lr0Item<'grammar>>,
-) -> Result<(), OutOfMemory>
+    mut walk: Walk<Lr0Item<'grammar>>,
+) -> Result<Set<'grammar>, OutOfMemory>
     requires well_formed { IsWellFormed grammar.now }
-    requires waiting { AllWait found.old.keys stack.items }
-    ensures { OnOk result (AreClosure grammar.now (λ p dot. Contains found.old.keys
-        (record { production = p; index = dot; lookahead = record {} })) found.new.keys) }
+    requires waiting { AllWait walk }
+    ensures { IfOk result (λ set. AreClosure grammar.now (λ p dot. Contains walk.entry.visited.keys
+        (record { production = p; index = dot; lookahead = record {} })) set.keys) }
 {
     let _names = grammar.nonterminals.len();
-    while let Some(item) = stack.pop() {
-        find_expansions(grammar, &item, found, &mut stack)?;
+    while let Some(item) = walk.waiting.pop_front() {
+        visit_expansions(grammar, &item, &mut walk)?;
     }
-    Ok(())
+    let Walk { visited, .. } = walk;
+    Ok(visited)
 }
 
 /// The closure of the productions of the start symbol.
@@ -101,40 +93,34 @@ pub fn start_closure<'grammar>(
     ensures { IfOk result
         (λ set. AreClosure grammar.now (IsAtStart (productions grammar.now) start.now) set.keys) }
 {
-    let mut found = BTreeSet::new(alloc);
-    let mut stack = Vec::new(alloc);
+    let mut walk = Walk::new(alloc);
     let _names = grammar.nonterminals.len();
-    find_productions(grammar, start, &mut found, &mut stack)?;
-    close(grammar, &mut found, stack)?;
-    Ok(found)
+    visit_productions(grammar, start, &mut walk)?;
+    close(grammar, walk)
 }
 
-// Finds the items whose dot moved.
-fn find_moved<'grammar>(
+// Goes to the items whose dot moved.
+fn visit_moved<'grammar>(
     items: &[Lr1Item<'grammar>],
-    found: &mut Set<'grammar>,
-    stack: &mut Vec<Lr0Item<'grammar>>,
+    walk: &mut Walk<Lr0Item<'grammar>>,
 ) -> Result<(), OutOfMemory>
-    ensures { OnOk result (Widens (IsMovedOf items.now) found.old.keys found.new.keys
-        stack.old.items stack.new.items) }
+    ensures { OnOk result (Visits (IsMovedOf items.now) walk.old walk.new) }
 {
     for item in items {
-        find_if_moved(item, found, stack)?;
+        visit_if_moved(item, walk)?;
     }
     Ok(())
 }
 
-// Finds an item if its dot moved.
-fn find_if_moved<'grammar>(
+// Goes to an item if its dot moved.
+fn visit_if_moved<'grammar>(
     item: &Lr1Item<'grammar>,
-    found: &mut Set<'grammar>,
-    stack: &mut Vec<Lr0Item<'grammar>>,
+    walk: &mut Walk<Lr0Item<'grammar>>,
 ) -> Result<(), OutOfMemory>
-    ensures { OnOk result (Widens (IsMovedOf (item.now ∷ [])) found.old.keys found.new.keys
-        stack.old.items stack.new.items) }
+    ensures { OnOk result (Visits (IsMovedOf (item.now ∷ [])) walk.old walk.new) }
 {
     if item.index > 0 {
-        find(item.to_lr0(), found, stack)?;
+        visit(item.to_lr0(), walk)?;
     }
     Ok(())
 }
@@ -149,9 +135,7 @@ pub fn moved_closure<'grammar>(
     ensures { IfOk result
         (λ set. AreClosure grammar.now (IsMovedIn (map dotted_of items.now)) set.keys) }
 {
-    let mut found = BTreeSet::new(alloc);
-    let mut stack = Vec::new(alloc);
-    find_moved(items, &mut found, &mut stack)?;
-    close(grammar, &mut found, stack)?;
-    Ok(found)
+    let mut walk = Walk::new(alloc);
+    visit_moved(items, &mut walk)?;
+    close(grammar, walk)
 }

@@ -10,7 +10,7 @@ ghost use Rattle.lalrpop_base.specs.states.Lr0.{AreLr0States, HasLr0States, Have
 ghost use Rattle.lalrpop_tables.specs.answers.Lr1Answers.{AreBuiltTablesOf, FailsOn};
 ghost use Rattle.lalrpop_tables.specs.grammars.Numbers.{AreNumbered, AreNumbers, items_by};
 ghost use Rattle.lalrpop_tables.specs.answers.Results.{AreTables, AreTablesFor, FailsBy, FailsFor, canonical_of};
-ghost use Rattle.lalrpop_tables.specs.states.NumberedStates.{HaveItemsAt};
+ghost use Rattle.lalrpop_tables.specs.states.NumberedStates.{AreNumberedAs};
 ghost use Rattle.lalrpop_tables.specs.states.States.{begun};
 ghost use Rattle.lalrpop_tables.specs.declared.build.options.Method.TheVariants.{Canonical};
 
@@ -152,7 +152,7 @@ impl<'grammar, L: Lookahead> Lr<'grammar, L> {
     }
 
     /// The productions of the start symbol, dot first, with its lookahead.
-    pub(super) fn start_kernel(
+    pub(crate) fn start_kernel(
         &self,
         alloc: Global,
         numbers: &Numbers<'grammar>,
@@ -222,7 +222,7 @@ impl<'grammar> Lr<'grammar, Nil> {
         self.build_states(alloc)
     }
 
-    /// The states without lookahead, whatever conflicts they have, and the numbers of their items.
+    /// The states without lookahead, whatever conflicts they have, and each by numbers.
     pub(crate) fn lr0_states(
         &self,
         alloc: Global,
@@ -231,12 +231,12 @@ impl<'grammar> Lr<'grammar, Nil> {
         requires { AreNumbers self.now.construction.rules numbers.now }
         ensures states { IfOk result (λ made. AreLr0States self.now.construction.rules
             self.now.construction.start made.0.items) }
-        ensures items { IfOk result
-            (λ made. HaveItemsAt numbers.now.items.items made.1.items made.0.items) }
+        ensures numbered { IfOk result
+            (λ made. AreNumberedAs numbers.now made.0.items made.1.items) }
     {
         let _own = self.grammar;
-        let (states, items) = numbered_states(alloc, self, numbers)?;
-        Ok((states, items))
+        let (states, list) = numbered_states(alloc, self, numbers)?;
+        Ok((states, list))
     }
 }
 

@@ -1,6 +1,7 @@
 //! Items by number, and the kernels of states.
-ghost use Rattle.std.specs.Prelude.{◌≡◌, ◌+◌, ◌<◌, [], length, slice_get, Some, IfOk, OnOk, OnErr, IfSome, IsNone};
+ghost use Rattle.std.specs.Prelude.{◌≡◌, ◌+◌, ◌<◌, [], length, map, slice_get, Some, IfOk, OnOk, OnErr, IfSome, IsNone};
 ghost use Rattle.lalrpop_base.specs.Words.{AddsOnce, AllDiffer};
+ghost use Rattle.lalrpop_tables.specs.states.NumberedStates.{number_in};
 
 use indexmap::IndexSet;
 use lalrpop_base::lookahead::Lookahead;
@@ -15,6 +16,20 @@ use std::marker::Model;
 pub struct Numbered<L> {
     pub number: usize,
     pub lookahead: L,
+}
+
+/// Puts the numbers of items in the place of others.
+pub(crate) fn list_numbers<L: Lookahead>(
+    list: &[Numbered<L>],
+    numbers: &mut Vec<usize>,
+) -> Result<(), OutOfMemory>
+    ensures { OnOk result (numbers.new.items ≡ map number_in list.now) }
+{
+    numbers.clear();
+    for item in list {
+        numbers.push(item.number)?;
+    }
+    Ok(())
 }
 
 /// The items in which the closure of a state begins, by their numbers.

@@ -4,14 +4,15 @@ ghost use Rattle.lalrpop_base.specs.Words.{Dotted, Rules};
 ghost use Rattle.lalrpop_base.specs.closures.Closure.{AreItemsBy, IsClosureBy};
 ghost use Rattle.lalrpop_base.specs.declared.lr1_core.state.State.{State as Made};
 ghost use Rattle.lalrpop_tables.specs.grammars.Numbers.{AreAllNumbered, AreNumbered, AreNumbers, items_by, kernels_by};
-ghost use Rattle.lalrpop_tables.specs.states.NumberedStates.{AreItemsAt, number_in};
+ghost use Rattle.lalrpop_tables.specs.states.NumberedStates.{AreEdgesBy, IsMadeByNumber};
 ghost use Rattle.lalrpop_tables.specs.states.Building.{AreMadeSoFar};
-ghost use Rattle.lalrpop_tables.specs.states.States.{IsBuiltBy, Extends, LeadsToAdded};
+ghost use Rattle.lalrpop_tables.specs.states.States.{IsBuiltBy, Extends, LeadsToAdded, state_entries};
+ghost use Rattle.lalrpop_tables.specs.states.Transitions.{reductions_of, seen};
 
 use super::closure::closure;
 use super::lookahead_build::LookaheadBuild;
 use super::lr::Lr;
-use super::numbered::{Numbered, NumberedKernels};
+use super::numbered::{Numbered, NumberedKernels, list_numbers};
 use super::numbers::Numbers;
 use super::reductions::reductions;
 use super::transitions::{Edges, Moves, transitions};
@@ -47,6 +48,7 @@ fn state_of<'grammar, L: LookaheadBuild>(
     number: usize,
     kernels: &mut NumberedKernels<L>,
     moves: &mut Moves<L>,
+    edges: &mut Vec<(usize, usize)>,
 ) -> Result<State<'grammar, L>, OutOfMemory>
     requires numbers { (g : Rules) × AreNumbers g numbers.now }
     requires known { AreNumbered numbers.now.items.items list.items }
@@ -65,8 +67,12 @@ fn state_of<'grammar, L: LookaheadBuild>(
     ensures led { IfOk result
         (LeadsToAdded (kernels_by numbers.now.items.items kernels.old)
         (kernels_by numbers.now.items.items kernels.new)) }
+    ensures by_number { IfOk result (λ state. AreEdgesBy numbers.now.symbols.items edges.new.items
+        (state_entries state)) }
+    ensures finished { IfOk result
+        (λ state. map seen state.reductions.items ≡ reductions_of state.items.vec.items) }
 {
-    let Edges { shifts, gotos } = transitions(alloc, numbers, &list, kernels, moves)?;
+    let Edges { shifts, gotos } = transitions(alloc, numbers, &list, kernels, moves, edges)?;
     let items = items_of(alloc, numbers, list)?;
     let reductions = reductions(alloc, &items)?;
     Ok(State {
@@ -78,22 +84,8 @@ fn state_of<'grammar, L: LookaheadBuild>(
     })
 }
 
-// The numbers of items, in the place of others.
-fn list_numbers<L: Lookahead>(
-    list: &[Numbered<L>],
-    numbers: &mut Vec<usize>,
-) -> Result<(), OutOfMemory>
-    ensures { OnOk result (numbers.new.items ≡ map number_in list.now) }
-{
-    numbers.clear();
-    for item in list {
-        numbers.push(item.number)?;
-    }
-    Ok(())
-}
-
-/// Makes the state of the next kernel, if one is left, and tells whether one was. The numbers of its
-/// items are left in `work`.
+/// Makes the state of the next kernel, if one is left, and tells whether one was. Its items and
+/// transitions by number are left in `work`.
 pub(super) fn add_state<'grammar, L: LookaheadBuild>(
     alloc: Global,
     lr: &Lr<'grammar, L>,
@@ -109,7 +101,7 @@ pub(super) fn add_state<'grammar, L: LookaheadBuild>(
         numbers.now.items.items kernels.new states.new.items) }
     ensures more { IfOk result (λ more. IsTrue more →
         (state : Made L) × (states.new.items ≡ states.old.items ++ state ∷ []) ×
-        AreItemsAt numbers.now.items.items work.new.numbers.items state.items.vec.items) }
+        IsMadeByNumber numbers.now work.new.numbers.items work.new.edges.items state) }
     ensures counted { IfOk result
         (λ more. IsTrue more → kernels.new.handed ≡ kernels.old.handed + 1) }
     ensures none { IfOk result
@@ -122,7 +114,15 @@ pub(super) fn add_state<'grammar, L: LookaheadBuild>(
     };
     let list = closure(alloc, lr, numbers, kernels.items(number), work)?;
     list_numbers(&list, &mut work.numbers)?;
-    let state = state_of(alloc, numbers, list, number, kernels, &mut work.moves)?;
+    let state = state_of(
+        alloc,
+        numbers,
+        list,
+        number,
+        kernels,
+        &mut work.moves,
+        &mut work.edges,
+    )?;
     states.push(state)?;
     Ok(true)
 }

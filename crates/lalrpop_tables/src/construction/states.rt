@@ -4,11 +4,12 @@ ghost use Rattle.lalrpop_tables.specs.early_stop.EarlyStop.{AreEnough, AreMadeFo
 ghost use Rattle.lalrpop_tables.specs.grammars.Numbers.{AreNumbers};
 ghost use Rattle.lalrpop_tables.specs.answers.Results.{AreStatesFor};
 ghost use Rattle.lalrpop_tables.specs.states.Building.{AreMadeSoFar};
-ghost use Rattle.lalrpop_tables.specs.states.NumberedStates.{HaveItemsAt};
+ghost use Rattle.lalrpop_tables.specs.states.NumberedStates.{AreNumberedAs};
 
 use super::lookahead_build::LookaheadBuild;
 use super::lr::Lr;
 use super::numbered::NumberedKernels;
+use super::numbered_state::{NumberedState, numbered_state};
 use super::numbers::Numbers;
 use super::results::push_conflicts;
 use super::state::add_state;
@@ -20,8 +21,8 @@ use std::alloc::Global;
 /// States, and their conflicts.
 pub type States<'grammar, L> = (Vec<State<'grammar, L>>, Vec<Conflict<'grammar, L>>);
 
-/// States, and the numbers of the items of each.
-pub type NumberedStates<'grammar, L> = (Vec<State<'grammar, L>>, Vec<Vec<usize>>);
+/// States, and each by numbers.
+pub(crate) type NumberedStates<'grammar, L> = (Vec<State<'grammar, L>>, Vec<NumberedState>);
 
 // Whether so many conflicts are enough to stop; 0 is none.
 fn are_enough(stop_after: usize, found: usize) -> bool
@@ -84,9 +85,9 @@ pub fn all_states<'grammar, L: LookaheadBuild>(
     Ok(states)
 }
 
-/// All states, numbered as their kernels first appear, and the numbers of their items. No conflict
-/// is looked for.
-pub fn numbered_states<'grammar, L: LookaheadBuild>(
+/// All states, numbered as their kernels first appear, and each by numbers. No conflict is looked
+/// for.
+pub(crate) fn numbered_states<'grammar, L: LookaheadBuild>(
     alloc: Global,
     lr: &Lr<'grammar, L>,
     numbers: &Numbers<'grammar>,
@@ -94,15 +95,15 @@ pub fn numbered_states<'grammar, L: LookaheadBuild>(
     requires { AreNumbers lr.now.construction.rules numbers.now }
     ensures states { IfOk result (λ made. AreStatesFor L.meaning L.begins L.passes
         L.lists_conflicts lr.now.construction made.0.items) }
-    ensures items { IfOk result
-        (λ made. HaveItemsAt numbers.now.items.items made.1.items made.0.items) }
+    ensures numbered { IfOk result
+        (λ made. AreNumberedAs numbers.now made.0.items made.1.items) }
 {
     let mut kernels = first_kernels(alloc, lr, numbers)?;
     let mut work = Workspace::new(alloc);
     let mut states = Vec::new(alloc);
-    let mut items = Vec::new(alloc);
+    let mut list = Vec::new(alloc);
     while add_state(alloc, lr, numbers, &mut kernels, &mut states, &mut work)? {
-        items.push(Vec::from_slice(alloc, &work.numbers)?)?;
+        list.push(numbered_state(alloc, numbers, &work.numbers, &work.edges)?)?;
     }
-    Ok((states, items))
+    Ok((states, list))
 }

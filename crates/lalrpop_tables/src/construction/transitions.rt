@@ -1,8 +1,9 @@
 //! The transitions of a state.
 ghost use Rattle.std.specs.Prelude.{◌<◌, IfOk, OnOk, length, Some};
 ghost use Rattle.lalrpop_base.specs.Words.{Rules};
-ghost use Rattle.lalrpop_tables.specs.grammars.Numbers.{AreAllNumbered, AreGroupsOf, AreNumbered, AreNumbers, groups_by, item_by, items_by, kernels_by};
-ghost use Rattle.lalrpop_tables.specs.states.Transitions.{AreEdges, AreEdgesListed, AreMoves, AreTransitions, IsEdgeAdded, IsMoveAdded, IsReached};
+ghost use Rattle.lalrpop_tables.specs.grammars.Numbers.{AreAllNumbered, AreGroupsOf, AreNumbered, AreNumbers, NumbersAscend, groups_by, item_by, items_by, kernels_by};
+ghost use Rattle.lalrpop_tables.specs.states.NumberedStates.{AreEdgesBy};
+ghost use Rattle.lalrpop_tables.specs.states.Transitions.{AreEdges, AreEdgesListed, AreMoves, AreTransitions, IsEntryAdded, IsMoveAdded, IsReached, edge_entries, list_entries};
 
 use super::numbered::{Numbered, NumberedKernel, NumberedKernels};
 use super::numbers::Numbers;
@@ -79,7 +80,8 @@ struct EdgeLists {
 
 // Puts a transition behind the others of its kind.
 fn add_edge(symbol: Symbol, target: StateIndex, lists: &mut EdgeLists) -> Result<(), OutOfMemory>
-    ensures { OnOk result (IsEdgeAdded symbol target lists.old lists.new) }
+    ensures { OnOk result
+        (IsEntryAdded symbol target (list_entries lists.old) (list_entries lists.new)) }
 {
     match symbol {
         Symbol::Nonterminal(name) => {
@@ -102,16 +104,18 @@ fn edge_maps(alloc: Global, lists: EdgeLists) -> Result<Edges, OutOfMemory>
     })
 }
 
-// A transition to the state of each kernel. New states are numbered in the order of the list; it is
-// soonest done where its symbols rise.
+// A transition to the state of each kernel, in maps and by number. New states are numbered in the
+// order of the list, in which symbols rise.
 fn edges_of<'grammar, L: Lookahead>(
     alloc: Global,
     numbers: &Numbers<'grammar>,
     moves: Vec<(usize, Sequence<Numbered<L>>)>,
     kernels: &mut NumberedKernels<L>,
+    list: &mut Vec<(usize, usize)>,
 ) -> Result<Edges, OutOfMemory>
     requires numbers { (g : Rules) × AreNumbers g numbers.now }
     requires known { AreGroupsOf numbers.now moves.items }
+    requires rising { NumbersAscend moves.items }
     requires kernels { AreAllNumbered numbers.now.items.items kernels.old.list }
     ensures known { OnOk result (AreAllNumbered numbers.now.items.items kernels.new.list) }
     ensures edges { IfOk result (λ edges. AreEdges (groups_by numbers.now moves.items)
@@ -119,7 +123,10 @@ fn edges_of<'grammar, L: Lookahead>(
     ensures reached { OnOk result (IsReached (groups_by numbers.now moves.items)
         (kernels_by numbers.now.items.items kernels.old)
         (kernels_by numbers.now.items.items kernels.new)) }
+    ensures by_number { IfOk result (λ edges. AreEdgesBy numbers.now.symbols.items list.new.items
+        (edge_entries edges)) }
 {
+    list.clear();
     let mut lists = EdgeLists {
         shifts: Vec::new(alloc),
         gotos: Vec::new(alloc),
@@ -127,18 +134,20 @@ fn edges_of<'grammar, L: Lookahead>(
     for (symbol, items) in moves {
         let target = kernels.add_state(NumberedKernel::new(items))?;
         add_edge(numbers.symbols[symbol].clone(alloc)?, target, &mut lists)?;
+        list.push((symbol, target.0))?;
     }
     edge_maps(alloc, lists)
 }
 
 /// The transitions over the symbols behind the dots of items, with a state for each kernel that
-/// these give.
+/// these give. The same transitions by number are left in `list`.
 pub fn transitions<'grammar, L: Lookahead>(
     alloc: Global,
     numbers: &Numbers<'grammar>,
     items: &[Numbered<L>],
     kernels: &mut NumberedKernels<L>,
     moves: &mut Moves<L>,
+    list: &mut Vec<(usize, usize)>,
 ) -> Result<Edges, OutOfMemory>
     requires numbers { (g : Rules) × AreNumbers g numbers.now }
     requires known { AreNumbered numbers.now.items.items items.now }
@@ -147,9 +156,11 @@ pub fn transitions<'grammar, L: Lookahead>(
     ensures transitions { IfOk result (AreTransitions (items_by numbers.now.items.items items.now)
         (kernels_by numbers.now.items.items kernels.old)
         (kernels_by numbers.now.items.items kernels.new)) }
+    ensures by_number { IfOk result (λ edges. AreEdgesBy numbers.now.symbols.items list.new.items
+        (edge_entries edges)) }
 {
     moves_of(alloc, numbers, items, moves)?;
     let moves = moves.take_rising(alloc)?;
-    let edges = edges_of(alloc, numbers, moves, kernels)?;
+    let edges = edges_of(alloc, numbers, moves, kernels, list)?;
     Ok(edges)
 }

@@ -7,8 +7,8 @@ use lalrpop_base::lookahead::Lookahead;
 use std::alloc::Global;
 
 /// The tokens of nonterminals and those of items, of a closure, the nonterminals that wait to give
-/// theirs on, the moves of the items, and their numbers. What a state leaves here but the numbers
-/// is taken out before the next.
+/// theirs on, the moves of the items, and the numbers of these and of the transitions. What a state
+/// leaves here but the numbers is taken out before the next.
 #[derive(Drop)]
 pub struct Workspace<L: Lookahead> {
     pub shared: SparseMap<L>,
@@ -16,6 +16,7 @@ pub struct Workspace<L: Lookahead> {
     pub items: SparseMap<L>,
     pub moves: Moves<L>,
     pub numbers: Vec<usize>,
+    pub edges: Vec<(usize, usize)>,
 }
 
 impl<L: Lookahead> Workspace<L> {
@@ -26,6 +27,7 @@ impl<L: Lookahead> Workspace<L> {
             items: SparseMap::new(alloc),
             moves: SparseMap::new(alloc),
             numbers: Vec::new(alloc),
+            edges: Vec::new(alloc),
         }
     }
 }

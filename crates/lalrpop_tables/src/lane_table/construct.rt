@@ -86,25 +86,32 @@ impl<'grammar> LaneTableConstruct<'grammar> {
         Err(BuildError::Conflicts(TableConstructionError { states, conflicts }))
     }
 
+    /// The construction of LR(0) states.
+    pub(crate) fn lr(&self) -> &Lr<'grammar, Nil>
+        ensures { result.now ≡ self.now.lr }
+    {
+        &self.lr
+    }
+
     /// As `construct`, but no conflict is listed where there are no tables; and whether the states
     /// were tables at once, behind one pass over them.
     pub(crate) fn construct_told(
-        self,
+        &self,
         alloc: Global,
     ) -> Result<Option<(Vec<Lr1State<'grammar>>, bool)>, OutOfMemory>
-        requires ready { IsReadyToConstruct self }
+        requires ready { IsReadyToConstruct self.now }
         ensures tables { IfOk result (λ answer. MatchOption answer
-            (HaveCopiedConflict (rules_of self.entry.grammar.now) self.entry.start
-            self.entry.max_copies)
-            (λ told. AreCopiedTables (rules_of self.entry.grammar.now) self.entry.start
-            self.entry.max_copies told.0.items)) }
+            (HaveCopiedConflict (rules_of self.now.grammar.now) self.now.start
+            self.now.max_copies)
+            (λ told. AreCopiedTables (rules_of self.now.grammar.now) self.now.start
+            self.now.max_copies told.0.items)) }
         ensures at_once { IfOk result (λ answer. IfSome answer (λ told. IsTrue told.1 →
-            IsOnNoRightSide (productions self.entry.grammar.now) self.entry.start →
-            AreLalrLaneTables (rules_of self.entry.grammar.now) self.entry.start told.0.items)) }
-        ensures lalr { IsOnNoRightSide (productions self.entry.grammar.now) self.entry.start →
-            IsLALR1 (productions self.entry.grammar.now) self.entry.start →
+            IsOnNoRightSide (productions self.now.grammar.now) self.now.start →
+            AreLalrLaneTables (rules_of self.now.grammar.now) self.now.start told.0.items)) }
+        ensures lalr { IsOnNoRightSide (productions self.now.grammar.now) self.now.start →
+            IsLALR1 (productions self.now.grammar.now) self.now.start →
             IfOk result (λ answer. IsSomeAnd answer
-            (λ told. AreLalrLaneTables (rules_of self.entry.grammar.now) self.entry.start
+            (λ told. AreLalrLaneTables (rules_of self.now.grammar.now) self.now.start
             told.0.items)) }
     {
         let grammar = self.grammar;
@@ -120,22 +127,22 @@ impl<'grammar> LaneTableConstruct<'grammar> {
 
     // The states, resolved up to the first for which no copies help, and whether they are tables at
     // once, behind one pass over them.
-    fn resolved(self, alloc: Global) -> Result<(Vec<Lr1State<'grammar>>, bool), OutOfMemory>
-        requires ready { IsReadyToConstruct self }
-        ensures copies { IfOk result (λ told. AreLr0Copies (rules_of self.entry.grammar.now)
-            self.entry.start self.entry.max_copies told.0.items) }
+    fn resolved(&self, alloc: Global) -> Result<(Vec<Lr1State<'grammar>>, bool), OutOfMemory>
+        requires ready { IsReadyToConstruct self.now }
+        ensures copies { IfOk result (λ told. AreLr0Copies (rules_of self.now.grammar.now)
+            self.now.start self.now.max_copies told.0.items) }
         ensures free { IfOk result (λ told. IsTrue told.1 →
-            HaveNoConflict (rules_of self.entry.grammar.now).terminals told.0.items) }
-        ensures lalr { IsOnNoRightSide (productions self.entry.grammar.now) self.entry.start →
+            HaveNoConflict (rules_of self.now.grammar.now).terminals told.0.items) }
+        ensures lalr { IsOnNoRightSide (productions self.now.grammar.now) self.now.start →
             IfOk result (λ told. MatchBool told.1
-            (AreLalrLaneTables (rules_of self.entry.grammar.now) self.entry.start told.0.items)
-            (¬ IsLALR1 (productions self.entry.grammar.now) self.entry.start)) }
+            (AreLalrLaneTables (rules_of self.now.grammar.now) self.now.start told.0.items)
+            (¬ IsLALR1 (productions self.now.grammar.now) self.now.start)) }
     {
         let grammar = self.grammar;
         let _terminals = grammar.terminals.all();
         let numbers = self.lr.numbers();
-        let (mut states, items) = self.promoted_states(alloc, numbers)?;
-        let Some(first) = self.resolve_states(alloc, numbers, items, &mut states)? else {
+        let (mut states, numbered) = self.promoted_states(alloc, numbers)?;
+        let Some(first) = self.resolve_states(alloc, numbers, &numbered, &mut states)? else {
             return Ok((states, true));
         };
         let states = self.resolve_copied(alloc, states, first)?;

@@ -6,7 +6,6 @@ mod found;
 mod includes;
 mod lookback;
 mod nodes;
-pub(crate) mod numbered_state;
 mod pass;
 pub(crate) mod start;
 mod tokens;

@@ -4,7 +4,6 @@ mod ground;
 mod trace_back;
 mod unepsilon;
 mod unshift;
-mod walk;
 
 ghost use Rattle.std.specs.Prelude.{◌≡◌, ◌<◌, ◌↔◌, ℕ, true, length, slice_get, Some, IfOk, OnErr, OnOk};
 ghost use Rattle.lalrpop_base.specs.Words.{has, AreCoherent, IsWellFormed, productions, rules_of};

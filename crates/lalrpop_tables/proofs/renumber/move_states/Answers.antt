@@ -1,16 +1,11 @@
-use Rattle.std.proofs.Common.{◌≡◌, List, [], ◌∷◌, ◌++◌, length, sym, subst, ap, ◌∙◌, append_assoc, append-nil, refl, arith}
+use Rattle.std.proofs.Common.{List, ◌++◌, sym, subst, ap, ◌∙◌, append-nil, arith}
 use Rattle.lalrpop_base.specs.Words.{Bits, AreMoved, fails, parted, stands_first, number_in}
 use Rattle.lalrpop_tables.proofs.Types.{State}
 use Rattle.lalrpop_base.specs.renumbering.Moved.{no_more}
+use Rattle.std.proofs.lemmas.List.{nil_from_length}
+use Rattle.lalrpop_base.proofs.theory.collapse.Merging.{taken}
 use Rattle.lalrpop_base.proofs.theory.renumbering.Moved.{Moved-append, Moved-grows}
 use Rattle.lalrpop_tables.proofs.renumber.move_states.Goals as goal
-
-taken : {X : Type 0} (all rest yielded left : List X) (x : X) → yielded ++ rest ≡ all → rest ≡ x ∷ left → (yielded ++ x ∷ []) ++ left ≡ all
-taken all rest yielded left x e f = append_assoc yielded (x ∷ []) left ∙ ap (λ ys. yielded ++ ys) (sym f) ∙ e
-
-none_left : {X : Type 0} (xs : List X) → length xs ≡ 0 → xs ≡ []
-none_left [] e = refl
-none_left (x ∷ xs) e = absurd (omega arith)
 
 pub loop-state-init : goal.loop-state-init
 loop-state-init c =
@@ -31,7 +26,7 @@ pub returns : goal.returns
 returns c =
     let new = number_in c.args.numbers.now in
     let h = c.loop-state.invariant in
-    let rest = none_left c.loop-state.state-iterator.rest.items (let k = c.loop-state.state-iterator.rest.ok in let none = c.in-None.ensures.steps.0 in omega arith) in
+    let rest = nil_from_length c.loop-state.state-iterator.rest.items (let k = c.loop-state.state-iterator.rest.ok in let none = c.in-None.ensures.steps.0 in omega arith) in
     let all = sym (append-nil c.loop-state.yielded) ∙ ap (λ ys. c.loop-state.yielded ++ ys) (sym rest) ∙ h.left in
     let moved = Moved-append new h.front h.back in
     let joined : List (State Bits) = c.loop-state.front.items ++ c.loop-state.back.items in

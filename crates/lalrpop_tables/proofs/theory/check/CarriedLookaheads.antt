@@ -1,12 +1,12 @@
 -- What is carried to a finished item is in its lookahead set, so reductions that hold these hold what is carried.
-use Rattle.std.proofs.Common.{◌≡◌, ◌∙◌, ℕ, zero, suc, Bool, true, List, [], ◌∷◌, drop, length, refl, sym, ap, subst, arith, Option, Some, None}
+use Rattle.std.proofs.Common.{◌≡◌, ◌∙◌, ℕ, suc, Bool, true, List, length, refl, sym, ap, subst, arith, Option, Some, None}
 use Rattle.std.specs.Prelude.{slice_get, Contains}
 use Rattle.std.specs.Borrow.{Bor}
 use Rattle.std.proofs.lemmas.Option.{slice_get_within}
 use Rattle.lalrpop_base.specs.Words.{AllDiffer, AreClosed, AreCoherent, Bits, Contents, IsBitOf, IsCarried, IsLaneToken, IsLookahead, IsWellFormed, behind_parent, contents, contents_at, holds_token, of_start, productions, reduction_of, rules_of}
 use Rattle.lalrpop_base.specs.lanes.Lanes.{Gives}
 use Rattle.lalrpop_base.specs.states.States.{Reduction}
-use Rattle.lalrpop_tables.proofs.Types.{Grammar, NonterminalString, Production, State, Symbol, Token}
+use Rattle.lalrpop_tables.proofs.Types.{Grammar, NonterminalString, Production, State, Token}
 use Rattle.lalrpop_base.specs.declared.lookahead.token.Token.TheVariants.{Terminal as TokenOf}
 use Rattle.lalrpop_base.specs.declared.repr.Symbol.TheVariants.{Nonterminal}
 use Rattle.lalrpop_base.proofs.theory.grammars.Grammars.{known_rest, known_symbols}
@@ -24,17 +24,10 @@ use Rattle.lalrpop_tables.specs.lanes.LaneTraces.{places_in}
 use Rattle.lalrpop_tables.specs.states.NumberedStates.{AreNumberedStates}
 use Rattle.lalrpop_tables.specs.declared.construction.numbers.Numbers.{Numbers}
 use Rattle.lalrpop_tables.specs.declared.lane_table.follow_sets.found.Found.{Found}
-use Rattle.lalrpop_tables.specs.declared.lane_table.follow_sets.numbered_state.NumberedState.{NumberedState}
-use Rattle.lalrpop_tables.proofs.theory.follow_sets.FollowSets.{lane_lookahead}
+use Rattle.lalrpop_tables.specs.declared.construction.numbered_state.NumberedState.{NumberedState}
+use Rattle.lalrpop_tables.proofs.theory.follow_sets.FollowSets.{lane_lookahead, rest_behind}
 use Rattle.lalrpop_tables.proofs.theory.lane_states.LanePlaces.{AreSamePlaces, lane_there, places_same}
 use Rattle.lalrpop_tables.proofs.theory.lane_states.LaneResolved.{place_itself}
-
--- what stands behind a symbol behind a dot
-behind_rest : (n : ℕ) (symbols after : List Symbol) (x : Symbol) → drop n symbols ≡ x ∷ after → after ≡ drop (suc n) symbols
-behind_rest zero [] after x e = cc
-behind_rest zero (y ∷ symbols) after x e = cc
-behind_rest (suc n) [] after x e = cc
-behind_rest (suc n) (y ∷ symbols) after x e = behind_rest n symbols after x e
 
 module _ (g : Grammar) (start : NonterminalString) (states : List (State Bits)) where
   abbrev here : ℕ → Contents
@@ -54,7 +47,7 @@ module _ (g : Grammar) (start : NonterminalString) (states : List (State Bits)) 
   module _ (well : IsWellFormed g) (own : AreOfGrammar (productions g) places) where
     given_bit : {s : ℕ} {p : Production} {dot : ℕ} {t : Token} → Gives (productions g) start places s p dot t → (bit : ℕ) × IsBitOf g.terminals t bit
     given_bit (behind_parent s p q dot after t c e f) =
-        let known = known_rest g.terminals (suc dot) q.symbols after (known_symbols g q well (own s q dot c).0) (behind_rest dot q.symbols after (Nonterminal p.nonterminal) e) in
+        let known = known_rest g.terminals (suc dot) q.symbols after (known_symbols g q well (own s q dot c).0) (rest_behind dot q.symbols after (Nonterminal p.nonterminal) e) in
         let b = begun_bit (rules_of g) (λ z h. known_symbols g z well h) after known (TokenOf t) f in
         (b.0, place_there g.terminals t b.0 b.1)
     given_bit (of_start s p e) = (length g.terminals, refl)

@@ -1,7 +1,7 @@
 -- Tokens are sent to places: to one, and to many.
 use Rattle.std.proofs.Common.{◌≡◌, ◌≢◌, ◌+◌, ℕ, ◌⊎◌, inl, inr, List, [], ◌∷◌, ◌++◌, length, refl, sym, ◌∙◌, ap, subst, arith, Bool, true, false, not, ⊎_elim, ◌↔◌, drop, Some, None}
 use Rattle.std.specs.Prelude.{Contains, MatchBool, IsTrue, slice_get}
-use Rattle.std.proofs.lemmas.List.Elements.{Contains-append_left, Contains-append_right, Contains-append_cases}
+use Rattle.std.proofs.lemmas.List.Elements.{Contains-append_left, Contains-push_cases, Contains-push}
 use Rattle.std.proofs.lemmas.Bool.{false≢true}
 use Rattle.std.proofs.lemmas.Option.{slice_get_within}
 use Rattle.lalrpop_base.specs.Words.{Bits, has, join, same_bits, IsFirstSetBefore, FitsTokens, productions_of, rules_of, AllBelow, IsBelow}
@@ -11,7 +11,7 @@ use Rattle.lalrpop_base.specs.lists.Entries.{IsQueued}
 use Rattle.lalrpop_tables.specs.Words.{Carried, Sends, IsBegunAt, IsOver, IsInto, Gives, at_place, target_in}
 use Rattle.lalrpop_tables.specs.declared.place.Place.{Place}
 use Rattle.lalrpop_base.proofs.theory.lists.Growth.{Adds-one, Adds-none, Adds-then, Adds-same, queued_weighed, known_kept, queued_among}
-use Rattle.lalrpop_base.proofs.theory.lists.Members.{Contains-none, contains_head, contains-cons}
+use Rattle.lalrpop_base.proofs.theory.lists.Members.{Contains-none}
 use Rattle.lalrpop_base.proofs.theory.lists.Places.{same_some}
 use Rattle.lalrpop_base.proofs.theory.sets.BitSets.{join_left, join_right, join_cases}
 
@@ -63,10 +63,10 @@ pub Begun-more : (n : ℕ) (ps : List Production) (p : Production) (key : Place)
 Begun-more n ps p key tokens a b c s t u at is dot x y =
     Sends-then (IsBegunAt n ps) (λ k. key ≡ k) (IsBegunAt n (ps ++ p ∷ [])) tokens
     (λ k h. record { state = h.state; start = h.start; among = Contains-append_left ps (p ∷ []) k.item.production h.among })
-    (λ k e. record { state = sym (ap (λ (d : Place). d.state) e) ∙ at; start = sym (ap (λ (d : Place). d.item.index) e) ∙ dot; among = subst (Contains (ps ++ p ∷ [])) (sym is ∙ ap (λ (d : Place). d.item.production) e) (Contains-append_right ps (p ∷ []) p (contains_head p [])) })
-    (λ k h. elim (Contains-append_cases ps (p ∷ []) k.item.production h.among) [
+    (λ k e. record { state = sym (ap (λ (d : Place). d.state) e) ∙ at; start = sym (ap (λ (d : Place). d.item.index) e) ∙ dot; among = subst (Contains (ps ++ p ∷ [])) (sym is ∙ ap (λ (d : Place). d.item.production) e) (Contains-push ps p) })
+    (λ k h. elim (Contains-push_cases ps p k.item.production h.among) [
       | inl f ↦ inl (record { state = h.state; start = h.start; among = f })
-      | inr l ↦ elim (contains-cons p [] k.item.production l) [ inl e ↦ inr (same_place key k (at ∙ sym h.state) (is ∙ e) (dot ∙ sym h.start)) | inr none ↦ absurd (Contains-none k.item.production none) ]
+      | inr e ↦ inr (same_place key k (at ∙ sym h.state) (is ∙ e) (dot ∙ sym h.start))
     ])
     a b c s t u x (Sends-one key tokens b c t u y)
 

@@ -11,14 +11,14 @@ use Rattle.lalrpop_tables.specs.lanes.LaneTraces.{places_in}
 use Rattle.lalrpop_tables.specs.states.NumberedStates.{EdgesAscend}
 use Rattle.lalrpop_tables.specs.declared.construction.numbers.Numbers.{Numbers}
 use Rattle.lalrpop_tables.specs.declared.lane_table.follow_sets.found.Found.{Found}
-use Rattle.lalrpop_tables.specs.declared.lane_table.follow_sets.numbered_state.NumberedState.{NumberedState}
+use Rattle.lalrpop_tables.specs.declared.construction.numbered_state.NumberedState.{NumberedState}
 use Rattle.lalrpop_tables.proofs.theory.check.CarriedLookaheads.{Unions-carried, here_there}
 use Rattle.lalrpop_tables.proofs.theory.check.CheckAll.{Pass-all}
 use Rattle.lalrpop_tables.proofs.theory.check.CheckTables.{Right-closed}
 use Rattle.lalrpop_tables.proofs.theory.check.NumberedRight.{are_targets, keys_of_state, listed_all, numbered_states, of_grammar, right_states, state_at, targets}
 use Rattle.lalrpop_tables.proofs.theory.lane_states.LanePlaces.{closed_there}
 
-module _ (g : Grammar) (start : NonterminalString) (n : Numbers) (numbers : AreNumbers (rules_of g) n) (states : List (State Bits)) (list : List NumberedState) (listed : AreListedByNumber n start states list) where
+module _ (g : Grammar) (start : NonterminalString) (n : Numbers) (numbers : AreNumbers (rules_of g) n) (states : List (State Bits)) (list : List NumberedState) (listed : AreListedByNumber (rules_of g) start n states list) where
   -- transitions rise, and items have numbers
   pub edges_rise : (s : ℕ) (state : NumberedState) → slice_get list s ≡ Some state → EdgesAscend state.edges.items
   edges_rise s state at = (state_at g n numbers start states list listed s state at).is.over.numbered.ascend

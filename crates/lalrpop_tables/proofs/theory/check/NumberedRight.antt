@@ -6,7 +6,7 @@ use Rattle.std.specs.BTreeSet.{BTreeSet}
 use Rattle.std.proofs.lemmas.Bool.{cases_lt}
 use Rattle.std.proofs.lemmas.List.{length-map}
 use Rattle.std.proofs.lemmas.Option.{slice_get_within, slice_get-map}
-use Rattle.lalrpop_base.specs.Words.{AllDiffer, AreCoherent, Bits, Dotted, InClosure, IsAtStart, contents_at, contents_of, leads, productions, rules_of}
+use Rattle.lalrpop_base.specs.Words.{AllDiffer, AreCoherent, Bits, Dotted, InKernel, IsAtStart, contents_at, in_kernel, contents_of, leads, productions, rules_of}
 use Rattle.lalrpop_base.specs.Words.{HaveNoConflict, IsMovedIn, IsReached, IsRightItem, IsRightState, IsRightTarget, IsTarget, AreRightStates, at_zero, lr0}
 use Rattle.lalrpop_base.specs.closures.Closures.{over_edge}
 use Rattle.lalrpop_base.specs.closures.Closure.{dotted_of}
@@ -18,19 +18,20 @@ use Rattle.lalrpop_base.proofs.theory.lists.Members.{Contains-none, contains-con
 use Rattle.lalrpop_base.proofs.theory.lists.Places.{contains_at, filled, one_place, same_some}
 use Rattle.lalrpop_base.proofs.theory.states.ContentsViews.{contains_of_map, lead_as_items_say, some_of_map}
 use Rattle.lalrpop_tables.specs.check.ByNumber.{AllLeadOn, AreListedByNumber, AreReachedByNumber, IsListedState, IsReachedByNumber, LeadsOver, at_first, over_transition}
-use Rattle.lalrpop_tables.specs.check.NumberedClosures.{of_kernel}
 use Rattle.lalrpop_tables.specs.follow_sets.FollowNodes.{AreAllReached, AreOfGrammar}
 use Rattle.lalrpop_tables.specs.grammars.Numbering.{with_dot}
 use Rattle.lalrpop_tables.specs.grammars.Numbers.{AreNumbers}
 use Rattle.lalrpop_tables.specs.lanes.LaneTraces.{places_in}
 use Rattle.lalrpop_tables.specs.states.NumberedStates.{AreNumberedStates, items_at, listed_items, listed_transitions, transitions_at}
 use Rattle.lalrpop_tables.specs.declared.construction.numbers.Numbers.{Numbers}
-use Rattle.lalrpop_tables.specs.declared.lane_table.follow_sets.numbered_state.NumberedState.{NumberedState}
+use Rattle.lalrpop_tables.specs.declared.construction.numbered_state.NumberedState.{NumberedState}
 use Rattle.lalrpop_tables.proofs.theory.canonical.Canonical.{InClosure-more}
 use Rattle.lalrpop_tables.proofs.theory.check.CheckTables.{item_at}
-use Rattle.lalrpop_tables.proofs.theory.check.NumberedItems.{KernelAt, behind_none, behind_some, by_parts, closure_complete, closure_sound, moved_in_kernel, number_there, one_dot, one_production}
+use Rattle.lalrpop_tables.proofs.theory.check.NumberedItems.{behind_none, behind_some, by_parts, one_dot, one_production}
 use Rattle.lalrpop_tables.proofs.theory.check.NumberedSteps.{Listed-numbered}
 use Rattle.lalrpop_tables.proofs.theory.states.NumberedItems.{items_differ}
+use Rattle.lalrpop_tables.proofs.theory.states.SameKernels.{past_in_kernel}
+use Rattle.lalrpop_tables.proofs.theory.states.Shifting.{of_dotted}
 
 -- ---- the numbers from one to a count
 pub positive : ℕ → List ℕ
@@ -49,10 +50,6 @@ pub from_positive : (n m : ℕ) → Contains (positive n) m → (0 < m) × (m �
 unfolding positive
 from_positive zero m c = absurd (Contains-none m c)
 from_positive (suc n) m c = elim (contains-cons (suc n) (positive n) m c) [ inl e ↦ (omega (arith, e), omega (arith, e)) | inr rest ↦ let r = from_positive n m rest in (r.0, omega (arith, r.1)) ]
-
--- names of one symbol are one
-one_name : (a b : NonterminalString) → Nonterminal a ≡ Nonterminal b → a ≡ b
-one_name a b e = cc
 
 -- where symbols lead is read of the state
 lead_target : (h : Bits → Token → Bool) (s : State Bits) (x : Symbol) → leads (contents_of h s) x ≡ target_of s x
@@ -86,12 +83,9 @@ module _ (g : Grammar) (n : Numbers) (numbers : AreNumbers (rules_of g) n) (star
   known = n.items.items
 
   -- ---- one state
-  module _ (s : ℕ) (old : State Bits) (state : NumberedState) (h : IsListedState n start s old state) where
+  module _ (s : ℕ) (old : State Bits) (state : NumberedState) (h : IsListedState (rules_of g) start n s old state) where
     abbrev olds : List (Production × ℕ)
     olds = dots old.items.vec.items
-
-    abbrev Kernel : Production → ℕ → Type 0
-    Kernel = KernelAt (rules_of g) n numbers h.kernel
 
     -- a listed dotted production by its number
     pub record IsListedAs (p : Production) (dot : ℕ) : Type 0 where
@@ -121,67 +115,40 @@ module _ (g : Grammar) (n : Numbers) (numbers : AreNumbers (rules_of g) n) (star
         let there = contains_map dotted_of old.items.vec.items i.0 (contains_at old.items.vec.items i.0 f.0 i.1) in
         subst (λ (d : ℕ). Contains olds (p, d)) (one_dot (i.0).production p (i.0).index dot same) (subst (λ (q : Production). Contains olds (q, (i.0).index)) (one_production (i.0).production p (i.0).index dot same) there)
 
-    kernel_within : (k : ℕ) → Contains h.kernel k → k < length known
-    kernel_within k c = h.over.numbered.known k ((h.closed k).1 (of_kernel k c))
-
     -- the closure
-    pub closed_to : (p : Production) (dot : ℕ) → Contains olds (p, dot) → InClosure (productions g) Kernel p dot
-    closed_to p dot c =
-        let k = listed_as p dot c in
-        let f = closure_sound (rules_of g) n numbers h.kernel kernel_within ((h.closed k.number).0 k.among) in
-        let same : f.item ≡ with_dot p dot = same_some f.item (with_dot p dot) (sym f.at ∙ k.at) in
-        subst (λ (i : Dotted Nil). InClosure (productions g) Kernel i.production i.index) same f.closed
-
-    pub closed_from : (p : Production) (dot : ℕ) → InClosure (productions g) Kernel p dot → Contains olds (p, dot)
-    closed_from p dot c =
-        let f = closure_complete (rules_of g) n numbers h.kernel c in
-        as_listed p dot f.number f.at ((h.closed f.number).1 f.closed)
-
-    pub closure_over : (K : Production → ℕ → Type 0) → ((p : Production) (dot : ℕ) → Kernel p dot → K p dot) → ((p : Production) (dot : ℕ) → K p dot → Kernel p dot) → AreClosure g K (keys_of_state old).keys
+    closure_over : (K : Production → ℕ → Type 0) → ((p : Production) (dot : ℕ) → InKernel h.kernel p dot → K p dot) → ((p : Production) (dot : ℕ) → K p dot → InKernel h.kernel p dot) → AreClosure g K (keys_of_state old).keys
     closure_over K to back k = (
-      λ c. InClosure-more (productions g) Kernel K to (closed_to k.production k.index ((keys_list old k).0 c)),
-      λ c. (keys_list old k).1 (closed_from k.production k.index (InClosure-more (productions g) K Kernel back c)),
+      λ c. InClosure-more (productions g) (InKernel h.kernel) K to ((h.closed k.production k.index).0 ((keys_list old k).0 c)),
+      λ c. (keys_list old k).1 ((h.closed k.production k.index).1 (InClosure-more (productions g) K (InKernel h.kernel) back c)),
     )
 
     -- the first state is the closure of the start
     pub first_closed : s ≡ 0 → AreClosure g (IsAtStart (productions g) start) (keys_of_state old).keys
-    first_closed zero_state = closure_over (IsAtStart (productions g) start) to back
-      where
-        to : (p : Production) (dot : ℕ) → Kernel p dot → IsAtStart (productions g) start p dot
-        to p dot k =
-            let e = (h.is.first zero_state k.0).0 k.1 in
-            let same : e.0 ≡ with_dot p dot = same_some e.0 (with_dot p dot) (sym e.1 ∙ k.2) in
-            let dot_is : dot ≡ 0 = sym (ap (λ (i : Dotted Nil). i.index) same) ∙ e.2 in
-            let name : p.nonterminal ≡ start = sym (ap (λ (i : Dotted Nil). i.production.nonterminal) same) ∙ sym (one_name start (e.0).production.nonterminal e.3) in
-            (dot_is, (numbers.items.each (with_dot p dot) (contains_at known (with_dot p dot) k.0 k.2)).0, name)
-
-        back : (p : Production) (dot : ℕ) → IsAtStart (productions g) start p dot → Kernel p dot
-        back p dot a =
-            let k = number_there (rules_of g) n numbers p 0 a.1 (omega arith) in
-            let front = (h.is.first zero_state k.0).1 (with_dot p 0, k.1, refl, ap Nonterminal (sym a.2)) in
-            (k.0, front, k.1 ∙ ap (λ (d : ℕ). Some (with_dot p d)) (sym a.0))
+    first_closed first = closure_over (IsAtStart (productions g) start) (λ p dot. (h.is.first first p dot).0) (λ p dot. (h.is.first first p dot).1)
 
     -- another one is the closure of what was moved
     pub moved_closed : 0 < s → IsRightTarget g old.items.vec.items (keys_of_state old).keys
     moved_closed other = record {
       some =
-          let f = filled h.kernel 0 (h.is.other other).some in
-          let c = place state.items.items f.0 ((h.closed f.0).1 (of_kernel f.0 (contains_at h.kernel f.0 0 f.1))) in
-          let counted = h.over.listed.counted in
-          omega (arith, c.1, counted);
+          let i = filled h.kernel 0 (h.is.some other) in
+          let c = kernel_listed (i.0).production (i.0).index (contains_map dotted_of h.kernel i.0 (contains_at h.kernel i.0 0 i.1)) in
+          let f = of_dotted old.items.vec.items ((i.0).production, (i.0).index) c in
+          let at = place old.items.vec.items f.0 f.1 in
+          omega (arith, at.1);
       closed = closure_over (IsMovedIn olds) to back;
     }
       where
-        to : (p : Production) (dot : ℕ) → Kernel p dot → IsMovedIn olds p dot
-        to p dot k =
-            let m = (h.is.other other).each k.0 k.1 in
-            let same : m.item ≡ with_dot p dot = same_some m.item (with_dot p dot) (sym m.at ∙ k.2) in
-            (subst (λ (i : Dotted Nil). 0 < i.index) same m.moved, as_listed p dot k.0 k.2 ((h.closed k.0).1 (of_kernel k.0 k.1)))
+        kernel_listed : (p : Production) (dot : ℕ) → InKernel h.kernel p dot → Contains olds (p, dot)
+        kernel_listed p dot k = (h.closed p dot).1 (in_kernel k)
 
-        back : (p : Production) (dot : ℕ) → IsMovedIn olds p dot → Kernel p dot
-        back p dot m =
-            let k = listed_as p dot m.1 in
-            (k.number, moved_in_kernel (rules_of g) n numbers h.kernel (with_dot p dot) k.at m.0 ((h.closed k.number).0 k.among), k.at)
+        to : (p : Production) (dot : ℕ) → InKernel h.kernel p dot → IsMovedIn olds p dot
+        to p dot k =
+            let i = of_dotted h.kernel (p, dot) k in
+            (subst (λ (d : Production × ℕ). 0 < d.1) i.2 (h.is.moved other i.0 i.1), kernel_listed p dot k)
+
+        back : (p : Production) (dot : ℕ) → IsMovedIn olds p dot → InKernel h.kernel p dot
+        back p zero m = absurd (let l = m.0 in omega arith)
+        back p (suc d) m = past_in_kernel (productions g) (InKernel h.kernel) d refl ((h.closed p (suc d)).0 m.1)
 
     -- finished items are reduced
     pub finished_reduced : (i : Dotted Bits) → Contains old.items.vec.items i → i.index ≡ length i.production.symbols → Contains (reduced old.reductions.items) i.production
@@ -213,11 +180,11 @@ module _ (g : Grammar) (n : Numbers) (numbers : AreNumbers (rules_of g) n) (star
         h.over.once i j k.0 l k.1 (m.1 ∙ ap Some (sym same))
 
   -- ---- all states
-  module _ (states : List (State Bits)) (list : List NumberedState) (listed : AreListedByNumber n start states list) where
+  module _ (states : List (State Bits)) (list : List NumberedState) (listed : AreListedByNumber (rules_of g) start n states list) where
     pub record IsStateAt (s : ℕ) (state : NumberedState) : Type 0 where
       pub old : State Bits
       pub at : slice_get states s ≡ Some old
-      pub is : IsListedState n start s old state
+      pub is : IsListedState (rules_of g) start n s old state
 
     pub state_at : (s : ℕ) (state : NumberedState) → slice_get list s ≡ Some state → IsStateAt s state
     state_at s state at =
@@ -267,7 +234,7 @@ module _ (g : Grammar) (n : Numbers) (numbers : AreNumbers (rules_of g) n) (star
 
     -- these are states by number
     pub numbered_states : AreNumberedStates n states list
-    numbered_states = Listed-numbered n start states list listed
+    numbered_states = Listed-numbered (rules_of g) start n states list listed
 
     -- ---- what is asked of each
     module _ (coherent : AreCoherent states) (free : HaveNoConflict g.terminals states) (lead : AllLeadOn n list) (reached : AreReachedByNumber list) (none : IsTarget states 0 → ⊥) where

@@ -1,76 +1,52 @@
 -- The steps by which states are listed by number.
-use Rattle.std.proofs.Common.{◌≡◌, ◌∙◌, inl, inr, ℕ, zero, suc, ◌<◌, ◌+◌, Bool, true, false, List, [], ◌∷◌, ◌++◌, length, length-append, get_or, replicate, set, refl, sym, ap, subst, arith, Option, Some}
-use Rattle.std.specs.Prelude.{slice_get, Contains}
+use Rattle.std.proofs.Common.{◌≡◌, ◌∙◌, inl, inr, ℕ, Bool, true, false, List, [], ◌∷◌, ◌++◌, length, get_or, map, replicate, set, refl, sym, ap, subst, arith, Option, Some, None}
+use Rattle.std.specs.Prelude.{◌↔◌, slice_get, Contains, IfSome}
 use Rattle.std.specs.Borrow.{Bor}
 use Rattle.std.proofs.lemmas.Bool.{cases_eq, false≢true}
 use Rattle.std.proofs.lemmas.List.{get_or-replicate, length-replicate, length-set}
-use Rattle.std.proofs.lemmas.List.Elements.{Contains-append_left, Contains-append_right, Contains-append_cases}
+use Rattle.std.proofs.lemmas.List.Elements.{Contains-append_left, Contains-push}
 use Rattle.std.proofs.lemmas.Option.{get_or_from_slice_get, slice_get_within}
-use Rattle.lalrpop_base.specs.Words.{AllDiffer, Bits, contents_at}
-use Rattle.lalrpop_tables.proofs.Types.{NonterminalString, Production, State, Token}
-use Rattle.lalrpop_base.proofs.theory.lists.Members.{Contains-none, contains-cons, contains_head}
-use Rattle.lalrpop_base.proofs.theory.lists.Places.{filled, push_cases, put_other}
-use Rattle.lalrpop_tables.specs.check.ByNumber.{AddsFinished, AreListedByNumber, AreMarkedReached, HasFinished, HoldSets, HoldsUnion, IsKernelOf, IsListedState, IsReachedByNumber, MarksTarget, MarksTargets, over_transition}
+use Rattle.lalrpop_base.specs.Words.{Bits, Dotted, InClosure, InKernel, Rules, contents_at}
+use Rattle.lalrpop_tables.proofs.Types.{Nil, NonterminalString, Production, State, Token}
+use Rattle.lalrpop_tables.proofs.theory.lists.Pushes.{push_both, push_counted}
+use Rattle.lalrpop_base.proofs.theory.lists.Places.{filled, put_other}
+use Rattle.lalrpop_tables.specs.check.ByNumber.{AreListedByNumber, AreMarkedReached, HoldSets, HoldsUnion, IsListedState, ListsClosure, IsReachedByNumber, MarksTarget, MarksTargets, over_transition}
 use Rattle.lalrpop_tables.specs.follow_sets.FollowWalks.{AreUnions}
-use Rattle.lalrpop_tables.specs.states.NumberedStates.{AreNumberedStates, IsNumberedState, listed_transitions}
+use Rattle.lalrpop_tables.specs.grammars.Numbers.{AreNumbered, items_by}
+use Rattle.lalrpop_tables.specs.states.NumberedStates.{AreItemsAt, AreNumberedStates, IsNumberedState, listed_transitions, number_in}
+use Rattle.lalrpop_tables.specs.declared.construction.numbered.Numbered.{Numbered}
 use Rattle.lalrpop_tables.specs.declared.construction.numbers.Numbers.{Numbers}
-use Rattle.lalrpop_tables.specs.declared.lane_table.follow_sets.numbered_state.NumberedState.{NumberedState}
+use Rattle.lalrpop_tables.specs.declared.construction.numbered_state.NumberedState.{NumberedState}
 use Rattle.lalrpop_tables.proofs.theory.follow_sets.FollowBits.{held_at}
+use Rattle.lalrpop_tables.proofs.theory.states.ItemNumbers.{items_at_by, same_dots}
 
--- ---- numbers that rise
--- each of the first so many is less than the next
-abbrev pub RiseBelow : List ℕ → ℕ → Type 0
-RiseBelow xs n = (j a b : ℕ) → j + 1 < n → slice_get xs j ≡ Some a → slice_get xs (j + 1) ≡ Some b → a < b
-
-pub rise_further : (xs : List ℕ) → RiseBelow xs (length xs) → (i d a b : ℕ) → slice_get xs i ≡ Some a → slice_get xs (i + suc d) ≡ Some b → a < b
-rise_further xs rise i zero a b at_a at_b =
-    let l = slice_get_within xs (i + 1) b at_b in
-    rise i a b (omega (arith, l)) at_a at_b
-rise_further xs rise i (suc d) a b at_a at_b =
-    let l = slice_get_within xs (i + suc (suc d)) b at_b in
-    let m = filled xs (i + suc d) (omega (arith, l)) in
-    let one : i + suc (suc d) ≡ i + suc d + 1 = omega arith in
-    let first = rise_further xs rise i d a m.0 at_a m.1 in
-    let last = rise (i + suc d) m.0 b (omega (arith, l)) m.1 (ap (slice_get xs) (sym one) ∙ at_b) in
-    omega (arith, first, last)
-
-pub rising_differ : (xs : List ℕ) → RiseBelow xs (length xs) → AllDiffer xs
-rising_differ xs rise i j x l at_i at_j =
-    let d = step i j l in
-    let less = rise_further xs rise i d.0 x x at_i (ap (slice_get xs) (sym d.1) ∙ at_j) in
-    absurd (omega (arith, less))
-  where
-    step : (i j : ℕ) → i < j → (d : ℕ) × (j ≡ i + suc d)
-    step zero zero l = absurd (omega (arith, l))
-    step zero (suc j) l = (j, omega arith)
-    step (suc i) zero l = absurd (omega (arith, l))
-    step (suc i) (suc j) l = let s = step i j (omega (arith, l)) in (s.0, omega (arith, s.1))
+-- what is said of a value says less
+pub if_some : {X : Type 0} (o : Option X) (P Q : X → Type 0) → ((x : X) → P x → Q x) → IfSome o P → IfSome o Q
+if_some None P Q weaker h = h
+if_some (Some x) P Q weaker h = weaker x h
 
 -- ---- states that are listed
-pub Listed-more : (n : Numbers) (start : NonterminalString) (done : List (State Bits)) (old : State Bits) (list : List NumberedState) (state : NumberedState) → AreListedByNumber n start done list → IsListedState n start (length list) old state → AreListedByNumber n start (done ++ old ∷ []) (list ++ state ∷ [])
-Listed-more n start done old list state before is =
-    let same = before.counted in
-    record {
-      counted = length-append list (state ∷ []) ∙ ap (λ (m : ℕ). m + 1) before.counted ∙ sym (length-append done (old ∷ []));
-      each = λ s p q at_p at_q. elim (push_cases done old s p at_p) [
-        | inl was ↦
-            let l = slice_get_within done s p was in
-            elim (push_cases list state s q at_q) [
-              | inl there ↦ before.each s p q was there
-              | inr end ↦ let e = end.0 in absurd (omega (arith, e, l, same))
-            ]
-        | inr last ↦
-            let e = last.0 in
-            elim (push_cases list state s q at_q) [
-              | inl there ↦ let l = slice_get_within list s q there in absurd (omega (arith, e, l, same))
-              | inr end ↦ subst (λ (m : ℕ). IsListedState n start m p q) (sym end.0) (subst (λ (x : NumberedState). IsListedState n start (length list) p x) end.1 (subst (λ (x : State Bits). IsListedState n start (length list) x state) last.1 is))
-            ]
-      ];
-    }
+pub Listed-more : (g : Rules) (start : NonterminalString) (n : Numbers) (done : List (State Bits)) (old : State Bits) (list : List NumberedState) (state : NumberedState) → AreListedByNumber g start n done list → IsListedState g start n (length list) old state → AreListedByNumber g start n (done ++ old ∷ []) (list ++ state ∷ [])
+Listed-more g start n done old list state before is = record {
+  counted = push_counted done old list state before.counted;
+  each = λ s p q at_p at_q. elim (push_both done old list state before.counted s p q at_p at_q) [
+    | inl was ↦ before.each s p q was.0 was.1
+    | inr new ↦ subst (λ (m : ℕ). IsListedState g start n m p q) (before.counted ∙ sym new.0) (subst (λ (x : NumberedState). IsListedState g start n (length list) p x) new.2 (subst (λ (x : State Bits). IsListedState g start n (length list) x state) new.1 is))
+  ];
+}
+
+-- a state whose items have the numbers of a closure lists that
+pub Listed-closure : (g : Rules) (known : List (Dotted Nil)) (kernel : List (Dotted Nil)) (list : List (Numbered Nil)) (old : State Bits) → AreNumbered known list → ((p : Production) (dot : ℕ) → InKernel (items_by known list) p dot ↔ InClosure g.productions (InKernel kernel) p dot) →
+    AreItemsAt known (map number_in list) old.items.vec.items → ListsClosure g kernel old
+Listed-closure g known kernel list old within exact at p dot =
+    let own = items_at_by known list within in (
+      λ c. (exact p dot).0 (same_dots known (map number_in list) old.items.vec.items (items_by known list) at own p dot c),
+      λ h. same_dots known (map number_in list) (items_by known list) old.items.vec.items own at p dot ((exact p dot).1 h),
+    )
 
 -- they are states by number
-pub Listed-numbered : (n : Numbers) (start : NonterminalString) (states : List (State Bits)) (list : List NumberedState) → AreListedByNumber n start states list → AreNumberedStates n states list
-Listed-numbered n start states list listed = record {
+pub Listed-numbered : (g : Rules) (start : NonterminalString) (n : Numbers) (states : List (State Bits)) (list : List NumberedState) → AreListedByNumber g start n states list → AreNumberedStates n states list
+Listed-numbered g start n states list listed = record {
   counted = listed.counted;
   each = λ s state at.
       let l = slice_get_within list s state at in
@@ -79,20 +55,6 @@ Listed-numbered n start states list listed = record {
       subst (λ (q : Option (State Bits)). IsNumberedState n (contents_at (λ (lookahead : Bits) (t : Token). true) q) state) (sym f.1) (listed.each s f.0 state f.1 at).over.numbered;
   reduced = λ s old state at_old at. (listed.each s old state at_old at).over.reduced;
 }
-
--- ---- finished items
-pub Finished-none : (n : Numbers) (finished : List ℕ) → HasFinished n [] finished
-Finished-none n finished k c end = absurd (Contains-none k c)
-
--- one item more
-pub Finished-more : (n : Numbers) (done : List ℕ) (item : ℕ) (old new : List ℕ) → HasFinished n done old → AddsFinished n item old new → HasFinished n (done ++ item ∷ []) new
-Finished-more n done item old new before adds k c end = elim (Contains-append_cases done (item ∷ []) k c) [
-  | inl was ↦ adds.kept k (before k was end)
-  | inr last ↦ elim (contains-cons item [] k last) [
-    | inl e ↦ subst (Contains new) e (adds.there (ap (slice_get n.behind.items) e ∙ end))
-    | inr none ↦ absurd (Contains-none k none)
-  ]
-]
 
 -- ---- marked targets
 pub Targets-none : (marks : List Bool) → MarksTargets [] marks marks
@@ -121,7 +83,7 @@ Targets-more done edge base old new before marks = record {
       | inl first ↦ inl first
       | inr t ↦ inr (t.0, Contains-append_left done (edge ∷ []) (t.0, m) t.1)
     ]
-    | inr e ↦ inr (edge.0, subst (λ (k : ℕ). Contains (done ++ edge ∷ []) (edge.0, k)) (sym e) (Contains-append_right done (edge ∷ []) edge (contains_head edge [])))
+    | inr e ↦ inr (edge.0, subst (λ (k : ℕ). Contains (done ++ edge ∷ []) (edge.0, k)) (sym e) (Contains-push done edge))
   ];
 }
 
@@ -154,8 +116,3 @@ Union-held follow entries numbers sets reductions unions holds j k r at_r at_k =
       union = λ bit. (λ h. (unions.each j k bit at_k).0 ((held_at sets j bit f.0 f.1).1 h), λ u. (held_at sets j bit f.0 f.1).0 ((unions.each j k bit at_k).1 u));
       within = λ bit h. holds j bit r f.0 at_r f.1 h;
     }
-
--- the numbers of a kernel are those of dotted productions
-pub kernel_within : (n : Numbers) (start : NonterminalString) (s : ℕ) (kernel : List ℕ) → IsKernelOf n start s kernel → (k : ℕ) → Contains kernel k → k < length n.items.items
-kernel_within n start zero kernel is k c = let e = (is.first refl k).0 c in slice_get_within n.items.items k e.0 e.1
-kernel_within n start (suc s) kernel is k c = let m = (is.other (omega arith)).each k c in slice_get_within n.items.items k m.item m.at

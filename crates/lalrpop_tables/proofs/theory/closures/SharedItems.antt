@@ -15,7 +15,7 @@ use Rattle.lalrpop_tables.specs.closures.Sharing.{IsFront, IsNamed, IsShared, Sh
 use Rattle.lalrpop_base.specs.lists.Entries.{IsPut, IsQueued}
 use Rattle.lalrpop_base.specs.lists.Entries.IsPut.{came, waited}
 use Rattle.lalrpop_base.proofs.theory.states.ContentsViews.{contains_of_map}
-use Rattle.lalrpop_base.proofs.theory.lists.Lists.{drop_past}
+use Rattle.lalrpop_base.proofs.theory.lists.Lists.{drop_past, same_nonterminal}
 use Rattle.lalrpop_tables.specs.declared.construction.numbered.Numbered.{Numbered}
 use Rattle.lalrpop_tables.specs.declared.construction.numbers.Numbers.{Numbers}
 use Rattle.lalrpop_base.proofs.theory.closures.Closing.{drop_split, rest_from, split_drop}
@@ -69,10 +69,7 @@ module _ (begins : Rules → List Symbol → Token → Type 0) (passes : Rules �
 
   -- nor does one with a nonterminal without productions
   pub Barren-shares : (name : NonterminalString) → slice_get item.production.symbols item.index ≡ Some (Nonterminal name) → HasNoProduction g name → (table : Shared) (queue : List ℕ) → Shares begins passes g n (item ∷ []) table table queue queue
-  Barren-shares name at none = gives_nothing (λ other behind q among named. none q among (named ∙ same_name (same_some (Nonterminal other) (Nonterminal name) (sym behind ∙ at))))
-    where
-      same_name : {a b : NonterminalString} → Nonterminal a ≡ Nonterminal b → a ≡ b
-      same_name e = cc
+  Barren-shares name at none = gives_nothing (λ other behind q among named. none q among (named ∙ same_nonterminal (same_some (Nonterminal other) (Nonterminal name) (sym behind ∙ at))))
 
   -- what may follow a nonterminal behind the dot goes to it
   Given-shares : (x : ℕ) (name : NonterminalString) (rest : List Symbol) → number < length n.items.items → slice_get n.behind.items number ≡ Some (Some x) → slice_get item.production.symbols item.index ≡ Some (Nonterminal name) → rest ≡ drop (item.index + 1) item.production.symbols →

@@ -1,18 +1,15 @@
 -- What the construction makes with sets of tokens: closures with FIRST, and conflicts of tokens.
-use Rattle.std.proofs.Common.{◌≡◌, ℕ, zero, suc, List, [], ◌∷◌, ◌++◌, refl, sym, subst}
-use Rattle.std.specs.Prelude.{Contains, slice_get, drop, Some}
-use Rattle.std.specs.List.{flat_map}
+use Rattle.std.proofs.Common.{◌≡◌, ℕ, List, ◌∷◌, sym}
+use Rattle.std.specs.Prelude.{Contains, drop}
 use Rattle.lalrpop_base.specs.Words.{Bits, InTokenClosure, with_token, begins_rest, inherits, IsNullable, Dotted, state_conflicts, Rules}
 use Rattle.lalrpop_tables.proofs.Types.{BuildError, Conflict, Production, State, Symbol, TerminalString, Token}
 use Rattle.lalrpop_base.specs.declared.lookahead.token.Token.TheVariants.{Eof, Error, Terminal as TokenOf}
 use Rattle.lalrpop_base.specs.declared.lr1_core.state.BuildError.TheVariants.{Conflicts, Memory}
 use Rattle.lalrpop_base.specs.declared.repr.Symbol.TheVariants.{Nonterminal}
-use Rattle.lalrpop_base.proofs.theory.conflicts.ConflictLemmas.{none_exactly}
 use Rattle.lalrpop_base.specs.closures.Closure.{itself}
-use Rattle.lalrpop_base.specs.Words.{Begins, IsClosureOf, IsClosureBy, InTokenClosureBy, own_token, from_rest, from_parent, HaveNoConflict, ListsAll}
+use Rattle.lalrpop_base.specs.Words.{Begins, IsClosureOf, IsClosureBy, InTokenClosureBy, own_token, from_rest, from_parent}
 use Rattle.lalrpop_tables.specs.Words.{Construction, AreStatesOf, AreStatesFor, AreTables, AreTablesFor, FailsBy, FailsFor, IsBuiltOfBy}
-use Rattle.lalrpop_tables.proofs.theory.conflicts.ConflictLists.{All-listed}
-use Rattle.lalrpop_base.proofs.theory.lists.Places.{same_some}
+use Rattle.lalrpop_tables.proofs.theory.conflicts.ConflictLists.{All-listed, free_states}
 
 -- symbols let tokens pass where they are nullable
 abbrev pub Passes : Rules → List Symbol → Type 0
@@ -77,27 +74,9 @@ states_of c states s = record {
   coherent = s.coherent;
 }
 
--- ---- the conflicts
-module _ (terminals : List TerminalString) where
-  append_nil_left : {X : Type 0} (xs ys : List X) → xs ++ ys ≡ [] → xs ≡ []
-  append_nil_left [] ys e = refl
-  append_nil_left (x ∷ xs) ys e = cc
-
-  append_nil_right : {X : Type 0} (xs ys : List X) → xs ++ ys ≡ [] → ys ≡ []
-  append_nil_right [] ys e = e
-  append_nil_right (x ∷ xs) ys e = cc
-
-  none_at : (states : List (State Bits)) (k : ℕ) (s : State Bits) → flat_map (state_conflicts terminals) states ≡ [] → slice_get states k ≡ Some s → state_conflicts terminals s ≡ []
-  none_at [] k s e at = cc
-  none_at (t ∷ states) zero s e at = subst (λ (u : State Bits). state_conflicts terminals u ≡ []) (same_some t s at) (append_nil_left (state_conflicts terminals t) (flat_map (state_conflicts terminals) states) e)
-  none_at (t ∷ states) (suc k) s e at = none_at states k s (append_nil_right (state_conflicts terminals t) (flat_map (state_conflicts terminals) states) e) at
-
-  no_conflict : (states : List (State Bits)) → ListsAll Lists terminals states [] → HaveNoConflict terminals states
-  no_conflict states l k s at = (none_exactly terminals s).0 (none_at states k s (sym (All-listed state_conflicts terminals l)) at)
-
 -- ---- what is made of them
 pub Tables-of : (c : Construction Bits) (states : List (State Bits)) → AreTablesFor itself Begins Passes Lists c states → AreTables c states
-Tables-of c states t = record { made = states_of c states t.made; free = no_conflict c.rules.terminals states t.free }
+Tables-of c states t = record { made = states_of c states t.made; free = free_states c.rules.terminals states (sym (All-listed state_conflicts c.rules.terminals t.free)) }
 
 pub Fails-of : (c : Construction Bits) (error : BuildError Bits) → FailsFor itself Begins Passes Lists c error → FailsBy c error
 Fails-of c (Conflicts error) f = (states_of c error.states.items f.0, record { all = All-listed state_conflicts c.rules.terminals f.1; some = f.2 })

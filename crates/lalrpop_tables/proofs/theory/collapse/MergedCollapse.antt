@@ -1,36 +1,28 @@
 -- States numbered, placed and with their reductions joined are the collapse of those that they were.
-use Rattle.std.proofs.Common.{◌≡◌, ℕ, zero, suc, List, [], ◌∷◌, ◌++◌, map, refl, sym, ap, ◌∙◌, subst, arith, Some}
+use Rattle.std.proofs.Common.{◌≡◌, ℕ, List, [], map, sym, ap, ◌∙◌, subst, arith, Some}
 use Rattle.std.specs.Prelude.{◌↔◌, Contains, slice_get}
 use Rattle.std.specs.Borrow.{Bor}
 use Rattle.std.specs.BTreeMap.{get}
 use Rattle.std.specs.List.{AllZip, flat_map}
 use Rattle.std.proofs.lemmas.Option.{slice_get_within}
 use Rattle.lalrpop_base.specs.Words.{Bits, dots, AreCollapsible, state_conflicts, name_cmp}
-use Rattle.lalrpop_base.specs.conflicts.StateConflicts.{HasNoConflict}
 use Rattle.lalrpop_base.specs.contracts.repr.TerminalStringOrd.TheImpl as terminal_ord
 use Rattle.lalrpop_tables.proofs.Types.{BuildError, Conflict, NonterminalString, Production, State, StateIndex, TerminalString}
 use Rattle.lalrpop_base.specs.declared.lr1_core.state.BuildError.TheVariants.{Conflicts, Memory}
-use Rattle.lalrpop_base.proofs.theory.conflicts.ConflictLemmas.{none_exactly}
 use Rattle.lalrpop_base.specs.Words.{dots_in, HoldsAt, ReducesBy, ReducesOn, OfMember, IsMerge, IsNumbered, IsCollapsed, AreCollapsedTables, FailsByCollapse}
 use Rattle.lalrpop_base.specs.collapse.Merging.{ArePlaced}
-use Rattle.lalrpop_base.specs.Words.{AreFirstNumbers, IsReduced, AreMoved, number_in, IsRenumberedState, HaveNoConflict, FailWith}
+use Rattle.lalrpop_base.specs.Words.{AreFirstNumbers, IsReduced, AreMoved, number_in, IsRenumberedState, FailWith}
 use Rattle.lalrpop_base.specs.collapse.Collapsed.{LeadsTo}
 use Rattle.lalrpop_base.proofs.theory.collapse.MergeableStates.{was, goes, as_many, moved_to, came_from, number_of_place, index_there, same_number, dots_moved, Numbered-merge}
 use Rattle.lalrpop_base.proofs.theory.collapse.MergedStates.{Merges, HasNumber, AreMerged, Placed-merged}
 use Rattle.lalrpop_base.proofs.theory.lists.Places.{same_some, filled}
 use Rattle.lalrpop_base.proofs.theory.lists.Members.{zipped_length}
 use Rattle.lalrpop_base.proofs.theory.lists.BothFacts.{then_both}
+use Rattle.lalrpop_tables.proofs.theory.conflicts.ConflictLists.{free_states}
+use Rattle.lalrpop_tables.proofs.theory.lists.Zipped.{zip_old}
 
 abbrev Reduction : Type 0
 Reduction = Bits × Bor Production
-
--- ---- two lists, place by place
-zipped_at : {X Y : Type 0} (R : X → Y → Type 0) (xs : List X) (ys : List Y) → AllZip R xs ys → (k : ℕ) (y : Y) → slice_get ys k ≡ Some y → (x : X) × (slice_get xs k ≡ Some x) × R x y
-zipped_at R [] [] z k y at = cc
-zipped_at R [] (w ∷ ys) z k y at = absurd z
-zipped_at R (x ∷ xs) [] z k y at = absurd z
-zipped_at {X} {Y} R (x ∷ xs) (w ∷ ys) z zero y at = (x, refl, subst (R x) (same_some w y at) z.0)
-zipped_at R (x ∷ xs) (w ∷ ys) z (suc k) y at = zipped_at R xs ys z.1 k y at
 
 -- ---- equivalences
 module _ (before moved merged after : List (State Bits)) (numbers : List ℕ) (collapsible : AreCollapsible before) (named : AreFirstNumbers (map dots_in before) numbers) (under_new : AreMoved (number_in numbers) before moved) (placed : ArePlaced moved merged) (reduced : AllZip IsReduced merged after) where
@@ -143,24 +135,11 @@ module _ (before moved merged after : List (State Bits)) (numbers : List ℕ) (c
     first = named.first;
     one = λ n m a b at_n at_m e. same_number before moved numbers collapsible named under_new n m a b at_n at_m e;
     each = λ k state at.
-        let m = zipped_at IsReduced merged after reduced k state at in
+        let m = zip_old IsReduced merged after reduced k state at in
         is_merge k m.0 state (are_merged.each k m.0 m.1) m.2;
   }
 
 -- ---- the states as tables, or with their conflicts
-none_before : {X : Type 0} (xs ys : List X) → xs ++ ys ≡ [] → (xs ≡ []) × (ys ≡ [])
-none_before [] ys e = (refl, e)
-none_before (x ∷ xs) ys e = cc
-
-pub free_states : (terminals : List TerminalString) (states : List (State Bits)) → flat_map (state_conflicts terminals) states ≡ [] → HaveNoConflict terminals states
-free_states terminals [] e k state at = cc
-free_states terminals (s ∷ states) e zero state at =
-    let first = none_before (state_conflicts terminals s) (flat_map (state_conflicts terminals) states) e in
-    subst (λ (x : State Bits). HasNoConflict terminals x) (same_some s state at) ((none_exactly terminals s).0 first.0)
-free_states terminals (s ∷ states) e (suc k) state at =
-    let first = none_before (state_conflicts terminals s) (flat_map (state_conflicts terminals) states) e in
-    free_states terminals states first.1 k state at
-
 module _ (terminals : List TerminalString) (before after : List (State Bits)) (conflicts : List (Conflict Bits)) (collapsed : IsCollapsed before after) (all : conflicts ≡ flat_map (state_conflicts terminals) after) where
   pub Collapse-tables : (tables : List (State Bits)) → tables ≡ after → conflicts ≡ [] → AreCollapsedTables terminals before tables
   Collapse-tables tables e none = subst (AreCollapsedTables terminals before) (sym e) (record { collapsed = collapsed; free = free_states terminals after (sym all ∙ none) })

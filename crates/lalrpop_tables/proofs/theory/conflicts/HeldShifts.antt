@@ -3,7 +3,7 @@ use Rattle.std.proofs.Common.{◌≡◌, ◌∙◌, ◌↔◌, inl, inr, ℕ, Bo
 use Rattle.std.specs.Prelude.{Contains, IsTrue}
 use Rattle.std.specs.Borrow.{Bor}
 use Rattle.std.specs.List.{flat_map}
-use Rattle.std.proofs.lemmas.List.Elements.{Contains-append_left, Contains-append_right, Contains-append_cases}
+use Rattle.std.proofs.lemmas.List.Elements.{Contains-append_left, Contains-append_right, Contains-append_cases, Contains-push_cases, Contains-push}
 use Rattle.lalrpop_base.specs.Words.{Bits, has, HasToken, holds_token, join, no_bits, AllDiffer}
 use Rattle.lalrpop_base.specs.conflicts.StateConflicts.{Reduction}
 use Rattle.lalrpop_base.specs.declared.lookahead.token.Token.TheVariants.{Terminal as TokenOf}
@@ -29,14 +29,11 @@ pub held_more : (rs : List Reduction) (r : Reduction) (old : Bits) → ((bit : �
 held_more rs r old before bit = (
   λ h. elim ((join_bits old r.0 bit).0 h) [
     | inl there ↦ let f = (before bit).0 there in (f.0, Contains-append_left rs (r ∷ []) f.0 f.1, f.2)
-    | inr came ↦ (r, Contains-append_right rs (r ∷ []) r (contains_head r []), came)
+    | inr came ↦ (r, Contains-push rs r, came)
   ],
-  λ h. (join_bits old r.0 bit).1 (elim (Contains-append_cases rs (r ∷ []) h.0 h.1) [
+  λ h. (join_bits old r.0 bit).1 (elim (Contains-push_cases rs r h.0 h.1) [
     | inl c ↦ inl ((before bit).1 (h.0, c, h.2))
-    | inr c ↦ elim (contains-cons r [] h.0 c) [
-      | inl same ↦ inr (subst (λ (q : Reduction). has q.0 bit ≡ true) (sym same) h.2)
-      | inr none ↦ absurd (Contains-none h.0 none)
-    ]
+    | inr same ↦ inr (subst (λ (q : Reduction). has q.0 bit ≡ true) (sym same) h.2)
   ]),
 )
 

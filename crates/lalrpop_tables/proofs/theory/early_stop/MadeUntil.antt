@@ -1,5 +1,6 @@
 -- The loop that makes states until enough conflicts are listed, and what its states and conflicts are as an answer.
 use Rattle.std.proofs.Common.{◌≡◌, ℕ, ◌+◌, ◌-◌, ◌<◌, inl, inr, List, [], ◌∷◌, ◌++◌, length, take, refl, sym, ◌∙◌, ap, subst, arith, length-append}
+use Rattle.std.proofs.Math.Seq.{take-append_seam}
 use Rattle.std.proofs.lemmas.Bool.{cases_lt}
 use Rattle.lalrpop_base.specs.Words.{Bits, Dotted, Kernels, Rules, FailWith, ListsAll, more}
 use Rattle.lalrpop_tables.proofs.Types.{BuildError, Conflict, State, Symbol, TerminalString, Token}
@@ -11,18 +12,11 @@ use Rattle.lalrpop_tables.proofs.theory.states.Building.{Building-all}
 use Rattle.lalrpop_tables.proofs.theory.conflicts.ConflictLists.{States-of}
 
 -- ---- lists in two parts
-take_front : {X : Type 0} (xs ys : List X) → take (length xs) (xs ++ ys) ≡ xs
-take_front [] ys = take_none ys
-  where
-    take_none : {X : Type 0} (ys : List X) → take 0 ys ≡ []
-    take_none ys = refl
-take_front (x ∷ xs) ys = ap (λ zs. x ∷ zs) (take_front xs ys)
-
 but_last : {X : Type 0} (xs all : List X) (x : X) → all ≡ xs ++ x ∷ [] → take (length all - 1) all ≡ xs
 but_last xs all x e =
     let longer : length all ≡ length xs + 1 = ap length e ∙ length-append xs (x ∷ []) in
     let front : length all - 1 ≡ length xs = omega arith in
-    ap (λ k. take k all) front ∙ ap (take (length xs)) e ∙ take_front xs (x ∷ [])
+    ap (λ k. take k all) front ∙ ap (take (length xs)) e ∙ take-append_seam xs (x ∷ [])
 
 -- ---- the loop
 pub nothing_listed : {L : Type 0} (lists : State L → List TerminalString → List (Conflict L) → Type 0) (terminals : List TerminalString) (states : List (State L)) (conflicts : List (Conflict L)) → states ≡ [] → conflicts ≡ [] → ListsAll lists terminals states conflicts

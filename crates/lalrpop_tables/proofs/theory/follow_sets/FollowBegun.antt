@@ -3,7 +3,7 @@ use Rattle.std.proofs.Common.{◌≡◌, ◌∙◌, ◌⊎◌, inl, inr, ℕ, �
 use Rattle.std.specs.Prelude.{slice_get, Option, Some, None, Contains}
 use Rattle.std.proofs.lemmas.Bool.{cases_lt}
 use Rattle.std.proofs.lemmas.List.{get_or_default}
-use Rattle.std.proofs.lemmas.List.Elements.{Contains-append_left, Contains-append_right, Contains-append_cases}
+use Rattle.std.proofs.lemmas.List.Elements.{Contains-append_left, Contains-push_cases, Contains-push}
 use Rattle.std.proofs.lemmas.Option.{slice_get_within}
 use Rattle.lalrpop_base.specs.Words.{Bits, Dotted, IsBitOf, IsFirst, has, join, rules_of, with_bit}
 use Rattle.lalrpop_tables.proofs.Types.{Nil, NonterminalString, Symbol, Token}
@@ -19,13 +19,13 @@ use Rattle.lalrpop_tables.specs.lanes.LaneTraces.{places_in}
 use Rattle.lalrpop_tables.specs.states.NumberedStates.{items_at, transitions_at}
 use Rattle.lalrpop_tables.specs.grammars.Numbering.{with_dot}
 use Rattle.lalrpop_tables.specs.grammars.Numbers.{dotted_at}
-use Rattle.lalrpop_tables.specs.declared.lane_table.follow_sets.numbered_state.NumberedState.{NumberedState}
+use Rattle.lalrpop_tables.specs.declared.construction.numbered_state.NumberedState.{NumberedState}
 use Rattle.lalrpop_tables.specs.declared.lane_table.follow_sets.pass.Pass.{Pass}
 use Rattle.lalrpop_tables.specs.declared.construction.numbers.rests.Rest.{Rest}
 use Rattle.lalrpop_base.proofs.theory.closures.Closing.{split_drop}
 use Rattle.lalrpop_tables.proofs.theory.follow_sets.FollowBits.{join_bits, takes_at, takes_none, takes_same, takes_then, with_bit_bits}
 use Rattle.lalrpop_tables.proofs.theory.follow_sets.FollowNodes.{item_known, item_listed, node_of_pair, node_within, nodes_counted, one_node, one_number, pair_of_node, state_of_item, state_of_node, transition_leads, transition_node, transitions_read}
-use Rattle.lalrpop_base.proofs.theory.lists.Members.{contains-cons, contains_head, Contains-none, place}
+use Rattle.lalrpop_base.proofs.theory.lists.Members.{Contains-none, place}
 use Rattle.lalrpop_tables.proofs.theory.grammars.Numbers.{stands_at}
 use Rattle.lalrpop_base.proofs.theory.lists.Places.{same_some, slice_get_at}
 use Rattle.lalrpop_base.proofs.theory.grammars.Grammars.{same_front, same_after}
@@ -155,14 +155,11 @@ module _ (pass : Pass) (s : ℕ) where
   among_more ks k old mid new before last = takes_same (λ n bit. RestAmong ks n bit ⊎ IsRestBit pass s k n bit) (RestAmong (ks ++ k ∷ [])) (λ n bit. (
     λ h. elim h [
       | inl r ↦ (r.0, Contains-append_left ks (k ∷ []) r.0 r.1, r.2)
-      | inr r ↦ (k, Contains-append_right ks (k ∷ []) k (contains_head k []), r)
+      | inr r ↦ (k, Contains-push ks k, r)
     ],
-    λ r. elim (Contains-append_cases ks (k ∷ []) r.0 r.1) [
+    λ r. elim (Contains-push_cases ks k r.0 r.1) [
       | inl c ↦ inl (r.0, c, r.2)
-      | inr c ↦ elim (contains-cons k [] r.0 c) [
-        | inl same ↦ inr (subst (λ (j : ℕ). IsRestBit pass s j n bit) (sym same) r.2)
-        | inr none ↦ absurd (Contains-none r.0 none)
-      ]
+      | inr same ↦ inr (subst (λ (j : ℕ). IsRestBit pass s j n bit) (sym same) r.2)
     ],
   )) old new (takes_then (RestAmong ks) (IsRestBit pass s k) old mid new before last)
 

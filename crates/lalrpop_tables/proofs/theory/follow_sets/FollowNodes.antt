@@ -15,7 +15,7 @@ use Rattle.lalrpop_tables.specs.follow_sets.FollowNodes.{IsNodeName, IsPass, IsT
 use Rattle.lalrpop_tables.specs.lanes.LaneTraces.{places_in}
 use Rattle.lalrpop_tables.specs.states.NumberedStates.{EdgesAscend, IsNumberedState, items_at, listed_items, listed_transitions, transitions_at}
 use Rattle.lalrpop_tables.specs.grammars.Numbers.{AreExpansions}
-use Rattle.lalrpop_tables.specs.declared.lane_table.follow_sets.numbered_state.NumberedState.{NumberedState}
+use Rattle.lalrpop_tables.specs.declared.construction.numbered_state.NumberedState.{NumberedState}
 use Rattle.lalrpop_tables.specs.declared.lane_table.follow_sets.pass.Pass.{Pass}
 use Rattle.lalrpop_base.proofs.theory.lists.Members.{Contains-none, place}
 use Rattle.lalrpop_base.proofs.theory.lists.Places.{contains_at, filled, one_place, same_some, slice_get_at}

@@ -30,6 +30,13 @@ within zero xs e = omega arith
 within (suc dot) [] e = cc
 within (suc dot) (y ∷ xs) e = omega (arith, within dot xs e)
 
+-- what stands behind a symbol behind a dot
+pub rest_behind : {A : Type 0} (dot : ℕ) (xs after : List A) (x : A) → drop dot xs ≡ x ∷ after → after ≡ drop (suc dot) xs
+rest_behind zero [] after x e = cc
+rest_behind zero (y ∷ xs) after x e = cc
+rest_behind (suc dot) [] after x e = cc
+rest_behind (suc dot) (y ∷ xs) after x e = rest_behind dot xs after x e
+
 module _ (g : List Production) (start : NonterminalString) (states : ℕ → Contents) where
   -- a token is in the follow set of a production's nonterminal in a state from which what stands before the dot leads here
   record FollowsFrom (s : ℕ) (p : Production) (dot : ℕ) (t : Token) : Type 0 where

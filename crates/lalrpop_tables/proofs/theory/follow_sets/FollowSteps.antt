@@ -12,25 +12,25 @@ use Rattle.lalrpop_tables.specs.follow_sets.FollowWalks.{HasNullableRest, IsGone
 use Rattle.lalrpop_tables.specs.lanes.LaneTraces.{places_in}
 use Rattle.lalrpop_tables.specs.states.NumberedStates.{IsNumberedState, listed_transitions, transitions_at}
 use Rattle.lalrpop_tables.specs.grammars.Numbering.{AddsThose}
-use Rattle.lalrpop_tables.specs.declared.lane_table.follow_sets.numbered_state.NumberedState.{NumberedState}
+use Rattle.lalrpop_tables.specs.declared.construction.numbered_state.NumberedState.{NumberedState}
 use Rattle.lalrpop_tables.specs.declared.lane_table.follow_sets.pass.Pass.{Pass}
 use Rattle.lalrpop_tables.specs.declared.construction.numbers.rests.Rest.{Rest}
 use Rattle.lalrpop_base.proofs.theory.lists.Lists.{same_nonterminal}
 use Rattle.lalrpop_tables.specs.grammars.Numbers.{IsNumberBehind}
 use Rattle.lalrpop_base.proofs.theory.closures.Closing.{split_drop}
 use Rattle.lalrpop_tables.proofs.theory.grammars.DottedProductions.{those_none}
-use Rattle.lalrpop_base.proofs.theory.lists.Members.{contains-cons, contains_head, Contains-none}
+use Rattle.lalrpop_base.proofs.theory.lists.Members.{contains_head}
 use Rattle.lalrpop_tables.proofs.theory.follow_sets.FollowNodes.{node_within, one_node, transition_node}
 use Rattle.lalrpop_base.proofs.theory.lists.Places.{contains_at, same_some, slice_get_at}
 use Rattle.lalrpop_base.proofs.theory.grammars.Grammars.{same_after}
-use Rattle.std.proofs.lemmas.List.Elements.{Contains-append_left, Contains-append_right, Contains-append_cases}
+use Rattle.std.proofs.lemmas.List.Elements.{Contains-append_left, Contains-append_right, Contains-push_cases}
 
 -- a list took one value behind the others
 pub those_pushed : {X : Type 0} (Such : X → Type 0) (old : List X) (key : X) → Such key → ((x : X) → Such x → key ≡ x) → AddsThose Such old (old ++ key ∷ [])
 those_pushed {X} Such old key is only x = (
-  λ c. elim (Contains-append_cases old (key ∷ []) x c) [
+  λ c. elim (Contains-push_cases old key x c) [
     | inl was ↦ inl was
-    | inr last ↦ elim (contains-cons key [] x last) [ inl e ↦ inr (subst Such e is) | inr none ↦ absurd (Contains-none x none) ]
+    | inr e ↦ inr (subst Such e is)
   ],
   λ e. elim e [
     | inl was ↦ Contains-append_left old (key ∷ []) x was

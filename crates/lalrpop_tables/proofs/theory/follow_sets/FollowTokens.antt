@@ -3,7 +3,7 @@ use Rattle.std.proofs.Common.{◌≡◌, ◌∙◌, ◌⊎◌, inl, inr, ℕ, �
 use Rattle.std.specs.Prelude.{slice_get, Option, Some, None, Contains, IsTrue, is_some}
 use Rattle.std.proofs.lemmas.Bool.{cases_lt}
 use Rattle.std.proofs.lemmas.List.{length_push}
-use Rattle.std.proofs.lemmas.List.Elements.{Contains-append_left, Contains-append_right, Contains-append_cases}
+use Rattle.std.proofs.lemmas.List.Elements.{Contains-append_left, Contains-push_cases, Contains-push}
 use Rattle.std.proofs.lemmas.Option.{slice_get_within}
 use Rattle.lalrpop_base.specs.Words.{Bits, HoldsBit, has, join, no_bits, with_bit}
 use Rattle.lalrpop_tables.proofs.Types.{NonterminalString, Symbol, TerminalString}
@@ -12,7 +12,7 @@ use Rattle.lalrpop_base.proofs.theory.lists.Lists.{same_terminal}
 use Rattle.lalrpop_tables.specs.follow_sets.FollowWalks.{AreTokensOfSymbols, HasTokenOf, HoldsSomeOf, ShareBits}
 use Rattle.lalrpop_tables.specs.follow_sets.FollowWalks.ShareBits.{with_first, with_other}
 use Rattle.lalrpop_tables.proofs.theory.follow_sets.FollowBits.{held_at, held_before, held_last, held_within, join_bits, no_bit, with_bit_bits}
-use Rattle.lalrpop_base.proofs.theory.lists.Members.{contains-cons, contains_head, Contains-none}
+use Rattle.lalrpop_base.proofs.theory.lists.Members.{Contains-none}
 use Rattle.lalrpop_base.proofs.theory.lists.Places.{contains_at, push_cases}
 
 -- ---- the token of a symbol
@@ -86,14 +86,11 @@ pub some_of_more : (tokens : List Bits) (edges : List (ℕ × ℕ)) (e : ℕ × 
 some_of_more tokens edges e old bits at before bit = (
   λ h. elim ((join_bits old bits bit).0 h) [
     | inl there ↦ let f = (before bit).0 there in (f.0, f.1, Contains-append_left edges (e ∷ []) (f.0, f.1) f.2, f.3)
-    | inr came ↦ (e.0, e.1, Contains-append_right edges (e ∷ []) e (contains_head e []), (held_at tokens e.0 bit bits at).1 came)
+    | inr came ↦ (e.0, e.1, Contains-push edges e, (held_at tokens e.0 bit bits at).1 came)
   ],
-  λ h. (join_bits old bits bit).1 (elim (Contains-append_cases edges (e ∷ []) (h.0, h.1) h.2) [
+  λ h. (join_bits old bits bit).1 (elim (Contains-push_cases edges e (h.0, h.1) h.2) [
     | inl c ↦ inl ((before bit).1 (h.0, h.1, c, h.3))
-    | inr c ↦ elim (contains-cons e [] (h.0, h.1) c) [
-      | inl same ↦ inr ((held_at tokens e.0 bit bits at).0 (subst (λ (x : ℕ). HoldsBit tokens x bit) (sym (ap (λ (f : ℕ × ℕ). f.0) same)) h.3))
-      | inr none ↦ absurd (Contains-none (h.0, h.1) none)
-    ]
+    | inr same ↦ inr ((held_at tokens e.0 bit bits at).0 (subst (λ (x : ℕ). HoldsBit tokens x bit) (sym (ap (λ (f : ℕ × ℕ). f.0) same)) h.3))
   ]),
 )
 

@@ -2,12 +2,12 @@
 use Rattle.std.proofs.Common.{◌≡◌, ◌∙◌, ◌⊎◌, inl, inr, ℕ, ◌+◌, ◌<◌, ◌≤◌, ◌↔◌, true, List, [], ◌∷◌, ◌++◌, length, get_or, set, sym, ap, subst, arith}
 use Rattle.std.specs.Prelude.{slice_get, Some, Contains}
 use Rattle.std.proofs.lemmas.Bool.{cases_lt}
-use Rattle.std.proofs.lemmas.List.Elements.{Contains-append_left, Contains-append_right, Contains-append_cases}
+use Rattle.std.proofs.lemmas.List.Elements.{Contains-append_left, Contains-push_cases, Contains-push}
 use Rattle.std.proofs.lemmas.Option.{slice_get_within, slice_get-get_or}
 use Rattle.lalrpop_base.specs.Words.{Bits, HoldsBit, has, join}
 use Rattle.lalrpop_tables.specs.follow_sets.FollowWalks.{AreEmptySets, AreUnions, JoinsUnions, TakesBits}
 use Rattle.lalrpop_tables.proofs.theory.follow_sets.FollowBits.{held_at, join_bits, takes_at, takes_none, takes_same, takes_then}
-use Rattle.lalrpop_base.proofs.theory.lists.Members.{contains-cons, contains_head, Contains-none}
+use Rattle.lalrpop_base.proofs.theory.lists.Members.{Contains-none}
 use Rattle.lalrpop_base.proofs.theory.lists.Places.{same_some}
 
 -- ---- a set that is joined to those of an item
@@ -82,19 +82,16 @@ unions_more follow entries e numbers old new found at before joined = record {
       | inl was ↦ let u = (before.each j k bit there).0 was in (u.0, Contains-append_left entries (e ∷ []) (k, u.0) u.1, u.2)
       | inr came ↦ (
         e.1,
-        subst (λ (i : ℕ). Contains (entries ++ e ∷ []) (i, e.1)) (sym came.0) (Contains-append_right entries (e ∷ []) e (contains_head e [])),
+        subst (λ (i : ℕ). Contains (entries ++ e ∷ []) (i, e.1)) (sym came.0) (Contains-push entries e),
         (held_at follow e.1 bit found at).1 came.1,
       )
     ],
-    λ u. (joined.each j k bit there).1 (elim (Contains-append_cases entries (e ∷ []) (k, u.0) u.1) [
+    λ u. (joined.each j k bit there).1 (elim (Contains-push_cases entries e (k, u.0) u.1) [
       | inl c ↦ inl ((before.each j k bit there).1 (u.0, c, u.2))
-      | inr c ↦ elim (contains-cons e [] (k, u.0) c) [
-        | inl same ↦ inr (
-          sym (ap (λ (f : ℕ × ℕ). f.0) same),
-          (held_at follow e.1 bit found at).0 (subst (λ (m : ℕ). HoldsBit follow m bit) (sym (ap (λ (f : ℕ × ℕ). f.1) same)) u.2),
-        )
-        | inr none ↦ absurd (Contains-none (k, u.0) none)
-      ]
+      | inr same ↦ inr (
+        sym (ap (λ (f : ℕ × ℕ). f.0) same),
+        (held_at follow e.1 bit found at).0 (subst (λ (m : ℕ). HoldsBit follow m bit) (sym (ap (λ (f : ℕ × ℕ). f.1) same)) u.2),
+      )
     ]),
   );
 }

@@ -5,7 +5,7 @@ use Rattle.std.proofs.lemmas.Bool.{cases_lt}
 use Rattle.std.proofs.lemmas.Option.{slice_get-map}
 use Rattle.std.specs.declared.alloc.Global.{Global}
 use Rattle.std.specs.declared.vec.Vec.{Vec}
-use Rattle.std.proofs.lemmas.List.Elements.{Contains-append_left, Contains-append_right, Contains-append_cases}
+use Rattle.std.proofs.lemmas.List.Elements.{Contains-append_left, Contains-push_cases, Contains-push}
 use Rattle.lalrpop_base.specs.Words.{edge_ends}
 use Rattle.lalrpop_base.specs.lists.Spreading.{listed_ends}
 use Rattle.lalrpop_tables.proofs.Types.{NonterminalString, Production}
@@ -20,7 +20,7 @@ use Rattle.lalrpop_tables.specs.declared.lane_table.follow_sets.pass.Pass.{Pass}
 use Rattle.lalrpop_tables.proofs.theory.grammars.DottedProductions.{those_both}
 use Rattle.lalrpop_tables.proofs.theory.follow_sets.FollowNodes.{node_within, nodes_counted, pair_of_node}
 use Rattle.lalrpop_tables.proofs.theory.follow_sets.FollowWalks.{one_front}
-use Rattle.lalrpop_base.proofs.theory.lists.Members.{contains-cons, contains_head, Contains-none, place}
+use Rattle.lalrpop_base.proofs.theory.lists.Members.{Contains-none, place}
 use Rattle.lalrpop_tables.proofs.theory.follow_sets.Lookbacks.{note_both}
 use Rattle.lalrpop_base.proofs.theory.lists.Places.{contains_at, push_cases, same_some, slice_get-longer, slice_get-push_at}
 
@@ -33,16 +33,13 @@ module _ (pass : Pass) (Such : Production → Type 0) where
   -- a front more
   pub front_more : (done : List ℕ) (k : ℕ) (q : Production) → IsFrontOf pass k q → SomeFront pass (done ++ k ∷ []) Such ↔ (SomeFront pass done Such ⊎ Such q)
   front_more done k q front = (
-    λ f. elim (Contains-append_cases done (k ∷ []) f.0 f.2) [
+    λ f. elim (Contains-push_cases done k f.0 f.2) [
       | inl was ↦ inl (f.0, f.1, was, f.3, f.4)
-      | inr last ↦ elim (contains-cons k [] f.0 last) [
-        | inl e ↦ inr (subst Such (one_front pass k f.1 q (ap (slice_get pass.numbers.now.items.items) e ∙ f.3) front) f.4)
-        | inr none ↦ absurd (Contains-none f.0 none)
-      ]
+      | inr e ↦ inr (subst Such (one_front pass k f.1 q (ap (slice_get pass.numbers.now.items.items) e ∙ f.3) front) f.4)
     ],
     λ e. elim e [
       | inl f ↦ (f.0, f.1, Contains-append_left done (k ∷ []) f.0 f.2, f.3, f.4)
-      | inr such ↦ (k, q, Contains-append_right done (k ∷ []) k (contains_head k []), front, such)
+      | inr such ↦ (k, q, Contains-push done k, front, such)
     ],
   )
 

@@ -3,15 +3,14 @@ use Rattle.std.proofs.Common.{◌≡◌, ◌∙◌, ◌⊎◌, inl, inr, ℕ, �
 use Rattle.std.specs.Prelude.{slice_get, get_or, Option, Some, None, Contains, IfSome}
 use Rattle.std.specs.Option.{is_some}
 use Rattle.std.proofs.lemmas.Option.{slice_get_within}
-use Rattle.std.proofs.lemmas.List.Elements.{Contains-append_right}
+use Rattle.std.proofs.lemmas.List.Elements.{Contains-push}
 use Rattle.lalrpop_base.specs.Words.{AllDiffer}
 use Rattle.lalrpop_tables.proofs.Types.{NonterminalString, Symbol}
 use Rattle.lalrpop_base.specs.declared.repr.Symbol.TheVariants.{Nonterminal}
 use Rattle.lalrpop_tables.specs.follow_sets.FollowNodes.{AreNodes, AreTransitionNodes, IsNonterminalOrCount, IsTransitionNode}
 use Rattle.lalrpop_tables.specs.states.NumberedStates.{transitions_at}
 use Rattle.lalrpop_tables.specs.declared.lane_table.follow_sets.nodes.Nodes.{Nodes}
-use Rattle.lalrpop_tables.specs.declared.lane_table.follow_sets.numbered_state.NumberedState.{NumberedState}
-use Rattle.lalrpop_base.proofs.theory.lists.Members.{contains_head}
+use Rattle.lalrpop_tables.specs.declared.construction.numbered_state.NumberedState.{NumberedState}
 use Rattle.lalrpop_base.proofs.theory.lists.Places.{contains_at, push_cases, slice_get-longer}
 
 -- what is told of a value that is there
@@ -76,6 +75,6 @@ module _ (symbols : List Symbol) (first : ℕ) (states : List NumberedState) (no
       counted = ap length same ∙ made.counted;
       here = longer;
       from = from;
-      begun = subst (λ (ps : List (ℕ × ℕ)). Contains ps (0, first)) (sym more) (Contains-append_right pairs ((0, first) ∷ []) (0, first) (contains_head (0, first) []));
+      begun = subst (λ (ps : List (ℕ × ℕ)). Contains ps (0, first)) (sym more) (Contains-push pairs (0, first));
       differ = differ;
     }

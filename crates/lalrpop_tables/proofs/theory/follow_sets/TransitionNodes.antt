@@ -10,7 +10,7 @@ use Rattle.lalrpop_base.specs.declared.repr.Symbol.TheVariants.{Nonterminal}
 use Rattle.lalrpop_tables.specs.follow_sets.FollowNodes.{IsTransitionNode, nonterminals_of}
 use Rattle.lalrpop_tables.specs.states.NumberedStates.{EdgesAscend, listed_transitions, transitions_at}
 use Rattle.lalrpop_tables.specs.grammars.Numbers.{SymbolsAscend}
-use Rattle.lalrpop_tables.specs.declared.lane_table.follow_sets.numbered_state.NumberedState.{NumberedState}
+use Rattle.lalrpop_tables.specs.declared.construction.numbered_state.NumberedState.{NumberedState}
 use Rattle.lalrpop_tables.proofs.theory.states.NonterminalEdges.{Listed-at, pair_at, pairs_differ}
 use Rattle.lalrpop_base.proofs.theory.lists.Places.{push_cases, slice_get-longer, slice_get-push_at, slice_get-append_behind}
 

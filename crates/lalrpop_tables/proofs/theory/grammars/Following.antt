@@ -7,11 +7,12 @@ use Rattle.std.proofs.lemmas.Option.{slice_get_within}
 use Rattle.lalrpop_base.specs.Words.{Bits, has, no_bits, with_bit, has-with_bit, has-no_bits, both, IsFirstSet, IsFirst, IsNullable, Dotted, Rules}
 use Rattle.lalrpop_tables.proofs.Types.{NonterminalString, StateIndex, Symbol}
 use Rattle.lalrpop_tables.specs.Words.{Gains, Nothing, Visits, IsHere, IsEnd, IsEndBit, IsParent, IsFollowBit, IsPassedOn, IsPlaceIf, rest_of, AddsTokens}
-use Rattle.lalrpop_tables.specs.declared.lane_table.lane.walk.Walk.{Walk}
+use Rattle.lalrpop_tables.specs.declared.place.Place.{Place}
+use Rattle.lalrpop_tables.specs.declared.walk.Walk.{Walk}
 use Rattle.lalrpop_tables.specs.declared.lane_table.table.LaneTable.{LaneTable}
 use Rattle.lalrpop_tables.proofs.theory.lanes.Gains.{Gains-none, Gains-tokens, Gains-same}
 use Rattle.lalrpop_base.proofs.theory.lists.Places.{filled}
-use Rattle.lalrpop_tables.proofs.theory.lanes.Walks.{Visits-same, Visits-none}
+use Rattle.lalrpop_tables.proofs.theory.lists.Walks.{Visits-same, Visits-none}
 
 -- ---- the end alone
 pub only_bit : (n bit : ℕ) → has (with_bit no_bits n) bit ≡ true ↔ (bit ≡ n)
@@ -41,7 +42,7 @@ module _ (g : Rules) {L : Type 0} (name : NonterminalString) (item : Dotted L) w
   pub no_follow : (state k : ℕ) (table : LaneTable) → (IsParent name item → ⊥) → Gains k (IsHere state (IsParent name item)) (λ row bit. IsHere state (IsFollowBit g name item bit) row) Nothing table table
   no_follow state k table other = Gains-none k (IsHere state (IsParent name item)) (λ row bit. IsHere state (IsFollowBit g name item bit) row) Nothing table (λ row h. other h.fact) (λ row bit h. other h.fact.parent) (λ l r h. h)
 
-  pub no_passed : (state : ℕ) (walk : Walk) → (IsParent name item → ⊥) → Visits (IsPassedOn g name state item) walk walk
+  pub no_passed : (state : ℕ) (walk : Walk Place) → (IsParent name item → ⊥) → Visits (IsPassedOn g name state item) walk walk
   no_passed state walk other = Visits-none (IsPassedOn g name state item) walk (λ k h. other h.parent)
 
   module _ (parent : IsParent name item) (rest : List Symbol) (same : rest ≡ rest_of item) (first left : Bits) (is : IsFirstSet g rest first) where
@@ -79,7 +80,7 @@ module _ (g : Rules) {L : Type 0} (name : NonterminalString) (item : Dotted L) w
         (λ row bit. (λ h. record { here = h.0; fact = (follow_bits taken bit).0 h.1 }, λ h. (h.here, (follow_bits taken bit).1 h.fact)))
         (λ l r. (λ h. h, λ h. h)) old new (Gains-tokens state k left old new added)
 
-    pub follow_passed : (nullable : Bool) (state : ℕ) (old new : Walk) → nullable ≡ has first (length g.terminals) → Visits (IsPlaceIf nullable state item) old new → Visits (IsPassedOn g name state item) old new
+    pub follow_passed : (nullable : Bool) (state : ℕ) (old new : Walk Place) → nullable ≡ has first (length g.terminals) → Visits (IsPlaceIf nullable state item) old new → Visits (IsPassedOn g name state item) old new
     follow_passed nullable state old new told v = Visits-same (IsPlaceIf nullable state item) (IsPassedOn g name state item)
         (λ k h. record { parent = parent; nullable = subst (IsNullable g.productions) same (is.ends.0 (sym told ∙ h.so)); is = h.is })
         (λ k h. record { so = told ∙ is.ends.1 (subst (IsNullable g.productions) (sym same) h.nullable); is = h.is }) old new v

@@ -3,7 +3,7 @@ use Rattle.std.proofs.Common.{◌≡◌, ◌∙◌, ◌⊎◌, inl, inr, ℕ, ze
 use Rattle.std.specs.Prelude.{◌↔◌, slice_get, Option, Some, None, Contains}
 use Rattle.std.specs.declared.alloc.Global.{Global}
 use Rattle.std.specs.declared.vec.Vec.{Vec}
-use Rattle.std.proofs.lemmas.List.Elements.{Contains-append_left, Contains-append_right, Contains-append_cases}
+use Rattle.std.proofs.lemmas.List.Elements.{Contains-append_left, Contains-append_right, Contains-push_cases, Contains-push}
 use Rattle.std.proofs.lemmas.Option.{slice_get_within, slice_get-map}
 use Rattle.lalrpop_base.specs.Words.{AllDiffer, Dotted}
 use Rattle.lalrpop_tables.proofs.Types.{Nil, Symbol}
@@ -14,9 +14,10 @@ use Rattle.lalrpop_tables.specs.grammars.Numbering.{AddsStart, AddsThose, AreAll
 use Rattle.lalrpop_tables.specs.grammars.Numbers.{AreBehindDots, IsNumberBehind, SymbolsAscend, symbol_order}
 use Rattle.lalrpop_tables.specs.Words.{IsBehind}
 use Rattle.lalrpop_tables.proofs.theory.grammars.DottedProductions.{those_none, those_one}
-use Rattle.lalrpop_base.proofs.theory.lists.Members.{contains-cons, contains_head, Contains-none, apart-from_sorted}
+use Rattle.lalrpop_base.proofs.theory.lists.Members.{contains_head, apart-from_sorted}
 use Rattle.lalrpop_base.proofs.theory.collapse.Merging.{set_elsewhere, set_here}
 use Rattle.lalrpop_base.proofs.theory.lists.Orders.{symbol_total}
+use Rattle.lalrpop_tables.proofs.theory.lists.Pushes.{push_both, push_counted}
 use Rattle.lalrpop_base.proofs.theory.lists.Places.{differ_from_apart, filled, one_place, places_apart, push_cases, same_some, slice_get-longer, slice_get-push_at, slice_get_at}
 
 -- ---- symbols behind dots, put into a set
@@ -27,14 +28,11 @@ pub dots_more : (done : List (Dotted Nil)) (i : Dotted Nil) (old new : List Symb
 dots_more done i old new before added s = (
   λ c. elim ((added s).0 c) [
     | inl was ↦ let one = (before s).0 was in record { item = one.item; among = Contains-append_left done (i ∷ []) one.item one.among; behind = one.behind }
-    | inr at ↦ record { item = i; among = Contains-append_right done (i ∷ []) i (contains_head i []); behind = at }
+    | inr at ↦ record { item = i; among = Contains-push done i; behind = at }
   ],
-  λ one. elim (Contains-append_cases done (i ∷ []) one.item one.among) [
+  λ one. elim (Contains-push_cases done i one.item one.among) [
     | inl was ↦ (added s).1 (inl ((before s).1 (record { item = one.item; among = was; behind = one.behind })))
-    | inr last ↦ elim (contains-cons i [] one.item last) [
-      | inl e ↦ (added s).1 (inr (subst (λ (j : Dotted Nil). IsBehind s j) (sym e) one.behind))
-      | inr none ↦ absurd (Contains-none one.item none)
-    ]
+    | inr e ↦ (added s).1 (inr (subst (λ (j : Dotted Nil). IsBehind s j) (sym e) one.behind))
   ],
 )
 
@@ -50,22 +48,10 @@ behind_of symbols i s (Some x) at known is = (s, is, at)
 -- ---- numbers of symbols behind dots
 pub numbers_more : (symbols : List Symbol) (done : List (Dotted Nil)) (behind : List (Option ℕ)) (i : Dotted Nil) (x : Option ℕ) → AreNumbersBehind symbols done behind → IsNumberBehind symbols i x → AreNumbersBehind symbols (done ++ i ∷ []) (behind ++ x ∷ [])
 numbers_more symbols done behind i x before is = record {
-  counted = length-append behind (x ∷ []) ∙ ap (λ n. n + 1) before.counted ∙ sym (length-append done (i ∷ []));
-  each = λ k j y at_j at_y. elim (push_cases done i k j at_j) [
-    | inl was ↦
-        let l = slice_get_within done k j was in
-        let same = before.counted in
-        elim (push_cases behind x k y at_y) [
-          | inl there ↦ before.each k j y was there
-          | inr end ↦ let e = end.0 in absurd (omega arith)
-        ]
-    | inr new ↦
-        let here = new.0 in
-        let same = before.counted in
-        elim (push_cases behind x k y at_y) [
-          | inl there ↦ let l = slice_get_within behind k y there in absurd (omega arith)
-          | inr end ↦ subst (λ (z : Option ℕ). IsNumberBehind symbols j z) end.1 (subst (λ (z : Dotted Nil). IsNumberBehind symbols z x) new.1 is)
-        ]
+  counted = push_counted done i behind x before.counted;
+  each = λ k j y at_j at_y. elim (push_both done i behind x before.counted k j y at_j at_y) [
+    | inl was ↦ before.each k j y was.0 was.1
+    | inr new ↦ subst (λ (z : Option ℕ). IsNumberBehind symbols j z) new.2 (subst (λ (z : Dotted Nil). IsNumberBehind symbols z x) new.1 is)
   ];
 }
 
@@ -91,9 +77,9 @@ set_length (w ∷ vectors) (suc n) v = ap suc (set_length vectors n v)
 
 pushed : (number : ℕ) (P : Type 0) (before after : List ℕ) → P → after ≡ before ++ number ∷ [] → AddsThose (λ k. (k ≡ number) × P) before after
 pushed number P before after p is k = subst (λ (l : List ℕ). Contains l k ↔ (Contains before k ⊎ ((k ≡ number) × P))) (sym is) (
-  λ c. elim (Contains-append_cases before (number ∷ []) k c) [
+  λ c. elim (Contains-push_cases before number k c) [
     | inl was ↦ inl was
-    | inr last ↦ elim (contains-cons number [] k last) [ inl e ↦ inr (sym e, p) | inr none ↦ absurd (Contains-none k none) ]
+    | inr e ↦ inr (sym e, p)
   ],
   λ e. elim e [
     | inl was ↦ Contains-append_left before (number ∷ []) k was

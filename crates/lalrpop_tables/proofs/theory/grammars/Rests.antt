@@ -2,7 +2,6 @@
 use Rattle.std.proofs.Common.{◌≡◌, ◌∙◌, inl, inr, ℕ, ◌+◌, ◌<◌, ◌≤◌, Bool, true, false, List, [], ◌∷◌, ◌++◌, drop, length, refl, sym, ap, subst, arith, eqb-true, eq-eqb}
 use Rattle.std.specs.Prelude.{slice_get, Option, Some, not, ◌&&◌, ◌==◌}
 use Rattle.std.proofs.lemmas.Bool.{cases_lt, true≢false}
-use Rattle.std.proofs.lemmas.List.{length_push}
 use Rattle.std.proofs.lemmas.Option.{slice_get_within}
 use Rattle.lalrpop_base.specs.first.First.{IsFirstSet}
 use Rattle.lalrpop_base.specs.Words.{Bits, Dotted, Rules, has}
@@ -13,7 +12,8 @@ use Rattle.lalrpop_tables.specs.grammars.Rests.{AreRests, HasRest, IsRest, IsRes
 use Rattle.lalrpop_tables.specs.declared.construction.numbers.rests.Rest.{Rest}
 use Rattle.lalrpop_base.proofs.theory.closures.Closing.{drop_split, rest_from, split_drop}
 use Rattle.lalrpop_base.proofs.theory.lists.Members.{Contains-none}
-use Rattle.lalrpop_base.proofs.theory.lists.Places.{contains_at, filled, push_cases, same_some}
+use Rattle.lalrpop_base.proofs.theory.lists.Places.{contains_at, filled, same_some}
+use Rattle.lalrpop_tables.proofs.theory.lists.Pushes.{push_both, push_counted}
 
 -- ---- the rest of one dotted production
 -- nothing is behind a terminal
@@ -72,15 +72,9 @@ rests_none g = record { counted = refl; each = λ k i rest at. absurd (Contains-
 -- one item more has its rest
 pub rests_more : (g : Rules) (items : List (Dotted Nil)) (rests : List (Option Rest)) (i : Dotted Nil) (rest : Option Rest) → AreRests g items rests → IsRestOf g i rest → AreRests g (items ++ i ∷ []) (rests ++ rest ∷ [])
 rests_more g items rests i rest before is = record {
-  counted = length_push rests rest ∙ ap (λ (n : ℕ). n + 1) before.counted ∙ sym (length_push items i);
-  each = λ k j found at_j at_found. elim (push_cases items i k j at_j) [
-    | inl here ↦ elim (push_cases rests rest k found at_found) [
-      | inl there ↦ before.each k j found here there
-      | inr last ↦ let l = slice_get_within items k j here in let e = before.counted in let m = last.0 in absurd (omega arith)
-    ]
-    | inr end ↦ elim (push_cases rests rest k found at_found) [
-      | inl there ↦ let l = slice_get_within rests k found there in let e = before.counted in let m = end.0 in absurd (omega arith)
-      | inr last ↦ subst (λ (d : Dotted Nil). IsRestOf g d found) end.1 (subst (IsRestOf g i) last.1 is)
-    ]
+  counted = push_counted items i rests rest before.counted;
+  each = λ k j found at_j at_found. elim (push_both items i rests rest before.counted k j found at_j at_found) [
+    | inl was ↦ before.each k j found was.0 was.1
+    | inr new ↦ subst (λ (d : Dotted Nil). IsRestOf g d found) new.1 (subst (IsRestOf g i) new.2 is)
   ];
 }

@@ -4,7 +4,7 @@ use Rattle.std.specs.Prelude.{◌==◌, ◌↔◌, ◌&&◌, Contains}
 use Rattle.std.specs.declared.alloc.Global.{Global}
 use Rattle.std.specs.declared.vec.Vec.{Vec}
 use Rattle.std.proofs.lemmas.Bool.{cases_Bool, cases_eq, eq-eqb, eqb-true, eqb-false, ne_eqb, true≢false}
-use Rattle.std.proofs.lemmas.List.Elements.{Contains-append_cases, filter-append}
+use Rattle.std.proofs.lemmas.List.Elements.{Contains-append_cases, filter-append, Contains-push_cases}
 use Rattle.lalrpop_base.specs.contracts.repr.SymbolPartialEq.TheImpl as symbol_eq
 use Rattle.lalrpop_base.specs.contracts.repr.SymbolEq.TheImpl.Laws as symbol_equality
 use Rattle.lalrpop_base.specs.contracts.exact.SymbolExact.TheImpl as symbol_exactly
@@ -14,7 +14,7 @@ use Rattle.lalrpop_base.specs.Words.{number_in}
 use Rattle.lalrpop_tables.specs.Words.{Edge, edge, list_at, origin_of, origins}
 use Rattle.lalrpop_tables.specs.graphs.GraphCopies.{Origin, retraced, is_other, without, moved, followed, followed_all}
 use Rattle.lalrpop_tables.specs.graphs.StateGraph.{IsChangedAt}
-use Rattle.lalrpop_base.proofs.theory.lists.Members.{contains-cons, contains_head, Contains-none, contains_tail}
+use Rattle.lalrpop_base.proofs.theory.lists.Members.{contains_head, contains_tail}
 use Rattle.lalrpop_tables.proofs.theory.graphs.StateGraphs.{list_changed, list_past, list_there, origins_append}
 
 -- ---- a list that a function changes
@@ -198,9 +198,9 @@ module _ (originals : List ℕ) where
       let own_rest : LeadToOwn rest = λ f c. own f (contains_tail (retraced originals e) rest f c) in
       ap (followed_all originals es n.0) (one_followed front e rest (λ f c from is. before f e c (contains_head e es) (from ∙ here) is) others own_rest n)
       ∙ ap (λ fs. followed_all originals es n.0 (origins n fs)) (sym (append_assoc front (e ∷ []) rest))
-      ∙ all_followed source (front ++ e ∷ []) es back (λ f c. sources f (contains_tail e es f c)) apart.1 (λ f g c d from is. elim (Contains-append_cases front (e ∷ []) f c) [
+      ∙ all_followed source (front ++ e ∷ []) es back (λ f c. sources f (contains_tail e es f c)) apart.1 (λ f g c d from is. elim (Contains-push_cases front e f c) [
         | inl h ↦ before f g h (contains_tail e es g d) from is
-        | inr h ↦ elim (contains-cons e [] f h) [ inl same ↦ apart.0 g d (sym is ∙ ap (λ (d : Edge). d.symbol) (sym same)) | inr none ↦ absurd (Contains-none f none) ]
+        | inr same ↦ apart.0 g d (sym is ∙ ap (λ (d : Edge). d.symbol) (sym same))
       ]) behind own_rest n
       ∙ ap (origins n) (append_assoc front (e ∷ []) (es ++ back))
 

@@ -1,5 +1,5 @@
 -- States gathered into a set, and steps back.
-use Rattle.std.proofs.Common.{◌≡◌, ◌⊎◌, inl, inr, List, [], ◌∷◌, ◌++◌, reverse, refl, sym, ◌∙◌, ap, subst, append_assoc, append-nil, map, Bool, true, false, cond, length, eq-eqb}
+use Rattle.std.proofs.Common.{◌≡◌, ◌⊎◌, inl, inr, List, [], ◌∷◌, ◌++◌, reverse, refl, sym, ◌∙◌, ap, subst, append_assoc, append-nil, map, Bool, true, length, eq-eqb}
 use Rattle.std.specs.Prelude.{Contains, ◌↔◌, ◌==◌, filter}
 use Rattle.std.specs.List.Sorted.{IsStrictlySortedBy, IsPermutation, IsSorted}
 use Rattle.std.specs.List.Retain.{IsFiltered, DiffersFromLast}
@@ -10,7 +10,7 @@ use Rattle.std.proofs.lemmas.List.Sorted.{Contains-permutation, IsPermutation-sy
 use Rattle.lalrpop_base.specs.contracts.lr1_core.state.StateIndexPartialEq.TheImpl as index_eq
 use Rattle.lalrpop_base.specs.contracts.lr1_core.state.StateIndexEq.TheImpl.Laws as index_equality
 use Rattle.lalrpop_tables.proofs.theory.graphs.StateGraphs.{state_total}
-use Rattle.std.proofs.lemmas.List.Elements.{Contains-append_left, Contains-append_right, Contains-append_cases}
+use Rattle.std.proofs.lemmas.List.Elements.{Contains-append_left, Contains-append_right, Contains-push_cases}
 use Rattle.std.proofs.lemmas.List.{nil_from_length}
 use Rattle.lalrpop_tables.proofs.Types.{StateIndex, Symbol}
 use Rattle.lalrpop_base.specs.contracts.repr.SymbolPartialEq.TheImpl as symbol_eq
@@ -19,7 +19,9 @@ use Rattle.lalrpop_base.specs.contracts.exact.SymbolExact.TheImpl as symbol_exac
 use Rattle.lalrpop_tables.specs.declared.state_graph.StateGraph.{StateGraph}
 use Rattle.lalrpop_tables.specs.Words.{Edge, edge, state_cmp, AddsStates, HaveSameStates, IsStepBack, sources_over, origins_of, origins, origin_of, IsGraphOf, nowhere, over}
 use Rattle.lalrpop_tables.specs.graphs.StateGraph.{LeadsTo}
-use Rattle.lalrpop_base.proofs.theory.lists.Members.{Contains-none, contains_head, contains_tail, contains-cons, Contains-reverse, Contains-from_reverse}
+use Rattle.lalrpop_base.proofs.theory.lists.Members.{Contains-none, contains_head, contains_map, contains_tail, contains-cons, Contains-reverse, Contains-from_reverse}
+use Rattle.lalrpop_base.proofs.theory.states.ContentsViews.{contains_of_map}
+use Rattle.lalrpop_tables.proofs.theory.lists.Filters.{is_kept, kept_holds, of_kept}
 use Rattle.lalrpop_tables.proofs.theory.lane_tables.LaneColumns.{same_state}
 
 -- a state of all is in the set or left, exactly if it is in the set so far or left now
@@ -40,7 +42,7 @@ one_more_state before left all start now next x first is a = record {
     | inr c ↦ elim (contains-cons x left r (rw first at c)) [ inl e ↦ inl (rw is (Contains-append_right now (x ∷ []) r (rw (← e) (contains_head x [])))) | inr d ↦ inr d ]
   ];
   only = λ r h. a.only r (elim h [
-    | inl c ↦ elim (Contains-append_cases now (x ∷ []) r (rw is at c)) [ inl d ↦ inl d | inr d ↦ elim (contains-cons x [] r d) [ inl e ↦ inr (rw (first, ← e) (contains_head x left)) | inr n ↦ absurd (Contains-none r n) ] ]
+    | inl c ↦ elim (Contains-push_cases now x r (rw is at c)) [ inl d ↦ inl d | inr e ↦ inr (rw (first, ← e) (contains_head x left)) ]
     | inr c ↦ inr (rw first (contains_tail x left r c))
   ]);
 }
@@ -103,11 +105,7 @@ ordered_ascending sorted list ascend kept = rw (dedup_is state_eq sorted list ke
 
 -- ---- the sources that a graph of edges has
 filtered : {X Y : Type 0} (f : X → Y) (p : X → Bool) (xs : List X) (x : X) → Contains xs x → p x ≡ true → Contains (map f (filter p xs)) (f x)
-filtered f p [] x c h = absurd (Contains-none x c)
-filtered f p (y ∷ xs) x c h = elim (contains-cons y xs x c) [
-  | inl e ↦ rw (e, h) (contains_head (f x) (map f (filter p xs)))
-  | inr d ↦ elim (p y) as (λ b. Contains (map f (cond b (y ∷ filter p xs) (filter p xs))) (f x)) [ true ↦ contains_tail (f y) (map f (filter p xs)) (f x) (filtered f p xs x d h) | false ↦ filtered f p xs x d h ]
-]
+filtered f p xs x c h = contains_map f (filter p xs) x (is_kept p xs x h c)
 
 -- an element that passed
 record Passed {X Y : Type 0} (f : X → Y) (p : X → Bool) (xs : List X) (y : Y) : Type 0 where
@@ -116,16 +114,10 @@ record Passed {X Y : Type 0} (f : X → Y) (p : X → Bool) (xs : List X) (y : Y
   passes : p from ≡ true
   gives : f from ≡ y
 
-passed_later : {X Y : Type 0} (f : X → Y) (p : X → Bool) (x : X) (xs : List X) (y : Y) → Passed f p xs y → Passed f p (x ∷ xs) y
-passed_later f p x xs y h = record { from = h.from; among = contains_tail x xs h.from h.among; passes = h.passes; gives = h.gives }
-
-passed_at : {X Y : Type 0} (f : X → Y) (p : X → Bool) (x : X) (xs : List X) (y : Y) (b : Bool) → p x ≡ b → (Contains (map f (filter p xs)) y → Passed f p xs y) → Contains (map f (cond b (x ∷ filter p xs) (filter p xs))) y → Passed f p (x ∷ xs) y
-passed_at f p x xs y true e rest c = elim (contains-cons (f x) (map f (filter p xs)) y c) [ inl h ↦ record { from = x; among = contains_head x xs; passes = e; gives = h } | inr d ↦ passed_later f p x xs y (rest d) ]
-passed_at f p x xs y false e rest c = passed_later f p x xs y (rest c)
-
 passed : {X Y : Type 0} (f : X → Y) (p : X → Bool) (xs : List X) (y : Y) → Contains (map f (filter p xs)) y → Passed f p xs y
-passed f p [] y c = absurd (Contains-none y c)
-passed f p (x ∷ xs) y c = passed_at f p x xs y (p x) refl (passed f p xs y) c
+passed f p xs y c =
+    let (x, kept, gives) = contains_of_map f (filter p xs) y c in
+    record { from = x; among = of_kept p xs x kept; passes = kept_holds p xs x kept; gives = gives }
 
 -- the sources over a symbol are those of the edges
 pub source_edge : (graph : StateGraph) (es : List Edge) (x : Symbol) (s r : StateIndex) → IsGraphOf es graph → Contains (sources_over graph x s) r → Contains es (edge r x s)

@@ -13,7 +13,7 @@ use Rattle.lalrpop_tables.specs.grammars.Numbering.{with_dot}
 use Rattle.lalrpop_tables.specs.Words.{by, HasSamePlace, HaveSamePlaces, places_in}
 use Rattle.lalrpop_tables.specs.declared.construction.numbers.Numbers.{Numbers}
 use Rattle.lalrpop_tables.specs.declared.lane_table.follow_sets.found.Found.{Found}
-use Rattle.lalrpop_tables.specs.declared.lane_table.follow_sets.numbered_state.NumberedState.{NumberedState}
+use Rattle.lalrpop_tables.specs.declared.construction.numbered_state.NumberedState.{NumberedState}
 use Rattle.lalrpop_tables.proofs.theory.follow_sets.FollowSets.{lane_lookahead}
 use Rattle.lalrpop_tables.proofs.theory.lane_states.LaneCoherent.{old_at}
 use Rattle.lalrpop_tables.proofs.theory.lane_states.LanePlaces.{AreSamePlaces, IsSamePlace, lane_there, places_same, same_turned}

@@ -15,7 +15,7 @@ use Rattle.lalrpop_tables.specs.Words.{AreLaneStates, by, dot_of, IsLaneAction, 
 use Rattle.lalrpop_tables.specs.follow_sets.FollowWalks.{AreUnions, entries_at, HoldsSomeOf, ShareBits, with_first, with_other}
 use Rattle.lalrpop_tables.specs.lane_states.FoundLookaheads.{IsFoundAt, with_sets}
 use Rattle.lalrpop_tables.specs.declared.lane_table.follow_sets.found.Found.{Found}
-use Rattle.lalrpop_tables.specs.declared.lane_table.follow_sets.numbered_state.NumberedState.{NumberedState}
+use Rattle.lalrpop_tables.specs.declared.construction.numbered_state.NumberedState.{NumberedState}
 use Rattle.lalrpop_tables.proofs.theory.follow_sets.FollowBits.{held_at, held_within}
 use Rattle.lalrpop_tables.proofs.theory.follow_sets.FollowPasses.{numbered_behind}
 use Rattle.lalrpop_tables.proofs.theory.follow_sets.FollowSets.{lookaheads_resolved, reductions_meet, shift_meets}

@@ -1,5 +1,5 @@
 -- What the construction of lane tables answers: tables that hold their lane tokens, or states of which one has two actions that meet.
-use Rattle.std.proofs.Common.{◌≡◌, ◌↔◌, ℕ, zero, suc, ◌<◌, ◌≤◌, Bool, true, false, List, [], ◌∷◌, drop, length, refl, sym, subst, arith, Option, Some, None, MatchBool}
+use Rattle.std.proofs.Common.{◌≡◌, ◌↔◌, ℕ, suc, ◌<◌, ◌≤◌, Bool, true, false, List, length, refl, sym, subst, arith, Option, Some, None, MatchBool}
 use Rattle.std.specs.Prelude.{Contains, MatchOption, slice_get}
 use Rattle.std.specs.Borrow.{Bor}
 use Rattle.std.proofs.lemmas.Option.{slice_get_within}
@@ -21,7 +21,8 @@ use Rattle.lalrpop_base.proofs.theory.states.RightStates.{edges_awaited, reducti
 use Rattle.lalrpop_tables.specs.Words.{AreLaneStates, HasLaneBits, IsResolved, IsLaneAction, LanesMeet, HaveMeetingLanes, IsStep, AreLaneTables, AreLalrLaneTables, places_in}
 use Rattle.lalrpop_tables.specs.declared.construction.numbers.Numbers.{Numbers}
 use Rattle.lalrpop_tables.specs.declared.lane_table.follow_sets.found.Found.{Found}
-use Rattle.lalrpop_tables.specs.declared.lane_table.follow_sets.numbered_state.NumberedState.{NumberedState}
+use Rattle.lalrpop_tables.specs.declared.construction.numbered_state.NumberedState.{NumberedState}
+use Rattle.lalrpop_tables.proofs.theory.follow_sets.FollowSets.{rest_behind}
 use Rattle.lalrpop_tables.proofs.theory.lane_states.LaneLoop.{AreResolvedTo}
 use Rattle.lalrpop_tables.proofs.theory.conflicts.ConflictFree.{nowhere_conflict, free_contents}
 use Rattle.lalrpop_base.proofs.theory.grammars.Grammars.{known_symbols, known_rest}
@@ -45,16 +46,10 @@ module _ (g : Grammar) (start : NonterminalString) (well : IsWellFormed g) (diff
   item_listed s q dot None e c = absurd (let l = c.1 in omega arith)
   item_listed s q dot (Some state) e c = item_own (rules_of g) start states made holds s state q dot e c
 
-  rest_drop : (n : ℕ) (symbols after : List Symbol) (x : Symbol) → drop n symbols ≡ x ∷ after → after ≡ drop (suc n) symbols
-  rest_drop zero [] after x e = cc
-  rest_drop zero (y ∷ symbols) after x e = cc
-  rest_drop (suc n) [] after x e = cc
-  rest_drop (suc n) (y ∷ symbols) after x e = rest_drop n symbols after x e
-
   pub given_bit : {s : ℕ} {p : Production} {dot : ℕ} {t : Token} → Gives (productions g) start here s p dot t → (bit : ℕ) × IsBitOf g.terminals t bit
   given_bit (behind_parent s p q dot after t c e f) =
       let own = item_listed s q dot (slice_get states s) refl c in
-      let known = known_rest g.terminals (suc dot) q.symbols after (known_symbols g q well own) (rest_drop dot q.symbols after (Nonterminal p.nonterminal) e) in
+      let known = known_rest g.terminals (suc dot) q.symbols after (known_symbols g q well own) (rest_behind dot q.symbols after (Nonterminal p.nonterminal) e) in
       let b = begun_bit (rules_of g) (λ z h. known_symbols g z well h) after known (TokenOf t) f in
       (b.0, place_there g.terminals t b.0 b.1)
   given_bit (of_start s p e) = (length g.terminals, refl)

@@ -10,13 +10,13 @@ use Rattle.lalrpop_base.proofs.theory.closures.Valid.{of_grammar}
 use Rattle.lalrpop_tables.specs.follow_sets.FollowNodes.{AreAllReached, AreOfGrammar}
 use Rattle.lalrpop_tables.specs.follow_sets.FollowWalks.{FindsLookaheads}
 use Rattle.lalrpop_tables.specs.lane_states.FoundLookaheads.{IsFoundAt}
-use Rattle.lalrpop_tables.specs.states.NumberedStates.{AreNumberedStates, HaveReducedNumbers}
+use Rattle.lalrpop_tables.specs.states.NumberedStates.{AreNumberedStates}
 use Rattle.lalrpop_tables.specs.grammars.Numbers.{AreNumbers}
 use Rattle.lalrpop_tables.specs.Words.{AreLaneStates, places_in}
 use Rattle.lalrpop_tables.specs.declared.construction.numbers.Numbers.{Numbers}
 use Rattle.lalrpop_tables.specs.declared.lane_table.follow_sets.found.Found.{Found}
-use Rattle.lalrpop_tables.specs.declared.lane_table.follow_sets.numbered_state.NumberedState.{NumberedState}
-use Rattle.lalrpop_tables.proofs.theory.lane_states.LaneShape.{here_closed, reduced_item, right_at}
+use Rattle.lalrpop_tables.specs.declared.construction.numbered_state.NumberedState.{NumberedState}
+use Rattle.lalrpop_tables.proofs.theory.lane_states.LaneShape.{here_closed, right_at}
 
 -- a dot with something behind it is before the end
 before_end : {A : Type 0} (dot : ℕ) (xs : List A) {x : A} {after : List A} → drop dot xs ≡ x ∷ after → dot < length xs
@@ -60,12 +60,6 @@ module _ (g : Rules) (start : NonterminalString) (states : List (State Bits)) (m
           (of_grammar v, valid_within v)
 
   module _ (n : Numbers) (numbers : AreNumbers g n) where
-    -- each reduction has a number
-    pub lane_numbered : (s : ℕ) (state : State Bits) → slice_get states s ≡ Some state → HaveReducedNumbers n.items.items state.reductions.items
-    lane_numbered s state at r among =
-        let own = lane_own s r.1.now (length r.1.now.symbols) (reduced_item g start states made any s state r at among) in
-        numbers.items.all r.1.now (length r.1.now.symbols) own.0 own.1
-
     -- what is found is so at each state
     pub found_at : (found : Found) (list : List NumberedState) → FindsLookaheads g start n places (length states) found → AreNumberedStates n states list → (s : ℕ) (state : NumberedState) → slice_get list s ≡ Some state → IsFoundAt g start states s found state
     found_at found list finds numbered s state at = record {

@@ -10,7 +10,7 @@ use Rattle.lalrpop_tables.specs.follow_sets.FollowWalks.{FindsLookaheads}
 use Rattle.lalrpop_tables.specs.states.NumberedStates.{AreNumberedStates}
 use Rattle.lalrpop_tables.specs.declared.construction.numbers.Numbers.{Numbers}
 use Rattle.lalrpop_tables.specs.declared.lane_table.follow_sets.found.Found.{Found}
-use Rattle.lalrpop_tables.specs.declared.lane_table.follow_sets.numbered_state.NumberedState.{NumberedState}
+use Rattle.lalrpop_tables.specs.declared.construction.numbered_state.NumberedState.{NumberedState}
 use Rattle.lalrpop_tables.specs.declared.state_graph.StateGraph.{StateGraph}
 use Rattle.lalrpop_tables.proofs.theory.lane_states.FoundPlaces.{finds_on, numbered_on}
 use Rattle.lalrpop_tables.proofs.theory.lane_states.LaneCoherent.{edges_there, old_at}

@@ -1,26 +1,25 @@
 -- Promoted states are the LR(0) states with all tokens.
-use Rattle.std.proofs.Common.{◌≡◌, Global, ℕ, Vec, zero, suc, List, [], ◌∷◌, length, map, refl, sym, ◌∙◌, ap, subst, Some}
-use Rattle.std.specs.Prelude.{slice_get, Contains, nat_le}
+use Rattle.std.proofs.Common.{◌≡◌, ℕ, List, [], ◌∷◌, arith, length, map, option_map, refl, sym, ◌∙◌, ap, subst, Option, Some, true}
+use Rattle.std.specs.Prelude.{◌↔◌, slice_get, Contains, nat_le}
+use Rattle.std.specs.BTreeMap.{BTreeMap, get}
 use Rattle.std.proofs.lemmas.Bool.{le-leb, leb-true}
 use Rattle.std.proofs.lemmas.List.{length-map}
-use Rattle.std.proofs.lemmas.Option.{slice_get-map}
+use Rattle.std.proofs.lemmas.Option.{slice_get-map, slice_get_within}
 use Rattle.std.specs.Borrow.{Bor}
 use Rattle.std.specs.List.{AllZip}
-use Rattle.lalrpop_base.specs.Words.{Bits, has, Dotted, Rules, AreLr0States}
-use Rattle.lalrpop_tables.proofs.Types.{Nil, NonterminalString, Production, State, TerminalString}
+use Rattle.lalrpop_base.specs.Words.{Bits, has, Dotted, Rules, AreLr0States, contents_at, contents_of, leads, name_cmp, number_of}
+use Rattle.lalrpop_base.specs.contracts.repr.TerminalStringOrd.TheImpl as terminal_ord
+use Rattle.lalrpop_base.specs.declared.repr.Symbol.TheVariants.{Nonterminal, Terminal}
+use Rattle.lalrpop_tables.proofs.Types.{Nil, NonterminalString, Production, State, StateIndex, Symbol, TerminalString, Token}
 use Rattle.lalrpop_base.proofs.theory.states.ContentsViews.{contains_of_map, some_of_map}
 use Rattle.lalrpop_tables.specs.Words.{dot_of, by, HasSamePlace, HaveSamePlaces, AreLaneStates, IsFull, HaveFullItems, HoldsAll, promoted_item, promoted_reduction, IsPromoted}
 use Rattle.lalrpop_tables.specs.grammars.Numbering.{with_dot}
-use Rattle.lalrpop_tables.specs.states.NumberedStates.{AreItemsAt, HaveItemsAt}
-use Rattle.lalrpop_base.proofs.theory.lists.Places.{same_some}
+use Rattle.lalrpop_tables.specs.states.NumberedStates.{AreNumberedAs, AreNumberedStates, AreReducedNumbers, IsNumberedState}
+use Rattle.lalrpop_base.proofs.theory.lists.Places.{filled}
+use Rattle.lalrpop_tables.proofs.theory.lists.Zipped.{zip_at, zip_old}
+use Rattle.lalrpop_tables.specs.declared.construction.numbers.Numbers.{Numbers}
+use Rattle.lalrpop_tables.specs.declared.construction.numbered_state.NumberedState.{NumberedState}
 use Rattle.lalrpop_base.proofs.theory.lists.Members.{zipped_length}
-
--- the pair at a place
-zip_at : {A B : Type 0} (R : A → B → Type 0) (xs : List A) (ys : List B) → AllZip R xs ys → (n : ℕ) (x : A) (y : B) → slice_get xs n ≡ Some x → slice_get ys n ≡ Some y → R x y
-zip_at R [] ys h n x y at_x at_y = cc
-zip_at R (a ∷ xs) [] h n x y at_x at_y = cc
-zip_at R (a ∷ xs) (b ∷ ys) h zero x y at_x at_y = subst (λ u. R u y) (same_some a x at_x) (subst (R a) (same_some b y at_y) h.0)
-zip_at R (a ∷ xs) (b ∷ ys) h (suc n) x y at_x at_y = zip_at R xs ys h.1 n x y at_x at_y
 
 dots_promoted : (all : Bits) (items : List (Dotted Nil)) → map dot_of (map (promoted_item all) items) ≡ map dot_of items
 dots_promoted all [] = refl
@@ -45,14 +44,6 @@ promoted_places all old new z = record {
   each = λ n before after at_old at_new. promoted_place all before after (zip_at (IsPromoted all) old new z n before after at_old at_new);
 }
 
--- the old state at a place
-zip_old : {A B : Type 0} (R : A → B → Type 0) (xs : List A) (ys : List B) → AllZip R xs ys → (n : ℕ) (y : B) → slice_get ys n ≡ Some y → (x : A) × (slice_get xs n ≡ Some x) × R x y
-zip_old R [] [] h n y at = cc
-zip_old R [] (b ∷ ys) h n y at = absurd h
-zip_old R (a ∷ xs) [] h n y at = cc
-zip_old R (a ∷ xs) (b ∷ ys) h zero y at = (a, refl, subst (R a) (same_some b y at) h.0)
-zip_old R (a ∷ xs) (b ∷ ys) h (suc n) y at = zip_old R xs ys h.1 n y at
-
 -- each reduction holds all tokens
 pub promoted_full : (terminals : List TerminalString) (all : Bits) → IsFull terminals all → (old : List (State Nil)) (new : List (State Bits)) → AllZip (IsPromoted all) old new → (n : ℕ) (state : State Bits) → slice_get new n ≡ Some state → HoldsAll terminals state
 promoted_full terminals all full old new z n state at r among =
@@ -74,19 +65,38 @@ full_set terminals all is bit = (λ h. leb-true bit (length terminals) (sym (is 
 pub promoted_lanes : (g : Rules) (start : NonterminalString) (all : Bits) → IsFull g.terminals all → (old : List (State Nil)) (new : List (State Bits)) → AreLr0States g start old → AllZip (IsPromoted all) old new → AreLaneStates g start new
 promoted_lanes g start all full old new lr0 z = record { bare = old; lr0 = lr0; same = promoted_places all old new z; items = promoted_items g.terminals all full old new z }
 
--- promoted items have the numbers of those before
-promoted_at : (known : List (Dotted Nil)) (all : Bits) (numbers : List ℕ) (items : List (Dotted Nil)) → AreItemsAt known numbers items → AreItemsAt known numbers (map (promoted_item all) items)
-promoted_at known all numbers items h = record {
-  counted = h.counted ∙ sym (length-map items (promoted_item all));
-  each = λ j k item at at_k.
-      let (i, there, is) = some_of_map (promoted_item all) (slice_get items j) item (sym (slice_get-map (promoted_item all) items j) ∙ at) in
-      h.each j k i there at_k ∙ ap (λ (d : Dotted Bits). Some (with_dot d.production d.index)) is;
-}
+-- promoted states are by numbers what those before are
+promoted_number : (n : Numbers) (all : Bits) (old : State Nil) (new : State Bits) (state : NumberedState) → IsPromoted all old new → IsNumberedState n (contents_of (λ (lookahead : Nil) (t : Token). true) old) state → IsNumberedState n (contents_of (λ (lookahead : Bits) (t : Token). true) new) state
+promoted_number n all old new state p is =
+    let place = promoted_place all old new p in
+    record {
+      known = is.known;
+      items = λ k i at. subst (λ (ds : List (Production × ℕ)). Contains state.items.items k ↔ Contains ds (i.production, i.index)) (sym place.dots) (is.items k i at);
+      named = is.named;
+      edges = λ x m s at. subst (λ (o : Option ℕ). Contains state.edges.items (x, m) ↔ (o ≡ Some m)) (same_lead s) (is.edges x m s at);
+      ascend = is.ascend;
+    }
+  where
+    same_lead : (s : Symbol) → leads (contents_of (λ (lookahead : Nil) (t : Token). true) old) s ≡ leads (contents_of (λ (lookahead : Bits) (t : Token). true) new) s
+    same_lead (Nonterminal a) = ap (λ (gotos : BTreeMap NonterminalString StateIndex). option_map number_of (get name_cmp gotos a)) (sym p.gotos)
+    same_lead (Terminal t) = ap (λ (shifts : BTreeMap TerminalString StateIndex). option_map number_of (get terminal_ord.ghosts.cmp shifts t)) (sym p.shifts)
 
-pub Items-promoted : (known : List (Dotted Nil)) (all : Bits) (lists : List (Vec ℕ Global)) (old : List (State Nil)) (new : List (State Bits)) → AllZip (IsPromoted all) old new → HaveItemsAt known lists old → HaveItemsAt known lists new
-Items-promoted known all lists old new zip h = record {
+pub Numbered-promoted : (n : Numbers) (all : Bits) (list : List NumberedState) (old : List (State Nil)) (new : List (State Bits)) → AllZip (IsPromoted all) old new → AreNumberedAs n old list → AreNumberedStates n new list
+Numbered-promoted n all list old new zip h = record {
   counted = h.counted ∙ sym (zipped_length (IsPromoted all) old new zip);
-  each = λ s list state at_list at.
-      let (before, there, p) = zip_old (IsPromoted all) old new zip s state at in
-      subst (AreItemsAt known list.items) (sym p.items) (promoted_at known all list.items before.items.vec.items (h.each s list before at_list there));
+  each = λ s state at.
+      let l = slice_get_within list s state at in
+      let counted = h.counted ∙ sym (zipped_length (IsPromoted all) old new zip) in
+      let f = filled new s (omega (arith, l, counted)) in
+      let (before, there, p) = zip_old (IsPromoted all) old new zip s f.0 f.1 in
+      subst (λ (o : Option (State Bits)). IsNumberedState n (contents_at (λ (lookahead : Bits) (t : Token). true) o) state) (sym f.1) (promoted_number n all before f.0 state p (h.each s before state there at).is);
+  reduced = λ s new_state state at_new at.
+      let (before, there, p) = zip_old (IsPromoted all) old new zip s new_state at_new in
+      let r = (h.each s before state there at).reduced in
+      subst (λ (rs : List (Bits × Bor Production)). AreReducedNumbers n.items.items rs state.reductions.items) (sym p.reductions) (record {
+        counted = r.counted ∙ sym (length-map before.reductions.items (promoted_reduction all));
+        each = λ j k q at_q at_k.
+            let (b, at_b, same) = some_of_map (promoted_reduction all) (slice_get before.reductions.items j) q (sym (slice_get-map (promoted_reduction all) before.reductions.items j) ∙ at_q) in
+            r.each j k b at_b at_k ∙ ap (λ (x : Bits × Bor Production). Some (with_dot x.1.now (length x.1.now.symbols))) same;
+      });
 }

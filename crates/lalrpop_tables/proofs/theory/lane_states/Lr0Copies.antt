@@ -19,7 +19,7 @@ use Rattle.lalrpop_tables.proofs.theory.lanes.LaneAsked.{asked_of}
 use Rattle.lalrpop_tables.proofs.theory.merges.LaneCopies.{copies_coherent, copies_copying}
 use Rattle.lalrpop_tables.proofs.theory.lane_states.LanePlaces.{produced, produced_by, reduces_there}
 use Rattle.lalrpop_tables.proofs.theory.lane_states.LaneShape.{here_closed, here_reduces, lane_shape, own_items, some_states}
-use Rattle.lalrpop_tables.proofs.theory.collapse.MergedCollapse.{free_states}
+use Rattle.lalrpop_tables.proofs.theory.conflicts.ConflictLists.{free_states}
 use Rattle.lalrpop_tables.proofs.theory.lane_states.Resolving.{no_copies, own_numbers}
 
 -- a state with the same dotted productions, which reduces by the same productions, reduces its finished items, too

@@ -1,7 +1,7 @@
 -- Columns that the cells of a lane table are joined to, one by one.
 use Rattle.std.proofs.Common.{◌≡◌, ◌==◌, eqb-true, eq-eqb, ℕ, ◌<◌, ◌⊎◌, inl, inr, ⊎_elim, true, false, List, [], ◌∷◌, ◌++◌, length, refl, sym, ap, subst, ◌∙◌, append_assoc, append-nil}
 use Rattle.std.specs.Prelude.{Contains, slice_get, Some}
-use Rattle.std.proofs.lemmas.List.Elements.{Contains-append_left, Contains-append_right, Contains-append_cases}
+use Rattle.std.proofs.lemmas.List.Elements.{Contains-append_left, Contains-append_cases, Contains-push}
 use Rattle.lalrpop_base.specs.Words.{Bits, has, no_bits, has-no_bits, HasAt, MeetsOther, IsJoinedIn}
 use Rattle.lalrpop_tables.proofs.Types.{StateIndex}
 use Rattle.lalrpop_tables.specs.Words.{Cells, HasIn, AreGathered, ThisRow, column, AreColumns, ColumnsOverlap, IsRow, RowOverlaps}
@@ -9,7 +9,7 @@ use Rattle.lalrpop_tables.specs.declared.lane_table.context_set.ConflictIndex.{C
 use Rattle.lalrpop_tables.specs.declared.lane_table.table.LaneTable.{LaneTable}
 use Rattle.lalrpop_base.proofs.theory.lanes.Contexts.{had_or_joined, still_has, has_joined, still_disjoint}
 use Rattle.lalrpop_tables.proofs.theory.lane_tables.LaneTables.{Cell}
-use Rattle.lalrpop_base.proofs.theory.lists.Members.{contains_head, contains-cons, Contains-none}
+use Rattle.lalrpop_base.proofs.theory.lists.Members.{contains-cons, Contains-none}
 
 -- two columns share a token in the rows
 pub record CellsOverlap (P : StateIndex → Type 0) (cells : Cells) : Type 0 where
@@ -34,7 +34,7 @@ pub in_more : (P : StateIndex → Type 0) (cells : Cells) (e : Cell × Bits) (k 
 in_more P cells e k bit h = (h.0, h.1, (h.2.0, Contains-append_left cells (e ∷ []) _ h.2.1, h.2.2))
 
 pub last_in : (cells : Cells) (e : Cell × Bits) → Contains (cells ++ e ∷ []) e
-last_in cells e = Contains-append_right cells (e ∷ []) e (contains_head e [])
+last_in cells e = Contains-push cells e
 
 pub in_last : (cells : Cells) (e f : Cell × Bits) → Contains (cells ++ e ∷ []) f → Contains cells f ⊎ (e ≡ f)
 in_last cells e f c = ⊎_elim (λ a. inl a) (λ b. ⊎_elim (λ s. inr s) (λ n. absurd (Contains-none f n)) (contains-cons e [] f b)) (Contains-append_cases cells (e ∷ []) f c)

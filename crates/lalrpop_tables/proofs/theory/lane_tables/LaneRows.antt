@@ -113,9 +113,6 @@ sorted_rest cmp (x ∷ xs) ys s = sorted_rest cmp xs ys (sorted_tail cmp x (xs +
 head_less : {K : Type 0} (cmp : K → K → Ordering) (x : K) (xs : List K) (y : K) → IsStrictlySortedBy cmp (x ∷ xs) → Contains xs y → cmp x y ≡ Less
 head_less cmp x xs y s c = ap (λ z. cmp x z) (sym c.2) ∙ Less-from_sorted cmp (x ∷ xs) 0 (suc c.0) y s (omega arith) (omega (arith, c.1))
 
-keys_append : {K V : Type 0} (xs ys : List (K × V)) → keys_of (xs ++ ys) ≡ keys_of xs ++ keys_of ys
-keys_append xs ys = map-append (λ e. e.0) xs ys
-
 not_smaller : (o p : Ordering) → ordering_then o p ≡ Less → o ≡ Greater → ⊥
 not_smaller Less p e f = cc
 not_smaller Equal p e f = cc
@@ -126,7 +123,7 @@ greater a b l = grind (arith, common_steps)
 
 module _ (done left all : Cells) (state : StateIndex) (index : ConflictIndex) (tokens : Bits) (whole : done ++ ((state, index), tokens) ∷ left ≡ all) (rises : IsStrictlySortedBy cell_cmp (keys_of all)) where
   tail_rises : IsStrictlySortedBy cell_cmp ((state, index) ∷ keys_of left)
-  tail_rises = sorted_rest cell_cmp (keys_of done) ((state, index) ∷ keys_of left) (subst (λ (ks : List Cell). IsStrictlySortedBy cell_cmp ks) (ap (λ (es : Cells). keys_of es) (sym whole) ∙ keys_append done (((state, index), tokens) ∷ left)) rises)
+  tail_rises = sorted_rest cell_cmp (keys_of done) ((state, index) ∷ keys_of left) (subst (λ (ks : List Cell). IsStrictlySortedBy cell_cmp ks) (ap (λ (es : Cells). keys_of es) (sym whole) ∙ map-append (λ (e : Cell × Bits). e.0) done (((state, index), tokens) ∷ left)) rises)
 
   -- a cell of a smaller state was taken
   pub taken_before : (smaller : StateIndex) (k : ℕ) (set : Bits) → smaller.0 < state.0 → Contains all ((smaller, column k), set) → Contains done ((smaller, column k), set)

@@ -2,7 +2,7 @@
 use Rattle.std.proofs.Common.{◌≡◌, ℕ, ◌<◌, ◌⊎◌, inl, inr, ⊎_elim, Bool, true, false, not, length, arith, List, [], ◌∷◌, ◌++◌, refl, sym, ap, subst, ◌∙◌, append_assoc, append-nil}
 use Rattle.std.specs.Prelude.{Contains, ◌↔◌}
 use Rattle.std.specs.BTreeSet.{BTreeSet as SortedSet, insert_key}
-use Rattle.std.proofs.lemmas.List.Elements.{Contains-append_left, Contains-append_right, Contains-append_cases}
+use Rattle.std.proofs.lemmas.List.Elements.{Contains-append_left, Contains-append_right, Contains-append_cases, Contains-push}
 use Rattle.lalrpop_base.specs.Words.{Bits}
 use Rattle.lalrpop_tables.proofs.Types.{StateIndex}
 use Rattle.lalrpop_tables.specs.Words.{Cells, HasCells, Successors, HasNext, AddsKeys, AreReached, HasCellsBelow, IsClosedEdge, column, HasRow, IsBeachhead}
@@ -39,7 +39,7 @@ pub added_more : (old mid new : List StateIndex) (key : StateIndex) → new ≡ 
 added_more old mid new key e done a r = (
   λ c. ⊎_elim
       (λ was. ⊎_elim (λ o. inl o) (λ d. inr (Contains-append_left done (key ∷ []) r d)) ((a r).0 was))
-      (λ same. inr (subst (λ (x : StateIndex). Contains (done ++ key ∷ []) x) (sym same) (Contains-append_right done (key ∷ []) key (contains_head key []))))
+      (λ same. inr (subst (λ (x : StateIndex). Contains (done ++ key ∷ []) x) (sym same) (Contains-push done key)))
       ((key_added mid new key e r).0 c),
   λ h. (key_added mid new key e r).1 (⊎_elim
       (λ o. inl ((a r).1 (inl o)))

@@ -9,14 +9,14 @@ use Rattle.lalrpop_base.specs.lists.CheckSets.{IsAdded}
 use Rattle.lalrpop_tables.specs.Words.{AddsNothing, AreExpanded, GainsOf, GivesBit, GivesCell, GivesSuccessor, KeepsAll, VisitsOf, places_in}
 use Rattle.lalrpop_tables.specs.lanes.LaneSteps.{LeadsTo}
 use Rattle.lalrpop_tables.specs.declared.lane_table.lane.ground.Ground.{Ground}
-use Rattle.lalrpop_tables.specs.declared.lane_table.lane.walk.Walk.{Walk}
+use Rattle.lalrpop_tables.specs.declared.walk.Walk.{Walk}
 use Rattle.lalrpop_tables.specs.declared.lane_table.table.LaneTable.{LaneTable}
 use Rattle.lalrpop_tables.specs.declared.place.Place.{Place}
 use Rattle.lalrpop_tables.proofs.theory.lanes.Gains.{Gains-same}
 use Rattle.lalrpop_tables.proofs.theory.lanes.GainsSome.{GainsSome-all, Gains-again, kept_all}
 use Rattle.lalrpop_base.proofs.theory.lists.Members.{Contains-none}
 use Rattle.lalrpop_tables.proofs.theory.lanes.Unshifting.{back_cases}
-use Rattle.lalrpop_tables.proofs.theory.lanes.Walks.{Visits-again, Visits-same}
+use Rattle.lalrpop_tables.proofs.theory.lists.Walks.{Visits-again, Visits-same}
 
 -- both places stand at the start of a production, in one state and of one nonterminal
 pub record AreAlike (p q : Place) : Type 0 where
@@ -84,7 +84,7 @@ module _ {L : Type 0} (ground : Ground L) where
         (to_parent q.state q.item.production k.item.production k.item.index t.after item behind t.nullable))
   ]
 
-  nothing_alike : (p q : Place) → AreAlike p q → (k : ℕ) (table : LaneTable) (walk : Walk) → AddsNothing ground p k table walk → AddsNothing ground q k table walk
+  nothing_alike : (p q : Place) → AreAlike p q → (k : ℕ) (table : LaneTable) (walk : Walk Place) → AddsNothing ground p k table walk → AddsNothing ground q k table walk
   nothing_alike p q a k table walk h =
       let b = turned p q a in
       record {
@@ -93,12 +93,12 @@ module _ {L : Type 0} (ground : Ground L) where
       }
 
   -- ---- tables and walks that keep what they have
-  module _ (k : ℕ) (a b : LaneTable) (t u : Walk) (tables : KeepsAll a b) (walks : (q : Place) → Contains t.visited.keys q → Contains u.visited.keys q) where
+  module _ (k : ℕ) (a b : LaneTable) (t u : Walk Place) (tables : KeepsAll a b) (walks : (q : Place) → Contains t.visited.keys q → Contains u.visited.keys q) where
     pub Expanded-kept : (keys : List (ℕ × NonterminalString)) → AreExpanded ground k a t keys → AreExpanded ground k b u keys
     Expanded-kept keys h = λ p begun c. let x = h p begun c in record { gains = Gains-again k (Cell p) (Bit p) (Successor p) a a b x.gains tables; visits = Visits-again (Led p) t t u x.visits walks }
 
   -- ---- one more
-  pub Expanded-none : (k : ℕ) (table : LaneTable) (walk : Walk) (keys : List (ℕ × NonterminalString)) → keys ≡ [] → AreExpanded ground k table walk keys
+  pub Expanded-none : (k : ℕ) (table : LaneTable) (walk : Walk Place) (keys : List (ℕ × NonterminalString)) → keys ≡ [] → AreExpanded ground k table walk keys
   Expanded-none k table walk keys none = λ p begun c. absurd (Contains-none (p.state, p.item.production.nonterminal) (subst (λ (l : List (ℕ × NonterminalString)). Contains l (p.state, p.item.production.nonterminal)) none c))
 
   module _ (k : ℕ) (place : Place) (begun : place.item.index ≡ 0) (old new : List (ℕ × NonterminalString)) (added : IsAdded (place.state, place.item.production.nonterminal) old new) where
@@ -106,14 +106,14 @@ module _ {L : Type 0} (ground : Ground L) where
     key = (place.state, place.item.production.nonterminal)
 
     -- it was among them
-    pub Expanded-known : Contains old key → (table : LaneTable) (walk : Walk) → AreExpanded ground k table walk old → AreExpanded ground k table walk new
+    pub Expanded-known : Contains old key → (table : LaneTable) (walk : Walk Place) → AreExpanded ground k table walk old → AreExpanded ground k table walk new
     Expanded-known before table walk h = λ p at c. elim (added.from (p.state, p.item.production.nonterminal) c) [
       | inl o ↦ h p at o
       | inr e ↦ h p at (subst (Contains old) e before)
     ]
 
     -- the place was stepped back from
-    pub Expanded-new : (a b : LaneTable) (t u : Walk) → GainsOf ground place k a b → VisitsOf ground place t u → AreExpanded ground k a t old → AreExpanded ground k b u new
+    pub Expanded-new : (a b : LaneTable) (t u : Walk Place) → GainsOf ground place k a b → VisitsOf ground place t u → AreExpanded ground k a t old → AreExpanded ground k b u new
     Expanded-new a b t u gains visits h = λ p at c. elim (added.from (p.state, p.item.production.nonterminal) c) [
       | inl o ↦ Expanded-kept k a b t u (GainsSome-all k (Cell place) (Bit place) (Successor place) a b gains).kept visits.kept old h p at o
       | inr e ↦

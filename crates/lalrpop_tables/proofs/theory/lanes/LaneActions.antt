@@ -6,11 +6,11 @@ use Rattle.std.specs.Cmp.{IsTotalOrder, tied_itself}
 use Rattle.std.specs.Ordering.{match_ordering}
 use Rattle.std.specs.declared.cmp.Ordering.{Ordering}
 use Rattle.std.specs.declared.cmp.Ordering.TheVariants.{Less, Equal, Greater}
-use Rattle.std.proofs.lemmas.List.Elements.{Contains-append_left, Contains-append_right, Contains-append_cases}
+use Rattle.std.proofs.lemmas.List.Elements.{Contains-append_left, Contains-append_right, Contains-push_cases}
 use Rattle.lalrpop_base.specs.contracts.lr1_core.state.ActionOrd.TheImpl as action_ord
 use Rattle.lalrpop_tables.proofs.Types.{Action}
 use Rattle.lalrpop_tables.specs.Words.{action_order, AreActions}
-use Rattle.lalrpop_base.proofs.theory.lists.Members.{Contains-none, contains_head, contains_tail, contains-cons, insert_key-kept, insert_key-from}
+use Rattle.lalrpop_base.proofs.theory.lists.Members.{Contains-none, contains_head, contains_tail, insert_key-kept, insert_key-from}
 
 -- ---- a key goes into a set
 module _ {K : Type 0} (cmp : K → K → Ordering) where
@@ -38,14 +38,11 @@ one_action asked keys new a inserted h = record {
     | inl old ↦ Contains-append_left asked (a ∷ []) b (h.of b old)
     | inr e ↦ Contains-append_right asked (a ∷ []) b (subst (Contains (a ∷ [])) e (contains_head a []))
   ];
-  all = λ b c. elim (Contains-append_cases asked (a ∷ []) b c) [
+  all = λ b c. elim (Contains-push_cases asked a b c) [
     | inl old ↦ let f = h.all b old in (f.0, subst (λ (ks : List Action). Contains ks f.0) (sym inserted) (insert_key-kept action_order keys a f.0 f.1), f.2)
-    | inr d ↦ elim (contains-cons a [] b d) [
-      | inl e ↦
-          let f = insert_there action_order action_total keys a in
-          (f.0, subst (λ (ks : List Action). Contains ks f.0) (sym inserted) f.1, subst (λ (x : Action). action_order x f.0 ≡ Equal) e f.2)
-      | inr none ↦ absurd (Contains-none b none)
-    ]
+    | inr e ↦
+        let f = insert_there action_order action_total keys a in
+        (f.0, subst (λ (ks : List Action). Contains ks f.0) (sym inserted) f.1, subst (λ (x : Action). action_order x f.0 ≡ Equal) e f.2)
   ];
 }
 

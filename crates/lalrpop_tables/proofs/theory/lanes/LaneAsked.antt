@@ -1,5 +1,5 @@
 -- The actions that are asked for are the shifts of a state whose terminals some reduction holds, and its reductions; and where each stands among them.
-use Rattle.std.proofs.Common.{◌≡◌, ℕ, inl, inr, Bool, true, false, cond, List, [], ◌∷◌, map, length, ◌<◌, refl, sym, ◌∙◌, ap, subst, arith, Option, Some, None}
+use Rattle.std.proofs.Common.{◌≡◌, ℕ, inl, inr, Bool, List, [], ◌∷◌, map, length, ◌<◌, refl, sym, ◌∙◌, ap, subst, arith, Option, Some, None}
 use Rattle.std.specs.Prelude.{Contains}
 use Rattle.std.specs.Borrow.{Bor}
 use Rattle.std.specs.List.{filter, flat_map}
@@ -15,43 +15,11 @@ use Rattle.lalrpop_base.specs.conflicts.HeldShifts.{IsHeldBit}
 use Rattle.lalrpop_tables.specs.Words.{action_order, AreActions, asked_actions, conflict_actions, reduce_action}
 use Rattle.lalrpop_base.proofs.theory.grammars.AscendingItems.{production_exact}
 use Rattle.lalrpop_base.proofs.theory.lists.Bounded.{in_flat_map}
+use Rattle.lalrpop_tables.proofs.theory.lists.Filters.{is_kept, kept_holds, of_kept}
 use Rattle.lalrpop_base.proofs.theory.lists.Members.{Contains-none, contains_head, contains_tail, contains-cons, of_flat}
 
 abbrev pub CodeReduction : Type 0
 CodeReduction = Bits × Bor Production
-
--- ---- lists
-kept_cases : {X : Type 0} (b : Bool) (x : X) (xs : List X) (y : X) → Contains (cond b (x ∷ xs) xs) y → Contains (x ∷ xs) y
-kept_cases true x xs y c = c
-kept_cases false x xs y c = contains_tail x xs y c
-
-of_kept : {X : Type 0} (p : X → Bool) (xs : List X) (y : X) → Contains (filter p xs) y → Contains xs y
-of_kept p [] y c = c
-of_kept p (x ∷ xs) y c = elim (contains-cons x (filter p xs) y (kept_cases (p x) x (filter p xs) y c)) [
-  | inl e ↦ subst (Contains (x ∷ xs)) e (contains_head x xs)
-  | inr later ↦ contains_tail x xs y (of_kept p xs y later)
-]
-
--- what is kept passes the test
-kept_at : {X : Type 0} (p : X → Bool) (x : X) (xs : List X) (y : X) → (Contains xs y → p y ≡ true) → (b : Bool) → p x ≡ b → Contains (cond b (x ∷ xs) xs) y → p y ≡ true
-kept_at p x xs y later true e c = elim (contains-cons x xs y c) [ inl here ↦ subst (λ z. p z ≡ true) here e | inr d ↦ later d ]
-kept_at p x xs y later false e c = later c
-
-kept_holds : {X : Type 0} (p : X → Bool) (xs : List X) (y : X) → Contains (filter p xs) y → p y ≡ true
-kept_holds p [] y c = absurd (Contains-none y c)
-kept_holds p (x ∷ xs) y c = kept_at p x (filter p xs) y (kept_holds p xs y) (p x) refl c
-
--- and what passes it is kept
-kept_later : {X : Type 0} (b : Bool) (x : X) (xs : List X) (y : X) → Contains xs y → Contains (cond b (x ∷ xs) xs) y
-kept_later true x xs y c = contains_tail x xs y c
-kept_later false x xs y c = c
-
-is_kept : {X : Type 0} (p : X → Bool) (xs : List X) (y : X) → p y ≡ true → Contains xs y → Contains (filter p xs) y
-is_kept p [] y e c = absurd (Contains-none y c)
-is_kept p (x ∷ xs) y e c = elim (contains-cons x xs y c) [
-  | inl here ↦ subst (λ (b : Bool). Contains (cond b (x ∷ filter p xs) (filter p xs)) y) (sym (ap p here ∙ e)) (subst (Contains (x ∷ filter p xs)) here (contains_head x (filter p xs)))
-  | inr later ↦ kept_later (p x) x (filter p xs) y (is_kept p xs y e later)
-]
 
 -- ---- what is asked for: a shift of the state whose terminal some reduction holds, or a reduction of the state
 abbrev pub IsAskedOf : List TerminalString → State Bits → Action → Type 0

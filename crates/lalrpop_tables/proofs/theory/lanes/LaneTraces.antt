@@ -1,16 +1,16 @@
 -- The loop that traces a place back: each place to which it leads is visited once, and gives what it gives.
-use Rattle.std.proofs.Common.{◌≡◌, ℕ, suc, ◌+◌, ◌-◌, ◌<◌, ◌≤◌, ◌⊎◌, inl, inr, ◌↔◌, List, [], ◌∷◌, ◌++◌, length, map, refl, sym, ◌∙◌, ap, subst, arith, Some}
-use Rattle.std.specs.Prelude.{Contains, slice_get}
+use Rattle.std.proofs.Common.{◌≡◌, ℕ, ◌+◌, ◌-◌, ◌<◌, ◌≤◌, inl, inr, ◌↔◌, List, [], ◌∷◌, ◌++◌, length, map, refl, sym, ◌∙◌, subst, arith}
+use Rattle.std.specs.Prelude.{Contains}
 use Rattle.std.specs.List.{flat_map, range_with_len}
-use Rattle.std.proofs.lemmas.Option.{slice_get_within, get_or_from_slice_get}
-use Rattle.lalrpop_base.specs.Words.{LeadsBack, IsTracedTo, itself, back, AllDiffer, Contents, Rules, productions, rules_of}
+use Rattle.std.proofs.lemmas.Option.{slice_get_within}
+use Rattle.lalrpop_base.specs.Words.{LeadsBack, IsTracedTo, itself, back, Contents, Rules, productions, rules_of}
 use Rattle.lalrpop_tables.proofs.Types.{Production}
 use Rattle.lalrpop_base.specs.declared.repr.Symbol.TheVariants.{Nonterminal}
 use Rattle.lalrpop_tables.specs.Words.{at_place, IsGround, Gains, Visits, Some_of, GivesCell, GivesBit, GivesSuccessor, GainsOf, VisitsOf, Reaches, GainsAll}
 use Rattle.lalrpop_tables.specs.Words.{GainsSomeOf, GainsSomeOfAll, IsEndPlace, AreInRange, places_in}
 use Rattle.lalrpop_tables.specs.lanes.LaneSteps.{LeadsTo, IsReached}
 use Rattle.lalrpop_tables.specs.declared.lane_table.lane.ground.Ground.{Ground}
-use Rattle.lalrpop_tables.specs.declared.lane_table.lane.walk.Walk.{Walk}
+use Rattle.lalrpop_tables.specs.declared.walk.Walk.{Walk}
 use Rattle.lalrpop_tables.specs.declared.lane_table.table.LaneTable.{LaneTable}
 use Rattle.lalrpop_tables.specs.declared.place.Place.{Place}
 use Rattle.lalrpop_base.proofs.theory.lists.Bounded.{in_flat_map}
@@ -19,10 +19,10 @@ use Rattle.lalrpop_base.proofs.theory.closures.Closing.{split_drop}
 use Rattle.lalrpop_tables.proofs.theory.states.EdgeLeads.{leads_within}
 use Rattle.lalrpop_tables.proofs.theory.lanes.Gains.{Gains-none, Gains-then, Gains-same}
 use Rattle.lalrpop_tables.proofs.theory.lanes.GainsSome.{GainsSome-last, GainsSome-none}
-use Rattle.lalrpop_base.proofs.theory.lists.Members.{Contains-none, contains_head, contains_tail, contains-cons, contains_map, Contains-range, pigeonhole}
-use Rattle.lalrpop_base.proofs.theory.lists.Places.{apart_from_differ, filled}
+use Rattle.lalrpop_base.proofs.theory.lists.Members.{contains_map, Contains-range}
+use Rattle.lalrpop_base.proofs.theory.lists.Places.{filled}
 use Rattle.lalrpop_tables.proofs.theory.lists.SomeOf.{some_none, some_kept, some_last, some_cases}
-use Rattle.std.proofs.lemmas.List.Elements.{Contains-append_left, Contains-append_right, Contains-append_cases}
+use Rattle.lalrpop_tables.proofs.theory.lists.Walks.{All-wait, IsTraversing, Traversing-end, Traversing-smaller, Traversing-start, Traversing-step, next_visited, visited_such}
 use Rattle.lalrpop_tables.proofs.theory.lanes.Unepsilon.{parent_item}
 use Rattle.lalrpop_tables.proofs.theory.lanes.Unshifting.{back_cases}
 
@@ -64,17 +64,14 @@ module _ {L : Type 0} (ground : Ground L) (first : Place) where
   abbrev Step : ℕ → ℕ → Place → Type 0
   Step l r p = GivesSuccessor R ground.start.now S p l r
 
-  -- each place that was visited is reached, and waits or is done; those that are done gave what they give, and what they lead to was visited
-  pub record IsTracing (k : ℕ) (old now : LaneTable) (walk : Walk) : Type 0 where
+  -- of the places that were visited those that are done gave what they give
+  abbrev pub IsAt : List Place → Walk Place → Type 0
+  IsAt = IsTraversing (λ p. first ≡ p) (LeadsTo R ground.start.now S) (IsReached ground first)
+
+  pub record IsTracing (k : ℕ) (old now : LaneTable) (walk : Walk Place) : Type 0 where
     pub done : List Place
+    pub walking : IsAt done walk
     pub gains : Gains k (λ row. Some_of (Cell row) done) (λ row bit. Some_of (Bit row bit) done) (λ l r. Some_of (Step l r) done) old now
-    pub split : (p : Place) → Contains walk.visited.keys p → Contains done p ⊎ Contains walk.waiting.items p
-    pub came : (p : Place) → Contains walk.waiting.items p → Contains walk.visited.keys p
-    pub settled : (p : Place) → Contains done p → Contains walk.visited.keys p
-    pub reached : (p : Place) → Contains walk.visited.keys p → IsReached ground first p
-    pub led : (p q : Place) → Contains done p → LeadsTo R ground.start.now S p q → Contains walk.visited.keys q
-    pub start : Contains walk.visited.keys first
-    pub differ : AllDiffer walk.visited.keys
     pub columns : now.conflicts ≡ old.conflicts
     pub in_range : AreInRange old → AreInRange now
 
@@ -121,120 +118,70 @@ module _ {L : Type 0} (ground : Ground L) (first : Place) (on : IsGround ground)
       subst (Contains (all_places ground first)) key (in_flat_map (places_at ground first) (range_with_len 0 (length ground.states.now)) p.state (at_place p.state p.item.production p.item.index) (Contains-range (length ground.states.now) p.state h.listed) named)
 
   -- ---- the loop
-  pub Tracing-start : (k : ℕ) (table : LaneTable) (none walk : Walk) → none.visited.keys ≡ [] → none.waiting.items ≡ [] → Visits (λ p. first ≡ p) none walk → IsTracing ground first k table table walk
+  abbrev Leads : Place → Place → Type 0
+  Leads = LeadsTo (R ground first) ground.start.now (S ground first)
+
+  pub Tracing-start : (k : ℕ) (table : LaneTable) (none walk : Walk Place) → none.visited.keys ≡ [] → none.waiting.items ≡ [] → Visits (λ p. first ≡ p) none walk → IsTracing ground first k table table walk
   Tracing-start k table none walk no_visits no_waits v =
-      let nothing : (p : Place) → Contains none.visited.keys p → ⊥ = λ p c. Contains-none p (subst (λ (ps : List Place). Contains ps p) no_visits c) in
-      let idle : (p : Place) → Contains none.waiting.items p → ⊥ = λ p c. Contains-none p (subst (λ (ps : List Place). Contains ps p) no_waits c) in
+      let such = visited_such (λ p. first ≡ p) none walk no_visits no_waits v in
       record {
         done = [];
+        walking = Traversing-start (λ p. first ≡ p) Leads (IsReached ground first) walk (All-wait (λ p. first ≡ p) none walk no_visits no_waits v) v.there (λ p c. subst (λ (x : Place). IsReached ground first x) (such p c) itself);
         gains = Gains-none k (λ row. Some_of (Cell ground first row) []) (λ row bit. Some_of (Bit ground first row bit) []) (λ l r. Some_of (Step ground first l r) []) table (λ row h. some_none (Cell ground first row) h) (λ row bit h. some_none (Bit ground first row bit) h) (λ l r h. some_none (Step ground first l r) h);
-        split = λ p c. elim (v.only p c) [ inl o ↦ absurd (nothing p o) | inr n ↦ inr n.1 ];
-        came = λ p c. elim (v.waits p c) [ inl o ↦ absurd (idle p o) | inr n ↦ n ];
-        settled = λ p c. absurd (Contains-none p c);
-        reached = λ p c. elim (v.only p c) [ inl o ↦ absurd (nothing p o) | inr n ↦ subst (λ (x : Place). IsReached ground first x) n.0 itself ];
-        led = λ p q c b. absurd (Contains-none p c);
-        start = v.there first refl;
-        differ = v.differ (λ i j x l at other. nothing x (at_contains i x at));
         columns = refl;
         in_range = λ h. h;
       }
-    where
-      at_contains : (i : ℕ) (x : Place) → slice_get none.visited.keys i ≡ Some x → Contains none.visited.keys x
-      at_contains i x at = (i, slice_get_within none.visited.keys i x at, get_or_from_slice_get none.visited.keys i x x at)
 
-  module _ (k : ℕ) (place : Place) (old now next : LaneTable) (before popped after : Walk) (same : popped.visited.keys ≡ before.visited.keys) (taken : before.waiting.items ≡ place ∷ popped.waiting.items) (h : IsTracing ground first k old now before) where
+  module _ (k : ℕ) (place : Place) (old now next : LaneTable) (before popped after : Walk Place) (same : popped.visited.keys ≡ before.visited.keys) (taken : before.waiting.items ≡ place ∷ popped.waiting.items) (h : IsTracing ground first k old now before) where
     there : Contains before.visited.keys place
-    there = h.came place (subst (λ (ps : List Place). Contains ps place) (sym taken) (contains_head place popped.waiting.items))
+    there = next_visited (λ p. first ≡ p) Leads (IsReached ground first) h.done place before popped after same taken h.walking
 
     pub place_listed : place.state < length ground.states.now
-    place_listed = (reached_known place (h.reached place there)).listed
+    place_listed = (reached_known place (h.walking.reached place there)).listed
 
     -- what the places so far gave, and a part of what the next one gives, where its step is refused
     pub Tracing-part : GainsSomeOf ground place k now next → GainsSomeOfAll ground first k old next
     Tracing-part part = GainsSome-last k (λ row. Some_of (Cell ground first row) h.done) (λ row. Cell ground first row place) (λ row. Reaches ground first (Cell ground first row)) (λ row bit. Some_of (Bit ground first row bit) h.done) (λ row bit. Bit ground first row bit place) (λ row bit. Reaches ground first (Bit ground first row bit)) (λ l r. Some_of (Step ground first l r) h.done) (λ l r. Step ground first l r place) (λ l r. Reaches ground first (Step ground first l r))
-        (λ row. all_reached (Cell ground first row)) (λ row c. (place, h.reached place there, c)) (λ row bit. all_reached (Bit ground first row bit)) (λ row bit b. (place, h.reached place there, b)) (λ l r. all_reached (Step ground first l r)) (λ l r s. (place, h.reached place there, s)) old now next h.gains part
+        (λ row. all_reached (Cell ground first row)) (λ row c. (place, h.walking.reached place there, c)) (λ row bit. all_reached (Bit ground first row bit)) (λ row bit b. (place, h.walking.reached place there, b)) (λ l r. all_reached (Step ground first l r)) (λ l r s. (place, h.walking.reached place there, s)) old now next h.gains part
       where
         all_reached : (P : Place → Type 0) → Some_of P h.done → Reaches ground first P
-        all_reached P m = (m.0, h.reached m.0 (h.settled m.0 m.1), m.2)
+        all_reached P m = (m.0, h.walking.reached m.0 (h.walking.settled m.0 m.1), m.2)
 
-    module _ (gains : GainsOf ground place k now next) (v : VisitsOf ground place popped after) where
-      was : (p : Place) → Contains popped.visited.keys p → Contains before.visited.keys p
-      was p c = subst (λ (ps : List Place). Contains ps p) same c
-
-      stays : (p : Place) → Contains before.visited.keys p → Contains after.visited.keys p
-      stays p c = v.kept p (subst (λ (ps : List Place). Contains ps p) (sym same) c)
-
-      left : (p : Place) → Contains before.waiting.items p → (place ≡ p) ⊎ Contains popped.waiting.items p
-      left p c = contains-cons place popped.waiting.items p (subst (λ (ps : List Place). Contains ps p) taken c)
-
-      last : Contains (h.done ++ place ∷ []) place
-      last = Contains-append_right h.done (place ∷ []) place (contains_head place [])
-
-      pub Tracing-step : next.conflicts ≡ now.conflicts → (AreInRange now → AreInRange next) → IsTracing ground first k old next after
-      Tracing-step columns in_range = record {
-        done = h.done ++ place ∷ [];
-        gains = Gains-then k (λ row. Some_of (Cell ground first row) h.done) (λ row. Cell ground first row place) (λ row. Some_of (Cell ground first row) (h.done ++ place ∷ [])) (λ row bit. Some_of (Bit ground first row bit) h.done) (λ row bit. Bit ground first row bit place) (λ row bit. Some_of (Bit ground first row bit) (h.done ++ place ∷ [])) (λ l r. Some_of (Step ground first l r) h.done) (λ l r. Step ground first l r place) (λ l r. Some_of (Step ground first l r) (h.done ++ place ∷ []))
-            (λ row. some_kept (Cell ground first row) h.done place) (λ row. some_last (Cell ground first row) h.done place) (λ row. some_cases (Cell ground first row) h.done place) (λ row bit. some_kept (Bit ground first row bit) h.done place) (λ row bit. some_last (Bit ground first row bit) h.done place) (λ row bit. some_cases (Bit ground first row bit) h.done place)
-            (λ l r. some_kept (Step ground first l r) h.done place) (λ l r. some_last (Step ground first l r) h.done place) (λ l r. some_cases (Step ground first l r) h.done place) old now next h.gains gains;
-        split = λ p c. elim (v.only p c) [
-          | inl o ↦ elim (h.split p (was p o)) [
-            | inl d ↦ inl (Contains-append_left h.done (place ∷ []) p d)
-            | inr w ↦ elim (left p w) [ inl e ↦ inl (subst (Contains (h.done ++ place ∷ [])) e last) | inr q ↦ inr (v.stays p q) ]
-          ]
-          | inr n ↦ inr n.1
-        ];
-        came = λ p c. elim (v.waits p c) [
-          | inl o ↦ stays p (h.came p (subst (λ (ps : List Place). Contains ps p) (sym taken) (contains_tail place popped.waiting.items p o)))
-          | inr n ↦ n
-        ];
-        settled = λ p c. elim (Contains-append_cases h.done (place ∷ []) p c) [
-          | inl d ↦ stays p (h.settled p d)
-          | inr d ↦ elim (contains-cons place [] p d) [ inl e ↦ subst (Contains after.visited.keys) e (stays place there) | inr z ↦ absurd (Contains-none p z) ]
-        ];
-        reached = λ p c. elim (v.only p c) [ inl o ↦ h.reached p (was p o) | inr n ↦ traced_on (h.reached place there) n.0 ];
-        led = λ p q c b. elim (Contains-append_cases h.done (place ∷ []) p c) [
-          | inl d ↦ stays q (h.led p q d b)
-          | inr d ↦ elim (contains-cons place [] p d) [ inl e ↦ v.there q (subst (λ (x : Place). LeadsTo (rules_of ground.grammar.now) ground.start.now (places_in ground.states.now) x q) (sym e) b) | inr z ↦ absurd (Contains-none p z) ]
-        ];
-        start = stays first h.start;
-        differ = v.differ (subst (λ (ps : List Place). AllDiffer ps) (sym same) h.differ);
-        columns = columns ∙ h.columns;
-        in_range = λ r. in_range (h.in_range r);
-      }
+    pub Tracing-step : GainsOf ground place k now next → VisitsOf ground place popped after → next.conflicts ≡ now.conflicts → (AreInRange now → AreInRange next) → IsTracing ground first k old next after
+    Tracing-step gains v columns in_range = record {
+      done = h.done ++ place ∷ [];
+      walking = Traversing-step (λ p. first ≡ p) Leads (IsReached ground first) h.done place before popped after same taken h.walking v (λ p t b. traced_on t b);
+      gains = Gains-then k (λ row. Some_of (Cell ground first row) h.done) (λ row. Cell ground first row place) (λ row. Some_of (Cell ground first row) (h.done ++ place ∷ [])) (λ row bit. Some_of (Bit ground first row bit) h.done) (λ row bit. Bit ground first row bit place) (λ row bit. Some_of (Bit ground first row bit) (h.done ++ place ∷ [])) (λ l r. Some_of (Step ground first l r) h.done) (λ l r. Step ground first l r place) (λ l r. Some_of (Step ground first l r) (h.done ++ place ∷ []))
+          (λ row. some_kept (Cell ground first row) h.done place) (λ row. some_last (Cell ground first row) h.done place) (λ row. some_cases (Cell ground first row) h.done place) (λ row bit. some_kept (Bit ground first row bit) h.done place) (λ row bit. some_last (Bit ground first row bit) h.done place) (λ row bit. some_cases (Bit ground first row bit) h.done place)
+          (λ l r. some_kept (Step ground first l r) h.done place) (λ l r. some_last (Step ground first l r) h.done place) (λ l r. some_cases (Step ground first l r) h.done place) old now next h.gains gains;
+      columns = columns ∙ h.columns;
+      in_range = λ r. in_range (h.in_range r);
+    }
 
   pub nothing_traced : (k : ℕ) (table : LaneTable) → GainsSomeOfAll ground first k table table
   nothing_traced k table = GainsSome-none k (λ row. Reaches ground first (Cell ground first row)) (λ row bit. Reaches ground first (Bit ground first row bit)) (λ l r. Reaches ground first (Step ground first l r)) table
 
-  few : (k : ℕ) (old now : LaneTable) (walk : Walk) → IsTracing ground first k old now walk → length walk.visited.keys ≤ length (all_places ground first)
-  few k old now walk h = pigeonhole walk.visited.keys (all_places ground first) (apart_from_differ walk.visited.keys h.differ) (λ p c. in_all p (reached_known p (h.reached p c)))
-
-  pub Tracing-smaller : (k : ℕ) (place : Place) (old now next : LaneTable) (before popped after : Walk) → popped.visited.keys ≡ before.visited.keys → before.waiting.items ≡ place ∷ popped.waiting.items → IsTracing ground first k old now before → VisitsOf ground place popped after → IsTracing ground first k old next after →
+  pub Tracing-smaller : (k : ℕ) (place : Place) (old now next : LaneTable) (before popped after : Walk Place) → popped.visited.keys ≡ before.visited.keys → before.waiting.items ≡ place ∷ popped.waiting.items → IsTracing ground first k old now before → VisitsOf ground place popped after → IsTracing ground first k old next after →
       length (all_places ground first) + length after.waiting.items - length after.visited.keys < length (all_places ground first) + length before.waiting.items - length before.visited.keys
-  Tracing-smaller k place old now next before popped after same taken h v g =
-      let a = few k old now before h in
-      let b = few k old next after g in
-      let w = v.weighed in
-      let s : length popped.visited.keys ≡ length before.visited.keys = ap length same in
-      let t : length before.waiting.items ≡ suc (length popped.waiting.items) = ap length taken in
-      omega arith
+  Tracing-smaller k place old now next before popped after same taken h v g = Traversing-smaller (λ p. first ≡ p) Leads (IsReached ground first) (all_places ground first) (λ p t. in_all p (reached_known p t)) h.done g.done place before popped after same taken h.walking v g.walking
 
   -- ---- when none waits
-  module _ (k : ℕ) (old new : LaneTable) (walk : Walk) (none : walk.waiting.items ≡ []) (h : IsTracing ground first k old new walk) where
+  module _ (k : ℕ) (old new : LaneTable) (walk : Walk Place) (none : walk.waiting.items ≡ []) (h : IsTracing ground first k old new walk) where
     finished : (p : Place) → Contains walk.visited.keys p → Contains h.done p
-    finished p c = elim (h.split p c) [ inl d ↦ d | inr w ↦ absurd (Contains-none p (subst (λ (ps : List Place). Contains ps p) none w)) ]
+    finished = Traversing-end (λ p. first ≡ p) Leads (IsReached ground first) h.done walk none h.walking
 
     went : {s n : ℕ} {p q : Production} {dot d : ℕ} → IsTracedTo (productions ground.grammar.now) (places_in ground.states.now) s p dot n q d → Contains walk.visited.keys (at_place s p dot) → Contains walk.visited.keys (at_place n q d)
     went itself c = c
-    went (back {s = s} {r = r} {p = p} {q = q} {dot = dot} {e = e} b t) c = went t (h.led (at_place s p dot) (at_place r q e) (finished (at_place s p dot) c) b)
+    went (back {s = s} {r = r} {p = p} {q = q} {dot = dot} {e = e} b t) c = went t (h.walking.led (at_place s p dot) (at_place r q e) (finished (at_place s p dot) c) b)
 
     all_done : (p : Place) → IsReached ground first p → Contains h.done p
     all_done p t =
         let start : at_place first.state first.item.production first.item.index ≡ first = same_place (at_place first.state first.item.production first.item.index) first refl refl refl in
         let end : at_place p.state p.item.production p.item.index ≡ p = same_place (at_place p.state p.item.production p.item.index) p refl refl refl in
-        finished p (subst (Contains walk.visited.keys) end (went t (subst (Contains walk.visited.keys) (sym start) h.start)))
+        finished p (subst (Contains walk.visited.keys) end (went t (subst (Contains walk.visited.keys) (sym start) (h.walking.begun first refl))))
 
     both : (P : Place → Type 0) → Some_of P h.done ↔ Reaches ground first P
-    both P = (λ m. (m.0, h.reached m.0 (h.settled m.0 m.1), m.2), λ m. (m.0, all_done m.0 m.1, m.2))
+    both P = (λ m. (m.0, h.walking.reached m.0 (h.walking.settled m.0 m.1), m.2), λ m. (m.0, all_done m.0 m.1, m.2))
 
     pub Tracing-end : GainsAll ground first k old new
     Tracing-end = Gains-same k (λ row. Some_of (Cell ground first row) h.done) (λ row. Reaches ground first (Cell ground first row)) (λ row bit. Some_of (Bit ground first row bit) h.done) (λ row bit. Reaches ground first (Bit ground first row bit)) (λ l r. Some_of (Step ground first l r) h.done) (λ l r. Reaches ground first (Step ground first l r))

@@ -11,7 +11,7 @@ use Rattle.lalrpop_tables.specs.Words.{at_place, Gains, Nothing, Visits, IsHere,
 use Rattle.lalrpop_tables.specs.Words.{GivesCell, GivesBit, GivesSuccessor, GainsOf, GainsSome, GainsSomeOf, VisitsOf, AreInRange, places_in}
 use Rattle.lalrpop_tables.specs.lanes.LaneSteps.{LeadsTo}
 use Rattle.lalrpop_tables.specs.declared.lane_table.lane.ground.Ground.{Ground}
-use Rattle.lalrpop_tables.specs.declared.lane_table.lane.walk.Walk.{Walk}
+use Rattle.lalrpop_tables.specs.declared.walk.Walk.{Walk}
 use Rattle.lalrpop_tables.specs.declared.lane_table.table.LaneTable.{LaneTable}
 use Rattle.lalrpop_tables.specs.declared.place.Place.{Place}
 use Rattle.lalrpop_tables.proofs.theory.check.CheckSending.{same_place}
@@ -21,7 +21,7 @@ use Rattle.lalrpop_tables.proofs.theory.lanes.GainsSome.{GainsSome-last, GainsSo
 use Rattle.lalrpop_base.proofs.theory.lists.Members.{contains_map}
 use Rattle.lalrpop_tables.proofs.theory.lists.SomeOf.{some_none, some_kept, some_last, some_cases}
 use Rattle.lalrpop_tables.proofs.theory.lanes.Unshifting.{back_cases}
-use Rattle.lalrpop_tables.proofs.theory.lanes.Walks.{Visits-none, Visits-then, Visits-same}
+use Rattle.lalrpop_tables.proofs.theory.lists.Walks.{Visits-none, Visits-then, Visits-same}
 
 -- ---- what gives
 module _ (g : List Production) (start : NonterminalString) (states : ℕ → Contents) where
@@ -52,13 +52,13 @@ module _ (g : Rules) {L : Type 0} (name : NonterminalString) (state k : ℕ) whe
   Passed p item = IsPassedOn g name state item p
 
   -- what the items gave
-  pub record IsFollowing (items : List (Dotted L)) (old new : LaneTable) (start now : Walk) : Type 0 where
+  pub record IsFollowing (items : List (Dotted L)) (old new : LaneTable) (start now : Walk Place) : Type 0 where
     pub gains : Gains k (λ row. Some_of (Cell row) items) (λ row bit. Some_of (Bit row bit) items) Nothing old new
     pub visits : Visits (λ p. Some_of (Passed p) items) start now
     pub columns : new.conflicts ≡ old.conflicts
     pub in_range : AreInRange old → AreInRange new
 
-  pub Following-start : (table : LaneTable) (walk : Walk) → IsFollowing [] table table walk walk
+  pub Following-start : (table : LaneTable) (walk : Walk Place) → IsFollowing [] table table walk walk
   Following-start table walk = record {
     gains = Gains-none k (λ row. Some_of (Cell row) []) (λ row bit. Some_of (Bit row bit) []) Nothing table (λ row h. some_none (Cell row) h) (λ row bit h. some_none (Bit row bit) h) (λ l r h. h);
     visits = Visits-none (λ p. Some_of (Passed p) []) walk (λ p h. some_none (Passed p) h);
@@ -66,7 +66,7 @@ module _ (g : Rules) {L : Type 0} (name : NonterminalString) (state k : ℕ) whe
     in_range = λ h. h;
   }
 
-  pub Following-more : (items : List (Dotted L)) (item : Dotted L) (a b c : LaneTable) (t u v : Walk) → Gains k (IsHere state (IsParent name item)) (λ row bit. IsHere state (IsFollowBit g name item bit) row) Nothing b c → Visits (IsPassedOn g name state item) u v → c.conflicts ≡ b.conflicts → (AreInRange b → AreInRange c) →
+  pub Following-more : (items : List (Dotted L)) (item : Dotted L) (a b c : LaneTable) (t u v : Walk Place) → Gains k (IsHere state (IsParent name item)) (λ row bit. IsHere state (IsFollowBit g name item bit) row) Nothing b c → Visits (IsPassedOn g name state item) u v → c.conflicts ≡ b.conflicts → (AreInRange b → AreInRange c) →
       IsFollowing items a b t u → IsFollowing (items ++ item ∷ []) a c t v
   Following-more items item a b c t u v gains visits columns in_range h = record {
     gains = Gains-then k (λ row. Some_of (Cell row) items) (IsHere state (IsParent name item)) (λ row. Some_of (Cell row) (items ++ item ∷ [])) (λ row bit. Some_of (Bit row bit) items) (λ row bit. IsHere state (IsFollowBit g name item bit) row) (λ row bit. Some_of (Bit row bit) (items ++ item ∷ [])) Nothing Nothing Nothing
@@ -227,7 +227,7 @@ module _ {L : Type 0} (ground : Ground L) (place : Place) (s : State L) (there :
         )
   ]
 
-  module _ (k : ℕ) (name : NonterminalString) (is : name ≡ a) (old middle new : LaneTable) (start now : Walk) (ended : Gains k (IsEnd ground.start.now name place.state) (IsEndBit R ground.start.now name place.state) Nothing old middle) (h : IsFollowing R name place.state k items middle new start now) where
+  module _ (k : ℕ) (name : NonterminalString) (is : name ≡ a) (old middle new : LaneTable) (start now : Walk Place) (ended : Gains k (IsEnd ground.start.now name place.state) (IsEndBit R ground.start.now name place.state) Nothing old middle) (h : IsFollowing R name place.state k items middle new start now) where
     pub Unepsilon-gains : GainsOf ground place k old new
     Unepsilon-gains =
         let first = subst (λ (x : NonterminalString). Gains k (IsEnd ground.start.now x place.state) (IsEndBit R ground.start.now x place.state) Nothing old middle) is ended in
@@ -241,7 +241,7 @@ module _ {L : Type 0} (ground : Ground L) (place : Place) (s : State L) (there :
         Visits-same (λ p. Some_of (λ (i : Dotted L). IsPassedOn R a place.state i p) items) (LeadsTo R ground.start.now S place) led_parent led_cases start now v
 
   -- the end was added, and what the items so far gave, and a part of what the next one gives, where it is refused
-  module _ (k : ℕ) (name : NonterminalString) (is : name ≡ a) (old middle now new : LaneTable) (start walk : Walk) (done : List (Dotted L)) (item : Dotted L) (among : (i : Dotted L) → Contains done i → Contains items i) (this : Contains items item) where
+  module _ (k : ℕ) (name : NonterminalString) (is : name ≡ a) (old middle now new : LaneTable) (start walk : Walk Place) (done : List (Dotted L)) (item : Dotted L) (among : (i : Dotted L) → Contains done i → Contains items i) (this : Contains items item) where
     pub Unepsilon-part : Gains k (IsEnd ground.start.now name place.state) (IsEndBit R ground.start.now name place.state) Nothing old middle → IsFollowing R name place.state k done middle now start walk →
         GainsSome k (IsHere place.state (IsParent name item)) (λ row bit. IsHere place.state (IsFollowBit R name item bit) row) Nothing now new → GainsSomeOf ground place k old new
     Unepsilon-part ended h part =

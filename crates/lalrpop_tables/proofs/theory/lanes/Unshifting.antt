@@ -1,7 +1,7 @@
 -- Steps back over the edges of one symbol, and what a place past its production's start gives.
 use Rattle.std.proofs.Common.{◌≡◌, ℕ, suc, ◌-◌, ◌<◌, ◌⊎◌, inl, inr, ◌↔◌, List, [], ◌∷◌, ◌++◌, reverse, drop, refl, sym, ◌∙◌, ap, subst, arith, Some, append_assoc, append-nil}
 use Rattle.std.specs.Prelude.{Contains, slice_get}
-use Rattle.std.proofs.lemmas.List.Elements.{Contains-append_right, Contains-append_cases}
+use Rattle.std.proofs.lemmas.List.Elements.{Contains-append_right, Contains-push_cases}
 use Rattle.lalrpop_base.specs.Words.{IsNullable, LeadsBack, to_parent, behind_parent, of_start, Contents, leads, rules_of}
 use Rattle.lalrpop_base.specs.lanes.Lanes.{over_edge, Gives}
 use Rattle.lalrpop_tables.proofs.Types.{NonterminalString, Production, StateIndex, Symbol, Token}
@@ -10,7 +10,7 @@ use Rattle.lalrpop_tables.specs.Words.{at_place, IsGround, Gains, GainsSome, Now
 use Rattle.lalrpop_tables.specs.Words.{GainsOf, GainsSomeOf, VisitsOf, AreInRange, places_in, edge, edges, sources_over}
 use Rattle.lalrpop_tables.specs.lanes.LaneSteps.{LeadsTo}
 use Rattle.lalrpop_tables.specs.declared.lane_table.lane.ground.Ground.{Ground}
-use Rattle.lalrpop_tables.specs.declared.lane_table.lane.walk.Walk.{Walk}
+use Rattle.lalrpop_tables.specs.declared.walk.Walk.{Walk}
 use Rattle.lalrpop_tables.specs.declared.lane_table.table.LaneTable.{LaneTable}
 use Rattle.lalrpop_tables.specs.declared.place.Place.{Place}
 use Rattle.lalrpop_tables.proofs.theory.check.CheckSending.{same_place}
@@ -18,11 +18,11 @@ use Rattle.lalrpop_base.proofs.theory.closures.Closing.{drop_split, split_drop}
 use Rattle.lalrpop_tables.proofs.theory.states.EdgeLeads.{leads_edge}
 use Rattle.lalrpop_tables.proofs.theory.lanes.Gains.{Gains-none, Gains-then, Gains-same}
 use Rattle.lalrpop_tables.proofs.theory.lanes.GainsSome.{GainsSome-last}
-use Rattle.lalrpop_base.proofs.theory.lists.Members.{Contains-none, contains_head, contains-cons, Contains-reverse, Contains-from_reverse}
+use Rattle.lalrpop_base.proofs.theory.lists.Members.{Contains-none, contains_head, Contains-reverse, Contains-from_reverse}
 use Rattle.lalrpop_base.proofs.theory.lists.Places.{same_some}
 use Rattle.lalrpop_tables.proofs.theory.lists.SomeOf.{some_none, some_kept, some_last, some_cases}
 use Rattle.lalrpop_tables.proofs.theory.graphs.Stepping.{source_edge, edge_source}
-use Rattle.lalrpop_tables.proofs.theory.lanes.Walks.{Visits-none, Visits-then, Visits-same}
+use Rattle.lalrpop_tables.proofs.theory.lists.Walks.{Visits-none, Visits-then, Visits-same}
 
 -- ---- what leads back, and what gives
 module _ (g : List Production) (states : ℕ → Contents) where
@@ -64,7 +64,7 @@ module _ {L : Type 0} (ground : Ground L) (place : Place) (x : Symbol) where
   IsStep l r q = IsPair q.0 place.state l r
 
   -- what the sources so far gave
-  pub record IsUnshifting (left all : List StateIndex) (old new : LaneTable) (start now : Walk) : Type 0 where
+  pub record IsUnshifting (left all : List StateIndex) (old new : LaneTable) (start now : Walk Place) : Type 0 where
     pub done : List StateIndex
     pub whole : done ++ left ≡ all
     pub leading : (r : StateIndex) → Contains done r → leads (S r.0) x ≡ Some place.state
@@ -73,7 +73,7 @@ module _ {L : Type 0} (ground : Ground L) (place : Place) (x : Symbol) where
     pub columns : new.conflicts ≡ old.conflicts
     pub in_range : AreInRange old → AreInRange new
 
-  pub Unshifting-start : (all : List StateIndex) (table : LaneTable) (walk : Walk) → IsUnshifting all all table table walk walk
+  pub Unshifting-start : (all : List StateIndex) (table : LaneTable) (walk : Walk Place) → IsUnshifting all all table table walk walk
   Unshifting-start all table walk = record {
     done = [];
     whole = refl;
@@ -84,14 +84,14 @@ module _ {L : Type 0} (ground : Ground L) (place : Place) (x : Symbol) where
     in_range = λ h. h;
   }
 
-  pub Unshifting-more : (before left all : List StateIndex) (q : StateIndex) (a b c : LaneTable) (t u v : Walk) → before ≡ q ∷ left → leads (S q.0) x ≡ Some place.state → ((k : ℕ) → Gains k Nowhere Nothing (IsPair q.0 place.state) b c) → Visits (λ k. IsBefore k q) u v →
+  pub Unshifting-more : (before left all : List StateIndex) (q : StateIndex) (a b c : LaneTable) (t u v : Walk Place) → before ≡ q ∷ left → leads (S q.0) x ≡ Some place.state → ((k : ℕ) → Gains k Nowhere Nothing (IsPair q.0 place.state) b c) → Visits (λ k. IsBefore k q) u v →
       c.conflicts ≡ b.conflicts → (AreInRange b → AreInRange c) → IsUnshifting before all a b t u → IsUnshifting left all a c t v
   Unshifting-more before left all q a b c t u v first edge gains visits columns in_range h = record {
     done = h.done ++ q ∷ [];
     whole = append_assoc h.done (q ∷ []) left ∙ ap (λ (xs : List StateIndex). h.done ++ xs) (sym first) ∙ h.whole;
-    leading = λ r d. elim (Contains-append_cases h.done (q ∷ []) r d) [
+    leading = λ r d. elim (Contains-push_cases h.done q r d) [
       | inl o ↦ h.leading r o
-      | inr n ↦ elim (contains-cons q [] r n) [ inl e ↦ subst (λ (y : StateIndex). leads (S y.0) x ≡ Some place.state) e edge | inr z ↦ absurd (Contains-none r z) ]
+      | inr e ↦ subst (λ (y : StateIndex). leads (S y.0) x ≡ Some place.state) e edge
     ];
     gains = λ k. Gains-then k Nowhere Nowhere Nowhere Nothing Nothing Nothing (λ l r. Some_of (IsStep l r) h.done) (IsPair q.0 place.state) (λ l r. Some_of (IsStep l r) (h.done ++ q ∷ []))
         (λ row n. n) (λ row n. n) (λ row n. inl n) (λ row bit n. n) (λ row bit n. n) (λ row bit n. inl n)
@@ -102,7 +102,7 @@ module _ {L : Type 0} (ground : Ground L) (place : Place) (x : Symbol) where
   }
 
   -- a source that is left
-  pub left_edge : (before left all : List StateIndex) (q : StateIndex) (a b : LaneTable) (t u : Walk) → IsGround ground → all ≡ reverse (sources_over ground.state_graph.now x (record { 0 = place.state })) → before ≡ q ∷ left → IsUnshifting before all a b t u → Contains (edges ground.states.now) (edge q x (record { 0 = place.state }))
+  pub left_edge : (before left all : List StateIndex) (q : StateIndex) (a b : LaneTable) (t u : Walk Place) → IsGround ground → all ≡ reverse (sources_over ground.state_graph.now x (record { 0 = place.state })) → before ≡ q ∷ left → IsUnshifting before all a b t u → Contains (edges ground.states.now) (edge q x (record { 0 = place.state }))
   left_edge before left all q a b t u on is first h =
       let there : Contains all q = subst (λ (xs : List StateIndex). Contains xs q) h.whole (Contains-append_right h.done before q (subst (λ (xs : List StateIndex). Contains xs q) (sym first) (contains_head q left))) in
       let sources = sources_over ground.state_graph.now x (record { 0 = place.state }) in
@@ -131,11 +131,11 @@ module _ {L : Type 0} (ground : Ground L) (place : Place) (x : Symbol) where
     }
 
     -- the sources so far gave a part, and so does the next one, where its step is refused
-    pub Unshifting-part : (before all : List StateIndex) (q : StateIndex) (a b c : LaneTable) (t u : Walk) → leads (S q.0) x ≡ Some place.state → ((k : ℕ) → GainsSome k Nowhere Nothing (IsPair q.0 place.state) b c) → IsUnshifting before all a b t u → (k : ℕ) → GainsSomeOf ground place k a c
+    pub Unshifting-part : (before all : List StateIndex) (q : StateIndex) (a b c : LaneTable) (t u : Walk Place) → leads (S q.0) x ≡ Some place.state → ((k : ℕ) → GainsSome k Nowhere Nothing (IsPair q.0 place.state) b c) → IsUnshifting before all a b t u → (k : ℕ) → GainsSomeOf ground place k a c
     Unshifting-part before all q a b c t u edge part h k = GainsSome-last k Nowhere Nowhere (GivesCell (rules_of ground.grammar.now) ground.start.now S place) Nothing Nothing (GivesBit (rules_of ground.grammar.now) ground.start.now S place) (λ l r. Some_of (IsStep l r) h.done) (IsPair q.0 place.state) (GivesSuccessor (rules_of ground.grammar.now) ground.start.now S place)
         (λ row n. absurd n) (λ row n. absurd n) (λ row bit n. absurd n) (λ row bit n. absurd n) (λ l r m. step_gives m.0 (h.leading m.0 m.1) l r m.2) (step_gives q edge) a b c (h.gains k) (part k)
 
-    module _ (left all : List StateIndex) (old new : LaneTable) (start now : Walk) (none : left ≡ []) (is : all ≡ reverse (sources_over ground.state_graph.now x (record { 0 = place.state }))) (h : IsUnshifting left all old new start now) where
+    module _ (left all : List StateIndex) (old new : LaneTable) (start now : Walk Place) (none : left ≡ []) (is : all ≡ reverse (sources_over ground.state_graph.now x (record { 0 = place.state }))) (h : IsUnshifting left all old new start now) where
       -- each state from which the symbol leads is done
       reached : (l : ℕ) (e : ℕ) (y : Symbol) (after : List Symbol) → place.item.index ≡ suc e → leads (S l) y ≡ Some place.state → drop e place.item.production.symbols ≡ y ∷ after → Contains h.done (record { 0 = l })
       reached l e y after i edge b =

@@ -6,7 +6,7 @@ use Rattle.std.specs.Cmp.{Equal-is}
 use Rattle.std.specs.Map.{keys_of, lookup}
 use Rattle.std.specs.Ordering.{is_eq}
 use Rattle.std.proofs.lemmas.List.{map-append}
-use Rattle.std.proofs.lemmas.List.Elements.{Contains-append_left, Contains-append_right, Contains-append_cases}
+use Rattle.std.proofs.lemmas.List.Elements.{Contains-append_left, Contains-push_cases, Contains-push}
 use Rattle.std.proofs.lemmas.Bool.{cases_Bool, cases_eq}
 use Rattle.std.proofs.lemmas.Map.Made.{lookup-map_values}
 use Rattle.std.proofs.lemmas.Option.{slice_get_within}
@@ -16,7 +16,7 @@ use Rattle.lalrpop_tables.specs.Words.{Rows, state_cmp, set_of, columns_of, cont
 use Rattle.lalrpop_tables.specs.declared.lane_table.construct.merge.context_sets.ContextSets.{ContextSets}
 use Rattle.lalrpop_tables.specs.declared.lane_table.construct.state_set.StateSet.{StateSet}
 use Rattle.lalrpop_tables.proofs.theory.lane_tables.LaneTables.{state_exact}
-use Rattle.lalrpop_base.proofs.theory.lists.Members.{Contains-none, contains_head, contains-cons}
+use Rattle.lalrpop_base.proofs.theory.lists.Members.{Contains-none}
 use Rattle.lalrpop_base.proofs.theory.collapse.Merging.{set_here, set_elsewhere, set_length}
 use Rattle.lalrpop_base.proofs.theory.lists.Places.{same_some, slice_get-push_at}
 
@@ -97,13 +97,13 @@ own_more rows state row old new own made adds = record {
     | inl same ↦ subst (HasSet new) (sym (ap (λ m. record { 0 = m }) same)) made.has
     | inr other ↦
         let differs : n ≡ state → ⊥ = λ e. other (ap (λ (i : StateIndex). i.0) e) in
-        elim (Contains-append_cases (keys_of rows) (state ∷ []) n (subst (λ ks. Contains ks n) (map-append (λ (e : StateIndex × List Bits). e.0) rows ((state, row) ∷ [])) c)) [
+        elim (Contains-push_cases (keys_of rows) state n (subst (λ ks. Contains ks n) (map-append (λ (e : StateIndex × List Bits). e.0) rows ((state, row) ∷ [])) c)) [
           | inl was ↦ let h = own.has n was in record { set = h.set; is = made.others n differs ∙ h.is; listed = let l = h.listed in let k = adds.counted in omega arith }
-          | inr last ↦ elim (contains-cons state [] n last) [ inl e ↦ absurd (differs (sym e)) | inr none ↦ absurd (Contains-none n none) ]
+          | inr e ↦ absurd (differs (sym e))
         ]
   ];
   columns = λ k columns at. elim (adds.columns k columns at) [
     | inl was ↦ let r = own.columns k columns was in (r.0, Contains-append_left rows ((state, row) ∷ []) (r.0, columns) r.1)
-    | inr is ↦ (state, subst (λ (c : List Bits). Contains (rows ++ (state, row) ∷ []) (state, c)) (sym is) (Contains-append_right rows ((state, row) ∷ []) (state, row) (contains_head (state, row) [])))
+    | inr is ↦ (state, subst (λ (c : List Bits). Contains (rows ++ (state, row) ∷ []) (state, c)) (sym is) (Contains-push rows (state, row)))
   ];
 }

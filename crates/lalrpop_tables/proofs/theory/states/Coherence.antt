@@ -1,17 +1,14 @@
 -- The states that are built of kernels are coherent.
 use Rattle.std.proofs.Common.{◌≡◌, ℕ, ◌+◌, ◌-◌, ◌<◌, ◌⊎◌, inl, inr, List, [], ◌∷◌, length, get_or, map, refl, sym, ◌∙◌, ap, subst, arith, ⊎_elim, Bool, true, false, cond, Some, eqb-true, option_map}
 use Rattle.std.specs.Prelude.{Contains, slice_get, ◌==◌}
-use Rattle.std.specs.BTreeMap.{BTreeMap, IsOrdered}
 use Rattle.std.proofs.lemmas.Option.{slice_get_within, slice_get-get_or, slice_get-map}
 use Rattle.lalrpop_base.specs.Words.{Bits, HasItem, IsShifted, IsCoherentStep, AreFinished, AreCoherent, Dotted, Rules, Kernels, InKernel, AreItemsBy}
-use Rattle.lalrpop_tables.proofs.Types.{Production, State, StateIndex, Symbol, TerminalString}
+use Rattle.lalrpop_tables.proofs.Types.{Production, State, StateIndex, Symbol}
 use Rattle.lalrpop_base.specs.declared.repr.Symbol.TheVariants.{Nonterminal, Terminal}
 use Rattle.lalrpop_base.specs.closures.Closure.{dotted_of}
-use Rattle.lalrpop_tables.specs.Words.{HasTransition, Leads, IsBuiltBy, IsBuiltOfBy, Extends, LeadsToAdded, AreBuiltBy}
-use Rattle.lalrpop_tables.specs.Words.{IsBehindOne, Shifts, Groups, AreMoves, HasEdge, AreEdges, reductions_of, seen, moved}
-use Rattle.lalrpop_base.specs.contracts.repr.TerminalStringOrd.TheImpl as terminal_ord
+use Rattle.lalrpop_tables.specs.Words.{Leads, IsBuiltBy, IsBuiltOfBy, Extends, LeadsToAdded, AreBuiltBy}
+use Rattle.lalrpop_tables.specs.Words.{IsBehindOne, Shifts, Groups, AreMoves, AreEdges, reductions_of, seen, moved}
 use Rattle.lalrpop_tables.specs.states.Transitions.{IsReached}
-use Rattle.lalrpop_tables.specs.declared.construction.transitions.Edges.{Edges}
 use Rattle.lalrpop_base.proofs.theory.lists.Members.{Contains-none, contains_head, contains_tail, contains-cons, place}
 use Rattle.lalrpop_tables.specs.states.Transitions.Shifts.{none, moves, stays}
 use Rattle.lalrpop_base.proofs.theory.lists.Places.{contains_at, same_some, one_place, in_added}
@@ -22,27 +19,18 @@ pair p n = (p, n)
 
 module _ {L : Type 0} where
   -- ---- a state is made
-  edge_of : (x : Symbol) (target : StateIndex) (edges : Edges) (state : State L) → state.shifts ≡ edges.shifts → state.gotos ≡ edges.gotos → HasTransition x target state → HasEdge x target edges
-  edge_of (Nonterminal a) target edges state s g h = rw (← g) h
-  edge_of (Terminal t) target edges state s g h = rw (← s) h
-
-  transition_of : (x : Symbol) (target : StateIndex) (edges : Edges) (state : State L) → state.shifts ≡ edges.shifts → state.gotos ≡ edges.gotos → HasEdge x target edges → HasTransition x target state
-  transition_of (Nonterminal a) target edges state s g h = rw g h
-  transition_of (Terminal t) target edges state s g h = rw s h
-
-  pub Built-made : (C : List (Dotted L) → List (Dotted L) → Type 0) (kernel items : List (Dotted L)) (groups : Groups L) (list : List (List (Dotted L))) (edges : Edges) (number : ℕ) (state : State L) → state.index.0 ≡ number → state.items.vec.items ≡ items → state.shifts ≡ edges.shifts → state.gotos ≡ edges.gotos →
-      map seen state.reductions.items ≡ reductions_of items → C kernel items → AreMoves items groups → AreEdges groups list edges → IsBuiltBy C list kernel number state
-  Built-made C kernel items groups list edges number state n i s t r c m e = record {
+  pub Built-made : (C : List (Dotted L) → List (Dotted L) → Type 0) (kernel items : List (Dotted L)) (groups : Groups L) (list : List (List (Dotted L))) (number : ℕ) (state : State L) → state.index.0 ≡ number → state.items.vec.items ≡ items →
+      map seen state.reductions.items ≡ reductions_of items → C kernel items → AreMoves items groups → AreEdges groups list (record { shifts = state.shifts; gotos = state.gotos }) → IsBuiltBy C list kernel number state
+  Built-made C kernel items groups list number state n i r c m e = record {
     index = n;
     closure = subst (C kernel) (sym i) c;
     leads = λ x target h.
-        let l = e.leads x target (edge_of x target edges state s t h) in
+        let l = e.leads x target h in
         record { kernel = l.kernel; behind = subst (IsBehindOne x) (sym i) (m.some x l.kernel l.group); shifts = subst (λ (xs : List (Dotted L)). Shifts x xs l.kernel) (sym i) (m.each x l.kernel l.group); numbered = l.numbered };
     all = λ x j d b.
         let group = m.has x j (subst (λ (xs : List (Dotted L)). Contains xs j) i d) b in
-        let edge = e.all x group.0 group.1 in
-        (edge.0, transition_of x edge.0 edges state s t edge.1);
-    ascend = subst (λ (shifts : BTreeMap TerminalString StateIndex). IsOrdered terminal_ord.ghosts.cmp shifts) (sym s) e.ascend;
+        e.all x group.0 group.1;
+    ascend = e.ascend;
     finished = r ∙ ap reductions_of (sym i);
   }
 
@@ -63,14 +51,14 @@ module _ {L : Type 0} where
   one_kernel x items a b (stays h s) (moves k t) = absurd (h k)
   one_kernel x items a b (stays {items = is} {kernel = ks} h s) (stays {kernel = ls} k t) = one_kernel x is ks ls s t
 
-  pub Reached-led : (items : List (Dotted L)) (groups : Groups L) (old new : Kernels (List (Dotted L))) (edges : Edges) (state : State L) → state.shifts ≡ edges.shifts → state.gotos ≡ edges.gotos → AreMoves items groups → AreEdges groups new.list edges → IsReached groups old new → LeadsToAdded old new state
-  Reached-led items groups old new edges state s t m e r differ n from to =
+  pub Reached-led : (items : List (Dotted L)) (groups : Groups L) (old new : Kernels (List (Dotted L))) (state : State L) → AreMoves items groups → AreEdges groups new.list (record { shifts = state.shifts; gotos = state.gotos }) → IsReached groups old new → LeadsToAdded old new state
+  Reached-led items groups old new state m e r differ n from to =
       let k = in_added old.list r.added new.list n r.stay from to in
       let group = r.of k.0 k.2 in
       let edge = e.all group.0 k.0 group.1 in
       let l = e.leads group.0 edge.0 edge.1 in
       let same : l.kernel ≡ k.0 = one_kernel group.0 items l.kernel k.0 (m.each group.0 l.kernel l.group) (m.each group.0 k.0 group.1) in
-      (group.0, edge.0, transition_of group.0 edge.0 edges state s t edge.1, one_place new.list (r.differ differ) edge.0.0 n k.0 (l.numbered ∙ ap Some same) k.1)
+      (group.0, edge.0, edge.1, one_place new.list (r.differ differ) edge.0.0 n k.0 (l.numbered ∙ ap Some same) k.1)
 
   -- ---- and is coherent with the others
   has_item : (items : List (Dotted L)) (i : Dotted L) (p : Production) (n : ℕ) → Contains items i → i.production ≡ p → i.index ≡ n → HasItem items p n

@@ -1,22 +1,23 @@
 -- The numbers of the items of states, as they are made.
-use Rattle.std.proofs.Common.{◌≡◌, ◌∙◌, inl, inr, Global, ℕ, Vec, ◌+◌, List, [], ◌∷◌, ◌++◌, length, length-append, map, sym, ap, subst, arith, Some}
+use Rattle.std.proofs.Common.{◌≡◌, ◌∙◌, ℕ, List, length, map, sym, ap, subst, arith, Some, ◌<◌}
 use Rattle.std.specs.Prelude.{slice_get, option_map, Contains}
 use Rattle.std.proofs.lemmas.List.{length-map}
 use Rattle.std.proofs.lemmas.Option.{slice_get_within, slice_get-map}
-use Rattle.lalrpop_base.specs.Words.{Bits, Dotted}
+use Rattle.lalrpop_base.specs.Words.{AllDiffer, Dotted, InKernel}
+use Rattle.lalrpop_base.specs.closures.Closure.{dotted_of}
 use Rattle.lalrpop_base.specs.grammars.Ascending.{Ascend}
-use Rattle.lalrpop_base.proofs.theory.collapse.Merging.{taken}
-use Rattle.lalrpop_base.proofs.theory.lists.Members.{place}
-use Rattle.lalrpop_base.proofs.theory.lists.Places.{contains_at, filled, one_place, push_cases, same_some, slice_get-longer, slice_get-push_at}
+use Rattle.lalrpop_base.proofs.theory.lists.Members.{contains_map, place}
+use Rattle.lalrpop_base.proofs.theory.lists.Places.{contains_at, filled, one_place, same_some}
 use Rattle.lalrpop_base.proofs.theory.grammars.Tables.{same_lr0}
-use Rattle.lalrpop_base.proofs.theory.states.ContentsViews.{some_of_map}
-use Rattle.lalrpop_tables.proofs.Types.{Nil, State}
+use Rattle.lalrpop_base.proofs.theory.states.ContentsViews.{contains_of_map, some_of_map}
+use Rattle.lalrpop_tables.proofs.Types.{Nil, Production}
 use Rattle.lalrpop_tables.proofs.theory.grammars.Numbers.{stands_at}
 use Rattle.lalrpop_tables.proofs.theory.states.NumberedItems.{AreNumbered, items_differ}
+use Rattle.lalrpop_tables.proofs.theory.states.Shifting.{of_dotted}
 use Rattle.lalrpop_tables.specs.grammars.Numbering.{with_dot}
 use Rattle.lalrpop_tables.specs.grammars.Numbers as numbers
 use Rattle.lalrpop_tables.specs.grammars.Numbers.{dotted_at, item_by, items_by}
-use Rattle.lalrpop_tables.specs.states.NumberedStates.{AreItemsAt, HaveItemsAt, number_in}
+use Rattle.lalrpop_tables.specs.states.NumberedStates.{AreItemsAt, number_in}
 use Rattle.lalrpop_tables.specs.declared.construction.numbered.Numbered.{Numbered}
 
 -- items by number have the numbers that they are made of
@@ -30,27 +31,33 @@ items_at_by {L} known list within = record {
       subst (λ (n : ℕ). slice_get known n ≡ Some (with_dot item.production item.index)) number (stands_at known e.number (within e (contains_at list e j there)) ∙ ap Some dotted);
 }
 
-module _ {L : Type 0} (known : List (Dotted Nil)) where
-  -- a state more
-  pub Items-more : (lists : List (Vec ℕ Global)) (states : List (State L)) (list : Vec ℕ Global) (state : State L) → HaveItemsAt known lists states → AreItemsAt known list.items state.items.vec.items → HaveItemsAt known (lists ++ list ∷ []) (states ++ state ∷ [])
-  Items-more lists states list state before is =
-      let same = before.counted in
-      record {
-        counted = length-append lists (list ∷ []) ∙ ap (λ (m : ℕ). m + 1) same ∙ sym (length-append states (state ∷ []));
-        each = λ s p q at_p at_q. elim (push_cases lists list s p at_p) [
-          | inl was ↦ elim (push_cases states state s q at_q) [
-            | inl there ↦ before.each s p q was there
-            | inr end ↦ let l = slice_get_within lists s p was in let e = end.0 in absurd (omega arith)
-          ]
-          | inr last ↦ elim (push_cases states state s q at_q) [
-            | inl there ↦ let l = slice_get_within states s q there in let e = last.0 in absurd (omega arith)
-            | inr end ↦ subst (λ (x : Vec ℕ Global). AreItemsAt known x.items q.items.vec.items) last.1 (subst (λ (x : State L). AreItemsAt known list.items x.items.vec.items) end.1 is)
-          ]
-        ];
-      }
+module _ {L : Type 0} (known : List (Dotted Nil)) (list : List (Numbered L)) where
+  -- the numbers are those of dotted productions
+  pub numbers_known : numbers.AreNumbered known list → (k : ℕ) → Contains (map number_in list) k → k < length known
+  numbers_known within k c = let (e, there, is) = contains_of_map number_in list k c in subst (λ (n : ℕ). n < length known) is (within e there)
+
+  dots_at : (n : ℕ) (e : Numbered L) → slice_get list n ≡ Some e → slice_get (map dotted_of (items_by known list)) n ≡ Some (dotted_of (dotted_at known e.number))
+  dots_at n e at = slice_get-map dotted_of (items_by known list) n ∙ ap (option_map dotted_of) (slice_get-map (item_by known) list n ∙ ap (option_map (item_by known)) at)
+
+  -- and differ where these do
+  pub numbers_differ : AllDiffer (map dotted_of (items_by known list)) → AllDiffer (map number_in list)
+  numbers_differ differ i j k l at_i at_j =
+      let (d, there, is) = some_of_map number_in (slice_get list i) k (sym (slice_get-map number_in list i) ∙ at_i) in
+      let (e, other, same) = some_of_map number_in (slice_get list j) k (sym (slice_get-map number_in list j) ∙ at_j) in
+      differ i j (dotted_of (dotted_at known d.number)) l (dots_at i d there) (dots_at j e other ∙ ap (λ (n : ℕ). Some (dotted_of (dotted_at known n))) (same ∙ sym is))
+
+-- items that have the same numbers have the same dotted productions
+pub same_dots : {K L : Type 0} (known : List (Dotted Nil)) (ks : List ℕ) (is : List (Dotted K)) (js : List (Dotted L)) → AreItemsAt known ks is → AreItemsAt known ks js → (p : Production) (dot : ℕ) → InKernel is p dot → InKernel js p dot
+same_dots known ks is js a b p dot c =
+    let (i, there, same) = of_dotted is (p, dot) c in
+    let (n, within, at) = place is i there in
+    let (k, at_k) = filled ks n (let counted = a.counted in omega (arith, within, counted)) in
+    let (j, at_j) = filled js n (let counted = a.counted in let other = b.counted in omega (arith, within, counted, other)) in
+    let one : with_dot j.production j.index ≡ with_dot i.production i.index = same_some (with_dot j.production j.index) (with_dot i.production i.index) (sym (b.each n k j at_j at_k) ∙ a.each n k i at at_k) in
+    subst (Contains (map dotted_of js)) (ap (λ (d : Dotted Nil). dotted_of d) one ∙ same) (contains_map dotted_of js j (contains_at js j n at_j))
 
 -- items that have the numbers one by one are numbered by these
-pub Items-numbered : (known : List (Dotted Nil)) → Ascend known → (numbers : List ℕ) (items : List (Dotted Bits)) → AreItemsAt known numbers items → AreNumbered known items numbers
+pub Items-numbered : {L : Type 0} (known : List (Dotted Nil)) → Ascend known → (numbers : List ℕ) (items : List (Dotted L)) → AreItemsAt known numbers items → AreNumbered known items numbers
 Items-numbered known ascend numbers items at = record {
   known = λ k c.
       let f = place numbers k c in
@@ -73,7 +80,3 @@ Items-numbered known ascend numbers items at = record {
         subst (Contains numbers) number (contains_at numbers m.0 f.0 m.1),
   );
 }
-
--- what comes next of a list that is gone over stands behind what came
-pub next_list : {X : Type 0} (all yielded rest left : List X) (x : X) → yielded ++ rest ≡ all → rest ≡ x ∷ left → slice_get all (length yielded) ≡ Some x
-next_list all yielded rest left x e f = subst (λ (xs : List _). slice_get xs (length yielded) ≡ Some x) (taken all rest yielded left x e f) (slice_get-longer (yielded ++ x ∷ []) left (length yielded) x (slice_get-push_at yielded x))

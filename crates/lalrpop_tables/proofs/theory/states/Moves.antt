@@ -1,16 +1,16 @@
 -- The kernels that items move to, one item more, and the edges to them, one edge more.
-use Rattle.std.proofs.Common.{◌≡◌, ℕ, suc, ◌⊎◌, inl, inr, List, [], ◌∷◌, ◌++◌, length, refl, sym, ◌∙◌, ap, subst, arith, append_assoc, Bool, true, false, true≢false, cond, IfSome, IsSome, None, Option, Some}
+use Rattle.std.proofs.Common.{◌≡◌, ℕ, suc, ◌⊎◌, inl, inr, List, [], ◌∷◌, ◌++◌, length, refl, sym, ◌∙◌, ap, subst, arith, append_assoc, append-nil, Bool, true, false, true≢false, cond, IfSome, IsSome, None, Option, Some}
 use Rattle.std.specs.Prelude.{Contains, slice_get, ◌==◌}
 use Rattle.std.specs.Map.{keys_of}
-use Rattle.std.proofs.lemmas.List.Elements.{Contains-append_left, Contains-append_right, Contains-append_cases}
+use Rattle.std.proofs.lemmas.List.Elements.{Contains-append_left, Contains-append_right, Contains-append_cases, Contains-push_cases, Contains-push}
 use Rattle.lalrpop_base.specs.Words.{Dotted, AllDiffer, Kernels, IsPushedAt}
 use Rattle.lalrpop_tables.proofs.Types.{NonterminalString, Production, StateIndex, Symbol, TerminalString}
 use Rattle.lalrpop_base.specs.declared.repr.Symbol.TheVariants.{Nonterminal, Terminal}
-use Rattle.lalrpop_tables.specs.Words.{IsBehind, IsBehindOne, moved, Shifts, Groups, HasNoGroup, AreMoves, IsMoveAdded, HasEdge, IsEdgeAdded, AreEdges, reductions_of}
+use Rattle.lalrpop_tables.specs.Words.{IsBehind, IsBehindOne, moved, Shifts, Groups, HasNoGroup, AreMoves, IsMoveAdded, AreEdges, reductions_of}
 use Rattle.lalrpop_base.specs.lists.Entries.IsPushedAt.{fresh, known}
 use Rattle.lalrpop_tables.specs.declared.construction.transitions.EdgeLists.{EdgeLists}
 use Rattle.lalrpop_tables.specs.declared.construction.transitions.Edges.{Edges}
-use Rattle.lalrpop_tables.specs.states.Transitions.{AreEdgesListed, IsListed, IsReached, LeadsTo}
+use Rattle.lalrpop_tables.specs.states.Transitions.{AreEdgesListed, Entries, HasEntry, IsEntryAdded, IsReached, LeadsTo, edge_entries, list_entries}
 use Rattle.lalrpop_tables.specs.states.Transitions.Shifts.{none, moves, stays}
 use Rattle.lalrpop_tables.specs.states.Transitions.IsMoveAdded.{over, at_end}
 use Rattle.lalrpop_base.proofs.theory.lists.Members.{Contains-none, contains_head, contains-cons, contains_map, place}
@@ -29,40 +29,39 @@ differ_tail x xs d i j y l at_i at_j = d (suc i) (suc j) y (omega arith) at_i at
 pub differ_head : {X : Type 0} (x : X) (xs : List X) → AllDiffer (x ∷ xs) → (y : X) → Contains xs y → x ≡ y → ⊥
 differ_head x xs d y c e = let at = place xs y c in d 0 (suc at.0) y (omega arith) (ap Some e) at.2
 
--- ---- an edge more in the lists
-last_of : {K V : Type 0} (es : List (K × V)) (e f : K × V) → Contains (es ++ e ∷ []) f → Contains es f ⊎ (e ≡ f)
-last_of es e f c = elim (Contains-append_cases es (e ∷ []) f c) [
-  | inl had ↦ inl had
-  | inr last ↦ elim (contains-cons e [] f last) [ inl same ↦ inr same | inr n ↦ absurd (Contains-none f n) ]
-]
-
+-- ---- an entry more
 abbrev Gotos : Type 0
 Gotos = List (NonterminalString × StateIndex)
 
 abbrev ShiftList : Type 0
 ShiftList = List (TerminalString × StateIndex)
 
-listed_there : (x : Symbol) (target : StateIndex) (old new : EdgeLists) → IsEdgeAdded x target old new → IsListed new x target
-listed_there (Nonterminal a) target old new e = subst (λ (es : Gotos). Contains es (a, target)) (sym e.0) (at_midst old.gotos.items [] (a, target))
-listed_there (Terminal t) target old new e = subst (λ (es : ShiftList). Contains es (t, target)) (sym e.0) (at_midst old.shifts.items [] (t, target))
+pub entry_there : (x : Symbol) (target : StateIndex) (old new : Entries) → IsEntryAdded x target old new → HasEntry new x target
+entry_there (Nonterminal a) target old new e = subst (λ (es : Gotos). Contains es (a, target)) (sym e.0) (Contains-push old.gotos (a, target))
+entry_there (Terminal t) target old new e = subst (λ (es : ShiftList). Contains es (t, target)) (sym e.0) (Contains-push old.shifts (t, target))
 
-listed_kept : (x : Symbol) (target : StateIndex) (old new : EdgeLists) → IsEdgeAdded x target old new → (y : Symbol) (n : StateIndex) → IsListed old y n → IsListed new y n
-listed_kept (Nonterminal a) target old new e (Nonterminal b) n h = subst (λ (es : Gotos). Contains es (b, n)) (sym e.0) (Contains-append_left old.gotos.items ((a, target) ∷ []) (b, n) h)
-listed_kept (Nonterminal a) target old new e (Terminal u) n h = subst (λ (es : ShiftList). Contains es (u, n)) (sym e.1) h
-listed_kept (Terminal t) target old new e (Nonterminal b) n h = subst (λ (es : Gotos). Contains es (b, n)) (sym e.1) h
-listed_kept (Terminal t) target old new e (Terminal u) n h = subst (λ (es : ShiftList). Contains es (u, n)) (sym e.0) (Contains-append_left old.shifts.items ((t, target) ∷ []) (u, n) h)
+pub entry_kept : (x : Symbol) (target : StateIndex) (old new : Entries) → IsEntryAdded x target old new → (y : Symbol) (n : StateIndex) → HasEntry old y n → HasEntry new y n
+entry_kept (Nonterminal a) target old new e (Nonterminal b) n h = subst (λ (es : Gotos). Contains es (b, n)) (sym e.0) (Contains-append_left old.gotos ((a, target) ∷ []) (b, n) h)
+entry_kept (Nonterminal a) target old new e (Terminal u) n h = subst (λ (es : ShiftList). Contains es (u, n)) (sym e.1) h
+entry_kept (Terminal t) target old new e (Nonterminal b) n h = subst (λ (es : Gotos). Contains es (b, n)) (sym e.1) h
+entry_kept (Terminal t) target old new e (Terminal u) n h = subst (λ (es : ShiftList). Contains es (u, n)) (sym e.0) (Contains-append_left old.shifts ((t, target) ∷ []) (u, n) h)
 
-listed_from : (x : Symbol) (target : StateIndex) (old new : EdgeLists) → IsEdgeAdded x target old new → (y : Symbol) (n : StateIndex) → IsListed new y n → IsListed old y n ⊎ ((y ≡ x) × (n ≡ target))
-listed_from (Nonterminal a) target old new e (Nonterminal b) n h = elim (last_of old.gotos.items (a, target) (b, n) (subst (λ (es : Gotos). Contains es (b, n)) e.0 h)) [
+pub entry_from : (x : Symbol) (target : StateIndex) (old new : Entries) → IsEntryAdded x target old new → (y : Symbol) (n : StateIndex) → HasEntry new y n → HasEntry old y n ⊎ ((y ≡ x) × (n ≡ target))
+entry_from (Nonterminal a) target old new e (Nonterminal b) n h = elim (Contains-push_cases old.gotos (a, target) (b, n) (subst (λ (es : Gotos). Contains es (b, n)) e.0 h)) [
   | inl had ↦ inl had
   | inr is ↦ inr (ap (λ (p : NonterminalString × StateIndex). Nonterminal p.0) (sym is), ap (λ (p : NonterminalString × StateIndex). p.1) (sym is))
 ]
-listed_from (Nonterminal a) target old new e (Terminal u) n h = inl (subst (λ (es : ShiftList). Contains es (u, n)) e.1 h)
-listed_from (Terminal t) target old new e (Nonterminal b) n h = inl (subst (λ (es : Gotos). Contains es (b, n)) e.1 h)
-listed_from (Terminal t) target old new e (Terminal u) n h = elim (last_of old.shifts.items (t, target) (u, n) (subst (λ (es : ShiftList). Contains es (u, n)) e.0 h)) [
+entry_from (Nonterminal a) target old new e (Terminal u) n h = inl (subst (λ (es : ShiftList). Contains es (u, n)) e.1 h)
+entry_from (Terminal t) target old new e (Nonterminal b) n h = inl (subst (λ (es : Gotos). Contains es (b, n)) e.1 h)
+entry_from (Terminal t) target old new e (Terminal u) n h = elim (Contains-push_cases old.shifts (t, target) (u, n) (subst (λ (es : ShiftList). Contains es (u, n)) e.0 h)) [
   | inl had ↦ inl had
   | inr is ↦ inr (ap (λ (p : TerminalString × StateIndex). Terminal p.0) (sym is), ap (λ (p : TerminalString × StateIndex). p.1) (sym is))
 ]
+
+-- empty lists have none
+pub no_entry : (entries : Entries) → entries.shifts ≡ [] → entries.gotos ≡ [] → (x : Symbol) (n : StateIndex) → HasEntry entries x n → ⊥
+no_entry entries s t (Nonterminal a) n h = Contains-none (a, n) (subst (λ (es : Gotos). Contains es (a, n)) t h)
+no_entry entries s t (Terminal a) n h = Contains-none (a, n) (subst (λ (es : ShiftList). Contains es (a, n)) s h)
 
 -- ---- the lists as maps
 module _ {K V : Type 0} {cmp : K → K → Ordering} (total : IsTotalOrder cmp) (exact : CmpEqualImpliesEq cmp) (xs : List (K × V)) (m : BTreeMap K V) (made : IsFromIterResult cmp xs m) where
@@ -77,11 +76,11 @@ module _ {K V : Type 0} {cmp : K → K → Ordering} (total : IsTotalOrder cmp) 
       by (Some w) e s = (w, (btree_map_get_iff total exact m made.1 k w).0 e)
 
 module _ (lists : EdgeLists) (edges : Edges) (made : AreEdgesListed lists edges) where
-  listed_of : (x : Symbol) (n : StateIndex) → HasEdge x n edges → IsListed lists x n
+  pub listed_of : (x : Symbol) (n : StateIndex) → HasEntry (edge_entries edges) x n → HasEntry (list_entries lists) x n
   listed_of (Nonterminal a) n h = made_of name_total name_exact lists.gotos.items edges.gotos made.gotos a n h
   listed_of (Terminal t) n h = made_of terminal_total terminal_exact lists.shifts.items edges.shifts made.shifts t n h
 
-  edge_of : (x : Symbol) (n : StateIndex) → IsListed lists x n → (target : StateIndex) × HasEdge x target edges
+  pub edge_of : (x : Symbol) (n : StateIndex) → HasEntry (list_entries lists) x n → (target : StateIndex) × HasEntry (edge_entries edges) x target
   edge_of (Nonterminal a) n h = made_has name_total name_exact lists.gotos.items edges.gotos made.gotos a n h
   edge_of (Terminal t) n h = made_has terminal_total terminal_exact lists.shifts.items edges.shifts made.shifts t n h
 
@@ -133,18 +132,15 @@ module _ {L : Type 0} where
     -- a symbol with a group stands behind a dot: y behind that of the new item
     over_some : (front back : Groups L) (g : Group L) (new : Groups L) → new ≡ front ++ g ∷ back → g.0 ≡ y → ((h : Group L) → Contains (front ++ back) h → IsBehindOne h.0 items) → (x : Symbol) (ks : List (Dotted L)) → Contains new (x, ks) → IsBehindOne x (items ++ i ∷ [])
     over_some front back g new after key each x ks c = elim (midst front back g (x, ks) (subst (λ (gs : Groups L). Contains gs (x, ks)) after c)) [
-      | inl same ↦ record { item = i; among = Contains-append_right items (i ∷ []) i (contains_head i []); behind = subst (λ (s : Symbol). IsBehind s i) (sym key ∙ ap (λ (h : Group L). h.0) same) behind }
+      | inl same ↦ record { item = i; among = Contains-push items i; behind = subst (λ (s : Symbol). IsBehind s i) (sym key ∙ ap (λ (h : Group L). h.0) same) behind }
       | inr other ↦ behind_longer items i x (each (x, ks) other)
     ]
 
     -- each symbol that had a group has one, and so has y
     over_has : (old new : Groups L) → AreMoves items old → ((h : Group L) → Contains old h → (ks : List (Dotted L)) × Contains new (h.0, ks)) → (ks : List (Dotted L)) → Contains new (y, ks) → (x : Symbol) (j : Dotted L) → Contains (items ++ i ∷ []) j → IsBehind x j → (ks : List (Dotted L)) × Contains new (x, ks)
-    over_has old new m kept ks there x j c b = elim (Contains-append_cases items (i ∷ []) j c) [
+    over_has old new m kept ks there x j c b = elim (Contains-push_cases items i j c) [
       | inl had ↦ let g = m.has x j had b in kept (x, g.0) g.1
-      | inr last ↦ elim (contains-cons i [] j last) [
-        | inl same ↦ (ks, subst (λ (s : Symbol). Contains new (s, ks)) (same_some y x (sym behind ∙ subst (λ (k : Dotted L). IsBehind x k) (sym same) b)) there)
-        | inr n ↦ absurd (Contains-none j n)
-      ]
+      | inr same ↦ (ks, subst (λ (s : Symbol). Contains new (s, ks)) (same_some y x (sym behind ∙ subst (λ (k : Dotted L). IsBehind x k) (sym same) b)) there)
     ]
 
     pub Moves-over : (old new : Groups L) → AreMoves items old → IsPushedAt y (moved i) old new → AllDiffer (keys_of new) → AreMoves (items ++ i ∷ []) new
@@ -182,9 +178,9 @@ module _ {L : Type 0} where
     each = λ x ks c. Shifts-other x i items ks (past_end i x e) (m.each x ks c);
     other = λ x n. Shifts-other x i items [] (past_end i x e) (m.other x n);
     some = λ x ks c. behind_longer items i x (m.some x ks c);
-    has = λ x j c b. elim (Contains-append_cases items (i ∷ []) j c) [
+    has = λ x j c b. elim (Contains-push_cases items i j c) [
       | inl had ↦ m.has x j had b
-      | inr last ↦ elim (contains-cons i [] j last) [ inl same ↦ absurd (past_end i x e (subst (λ (k : Dotted L). IsBehind x k) (sym same) b)) | inr n ↦ absurd (Contains-none j n) ]
+      | inr same ↦ absurd (past_end i x e (subst (λ (k : Dotted L). IsBehind x k) (sym same) b))
     ];
     differ = m.differ;
   })
@@ -193,10 +189,10 @@ module _ {L : Type 0} where
   Moves-none = record { each = λ x ks c. absurd (Contains-none (x, ks) c); other = λ x n. none; some = λ x ks c. absurd (Contains-none (x, ks) c); has = λ x i c b. absurd (Contains-none i c); differ = λ i j x l at. cc }
 
   -- ---- one edge more
-  -- the lists have the edges to the kernels of the first groups
-  pub record AreSomeEdges (groups first : Groups L) (old new : Kernels (List (Dotted L))) (lists : EdgeLists) : Type 0 where
-    pub leads : (x : Symbol) (target : StateIndex) → IsListed lists x target → LeadsTo groups new.list x target
-    pub all : (x : Symbol) (kernel : List (Dotted L)) → Contains first (x, kernel) → (target : StateIndex) × IsListed lists x target
+  -- the entries lead to the kernels of the first groups
+  pub record AreSomeEdges (groups first : Groups L) (old new : Kernels (List (Dotted L))) (entries : Entries) : Type 0 where
+    pub leads : (x : Symbol) (target : StateIndex) → HasEntry entries x target → LeadsTo groups new.list x target
+    pub all : (x : Symbol) (kernel : List (Dotted L)) → Contains first (x, kernel) → (target : StateIndex) × HasEntry entries x target
     pub reached : IsReached groups old new
 
   leads_longer : (groups : Groups L) (list more : List (List (Dotted L))) (new : List (List (Dotted L))) → new ≡ list ++ more → (x : Symbol) (target : StateIndex) → LeadsTo groups list x target → LeadsTo groups new x target
@@ -205,13 +201,9 @@ module _ {L : Type 0} where
   module _ (groups : Groups L) (x : Symbol) (kernel : List (Dotted L)) (group : Contains groups (x, kernel)) where
     more_of : (old middle new : List (List (Dotted L))) → (new ≡ middle) ⊎ (new ≡ middle ++ kernel ∷ []) → (more : List (List (Dotted L))) × (new ≡ middle ++ more) × ((k : List (Dotted L)) → Contains more k → (z : Symbol) × Contains groups (z, k))
     more_of old middle new either = elim either [
-      | inl same ↦ ([], same ∙ sym (append_nil middle), λ k c. absurd (Contains-none k c))
+      | inl same ↦ ([], same ∙ sym (append-nil middle), λ k c. absurd (Contains-none k c))
       | inr push ↦ (kernel ∷ [], push, λ k c. elim (contains-cons kernel [] k c) [ inl e ↦ (x, subst (λ (ks : List (Dotted L)). Contains groups (x, ks)) e group) | inr n ↦ absurd (Contains-none k n) ])
     ]
-      where
-        append_nil : {X : Type 0} (xs : List X) → xs ++ [] ≡ xs
-        append_nil [] = refl
-        append_nil (x ∷ xs) = ap (λ ys. x ∷ ys) (append_nil xs)
 
     pub Reached-more : (old middle new : Kernels (List (Dotted L))) → IsReached groups old middle → (new.list ≡ middle.list) ⊎ (new.list ≡ middle.list ++ kernel ∷ []) → new.handed ≡ middle.handed → AllDiffer new.list → IsReached groups old new
     Reached-more old middle new r either handed differ =
@@ -224,43 +216,32 @@ module _ {L : Type 0} where
           differ = λ d. differ;
         }
 
-    pub Edges-more : (first : Groups L) (old middle new : Kernels (List (Dotted L))) (lists after : EdgeLists) (number : ℕ) → AreSomeEdges groups first old middle lists → slice_get new.list number ≡ Some kernel →
-        (new.list ≡ middle.list) ⊎ (new.list ≡ middle.list ++ kernel ∷ []) → new.handed ≡ middle.handed → AllDiffer new.list → IsEdgeAdded x (record { 0 = number }) lists after → AreSomeEdges groups (first ++ (x, kernel) ∷ []) old new after
-    Edges-more first old middle new lists after number s numbered either handed differ a =
+    pub Edges-more : (first : Groups L) (old middle new : Kernels (List (Dotted L))) (before after : Entries) (number : ℕ) → AreSomeEdges groups first old middle before → slice_get new.list number ≡ Some kernel →
+        (new.list ≡ middle.list) ⊎ (new.list ≡ middle.list ++ kernel ∷ []) → new.handed ≡ middle.handed → AllDiffer new.list → IsEntryAdded x (record { 0 = number }) before after → AreSomeEdges groups (first ++ (x, kernel) ∷ []) old new after
+    Edges-more first old middle new before after number s numbered either handed differ a =
         let more = more_of old.list middle.list new.list either in
         let target : StateIndex = record { 0 = number } in
         record {
-          leads = λ y n h. elim (listed_from x target lists after a y n h) [
+          leads = λ y n h. elim (entry_from x target before after a y n h) [
             | inl had ↦ leads_longer groups middle.list more.0 new.list more.1 y n (s.leads y n had)
             | inr is ↦ subst (λ (z : Symbol). LeadsTo groups new.list z n) (sym is.0) (subst (λ (m : StateIndex). LeadsTo groups new.list x m) (sym is.1) (record { kernel = kernel; group = group; numbered = numbered }))
           ];
-          all = λ y k c. elim (Contains-append_cases first ((x, kernel) ∷ []) (y, k) c) [
-            | inl had ↦ let e = s.all y k had in (e.0, listed_kept x target lists after a y e.0 e.1)
-            | inr is ↦ elim (contains-cons (x, kernel) [] (y, k) is) [
-              | inl same ↦ (target, subst (λ (g : Group L). IsListed after g.0 target) same (listed_there x target lists after a))
-              | inr n ↦ absurd (Contains-none (y, k) n)
-            ]
+          all = λ y k c. elim (Contains-push_cases first (x, kernel) (y, k) c) [
+            | inl had ↦ let e = s.all y k had in (e.0, entry_kept x target before after a y e.0 e.1)
+            | inr same ↦ (target, subst (λ (g : Group L). HasEntry after g.0 target) same (entry_there x target before after a))
           ];
           reached = Reached-more old middle new s.reached either handed differ;
         }
 
   -- ---- all edges
-  pub Edges-none : (groups : Groups L) (old : Kernels (List (Dotted L))) (lists : EdgeLists) → lists.shifts.items ≡ [] → lists.gotos.items ≡ [] → AreSomeEdges groups [] old old lists
-  Edges-none groups old lists s t = record {
-    leads = λ x n h. absurd (none_listed x n h);
+  pub Edges-none : (groups : Groups L) (old : Kernels (List (Dotted L))) (entries : Entries) → entries.shifts ≡ [] → entries.gotos ≡ [] → AreSomeEdges groups [] old old entries
+  Edges-none groups old entries s t = record {
+    leads = λ x n h. absurd (no_entry entries s t x n h);
     all = λ x k c. absurd (Contains-none (x, k) c);
-    reached = record { added = []; stay = sym (append_nil old.list); of = λ k c. absurd (Contains-none k c); handed = refl; differ = λ d. d };
+    reached = record { added = []; stay = sym (append-nil old.list); of = λ k c. absurd (Contains-none k c); handed = refl; differ = λ d. d };
   }
-    where
-      append_nil : {X : Type 0} (xs : List X) → xs ++ [] ≡ xs
-      append_nil [] = refl
-      append_nil (x ∷ xs) = ap (λ ys. x ∷ ys) (append_nil xs)
 
-      none_listed : (x : Symbol) (n : StateIndex) → IsListed lists x n → ⊥
-      none_listed (Nonterminal a) n h = Contains-none (a, n) (subst (λ (es : List (NonterminalString × StateIndex)). Contains es (a, n)) t h)
-      none_listed (Terminal a) n h = Contains-none (a, n) (subst (λ (es : List (TerminalString × StateIndex)). Contains es (a, n)) s h)
-
-  pub Edges-all : (groups first : Groups L) (old new : Kernels (List (Dotted L))) (lists : EdgeLists) (edges : Edges) → first ≡ groups → AreSomeEdges groups first old new lists → AreEdgesListed lists edges → AreEdges groups new.list edges
+  pub Edges-all : (groups first : Groups L) (old new : Kernels (List (Dotted L))) (lists : EdgeLists) (edges : Edges) → first ≡ groups → AreSomeEdges groups first old new (list_entries lists) → AreEdgesListed lists edges → AreEdges groups new.list edges
   Edges-all groups first old new lists edges e s made = record {
     leads = λ x n h. s.leads x n (listed_of lists edges made x n h);
     all = λ x k c. let there = s.all x k (subst (λ (gs : Groups L). Contains gs (x, k)) (sym e) c) in edge_of lists edges made x there.0 there.1;

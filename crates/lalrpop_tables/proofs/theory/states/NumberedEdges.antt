@@ -2,7 +2,7 @@
 use Rattle.std.proofs.Common.{◌≡◌, ◌⊎◌, ℕ, inl, inr, List, [], ◌∷◌, ◌++◌, map, sym, ◌∙◌, ap, subst, Some, option_map, append_assoc}
 use Rattle.std.specs.Prelude.{Contains, slice_get}
 use Rattle.std.proofs.lemmas.List.{map-append}
-use Rattle.std.proofs.lemmas.List.Elements.{Contains-append_cases, Contains-append_right}
+use Rattle.std.proofs.lemmas.List.Elements.{Contains-append_right, Contains-push_cases}
 use Rattle.std.proofs.lemmas.Option.{slice_get-map}
 use Rattle.lalrpop_base.specs.Words.{AddsOnce, AllDiffer, Dotted, Ascend}
 use Rattle.lalrpop_tables.proofs.Types.{Nil}
@@ -22,9 +22,9 @@ module _ {L : Type 0} (items : List (Dotted Nil)) where
   pub all_known : (old new : List (List (Numbered L))) (kernel : List (Numbered L)) → AreAllNumbered items old → AreNumbered items kernel → (new ≡ old) ⊎ (new ≡ old ++ kernel ∷ []) → AreAllNumbered items new
   all_known old new kernel all here either list c = elim either [
     | inl same ↦ all list (subst (λ (ks : List (List (Numbered L))). Contains ks list) same c)
-    | inr more ↦ elim (Contains-append_cases old (kernel ∷ []) list (subst (λ (ks : List (List (Numbered L))). Contains ks list) more c)) [
+    | inr more ↦ elim (Contains-push_cases old kernel list (subst (λ (ks : List (List (Numbered L))). Contains ks list) more c)) [
       | inl had ↦ all list had
-      | inr last ↦ elim (contains-cons kernel [] list last) [ inl same ↦ subst (AreNumbered items) same here | inr none ↦ absurd (Contains-none list none) ]
+      | inr same ↦ subst (AreNumbered items) same here
     ]
   ]
 

@@ -1,9 +1,7 @@
 -- Items and reductions by the numbers of their dotted productions, one after the other.
-use Rattle.std.proofs.Common.{◌≡◌, ◌∙◌, inl, inr, ℕ, ◌<◌, ◌+◌, List, [], ◌∷◌, ◌++◌, length, length-append, refl, sym, ap, subst, arith, map}
-use Rattle.std.specs.Prelude.{◌↔◌, slice_get, Option, Some, None, Contains, IsNone}
-use Rattle.std.specs.Option.{IsSome}
+use Rattle.std.proofs.Common.{◌≡◌, ◌∙◌, inl, inr, ℕ, ◌<◌, List, [], ◌∷◌, ◌++◌, length, refl, sym, ap, subst, map}
+use Rattle.std.specs.Prelude.{◌↔◌, slice_get, Some, Contains}
 use Rattle.std.specs.Borrow.{Bor}
-use Rattle.std.proofs.lemmas.Option.{slice_get_within}
 use Rattle.lalrpop_base.specs.Words.{AllDiffer, Bits, Dotted}
 use Rattle.lalrpop_tables.proofs.Types.{Nil, Production}
 use Rattle.lalrpop_base.proofs.theory.states.ContentsViews.{contains_map, contains_of_map}
@@ -11,7 +9,7 @@ use Rattle.lalrpop_base.specs.grammars.Ascending.{Ascend}
 use Rattle.lalrpop_tables.specs.states.NumberedStates.{AreReducedNumbers, HasDots}
 use Rattle.lalrpop_tables.specs.grammars.Numbering.{with_dot}
 use Rattle.lalrpop_base.proofs.theory.grammars.AscendingItems.{precedes_asymmetric}
-use Rattle.lalrpop_base.proofs.theory.lists.Places.{push_cases}
+use Rattle.lalrpop_tables.proofs.theory.lists.Pushes.{push_both, push_counted}
 
 -- dotted productions that ascend differ
 pub items_differ : (items : List (Dotted Nil)) → Ascend items → AllDiffer items
@@ -19,14 +17,14 @@ items_differ items ascend i j x l at_i at_j = let before = ascend i j x x l at_i
 
 -- ---- the items of a state
 -- these are the numbers of the items that have any
-pub record AreNumbered (items : List (Dotted Nil)) (done : List (Dotted Bits)) (list : List ℕ) : Type 0 where
+pub record AreNumbered {L : Type 0} (items : List (Dotted Nil)) (done : List (Dotted L)) (list : List ℕ) : Type 0 where
   pub known : (k : ℕ) → Contains list k → k < length items
   pub numbered : (k : ℕ) (i : Dotted Nil) → slice_get items k ≡ Some i → Contains list k ↔ HasDots done i
 
 -- a state has an item with the dots where its contents do
-pub dots_in : (items : List (Dotted Bits)) (i : Dotted Nil) → HasDots items i ↔ Contains {X = Production × ℕ} (map (λ (j : Dotted Bits). (j.production, j.index)) items) (i.production, i.index)
-dots_in items i =
-    let parts : Dotted Bits → Production × ℕ = λ j. (j.production, j.index) in
+pub dots_in : {L : Type 0} (items : List (Dotted L)) (i : Dotted Nil) → HasDots items i ↔ Contains {X = Production × ℕ} (map (λ (j : Dotted L). (j.production, j.index)) items) (i.production, i.index)
+dots_in {L} items i =
+    let parts : Dotted L → Production × ℕ = λ j. (j.production, j.index) in
     let same : Production × ℕ = (i.production, i.index) in (
       λ h.
           let e : parts h.0 ≡ same = ap (λ (p : Production). let q : Production × ℕ = (p, h.0.index) in q) h.2 ∙ ap (λ (n : ℕ). let q : Production × ℕ = (i.production, n) in q) h.3 in
@@ -37,33 +35,16 @@ dots_in items i =
     )
 
 -- ---- the reductions of a state
--- what is not missing is there
-pub some_if : {X : Type 0} (o : Option X) → (IsNone o → ⊥) → IsSome o
-some_if (Some x) h = refl
-some_if None h = absurd (h refl)
-
 -- no reductions have none
-pub Reduced-none : (items : List (Dotted Nil)) → AreReducedNumbers items [] []
+pub Reduced-none : (items : List (Dotted Nil)) → AreReducedNumbers {L = Bits} items [] []
 Reduced-none items = record { counted = refl; each = λ j k r at. cc }
 
 -- one reduction more
 pub Reduced-more : (items : List (Dotted Nil)) (done : List (Bits × Bor Production)) (r : Bits × Bor Production) (list : List ℕ) (n : ℕ) → AreReducedNumbers items done list → slice_get items n ≡ Some (with_dot r.1.now (length r.1.now.symbols)) → AreReducedNumbers items (done ++ r ∷ []) (list ++ n ∷ [])
 Reduced-more items done r list n before at = record {
-  counted = length-append list (n ∷ []) ∙ ap (λ (m : ℕ). m + 1) before.counted ∙ sym (length-append done (r ∷ []));
-  each = λ j k q at_q at_k.
-      let same = before.counted in
-      elim (push_cases done r j q at_q) [
-        | inl was ↦
-            let l = slice_get_within done j q was in
-            elim (push_cases list n j k at_k) [
-              | inl there ↦ before.each j k q was there
-              | inr end ↦ let e = end.0 in absurd (omega arith)
-            ]
-        | inr new ↦
-            let e = new.0 in
-            elim (push_cases list n j k at_k) [
-              | inl there ↦ let l = slice_get_within list j k there in absurd (omega arith)
-              | inr end ↦ ap (slice_get items) (sym end.1) ∙ at ∙ ap (λ (p : Bits × Bor Production). Some (with_dot p.1.now (length p.1.now.symbols))) new.1
-            ]
-      ];
+  counted = push_counted done r list n before.counted;
+  each = λ j k q at_q at_k. elim (push_both done r list n before.counted j q k at_q at_k) [
+    | inl was ↦ before.each j k q was.0 was.1
+    | inr new ↦ ap (slice_get items) (sym new.2) ∙ at ∙ ap (λ (p : Bits × Bor Production). Some (with_dot p.1.now (length p.1.now.symbols))) new.1
+  ];
 }

@@ -3,7 +3,7 @@ ghost use Rattle.std.specs.Prelude.{◌≡◌, ◌<◌, ◌⊎◌, length, slice
 ghost use Rattle.lalrpop_base.specs.states.CheckStates.{LeadsBy, IsTarget};
 ghost use Rattle.lalrpop_tables.specs.check.ByNumber.{AreReachedByNumber, MarksTarget, MarksTargets};
 
-use crate::lane_table::follow_sets::numbered_state::NumberedState;
+use crate::construction::numbered_state::NumberedState;
 use lalrpop_base::lr1_core::state::{Lr1State, StateIndex};
 use lalrpop_base::memory::OutOfMemory;
 use std::alloc::Global;

@@ -4,10 +4,10 @@ ghost use Rattle.lalrpop_base.specs.Words.{Bits, has};
 ghost use Rattle.lalrpop_base.specs.declared.lr1_core.state.State.{State};
 ghost use Rattle.lalrpop_tables.specs.check.ByNumber.{HoldSets, HoldUnions};
 ghost use Rattle.lalrpop_tables.specs.follow_sets.FollowWalks.{entries_at};
-ghost use Rattle.lalrpop_tables.specs.declared.lane_table.follow_sets.numbered_state.NumberedState.{NumberedState as ByNumbers};
+ghost use Rattle.lalrpop_tables.specs.declared.construction.numbered_state.NumberedState.{NumberedState as ByNumbers};
 
+use crate::construction::numbered_state::NumberedState;
 use crate::lane_table::follow_sets::Found;
-use crate::lane_table::follow_sets::numbered_state::NumberedState;
 use lalrpop_base::lookahead::token_set::TokenSet;
 use lalrpop_base::lr1_core::state::Lr1State;
 use lalrpop_base::memory::OutOfMemory;

@@ -1,11 +1,13 @@
 //! The kernels that are expected of states.
 ghost use Rattle.std.specs.Prelude.{IfSome, IsTrue};
-ghost use Rattle.lalrpop_tables.specs.check.NumberedClosures.{AreMovedKernel, IsMovedNumber};
+ghost use Rattle.lalrpop_tables.specs.check.ExpectedKernels.{AreMovedKernel, IsMovedNumber, NumbersRise};
 ghost use Rattle.lalrpop_tables.specs.states.NumberedStates.{EdgesAscend};
 
+use crate::construction::numbered::Numbered;
+use crate::construction::numbered_state::NumberedState;
 use crate::construction::numbers::Numbers;
 use crate::lane_table::follow_sets::edges::place_of;
-use crate::lane_table::follow_sets::numbered_state::NumberedState;
+use lalrpop_base::lookahead::nil::Nil;
 use lalrpop_base::memory::OutOfMemory;
 use std::alloc::Global;
 
@@ -14,7 +16,7 @@ use std::alloc::Global;
 #[derive(Drop)]
 pub(super) struct Kernels {
     /// None where no state leads there yet.
-    lists: Vec<Vec<usize>>,
+    lists: Vec<Vec<Numbered<Nil>>>,
     /// How many states there were up to the one that led there first, and 0 for none.
     from: Vec<usize>,
 }
@@ -29,12 +31,27 @@ fn is_moved(numbers: &Numbers<'_>, item: usize) -> bool
     numbers.items[item].index > 0
 }
 
-// Whether numbers are those of items whose dots moved, and there are some.
-fn are_moved(numbers: &Numbers<'_>, kernel: &[usize]) -> bool
+// Whether the numbers of items rise.
+fn rise(kernel: &[Numbered<Nil>]) -> bool
+    ensures { IsTrue result → NumbersRise kernel.now }
+{
+    for place in 1..kernel.len() {
+        if kernel[place - 1].number >= kernel[place].number {
+            return false;
+        }
+    }
+    true
+}
+
+// Whether the dots of items moved, and there are some, whose numbers rise.
+fn are_moved(numbers: &Numbers<'_>, kernel: &[Numbered<Nil>]) -> bool
     ensures { IsTrue result → AreMovedKernel numbers.now kernel.now }
 {
+    if !rise(kernel) {
+        return false;
+    }
     for item in kernel {
-        if !is_moved(numbers, *item) {
+        if !is_moved(numbers, item.number) {
             return false;
         }
     }
@@ -53,7 +70,7 @@ impl Kernels {
     }
 
     /// The kernel that is expected of a state, where it is one.
-    pub(super) fn kernel(&self, numbers: &Numbers<'_>, state: usize) -> Option<&[usize]>
+    pub(super) fn kernel(&self, numbers: &Numbers<'_>, state: usize) -> Option<&[Numbered<Nil>]>
         ensures { IfSome result (λ kernel. AreMovedKernel numbers.now kernel.now) }
     {
         if state >= self.lists.len() {
@@ -76,7 +93,10 @@ impl Kernels {
             self.from[target] = count;
         }
         if self.from[target] == count {
-            self.lists[target].push(item)?;
+            self.lists[target].push(Numbered {
+                number: item,
+                lookahead: Nil,
+            })?;
         }
         Ok(())
     }

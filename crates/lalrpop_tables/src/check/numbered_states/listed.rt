@@ -1,33 +1,69 @@
 //! States by number, each of which lists the closure of its kernel.
-ghost use Rattle.std.specs.Prelude.{◌≡◌, ◌<◌, ◌+◌, ℕ, length, Contains, IfOk, IfSome, OnOk};
-ghost use Rattle.lalrpop_base.specs.Words.{Rules};
-ghost use Rattle.lalrpop_base.specs.declared.repr.Symbol.TheVariants.{Nonterminal};
-ghost use Rattle.lalrpop_tables.specs.check.ByNumber.{AreListedByNumber, IsKernelOf, IsListedOver};
-ghost use Rattle.lalrpop_tables.specs.check.NumberedClosures.{IsNumberedClosure, MarksBelow};
-ghost use Rattle.lalrpop_tables.specs.grammars.Numbers.{AreExpansions, AreNumbers};
+ghost use Rattle.std.specs.Prelude.{◌≡◌, ◌<◌, ℕ, length, Contains, IfOk, IfSome};
+ghost use Rattle.lalrpop_base.specs.Words.{AllDiffer, AreItemsBy, Rules};
+ghost use Rattle.lalrpop_tables.specs.check.ByNumber.{AreListedByNumber, IsListedOver, ListsClosure};
+ghost use Rattle.lalrpop_tables.specs.check.ExpectedKernels.{IsKernelOf, no_tokens};
+ghost use Rattle.lalrpop_tables.specs.grammars.Numbers.{AreNumbered, AreNumbers, NumbersAscend, items_by};
 
-use super::closing::{Closing, closure_by_number};
 use super::kernels::Kernels;
-use super::transitions::{are_items, are_reductions, finished_of, rise, take_gotos, take_shifts};
+use super::transitions::{are_items, are_reductions, take_gotos, take_shifts};
+use crate::construction::closure::closure;
+use crate::construction::lr::Lr;
+use crate::construction::numbered::{Numbered, list_numbers};
+use crate::construction::numbered_state::{NumberedState, finished_of};
 use crate::construction::numbers::Numbers;
-use crate::lane_table::follow_sets::numbered_state::NumberedState;
-use crate::lane_table::follow_sets::start::fronts_of;
+use crate::construction::workspace::Workspace;
+use lalrpop_base::collections::sparse_map::SparseMap;
+use lalrpop_base::lookahead::nil::Nil;
 use lalrpop_base::lr1_core::state::Lr1State;
 use lalrpop_base::memory::OutOfMemory;
-use lalrpop_base::repr::NonterminalString;
 use std::alloc::Global;
 
-// A state by number, where its items are those of a closure, its transitions are over the symbols
-// behind their dots, and its reductions are the finished ones.
+// Adds the symbol behind the dot of an item.
+fn add_symbol(
+    numbers: &Numbers<'_>,
+    item: usize,
+    symbols: &mut SparseMap<Nil>,
+) -> Result<(), OutOfMemory>
+    requires numbers { (g : Rules) × AreNumbers g numbers.now }
+    requires known { item < length numbers.now.items.items }
+{
+    if let Some(symbol) = numbers.behind[item] {
+        symbols.join(symbol, Nil)?;
+    }
+    Ok(())
+}
+
+// The symbols behind the dots of items, by rising number.
+fn symbols_behind(
+    alloc: Global,
+    numbers: &Numbers<'_>,
+    items: &[usize],
+    symbols: &mut SparseMap<Nil>,
+) -> Result<Vec<(usize, Nil)>, OutOfMemory>
+    requires numbers { (g : Rules) × AreNumbers g numbers.now }
+    requires known { (k : ℕ) → Contains items.now k → k < length numbers.now.items.items }
+    ensures { IfOk result (λ symbols. NumbersAscend symbols.items) }
+{
+    for item in items {
+        add_symbol(numbers, *item, symbols)?;
+    }
+    symbols.take_rising(alloc)
+}
+
+// A state by number, where its items are these, its transitions are over the symbols behind their
+// dots, and its reductions are the finished ones.
 fn state_over<'grammar>(
     alloc: Global,
     numbers: &Numbers<'grammar>,
     items: Vec<usize>,
-    symbols: &[usize],
+    symbols: &[(usize, Nil)],
     state: &Lr1State<'grammar>,
 ) -> Result<Option<NumberedState>, OutOfMemory>
     requires numbers { (g : Rules) × AreNumbers g numbers.now }
     requires known { (k : ℕ) → Contains items.items k → k < length numbers.now.items.items }
+    requires differ { AllDiffer items.items }
+    requires rising { NumbersAscend symbols.now }
     ensures { IfOk result (λ answer. IfSome answer
         (λ new. IsListedOver numbers.now items.items state.now new)) }
 {
@@ -42,9 +78,6 @@ fn state_over<'grammar>(
         return Ok(None);
     }
     let reductions = finished_of(alloc, numbers, &items)?;
-    if !rise(&reductions) {
-        return Ok(None);
-    }
     if !are_reductions(numbers, &reductions, &state.reductions) {
         return Ok(None);
     }
@@ -57,14 +90,16 @@ fn state_over<'grammar>(
 
 // The kernel that is expected of a state: of the first the productions of the start symbol.
 fn kernel_of<'list>(
+    _lr: &Lr<'_, Nil>,
     numbers: &Numbers<'_>,
-    _name: &NonterminalString,
-    start: &'list [usize],
+    start: &'list [Numbered<Nil>],
     kernels: &'list Kernels,
     place: usize,
-) -> Option<&'list [usize]>
-    requires { AreExpansions numbers.now.items.items (Nonterminal _name.now) start.now }
-    ensures { IfSome result (λ kernel. IsKernelOf numbers.now _name.now place kernel.now) }
+) -> Option<&'list [Numbered<Nil>]>
+    requires numbers { AreNumbers _lr.now.construction.rules numbers.now }
+    requires start { IsKernelOf _lr.now.construction numbers.now 0 start.now }
+    ensures { IfSome result
+        (λ kernel. IsKernelOf _lr.now.construction numbers.now place kernel.now) }
 {
     if place == 0 {
         Some(start)
@@ -76,55 +111,55 @@ fn kernel_of<'list>(
 // A state by number, where it lists the closure of the kernel.
 fn listed_state<'grammar>(
     alloc: Global,
+    lr: &Lr<'grammar, Nil>,
     numbers: &Numbers<'grammar>,
-    kernel: &[usize],
-    mark: usize,
-    marks: &mut Vec<usize>,
+    kernel: &[Numbered<Nil>],
+    work: &mut Workspace<Nil>,
     state: &Lr1State<'grammar>,
 ) -> Result<Option<NumberedState>, OutOfMemory>
-    requires numbers { (g : Rules) × AreNumbers g numbers.now }
-    requires known { (k : ℕ) → Contains kernel.now k → k < length numbers.now.items.items }
-    requires counted { length marks.old.items ≡ length numbers.now.symbols.items }
-    requires fresh { MarksBelow mark marks.old.items }
-    ensures counted { OnOk result (length marks.new.items ≡ length marks.old.items) }
-    ensures below { OnOk result (MarksBelow (mark + 1) marks.new.items) }
-    ensures closed { IfOk result (λ answer. IfSome answer
-        (λ new. IsNumberedClosure numbers.now kernel.now new.items.items)) }
+    requires numbers { AreNumbers lr.now.construction.rules numbers.now }
+    requires known { AreNumbered numbers.now.items.items kernel.now }
+    requires kernel { AreItemsBy no_tokens lr.now.construction.rules
+        (items_by numbers.now.items.items kernel.now) }
+    ensures closed { IfOk result (λ answer. IfSome answer (λ _.
+        ListsClosure lr.now.construction.rules (items_by numbers.now.items.items kernel.now)
+        state.now)) }
     ensures listed { IfOk result (λ answer. IfSome answer
         (λ new. IsListedOver numbers.now new.items.items state.now new)) }
 {
-    let Some(closing) = closure_by_number(alloc, numbers, kernel, mark, marks)? else {
-        return Ok(None);
-    };
-    let Closing { items, symbols } = closing;
+    let list = closure(alloc, lr, numbers, kernel, work)?;
+    let mut items = Vec::with_capacity(alloc, list.len())?;
+    list_numbers(&list, &mut items)?;
+    let symbols = symbols_behind(alloc, numbers, &items, &mut work.shared)?;
     state_over(alloc, numbers, items, &symbols, state)
 }
 
 /// The states by number, where each lists the closure of its kernel and reduces its finished items.
 pub(crate) fn listed_by_number<'grammar>(
     alloc: Global,
+    lr: &Lr<'grammar, Nil>,
     numbers: &Numbers<'grammar>,
-    name: &NonterminalString,
     states: &[Lr1State<'grammar>],
 ) -> Result<Option<Vec<NumberedState>>, OutOfMemory>
-    requires { (g : Rules) × AreNumbers g numbers.now }
-    ensures { IfOk result (λ answer. IfSome answer
-        (λ list. AreListedByNumber numbers.now name.now states.now list.items)) }
+    requires { AreNumbers lr.now.construction.rules numbers.now }
+    ensures { IfOk result (λ answer. IfSome answer (λ list. AreListedByNumber
+        lr.now.construction.rules lr.now.construction.start numbers.now states.now list.items)) }
 {
-    let start = fronts_of(alloc, numbers, name)?;
+    let grammar = lr.grammar();
+    let _names = grammar.nonterminals.len();
+    let start = lr.start_kernel(alloc, numbers)?;
     let mut kernels = Kernels::new(alloc, states.len())?;
-    let mut marks = vec![in alloc; 0; numbers.symbols.len()]?;
+    let mut work = Workspace::new(alloc);
     let mut list = Vec::with_capacity(alloc, states.len())?;
     for state in states {
         let place = list.len();
-        let Some(kernel) = kernel_of(numbers, name, &start, &kernels, place) else {
+        let Some(kernel) = kernel_of(lr, numbers, start.as_slice(), &kernels, place) else {
             return Ok(None);
         };
-        let mark = place + 1;
-        let Some(new) = listed_state(alloc, numbers, kernel, mark, &mut marks, state)? else {
+        let Some(new) = listed_state(alloc, lr, numbers, kernel, &mut work, state)? else {
             return Ok(None);
         };
-        kernels.add_moves(numbers, mark, &new)?;
+        kernels.add_moves(numbers, place + 1, &new)?;
         list.push(new)?;
     }
     Ok(Some(list))

@@ -1,13 +1,11 @@
 //! Items, transitions and reductions that have the numbers which are expected of them.
-ghost use Rattle.std.specs.Prelude.{◌≡◌, ◌<◌, ℕ, length, slice_get, Contains, Some, IfOk, IsTrue, OnOk};
-ghost use Rattle.lalrpop_base.specs.Words.{AllDiffer, Rules};
-ghost use Rattle.lalrpop_tables.specs.check.ByNumber.{AddsFinished, HasFinished};
+ghost use Rattle.std.specs.Prelude.{◌≡◌, slice_get, Some, IfOk, IfSome, IsTrue, OnOk};
 ghost use Rattle.lalrpop_tables.specs.grammars.Numbering.{with_dot};
-ghost use Rattle.lalrpop_tables.specs.grammars.Numbers.{AreNumbers};
-ghost use Rattle.lalrpop_tables.specs.states.NumberedStates.{AddTransitions, AreItemsAt, AreReducedNumbers, GotosAscend, ShiftsAscend, goto_transitions, shift_transitions};
+ghost use Rattle.lalrpop_tables.specs.states.NumberedStates.{AddsGotos, AddsShifts, AreItemsAt, AreReducedNumbers, HasKeys, IsKeyAt};
 
 use crate::construction::numbers::Numbers;
 use lalrpop_base::exact::equal;
+use lalrpop_base::lookahead::nil::Nil;
 use lalrpop_base::lookahead::token_set::TokenSet;
 use lalrpop_base::lr1_core::item::Lr1Item;
 use lalrpop_base::lr1_core::state::StateIndex;
@@ -41,53 +39,6 @@ pub(super) fn are_items<'grammar>(
     }
     for (place, item) in items.iter().enumerate() {
         if !is_number_of(numbers, expected[place], item.production, item.index) {
-            return false;
-        }
-    }
-    true
-}
-
-// Adds an item if it is finished.
-fn add_if_finished(
-    numbers: &Numbers<'_>,
-    item: usize,
-    finished: &mut Vec<usize>,
-) -> Result<(), OutOfMemory>
-    requires numbers { (g : Rules) × AreNumbers g numbers.now }
-    requires known { item < length numbers.now.items.items }
-    ensures { OnOk result
-        (AddsFinished numbers.now item finished.old.items finished.new.items) }
-{
-    if let Some(_symbol) = numbers.behind[item] {
-        return Ok(());
-    }
-    finished.push(item)?;
-    Ok(())
-}
-
-/// The finished ones of items.
-pub(super) fn finished_of(
-    alloc: Global,
-    numbers: &Numbers<'_>,
-    items: &[usize],
-) -> Result<Vec<usize>, OutOfMemory>
-    requires numbers { (g : Rules) × AreNumbers g numbers.now }
-    requires known { (k : ℕ) → Contains items.now k → k < length numbers.now.items.items }
-    ensures { IfOk result (λ finished. HasFinished numbers.now items.now finished.items) }
-{
-    let mut finished = Vec::new(alloc);
-    for item in items {
-        add_if_finished(numbers, *item, &mut finished)?;
-    }
-    Ok(finished)
-}
-
-/// Whether numbers rise.
-pub(super) fn rise(numbers: &[usize]) -> bool
-    ensures { IsTrue result → AllDiffer numbers.now }
-{
-    for place in 1..numbers.len() {
-        if numbers[place - 1] >= numbers[place] {
             return false;
         }
     }
@@ -142,29 +93,34 @@ fn is_number_of_terminal(symbols: &[Symbol], number: usize, terminal: &TerminalS
     }
 }
 
-// The number that is expected at a place, and 0 for none.
-fn expected_at(expected: &[usize], place: usize) -> usize {
+// The number that is expected at a place.
+fn expected_at(expected: &[(usize, Nil)], place: usize) -> Option<usize>
+    ensures { IfSome result (λ number. IsKeyAt expected.now place number) }
+{
     if place < expected.len() {
-        expected[place]
+        Some(expected[place].0)
     } else {
-        0
+        None
     }
 }
 
 /// Puts the gotos of a state behind the others, as far as they have the numbers that are expected,
-/// and tells whether all have. Who reads them learns their order.
+/// and tells whether all have.
 pub(super) fn take_gotos(
     symbols: &[Symbol],
-    expected: &[usize],
+    expected: &[(usize, Nil)],
     gotos: &BTreeMap<NonterminalString, StateIndex>,
     edges: &mut Vec<(usize, usize)>,
 ) -> Result<bool, OutOfMemory>
-    ensures taken { IfOk result (λ yes. IsTrue yes → AddTransitions symbols.now edges.old.items
-        (goto_transitions gotos.now.entries) edges.new.items) }
-    ensures ordered { GotosAscend gotos.now }
+    ensures taken { IfOk result (λ yes. IsTrue yes →
+        AddsGotos symbols.now edges.old.items edges.new.items gotos.now.entries) }
+    ensures keys { OnOk result
+        (HasKeys edges.old.items expected.now → HasKeys edges.new.items expected.now) }
 {
     for (name, target) in gotos.iter() {
-        let number = expected_at(expected, edges.len());
+        let Some(number) = expected_at(expected, edges.len()) else {
+            return Ok(false);
+        };
         if !is_number_of_name(symbols, number, name) {
             return Ok(false);
         }
@@ -176,16 +132,19 @@ pub(super) fn take_gotos(
 /// The same of the shifts.
 pub(super) fn take_shifts(
     symbols: &[Symbol],
-    expected: &[usize],
+    expected: &[(usize, Nil)],
     shifts: &BTreeMap<TerminalString, StateIndex>,
     edges: &mut Vec<(usize, usize)>,
 ) -> Result<bool, OutOfMemory>
-    ensures taken { IfOk result (λ yes. IsTrue yes → AddTransitions symbols.now edges.old.items
-        (shift_transitions shifts.now.entries) edges.new.items) }
-    ensures ordered { ShiftsAscend shifts.now }
+    ensures taken { IfOk result (λ yes. IsTrue yes →
+        AddsShifts symbols.now edges.old.items edges.new.items shifts.now.entries) }
+    ensures keys { OnOk result
+        (HasKeys edges.old.items expected.now → HasKeys edges.new.items expected.now) }
 {
     for (terminal, target) in shifts.iter() {
-        let number = expected_at(expected, edges.len());
+        let Some(number) = expected_at(expected, edges.len()) else {
+            return Ok(false);
+        };
         if !is_number_of_terminal(symbols, number, terminal) {
             return Ok(false);
         }

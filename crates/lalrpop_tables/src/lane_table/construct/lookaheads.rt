@@ -5,7 +5,7 @@ ghost use Rattle.lalrpop_tables.specs.lane_states.FoundLookaheads.{IsFoundAt, wi
 ghost use Rattle.lalrpop_tables.specs.lane_states.LaneStates.{AreLaneStates, IsResolvedAt, IsStep, LanesMeet};
 
 use super::LaneTableConstruct;
-use crate::lane_table::follow_sets::numbered_state::NumberedState;
+use crate::construction::numbered_state::NumberedState;
 use crate::lane_table::follow_sets::{Found, share_token};
 use lalrpop_base::lookahead::token_set::TokenSet;
 use lalrpop_base::lr1_core::state::Lr1State;

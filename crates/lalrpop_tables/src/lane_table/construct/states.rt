@@ -3,21 +3,21 @@ ghost use Rattle.std.specs.Prelude.{IfOk, OnOk, MatchOption};
 ghost use Rattle.lalrpop_base.specs.Words.{rules_of};
 ghost use Rattle.lalrpop_tables.specs.lane_states.LaneStates.{AreLaneStates, AreLaneTables, HaveMeetingLanes, HoldAllFrom, IsReadyToConstruct};
 ghost use Rattle.lalrpop_tables.specs.grammars.Numbers.{AreNumbers};
-ghost use Rattle.lalrpop_tables.specs.states.NumberedStates.{HaveItemsAt};
+ghost use Rattle.lalrpop_tables.specs.states.NumberedStates.{AreNumberedStates};
 
 use super::LaneTableConstruct;
 use super::promote::promote_states;
+use crate::construction::numbered_state::NumberedState;
 use crate::construction::numbers::Numbers;
 use crate::construction::states::NumberedStates;
 use crate::lane_table::follow_sets::Found;
-use crate::lane_table::follow_sets::numbered_state::number_states;
 use lalrpop_base::lookahead::token_set::TokenSet;
 use lalrpop_base::lr1_core::state::Lr1State;
 use lalrpop_base::memory::OutOfMemory;
 use std::alloc::Global;
 
 impl<'grammar> LaneTableConstruct<'grammar> {
-    /// The LR(0) states with all tokens, and the numbers of their items.
+    /// The LR(0) states with all tokens, and each by numbers.
     pub(super) fn promoted_states(
         &self,
         alloc: Global,
@@ -29,14 +29,14 @@ impl<'grammar> LaneTableConstruct<'grammar> {
             self.now.start made.0.items) }
         ensures full { IfOk result
             (λ made. HoldAllFrom self.now.grammar.now.terminals 0 made.0.items) }
-        ensures items { IfOk result
-            (λ made. HaveItemsAt numbers.now.items.items made.1.items made.0.items) }
+        ensures numbered { IfOk result
+            (λ made. AreNumberedStates numbers.now made.0.items made.1.items) }
     {
         let grammar = self.grammar;
         let all = TokenSet::all(alloc, &grammar.terminals)?;
-        let (states, items) = self.lr.lr0_states(alloc, numbers)?;
+        let (states, list) = self.lr.lr0_states(alloc, numbers)?;
         let states = promote_states(alloc, states, &all)?;
-        Ok((states, items))
+        Ok((states, list))
     }
 
     /// Resolves the states by rising index, with the lookahead sets that one pass over them finds,
@@ -46,7 +46,7 @@ impl<'grammar> LaneTableConstruct<'grammar> {
         &self,
         alloc: Global,
         numbers: &Numbers<'grammar>,
-        items: Vec<Vec<usize>>,
+        numbered: &[NumberedState],
         states: &mut Vec<Lr1State<'grammar>>,
     ) -> Result<Option<usize>, OutOfMemory>
         requires ready { IsReadyToConstruct self.now }
@@ -54,7 +54,7 @@ impl<'grammar> LaneTableConstruct<'grammar> {
             states.old.items }
         requires full { HoldAllFrom self.now.grammar.now.terminals 0 states.old.items }
         requires numbers { AreNumbers (rules_of self.now.grammar.now) numbers.now }
-        requires items { HaveItemsAt numbers.now.items.items items.items states.old.items }
+        requires numbered { AreNumberedStates numbers.now states.old.items numbered.now }
         ensures lanes { OnOk result
             (AreLaneStates (rules_of self.now.grammar.now) self.now.start states.new.items) }
         ensures resolved { IfOk result (λ first. MatchOption first
@@ -64,8 +64,7 @@ impl<'grammar> LaneTableConstruct<'grammar> {
     {
         let grammar = self.grammar;
         let _terminals = grammar.terminals.all();
-        let numbered = number_states(alloc, numbers, items, states)?;
-        let found = Found::new(alloc, grammar, &self.start, states, numbers, &numbered)?;
+        let found = Found::new(alloc, grammar, &self.start, states, numbers, numbered)?;
         let count = states.len();
         for index in 0..count {
             if !self.resolve_state(alloc, states, index, &found, &numbered[index])? {

@@ -3,10 +3,10 @@ ghost use Rattle.std.specs.Prelude.{◌≡◌, ◌<◌, ◌++◌, ℕ, length, s
 ghost use Rattle.lalrpop_tables.specs.follow_sets.FollowNodes.{AreNodes, AreTransitionNodes, IsNonterminalOrCount, nonterminals_of};
 ghost use Rattle.lalrpop_tables.specs.states.NumberedStates.{EdgesAscend};
 ghost use Rattle.lalrpop_tables.specs.grammars.Numbers.{SymbolsAscend};
-ghost use Rattle.lalrpop_tables.specs.declared.lane_table.follow_sets.numbered_state.NumberedState.{NumberedState as ByNumbers};
+ghost use Rattle.lalrpop_tables.specs.declared.construction.numbered_state.NumberedState.{NumberedState as ByNumbers};
 
 use super::edges::place_of;
-use super::numbered_state::NumberedState;
+use crate::construction::numbered_state::NumberedState;
 use lalrpop_base::memory::OutOfMemory;
 use lalrpop_base::repr::Symbol;
 use std::alloc::Global;

@@ -5,8 +5,8 @@ ghost use Rattle.lalrpop_tables.specs.follow_sets.FollowNodes.{IsNodeName, IsPas
 ghost use Rattle.lalrpop_tables.specs.grammars.Numbers.{AreExpansions};
 
 use super::nodes::Nodes;
-use super::numbered_state::NumberedState;
 use super::start::Start;
+use crate::construction::numbered_state::NumberedState;
 use crate::construction::numbers::Numbers;
 use crate::construction::numbers::rests::Rest;
 use lalrpop_base::lr1_core::state::Lr1State;

@@ -9,11 +9,11 @@ use super::expanded::Expanded;
 use super::ground::Ground;
 use super::unepsilon::unepsilon;
 use super::unshift::unshift;
-use super::walk::Walk;
 use crate::lane_table::context_set::ConflictIndex;
 use crate::lane_table::table::LaneTable;
 use crate::place::Place;
 use crate::sets::add_key;
+use crate::walk::Walk;
 use lalrpop_base::lookahead::token_set::TokenSet;
 use lalrpop_base::lr1_core::item::Item;
 use lalrpop_base::lr1_core::state::StateIndex;
@@ -29,7 +29,7 @@ fn step<'grammar, L>(
     place: &Place<'grammar>,
     conflict: ConflictIndex,
     table: &mut LaneTable<'grammar>,
-    walk: &mut Walk<'grammar>,
+    walk: &mut Walk<Place<'grammar>>,
     expanded: &mut BTreeSet<Expanded<'grammar>>,
 ) -> Result<(), OutOfMemory>
     requires there { conflict.index < table.old.conflicts }
@@ -75,7 +75,7 @@ fn trace_back<'grammar, L>(
     ensures in_range { AreInRange table.old → AreInRange table.new }
 {
     let mut walk = Walk::new(alloc);
-    walk.visit(first)?;
+    walk.visit(first.copy(), first)?;
     let mut expanded = BTreeSet::new(alloc);
     while let Some(place) = walk.waiting.pop_front() {
         step(

@@ -1,14 +1,15 @@
 //! Steps back without a symbol, from the start of a production.
 ghost use Rattle.std.specs.Prelude.{◌≡◌, ◌<◌, OnErr, OnOk, Contains, length};
 ghost use Rattle.lalrpop_base.specs.Words.{productions, rules_of};
-ghost use Rattle.lalrpop_tables.specs.lanes.LaneSteps.{Gains, GainsOf, GainsSome, GainsSomeOf, IsEnd, IsEndBit, IsFollowBit, IsGround, IsHere, IsParent, IsPassedOn, IsPlaceIf, Nothing, Visits, VisitsOf};
+ghost use Rattle.lalrpop_tables.specs.lanes.LaneSteps.{Gains, GainsOf, GainsSome, GainsSomeOf, IsEnd, IsEndBit, IsFollowBit, IsGround, IsHere, IsParent, IsPassedOn, IsPlaceIf, Nothing, VisitsOf};
+ghost use Rattle.lalrpop_tables.specs.Walks.{Visits};
 ghost use Rattle.lalrpop_tables.specs.lane_tables.LaneTables.{AreInRange, AreSameTables};
 
 use super::ground::Ground;
-use super::walk::Walk;
 use crate::lane_table::context_set::ConflictIndex;
 use crate::lane_table::table::LaneTable;
 use crate::place::Place;
+use crate::walk::Walk;
 use lalrpop_base::exact::equal;
 use lalrpop_base::lookahead::token_set::TokenSet;
 use lalrpop_base::lr1_core::item::Item;
@@ -46,7 +47,7 @@ fn pass_on<'grammar, L>(
     nullable: bool,
     state: usize,
     item: &Item<'grammar, L>,
-    walk: &mut Walk<'grammar>,
+    walk: &mut Walk<Place<'grammar>>,
 ) -> Result<(), OutOfMemory>
     ensures { OnOk result (Visits (IsPlaceIf nullable state item.now) walk.old walk.new) }
 {
@@ -54,7 +55,8 @@ fn pass_on<'grammar, L>(
         return Ok(());
     }
     let item = item.to_lr0();
-    walk.visit(Place { state, item })?;
+    let place = Place { state, item };
+    walk.visit(place.copy(), place)?;
     Ok(())
 }
 
@@ -67,7 +69,7 @@ fn follow<'grammar, L>(
     item: &Item<'grammar, L>,
     conflict: ConflictIndex,
     table: &mut LaneTable<'grammar>,
-    walk: &mut Walk<'grammar>,
+    walk: &mut Walk<Place<'grammar>>,
 ) -> Result<(), OutOfMemory>
     requires there { conflict.index < table.old.conflicts }
     requires ground { IsGround ground.now }
@@ -104,7 +106,7 @@ pub(crate) fn unepsilon<'grammar, L>(
     place: &Place<'grammar>,
     conflict: ConflictIndex,
     table: &mut LaneTable<'grammar>,
-    walk: &mut Walk<'grammar>,
+    walk: &mut Walk<Place<'grammar>>,
 ) -> Result<(), OutOfMemory>
     requires there { conflict.index < table.old.conflicts }
     requires ground { IsGround ground.now }

@@ -2,15 +2,16 @@
 ghost use Rattle.std.specs.Prelude.{◌≡◌, ◌<◌, ◌-◌, ℕ, Some, OnErr, OnOk, Contains, length};
 ghost use Rattle.lalrpop_base.specs.Words.{leads};
 ghost use Rattle.lalrpop_tables.specs.check.CheckCarrying.{at_place};
-ghost use Rattle.lalrpop_tables.specs.lanes.LaneSteps.{Gains, GainsOf, GainsSome, GainsSomeOf, IsGround, IsPair, Nothing, Nowhere, Visits, VisitsOf};
+ghost use Rattle.lalrpop_tables.specs.lanes.LaneSteps.{Gains, GainsOf, GainsSome, GainsSomeOf, IsGround, IsPair, Nothing, Nowhere, VisitsOf};
+ghost use Rattle.lalrpop_tables.specs.Walks.{Visits};
 ghost use Rattle.lalrpop_tables.specs.lane_tables.LaneTables.{AreInRange};
 ghost use Rattle.lalrpop_tables.specs.lanes.LaneTraces.{places_in};
 ghost use Rattle.lalrpop_tables.specs.graphs.StateGraph.{edge, edges};
 
 use super::ground::Ground;
-use super::walk::Walk;
 use crate::lane_table::table::LaneTable;
 use crate::place::Place;
+use crate::walk::Walk;
 use lalrpop_base::lr1_core::state::{State, StateIndex};
 use lalrpop_base::memory::OutOfMemory;
 use lalrpop_base::repr::Symbol;
@@ -36,7 +37,7 @@ fn step_back<'grammar>(
     place: &Place<'grammar>,
     source: StateIndex,
     table: &mut LaneTable<'grammar>,
-    walk: &mut Walk<'grammar>,
+    walk: &mut Walk<Place<'grammar>>,
 ) -> Result<(), OutOfMemory>
     requires { 0 < place.now.item.index }
     ensures gains { OnOk result
@@ -50,7 +51,8 @@ fn step_back<'grammar>(
     ensures in_range { AreInRange table.old → AreInRange table.new }
 {
     table.add_successor(source, StateIndex(place.state))?;
-    walk.visit(place.back_in(source.0))?;
+    let back = place.back_in(source.0);
+    walk.visit(back.copy(), back)?;
     Ok(())
 }
 
@@ -59,7 +61,7 @@ pub(crate) fn unshift<'grammar, L>(
     ground: &Ground<'_, 'grammar, L>,
     place: &Place<'grammar>,
     table: &mut LaneTable<'grammar>,
-    walk: &mut Walk<'grammar>,
+    walk: &mut Walk<Place<'grammar>>,
 ) -> Result<(), OutOfMemory>
     requires moved { 0 < place.now.item.index }
     requires ground { IsGround ground.now }

@@ -1,8 +1,9 @@
-use Rattle.lalrpop_tables.proofs.theory.check.CheckClosing.{IsClosing, work, Found}
+use Rattle.std.proofs.Common.{◌+◌, ◌-◌, length}
+use Rattle.lalrpop_tables.proofs.theory.check.CheckClosing.{IsClosing, room}
 use Rattle.lalrpop_tables.proofs.check.closing.close.Given as goal
 
 abbrev pub invariant-loop-item : goal.invariant-loop-item
-invariant-loop-item l = IsClosing l.grammar (Found l.fn.found.keys) l.fn.found.keys l.found.keys l.stack.items
+invariant-loop-item l = IsClosing l.grammar l.fn.walk.visited.keys l.walk
 
 abbrev pub decreases-loop-item : goal.decreases-loop-item
-decreases-loop-item l = work l.grammar (Found l.fn.found.keys) l.fn.found.keys l.found.keys l.stack.items
+decreases-loop-item l = length (room l.grammar l.fn.walk.visited.keys) + length l.walk.waiting.items - length l.walk.visited.keys

@@ -3,7 +3,7 @@ use Rattle.std.proofs.lemmas.List.{nil_from_length}
 use Rattle.std.specs.List.{flat_map}
 use Rattle.lalrpop_base.specs.Words.{Bits, state_conflicts}
 use Rattle.lalrpop_tables.proofs.Types.{State}
-use Rattle.lalrpop_tables.proofs.theory.collapse.MergedCollapse.{free_states}
+use Rattle.lalrpop_tables.proofs.theory.conflicts.ConflictLists.{free_states}
 use Rattle.lalrpop_tables.proofs.construction.results.tables_or_count.Goals as goal
 
 pub returns : goal.returns

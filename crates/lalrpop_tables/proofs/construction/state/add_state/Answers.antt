@@ -45,7 +45,7 @@ returns-clause-more g c _ =
     let at =
     subst (λ (is : List (Dotted g.row.L.Denot)). AreItemsAt items c.list_numbers.new.numbers.items is) (sym c.in_ok-state.ensures.items)
     (subst (λ (ks : List ℕ). AreItemsAt items ks (items_by items c.in_ok-list.list.items)) (sym made) (items_at_by items c.in_ok-list.list.items c.in_ok-list.ensures.known)) in
-    (c.in_ok-state.state, c.in_ok-push.ensures.items, at)
+    (c.in_ok-state.state, c.in_ok-push.ensures.items, record { items = at; edges = c.in_ok-state.ensures.by_number; finished = c.in_ok-state.ensures.finished })
 
 pub returns-clause-counted : goal.returns-clause-counted
 returns-clause-counted g c _ =

@@ -1,12 +1,11 @@
 use Rattle.std.proofs.Common.{◌≡◌, ◌∙◌, ◌<◌, ◌++◌, ◌∷◌, [], ℕ, List, sym, subst, ap, append-nil, arith}
 use Rattle.std.specs.Prelude.{Contains}
 use Rattle.std.proofs.lemmas.List.{map-append, nil_from_length}
-use Rattle.std.proofs.lemmas.List.Elements.{Contains-append_left, Contains-append_right}
+use Rattle.std.proofs.lemmas.List.Elements.{Contains-append_left, Contains-push}
 use Rattle.lalrpop_base.specs.Words.{Dotted}
 use Rattle.lalrpop_tables.proofs.Types.{Nil, Production}
 use Rattle.lalrpop_tables.specs.grammars.Numbers.{dotted_at, item_by, items_by}
 use Rattle.lalrpop_tables.specs.declared.construction.numbered.Numbered.{Numbered}
-use Rattle.lalrpop_base.proofs.theory.lists.Members.{contains_head}
 use Rattle.lalrpop_base.proofs.theory.collapse.Merging.{taken}
 use Rattle.lalrpop_tables.proofs.theory.closures.SharedItems.{read_item}
 use Rattle.lalrpop_tables.proofs.construction.state.items_of.Goals as goal
@@ -18,7 +17,7 @@ pub index-requires : goal.index-requires
 index-requires g c =
     let left = taken _ _ c.loop-item.yielded _ c.in-Some.item c.loop-item.invariant.left c.in-Some.ensures.steps.0 in
     let item : Numbered g.row.L.Denot = c.in-Some.item in
-    let here = Contains-append_left (c.loop-item.yielded ++ item ∷ []) c.next.new.self.rest.items item (Contains-append_right c.loop-item.yielded (item ∷ []) item (contains_head item [])) in
+    let here = Contains-append_left (c.loop-item.yielded ++ item ∷ []) c.next.new.self.rest.items item (Contains-push c.loop-item.yielded item) in
     let among = subst (λ (is : List (Numbered g.row.L.Denot)). Contains is item) left here in
     subst (λ (k : ℕ). item.number < k) (sym c.args.numbers.now.items.ok.0) (c.requires item among)
 
@@ -27,7 +26,7 @@ loop-item-preserved g c =
     let items = c.args.numbers.now.items.items in
     let item : Numbered g.row.L.Denot = c.in-Some.item in
     let left = taken _ _ c.loop-item.yielded _ c.in-Some.item c.loop-item.invariant.left c.in-Some.ensures.steps.0 in
-    let here = Contains-append_left (c.loop-item.yielded ++ item ∷ []) c.next.new.self.rest.items item (Contains-append_right c.loop-item.yielded (item ∷ []) item (contains_head item [])) in
+    let here = Contains-append_left (c.loop-item.yielded ++ item ∷ []) c.next.new.self.rest.items item (Contains-push c.loop-item.yielded item) in
     let known = c.requires item (subst (λ (is : List (Numbered g.row.L.Denot)). Contains is item) left here) in
     let at : c.index.result.now ≡ dotted_at items item.number = read_item items item.number c.index.result.now known c.index.ensures in
     let make : Production → ℕ → g.row.L.Denot → Dotted g.row.L.Denot = λ p k l. record { production = p; index = k; lookahead = l } in

@@ -12,7 +12,7 @@ pub returns-clause-built : goal.returns-clause-built
 returns-clause-built g c rules kernel closed =
     let t = rw c.deref.ensures.value at c.in_ok-shifts.ensures.transitions in
     let moves = subst (λ (is : List (Dotted g.row.L.Denot)). AreMoves is t.groups) (sym c.in_ok-items.ensures) t.moves in
-    Built-made (IsClosureBy g.L.Lookahead.meaning g.L.LookaheadBuild.begins g.L.LookaheadBuild.passes rules) kernel c.in_ok-items.items.items t.groups _ c.in_ok-shifts.field-0 c.args.number _ refl refl refl refl (rw c.deref-2.ensures.value at c.in_ok-reductions.ensures) closed moves t.lead
+    Built-made (IsClosureBy g.L.Lookahead.meaning g.L.LookaheadBuild.begins g.L.LookaheadBuild.passes rules) kernel c.in_ok-items.items.items t.groups _ c.args.number _ refl refl (rw c.deref-2.ensures.value at c.in_ok-reductions.ensures) closed moves t.lead
 
 pub returns-clause-extends : goal.returns-clause-extends
 returns-clause-extends g c rules are_items =
@@ -24,4 +24,7 @@ pub returns-clause-led : goal.returns-clause-led
 returns-clause-led g c =
     let t = rw c.deref.ensures.value at c.in_ok-shifts.ensures.transitions in
     let moves = subst (λ (is : List (Dotted g.row.L.Denot)). AreMoves is t.groups) (sym c.in_ok-items.ensures) t.moves in
-    Reached-led c.in_ok-items.items.items t.groups _ _ c.in_ok-shifts.field-0 _ refl refl moves t.lead t.reached
+    Reached-led c.in_ok-items.items.items t.groups _ _ (record { index = record { 0 = c.args.number }; items = record { vec = c.in_ok-items.items }; shifts = c.in_ok-shifts.field-0.shifts; reductions = c.in_ok-reductions.reductions; gotos = c.in_ok-shifts.field-0.gotos }) moves t.lead t.reached
+
+pub returns-clause-finished : goal.returns-clause-finished
+returns-clause-finished g c = rw c.deref-2.ensures.value at c.in_ok-reductions.ensures

@@ -3,7 +3,7 @@ use Rattle.std.specs.Prelude.{Contains}
 use Rattle.std.proofs.lemmas.Option.{slice_get-get_or, slice_get_within}
 use Rattle.lalrpop_base.proofs.theory.lists.Places.{contains_at, same_some, slice_get_at}
 use Rattle.lalrpop_tables.specs.states.NumberedStates.{listed_items}
-use Rattle.lalrpop_tables.specs.declared.lane_table.follow_sets.numbered_state.NumberedState.{NumberedState}
+use Rattle.lalrpop_tables.specs.declared.construction.numbered_state.NumberedState.{NumberedState}
 use Rattle.lalrpop_tables.proofs.check.by_number.leading.leads_on.Goals as goal
 
 pub returns-in_default : goal.returns-in_default

@@ -3,7 +3,7 @@ use Rattle.std.specs.Prelude.{slice_get}
 use Rattle.std.proofs.lemmas.Bool.{cases_lt}
 use Rattle.lalrpop_base.proofs.theory.lists.Places.{slice_get_at}
 use Rattle.lalrpop_tables.specs.check.ByNumber.{IsReachedByNumber, MarksTargets, at_first}
-use Rattle.lalrpop_tables.specs.declared.lane_table.follow_sets.numbered_state.NumberedState.{NumberedState}
+use Rattle.lalrpop_tables.specs.declared.construction.numbered_state.NumberedState.{NumberedState}
 use Rattle.lalrpop_tables.proofs.theory.check.NumberedSteps.{Marks-counted, Marks-none, Reached-more}
 use Rattle.lalrpop_tables.proofs.check.by_number.reached.are_reached.Goals as goal
 

@@ -7,7 +7,7 @@ use Rattle.lalrpop_tables.proofs.Types.{State}
 use Rattle.lalrpop_base.proofs.theory.lists.Places.{same_some, slice_get_at}
 use Rattle.lalrpop_tables.specs.check.ByNumber.{HoldSets, HoldsUnion}
 use Rattle.lalrpop_tables.specs.follow_sets.FollowWalks.{AreUnions, entries_at}
-use Rattle.lalrpop_tables.specs.declared.lane_table.follow_sets.numbered_state.NumberedState.{NumberedState}
+use Rattle.lalrpop_tables.specs.declared.construction.numbered_state.NumberedState.{NumberedState}
 use Rattle.lalrpop_tables.proofs.theory.check.NumberedSteps.{Union-held}
 use Rattle.lalrpop_tables.proofs.check.by_number.tokens.hold_lookaheads.Goals as goal
 

@@ -5,7 +5,7 @@ use Rattle.lalrpop_base.specs.Words.{Bits}
 use Rattle.lalrpop_tables.proofs.Types.{Production, State}
 use Rattle.lalrpop_tables.specs.check.ByNumber.{HoldsUnion}
 use Rattle.lalrpop_tables.specs.follow_sets.FollowWalks.{entries_at}
-use Rattle.lalrpop_tables.specs.declared.lane_table.follow_sets.numbered_state.NumberedState.{NumberedState}
+use Rattle.lalrpop_tables.specs.declared.construction.numbered_state.NumberedState.{NumberedState}
 use Rattle.lalrpop_tables.proofs.check.by_number.tokens.hold_lookaheads.Given as goal
 
 abbrev pub invariant-loop-place : goal.invariant-loop-place

@@ -1,6 +1,8 @@
 use Rattle.lalrpop_base.specs.Words.{EachBelow}
-use Rattle.lalrpop_tables.specs.check.NumberedClosures.{IsMovedNumber}
+use Rattle.lalrpop_tables.specs.check.ExpectedKernels.{IsMovedNumber}
+use Rattle.lalrpop_tables.specs.declared.construction.numbered.Numbered.{Numbered}
+use Rattle.lalrpop_tables.proofs.Types.{Nil}
 use Rattle.lalrpop_tables.proofs.check.numbered_states.kernels.are_moved.Given as goal
 
 abbrev pub invariant-loop-item : goal.invariant-loop-item
-invariant-loop-item l = EachBelow (IsMovedNumber l.numbers) l.kernel l.item-index
+invariant-loop-item l = EachBelow (λ (e : Numbered Nil). IsMovedNumber l.numbers e.number) l.kernel l.item-index

@@ -1,21 +1,24 @@
-use Rattle.std.proofs.Common.{◌≡◌, ◌∙◌, ◌+◌, ◌++◌, ◌∷◌, [], ℕ, List, ap, subst, arith, length, length-append, sym, take}
+use Rattle.std.proofs.Common.{◌≡◌, ◌∙◌, ◌+◌, ◌++◌, ◌∷◌, [], ℕ, List, ap, subst, sym, take, length}
 use Rattle.std.specs.Prelude.{IfSome, Option}
 use Rattle.std.proofs.lemmas.List.{take_all, take_more}
 use Rattle.lalrpop_base.specs.Words.{Bits}
-use Rattle.lalrpop_tables.proofs.Types.{State}
-use Rattle.lalrpop_base.specs.declared.repr.Symbol.TheVariants.{Nonterminal}
-use Rattle.lalrpop_tables.specs.check.ByNumber.{AreListedByNumber, IsKernelOf, IsListedOver, IsListedState}
-use Rattle.lalrpop_tables.specs.check.NumberedClosures.{IsNumberedClosure}
-use Rattle.lalrpop_tables.specs.grammars.Numbers.{AreExpansions}
-use Rattle.lalrpop_tables.specs.declared.lane_table.follow_sets.numbered_state.NumberedState.{NumberedState}
-use Rattle.lalrpop_tables.proofs.theory.check.NumberedSteps.{Listed-more, kernel_within}
+use Rattle.lalrpop_base.proofs.theory.grammars.Grammars.{productions_own}
+use Rattle.lalrpop_tables.proofs.Types.{Nil, State}
+use Rattle.lalrpop_tables.specs.check.ByNumber.{AreListedByNumber, IsListedOver, IsListedState, ListsClosure}
+use Rattle.lalrpop_tables.specs.check.ExpectedKernels.{IsKernelAt, IsKernelOf}
+use Rattle.lalrpop_tables.specs.grammars.Numbers.{items_by}
+use Rattle.lalrpop_tables.specs.declared.construction.numbered.Numbered.{Numbered}
+use Rattle.lalrpop_tables.specs.declared.construction.numbered_state.NumberedState.{NumberedState}
+use Rattle.lalrpop_tables.proofs.theory.check.ExpectedKernels.{start_kernel}
+use Rattle.lalrpop_tables.proofs.theory.check.NumberedSteps.{Listed-more}
 use Rattle.lalrpop_tables.proofs.check.numbered_states.listed.listed_by_number.Goals as goal
 
-pub kernel_of-requires : goal.kernel_of-requires
-kernel_of-requires c = subst (λ (ks : List ℕ). AreExpansions c.args.numbers.now.items.items (Nonterminal c.args.name.now) ks) (sym c.deref.ensures.value) c.in_ok-start.ensures
-
-pub listed_state-requires-clause-known : goal.listed_state-requires-clause-known
-listed_state-requires-clause-known c k among = kernel_within c.args.numbers.now c.args.name.now c.len-place.result c.in-Some.kernel.now c.in-Some.ensures k among
+pub kernel_of-requires-clause-start : goal.kernel_of-requires-clause-start
+kernel_of-requires-clause-start c =
+    let g = c.grammar-grammar.result.now in
+    let own = productions_own g c.grammar-grammar.ensures.well_formed c.len-names.ensures.ordered in
+    subst (λ (kernel : List (Numbered Nil)). IsKernelOf c.args.lr.now.construction c.args.numbers.now 0 kernel) (sym c.as_slice.ensures)
+    (start_kernel c.args.lr.now.construction c.args.numbers.now c.in_ok-start.start g c.grammar-grammar.ensures.rules c.grammar-grammar.ensures.first c.grammar-grammar.ensures.well_formed own c.in_ok-start.ensures.known c.in_ok-start.ensures.items c.in_ok-start.ensures.kernel)
 
 pub add_moves-requires : goal.add_moves-requires
 add_moves-requires c = (subst (λ (o : Option NumberedState). IfSome o (λ (new : NumberedState). IsListedOver c.args.numbers.now new.items.items c.state-item.result new)) c.in-Some-2.is c.in_ok-new.ensures.listed).numbered.ascend
@@ -23,27 +26,22 @@ add_moves-requires c = (subst (λ (o : Option NumberedState). IfSome o (λ (new 
 pub loop-state-preserved : goal.loop-state-preserved
 loop-state-preserved c =
     let n = c.args.numbers.now in
-    let start = c.args.name.now in
+    let rules = c.args.lr.now.construction.rules in
+    let start = c.args.lr.now.construction.start in
     let states : List (State Bits) = c.args.states.now in
     let list : List NumberedState = c.loop-state.list.items in
     let k = c.loop-state.state-index in
     let old : State Bits = c.state-item.result in
     let new : NumberedState = c.in-Some-2.new in
     let more : take (k + 1) states ≡ take k states ++ old ∷ [] = take_more states k old c.loop-state-test.true ∙ ap (λ (s : State Bits). take k states ++ s ∷ []) (sym c.state-item.is) in
-    let grown : c.push.new.self.items ≡ list ++ new ∷ [] = c.in_ok-push.ensures.items in
-    let longer : length c.push.new.self.items ≡ length list + 1 = ap length grown ∙ length-append list (new ∷ []) in
-    let placed : c.len-place.result ≡ length list = c.len-place.ensures ∙ c.loop-state.list.ok.0 in
-    let is : IsListedState n start (length list) old new = record {
-      kernel = c.in-Some.kernel.now;
-      is = subst (λ (m : ℕ). IsKernelOf n start m c.in-Some.kernel.now) placed c.in-Some.ensures;
-      closed = subst (λ (o : Option NumberedState). IfSome o (λ (s : NumberedState). IsNumberedClosure n c.in-Some.kernel.now s.items.items)) c.in-Some-2.is c.in_ok-new.ensures.closed;
+    let is : IsListedState rules start n (length list) old new = record {
+      kernel = items_by n.items.items c.in-Some.kernel.now;
+      is = subst (λ (m : ℕ). IsKernelAt rules start m (items_by n.items.items c.in-Some.kernel.now)) (c.len-place.ensures ∙ c.loop-state.list.ok.0) c.in-Some.ensures.is;
+      closed = subst (λ (o : Option NumberedState). IfSome o (λ (s : NumberedState). ListsClosure rules (items_by n.items.items c.in-Some.kernel.now) old)) c.in-Some-2.is c.in_ok-new.ensures.closed;
       over = subst (λ (o : Option NumberedState). IfSome o (λ (s : NumberedState). IsListedOver n s.items.items old s)) c.in-Some-2.is c.in_ok-new.ensures.listed;
     } in
-    record {
-      listed = subst (λ (done : List (State Bits)). AreListedByNumber n start done c.push.new.self.items) (sym more) (subst (AreListedByNumber n start (take k states ++ old ∷ [])) (sym grown) (Listed-more n start (take k states) old list new c.loop-state.invariant.listed is));
-      counted = c.in_ok-new.ensures.counted ∙ c.loop-state.invariant.counted;
-      below = λ x m at. let l = c.in_ok-new.ensures.below x m at in omega (arith, l, longer, placed);
-    }
+    subst (λ (done : List (State Bits)). AreListedByNumber rules start n done c.push.new.self.items) (sym more)
+    (subst (AreListedByNumber rules start n (take k states ++ old ∷ [])) (sym c.in_ok-push.ensures.items) (Listed-more rules start n (take k states) old list new c.loop-state.invariant is))
 
 pub returns : goal.returns
-returns c = subst (λ (done : List (State Bits)). AreListedByNumber c.args.numbers.now c.args.name.now done c.loop-state.list.items) (take_all c.loop-state.state-index c.args.states.now c.loop-state-test.false) c.loop-state.invariant.listed
+returns c = subst (λ (done : List (State Bits)). AreListedByNumber c.args.lr.now.construction.rules c.args.lr.now.construction.start c.args.numbers.now done c.loop-state.list.items) (take_all c.loop-state.state-index c.args.states.now c.loop-state-test.false) c.loop-state.invariant

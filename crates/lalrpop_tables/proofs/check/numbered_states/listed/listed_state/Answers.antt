@@ -1,13 +1,33 @@
-use Rattle.std.proofs.Common.{subst}
-use Rattle.std.specs.Prelude.{IfSome, Option}
-use Rattle.lalrpop_tables.specs.check.NumberedClosures.{IsNumberedClosure}
-use Rattle.lalrpop_tables.specs.declared.check.numbered_states.closing.Closing.{Closing}
-use Rattle.lalrpop_tables.proofs.theory.check.NumberedClosures.{closure_within}
+use Rattle.std.proofs.Common.{◌≡◌, ◌∙◌, ◌<◌, ℕ, List, length, map, subst, sym}
+use Rattle.std.specs.Prelude.{Contains}
+use Rattle.std.proofs.lemmas.Result.{IfOk-weaker}
+use Rattle.lalrpop_base.specs.Words.{AllDiffer}
+use Rattle.lalrpop_tables.specs.states.NumberedStates.{AreItemsAt, number_in}
+use Rattle.lalrpop_tables.specs.grammars.Numbers.{items_by}
+use Rattle.lalrpop_tables.proofs.theory.check.NumberedSteps.{Listed-closure, if_some}
+use Rattle.lalrpop_tables.proofs.theory.states.ItemNumbers.{numbers_differ, numbers_known}
 use Rattle.lalrpop_tables.proofs.check.numbered_states.listed.listed_state.Goals as goal
 
+pub symbols_behind-requires-clause-known : goal.symbols_behind-requires-clause-known
+symbols_behind-requires-clause-known c =
+    let made : c.list_numbers.new.numbers.items ≡ map number_in c.in_ok-list.list.items = rw c.deref.ensures.value at c.in_ok-list_numbers.ensures in
+    subst (λ (ks : List ℕ). (k : ℕ) → Contains ks k → k < length c.args.numbers.now.items.items) (sym (c.deref-2.ensures.value ∙ made)) (numbers_known c.args.numbers.now.items.items c.in_ok-list.list.items c.in_ok-list.ensures.known)
+
 pub state_over-requires-clause-known : goal.state_over-requires-clause-known
-state_over-requires-clause-known c k among =
-    let n = c.args.numbers.now in
-    let closed : IsNumberedClosure n c.args.kernel.now c.in-Some.closing.items.items =
-    subst (λ (o : Option Closing). IfSome o (λ (closing : Closing). IsNumberedClosure n c.args.kernel.now closing.items.items)) c.in-Some.is c.in_ok-closing.ensures.closed in
-    closure_within c.requires.numbers.0 n c.requires.numbers.1 c.args.kernel.now c.requires.known ((closed k).0 among)
+state_over-requires-clause-known c =
+    let made : c.list_numbers.new.numbers.items ≡ map number_in c.in_ok-list.list.items = rw c.deref.ensures.value at c.in_ok-list_numbers.ensures in
+    subst (λ (ks : List ℕ). (k : ℕ) → Contains ks k → k < length c.args.numbers.now.items.items) (sym made) (numbers_known c.args.numbers.now.items.items c.in_ok-list.list.items c.in_ok-list.ensures.known)
+
+pub state_over-requires-clause-differ : goal.state_over-requires-clause-differ
+state_over-requires-clause-differ c =
+    let made : c.list_numbers.new.numbers.items ≡ map number_in c.in_ok-list.list.items = rw c.deref.ensures.value at c.in_ok-list_numbers.ensures in
+    subst AllDiffer (sym made) (numbers_differ c.args.numbers.now.items.items c.in_ok-list.list.items c.in_ok-list.ensures.closed.are_items.differ)
+
+pub returns-clause-closed : goal.returns-clause-closed
+returns-clause-closed c =
+    let known = c.args.numbers.now.items.items in
+    let list = c.in_ok-list.list.items in
+    let made : c.list_numbers.new.numbers.items ≡ map number_in list = rw c.deref.ensures.value at c.in_ok-list_numbers.ensures in
+    IfOk-weaker c.state_over.result _ _ (λ answer told. if_some answer _ _ (λ new over.
+    Listed-closure c.args.lr.now.construction.rules known (items_by known c.args.kernel.now) list c.args.state.now c.in_ok-list.ensures.known c.in_ok-list.ensures.closed.exact
+    (subst (λ (ks : List ℕ). AreItemsAt known ks c.args.state.now.items.vec.items) made over.listed)) told) c.state_over.ensures

@@ -3,11 +3,11 @@ use Rattle.std.specs.Prelude.{Contains}
 use Rattle.std.specs.Borrow.{Bor}
 use Rattle.lalrpop_base.specs.Words.{AllDiffer, Bits, Dotted}
 use Rattle.lalrpop_tables.proofs.Types.{Production, State, Symbol}
-use Rattle.lalrpop_tables.specs.check.ByNumber.{HasFinished}
-use Rattle.lalrpop_tables.specs.states.NumberedStates.{AddTransitions, AreItemsAt, AreReducedNumbers, goto_transitions, shift_transitions}
-use Rattle.lalrpop_tables.specs.declared.lane_table.follow_sets.numbered_state.NumberedState.{NumberedState}
-use Rattle.lalrpop_tables.proofs.theory.states.ItemNumbers.{Items-numbered}
-use Rattle.lalrpop_tables.proofs.theory.states.NumberedStates.{Numbered-state}
+use Rattle.lalrpop_tables.specs.states.NumberedStates.{HasFinished, AddsGotos, AddsShifts, AreItemsAt, AreReducedNumbers}
+use Rattle.lalrpop_tables.specs.states.Transitions.{Entries}
+use Rattle.lalrpop_tables.specs.declared.construction.numbered_state.NumberedState.{NumberedState}
+use Rattle.lalrpop_tables.proofs.theory.states.MadeByNumber.{Numbered-state}
+use Rattle.lalrpop_tables.proofs.theory.states.EdgesByNumber.{Keys-ascend, Keys-none, ListedBy-none}
 use Rattle.lalrpop_tables.proofs.check.numbered_states.listed.state_over.Goals as goal
 
 pub finished_of-requires-clause-known : goal.finished_of-requires-clause-known
@@ -25,18 +25,22 @@ returns c =
     let at : AreItemsAt n.items.items numbers old.items.vec.items =
     subst (λ (ks : List ℕ). AreItemsAt n.items.items ks old.items.vec.items) c.deref.ensures.value
     (subst (λ (items : List (Dotted Bits)). AreItemsAt n.items.items c.deref.result.now items) c.deref-2.ensures.value (c.if-not-are_items.ensures refl)) in
-    let gotos : AddTransitions n.symbols.items [] (goto_transitions old.gotos.entries) middle =
-    subst (λ (es : List (ℕ × ℕ)). AddTransitions n.symbols.items es (goto_transitions old.gotos.entries) middle) c.in_ok-edges.ensures.items
-    (subst (λ (ss : List Symbol). AddTransitions ss c.in_ok-edges.edges.items (goto_transitions old.gotos.entries) middle) c.deref-3.ensures.value (c.in_ok-take_gotos.ensures.taken c.if-not-branch.false)) in
-    let shifts : AddTransitions n.symbols.items middle (shift_transitions old.shifts.entries) edges =
-    subst (λ (ss : List Symbol). AddTransitions ss middle (shift_transitions old.shifts.entries) edges) c.deref-4.ensures.value (c.in_ok-take_shifts.ensures.taken c.if-not-branch-2.false) in
+    let symbols = n.symbols.items in
+    let gotos : AddsGotos symbols [] middle old.gotos.entries =
+    subst (λ (es : List (ℕ × ℕ)). AddsGotos symbols es middle old.gotos.entries) c.in_ok-edges.ensures.items
+    (subst (λ (ss : List Symbol). AddsGotos ss c.in_ok-edges.edges.items middle old.gotos.entries) c.deref-3.ensures.value (c.in_ok-take_gotos.ensures.taken c.if-not-branch.false)) in
+    let shifts : AddsShifts symbols middle edges old.shifts.entries =
+    subst (λ (ss : List Symbol). AddsShifts ss middle edges old.shifts.entries) c.deref-4.ensures.value (c.in_ok-take_shifts.ensures.taken c.if-not-branch-2.false) in
+    let none : Entries = record { shifts = []; gotos = [] } in
+    let differ = c.requires.numbers.1.differ in
+    let listed = shifts differ (record { shifts = []; gotos = old.gotos.entries }) (gotos differ none (ListedBy-none symbols [] none refl refl refl)) in
+    let keys = c.in_ok-take_shifts.ensures.keys (c.in_ok-take_gotos.ensures.keys (Keys-none c.in_ok-edges.edges.items c.args.symbols.now c.in_ok-edges.ensures.items)) in
     record {
       same = refl;
       listed = at;
-      numbered = Numbered-state n c.requires.numbers.1.symbols_ascend old state c.in_ok-take_gotos.ensures.ordered c.in_ok-take_shifts.ensures.ordered middle
-          (Items-numbered n.items.items c.requires.numbers.1.items.ascend numbers old.items.vec.items at) gotos shifts;
-      reduced = subst (λ (ks : List ℕ). AreReducedNumbers n.items.items old.reductions.items ks) c.deref-7.ensures.value
-          (subst (λ (rs : List (Bits × Bor Production)). AreReducedNumbers n.items.items rs c.deref-7.result.now) c.deref-8.ensures.value (c.if-not-are_reductions.ensures refl));
-      finished = subst (λ (ks : List ℕ). HasFinished n ks reductions) c.deref-5.ensures.value c.in_ok-reductions.ensures;
-      once = subst (λ (ks : List ℕ). AllDiffer ks) c.deref-6.ensures.value (c.if-not-rise.ensures refl);
+      numbered = Numbered-state c.requires.numbers.0 n c.requires.numbers.1 old state at (record { listed = listed; ascend = Keys-ascend edges c.args.symbols.now keys c.requires.rising });
+      reduced = subst (λ (ks : List ℕ). AreReducedNumbers n.items.items old.reductions.items ks) c.deref-6.ensures.value
+          (subst (λ (rs : List (Bits × Bor Production)). AreReducedNumbers n.items.items rs c.deref-6.result.now) c.deref-7.ensures.value (c.if-not-are_reductions.ensures refl));
+      finished = subst (λ (ks : List ℕ). HasFinished n ks reductions) c.deref-5.ensures.value c.in_ok-reductions.ensures.all;
+      once = c.in_ok-reductions.ensures.once (subst AllDiffer (sym c.deref-5.ensures.value) c.requires.differ);
     }

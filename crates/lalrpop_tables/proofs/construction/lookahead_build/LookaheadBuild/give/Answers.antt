@@ -1,20 +1,20 @@
-use Rattle.std.proofs.Common.{◌≡◌, ◌∙◌, [], ◌∷◌, List, rules, arith, ap, sym, subst, refl}
+use Rattle.std.proofs.Common.{◌≡◌, ◌∙◌, [], List, rules, arith, ap, sym, subst, refl}
 use Rattle.std.specs.Prelude.{Contains}
 use Rattle.std.proofs.lemmas.Grind.{common_steps}
 use Rattle.std.proofs.lemmas.List.{nil_from_length}
-use Rattle.std.proofs.lemmas.List.Elements.{Contains-append_right}
+use Rattle.std.proofs.lemmas.List.Elements.{Contains-push}
 use Rattle.lalrpop_base.specs.Words.{Dotted}
 use Rattle.lalrpop_base.specs.closures.EpsilonMoves.{IsGiven}
 use Rattle.lalrpop_base.specs.closures.EpsilonMoves.IsGivenAt.{given, barren}
 use Rattle.lalrpop_base.proofs.theory.closures.Readings.{readings_differ, where_ok}
-use Rattle.lalrpop_base.proofs.theory.lists.Members.{contains_head, Contains-none}
+use Rattle.lalrpop_base.proofs.theory.lists.Members.{Contains-none}
 use Rattle.lalrpop_tables.proofs.construction.lookahead_build.LookaheadBuild.give.Goals as goal
 
 pub returns-in-Some : goal.returns-in-Some
 returns-in-Some g c =
     let e = c.in_ok-moves.ensures.moves in
     let item : Dotted g.row.Self.Denot = c.in-Some.item in
-    let among = subst (λ (is : List (Dotted g.row.Self.Denot)). Contains is item) (sym c.in-Some.ensures.items) (Contains-append_right c.pop.new.self.items (item ∷ []) item (contains_head item [])) in
+    let among = subst (λ (is : List (Dotted g.row.Self.Denot)). Contains is item) (sym c.in-Some.ensures.items) (Contains-push c.pop.new.self.items item) in
     let same = (e.begun.each item among).same in
     let gives = subst (λ (l : g.row.Self.Denot). IsGiven g.Self.Lookahead.meaning g.Self.LookaheadBuild.begins g.Self.LookaheadBuild.passes c.args.lr.now.construction.rules c.args.remainder.now c.args.lookahead.now l) (sym same ∙ sym (ap (λ (i : Dotted g.row.Self.Denot). i.lookahead) c.item.view_is)) e.is in
     record { given = where_ok c.join.result c.join.ensures.differ c.join.ensures.joined (λ told differ joined. given _ gives joined (readings_differ _ _ differ)) }

@@ -9,7 +9,7 @@ use Rattle.lalrpop_tables.proofs.lane_table.construct.LaneTableConstruct.constru
 pub returns-then-at_once-clause-tables : goal.returns-then-at_once-clause-tables
 returns-then-at_once-clause-tables c =
     let told = c.in_ok-states.ensures in
-    copied_free (rules_of c.args.self.grammar.now) c.args.self.start c.args.self.max_copies c.in_ok-states.states.items told.copies (told.free c.if-at_once.true)
+    copied_free (rules_of c.args.self.now.grammar.now) c.args.self.now.start c.args.self.now.max_copies c.in_ok-states.states.items told.copies (told.free c.if-at_once.true)
 
 pub returns-then-at_once-clause-at_once : goal.returns-then-at_once-clause-at_once
 returns-then-at_once-clause-at_once c _ alone = was_resolved c.in_ok-states.at_once _ _ c.if-at_once.true (c.in_ok-states.ensures.lalr alone)
@@ -22,7 +22,7 @@ pub returns-then-not-branch-clause-tables : goal.returns-then-not-branch-clause-
 returns-then-not-branch-clause-tables c = record {
   states = c.in_ok-states.states.items;
   made = c.in_ok-states.ensures.copies;
-  some = λ free. let yes = c.in_ok-have_no_conflict.ensures.1 (subst (λ (xs : List (State Bits)). HaveNoConflict c.args.self.grammar.now.terminals xs) (sym c.deref.ensures.value) free) in cc;
+  some = λ free. let yes = c.in_ok-have_no_conflict.ensures.1 (subst (λ (xs : List (State Bits)). HaveNoConflict c.args.self.now.grammar.now.terminals xs) (sym c.deref.ensures.value) free) in cc;
 }
 
 pub returns-then-not-branch-clause-lalr : goal.returns-then-not-branch-clause-lalr
@@ -31,8 +31,8 @@ returns-then-not-branch-clause-lalr c alone lalr = absurd (was_met c.in_ok-state
 -- ---- none has one
 pub returns-clause-tables : goal.returns-clause-tables
 returns-clause-tables c =
-    let free = subst (λ (xs : List (State Bits)). HaveNoConflict c.args.self.grammar.now.terminals xs) c.deref.ensures.value (c.in_ok-have_no_conflict.ensures.0 c.if-not-branch.false) in
-    copied_free (rules_of c.args.self.grammar.now) c.args.self.start c.args.self.max_copies c.in_ok-states.states.items c.in_ok-states.ensures.copies free
+    let free = subst (λ (xs : List (State Bits)). HaveNoConflict c.args.self.now.grammar.now.terminals xs) c.deref.ensures.value (c.in_ok-have_no_conflict.ensures.0 c.if-not-branch.false) in
+    copied_free (rules_of c.args.self.now.grammar.now) c.args.self.now.start c.args.self.now.max_copies c.in_ok-states.states.items c.in_ok-states.ensures.copies free
 
 pub returns-clause-lalr : goal.returns-clause-lalr
 returns-clause-lalr c alone lalr = absurd (was_met c.in_ok-states.at_once _ _ c.if-at_once.false (c.in_ok-states.ensures.lalr alone) lalr)

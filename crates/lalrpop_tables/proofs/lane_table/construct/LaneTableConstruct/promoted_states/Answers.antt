@@ -1,6 +1,6 @@
 use Rattle.std.proofs.Common.{subst}
 use Rattle.lalrpop_base.specs.Words.{Rules, rules_of, AreLr0States}
-use Rattle.lalrpop_tables.proofs.theory.lane_states.LanePromoted.{Items-promoted, promoted_lanes, promoted_full, full_set}
+use Rattle.lalrpop_tables.proofs.theory.lane_states.LanePromoted.{Numbered-promoted, promoted_lanes, promoted_full, full_set}
 use Rattle.lalrpop_tables.proofs.lane_table.construct.LaneTableConstruct.promoted_states.Goals as goal
 
 pub lr0_states-requires : goal.lr0_states-requires
@@ -19,5 +19,5 @@ returns-clause-full c n state from at =
     let terminals = c.args.self.now.grammar.now.terminals in
     promoted_full terminals _ (full_set terminals _ c.in_ok-all.ensures) c.in_ok-states.states.items _ c.in_ok-states-2.ensures n state at
 
-pub returns-clause-items : goal.returns-clause-items
-returns-clause-items c = Items-promoted c.args.numbers.now.items.items _ c.in_ok-states.items.items c.in_ok-states.states.items _ c.in_ok-states-2.ensures c.in_ok-states.ensures.items
+pub returns-clause-numbered : goal.returns-clause-numbered
+returns-clause-numbered c = Numbered-promoted c.args.numbers.now _ c.in_ok-states.list.items c.in_ok-states.states.items _ c.in_ok-states-2.ensures c.in_ok-states.ensures.numbered

@@ -6,7 +6,7 @@ use Rattle.lalrpop_tables.proofs.lane_table.construct.LaneTableConstruct.resolve
 -- ---- no two actions of a state share a token
 pub returns-in_default-clause-copies : goal.returns-in_default-clause-copies
 returns-in_default-clause-copies c =
-    (lanes_copied (rules_of c.args.self.grammar.now) c.args.self.start c.args.self.max_copies c.resolve_states.new.states.items (none_told c.in_ok-first.field-0 _ _ c.in_default.not-Some c.in_ok-first.ensures.resolved)).made
+    (lanes_copied (rules_of c.args.self.now.grammar.now) c.args.self.now.start c.args.self.now.max_copies c.resolve_states.new.states.items (none_told c.in_ok-first.field-0 _ _ c.in_default.not-Some c.in_ok-first.ensures.resolved)).made
 
 pub returns-in_default-clause-free : goal.returns-in_default-clause-free
 returns-in_default-clause-free c _ = (none_told c.in_ok-first.field-0 _ _ c.in_default.not-Some c.in_ok-first.ensures.resolved).free
@@ -14,11 +14,11 @@ returns-in_default-clause-free c _ = (none_told c.in_ok-first.field-0 _ _ c.in_d
 pub returns-in_default-clause-lalr : goal.returns-in_default-clause-lalr
 returns-in_default-clause-lalr c alone =
     let told = c.in_ok-first.ensures in
-    tables_lalr c.args.self.grammar.now c.args.self.start c.requires.ready.well_formed c.all-terminals.ensures.distinct c.resolve_states.new.states.items told.lanes alone (none_told c.in_ok-first.field-0 _ _ c.in_default.not-Some told.resolved)
+    tables_lalr c.args.self.now.grammar.now c.args.self.now.start c.requires.ready.well_formed c.all-terminals.ensures.distinct c.resolve_states.new.states.items told.lanes alone (none_told c.in_ok-first.field-0 _ _ c.in_default.not-Some told.resolved)
 
 -- ---- some do, so states may be copied
 pub returns-clause-lalr : goal.returns-clause-lalr
 returns-clause-lalr c alone lalr =
     let told = c.in_ok-first.ensures in
     let met = some_told c.in_ok-first.field-0 c.in-Some.first _ _ c.in-Some.is told.resolved in
-    meet_not_lalr c.args.self.grammar.now c.args.self.start c.requires.ready.well_formed c.all-terminals.ensures.distinct c.resolve_states.new.states.items told.lanes alone met.number met.listed met.meet lalr
+    meet_not_lalr c.args.self.now.grammar.now c.args.self.now.start c.requires.ready.well_formed c.all-terminals.ensures.distinct c.resolve_states.new.states.items told.lanes alone met.number met.listed met.meet lalr

@@ -4,7 +4,7 @@ use Rattle.lalrpop_tables.proofs.Types.{Symbol}
 use Rattle.lalrpop_tables.specs.follow_sets.FollowNodes.{AreNodes}
 use Rattle.lalrpop_tables.specs.states.NumberedStates.{transitions_at}
 use Rattle.lalrpop_tables.specs.declared.lane_table.follow_sets.nodes.Nodes.{Nodes}
-use Rattle.lalrpop_tables.specs.declared.lane_table.follow_sets.numbered_state.NumberedState.{NumberedState as ByNumbers}
+use Rattle.lalrpop_tables.specs.declared.construction.numbered_state.NumberedState.{NumberedState as ByNumbers}
 use Rattle.lalrpop_base.proofs.theory.lists.Places.{contains_at, slice_get_at}
 use Rattle.lalrpop_tables.proofs.theory.follow_sets.StartNode.{Nodes-more, Nodes-same, of_some}
 use Rattle.lalrpop_tables.proofs.theory.follow_sets.TransitionNodes.{edges_are}

@@ -2,7 +2,7 @@ use Rattle.std.proofs.Common.{◌≡◌, ◌++◌, ◌∙◌, ℕ, length, ◌+�
 use Rattle.std.specs.Prelude.{slice_get}
 use Rattle.std.proofs.lemmas.List.{length-take-le, take_all, take_more}
 use Rattle.lalrpop_tables.specs.follow_sets.FollowNodes.{nonterminals_of}
-use Rattle.lalrpop_tables.specs.declared.lane_table.follow_sets.numbered_state.NumberedState.{NumberedState as ByNumbers}
+use Rattle.lalrpop_tables.specs.declared.construction.numbered_state.NumberedState.{NumberedState as ByNumbers}
 use Rattle.lalrpop_base.proofs.theory.lists.Places.{slice_get_at}
 use Rattle.lalrpop_tables.proofs.theory.follow_sets.TransitionNodes.{HaveNodes, Have-more, Have-none}
 use Rattle.lalrpop_tables.proofs.lane_table.follow_sets.nodes.transition_nodes.Goals as goal

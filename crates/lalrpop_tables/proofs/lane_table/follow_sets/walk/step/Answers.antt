@@ -5,7 +5,7 @@ use Rattle.std.specs.declared.alloc.Global.{Global}
 use Rattle.std.specs.declared.vec.Vec.{Vec}
 use Rattle.lalrpop_tables.specs.follow_sets.FollowWalks.{IsGoneOver, StepsThrough}
 use Rattle.lalrpop_tables.specs.grammars.Numbering.{AddsThose}
-use Rattle.lalrpop_tables.specs.declared.lane_table.follow_sets.numbered_state.NumberedState.{NumberedState}
+use Rattle.lalrpop_tables.specs.declared.construction.numbered_state.NumberedState.{NumberedState}
 use Rattle.lalrpop_tables.proofs.theory.follow_sets.FollowSteps.{kept_through, node_number, none_over, none_through, pushed_through, some_over}
 use Rattle.lalrpop_base.proofs.theory.lists.Places.{filled}
 use Rattle.lalrpop_tables.proofs.lane_table.follow_sets.walk.step.Goals as goal

@@ -1,4 +1,4 @@
-use Rattle.std.proofs.Common.{◌≡◌, subst}
+use Rattle.std.proofs.Common.{◌≡◌, ◌∙◌, subst}
 use Rattle.lalrpop_tables.specs.Words.{Visits}
 use Rattle.lalrpop_tables.specs.declared.place.Place.{Place}
 use Rattle.lalrpop_tables.proofs.theory.lanes.Gains.{Gains-successor}
@@ -9,7 +9,7 @@ pub returns-clause-gains : goal.returns-clause-gains
 returns-clause-gains c = λ k. Gains-successor c.args.source (record { 0 = c.args.place.now.state }) _ _ c.in_ok-add_successor.ensures.added k
 
 pub returns-clause-visits : goal.returns-clause-visits
-returns-clause-visits c = subst (λ (p : Place). Visits (λ k. p ≡ k) c.args.walk.now c.visit.new.self) c.back_in.ensures c.in_ok-visit.ensures
+returns-clause-visits c = subst (λ (p : Place). Visits (λ k. p ≡ k) c.args.walk.now c.visit.new.self) (c.copy.ensures ∙ c.back_in-back.ensures) c.in_ok-visit.ensures
 
 pub returns-in_err-add_successor-clause-part : goal.returns-in_err-add_successor-clause-part
 returns-in_err-add_successor-clause-part c = on_err _ (GainsSome-refused c.args.source (record { 0 = c.args.place.now.state }) _ _ c.in_err-add_successor.ensures.err)

@@ -1,6 +1,0 @@
-use Rattle.lalrpop_tables.specs.states.NumberedStates.{goto_transitions}
-use Rattle.lalrpop_tables.proofs.theory.states.NumberedTransitions.{IsPartly}
-use Rattle.lalrpop_tables.proofs.lane_table.follow_sets.numbered_state.add_gotos.Given as goal
-
-abbrev pub invariant-loop-name : goal.invariant-loop-name
-invariant-loop-name l = IsPartly l.numbers.symbols.items (goto_transitions l.name-iterator) (goto_transitions l.gotos.entries) l.initial.edges.items l.edges.items
