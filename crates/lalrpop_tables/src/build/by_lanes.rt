@@ -102,8 +102,7 @@ fn where_checked<'grammar>(
     ensures faithful { IfOk result (λ answer. IfSome answer (λ kept. AreFaithful
         (productions construct.now.grammar.now) construct.now.start
         (contents construct.now.grammar.now.terminals kept.items))) }
-    ensures passing {
-        PassCheck construct.now.grammar.now construct.now.start tables.entry.items →
+    ensures passing { PassCheck construct.now.grammar.now construct.now.start tables.entry.items →
         IfOk result (λ answer. is_some answer ≡ true) }
 {
     let start = construct.start.clone(alloc)?;

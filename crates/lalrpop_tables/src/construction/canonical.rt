@@ -18,7 +18,6 @@ use lalrpop_base::repr::grammar::Grammar;
 use std::alloc::Global;
 
 // The construction whose start symbol Eof follows.
-#[tactic(auto, using(crate::proofs::theory::states::Lookaheads::eof_fits))]
 fn canonical_construction<'grammar>(
     alloc: Global,
     grammar: &'grammar Grammar,
