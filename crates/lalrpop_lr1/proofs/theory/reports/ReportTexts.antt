@@ -5,7 +5,7 @@ use Rattle.lalrpop_lr1.proofs.Types.{TerminalString, Token}
 use Rattle.lalrpop_base.proofs.theory.sets.BitLemmas.{rising-bits_of}
 use Rattle.lalrpop_lr1.specs.Words.{tokens_line, tokens_text, tokens_in}
 use Rattle.std.specs.List.{flat_map}
-use Rattle.std.proofs.lemmas.List.{flat_map_more, take_more, map-append}
+use Rattle.std.proofs.lemmas.List.{flat_map_more, take_more}
 use mathlib.Core.Bool.{true≢false}
 use Rattle.std.specs.Fmt.{WritesInCalls}
 use Rattle.std.proofs.Output.{contents_after_writes}

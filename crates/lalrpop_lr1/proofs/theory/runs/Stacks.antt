@@ -1,18 +1,15 @@
 -- Over states that lead to one another as their items say, no reduction meets a stack that is too short.
-use Rattle.std.proofs.Common.{◌≡◌, ℕ, zero, suc, ◌<◌, ◌≤◌, Bool, true, false, cond, List, [], ◌∷◌, ◌++◌, take, drop, length, reverse, sym, subst, refl, ap, ◌∙◌, Option, Some, None, unwrap_or, arith}
+use Rattle.std.proofs.Common.{◌≡◌, ℕ, zero, suc, ◌<◌, ◌≤◌, Bool, true, false, cond, List, [], ◌∷◌, ◌++◌, take, drop, length, sym, subst, refl, ap, ◌∙◌, Option, Some, None, unwrap_or, arith}
 use Rattle.std.specs.Prelude.{Contains, slice_get}
-use Rattle.std.proofs.lemmas.List.{reverse-reverse, length-reverse}
-use Rattle.std.proofs.Math.Seq.{take-append_seam, drop-append_seam}
-use mathlib.Core.List.{reverse_aux, reverse_aux-eq}
 use Rattle.lalrpop_lr1.proofs.Types.{Production, Symbol, TerminalString, Token}
-use Rattle.lalrpop_base.specs.Words.{Contents, Tree, Leaf, Node, Trees, no_trees, beside, trees_of, root, roots, Configuration, reduction_on, Move, Stands}
+use Rattle.lalrpop_base.specs.Words.{Contents, Tree, Leaf, Node, Trees, no_trees, beside, root, roots, Configuration, reduction_on, Move, Stands}
 use Rattle.lalrpop_base.specs.Words.{Goes, Ends, reduced, goes_on, received, reduces, shifts_or, moves_on, move, Reaches, here, further}
 use Rattle.lalrpop_base.specs.states.States.{Reduction}
 use Rattle.lalrpop_base.specs.declared.lookahead.token.Token.TheVariants.{Eof, Terminal as TokenOf}
 use Rattle.lalrpop_base.proofs.theory.states.ContentsViews.{LeadAsItemsSay, IsEdge}
 use Rattle.lalrpop_lr1.specs.Words.{IsStack, bottom}
 use Rattle.lalrpop_lr1.specs.runs.Machines.{above}
-use Rattle.lalrpop_base.proofs.theory.runs.Steps.{trees-list, onto_is, length-roots, reduced_is, same_goes}
+use Rattle.lalrpop_base.proofs.theory.runs.Steps.{reduced_is, same_goes}
 use Rattle.lalrpop_base.proofs.theory.lists.Lists.{take_all}
 
 -- the trees of a forest go onto the stack from the left

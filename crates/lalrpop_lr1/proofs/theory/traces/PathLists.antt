@@ -2,12 +2,11 @@
 use Rattle.std.proofs.Common.{◌≡◌, inl, inr, List, [], ◌∷◌, ◌++◌, reverse, sym, ◌∙◌, ap, subst, append_assoc}
 use Rattle.std.specs.Prelude.{Contains}
 use Rattle.std.specs.List.{flat_map}
-use Rattle.std.proofs.lemmas.List.{reverse-append, reverse-reverse}
-use Rattle.std.proofs.lemmas.List.Sorted.{IsPermutation-reverse, Contains-permutation}
+use Rattle.std.proofs.lemmas.List.{reverse-append}
 use mathlib.Core.List.{tail-eq_of_cons-eq}
 use Rattle.lalrpop_base.proofs.theory.lists.Lists.{contains-cons, contains-nil}
 use Rattle.lalrpop_lr1.proofs.theory.inlining.InlineApart.{Apart, Apart-append}
-use Rattle.lalrpop_base.proofs.theory.lists.Members.{of_flat, Contains-reverse, Contains-from_reverse}
+use Rattle.lalrpop_base.proofs.theory.lists.Members.{of_flat, Contains-from_reverse}
 
 pub apart_one : {A : Type 0} (x : A) → Apart (x ∷ [])
 apart_one x = (λ c. contains-nil c, tt)

@@ -13,14 +13,13 @@ use Rattle.std.specs.declared.cmp.Ordering.TheVariants.{Equal}
 use Rattle.std.proofs.lemmas.Bool.{cases_Bool}
 use Rattle.std.proofs.lemmas.List.{drop_all, map-append}
 use Rattle.std.proofs.lemmas.List.Elements.{Contains-append_left, Contains-push_cases}
-use Rattle.std.proofs.lemmas.Option.{slice_get_within}
 use mathlib.Core.Bool.{true≢false}
 use lib.Pointwise.{pointwise}
-use Rattle.lalrpop_base.specs.Words.{list_exact, both, Dotted, IsNumbering, by_number, key_numbered, AddsOnce, collection_at, PushesAt, SameAt, AllDiffer}
+use Rattle.lalrpop_base.specs.Words.{list_exact, both, IsNumbering, by_number, key_numbered, AddsOnce, collection_at, PushesAt, SameAt, AllDiffer}
 use Rattle.lalrpop_base.specs.contracts.exact.SymbolExact.TheImpl as symbol_exactly
 use Rattle.lalrpop_base.specs.contracts.repr.SymbolEq.TheImpl.Laws as symbol_equality
 use Rattle.lalrpop_base.specs.contracts.repr.SymbolPartialEq.TheImpl as symbol_eq
-use Rattle.lalrpop_lr1.proofs.Types.{Nil, Symbol}
+use Rattle.lalrpop_lr1.proofs.Types.{Symbol}
 use Rattle.lalrpop_base.specs.declared.lr1_core.symbol_sets.SymbolSets.{SymbolSets}
 use Rattle.lalrpop_base.proofs.theory.states.KernelLemmas.{IsNext, all_differ, list_grows, next_numbering, exact_by_cmp}
 use Rattle.lalrpop_base.proofs.theory.lists.MultimapLemmas.{tied_at, everywhere}

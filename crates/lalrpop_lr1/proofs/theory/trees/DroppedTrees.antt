@@ -1,6 +1,6 @@
 -- Trees that are dropped: how many nodes are left.
 use Rattle.std.proofs.Common.{◌≡◌, ◌+◌, ◌<◌, ℕ, suc, List, [], ◌∷◌, ◌++◌, Vec, Global, map, refl, ap, ◌∙◌, arith}
-use Rattle.lalrpop_base.specs.Words.{Tree, Leaf, Node, Trees, no_trees, beside, trees_of, nodes}
+use Rattle.lalrpop_base.specs.Words.{Tree, Leaf, Node, Trees, beside, trees_of, nodes}
 use Rattle.lalrpop_lr1.proofs.Types.{NonterminalString}
 use Rattle.lalrpop_lr1.specs.Words.{tree_of, tree_nodes}
 use Rattle.lalrpop_lr1.specs.declared.interpret.tree.ParseTree.{ParseTree}

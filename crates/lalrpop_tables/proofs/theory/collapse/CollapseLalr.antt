@@ -4,8 +4,8 @@ use Rattle.std.specs.Prelude.{slice_get, MatchResult}
 use Rattle.std.specs.declared.result.Result.{Result}
 use Rattle.std.specs.declared.result.Result.TheVariants.{Ok, Err}
 use Rattle.std.proofs.lemmas.Option.{slice_get_within}
-use Rattle.lalrpop_base.specs.Words.{Bits, contents_at, AreLr0, HoldLalrTokens, AllDiffer, Contents, state_after, IsLive, Action, Shift, Reduce, IsValidAction}
-use Rattle.lalrpop_base.specs.Words.{IsLalrAction, IsLR1, IsLALR1, productions, tokens_of, FitReductions, AreOrderedCanonical, IsCollapsed, AreCollapsedTables, FailsByCollapse}
+use Rattle.lalrpop_base.specs.Words.{Bits, contents_at, AreLr0, HoldLalrTokens, AllDiffer, Contents, state_after}
+use Rattle.lalrpop_base.specs.Words.{IsLR1, IsLALR1, productions, tokens_of, FitReductions, AreOrderedCanonical, IsCollapsed, AreCollapsedTables, FailsByCollapse}
 use Rattle.lalrpop_base.specs.conflicts.Conflicts.{HasNoConflict as HoldsNoConflict}
 use Rattle.lalrpop_tables.proofs.Types.{BuildError, Conflict, Grammar, NonterminalString, Production, State, Symbol, TerminalString, Token}
 use Rattle.lalrpop_base.specs.declared.lr1_core.state.BuildError.TheVariants.{Conflicts, Memory}

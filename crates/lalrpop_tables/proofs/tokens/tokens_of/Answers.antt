@@ -1,5 +1,5 @@
 use Rattle.std.proofs.Common.{◌≡◌, ◌∙◌, sym, Option, Some, None, refl}
-use Rattle.std.specs.Prelude.{Contains, IfSome, IsNone, option_copied}
+use Rattle.std.specs.Prelude.{Contains, IfSome, option_copied}
 use Rattle.std.specs.Borrow.{Bor}
 use Rattle.lalrpop_base.proofs.theory.lists.Updates.{looked_found, looked_none}
 use Rattle.lalrpop_tables.proofs.theory.lane_tables.LaneTables.{none_is}
