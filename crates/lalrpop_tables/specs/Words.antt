@@ -18,7 +18,7 @@ pub use Rattle.lalrpop_tables.specs.lanes.LaneSteps.{AddsNothing, AreExpanded, G
 pub use Rattle.lalrpop_tables.specs.lanes.LaneSteps.{GivesSuccessor, IsEnd, IsEndBit, IsEndPlace, IsFollowBit, IsGround, IsHere, IsPair, IsParent, IsPassedOn, IsPlaceIf}
 pub use Rattle.lalrpop_tables.specs.Walks.{AllWait, Visits}
 pub use Rattle.lalrpop_tables.specs.lanes.LaneSteps.{Nothing, Nowhere, Reaches, Some_of, VisitsOf, rest_of}
-pub use Rattle.lalrpop_tables.specs.lane_tables.LaneTableStates.{AddsKeys, AreReached, HasCellsBelow, IsClosedEdge}
+pub use Rattle.lalrpop_tables.specs.lane_tables.LaneTableStates.{AreReached, HasCellsBelow, IsClosedEdge}
 pub use Rattle.lalrpop_tables.specs.lane_tables.LaneTables.{AddsSuccessor, AddsTokens, AreColumns, AreInRange, AreSameTables, ColumnsOverlap, HasCell, HasRow, InColumn}
 pub use Rattle.lalrpop_tables.specs.lane_tables.LaneTables.{IsBeachhead, IsClosed, IsEmptyTable, IsRow, IsSuccessor, KeepsAll, RowOverlaps, column}
 pub use Rattle.lalrpop_tables.specs.lanes.LaneTraces.{GivesAt, HaveOwnItems, IsLaneBit, IsReadyToTrace, ReducesOwn, TakesAction, TakesLane, TakesPartOfAction}

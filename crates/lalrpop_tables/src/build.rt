@@ -37,10 +37,11 @@ pub fn build_lr1_states<'grammar>(
         tables.items) }
     ensures no_tables { IfErr result (FailsOn ⊥ options.now.stop_after grammar.now start) }
 {
-    if let Some(tables) = tables_by_lanes(alloc, grammar, &start, options)? {
+    let (by_lanes, lr) = tables_by_lanes(alloc, grammar, start, options)?;
+    if let Some(tables) = by_lanes {
         return Ok(tables);
     }
-    build_canonical_states(alloc, grammar, start, options.stop_after)
+    build_canonical_states(alloc, grammar, lr, options.stop_after)
 }
 
 /// The LR(1) states of a grammar by their construction numbers, or how many canonical conflicts it
@@ -57,8 +58,9 @@ pub fn lr1_states_or_count<'grammar>(
     ensures answer { IfOk result (AreBuiltTablesOrCount options.now.method options.now.max_copies
         grammar.now start) }
 {
-    if let Some(tables) = tables_by_lanes(alloc, grammar, &start, options)? {
+    let (by_lanes, lr) = tables_by_lanes(alloc, grammar, start, options)?;
+    if let Some(tables) = by_lanes {
         return Ok(TablesOrCount::Tables(tables));
     }
-    canonical_states_or_count(alloc, grammar, start)
+    canonical_states_or_count(alloc, grammar, lr)
 }

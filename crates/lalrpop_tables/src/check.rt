@@ -25,17 +25,18 @@ use std::alloc::Global;
 fn hold_carried<'grammar>(
     alloc: Global,
     grammar: &'grammar Grammar,
+    first_sets: &FirstSets<'grammar>,
     start: &NonterminalString,
     states: &[Lr1State<'grammar>],
 ) -> Result<bool, OutOfMemory>
     requires well_formed { IsWellFormed grammar.now }
+    requires firsts { first_sets.now ≡ rules_of grammar.now }
     requires closed { AreClosed (productions grammar.now) start.now
         (contents grammar.now.terminals states.now) }
     ensures { IfOk result (λ yes. IsTrue yes ↔ HoldCarried grammar.now start.now states.now) }
 {
     let _terminals = grammar.terminals.all();
-    let first_sets = FirstSets::new(alloc, grammar)?;
-    let table = carried(alloc, grammar, &first_sets, start, states)?;
+    let table = carried(alloc, grammar, first_sets, start, states)?;
     let held = all_have_carried(alloc, &table, states)?;
     Ok(held)
 }
@@ -92,6 +93,6 @@ pub(crate) fn check_over<'grammar>(
     if !are_right_states(alloc, grammar, &start, &listed, &targets, states)? {
         return Ok(false);
     }
-    let held = hold_carried(alloc, grammar, &start, states)?;
+    let held = hold_carried(alloc, grammar, lr.first_sets(), &start, states)?;
     Ok(held)
 }

@@ -27,6 +27,7 @@ pub struct StateGraph {
 
 impl StateGraph {
     /// The graph of the states, numbered by their places.
+    #[tactic(auto, using(crate::proofs::theory::graphs::StateGraphs::empty_graph))]
     pub fn new<'grammar, L>(
         alloc: Global,
         states: &[State<'grammar, L>],
@@ -73,6 +74,7 @@ impl StateGraph {
     }
 
     // Adds an edge behind the others.
+    #[tactic(auto, using(crate::proofs::theory::graphs::StateGraphs::map_cond))]
     fn add_edge(
         &mut self,
         alloc: Global,

@@ -6,7 +6,8 @@ use Rattle.lalrpop_base.specs.Words.{Bits, Dotted, terminal_text, Rules}
 use Rattle.lalrpop_base.specs.declared.lr1_core.state.State.{State}
 use Rattle.lalrpop_base.specs.declared.lr1_core.state.StateIndex.{StateIndex}
 use Rattle.lalrpop_base.specs.declared.repr.TerminalString.{TerminalString}
-use Rattle.lrtab_run.specs.Explained.{HasParts, no_part, part, IsItemPart, IsShiftPart, items_at}
+use Rattle.lalrpop_lr1.specs.Words.{items_at}
+use Rattle.lrtab_run.specs.Explained.{HasParts, no_part, part, IsItemPart, IsShiftPart}
 use Rattle.lrtab_run.specs.Explaining.{Grows}
 
 module _ {X : Type 0} (IsPart : ℕ → X → List ℕ → Type 0) where

@@ -13,11 +13,11 @@ use Rattle.lalrpop_base.specs.declared.repr.NonterminalString.{NonterminalString
 use Rattle.lalrpop_base.specs.declared.repr.Production.{Production}
 use Rattle.lalrpop_base.specs.declared.repr.TerminalString.{TerminalString}
 use Rattle.lalrpop_base.specs.declared.repr.grammar.Grammar.{Grammar}
-use Rattle.lalrpop_base.proofs.theory.states.ContentsViews.{contains_at, contains_of_map, contains_map}
+use Rattle.lalrpop_base.proofs.theory.states.ContentsViews.{contains_of_map, contains_map}
 use Rattle.lalrpop_tables.specs.Words.{AreStatesOf, canonical_of, reductions_of, seen}
 use Rattle.lalrpop_base.proofs.theory.grammars.Grammars.{known_symbols}
-use Rattle.lalrpop_base.proofs.theory.lists.Members.{Contains-none, contains_head, contains_tail, contains-cons}
-use Rattle.lalrpop_lr1.proofs.theory.inlining.InlineMembers.{from_flat_map}
+use Rattle.lalrpop_base.proofs.theory.lists.Members.{Contains-none, contains_head, contains_tail, contains-cons, of_flat}
+use Rattle.lalrpop_base.proofs.theory.lists.Lists.{contains_place}
 use Rattle.lrtab_run.specs.Explaining.{AreOwnStates, IsOwnConflict}
 
 -- ---- what passes a filter was there
@@ -98,6 +98,6 @@ module _ (g : Grammar) (start : NonterminalString) (states : List (State Bits)) 
 
   pub own_conflicts : (conflicts : List (Conflict Bits)) → AreAllConflicts g.terminals states conflicts → (c : Conflict Bits) → Contains conflicts c → IsOwnConflict (productions g) c
   own_conflicts conflicts all c i =
-      let f = from_flat_map (state_conflicts g.terminals) states c (subst (λ (cs : List (Conflict Bits)). Contains cs c) all.all i) in
-      let at = contains_at states f.0 f.1 in
+      let f = of_flat (state_conflicts g.terminals) states c (subst (λ (cs : List (Conflict Bits)). Contains cs c) all.all i) in
+      let at = contains_place states f.0 f.1 in
       own_conflict (productions g) g.terminals f.0 (own_at at.0 f.0 at.1) c f.2

@@ -12,7 +12,7 @@ use Rattle.lalrpop_base.specs.declared.lr1_core.state.StateIndex.{StateIndex}
 use Rattle.lalrpop_base.specs.declared.repr.Production.{Production}
 use Rattle.lalrpop_base.specs.declared.repr.Symbol.TheVariants.{Terminal}
 use Rattle.lalrpop_base.specs.declared.repr.TerminalString.{TerminalString}
-use Rattle.lalrpop_lr1.specs.Words.{prefixes, following, spelled, item_node, paths, production_line, tokens_in, tokens_text, Graph, IsInOrder, IsTraceOf}
+use Rattle.lalrpop_lr1.specs.Words.{prefixes, following, spelled, item_node, items_at, paths, production_line, tokens_in, tokens_text, Graph, IsInOrder, IsTraceOf}
 use Rattle.lalrpop_lr1.specs.Words.{dotted, shift_traced, reduction_traced}
 use Rattle.lalrpop_lr1.specs.declared.trace.example.ExampleSymbol.{ExampleSymbol}
 use Rattle.lalrpop_lr1.specs.declared.trace.example.ExampleSymbol.TheVariants.{Symbol as SymbolOf, Epsilon}
@@ -52,11 +52,6 @@ pub data AreFirst (P : List ℕ → Type 0) : ℕ → List (List ℕ) → List (
 -- what follows the place of the example of a path can begin with a token of the lookahead
 abbrev pub GoesOnWith : Rules → Graph → Bits → List ℕ → Type 0
 GoesOnWith g graph lookahead path = (first : Bits) × IsFirstSet g (following graph path) first × (bit : ℕ) × IsTrue (has first bit) × IsTrue (has lookahead bit)
-
--- the items of a state, none where there is no state
-abbrev pub items_at : Option (State Bits) → List (Dotted Bits)
-items_at None = []
-items_at (Some state) = state.items.vec.items
 
 -- the texts of the parts of a list, one behind the other, where the first has the number n
 pub data HasParts {X : Type 0} (IsPart : ℕ → X → List ℕ → Type 0) : ℕ → List X → List ℕ → Type 0 where

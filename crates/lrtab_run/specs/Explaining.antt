@@ -1,12 +1,11 @@
 -- Under what conditions conflicts are explained, and how the text grows.
 use Rattle.std.specs.Prelude.{◌≡◌, ℕ, List, ◌++◌, Contains}
 use Rattle.lalrpop_base.specs.Words.{Bits, Dotted, Rules, HasKnownTerminals}
-use Rattle.lalrpop_base.specs.declared.lr1_core.state.Action.{Action}
-use Rattle.lalrpop_base.specs.declared.lr1_core.state.Action.TheVariants.{Shift, Reduce}
 use Rattle.lalrpop_base.specs.declared.lr1_core.state.Conflict.{Conflict}
 use Rattle.lalrpop_base.specs.declared.lr1_core.state.State.{State}
 use Rattle.lalrpop_base.specs.declared.lr1_core.state.StateIndex.{StateIndex}
 use Rattle.lalrpop_base.specs.declared.repr.Production.{Production}
+use Rattle.lalrpop_tables.specs.Words.{ReducesOwn}
 use Rattle.lalrpop_lr1.specs.Words.{StandsIn, Meets, to_come}
 use Rattle.lalrpop_lr1.specs.declared.trace.filtered.FilteredPathEnumerator.{FilteredPathEnumerator}
 use Rattle.lrtab_run.specs.Explained.{AreFirst, path_lines}
@@ -22,15 +21,10 @@ pub record AreOwnStates (g : Rules) (states : List (State Bits)) : Type 0 where
   pub known : (p : Production) → Contains g.productions p → HasKnownTerminals g.terminals p.symbols
   pub items : (n : StateIndex) (i : Dotted Bits) → StandsIn states n i → Contains g.productions i.production
 
--- a reduction is by one of the productions
-abbrev pub IsOwnAction : List Production → Action → Type 0
-IsOwnAction productions (Shift t target) = Unit {0}
-IsOwnAction productions (Reduce p) = Contains productions p.now
-
 -- the reductions of a conflict are by some of the productions
 pub record IsOwnConflict (productions : List Production) (c : Conflict Bits) : Type 0 where
   pub production : Contains productions c.production.now
-  pub action : IsOwnAction productions c.action
+  pub action : ReducesOwn productions c.action
 
 -- the lines of the first three paths to come that meet the lookahead of a walk
 pub record AreFirstLines (walk : FilteredPathEnumerator) (text : List ℕ) : Type 0 where

@@ -6,8 +6,9 @@ mod lines;
 ghost use Rattle.std.specs.Prelude.{◌≡◌, ◌↔◌, IfOk, OnOk, IsTrue, Some, Contains, slice_get, string_bytes};
 ghost use Rattle.lalrpop_base.specs.Words.{IsWellFormed, productions, rules_of, Bits};
 ghost use Rattle.lalrpop_base.specs.declared.lr1_core.state.Conflict.{Conflict};
+ghost use Rattle.lalrpop_tables.specs.Words.{ReducesOwn};
 ghost use Rattle.lrtab_run.specs.Explained.{IsReducePart, IsShiftPart, IsItemPart, IsActionPart, IsConflictPart, IsExplanation, HasParts};
-ghost use Rattle.lrtab_run.specs.Explaining.{Grows, AreOwnStates, IsOwnAction, IsOwnConflict};
+ghost use Rattle.lrtab_run.specs.Explaining.{Grows, AreOwnStates, IsOwnConflict};
 
 use self::examples::{push_first, push_meeting};
 use self::ground::{Ground, items_in};
@@ -98,7 +99,7 @@ fn push_action<'grammar>(
     conflict: &Lr1Conflict<'grammar>,
 ) -> Result<(), OutOfMemory>
     requires states { AreOwnStates ground.now.first_sets.now ground.now.states.now }
-    requires action { IsOwnAction ground.now.first_sets.now.productions conflict.now.action }
+    requires action { ReducesOwn ground.now.first_sets.now.productions conflict.now.action }
     ensures { OnOk result (Grows (IsActionPart ground.now.first_sets.now ground.now.states.now
         conflict.now.state conflict.now.lookahead conflict.now.action) (string_bytes text.old)
         (string_bytes text.new)) }

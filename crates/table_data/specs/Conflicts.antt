@@ -13,6 +13,7 @@ use Rattle.lalrpop_base.specs.declared.repr.Symbol.{Symbol}
 use Rattle.lalrpop_base.specs.declared.repr.Symbol.TheVariants.{Nonterminal, Terminal}
 use Rattle.lalrpop_base.specs.declared.repr.TerminalString.{TerminalString}
 use Rattle.lalrpop_base.specs.contracts.repr.TerminalStringPartialEq.TheImpl as terminal_eq
+use Rattle.lalrpop_lr1.specs.Words.{items_at}
 use Rattle.table_data.specs.declared.conflicts.ShownConflict.{ShownConflict}
 use Rattle.table_data.specs.declared.examples.ShownItem.{ShownItem}
 use Rattle.table_data.specs.Json.{array}
@@ -39,11 +40,6 @@ conflict_json terminals shown = codes "{\"state\":" ++ (decimal shown.conflict.n
     ++ (codes ",\"actions\":[" ++ (reduce_json shown.conflict.now.production.now shown.reduction.items ++ (codes "," ++ (action_json shown.conflict.now.action shown.other.items ++ codes "]}")))))))
 
 -- ---- what items are shown
--- the items of a state, none where there is no state
-abbrev pub items_at : Option (State Bits) → List (Dotted Bits)
-items_at None = []
-items_at (Some state) = state.items.vec.items
-
 -- whether a symbol that is there is the terminal
 abbrev pub is_terminal : TerminalString → Option Symbol → Bool
 is_terminal t None = false

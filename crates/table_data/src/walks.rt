@@ -1,6 +1,7 @@
 //! Examples of how the items of the actions of conflicts come about.
 ghost use Rattle.std.specs.Prelude.{◌≡◌, ◌++◌, Some, IfOk, OnOk, map, slice_get};
-ghost use Rattle.table_data.specs.Conflicts.{AreShown, IsShown, is_terminal, items_at, place_if, place_of_shown, places_of, reduced_places, shifted_places, shifts};
+ghost use Rattle.lalrpop_lr1.specs.Words.{items_at};
+ghost use Rattle.table_data.specs.Conflicts.{AreShown, IsShown, is_terminal, place_if, place_of_shown, places_of, reduced_places, shifted_places, shifts};
 
 use super::conflicts::ShownConflict;
 use super::examples::ShownItem;

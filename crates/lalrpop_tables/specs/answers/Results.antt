@@ -1,6 +1,7 @@
 -- What a construction answers: tables, or states with their conflicts.
 use Rattle.std.specs.Prelude.{◌≢◌, ℕ, ◌<◌, List, [], map, length}
 use Rattle.lalrpop_base.specs.Words.{Bits, no_bits, with_bit, AreCoherent, IfConflicts, Dotted, Rules, rules_of, productions_of}
+use Rattle.lalrpop_base.specs.declared.lookahead.nil.Nil.{Nil}
 use Rattle.lalrpop_base.specs.declared.lookahead.token.Token.{Token}
 use Rattle.lalrpop_base.specs.declared.lr1_core.state.BuildError.{BuildError}
 use Rattle.lalrpop_base.specs.declared.lr1_core.state.Conflict.{Conflict}
@@ -45,9 +46,17 @@ pub record AreTables (c : Construction Bits) (states : List (State Bits)) : Type
 abbrev pub FailsBy : Construction Bits → BuildError Bits → Type 0
 FailsBy c = IfConflicts (λ error. AreStatesOf c error.states.items × AreAllConflicts c.rules.terminals error.states.items error.conflicts.items)
 
--- the canonical construction for a start symbol, which Eof follows
+-- the construction for a start symbol, which the lookahead follows
+abbrev pub construction_of : {L : Type 0} → Grammar → NonterminalString → L → Construction L
+construction_of g start lookahead = record { rules = rules_of g; start = start; first = productions_of g start; lookahead = lookahead }
+
+-- the construction without lookahead
+abbrev pub lr0_of : Grammar → NonterminalString → Construction Nil
+lr0_of g start = construction_of g start (record {})
+
+-- the canonical construction, where Eof follows the start symbol
 abbrev pub canonical_of : Grammar → NonterminalString → Construction Bits
-canonical_of g start = record { rules = rules_of g; start = start; first = productions_of g start; lookahead = with_bit no_bits (length g.terminals) }
+canonical_of g start = construction_of g start (with_bit no_bits (length g.terminals))
 
 -- ---- any lookahead: what it stands for, what expanded items give, and the conflicts that it lists are parameters
 module _ {L : Type 0} (meaning : L → Bits) (begins : Rules → List Symbol → Token → Type 0) (passes : Rules → List Symbol → Type 0) (lists : State L → List TerminalString → List (Conflict L) → Type 0) where

@@ -6,7 +6,7 @@ use Rattle.std.specs.Borrow.{Bor}
 use Rattle.std.specs.List.{flat_map}
 use Rattle.std.specs.List.Sorted.{IsStrictlySortedBy}
 use Rattle.lalrpop_base.specs.Words.{Bits, has, AreClosed, AreChecked, AreCoherent, contents, Dotted, AreLr0, IsLaneToken, HoldLaneTokens}
-use Rattle.lalrpop_base.specs.Words.{state_conflicts, Contents, ReducesFinished, AreFaithful, IsBitOf, Action, Shift, Reduce, IsLALR1, Rules, IsWellFormed, rules_of}
+use Rattle.lalrpop_base.specs.Words.{state_conflicts, Contents, ReducesFinished, AreFaithful, IsBitOf, Action, Shift, Reduce, IsLALR1, Rules, IsWellFormed}
 use Rattle.lalrpop_base.specs.conflicts.StateConflicts.{HasNoConflict}
 use Rattle.lalrpop_base.specs.contracts.lr1_core.state.ActionOrd.TheImpl as action_ord
 use Rattle.lalrpop_base.specs.declared.lookahead.nil.Nil.{Nil}
@@ -21,6 +21,7 @@ use Rattle.lalrpop_base.specs.declared.repr.Production.{Production}
 use Rattle.lalrpop_base.specs.declared.repr.TerminalString.{TerminalString}
 use Rattle.lalrpop_base.specs.lanes.Contexts.{AreDisjoint, IsApplied}
 use Rattle.lalrpop_tables.specs.lane_tables.LaneTables.{InColumn, AreColumns}
+use Rattle.lalrpop_tables.specs.answers.Results.{lr0_of}
 use Rattle.lalrpop_tables.specs.lanes.LaneTraces.{places_in}
 use Rattle.lalrpop_base.specs.states.Lr0.{AreLr0States}
 use Rattle.lalrpop_base.specs.conflicts.AllConflicts.{HaveNoConflict}
@@ -200,8 +201,7 @@ pub record AreLalrLaneTables (g : Rules) (start : NonterminalString) (tables : L
 -- the grammar is well-formed, and LR(0) states are made of it and of the start symbol
 pub record IsReadyToConstruct (construct : LaneTableConstruct) : Type 0 where
   pub well_formed : IsWellFormed construct.grammar.now
-  pub rules : construct.lr.construction.rules ≡ rules_of construct.grammar.now
-  pub start : construct.lr.construction.start ≡ construct.start
+  pub over : construct.lr.construction ≡ lr0_of construct.grammar.now construct.start
 
 -- the columns of the table share no token, and the state's reductions took them
 pub record IsAttempted (actions : List CodeAction) (table : LaneTable) (old new : State Bits) : Type 0 where

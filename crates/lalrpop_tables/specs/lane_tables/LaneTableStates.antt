@@ -1,12 +1,8 @@
 -- The states of a lane table: those that are reached, and edges that are closed.
-use Rattle.std.specs.Prelude.{◌<◌, ◌⊎◌, ◌↔◌, ℕ, List, Contains}
+use Rattle.std.specs.Prelude.{◌<◌, ◌↔◌, ℕ, List, Contains}
 use Rattle.lalrpop_base.specs.declared.lr1_core.state.StateIndex.{StateIndex}
 use Rattle.lalrpop_tables.specs.lane_tables.LaneTables.{HasCell, HasRow, IsSuccessor}
 use Rattle.lalrpop_tables.specs.declared.lane_table.table.LaneTable.{LaneTable}
-
--- the keys were added, and no others
-abbrev pub AddsKeys : List StateIndex → List StateIndex → List StateIndex → Type 0
-AddsKeys added old new = (r : StateIndex) → Contains new r ↔ (Contains old r ⊎ Contains added r)
 
 -- the keys are the successors of all states
 abbrev pub AreReached : LaneTable → List StateIndex → Type 0

@@ -2,9 +2,10 @@
 ghost use Rattle.std.specs.Prelude.{◌≡◌, ◌<◌, length, true, IfOk, IfSome, IsSomeAnd, is_some};
 ghost use Rattle.lalrpop_base.specs.Words.{AreCoherent, contents, IsOnNoRightSide, AreFaithful, IsLALR1, IsWellFormed, productions, rules_of};
 ghost use Rattle.lalrpop_tables.specs.check.Check.{PassCheck};
-ghost use Rattle.lalrpop_tables.specs.lane_states.LaneStates.{AreLaneTables};
+ghost use Rattle.lalrpop_tables.specs.lane_states.LaneStates.{AreLaneTables, IsReadyToConstruct};
 ghost use Rattle.lalrpop_tables.specs.lane_states.Lr0Copies.{AreCopiedTables};
 ghost use Rattle.lalrpop_tables.specs.answers.Lr1Answers.{AreBuiltTablesOf};
+ghost use Rattle.lalrpop_tables.specs.answers.Results.{lr0_of};
 
 use super::options::{Method, Options};
 use crate::check::check_over;
@@ -19,76 +20,93 @@ use lalrpop_base::repr::grammar::Grammar;
 use std::alloc::Global;
 
 /// The tables of a grammar by the lane way, where the method asks for it, and there are lane tables
-/// that pass the check.
+/// that pass the check; and the construction without lookahead, for what is made in their place.
 pub fn tables_by_lanes<'grammar>(
     alloc: Global,
     grammar: &'grammar Grammar,
-    start: &NonterminalString,
+    start: NonterminalString,
     options: &Options,
-) -> Result<Option<Vec<Lr1State<'grammar>>>, OutOfMemory>
+) -> Result<(Option<Vec<Lr1State<'grammar>>>, Lr<'grammar, Nil>), OutOfMemory>
     requires { IsWellFormed grammar.now }
-    ensures tables { IfOk result (λ answer. IfSome answer (λ tables. AreBuiltTablesOf ⊥
-        options.now.method options.now.max_copies grammar.now start.now tables.items)) }
+    ensures tables { IfOk result (λ answer. IfSome answer.0 (λ tables. AreBuiltTablesOf ⊥
+        options.now.method options.now.max_copies grammar.now start tables.items)) }
     ensures lalr { options.now.method ≡ Method.Lane →
-        IsOnNoRightSide (productions grammar.now) start.now →
-        IsLALR1 (productions grammar.now) start.now →
+        IsOnNoRightSide (productions grammar.now) start →
+        IsLALR1 (productions grammar.now) start →
+        IfOk result (λ answer. is_some answer.0 ≡ true) }
+    ensures over { IfOk result (λ answer. answer.1.construction ≡ lr0_of grammar.now start) }
+{
+    let construct = LaneTableConstruct::new(alloc, grammar, start, options.max_copies)?;
+    let tables = lane_tables_by(alloc, &construct, options.method)?;
+    Ok((tables, construct.lr))
+}
+
+// The lane tables, where the method asks for them, and there are such that pass the check.
+fn lane_tables_by<'grammar>(
+    alloc: Global,
+    construct: &LaneTableConstruct<'grammar>,
+    method: Method,
+) -> Result<Option<Vec<Lr1State<'grammar>>>, OutOfMemory>
+    requires { IsReadyToConstruct construct.now }
+    ensures tables { IfOk result (λ answer. IfSome answer (λ tables. AreBuiltTablesOf ⊥ method
+        construct.now.max_copies construct.now.grammar.now construct.now.start tables.items)) }
+    ensures lalr { method ≡ Method.Lane →
+        IsOnNoRightSide (productions construct.now.grammar.now) construct.now.start →
+        IsLALR1 (productions construct.now.grammar.now) construct.now.start →
         IfOk result (λ answer. is_some answer ≡ true) }
 {
-    if options.method == Method::Lane {
-        return lane_tables(alloc, grammar, start, options.max_copies);
+    if method == Method::Lane {
+        return lane_tables(alloc, construct);
     }
     Ok(None)
 }
 
-// The lane tables of a grammar, where there are such and they pass the check. Those of an LALR(1)
-// grammar whose start symbol stands on no right side pass it, and are not checked.
+// The lane tables, where there are such and they pass the check. Those of an LALR(1) grammar whose
+// start symbol stands on no right side pass it, and are not checked.
 fn lane_tables<'grammar>(
     alloc: Global,
-    grammar: &'grammar Grammar,
-    start: &NonterminalString,
-    max_copies: usize,
+    construct: &LaneTableConstruct<'grammar>,
 ) -> Result<Option<Vec<Lr1State<'grammar>>>, OutOfMemory>
-    requires { IsWellFormed grammar.now }
-    ensures copied { IfOk result (λ answer. IfSome answer
-        (λ tables. AreCopiedTables (rules_of grammar.now) start.now max_copies tables.items)) }
+    requires ready { IsReadyToConstruct construct.now }
+    ensures copied { IfOk result
+        (λ answer. IfSome answer (λ tables. AreCopiedTables (rules_of construct.now.grammar.now)
+        construct.now.start construct.now.max_copies tables.items)) }
     ensures faithful { IfOk result (λ answer. IfSome answer (λ tables. AreFaithful
-        (productions grammar.now) start.now (contents grammar.now.terminals tables.items))) }
-    ensures lalr { IsOnNoRightSide (productions grammar.now) start.now →
-        IsLALR1 (productions grammar.now) start.now →
+        (productions construct.now.grammar.now) construct.now.start
+        (contents construct.now.grammar.now.terminals tables.items))) }
+    ensures lalr { IsOnNoRightSide (productions construct.now.grammar.now) construct.now.start →
+        IsLALR1 (productions construct.now.grammar.now) construct.now.start →
         IfOk result (λ answer. IsSomeAnd answer
-        (λ tables. AreLaneTables (rules_of grammar.now) start.now tables.items)) }
+        (λ tables. AreLaneTables (rules_of construct.now.grammar.now) construct.now.start
+        tables.items)) }
 {
-    let first = start.clone(alloc)?;
-    let construct = LaneTableConstruct::new(alloc, grammar, first, max_copies)?;
     let Some((tables, at_once)) = construct.construct_told(alloc)? else {
         return Ok(None);
     };
-    if at_once && is_on_no_right_side(grammar, start) {
+    if at_once && is_on_no_right_side(construct.grammar, &construct.start) {
         return Ok(Some(tables));
     }
-    where_checked(alloc, grammar, construct.lr(), start.clone(alloc)?, tables)
+    where_checked(alloc, construct, tables)
 }
 
 // The tables, where they pass the check, which takes numbers and first sets of the construction.
 fn where_checked<'grammar>(
     alloc: Global,
-    grammar: &'grammar Grammar,
-    lr: &Lr<'grammar, Nil>,
-    start: NonterminalString,
+    construct: &LaneTableConstruct<'grammar>,
     tables: Vec<Lr1State<'grammar>>,
 ) -> Result<Option<Vec<Lr1State<'grammar>>>, OutOfMemory>
-    requires well_formed { IsWellFormed grammar.now }
+    requires ready { IsReadyToConstruct construct.now }
     requires coherent { AreCoherent tables.items }
     requires some { 0 < length tables.items }
-    requires rules { lr.now.construction.rules ≡ rules_of grammar.now }
-    requires start { lr.now.construction.start ≡ start }
     ensures kept { IfOk result (λ answer. IfSome answer (λ kept. kept.items ≡ tables.entry.items)) }
     ensures faithful { IfOk result (λ answer. IfSome answer (λ kept. AreFaithful
-        (productions grammar.now) start (contents grammar.now.terminals kept.items))) }
-    ensures passing { PassCheck grammar.now start tables.entry.items →
+        (productions construct.now.grammar.now) construct.now.start
+        (contents construct.now.grammar.now.terminals kept.items))) }
+    ensures passing { PassCheck construct.now.grammar.now construct.now.start tables.entry.items →
         IfOk result (λ answer. is_some answer ≡ true) }
 {
-    if !check_over(alloc, grammar, lr, start, &tables)? {
+    let start = construct.start.clone(alloc)?;
+    if !check_over(alloc, construct.grammar, &construct.lr, start, &tables)? {
         return Ok(None);
     }
     Ok(Some(tables))

@@ -2,7 +2,7 @@
 ghost use Rattle.std.specs.Prelude.{◌≡◌, IfOk, IfErr};
 ghost use Rattle.lalrpop_base.specs.Words.{IsWellFormed};
 ghost use Rattle.lalrpop_tables.specs.answers.Lr1Answers.{AreBuiltTablesOf, FailsOn};
-ghost use Rattle.lalrpop_tables.specs.answers.Results.{canonical_of};
+ghost use Rattle.lalrpop_tables.specs.answers.Results.{canonical_of, lr0_of};
 ghost use Rattle.lalrpop_tables.specs.answers.TablesOrCount.{AreBuiltTablesOrCount};
 ghost use Rattle.lalrpop_tables.specs.declared.build.options.Method.TheVariants.{Canonical};
 
@@ -10,44 +10,44 @@ use super::lr::Lr;
 use super::results::tables_or_count;
 use super::states::all_states;
 use super::tables_or_count::TablesOrCount;
+use lalrpop_base::lookahead::nil::Nil;
 use lalrpop_base::lookahead::token_set::TokenSet;
 use lalrpop_base::lr1_core::state::Lr1Result;
 use lalrpop_base::memory::OutOfMemory;
-use lalrpop_base::repr::NonterminalString;
 use lalrpop_base::repr::grammar::Grammar;
 use std::alloc::Global;
 
 // The construction whose start symbol Eof follows.
-#[tactic(auto, using(crate::proofs::theory::states::Lookaheads::eof_fits))]
 fn canonical_construction<'grammar>(
     alloc: Global,
     grammar: &'grammar Grammar,
-    start: NonterminalString,
+    lr: Lr<'grammar, Nil>,
 ) -> Result<Lr<'grammar, TokenSet>, OutOfMemory>
-    requires { IsWellFormed grammar.now }
-    ensures { IfOk result (λ lr. lr ≡ record
-        { construction = canonical_of grammar.now start; stop_after = 0 }) }
+    requires { lr.construction ≡ lr0_of grammar.now lr.construction.start }
+    ensures { IfOk result (λ canonical. canonical.construction ≡ canonical_of grammar.now
+        lr.entry.construction.start) }
 {
-    let _terminals = grammar.terminals.all();
     let eof = TokenSet::eof(alloc, &grammar.terminals)?;
-    Lr::new(alloc, grammar, start, eof)
+    Ok(lr.with_lookahead(eof))
 }
 
-/// The canonical states of a grammar by their construction numbers, or their conflicts.
+/// The canonical states of a grammar by their construction numbers, or their conflicts, where its
+/// construction without lookahead is at hand.
 pub fn build_canonical_states<'grammar>(
     alloc: Global,
     grammar: &'grammar Grammar,
-    start: NonterminalString,
+    lr: Lr<'grammar, Nil>,
     stop_after: usize,
 ) -> Lr1Result<'grammar>
-    requires { IsWellFormed grammar.now }
-    ensures tables { IfOk result
-        (λ tables. AreBuiltTablesOf ⊥ Canonical 0 grammar.now start tables.items) }
-    ensures no_tables { IfErr result (FailsOn ⊥ stop_after grammar.now start) }
+    requires { lr.construction ≡ lr0_of grammar.now lr.construction.start }
+    ensures tables { IfOk result (λ tables. AreBuiltTablesOf ⊥ Canonical 0 grammar.now
+        lr.entry.construction.start tables.items) }
+    ensures no_tables { IfErr result
+        (FailsOn ⊥ stop_after grammar.now lr.entry.construction.start) }
 {
-    let mut lr = canonical_construction(alloc, grammar, start)?;
-    lr.set_stop_after(stop_after);
-    lr.build_lr1_states(alloc)
+    let mut canonical = canonical_construction(alloc, grammar, lr)?;
+    canonical.set_stop_after(stop_after);
+    canonical.build_lr1_states(alloc)
 }
 
 /// The canonical states of a grammar by their construction numbers, or how many conflicts they
@@ -55,14 +55,16 @@ pub fn build_canonical_states<'grammar>(
 pub fn canonical_states_or_count<'grammar>(
     alloc: Global,
     grammar: &'grammar Grammar,
-    start: NonterminalString,
+    lr: Lr<'grammar, Nil>,
 ) -> Result<TablesOrCount<'grammar>, OutOfMemory>
-    requires { IsWellFormed grammar.now }
-    ensures { IfOk result (AreBuiltTablesOrCount Canonical 0 grammar.now start) }
+    requires well_formed { IsWellFormed grammar.now }
+    requires over { lr.construction ≡ lr0_of grammar.now lr.construction.start }
+    ensures { IfOk result
+        (AreBuiltTablesOrCount Canonical 0 grammar.now lr.entry.construction.start) }
 {
     let _names = grammar.nonterminals.len();
     let _terminals = grammar.terminals.all();
-    let lr = canonical_construction(alloc, grammar, start)?;
-    let states = all_states(alloc, &lr)?;
+    let canonical = canonical_construction(alloc, grammar, lr)?;
+    let states = all_states(alloc, &canonical)?;
     tables_or_count(states, &grammar.terminals)
 }

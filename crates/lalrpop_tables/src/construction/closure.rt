@@ -119,6 +119,7 @@ fn share_fronts<'grammar, L: LookaheadBuild>(
 }
 
 // The tokens of a nonterminal, as a copy of its own.
+#[tactic(auto, using(lalrpop_base::proofs::theory::lists::Members::contains_map))]
 fn shared_tokens<L: Lookahead>(
     alloc: Global,
     shared: &SparseMap<L>,

@@ -98,6 +98,30 @@ impl<'grammar, L: Lookahead> Lr<'grammar, L> {
         })
     }
 
+    /// The same construction with another lookahead of the start symbol: first sets and numbers are
+    /// handed on.
+    pub(super) fn with_lookahead<M: Lookahead>(self, lookahead: M) -> Lr<'grammar, M>
+        requires { FitsTokens self.construction.rules.terminals (M.meaning lookahead) }
+        ensures { result ≡ record {
+          construction = record {
+            rules = self.entry.construction.rules;
+            start = self.entry.construction.start;
+            first = self.entry.construction.first;
+            lookahead = lookahead;
+          };
+          stop_after = self.entry.stop_after;
+        } }
+    {
+        Lr {
+            grammar: self.grammar,
+            start: self.start,
+            lookahead,
+            first_sets: self.first_sets,
+            numbers: self.numbers,
+            stop_after: self.stop_after,
+        }
+    }
+
     /// After how many conflicts to stop; 0 for no early stop.
     pub fn set_stop_after(&mut self, stop_after: usize)
         ensures { self.new ≡ record

@@ -50,6 +50,7 @@ pub fn tables_or_conflicts<'grammar, L: Lookahead>(
 
 /// The states, as tables where they have no conflict, else the number of their conflicts. A number
 /// above the greatest `usize` is answered as want of memory: no list of so many could be had.
+#[tactic(auto, using(std::proofs::lemmas::List::nil_from_length, crate::proofs::theory::conflicts::ConflictLists::free_states))]
 pub fn tables_or_count<'grammar>(
     states: Vec<Lr1State<'grammar>>,
     terminals: &TerminalSet,

@@ -29,9 +29,10 @@ use std::alloc::Global;
 /// A construction of lane tables for a start symbol of a grammar.
 #[derive(Drop)]
 pub struct LaneTableConstruct<'grammar> {
-    grammar: &'grammar Grammar,
-    lr: Lr<'grammar, Nil>,
-    start: NonterminalString,
+    pub(crate) grammar: &'grammar Grammar,
+    /// The construction of LR(0) states.
+    pub(crate) lr: Lr<'grammar, Nil>,
+    pub(crate) start: NonterminalString,
     max_copies: usize,
 }
 
@@ -84,13 +85,6 @@ impl<'grammar> LaneTableConstruct<'grammar> {
             return Ok(states);
         }
         Err(BuildError::Conflicts(TableConstructionError { states, conflicts }))
-    }
-
-    /// The construction of LR(0) states.
-    pub(crate) fn lr(&self) -> &Lr<'grammar, Nil>
-        ensures { result.now ≡ self.now.lr }
-    {
-        &self.lr
     }
 
     /// As `construct`, but no conflict is listed where there are no tables; and whether the states

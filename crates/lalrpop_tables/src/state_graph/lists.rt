@@ -16,6 +16,7 @@ pub(super) fn list_of<X>(lists: &[Vec<X>], number: usize) -> &[X]
 }
 
 /// Puts a value behind the others of a number. Numbers up to it that have no list yet get one.
+#[tactic(auto, using(crate::proofs::theory::graphs::StateGraphs::listed_more))]
 pub(super) fn push_at<X: Drop>(
     alloc: Global,
     lists: &mut Vec<Vec<X>>,

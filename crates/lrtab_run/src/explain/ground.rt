@@ -1,6 +1,6 @@
 //! What examples are made over.
 ghost use Rattle.std.specs.Prelude.{◌≡◌, slice_get};
-ghost use Rattle.lrtab_run.specs.Explained.{items_at};
+ghost use Rattle.lalrpop_lr1.specs.Words.{items_at};
 
 use lalrpop_base::first::FirstSets;
 use lalrpop_base::lr1_core::item::Lr1Item;

@@ -9,6 +9,12 @@ use Rattle.lalrpop_base.proofs.theory.states.RightStates.{edges_awaited, reducti
 use Rattle.lalrpop_base.proofs.theory.lists.Lists.{same_some}
 use Rattle.lalrpop_base.specs.conflicts.Conflicts.{HasNoConflict}
 
+module _ (g : List Production) (start : NonterminalString) where
+  -- each valid action is one of the LALR actions
+  pub action_lalr : (u : List Symbol) → IsLive g start u → (t : Token) (a : Action) → IsValidAction g start u t a → IsLalrAction g start u t a
+  action_lalr u live t (Shift x) v = v
+  action_lalr u live t (Reduce p) v = record { prefix = u; live = live; same = λ q d. (λ h. h, λ h. h); valid = v }
+
 module _ (g : List Production) (start : NonterminalString) (states : ℕ → Contents) (lr0 : AreLr0 g start states) where
   -- what a state then allows are exactly the LALR actions
   pub allows_lalr : HoldLalrTokens g start states → (u : List Symbol) (n : ℕ) → IsLive g start u → state_after states u ≡ Some n → HasRightItems g start u (states n) → (t : Token) (a : Action) → Allows (states n) t a ↔ IsLalrAction g start u t a
@@ -20,11 +26,6 @@ module _ (g : List Production) (start : NonterminalString) (states : ℕ → Con
         (f.0, f.1, f.2, (holds u n live at f.0 f.1 t).1 (subst (λ (q : Production). IsLalrToken g start u q (length q.symbols) t) (sym f.2) l)),
   )
 
-  -- each valid action is one of the LALR actions
-  pub action_lalr : (u : List Symbol) → IsLive g start u → (t : Token) (a : Action) → IsValidAction g start u t a → IsLalrAction g start u t a
-  action_lalr u live t (Shift x) v = v
-  action_lalr u live t (Reduce p) v = record { prefix = u; live = live; same = λ q d. (λ h. h, λ h. h); valid = v }
-
   -- so they are faithful where the grammar is LALR(1)
   pub lalr_faithful : HoldLalrTokens g start states → IsLALR1 g start → AreFaithful g start states
   lalr_faithful holds lalr u live =
@@ -35,7 +36,7 @@ module _ (g : List Production) (start : NonterminalString) (states : ℕ → Con
         after = s.after;
         right = record {
           contents = h;
-          every = λ t a v. (allows_lalr holds u s.number live s.after h t a).1 (action_lalr u live t a v);
+          every = λ t a v. (allows_lalr holds u s.number live s.after h t a).1 (action_lalr g start u live t a v);
           one = λ t stands a b j k. lalr u live t a b ((allows_lalr holds u s.number live s.after h t a).0 j) ((allows_lalr holds u s.number live s.after h t b).0 k);
         };
       }

@@ -15,9 +15,8 @@ use Rattle.lalrpop_base.specs.Words.{dots_in, AreFirstNumbers, AreMoved, number_
 use Rattle.lalrpop_base.specs.collapse.Collapsed.{LeadsTo}
 use Rattle.lalrpop_base.proofs.theory.collapse.MergedStates.{Agree, CanJoin, CanMerge}
 use Rattle.lalrpop_base.proofs.theory.renumbering.Moved.{Moved-length, Moved-at}
-use Rattle.lalrpop_base.proofs.theory.lists.Orders.{name_exact, terminal_exact}
+use Rattle.lalrpop_base.proofs.theory.lists.Orders.{name_exact, terminal_exact, is_equal}
 use Rattle.lalrpop_base.proofs.theory.lists.Places.{same_some, filled}
-use Rattle.lalrpop_base.proofs.theory.collapse.MergingReductions.{is_equal}
 
 length_map : {X Y : Type 0} (f : X → Y) (xs : List X) → length (map f xs) ≡ length xs
 length_map f [] = refl

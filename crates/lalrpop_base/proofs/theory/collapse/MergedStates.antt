@@ -1,11 +1,11 @@
 -- States placed by their numbers: each is the merge of those with its number.
-use Rattle.std.proofs.Common.{◌≡◌, ℕ, zero, suc, ◌+◌, ◌<◌, ◌≤◌, ◌⊎◌, inl, inr, List, [], ◌∷◌, ◌++◌, length, refl, sym, ap, ◌∙◌, subst, arith, Option, Some, None, Bool, true, false, ◌||◌, IsTrue, length-append}
+use Rattle.std.proofs.Common.{◌≡◌, ℕ, zero, suc, ◌+◌, ◌<◌, ◌≤◌, ◌⊎◌, inl, inr, List, [], ◌∷◌, ◌++◌, length, refl, sym, ap, ◌∙◌, subst, arith, Option, Some, None, true, ◌||◌, IsTrue, length-append}
 use Rattle.std.specs.Prelude.{◌↔◌, Contains, slice_get}
 use Rattle.std.specs.Borrow.{Bor}
 use Rattle.std.specs.BTreeMap.{BTreeMap, get}
 use Rattle.std.specs.Option.{option_or}
 use Rattle.std.specs.declared.cmp.Ordering.{Ordering}
-use Rattle.std.proofs.lemmas.Bool.{or_cases, cases_eq, cases_lt}
+use Rattle.std.proofs.lemmas.Bool.{or_cases, cases_eq, cases_lt, or_right}
 use Rattle.std.proofs.lemmas.List.Elements.{Contains-append_left, Contains-append_right, Contains-append_cases}
 use Rattle.std.proofs.lemmas.Option.{slice_get_within}
 use Rattle.lalrpop_base.specs.Words.{Bits, has, has-join, dots, Dotted, name_cmp, dots_in, HoldsAt, OfMember, joined_item, joined_items, IsJoined, IsPlacedAt, pushed, joined}
@@ -53,11 +53,7 @@ joined_other is [] k bit e h = cc
 joined_other [] (j ∷ js) k bit e h = cc
 joined_other (i ∷ is) (j ∷ js) zero bit e h =
     let other : has j.lookahead bit ≡ true = ap (λ (x : Dotted Bits). has x.lookahead bit) (same_some j h.0 h.1) ∙ h.2 in
-    (joined_item i j, refl, has-join i.lookahead j.lookahead bit ∙ ap (λ b. has i.lookahead bit || b) other ∙ or_true (has i.lookahead bit))
-  where
-    or_true : (b : Bool) → (b || true) ≡ true
-    or_true true = refl
-    or_true false = refl
+    (joined_item i j, refl, has-join i.lookahead j.lookahead bit ∙ ap (λ b. has i.lookahead bit || b) other ∙ or_right (has i.lookahead bit) true refl)
 joined_other (i ∷ is) (j ∷ js) (suc k) bit e h = joined_other is js k bit (ap tail_of e) h
   where
     tail_of : {X : Type 0} → List X → List X

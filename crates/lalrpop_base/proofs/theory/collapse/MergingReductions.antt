@@ -8,8 +8,8 @@ use Rattle.std.specs.List.Sorted.{IsStrictlySortedBy}
 use Rattle.std.specs.Map.{keys_of}
 use Rattle.std.specs.Ordering.{is_eq}
 use Rattle.std.specs.declared.cmp.Ordering.{Ordering}
-use Rattle.std.specs.declared.cmp.Ordering.TheVariants.{Less, Equal, Greater}
-use Rattle.std.proofs.lemmas.Bool.{cases_Bool, or_cases}
+use Rattle.std.specs.declared.cmp.Ordering.TheVariants.{Less}
+use Rattle.std.proofs.lemmas.Bool.{cases_Bool, or_cases, or_right}
 use Rattle.std.proofs.lemmas.List.Elements.{Contains-append_left, Contains-push, Contains-push_cases}
 use Rattle.std.proofs.lemmas.Map.Entries.{place_from_lookup, lookup_from_place}
 use Rattle.std.proofs.lemmas.Map.Keys.{IsDistinct-from_sorted}
@@ -23,6 +23,7 @@ use Rattle.lalrpop_base.specs.collapse.Merging.{tokens_at, AreListed}
 use Rattle.lalrpop_base.proofs.theory.grammars.AscendingItems.{production_total, production_exact}
 use Rattle.lalrpop_base.proofs.theory.lists.Members.{place}
 use Rattle.lalrpop_base.proofs.theory.lists.Places.{contains_at}
+use Rattle.lalrpop_base.proofs.theory.lists.Orders.{is_equal}
 
 abbrev Reduction : Type 0
 Reduction = Bits × Bor Production
@@ -32,11 +33,6 @@ Entry = Bor Production × Bits
 
 abbrev bor_order : Bor Production → Bor Production → Ordering
 bor_order a b = production_order a.now b.now
-
-pub is_equal : (o : Ordering) → is_eq o ≡ true → o ≡ Equal
-is_equal Less e = cc
-is_equal Equal e = refl
-is_equal Greater e = cc
 
 tied : (p q : Production) → is_eq (production_order p q) ≡ true → p ≡ q
 tied p q e = production_exact p q (is_equal (production_order p q) e)
@@ -106,17 +102,13 @@ module _ (given : List Reduction) (r : Reduction) where
       ],
       λ on. same bit ∙ elim (from_on p bit on) [
         | inl old ↦ ap (λ (b : Bool). b || has r.0 bit) ((a.1 bit).1 old)
-        | inr here ↦ ap (λ (b : Bool). has s bit || b) here.1 ∙ or_true (has s bit)
+        | inr here ↦ ap (λ (b : Bool). has s bit || b) here.1 ∙ or_right (has s bit) true refl
       ],
     ),
   )
     where
       same : (bit : ℕ) → has t bit ≡ (has s bit || has r.0 bit)
       same bit = ap (λ (x : Bits). has x bit) h ∙ has-join s r.0 bit
-
-      or_true : (b : Bool) → (b || true) ≡ true
-      or_true true = refl
-      or_true false = refl
 
   -- elsewhere
   other_at : (p : Production) → (r.1.now ≡ p → ⊥) → (o : Option Bits) → AreTokensOf p given o → AreTokensOf p more o

@@ -103,7 +103,7 @@ shift_more terminals state rs list new start whole before rest e is so_far grown
     ap (λ ys. ys ++ flat_map (shift_conflicts terminals state rs) rest) grown ∙ append_assoc list (shift_conflicts terminals state rs e) (flat_map (shift_conflicts terminals state rs) rest)
     ∙ ap (λ ys. list ++ ys) (sym (ap (λ ys. flat_map (shift_conflicts terminals state rs) ys) is)) ∙ so_far
 
-both_empty : {X : Type 0} (xs ys : List X) → xs ++ ys ≡ [] → (xs ≡ []) × (ys ≡ [])
+pub both_empty : {X : Type 0} (xs ys : List X) → xs ++ ys ≡ [] → (xs ≡ []) × (ys ≡ [])
 both_empty [] ys e = (refl, e)
 both_empty (x ∷ xs) ys e = cc
 

@@ -1,5 +1,5 @@
 -- A grammar is LR(1) exactly where no live prefix has a canonical conflict; a prefix has one list of them; and that is the list of the canonical state after it: from the orders of terminals and productions.
-use Rattle.std.proofs.Common.{◌≡◌, ◌↔◌, inl, inr, ℕ, Bool, true, false, List, [], sym, subst, refl, ap, ◌∙◌, Some}
+use Rattle.std.proofs.Common.{◌≡◌, ◌↔◌, inl, inr, ℕ, true, List, [], sym, subst, refl, ap, ◌∙◌, Some}
 use Rattle.std.specs.Prelude.{Contains, slice_get}
 use Rattle.std.specs.declared.cmp.Ordering.{Ordering}
 use Rattle.std.specs.declared.cmp.Ordering.TheVariants.{Less, Equal, Greater}
@@ -16,6 +16,7 @@ use Rattle.lalrpop_base.proofs.theory.closures.Valid.{action_live}
 use Rattle.lalrpop_base.proofs.theory.states.RightStates.{terminal_in}
 use Rattle.lalrpop_base.proofs.theory.lists.Ascending.{ascending_same}
 use Rattle.lalrpop_base.proofs.theory.closures.Canonical.{allows_valid}
+use Rattle.lalrpop_base.proofs.theory.sets.HeldTokens.{same_test}
 
 -- an answer that is Less
 abbrev IsLessAnswer : Ordering → Type 0
@@ -55,12 +56,6 @@ lr1_no_conflict order o g start lr u live p (Shift x) t h = subst IsReduce (lr u
 lr1_no_conflict order o g start lr u live p (Reduce q) t h =
     let less : IsLess order p p = ap (order p) (ap (production_of p) (lr u t (Reduce p) (Reduce q) h.1 h.2)) ∙ h.0 in
     less_asymmetric order o p p less less
-
--- tests that agree on what is true are one
-same_test : (a b : Bool) → (a ≡ true) ↔ (b ≡ true) → a ≡ b
-same_test true b h = sym (h.0 refl)
-same_test false true h = h.1 refl
-same_test false false h = refl
 
 -- of a conflict each production and each action is taken on a token
 taken : (before : Production → Production → Type 0) (takes : Token → Action → Type 0) (p : Production) (a : Action) (t : Token) → IsInConflict before takes p a t → takes t (Reduce p) × takes t a

@@ -6,11 +6,11 @@ use Rattle.lalrpop_base.specs.Words.{AllDiffer, Bits, has, HasToken}
 use Rattle.lalrpop_base.specs.conflicts.StateConflicts.{HasNoConflict, Reduction}
 use Rattle.lalrpop_base.specs.declared.lookahead.token.Token.TheVariants.{Terminal as TokenOf}
 use Rattle.lalrpop_base.proofs.Types.{State, StateIndex, TerminalString}
-use Rattle.lalrpop_base.proofs.theory.states.ContentsViews.{at_contains, contains_at}
 use Rattle.lalrpop_base.proofs.theory.sets.HeldTokens.{place_is, place_there}
 use Rattle.lalrpop_base.specs.conflicts.HeldShifts.{HoldsNoShift, IsHeldBit, ShareNoBit}
 use Rattle.lalrpop_base.proofs.theory.lists.Members.{contains-cons, place}
 use Rattle.lalrpop_base.proofs.theory.lists.Places.{push_cases, slice_get-longer, slice_get-push_at}
+use Rattle.lalrpop_base.proofs.theory.lists.Lists.{contains_place, place_contains}
 
 -- ---- reductions, one more
 -- none share no bit
@@ -25,7 +25,7 @@ share_none_more rs r before none i j bit p q l at there h k = elim (push_cases r
     | inr last ↦ absurd (let w = slice_get_within rs j q early in let e = last.0 in omega arith)
   ]
   | inr end ↦ elim (push_cases rs r i p at) [
-    | inl here ↦ none bit (p, at_contains rs i p here, h) (subst (λ (z : Reduction). has z.0 bit ≡ true) (sym end.1) k)
+    | inl here ↦ none bit (p, place_contains rs i p here, h) (subst (λ (z : Reduction). has z.0 bit ≡ true) (sym end.1) k)
     | inr last ↦ absurd (let d = end.0 in let e = last.0 in omega arith)
   ]
 ]
@@ -60,13 +60,13 @@ module _ (terminals : List TerminalString) (state : State Bits) where
     pub state_free : ShareNoBit state.reductions.items → HoldsNoShift terminals held state.shifts.entries → HasNoConflict terminals state
     state_free apart none = record {
       shifts = λ k j bit t target r at_k e at_j h.
-          none t target (at_contains state.shifts.entries k (t, target) at_k) (bit, place_there terminals t bit e, (of bit).1 (r, at_contains state.reductions.items j r at_j, h));
+          none t target (place_contains state.shifts.entries k (t, target) at_k) (bit, place_there terminals t bit e, (of bit).1 (r, place_contains state.reductions.items j r at_j, h));
       reductions = apart;
     }
 
     pub free_shifts : HasNoConflict terminals state → HoldsNoShift terminals held state.shifts.entries
     free_shifts free t target c some =
-        let k = contains_at state.shifts.entries (t, target) c in
+        let k = contains_place state.shifts.entries (t, target) c in
         let r = (of some.0).0 some.2 in
-        let j = contains_at state.reductions.items r.0 r.1 in
+        let j = contains_place state.reductions.items r.0 r.1 in
         free.shifts k.0 j.0 some.0 t target r.0 k.1 (place_is terminals differ t some.0 some.1) j.1 r.2

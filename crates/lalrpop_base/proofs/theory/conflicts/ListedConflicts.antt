@@ -22,7 +22,7 @@ use Rattle.lalrpop_base.proofs.Types.{Conflict, Production, State, StateIndex, T
 use Rattle.lalrpop_base.specs.declared.lookahead.token.Token.TheVariants.{Eof, Error, Terminal as TokenOf}
 use Rattle.lalrpop_base.specs.lists.Exact.{both}
 use Rattle.lalrpop_base.proofs.theory.conflicts.ConflictLemmas.{shared, share_some}
-use Rattle.lalrpop_base.proofs.theory.states.ContentsViews.{contains_of_map, contains_map, some_of_map, contains_at}
+use Rattle.lalrpop_base.proofs.theory.states.ContentsViews.{contains_of_map, contains_map, some_of_map}
 use Rattle.lalrpop_base.proofs.theory.sets.HeldTokens.{place_there, place_is}
 use Rattle.lalrpop_base.proofs.theory.lists.RisingLemmas.{filter_bits}
 use Rattle.lalrpop_base.proofs.theory.conflicts.ConflictLists.{conflict_list}
@@ -32,6 +32,7 @@ use Rattle.lalrpop_base.proofs.theory.lists.Orders.{terminal_order, terminal_exa
 use Rattle.lalrpop_base.proofs.theory.lists.Places.{same_some}
 use Rattle.lalrpop_base.proofs.theory.sets.BitSets.{one_bit, own_bit}
 use Rattle.lalrpop_base.proofs.theory.grammars.ItemTokens.{token_with}
+use Rattle.lalrpop_base.proofs.theory.lists.Lists.{contains_place}
 
 -- a reduction of the code: its tokens and its production
 abbrev pub CodeReduction : Type 0
@@ -56,7 +57,7 @@ module _ (shifts : BTreeMap TerminalString StateIndex) (ordered : IsOrdered term
   keys_shifted t = (
     λ c.
         let e = contains_of_map (λ (e : TerminalString × StateIndex). e.0) shifts.entries t c in
-        let at = contains_at shifts.entries e.0 e.1 in
+        let at = contains_place shifts.entries e.0 e.1 in
         let found : get terminal_order shifts e.0.0 ≡ Some e.0.1 = btree_map_get_place terminal_total shifts at.0 e.0.0 e.0.1 ordered at.1 in
         (number_of e.0.1, ap (option_map number_of) (subst (λ (u : TerminalString). get terminal_order shifts u ≡ Some e.0.1) e.2 found)),
     λ h.
@@ -128,7 +129,7 @@ module _ (terminals : List TerminalString) (differ : AllDiffer terminals) where
     shift_parts : (rs : List CodeReduction) (es : List (TerminalString × StateIndex)) → ((t : TerminalString) → Contains (keys_of es) t → Contains terminals t) → ShiftParts (map seen_reduction rs) (keys_of es) (view (flat_map (shift_conflicts terminals number rs) es))
     shift_parts rs [] known = no_shifts
     shift_parts rs ((t, target) ∷ es) known =
-        let place = contains_at terminals t (known t (contains_head t (keys_of es))) in
+        let place = contains_place terminals t (known t (contains_head t (keys_of es))) in
         let e : place_in terminals t ≡ Some place.0 = place_is terminals differ t place.0 place.1 in
         let part : ShiftPart t (map seen_reduction rs) (view (conflicts_on_place number t target rs (place_in terminals t))) =
         subst (λ (o : Option ℕ). ShiftPart t (map seen_reduction rs) (view (conflicts_on_place number t target rs o))) (sym e) (shift_part t target place.0 e rs) in

@@ -8,10 +8,11 @@ use Rattle.lalrpop_base.specs.Words.{Bits, has, share, shift_conflict, conflicts
 use Rattle.lalrpop_base.specs.Words.{state_conflicts, place_in, listed_of, StatesAscend}
 use Rattle.lalrpop_base.specs.declared.lr1_core.state.Action.TheVariants.{Shift}
 use Rattle.lalrpop_base.proofs.Types.{Conflict, State, StateIndex, TerminalString}
-use Rattle.lalrpop_base.proofs.theory.states.ContentsViews.{contains_of_map, at_contains}
+use Rattle.lalrpop_base.proofs.theory.states.ContentsViews.{contains_of_map}
 use Rattle.lalrpop_base.proofs.theory.conflicts.ConflictLists.{ordered-nil, ordered-append}
 use Rattle.lalrpop_base.proofs.theory.conflicts.ListedConflicts.{CodeReduction}
 use Rattle.lalrpop_base.proofs.theory.lists.Members.{Contains-none, contains_head, contains_tail}
+use Rattle.lalrpop_base.proofs.theory.lists.Lists.{place_contains}
 
 -- ---- filters that keep all, or nothing
 kept_all : {X : Type 0} (p : X → Bool) (xs : List X) → ((x : X) → Contains xs x → p x ≡ true) → filter p xs ≡ xs
@@ -116,7 +117,7 @@ module _ (terminals : List TerminalString) where
   pub Listed-ascend : (k : ℕ) (states : List (State Bits)) → AreNumberedFrom k states → StatesAscend (all_of states)
   Listed-ascend k [] h = ordered-nil _
   Listed-ascend k (x ∷ xs) h = ordered-append (λ (c d : Conflict Bits). c.state.0 ≤ d.state.0) (state_conflicts terminals x) (all_of xs)
-      (λ i j c d l at_i at_j. let e = own k x xs h c (at_contains (state_conflicts terminals x) i c at_i) in let f = own k x xs h d (at_contains (state_conflicts terminals x) j d at_j) in omega arith)
+      (λ i j c d l at_i at_j. let e = own k x xs h c (place_contains (state_conflicts terminals x) i c at_i) in let f = own k x xs h d (place_contains (state_conflicts terminals x) j d at_j) in omega arith)
       (Listed-ascend (suc k) xs (rest_numbered k x xs h))
       (λ c d i j. let e = own k x xs h c i in let f = from (suc k) xs (rest_numbered k x xs h) d j in omega arith)
 

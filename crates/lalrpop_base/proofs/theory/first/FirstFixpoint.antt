@@ -25,6 +25,7 @@ use Rattle.lalrpop_base.proofs.theory.first.FirstNames.{name_self}
 use Rattle.lalrpop_base.proofs.theory.first.FirstNumbers.{set_of-zip, place_same, by_number, by_name}
 use Rattle.lalrpop_base.proofs.theory.first.FirstTurns.{weight, Added-long, Added-without, Added-same, Added-kept, Added-there, Added-only, Added-more, Weight-small}
 use Rattle.lalrpop_base.proofs.theory.states.KernelLemmas.{contains_at}
+use Rattle.lalrpop_base.proofs.theory.lists.Lists.{same_some}
 
 -- ---- a table to which no production adds anything
 module _ (terminals : List TerminalString) (g : List Production) (table : Table) (known : (p : Production) → Contains g p → HasKnownTerminals terminals p.symbols) (right : IsRight terminals g table) (closed : IsClosed terminals g table) where
@@ -84,9 +85,6 @@ place_within : (entries : List (NonterminalString × NonterminalData)) (k : ℕ)
 place_within [] k e at = absurd cc
 place_within (x ∷ entries) zero e at = here (is_at (name_cmp e.0) x.0) (let same : x ≡ e = same_some at in ap (λ y. is_at (name_cmp e.0) (y).0) same ∙ name_self e.0)
   where
-    same_some : {X : Type 0} {x y : X} → Some x ≡ Some y → x ≡ y
-    same_some e = cc
-
     here : (b : Bool) → b ≡ true → cond b zero (suc (place (keys_of entries) e.0)) < suc (length (keys_of entries))
     here true t = omega arith
     here false t = absurd (false≢true t)
@@ -114,18 +112,12 @@ at_left : {X Y : Type 0} (R : X → Y → Type 0) (xs : List X) (ys : List Y) (k
 at_left R [] ys k x z at = absurd cc
 at_left R (a ∷ xs) [] k x z at = absurd z
 at_left R (a ∷ xs) (b ∷ ys) zero x z at = (b, refl, subst (λ w. R w b) (same_some at) z.0)
-  where
-    same_some : {X : Type 0} {x y : X} → Some x ≡ Some y → x ≡ y
-    same_some e = cc
 at_left R (a ∷ xs) (b ∷ ys) (suc k) x z at = at_left R xs ys k x z.1 at
 
 at_right : {X Y : Type 0} (R : X → Y → Type 0) (xs : List X) (ys : List Y) (k : ℕ) (y : Y) → AllZip R xs ys → slice_get ys k ≡ Some y → (x : X) × (slice_get xs k ≡ Some x) × R x y
 at_right R xs [] k y z at = absurd cc
 at_right R [] (b ∷ ys) k y z at = absurd z
 at_right R (a ∷ xs) (b ∷ ys) zero y z at = (a, refl, subst (λ w. R a w) (same_some at) z.0)
-  where
-    same_some : {X : Type 0} {x y : X} → Some x ≡ Some y → x ≡ y
-    same_some e = cc
 at_right R (a ∷ xs) (b ∷ ys) (suc k) y z at = at_right R xs ys k y z.1 at
 
 -- the bits of a numbered right side are those of terminals
@@ -238,9 +230,6 @@ module _ (terminals : List TerminalString) (g : List Production) (names : List N
             subst (λ (x : NumberedProduction). has (set_at new x.name) bit ≡ true) is (Added-there (length terminals) p t.grew old new t.added within bit was)
         | inr apart ↦ Added-kept (length terminals) p t.grew old new t.added within q.name bit (h.settled j q place (not_before j apart w) bit (given_before j q place w bit given))
       ]
-        where
-          same_some : {X : Type 0} {x y : X} → Some x ≡ Some y → x ≡ y
-          same_some e = cc
 
       -- the production by name
       source : (x : Production) × (slice_get g k ≡ Some x) × IsNumberedProduction terminals names x p

@@ -9,6 +9,7 @@ use Rattle.lalrpop_base.specs.declared.repr.Symbol.TheVariants.{Nonterminal, Ter
 use Rattle.lalrpop_base.specs.Words.{Bits, has, join, has-join, as_it_is, IsFirst, IsNullable, Rules, FitsTokens, IsFirstSet, IsFirstSetBefore, AreFirstSetsOf, Table, IsRight}
 use Rattle.lalrpop_base.specs.first.FirstTables.{Gives}
 use Rattle.lalrpop_base.proofs.theory.grammars.Forests.{nullable-cons, first-cons, first-nil, forest-terminal, derives_forest}
+use Rattle.lalrpop_base.proofs.theory.lists.Lists.{same_some}
 
 -- ---- what a right table gives is right
 -- Eof has no terminal's bit
@@ -43,9 +44,6 @@ Gives-first terminals g table right l bit t at h = elim (Gives-right terminals g
   | inl r ↦ absurd (at_end terminals bit t at r.0)
   | inr r ↦ let same : r.0 ≡ t = same_some (sym r.1 ∙ at) in subst (λ (u : TerminalString). IsFirst g l u) same r.2
 ]
-  where
-    same_some : {X : Type 0} {x y : X} → Some x ≡ Some y → x ≡ y
-    same_some e = cc
 
 pub Gives-nullable : (terminals : List TerminalString) (g : List Production) (table : Table) → IsRight terminals g table → (l : List Symbol) → Gives terminals table l (length terminals) → IsNullable g l
 Gives-nullable terminals g table right l h = elim (Gives-right terminals g table right l (length terminals) h) [

@@ -1,9 +1,8 @@
 -- Names as the keys of a table.
 use Rattle.std.proofs.Common.{◌≡◌, ℕ, zero, suc, List, [], ◌∷◌, ◌++◌, refl, ap, ◌∙◌, Option, Some, Bool, true, false, cond, unwrap_or, IsSome, is_some}
 use Rattle.std.specs.Prelude.{slice_get}
-use Rattle.std.specs.declared.cmp.Ordering.{Ordering}
-use Rattle.std.specs.declared.cmp.Ordering.TheVariants.{Less, Equal, Greater}
-use Rattle.std.specs.Ordering.{is_eq, ordering_reverse}
+use Rattle.std.specs.declared.cmp.Ordering.TheVariants.{Less, Greater}
+use Rattle.std.specs.Ordering.{ordering_reverse}
 use Rattle.std.specs.Cmp.{IsTotalOrder, IsEquivalence, eq_by_cmp_equiv}
 use Rattle.std.specs.Cmp.Lexicographic.{on_texts}
 use Rattle.std.specs.List.{AllByRecursion}
@@ -15,6 +14,7 @@ use Rattle.std.proofs.lemmas.Map.Lookups.{exact_bytes}
 use Rattle.std.proofs.lemmas.Map.Keys.{sorted_head, sorted_tail}
 use Rattle.lalrpop_base.proofs.Types.{NonterminalString}
 use Rattle.lalrpop_base.specs.Words.{name_cmp}
+use Rattle.lalrpop_base.proofs.theory.lists.Orders.{is_equal}
 
 pub name_total : IsTotalOrder name_cmp
 name_total = on_texts (λ (a : NonterminalString). a.text)
@@ -23,13 +23,8 @@ name_total = on_texts (λ (a : NonterminalString). a.text)
 abbrev made : List ℕ → NonterminalString
 made t = record { text = t }
 
-tied : (o : Ordering) → is_eq o ≡ true → o ≡ Equal
-tied Less e = cc
-tied Equal e = refl
-tied Greater e = cc
-
 pub name_same : (a b : NonterminalString) → is_at (name_cmp a) b ≡ true → a ≡ b
-name_same a b e = ap made (exact_bytes a.text b.text (tied (name_cmp a b) e))
+name_same a b e = ap made (exact_bytes a.text b.text (is_equal (name_cmp a b) e))
 
 pub name_self : (a : NonterminalString) → is_at (name_cmp a) a ≡ true
 name_self a = IsEquivalence.refl (eq_by_cmp_equiv name_total) a

@@ -14,6 +14,7 @@ use Rattle.lalrpop_base.specs.Words.{Bits, has, no_bits, name_cmp, Table, set_of
 use Rattle.lalrpop_base.specs.first.FirstTables.{Gives}
 use Rattle.lalrpop_base.specs.first.FirstNumbers.{place, numbers_from, IsNumberedSymbol, GivesByNumber, set_at}
 use Rattle.lalrpop_base.proofs.theory.first.FirstNames.{name_same, copied, insert_last}
+use Rattle.lalrpop_base.proofs.theory.lists.Lists.{same_some}
 
 -- ---- the map of the numbers
 keys_numbered : (n : ℕ) (names : List NonterminalString) → keys_of (numbers_from n names) ≡ names
@@ -129,9 +130,6 @@ module _ {X Y : Type 0} (R : X → Y → Type 0) where
 -- the bit of a terminal
 pub Bit-numbered : (terminals : List TerminalString) (names : List NonterminalString) (x : Symbol) (n : NumberedSymbol) (t : TerminalString) (b : ℕ) (found : Option ℕ) → x ≡ Terminal t → n ≡ Bit b → found ≡ Some b → slice_get terminals b ≡ Some t → ((bit : ℕ) → slice_get terminals bit ≡ Some t → found ≡ Some bit) → IsNumberedSymbol terminals names x n
 Bit-numbered terminals names x n t b found e f is at only = rw (e, f) (λ bit. (λ g. same_some (sym (only bit g) ∙ is), λ same. ap (slice_get terminals) same ∙ at))
-  where
-    same_some : {X : Type 0} {x y : X} → Some x ≡ Some y → x ≡ y
-    same_some e = cc
 
 -- the number of a name
 pub Name-numbered : (terminals : List TerminalString) (names : List NonterminalString) (x : Symbol) (n : NumberedSymbol) (a : NonterminalString) (k : ℕ) → x ≡ Nonterminal a → n ≡ Name k → k ≡ place names a → IsNumberedSymbol terminals names x n

@@ -10,12 +10,9 @@ use Rattle.lalrpop_base.specs.declared.first.numbered.NumberedSymbol.TheVariants
 use Rattle.lalrpop_base.specs.Words.{Bits, has, no_bits, with_bit, join, has-no_bits, has-with_bit, has-join, Table, set_of, IsSetJoined}
 use Rattle.lalrpop_base.specs.first.FirstTables.{Gives}
 use Rattle.lalrpop_base.specs.first.FirstNumbers.{GivesByNumber, set_at}
+use Rattle.lalrpop_base.proofs.theory.lists.Queues.{or_false}
 
 -- ---- one set
-or_false : (a : Bool) → (a || false) ≡ a
-or_false true = refl
-or_false false = refl
-
 end_is_out : (old : Bits) (n bit : ℕ) → has old n ≡ false → has old bit ≡ (has old bit && not (bit == n))
 end_is_out old n bit out = elim (cases_Bool (bit == n)) [
   | inl t ↦ ap (λ b. has old b) (eqb-true bit n t) ∙ out ∙ sym (ap (λ b. b && not (bit == n)) (ap (λ b. has old b) (eqb-true bit n t) ∙ out))

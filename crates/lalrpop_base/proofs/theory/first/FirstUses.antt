@@ -1,5 +1,5 @@
 -- How the uses of names are collected.
-use Rattle.std.proofs.Common.{◌≡◌, ℕ, zero, suc, ◌+◌, ◌<◌, inl, inr, List, [], ◌∷◌, ◌++◌, length, sym, ap, subst, ◌∙◌, arith, Some, get_or, take, length-append, length-take-le}
+use Rattle.std.proofs.Common.{◌≡◌, ℕ, zero, suc, ◌+◌, ◌<◌, inl, inr, List, [], ◌∷◌, ◌++◌, length, sym, ap, subst, ◌∙◌, arith, get_or, take, length-append, length-take-le}
 use Rattle.std.specs.Prelude.{slice_get, Contains}
 use Rattle.std.proofs.lemmas.Bool.{cases_lt}
 use Rattle.std.proofs.lemmas.List.{take_more}
@@ -10,6 +10,7 @@ use Rattle.lalrpop_base.specs.declared.first.numbered.NumberedSymbol.TheVariants
 use Rattle.lalrpop_base.specs.declared.first.numbered.NumberedProduction.{NumberedProduction}
 use Rattle.lalrpop_base.specs.Words.{AddsUses, AreUses, uses_at}
 use Rattle.lalrpop_base.proofs.theory.states.KernelLemmas.{slice_get-push_before, slice_get-push_at}
+use Rattle.lalrpop_base.proofs.theory.lists.Lists.{same_some}
 
 pub only_one : {X : Type 0} (x y : X) → Contains (x ∷ []) y → x ≡ y
 only_one x y h = at h.0 h.1 h.2
@@ -46,9 +47,6 @@ Uses-more ps p number old new is u a = record {
     | inr l ↦ let before : k < length ps = u.within n k l in omega arith
   ];
 }
-  where
-    same_some : {X : Type 0} {x y : X} → Some x ≡ Some y → x ≡ y
-    same_some e = cc
 
 -- ---- in the order of a list
 pub Adds-more : (number : ℕ) (symbols : List NumberedSymbol) (i : ℕ) (x : NumberedSymbol) (old mid new : List (List ℕ)) → i < length symbols → x ≡ get_or symbols i x → AddsUses number (take i symbols) old mid → AddsUses number (x ∷ []) mid new → AddsUses number (take (i + 1) symbols) old new

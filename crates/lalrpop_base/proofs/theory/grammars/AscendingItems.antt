@@ -48,7 +48,7 @@ module _ {L : Type 0} where
 abbrev key_order : Dotted Nil → Dotted Nil → Ordering
 key_order = then_cmp (on (λ (i : Dotted Nil). i.production) production_order) (then_cmp (on (λ (i : Dotted Nil). i.index) nat_cmp) (on (λ (i : Dotted Nil). i.lookahead) nil_ord.ghosts.cmp))
 
-less_number_at : (m n : ℕ) (b c : Bool) → nat_lt m n ≡ b → cond b Less (cond c Equal Greater) ≡ Less → m < n
+pub less_number_at : (m n : ℕ) (b c : Bool) → nat_lt m n ≡ b → cond b Less (cond c Equal Greater) ≡ Less → m < n
 less_number_at m n true c e h = ltb-true m n e
 less_number_at m n false true e h = cc
 less_number_at m n false false e h = cc

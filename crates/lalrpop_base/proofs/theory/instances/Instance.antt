@@ -1,5 +1,5 @@
 -- The grammar S = "x" and its two states meet the definitions: they pass the check, so they are faithful: by cases on what is listed.
-use Rattle.std.proofs.Common.{◌≡◌, ◌↔◌, ℕ, zero, suc, Bool, true, false, cond, List, [], ◌∷◌, drop, sym, subst, refl, ap, ◌∙◌, length, Option, Some, None, arith, inl, inr, ◌<◌}
+use Rattle.std.proofs.Common.{◌≡◌, ◌↔◌, ℕ, zero, suc, Bool, true, false, cond, List, [], ◌∷◌, drop, sym, subst, refl, ap, ◌∙◌, length, Option, Some, None, arith, ◌<◌}
 use Rattle.std.specs.Prelude.{Contains, slice_get, eqb}
 use Rattle.std.proofs.lemmas.Bool.{eqb-true}
 use mathlib.Core.List.{head-eq_of_cons-eq, nil≢cons}
@@ -7,12 +7,14 @@ use Rattle.lalrpop_base.proofs.Types.{NonterminalString, Production, Symbol, Ter
 use Rattle.lalrpop_base.specs.declared.repr.Symbol.TheVariants.{Nonterminal, Terminal}
 use Rattle.lalrpop_base.specs.declared.repr.TerminalString.TheVariants.{Literal, Bare, Error}
 use Rattle.lalrpop_base.specs.declared.lookahead.token.Token.TheVariants.{Eof, Terminal as TokenOf, Error as ErrorToken}
-use Rattle.lalrpop_base.specs.Words.{IsOnNoRightSide, Contents, leads, IsBehindDot, LeadsOverDots, HasNoRepeat, ReducesFinished, AreFaithful, InClosure}
+use Rattle.lalrpop_base.specs.Words.{IsOnNoRightSide, Contents, leads, IsBehindDot, LeadsOverDots, ReducesFinished, AreFaithful, InClosure}
 use Rattle.lalrpop_base.specs.Words.{in_kernel, expanded, IsAtStart, IsMoved, items_of, AreClosed, IsCarried, eof_at_start, over, first_of_rest, through_rest, AreChecked}
 use Rattle.lalrpop_base.specs.states.States.{Reduction}
 use Rattle.lalrpop_base.specs.conflicts.Conflicts.{HasNoConflict}
-use Rattle.lalrpop_base.proofs.theory.lists.Lists.{not_both, contains-nil, contains-cons, contains_head, some≢none, same_some}
+use Rattle.lalrpop_base.proofs.theory.lists.Lists.{not_both, contains-nil, contains_head, some≢none, same_some}
 use Rattle.lalrpop_base.proofs.theory.closures.Closures.{checked_faithful}
+use Rattle.lalrpop_base.proofs.theory.instances.Rows.{one_repeats}
+use Rattle.lalrpop_base.proofs.theory.first.FirstUses.{only_one}
 
 -- the names, the production and the grammar
 abbrev pub S : NonterminalString
@@ -67,10 +69,6 @@ only_x (Literal (c ∷ d ∷ w)) m e = absurd (some≢none (sym e))
 only_x (Bare w) m e = absurd (some≢none (sym e))
 only_x Error m e = absurd (some≢none (sym e))
 
--- a list of one element has that element alone
-pub one_of : {A : Type 0} (y z : A) → Contains (y ∷ []) z → y ≡ z
-one_of y z c = elim (contains-cons y [] z c) [ inl e ↦ e | inr k ↦ absurd (contains-nil k) ]
-
 -- only the edge by x from state 0 to state 1 is there
 pub leads_is : (n m : ℕ) (y : Symbol) → leads (states n) y ≡ Some m → (0 ≡ n) × (Terminal x ≡ y) × (1 ≡ m)
 leads_is zero m (Nonterminal a) e = absurd (some≢none (sym e))
@@ -86,13 +84,13 @@ behind_of z = drop z.1 (z.0).symbols
 
 -- the closure of the start holds the start alone
 only_first : {p : Production} {dot : ℕ} → InClosure g (IsAtStart g S) p dot → ◌≡◌ {A = Production × ℕ} (P, 0) (p, dot)
-only_first (in_kernel k) = λ i. (one_of P _ k.1 i, sym k.0 i)
+only_first (in_kernel k) = λ i. (only_one P _ k.1 i, sym k.0 i)
 only_first (expanded q after c e h) = absurd (not_both (sym (head-eq_of_cons-eq (ap behind_of (only_first c) ∙ e))))
 
 -- and what is moved over a symbol from state 0 has nothing behind it
 only_moved : (y : Symbol) {p : Production} {dot : ℕ} → InClosure g (IsMoved (items_of states 0) y) p dot → ◌≡◌ {A = Production × ℕ} (P, 1) (p, dot)
 only_moved y {p} (in_kernel k) =
-    let e = one_of (P, 0) (p, k.before) k.item in
+    let e = only_one (P, 0) (p, k.before) k.item in
     (λ i. ((e i).0, suc (e i).1)) ∙ (λ i. (p, sym k.moved i))
 only_moved y (expanded q after c e h) = absurd (nil≢cons (ap behind_of (only_moved y c) ∙ e))
 
@@ -105,16 +103,16 @@ edges n y = (λ h. to n h.0 (leads_is n h.0 y h.1), from n)
 
     from : (n : ℕ) → IsBehindDot (states n) y → (m : ℕ) × (leads (states n) y ≡ Some m)
     from zero b =
-        let e : Terminal x ≡ y = head-eq_of_cons-eq (ap behind_of (one_of (P, 0) (b.production, b.dot) b.item) ∙ b.behind) in
+        let e : Terminal x ≡ y = head-eq_of_cons-eq (ap behind_of (only_one (P, 0) (b.production, b.dot) b.item) ∙ b.behind) in
         (1, ap (leads (states 0)) (sym e))
-    from (suc zero) b = absurd (nil≢cons (ap behind_of (one_of (P, 1) (b.production, b.dot) b.item) ∙ b.behind))
+    from (suc zero) b = absurd (nil≢cons (ap behind_of (only_one (P, 1) (b.production, b.dot) b.item) ∙ b.behind))
     from (suc (suc n)) b = absurd (contains-nil b.item)
 
 -- the states are closed
 pub closed : AreClosed g S states
 closed = record {
   first = λ p dot. (
-    λ c. subst (λ (z : Production × ℕ). InClosure g (IsAtStart g S) z.0 z.1) (one_of (P, 0) (p, dot) c) (in_kernel (refl, contains_head P [], refl)),
+    λ c. subst (λ (z : Production × ℕ). InClosure g (IsAtStart g S) z.0 z.1) (only_one (P, 0) (p, dot) c) (in_kernel (refl, contains_head P [], refl)),
     λ k. subst (λ z. Contains ((P, 0) ∷ []) z) (only_first k) (contains_head (P, 0) []),
   );
   next = λ n m y e. let l = leads_is n m y e in next n m y l.0 l.1 l.2;
@@ -123,7 +121,7 @@ closed = record {
   where
     moved : (y : Symbol) → Terminal x ≡ y → (p : Production) (dot : ℕ) → items_of states 1 p dot ↔ InClosure g (IsMoved (items_of states 0) y) p dot
     moved y e p dot = (
-      λ c. subst (λ (z : Production × ℕ). InClosure g (IsMoved (items_of states 0) y) z.0 z.1) (one_of (P, 1) (p, dot) c)
+      λ c. subst (λ (z : Production × ℕ). InClosure g (IsMoved (items_of states 0) y) z.0 z.1) (only_one (P, 1) (p, dot) c)
           (in_kernel (record { before = 0; after = []; moved = refl; item = contains_head (P, 0) []; behind = ap (λ z. z ∷ []) e })),
       λ k. subst (λ z. Contains ((P, 1) ∷ []) z) (only_moved y k) (contains_head (P, 1) []),
     )
@@ -133,7 +131,7 @@ closed = record {
 
 -- the start symbol stands on no right side
 pub alone : IsOnNoRightSide g S
-alone p h c = not_both (sym (one_of (Terminal x) (Nonterminal S) (subst (λ (q : Production). Contains q.symbols (Nonterminal S)) (sym (one_of P p h)) c)))
+alone p h c = not_both (sym (only_one (Terminal x) (Nonterminal S) (subst (λ (q : Production). Contains q.symbols (Nonterminal S)) (sym (only_one P p h)) c)))
 
 -- the dot of the production stands at its end in state 1 alone
 whole_dot : (p : Production) → ◌≡◌ {A = Production × ℕ} (P, 0) (p, length p.symbols) → ⊥
@@ -142,22 +140,17 @@ whole_dot p e =
     let b : 1 ≡ length p.symbols = ap (λ (z : Production × ℕ). length (z.0).symbols) e in
     omega (arith, a, b)
 
--- no two of at most one reduction are by one production
-no_repeat : (r : Reduction) → HasNoRepeat (r ∷ [])
-no_repeat r i zero a b l e f k = omega (arith, l)
-no_repeat r i (suc j) a b l e f k = some≢none (sym f)
-
 -- each state's reductions are its finished dotted productions
 pub reductions : (n : ℕ) → ReducesFinished (states n)
-reductions zero = record { finished = λ p. (λ h. absurd (contains-nil h.1), λ c. absurd (whole_dot p (one_of (P, 0) (p, length p.symbols) c))); once = λ i j a b l e f k. some≢none (sym e) }
+reductions zero = record { finished = λ p. (λ h. absurd (contains-nil h.1), λ c. absurd (whole_dot p (only_one (P, 0) (p, length p.symbols) c))); once = λ i j a b l e f k. some≢none (sym e) }
 reductions (suc zero) = record {
   finished = λ p. (
     λ h.
-        let e : P ≡ p = ap (λ (r : Reduction). r.production) (one_of reduction h.0 h.1) ∙ h.2 in
+        let e : P ≡ p = ap (λ (r : Reduction). r.production) (only_one reduction h.0 h.1) ∙ h.2 in
         subst (λ (q : Production). Contains {X = Production × ℕ} ((P, 1) ∷ []) (q, length q.symbols)) e (contains_head (P, 1) []),
-    λ c. (reduction, contains_head reduction [], ap (λ (z : Production × ℕ). z.0) (one_of (P, 1) (p, length p.symbols) c)),
+    λ c. (reduction, contains_head reduction [], ap (λ (z : Production × ℕ). z.0) (only_one (P, 1) (p, length p.symbols) c)),
   );
-  once = no_repeat reduction;
+  once = one_repeats reduction;
 }
 reductions (suc (suc n)) = record { finished = λ p. (λ h. absurd (contains-nil h.1), λ c. absurd (contains-nil c)); once = λ i j a b l e f k. some≢none (sym e) }
 
@@ -172,13 +165,13 @@ no_nonterminal p dot a after e k = go dot (ap (λ (q : Production). drop dot q.s
 
 -- each item is of the production
 item_production : (n : ℕ) (p : Production) (dot : ℕ) → items_of states n p dot → P ≡ p
-item_production zero p dot c = ap (λ (z : Production × ℕ). z.0) (one_of (P, 0) (p, dot) c)
-item_production (suc zero) p dot c = ap (λ (z : Production × ℕ). z.0) (one_of (P, 1) (p, dot) c)
+item_production zero p dot c = ap (λ (z : Production × ℕ). z.0) (only_one (P, 0) (p, dot) c)
+item_production (suc zero) p dot c = ap (λ (z : Production × ℕ). z.0) (only_one (P, 1) (p, dot) c)
 item_production (suc (suc n)) p dot c = absurd (contains-nil c)
 
 -- only Eof is carried
 only_eof : {n : ℕ} {p : Production} {dot : ℕ} {t : Token} → IsCarried g S states n p dot t → (P ≡ p) × (Eof ≡ t)
-only_eof (eof_at_start p h e) = (one_of P p h, refl)
+only_eof (eof_at_start p h e) = (only_one P p h, refl)
 only_eof (over m y after c e k) = only_eof c
 only_eof (first_of_rest {n} {p} {dot} q after reached i k h f) = absurd (no_nonterminal p dot q.nonterminal after (item_production n p dot i) k)
 only_eof (through_rest {p = p} {dot = dot} q after c k h n) = absurd (no_nonterminal p dot q.nonterminal after (only_eof c).0 k)
@@ -199,7 +192,7 @@ checked = record { closed = closed; reductions = reductions; carried = carried; 
   where
     carried : (n : ℕ) (r : Reduction) (t : Token) → Contains (states n).reductions r → IsCarried g S states n r.production (length (r.production).symbols) t → r.holds t ≡ true
     carried zero r t h c = absurd (contains-nil h)
-    carried (suc zero) r t h c = ap (λ s. r.holds s) (sym (only_eof c).1) ∙ ap (λ (q : Reduction). q.holds Eof) (sym (one_of reduction r h))
+    carried (suc zero) r t h c = ap (λ s. r.holds s) (sym (only_eof c).1) ∙ ap (λ (q : Reduction). q.holds Eof) (sym (only_one reduction r h))
     carried (suc (suc n)) r t h c = absurd (contains-nil h)
 
 -- so they are faithful

@@ -17,7 +17,8 @@ use Rattle.lalrpop_base.proofs.theory.closures.Closures.{items_valid}
 use Rattle.lalrpop_base.proofs.theory.states.Lr0.{closed_lr0}
 use Rattle.lalrpop_base.proofs.theory.lanes.Lanes.{lane_tokens}
 use Rattle.lalrpop_base.proofs.theory.collapse.LalrStates.{faithful_lalr}
-use Rattle.lalrpop_base.proofs.theory.instances.Instance.{S, x, P, g, is_x, at_eof, reduction, states, one_of, leads_is, closed, alone, reductions, no_nonterminal, faithful}
+use Rattle.lalrpop_base.proofs.theory.instances.Instance.{S, x, P, g, is_x, at_eof, reduction, states, leads_is, closed, alone, reductions, no_nonterminal, faithful}
+use Rattle.lalrpop_base.proofs.theory.first.FirstUses.{only_one}
 
 -- both of two tests
 abbrev pub both : Bool → Bool → Bool
@@ -107,14 +108,14 @@ along Q k p dot t e h = subst (λ s. Q p dot s) e.2 (subst (λ d. Q p d Eof) e.1
 
 -- what the token closure of state 0 holds
 first_token : {p : Production} {dot : ℕ} {t : Token} → InTokenClosure g (items_of states 0) (IsAtStartWith g S) p dot t → (P ≡ p) × (0 ≡ dot) × (Eof ≡ t)
-first_token (with_token k) = (one_of P _ k.0.1, sym k.0.0, sym k.1)
-first_token (begins_rest {p} {dot} q after i e h f) = absurd (no_nonterminal p dot q.nonterminal after (ap (λ (z : Production × ℕ). z.0) (one_of (P, 0) (p, dot) i)) e)
+first_token (with_token k) = (only_one P _ k.0.1, sym k.0.0, sym k.1)
+first_token (begins_rest {p} {dot} q after i e h f) = absurd (no_nonterminal p dot q.nonterminal after (ap (λ (z : Production × ℕ). z.0) (only_one (P, 0) (p, dot) i)) e)
 first_token (inherits {p} {dot} q after c e h n) = absurd (no_nonterminal p dot q.nonterminal after (first_token c).0 e)
 
 -- and that of state 1
 moved_token : (y : Symbol) {p : Production} {dot : ℕ} {t : Token} → InTokenClosure g (items_of states 1) (IsMovedWith (λ q d s. tokens 0 q d s ≡ true) y) p dot t → (P ≡ p) × (1 ≡ dot) × (Eof ≡ t)
 moved_token y {p} {dot} {t} (with_token k) = let e = token_is 0 p k.before t k.token in (e.0, ap suc e.1 ∙ sym k.moved, e.2)
-moved_token y (begins_rest {p} {dot} q after i e h f) = absurd (no_nonterminal p dot q.nonterminal after (ap (λ (z : Production × ℕ). z.0) (one_of (P, 1) (p, dot) i)) e)
+moved_token y (begins_rest {p} {dot} q after i e h f) = absurd (no_nonterminal p dot q.nonterminal after (ap (λ (z : Production × ℕ). z.0) (only_one (P, 1) (p, dot) i)) e)
 moved_token y (inherits {p} {dot} q after c e h n) = absurd (no_nonterminal p dot q.nonterminal after (moved_token y c).0 e)
 
 -- the states are canonical
@@ -144,7 +145,7 @@ canonical = record {
 
     holds : (n : ℕ) (r : Reduction) (t : Token) → Contains (states n).reductions r → (r.holds t ≡ true) ↔ (tokens n r.production (length (r.production).symbols) t ≡ true)
     holds zero r t h = absurd (contains-nil h)
-    holds (suc zero) r t h = subst (λ (q : Reduction). (q.holds t ≡ true) ↔ (tokens 1 q.production (length (q.production).symbols) t ≡ true)) (one_of reduction r h) (λ k. k, λ k. k)
+    holds (suc zero) r t h = subst (λ (q : Reduction). (q.holds t ≡ true) ↔ (tokens 1 q.production (length (q.production).symbols) t ≡ true)) (only_one reduction r h) (λ k. k, λ k. k)
     holds (suc (suc n)) r t h = absurd (contains-nil h)
 
 -- the grammar is LR(1)
@@ -165,9 +166,9 @@ lr0 = closed_lr0 g S states closed reductions kernels (λ n m y e. subst (IsReac
 
 -- Eof is the only valid token
 valid_eof : {u : List Symbol} {p : Production} {dot : ℕ} {t : Token} → ValidToken g S u p dot t → (P ≡ p) × (Eof ≡ t)
-valid_eof (at_start p h e) = (one_of P p h, refl)
+valid_eof (at_start p h e) = (only_one P p h, refl)
 valid_eof (kept y after v e) = valid_eof v
-valid_eof (begins_behind {p = p} {dot = dot} q after v e h f) = absurd (no_nonterminal p dot q.nonterminal after (one_of P p (of_grammar v)) e)
+valid_eof (begins_behind {p = p} {dot = dot} q after v e h f) = absurd (no_nonterminal p dot q.nonterminal after (only_one P p (of_grammar v)) e)
 valid_eof (passed_on {p = p} {dot = dot} q after v e h n) = absurd (no_nonterminal p dot q.nonterminal after (valid_eof v).0 e)
 
 -- it is valid behind the production's symbol
@@ -178,12 +179,12 @@ whole_valid = kept (Terminal x) [] (at_start P (contains_head P []) refl) refl
 valid_ends : {u : List Symbol} {p : Production} {dot : ℕ} → Valid g S u p dot → ValidToken g S u p dot Eof
 valid_ends (starts p h e) = at_start p h e
 valid_ends (shifts y after v e) = kept y after (valid_ends v) e
-valid_ends (expands {p = p} {dot = dot} q after v e h) = absurd (no_nonterminal p dot q.nonterminal after (one_of P p (of_grammar v)) e)
+valid_ends (expands {p = p} {dot = dot} q after v e h) = absurd (no_nonterminal p dot q.nonterminal after (only_one P p (of_grammar v)) e)
 
 -- each reduction holds what tracing finds
 pub lane_tokens_held : HoldLaneTokens g S states
 lane_tokens_held zero r h t = absurd (contains-nil h)
-lane_tokens_held (suc zero) r h t = subst (λ (q : Reduction). (q.holds t ≡ true) ↔ IsLaneToken g S states 1 q.production (length (q.production).symbols) t) (one_of reduction r h) (there, back)
+lane_tokens_held (suc zero) r h t = subst (λ (q : Reduction). (q.holds t ≡ true) ↔ IsLaneToken g S states 1 q.production (length (q.production).symbols) t) (only_one reduction r h) (there, back)
   where
     found : IsLaneToken g S states 1 P 1 t ↔ IsLalrToken g S (Terminal x ∷ []) P 1 t
     found = lane_tokens g S states lr0 alone (Terminal x ∷ []) 1 P 1 t refl (shifts (Terminal x) [] (starts P (contains_head P []) refl) refl)
@@ -198,7 +199,7 @@ lane_tokens_held (suc (suc n)) r h t = absurd (contains-nil h)
 -- and that are the LALR tokens
 pub lalr_tokens_held : HoldLalrTokens g S states
 lalr_tokens_held u zero live at r h t = absurd (contains-nil h)
-lalr_tokens_held u (suc zero) live at r h t = subst (λ (q : Reduction). (q.holds t ≡ true) ↔ IsLalrToken g S u q.production (length (q.production).symbols) t) (one_of reduction r h) (there, back)
+lalr_tokens_held u (suc zero) live at r h t = subst (λ (q : Reduction). (q.holds t ≡ true) ↔ IsLalrToken g S u q.production (length (q.production).symbols) t) (only_one reduction r h) (there, back)
   where
     there : at_eof t ≡ true → IsLalrToken g S u P 1 t
     there e =

@@ -7,7 +7,8 @@ use Rattle.lalrpop_base.specs.declared.lookahead.token.Token.TheVariants.{Eof}
 use Rattle.lalrpop_base.specs.Words.{starts, shifts, ValidToken, at_start, kept, IsLive, Reduce, Contents, AreFaithful, IsRightFor}
 use Rattle.lalrpop_base.specs.states.States.{Reduction}
 use Rattle.lalrpop_base.proofs.theory.lists.Lists.{contains-nil, contains_head, same_some}
-use Rattle.lalrpop_base.proofs.theory.instances.Instance.{S, x, P, g, only, reduction, states, one_of}
+use Rattle.lalrpop_base.proofs.theory.instances.Instance.{S, x, P, g, only, reduction, states}
+use Rattle.lalrpop_base.proofs.theory.first.FirstUses.{only_one}
 
 -- states 0 and past 1 as they were, and another state 1
 abbrev pub with_state : Contents → ℕ → Contents
@@ -50,11 +51,11 @@ idle = record { production = P; holds = λ t. false }
 pub idle_refused : AreFaithful g S (with_reductions (idle ∷ [])) → ⊥
 idle_refused f =
     let a = (right_one _ f).every Eof (Reduce P) x_ends in
-    let e : false ≡ true = ap (λ (r : Reduction). r.holds Eof) (one_of idle a.0 a.1) ∙ a.3 in
+    let e : false ≡ true = ap (λ (r : Reduction). r.holds Eof) (only_one idle a.0 a.1) ∙ a.3 in
     true≢false (sym e)
 
 -- an edge where nothing stands behind a dot
 pub extra_refused : AreFaithful g S (with_state (record { items = (P, 1) ∷ []; shift = only; goto = λ a. None; reductions = reduction ∷ [] })) → ⊥
 extra_refused f =
     let b = (((right_one _ f).contents).edges (Terminal x)).0 (1, refl) in
-    nil≢cons (ap (λ (z : Production × ℕ). drop z.1 (z.0).symbols) (one_of (P, 1) (b.production, b.dot) b.item) ∙ b.behind)
+    nil≢cons (ap (λ (z : Production × ℕ). drop z.1 (z.0).symbols) (only_one (P, 1) (b.production, b.dot) b.item) ∙ b.behind)

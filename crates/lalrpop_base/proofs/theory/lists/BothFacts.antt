@@ -22,3 +22,6 @@ then_both a b = (λ x. b.0 (a.0 x), λ z. a.1 (b.1 z))
 
 pub turned_both : {A B : Type 0} → A ↔ B → B ↔ A
 turned_both a = (a.1, a.0)
+
+pub both_ways : {A B : Type 0} → (A → B) → (B → A) → A ↔ B
+both_ways f k = (f, k)

@@ -72,7 +72,7 @@ ordered_by_number xs ys bx by o is unequal = elim (cases_order (leading_number x
 ]
 
 -- ---- texts with one leading number agree on the leading bytes
-greater_is : (a b : ℕ) → b < a → nat_cmp a b ≡ Greater
+pub greater_is : (a b : ℕ) → b < a → nat_cmp a b ≡ Greater
 greater_is a b l = nat_cmp_total.antisymm a b ∙ ap ordering_reverse (less_is b a l)
 
 agree : (count a b place : ℕ) (xs ys : List ℕ) → AreBytes xs → AreBytes ys → written_on a xs place count ≡ written_on b ys place count

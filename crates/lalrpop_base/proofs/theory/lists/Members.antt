@@ -81,7 +81,7 @@ apart (x ∷ xs) h = more (λ y m. AllPairs-head x xs h y (contains m)) (apart x
 pub pigeonhole : {X : Type 0} (xs ys : List X) → AllPairs (λ a b. a ≢ b) xs → ((x : X) → Contains xs x → Contains ys x) → length xs ≤ length ys
 pigeonhole xs ys a h = fits xs ys (apart xs a) (λ x m. member ys x (h x (contains m)))
 
-slice_get-cases : {X : Type 0} (xs : List X) (x : X) (k : ℕ) → k < length xs → get_or xs k x ≡ x → slice_get xs k ≡ Some x
+pub slice_get-cases : {X : Type 0} (xs : List X) (x : X) (k : ℕ) → k < length xs → get_or xs k x ≡ x → slice_get xs k ≡ Some x
 slice_get-cases [] x k l e = absurd (omega arith)
 slice_get-cases (y ∷ xs) x zero l e = ap Some e
 slice_get-cases (y ∷ xs) x (suc k) l e = slice_get-cases xs x k (omega (arith, l)) e
@@ -121,7 +121,6 @@ module _ {K : Type 0} (cmp : K → K → Ordering) (exact : CmpEqualImpliesEq cm
   insert_key-has (x ∷ xs) k = put_at x xs k (cmp k x) refl (insert_key-has xs k)
 
 -- ---- lists in order
-
 pub less-apart : {K : Type 0} (cmp : K → K → Ordering) → IsTotalOrder cmp → (x y : K) → cmp x y ≡ Less → x ≡ y → ⊥
 less-apart {K} cmp o x y h e =
     let P : K → Type 0 = λ z. cmp z y ≡ Less in

@@ -13,6 +13,15 @@ use Rattle.lalrpop_base.specs.contracts.exact.NonterminalStringExact.TheImpl as 
 use Rattle.lalrpop_base.specs.contracts.exact.TerminalStringExact.TheImpl as terminal_exactly
 use Rattle.lalrpop_base.specs.contracts.exact.SymbolExact.TheImpl as symbol_exactly
 use Rattle.lalrpop_base.proofs.theory.lists.Updates.{exact_order}
+use Rattle.std.specs.declared.cmp.Ordering.TheVariants.{Less, Equal, Greater}
+use Rattle.std.specs.Ordering.{is_eq}
+use Rattle.std.proofs.Common.{◌≡◌, true, refl}
+
+-- an order that is told to be equal is
+pub is_equal : (o : Ordering) → is_eq o ≡ true → o ≡ Equal
+is_equal Less e = cc
+is_equal Equal e = refl
+is_equal Greater e = cc
 
 abbrev pub name_order : NonterminalString → NonterminalString → Ordering
 name_order = name_ord.ghosts.cmp

@@ -15,7 +15,7 @@ use Rattle.lalrpop_base.specs.lists.Entries.{IsPut}
 use Rattle.lalrpop_base.specs.lists.Entries.IsPut.{came, waited}
 use Rattle.lalrpop_base.specs.lists.Queues.{waiting_with}
 
-or_false : (a : Bool) → (a || false) ≡ a
+pub or_false : (a : Bool) → (a || false) ≡ a
 or_false true = refl
 or_false false = refl
 

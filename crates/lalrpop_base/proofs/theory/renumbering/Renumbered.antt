@@ -3,7 +3,7 @@ use Rattle.std.proofs.Common.{◌≡◌, ℕ, ◌<◌, ◌≤◌, inl, inr, Bool
 use Rattle.std.specs.Prelude.{slice_get, unwrap_or, option_map}
 use Rattle.std.specs.BTreeMap.{btree_map_len, is_at}
 use Rattle.std.specs.Map.{lookup}
-use Rattle.std.proofs.lemmas.Bool.{cases_lt, cases_Bool, or_cases}
+use Rattle.std.proofs.lemmas.Bool.{cases_lt, cases_Bool, or_cases, or_right}
 use Rattle.std.proofs.lemmas.Map.Made.{lookup-map_values}
 use Rattle.std.proofs.lemmas.Option.{slice_get_past, slice_get_within, slice_get_cases, slice_get-map}
 use Rattle.lalrpop_base.specs.Words.{Bits, IsCoherentEdge, IsCoherentStep, StartsAtZero, AreFinished, AreCoherent, holds_token, number_of, reduction_of}
@@ -18,6 +18,11 @@ use Rattle.lalrpop_base.proofs.theory.renumbering.Moved.{Moved-length, Moved-at}
 use Rattle.lalrpop_base.proofs.theory.lists.Orders.{terminal_order}
 use Rattle.lalrpop_base.proofs.theory.lists.Partitions.{front_place, past_place, parted_length, stands_there, front_before_back, parts_keep_order, places_differ, place_taken}
 use Rattle.lalrpop_base.proofs.theory.lists.Places.{same_some, filled}
+
+-- where there is no state no symbol leads on
+pub no_lead : (terminals : List TerminalString) (x : Symbol) → leads (contents_at (holds_token terminals) None) x ≡ None
+no_lead terminals (Terminal t) = refl
+no_lead terminals (Nonterminal a) = refl
 
 -- ---- transitions under new numbers
 module _ (new : ℕ → ℕ) where
@@ -60,11 +65,7 @@ module _ (terminals : List TerminalString) (state : State Bits) where
   has_gotos = not (btree_map_len state.gotos == 0)
 
   first_by_goto : HasGoto (contents_of (holds_token terminals) state) → stands_first state ≡ true
-  first_by_goto h = ap (λ b. (state.index.0 == 0) || not b) (a_goto terminals state state.gotos.entries refl h) ∙ or_true (state.index.0 == 0)
-    where
-      or_true : (b : Bool) → (b || true) ≡ true
-      or_true true = refl
-      or_true false = refl
+  first_by_goto h = ap (λ b. (state.index.0 == 0) || not b) (a_goto terminals state state.gotos.entries refl h) ∙ or_right (state.index.0 == 0) true refl
 
   goto_of_first : (state.index.0 ≡ 0 → ⊥) → stands_first state ≡ true → HasGoto (contents_of (holds_token terminals) state)
   goto_of_first out h = elim (or_cases (state.index.0 == 0) has_gotos h) [
@@ -132,17 +133,13 @@ module _ (terminals : List TerminalString) (before after : List (State Bits)) (n
   past_after : (n : ℕ) → length before ≤ n → slice_get after (new n) ≡ None
   past_after n l = let c = counted in let o = outside n l in slice_get_past after (new n) (omega arith)
 
-  no_lead : (x : Symbol) → leads (at_option None) x ≡ None
-  no_lead (Terminal t) = refl
-  no_lead (Nonterminal a) = refl
-
   commutes : (n : ℕ) (x : Symbol) → leads (there (new n)) x ≡ renumbered new (leads (here n) x)
   commutes n x = elim ((slice_get_cases before n).1) [
     | inl at ↦
         let t = moved_to n at.0 at.2 in
         ap (λ o. leads (at_option o) x) t.1 ∙ leads_after new terminals at.0 t.0 t.2 x ∙ ap (λ o. renumbered new (leads (at_option o) x)) (sym at.2)
     | inr past ↦
-        ap (λ o. leads (at_option o) x) (past_after n past.0) ∙ no_lead x ∙ ap (renumbered new) (sym (no_lead x)) ∙ ap (λ o. renumbered new (leads (at_option o) x)) (sym past.1)
+        ap (λ o. leads (at_option o) x) (past_after n past.0) ∙ no_lead terminals x ∙ ap (renumbered new) (sym (no_lead terminals x)) ∙ ap (λ o. renumbered new (leads (at_option o) x)) (sym past.1)
   ]
 
   same_items : (n : ℕ) → (there (new n)).items ≡ (here n).items

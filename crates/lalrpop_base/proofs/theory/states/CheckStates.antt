@@ -127,7 +127,7 @@ Lists-none keys e k = (
   λ c. absurd (Contains-none (k.production, k.index) c),
 )
 
-dots_push : (items : List (Dotted Bits)) (i : Dotted Bits) → dots (items ++ i ∷ []) ≡ dots items ++ dotted_of i ∷ []
+pub dots_push : (items : List (Dotted Bits)) (i : Dotted Bits) → dots (items ++ i ∷ []) ≡ dots items ++ dotted_of i ∷ []
 dots_push [] i = refl
 dots_push (j ∷ items) i = ap (λ ds. dotted_of j ∷ ds) (dots_push items i)
 

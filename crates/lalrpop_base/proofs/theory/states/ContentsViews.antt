@@ -13,18 +13,12 @@ use Rattle.lalrpop_base.specs.contracts.repr.NonterminalStringOrd.TheImpl as nam
 use Rattle.lalrpop_base.specs.contracts.repr.TerminalStringPartialEq.TheImpl as terminal_eq
 use Rattle.lalrpop_base.specs.contracts.repr.NonterminalStringPartialEq.TheImpl as name_eq
 use Rattle.lalrpop_base.specs.contracts.exact.TerminalStringExact.TheImpl as terminal_exact
-use Rattle.std.proofs.lemmas.Option.{slice_get_read, slice_get_within, get_or_from_slice_get, slice_get-map}
+use Rattle.std.proofs.lemmas.Option.{slice_get_within, slice_get-map}
 use Rattle.std.proofs.lemmas.Map.Views.{IfSome-get}
 use Rattle.lalrpop_base.specs.states.States.{Reduction}
 use Rattle.lalrpop_base.proofs.Types.{Production, State, StateIndex, Symbol, Token}
 use Rattle.lalrpop_base.specs.declared.repr.Symbol.TheVariants.{Nonterminal, Terminal}
-
--- what is in a list stands at a place, and the other way round
-pub contains_at : {X : Type 0} (xs : List X) (x : X) → Contains xs x → (k : ℕ) × (slice_get xs k ≡ Some x)
-contains_at xs x h = (h.0, slice_get_read xs (length xs) h.0 x refl h.1 (sym h.2))
-
-pub at_contains : {X : Type 0} (xs : List X) (k : ℕ) (x : X) → slice_get xs k ≡ Some x → Contains xs x
-at_contains xs k x e = (k, slice_get_within xs k x e, get_or_from_slice_get xs k x x e)
+use Rattle.lalrpop_base.proofs.theory.lists.Lists.{contains_place, place_contains}
 
 pub some_of_map : {X Y : Type 0} (f : X → Y) (o : Option X) (y : Y) → option_map f o ≡ Some y → (x : X) × (o ≡ Some x) × (f x ≡ y)
 some_of_map f None y e = cc
@@ -32,14 +26,14 @@ some_of_map f (Some x) y e = (x, refl, ap (λ o. unwrap_or o y) e)
 
 pub contains_of_map : {X Y : Type 0} (f : X → Y) (xs : List X) (y : Y) → Contains (map f xs) y → (x : X) × Contains xs x × (f x ≡ y)
 contains_of_map f xs y h =
-    let (k, e) = contains_at (map f xs) y h in
+    let (k, e) = contains_place (map f xs) y h in
     let (x, there, same) = some_of_map f (slice_get xs k) y (sym (slice_get-map f xs k) ∙ e) in
-    (x, at_contains xs k x there, same)
+    (x, place_contains xs k x there, same)
 
 pub contains_map : {X Y : Type 0} (f : X → Y) (xs : List X) (x : X) → Contains xs x → Contains (map f xs) (f x)
 contains_map f xs x h =
-    let (k, e) = contains_at xs x h in
-    at_contains (map f xs) k (f x) (slice_get-map f xs k ∙ ap (option_map f) e)
+    let (k, e) = contains_place xs x h in
+    place_contains (map f xs) k (f x) (slice_get-map f xs k ∙ ap (option_map f) e)
 
 -- an edge leads to a state in the list, whose items came over it
 pub record IsEdge (states : ℕ → Contents) (count n : ℕ) (x : Symbol) (m : ℕ) : Type 0 where
@@ -69,20 +63,20 @@ entry_at : {K : Type 0} {R : K → K → Ordering} → IsTotalOrder R → CmpEqu
 entry_at {R = R} total exact P m key n each e =
     let (target, there, same) = some_of_map number_of (get R m key) n e in
     let among = subst (λ o. IfSome o (λ v. Contains m.entries (key, v))) there (IfSome-get total exact m key) in
-    let (k, place) = contains_at m.entries (key, target) among in
+    let (k, place) = contains_place m.entries (key, target) among in
     (target, same, each k (key, target) place)
 
 module _ {L : Type 0} (holds : L → Token → Bool) where
   has_item : (items : List (Dotted L)) (p : Production) (d : ℕ) → HasItem items p d → Contains (map (dotted_of holds) items) (p, d)
   has_item items p d (k, item, there, at) =
       let e : (item.production, item.index) ≡ (p, d) = ap (λ (q : Production). (q, item.index)) at.same ∙ ap (λ (i : ℕ). (p, i)) at.dot in
-      subst (Contains (map (dotted_of holds) items)) e (contains_map (dotted_of holds) items item (at_contains items k item there))
+      subst (Contains (map (dotted_of holds) items)) e (contains_map (dotted_of holds) items item (place_contains items k item there))
 
   item_of : (items : List (Dotted L)) (p : Production) (d : ℕ) → Contains (map (dotted_of holds) items) (p, d) →
       (k : ℕ) × (item : Dotted L) × (slice_get items k ≡ Some item) × (item.production ≡ p) × (item.index ≡ d)
   item_of items p d h =
       let (item, there, same) = contains_of_map (dotted_of holds) items (p, d) h in
-      let (k, place) = contains_at items item there in
+      let (k, place) = contains_place items item there in
       (k, item, place, ap (λ (i : Production × ℕ). i.0) same, ap (λ (i : Production × ℕ). i.1) same)
 
   contents_there : (states : List (State L)) (n : ℕ) (state : State L) → slice_get states n ≡ Some state → contents_in holds states n ≡ contents_of holds state
@@ -136,7 +130,7 @@ module _ {L : Type 0} (holds : L → Token → Bool) where
       ended n None e r h = absurd (let l : h.0 < 0 = h.1 in omega arith)
       ended n (Some state) e r h =
           let (pair, there, same) = contains_of_map (reduction_of holds) state.reductions.items r h in
-          let (k, place) = contains_at state.reductions.items pair there in
+          let (k, place) = contains_place state.reductions.items pair there in
           let item = (coherent n state e).finished k pair place in
           subst (λ (c : Contents). Contains c.items (r.production, length r.production.symbols)) (sym (contents_there states n state e))
           (subst (λ (q : Production). Contains (contents_of holds state).items (q, length q.symbols)) (ap (λ (q : Reduction). q.production) same)

@@ -1,5 +1,5 @@
 -- Kernels that are numbered in the order of their first appearance, and one more.
-use Rattle.std.proofs.Common.{◌≡◌, ℕ, zero, suc, ◌+◌, ◌-◌, ◌<◌, ◌≤◌, ◌==◌, Bool, true, false, cond, List, [], ◌∷◌, ◌++◌, length, drop, refl, sym, ◌∙◌, ap, arith, ⊎_elim, length-append, eq-eqb, get_or}
+use Rattle.std.proofs.Common.{◌≡◌, ℕ, zero, suc, ◌+◌, ◌-◌, ◌<◌, ◌≤◌, ◌==◌, Bool, true, false, cond, List, [], ◌∷◌, ◌++◌, length, drop, refl, sym, ◌∙◌, ap, arith, ⊎_elim, length-append, eq-eqb}
 use Rattle.std.specs.Prelude.{Option, slice_get, Some, None, Contains, unwrap_or}
 use Rattle.std.specs.declared.cmp.Ordering.{Ordering}
 use Rattle.std.specs.declared.cmp.Ordering.TheVariants.{Less, Equal, Greater}
@@ -12,9 +12,9 @@ use Rattle.std.proofs.lemmas.Option.{slice_get_within, get_or_from_slice_get}
 use Rattle.std.proofs.lemmas.Bool.{cases_lt, cases_Bool, ne_eqb}
 use Rattle.std.proofs.lemmas.List.{drop-append-le}
 use Rattle.lalrpop_base.specs.Words.{Exactly, AllDiffer, key_numbered, keys_below, by_number, IsNumbering, AddsOnce}
+use Rattle.lalrpop_base.proofs.theory.lists.Members.{slice_get-cases}
 
 -- ---- an entry more
-
 module _ {K : Type 0} (cmp : K → K → Ordering) (k : K) (v : ℕ) where
   beside : (n : ℕ) → (v == n) ≡ false → (e : K × ℕ) (es : List (K × ℕ)) (o : Ordering) → cond (is_eq o) (Some e.1) (lookup (is_at (cmp k)) es) ≡ None →
       (lookup (is_at (cmp k)) es ≡ None → key_numbered n (insert_entry cmp es k v) ≡ key_numbered n es) →
@@ -64,7 +64,6 @@ module _ {K : Type 0} (cmp : K → K → Ordering) (k : K) (v : ℕ) where
       ∙ ap (λ n. keys_below n es ++ k ∷ []) next
 
 -- ---- places in lists
-
 pub slice_get-push_before : {X : Type 0} (xs : List X) (x : X) (k : ℕ) → k < length xs → slice_get (xs ++ x ∷ []) k ≡ slice_get xs k
 slice_get-push_before [] x k l = absurd (omega arith)
 slice_get-push_before (y ∷ xs) x zero l = refl
@@ -77,18 +76,12 @@ slice_get-push_at (y ∷ xs) x = slice_get-push_at xs x
 pub contains_at : {X : Type 0} (xs : List X) (x : X) (k : ℕ) → slice_get xs k ≡ Some x → Contains xs x
 contains_at xs x k h = (k, slice_get_within xs k x h, get_or_from_slice_get xs k x x h)
 
-found_at : {X : Type 0} (xs : List X) (x : X) (k : ℕ) → k < length xs → get_or xs k x ≡ x → slice_get xs k ≡ Some x
-found_at [] x k l h = absurd (omega arith)
-found_at (y ∷ xs) x zero l h = ap (λ z. Some z) h
-found_at (y ∷ xs) x (suc k) l h = found_at xs x k (omega arith) h
-
 -- ---- the numbering
-
 module _ {K : Type 0} {cmp : K → K → Ordering} {numbers : BTreeMap K ℕ} {pending : List K} where
   -- a kernel without a number is not in the list
   pub is_fresh : IsNumbering cmp numbers pending → (k : K) → get cmp numbers k ≡ None → ¬ Contains (by_number numbers.entries) k
   is_fresh numbering k absent there =
-      let found : get cmp numbers k ≡ Some there.0 = numbering.numbered k there.0 (found_at (by_number numbers.entries) k there.0 there.1 there.2) in
+      let found : get cmp numbers k ≡ Some there.0 = numbering.numbered k there.0 (slice_get-cases (by_number numbers.entries) k there.0 there.1 there.2) in
       cc
 
   -- no kernel stands at two places

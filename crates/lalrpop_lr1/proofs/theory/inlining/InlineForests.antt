@@ -12,13 +12,16 @@ use Rattle.lalrpop_base.proofs.theory.lists.Lists.{same_nonterminal, terminal_pa
 use Rattle.lalrpop_base.proofs.theory.grammars.Derivations.{Derives-from, Derives-to, Derives-trans, Derives-left, Derives-right, Derives-append, Derives-production}
 use Rattle.lalrpop_base.proofs.theory.grammars.Forests.{Forest, empty, leaf, node, Forest-from, Forest-append, forest_derives, derives_forest}
 use Rattle.lalrpop_lr1.specs.Words.{is_named, inlined, behind, parts, choices, laid_out}
-use Rattle.lalrpop_lr1.proofs.theory.inlining.InlineMembers.{in_map, from_map, in_flat_map, from_flat_map, named_exactly}
+use Rattle.lalrpop_lr1.proofs.theory.inlining.InlineMembers.{named_exactly}
+use Rattle.lalrpop_base.proofs.theory.states.ContentsViews.{contains_of_map, contains_map}
+use Rattle.lalrpop_base.proofs.theory.lists.Members.{of_flat}
+use Rattle.lalrpop_base.proofs.theory.lists.Bounded.{in_flat_map}
 
 module _ (b : NonterminalString) (alternatives : List Production) where
   -- a part and a choice for the rest are a choice
   pub choice_cons : (x : Symbol) (l : List Symbol) (part : InlinedSymbol) (c : List InlinedSymbol) → Contains (parts b alternatives x) part → Contains (choices b alternatives l) c → Contains (choices b alternatives (x ∷ l)) (part ∷ c)
   choice_cons x l part c h k =
-      in_flat_map (λ (p : InlinedSymbol). behind (p ∷ []) (choices b alternatives l)) (parts b alternatives x) part (part ∷ c) h (in_map (λ (d : List InlinedSymbol). (part ∷ []) ++ d) (choices b alternatives l) c k)
+      in_flat_map (λ (p : InlinedSymbol). behind (p ∷ []) (choices b alternatives l)) (parts b alternatives x) part (part ∷ c) h (contains_map (λ (d : List InlinedSymbol). (part ∷ []) ++ d) (choices b alternatives l) c k)
 
   -- a choice for a list that is not empty
   pub record FirstPart (x : Symbol) (l : List Symbol) (c : List InlinedSymbol) : Type 0 where
@@ -31,8 +34,8 @@ module _ (b : NonterminalString) (alternatives : List Production) where
   -- has a part and a choice for the rest
   pub first_part : (x : Symbol) (l : List Symbol) (c : List InlinedSymbol) → Contains (choices b alternatives (x ∷ l)) c → FirstPart x l c
   first_part x l c h =
-      let r = from_flat_map (λ (p : InlinedSymbol). behind (p ∷ []) (choices b alternatives l)) (parts b alternatives x) c h in
-      let s = from_map (λ (d : List InlinedSymbol). (r.0 ∷ []) ++ d) (choices b alternatives l) c r.2 in
+      let r = of_flat (λ (p : InlinedSymbol). behind (p ∷ []) (choices b alternatives l)) (parts b alternatives x) c h in
+      let s = contains_of_map (λ (d : List InlinedSymbol). (r.0 ∷ []) ++ d) (choices b alternatives l) c r.2 in
       record { part = r.0; rest = s.0; joined = s.2; among = r.1; others = s.1 }
 
   -- the part of a symbol that is not the nonterminal
@@ -42,12 +45,12 @@ module _ (b : NonterminalString) (alternatives : List Production) where
 
   -- a part of the nonterminal
   inlined_part : (m : Bool) (x : Symbol) (r : Production) → m ≡ true → Contains alternatives r → Contains (cond m (map inlined alternatives) (Original x ∷ [])) (inlined r)
-  inlined_part true x r h c = in_map inlined alternatives r c
+  inlined_part true x r h c = contains_map inlined alternatives r c
   inlined_part false x r h c = cc
 
   -- a part is an alternative of the nonterminal, or the symbol itself
   pub which_part : (m : Bool) (x : Symbol) (part : InlinedSymbol) → Contains (cond m (map inlined alternatives) (Original x ∷ [])) part → ((m ≡ true) × ((r : Production) × Contains alternatives r × (inlined r ≡ part))) ⊎ ((m ≡ false) × (Original x ≡ part))
-  which_part true x part c = inl (refl, from_map inlined alternatives part c)
+  which_part true x part c = inl (refl, contains_of_map inlined alternatives part c)
   which_part false x part c = elim (contains-cons (Original x) [] part c) [ inl e ↦ inr (refl, e) | inr n ↦ absurd (contains-nil n) ]
 
   -- the productions g with the nonterminal inlined are h: each of h is of g or a choice, each choice is there, and the nonterminal's own are the alternatives

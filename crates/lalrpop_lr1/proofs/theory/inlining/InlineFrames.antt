@@ -14,7 +14,8 @@ use Rattle.lalrpop_base.proofs.theory.lists.Lists.{contains-cons, contains-nil, 
 use Rattle.lalrpop_lr1.specs.declared.inline.graph.depth_first.Frame.{Frame}
 use Rattle.lalrpop_lr1.specs.declared.inline.graph.depth_first.Walk.{Walk}
 use Rattle.lalrpop_lr1.specs.Words.{IsMarked, Mentions, Leads, one, more, IsInlineOrder, mentioned_in, IsWalk, IsFrame, AreFrames, names_on, HasFrames, HasNext, IsWalked, LeadTo}
-use Rattle.lalrpop_lr1.proofs.theory.inlining.InlineWalks.{tied_names, ties_itself, mentioned_names, names_mentioned, Sets, set_at, set_off, still_there, entered, left}
+use Rattle.lalrpop_lr1.proofs.theory.inlining.InlineWalks.{mentioned_names, names_mentioned, Sets, set_at, set_off, still_there, entered, left}
+use Rattle.lalrpop_base.proofs.theory.first.FirstNames.{name_same, name_self}
 
 module _ (g : Grammar) where
   -- a frame stays one as more are left
@@ -151,13 +152,13 @@ module _ (g : Grammar) where
       );
       visiting = λ a. (
         λ h. elim (cases_Bool (is_at (name_cmp f.name) a)) [
-          | inl t ↦ subst (Contains (f.name ∷ names_on fs)) (tied_names f.name a t) (contains_head f.name (names_on fs))
+          | inl t ↦ subst (Contains (f.name ∷ names_on fs)) (name_same f.name a t) (contains_head f.name (names_on fs))
           | inr t ↦ contains_tail f.name (names_on fs) a ((has.visiting a).0 (sym (set_off true f.name a w.visiting m.visiting into t) ∙ h))
         ],
         λ k. elim (cases_Bool (is_at (name_cmp f.name) a)) [
           | inl t ↦ set_at true f.name a w.visiting m.visiting into t
           | inr t ↦ set_off true f.name a w.visiting m.visiting into t ∙ elim (contains-cons f.name (names_on fs) a k) [
-            | inl e ↦ absurd (true≢false (sym (ties_itself f.name) ∙ ap (is_at (name_cmp f.name)) e ∙ t))
+            | inl e ↦ absurd (true≢false (sym (name_self f.name) ∙ ap (is_at (name_cmp f.name)) e ∙ t))
             | inr l ↦ (has.visiting a).1 l
           ]
         ],
@@ -177,11 +178,11 @@ module _ (g : Grammar) where
         λ h.
             let (before, other) = still_there f.name a m.visiting n.visiting out h in
             elim (contains-cons f.name (names_on fs) a ((has.visiting a).0 before)) [
-              | inl e ↦ absurd (true≢false (sym (ties_itself f.name) ∙ ap (is_at (name_cmp f.name)) e ∙ other))
+              | inl e ↦ absurd (true≢false (sym (name_self f.name) ∙ ap (is_at (name_cmp f.name)) e ∙ other))
               | inr l ↦ l
             ],
         λ k. elim (cases_Bool (is_at (name_cmp f.name) a)) [
-          | inl t ↦ absurd (has.frames.1 (subst (Contains (names_on fs)) (sym (tied_names f.name a t)) k))
+          | inl t ↦ absurd (has.frames.1 (subst (Contains (names_on fs)) (sym (name_same f.name a t)) k))
           | inr t ↦ set_off false f.name a m.visiting n.visiting out t ∙ (has.visiting a).1 (contains_tail f.name (names_on fs) a k)
         ],
       );

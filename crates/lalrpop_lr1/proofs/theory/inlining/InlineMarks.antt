@@ -13,7 +13,8 @@ use Rattle.std.specs.BTreeSet.{BTreeSet, contains}
 use Rattle.std.proofs.lemmas.Bool.{cases_Bool}
 use Rattle.std.proofs.lemmas.List.{take_more}
 use mathlib.Core.Bool.{true≢false}
-use Rattle.lalrpop_lr1.proofs.theory.inlining.InlineWalks.{tied_names, ties_itself, Sets, set_at, set_off}
+use Rattle.lalrpop_lr1.proofs.theory.inlining.InlineWalks.{Sets, set_at, set_off}
+use Rattle.lalrpop_base.proofs.theory.first.FirstNames.{name_same, name_self}
 
 -- names are those of the marked ones among entries
 abbrev pub AreMarkedOf : List (NonterminalString × NonterminalData) → List NonterminalString → Type 0
@@ -46,7 +47,7 @@ entry_of_mark : (g : Grammar) (a : NonterminalString) (o : Option NonterminalDat
 entry_of_mark g a None e h = absurd h
 entry_of_mark g a (Some d) e h =
     let (i, k, at, tied) = place_from_lookup (is_at (name_cmp a)) g.nonterminals.entries d e in
-    (d, subst (λ (x : NonterminalString). Contains g.nonterminals.entries (x, d)) (sym (tied_names a k tied)) (place_contains g.nonterminals.entries i (k, d) at), h)
+    (d, subst (λ (x : NonterminalString). Contains g.nonterminals.entries (x, d)) (sym (name_same a k tied)) (place_contains g.nonterminals.entries i (k, d) at), h)
 
 -- the names of all marked entries are the marked nonterminals
 pub all_marked : (g : Grammar) (names : List NonterminalString) → IsOrdered name_cmp g.nonterminals → AreMarkedOf g.nonterminals.entries names → (a : NonterminalString) → Contains names a ↔ IsMarked g a
@@ -64,14 +65,14 @@ pub set_more : (names : List NonterminalString) (i : ℕ) (name key : Nontermina
 set_more names i name key old new less is same into were a =
     let grown : take (i + 1) names ≡ take i names ++ name ∷ [] = take_more names i name less ∙ ap (λ (x : NonterminalString). take i names ++ x ∷ []) (sym is) in (
       λ h. subst (λ (l : List NonterminalString). Contains l a) (sym grown) (elim (cases_Bool (is_at (name_cmp key) a)) [
-        | inl t ↦ subst (Contains (take i names ++ name ∷ [])) (sym same ∙ tied_names key a t) (Contains-push (take i names) name)
+        | inl t ↦ subst (Contains (take i names ++ name ∷ [])) (sym same ∙ name_same key a t) (Contains-push (take i names) name)
         | inr t ↦ Contains-append_left (take i names) (name ∷ []) a ((were a).0 (sym (set_off true key a old new into t) ∙ h))
       ]),
       λ c. elim (cases_Bool (is_at (name_cmp key) a)) [
         | inl t ↦ set_at true key a old new into t
         | inr t ↦ set_off true key a old new into t ∙ (were a).1 (elim (Contains-push_cases (take i names) name a (subst (λ (l : List NonterminalString). Contains l a) grown c)) [
           | inl d ↦ d
-          | inr e ↦ absurd (true≢false (sym (ties_itself key) ∙ ap (is_at (name_cmp key)) (same ∙ e) ∙ t))
+          | inr e ↦ absurd (true≢false (sym (name_self key) ∙ ap (is_at (name_cmp key)) (same ∙ e) ∙ t))
         ])
       ],
     )

@@ -1,47 +1,14 @@
 -- Elements of joined and mapped lists, and which symbols a right side mentions.
-use Rattle.std.proofs.Common.{◌≡◌, inl, inr, Bool, true, false, ◌||◌, List, [], ◌∷◌, map, refl, sym, ◌∙◌, ap, subst}
+use Rattle.std.proofs.Common.{◌≡◌, inl, inr, Bool, true, false, ◌||◌, List, [], ◌∷◌, refl, sym, ◌∙◌, ap, subst}
 use Rattle.std.specs.Prelude.{Contains}
-use Rattle.std.specs.List.{flat_map}
 use Rattle.std.proofs.lemmas.Slice.Eq.{bytes_eq-Decides}
 use Rattle.std.proofs.lemmas.Bool.{or_cases}
-use Rattle.std.proofs.lemmas.List.Elements.{Contains-append_left, Contains-append_right, Contains-append_cases}
 use mathlib.Core.Bool.{true≢false}
 use Rattle.lalrpop_lr1.proofs.Types.{NonterminalString, Symbol}
 use Rattle.lalrpop_base.specs.declared.repr.Symbol.TheVariants.{Nonterminal, Terminal}
 use Rattle.lalrpop_base.specs.Words.{name_exact}
 use Rattle.lalrpop_base.proofs.theory.lists.Lists.{contains-cons, contains-nil, contains_head, contains_tail}
 use Rattle.lalrpop_lr1.specs.Words.{is_named, mentions}
-
--- what is made of an element is among what is made of all
-pub in_map : {A B : Type 0} (f : A → B) (xs : List A) (x : A) → Contains xs x → Contains (map f xs) (f x)
-in_map f [] x c = absurd (contains-nil c)
-in_map f (y ∷ ys) x c = elim (contains-cons y ys x c) [
-  | inl e ↦ subst (Contains (map f (y ∷ ys))) (ap f e) (contains_head (f y) (map f ys))
-  | inr k ↦ contains_tail (f y) (map f ys) (f x) (in_map f ys x k)
-]
-
--- and nothing else is
-pub from_map : {A B : Type 0} (f : A → B) (xs : List A) (y : B) → Contains (map f xs) y → (x : A) × Contains xs x × (f x ≡ y)
-from_map f [] y c = absurd (contains-nil c)
-from_map f (x ∷ xs) y c = elim (contains-cons (f x) (map f xs) y c) [
-  | inl e ↦ (x, contains_head x xs, e)
-  | inr k ↦ let r = from_map f xs y k in (r.0, contains_tail x xs r.0 r.1, r.2)
-]
-
--- the same of lists that are joined
-pub in_flat_map : {A B : Type 0} (f : A → List B) (xs : List A) (x : A) (y : B) → Contains xs x → Contains (f x) y → Contains (flat_map f xs) y
-in_flat_map f [] x y c d = absurd (contains-nil c)
-in_flat_map {A} {B} f (z ∷ zs) x y c d = elim (contains-cons z zs x c) [
-  | inl e ↦ let P : A → Type 0 = λ w. Contains (f w) y in Contains-append_left (f z) (flat_map f zs) y (subst P (sym e) d)
-  | inr k ↦ Contains-append_right (f z) (flat_map f zs) y (in_flat_map f zs x y k d)
-]
-
-pub from_flat_map : {A B : Type 0} (f : A → List B) (xs : List A) (y : B) → Contains (flat_map f xs) y → (x : A) × Contains xs x × Contains (f x) y
-from_flat_map f [] y c = absurd (contains-nil c)
-from_flat_map f (x ∷ xs) y c = elim (Contains-append_cases (f x) (flat_map f xs) y c) [
-  | inl k ↦ (x, contains_head x xs, k)
-  | inr k ↦ let r = from_flat_map f xs y k in (r.0, contains_tail x xs r.0 r.1, r.2)
-]
 
 -- a symbol that passes is the nonterminal
 pub named_exactly : (b : NonterminalString) (x : Symbol) → is_named b x ≡ true → x ≡ Nonterminal b

@@ -23,7 +23,7 @@ use Rattle.lalrpop_lr1.specs.Words.{choices, mentions, Made, made_of, in_front, 
 use Rattle.lalrpop_lr1.specs.Words.{IsEntryReplaced, IsPastLast, first_replaced, replaced_at, replaced_places}
 use Rattle.lalrpop_lr1.specs.inlining.InlineSteps.{chosen, entry_in_front, view_with}
 use Rattle.lalrpop_lr1.proofs.theory.inlining.InlineSteps.{IsMore, more_none, more_twice, more_longer, past_more, replaced_all_more}
-use Rattle.lalrpop_lr1.proofs.theory.inlining.InlineWalks.{tied_names, ties_itself}
+use Rattle.lalrpop_base.proofs.theory.first.FirstNames.{name_same, name_self}
 
 abbrev view_made : List (NonterminalString × Entry) → List ActionFnDefn → View
 view_made es defns = record { entries = es; defns = defns }
@@ -58,7 +58,7 @@ by_order Greater l e g = g refl
 
 -- a name is not below itself
 not_below : (a : NonterminalString) → name_cmp a a ≡ Less → ⊥
-not_below a h = true≢false (sym (ties_itself a) ∙ ap is_eq h)
+not_below a h = true≢false (sym (name_self a) ∙ ap is_eq h)
 
 -- a name above another one is not at it
 past_name : (k a : NonterminalString) → name_cmp k a ≡ Less → is_at (name_cmp a) k ≡ false
@@ -188,7 +188,7 @@ module _ (b : NonterminalString) (alternatives : List Production) where
   first_at e es rest rising defns a places sorted covered at =
       let r : Made = replaced_all b alternatives e.1.productions defns in
       let new : NonterminalString × Entry = entry_with e r.productions in
-      let same : a ≡ e.0 = tied_names a e.0 (ap is_eq at) in
+      let same : a ≡ e.0 = name_same a e.0 (ap is_eq at) in
       let here : replaced_at b alternatives a (e ∷ es) defns ≡ entry_in_front new (view_made es r.defns) = ap (λ (o : Ordering). cond (is_eq o) (entry_in_front new (view_made es r.defns)) (entry_in_front e (replaced_at b alternatives a es defns))) at in
       let above : AllByRecursion (λ x. name_cmp e.0 x ≡ Less) places = subst (λ (k : NonterminalString). AllByRecursion (λ x. name_cmp k x ≡ Less) places) same (sorted_head name_cmp a places sorted) in
       let left : AreCovered b es places = λ x p c d h. elim (contains-cons a places x.0 (covered x p (contains_tail e es x c) d h)) [

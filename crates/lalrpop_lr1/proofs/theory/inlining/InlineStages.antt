@@ -17,10 +17,11 @@ use Rattle.std.proofs.lemmas.List.{drop_more}
 use Rattle.lalrpop_base.specs.declared.repr.norm_error.NormError.{NormError}
 use Rattle.lalrpop_base.specs.declared.repr.norm_error.NormError.TheVariants.{Cycle, TooManyActions, Memory}
 use Rattle.lalrpop_lr1.proofs.theory.inlining.InlineDefinitions.{laid_out_more, entries_laid_out}
-use Rattle.lalrpop_lr1.proofs.theory.inlining.InlineMembers.{in_map, from_map, mentioned_stands, names_itself}
+use Rattle.lalrpop_lr1.proofs.theory.inlining.InlineMembers.{mentioned_stands, names_itself}
 use Rattle.lalrpop_lr1.proofs.theory.inlining.InlineSteps.{IsMore, more_none, more_twice, more_longer, past_more, replaced_entries_more}
 use Rattle.lalrpop_lr1.proofs.theory.inlining.InlineEntries.{alternatives_view}
 use Rattle.lalrpop_lr1.proofs.theory.inlining.InlineViews.{IsProper, listed_entry, proper_production, alternatives_own, alternatives_all, step_keeps_lists, step_proper, step_mentions}
+use Rattle.lalrpop_base.proofs.theory.states.ContentsViews.{contains_of_map, contains_map}
 
 -- the definitions only grow
 pub inlined_by_more : (order : List NonterminalString) (v : View) → IsMore v.defns (inlined_by order v).defns
@@ -124,7 +125,7 @@ pub proper_view : (g : Grammar) → IsOrdered name_cmp g.nonterminals → IsWell
 proper_view g ordered well = record {
   ordered = subst (IsStrictlySortedBy name_cmp) (sym (keys_view g.nonterminals.entries)) ordered;
   each = λ e c.
-      let r = from_map entry_view g.nonterminals.entries e c in
+      let r = contains_of_map entry_view g.nonterminals.entries e c in
       let at = contains_place g.nonterminals.entries r.0 r.1 in
       let counted : IsWellFormedEntry g.terminals (length g.action_fn_defns.items) (r.0).0 (r.0).1.productions.items =
       subst (λ (n : ℕ). IsWellFormedEntry g.terminals n (r.0).0 (r.0).1.productions.items) g.action_fn_defns.ok.0 (well at.0 (r.0).0 (r.0).1 at.1) in
@@ -135,7 +136,7 @@ proper_view g ordered well = record {
 pub well_formed_view : (h : Grammar) → IsProper h.terminals (view_of h) → IsWellFormed h
 well_formed_view h proper k name entry at =
     subst (λ (n : ℕ). IsWellFormedEntry h.terminals n name entry.productions.items) (sym h.action_fn_defns.ok.0)
-    (proper.each (entry_view (name, entry)) (in_map entry_view h.nonterminals.entries (name, entry) (place_contains h.nonterminals.entries k (name, entry) at)))
+    (proper.each (entry_view (name, entry)) (contains_map entry_view h.nonterminals.entries (name, entry) (place_contains h.nonterminals.entries k (name, entry) at)))
 
 -- the first stage
 pub first_stage : (g : Grammar) (order : List NonterminalString) → IsOrdered name_cmp g.nonterminals → IsWellFormed g → IsInlineOrder g order → Stage (IsMarked g) g.terminals order (view_of g)

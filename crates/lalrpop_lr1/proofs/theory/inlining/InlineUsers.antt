@@ -18,12 +18,13 @@ use Rattle.lalrpop_base.specs.declared.repr.Symbol.TheVariants.{Nonterminal}
 use Rattle.lalrpop_base.proofs.theory.lists.Lists.{same_nonterminal, contains-cons, contains-nil, contains_head, contains_tail, contains_place, place_contains}
 use Rattle.lalrpop_lr1.specs.Words.{Entry, View, entry_view, view_of, productions_in, inlined_of, IsMarked, Mentions, IsInlineOrder}
 use Rattle.lalrpop_lr1.specs.Words.{listed_names, users_at, KeepsUsers, HasUsers, replaced_places, replaced_entries}
-use Rattle.lalrpop_lr1.proofs.theory.inlining.InlineMembers.{from_map, mentioned_stands}
-use Rattle.lalrpop_lr1.proofs.theory.inlining.InlineWalks.{tied_names}
+use Rattle.lalrpop_lr1.proofs.theory.inlining.InlineMembers.{mentioned_stands}
 use Rattle.lalrpop_lr1.proofs.theory.inlining.InlineEntries.{alternatives_view}
 use Rattle.lalrpop_lr1.proofs.theory.inlining.InlinePlaces.{AreCovered, all_places}
 use Rattle.lalrpop_lr1.proofs.theory.inlining.InlineViews.{alternatives_own, alternatives_all, step_mentions}
 use Rattle.lalrpop_lr1.proofs.theory.inlining.InlineStages.{Stage, keys_view, first_stage, stage_alone, stage_step, next_one}
+use Rattle.lalrpop_base.proofs.theory.first.FirstNames.{name_same}
+use Rattle.lalrpop_base.proofs.theory.states.ContentsViews.{contains_of_map}
 
 -- users, by the name that they mention
 abbrev pub UserMap : Type 0
@@ -36,7 +37,7 @@ inserted_there (x ∷ ks) k = by (name_cmp k x) refl (inserted_there ks k)
   where
     by : (o : Ordering) → name_cmp k x ≡ o → Contains (insert_key name_cmp ks k) k → Contains (match_ordering o (k ∷ x ∷ ks) (x ∷ ks) (x ∷ insert_key name_cmp ks k)) k
     by Less e later = contains_head k (x ∷ ks)
-    by Equal e later = subst (Contains (x ∷ ks)) (sym (tied_names k x (ap is_eq e))) (contains_head x ks)
+    by Equal e later = subst (Contains (x ∷ ks)) (sym (name_same k x (ap is_eq e))) (contains_head x ks)
     by Greater e later = contains_tail x (insert_key name_cmp ks k) k later
 
 -- and keeps the others
@@ -76,7 +77,7 @@ pub users_kept : (old new : UserMap) (key value : NonterminalString) → Pushed 
     ((q : NonterminalString) → is_eq (name_cmp key q) ≡ false → collection_at name_cmp new q ≡ collection_at name_cmp old q) → KeepsUsers old new
 users_kept old new key value pushed others c a there = elim (cases_Bool (is_at (name_cmp key) c)) [
   | inl t ↦
-      let same : key ≡ c = tied_names key c t in
+      let same : key ≡ c = name_same key c t in
       subst (λ (q : NonterminalString). Contains (users_at new q) a) same (pushed_kept (collection_at name_cmp old key) (collection_at name_cmp new key) value a pushed (subst (λ (q : NonterminalString). Contains (users_at old q) a) (sym same) there))
   | inr t ↦ subst (λ (o : Option (BTreeSet NonterminalString)). Contains (listed_names o) a) (sym (others c t)) there
 ]
@@ -140,7 +141,7 @@ entry_of_mention : (g : Grammar) (a : NonterminalString) (o : Option Nonterminal
 entry_of_mention g a None p e c = absurd (contains-nil c)
 entry_of_mention g a (Some d) p e c =
     let (i, k, at, tied) = place_from_lookup (is_at (name_cmp a)) g.nonterminals.entries d e in
-    (d, subst (λ (x : NonterminalString). Contains g.nonterminals.entries (x, d)) (sym (tied_names a k tied)) (place_contains g.nonterminals.entries i (k, d) at), c)
+    (d, subst (λ (x : NonterminalString). Contains g.nonterminals.entries (x, d)) (sym (name_same a k tied)) (place_contains g.nonterminals.entries i (k, d) at), c)
 
 -- all users of a grammar
 pub all_users : (g : Grammar) (users : UserMap) → AreUsersOf g g.nonterminals.entries users → HasUsers g users
@@ -151,7 +152,7 @@ all_users g users are a c marked m =
 -- the entries that mention a name are covered by its users
 pub covered_entries : (h : Grammar) (name : NonterminalString) (places : List NonterminalString) → IsOrdered name_cmp h.nonterminals → ((a : NonterminalString) → Mentions h a name → Contains places a) → AreCovered name (view_of h).entries places
 covered_entries h name places ordered covered e p there stands m =
-    let r = from_map entry_view h.nonterminals.entries e there in
+    let r = contains_of_map entry_view h.nonterminals.entries e there in
     let at = contains_place h.nonterminals.entries r.0 r.1 in
     let found : get name_cmp h.nonterminals (r.0).0 ≡ Some (r.0).1 = btree_map_get_place name_order.total-law h.nonterminals at.0 (r.0).0 (r.0).1 ordered at.1 in
     let own : Contains (r.0).1.productions.items p = subst (λ (x : NonterminalString × Entry). Contains x.1.productions p) (sym r.2) stands in

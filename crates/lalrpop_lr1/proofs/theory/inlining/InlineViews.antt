@@ -20,11 +20,13 @@ use Rattle.lalrpop_base.specs.declared.repr.grammar.ActionFnDefn.{ActionFnDefn}
 use Rattle.lalrpop_base.proofs.theory.lists.Lists.{contains-cons, contains-nil, contains_head, contains_tail, contains_place, place_contains}
 use Rattle.lalrpop_lr1.specs.Words.{is_named, mentions, choices, part_symbols, laid_out, Made, replaced_all, Entry, View, listed, alternatives_in}
 use Rattle.lalrpop_lr1.specs.Words.{productions_in, entry_with, replaced_entries, inlined_of}
-use Rattle.lalrpop_lr1.proofs.theory.inlining.InlineMembers.{in_flat_map, from_flat_map, unmentioned}
+use Rattle.lalrpop_lr1.proofs.theory.inlining.InlineMembers.{unmentioned}
 use Rattle.lalrpop_lr1.proofs.theory.inlining.InlineForests.{first_part, which_part, IsReplaced, same_terminal_lists}
 use Rattle.lalrpop_lr1.proofs.theory.inlining.InlineSteps.{more_longer, replaced_all_more, replaced_entries_more}
 use Rattle.lalrpop_lr1.proofs.theory.inlining.InlineArising.{Arises, kept, made, arises_wider, replaced_all_sound, replaced_all_complete, own_choice, own_laid_out}
 use Rattle.lalrpop_lr1.proofs.theory.inlining.InlineApart.{apart_from, apart_to, replaced_all_apart}
+use Rattle.lalrpop_base.proofs.theory.lists.Members.{of_flat}
+use Rattle.lalrpop_base.proofs.theory.lists.Bounded.{in_flat_map}
 
 -- the names rise, and the productions under each are well-formed
 pub record IsProper (terminals : List TerminalString) (v : View) : Type 0 where
@@ -33,7 +35,7 @@ pub record IsProper (terminals : List TerminalString) (v : View) : Type 0 where
 
 -- a production of a view stands in an entry
 pub listed_entry : (v : View) (p : Production) → Contains (productions_in v) p → (e : NonterminalString × Entry) × Contains v.entries e × Contains e.1.productions p
-listed_entry v p c = from_flat_map (λ (e : NonterminalString × Entry). e.1.productions) v.entries p c
+listed_entry v p c = of_flat (λ (e : NonterminalString × Entry). e.1.productions) v.entries p c
 
 -- and what stands in an entry is one
 pub entry_listed : (v : View) (e : NonterminalString × Entry) (p : Production) → Contains v.entries e → Contains e.1.productions p → Contains (productions_in v) p

@@ -1,36 +1,28 @@
 -- A walk comes into a nonterminal, along what it mentions, and leaves it.
-use Rattle.std.proofs.Common.{◌≡◌, ◌↔◌, ◌⊎◌, inl, inr, Bool, true, false, cond, List, [], ◌∷◌, ◌++◌, refl, sym, ◌∙◌, ap, subst, append_assoc}
+use Rattle.std.proofs.Common.{◌≡◌, ◌↔◌, ◌⊎◌, inl, inr, Bool, true, false, cond, List, [], ◌∷◌, ◌++◌, sym, ◌∙◌, ap, subst, append_assoc}
 use Rattle.std.specs.Prelude.{Contains}
 use Rattle.std.specs.List.{flat_map}
 use Rattle.std.specs.BTreeMap.{is_at}
 use Rattle.std.specs.BTreeSet.{BTreeSet, contains}
 use Rattle.std.proofs.lemmas.Bool.{cases_Bool}
 use Rattle.std.proofs.lemmas.List.Elements.{Contains-append_left, Contains-push, Contains-push_cases}
-use Rattle.std.proofs.lemmas.Map.Text.{is_eq-slice_cmp}
-use Rattle.std.proofs.lemmas.Slice.Eq.{bytes_eq-Decides}
 use mathlib.Core.Bool.{true≢false}
-use Rattle.lalrpop_base.specs.Words.{name_exact, AllDiffer, name_cmp}
+use Rattle.lalrpop_base.specs.Words.{AllDiffer, name_cmp}
 use Rattle.lalrpop_lr1.proofs.Types.{Grammar, NonterminalString, Production, Symbol}
 use Rattle.lalrpop_base.specs.declared.repr.Symbol.TheVariants.{Nonterminal, Terminal}
 use Rattle.lalrpop_base.proofs.theory.lists.Lists.{contains-cons, contains-nil, contains_head, contains_tail, Ended, nothing, last, ended, same_last}
 use Rattle.lalrpop_lr1.specs.declared.inline.graph.depth_first.Walk.{Walk}
 use Rattle.lalrpop_lr1.specs.Words.{IsMarked, Mentions, names_of, mentioned_in, IsWalk}
-use Rattle.lalrpop_lr1.proofs.theory.inlining.InlineMembers.{in_flat_map, from_flat_map}
 use Rattle.lalrpop_lr1.proofs.theory.inlining.InlineApart.{apart_from, apart_to, Apart-append}
-
--- names that tie in order are one
-pub tied_names : (a b : NonterminalString) → is_at (name_cmp a) b ≡ true → a ≡ b
-tied_names a b e = name_exact a b (sym (is_eq-slice_cmp a.text b.text) ∙ e)
-
--- and a name ties with itself
-pub ties_itself : (a : NonterminalString) → is_at (name_cmp a) a ≡ true
-ties_itself a = is_eq-slice_cmp a.text a.text ∙ (bytes_eq-Decides a.text a.text).1 refl
+use Rattle.lalrpop_base.proofs.theory.first.FirstNames.{name_same, name_self}
+use Rattle.lalrpop_base.proofs.theory.lists.Members.{of_flat}
+use Rattle.lalrpop_base.proofs.theory.lists.Bounded.{in_flat_map}
 
 -- what is mentioned
 pub mentioned_names : (ps : List Production) (c : NonterminalString) → Contains (mentioned_in ps) c → (p : Production) × Contains ps p × Contains p.symbols (Nonterminal c)
 mentioned_names ps c k =
-    let p = from_flat_map (λ (q : Production). flat_map names_of q.symbols) ps c k in
-    let x = from_flat_map names_of (p.0).symbols c p.2 in
+    let p = of_flat (λ (q : Production). flat_map names_of q.symbols) ps c k in
+    let x = of_flat names_of (p.0).symbols c p.2 in
     (p.0, p.1, subst (Contains (p.0).symbols) (is_name x.0 x.2) x.1)
   where
     is_name : (x : Symbol) → Contains (names_of x) c → x ≡ Nonterminal c
@@ -71,7 +63,7 @@ module _ (g : Grammar) where
     visiting = λ a h c.
         let d : Contains w.order.items a = subst (λ (l : List NonterminalString). Contains l a) same c in
         elim (cases_Bool (is_at (name_cmp name) a)) [
-          | inl t ↦ (is.pending name was).1 (subst (Contains w.order.items) (sym (tied_names name a t)) d)
+          | inl t ↦ (is.pending name was).1 (subst (Contains w.order.items) (sym (name_same name a t)) d)
           | inr t ↦ is.visiting a (sym (set_off true name a w.visiting m.visiting into t) ∙ h) d
         ];
     once = subst (λ (l : List NonterminalString). AllDiffer l) (sym same) is.once;
@@ -92,7 +84,7 @@ module _ (g : Grammar) where
       back : (a : NonterminalString) → (contains name_cmp m.pending a ≡ true) ⊎ (contains name_cmp m.visiting a ≡ true) ⊎ Contains m.order.items a → IsMarked g a
       back a (inl h) = (is.marked a).1 (inl (still_there name a w.pending m.pending out h).0)
       back a (inr (inl h)) = elim (cases_Bool (is_at (name_cmp name) a)) [
-        | inl t ↦ (is.marked a).1 (inl (subst (λ (b : NonterminalString). contains name_cmp w.pending b ≡ true) (tied_names name a t) was))
+        | inl t ↦ (is.marked a).1 (inl (subst (λ (b : NonterminalString). contains name_cmp w.pending b ≡ true) (name_same name a t) was))
         | inr t ↦ (is.marked a).1 (inr (inl (sym (set_off true name a w.visiting m.visiting into t) ∙ h)))
       ]
       back a (inr (inr c)) = (is.marked a).1 (inr (inr (subst (λ (l : List NonterminalString). Contains l a) same c)))
@@ -115,7 +107,7 @@ module _ (g : Grammar) where
         let (before, other) = still_there name a m.visiting n.visiting out h in
         elim (Contains-push_cases m.order.items name a (subst (λ (l : List NonterminalString). Contains l a) grown c)) [
           | inl d ↦ is.visiting a before d
-          | inr e ↦ true≢false (sym (ties_itself name) ∙ ap (is_at (name_cmp name)) e ∙ other)
+          | inr e ↦ true≢false (sym (name_self name) ∙ ap (is_at (name_cmp name)) e ∙ other)
         ];
     once = subst (λ (l : List NonterminalString). AllDiffer l) (sym grown) (apart_to (m.order.items ++ name ∷ []) (Apart-append m.order.items (name ∷ []) (apart_from m.order.items is.once) (λ k. contains-nil k, tt) new));
     behind = λ before after a c e mentioned marked. later before a c after (ended after) (sym grown ∙ e) mentioned marked;
@@ -130,7 +122,7 @@ module _ (g : Grammar) where
       forward : (a : NonterminalString) → (contains name_cmp m.pending a ≡ true) ⊎ (contains name_cmp m.visiting a ≡ true) ⊎ Contains m.order.items a → (contains name_cmp n.pending a ≡ true) ⊎ (contains name_cmp n.visiting a ≡ true) ⊎ Contains n.order.items a
       forward a (inl h) = inl (same a ∙ h)
       forward a (inr (inl h)) = elim (cases_Bool (is_at (name_cmp name) a)) [
-        | inl t ↦ inr (inr (subst (λ (l : List NonterminalString). Contains l a) (sym grown) (subst (Contains (m.order.items ++ name ∷ [])) (tied_names name a t) (Contains-push m.order.items name))))
+        | inl t ↦ inr (inr (subst (λ (l : List NonterminalString). Contains l a) (sym grown) (subst (Contains (m.order.items ++ name ∷ [])) (name_same name a t) (Contains-push m.order.items name))))
         | inr t ↦ inr (inl (set_off false name a m.visiting n.visiting out t ∙ h))
       ]
       forward a (inr (inr c)) = inr (inr (subst (λ (l : List NonterminalString). Contains l a) (sym grown) (Contains-append_left m.order.items (name ∷ []) a c)))

@@ -5,7 +5,7 @@ use Rattle.lalrpop_lr1.proofs.Types.{TerminalString, Token}
 use Rattle.lalrpop_base.proofs.theory.sets.BitLemmas.{rising-bits_of}
 use Rattle.lalrpop_lr1.specs.Words.{tokens_line, tokens_text, tokens_in}
 use Rattle.std.specs.List.{flat_map}
-use Rattle.std.proofs.lemmas.List.{flat_map_more, take_more, map-append}
+use Rattle.std.proofs.lemmas.List.{flat_map_more, take_more}
 use mathlib.Core.Bool.{true≢false}
 use Rattle.std.specs.Fmt.{WritesInCalls}
 use Rattle.std.proofs.Output.{contents_after_writes}
@@ -76,7 +76,3 @@ three_pieces start t1 t2 t3 a b c p q r = two_pieces start t1 t3 a _ p (two_piec
 -- four pieces, one after another
 pub four_pieces : (start t1 t2 t3 t4 a b c d : List ℕ) → t1 ≡ start ++ a → t2 ≡ t1 ++ b → t3 ≡ t2 ++ c → t4 ≡ t3 ++ d → t4 ≡ start ++ (a ++ (b ++ (c ++ d)))
 four_pieces start t1 t2 t3 t4 a b c d p q r s = two_pieces start t1 t4 a _ p (three_pieces t1 t2 t3 t4 b c d q r s)
-
--- the texts of one item more
-pub mapped_more : {X Y : Type 0} (f : X → Y) (xs : List X) (i : ℕ) (x : X) → i < length xs → x ≡ get_or xs i x → map f (take (i + 1) xs) ≡ map f (take i xs) ++ f x ∷ []
-mapped_more f xs i x inside same = ap (map f) (take_more xs i x inside) ∙ map-append f (take i xs) (get_or xs i x ∷ []) ∙ ap (λ y. map f (take i xs) ++ f y ∷ []) (sym same)

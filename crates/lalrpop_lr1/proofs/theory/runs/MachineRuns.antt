@@ -23,9 +23,10 @@ use Rattle.lalrpop_lr1.specs.declared.interpret.error.InterpretError.TheVariants
 use Rattle.lalrpop_lr1.specs.declared.interpret.machine.Machine.{Machine}
 use Rattle.lalrpop_lr1.specs.declared.interpret.machine.Progress.TheVariants.{Stuck, GoesOn, Ended}
 use Rattle.lalrpop_lr1.specs.declared.interpret.machine.Progress.{Progress}
-use Rattle.lalrpop_lr1.proofs.theory.runs.Outcomes.{Reads-append, Reaches-append, stop_later, failure_follows}
+use Rattle.lalrpop_lr1.proofs.theory.runs.Outcomes.{Reads-append, stop_later, failure_follows}
 use Rattle.lalrpop_lr1.proofs.theory.runs.Popping.{numbers_more}
 use Rattle.lalrpop_lr1.proofs.theory.runs.Stacks.{Found, found, on_stack, stack_length, step_keeps}
+use Rattle.lalrpop_base.proofs.theory.runs.Steps.{Reaches-append}
 
 -- a state that lies newest last has its number among those that lie newest first
 number_there : (xs : List StateIndex) (k : ℕ) (x : StateIndex) → slice_get xs k ≡ Some x → (j : ℕ) × (slice_get (numbers xs) j ≡ Some x.0)

@@ -7,10 +7,7 @@ use Rattle.lalrpop_lr1.specs.Words.{Reads, before, StopsReading, stuck, early_en
 use Rattle.lalrpop_lr1.specs.runs.Reading.{read}
 use Rattle.lalrpop_lr1.specs.declared.interpret.error.InterpretError.{InterpretError}
 use Rattle.lalrpop_lr1.specs.declared.interpret.error.InterpretError.TheVariants.{Refused as RefusedBy, Limit as LimitPassed, Memory}
-
-pub Reaches-append : {states : ℕ → Contents} {n m : ℕ} {c d e : Configuration} → Reaches states n c d → Reaches states m d e → Reaches states (n + m) c e
-Reaches-append {states} {m = m} {e = e} (here {c}) s = subst (λ k. Reaches states k c e) (omega arith) s
-Reaches-append {states} {m = m} {e = e} (further {n} {c} h r) s = subst (λ k. Reaches states k c e) (omega arith) (further h (Reaches-append r s))
+use Rattle.lalrpop_base.proofs.theory.runs.Steps.{Reaches-append}
 
 pub Reads-append : {states : ℕ → Contents} {n m : ℕ} {c d e : Configuration} → Reads states n c d → Reads states m d e → Reads states (n + m) c e
 Reads-append {states} {m = m} {e = e} (read {c}) s = subst (λ k. Reads states k c e) (omega arith) s

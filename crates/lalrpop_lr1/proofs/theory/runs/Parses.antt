@@ -9,10 +9,12 @@ use Rattle.lalrpop_base.specs.Words.{Reaches, here, further, begin, Parsed, HasO
 use Rattle.lalrpop_base.specs.states.States.{Reduction}
 use Rattle.lalrpop_lr1.proofs.Types.{Production, State, TerminalString, Token}
 use Rattle.lalrpop_base.specs.declared.lookahead.token.Token.TheVariants.{Eof, Terminal as TokenOf}
-use Rattle.lalrpop_base.proofs.theory.states.ContentsViews.{LeadAsItemsSay, contains_at, at_contains, contains_map, contains_of_map}
+use Rattle.lalrpop_base.proofs.theory.states.ContentsViews.{LeadAsItemsSay, contains_map, contains_of_map}
 use Rattle.lalrpop_lr1.specs.Words.{bottom, IsParsedIn}
 use Rattle.lalrpop_lr1.proofs.theory.trees.TreeViews.{leaves_cons}
-use Rattle.lalrpop_lr1.proofs.theory.runs.Stacks.{onto, Found, found, IsStackOf, step_keeps, same_goes, same_ends}
+use Rattle.lalrpop_lr1.proofs.theory.runs.Stacks.{onto, Found, found, IsStackOf, step_keeps}
+use Rattle.lalrpop_base.proofs.theory.runs.Steps.{same_goes, same_ends}
+use Rattle.lalrpop_base.proofs.theory.lists.Lists.{contains_place, place_contains}
 
 -- the terminals that the trees on a stack spell
 abbrev spelled : List Tree → List TerminalString
@@ -24,7 +26,7 @@ abbrev counted : List Tree → ℕ
 counted [] = 0
 counted (t ∷ trees) = counted trees + nodes (beside t no_trees)
 
-nodes_cons : (t : Tree) (ts : Trees) → nodes (beside t ts) ≡ nodes (beside t no_trees) + nodes ts
+pub nodes_cons : (t : Tree) (ts : Trees) → nodes (beside t ts) ≡ nodes (beside t no_trees) + nodes ts
 nodes_cons (Leaf x) ts = omega arith
 nodes_cons (Node a children) ts = omega arith
 
@@ -187,7 +189,7 @@ in_flat : {X A : Type 0} (f : X → List A) (xs : List X) (k : ℕ) (x : X) (y :
 in_flat f [] k x y e h = cc
 in_flat {X} f (z ∷ xs) zero x y e h =
     let same : z ≡ x = cc in
-    let (i, at) = contains_at (f x) y h in
+    let (i, at) = contains_place (f x) y h in
     in_front (f z) (flat_map f xs) i y (subst (λ (q : X). slice_get (f q) i ≡ Some y) (sym same) at)
 in_flat f (z ∷ xs) (suc k) x y e h = behind (f z) (flat_map f xs) y (in_flat f xs k x y e h)
 
@@ -201,4 +203,4 @@ reduces_by {L} holds states n r h = go (slice_get states n) refl h
         let (pair, there, same) = contains_of_map (reduction_of holds) s.reductions.items r k in
         let named : Contains (map (λ (q : L × Bor Production). q.1.now) s.reductions.items) pair.1.now = contains_map (λ (q : L × Bor Production). q.1.now) s.reductions.items pair there in
         let (j, at) = in_flat (λ (x : State L). map (λ (q : L × Bor Production). q.1.now) x.reductions.items) states n s pair.1.now e named in
-        subst (Contains (reduced_productions states)) (ap (λ (q : Reduction). q.production) same) (at_contains (reduced_productions states) j pair.1.now at)
+        subst (Contains (reduced_productions states)) (ap (λ (q : Reduction). q.production) same) (place_contains (reduced_productions states) j pair.1.now at)

@@ -9,6 +9,7 @@ use Rattle.lalrpop_base.specs.Words.{number_of, contents_at, contents_in, Goes, 
 use Rattle.lalrpop_lr1.proofs.Types.{Production, State, StateIndex, TerminalString, Token}
 use Rattle.lalrpop_lr1.specs.Words.{numbers, trees_on, tree_of}
 use Rattle.lalrpop_lr1.specs.declared.interpret.tree.ParseTree.{ParseTree}
+use Rattle.lalrpop_base.proofs.theory.lists.Lists.{Ended, nothing, last, ended}
 
 -- a list from its last element back is that of its last n elements and then that of the others
 record IsSplit {A : Type 0} (n : ℕ) (xs : List A) : Type 0 where
@@ -79,19 +80,6 @@ numbers_left n below s l =
     ∙ without n all fits
     ∙ ap (λ k. reverse (take (k - n) all)) same
     ∙ ap reverse (take-map number_of (length below + 1 - n) stack)
-
--- a list is empty, or has a last element
-data Ended {A : Type 0} : List A → Type 0 where
-  nothing : Ended []
-  last : (xs : List A) (x : A) → Ended (xs ++ x ∷ [])
-
-ended : {A : Type 0} (xs : List A) → Ended xs
-ended [] = nothing
-ended {A} (x ∷ xs) = go (ended xs)
-  where
-    go : {ys : List A} → Ended ys → Ended (x ∷ ys)
-    go nothing = last [] x
-    go (last ys y) = last (x ∷ ys) y
 
 get_last : {A : Type 0} (xs : List A) (x d : A) → get_or (xs ++ x ∷ []) (length xs) d ≡ x
 get_last [] x d = refl

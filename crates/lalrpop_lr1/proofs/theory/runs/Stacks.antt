@@ -1,51 +1,25 @@
 -- Over states that lead to one another as their items say, no reduction meets a stack that is too short.
-use Rattle.std.proofs.Common.{◌≡◌, ℕ, zero, suc, ◌<◌, ◌≤◌, Bool, true, false, cond, List, [], ◌∷◌, ◌++◌, take, drop, length, reverse, sym, subst, refl, ap, ◌∙◌, Option, Some, None, unwrap_or, arith}
+use Rattle.std.proofs.Common.{◌≡◌, ℕ, zero, suc, ◌<◌, ◌≤◌, Bool, true, false, cond, List, [], ◌∷◌, ◌++◌, take, drop, length, sym, subst, refl, ap, ◌∙◌, Option, Some, None, unwrap_or, arith}
 use Rattle.std.specs.Prelude.{Contains, slice_get}
-use Rattle.std.proofs.lemmas.List.{reverse-reverse, length-reverse}
-use Rattle.std.proofs.Math.Seq.{take-append_seam, drop-append_seam}
-use mathlib.Core.List.{reverse_aux, reverse_aux-eq}
 use Rattle.lalrpop_lr1.proofs.Types.{Production, Symbol, TerminalString, Token}
-use Rattle.lalrpop_base.specs.Words.{Contents, Tree, Leaf, Node, Trees, no_trees, beside, trees_of, root, roots, Configuration, reduction_on, Move, Stands}
+use Rattle.lalrpop_base.specs.Words.{Contents, Tree, Leaf, Node, Trees, no_trees, beside, root, roots, Configuration, reduction_on, Move, Stands}
 use Rattle.lalrpop_base.specs.Words.{Goes, Ends, reduced, goes_on, received, reduces, shifts_or, moves_on, move, Reaches, here, further}
 use Rattle.lalrpop_base.specs.states.States.{Reduction}
 use Rattle.lalrpop_base.specs.declared.lookahead.token.Token.TheVariants.{Eof, Terminal as TokenOf}
 use Rattle.lalrpop_base.proofs.theory.states.ContentsViews.{LeadAsItemsSay, IsEdge}
 use Rattle.lalrpop_lr1.specs.Words.{IsStack, bottom}
 use Rattle.lalrpop_lr1.specs.runs.Machines.{above}
+use Rattle.lalrpop_base.proofs.theory.runs.Steps.{reduced_is, same_goes}
+use Rattle.lalrpop_base.proofs.theory.lists.Lists.{take_all}
 
 -- the trees of a forest go onto the stack from the left
 abbrev pub list_of : Trees → List Tree
 list_of no_trees = []
 list_of (beside t ts) = t ∷ list_of ts
 
-trees-list : (ts : Trees) → trees_of (list_of ts) ≡ ts
-trees-list no_trees = refl
-trees-list (beside t ts) = ap (λ us. beside t us) (trees-list ts)
-
 abbrev pub onto : Trees → List Tree → List Tree
 onto no_trees trees = trees
 onto (beside t ts) trees = onto ts (t ∷ trees)
-
-onto_is : (ts : Trees) (trees : List Tree) → onto ts trees ≡ reverse_aux (list_of ts) trees
-onto_is no_trees trees = refl
-onto_is (beside t ts) trees = onto_is ts (t ∷ trees)
-
-length-roots : (ts : Trees) → length (roots ts) ≡ length (list_of ts)
-length-roots no_trees = refl
-length-roots (beside t ts) = ap suc (length-roots ts)
-
--- a reduction by p whose symbols are the roots of the newest trees gathers these
-pub reduced_is : (p : Production) (ts : Trees) (trees : List Tree) → p.symbols ≡ roots ts → reduced p (onto ts trees) ≡ Node p.nonterminal ts ∷ trees
-reduced_is p ts trees e =
-    let l : List Tree = list_of ts in
-    let n : length p.symbols ≡ length (reverse l) = ap length e ∙ length-roots ts ∙ sym (length-reverse l) in
-    let o : onto ts trees ≡ reverse l ++ trees = onto_is ts trees ∙ reverse_aux-eq l trees in
-    ap (λ us. reduced p us) o
-    ∙ ap (λ k. Node p.nonterminal (trees_of (reverse (take k (reverse l ++ trees)))) ∷ drop k (reverse l ++ trees)) n
-    ∙ ap (λ us. Node p.nonterminal (trees_of (reverse us)) ∷ drop (length (reverse l)) (reverse l ++ trees)) (take-append_seam (reverse l) trees)
-    ∙ ap (λ us. Node p.nonterminal (trees_of us) ∷ drop (length (reverse l)) (reverse l ++ trees)) (reverse-reverse l)
-    ∙ ap (λ us. Node p.nonterminal us ∷ drop (length (reverse l)) (reverse l ++ trees)) (trees-list ts)
-    ∙ ap (λ us. Node p.nonterminal ts ∷ us) (drop-append_seam (reverse l) trees)
 
 -- trees, and then one more
 abbrev pub then_tree : Trees → Tree → Trees
@@ -65,10 +39,6 @@ take_next : {A : Type 0} (n : ℕ) (xs : List A) (x : A) → slice_get xs n ≡ 
 take_next n [] x e = cc
 take_next zero (y ∷ xs) x e = ap (λ z. z ∷ []) (ap (λ o. unwrap_or o y) e)
 take_next (suc n) (y ∷ xs) x e = ap (λ zs. y ∷ zs) (take_next n xs x e)
-
-take_whole : {A : Type 0} (xs : List A) → take (length xs) xs ≡ xs
-take_whole [] = refl
-take_whole (x ∷ xs) = ap (λ ys. x ∷ ys) (take_whole xs)
 
 pub stack_length : {states : ℕ → Contents} {s : ℕ} {below : List ℕ} {trees : List Tree} → IsStack states s below trees → length trees ≡ length below
 stack_length bottom = refl
@@ -109,7 +79,7 @@ module _ (states : ℕ → Contents) (count : ℕ) (lead : LeadAsItemsSay states
   -- a reduction finds its symbols on the stack
   pub pop_whole : {s : ℕ} {below : List ℕ} {trees : List Tree} → IsStack states s below trees → (r : Reduction) → Contains (states s).reductions r → Popped states r.production.symbols (length r.production.symbols) s below trees
   pop_whole {s} {below} {trees} st r h =
-      subst (λ l. Popped states l (length r.production.symbols) s below trees) (take_whole r.production.symbols) (pop st r.production (length r.production.symbols) (lead.finished s r h))
+      subst (λ l. Popped states l (length r.production.symbols) s below trees) (take_all r.production.symbols) (pop st r.production (length r.production.symbols) (lead.finished s r h))
 
   -- each state of a stack is one of the list
   pub on_stack : 0 < count → {s : ℕ} {below : List ℕ} {trees : List Tree} → IsStack states s below trees → (k n : ℕ) → slice_get (s ∷ below) k ≡ Some n → n < count
@@ -143,16 +113,10 @@ going_to c Stands = c
 going_to c (Goes d) = d
 going_to c (Ends trees) = c
 
-pub same_goes : {c d : Configuration} → Goes c ≡ Goes d → c ≡ d
-same_goes {c} e = ap (going_to c) e
-
 abbrev pub ending_with : List Tree → Move → List Tree
 ending_with trees Stands = trees
 ending_with trees (Goes d) = trees
 ending_with trees (Ends us) = us
-
-pub same_ends : {ts us : List Tree} → Ends ts ≡ Ends us → ts ≡ us
-same_ends {ts} e = ap (ending_with ts) e
 
 abbrev pub IsStackOf : (ℕ → Contents) → Configuration → Type 0
 IsStackOf states c = IsStack states c.state c.below c.trees

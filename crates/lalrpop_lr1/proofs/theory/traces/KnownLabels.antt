@@ -1,11 +1,11 @@
 -- Symbols behind others, all of whose terminals are in a list.
 use Rattle.std.proofs.Common.{◌≡◌, ℕ, true, List, [], ◌∷◌, ◌++◌, refl, sym, ◌∙◌, ap, subst, zero, suc}
 use mathlib.Core.Bool.{true≢false}
-use Rattle.lalrpop_base.proofs.theory.states.ContentsViews.{at_contains}
 use Rattle.std.specs.Prelude.{Contains, IfSome, Option, Some, None, IsNone, is_some, slice_get}
 use Rattle.lalrpop_base.specs.Words.{HasKnownTerminals}
 use Rattle.lalrpop_lr1.proofs.Types.{Symbol, TerminalString}
 use Rattle.lalrpop_base.specs.declared.repr.Symbol.TheVariants.{Terminal}
+use Rattle.lalrpop_base.proofs.theory.lists.Lists.{place_contains}
 
 pub known_append : (terminals : List TerminalString) (xs ys : List Symbol) → HasKnownTerminals terminals xs → HasKnownTerminals terminals ys → HasKnownTerminals terminals (xs ++ ys)
 known_append terminals [] ys a b k t at = b k t at
@@ -31,5 +31,5 @@ known_there terminals x u None is found h k t e = absurd (true≢false (sym h))
 known_there terminals x u (Some n) is found h zero t e =
     let same : Some (Terminal u) ≡ Some (Terminal t) = ap (λ y. Some y) (sym is) ∙ e in
     let one : u ≡ t = cc in
-    subst (Contains terminals) one (at_contains terminals n u found)
+    subst (Contains terminals) one (place_contains terminals n u found)
 known_there terminals x u (Some n) is found h (suc k) t e = cc

@@ -2,18 +2,11 @@
 use Rattle.std.proofs.Common.{◌≡◌, inl, inr, List, [], ◌∷◌, ◌++◌, reverse, sym, ◌∙◌, ap, subst, append_assoc}
 use Rattle.std.specs.Prelude.{Contains}
 use Rattle.std.specs.List.{flat_map}
-use Rattle.std.proofs.lemmas.List.{reverse-append, reverse-reverse}
-use Rattle.std.proofs.lemmas.List.Sorted.{IsPermutation-reverse, Contains-permutation}
+use Rattle.std.proofs.lemmas.List.{reverse-append}
 use mathlib.Core.List.{tail-eq_of_cons-eq}
 use Rattle.lalrpop_base.proofs.theory.lists.Lists.{contains-cons, contains-nil}
 use Rattle.lalrpop_lr1.proofs.theory.inlining.InlineApart.{Apart, Apart-append}
-use Rattle.lalrpop_lr1.proofs.theory.inlining.InlineMembers.{from_flat_map}
-
-pub in_reverse : {A : Type 0} (xs : List A) (x : A) → Contains xs x → Contains (reverse xs) x
-in_reverse xs x c = Contains-permutation xs (reverse xs) x (IsPermutation-reverse xs) c
-
-pub from_reverse : {A : Type 0} (xs : List A) (x : A) → Contains (reverse xs) x → Contains xs x
-from_reverse {A} xs x c = subst (λ (ys : List A). Contains ys x) (reverse-reverse xs) (in_reverse (reverse xs) x c)
+use Rattle.lalrpop_base.proofs.theory.lists.Members.{of_flat, Contains-from_reverse}
 
 pub apart_one : {A : Type 0} (x : A) → Apart (x ∷ [])
 apart_one x = (λ c. contains-nil c, tt)
@@ -23,14 +16,14 @@ apart_reverse [] h = tt
 apart_reverse {A} (x ∷ xs) h =
     subst Apart (sym (reverse-append (x ∷ []) xs))
     (Apart-append (reverse xs) (x ∷ []) (apart_reverse xs h.1) (apart_one x)
-    (λ y c d. elim (contains-cons x [] y d) [ inl e ↦ h.0 (subst (λ (z : A). Contains xs z) (sym e) (from_reverse xs y c)) | inr n ↦ contains-nil n ]))
+    (λ y c d. elim (contains-cons x [] y d) [ inl e ↦ h.0 (subst (λ (z : A). Contains xs z) (sym e) (Contains-from_reverse xs y c)) | inr n ↦ contains-nil n ]))
 
 -- lists that are joined repeat nothing where none does, and no two have an element in common
 pub apart_flat_map : {A B : Type 0} (f : A → List B) (xs : List A) → Apart xs → ((x : A) → Apart (f x)) → ((x y : A) (p : B) → Contains (f x) p → Contains (f y) p → x ≡ y) → Apart (flat_map f xs)
 apart_flat_map f [] h each differ = tt
 apart_flat_map {A} {B} f (x ∷ xs) h each differ =
     Apart-append (f x) (flat_map f xs) (each x) (apart_flat_map f xs h.1 each differ)
-    (λ p c d. let r = from_flat_map f xs p d in h.0 (subst (λ (z : A). Contains xs z) (sym (differ x r.0 p c r.2)) r.1))
+    (λ p c d. let r = of_flat f xs p d in h.0 (subst (λ (z : A). Contains xs z) (sym (differ x r.0 p c r.2)) r.1))
 
 -- the same beginning is taken off
 pub same_behind : {A : Type 0} (front xs ys : List A) → front ++ xs ≡ front ++ ys → xs ≡ ys

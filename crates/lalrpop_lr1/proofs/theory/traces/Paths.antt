@@ -5,10 +5,11 @@ use Rattle.std.specs.List.{flat_map}
 use mathlib.Core.List.{head-eq_of_cons-eq}
 use Rattle.lalrpop_base.proofs.theory.lists.Lists.{contains-cons, contains-nil, contains_head}
 use Rattle.lalrpop_lr1.proofs.theory.inlining.InlineApart.{Apart}
-use Rattle.lalrpop_lr1.proofs.theory.inlining.InlineMembers.{from_flat_map, in_flat_map}
-use Rattle.lalrpop_lr1.proofs.theory.traces.PathLists.{in_reverse, from_reverse, apart_one, apart_reverse, apart_flat_map, same_behind, reverse_more}
+use Rattle.lalrpop_lr1.proofs.theory.traces.PathLists.{apart_one, apart_reverse, apart_flat_map, same_behind, reverse_more}
 use Rattle.lalrpop_lr1.specs.Words.{numbers_from, source, is_item, comes_again, over}
 use Rattle.lalrpop_lr1.specs.declared.trace.trace_graph.TraceGraph.{TraceGraph}
+use Rattle.lalrpop_base.proofs.theory.lists.Members.{of_flat, Contains-reverse, Contains-from_reverse}
+use Rattle.lalrpop_base.proofs.theory.lists.Bounded.{in_flat_map}
 
 -- what stands in a list that is made by a test
 one_if : (b : Bool) (path p : List ℕ) → Contains (cond b (path ∷ []) []) p → (b ≡ true) × (p ≡ path)
@@ -49,9 +50,9 @@ module _ (g : TraceGraph) where
   over_sound (suc n) taken k p c = elim (one_or (is_item (source g k)) (comes_again g k taken) (reverse (k ∷ taken)) (flat_map (over g n (k ∷ taken)) (reverse (numbers_from g k))) p c) [
     | inl h ↦ ([], h.1 ∙ sym (append-nil (reverse (k ∷ taken))), h.0)
     | inr h ↦
-        let r = from_flat_map (over g n (k ∷ taken)) (reverse (numbers_from g k)) p h.2 in
+        let r = of_flat (over g n (k ∷ taken)) (reverse (numbers_from g k)) p h.2 in
         let s = over_sound n (k ∷ taken) r.0 p r.2 in
-        (r.0 ∷ s.0, s.1 ∙ reverse_more r.0 (k ∷ taken) s.0, (h.0, h.1, from_reverse (numbers_from g k) r.0 r.1, s.2))
+        (r.0 ∷ s.0, s.1 ∙ reverse_more r.0 (k ∷ taken) s.0, (h.0, h.1, Contains-from_reverse (numbers_from g k) r.0 r.1, s.2))
   ]
 
   -- and each that goes on so, past no more nonterminals than are counted, is listed
@@ -64,7 +65,7 @@ module _ (g : TraceGraph) where
       let f = over g n (k ∷ taken) in
       subst (Contains (over g (suc n) taken k)) (reverse_more j (k ∷ taken) rest)
       (there_if (is_item (source g k)) (comes_again g k taken) (reverse (k ∷ taken)) (flat_map f (reverse (numbers_from g k))) (reverse (j ∷ (k ∷ taken)) ++ rest) h.0 h.1
-      (in_flat_map f (reverse (numbers_from g k)) j _ (in_reverse (numbers_from g k) j h.2) more))
+      (in_flat_map f (reverse (numbers_from g k)) j _ (Contains-reverse (numbers_from g k) j h.2) more))
 
   -- paths over two edges differ
   pub over_parts : (n m : ℕ) (taken : List ℕ) (x y : ℕ) (p : List ℕ) → Contains (over g n taken x) p → Contains (over g m taken y) p → x ≡ y

@@ -6,11 +6,10 @@ use Rattle.std.proofs.lemmas.Bool.{or_cases}
 use mathlib.Core.Bool.{true≢false}
 use Rattle.lalrpop_base.specs.Words.{Exactly, AllDiffer}
 use Rattle.lalrpop_base.proofs.theory.lists.Lists.{contains-cons, contains-nil, contains_head, contains_tail, contains_place, place_contains, same_some, some≢none}
-use Rattle.lalrpop_base.proofs.theory.lists.Members.{pigeonhole}
+use Rattle.lalrpop_base.proofs.theory.lists.Members.{pigeonhole, of_flat, Contains-reverse, Contains-from_reverse}
 use Rattle.lalrpop_base.proofs.theory.lists.Places.{apart_from_differ}
 use Rattle.lalrpop_lr1.proofs.theory.inlining.InlineApart.{Apart, apart_from, apart_to}
-use Rattle.lalrpop_lr1.proofs.theory.inlining.InlineMembers.{from_flat_map, in_flat_map, in_map}
-use Rattle.lalrpop_lr1.proofs.theory.traces.PathLists.{in_reverse, from_reverse, apart_reverse, apart_flat_map}
+use Rattle.lalrpop_lr1.proofs.theory.traces.PathLists.{apart_reverse, apart_flat_map}
 use Rattle.lalrpop_lr1.proofs.theory.traces.Paths.{GoesOn, over_sound, over_has, over_parts, over_apart}
 use Rattle.lalrpop_lr1.proofs.theory.traces.TraceGraphs.{place_sound, place_complete}
 use Rattle.lalrpop_lr1.specs.contracts.trace.node.TraceGraphNodeEq.TheImpl as node_equality
@@ -21,6 +20,8 @@ use Rattle.lalrpop_lr1.specs.Words.{target, are_one, comes_again, over, paths, p
 use Rattle.lalrpop_lr1.specs.declared.trace.node.TraceGraphNode.{TraceGraphNode}
 use Rattle.lalrpop_lr1.specs.declared.trace.trace_graph.TraceGraph.{TraceGraph}
 use Rattle.lalrpop_lr1.specs.declared.trace.trace_graph.TraceGraphEdge.{TraceGraphEdge}
+use Rattle.lalrpop_base.proofs.theory.states.ContentsViews.{contains_map}
+use Rattle.lalrpop_base.proofs.theory.lists.Bounded.{in_flat_map}
 
 -- equal nodes pass the test
 ones : (eq : (a : TraceGraphNode) → node_eq.ghosts.eq a a ≡ true) (a : TraceGraphNode) (x y : Option TraceGraphNode) → x ≡ Some a → y ≡ Some a → are_one x y ≡ true
@@ -186,7 +187,7 @@ module _ (g : TraceGraph) (nodes : List TraceGraphNode) (listed : IsListed g nod
   passed_nodes taken k (j ∷ rest) h x c =
       let s = numbers_there g (edge_of g k) j h.2 in
       elim (contains-cons (source g k) (passed g (j ∷ rest)) x c) [
-        | inl e ↦ subst (λ (y : Option TraceGraphNode). Contains (map Some nodes) y) (ap source_of (sym s.1) ∙ e) (in_map Some nodes s.0.from (listed.ends k s.0 s.1))
+        | inl e ↦ subst (λ (y : Option TraceGraphNode). Contains (map Some nodes) y) (ap source_of (sym s.1) ∙ e) (contains_map Some nodes s.0.from (listed.ends k s.0 s.1))
         | inr f ↦ passed_nodes (k ∷ taken) j rest h.3 x f
       ]
 
@@ -206,7 +207,7 @@ module _ (g : TraceGraph) (nodes : List TraceGraphNode) (listed : IsListed g nod
       let on = goes_on start [] k rest h.goes (apart_from (passed g (k ∷ rest)) h.once) (λ x c d. contains-nil d) in
       let t : target g k ≡ Some start = first_target (Some start) k rest h.goes in
       let f = over g (node_count g) [] in
-      in_flat_map f (reverse (numbers_to g start)) k (k ∷ rest) (in_reverse (numbers_to g start) k ((listed.leads start k).1 t)) (over_has g (node_count g) [] k rest (few [] k rest on) on)
+      in_flat_map f (reverse (numbers_to g start)) k (k ∷ rest) (Contains-reverse (numbers_to g start) k ((listed.leads start k).1 t)) (over_has g (node_count g) [] k rest (few [] k rest on) on)
     where
       first_target : (here : Option TraceGraphNode) (j : ℕ) (rest : List ℕ) → GoesBack g here (j ∷ rest) → target g j ≡ here
       first_target here j [] b = b.0
@@ -214,9 +215,9 @@ module _ (g : TraceGraph) (nodes : List TraceGraphNode) (listed : IsListed g nod
 
   listed_path : (start : TraceGraphNode) (p : List ℕ) → Contains (paths g start) p → IsPath g start p
   listed_path start p c =
-      let r = from_flat_map (over g (node_count g) []) (reverse (numbers_to g start)) p c in
+      let r = of_flat (over g (node_count g) []) (reverse (numbers_to g start)) p c in
       let s = over_sound g (node_count g) [] r.0 p r.2 in
-      let t = (listed.leads start r.0).0 (from_reverse (numbers_to g start) r.0 r.1) in
+      let t = (listed.leads start r.0).0 (Contains-from_reverse (numbers_to g start) r.0 r.1) in
       let is : IsPath g start (r.0 ∷ s.0) = record { goes = goes (Some start) [] r.0 s.0 t s.2; once = apart_to (passed g (r.0 ∷ s.0)) (passes [] r.0 s.0 s.2).0 } in
       subst (IsPath g start) (sym s.1) is
 

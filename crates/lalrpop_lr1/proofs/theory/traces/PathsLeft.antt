@@ -7,12 +7,12 @@ use Rattle.std.proofs.lemmas.Option.{slice_get_within, slice_get-get_or}
 use Rattle.lalrpop_base.proofs.theory.lists.Lists.{same_some, some≢none, contains-nil, contains-cons, place_contains}
 use Rattle.lalrpop_lr1.specs.Words.{path_of, source, is_item, are_one, comes_again, over, left_over, node_count, numbers_to, numbers_from, numbers_at, frames}
 use Rattle.lalrpop_lr1.specs.Words.{remaining, and_behind, paths_over}
-use Rattle.lalrpop_lr1.proofs.theory.inlining.InlineMembers.{in_map}
-use Rattle.lalrpop_lr1.proofs.theory.traces.PathLists.{in_reverse}
 use Rattle.lalrpop_lr1.specs.declared.trace.enumerator.EnumeratorState.{EnumeratorState}
 use Rattle.lalrpop_lr1.specs.declared.trace.enumerator.PathEnumerator.{PathEnumerator}
 use Rattle.lalrpop_lr1.specs.declared.trace.node.TraceGraphNode.{TraceGraphNode}
 use Rattle.lalrpop_lr1.specs.declared.trace.trace_graph.TraceGraph.{TraceGraph}
+use Rattle.lalrpop_base.proofs.theory.states.ContentsViews.{contains_map}
+use Rattle.lalrpop_base.proofs.theory.lists.Members.{Contains-reverse}
 
 pub take_more : {A : Type 0} (ks : List A) (i : ℕ) (k : A) → slice_get ks i ≡ Some k → take (suc i) ks ≡ take i ks ++ k ∷ []
 take_more [] i k e = absurd (omega (arith, slice_get_within [] i k e))
@@ -102,7 +102,7 @@ again_there g k (i ∷ taken) j c e = elim (contains-cons i taken j c) [
 
 pub again_at : (g : TraceGraph) (k : ℕ) (states : List EnumeratorState) (i : ℕ) (s : EnumeratorState) → slice_get states i ≡ Some s → are_one (source g s.number) (source g k) ≡ true → comes_again g k (path_of (reverse states)) ≡ true
 again_at g k states i s at e =
-    again_there g k (path_of (reverse states)) s.number (in_map (λ (t : EnumeratorState). t.number) (reverse states) s (in_reverse states s (place_contains states i s at))) e
+    again_there g k (path_of (reverse states)) s.number (contains_map (λ (t : EnumeratorState). t.number) (reverse states) s (Contains-reverse states s (place_contains states i s at))) e
 
 pub again_among : (g : TraceGraph) (k : ℕ) (all states : List EnumeratorState) (i : ℕ) (d : EnumeratorState) → all ≡ states → i < length all → are_one (source g (get_or all i d).number) (source g k) ≡ true → comes_again g k (path_of (reverse states)) ≡ true
 again_among g k all states i d same l e =

@@ -13,14 +13,13 @@ use Rattle.std.specs.declared.cmp.Ordering.TheVariants.{Equal}
 use Rattle.std.proofs.lemmas.Bool.{cases_Bool}
 use Rattle.std.proofs.lemmas.List.{drop_all, map-append}
 use Rattle.std.proofs.lemmas.List.Elements.{Contains-append_left, Contains-push_cases}
-use Rattle.std.proofs.lemmas.Option.{slice_get_within}
 use mathlib.Core.Bool.{true≢false}
 use lib.Pointwise.{pointwise}
-use Rattle.lalrpop_base.specs.Words.{list_exact, both, Dotted, IsNumbering, by_number, key_numbered, AddsOnce, collection_at, PushesAt, SameAt, AllDiffer}
+use Rattle.lalrpop_base.specs.Words.{list_exact, both, IsNumbering, by_number, key_numbered, AddsOnce, collection_at, PushesAt, SameAt, AllDiffer}
 use Rattle.lalrpop_base.specs.contracts.exact.SymbolExact.TheImpl as symbol_exactly
 use Rattle.lalrpop_base.specs.contracts.repr.SymbolEq.TheImpl.Laws as symbol_equality
 use Rattle.lalrpop_base.specs.contracts.repr.SymbolPartialEq.TheImpl as symbol_eq
-use Rattle.lalrpop_lr1.proofs.Types.{Nil, Symbol}
+use Rattle.lalrpop_lr1.proofs.Types.{Symbol}
 use Rattle.lalrpop_base.specs.declared.lr1_core.symbol_sets.SymbolSets.{SymbolSets}
 use Rattle.lalrpop_base.proofs.theory.states.KernelLemmas.{IsNext, all_differ, list_grows, next_numbering, exact_by_cmp}
 use Rattle.lalrpop_base.proofs.theory.lists.MultimapLemmas.{tied_at, everywhere}
@@ -37,16 +36,9 @@ use Rattle.lalrpop_lr1.specs.declared.trace.node.TraceGraphNode.{TraceGraphNode}
 use Rattle.lalrpop_lr1.specs.declared.trace.trace_graph.TraceGraphEdge.{TraceGraphEdge}
 
 -- ---- nodes
-
 -- nodes that tie in order are one
 pub tied_nodes : (x y : TraceGraphNode) → node_ord.ghosts.cmp x y ≡ Equal → x ≡ y
 tied_nodes = exact_by_cmp node_eq.ghosts.eq node_ord.ghosts.cmp node_exactly.Laws.exact-law node_ord.Laws.matches_eq-law
-
--- an item without its lookahead
-pub same_item : (a b : Dotted Nil) → a.production ≡ b.production → a.index ≡ b.index → a ≡ b
-same_item a b p i =
-    ap (λ q. let item : Dotted Nil = record { production = q; index = a.index; lookahead = a.lookahead } in item) p
-    ∙ ap (λ n. let item : Dotted Nil = record { production = b.production; index = n; lookahead = a.lookahead } in item) i
 
 -- what a map of numbers has is numbered
 numbered_some : {K : Type 0} (o : Option K) → IsTrue (is_some o) → (k : K) × (o ≡ Some k)
@@ -91,7 +83,6 @@ kept_more {old} {new} {edges} {incoming} {k} {v} kept step = record {
 }
 
 -- ---- edges
-
 pub ends_push : (nodes : List TraceGraphNode) (edges : List TraceGraphEdge) (e : TraceGraphEdge) → HaveEnds nodes edges → Contains nodes e.from → Contains nodes e.to → HaveEnds nodes (edges ++ e ∷ [])
 ends_push nodes edges e ends from to k f at =
     elim (push_cases edges e k f at) [
@@ -144,7 +135,6 @@ places_kept old new key n edges e is_key is_n pushed others kept q =
     (cases_Bool (is_eq (node_ord.ghosts.cmp key q)))
 
 -- ---- places
-
 -- a place is that of an edge to the node
 pub place_sound : (n : ℕ) (node : TraceGraphNode) (edges : List TraceGraphEdge) (j p : ℕ) → slice_get (places_from n node edges) j ≡ Some p → (k : ℕ) × (e : TraceGraphEdge) × (p ≡ n + k) × (slice_get edges k ≡ Some e) × (e.to ≡ node)
 place_sound n node [] j p at = cc
@@ -178,7 +168,6 @@ place_complete n node (x ∷ edges) (suc k) e at to =
     ]
 
 -- ---- labels
-
 pointwise_itself : (xs : List Symbol) → pointwise symbol_eq.ghosts.eq xs xs ≡ true
 pointwise_itself [] = refl
 pointwise_itself (x ∷ xs) = ap (λ b. b && pointwise symbol_eq.ghosts.eq xs xs) (symbol_equality.laws-law.refl x) ∙ pointwise_itself xs
@@ -238,7 +227,6 @@ pub plain_there : (edges : List TraceGraphEdge) (k : ℕ) (e : TraceGraphEdge) �
 plain_there edges k e at = contains_map plain edges e (contains_at edges e k at)
 
 -- ---- what is kept, with the same entries
-
 pub kept_same : {old new : BTreeMap TraceGraphNode ℕ} {edges : List TraceGraphEdge} {incoming : List (TraceGraphNode × Vec ℕ Global)} → new.entries ≡ old.entries → IsKept old (by_number old.entries) edges incoming → IsKept new (by_number new.entries) edges incoming
 kept_same {old} {new} {edges} {incoming} same kept =
     let lookup_same : (k : TraceGraphNode) → get node_ord.ghosts.cmp new k ≡ get node_ord.ghosts.cmp old k = λ k. ap (λ es. lookup (is_at (node_ord.ghosts.cmp k)) es) same in

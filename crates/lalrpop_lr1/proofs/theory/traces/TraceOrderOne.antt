@@ -1,10 +1,9 @@
 -- A backtrace has one list of edges, and one of nodes, that are in order.
-use Rattle.std.proofs.Common.{◌≡◌, ◌≢◌, ◌↔◌, ◌⊎◌, inl, inr, ℕ, ◌<◌, Bool, true, false, cond, List, [], ◌∷◌, ◌++◌, refl, sym, ◌∙◌, ap, subst, arith}
+use Rattle.std.proofs.Common.{◌≡◌, ◌≢◌, ◌↔◌, ◌⊎◌, inl, inr, ℕ, ◌<◌, List, [], ◌∷◌, ◌++◌, refl, sym, ◌∙◌, ap, subst, arith}
 use Rattle.std.specs.Prelude.{slice_get, Some, Contains, nat_lt, ◌==◌}
-use Rattle.std.proofs.lemmas.Bool.{ltb-true}
 use Rattle.std.specs.List.{AllByRecursion}
 use Rattle.std.specs.List.Sorted.{IsStrictlySortedBy}
-use Rattle.std.specs.declared.cmp.Ordering.TheVariants.{Less, Equal, Greater}
+use Rattle.std.specs.declared.cmp.Ordering.TheVariants.{Less}
 use Rattle.lalrpop_base.specs.Words.{Bits, Dotted}
 use Rattle.lalrpop_lr1.proofs.Types.{Production, StateIndex}
 use Rattle.lalrpop_base.specs.declared.repr.Symbol.TheVariants.{Nonterminal}
@@ -13,9 +12,9 @@ use Rattle.lalrpop_base.proofs.theory.lists.Members.{Contains-none, contains_hea
 use Rattle.lalrpop_lr1.specs.Words.{Graph, PlainEdge, plain_edges, AddsInTurn, all_added, left_out, put_behind, ends_of, stop_edge, onward_edges, Duty, come_to}
 use Rattle.lalrpop_lr1.specs.Words.{take_up, come_to_each, take_up_each, items_at, AreSources, Walks, ends, known, meets, passes, IsInOrder, Backtrace, Meeting, GoesOn, own_edge}
 use Rattle.lalrpop_lr1.specs.traces.TraceOrder.{stops, goes_on}
+use Rattle.lalrpop_base.proofs.theory.grammars.AscendingItems.{less_number_at}
 
 -- ---- values added in turn
-
 of_none : {X : Type 0} (old ys new : List X) → AddsInTurn old ys new → ys ≡ [] → old ≡ new
 of_none old ys new all_added e = refl
 of_none old ys new (left_out c rest) e = cc
@@ -41,16 +40,11 @@ turn_one other (left_out {old = old} {xs = xs} {x = x} c rest) second = elim (of
 turn_one other (put_behind {old = old} {xs = xs} {x = x} out rest) second = elim (of_more x xs old (x ∷ xs) other second refl) [ inl h ↦ absurd (out h.0) | inr h ↦ turn_one other rest h.1 ]
 
 -- ---- states in order
-less_at : (m n : ℕ) (b c : Bool) → nat_lt m n ≡ b → cond b Less (cond c Equal Greater) ≡ Less → m < n
-less_at m n true c e h = ltb-true m n e
-less_at m n false true e h = cc
-less_at m n false false e h = cc
-
 below_rest : (x : StateIndex) (xs : List StateIndex) → AllByRecursion (λ y. state_cmp x y ≡ Less) xs → (y : StateIndex) → Contains xs y → x.0 < y.0
 below_rest x [] all y c = absurd (Contains-none y c)
 below_rest x (z ∷ zs) all y c =
     let P : StateIndex → Type 0 = λ w. x.0 < w.0 in
-    elim (contains-cons z zs y c) [ inl e ↦ subst P e (less_at x.0 z.0 (nat_lt x.0 z.0) (x.0 == z.0) refl all.0) | inr later ↦ below_rest x zs all.1 y later ]
+    elim (contains-cons z zs y c) [ inl e ↦ subst P e (less_number_at x.0 z.0 (nat_lt x.0 z.0) (x.0 == z.0) refl all.0) | inr later ↦ below_rest x zs all.1 y later ]
 
 states_one : (xs ys : List StateIndex) → IsStrictlySortedBy state_cmp xs → IsStrictlySortedBy state_cmp ys → ((r : StateIndex) → Contains xs r ↔ Contains ys r) → xs ≡ ys
 unfolding IsStrictlySortedBy
@@ -78,7 +72,6 @@ states_one (x ∷ xs) (y ∷ ys) s t same =
     ap (λ (z : StateIndex). z ∷ xs) head ∙ ap (λ (zs : List StateIndex). y ∷ zs) (states_one xs ys s.1 t.1 rest)
 
 -- ---- walks
-
 module _ (b : Backtrace) where
   sources_one : (p : Production) (index : ℕ) (state : StateIndex) (xs ys : List StateIndex) → AreSources b p index state xs → AreSources b p index state ys → xs ≡ ys
   sources_one p index state xs ys s t = states_one xs ys s.ascending t.ascending (λ r. (λ c. (t.exactly r).1 ((s.exactly r).0 c), λ c. (s.exactly r).1 ((t.exactly r).0 c)))

@@ -13,13 +13,12 @@ use Rattle.lalrpop_lr1.specs.Words.{Backtrace, Meeting, Takes, GoesOn, Duty, com
 use Rattle.lalrpop_lr1.specs.Words.{IsInsertedPair, AddsInOrder, duties_of, duties_left, names_in, AreNamed, work, WalksOn, IsStep}
 use Rattle.lalrpop_lr1.specs.declared.trace.meeting.Met.{Met}
 use Rattle.lalrpop_lr1.specs.declared.trace.meeting.Task.{Task}
-use Rattle.lalrpop_lr1.proofs.theory.inlining.InlineMembers.{from_map}
 use Rattle.lalrpop_lr1.proofs.theory.traces.Meetings.{named_item, come_work, met_work, item_work, sources_work}
 use Rattle.lalrpop_lr1.proofs.theory.traces.TraceOrder.{walks_none, walks_then, walks_known, walks_met, walks_past, walks_stop, walks_on}
+use Rattle.lalrpop_base.proofs.theory.states.ContentsViews.{contains_of_map}
 
 module _ (b : Backtrace) where
   -- ---- duties of a stack
-
   -- a task more on top
   pub duties_push : (tasks : List Task) (task : Task) → duties_left b (tasks ++ task ∷ []) ≡ duties_of b task ++ duties_left b tasks
   duties_push tasks task = ap (λ (ts : List Task). flat_map (duties_of b) ts) (reverse-append tasks (task ∷ []))
@@ -39,10 +38,9 @@ module _ (b : Backtrace) where
       ∙ ap (λ (ds : List Duty). map come left ++ ds) (sym top)
 
   -- ---- names
-
   named_taken : (m : Meeting) (items : List (Dotted Bits)) (duties : List Duty) → AreNamed b duties → AreNamed b (take_up_each m items ++ duties)
   named_taken m items duties named q c = elim (Contains-append_cases (take_up_each m items) duties (come_to q) c) [
-    | inl k ↦ (let from = from_map (take_up m) items (come_to q) k in let apart : take_up m from.0 ≡ come_to q = from.2 in cc)
+    | inl k ↦ (let from = contains_of_map (take_up m) items (come_to q) k in let apart : take_up m from.0 ≡ come_to q = from.2 in cc)
     | inr k ↦ named q k
   ]
 
@@ -60,7 +58,7 @@ module _ (b : Backtrace) where
   pub named_sources : (p : Production) (sources : List StateIndex) (duties : List Duty) → Contains (names_in b) p.nonterminal → AreNamed b duties → AreNamed b (come_to_each p sources ++ duties)
   named_sources p sources duties among named q c = elim (Contains-append_cases (come_to_each p sources) duties (come_to q) c) [
     | inl k ↦
-        let from = from_map (λ (n : StateIndex). come_to (n, p.nonterminal)) sources (come_to q) k in
+        let from = contains_of_map (λ (n : StateIndex). come_to (n, p.nonterminal)) sources (come_to q) k in
         let same : come_to (from.0, p.nonterminal) ≡ come_to q = from.2 in
         let is : (from.0, p.nonterminal) ≡ q = cc in
         subst (Contains (names_in b)) (ap (λ (m : Meeting). m.1) is) among
@@ -68,7 +66,6 @@ module _ (b : Backtrace) where
   ]
 
   -- ---- items that shift another symbol, or none
-
   -- the walk passes over those from one place on up to another, which leaves no more to be done
   pub record IsPassed (m : Meeting) (items : List (Dotted Bits)) (duties : List Duty) (met : Met) (next place : ℕ) : Type 0 where
     pub walks : WalksOn b (take_up_each m (drop next items) ++ duties) (take_up_each m (drop place items) ++ duties) met met
@@ -92,7 +89,6 @@ module _ (b : Backtrace) where
         }
 
   -- ---- steps
-
   module _ (tasks : List Task) where
     module _ (old middle : Met) (fresh : Bool) (m : Meeting) (inserted : IsInsertedPair fresh m old.visited_set middle.visited_set) (same : middle.trace_graph ≡ old.trace_graph) (named : AreNamed b (come_to m ∷ duties_left b tasks)) where
       -- to a nonterminal that was met before

@@ -6,7 +6,7 @@ use Rattle.std.proofs.lemmas.Option.{slice_get_cases}
 use Rattle.lalrpop_base.specs.Words.{Rules, HasKnownTerminals}
 use Rattle.lalrpop_lr1.proofs.Types.{NonterminalString, Production, Symbol, TerminalString}
 use Rattle.lalrpop_base.specs.declared.repr.Symbol.TheVariants.{Nonterminal as NonterminalOf, Terminal}
-use Rattle.lalrpop_base.proofs.theory.states.ContentsViews.{contains_map, at_contains}
+use Rattle.lalrpop_base.proofs.theory.states.ContentsViews.{contains_map}
 use Rattle.lalrpop_base.proofs.theory.closures.Closing.{drop_split}
 use Rattle.lalrpop_lr1.specs.Words.{name_of, cursor_list, IsRightSide, CarryRightSides, Graph, PlainEdge, plain, AreKnownEdges, Backtrace, IsTraced, first}
 use Rattle.lalrpop_lr1.specs.Words.{given, Gives, onward, itself, IsTraceOf, dot_edge, dotted, HasOwnProductions, HasOwnTerminals}
@@ -14,6 +14,7 @@ use Rattle.lalrpop_lr1.specs.traces.Traces.{stops}
 use Rattle.lalrpop_lr1.specs.declared.trace.node.TraceGraphNode.{TraceGraphNode}
 use Rattle.lalrpop_lr1.specs.declared.trace.node.TraceGraphNode.TheVariants.{Nonterminal as NameNode, Item as ItemNode}
 use Rattle.lalrpop_lr1.specs.declared.trace.trace_graph.TraceGraphEdge.{TraceGraphEdge}
+use Rattle.lalrpop_base.proofs.theory.lists.Lists.{place_contains}
 
 -- a list is what stands before a place, at it and behind it
 around : (xs : List Symbol) (i : ℕ) → take i xs ++ (cursor_list (slice_get xs i) ++ drop (i + 1) xs) ≡ xs
@@ -61,7 +62,7 @@ module _ (b : Backtrace) (own : HasOwnProductions b) where
 
   pub traced_right_sides : (graph : Graph) → IsTraceOf b graph → CarryRightSides b.productions graph.edges
   traced_right_sides graph trace k e at =
-      let c = traced_carries (plain e) ((trace.exactly (plain e)).0 (contains_map plain graph.edges e (at_contains graph.edges k e at))) in
+      let c = traced_carries (plain e) ((trace.exactly (plain e)).0 (contains_map plain graph.edges e (place_contains graph.edges k e at))) in
       record { right_side = c.right_side; cursor = c.cursor }
 
 -- ---- the parts of a right side whose terminals are known

@@ -5,7 +5,7 @@ use Rattle.std.proofs.lemmas.List.Elements.{Contains-append_left, Contains-appen
 use Rattle.lalrpop_base.specs.Words.{AllDiffer, Bits, Dotted}
 use Rattle.lalrpop_lr1.proofs.Types.{NonterminalString, Production, State, StateIndex}
 use Rattle.lalrpop_base.specs.declared.repr.Symbol.TheVariants.{Nonterminal}
-use Rattle.lalrpop_base.proofs.theory.lists.Members.{Contains-none, contains_head, contains_tail, contains-cons}
+use Rattle.lalrpop_base.proofs.theory.lists.Members.{Contains-none, contains_head, contains_tail, contains-cons, of_flat}
 use Rattle.lalrpop_lr1.specs.Words.{Graph, PlainEdge, plain, plain_edges, IsEnd, AddsInTurn, all_added, left_out, put_behind, ends_of, stop_edge, onward_edges, Duty, come_to}
 use Rattle.lalrpop_lr1.specs.Words.{take_up, come_to_each, take_up_each, items_at, AreSources, Walks, ends, known, meets, passes, IsInOrder, Backtrace, Meeting}
 use Rattle.lalrpop_lr1.specs.Words.{own_edge, StandsIn, Takes, GoesOn, IsSource, IsMet, begins, Gives, onward, itself, IsTraced, first, given, IsTraceOf}
@@ -14,12 +14,12 @@ use Rattle.lalrpop_lr1.specs.traces.TraceOrder.{stops, goes_on}
 use Rattle.lalrpop_lr1.specs.declared.trace.ground.Traced.{Traced}
 use Rattle.lalrpop_lr1.specs.declared.trace.ground.Traced.TheVariants.{Shift, Reduce}
 use Rattle.lalrpop_lr1.specs.declared.trace.node.TraceGraphNode.{TraceGraphNode}
-use Rattle.lalrpop_lr1.proofs.theory.inlining.InlineMembers.{in_map, from_map, in_flat_map, from_flat_map}
 use Rattle.lalrpop_base.proofs.theory.lists.Places.{differ_push}
 use Rattle.lalrpop_lr1.proofs.theory.traces.TraceGraphs.{plain_there}
+use Rattle.lalrpop_base.proofs.theory.states.ContentsViews.{contains_of_map, contains_map}
+use Rattle.lalrpop_base.proofs.theory.lists.Bounded.{in_flat_map}
 
 -- ---- values added in turn
-
 -- those before stay
 turn_keeps : {X : Type 0} {old xs new : List X} → AddsInTurn old xs new → (x : X) → Contains old x → Contains new x
 turn_keeps all_added x c = c
@@ -54,7 +54,6 @@ turn_differs (left_out k rest) differ = turn_differs rest differ
 turn_differs (put_behind {old = old} {x = y} out rest) differ = turn_differs rest (differ_push old y differ out)
 
 -- ---- ends
-
 abbrev both_ends : PlainEdge → List TraceGraphNode
 both_ends e = e.from ∷ e.to ∷ []
 
@@ -72,10 +71,9 @@ in_ends : (es : List PlainEdge) (n : TraceGraphNode) → IsEnd es n → Contains
 in_ends es n end = in_flat_map both_ends es end.0 n end.1 (end_there end.0 n end.2)
 
 from_ends : (es : List PlainEdge) (n : TraceGraphNode) → Contains (ends_of es) n → IsEnd es n
-from_ends es n c = let from = from_flat_map both_ends es n c in (from.0, from.1, end_of from.0 n from.2)
+from_ends es n c = let from = of_flat both_ends es n c in (from.0, from.1, end_of from.0 n from.2)
 
 -- ---- items of a state
-
 item_stands : (states : List (State Bits)) (state : StateIndex) (o : Option (State Bits)) → slice_get states state.0 ≡ o → (item : Dotted Bits) → Contains (items_at o) item → StandsIn states state item
 item_stands states state None at item c = absurd (Contains-none item c)
 item_stands states state (Some s) at item c = (s, at, c)
@@ -85,7 +83,6 @@ stands_there states state item stands = subst (λ (o : Option (State Bits)). Con
 
 module _ (b : Backtrace) where
   -- ---- what an item that goes on gives
-
   onward_given : (traced : Traced) (name : NonterminalString) (item : Dotted Bits) → b.traced ≡ traced → GoesOn b item → (e : PlainEdge) → Contains (onward_edges traced name item) e → Gives b name item e
   onward_given Shift name item is on e c = elim (contains-cons _ [] e c) [ inl h ↦ onward on (sym h) | inr none ↦ absurd (Contains-none e none) ]
   onward_given Reduce name item is on e c = elim (contains-cons _ (own_edge item.production item.index ∷ []) e c) [
@@ -101,7 +98,6 @@ module _ (b : Backtrace) where
   onward_there traced name item is on e (gives_stop out h) = absurd (out on)
 
   -- ---- a walk gives no edges but those of the backtrace
-
   -- a duty that the backtrace has: what is come to is met, and what is taken up stands in a state, for a nonterminal that was met there
   abbrev IsOwed : Duty → Type 0
   IsOwed (come_to m) = IsMet b m
@@ -115,11 +111,11 @@ module _ (b : Backtrace) where
   source_there p index state sources are m source =
       let P : Meeting → Type 0 = λ q. Contains (come_to_each p sources) (come_to q) in
       let name : (m.0, p.nonterminal) ≡ m = ap (λ (a : NonterminalString). let q : Meeting = (m.0, a) in q) (sym source.0) in
-      subst P name (in_map (λ (n : StateIndex). come_to (n, p.nonterminal)) sources m.0 ((are.exactly m.0).1 source.1))
+      subst P name (contains_map (λ (n : StateIndex). come_to (n, p.nonterminal)) sources m.0 ((are.exactly m.0).1 source.1))
 
   owed_sources : (p : Production) (index : ℕ) (state : StateIndex) (sources : List StateIndex) → AreSources b p index state sources → ((m : Meeting) → IsSource b p index state m → IsMet b m) → AreOwed (come_to_each p sources)
   owed_sources p index state sources are met d c =
-      let from = from_map (λ (n : StateIndex). come_to (n, p.nonterminal)) sources d c in
+      let from = contains_of_map (λ (n : StateIndex). come_to (n, p.nonterminal)) sources d c in
       subst IsOwed from.2 (met (from.0, p.nonterminal) (refl, (are.exactly from.0).0 from.1))
 
   owed_both : (one two : List Duty) → AreOwed one → AreOwed two → AreOwed (one ++ two)
@@ -128,7 +124,7 @@ module _ (b : Backtrace) where
   owed_items : (m : Meeting) → IsMet b m → AreOwed (take_up_each m (items_at (slice_get b.states m.0.0)))
   owed_items m met d c =
       let items = items_at (slice_get b.states m.0.0) in
-      let from = from_map (take_up m) items d c in
+      let from = contains_of_map (take_up m) items d c in
       subst IsOwed from.2 (met, item_stands b.states m.0 (slice_get b.states m.0.0) refl from.0 from.1)
 
   gives_traced : {met : List Meeting} {duties : List Duty} {es : List PlainEdge} → Walks b met duties es → AreOwed duties → (e : PlainEdge) → Contains es e → IsTraced b e
@@ -153,7 +149,6 @@ module _ (b : Backtrace) where
       ]
 
   -- ---- and it gives each of them
-
   -- the edges that the item gives where it takes the nonterminal are there, and what it leads to was met
   record IsDone (met : List Meeting) (es : List PlainEdge) (m : Meeting) (item : Dotted Bits) : Type 0 where
     gives : (e : PlainEdge) → Gives b m.1 item e → Contains es e
@@ -214,7 +209,7 @@ module _ (b : Backtrace) where
           ];
           finished = λ m c. elim (later.finished m c) [
             | inl d ↦ elim (contains-cons n met m d) [
-              | inl same ↦ inr (subst (IsFinished later.after es) same (λ item takes. later.takes n item (Contains-append_left (take_up_each n items) duties (take_up n item) (in_map (take_up n) items item (stands_there b.states n.0 item takes.0))) takes))
+              | inl same ↦ inr (subst (IsFinished later.after es) same (λ item takes. later.takes n item (Contains-append_left (take_up_each n items) duties (take_up n item) (contains_map (take_up n) items item (stands_there b.states n.0 item takes.0))) takes))
               | inr before ↦ inl before
             ]
             | inr fin ↦ inr fin
@@ -290,7 +285,6 @@ module _ (b : Backtrace) where
   completes (goes_on {met = met} {m = n} {item = item} {duties = duties} {es = es} sources others at on are w is) = completes_on met duties n item sources others es on are is (completes w)
 
   -- ---- the whole of it
-
   module _ (graph : Graph) (order : IsInOrder b graph) where
     all : List PlainEdge
     all = own_edge b.item.production b.item.index ∷ order.given

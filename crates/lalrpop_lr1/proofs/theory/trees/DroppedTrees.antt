@@ -1,6 +1,6 @@
 -- Trees that are dropped: how many nodes are left.
 use Rattle.std.proofs.Common.{◌≡◌, ◌+◌, ◌<◌, ℕ, suc, List, [], ◌∷◌, ◌++◌, Vec, Global, map, refl, ap, ◌∙◌, arith}
-use Rattle.lalrpop_base.specs.Words.{Tree, Leaf, Node, Trees, no_trees, beside, trees_of, nodes}
+use Rattle.lalrpop_base.specs.Words.{Tree, Leaf, Node, Trees, beside, trees_of, nodes}
 use Rattle.lalrpop_lr1.proofs.Types.{NonterminalString}
 use Rattle.lalrpop_lr1.specs.Words.{tree_of, tree_nodes}
 use Rattle.lalrpop_lr1.specs.declared.interpret.tree.ParseTree.{ParseTree}
@@ -10,10 +10,7 @@ use denote.Hole.Carrier.{roll}
 use denote.Hole.Rolled.{depth_is}
 use Rattle.lalrpop_lr1.proofs.interpret.tree.ParseTree.TheLaws.{the_size}
 use Rattle.lalrpop_lr1.proofs.theory.trees.TreeViews.{tree_of_roll}
-
-nodes_cons : (t : Tree) (ts : Trees) → nodes (beside t ts) ≡ nodes (beside t no_trees) + nodes ts
-nodes_cons (Leaf x) ts = omega arith
-nodes_cons (Node a children) ts = omega arith
+use Rattle.lalrpop_lr1.proofs.theory.runs.Parses.{nodes_cons}
 
 -- trees have the nodes of the first and those of the others
 pub tree_nodes_cons : (x : ParseTree) (xs : List ParseTree) → tree_nodes (x ∷ xs) ≡ tree_nodes (x ∷ []) + tree_nodes xs

@@ -1,15 +1,18 @@
-use Rattle.std.proofs.Common.{◌≡◌, List}
+use Rattle.std.proofs.Common.{◌≡◌, List, ap, subst, sym}
+use Rattle.std.specs.Prelude.{IfOk}
 use Rattle.std.proofs.lemmas.Result.{IfOk-weaker}
 use Rattle.lalrpop_base.specs.Words.{Bits, IsLALR1, IsOnNoRightSide, productions, rules_of}
-use Rattle.lalrpop_tables.proofs.Types.{State}
-use Rattle.lalrpop_tables.specs.Words.{AreLaneTables}
-use Rattle.lalrpop_tables.specs.declared.build.options.Method.TheVariants.{Lane}
+use Rattle.lalrpop_tables.proofs.Types.{Nil, State}
+use Rattle.lalrpop_tables.specs.Words.{AreLaneTables, Construction}
+use Rattle.lalrpop_tables.specs.answers.Results.{lr0_of}
+use Rattle.lalrpop_tables.specs.answers.TablesOrCount.{AreBuiltTablesOrCount}
+use Rattle.lalrpop_tables.specs.declared.build.options.Method.TheVariants.{Canonical, Lane}
 use Rattle.lalrpop_tables.proofs.theory.answers.ByLanes.{if_told, not_there}
 use Rattle.lalrpop_tables.proofs.theory.answers.TablesOrCount.{Fallback-or-count}
 use Rattle.lalrpop_tables.proofs.build.lr1_states_or_count.Goals as goal
 
 pub returns-in-Some : goal.returns-in-Some
-returns-in-Some c = record { answer = if_told _ c.in-Some.tables _ c.in-Some.is c.in_ok-tables.ensures.tables }
+returns-in-Some c = record { answer = if_told _ c.in-Some.tables _ c.in-Some.is c.in_ok-by_lanes.ensures.tables }
 
 pub returns : goal.returns
 returns c =
@@ -17,5 +20,9 @@ returns c =
     let start = c.args.start in
     let method = c.args.options.now.method in
     -- by the lane way there were no tables, so the grammar is not LALR(1)
-    let none : (tables : List (State Bits)) → method ≡ Lane → IsOnNoRightSide (productions g) start → IsLALR1 (productions g) start → AreLaneTables (rules_of g) start tables = λ tables lane alone lalr. absurd (not_there _ c.in_default.is (c.in_ok-tables.ensures.lalr lane alone lalr)) in
-    record { answer = IfOk-weaker c.canonical_states_or_count.result _ _ (Fallback-or-count g start method c.args.options.now.max_copies none) c.canonical_states_or_count.ensures }
+    let none : (tables : List (State Bits)) → method ≡ Lane → IsOnNoRightSide (productions g) start → IsLALR1 (productions g) start → AreLaneTables (rules_of g) start tables = λ tables lane alone lalr. absurd (not_there _ c.in_default.is (c.in_ok-by_lanes.ensures.lalr lane alone lalr)) in
+    let made = subst (λ start. IfOk c.canonical_states_or_count.result (AreBuiltTablesOrCount Canonical 0 g start)) (ap (λ (k : Construction Nil). k.start) c.in_ok-by_lanes.ensures.over) c.canonical_states_or_count.ensures in
+    record { answer = IfOk-weaker c.canonical_states_or_count.result _ _ (Fallback-or-count g start method c.args.options.now.max_copies none) made }
+
+pub canonical_states_or_count-requires-clause-over : goal.canonical_states_or_count-requires-clause-over
+canonical_states_or_count-requires-clause-over c = subst (λ start. c.in_ok-by_lanes.lr.construction ≡ lr0_of c.args.grammar.now start) (sym (ap (λ (k : Construction Nil). k.start) c.in_ok-by_lanes.ensures.over)) c.in_ok-by_lanes.ensures.over

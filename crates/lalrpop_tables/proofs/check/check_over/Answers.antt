@@ -1,4 +1,4 @@
-use Rattle.std.proofs.Common.{refl}
+use Rattle.std.proofs.Common.{◌∙◌, refl}
 use Rattle.lalrpop_tables.proofs.theory.check.CheckTables.{Right-closed}
 use Rattle.lalrpop_tables.proofs.theory.check.CheckAll.{Pass-all, All-right, Checked, Faithful}
 use Rattle.lalrpop_tables.proofs.check.check_over.Goals as goal
@@ -14,6 +14,9 @@ returns-then-branch-clause-faithful c = λ h. Faithful c.args.grammar.now c.args
 
 pub are_right_states-requires-clause-counted : goal.are_right_states-requires-clause-counted
 are_right_states-requires-clause-counted c = rw c.deref.ensures.value c.in_ok-listed.ensures.counted
+
+pub hold_carried-requires-clause-firsts : goal.hold_carried-requires-clause-firsts
+hold_carried-requires-clause-firsts c = c.first_sets.ensures ∙ c.requires.rules
 
 pub hold_carried-requires-clause-closed : goal.hold_carried-requires-clause-closed
 hold_carried-requires-clause-closed c =

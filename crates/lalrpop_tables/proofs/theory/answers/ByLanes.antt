@@ -45,6 +45,10 @@ module _ {X : Type 0} where
   pub nothing_told : (o : Option X) (B : X → Type 0) → o ≡ None → IsSomeAnd o B → ⊥
   nothing_told o B e h = absurd (subst (λ (p : Option X). IsSomeAnd p B) e h)
 
+-- what is said of a grammar and a start symbol is said of equal ones
+pub said_of : (Told : Grammar → NonterminalString → Type 0) (h g : Grammar) (first start : NonterminalString) → h ≡ g → first ≡ start → Told h first → Told g start
+said_of Told h g first start same is told = subst (Told g) is (subst (λ g. Told g first) same told)
+
 -- ---- what is said of lane tables that are answered
 pub Lanes-answer : {T E : Type 0} (items : T → List (State Bits)) (g : Grammar) (start : NonterminalString) (copies : ℕ) (r : Result (Option T) E) → IfOk r (λ answer. IfSome answer (λ tables. AreCopiedTables (rules_of g) start copies (items tables))) →
     IfOk r (λ answer. IfSome answer (λ tables. AreFaithful (productions g) start (contents g.terminals (items tables)))) → (IsOnNoRightSide (productions g) start → IsLALR1 (productions g) start → IfOk r (λ answer. IsSomeAnd answer (λ tables. AreLaneTables (rules_of g) start (items tables)))) →

@@ -18,7 +18,6 @@ use Rattle.lalrpop_base.specs.contracts.repr.ProductionPartialEq.TheImpl as prod
 use Rattle.lalrpop_tables.proofs.Types.{Conflict, Grammar, NonterminalString, Production, State, StateIndex, Symbol, TerminalString, Token}
 use Rattle.lalrpop_base.specs.declared.lr1_core.state.Action.TheVariants.{Shift}
 use Rattle.lalrpop_base.specs.declared.repr.Symbol.TheVariants.{Terminal}
-use Rattle.lalrpop_base.proofs.theory.states.ContentsViews.{contains_at}
 use Rattle.lalrpop_base.proofs.theory.conflicts.Conflicts.{state_conflicts as canonical_conflicts, empty_list}
 use Rattle.lalrpop_base.specs.Words.{listed_of, AreCanonicalConflictsOf, FailByCanonicalConflicts, AreItems, conflicts_of, AreAllConflicts}
 use Rattle.lalrpop_tables.specs.Words.{AreStatesOf, canonical_of, reductions_of, seen}
@@ -31,6 +30,7 @@ use Rattle.lalrpop_base.proofs.theory.lists.Orders.{terminal_order, terminal_tot
 use Rattle.lalrpop_tables.proofs.theory.states.Shifting.{of_dotted}
 use Rattle.lalrpop_base.proofs.theory.lists.Updates.{exact_order}
 use Rattle.lalrpop_tables.proofs.theory.conflicts.ConflictFree.{nowhere_conflict}
+use Rattle.lalrpop_base.proofs.theory.lists.Lists.{contains_place}
 
 -- ---- the order of productions
 order_of : {X : Type 0} (order : X → X → Ordering) → IsTotalOrder order → CmpEqualImpliesEq order → IsOrder order
@@ -109,7 +109,7 @@ module _ (g : Grammar) (start : NonterminalString) (states : List (State Bits)) 
   lead : (c : Conflict Bits) (t : TerminalString) (target : StateIndex) → Contains all c → c.action ≡ Shift t target → (contents g.terminals states c.state.0).shift t ≡ Some target.0
   lead c t target i a =
       let r = Listed-from g.terminals 0 states numbered c i in
-      let entry = contains_at r.1.shifts.entries (t, target) (r.4.shift t target a) in
+      let entry = contains_place r.1.shifts.entries (t, target) (r.4.shift t target a) in
       let found = btree_map_get_place terminal_total r.1.shifts entry.0 t target (listable r.0 r.1 r.2).ordered entry.1 in
       let place : r.0 ≡ c.state.0 = let e = r.3 in omega arith in
       let there : slice_get states c.state.0 ≡ Some r.1 = subst (λ (n : ℕ). slice_get states n ≡ Some r.1) place r.2 in

@@ -15,6 +15,7 @@ use Rattle.lalrpop_base.proofs.theory.grammars.Grammars.{productions_among, prod
 use Rattle.lalrpop_base.proofs.theory.lists.Members.{Contains-none, contains_head, contains-cons, contains_map}
 use Rattle.lalrpop_base.proofs.theory.grammars.Tables.{same_lr0}
 use Rattle.lalrpop_tables.proofs.theory.lists.Walks.{IsTraversing, Traversing-end, Traversing-smaller, Traversing-start, Traversing-step, Visits-none, Visits-same, Visits-then, visited_such}
+use Rattle.lalrpop_base.proofs.theory.states.CheckStates.{dots_push}
 
 abbrev Key : Type 0
 Key = Dotted Nil
@@ -55,16 +56,12 @@ dots items = map dotted_of items
 pub Moved-none : (walk : Walk Key) → Visits (IsMovedOf []) walk walk
 Moved-none walk = Visits-none (IsMovedOf []) walk (λ k b. Contains-none (k.production, k.index) b.1)
 
-dots_append : (items : List (Dotted Bits)) (i : Dotted Bits) → dots (items ++ i ∷ []) ≡ dots items ++ dotted_of i ∷ []
-dots_append [] i = refl
-dots_append (j ∷ items) i = ap (λ ds. dotted_of j ∷ ds) (dots_append items i)
-
 pub Moved-more : (items : List (Dotted Bits)) (i : Dotted Bits) (a b c : Walk Key) → Visits (IsMovedOf items) a b → Visits (IsMovedOf (i ∷ [])) b c → Visits (IsMovedOf (items ++ i ∷ [])) a c
 Moved-more items i a b c x y =
     Visits-then (IsMovedOf items) (IsMovedOf (i ∷ [])) (IsMovedOf (items ++ i ∷ []))
-    (λ k h. (h.0, subst (λ (ds : List (Production × ℕ)). Contains ds (k.production, k.index)) (sym (dots_append items i)) (Contains-append_left (dots items) (dotted_of i ∷ []) (k.production, k.index) h.1)))
-    (λ k h. (h.0, subst (λ (ds : List (Production × ℕ)). Contains ds (k.production, k.index)) (sym (dots_append items i)) (Contains-append_right (dots items) (dotted_of i ∷ []) (k.production, k.index) h.1)))
-    (λ k h. elim (Contains-append_cases (dots items) (dotted_of i ∷ []) (k.production, k.index) (subst (λ (ds : List (Production × ℕ)). Contains ds (k.production, k.index)) (dots_append items i) h.1)) [
+    (λ k h. (h.0, subst (λ (ds : List (Production × ℕ)). Contains ds (k.production, k.index)) (sym (dots_push items i)) (Contains-append_left (dots items) (dotted_of i ∷ []) (k.production, k.index) h.1)))
+    (λ k h. (h.0, subst (λ (ds : List (Production × ℕ)). Contains ds (k.production, k.index)) (sym (dots_push items i)) (Contains-append_right (dots items) (dotted_of i ∷ []) (k.production, k.index) h.1)))
+    (λ k h. elim (Contains-append_cases (dots items) (dotted_of i ∷ []) (k.production, k.index) (subst (λ (ds : List (Production × ℕ)). Contains ds (k.production, k.index)) (dots_push items i) h.1)) [
       | inl l ↦ inl (h.0, l)
       | inr r ↦ inr (h.0, r)
     ])

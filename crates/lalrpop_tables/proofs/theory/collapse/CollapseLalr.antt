@@ -4,14 +4,14 @@ use Rattle.std.specs.Prelude.{slice_get, MatchResult}
 use Rattle.std.specs.declared.result.Result.{Result}
 use Rattle.std.specs.declared.result.Result.TheVariants.{Ok, Err}
 use Rattle.std.proofs.lemmas.Option.{slice_get_within}
-use Rattle.lalrpop_base.specs.Words.{Bits, contents_at, AreLr0, HoldLalrTokens, AllDiffer, Contents, state_after, IsLive, Action, Shift, Reduce, IsValidAction}
-use Rattle.lalrpop_base.specs.Words.{IsLalrAction, IsLR1, IsLALR1, productions, tokens_of, FitReductions, AreOrderedCanonical, IsCollapsed, AreCollapsedTables, FailsByCollapse}
+use Rattle.lalrpop_base.specs.Words.{Bits, contents_at, AreLr0, HoldLalrTokens, AllDiffer, Contents, state_after}
+use Rattle.lalrpop_base.specs.Words.{IsLR1, IsLALR1, productions, tokens_of, FitReductions, AreOrderedCanonical, IsCollapsed, AreCollapsedTables, FailsByCollapse}
 use Rattle.lalrpop_base.specs.conflicts.Conflicts.{HasNoConflict as HoldsNoConflict}
 use Rattle.lalrpop_tables.proofs.Types.{BuildError, Conflict, Grammar, NonterminalString, Production, State, Symbol, TerminalString, Token}
 use Rattle.lalrpop_base.specs.declared.lr1_core.state.BuildError.TheVariants.{Conflicts, Memory}
 use Rattle.lalrpop_base.proofs.theory.closures.Closures.{state_from-last, reached_at, reached_live}
 use Rattle.lalrpop_base.proofs.theory.collapse.Collapse.{collapsed_lr0, collapsed_tokens}
-use Rattle.lalrpop_base.proofs.theory.collapse.LalrStates.{lalr_faithful, no_conflict_lalr, lalr_no_conflict}
+use Rattle.lalrpop_base.proofs.theory.collapse.LalrStates.{lalr_faithful, no_conflict_lalr, lalr_no_conflict, action_lalr}
 use Rattle.lalrpop_base.proofs.theory.lists.Lists.{Grown, from_nothing, more, grown}
 use Rattle.lalrpop_base.proofs.theory.runs.Steps.{state_from-more}
 use Rattle.lalrpop_base.proofs.theory.closures.Valid.{action_live}
@@ -88,9 +88,5 @@ Collapse-tells items g start terminals differ same before built (Err e) h = erro
 
 -- ---- LALR(1) grammars are LR(1)
 module _ (g : List Production) (start : NonterminalString) where
-  valid_lalr : (u : List Symbol) → IsLive g start u → (t : Token) (a : Action) → IsValidAction g start u t a → IsLalrAction g start u t a
-  valid_lalr u live t (Shift x) v = v
-  valid_lalr u live t (Reduce p) v = record { prefix = u; live = live; same = λ q d. (λ h. h, λ h. h); valid = v }
-
   pub lalr_lr1 : IsLALR1 g start → IsLR1 g start
-  lalr_lr1 lalr u t a b v w = let live = action_live {g = g} {start = start} {u = u} t a v in lalr u live t a b (valid_lalr u live t a v) (valid_lalr u live t b w)
+  lalr_lr1 lalr u t a b v w = let live = action_live {g = g} {start = start} {u = u} t a v in lalr u live t a b (action_lalr g start u live t a v) (action_lalr g start u live t b w)

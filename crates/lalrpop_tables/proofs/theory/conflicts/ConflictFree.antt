@@ -12,12 +12,13 @@ use Rattle.lalrpop_tables.proofs.Types.{Production, State, TerminalString, Token
 use Rattle.lalrpop_base.specs.declared.lookahead.token.Token.TheVariants.{Terminal as TokenOf}
 use Rattle.lalrpop_base.specs.declared.repr.Symbol.TheVariants.{Terminal}
 use Rattle.lalrpop_base.proofs.theory.conflicts.ConflictLemmas.{none_exactly}
-use Rattle.lalrpop_base.proofs.theory.states.ContentsViews.{some_of_map, contains_of_map, contains_map, at_contains}
+use Rattle.lalrpop_base.proofs.theory.states.ContentsViews.{some_of_map, contains_of_map, contains_map}
 use Rattle.lalrpop_base.proofs.theory.grammars.ItemTokens.{token_with}
 use Rattle.lalrpop_base.proofs.theory.grammars.KnownTerminals.{held_bit, bit_held}
 use Rattle.lalrpop_base.proofs.theory.lists.Members.{place}
 use Rattle.lalrpop_base.proofs.theory.lists.Places.{same_some}
 use Rattle.lalrpop_tables.proofs.theory.states.StateEdges.{leads_transition, transition_leads}
+use Rattle.lalrpop_base.proofs.theory.lists.Lists.{place_contains}
 
 abbrev CodeReduction : Type 0
 CodeReduction = Bits × Bor Production
@@ -54,10 +55,10 @@ module _ (terminals : List TerminalString) (s : State Bits) where
   pub contents_free : AllDiffer terminals → FitReductions terminals s → HoldsNoConflict (contents_of (holds_token terminals) s) → HasNoConflict terminals s
   contents_free differ fits none = record {
     shifts = λ k j bit t target r at_k at at_j h.
-        let found = transition_leads (holds_token terminals) s (Terminal t) target (at_contains s.shifts.entries k (t, target) at_k) in
-        none.shifts t (found.0).0 (reduction_of (holds_token terminals) r) found.1 (contains_map (reduction_of (holds_token terminals)) s.reductions.items r (at_contains s.reductions.items j r at_j)) (bit_held terminals r.0 (TokenOf t) bit at h);
+        let found = transition_leads (holds_token terminals) s (Terminal t) target (place_contains s.shifts.entries k (t, target) at_k) in
+        none.shifts t (found.0).0 (reduction_of (holds_token terminals) r) found.1 (contains_map (reduction_of (holds_token terminals)) s.reductions.items r (place_contains s.reductions.items j r at_j)) (bit_held terminals r.0 (TokenOf t) bit at h);
     reductions = λ i j bit r q l at_i at_j h k.
-        let t = token_with terminals differ bit (fits r (at_contains s.reductions.items i r at_i) bit h) in
+        let t = token_with terminals differ bit (fits r (place_contains s.reductions.items i r at_i) bit h) in
         none.reductions i j (reduction_of (holds_token terminals) r) (reduction_of (holds_token terminals) q) t.0 l
         (slice_get-map (reduction_of (holds_token terminals)) s.reductions.items i ∙ ap (option_map (reduction_of (holds_token terminals))) at_i)
         (slice_get-map (reduction_of (holds_token terminals)) s.reductions.items j ∙ ap (option_map (reduction_of (holds_token terminals))) at_j)

@@ -5,7 +5,7 @@ use Rattle.std.proofs.lemmas.List.{append-nil}
 use Rattle.std.proofs.lemmas.Grind.{flat_map-append}
 use Rattle.lalrpop_base.specs.Words.{Bits, HaveNoConflict, Rules, IsClosureBy, ListsAll, more, state_conflicts}
 use Rattle.lalrpop_base.specs.conflicts.StateConflicts.{HasNoConflict}
-use Rattle.lalrpop_base.proofs.theory.conflicts.ConflictLemmas.{none_exactly}
+use Rattle.lalrpop_base.proofs.theory.conflicts.ConflictLemmas.{none_exactly, both_empty}
 use Rattle.lalrpop_base.proofs.theory.lists.Places.{same_some}
 use Rattle.lalrpop_tables.proofs.Types.{Conflict, State, Symbol, TerminalString, Token}
 use Rattle.lalrpop_tables.specs.Words.{Construction, AreStatesFor, begun, AreBuiltBy}
@@ -27,18 +27,13 @@ module _ {L : Type 0} (own : List TerminalString → State L → List (Conflict 
       let one : flat_map f (state ∷ []) ≡ f state = append-nil (f state) in
       n ∙ ap (λ cs. cs ++ here) (All-listed h) ∙ ap (λ cs. flat_map f before ++ cs) (e ∙ sym one) ∙ sym (flat_map-append f before (state ∷ [])) ∙ ap (flat_map f) (sym s)
 
--- states whose lists are all empty have no conflict
-none_before : {X : Type 0} (xs ys : List X) → xs ++ ys ≡ [] → (xs ≡ []) × (ys ≡ [])
-none_before [] ys e = (refl, e)
-none_before (x ∷ xs) ys e = cc
-
 pub free_states : (terminals : List TerminalString) (states : List (State Bits)) → flat_map (state_conflicts terminals) states ≡ [] → HaveNoConflict terminals states
 free_states terminals [] e k state at = cc
 free_states terminals (s ∷ states) e zero state at =
-    let first = none_before (state_conflicts terminals s) (flat_map (state_conflicts terminals) states) e in
+    let first = both_empty (state_conflicts terminals s) (flat_map (state_conflicts terminals) states) e in
     subst (λ (x : State Bits). HasNoConflict terminals x) (same_some s state at) ((none_exactly terminals s).0 first.0)
 free_states terminals (s ∷ states) e (suc k) state at =
-    let first = none_before (state_conflicts terminals s) (flat_map (state_conflicts terminals) states) e in
+    let first = both_empty (state_conflicts terminals s) (flat_map (state_conflicts terminals) states) e in
     free_states terminals states first.1 k state at
 
 -- ---- the states

@@ -18,7 +18,7 @@ use Rattle.lalrpop_base.proofs.theory.lists.Members.{contains_map}
 use Rattle.lalrpop_tables.proofs.theory.canonical.Lr0States.{nothing, never, stopped, Lists, Closes, exactly, one_kernel, construction, States-lr0}
 use Rattle.lalrpop_tables.proofs.theory.states.Shifting.{begun_zero}
 use Rattle.lalrpop_base.proofs.theory.closures.ValidClosures.{valid_of_start, start_of_valid, valid_of_moved, moved_of_valid, moved_along}
-use Rattle.lalrpop_base.proofs.theory.lists.BothFacts.{then_both, turned_both}
+use Rattle.lalrpop_base.proofs.theory.lists.BothFacts.{then_both, turned_both, both_ways}
 
 -- ---- a closure of the start, or of what was moved
 module _ (g : Rules) (start : NonterminalString) (items kernel : List (Dotted Nil)) (closure : IsExactClosure g kernel items) where
@@ -45,14 +45,11 @@ module _ (g : Grammar) (start : NonterminalString) (lookahead : Nil) (well : IsW
   first_state : (s : State Nil) → slice_get states 0 ≡ Some s → IsLr0StateFor (rules_of g) start [] s
   first_state s at =
       let closure = subst (λ (k : List (Dotted Nil)). IsExactClosure (rules_of g) k s.items.vec.items) (first_kernel Made first states b s at) (closure_of 0 s at) in
-      let valid = λ (p : Production) (dot : ℕ). both (valid_of_start (productions g) start {p = p} {dot = dot}) (λ v. start_of_valid (productions g) start v refl) in
+      let valid = λ (p : Production) (dot : ℕ). both_ways (valid_of_start (productions g) start {p = p} {dot = dot}) (λ v. start_of_valid (productions g) start v refl) in
       record {
         live = inl refl;
         items = items_are (rules_of g) start s.items.vec.items (begun_kernel g start lookahead) closure (IsAtStart (productions g) start) (Valid (productions g) start []) (start_items g well own start lookahead) valid;
       }
-    where
-      both : {A B : Type 0} → (A → B) → (B → A) → A ↔ B
-      both f k = (f, k)
 
   -- ---- a state to which a transition leads
   next_state : (n m : ℕ) (s t : State Nil) (x : Symbol) (target : StateIndex) (u : List Symbol) → slice_get states n ≡ Some s → slice_get states m ≡ Some t → HasTransition x target s → target.0 ≡ m → IsLr0StateFor (rules_of g) start u s → IsLr0StateFor (rules_of g) start (u ++ x ∷ []) t
@@ -64,16 +61,13 @@ module _ (g : Grammar) (start : NonterminalString) (lookahead : Nil) (well : IsW
         moved_along (HasDotted s) (Valid (productions g) start u) x (λ q d. (f.items q d).0) p dot,
         moved_along (Valid (productions g) start u) (HasDotted s) x (λ q d. (f.items q d).1) p dot,
       ) in
-      let valid = λ (p : Production) (dot : ℕ). both (valid_of_moved (productions g) start u x {p = p} {dot = dot}) (λ v. moved_of_valid (productions g) start u x v refl) in
+      let valid = λ (p : Production) (dot : ℕ). both_ways (valid_of_moved (productions g) start u x {p = p} {dot = dot}) (λ v. moved_of_valid (productions g) start u x v refl) in
       let i = l.behind.item in
       let was = (f.items i.production i.index).0 (contains_map dotted_of is i l.behind.among) in
       record {
         live = inr (i.production, suc i.index, shifts x (drop (suc i.index) i.production.symbols) was (drop_split i.index i.production.symbols x l.behind.behind));
         items = items_are (rules_of g) start t.items.vec.items l.kernel closure (IsMoved (Valid (productions g) start u) x) (Valid (productions g) start (u ++ x ∷ [])) items valid;
       }
-    where
-      both : {A B : Type 0} → (A → B) → (B → A) → A ↔ B
-      both k j = (k, j)
 
   -- ---- so each is that of a live prefix, and no two are the same
   one : (n m : ℕ) (s t : State Nil) (at : slice_get states n ≡ Some s) (at_m : slice_get states m ≡ Some t) → 0 < n → 0 < m → ((p : Production) (dot : ℕ) → HasDotted s p dot ↔ HasDotted t p dot) → (b.each n s at).kernel ≡ (b.each m t at_m).kernel

@@ -14,7 +14,7 @@ use Rattle.lalrpop_tables.proofs.theory.early_stop.PartlyBuilt.{IsMovedFrom, apa
 use Rattle.lalrpop_tables.proofs.theory.states.ClosedStates.{exactly_of, kernel_items}
 use Rattle.lalrpop_tables.proofs.theory.states.Shifting.{Shifts-items, begun_zero}
 use Rattle.lalrpop_base.proofs.theory.closures.ValidClosures.{valid_of_start, start_of_valid, token_of_start, start_of_token, valid_of_moved, moved_of_valid, token_of_moved, moved_of_token, tokens_along, moved_along, moved_with_along}
-use Rattle.lalrpop_base.proofs.theory.lists.BothFacts.{then_both, turned_both}
+use Rattle.lalrpop_base.proofs.theory.lists.BothFacts.{then_both, turned_both, both_ways}
 
 abbrev eof_of : Grammar → Bits
 eof_of g = with_bit no_bits (length g.terminals)
@@ -61,16 +61,13 @@ module _ (g : Grammar) (start : NonterminalString) (well : IsWellFormed g) (own 
       let closure = subst (λ (k : List (Dotted Bits)). IsClosureOf (rules_of g) k s.items.vec.items) (first_kernel Made first states b s at) (b.each 0 s at).built.closure in
       let items = start_items g well own start (eof_of g) in
       let tokens = start_tokens g well own start in
-      let valid = λ (p : Production) (dot : ℕ). both (valid_of_start (productions g) start {p = p} {dot = dot}) (λ v. start_of_valid (productions g) start v refl) in
-      let valid_tokens = λ (p : Production) (dot : ℕ) (t : Token). both (token_of_start (productions g) start {p = p} {dot = dot} {t = t}) (λ v. start_of_token (productions g) start v refl) in
+      let valid = λ (p : Production) (dot : ℕ). both_ways (valid_of_start (productions g) start {p = p} {dot = dot}) (λ v. start_of_valid (productions g) start v refl) in
+      let valid_tokens = λ (p : Production) (dot : ℕ) (t : Token). both_ways (token_of_start (productions g) start {p = p} {dot = dot} {t = t}) (λ v. start_of_token (productions g) start v refl) in
       record {
         live = inl refl;
         items = items_are g start s.items.vec.items (begun_kernel g start) closure (IsAtStart (productions g) start) (IsAtStartWith (productions g) start) (Valid (productions g) start []) (ValidToken (productions g) start []) items tokens valid valid_tokens;
         tokens = with_tokens g start s.items.vec.items (begun_kernel g start) closure (IsAtStart (productions g) start) (IsAtStartWith (productions g) start) (Valid (productions g) start []) (ValidToken (productions g) start []) items tokens valid valid_tokens;
       }
-    where
-      both : {A B : Type 0} → (A → B) → (B → A) → A ↔ B
-      both f k = (f, k)
 
   -- ---- a state to which a transition leads
   next_state : (n m : ℕ) (s t : State Bits) (x : Symbol) (target : StateIndex) (u : List Symbol) → slice_get states n ≡ Some s → slice_get states m ≡ Some t → HasTransition x target s → target.0 ≡ m → IsStateFor (rules_of g) start u s → IsStateFor (rules_of g) start (u ++ x ∷ []) t
@@ -86,8 +83,8 @@ module _ (g : Grammar) (start : NonterminalString) (well : IsWellFormed g) (own 
         moved_with_along (HasItemToken g.terminals is) (ValidToken (productions g) start u) x (λ q d v. (f.tokens q d v).0) p dot k,
         moved_with_along (ValidToken (productions g) start u) (HasItemToken g.terminals is) x (λ q d v. (f.tokens q d v).1) p dot k,
       ) in
-      let valid = λ (p : Production) (dot : ℕ). both (valid_of_moved (productions g) start u x {p = p} {dot = dot}) (λ v. moved_of_valid (productions g) start u x v refl) in
-      let valid_tokens = λ (p : Production) (dot : ℕ) (k : Token). both (token_of_moved (productions g) start u x {p = p} {dot = dot} {t = k}) (λ v. moved_of_token (productions g) start u x v refl) in
+      let valid = λ (p : Production) (dot : ℕ). both_ways (valid_of_moved (productions g) start u x {p = p} {dot = dot}) (λ v. moved_of_valid (productions g) start u x v refl) in
+      let valid_tokens = λ (p : Production) (dot : ℕ) (k : Token). both_ways (token_of_moved (productions g) start u x {p = p} {dot = dot} {t = k}) (λ v. moved_of_token (productions g) start u x v refl) in
       let i = l.behind.item in
       let was = (f.items i.production i.index).0 (contains_map dotted_of is i l.behind.among) in
       record {
@@ -95,9 +92,6 @@ module _ (g : Grammar) (start : NonterminalString) (well : IsWellFormed g) (own 
         items = items_are g start t.items.vec.items l.kernel closure (IsMoved (Valid (productions g) start u) x) (IsMovedWith (ValidToken (productions g) start u) x) (Valid (productions g) start (u ++ x ∷ [])) (ValidToken (productions g) start (u ++ x ∷ [])) items tokens valid valid_tokens;
         tokens = with_tokens g start t.items.vec.items l.kernel closure (IsMoved (Valid (productions g) start u) x) (IsMovedWith (ValidToken (productions g) start u) x) (Valid (productions g) start (u ++ x ∷ [])) (ValidToken (productions g) start (u ++ x ∷ [])) items tokens valid valid_tokens;
       }
-    where
-      both : {A B : Type 0} → (A → B) → (B → A) → A ↔ B
-      both k j = (k, j)
 
   -- ---- so each is that of a live prefix, and no two are the same
   module _ (differ : AllDiffer g.terminals) where

@@ -8,7 +8,7 @@ use Rattle.lalrpop_base.specs.Words.{Bits, contents_at, Contents, items_of, IsRe
 use Rattle.lalrpop_base.specs.states.States.{IsBehindDot}
 use Rattle.lalrpop_tables.proofs.Types.{NonterminalString, Production, State, Symbol, Token}
 use Rattle.lalrpop_base.specs.declared.repr.Symbol.TheVariants.{Nonterminal}
-use Rattle.lalrpop_base.proofs.theory.states.ContentsViews.{at_contains, contains_at, lead_as_items_say}
+use Rattle.lalrpop_base.proofs.theory.states.ContentsViews.{lead_as_items_say}
 use Rattle.lalrpop_tables.specs.Words.{places_in}
 use Rattle.lalrpop_tables.specs.follow_sets.FollowNodes.{IsPass, nodes_of}
 use Rattle.lalrpop_tables.specs.follow_sets.FollowWalks.{AreBegun, AreIncludes, GoesThrough}
@@ -23,11 +23,12 @@ use Rattle.lalrpop_tables.proofs.theory.follow_sets.FollowGraphs.{included_node}
 use Rattle.lalrpop_tables.proofs.theory.follow_sets.FollowNodes.{node_cases, start_node, transition_leads, transition_node}
 use Rattle.lalrpop_tables.proofs.theory.follow_sets.FollowSets.{within}
 use Rattle.lalrpop_base.proofs.theory.lists.Places.{same_some}
+use Rattle.lalrpop_base.proofs.theory.lists.Lists.{contains_place, place_contains}
 
 -- a symbol behind a dot of a production of the grammar has a number
 pub numbered_behind : (g : Rules) (n : Numbers) → AreNumbers g n → (q : Production) (dot : ℕ) (s : Symbol) (after : List Symbol) → Contains g.productions q → drop dot q.symbols ≡ s ∷ after → (x : ℕ) × (slice_get n.symbols.items x ≡ Some s)
 numbered_behind g n numbers q dot s after own behind =
-    contains_at n.symbols.items s ((numbers.symbols s).1 (record { item = with_dot q dot; among = numbers.items.all q dot own (within dot q.symbols behind); behind = split_drop dot q.symbols s after behind }))
+    contains_place n.symbols.items s ((numbers.symbols s).1 (record { item = with_dot q dot; among = numbers.items.all q dot own (within dot q.symbols behind); behind = split_drop dot q.symbols s after behind }))
 
 module _ (pass : Pass) (fits : IsPass pass) where
   abbrev g : Rules
@@ -50,7 +51,7 @@ module _ (pass : Pass) (fits : IsPass pass) where
   -- a nonterminal with a transition is a node
   goto_node : (s m : ℕ) (a : NonterminalString) (x : ℕ) → (places s).goto a ≡ Some m → slice_get pass.numbers.now.symbols.items x ≡ Some (Nonterminal a) → (n : ℕ) × IsFollowNode nodes n s a
   goto_node s m a x leads number =
-      let k = contains_at (transitions_at pass.numbered.now s) (x, m) ((transition_leads pass fits s x m (Nonterminal a) number).1 leads) in
+      let k = contains_place (transitions_at pass.numbered.now s) (x, m) ((transition_leads pass fits s x m (Nonterminal a) number).1 leads) in
       (get_or pass.nodes.now.firsts.items s 0 + k.0, transition_node pass fits s k.0 x m a k.1 number)
 
   -- and a node is the start symbol in state 0, or has a transition
@@ -59,7 +60,7 @@ module _ (pass : Pass) (fits : IsPass pass) where
     | inl first ↦ inl first
     | inr t ↦
         let e = t.2 in
-        inr (e.target, (transition_leads pass fits s t.0 e.target (Nonterminal a) t.1).0 (at_contains (transitions_at pass.numbered.now s) e.place (t.0, e.target) e.edge))
+        inr (e.target, (transition_leads pass fits s t.0 e.target (Nonterminal a) t.1).0 (place_contains (transitions_at pass.numbered.now s) e.place (t.0, e.target) e.edge))
   ]
 
   -- a nonterminal behind a dot has a transition and a node

@@ -9,7 +9,6 @@ use Rattle.lalrpop_tables.proofs.Types.{NonterminalString, Production, State, St
 use Rattle.lalrpop_base.specs.declared.lookahead.token.Token.TheVariants.{Terminal as TokenOf}
 use Rattle.lalrpop_base.specs.declared.lr1_core.state.Items.{Items}
 use Rattle.lalrpop_base.specs.declared.repr.Symbol.TheVariants.{Terminal}
-use Rattle.lalrpop_base.proofs.theory.states.ContentsViews.{at_contains, contains_at}
 use Rattle.lalrpop_base.proofs.theory.sets.HeldTokens.{place_there}
 use Rattle.lalrpop_tables.specs.Words.{AreLaneStates, by, dot_of, IsLaneAction, IsResolved, IsResolvedAt, IsStep, LanesMeet, places_in}
 use Rattle.lalrpop_tables.specs.follow_sets.FollowWalks.{AreUnions, entries_at, HoldsSomeOf, ShareBits, with_first, with_other}
@@ -27,6 +26,7 @@ use Rattle.lalrpop_tables.proofs.theory.lane_states.LaneShape.{here_closed, item
 use Rattle.lalrpop_base.proofs.theory.collapse.Merging.{set_here}
 use Rattle.lalrpop_base.proofs.theory.lists.Places.{filled, same_some}
 use Rattle.lalrpop_tables.proofs.theory.states.StateEdges.{transition_leads}
+use Rattle.lalrpop_base.proofs.theory.lists.Lists.{contains_place, place_contains}
 
 -- an action of a state is one wherever the places are the same
 action_there : (g : List Production) (start : NonterminalString) (a b : ℕ → Contents) → AreSamePlaces a b → (n : ℕ) (t : Token) (action : Action) → IsLaneAction g start a n t action → IsLaneAction g start b n t action
@@ -77,7 +77,7 @@ module _ (g : Rules) (start : NonterminalString) (states : List (State Bits)) (m
       let c = unions.counted in
       let k = filled numbered.reductions.items j (omega arith) in
       let number = (fits.reduced state at).each j k.0 r at_r k.1 in
-      fits.finds.lookaheads n k.0 r.1.now (finished r (at_contains reductions j r at_r)) number set (λ bit.
+      fits.finds.lookaheads n k.0 r.1.now (finished r (place_contains reductions j r at_r)) number set (λ bit.
       let u = unions.each j k.0 bit k.1 in
       let h = held_at sets j bit set at_set in
       (λ x. u.0 (h.1 x), λ x. h.0 (u.1 x)))
@@ -102,7 +102,7 @@ module _ (g : Rules) (start : NonterminalString) (states : List (State Bits)) (m
       -- each holds its lookahead set
       holds_lookahead : (r : CodeReduction) → Contains new.reductions.items r → HasLookaheadBits g start places n r.0 r.1.now
       holds_lookahead r among =
-          let j = contains_at new.reductions.items r among in
+          let j = contains_place new.reductions.items r among in
           let t = took_at j.0 r j.1 in
           subst (λ (q : CodeReduction). HasLookaheadBits g start places n q.0 q.1.now) (sym t.same) (set_lookahead j.0 t.set t.old t.found t.there)
 
@@ -116,7 +116,7 @@ module _ (g : Rules) (start : NonterminalString) (states : List (State Bits)) (m
       free : HasNoConflict g.terminals new
       free = record {
         shifts = λ k j bit t target r at_k place at_j h.
-            let entry : Contains state.shifts.entries (t, target) = subst (λ (m : BTreeMap TerminalString StateIndex). Contains m.entries (t, target)) shifts (at_contains new.shifts.entries k (t, target) at_k) in
+            let entry : Contains state.shifts.entries (t, target) = subst (λ (m : BTreeMap TerminalString StateIndex). Contains m.entries (t, target)) shifts (place_contains new.shifts.entries k (t, target) at_k) in
             none (with_first j bit (shift_bit t target bit entry place) (held j bit r at_j h));
         reductions = λ i j bit r q l at_i at_j h k. none (with_other i j bit l (held i bit r at_i h) (held j bit q at_j k));
       }
@@ -148,7 +148,7 @@ module _ (g : Rules) (start : NonterminalString) (states : List (State Bits)) (m
         record {
           reduction = r.0;
           there = r.1;
-          item = finished r.0 (at_contains reductions j r.0 r.1);
+          item = finished r.0 (place_contains reductions j r.0 r.1);
           among = (set_lookahead j set.0 r.0 set.1 r.1 bit).0 ((held_at sets j bit set.0 set.1).0 h);
         }
 

@@ -9,7 +9,6 @@ use Rattle.lalrpop_base.specs.Words.{Bits, AreCoherent, contents, contents_at, h
 use Rattle.lalrpop_tables.proofs.Types.{Action, Conflict, NonterminalString, Production, State, Symbol}
 use Rattle.lalrpop_base.specs.declared.lr1_core.state.Action.TheVariants.{Shift, Reduce}
 use Rattle.lalrpop_base.specs.declared.repr.Symbol.TheVariants.{Nonterminal, Terminal}
-use Rattle.lalrpop_base.proofs.theory.states.ContentsViews.{contains_at, at_contains}
 use Rattle.lalrpop_base.proofs.theory.states.Copies.{copies_closed}
 use Rattle.lalrpop_tables.specs.Words.{AreActions, AreClosedTables, AreCopiedConflicts, AreCopiedTables, AreCopies, AreLaneStates, AreLaneTables, AreLr0Copies}
 use Rattle.lalrpop_base.specs.Words.{number_in}
@@ -21,6 +20,7 @@ use Rattle.lalrpop_tables.proofs.theory.lane_states.LanePlaces.{produced, produc
 use Rattle.lalrpop_tables.proofs.theory.lane_states.LaneShape.{here_closed, here_reduces, lane_shape, own_items, some_states}
 use Rattle.lalrpop_tables.proofs.theory.conflicts.ConflictLists.{free_states}
 use Rattle.lalrpop_tables.proofs.theory.lane_states.Resolving.{no_copies, own_numbers}
+use Rattle.lalrpop_base.proofs.theory.lists.Lists.{contains_place, place_contains}
 
 -- a state with the same dotted productions, which reduces by the same productions, reduces its finished items, too
 reduces_alike : (a b : Contents) → b.items ≡ a.items → map produced b.reductions ≡ map produced a.reductions → ReducesFinished a → ReducesFinished b
@@ -52,9 +52,9 @@ module _ (g : Rules) (start : NonterminalString) (handed : List (State Bits)) (m
 
   reduced_own : (n : ℕ) (state : State Bits) (r : Bits × Bor Production) → slice_get states n ≡ Some state → Contains state.reductions.items r → Contains g.productions r.1.now
   reduced_own n state r at among =
-      let k = contains_at state.reductions.items r among in
+      let k = contains_place state.reductions.items r among in
       let f = (copied_coherent n state at).finished k.0 r k.1 in
-      subst (Contains g.productions) f.3.same (copied_own n state f.1 at (at_contains state.items.vec.items f.0 f.1 f.2))
+      subst (Contains g.productions) f.3.same (copied_own n state f.1 at (place_contains state.items.vec.items f.0 f.1 f.2))
 
   pub asked_own : (n : ℕ) (state : State Bits) (actions : List Action) → slice_get states n ≡ Some state → AreActions (asked_actions g.terminals state) actions → (a : Action) → Contains actions a → ReducesOwn g.productions a
   asked_own n state actions at asked (Shift t target) among = tt

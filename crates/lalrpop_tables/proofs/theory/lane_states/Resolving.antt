@@ -9,7 +9,6 @@ use Rattle.std.proofs.lemmas.List.{length-map}
 use Rattle.std.proofs.lemmas.Option.{slice_get_within, slice_get_past, slice_get-map}
 use Rattle.lalrpop_base.specs.Words.{Bits, AreCoherent, Rules, AreAmong, number_in, retargeted, retargeted_all}
 use Rattle.lalrpop_tables.proofs.Types.{Action, NonterminalString, State, StateIndex, TerminalString}
-use Rattle.lalrpop_base.proofs.theory.states.ContentsViews.{at_contains}
 use Rattle.lalrpop_tables.specs.Words.{Advances, AreActions, AreCopies, AreLr0Copies, IsCopied, IsAttempted, IsCopyOf, IsMerging, IsPatchable, IsResolving}
 use Rattle.lalrpop_tables.specs.Words.{asked_actions, edges, index, IsGraphOf}
 use Rattle.lalrpop_tables.specs.graphs.GraphCopies.{FollowsCopies}
@@ -22,6 +21,7 @@ use Rattle.lalrpop_tables.proofs.theory.lane_states.LaneLoop.{graph_on, set_step
 use Rattle.lalrpop_tables.proofs.theory.lane_states.LaneResolved.{applied_same}
 use Rattle.lalrpop_base.proofs.theory.collapse.Merging.{set_here}
 use Rattle.lalrpop_base.proofs.theory.lists.Places.{filled}
+use Rattle.lalrpop_base.proofs.theory.lists.Lists.{place_contains}
 
 -- ---- copies of copies
 module _ (handed : List (State Bits)) (first second : List ℕ) (middle states : List (State Bits)) (a : AreCopies false handed first middle) (b : AreCopies false middle second states) where
@@ -203,4 +203,4 @@ copied_weaker old new begun on = copies_weaker true old.states.items new.origina
 pub some_asked : (terminals : List TerminalString) (state : State Bits) (actions : List Action) → AreActions (asked_actions terminals state) actions → 0 < length state.reductions.items → 0 < length actions
 some_asked terminals state actions asked some =
     let first = filled state.reductions.items 0 some in
-    asked_some terminals state actions asked first.0 (at_contains state.reductions.items 0 first.0 first.1)
+    asked_some terminals state actions asked first.0 (place_contains state.reductions.items 0 first.0 first.1)

@@ -12,7 +12,6 @@ use Rattle.std.proofs.lemmas.List.Elements.{Contains-append_left, Contains-appen
 use Rattle.std.proofs.lemmas.Map.Views.{IsSome-lookup_from_Contains}
 use Rattle.std.proofs.lemmas.Map.Keys.{sorted_tail, Less-from_sorted}
 use Rattle.std.proofs.lemmas.List.{map-append}
-use Rattle.std.proofs.lemmas.Grind.{common_steps}
 use Rattle.std.specs.BTreeSet.{BTreeSet as SortedSet}
 use Rattle.lalrpop_base.specs.Words.{Bits, AreDisjoint}
 use Rattle.lalrpop_tables.proofs.Types.{StateIndex}
@@ -25,6 +24,7 @@ use Rattle.lalrpop_tables.proofs.theory.lane_tables.LaneTables.{Cell, cell_cmp, 
 use Rattle.lalrpop_base.proofs.theory.lists.Members.{Contains-none, contains_head, contains-cons, contains_map}
 use Rattle.lalrpop_base.proofs.theory.lists.Places.{same_some}
 use Rattle.lalrpop_tables.proofs.theory.graphs.StateGraphs.{state_total}
+use Rattle.lalrpop_base.proofs.theory.lists.LeadingBytes.{greater_is}
 
 -- ---- rows by state
 itself_tied : (s : StateIndex) → is_eq (state_cmp s s) ≡ true
@@ -118,9 +118,6 @@ not_smaller Less p e f = cc
 not_smaller Equal p e f = cc
 not_smaller Greater p e f = cc
 
-greater : (a b : ℕ) → b < a → nat_cmp a b ≡ Greater
-greater a b l = grind (arith, common_steps)
-
 module _ (done left all : Cells) (state : StateIndex) (index : ConflictIndex) (tokens : Bits) (whole : done ++ ((state, index), tokens) ∷ left ≡ all) (rises : IsStrictlySortedBy cell_cmp (keys_of all)) where
   tail_rises : IsStrictlySortedBy cell_cmp ((state, index) ∷ keys_of left)
   tail_rises = sorted_rest cell_cmp (keys_of done) ((state, index) ∷ keys_of left) (subst (λ (ks : List Cell). IsStrictlySortedBy cell_cmp ks) (ap (λ (es : Cells). keys_of es) (sym whole) ∙ map-append (λ (e : Cell × Bits). e.0) done (((state, index), tokens) ∷ left)) rises)
@@ -133,7 +130,7 @@ module _ (done left all : Cells) (state : StateIndex) (index : ConflictIndex) (t
       (λ same. let e : state.0 ≡ smaller.0 = ap (λ (x : Cell × Bits). x.0.0.0) same in absurd (omega (arith, e, l)))
       (λ behind. absurd (not_smaller (state_cmp state smaller) (nat_cmp index.index k)
       (head_less cell_cmp (state, index) (keys_of left) (smaller, column k) tail_rises (contains_map (λ (x : Cell × Bits). x.0) left ((smaller, column k), set) behind))
-      (greater state.0 smaller.0 l)))
+      (greater_is state.0 smaller.0 l)))
       (contains-cons ((state, index), tokens) left ((smaller, column k), set) later))
       (Contains-append_cases done (((state, index), tokens) ∷ left) ((smaller, column k), set) (subst (λ (es : Cells). Contains es ((smaller, column k), set)) (sym whole) c))
 
@@ -148,7 +145,6 @@ none_smaller count before left all rows t state index tokens first rises table e
     o.apart (g.disjoint o.first o.second o.bit ((g.tokens o.first o.bit).1 (smaller, refl, (o.here.0, at_first, o.here.2))) ((g.tokens o.second o.bit).1 (smaller, refl, (o.there.0, at_second, o.there.2))))
 
 -- ---- rows for states with successors
-
 pub next_more : (done : Successors) (e : StateIndex × SortedSet StateIndex) (left right : StateIndex) → HasNext done left right → HasNext (done ++ e ∷ []) left right
 next_more done e left right h = (h.0, Contains-append_left done (e ∷ []) _ h.1, h.2)
 

@@ -5,7 +5,7 @@ use Rattle.std.specs.BTreeSet.{BTreeSet as SortedSet, insert_key}
 use Rattle.std.proofs.lemmas.List.Elements.{Contains-append_left, Contains-append_right, Contains-append_cases, Contains-push}
 use Rattle.lalrpop_base.specs.Words.{Bits}
 use Rattle.lalrpop_tables.proofs.Types.{StateIndex}
-use Rattle.lalrpop_tables.specs.Words.{Cells, HasCells, Successors, HasNext, AddsKeys, AreReached, HasCellsBelow, IsClosedEdge, column, HasRow, IsBeachhead}
+use Rattle.lalrpop_tables.specs.Words.{Cells, HasCells, Successors, HasNext, AddsStates, AreReached, HasCellsBelow, IsClosedEdge, column, HasRow, IsBeachhead}
 use Rattle.lalrpop_tables.specs.Words.{IsClosed, IsSuccessor, state_cmp}
 use Rattle.lalrpop_tables.specs.declared.lane_table.table.LaneTable.{LaneTable}
 use Rattle.lalrpop_tables.proofs.theory.lane_tables.LaneColumns.{in_last, last_in}
@@ -33,7 +33,7 @@ either done e x c = ⊎_elim (λ a. inl a) (λ b. ⊎_elim (λ s. inr s) (λ n. 
 
 -- ---- states put into a set
 abbrev pub AddedSoFar : List StateIndex → List StateIndex → List StateIndex → Type 0
-AddedSoFar old new done = AddsKeys done old new
+AddedSoFar old new done = AddsStates done old new
 
 pub added_more : (old mid new : List StateIndex) (key : StateIndex) → new ≡ insert_key state_cmp mid key → (done : List StateIndex) → AddedSoFar old mid done → AddedSoFar old new (done ++ key ∷ [])
 added_more old mid new key e done a r = (
@@ -51,7 +51,7 @@ added_more old mid new key e done a r = (
 abbrev pub ReachedSoFar : List StateIndex → Successors → Type 0
 ReachedSoFar keys done = (right : StateIndex) → Contains keys right ↔ ((left : StateIndex) × HasNext done left right)
 
-pub reached_more : (keys new : List StateIndex) (state : StateIndex) (set : SortedSet StateIndex) → AddsKeys set.keys keys new → (done : Successors) → ReachedSoFar keys done → ReachedSoFar new (done ++ (state, set) ∷ [])
+pub reached_more : (keys new : List StateIndex) (state : StateIndex) (set : SortedSet StateIndex) → AddsStates set.keys keys new → (done : Successors) → ReachedSoFar keys done → ReachedSoFar new (done ++ (state, set) ∷ [])
 reached_more keys new state set a done r right = (
   λ c. ⊎_elim
       (λ was. let h = (r right).0 was in (h.0, next_more done (state, set) h.0 right h.1))

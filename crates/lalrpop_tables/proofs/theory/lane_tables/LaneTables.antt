@@ -311,7 +311,7 @@ same_successors left old new c l up_old up_new same others = record {
         (cases_Bool (is_eq (state_cmp left q)))
 
 -- ---- what a look-up of a state finds
-none_is : {V : Type 0} (o : Option (Bor V)) → IsNone o → option_copied o ≡ None
+pub none_is : {V : Type 0} (o : Option (Bor V)) → IsNone o → option_copied o ≡ None
 none_is None h = refl
 none_is (Some b) h = cc
 

@@ -10,13 +10,14 @@ use Rattle.lalrpop_base.specs.Words.{Bits, has, state_conflicts, shift_conflicts
 use Rattle.lalrpop_base.specs.Words.{later_conflicts, share, place_in, AreAmong, IsReductionAt}
 use Rattle.lalrpop_tables.proofs.Types.{Action, Conflict, Production, State, StateIndex, TerminalString}
 use Rattle.lalrpop_base.specs.declared.lr1_core.state.Action.TheVariants.{Shift, Reduce}
-use Rattle.lalrpop_base.proofs.theory.states.ContentsViews.{at_contains, contains_at, contains_of_map, contains_map}
+use Rattle.lalrpop_base.proofs.theory.states.ContentsViews.{contains_of_map, contains_map}
 use Rattle.lalrpop_base.specs.conflicts.HeldShifts.{IsHeldBit}
 use Rattle.lalrpop_tables.specs.Words.{action_order, AreActions, asked_actions, conflict_actions, reduce_action}
 use Rattle.lalrpop_base.proofs.theory.grammars.AscendingItems.{production_exact}
 use Rattle.lalrpop_base.proofs.theory.lists.Bounded.{in_flat_map}
 use Rattle.lalrpop_tables.proofs.theory.lists.Filters.{is_kept, kept_holds, of_kept}
 use Rattle.lalrpop_base.proofs.theory.lists.Members.{Contains-none, contains_head, contains_tail, contains-cons, of_flat}
+use Rattle.lalrpop_base.proofs.theory.lists.Lists.{contains_place, place_contains}
 
 abbrev pub CodeReduction : Type 0
 CodeReduction = Bits × Bor Production
@@ -99,11 +100,11 @@ module _ (terminals : List TerminalString) (state : State Bits) (actions : List 
   place_asked r among =
       let f = asked.all (Reduce r.1) (reduction_asked terminals state r among) in
       let t = tied_reduce r.1 f.0 f.2 in
-      let k = contains_at actions f.0 f.1 in
+      let k = contains_place actions f.0 f.1 in
       (k.0, record { lent = t.0; action = k.1 ∙ ap (λ (a : Action). Some a) t.1; same = t.2 })
 
   pub among_asked : AreAmong actions state
-  among_asked k r at_k = place_asked r (at_contains state.reductions.items k r at_k)
+  among_asked k r at_k = place_asked r (place_contains state.reductions.items k r at_k)
 
   -- so there is one where there is a reduction
   pub asked_some : (r : CodeReduction) → Contains state.reductions.items r → 0 < length actions

@@ -17,6 +17,7 @@ use Rattle.lalrpop_tables.proofs.theory.lane_states.LaneResolved.{by_all}
 use Rattle.lalrpop_base.proofs.theory.collapse.Merging.{set_here, set_elsewhere, set_length}
 use Rattle.lalrpop_base.proofs.theory.lists.Orders.{terminal_order}
 use Rattle.lalrpop_base.proofs.theory.lists.Places.{same_some, slice_get-append_before, slice_get-push_at, slice_get-longer, push_cases, filled}
+use Rattle.lalrpop_base.proofs.theory.renumbering.Renumbered.{no_lead}
 
 pub number_at : (xs : List ℕ) (n o : ℕ) → slice_get xs n ≡ Some o → number_in xs n ≡ o
 number_at xs n o at = ap (λ x. unwrap_or x n) at
@@ -110,10 +111,6 @@ module _ (exact : Bool) (handed : List (State Bits)) (originals : List ℕ) (sta
     abbrev at_option : Option (State Bits) → Contents
     at_option o = contents_at (holds_token terminals) o
 
-    no_lead : (x : Symbol) → leads (at_option None) x ≡ None
-    no_lead (Terminal t) = refl
-    no_lead (Nonterminal a) = refl
-
     numbers : (o : Option StateIndex) → option_map number_of (option_map (retargeted original) o) ≡ option_map original (option_map number_of o)
     numbers None = refl
     numbers (Some target) = refl
@@ -134,7 +131,7 @@ module _ (exact : Bool) (handed : List (State Bits)) (originals : List ℕ) (sta
           let o = c.each n at.0 at.2 in
           ap (λ s. leads (at_option s) x) o.1 ∙ leads_copy n o.0 at.0 o.2 x ∙ ap (λ s. option_map original (leads (at_option s) x)) (sym at.2)
       | inr past ↦
-          ap (λ s. leads (at_option s) x) (nothing_there n past.0) ∙ no_lead x ∙ ap (option_map original) (sym (no_lead x)) ∙ ap (λ s. option_map original (leads (at_option s) x)) (sym past.1)
+          ap (λ s. leads (at_option s) x) (nothing_there n past.0) ∙ no_lead terminals x ∙ ap (option_map original) (sym (no_lead terminals x)) ∙ ap (λ s. option_map original (leads (at_option s) x)) (sym past.1)
     ]
 
     items_there : (n : ℕ) → (here n).items ≡ (there (original n)).items

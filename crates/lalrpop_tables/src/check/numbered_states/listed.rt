@@ -89,6 +89,7 @@ fn state_over<'grammar>(
 }
 
 // The kernel that is expected of a state: of the first the productions of the start symbol.
+#[tactic(auto, using(crate::proofs::theory::check::ExpectedKernels::moved_kernel, crate::proofs::theory::check::NumberedSteps::if_some))]
 fn kernel_of<'list>(
     _lr: &Lr<'_, Nil>,
     numbers: &Numbers<'_>,

@@ -80,6 +80,7 @@ pub(crate) fn number_of(symbols: &[Symbol], symbol: &Symbol) -> Option<usize>
 }
 
 // The number of the symbol behind a dot.
+#[tactic(auto, using(crate::proofs::theory::grammars::Numbering::behind_of))]
 fn number_behind<'grammar>(symbols: &[Symbol], item: &Lr0Item<'grammar>) -> Option<usize>
     requires ascend { SymbolsAscend symbols.now }
     requires known { (s : _) → IsBehind s item.now → Contains symbols.now s }

@@ -22,6 +22,7 @@ use std::alloc::Global;
 
 /// Merges states along the lanes of a state, with copies where their tokens overlap, and tells
 /// whether no two actions of the state, and of its copies, share a token then.
+#[tactic(auto, using(crate::proofs::theory::lane_states::Resolving::copied_none))]
 pub(super) fn merge_along<'grammar>(
     alloc: Global,
     table: &LaneTable<'grammar>,

@@ -1,7 +1,8 @@
 //! The states where lanes begin.
 ghost use Rattle.std.specs.Prelude.{◌↔◌, Contains, IfOk, OnOk};
 ghost use Rattle.lalrpop_base.specs.declared.lr1_core.state.StateIndex.{StateIndex as State};
-ghost use Rattle.lalrpop_tables.specs.lane_tables.LaneTableStates.{AddsKeys, AreReached};
+ghost use Rattle.lalrpop_tables.specs.graphs.StateGraph.{AddsStates};
+ghost use Rattle.lalrpop_tables.specs.lane_tables.LaneTableStates.{AreReached};
 ghost use Rattle.lalrpop_tables.specs.lane_tables.LaneTables.{IsBeachhead};
 
 use super::LaneTable;
@@ -41,7 +42,7 @@ impl<'grammar> LaneTable<'grammar> {
 
 // Adds states to a set.
 fn add_states(set: &mut Set<StateIndex>, states: &Set<StateIndex>) -> Result<(), OutOfMemory>
-    ensures { OnOk result (AddsKeys states.now.keys set.old.keys set.new.keys) }
+    ensures { OnOk result (AddsStates states.now.keys set.old.keys set.new.keys) }
 {
     for state in states.iter() {
         set.insert(*state)?;

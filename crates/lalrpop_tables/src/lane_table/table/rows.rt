@@ -89,6 +89,7 @@ impl<'grammar> LaneTable<'grammar> {
 }
 
 // Adds a row without tokens where there is none.
+#[tactic(auto, using(crate::proofs::theory::lane_tables::LaneRows::made_already))]
 fn make_row(
     alloc: Global,
     count: usize,

@@ -1,24 +1,29 @@
-use Rattle.std.proofs.Common.{◌≡◌, ◌∙◌, true, false, sym, subst, rules, arith}
-use Rattle.std.specs.Prelude.{IfOk, IfSome}
-use Rattle.std.proofs.lemmas.Grind.{common_steps}
+use Rattle.std.proofs.Common.{◌≡◌, ℕ, true, subst}
+use Rattle.std.specs.Prelude.{IfSome, is_some}
+use Rattle.lalrpop_base.specs.Words.{IsLALR1, IsOnNoRightSide, productions}
+use Rattle.lalrpop_tables.proofs.Types.{Grammar, NonterminalString}
 use Rattle.lalrpop_tables.specs.Words.{AreBuiltTablesOf}
-use Rattle.lalrpop_tables.specs.declared.build.options.Method.{Method}
-use Rattle.lalrpop_tables.specs.declared.build.options.Method.TheVariants.{Lane}
-use Rattle.lalrpop_tables.proofs.theory.answers.ByLanes.{Lanes-answer, Lanes-there}
+use Rattle.lalrpop_tables.specs.answers.Results.{lr0_of}
+use Rattle.lalrpop_tables.proofs.theory.answers.ByLanes.{said_of}
 use Rattle.lalrpop_tables.proofs.build.by_lanes.tables_by_lanes.Goals as goal
 
-pub returns-then-eq-clause-tables : goal.returns-then-eq-clause-tables
-returns-then-eq-clause-tables c =
-    let g = c.args.grammar.now in
-    let start = c.args.start.now in
-    let copies = c.args.options.now.max_copies in
-    let says = c.lane_tables.ensures in
-    let method : c.args.options.now.method ≡ Lane = first_of (search rules, grind (arith, common_steps)) in
-    subst (λ (m : Method). IfOk c.lane_tables.result (λ answer. IfSome answer (λ tables. AreBuiltTablesOf ⊥ m copies g start tables.items))) (sym method)
-    (Lanes-answer (λ tables. tables.items) g start copies c.lane_tables.result says.copied says.faithful says.lalr)
-
-pub returns-then-eq-clause-lalr : goal.returns-then-eq-clause-lalr
-returns-then-eq-clause-lalr c _ alone lalr = Lanes-there c.lane_tables.result _ (c.lane_tables.ensures.lalr alone lalr)
+pub returns-clause-tables : goal.returns-clause-tables
+returns-clause-tables c =
+    let o = c.args.options.now in
+    let of = c.in_ok-construct.construct in
+    let over = c.in_ok-construct.ensures.over in
+    let Told : ℕ → Grammar → NonterminalString → Type 0 = λ copies g start. IfSome c.in_ok-tables.tables (λ tables. AreBuiltTablesOf ⊥ o.method copies g start tables.items) in
+    said_of (Told o.max_copies) of.grammar.now c.args.grammar.now of.start c.args.start over.0 over.1 (subst (λ copies. Told copies of.grammar.now of.start) over.2 c.in_ok-tables.ensures.tables)
 
 pub returns-clause-lalr : goal.returns-clause-lalr
-returns-clause-lalr c lane _ _ = absurd (let e : true ≡ false = sym (rw lane at c.eq.ensures) ∙ c.if-eq.false in cc)
+returns-clause-lalr c lane =
+    let of = c.in_ok-construct.construct in
+    let over = c.in_ok-construct.ensures.over in
+    let Told : Grammar → NonterminalString → Type 0 = λ g start. IsOnNoRightSide (productions g) start → IsLALR1 (productions g) start → is_some c.in_ok-tables.tables ≡ true in
+    said_of Told of.grammar.now c.args.grammar.now of.start c.args.start over.0 over.1 (c.in_ok-tables.ensures.lalr lane)
+
+pub returns-clause-over : goal.returns-clause-over
+returns-clause-over c =
+    let of = c.in_ok-construct.construct in
+    let over = c.in_ok-construct.ensures.over in
+    said_of (λ g start. of.lr.construction ≡ lr0_of g start) of.grammar.now c.args.grammar.now of.start c.args.start over.0 over.1 c.in_ok-construct.ensures.ready.over

@@ -1,12 +1,18 @@
-use Rattle.std.proofs.Common.{◌≡◌, subst}
-use Rattle.std.specs.Prelude.{IfOk}
-use Rattle.lalrpop_base.specs.Words.{Bits, rules_of, productions_of}
-use Rattle.lalrpop_tables.proofs.Types.{Grammar, NonterminalString}
-use Rattle.lalrpop_tables.specs.Words.{Settings}
+use Rattle.std.proofs.Common.{◌≡◌, ◌∙◌, List, ap, sym, subst}
+use Rattle.lalrpop_base.specs.Words.{Bits, FitsTokens}
+use Rattle.lalrpop_tables.proofs.Types.{Nil, TerminalString}
+use Rattle.lalrpop_tables.specs.Words.{Construction, Settings}
+use Rattle.lalrpop_tables.specs.answers.Results.{construction_of}
+use Rattle.lalrpop_tables.proofs.theory.states.Lookaheads.{eof_fits}
 use Rattle.lalrpop_tables.proofs.construction.canonical.canonical_construction.Goals as goal
 
-abbrev settings : Grammar → NonterminalString → Bits → Settings Bits
-settings g start lookahead = record { construction = record { rules = rules_of g; start = start; first = productions_of g start; lookahead = lookahead }; stop_after = 0 }
+pub with_lookahead-requires : goal.with_lookahead-requires
+with_lookahead-requires c =
+    let own = c.args.grammar.now.terminals in
+    let same : own ≡ c.args.lr.construction.rules.terminals = sym (ap (λ (k : Construction Nil). k.rules.terminals) c.requires) in
+    subst (λ (terminals : List TerminalString). FitsTokens terminals c.in_ok-eof.eof) same (subst (FitsTokens own) (sym c.in_ok-eof.ensures) (eof_fits own))
 
 pub returns : goal.returns
-returns c = subst (λ (tokens : Bits). IfOk c.new.result (λ lr. lr ≡ settings c.args.grammar.now c.args.start tokens)) c.in_ok-eof.ensures c.new.ensures
+returns c =
+    let of : Construction Nil → Bits → Construction Bits = λ k tokens. record { rules = k.rules; start = k.start; first = k.first; lookahead = tokens } in
+    ap (λ (s : Settings Bits). s.construction) c.with_lookahead.ensures ∙ ap (λ (k : Construction Nil). of k c.in_ok-eof.eof) c.requires ∙ ap (of (construction_of c.args.grammar.now c.args.lr.construction.start (record {}))) c.in_ok-eof.ensures

@@ -1,8 +1,8 @@
-use Rattle.std.proofs.Common.{ap, subst}
+use Rattle.std.proofs.Common.{subst}
 use Rattle.std.proofs.lemmas.Result.{IfOk-weaker}
 use Rattle.lalrpop_base.specs.Words.{Bits, Begins}
 use Rattle.lalrpop_base.specs.closures.Closure.{itself}
-use Rattle.lalrpop_tables.specs.Words.{AreStatesFor, Construction, Settings}
+use Rattle.lalrpop_tables.specs.Words.{AreStatesFor, Construction}
 use Rattle.lalrpop_base.proofs.theory.grammars.Grammars.{productions_own}
 use Rattle.lalrpop_tables.proofs.theory.answers.TablesOrCount.{Canonical-counted}
 use Rattle.lalrpop_tables.proofs.theory.closures.TokenTables.{Lists, Passes}
@@ -12,7 +12,6 @@ pub returns : goal.returns
 returns c =
     let g = c.args.grammar.now in
     let states = c.in_ok-states.states.items in
-    let own = productions_own g c.requires c.len-names.ensures.ordered in
-    let same = ap (λ (s : Settings Bits). s.construction) c.in_ok-lr.ensures in
-    let made = subst (λ (k : Construction Bits). AreStatesFor itself Begins Passes Lists k states) same c.in_ok-states.ensures in
-    IfOk-weaker c.tables_or_count.result _ _ (Canonical-counted g c.args.start c.requires own c.all-terminals.ensures.distinct states made) c.tables_or_count.ensures
+    let own = productions_own g c.requires.well_formed c.len-names.ensures.ordered in
+    let made = subst (λ (k : Construction Bits). AreStatesFor itself Begins Passes Lists k states) c.in_ok-canonical.ensures c.in_ok-states.ensures in
+    IfOk-weaker c.tables_or_count.result _ _ (Canonical-counted g c.args.lr.construction.start c.requires.well_formed own c.all-terminals.ensures.distinct states made) c.tables_or_count.ensures

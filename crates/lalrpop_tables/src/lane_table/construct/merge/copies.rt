@@ -16,6 +16,7 @@ use std::alloc::Global;
 use std::collections::BTreeMap;
 
 /// The numbers below a count.
+#[tactic(auto, using(crate::proofs::theory::merges::Merges::numbers_more))]
 pub(super) fn own_numbers(alloc: Global, count: usize) -> Result<Vec<usize>, OutOfMemory>
     ensures counted { IfOk result (λ numbers. length numbers.items ≡ count) }
     ensures own { IfOk result

@@ -4,14 +4,15 @@ use Rattle.std.specs.BTreeMap.{get}
 use Rattle.lalrpop_lr1.specs.Words.{Graph}
 use Rattle.lalrpop_lr1.specs.contracts.trace.node.TraceGraphNodeOrd.TheImpl as node_ord
 use Rattle.lalrpop_lr1.specs.declared.trace.node.TraceGraphNode.TheVariants.{Item}
-use Rattle.lalrpop_lr1.proofs.theory.traces.TraceGraphs.{kept_node, same_item}
+use Rattle.lalrpop_lr1.proofs.theory.traces.TraceGraphs.{kept_node}
+use Rattle.lalrpop_base.proofs.theory.grammars.Tables.{same_lr0}
 use Rattle.lalrpop_lr1.proofs.trace.trace_graph.TraceGraph.contains.Goals as goal
 
 pub returns : goal.returns
 returns c =
     let item = c.args.item.now in
     let answer : c.contains_key.result ≡ is_some (get node_ord.ghosts.cmp c.self.inside.indices (Item item)) =
-    c.contains_key.ensures ∙ ap (λ i. is_some (get node_ord.ghosts.cmp c.self.inside.indices (Item i))) (same_item c.to_lr0.result item c.to_lr0.ensures.production c.to_lr0.ensures.index) in
+    c.contains_key.ensures ∙ ap (λ i. is_some (get node_ord.ghosts.cmp c.self.inside.indices (Item i))) (same_lr0 c.to_lr0.result item c.to_lr0.ensures.production c.to_lr0.ensures.index) in
     let here = kept_node c.self.invariant (Item item) in
     let P : Graph → Type 0 = λ g. IsTrue c.contains_key.result ↔ Contains g.nodes (Item item) in
     subst P c.self.view_is (λ h. here.0 (sym answer ∙ h), λ h. answer ∙ here.1 h)

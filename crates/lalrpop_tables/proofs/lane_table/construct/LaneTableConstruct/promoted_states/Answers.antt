@@ -1,17 +1,19 @@
-use Rattle.std.proofs.Common.{subst}
+use Rattle.std.proofs.Common.{ap, sym, subst}
 use Rattle.lalrpop_base.specs.Words.{Rules, rules_of, AreLr0States}
+use Rattle.lalrpop_tables.proofs.Types.{Nil}
+use Rattle.lalrpop_tables.specs.Words.{Construction}
+use Rattle.lalrpop_tables.specs.grammars.Numbers.{AreNumbers}
 use Rattle.lalrpop_tables.proofs.theory.lane_states.LanePromoted.{Numbered-promoted, promoted_lanes, promoted_full, full_set}
 use Rattle.lalrpop_tables.proofs.lane_table.construct.LaneTableConstruct.promoted_states.Goals as goal
 
 pub lr0_states-requires : goal.lr0_states-requires
-lr0_states-requires c = rw c.requires.ready.rules c.requires.numbers
+lr0_states-requires c = subst (λ (g : Rules). AreNumbers g c.args.numbers.now) (sym (ap (λ (k : Construction Nil). k.rules) c.requires.ready.over)) c.requires.numbers
 
 pub returns-clause-lanes : goal.returns-clause-lanes
 returns-clause-lanes c =
     let g = rules_of c.args.self.now.grammar.now in
     let states = c.in_ok-states.states.items in
-    let ready = c.requires.ready in
-    let lr0 = subst (λ start. AreLr0States g start states) ready.start (subst (λ (r : Rules). AreLr0States r c.args.self.now.lr.construction.start states) ready.rules c.in_ok-states.ensures.states) in
+    let lr0 = subst (λ (k : Construction Nil). AreLr0States k.rules k.start states) c.requires.ready.over c.in_ok-states.ensures.states in
     promoted_lanes g c.args.self.now.start _ (full_set g.terminals _ c.in_ok-all.ensures) states _ lr0 c.in_ok-states-2.ensures
 
 pub returns-clause-full : goal.returns-clause-full
