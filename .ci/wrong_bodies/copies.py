@@ -37,9 +37,18 @@ def is_of_a_trait(lines, head):
     return False
 
 
+def marks_above(lines, head):
+    """The attributes of the function that begins at this line, a line each."""
+    first = head
+    while first > 0 and lines[first - 1].lstrip().startswith("#["):
+        first -= 1
+    return lines[first:head]
+
+
 def copied(edit, text, copy, is_edited=True):
     """The copy of the edited function, and the line behind which it goes, or None where the edit can't be had so: in a trait's
-    impl, in a function that calls itself or bears an attribute, or where an old text stands outside the function."""
+    impl, in a function that calls itself or bears an attribute that is none of its proof, or where an old text stands outside
+    the function."""
     found = lines_of(text, copy.old, text.index(edit.pairs[0][0]))
     if found is None:
         return None
@@ -47,12 +56,13 @@ def copied(edit, text, copy, is_edited=True):
     own = "\n".join(lines[head : end + 1])
     body = own.partition("{\n" if lines[head].endswith("{") else f"\n{re.match(' *', own)[0]}{{\n")[2]
     calls_itself = re.search(rf"((?<![\w.:])|\b[sS]elf(\.|::)){re.escape(copy.old)}\(", body) is not None
-    is_marked = head > 0 and lines[head - 1].lstrip().startswith("#[")
+    marks = marks_above(lines, head)
+    is_marked = any(not it.lstrip().startswith("#[tactic(") for it in marks)
     if calls_itself or is_marked or is_of_a_trait(lines, head) or any(own.count(old) != 1 for old, _ in edit.pairs):
         return None
     for old, new in edit.pairs if is_edited else []:
         own = own.replace(old, new)
-    return end, re.sub(rf"\bfn {re.escape(copy.old)}\b", f"fn {copy.new}", own, count=1)
+    return end, "\n".join([*marks, re.sub(rf"\bfn {re.escape(copy.old)}\b", f"fn {copy.new}", own, count=1)])
 
 
 def copy_proofs(crate, name, copy):

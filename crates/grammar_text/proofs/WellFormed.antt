@@ -13,7 +13,7 @@ use Rattle.std.specs.BTreeSet as set
 use Rattle.std.specs.BTreeSet.{BTreeSet}
 use Rattle.std.proofs.lemmas.List.{length-map}
 use Rattle.std.proofs.lemmas.List.Elements.{All-cons, All-contains, All-filter, All-contains_itself, filter_passes, Contains-append_left, Contains-append_right}
-use Rattle.std.proofs.lemmas.Option.{slice_get_within, get_or_from_slice_get, slice_get_read}
+use Rattle.std.proofs.lemmas.Option.{slice_get_within, get_or_from_slice_get}
 use Rattle.std.proofs.lemmas.Map.Entries.{btree_map_get_place}
 use Rattle.std.proofs.lemmas.Map.Lookups.{CmpEqualImpliesEq, exact_bytes}
 use Rattle.std.proofs.lemmas.Map.Views.{btree_set_contains_iff}
@@ -35,6 +35,7 @@ use Rattle.grammar_text.specs.Grammar.{Entry, entry_view, terminal_of, terminals
 use Rattle.grammar_text.specs.declared.collected.Collected.{Collected}
 use Rattle.grammar_text.specs.Collected.{IsCollected, is_same}
 use Rattle.grammar_text.proofs.Numbered.{entry_from}
+use Rattle.lalrpop_base.proofs.theory.lists.Lists.{contains_place, place_contains}
 
 -- the actions count up from k
 abbrev IsNumberedFrom : ℕ → List Production → Type 0
@@ -90,13 +91,6 @@ differ k (p ∷ ps) h zero (suc j) x lt e f =
     omega (arith, number, rises_above (p.action.0 + 1) ps j x h.1 f)
 differ k (p ∷ ps) h (suc i) (suc j) x lt e f = differ (p.action.0 + 1) ps h.1 i j x (omega arith) e f
 
--- an element of a list
-pub contains_at : {X : Type 0} (xs : List X) (k : ℕ) (x : X) → slice_get xs k ≡ Some x → Contains xs x
-contains_at xs k x e = (k, slice_get_within xs k x e, get_or_from_slice_get xs k x x e)
-
-place_at : {X : Type 0} (xs : List X) (x : X) → Contains xs x → (k : ℕ) × (slice_get xs k ≡ Some x)
-place_at xs x c = (c.0, slice_get_read xs (length xs) c.0 x refl c.1 (sym c.2))
-
 in_flat : {X A : Type 0} (f : X → List A) (xs : List X) (k : ℕ) (x : X) (y : A) → slice_get xs k ≡ Some x → Contains (f x) y → Contains (flat_map f xs) y
 in_flat f [] k x y e c = cc
 in_flat {X} {A} f (z ∷ xs) zero x y e c = let same : x ≡ z = cc in let P : X → Type 0 = λ w. Contains (f w) y in Contains-append_left (f z) (flat_map f xs) y (subst P same c)
@@ -105,8 +99,8 @@ in_flat f (z ∷ xs) (suc k) x y e c = Contains-append_right (f z) (flat_map f x
 -- the terminals of a production are among those of all
 known : (ps : List Production) (p : Production) → Contains ps p → (k : ℕ) (t : TerminalString) → slice_get p.symbols k ≡ Some (Terminal t) → Contains (terminals_in ps) t
 known ps p c k t e =
-    let at = place_at ps p c in
-    in_flat (λ (x : Production). terminals_of x.symbols) ps at.0 p t at.1 (in_flat terminal_of p.symbols k (Terminal t) t e (contains_at (t ∷ []) 0 t refl))
+    let at = contains_place ps p c in
+    in_flat (λ (x : Production). terminals_of x.symbols) ps at.0 p t at.1 (in_flat terminal_of p.symbols k (Terminal t) t e (place_contains (t ∷ []) 0 t refl))
 
 listed : (e : Entry) (ps : List Production) (marks : List Attribute) (found : Option PlacedLine) → Some e ≡ entry_from ps marks found → e.productions ≡ ps
 listed e ps marks None h = cc
@@ -138,7 +132,7 @@ well_formed ls g stands k name entry e =
     let kept = filter (has_name name) (productions_in ls) in
     let P : List Production → Type 0 = IsWellFormedEntry g.terminals (vec_len g.action_fn_defns) name in
     subst P (sym same) (record {
-      each = λ i p at. one_of ls g name p stands (contains_at kept i p at);
+      each = λ i p at. one_of ls g name p stands (place_contains kept i p at);
       differ = differ 0 kept (rises_filter (has_name name) 0 (productions_in ls) (rises_numbered 0 (productions_in ls) (numbered 0 ls)));
     })
 
@@ -168,7 +162,7 @@ same_terminal : (t : TerminalString) → terminal_cmp t t ≡ Equal
 same_terminal t = equal_itself (terminal_cmp t t) (terminal_order.total-law.antisymm t t)
 
 any_step : (t x : TerminalString) (xs : List TerminalString) (b : Bool) → (b ≡ true → x ≡ t) → (list_any (λ y. is_same y t) xs ≡ true → Contains xs t) → (b || list_any (λ y. is_same y t) xs) ≡ true → Contains (x ∷ xs) t
-any_step t x xs true same rest h = contains_at (x ∷ xs) 0 t (ap Some (same refl))
+any_step t x xs true same rest h = place_contains (x ∷ xs) 0 t (ap Some (same refl))
 any_step t x xs false same rest h = Contains-append_right (x ∷ []) xs t (rest h)
 
 any_to : (t : TerminalString) (xs : List TerminalString) → list_any (λ x. is_same x t) xs ≡ true → Contains xs t
@@ -187,7 +181,7 @@ any_at t (x ∷ xs) zero e =
 any_at t (x ∷ xs) (suc k) e = or_true (is_same x t) (list_any (λ x. is_same x t) xs) (any_at t xs k e)
 
 any_from : (t : TerminalString) (xs : List TerminalString) → Contains xs t → list_any (λ x. is_same x t) xs ≡ true
-any_from t xs c = let at = place_at xs t c in any_at t xs at.0 at.1
+any_from t xs c = let at = contains_place xs t c in any_at t xs at.0 at.1
 
 -- terminals that ascend are not repeated
 pub no_repeat : (xs : List TerminalString) → IsStrictlySortedBy terminal_cmp xs → (place : ℕ) (x : TerminalString) → IsFirstRepeat xs place x → ⊥

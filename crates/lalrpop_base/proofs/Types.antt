@@ -2,6 +2,7 @@
 pub use Rattle.lalrpop_base.specs.declared.lookahead.nil.Nil.{Nil}
 pub use Rattle.lalrpop_base.specs.declared.lookahead.token.Token.{Token}
 pub use Rattle.lalrpop_base.specs.declared.lr1_core.state.Action.{Action}
+pub use Rattle.lalrpop_base.specs.declared.lr1_core.state.BuildError.{BuildError}
 pub use Rattle.lalrpop_base.specs.declared.lr1_core.state.Conflict.{Conflict}
 pub use Rattle.lalrpop_base.specs.declared.lr1_core.state.State.{State}
 pub use Rattle.lalrpop_base.specs.declared.lr1_core.state.StateIndex.{StateIndex}

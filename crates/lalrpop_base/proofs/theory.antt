@@ -1,12 +1,18 @@
 -- The theory of LR(1) parsing, over the definitions of specs alone.
+pub mod canonical
+pub mod check
 pub mod closures
 pub mod collapse
+pub mod collections
 pub mod conflicts
+pub mod construction
+pub mod early_stop
 pub mod first
 pub mod grammars
 pub mod instances
 pub mod lanes
 pub mod lists
+pub mod numbers
 pub mod renumbering
 pub mod runs
 pub mod sets

@@ -1,5 +1,10 @@
 -- The words of this crate's contracts, by name: where each is defined.
-pub use Rattle.lalrpop_base.specs.closures.CheckClosing.{AllWait, AreClosure, IsBegun, IsExpansionOf, IsMovedIn, IsMovedOf, Widens}
+pub use Rattle.lalrpop_base.specs.check.Check.{HoldCarried, PassCheck}
+pub use Rattle.lalrpop_base.specs.check.CheckCarrying.{AllHoldCarried, AreCarried, AreCarriedTo, Carried, Gives, HasBegun, HasStarted, HoldsCarried, IsBegunAt}
+pub use Rattle.lalrpop_base.specs.check.CheckCarrying.{IsCarriedTo, IsInto, IsOver, Sends, at_place, target_from, target_in}
+pub use Rattle.lalrpop_base.specs.check.CheckCarrying.{IsSettled}
+pub use Rattle.lalrpop_base.specs.check.ExpectedKernels.{AreMovedKernel, IsKernelAt, IsKernelOf, IsMovedNumber, NumbersRise, no_tokens}
+pub use Rattle.lalrpop_base.specs.closures.CheckClosing.{AreClosure, IsBegun, IsExpansionOf, IsMovedIn, IsMovedOf}
 pub use Rattle.lalrpop_base.specs.closures.Closing.{AreOwn, Begins, HasGiven}
 pub use Rattle.lalrpop_base.specs.closures.Closing.{IsTokenClosed, IsTokenSettled}
 pub use Rattle.lalrpop_base.specs.closures.Closure.{AreItems, AreItemsBy, Found, HasItemToken, HasItemTokenBy, InKernel, InTokenClosureBy}
@@ -9,6 +14,8 @@ pub use Rattle.lalrpop_base.specs.closures.Closures.{AreCanonical, AreChecked, A
 pub use Rattle.lalrpop_base.specs.closures.Closures.{IsMovedWith, IsReached, KernelsDiffer, TokenKernelsDiffer, at_zero, begins_rest, eof_at_start, expanded}
 pub use Rattle.lalrpop_base.specs.closures.Closures.{first_of_rest, in_kernel, inherits, items_of, over, through_rest, with_token}
 pub use Rattle.lalrpop_base.specs.closures.EpsilonMoves.{AreBegunWith, AreEpsilonMoves, IsBegunWith}
+pub use Rattle.lalrpop_base.specs.closures.Sharing.{AllFit, HasShare, IsFront, IsNamed, IsShared, IsSharing, MayFollow, MayFollowIn, Shared, Shares, StandsBehind}
+pub use Rattle.lalrpop_base.specs.closures.Sharing.{StandsBehindOne, fronts_in, list_at, numbered_of, parts_in, unfolded, with_tokens}
 pub use Rattle.lalrpop_base.specs.collapse.Collapse.{HoldsInGroup, IsCollapse, LeadsInGroup}
 pub use Rattle.lalrpop_base.specs.collapse.Collapsed.{AreCollapsedTables, AreOrdered, FailsByCollapse, HoldsAt, IsCollapsed, IsMerge, IsNumbered, IsOrderedState}
 pub use Rattle.lalrpop_base.specs.collapse.Collapsed.{OfMember, ReducesBy, ReducesOn, dots_in}
@@ -29,6 +36,21 @@ pub use Rattle.lalrpop_base.specs.conflicts.ListedConflicts.{conflict_of, confli
 pub use Rattle.lalrpop_base.specs.conflicts.NilConflicts.{nil_conflict, nil_conflicts, nil_shift_conflicts}
 pub use Rattle.lalrpop_base.specs.conflicts.StateConflicts.{conflicts_on_bit, conflicts_on_place, later_conflicts, meet, reduce_conflict, reduce_conflicts, share}
 pub use Rattle.lalrpop_base.specs.conflicts.StateConflicts.{shift_conflict, shift_conflicts, state_conflicts}
+pub use Rattle.lalrpop_base.specs.construction.Building.{AreMadeSoFar, Building}
+pub use Rattle.lalrpop_base.specs.construction.EarlyStop.{AreEnough, AreMadeFor, AreMadeUntilBy, ArePartlyBuilt, ArePartlyBuiltBy, AreSomeCanonicalStates}
+pub use Rattle.lalrpop_base.specs.construction.EarlyStop.{AreSomeLr0States, FailsAfterLr0, GoesOnBeforeLast, HasDotted, HaveSameContents, IsLr0StateFor, IsStateFor}
+pub use Rattle.lalrpop_base.specs.construction.EarlyStop.{FailsAfter}
+pub use Rattle.lalrpop_base.specs.construction.EarlyStop.{ListFewer, Lr0StopsAfter, StopsAfter, StopsFor}
+pub use Rattle.lalrpop_base.specs.construction.Ready.{IsReadyToBuild}
+pub use Rattle.lalrpop_base.specs.construction.Results.{AreStatesFor, AreStatesOf, AreTables, AreTablesFor, Construction, FailsBy, FailsFor}
+pub use Rattle.lalrpop_base.specs.construction.Results.{Settings, canonical_of}
+pub use Rattle.lalrpop_base.specs.construction.Results.{construction_of, lr0_of}
+pub use Rattle.lalrpop_base.specs.construction.States.{AreBuiltBy, Extends, HasTransition, IsBuilt, IsBuiltBy, IsBuiltOfBy, IsLedTo, Leads, LeadsToAdded, begun}
+pub use Rattle.lalrpop_base.specs.construction.States.{state_entries}
+pub use Rattle.lalrpop_base.specs.construction.Transitions.{AddsKernels}
+pub use Rattle.lalrpop_base.specs.construction.Transitions.{AreEdges, AreMoves, Groups, HasNoGroup, IsBehind, IsBehindOne, IsMoveAdded}
+pub use Rattle.lalrpop_base.specs.construction.Transitions.{AreEdgesListed, AreTransitions, Entries, HasEntry, IsEntryAdded, LeadsTo, edge_entries, list_entries}
+pub use Rattle.lalrpop_base.specs.construction.Transitions.{Shifts, ShiftsAscend, reductions_of, seen_reduction, shifted}
 pub use Rattle.lalrpop_base.specs.first.First.{AreFirstSetsOf, IsFirstSet, IsFirstSetBefore}
 pub use Rattle.lalrpop_base.specs.first.FirstNumbers.{AreReady, GivesByNumber, HasBitsBelow, IsNumberedProduction, IsNumberedSymbol, IsReady, numbers_from, place, set_at}
 pub use Rattle.lalrpop_base.specs.first.FirstSets.{AreFirstSets, FirstBy, NullableBy}
@@ -65,6 +87,13 @@ pub use Rattle.lalrpop_base.specs.lists.Places.{AllDiffer, DifferBelow, IsFirstR
 pub use Rattle.lalrpop_base.specs.lists.Queues.{IsMarked, Waiting, waits}
 pub use Rattle.lalrpop_base.specs.lists.Spreading.{HoldsBit, IsSpread, edge_ends, held, sent_on}
 pub use Rattle.lalrpop_base.specs.lists.Ties.{Ties}
+pub use Rattle.lalrpop_base.specs.lists.Walks.{AllWait, Visits}
+pub use Rattle.lalrpop_base.specs.numbers.Numbering.{AddsStart, AddsThose, AreAllExpansions, AreEmpty, AreNumbersBehind, IsNumberOf, IsStartFrom, IsStartOf}
+pub use Rattle.lalrpop_base.specs.numbers.Numbering.{all_dots, lists_of, with_dots}
+pub use Rattle.lalrpop_base.specs.numbers.Numbers.{AreAllNumbered, AreBehindDots, AreExpansions, AreGroupsOf, AreItemsOf, AreNumbered, AreNumbers, IsNumberBehind}
+pub use Rattle.lalrpop_base.specs.numbers.Numbers.{MovesToNext, NumberedGroups, NumbersAscend, SymbolsAscend, dotted_at, groups_by, item_by, items_by, kernels_by}
+pub use Rattle.lalrpop_base.specs.numbers.Numbers.{numbered_exact, symbol_at, symbol_order}
+pub use Rattle.lalrpop_base.specs.numbers.Rests.{AreRests, HasRest, IsRest, IsRestOf}
 pub use Rattle.lalrpop_base.specs.parsing.Laws.{AreCanonicalWith, DifferInReductions}
 pub use Rattle.lalrpop_base.specs.parsing.Runs.{Configuration, Ends, Goes, HasOutcome, IsFirstWrong, IsParse, IsPromptRefusal, IsRightNext, Limit, Move, Outcome}
 pub use Rattle.lalrpop_base.specs.parsing.Runs.{Parsed, Reaches, Refused, Stands, at_end, at_terminal, before_all, begin, behind_shift, cut_off, further, goes_on, here}
@@ -78,14 +107,14 @@ pub use Rattle.lalrpop_base.specs.renumbering.Renumbering.{HasGoto, IsRenumberin
 pub use Rattle.lalrpop_base.specs.states.ActionEntries.{ReduceBy, ShiftTo, TableEntry, action_on, shift_of, shift_or, table_entry}
 pub use Rattle.lalrpop_base.specs.states.Canonical.{AreCanonicalStates, AreOrderedCanonical, FitReductions, is_with_token, tokens_of}
 pub use Rattle.lalrpop_base.specs.states.CheckStates.{AreRightStates, IsRightItem, IsRightState, IsRightTarget, IsTarget, LeadsBy, LeadsFrom, LeadsOn, Lists}
-pub use Rattle.lalrpop_base.specs.states.CheckStates.{finished, lr0}
+pub use Rattle.lalrpop_base.specs.states.CheckStates.{finished}
 pub use Rattle.lalrpop_base.specs.states.Coherent.{AreCoherent, AreFinished, HasItem, IsAt, IsCoherentEdge, IsCoherentState, IsCoherentStep, IsShifted, StartsAtZero}
 pub use Rattle.lalrpop_base.specs.states.Coherent.{symbol_of}
 pub use Rattle.lalrpop_base.specs.states.Contents.{contents, contents_at, contents_in, contents_of, dotted_of, has_at, holds_token, no_contents, number_of}
 pub use Rattle.lalrpop_base.specs.states.Contents.{reduced_productions, reduction_of}
 pub use Rattle.lalrpop_base.specs.states.Copies.{IsCopying}
 pub use Rattle.lalrpop_base.specs.states.Edges.{Edge, goto_edge, seen_edge, shift_edge, state_edges}
-pub use Rattle.lalrpop_base.specs.states.Items.{Dotted, dotted_exact}
+pub use Rattle.lalrpop_base.specs.states.Items.{Dotted, dotted_exact, with_dot}
 pub use Rattle.lalrpop_base.specs.states.Kernels.{AddsOnce, IsNumbering, Kernels, by_number, key_numbered, keys_below}
 pub use Rattle.lalrpop_base.specs.states.Lr0.{AreLr0States, HasLr0States, HaveNoNilConflict, ListsNilConflicts, lr0_contents, on_any}
 pub use Rattle.lalrpop_base.specs.states.States.{Allows, AreFaithful, CanStandNext, Contents, HasNoRepeat, HasRightItems, HaveRightItems, IsBehindDot, IsRightFor}

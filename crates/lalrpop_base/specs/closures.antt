@@ -4,3 +4,4 @@ pub mod Closing
 pub mod Closure
 pub mod Closures
 pub mod EpsilonMoves
+pub mod Sharing

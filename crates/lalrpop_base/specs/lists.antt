@@ -14,3 +14,4 @@ pub mod Queues
 pub mod SparseMaps
 pub mod Spreading
 pub mod Ties
+pub mod Walks

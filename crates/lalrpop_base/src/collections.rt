@@ -1,7 +1,10 @@
 //! What values are pushed into: lists, sets, maps of them, and nothing at all.
 pub mod multimap;
 pub mod queue;
+pub mod sets;
 pub mod sparse_map;
+pub mod tokens;
+pub mod walk;
 
 ghost use Rattle.std.specs.Prelude.{◌≡◌, ◌++◌, ◌∷◌, [], false, MatchBool, IfOk, OnErr, List, ⊤, refl};
 ghost use Rattle.std.specs.declared.vec.Vec.{Vec};

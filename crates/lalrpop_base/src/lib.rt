@@ -10,6 +10,7 @@ pub mod laws;
 pub mod lookahead;
 pub mod lr1_core;
 pub mod memory;
+pub mod numbers;
 pub mod repr;
 pub mod sequence;
 pub mod spread;

@@ -1,5 +1,6 @@
 //! Items, states and what goes wrong with them.
 pub mod actions;
+pub mod all_conflicts;
 mod clones;
 pub mod coherent;
 pub mod collapsible;
@@ -12,8 +13,10 @@ pub mod item;
 pub mod kernel_items;
 pub mod kernels;
 pub mod lr0;
+pub mod place;
 pub mod state;
 pub mod symbol_sets;
+pub mod transitions;
 mod views;
 
 pub use self::actions::ActionEntry;

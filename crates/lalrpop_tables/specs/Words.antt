@@ -1,10 +1,4 @@
 -- The words of this crate's contracts, by name: where each is defined.
-pub use Rattle.lalrpop_tables.specs.check.Check.{HoldCarried, PassCheck}
-pub use Rattle.lalrpop_tables.specs.check.CheckCarrying.{AllHoldCarried, AreCarried, AreCarriedTo, Carried, Gives, HasBegun, HasStarted, HoldsCarried, IsBegunAt}
-pub use Rattle.lalrpop_tables.specs.check.CheckCarrying.{IsCarriedTo, IsInto, IsOver, Sends, at_place, target_from, target_in}
-pub use Rattle.lalrpop_tables.specs.early_stop.EarlyStop.{AreEnough, AreMadeFor, AreMadeUntilBy, ArePartlyBuilt, ArePartlyBuiltBy, AreSomeCanonicalStates}
-pub use Rattle.lalrpop_tables.specs.early_stop.EarlyStop.{AreSomeLr0States, FailsAfterLr0, GoesOnBeforeLast, HasDotted, HaveSameContents, IsLr0StateFor, IsStateFor}
-pub use Rattle.lalrpop_tables.specs.early_stop.EarlyStop.{ListFewer, Lr0StopsAfter, StopsAfter, StopsFor}
 pub use Rattle.lalrpop_tables.specs.collapse.Lalr.{AreLalrTables, AreMergedTables, AreRenumberedMerged, Collapses, FailsAsLalr, HasCoherentStates, HasOrderedStates}
 pub use Rattle.lalrpop_tables.specs.collapse.Lalr.{TellsNotLALR1}
 pub use Rattle.lalrpop_tables.specs.lane_tables.LaneRows.{AddsRows, AreGathered, AreRowsOf, Cells, HasCells, HasIn, HasNext, JoinsRow, MakesRow, MeetsRow, Rows, StandsFor}
@@ -16,7 +10,6 @@ pub use Rattle.lalrpop_tables.specs.lane_states.LaneStates.{IsTokenOf, LanesMeet
 pub use Rattle.lalrpop_tables.specs.lane_states.LaneStates.{promoted_reduction, reduce_action}
 pub use Rattle.lalrpop_tables.specs.lanes.LaneSteps.{AddsNothing, AreExpanded, Gains, GainsAll, GainsOf, GainsSome, GainsSomeOf, GainsSomeOfAll, GivesBit, GivesCell}
 pub use Rattle.lalrpop_tables.specs.lanes.LaneSteps.{GivesSuccessor, IsEnd, IsEndBit, IsEndPlace, IsFollowBit, IsGround, IsHere, IsPair, IsParent, IsPassedOn, IsPlaceIf}
-pub use Rattle.lalrpop_tables.specs.Walks.{AllWait, Visits}
 pub use Rattle.lalrpop_tables.specs.lanes.LaneSteps.{Nothing, Nowhere, Reaches, Some_of, VisitsOf, rest_of}
 pub use Rattle.lalrpop_tables.specs.lane_tables.LaneTableStates.{AreReached, HasCellsBelow, IsClosedEdge}
 pub use Rattle.lalrpop_tables.specs.lane_tables.LaneTables.{AddsSuccessor, AddsTokens, AreColumns, AreInRange, AreSameTables, ColumnsOverlap, HasCell, HasRow, InColumn}
@@ -33,14 +26,9 @@ pub use Rattle.lalrpop_tables.specs.merges.Merges.{IsVisited, IsWalked, TookOwnC
 pub use Rattle.lalrpop_tables.specs.graphs.Neighbours.{sources_left}
 pub use Rattle.lalrpop_tables.specs.renumbering.RenumberedTables.{AreRenumberedCopies, AreRenumberedLaneTables, AreRenumberedTables}
 pub use Rattle.lalrpop_tables.specs.lane_states.Resolving.{IsCopied, IsResolving}
-pub use Rattle.lalrpop_tables.specs.answers.Results.{AreStatesFor, AreStatesOf, AreTables, AreTablesFor, Construction, FailsBy, FailsFor}
-pub use Rattle.lalrpop_tables.specs.answers.Results.{Settings, canonical_of}
 pub use Rattle.lalrpop_tables.specs.graphs.StateGraph.{AddsStates, AreSameLists, Edge, edge_from, HaveSameStates, IsChangedAt, IsGraphOf, IsGrown, IsListedAt, IsStepBack, edge, edges, edges_from, edges_of, goto_edges}
 pub use Rattle.lalrpop_tables.specs.graphs.StateGraph.{list_at, listed, nowhere, origin_of, origins, origins_of, over, shift_edges, sources_over, state_cmp, targets_from}
 pub use Rattle.lalrpop_tables.specs.graphs.StateGraph.{targets_of, with_symbol}
 pub use Rattle.lalrpop_tables.specs.merges.StateSets.{AddsColumns, AreJoined, HasSet, IsJoint, IsMade, OwnSets, columns_of, context_of, replaced_entry, replaced_set}
 pub use Rattle.lalrpop_tables.specs.merges.StateSets.{set_of}
-pub use Rattle.lalrpop_tables.specs.states.States.{AreBuiltBy, Extends, HasTransition, IsBuilt, IsBuiltBy, IsBuiltOfBy, IsLedTo, Leads, LeadsToAdded, begun}
 pub use Rattle.lalrpop_tables.specs.answers.TablesOrCount.{AreBuiltTablesOrCount, AreTablesOrCount, MatchTablesOrCount}
-pub use Rattle.lalrpop_tables.specs.states.Transitions.{AreEdges, AreMoves, Groups, HasNoGroup, IsBehind, IsBehindOne, IsMoveAdded}
-pub use Rattle.lalrpop_tables.specs.states.Transitions.{Shifts, ShiftsAscend, moved, reductions_of, seen}

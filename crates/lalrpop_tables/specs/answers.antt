@@ -1,4 +1,3 @@
 -- What a construction of tables answers.
 pub mod Lr1Answers
-pub mod Results
 pub mod TablesOrCount

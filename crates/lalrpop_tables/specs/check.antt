@@ -1,6 +1,2 @@
--- The check of tables.
+-- The check of tables by the numbers of their items and symbols.
 pub mod ByNumber
-pub mod Check
-pub mod CheckCarrying
-pub mod CheckPlaces
-pub mod ExpectedKernels

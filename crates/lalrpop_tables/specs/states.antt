@@ -1,6 +1,2 @@
--- The states that a construction makes: kernels, transitions and reductions.
-pub mod Building
+-- States by the numbers of their items and symbols.
 pub mod NumberedStates
-pub mod Ready
-pub mod States
-pub mod Transitions

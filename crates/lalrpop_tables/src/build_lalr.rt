@@ -6,18 +6,17 @@ mod place;
 mod reductions;
 
 ghost use Rattle.std.specs.Prelude.{◌≡◌, ◌<◌, length, IfOk, IfErr, MatchResult};
-ghost use Rattle.lalrpop_base.specs.Words.{AreCoherent, AreCollapsible, IsWellFormed, productions};
+ghost use Rattle.lalrpop_base.specs.Words.{AreCoherent, AreCollapsible, IsWellFormed, productions, AreOrderedCanonical, AreOrdered, AreCollapsedTables};
+ghost use Rattle.lalrpop_base.specs.Words.{FailsByCollapse};
 ghost use Rattle.lalrpop_base.specs.declared.repr.NonterminalString.{NonterminalString as Start};
 ghost use Rattle.lalrpop_base.specs.declared.repr.grammar.Grammar.{Grammar as Rules};
-ghost use Rattle.lalrpop_base.specs.states.Canonical.{AreOrderedCanonical};
-ghost use Rattle.lalrpop_base.specs.collapse.Collapsed.{AreOrdered, AreCollapsedTables, FailsByCollapse};
 ghost use Rattle.lalrpop_tables.specs.collapse.Lalr.{AreLalrTables, TellsNotLALR1, HasCoherentStates, HasOrderedStates};
 ghost use Rattle.lalrpop_tables.specs.answers.Lr1Answers.{AreBuiltTablesOf, FailsOn};
 
 use crate::build::build_lr1_states;
 use crate::build::options::{Method, Options};
-use crate::conflicts::conflicts_of;
 use crate::construction::results::tables_or_conflicts;
+use lalrpop_base::lr1_core::all_conflicts::conflicts_of;
 use lalrpop_base::lr1_core::state::{Lr1Result, Lr1State};
 use lalrpop_base::repr::NonterminalString;
 use lalrpop_base::repr::grammar::Grammar;

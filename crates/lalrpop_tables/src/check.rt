@@ -6,8 +6,7 @@ mod numbered_states;
 mod states;
 
 ghost use Rattle.std.specs.Prelude.{◌≡◌, ◌↔◌, ◌<◌, IfOk, IsTrue, length};
-ghost use Rattle.lalrpop_base.specs.Words.{AreClosed, AreChecked, AreCoherent, contents, AreFaithful, IsWellFormed, productions, rules_of};
-ghost use Rattle.lalrpop_tables.specs.check.Check.{PassCheck, HoldCarried};
+ghost use Rattle.lalrpop_base.specs.Words.{AreClosed, AreChecked, AreCoherent, contents, AreFaithful, IsWellFormed, productions, rules_of, PassCheck, HoldCarried};
 
 use self::by_number::pass_by_number;
 use self::carrying::{all_have_carried, carried};
@@ -46,7 +45,7 @@ fn hold_carried<'grammar>(
 /// tokens that are carried over the states' own edges lie inside those of the reductions, and no
 /// state has a conflict. Each item of a state is visited a small constant number of times for each
 /// token.
-#[tactic(auto, using(crate::proofs::theory::states::Lookaheads::nothing_fits))]
+#[tactic(auto, using(lalrpop_base::proofs::theory::construction::Lookaheads::nothing_fits))]
 pub fn check_tables<'grammar>(
     alloc: Global,
     grammar: &'grammar Grammar,

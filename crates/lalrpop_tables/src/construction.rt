@@ -8,7 +8,6 @@ pub mod lr;
 pub(crate) mod lr0;
 pub(crate) mod numbered;
 pub(crate) mod numbered_state;
-pub(crate) mod numbers;
 mod reductions;
 pub(crate) mod results;
 mod state;

@@ -1,11 +1,9 @@
 //! The numbers of the states of a table: state 0 first, then the states with a goto, then the
 //! others.
 ghost use Rattle.std.specs.Prelude.{◌≡◌, ◌+◌, ◌<◌, ◌^◌, ◌++◌, ◌∷◌, [], List, length, cond, count_by, IfOk, OnOk};
-ghost use Rattle.lalrpop_base.specs.Words.{AreCoherent};
+ghost use Rattle.lalrpop_base.specs.Words.{AreCoherent, ArePlaces, parted, fails, stands_first, number_in, retargeted, retargeted_all, IsRenumberedState};
+ghost use Rattle.lalrpop_base.specs.Words.{AreRenumbered, AreMoved, GrowsBy};
 ghost use Rattle.lalrpop_base.specs.declared.repr.TerminalString.{TerminalString as Terminal};
-ghost use Rattle.lalrpop_base.specs.lists.Partitions.{ArePlaces, parted, fails};
-ghost use Rattle.lalrpop_base.specs.renumbering.Renumbered.{stands_first, number_in, retargeted, retargeted_all, IsRenumberedState, AreRenumbered};
-ghost use Rattle.lalrpop_base.specs.renumbering.Moved.{AreMoved, GrowsBy};
 
 use lalrpop_base::lr1_core::state::{Lr1State, StateIndex};
 use lalrpop_base::memory::OutOfMemory;

@@ -4,7 +4,8 @@ use Rattle.std.specs.Prelude.{Contains, slice_get}
 use Rattle.std.specs.List.{filter, flat_map}
 use Rattle.std.proofs.lemmas.List.Elements.{Contains-append_cases}
 use Rattle.lalrpop_base.specs.Words.{Bits, has, Dotted, share, shift_conflict, conflicts_on_place, shift_conflicts, reduce_conflict, later_conflicts}
-use Rattle.lalrpop_base.specs.Words.{reduce_conflicts, state_conflicts, place_in, productions, IsWellFormed, rules_of, AreAllConflicts}
+use Rattle.lalrpop_base.specs.Words.{reduce_conflicts, state_conflicts, place_in, productions, IsWellFormed, rules_of, AreAllConflicts, AreStatesOf, canonical_of}
+use Rattle.lalrpop_base.specs.Words.{reductions_of, seen_reduction}
 use Rattle.lalrpop_base.specs.conflicts.StateConflicts.{Reduction}
 use Rattle.lalrpop_base.specs.declared.lr1_core.state.Conflict.{Conflict}
 use Rattle.lalrpop_base.specs.declared.lr1_core.state.State.{State}
@@ -14,23 +15,11 @@ use Rattle.lalrpop_base.specs.declared.repr.Production.{Production}
 use Rattle.lalrpop_base.specs.declared.repr.TerminalString.{TerminalString}
 use Rattle.lalrpop_base.specs.declared.repr.grammar.Grammar.{Grammar}
 use Rattle.lalrpop_base.proofs.theory.states.ContentsViews.{contains_of_map, contains_map}
-use Rattle.lalrpop_tables.specs.Words.{AreStatesOf, canonical_of, reductions_of, seen}
 use Rattle.lalrpop_base.proofs.theory.grammars.Grammars.{known_symbols}
+use Rattle.lalrpop_base.proofs.theory.lists.Filters.{of_kept}
 use Rattle.lalrpop_base.proofs.theory.lists.Members.{Contains-none, contains_head, contains_tail, contains-cons, of_flat}
 use Rattle.lalrpop_base.proofs.theory.lists.Lists.{contains_place}
 use Rattle.lrtab_run.specs.Explaining.{AreOwnStates, IsOwnConflict}
-
--- ---- what passes a filter was there
-from_filter_at : {X : Type 0} (b : Bool) (x : X) (xs ys : List X) (y : X) → Contains (cond b (x ∷ ys) ys) y → (Contains ys y → Contains xs y) → Contains (x ∷ xs) y
-from_filter_at true x xs ys y c more = elim (contains-cons x ys y c) [
-  | inl e ↦ subst (Contains (x ∷ xs)) e (contains_head x xs)
-  | inr later ↦ contains_tail x xs y (more later)
-]
-from_filter_at false x xs ys y c more = contains_tail x xs y (more c)
-
-from_filter : {X : Type 0} (p : X → Bool) (xs : List X) (y : X) → Contains (filter p xs) y → Contains xs y
-from_filter p [] y c = c
-from_filter p (x ∷ xs) y c = from_filter_at (p x) x xs (filter p xs) y c (from_filter p xs y)
 
 -- ---- reductions by some productions, and conflicts of them
 abbrev AreOwn : List Production → List Reduction → Type 0
@@ -41,7 +30,7 @@ module _ (ps : List Production) (terminals : List TerminalString) (number : Stat
   own_on_place rs own t target None c i = absurd (Contains-none c i)
   own_on_place rs own t target (Some bit) c i =
       let r = contains_of_map (shift_conflict number t target bit) (filter (λ (q : Reduction). has q.0 bit) rs) c i in
-      subst (IsOwnConflict ps) r.2 (record { production = own r.0 (from_filter (λ (q : Reduction). has q.0 bit) rs r.0 r.1); action = tt })
+      subst (IsOwnConflict ps) r.2 (record { production = own r.0 (of_kept (λ (q : Reduction). has q.0 bit) rs r.0 r.1); action = tt })
 
   own_shifts : (rs : List Reduction) → AreOwn ps rs → (es : List (TerminalString × StateIndex)) (c : Conflict Bits) → Contains (flat_map (shift_conflicts terminals number rs) es) c → IsOwnConflict ps c
   own_shifts rs own [] c i = absurd (Contains-none c i)
@@ -56,7 +45,7 @@ module _ (ps : List Production) (terminals : List TerminalString) (number : Stat
     | inl here ↦ let q = contains_of_map (reduce_conflict number r) (filter (λ (s : Reduction). share r.0 s.0) rs) c here in
         subst (IsOwnConflict ps) q.2 (record {
           production = own r (contains_head r rs);
-          action = own q.0 (contains_tail r rs q.0 (from_filter (λ (s : Reduction). share r.0 s.0) rs q.0 q.1));
+          action = own q.0 (contains_tail r rs q.0 (of_kept (λ (s : Reduction). share r.0 s.0) rs q.0 q.1));
         })
     | inr later ↦ own_reductions rs (λ q k. own q (contains_tail r rs q k)) c later
   ]
@@ -93,7 +82,7 @@ module _ (g : Grammar) (start : NonterminalString) (states : List (State Bits)) 
   own_at : (k : ℕ) (state : State Bits) → slice_get states k ≡ Some state → AreOwn (productions g) state.reductions.items
   own_at k state at r c =
       let b = (made.built.each k state at).built in
-      let f = of_item state.items.vec.items (seen r) (subst (λ (xs : List (Bits × Production)). Contains xs (seen r)) b.finished (contains_map seen state.reductions.items r c)) in
+      let f = of_item state.items.vec.items (seen_reduction r) (subst (λ (xs : List (Bits × Production)). Contains xs (seen_reduction r)) b.finished (contains_map seen_reduction state.reductions.items r c)) in
       subst (Contains (productions g)) f.2 (b.closure.are_items.each f.0 f.1).production
 
   pub own_conflicts : (conflicts : List (Conflict Bits)) → AreAllConflicts g.terminals states conflicts → (c : Conflict Bits) → Contains conflicts c → IsOwnConflict (productions g) c

@@ -1,7 +1,7 @@
 -- Facts on JSON texts without `<`.
-use Rattle.std.proofs.Common.{◌≡◌, ◌==◌, ◌<◌, ◌≤◌, ℕ, suc, zero, Bool, true, false, List, [], ◌∷◌, ◌++◌, cond, length, get_or, take, refl, sym, ap, ◌∙◌, arith, codes, append_assoc}
+use Rattle.std.proofs.Common.{◌≡◌, ◌==◌, ◌<◌, ◌≤◌, ℕ, suc, zero, Bool, false, List, [], ◌∷◌, ◌++◌, cond, length, get_or, take, refl, sym, ap, ◌∙◌, arith, codes}
 use Rattle.std.proofs.lemmas.Bool.{eqb-true}
-use Rattle.std.proofs.lemmas.Grind.{common_steps, flat_map-append}
+use Rattle.std.proofs.lemmas.Grind.{flat_map-append}
 use Rattle.std.proofs.lemmas.List.Sums.{fails_before_first, passes_at_first, split_at_first}
 use Rattle.std.specs.List.{position_or_len, before_first, after_first}
 use Rattle.table_pictures.specs.Escape.{inert}

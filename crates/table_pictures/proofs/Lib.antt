@@ -2,5 +2,4 @@ pub mod Counts
 pub mod FirstTokens
 pub mod InertTexts
 pub mod NoMarkup
-pub mod Pieces
 pub mod XmlTexts

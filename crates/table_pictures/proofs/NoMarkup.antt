@@ -1,12 +1,12 @@
 -- What is written of a text holds no markup.
-use Rattle.std.proofs.Common.{◌≡◌, ◌<◌, ◌≤◌, ◌+◌, ◌==◌, ◌||◌, ℕ, Bool, true, false, List, [], ◌∷◌, ◌++◌, cond, nat_lt, length, get_or, refl, sym, ap, ◌∙◌, arith, count_by, ◌⊎◌, inl, inr}
+use Rattle.std.proofs.Common.{◌≡◌, ◌<◌, ◌≤◌, ◌+◌, ◌==◌, ◌||◌, ℕ, Bool, true, false, List, [], cond, nat_lt, refl, sym, ap, ◌∙◌, arith, count_by, inl, inr}
 use Rattle.std.proofs.lemmas.Bool.{cases_lt}
 use Rattle.std.proofs.lemmas.Bool.Decides.{nat_tests}
 use Rattle.std.proofs.lemmas.List.{append-nil}
 use Rattle.std.proofs.lemmas.Str.{encode_ascii, inside_one}
 use Rattle.std.specs.Char.{encode_utf8}
 use Rattle.std.specs.Str.{chars}
-use Rattle.table_pictures.specs.Escape.{inert, inert_byte, is_opening, is_markup, pictured, xml_char, xml_text}
+use Rattle.table_pictures.specs.Escape.{inert, inert_byte, is_opening, is_markup, xml_char, xml_text}
 use Rattle.table_pictures.proofs.Counts.{chosen, none_counted, none_in_pieces}
 
 inert_byte_none : (b : ℕ) → count_by is_opening (inert_byte b) ≡ 0

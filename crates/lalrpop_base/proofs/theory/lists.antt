@@ -4,6 +4,7 @@ pub mod BothFacts
 pub mod Bounded
 pub mod CheckSets
 pub mod EachLemmas
+pub mod Filters
 pub mod Gathering
 pub mod Growth
 pub mod Halving
@@ -11,15 +12,14 @@ pub mod JoinedTwice
 pub mod LeadingBytes
 pub mod Lists
 pub mod Members
-pub mod MultimapLemmas
 pub mod Orders
 pub mod Partitions
+pub mod Pieces
 pub mod Places
-pub mod Queues
 pub mod RisingLemmas
 pub mod RisingOrder
 pub mod SetLemmas
 pub mod SortedPlaces
-pub mod SparseMaps
 pub mod Spreading
 pub mod Updates
+pub mod Zipped

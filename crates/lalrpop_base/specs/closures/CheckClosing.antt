@@ -1,9 +1,8 @@
 -- The closure of dotted productions without tokens: closures of items of Aho, Sethi and Ullman, section 4.7.
-use Rattle.std.specs.Prelude.{◌≡◌, ◌↔◌, ◌+◌, ◌<◌, ◌⊎◌, ℕ, List, length, map, slice_get, Some, Contains}
+use Rattle.std.specs.Prelude.{◌≡◌, ◌↔◌, ◌<◌, ℕ, List, map, slice_get, Some, Contains}
 use Rattle.lalrpop_base.specs.closures.Closures.{InClosure}
 use Rattle.lalrpop_base.specs.grammars.WellFormed.{productions, productions_of}
 use Rattle.lalrpop_base.specs.lists.Bits.{Bits}
-use Rattle.lalrpop_base.specs.lists.Places.{AllDiffer}
 use Rattle.lalrpop_base.specs.states.Items.{Dotted}
 use Rattle.lalrpop_base.specs.declared.lookahead.nil.Nil.{Nil}
 use Rattle.lalrpop_base.specs.declared.repr.NonterminalString.{NonterminalString}
@@ -11,17 +10,6 @@ use Rattle.lalrpop_base.specs.declared.repr.Production.{Production}
 use Rattle.lalrpop_base.specs.declared.repr.Symbol.TheVariants.{Nonterminal}
 use Rattle.lalrpop_base.specs.declared.repr.grammar.Grammar.{Grammar}
 use Rattle.lalrpop_base.specs.closures.Closure.{dotted_of}
-
--- all such keys are found besides those of before; those that are new wait on the stack, and nothing else came there
-pub record Widens (Such : Dotted Nil → Type 0) (old new stack pushed : List (Dotted Nil)) : Type 0 where
-  pub kept : (k : Dotted Nil) → Contains old k → Contains new k
-  pub from : (k : Dotted Nil) → Contains new k → Contains old k ⊎ Such k
-  pub there : (k : Dotted Nil) → Such k → Contains new k
-  pub stays : (k : Dotted Nil) → Contains stack k → Contains pushed k
-  pub waits : (k : Dotted Nil) → Contains new k → Contains old k ⊎ Contains pushed k
-  pub found : (k : Dotted Nil) → Contains pushed k → Contains stack k ⊎ Contains new k
-  pub counted : length new + length stack ≡ length old + length pushed
-  pub differ : AllDiffer old → AllDiffer new
 
 -- the production is among these, and the dot is at its start
 pub record IsBegun (ps : List Production) (k : Dotted Nil) : Type 0 where
@@ -45,9 +33,3 @@ IsMovedOf items k = IsMovedIn (map dotted_of items) k.production k.index
 -- the keys are the closure of the kernel
 abbrev pub AreClosure : Grammar → (Production → ℕ → Type 0) → List (Dotted Nil) → Type 0
 AreClosure g kernel keys = (k : Dotted Nil) → Contains keys k ↔ InClosure (productions g) kernel k.production k.index
-
--- exactly what waits is found
-pub record AllWait (keys stack : List (Dotted Nil)) : Type 0 where
-  pub waits : (k : Dotted Nil) → Contains keys k → Contains stack k
-  pub found : (k : Dotted Nil) → Contains stack k → Contains keys k
-  pub differ : AllDiffer keys

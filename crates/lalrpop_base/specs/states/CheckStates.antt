@@ -9,7 +9,7 @@ use Rattle.lalrpop_base.specs.grammars.WellFormed.{productions, name_cmp}
 use Rattle.lalrpop_base.specs.lists.Bits.{Bits}
 use Rattle.lalrpop_base.specs.lists.Places.{AllDiffer}
 use Rattle.lalrpop_base.specs.states.Contents.{number_of}
-use Rattle.lalrpop_base.specs.states.Items.{Dotted}
+use Rattle.lalrpop_base.specs.states.Items.{Dotted, with_dot}
 use Rattle.lalrpop_base.specs.conflicts.StateConflicts.{HasNoConflict}
 use Rattle.lalrpop_base.specs.contracts.repr.TerminalStringOrd.TheImpl as terminal_ord
 use Rattle.lalrpop_base.specs.declared.lookahead.nil.Nil.{Nil}
@@ -47,10 +47,6 @@ pub record IsTarget (states : List (State Bits)) (m : ℕ) : Type 0 where
   pub there : slice_get states place ≡ Some from
   pub leads : LeadsFrom from m
 
--- the dotted production without lookahead
-abbrev pub lr0 : Production → ℕ → Dotted Nil
-lr0 p dot = record { production = p; index = dot; lookahead = record {} }
-
 -- the keys are the dotted productions of the items
 abbrev pub Lists : List (Dotted Bits) → List (Dotted Nil) → Type 0
 Lists items keys = (k : Dotted Nil) → Contains keys k ↔ Contains (dots items) (k.production, k.index)
@@ -67,13 +63,13 @@ reduced reductions = map (λ (r : Bits × Bor Production). r.1.now) reductions
 
 -- the production with the dot at its end
 abbrev pub finished : Production → Dotted Nil
-finished p = lr0 p (length p.symbols)
+finished p = with_dot p (length p.symbols)
 
 -- the symbol leads from the state to one that lists the moved item
 pub record LeadsOn (listed : List (BTreeSet (Dotted Nil))) (s : State Bits) (i : Dotted Bits) (x : Symbol) : Type 0 where
   pub to : ℕ
   pub edge : target_of s x ≡ Some to
-  pub moved : IsListed listed to (lr0 i.production (i.index + 1))
+  pub moved : IsListed listed to (with_dot i.production (i.index + 1))
 
 -- the symbol behind the dot of an item leads on, and a finished item is reduced
 pub record IsRightItem (listed : List (BTreeSet (Dotted Nil))) (s : State Bits) (reductions : List Production) (i : Dotted Bits) : Type 0 where

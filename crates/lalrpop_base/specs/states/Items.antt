@@ -2,12 +2,17 @@
 use Rattle.std.specs.Prelude.{◌≡◌, ℕ, Bool, true, ◌==◌, ◌&&◌}
 use Rattle.std.proofs.Common.{ap, ◌∙◌, eqb-true}
 use Rattle.lalrpop_base.specs.lists.Exact.{Exactly, both}
+use Rattle.lalrpop_base.specs.declared.lookahead.nil.Nil.{Nil}
 use Rattle.lalrpop_base.specs.declared.repr.Production.{Production}
 
 pub record Dotted (L : Type 0) : Type 0 where
   pub production : Production
   pub index : ℕ
   pub lookahead : L
+
+-- the production with its dot at a place, without lookahead
+abbrev pub with_dot : Production → ℕ → Dotted Nil
+with_dot p dot = record { production = p; index = dot; lookahead = record {} }
 
 -- items are equal where their parts are
 pub dotted_exact : {L : Type 0} (E : Production → Production → Bool) (F : L → L → Bool) → Exactly E → Exactly F →

@@ -1,7 +1,6 @@
 //! The promise of tables at hand: by states that are faithful to a grammar, exactly its parse trees.
 ghost use Rattle.std.specs.Prelude.{◌≡◌, ◌<◌, ◌≤◌, length, IfOk, IfErr};
-ghost use Rattle.lalrpop_base.specs.Words.{AreCoherent, AreFaithful, contents, IsOnNoRightSide, HasOutcome, IsFirstWrong, productions};
-ghost use Rattle.lalrpop_base.specs.Words.{beside, no_trees, leaves, nodes};
+ghost use Rattle.lalrpop_base.specs.Words.{AreCoherent, AreFaithful, contents, IsOnNoRightSide, HasOutcome, IsFirstWrong, productions, beside, no_trees, leaves, nodes};
 ghost use Rattle.lalrpop_lr1.specs.runs.Answers.{IsAnswer};
 ghost use Rattle.lalrpop_lr1.specs.runs.FaithfulAnswers.{AnswersTrees, IfLimit, IfRefused, IsCutOff, IsLimit, IsTreeWithin};
 ghost use Rattle.lalrpop_lr1.specs.trees.ParseTrees.{tree_of};

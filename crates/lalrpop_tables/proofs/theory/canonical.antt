@@ -1,10 +1,5 @@
 -- Canonical states and LR(0) states.
 pub mod AnyLookahead
-pub mod Canonical
 pub mod CanonicalAnswers
-pub mod CanonicalConflicts
-pub mod CanonicalContents
-pub mod Deciding
-pub mod Lr0States
 pub mod OrderedCanonical
 pub mod SameConstruction

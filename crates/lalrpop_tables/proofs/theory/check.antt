@@ -1,13 +1,5 @@
--- The check of tables.
+-- The check of tables by the numbers of their items and symbols.
 pub mod CarriedLookaheads
-pub mod CheckAll
-pub mod CheckCarried
-pub mod CheckCarrying
-pub mod CheckClosing
-pub mod CheckSending
-pub mod CheckTables
-pub mod ExpectedKernels
-pub mod NumberedItems
 pub mod NumberedPass
 pub mod NumberedRight
 pub mod NumberedSteps

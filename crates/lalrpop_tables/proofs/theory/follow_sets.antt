@@ -11,6 +11,7 @@ pub mod FollowSteps
 pub mod FollowTokens
 pub mod FollowUnions
 pub mod FollowWalks
+pub mod Following
 pub mod FrontWalks
 pub mod Lookbacks
 pub mod StartNode

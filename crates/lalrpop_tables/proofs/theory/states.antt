@@ -1,24 +1,10 @@
--- The states that a construction makes: kernels, transitions and reductions.
-pub mod Building
-pub mod ClosedStates
-pub mod Coherence
-pub mod Contained
+-- States by the numbers of their items and symbols.
 pub mod EdgeLeads
 pub mod EdgePlaces
 pub mod EdgesByNumber
 pub mod FinishedItems
 pub mod InsertedKernels
 pub mod ItemNumbers
-pub mod Lookaheads
 pub mod MadeByNumber
-pub mod Moves
 pub mod NonterminalEdges
-pub mod NumberedBuilding
-pub mod NumberedEdges
 pub mod NumberedItems
-pub mod NumberedMoves
-pub mod PermutedMoves
-pub mod Reductions
-pub mod SameKernels
-pub mod Shifting
-pub mod StateEdges

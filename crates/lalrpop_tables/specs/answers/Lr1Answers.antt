@@ -1,6 +1,8 @@
 -- What a construction of LR(1) tables answers for a grammar and a start symbol: tables, or states with their conflicts (Knuth 1965; DeRemer and Pennello 1982 for LALR(1)).
 use Rattle.std.specs.Prelude.{◌≡◌, ◌⊎◌, ℕ, ◌<◌, List, length}
 use Rattle.lalrpop_base.specs.Words.{Bits, AreCoherent, contents, IfConflicts, IsOnNoRightSide, AreFaithful, IsLR1, IsLALR1, productions, rules_of}
+use Rattle.lalrpop_base.specs.Words.{AreSomeCanonicalStates, StopsAfter, AreStatesOf, AreTables, canonical_of, AreCanonicalStates, AreOrderedCanonical}
+use Rattle.lalrpop_base.specs.Words.{FailByCanonicalConflicts, AreAllConflicts}
 use Rattle.lalrpop_base.specs.declared.lr1_core.state.BuildError.{BuildError}
 use Rattle.lalrpop_base.specs.declared.lr1_core.state.BuildError.TheVariants.{Conflicts}
 use Rattle.lalrpop_base.specs.declared.lr1_core.state.Conflict.{Conflict}
@@ -8,15 +10,10 @@ use Rattle.lalrpop_base.specs.declared.lr1_core.state.State.{State}
 use Rattle.lalrpop_base.specs.declared.lr1_core.state.TableConstructionError.{TableConstructionError}
 use Rattle.lalrpop_base.specs.declared.repr.NonterminalString.{NonterminalString}
 use Rattle.lalrpop_base.specs.declared.repr.grammar.Grammar.{Grammar}
-use Rattle.lalrpop_base.specs.states.Canonical.{AreCanonicalStates, AreOrderedCanonical}
-use Rattle.lalrpop_base.specs.conflicts.CanonicalConflicts.{FailByCanonicalConflicts}
-use Rattle.lalrpop_tables.specs.early_stop.EarlyStop.{AreSomeCanonicalStates, StopsAfter}
 use Rattle.lalrpop_tables.specs.collapse.Lalr.{AreMergedTables, AreRenumberedMerged, FailsAsLalr}
 use Rattle.lalrpop_tables.specs.lane_states.LaneStates.{AreLaneTables}
 use Rattle.lalrpop_tables.specs.lane_states.Lr0Copies.{AreCopiedTables}
 use Rattle.lalrpop_tables.specs.renumbering.RenumberedTables.{AreRenumberedCopies, AreRenumberedTables, AreRenumberedLaneTables}
-use Rattle.lalrpop_base.specs.conflicts.AllConflicts.{AreAllConflicts}
-use Rattle.lalrpop_tables.specs.answers.Results.{AreStatesOf, AreTables, canonical_of}
 use Rattle.lalrpop_tables.specs.declared.build.options.Method.{Method}
 use Rattle.lalrpop_tables.specs.declared.build.options.Method.TheVariants.{Lane, Canonical}
 

@@ -1,7 +1,8 @@
 -- What the construction of states says with any lookahead, read with sets of tokens and without lookahead. Public functions state these laws.
 use Rattle.std.specs.Prelude.{ℕ, List}
 use Rattle.std.specs.BTreeMap.{IsOrdered}
-use Rattle.lalrpop_base.specs.Words.{Bits, AllDiffer, IsWellFormed, name_cmp, rules_of, productions_of}
+use Rattle.lalrpop_base.specs.Words.{Bits, AllDiffer, IsWellFormed, name_cmp, rules_of, productions_of, FailsAfterLr0, StopsFor, AreTablesFor, Construction}
+use Rattle.lalrpop_base.specs.Words.{canonical_of, AreLr0States, HasLr0States, HaveNoNilConflict, ListsNilConflicts}
 use Rattle.lalrpop_base.specs.contracts.lookahead.nil.NilLookahead.TheImpl as nil_lookahead
 use Rattle.lalrpop_base.specs.contracts.lookahead.token_lookahead.TokenSetLookahead.TheImpl as set_lookahead
 use Rattle.lalrpop_base.specs.declared.lookahead.nil.Nil.{Nil}
@@ -9,10 +10,7 @@ use Rattle.lalrpop_base.specs.declared.lr1_core.state.BuildError.{BuildError}
 use Rattle.lalrpop_base.specs.declared.lr1_core.state.State.{State}
 use Rattle.lalrpop_base.specs.declared.repr.NonterminalString.{NonterminalString}
 use Rattle.lalrpop_base.specs.declared.repr.grammar.Grammar.{Grammar}
-use Rattle.lalrpop_tables.specs.early_stop.EarlyStop.{FailsAfterLr0, StopsFor}
-use Rattle.lalrpop_base.specs.states.Lr0.{AreLr0States, HasLr0States, HaveNoNilConflict, ListsNilConflicts}
 use Rattle.lalrpop_tables.specs.answers.Lr1Answers.{AreBuiltTablesOf, FailsOn}
-use Rattle.lalrpop_tables.specs.answers.Results.{AreTablesFor, Construction, canonical_of}
 use Rattle.lalrpop_tables.specs.contracts.construction.epsilon_moves.NilLookaheadBuild.TheImpl as nil_build
 use Rattle.lalrpop_tables.specs.contracts.construction.epsilon_moves.TokenSetLookaheadBuild.TheImpl as set_build
 use Rattle.lalrpop_tables.specs.declared.build.options.Method.TheVariants.{Canonical}

@@ -1,16 +1,15 @@
 -- What the check of tables by number asks of states.
 use Rattle.std.specs.Prelude.{◌≡◌, ◌<◌, ◌+◌, ◌⊎◌, ◌↔◌, ℕ, Bool, true, List, length, slice_get, Some, Contains}
 use Rattle.std.specs.Borrow.{Bor}
-use Rattle.lalrpop_base.specs.Words.{AllDiffer, Bits, Dotted, InClosure, InKernel, Rules, contents_of, has}
+use Rattle.lalrpop_base.specs.Words.{AllDiffer, Bits, Dotted, InClosure, InKernel, Rules, contents_of, has, IsKernelAt}
 use Rattle.lalrpop_base.specs.declared.lookahead.nil.Nil.{Nil}
 use Rattle.lalrpop_base.specs.declared.lookahead.token.Token.{Token}
 use Rattle.lalrpop_base.specs.declared.lr1_core.state.State.{State}
 use Rattle.lalrpop_base.specs.declared.repr.NonterminalString.{NonterminalString}
 use Rattle.lalrpop_base.specs.declared.repr.Production.{Production}
-use Rattle.lalrpop_tables.specs.check.ExpectedKernels.{IsKernelAt}
 use Rattle.lalrpop_tables.specs.follow_sets.FollowWalks.{IsInUnion, entries_at}
 use Rattle.lalrpop_tables.specs.states.NumberedStates.{AreItemsAt, AreReducedNumbers, HasFinished, IsNumberedState, items_at, transitions_at}
-use Rattle.lalrpop_tables.specs.declared.construction.numbers.Numbers.{Numbers}
+use Rattle.lalrpop_base.specs.declared.numbers.Numbers.{Numbers}
 use Rattle.lalrpop_tables.specs.declared.lane_table.follow_sets.found.Found.{Found}
 use Rattle.lalrpop_tables.specs.declared.construction.numbered_state.NumberedState.{NumberedState}
 

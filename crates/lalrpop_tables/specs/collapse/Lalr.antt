@@ -1,16 +1,12 @@
 -- LALR(1) tables: what the collapse of a grammar's canonical states tells of the grammar.
 use Rattle.std.specs.Prelude.{◌≡◌, ◌⊎◌, ℕ, List, IsTrue}
-use Rattle.lalrpop_base.specs.Words.{Bits, AreCoherent, contents, IfConflicts, AreFaithful, IsLALR1, productions, rules_of}
+use Rattle.lalrpop_base.specs.Words.{Bits, AreCoherent, contents, IfConflicts, AreFaithful, IsLALR1, productions, rules_of, FailsAfter, AreTables, canonical_of}
+use Rattle.lalrpop_base.specs.Words.{AreOrdered, AreCollapsedTables, FailsByCollapse, AreRenumbered, HaveNoConflict}
 use Rattle.lalrpop_base.specs.declared.lr1_core.state.BuildError.{BuildError}
 use Rattle.lalrpop_base.specs.declared.lr1_core.state.State.{State}
 use Rattle.lalrpop_base.specs.declared.repr.NonterminalString.{NonterminalString}
 use Rattle.lalrpop_base.specs.declared.repr.Production.{Production}
 use Rattle.lalrpop_base.specs.declared.repr.grammar.Grammar.{Grammar}
-use Rattle.lalrpop_base.specs.collapse.Collapsed.{AreOrdered, AreCollapsedTables, FailsByCollapse}
-use Rattle.lalrpop_tables.specs.early_stop.EarlyStop.{FailsAfter}
-use Rattle.lalrpop_base.specs.renumbering.Renumbered.{AreRenumbered}
-use Rattle.lalrpop_base.specs.conflicts.AllConflicts.{HaveNoConflict}
-use Rattle.lalrpop_tables.specs.answers.Results.{AreTables, canonical_of}
 use Rattle.lalrpop_tables.specs.declared.build.options.Method.TheVariants.{Canonical}
 use Rattle.lalrpop_tables.specs.declared.build.options.Options.{Options}
 

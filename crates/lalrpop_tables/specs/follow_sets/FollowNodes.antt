@@ -1,15 +1,13 @@
 -- The nodes of the follow graph by number (DeRemer and Pennello 1982), and what a pass over states goes over.
 use Rattle.std.specs.Prelude.{◌≡◌, ◌<◌, ◌≤◌, ◌+◌, ◌⊎◌, ℕ, zero, suc, List, [], ◌∷◌, length, map, get_or, slice_get, Option, Some, None, Contains}
-use Rattle.lalrpop_base.specs.Words.{AllDiffer, AreClosed, AreCoherent, Contents, IsReached, IsWellFormed, rules_of}
+use Rattle.lalrpop_base.specs.Words.{AllDiffer, AreClosed, AreCoherent, Contents, IsReached, IsWellFormed, rules_of, AreExpansions, AreNumbers, AreRests}
 use Rattle.lalrpop_base.specs.declared.repr.NonterminalString.{NonterminalString}
 use Rattle.lalrpop_base.specs.declared.repr.Production.{Production}
 use Rattle.lalrpop_base.specs.declared.repr.Symbol.{Symbol}
 use Rattle.lalrpop_base.specs.declared.repr.Symbol.TheVariants.{Nonterminal, Terminal}
 use Rattle.lalrpop_tables.specs.lanes.LaneTraces.{places_in}
-use Rattle.lalrpop_tables.specs.grammars.Numbers.{AreExpansions, AreNumbers}
 use Rattle.lalrpop_tables.specs.states.NumberedStates.{AreNumberedStates, transitions_at}
-use Rattle.lalrpop_tables.specs.grammars.Rests.{AreRests}
-use Rattle.lalrpop_tables.specs.declared.construction.numbers.Numbers.{Numbers}
+use Rattle.lalrpop_base.specs.declared.numbers.Numbers.{Numbers}
 use Rattle.lalrpop_tables.specs.declared.lane_table.follow_sets.nodes.Nodes.{Nodes}
 use Rattle.lalrpop_tables.specs.declared.construction.numbered_state.NumberedState.{NumberedState}
 use Rattle.lalrpop_tables.specs.declared.lane_table.follow_sets.pass.Pass.{Pass}

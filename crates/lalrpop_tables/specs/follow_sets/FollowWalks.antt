@@ -2,21 +2,18 @@
 use Rattle.std.specs.Prelude.{◌≡◌, ◌<◌, ◌↔◌, ◌⊎◌, ℕ, true, List, [], ◌∷◌, length, drop, take, slice_get, Option, Some, None, Contains, MatchOption}
 use Rattle.std.specs.declared.alloc.Global.{Global}
 use Rattle.std.specs.declared.vec.Vec.{Vec}
-use Rattle.lalrpop_base.specs.Words.{Bits, Contents, Dotted, has, HoldsBit, IsFirst, IsNullable, Rules, edge_ends, leads, rules_of, state_from}
+use Rattle.lalrpop_base.specs.Words.{Bits, Contents, Dotted, has, HoldsBit, IsFirst, IsNullable, Rules, edge_ends, leads, rules_of, state_from, HasRest, with_dot}
+use Rattle.lalrpop_base.specs.Words.{HasBitAtOnce, IsFollowNode, HasLookaheadBits, LeadsOver}
 use Rattle.lalrpop_base.specs.declared.lookahead.nil.Nil.{Nil}
 use Rattle.lalrpop_base.specs.declared.repr.NonterminalString.{NonterminalString}
 use Rattle.lalrpop_base.specs.declared.repr.Production.{Production}
 use Rattle.lalrpop_base.specs.declared.repr.Symbol.{Symbol}
 use Rattle.lalrpop_base.specs.declared.repr.Symbol.TheVariants.{Nonterminal, Terminal}
 use Rattle.lalrpop_base.specs.declared.repr.TerminalString.{TerminalString}
-use Rattle.lalrpop_base.specs.lanes.FollowGraphs.{HasBitAtOnce, IsFollowNode}
 use Rattle.lalrpop_tables.specs.follow_sets.FollowNodes.{nodes_of}
-use Rattle.lalrpop_base.specs.lanes.FollowSets.{HasLookaheadBits, LeadsOver}
 use Rattle.lalrpop_tables.specs.lanes.LaneTraces.{places_in}
 use Rattle.lalrpop_tables.specs.states.NumberedStates.{items_at}
-use Rattle.lalrpop_tables.specs.grammars.Rests.{HasRest}
-use Rattle.lalrpop_tables.specs.grammars.Numbering.{with_dot}
-use Rattle.lalrpop_tables.specs.declared.construction.numbers.Numbers.{Numbers}
+use Rattle.lalrpop_base.specs.declared.numbers.Numbers.{Numbers}
 use Rattle.lalrpop_tables.specs.declared.lane_table.follow_sets.found.Found.{Found}
 use Rattle.lalrpop_tables.specs.declared.lane_table.follow_sets.pass.Pass.{Pass}
 

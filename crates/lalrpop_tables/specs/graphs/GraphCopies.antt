@@ -1,12 +1,11 @@
 -- Graphs that follow the copies of states.
 use Rattle.std.specs.Prelude.{◌≡◌, ℕ, Bool, false, not, ◌==◌, ◌&&◌, List, [], ◌∷◌, ◌++◌, map, filter, cond, length, Contains}
-use Rattle.lalrpop_base.specs.Words.{Bits}
+use Rattle.lalrpop_base.specs.Words.{Bits, number_in, retargeted}
 use Rattle.lalrpop_base.specs.contracts.repr.SymbolPartialEq.TheImpl as symbol_partial_eq
 use Rattle.lalrpop_base.specs.declared.repr.Symbol.{Symbol}
 use Rattle.lalrpop_base.specs.declared.lr1_core.state.State.{State}
 use Rattle.lalrpop_base.specs.declared.lr1_core.state.StateIndex.{StateIndex}
 use Rattle.lalrpop_tables.specs.merges.Merges.{AreCopies}
-use Rattle.lalrpop_base.specs.renumbering.Renumbered.{number_in, retargeted}
 use Rattle.lalrpop_tables.specs.graphs.StateGraph.{Edge, edge, edges, IsGraphOf, origin_of, origins_of, targets_from, targets_of}
 use Rattle.lalrpop_tables.specs.declared.state_graph.StateGraph.{StateGraph}
 

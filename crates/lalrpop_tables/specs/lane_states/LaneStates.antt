@@ -5,8 +5,9 @@ use Rattle.std.specs.declared.cmp.Ordering.TheVariants.{Equal}
 use Rattle.std.specs.Borrow.{Bor}
 use Rattle.std.specs.List.{flat_map}
 use Rattle.std.specs.List.Sorted.{IsStrictlySortedBy}
-use Rattle.lalrpop_base.specs.Words.{Bits, has, AreClosed, AreChecked, AreCoherent, contents, Dotted, AreLr0, IsLaneToken, HoldLaneTokens}
-use Rattle.lalrpop_base.specs.Words.{state_conflicts, Contents, ReducesFinished, AreFaithful, IsBitOf, Action, Shift, Reduce, IsLALR1, Rules, IsWellFormed}
+use Rattle.lalrpop_base.specs.Words.{Bits, has, AreClosed, AreChecked, AreCoherent, contents, Dotted, AreLr0, IsLaneToken, HoldLaneTokens, state_conflicts, Contents}
+use Rattle.lalrpop_base.specs.Words.{ReducesFinished, AreFaithful, IsBitOf, Action, Shift, Reduce, IsLALR1, Rules, IsWellFormed, lr0_of, AreDisjoint, IsApplied}
+use Rattle.lalrpop_base.specs.Words.{AreLr0States, HaveNoConflict}
 use Rattle.lalrpop_base.specs.conflicts.StateConflicts.{HasNoConflict}
 use Rattle.lalrpop_base.specs.contracts.lr1_core.state.ActionOrd.TheImpl as action_ord
 use Rattle.lalrpop_base.specs.declared.lookahead.nil.Nil.{Nil}
@@ -19,12 +20,8 @@ use Rattle.lalrpop_base.specs.declared.lr1_core.state.State.{State}
 use Rattle.lalrpop_base.specs.declared.repr.NonterminalString.{NonterminalString}
 use Rattle.lalrpop_base.specs.declared.repr.Production.{Production}
 use Rattle.lalrpop_base.specs.declared.repr.TerminalString.{TerminalString}
-use Rattle.lalrpop_base.specs.lanes.Contexts.{AreDisjoint, IsApplied}
 use Rattle.lalrpop_tables.specs.lane_tables.LaneTables.{InColumn, AreColumns}
-use Rattle.lalrpop_tables.specs.answers.Results.{lr0_of}
 use Rattle.lalrpop_tables.specs.lanes.LaneTraces.{places_in}
-use Rattle.lalrpop_base.specs.states.Lr0.{AreLr0States}
-use Rattle.lalrpop_base.specs.conflicts.AllConflicts.{HaveNoConflict}
 use Rattle.lalrpop_tables.specs.declared.lane_table.construct.LaneTableConstruct.{LaneTableConstruct}
 use Rattle.lalrpop_tables.specs.declared.lane_table.table.LaneTable.{LaneTable}
 

@@ -1,14 +1,13 @@
 -- The LR(0) states of a grammar, and copies of some of them, as lane tables are split where two actions share a token (Pager 1977).
 use Rattle.std.specs.Prelude.{◌≡◌, ◌≤◌, ◌<◌, ◌+◌, ℕ, false, List, length}
 use Rattle.std.specs.List.{flat_map}
-use Rattle.lalrpop_base.specs.Words.{AreClosed, AreCoherent, Bits, contents, IfConflicts, ReducesFinished, Rules, state_conflicts}
+use Rattle.lalrpop_base.specs.Words.{AreClosed, AreCoherent, Bits, contents, IfConflicts, ReducesFinished, Rules, state_conflicts, HaveNoConflict}
 use Rattle.lalrpop_base.specs.declared.lr1_core.state.BuildError.{BuildError}
 use Rattle.lalrpop_base.specs.declared.lr1_core.state.Conflict.{Conflict}
 use Rattle.lalrpop_base.specs.declared.lr1_core.state.State.{State}
 use Rattle.lalrpop_base.specs.declared.repr.NonterminalString.{NonterminalString}
 use Rattle.lalrpop_tables.specs.lane_states.LaneStates.{AreLaneStates}
 use Rattle.lalrpop_tables.specs.merges.Merges.{AreCopies}
-use Rattle.lalrpop_base.specs.conflicts.AllConflicts.{HaveNoConflict}
 
 -- the LR(0) states of the grammar with all tokens on the items, and behind them at most so many copies: each state has the dotted productions and the reduced productions of its original, and its edges lead to copies of where that one's lead
 pub record AreLr0Copies (g : Rules) (start : NonterminalString) (copies : ℕ) (states : List (State Bits)) : Type 0 where

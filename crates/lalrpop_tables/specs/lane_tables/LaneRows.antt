@@ -4,9 +4,8 @@ use Rattle.std.specs.Ordering.{is_eq}
 use Rattle.std.specs.BTreeMap.{is_at}
 use Rattle.std.specs.BTreeSet.{BTreeSet as SortedSet}
 use Rattle.std.specs.Map.{lookup}
-use Rattle.lalrpop_base.specs.Words.{Bits, has, no_bits}
+use Rattle.lalrpop_base.specs.Words.{Bits, has, no_bits, HasAt, MeetsOther, IsJoinedIn, AreDisjoint}
 use Rattle.lalrpop_base.specs.declared.lr1_core.state.StateIndex.{StateIndex}
-use Rattle.lalrpop_base.specs.lanes.Contexts.{HasAt, MeetsOther, IsJoinedIn, AreDisjoint}
 use Rattle.lalrpop_tables.specs.lane_tables.LaneTables.{column, RowOverlaps}
 use Rattle.lalrpop_tables.specs.graphs.StateGraph.{state_cmp}
 use Rattle.lalrpop_tables.specs.declared.lane_table.context_set.ConflictIndex.{ConflictIndex}

@@ -1,9 +1,8 @@
 -- Lane tables (Pager 1977): for each state and each action that is traced the tokens found there, and the states that a trace goes through.
 use Rattle.std.specs.Prelude.{◌≡◌, ◌⊎◌, ◌<◌, ◌↔◌, ℕ, true, List, length, Contains}
 use Rattle.std.specs.BTreeSet.{BTreeSet as SortedSet}
-use Rattle.lalrpop_base.specs.Words.{Bits, has}
+use Rattle.lalrpop_base.specs.Words.{Bits, has, HasAt}
 use Rattle.lalrpop_base.specs.declared.lr1_core.state.StateIndex.{StateIndex}
-use Rattle.lalrpop_base.specs.lanes.Contexts.{HasAt}
 use Rattle.lalrpop_tables.specs.declared.lane_table.context_set.ConflictIndex.{ConflictIndex}
 use Rattle.lalrpop_tables.specs.declared.lane_table.table.LaneTable.{LaneTable}
 

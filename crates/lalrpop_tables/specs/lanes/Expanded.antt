@@ -2,8 +2,7 @@
 use Rattle.std.specs.Prelude.{◌≡◌, ℕ, true, ◌==◌, ◌&&◌}
 use Rattle.std.proofs.Common.{ap, ◌∙◌, eqb-true}
 use lib.Pointwise.{pointwise}
-use Rattle.lalrpop_base.specs.Words.{both}
-use Rattle.lalrpop_base.specs.lists.Exact.{name_exact}
+use Rattle.lalrpop_base.specs.Words.{both, name_exact}
 use Rattle.lalrpop_base.specs.declared.repr.NonterminalString.{NonterminalString}
 
 pub expanded_exact : (a b : ℕ × NonterminalString) → ((a.0 == b.0) && pointwise ◌==◌ (a.1).text (b.1).text) ≡ true → a ≡ b

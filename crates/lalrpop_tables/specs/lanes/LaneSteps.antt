@@ -1,7 +1,7 @@
 -- What the steps of a trace add to a lane table, and to the places that it visits.
 use Rattle.std.specs.Prelude.{◌≡◌, ◌⊎◌, ◌+◌, ◌↔◌, ◌<◌, ℕ, suc, Bool, true, List, ◌∷◌, drop, length, slice_get, Some, Contains}
-use Rattle.lalrpop_base.specs.Words.{IsFirst, IsNullable, Dotted, LeadsBack, IsTracedTo, Contents, IsBehindDot, leads, IsBitOf, Rules, IsWellFormed}
-use Rattle.lalrpop_base.specs.Words.{productions, rules_of}
+use Rattle.lalrpop_base.specs.Words.{IsFirst, IsNullable, Dotted, LeadsBack, IsTracedTo, Contents, IsBehindDot, leads, IsBitOf, Rules, IsWellFormed, productions}
+use Rattle.lalrpop_base.specs.Words.{rules_of, at_place, Visits}
 use Rattle.lalrpop_base.specs.lanes.Lanes.{Gives}
 use Rattle.lalrpop_base.specs.declared.lookahead.token.Token.{Token}
 use Rattle.lalrpop_base.specs.declared.lr1_core.state.StateIndex.{StateIndex}
@@ -9,15 +9,13 @@ use Rattle.lalrpop_base.specs.declared.repr.NonterminalString.{NonterminalString
 use Rattle.lalrpop_base.specs.declared.repr.Symbol.{Symbol}
 use Rattle.lalrpop_base.specs.declared.repr.Symbol.TheVariants.{Nonterminal}
 use Rattle.lalrpop_base.specs.declared.repr.TerminalString.{TerminalString}
-use Rattle.lalrpop_tables.specs.check.CheckCarrying.{at_place}
 use Rattle.lalrpop_tables.specs.lane_tables.LaneTables.{HasCell, HasBit, IsSuccessor, KeepsAll}
 use Rattle.lalrpop_tables.specs.lanes.LaneTraces.{HaveOwnItems, places_in}
-use Rattle.lalrpop_tables.specs.Walks.{Visits}
 use Rattle.lalrpop_tables.specs.graphs.StateGraph.{edges, IsGraphOf}
 use Rattle.lalrpop_tables.specs.declared.lane_table.lane.ground.Ground.{Ground}
-use Rattle.lalrpop_tables.specs.declared.walk.Walk.{Walk}
+use Rattle.lalrpop_base.specs.declared.collections.walk.Walk.{Walk}
 use Rattle.lalrpop_tables.specs.declared.lane_table.table.LaneTable.{LaneTable}
-use Rattle.lalrpop_tables.specs.declared.place.Place.{Place}
+use Rattle.lalrpop_base.specs.declared.lr1_core.place.Place.{Place}
 
 -- what a trace goes over belongs together
 pub record IsGround {L : Type 0} (ground : Ground L) : Type 0 where

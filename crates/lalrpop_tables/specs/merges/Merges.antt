@@ -1,15 +1,13 @@
 -- States of a lane table joined into sets whose tokens agree, and copies of those that do not (Pager 1977, "A practical general method for constructing LR(k) parsers").
 use Rattle.std.specs.Prelude.{◌≡◌, ◌≤◌, ◌<◌, ◌+◌, ◌⊎◌, ◌==◌, ◌++◌, ◌∷◌, ℕ, cond, Bool, true, false, List, [], length, map, slice_get, Option, None, Some}
 use Rattle.std.specs.Borrow.{Bor}
-use Rattle.lalrpop_base.specs.Words.{Bits, has, AreCoherent}
+use Rattle.lalrpop_base.specs.Words.{Bits, has, AreCoherent, AreAmong, AreDisjoint, HasAt, IsApplied, MeetInUnion, number_in, retargeted_all}
 use Rattle.lalrpop_base.specs.declared.lr1_core.state.Action.{Action}
 use Rattle.lalrpop_base.specs.declared.lr1_core.state.State.{State}
 use Rattle.lalrpop_base.specs.declared.lr1_core.state.StateIndex.{StateIndex}
 use Rattle.lalrpop_base.specs.declared.repr.Production.{Production}
-use Rattle.lalrpop_base.specs.lanes.Contexts.{AreAmong, AreDisjoint, HasAt, IsApplied, MeetInUnion}
 use Rattle.lalrpop_tables.specs.lane_states.LaneStates.{by}
 use Rattle.lalrpop_tables.specs.lane_tables.LaneTables.{ColumnsOverlap, HasBit, HasRow, InColumn, IsRow, IsSuccessor, RowOverlaps}
-use Rattle.lalrpop_base.specs.renumbering.Renumbered.{number_in, retargeted_all}
 use Rattle.lalrpop_tables.specs.merges.StateSets.{HasSet, context_of, set_of}
 use Rattle.lalrpop_tables.specs.declared.lane_table.construct.merge.Merge.{Merge}
 use Rattle.lalrpop_tables.specs.declared.lane_table.construct.merge.MergeError.{MergeError}

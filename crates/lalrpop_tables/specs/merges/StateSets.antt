@@ -2,9 +2,8 @@
 use Rattle.std.specs.Prelude.{◌≡◌, ◌≤◌, ◌<◌, ◌⊎◌, ◌==◌, ℕ, cond, List, [], length, slice_get, unwrap_or, Option, Some, None, Contains}
 use Rattle.std.specs.BTreeMap.{get}
 use Rattle.std.specs.Map.{keys_of}
-use Rattle.lalrpop_base.specs.Words.{Bits}
+use Rattle.lalrpop_base.specs.Words.{Bits, IsUnion, MeetInUnion}
 use Rattle.lalrpop_base.specs.declared.lr1_core.state.StateIndex.{StateIndex}
-use Rattle.lalrpop_base.specs.lanes.Contexts.{IsUnion, MeetInUnion}
 use Rattle.lalrpop_tables.specs.lane_tables.LaneRows.{Rows}
 use Rattle.lalrpop_tables.specs.graphs.StateGraph.{state_cmp}
 use Rattle.lalrpop_tables.specs.declared.lane_table.construct.merge.context_sets.ContextSets.{ContextSets}

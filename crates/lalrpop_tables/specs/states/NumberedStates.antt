@@ -2,7 +2,8 @@
 use Rattle.std.specs.Prelude.{◌≡◌, ◌<◌, ◌↔◌, ◌++◌, ℕ, true, List, [], ◌∷◌, length, map, slice_get, Option, Some, None, Contains}
 use Rattle.std.specs.List.{flat_map}
 use Rattle.std.specs.Borrow.{Bor}
-use Rattle.lalrpop_base.specs.Words.{AllDiffer, Bits, Contents, Dotted, contents_of, leads}
+use Rattle.lalrpop_base.specs.Words.{AllDiffer, Bits, Contents, Dotted, contents_of, leads, with_dot, NumbersAscend, state_entries, Entries, HasEntry, reductions_of}
+use Rattle.lalrpop_base.specs.Words.{seen_reduction}
 use Rattle.lalrpop_base.specs.declared.lookahead.nil.Nil.{Nil}
 use Rattle.lalrpop_base.specs.declared.lookahead.token.Token.{Token}
 use Rattle.lalrpop_base.specs.declared.lr1_core.state.State.{State}
@@ -12,12 +13,8 @@ use Rattle.lalrpop_base.specs.declared.repr.Production.{Production}
 use Rattle.lalrpop_base.specs.declared.repr.Symbol.{Symbol}
 use Rattle.lalrpop_base.specs.declared.repr.TerminalString.{TerminalString}
 use Rattle.lalrpop_tables.specs.lanes.LaneTraces.{places_in}
-use Rattle.lalrpop_tables.specs.grammars.Numbering.{with_dot}
-use Rattle.lalrpop_tables.specs.grammars.Numbers.{NumbersAscend}
-use Rattle.lalrpop_tables.specs.states.States.{state_entries}
-use Rattle.lalrpop_tables.specs.states.Transitions.{Entries, HasEntry, reductions_of, seen}
-use Rattle.lalrpop_tables.specs.declared.construction.numbered.Numbered.{Numbered}
-use Rattle.lalrpop_tables.specs.declared.construction.numbers.Numbers.{Numbers}
+use Rattle.lalrpop_base.specs.declared.numbers.numbered.Numbered.{Numbered}
+use Rattle.lalrpop_base.specs.declared.numbers.Numbers.{Numbers}
 use Rattle.lalrpop_tables.specs.declared.construction.numbered_state.NumberedState.{NumberedState}
 
 -- the transitions stand by rising numbers of their symbols, none twice
@@ -131,4 +128,4 @@ AddsShifts symbols old new shifts = AllDiffer symbols → (entries : Entries) �
 pub record IsMadeByNumber {L : Type 0} (n : Numbers) (listed : List ℕ) (transitions : List (ℕ × ℕ)) (state : State L) : Type 0 where
   pub items : AreItemsAt n.items.items listed state.items.vec.items
   pub edges : AreEdgesBy n.symbols.items transitions (state_entries state)
-  pub finished : map seen state.reductions.items ≡ reductions_of state.items.vec.items
+  pub finished : map seen_reduction state.reductions.items ≡ reductions_of state.items.vec.items

@@ -1,11 +1,9 @@
 //! LR(1) states by the lane way: lane tables, where they pass the check.
 ghost use Rattle.std.specs.Prelude.{◌≡◌, ◌<◌, length, true, IfOk, IfSome, IsSomeAnd, is_some};
-ghost use Rattle.lalrpop_base.specs.Words.{AreCoherent, contents, IsOnNoRightSide, AreFaithful, IsLALR1, IsWellFormed, productions, rules_of};
-ghost use Rattle.lalrpop_tables.specs.check.Check.{PassCheck};
+ghost use Rattle.lalrpop_base.specs.Words.{AreCoherent, contents, IsOnNoRightSide, AreFaithful, IsLALR1, IsWellFormed, productions, rules_of, PassCheck, lr0_of};
 ghost use Rattle.lalrpop_tables.specs.lane_states.LaneStates.{AreLaneTables, IsReadyToConstruct};
 ghost use Rattle.lalrpop_tables.specs.lane_states.Lr0Copies.{AreCopiedTables};
 ghost use Rattle.lalrpop_tables.specs.answers.Lr1Answers.{AreBuiltTablesOf};
-ghost use Rattle.lalrpop_tables.specs.answers.Results.{lr0_of};
 
 use super::options::{Method, Options};
 use crate::check::check_over;

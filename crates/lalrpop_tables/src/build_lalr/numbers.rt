@@ -1,8 +1,6 @@
 //! The numbers of the merged states.
 ghost use Rattle.std.specs.Prelude.{◌≡◌, IfOk, map};
-ghost use Rattle.lalrpop_base.specs.Words.{dots};
-ghost use Rattle.lalrpop_base.specs.collapse.Collapsed.{dots_in};
-ghost use Rattle.lalrpop_base.specs.collapse.Merging.{AreFirstNumbers, bare};
+ghost use Rattle.lalrpop_base.specs.Words.{dots, dots_in, AreFirstNumbers, bare};
 
 use lalrpop_base::kernel_set::KernelSet;
 use lalrpop_base::lr1_core::item::{Lr0Item, Lr1Item};

@@ -1,8 +1,7 @@
 //! States placed by their numbers, each joined to those with the same number.
 ghost use Rattle.std.specs.Prelude.{IfOk, OnOk};
-ghost use Rattle.lalrpop_base.specs.collapse.Merging.{ArePlaced, Places};
-ghost use Rattle.lalrpop_base.specs.renumbering.Moved.{AreMoved};
-ghost use Rattle.lalrpop_base.specs.renumbering.Renumbered.{number_in};
+ghost use Rattle.lalrpop_base.specs.Words.{Places, AreMoved, number_in};
+ghost use Rattle.lalrpop_base.specs.collapse.Merging.{ArePlaced};
 
 use super::join::join_state;
 use crate::renumber::renumber_state;

@@ -1,7 +1,8 @@
 //! The reductions of merged states, one for each production.
 ghost use Rattle.std.specs.Prelude.{IfOk};
 ghost use Rattle.std.specs.List.{AllZip};
-ghost use Rattle.lalrpop_base.specs.collapse.Merging.{AreJoinedReductions, HasTokensOf, AreListed, IsReduced};
+ghost use Rattle.lalrpop_base.specs.Words.{AreJoinedReductions, HasTokensOf, IsReduced};
+ghost use Rattle.lalrpop_base.specs.collapse.Merging.{AreListed};
 
 use lalrpop_base::collections::multimap::Multimap;
 use lalrpop_base::lookahead::token_set::TokenSet;

@@ -5,23 +5,21 @@ mod reached;
 mod tokens;
 
 ghost use Rattle.std.specs.Prelude.{◌≡◌, ◌<◌, length, IfOk, IsTrue};
-ghost use Rattle.lalrpop_base.specs.Words.{AreCoherent, IsWellFormed, rules_of};
+ghost use Rattle.lalrpop_base.specs.Words.{AreCoherent, IsWellFormed, rules_of, PassCheck, AreNumbers};
 ghost use Rattle.lalrpop_tables.specs.check.ByNumber.{AreListedByNumber};
-ghost use Rattle.lalrpop_tables.specs.check.Check.{PassCheck};
-ghost use Rattle.lalrpop_tables.specs.grammars.Numbers.{AreNumbers};
 
 use self::leading::all_lead_on;
 use self::reached::{are_reached, lead_to_first};
 use self::tokens::hold_lookaheads;
 use crate::check::numbered_states::listed::listed_by_number;
-use crate::conflicts::have_no_conflict;
 use crate::construction::lr::Lr;
 use crate::construction::numbered_state::NumberedState;
-use crate::construction::numbers::Numbers;
 use crate::lane_table::follow_sets::Found;
 use lalrpop_base::lookahead::nil::Nil;
+use lalrpop_base::lr1_core::all_conflicts::have_no_conflict;
 use lalrpop_base::lr1_core::state::Lr1State;
 use lalrpop_base::memory::OutOfMemory;
+use lalrpop_base::numbers::Numbers;
 use lalrpop_base::repr::NonterminalString;
 use lalrpop_base::repr::grammar::Grammar;
 use std::alloc::Global;

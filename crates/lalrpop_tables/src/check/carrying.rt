@@ -1,18 +1,17 @@
 //! Tokens carried over the edges of states.
 ghost use Rattle.std.specs.Prelude.{◌≡◌, ◌<◌, ◌↔◌, IfOk, OnOk, Contains, IsTrue, Some, true};
 ghost use Rattle.std.specs.Map.{keys_of};
-ghost use Rattle.lalrpop_base.specs.Words.{AreClosed, contents, EachItem, AllDiffer, IsWellFormed, productions, productions_of, rules_of};
-ghost use Rattle.lalrpop_tables.specs.check.CheckCarrying.{Sends, IsBegunAt, IsOver, Gives, target_in, AreCarried, HoldsCarried, AllHoldCarried};
+ghost use Rattle.lalrpop_base.specs.Words.{AreClosed, contents, EachItem, AllDiffer, IsWellFormed, productions, productions_of, rules_of, Sends, IsBegunAt, IsOver};
+ghost use Rattle.lalrpop_base.specs.Words.{Gives, target_in, AreCarried, HoldsCarried, AllHoldCarried};
 ghost use Rattle.lalrpop_base.specs.lists.Entries.{IsQueued};
 
 use super::states::target;
-use crate::place::Place;
-use crate::sets::find_tokens;
-use crate::tokens::add_tokens;
+use lalrpop_base::collections::tokens::{add_tokens, find_tokens};
 use lalrpop_base::first::FirstSets;
 use lalrpop_base::lookahead::nil::Nil;
 use lalrpop_base::lookahead::token_set::TokenSet;
 use lalrpop_base::lr1_core::item::Item;
+use lalrpop_base::lr1_core::place::Place;
 use lalrpop_base::lr1_core::state::Lr1State;
 use lalrpop_base::memory::OutOfMemory;
 use lalrpop_base::repr::grammar::Grammar;

@@ -1,11 +1,10 @@
 //! The closure of dotted productions, without tokens.
 ghost use Rattle.std.specs.Prelude.{◌≡◌, [], ◌∷◌, IfOk, OnOk, Contains, map};
-ghost use Rattle.lalrpop_base.specs.Words.{IsAtStart, IsWellFormed, productions, productions_of};
+ghost use Rattle.lalrpop_base.specs.Words.{IsAtStart, IsWellFormed, productions, productions_of, AllWait, Visits, IsBegun, IsExpansionOf, IsMovedIn, IsMovedOf};
+ghost use Rattle.lalrpop_base.specs.Words.{AreClosure};
 ghost use Rattle.lalrpop_base.specs.closures.Closure.{dotted_of};
-ghost use Rattle.lalrpop_base.specs.closures.CheckClosing.{IsBegun, IsExpansionOf, IsMovedIn, IsMovedOf, AreClosure};
-ghost use Rattle.lalrpop_tables.specs.Walks.{AllWait, Visits};
 
-use crate::walk::Walk;
+use lalrpop_base::collections::walk::Walk;
 use lalrpop_base::lookahead::nil::Nil;
 use lalrpop_base::lr1_core::item::{Item, Lr0Item, Lr1Item};
 use lalrpop_base::memory::OutOfMemory;

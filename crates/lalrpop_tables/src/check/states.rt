@@ -1,15 +1,15 @@
 //! What the check of tables asks of each state by itself.
 ghost use Rattle.std.specs.Prelude.{◌≡◌, ◌↔◌, ◌⊎◌, ℕ, IfOk, OnOk, Contains, IsTrue, MatchOption, length, slice_get, Some};
-ghost use Rattle.lalrpop_base.specs.Words.{Bits, IsAtStart, Dotted, AllDiffer, IsWellFormed, productions};
+ghost use Rattle.lalrpop_base.specs.Words.{Bits, IsAtStart, Dotted, AllDiffer, IsWellFormed, productions, AreClosure, LeadsBy, LeadsFrom, IsTarget, Lists};
+ghost use Rattle.lalrpop_base.specs.Words.{finished, LeadsOn, IsRightItem, IsRightTarget, IsRightState, AreRightStates};
 ghost use Rattle.lalrpop_base.specs.declared.lookahead.nil.Nil.{Nil};
-ghost use Rattle.lalrpop_base.specs.closures.CheckClosing.{AreClosure};
-ghost use Rattle.lalrpop_base.specs.states.CheckStates.{LeadsBy, LeadsFrom, IsTarget, target_of, lr0, Lists, reduced, finished, LeadsOn, IsRightItem, IsRightTarget, IsRightState, AreRightStates, AreListed};
+ghost use Rattle.lalrpop_base.specs.states.CheckStates.{target_of, reduced, AreListed};
 
 use super::closing::{Set, moved_closure, start_closure};
-use crate::conflicts::has_no_conflict;
-use crate::sets::{add_key, has_key, have_same};
+use lalrpop_base::collections::sets::{add_key, has_key, have_same};
 use lalrpop_base::lookahead::nil::Nil;
 use lalrpop_base::lookahead::token_set::TokenSet;
+use lalrpop_base::lr1_core::all_conflicts::has_no_conflict;
 use lalrpop_base::lr1_core::item::{Item, Lr1Item};
 use lalrpop_base::lr1_core::state::{Lr1State, StateIndex};
 use lalrpop_base::memory::OutOfMemory;

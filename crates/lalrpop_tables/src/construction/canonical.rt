@@ -1,8 +1,7 @@
 //! LR(1) states by the canonical construction.
 ghost use Rattle.std.specs.Prelude.{◌≡◌, IfOk, IfErr};
-ghost use Rattle.lalrpop_base.specs.Words.{IsWellFormed};
+ghost use Rattle.lalrpop_base.specs.Words.{IsWellFormed, canonical_of, lr0_of};
 ghost use Rattle.lalrpop_tables.specs.answers.Lr1Answers.{AreBuiltTablesOf, FailsOn};
-ghost use Rattle.lalrpop_tables.specs.answers.Results.{canonical_of, lr0_of};
 ghost use Rattle.lalrpop_tables.specs.answers.TablesOrCount.{AreBuiltTablesOrCount};
 ghost use Rattle.lalrpop_tables.specs.declared.build.options.Method.TheVariants.{Canonical};
 

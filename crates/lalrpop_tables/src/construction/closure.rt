@@ -2,21 +2,19 @@
 //! the same tokens, so that these are kept by nonterminal.
 ghost use Rattle.std.specs.Prelude.{◌≡◌, ◌<◌, ◌≤◌, ◌∷◌, [], ℕ, IfOk, OnOk, IfSome, IfNone, Contains, length, map};
 ghost use Rattle.std.specs.Map.{keys_of};
-ghost use Rattle.lalrpop_base.specs.Words.{Bits};
-ghost use Rattle.lalrpop_base.specs.closures.Closure.{AreItemsBy, IsClosureBy, meant};
-ghost use Rattle.lalrpop_base.specs.lists.Entries.{GathersMore, readings};
-ghost use Rattle.lalrpop_tables.specs.grammars.Numbers.{AreNumbered, AreNumbers, item_by, items_by};
-ghost use Rattle.lalrpop_tables.specs.closures.Sharing.{IsSharing, Shares, fronts_in, numbered_of, parts_in, unfolded, with_tokens};
+ghost use Rattle.lalrpop_base.specs.Words.{Bits, AreNumbered, AreNumbers, item_by, items_by, IsSharing, Shares, fronts_in, numbered_of, parts_in, unfolded};
+ghost use Rattle.lalrpop_base.specs.Words.{with_tokens, AreItemsBy, IsClosureBy, meant, readings};
+ghost use Rattle.lalrpop_base.specs.lists.Entries.{GathersMore};
 
 use super::lookahead_build::LookaheadBuild;
 use super::lr::Lr;
-use super::numbered::Numbered;
-use super::numbers::Numbers;
 use super::workspace::Workspace;
 use lalrpop_base::collections::queue::Queue;
 use lalrpop_base::collections::sparse_map::SparseMap;
 use lalrpop_base::lookahead::Lookahead;
 use lalrpop_base::memory::OutOfMemory;
+use lalrpop_base::numbers::Numbers;
+use lalrpop_base::numbers::numbered::Numbered;
 use lalrpop_base::repr::Symbol;
 use std::alloc::Global;
 

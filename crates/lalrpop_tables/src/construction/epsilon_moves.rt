@@ -1,15 +1,14 @@
 //! What items give without lookahead, and with sets of tokens.
-ghost use Rattle.lalrpop_base.specs.Words.{IsNullable};
-ghost use Rattle.lalrpop_base.specs.closures.Closing.{Begins};
+ghost use Rattle.lalrpop_base.specs.Words.{IsNullable, Begins};
 
 use super::lookahead_build::LookaheadBuild;
 use super::lr::Lr;
-use super::numbers::rests::Rest;
 use lalrpop_base::collections::sparse_map::SparseMap;
 use lalrpop_base::lookahead::nil::Nil;
 use lalrpop_base::lookahead::token_set::TokenSet;
 use lalrpop_base::lr1_core::item::Item;
 use lalrpop_base::memory::OutOfMemory;
+use lalrpop_base::numbers::rests::Rest;
 use lalrpop_base::repr::{NonterminalString, Symbol};
 use std::alloc::Global;
 

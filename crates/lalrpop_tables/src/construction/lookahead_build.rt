@@ -1,18 +1,16 @@
 //! What an item gives to those to which it leads without a symbol.
 ghost use Rattle.std.specs.Prelude.{IfOk, List};
-ghost use Rattle.lalrpop_base.specs.Words.{HasKnownTerminals, Rules};
+ghost use Rattle.lalrpop_base.specs.Words.{HasKnownTerminals, Rules, IsRest, AreEpsilonMoves, readings};
 ghost use Rattle.lalrpop_base.specs.declared.lookahead.token.Token.{Token};
 ghost use Rattle.lalrpop_base.specs.declared.repr.Symbol.{Symbol};
-ghost use Rattle.lalrpop_base.specs.closures.EpsilonMoves.{AreEpsilonMoves, IsGivenAt};
-ghost use Rattle.lalrpop_base.specs.lists.Entries.{readings};
-ghost use Rattle.lalrpop_tables.specs.grammars.Rests.{IsRest};
+ghost use Rattle.lalrpop_base.specs.closures.EpsilonMoves.{IsGivenAt};
 
 use super::lr::Lr;
-use super::numbers::rests::Rest;
 use lalrpop_base::collections::sparse_map::SparseMap;
 use lalrpop_base::lookahead::Lookahead;
 use lalrpop_base::lr1_core::item::Item;
 use lalrpop_base::memory::OutOfMemory;
+use lalrpop_base::numbers::rests::Rest;
 use lalrpop_base::repr::{NonterminalString, Symbol};
 use std::alloc::Global;
 

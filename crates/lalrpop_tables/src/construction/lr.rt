@@ -1,22 +1,16 @@
 //! The construction of states for a start symbol and what may follow it.
 ghost use Rattle.std.specs.Prelude.{◌≡◌, IfOk, IfErr, MatchResult, map};
-ghost use Rattle.lalrpop_base.specs.Words.{FitsTokens, IsWellFormed, rules_of, productions_of};
+ghost use Rattle.lalrpop_base.specs.Words.{FitsTokens, IsWellFormed, rules_of, productions_of, FailsAfterLr0, StopsFor, AreNumbered, AreNumbers, items_by};
+ghost use Rattle.lalrpop_base.specs.Words.{AreTables, AreTablesFor, FailsBy, FailsFor, canonical_of, begun, AreItemsBy, AreBegunWith, AreLr0States, HasLr0States};
+ghost use Rattle.lalrpop_base.specs.Words.{HaveNoNilConflict, ListsNilConflicts};
 ghost use Rattle.lalrpop_base.specs.declared.repr.NonterminalString.{NonterminalString as Start};
 ghost use Rattle.lalrpop_base.specs.declared.repr.grammar.Grammar.{Grammar as Rules};
-ghost use Rattle.lalrpop_base.specs.closures.Closure.{AreItemsBy};
-ghost use Rattle.lalrpop_tables.specs.early_stop.EarlyStop.{FailsAfterLr0, StopsFor};
-ghost use Rattle.lalrpop_base.specs.closures.EpsilonMoves.{AreBegunWith};
-ghost use Rattle.lalrpop_base.specs.states.Lr0.{AreLr0States, HasLr0States, HaveNoNilConflict, ListsNilConflicts};
 ghost use Rattle.lalrpop_tables.specs.answers.Lr1Answers.{AreBuiltTablesOf, FailsOn};
-ghost use Rattle.lalrpop_tables.specs.grammars.Numbers.{AreNumbered, AreNumbers, items_by};
-ghost use Rattle.lalrpop_tables.specs.answers.Results.{AreTables, AreTablesFor, FailsBy, FailsFor, canonical_of};
 ghost use Rattle.lalrpop_tables.specs.states.NumberedStates.{AreNumberedAs};
-ghost use Rattle.lalrpop_tables.specs.states.States.{begun};
 ghost use Rattle.lalrpop_tables.specs.declared.build.options.Method.TheVariants.{Canonical};
 
 use super::lookahead_build::LookaheadBuild;
-use super::numbered::{Numbered, NumberedKernel};
-use super::numbers::Numbers;
+use super::numbered::NumberedKernel;
 use super::results::tables_or_conflicts;
 use super::states::{NumberedStates, build_states, numbered_states};
 use lalrpop_base::first::FirstSets;
@@ -26,6 +20,8 @@ use lalrpop_base::lookahead::token_set::TokenSet;
 use lalrpop_base::lr1_core::item::Item;
 use lalrpop_base::lr1_core::state::{Lr1Result, LrResult};
 use lalrpop_base::memory::OutOfMemory;
+use lalrpop_base::numbers::Numbers;
+use lalrpop_base::numbers::numbered::Numbered;
 use lalrpop_base::repr::NonterminalString;
 use lalrpop_base::repr::grammar::Grammar;
 use lalrpop_base::sequence::Sequence;
@@ -46,7 +42,7 @@ pub struct Lr<'grammar, L: Lookahead> {
 impl<'grammar, L: Lookahead> Model for Lr<'grammar, L> {
     ghost use Rattle.lalrpop_base.specs.Words.{rules_of, productions_of};
     ghost use Rattle.lalrpop_base.specs.states.Lr0.{AreLr0States, HasLr0States, HaveNoNilConflict, ListsNilConflicts};
-    ghost use Rattle.lalrpop_tables.specs.answers.Results.{Settings};
+    ghost use Rattle.lalrpop_base.specs.construction.Results.{Settings};
 
     ghost Value = { Settings L };
 
@@ -60,9 +56,9 @@ impl<'grammar, L: Lookahead> Model for Lr<'grammar, L> {
       stop_after = l.stop_after;
     } };
 
-    ghost use Rattle.lalrpop_tables.specs.states.Ready.{IsReady};
+    ghost use Rattle.lalrpop_base.specs.construction.Ready.{IsReadyToBuild};
 
-    ghost invariant = { λ l. IsReady l.grammar.now l.first_sets l.numbers (L.meaning l.lookahead) };
+    ghost invariant = { λ l. IsReadyToBuild l.grammar.now l.first_sets l.numbers (L.meaning l.lookahead) };
 }
 
 impl<'grammar, L: Lookahead> Lr<'grammar, L> {

@@ -1,7 +1,6 @@
 //! LR(0) states.
 ghost use Rattle.std.specs.Prelude.{IfOk, IfErr, MatchResult};
-ghost use Rattle.lalrpop_base.specs.Words.{IsWellFormed, rules_of};
-ghost use Rattle.lalrpop_base.specs.states.Lr0.{AreLr0States, HasLr0States, HaveNoNilConflict, ListsNilConflicts};
+ghost use Rattle.lalrpop_base.specs.Words.{IsWellFormed, rules_of, AreLr0States, HasLr0States, HaveNoNilConflict, ListsNilConflicts};
 
 use super::lr::Lr;
 use lalrpop_base::lookahead::nil::Nil;
@@ -11,7 +10,7 @@ use lalrpop_base::repr::grammar::Grammar;
 use std::alloc::Global;
 
 /// The LR(0) states of a grammar by their construction numbers, or their conflicts.
-#[tactic(auto, using(crate::proofs::theory::states::Lookaheads::nothing_fits))]
+#[tactic(auto, using(lalrpop_base::proofs::theory::construction::Lookaheads::nothing_fits))]
 pub fn build_lr0_states<'grammar>(
     alloc: Global,
     grammar: &'grammar Grammar,

@@ -1,4 +1,4 @@
-//! Items by number, and the kernels of states.
+//! The kernels of states, whose items stand by number.
 ghost use Rattle.std.specs.Prelude.{◌≡◌, ◌+◌, ◌<◌, [], length, map, slice_get, Some, IfOk, OnOk, OnErr, IfSome, IsNone};
 ghost use Rattle.lalrpop_base.specs.Words.{AddsOnce, AllDiffer};
 ghost use Rattle.lalrpop_tables.specs.states.NumberedStates.{number_in};
@@ -7,16 +7,10 @@ use indexmap::IndexSet;
 use lalrpop_base::lookahead::Lookahead;
 use lalrpop_base::lr1_core::state::StateIndex;
 use lalrpop_base::memory::OutOfMemory;
+use lalrpop_base::numbers::numbered::Numbered;
 use lalrpop_base::sequence::Sequence;
 use std::alloc::Global;
 use std::marker::Model;
-
-/// An item by the number of its dotted production.
-#[derive(Debug, Drop, PartialEq, Eq, PartialOrd, Ord, Hash)]
-pub struct Numbered<L> {
-    pub number: usize,
-    pub lookahead: L,
-}
 
 /// Puts the numbers of items in the place of others.
 pub(crate) fn list_numbers<L: Lookahead>(
@@ -40,7 +34,7 @@ pub struct NumberedKernel<L: Lookahead> {
 
 impl<L: Lookahead> Model for NumberedKernel<L> {
     ghost use Rattle.std.specs.Prelude.{List};
-    ghost use Rattle.lalrpop_tables.specs.declared.construction.numbered.Numbered.{Numbered};
+    ghost use Rattle.lalrpop_base.specs.declared.numbers.numbered.Numbered.{Numbered};
 
     ghost Value = { List (Numbered L) };
 
@@ -77,7 +71,7 @@ impl<L: Lookahead> Model for NumberedKernels<L> {
     ghost use Rattle.std.specs.Prelude.{List, length, ◌≤◌};
     ghost use Rattle.lalrpop_base.specs.states.Kernels.{Kernels};
     ghost use Rattle.lalrpop_base.specs.lists.Places.{AllDiffer};
-    ghost use Rattle.lalrpop_tables.specs.declared.construction.numbered.Numbered.{Numbered};
+    ghost use Rattle.lalrpop_base.specs.declared.numbers.numbered.Numbered.{Numbered};
 
     ghost Value = { Kernels (List (Numbered L)) };
 

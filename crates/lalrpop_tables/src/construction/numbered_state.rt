@@ -1,11 +1,10 @@
 //! A state by the numbers of its items and symbols.
 ghost use Rattle.std.specs.Prelude.{◌≡◌, ◌++◌, ◌<◌, ℕ, length, Contains, IfOk, OnOk};
-ghost use Rattle.lalrpop_base.specs.Words.{AllDiffer, Rules};
-ghost use Rattle.lalrpop_tables.specs.grammars.Numbers.{AreNumbers};
+ghost use Rattle.lalrpop_base.specs.Words.{AllDiffer, Rules, AreNumbers};
 ghost use Rattle.lalrpop_tables.specs.states.NumberedStates.{HasFinished, finished_at, finished_in};
 
-use super::numbers::Numbers;
 use lalrpop_base::memory::OutOfMemory;
+use lalrpop_base::numbers::Numbers;
 use std::alloc::Global;
 
 /// A state by numbers.

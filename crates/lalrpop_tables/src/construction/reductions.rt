@@ -1,6 +1,6 @@
 //! The reductions of a state.
 ghost use Rattle.std.specs.Prelude.{◌≡◌, ◌++◌, ◌∷◌, [], IfOk, OnOk, map};
-ghost use Rattle.lalrpop_tables.specs.states.Transitions.{reductions_of, seen};
+ghost use Rattle.lalrpop_base.specs.Words.{reductions_of, seen_reduction};
 
 use lalrpop_base::lookahead::Lookahead;
 use lalrpop_base::lr1_core::item::Item;
@@ -14,7 +14,7 @@ fn push_finished<'grammar, L: Lookahead>(
     item: &Item<'grammar, L>,
     reductions: &mut Vec<(L, &'grammar Production)>,
 ) -> Result<(), OutOfMemory>
-    ensures { OnOk result (map seen reductions.new.items ≡ map seen reductions.old.items ++
+    ensures { OnOk result (map seen_reduction reductions.new.items ≡ map seen_reduction reductions.old.items ++
         reductions_of (item.now ∷ [])) }
 {
     if item.can_reduce() {
@@ -29,7 +29,7 @@ pub fn reductions<'grammar, L: Lookahead>(
     alloc: Global,
     items: &[Item<'grammar, L>],
 ) -> Result<Vec<(L, &'grammar Production)>, OutOfMemory>
-    ensures { IfOk result (λ list. map seen list.items ≡ reductions_of items.now) }
+    ensures { IfOk result (λ list. map seen_reduction list.items ≡ reductions_of items.now) }
 {
     let mut reductions = Vec::new(alloc);
     for item in items {

@@ -1,15 +1,14 @@
 //! States as tables, or as an error with their conflicts, or as the number of these.
 ghost use Rattle.std.specs.Prelude.{◌≡◌, ◌<◌, [], IfOk, OnOk, IfErr, ◌++◌, List, length};
 ghost use Rattle.std.specs.List.{flat_map};
-ghost use Rattle.lalrpop_base.specs.Words.{state_conflicts};
+ghost use Rattle.lalrpop_base.specs.Words.{state_conflicts, FailWith, HaveNoConflict};
 ghost use Rattle.lalrpop_base.specs.declared.lr1_core.state.Conflict.{Conflict};
-ghost use Rattle.lalrpop_base.specs.conflicts.AllConflicts.{FailWith, HaveNoConflict};
 ghost use Rattle.lalrpop_tables.specs.answers.TablesOrCount.{MatchTablesOrCount};
 
 use super::lr::Lr;
 use super::tables_or_count::TablesOrCount;
-use crate::conflicts::conflict_count_of;
 use lalrpop_base::lookahead::Lookahead;
+use lalrpop_base::lr1_core::all_conflicts::conflict_count_of;
 use lalrpop_base::lr1_core::state::{
     BuildError, Conflict, Lr1State, LrResult, State, TableConstructionError,
 };
@@ -50,7 +49,7 @@ pub fn tables_or_conflicts<'grammar, L: Lookahead>(
 
 /// The states, as tables where they have no conflict, else the number of their conflicts. A number
 /// above the greatest `usize` is answered as want of memory: no list of so many could be had.
-#[tactic(auto, using(std::proofs::lemmas::List::nil_from_length, crate::proofs::theory::conflicts::ConflictLists::free_states))]
+#[tactic(auto, using(std::proofs::lemmas::List::nil_from_length, lalrpop_base::proofs::theory::conflicts::GrownConflicts::free_states))]
 pub fn tables_or_count<'grammar>(
     states: Vec<Lr1State<'grammar>>,
     terminals: &TerminalSet,

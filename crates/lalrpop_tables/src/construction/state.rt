@@ -1,26 +1,24 @@
 //! One state more of a construction.
 ghost use Rattle.std.specs.Prelude.{◌≡◌, ◌+◌, ◌++◌, ◌∷◌, [], List, length, map, IsTrue, IsFalse, IfOk, OnOk};
-ghost use Rattle.lalrpop_base.specs.Words.{Dotted, Rules};
-ghost use Rattle.lalrpop_base.specs.closures.Closure.{AreItemsBy, IsClosureBy};
+ghost use Rattle.lalrpop_base.specs.Words.{Dotted, Rules, AreAllNumbered, AreNumbered, AreNumbers, items_by, kernels_by, AreMadeSoFar, IsBuiltBy, Extends};
+ghost use Rattle.lalrpop_base.specs.Words.{LeadsToAdded, state_entries, reductions_of, seen_reduction, AreItemsBy, IsClosureBy};
 ghost use Rattle.lalrpop_base.specs.declared.lr1_core.state.State.{State as Made};
-ghost use Rattle.lalrpop_tables.specs.grammars.Numbers.{AreAllNumbered, AreNumbered, AreNumbers, items_by, kernels_by};
 ghost use Rattle.lalrpop_tables.specs.states.NumberedStates.{AreEdgesBy, IsMadeByNumber};
-ghost use Rattle.lalrpop_tables.specs.states.Building.{AreMadeSoFar};
-ghost use Rattle.lalrpop_tables.specs.states.States.{IsBuiltBy, Extends, LeadsToAdded, state_entries};
-ghost use Rattle.lalrpop_tables.specs.states.Transitions.{reductions_of, seen};
 
 use super::closure::closure;
 use super::lookahead_build::LookaheadBuild;
 use super::lr::Lr;
-use super::numbered::{Numbered, NumberedKernels, list_numbers};
-use super::numbers::Numbers;
+use super::numbered::{NumberedKernels, list_numbers};
 use super::reductions::reductions;
-use super::transitions::{Edges, Moves, transitions};
+use super::transitions::{Moves, transitions};
 use super::workspace::Workspace;
 use lalrpop_base::lookahead::Lookahead;
 use lalrpop_base::lr1_core::item::Item;
 use lalrpop_base::lr1_core::state::{Items, State, StateIndex};
+use lalrpop_base::lr1_core::transitions::Transitions;
 use lalrpop_base::memory::OutOfMemory;
+use lalrpop_base::numbers::Numbers;
+use lalrpop_base::numbers::numbered::Numbered;
 use std::alloc::Global;
 
 // Items by number as items.
@@ -70,9 +68,9 @@ fn state_of<'grammar, L: LookaheadBuild>(
     ensures by_number { IfOk result (λ state. AreEdgesBy numbers.now.symbols.items edges.new.items
         (state_entries state)) }
     ensures finished { IfOk result
-        (λ state. map seen state.reductions.items ≡ reductions_of state.items.vec.items) }
+        (λ state. map seen_reduction state.reductions.items ≡ reductions_of state.items.vec.items) }
 {
-    let Edges { shifts, gotos } = transitions(alloc, numbers, &list, kernels, moves, edges)?;
+    let Transitions { shifts, gotos } = transitions(alloc, numbers, &list, kernels, moves, edges)?;
     let items = items_of(alloc, numbers, list)?;
     let reductions = reductions(alloc, &items)?;
     Ok(State {

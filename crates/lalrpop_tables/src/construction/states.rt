@@ -1,21 +1,18 @@
 //! The states of a grammar, by their kernels.
 ghost use Rattle.std.specs.Prelude.{◌↔◌, [], IsTrue, IfOk};
-ghost use Rattle.lalrpop_tables.specs.early_stop.EarlyStop.{AreEnough, AreMadeFor};
-ghost use Rattle.lalrpop_tables.specs.grammars.Numbers.{AreNumbers};
-ghost use Rattle.lalrpop_tables.specs.answers.Results.{AreStatesFor};
-ghost use Rattle.lalrpop_tables.specs.states.Building.{AreMadeSoFar};
+ghost use Rattle.lalrpop_base.specs.Words.{AreEnough, AreMadeFor, AreNumbers, AreStatesFor, AreMadeSoFar};
 ghost use Rattle.lalrpop_tables.specs.states.NumberedStates.{AreNumberedAs};
 
 use super::lookahead_build::LookaheadBuild;
 use super::lr::Lr;
 use super::numbered::NumberedKernels;
 use super::numbered_state::{NumberedState, numbered_state};
-use super::numbers::Numbers;
 use super::results::push_conflicts;
 use super::state::add_state;
 use super::workspace::Workspace;
 use lalrpop_base::lr1_core::state::{Conflict, State};
 use lalrpop_base::memory::OutOfMemory;
+use lalrpop_base::numbers::Numbers;
 use std::alloc::Global;
 
 /// States, and their conflicts.

@@ -1,30 +1,21 @@
 //! The transitions of a state.
 ghost use Rattle.std.specs.Prelude.{◌<◌, IfOk, OnOk, length, Some};
-ghost use Rattle.lalrpop_base.specs.Words.{Rules};
-ghost use Rattle.lalrpop_tables.specs.grammars.Numbers.{AreAllNumbered, AreGroupsOf, AreNumbered, AreNumbers, NumbersAscend, groups_by, item_by, items_by, kernels_by};
+ghost use Rattle.lalrpop_base.specs.Words.{Rules, AreAllNumbered, AreGroupsOf, AreNumbered, AreNumbers, NumbersAscend, groups_by, item_by, items_by, kernels_by};
+ghost use Rattle.lalrpop_base.specs.Words.{AreEdges, AreMoves, AreTransitions, IsMoveAdded, edge_entries, AddsKernels};
 ghost use Rattle.lalrpop_tables.specs.states.NumberedStates.{AreEdgesBy};
-ghost use Rattle.lalrpop_tables.specs.states.Transitions.{AreEdges, AreEdgesListed, AreMoves, AreTransitions, IsEntryAdded, IsMoveAdded, IsReached, edge_entries, list_entries};
 
-use super::numbered::{Numbered, NumberedKernel, NumberedKernels};
-use super::numbers::Numbers;
+use super::numbered::{NumberedKernel, NumberedKernels};
 use lalrpop_base::collections::sparse_map::SparseMap;
 use lalrpop_base::lookahead::Lookahead;
-use lalrpop_base::lr1_core::state::StateIndex;
+use lalrpop_base::lr1_core::transitions::{TransitionLists, Transitions, add_edge, edge_maps};
 use lalrpop_base::memory::OutOfMemory;
-use lalrpop_base::repr::{NonterminalString, Symbol, TerminalString};
+use lalrpop_base::numbers::Numbers;
+use lalrpop_base::numbers::numbered::Numbered;
 use lalrpop_base::sequence::Sequence;
 use std::alloc::Global;
-use std::collections::BTreeMap;
 
 /// The items to which each symbol behind a dot leads, by its number.
 pub type Moves<L> = SparseMap<Sequence<Numbered<L>>>;
-
-/// The transitions of a state.
-#[derive(Drop)]
-pub struct Edges {
-    pub shifts: BTreeMap<TerminalString, StateIndex>,
-    pub gotos: BTreeMap<NonterminalString, StateIndex>,
-}
 
 // Moves the dot of an item over the symbol behind it, if there is one.
 fn add_move<'grammar, L: Lookahead>(
@@ -71,39 +62,6 @@ fn moves_of<'grammar, L: Lookahead>(
     Ok(())
 }
 
-// Transitions, as they come.
-#[derive(Drop)]
-struct EdgeLists {
-    shifts: Vec<(TerminalString, StateIndex)>,
-    gotos: Vec<(NonterminalString, StateIndex)>,
-}
-
-// Puts a transition behind the others of its kind.
-fn add_edge(symbol: Symbol, target: StateIndex, lists: &mut EdgeLists) -> Result<(), OutOfMemory>
-    ensures { OnOk result
-        (IsEntryAdded symbol target (list_entries lists.old) (list_entries lists.new)) }
-{
-    match symbol {
-        Symbol::Nonterminal(name) => {
-            lists.gotos.push((name, target))?;
-        }
-        Symbol::Terminal(terminal) => {
-            lists.shifts.push((terminal, target))?;
-        }
-    }
-    Ok(())
-}
-
-// The transitions as maps.
-fn edge_maps(alloc: Global, lists: EdgeLists) -> Result<Edges, OutOfMemory>
-    ensures { IfOk result (AreEdgesListed lists) }
-{
-    Ok(Edges {
-        shifts: BTreeMap::from_iter(alloc, lists.shifts)?,
-        gotos: BTreeMap::from_iter(alloc, lists.gotos)?,
-    })
-}
-
 // A transition to the state of each kernel, in maps and by number. New states are numbered in the
 // order of the list, in which symbols rise.
 fn edges_of<'grammar, L: Lookahead>(
@@ -112,7 +70,7 @@ fn edges_of<'grammar, L: Lookahead>(
     moves: Vec<(usize, Sequence<Numbered<L>>)>,
     kernels: &mut NumberedKernels<L>,
     list: &mut Vec<(usize, usize)>,
-) -> Result<Edges, OutOfMemory>
+) -> Result<Transitions, OutOfMemory>
     requires numbers { (g : Rules) × AreNumbers g numbers.now }
     requires known { AreGroupsOf numbers.now moves.items }
     requires rising { NumbersAscend moves.items }
@@ -120,14 +78,14 @@ fn edges_of<'grammar, L: Lookahead>(
     ensures known { OnOk result (AreAllNumbered numbers.now.items.items kernels.new.list) }
     ensures edges { IfOk result (λ edges. AreEdges (groups_by numbers.now moves.items)
         (kernels_by numbers.now.items.items kernels.new).list edges) }
-    ensures reached { OnOk result (IsReached (groups_by numbers.now moves.items)
+    ensures reached { OnOk result (AddsKernels (groups_by numbers.now moves.items)
         (kernels_by numbers.now.items.items kernels.old)
         (kernels_by numbers.now.items.items kernels.new)) }
     ensures by_number { IfOk result (λ edges. AreEdgesBy numbers.now.symbols.items list.new.items
         (edge_entries edges)) }
 {
     list.clear();
-    let mut lists = EdgeLists {
+    let mut lists = TransitionLists {
         shifts: Vec::new(alloc),
         gotos: Vec::new(alloc),
     };
@@ -148,7 +106,7 @@ pub fn transitions<'grammar, L: Lookahead>(
     kernels: &mut NumberedKernels<L>,
     moves: &mut Moves<L>,
     list: &mut Vec<(usize, usize)>,
-) -> Result<Edges, OutOfMemory>
+) -> Result<Transitions, OutOfMemory>
     requires numbers { (g : Rules) × AreNumbers g numbers.now }
     requires known { AreNumbered numbers.now.items.items items.now }
     requires kernels { AreAllNumbered numbers.now.items.items kernels.old.list }

@@ -11,15 +11,14 @@ mod states;
 mod tracing;
 
 ghost use Rattle.std.specs.Prelude.{◌≡◌, IfOk, IfErr, IfSome, IsSomeAnd, IsTrue, MatchBool, MatchOption, MatchResult};
-ghost use Rattle.lalrpop_base.specs.Words.{IsLALR1, IsOnNoRightSide, IsWellFormed, productions, rules_of};
+ghost use Rattle.lalrpop_base.specs.Words.{IsLALR1, IsOnNoRightSide, IsWellFormed, productions, rules_of, HaveNoConflict};
 ghost use Rattle.lalrpop_tables.specs.collapse.Lalr.{TellsNotLALR1};
 ghost use Rattle.lalrpop_tables.specs.lane_states.LaneStates.{AreLalrLaneTables, IsReadyToConstruct};
 ghost use Rattle.lalrpop_tables.specs.lane_states.Lr0Copies.{AreCopiedTables, AreLr0Copies, FailsByCopies, HaveCopiedConflict};
-ghost use Rattle.lalrpop_base.specs.conflicts.AllConflicts.{HaveNoConflict};
 
-use crate::conflicts::{conflicts_of, have_no_conflict};
 use crate::construction::lr::Lr;
 use lalrpop_base::lookahead::nil::Nil;
+use lalrpop_base::lr1_core::all_conflicts::{conflicts_of, have_no_conflict};
 use lalrpop_base::lr1_core::state::{BuildError, Lr1Result, Lr1State, TableConstructionError};
 use lalrpop_base::memory::OutOfMemory;
 use lalrpop_base::repr::NonterminalString;
@@ -38,7 +37,7 @@ pub struct LaneTableConstruct<'grammar> {
 
 impl<'grammar> LaneTableConstruct<'grammar> {
     /// States are copied at most so often.
-    #[tactic(auto, using(crate::proofs::theory::states::Lookaheads::nothing_fits))]
+    #[tactic(auto, using(lalrpop_base::proofs::theory::construction::Lookaheads::nothing_fits))]
     pub fn new(
         alloc: Global,
         grammar: &'grammar Grammar,

@@ -1,7 +1,8 @@
 //! Context sets: for each action that is traced, the tokens on which it is to be taken.
 ghost use Rattle.std.specs.Prelude.{◌≡◌, ◌≢◌, ◌<◌, ◌↔◌, ℕ, List, length, slice_get, Some, IfOk, OnErr, OnOk, IfErr, MatchBool, IsTrue, IsFalse};
-ghost use Rattle.lalrpop_base.specs.Words.{Bits, no_bits};
-ghost use Rattle.lalrpop_base.specs.lanes.Contexts.{MeetsOther, IsJoinedIn, IsUnion, MeetInUnion, IsApplied, AreAmong, AreReducedAmong, IsReductionAt, Reduces, TookColumns};
+ghost use Rattle.lalrpop_base.specs.Words.{Bits, no_bits, MeetsOther, IsJoinedIn, IsUnion, MeetInUnion, IsApplied, AreAmong, AreReducedAmong, IsReductionAt};
+ghost use Rattle.lalrpop_base.specs.Words.{Reduces};
+ghost use Rattle.lalrpop_base.specs.lanes.Contexts.{TookColumns};
 ghost use Rattle.lalrpop_tables.specs.declared.lane_table.context_set.OverlappingLookahead.TheVariants.{Overlapping, Memory};
 
 use lalrpop_base::collections::{Collection, Set};

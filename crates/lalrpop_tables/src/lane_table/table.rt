@@ -7,8 +7,7 @@ pub mod rows;
 ghost use Rattle.std.specs.Prelude.{◌≡◌, ◌<◌, ◌↔◌, Contains, IfOk, OnOk, OnErr, IfErr, IfSome, IsSome, IsNone};
 ghost use Rattle.std.specs.Map.{keys_of};
 ghost use Rattle.lalrpop_base.specs.declared.lr1_core.state.StateIndex.{StateIndex as State};
-ghost use Rattle.lalrpop_base.specs.lanes.Contexts.{AreDisjoint};
-ghost use Rattle.lalrpop_base.specs.lists.Entries.{IsJoinedAt};
+ghost use Rattle.lalrpop_base.specs.Words.{AreDisjoint, IsJoinedAt};
 ghost use Rattle.lalrpop_tables.specs.lane_tables.LaneCells.{AreBelow};
 ghost use Rattle.lalrpop_tables.specs.declared.lane_table.context_set.OverlappingLookahead.TheVariants.{Overlapping};
 

@@ -1,9 +1,8 @@
 //! A graph that follows copies of its states.
 ghost use Rattle.std.specs.Prelude.{◌≡◌, ◌≤◌, [], ◌∷◌, false, length, take, OnOk};
 ghost use Rattle.std.specs.Map.{keys_of};
-ghost use Rattle.lalrpop_base.specs.Words.{AllDiffer};
+ghost use Rattle.lalrpop_base.specs.Words.{AllDiffer, number_in, retargeted_all};
 ghost use Rattle.lalrpop_tables.specs.graphs.GraphCopies.{FollowsCopies, FollowsEdges, FollowsInTurn};
-ghost use Rattle.lalrpop_base.specs.renumbering.Renumbered.{number_in, retargeted_all};
 ghost use Rattle.lalrpop_tables.specs.graphs.StateGraph.{edge, edges_of};
 
 use super::StateGraph;

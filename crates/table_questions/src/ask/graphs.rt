@@ -1,7 +1,6 @@
 //! Questions of the graph of LR(0) states.
 ghost use Rattle.std.specs.Prelude.{IfOk};
-ghost use Rattle.lalrpop_base.specs.Words.{IsWellFormed, rules_of};
-ghost use Rattle.lalrpop_base.specs.Words.{AreLr0States};
+ghost use Rattle.lalrpop_base.specs.Words.{IsWellFormed, rules_of, AreLr0States};
 
 use super::states::start_of;
 use crate::question::{Question, QuestionError};

@@ -1,7 +1,7 @@
 use Rattle.std.proofs.Common.{◌+◌, ◌<◌, arith, length, get_or, subst, sym}
 use Rattle.std.proofs.lemmas.List.Elements.{Contains-get_or}
 use Rattle.lalrpop_base.specs.lists.Spreading.{IsSent}
-use Rattle.lalrpop_base.specs.lists.Queues.{Waiting}
+use Rattle.lalrpop_base.specs.Words.{Waiting}
 use Rattle.lalrpop_base.proofs.theory.lists.Spreading.{sent_grown, sent_same}
 use Rattle.lalrpop_base.proofs.spread.send.Goals as goal
 use Rattle.lalrpop_base.proofs.spread.send.Goals.{then-branch+in_ok-add, else-branch}

@@ -2,7 +2,7 @@
 use Rattle.std.proofs.Common.{◌≡◌, ℕ, zero, suc, ◌-◌, ◌<◌, List, length, map, refl, sym, ◌∙◌, ap, subst, arith, Some, option_map}
 use Rattle.std.specs.Prelude.{Contains, slice_get, unwrap_or}
 use Rattle.std.proofs.lemmas.Option.{slice_get_within, slice_get-map}
-use Rattle.lalrpop_base.specs.Words.{Bits, HasItem, IsShifted, IsCoherentEdge, dots, Ordered, Dotted, Precedes, Ascend, lr0, dots_in, IsCollapsed, number_in}
+use Rattle.lalrpop_base.specs.Words.{Bits, HasItem, IsShifted, IsCoherentEdge, dots, Ordered, Dotted, Precedes, Ascend, with_dot, dots_in, IsCollapsed, number_in}
 use Rattle.lalrpop_base.proofs.Types.{Production, State, Symbol}
 use Rattle.lalrpop_base.proofs.theory.states.ContentsViews.{some_of_map}
 use Rattle.lalrpop_base.proofs.theory.lists.Ascending.{ascending_same}
@@ -36,7 +36,7 @@ module _ {L : Type 0} where
 
 -- ---- dotted productions that ascend are one list where they are the same
 abbrev StandsBefore : Production × ℕ → Production × ℕ → Type 0
-StandsBefore d e = Precedes (lr0 d.0 d.1) (lr0 e.0 e.1)
+StandsBefore d e = Precedes (with_dot d.0 d.1) (with_dot e.0 e.1)
 
 dots_ascend : (items : List (Dotted Bits)) → Ascend items → Ordered StandsBefore (dots items)
 dots_ascend items ascend i j d e l at_i at_j =
@@ -46,7 +46,7 @@ dots_ascend items ascend i j d e l at_i at_j =
     subst (λ (x : Production × ℕ). StandsBefore d x) b.2 (subst (λ (x : Production × ℕ). StandsBefore x (dotted_of b.0)) a.2 before)
 
 pub same_dots : (xs ys : List (Dotted Bits)) → Ascend xs → Ascend ys → ((d : Production × ℕ) → Contains (dots xs) d → Contains (dots ys) d) → ((d : Production × ℕ) → Contains (dots ys) d → Contains (dots xs) d) → dots xs ≡ dots ys
-same_dots xs ys a b to from = ascending_same StandsBefore (λ d e. precedes_asymmetric (lr0 d.0 d.1) (lr0 e.0 e.1)) (dots xs) (dots ys) (dots_ascend xs a) (dots_ascend ys b) to from
+same_dots xs ys a b to from = ascending_same StandsBefore (λ d e. precedes_asymmetric (with_dot d.0 d.1) (with_dot e.0 e.1)) (dots xs) (dots ys) (dots_ascend xs a) (dots_ascend ys b) to from
 
 -- ---- the numbers of merged states
 module _ (before after : List (State Bits)) (c : IsCollapsed before after) where

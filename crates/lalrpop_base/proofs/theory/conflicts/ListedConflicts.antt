@@ -12,15 +12,14 @@ use Rattle.std.proofs.lemmas.Map.Entries.{btree_map_get_place}
 use Rattle.std.proofs.lemmas.Map.Keys.{Less-from_sorted}
 use Rattle.std.proofs.lemmas.Map.Views.{IfSome-get}
 use Rattle.std.proofs.lemmas.Option.{slice_get_within, get_or_from_slice_get}
-use Rattle.lalrpop_base.specs.Words.{Bits, has, no_bits, with_bit, Ordered, ShiftPart, no_more, in_conflict, apart, ShiftParts}
-use Rattle.lalrpop_base.specs.Words.{no_shifts, shift_first, LaterPart, no_later, with_later, shares_none, ReduceParts, no_reductions, reduce_first, IsLess}
-use Rattle.lalrpop_base.specs.Words.{ConflictContents, AreConflictsOf, holds_token, number_of, reduction_of, contents_of, AllDiffer, meet, share}
-use Rattle.lalrpop_base.specs.Words.{shift_conflict, conflicts_on_bit, conflicts_on_place, shift_conflicts, reduce_conflict, later_conflicts, reduce_conflicts}
-use Rattle.lalrpop_base.specs.Words.{state_conflicts, HasNoRepeat, place_in, FitsTokens, conflict_of, conflicts_of}
+use Rattle.lalrpop_base.specs.Words.{Bits, has, no_bits, with_bit, Ordered, ShiftPart, no_more, in_conflict, apart, ShiftParts, no_shifts, shift_first, LaterPart}
+use Rattle.lalrpop_base.specs.Words.{no_later, with_later, shares_none, ReduceParts, no_reductions, reduce_first, IsLess, ConflictContents, AreConflictsOf}
+use Rattle.lalrpop_base.specs.Words.{holds_token, number_of, reduction_of, contents_of, AllDiffer, meet, share, shift_conflict, conflicts_on_bit, conflicts_on_place}
+use Rattle.lalrpop_base.specs.Words.{shift_conflicts, reduce_conflict, later_conflicts, reduce_conflicts, state_conflicts, HasNoRepeat, place_in, FitsTokens}
+use Rattle.lalrpop_base.specs.Words.{conflict_of, conflicts_of, both}
 use Rattle.lalrpop_base.specs.states.States.{Reduction}
 use Rattle.lalrpop_base.proofs.Types.{Conflict, Production, State, StateIndex, TerminalString, Token}
 use Rattle.lalrpop_base.specs.declared.lookahead.token.Token.TheVariants.{Eof, Error, Terminal as TokenOf}
-use Rattle.lalrpop_base.specs.lists.Exact.{both}
 use Rattle.lalrpop_base.proofs.theory.conflicts.ConflictLemmas.{shared, share_some}
 use Rattle.lalrpop_base.proofs.theory.states.ContentsViews.{contains_of_map, contains_map, some_of_map}
 use Rattle.lalrpop_base.proofs.theory.sets.HeldTokens.{place_there, place_is}

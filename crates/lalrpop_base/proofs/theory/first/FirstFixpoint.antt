@@ -14,10 +14,10 @@ use Rattle.lalrpop_base.specs.declared.repr.Symbol.TheVariants.{Nonterminal, Ter
 use Rattle.lalrpop_base.specs.declared.first.numbered.NumberedSymbol.{NumberedSymbol}
 use Rattle.lalrpop_base.specs.declared.first.numbered.NumberedSymbol.TheVariants.{Bit, Name}
 use Rattle.lalrpop_base.specs.declared.first.numbered.NumberedProduction.{NumberedProduction}
-use Rattle.lalrpop_base.specs.Words.{Bits, has, no_bits, has-no_bits, IsFirst, IsNullable, NullableBy, FirstBy, AreFirstSets, name_cmp, productions, HasKnownTerminals, IsWellFormed}
-use Rattle.lalrpop_base.specs.Words.{AreFirstSetsOf, Table, is_in, IsRight, IsClosed, Waiting, waits, AreUses, IsTurn}
+use Rattle.lalrpop_base.specs.Words.{Bits, has, no_bits, has-no_bits, IsFirst, IsNullable, NullableBy, FirstBy, AreFirstSets, name_cmp, productions}
+use Rattle.lalrpop_base.specs.Words.{HasKnownTerminals, IsWellFormed, AreFirstSetsOf, Table, is_in, IsRight, IsClosed, Waiting, waits, AreUses, IsTurn, place}
+use Rattle.lalrpop_base.specs.Words.{IsNumberedSymbol, IsNumberedProduction, AreReady, GivesByNumber, HasBitsBelow, set_at}
 use Rattle.lalrpop_base.specs.first.FirstTables.{Gives}
-use Rattle.lalrpop_base.specs.first.FirstNumbers.{place, IsNumberedSymbol, IsNumberedProduction, AreReady, GivesByNumber, HasBitsBelow, set_at}
 use Rattle.lalrpop_base.proofs.theory.grammars.Derivations.{Derives-trans, Derives-production}
 use Rattle.lalrpop_base.proofs.theory.first.FirstSets.{nullable_by, first_by}
 use Rattle.lalrpop_base.proofs.theory.first.FirstMeaning.{at_end, Gives-first, Gives-nullable, Gives-fits}

@@ -10,9 +10,8 @@ use Rattle.lalrpop_base.proofs.Types.{NonterminalString, Symbol, TerminalString}
 use Rattle.lalrpop_base.specs.declared.repr.Symbol.TheVariants.{Nonterminal, Terminal}
 use Rattle.lalrpop_base.specs.declared.first.numbered.NumberedSymbol.{NumberedSymbol}
 use Rattle.lalrpop_base.specs.declared.first.numbered.NumberedSymbol.TheVariants.{Bit, Name}
-use Rattle.lalrpop_base.specs.Words.{Bits, has, no_bits, name_cmp, Table, set_of, is_in}
+use Rattle.lalrpop_base.specs.Words.{Bits, has, no_bits, name_cmp, Table, set_of, is_in, place, numbers_from, IsNumberedSymbol, GivesByNumber, set_at}
 use Rattle.lalrpop_base.specs.first.FirstTables.{Gives}
-use Rattle.lalrpop_base.specs.first.FirstNumbers.{place, numbers_from, IsNumberedSymbol, GivesByNumber, set_at}
 use Rattle.lalrpop_base.proofs.theory.first.FirstNames.{name_same, copied, insert_last}
 use Rattle.lalrpop_base.proofs.theory.lists.Lists.{same_some}
 

@@ -6,7 +6,7 @@ use Rattle.std.proofs.lemmas.List.{take_more}
 use Rattle.std.proofs.lemmas.List.Elements.{Contains-append_cases}
 use Rattle.lalrpop_base.specs.Words.{IsQueued, Waiting, waits}
 use Rattle.lalrpop_base.specs.lists.Queues.{waiting_with}
-use Rattle.lalrpop_base.proofs.theory.lists.Queues.{waits-with}
+use Rattle.lalrpop_base.proofs.theory.collections.Queues.{waits-with}
 use Rattle.lalrpop_base.proofs.theory.first.FirstUses.{only_one}
 
 pub Queued-none : (queue : Waiting) → IsQueued [] queue queue

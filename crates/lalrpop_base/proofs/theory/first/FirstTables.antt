@@ -7,10 +7,9 @@ use Rattle.lalrpop_base.proofs.Types.{NonterminalString, Symbol, TerminalString}
 use Rattle.lalrpop_base.specs.declared.repr.Symbol.TheVariants.{Nonterminal, Terminal}
 use Rattle.lalrpop_base.specs.declared.first.numbered.NumberedSymbol.{NumberedSymbol}
 use Rattle.lalrpop_base.specs.declared.first.numbered.NumberedSymbol.TheVariants.{Bit, Name}
-use Rattle.lalrpop_base.specs.Words.{Bits, has, no_bits, with_bit, join, has-no_bits, has-with_bit, has-join, Table, set_of, IsSetJoined}
+use Rattle.lalrpop_base.specs.Words.{Bits, has, no_bits, with_bit, join, has-no_bits, has-with_bit, has-join, Table, set_of, IsSetJoined, GivesByNumber, set_at}
 use Rattle.lalrpop_base.specs.first.FirstTables.{Gives}
-use Rattle.lalrpop_base.specs.first.FirstNumbers.{GivesByNumber, set_at}
-use Rattle.lalrpop_base.proofs.theory.lists.Queues.{or_false}
+use Rattle.lalrpop_base.proofs.theory.collections.Queues.{or_false}
 
 -- ---- one set
 end_is_out : (old : Bits) (n bit : ℕ) → has old n ≡ false → has old bit ≡ (has old bit && not (bit == n))

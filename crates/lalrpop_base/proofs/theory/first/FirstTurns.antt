@@ -7,8 +7,7 @@ use Rattle.std.proofs.lemmas.List.Sums.{sum_by-set, sum_by-le}
 use Rattle.lalrpop_base.specs.declared.first.numbered.NumberedSymbol.{NumberedSymbol}
 use Rattle.lalrpop_base.specs.declared.first.numbered.NumberedSymbol.TheVariants.{Bit, Name}
 use Rattle.lalrpop_base.specs.declared.first.numbered.NumberedProduction.{NumberedProduction}
-use Rattle.lalrpop_base.specs.Words.{Bits, has, rising, no_bits, join, has-join, IsAdded}
-use Rattle.lalrpop_base.specs.first.FirstNumbers.{GivesByNumber, set_at}
+use Rattle.lalrpop_base.specs.Words.{Bits, has, rising, no_bits, join, has-join, IsAdded, GivesByNumber, set_at}
 use Rattle.lalrpop_base.proofs.theory.sets.BitCounts.{join_larger, rising_small}
 
 -- ---- a list without a name is given the same whatever the set of the name is

@@ -11,7 +11,7 @@ use Rattle.std.proofs.lemmas.Bool.{ltb-true}
 use Rattle.std.proofs.lemmas.Map.Keys.{Less-from_sorted}
 use Rattle.std.proofs.lemmas.Map.Lookups.{CmpEqualImpliesEq}
 use Rattle.std.proofs.lemmas.Option.{slice_get_within, get_or_from_slice_get, slice_get-map}
-use Rattle.lalrpop_base.specs.Words.{Dotted, production_order, Precedes, Ascend, item_of}
+use Rattle.lalrpop_base.specs.Words.{Dotted, production_order, Precedes, Ascend, item_of, AllDiffer}
 use Rattle.lalrpop_base.specs.contracts.exact.ProductionExact.TheImpl as production_exactly
 use Rattle.lalrpop_base.specs.contracts.lookahead.nil.NilOrd.TheImpl as nil_ord
 use Rattle.lalrpop_base.specs.contracts.repr.ProductionOrd.TheImpl as production_ord
@@ -80,3 +80,7 @@ Table-ascend {L} es s i j a b l at_i at_j =
     let first : key_order e.0.0 (get_or (keys_of es) j d) ≡ Less = subst (λ (k : Dotted Nil). key_order k (get_or (keys_of es) j d) ≡ Less) (get_or_from_slice_get (keys_of es) i e.0.0 d key_i) less in
     let both : key_order e.0.0 f.0.0 ≡ Less = subst (λ (k : Dotted Nil). key_order e.0.0 k ≡ Less) (get_or_from_slice_get (keys_of es) j f.0.0 d key_j) first in
     subst (λ (x : Dotted L). Precedes a x) f.2 (subst (λ (x : Dotted L). Precedes x (item_of f.0)) e.2 (key_precedes e.0.0 f.0.0 both))
+
+-- dotted productions that ascend differ
+pub items_differ : (items : List (Dotted Nil)) → Ascend items → AllDiffer items
+items_differ items ascend i j x l at_i at_j = let before = ascend i j x x l at_i at_j in precedes_asymmetric x x before before

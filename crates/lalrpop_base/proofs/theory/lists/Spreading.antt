@@ -8,11 +8,12 @@ use Rattle.std.proofs.lemmas.List.{length-set, get_or-set_same, get_or-set_other
 use Rattle.std.proofs.lemmas.Option.{slice_get-get_or}
 use Rattle.std.proofs.lemmas.List.Elements.{Contains-get_or}
 use Rattle.std.proofs.lemmas.List.Sums.{sum_by-set, sum_by-le, get_or-le-sum_by}
-use Rattle.lalrpop_base.specs.Words.{Bits, has, rising, join, no_bits, has-no_bits, has-join, has-place, same_bits}
-use Rattle.lalrpop_base.specs.lists.Spreading.{set_at, HoldsBit, listed_ends, edge_ends, IsSpread, held, sent_on, IsJoinedInto, size, IsSent}
-use Rattle.lalrpop_base.specs.lists.Queues.{Waiting, waiting_with, waits}
+use Rattle.lalrpop_base.specs.Words.{Bits, has, rising, join, no_bits, has-no_bits, has-join, has-place, same_bits, HoldsBit, edge_ends, IsSpread, held, sent_on}
+use Rattle.lalrpop_base.specs.Words.{Waiting, waits}
+use Rattle.lalrpop_base.specs.lists.Spreading.{set_at, listed_ends, IsJoinedInto, size, IsSent}
+use Rattle.lalrpop_base.specs.lists.Queues.{waiting_with}
 use Rattle.lalrpop_base.proofs.theory.lists.Members.{Contains-none}
-use Rattle.lalrpop_base.proofs.theory.lists.Queues.{left_kept, waits_among, with_here, with_kept, with_longer}
+use Rattle.lalrpop_base.proofs.theory.collections.Queues.{left_kept, waits_among, with_here, with_kept, with_longer}
 use Rattle.lalrpop_base.proofs.theory.sets.BitCounts.{join_larger, rising_small}
 
 -- ---- one join

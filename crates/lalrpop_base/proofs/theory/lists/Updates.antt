@@ -11,9 +11,10 @@ use Rattle.lalrpop_base.proofs.theory.lists.Places.{same_some, one_place, differ
 use Rattle.lalrpop_base.proofs.theory.lists.Members.{place, apart-from_sorted}
 use Rattle.std.specs.List.Sorted.{IsStrictlySortedBy}
 use Rattle.std.proofs.lemmas.Map.Lookups.{CmpEqualImpliesEq}
-use Rattle.std.specs.Prelude.{Contains}
+use Rattle.std.specs.Prelude.{Contains, IsNone, option_copied}
 use Rattle.lalrpop_base.specs.Words.{AllDiffer, IsPushedAt}
 use Rattle.lalrpop_base.specs.lists.Entries.IsPushedAt.{fresh as push_fresh, known as push_known}
+use Rattle.std.specs.Borrow.{Bor}
 
 module _ {K V : Type 0} where
   pub record IsInserted (k : K) (v : V) (old new : List (K × V)) : Type 0 where
@@ -108,3 +109,8 @@ module _ {K V : Type 0} where
   -- and where it finds nothing, the key is not there
   pub looked_none : (R : K → K → Ordering) → IsTotalOrder R → (es : List (K × V)) (k : K) → lookup (is_at (R k)) es ≡ None → ¬ Contains (keys_of es) k
   looked_none R total es k e c = none_some (lookup (is_at (R k)) es) e (IsSome-lookup_from_Contains (eq_by_cmp_equiv total) k es c)
+
+-- a look-up that finds nothing
+pub none_is : {V : Type 0} (o : Option (Bor V)) → IsNone o → option_copied o ≡ None
+none_is None h = refl
+none_is (Some b) h = cc

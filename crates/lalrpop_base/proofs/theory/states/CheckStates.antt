@@ -9,7 +9,7 @@ use Rattle.std.specs.Cmp.{IsTotalOrder, nat_cmp_total, unsigned_tied}
 use Rattle.std.specs.Ordering.{nat_cmp, is_eq}
 use Rattle.std.proofs.lemmas.Map.Lookups.{CmpEqualImpliesEq}
 use Rattle.std.proofs.lemmas.Map.Views.{btree_set_contains_iff}
-use Rattle.lalrpop_base.specs.Words.{name_cmp, Bits, number_of, Dotted, AllDiffer, AreClosure, HaveSame, LeadsBy, LeadsFrom, IsTarget, lr0, Lists, LeadsOn, finished}
+use Rattle.lalrpop_base.specs.Words.{name_cmp, Bits, number_of, Dotted, AllDiffer, AreClosure, HaveSame, LeadsBy, LeadsFrom, IsTarget, with_dot, Lists, LeadsOn, finished}
 use Rattle.lalrpop_base.specs.contracts.repr.TerminalStringOrd.TheImpl as terminal_ord
 use Rattle.lalrpop_base.proofs.Types.{Grammar, Nil, Production, State, StateIndex, Symbol}
 use Rattle.lalrpop_base.specs.closures.Closure.{dotted_of}
@@ -251,12 +251,12 @@ module _ (listed : List (BTreeSet (Dotted Nil))) (s : State Bits) (i : Dotted Bi
       let w = slice_get_within listed h.to h.moved.set h.moved.there in
       absurd (omega arith)
 
-  pub leads_inside : (to : ℕ) (set : BTreeSet (Dotted Nil)) → target_of s x ≡ Some to → slice_get listed to ≡ Some set → Contains set.keys (lr0 i.production (i.index + 1)) ↔ AllLeadOn
+  pub leads_inside : (to : ℕ) (set : BTreeSet (Dotted Nil)) → target_of s x ≡ Some to → slice_get listed to ≡ Some set → Contains set.keys (with_dot i.production (i.index + 1)) ↔ AllLeadOn
   leads_inside to set edge there = (
     λ c y at_y. subst (LeadsOn listed s i) (same_some x y (sym at ∙ at_y)) (record { to = to; edge = edge; moved = record { set = set; there = there; has = c } }),
     λ all.
         let h = all x at in
         let same : h.to ≡ to = same_some h.to to (sym h.edge ∙ edge) in
         let sets : h.moved.set ≡ set = same_some h.moved.set set (sym h.moved.there ∙ ap (slice_get listed) same ∙ there) in
-        subst (λ (t : BTreeSet (Dotted Nil)). Contains t.keys (lr0 i.production (i.index + 1))) sets h.moved.has,
+        subst (λ (t : BTreeSet (Dotted Nil)). Contains t.keys (with_dot i.production (i.index + 1))) sets h.moved.has,
   )

@@ -1,11 +1,10 @@
 -- Facts on the texts of a report.
-use Rattle.std.proofs.Common.{◌≡◌, ◌≢◌, ℕ, ◌++◌, Bool, true, false, List, [], ◌∷◌, map, refl, sym, ap, ◌∙◌, append_assoc, arith, codes, Result, Ok, Err, OnOk, is_ok, String, string_bytes, take, length, get_or, ◌+◌, ◌<◌, Option, Some, slice_get}
+use Rattle.std.proofs.Common.{◌≡◌, ◌≢◌, ℕ, ◌++◌, Bool, true, false, List, [], ◌∷◌, map, refl, sym, ap, ◌∙◌, arith, codes, Result, Ok, Err, OnOk, is_ok, String, string_bytes, Option, Some, slice_get}
 use Rattle.lalrpop_base.specs.Words.{Bits, rising, no_bits, token_of}
 use Rattle.lalrpop_lr1.proofs.Types.{TerminalString, Token}
 use Rattle.lalrpop_base.proofs.theory.sets.BitLemmas.{rising-bits_of}
 use Rattle.lalrpop_lr1.specs.Words.{tokens_line, tokens_text, tokens_in}
 use Rattle.std.specs.List.{flat_map}
-use Rattle.std.proofs.lemmas.List.{flat_map_more, take_more}
 use mathlib.Core.Bool.{true≢false}
 use Rattle.std.specs.Fmt.{WritesInCalls}
 use Rattle.std.proofs.Output.{contents_after_writes}
@@ -42,12 +41,6 @@ pub no_line : (terminals : List TerminalString) (bits : List ℕ) (told : Bool) 
 no_line terminals [] told some none = refl
 no_line terminals (b ∷ bits) told some none = absurd (true≢false (sym (some (λ e. cc)) ∙ none))
 
--- a text that grew by the text of one item more
-pub one_more : {X : Type 0} (f : X → List ℕ) (xs : List X) (i : ℕ) (x : X) (start now next : List ℕ) → i < length xs → x ≡ get_or xs i x → now ≡ start ++ flat_map f (take i xs) → next ≡ now ++ f x →
-    next ≡ start ++ flat_map f (take (i + 1) xs)
-one_more f xs i x start now next inside same so_far grew =
-    grew ∙ ap (λ text. text ++ f x) so_far ∙ append_assoc start (flat_map f (take i xs)) (f x) ∙ ap (λ text. start ++ text) (ap (λ y. flat_map f (take i xs) ++ f y) same ∙ flat_map_more f (flat_map f []) (take i xs) (get_or xs i x) ∙ ap (flat_map f) (sym (take_more xs i x inside)))
-
 -- the blocks of the conflicts at the places of a list are those of the list
 pub blocks_at_places : {C : Type 0} (block : C → List ℕ) (at : Option C → List ℕ) (conflicts : List C) (places : List ℕ) (own : List C) → ((c : C) → at (Some c) ≡ block c) →
     map (slice_get conflicts) places ≡ map (λ (c : C). Some c) own → flat_map (λ place. at (slice_get conflicts place)) places ≡ flat_map block own
@@ -58,21 +51,3 @@ blocks_at_places block at conflicts (p ∷ places) (c ∷ own) each same =
     let here : slice_get conflicts p ≡ Some c = cc in
     let later : map (slice_get conflicts) places ≡ map (λ (d : _). Some d) own = cc in
     ap (λ t. t ++ flat_map (λ place. at (slice_get conflicts place)) places) (ap at here ∙ each c) ∙ ap (λ t. block c ++ t) (blocks_at_places block at conflicts places own each later)
-
--- two pieces, one after the other
-pub two_pieces : (start first second a b : List ℕ) → first ≡ start ++ a → second ≡ first ++ b → second ≡ start ++ (a ++ b)
-two_pieces start first second a b e f = f ∙ ap (λ t. t ++ b) e ∙ append_assoc start a b
-
--- six pieces, one after another
-pub six_pieces : (start t1 t2 t3 t4 t5 t6 a b c d e f : List ℕ) → t1 ≡ start ++ a → t2 ≡ t1 ++ b → t3 ≡ t2 ++ c → t4 ≡ t3 ++ d → t5 ≡ t4 ++ e → t6 ≡ t5 ++ f →
-    t6 ≡ start ++ (a ++ (b ++ (c ++ (d ++ (e ++ f)))))
-six_pieces start t1 t2 t3 t4 t5 t6 a b c d e f p q r s t u =
-    two_pieces start t1 t6 a _ p (two_pieces t1 t2 t6 b _ q (two_pieces t2 t3 t6 c _ r (two_pieces t3 t4 t6 d _ s (two_pieces t4 t5 t6 e f t u))))
-
--- three pieces, one after another
-pub three_pieces : (start t1 t2 t3 a b c : List ℕ) → t1 ≡ start ++ a → t2 ≡ t1 ++ b → t3 ≡ t2 ++ c → t3 ≡ start ++ (a ++ (b ++ c))
-three_pieces start t1 t2 t3 a b c p q r = two_pieces start t1 t3 a _ p (two_pieces t1 t2 t3 b c q r)
-
--- four pieces, one after another
-pub four_pieces : (start t1 t2 t3 t4 a b c d : List ℕ) → t1 ≡ start ++ a → t2 ≡ t1 ++ b → t3 ≡ t2 ++ c → t4 ≡ t3 ++ d → t4 ≡ start ++ (a ++ (b ++ (c ++ d)))
-four_pieces start t1 t2 t3 t4 a b c d p q r s = two_pieces start t1 t4 a _ p (three_pieces t1 t2 t3 t4 b c d q r s)

@@ -2,8 +2,8 @@
 use Rattle.std.proofs.Common.{◌≡◌, ℕ, zero, suc, ◌<◌, ◌≤◌, Bool, true, false, cond, List, [], ◌∷◌, ◌++◌, take, drop, length, sym, subst, refl, ap, ◌∙◌, Option, Some, None, unwrap_or, arith}
 use Rattle.std.specs.Prelude.{Contains, slice_get}
 use Rattle.lalrpop_lr1.proofs.Types.{Production, Symbol, TerminalString, Token}
-use Rattle.lalrpop_base.specs.Words.{Contents, Tree, Leaf, Node, Trees, no_trees, beside, root, roots, Configuration, reduction_on, Move, Stands}
-use Rattle.lalrpop_base.specs.Words.{Goes, Ends, reduced, goes_on, received, reduces, shifts_or, moves_on, move, Reaches, here, further}
+use Rattle.lalrpop_base.specs.Words.{Contents, Tree, Leaf, Node, Trees, no_trees, beside, root, roots, Configuration, reduction_on}
+use Rattle.lalrpop_base.specs.Words.{Goes, reduced, goes_on, received, reduces, shifts_or, moves_on, move, Reaches, here, further}
 use Rattle.lalrpop_base.specs.states.States.{Reduction}
 use Rattle.lalrpop_base.specs.declared.lookahead.token.Token.TheVariants.{Eof, Terminal as TokenOf}
 use Rattle.lalrpop_base.proofs.theory.states.ContentsViews.{LeadAsItemsSay, IsEdge}
@@ -106,17 +106,6 @@ pub record Found (states : ℕ → Contents) (c : Configuration) (p : Production
   pub popped : Popped states p.symbols (length p.symbols) c.state c.below c.trees
   pub by : (r : Reduction) × Contains (states c.state).reductions r × (r.production ≡ p)
   pub move_is : received states p (drop (length p.symbols) (c.state ∷ c.below)) (reduced p c.trees) c.rest ≡ goes_on ((states popped.state).goto p.nonterminal) popped.state popped.under (Node p.nonterminal popped.taken ∷ popped.kept) c.rest
-
--- where a move goes
-abbrev pub going_to : Configuration → Move → Configuration
-going_to c Stands = c
-going_to c (Goes d) = d
-going_to c (Ends trees) = c
-
-abbrev pub ending_with : List Tree → Move → List Tree
-ending_with trees Stands = trees
-ending_with trees (Goes d) = trees
-ending_with trees (Ends us) = us
 
 abbrev pub IsStackOf : (ℕ → Contents) → Configuration → Type 0
 IsStackOf states c = IsStack states c.state c.below c.trees

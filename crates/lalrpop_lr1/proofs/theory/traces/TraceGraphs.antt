@@ -22,9 +22,9 @@ use Rattle.lalrpop_base.specs.contracts.repr.SymbolPartialEq.TheImpl as symbol_e
 use Rattle.lalrpop_lr1.proofs.Types.{Symbol}
 use Rattle.lalrpop_base.specs.declared.lr1_core.symbol_sets.SymbolSets.{SymbolSets}
 use Rattle.lalrpop_base.proofs.theory.states.KernelLemmas.{IsNext, all_differ, list_grows, next_numbering, exact_by_cmp}
-use Rattle.lalrpop_base.proofs.theory.lists.MultimapLemmas.{tied_at, everywhere}
+use Rattle.lalrpop_base.proofs.theory.collections.MultimapLemmas.{tied_at, everywhere}
 use Rattle.lalrpop_tables.specs.Words.{listed}
-use Rattle.lalrpop_tables.proofs.theory.states.Contained.{Decided, decided, added_or_not}
+use Rattle.lalrpop_base.proofs.theory.construction.Contained.{Decided, decided, added_or_not}
 use Rattle.lalrpop_base.proofs.theory.lists.Members.{contains_map, place}
 use Rattle.lalrpop_base.proofs.theory.lists.Places.{differ_push, push_cases, contains_at, same_some}
 use Rattle.lalrpop_lr1.specs.Words.{Graph, PlainEdge, plain, plain_edge, IsGraph, IsKept, IsFrom, SameLabels, HaveEnds, KeepPlaces, AddsBoth, AddsNoOther, AddsEdge, places_from}

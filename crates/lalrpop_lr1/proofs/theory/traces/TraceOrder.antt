@@ -1,5 +1,5 @@
 -- A trace adds edges in the order in which a walk gives them.
-use Rattle.std.proofs.Common.{◌≡◌, ◌≢◌, ◌↔◌, ◌⊎◌, inl, inr, ℕ, Bool, true, false, List, [], ◌∷◌, ◌++◌, map, take, refl, sym, ◌∙◌, ap, subst, append_assoc, ⊎_elim}
+use Rattle.std.proofs.Common.{◌≡◌, ◌≢◌, ◌↔◌, inl, inr, ℕ, Bool, true, false, List, [], ◌∷◌, ◌++◌, map, take, refl, sym, ◌∙◌, ap, subst, append_assoc, ⊎_elim}
 use Rattle.std.specs.Prelude.{slice_get, Some, Contains, not}
 use Rattle.std.specs.List.Sorted.{IsStrictlySortedBy}
 use Rattle.std.specs.BTreeSet.{BTreeSet, contains}
@@ -11,7 +11,7 @@ use Rattle.lalrpop_lr1.proofs.Types.{Production, StateIndex, Symbol}
 use Rattle.lalrpop_base.specs.declared.repr.Symbol.TheVariants.{Nonterminal}
 use Rattle.lalrpop_tables.specs.Words.{edges, state_cmp}
 use Rattle.lalrpop_tables.specs.graphs.StateGraph.{LeadsTo}
-use Rattle.lalrpop_tables.proofs.theory.states.Contained.{Decided}
+use Rattle.lalrpop_base.proofs.theory.construction.Contained.{contained, Decided}
 use Rattle.lalrpop_base.proofs.theory.lists.Members.{Contains-none, contains_head, contains_tail, contains-cons}
 use Rattle.lalrpop_lr1.specs.Words.{Graph, PlainEdge, plain, plain_edges, AddsBoth, AddsEdge, AddsInTurn, all_added, left_out, put_behind, ends_of, stop_edge}
 use Rattle.lalrpop_lr1.specs.Words.{onward_edges, Duty, come_to, take_up, come_to_each, take_up_each, items_at, AreSources, Walks, ends, known, meets, passes}
@@ -39,20 +39,10 @@ turn_edge old new e (inr h) =
     subst P (sym (ap (map plain) h.1 ∙ plain_push old e)) (put_behind h.0 all_added)
 
 module _ {X : Type 0} (same : Decided X) where
-  contained : (xs : List X) (x : X) → Contains xs x ⊎ ¬ Contains xs x
-  contained [] x = inr (λ c. Contains-none x c)
-  contained (y ∷ xs) x = elim (same y x) [
-    | inl e ↦ inl (subst (Contains (y ∷ xs)) e (contains_head y xs))
-    | inr other ↦ elim (contained xs x) [
-      | inl c ↦ inl (contains_tail y xs x c)
-      | inr out ↦ inr (λ c. elim (contains-cons y xs x c) [ inl e ↦ other e | inr later ↦ out later ])
-    ]
-  ]
-
   turn_once : (old new : List X) (x : X) → AddsOnce old new x → AddsInTurn old (x ∷ []) new
   turn_once old new x once =
       let P : List X → Type 0 = λ xs. AddsInTurn old (x ∷ []) xs in
-      elim (contained old x) [ inl c ↦ subst P (sym (once.known c)) (left_out c all_added) | inr out ↦ subst P (sym (once.fresh out)) (put_behind out all_added) ]
+      elim (contained same old x) [ inl c ↦ subst P (sym (once.known c)) (left_out c all_added) | inr out ↦ subst P (sym (once.fresh out)) (put_behind out all_added) ]
 
 -- an edge, and its ends
 pub order_one : (old new : Graph) (e : TraceGraphEdge) (p : PlainEdge) → AddsEdge old.edges new.edges e → AddsBoth old.nodes new.nodes e.from e.to → plain e ≡ p → AddsInOrder old new (p ∷ [])

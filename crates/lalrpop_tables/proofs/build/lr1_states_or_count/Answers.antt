@@ -1,10 +1,9 @@
 use Rattle.std.proofs.Common.{◌≡◌, List, ap, subst, sym}
 use Rattle.std.specs.Prelude.{IfOk}
 use Rattle.std.proofs.lemmas.Result.{IfOk-weaker}
-use Rattle.lalrpop_base.specs.Words.{Bits, IsLALR1, IsOnNoRightSide, productions, rules_of}
+use Rattle.lalrpop_base.specs.Words.{Bits, IsLALR1, IsOnNoRightSide, productions, rules_of, Construction, lr0_of}
 use Rattle.lalrpop_tables.proofs.Types.{Nil, State}
-use Rattle.lalrpop_tables.specs.Words.{AreLaneTables, Construction}
-use Rattle.lalrpop_tables.specs.answers.Results.{lr0_of}
+use Rattle.lalrpop_tables.specs.Words.{AreLaneTables}
 use Rattle.lalrpop_tables.specs.answers.TablesOrCount.{AreBuiltTablesOrCount}
 use Rattle.lalrpop_tables.specs.declared.build.options.Method.TheVariants.{Canonical, Lane}
 use Rattle.lalrpop_tables.proofs.theory.answers.ByLanes.{if_told, not_there}

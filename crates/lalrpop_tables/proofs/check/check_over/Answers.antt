@@ -1,6 +1,6 @@
 use Rattle.std.proofs.Common.{◌∙◌, refl}
-use Rattle.lalrpop_tables.proofs.theory.check.CheckTables.{Right-closed}
-use Rattle.lalrpop_tables.proofs.theory.check.CheckAll.{Pass-all, All-right, Checked, Faithful}
+use Rattle.lalrpop_base.proofs.theory.check.CheckTables.{Right-closed}
+use Rattle.lalrpop_base.proofs.theory.check.CheckAll.{Pass-all, All-right, Checked, Faithful}
 use Rattle.lalrpop_tables.proofs.check.check_over.Goals as goal
 
 pub returns-then-branch-clause-exact : goal.returns-then-branch-clause-exact

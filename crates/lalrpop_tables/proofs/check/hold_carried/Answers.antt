@@ -1,4 +1,4 @@
-use Rattle.lalrpop_tables.proofs.theory.check.CheckCarried.{Carried-held, Held-carried}
+use Rattle.lalrpop_base.proofs.theory.check.CheckCarried.{Carried-held, Held-carried}
 use Rattle.lalrpop_tables.proofs.check.hold_carried.Goals as goal
 
 pub returns : goal.returns

@@ -3,15 +3,16 @@ use Rattle.std.proofs.Common.{◌≡◌, ℕ, ◌<◌, inl, inr, List, length, r
 use Rattle.std.specs.Prelude.{IfOk, IfErr, MatchResult}
 use Rattle.std.specs.declared.result.Result.{Result}
 use Rattle.std.specs.declared.result.Result.TheVariants.{Ok, Err}
-use Rattle.lalrpop_base.specs.Words.{Bits, contents, AreCoherent, AreFaithful, IsLALR1, IsOnNoRightSide, productions, rules_of}
+use Rattle.lalrpop_base.specs.Words.{Bits, contents, AreCoherent, AreFaithful, IsLALR1, IsOnNoRightSide, productions, rules_of, AreSomeCanonicalStates}
 use Rattle.lalrpop_tables.proofs.Types.{BuildError, Grammar, NonterminalString, State}
 use Rattle.lalrpop_base.specs.declared.lr1_core.state.BuildError.TheVariants.{Conflicts, Memory}
 use Rattle.lalrpop_base.specs.declared.lr1_core.state.TableConstructionError.{TableConstructionError}
 use Rattle.lalrpop_base.proofs.theory.states.RightStates.{faithful_lr1}
 use Rattle.lalrpop_base.specs.Words.{AreCanonicalStates, AreCollapsedTables, FailsByCollapse, AreRenumbered}
-use Rattle.lalrpop_tables.specs.Words.{AreSomeCanonicalStates, AreLalrTables, TellsNotLALR1}
+use Rattle.lalrpop_tables.specs.Words.{AreLalrTables, TellsNotLALR1}
 use Rattle.lalrpop_tables.specs.Words.{HasCoherentStates, FailsAsLalr, AreLaneTables, AreCopiedTables, AreTablesBy, AreTablesOf, AreBuiltTablesOf}
-use Rattle.lalrpop_tables.specs.Words.{HasConflictsOf, FailsOn, AreTables, canonical_of}
+use Rattle.lalrpop_tables.specs.Words.{HasConflictsOf, FailsOn}
+use Rattle.lalrpop_base.specs.Words.{AreTables, canonical_of}
 use Rattle.lalrpop_tables.specs.declared.build.options.Method.{Method}
 use Rattle.lalrpop_tables.specs.declared.build.options.Method.TheVariants.{Lane, Canonical}
 use Rattle.lalrpop_tables.proofs.theory.collapse.CollapseLalr.{lalr_lr1}

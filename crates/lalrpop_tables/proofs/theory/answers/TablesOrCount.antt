@@ -4,14 +4,15 @@ use Rattle.std.specs.List.{flat_map}
 use Rattle.lalrpop_base.specs.Words.{AllDiffer, Bits, IsLALR1, IsOnNoRightSide, IsWellFormed, productions, rules_of, state_conflicts, AreOwn, Begins, HaveNoConflict}
 use Rattle.lalrpop_tables.proofs.Types.{Conflict, Grammar, NonterminalString, State}
 use Rattle.lalrpop_base.specs.closures.Closure.{itself}
-use Rattle.lalrpop_tables.specs.Words.{AreBuiltTablesOrCount, AreLaneTables, AreStatesFor, AreStatesOf, MatchTablesOrCount, canonical_of}
+use Rattle.lalrpop_tables.specs.Words.{AreBuiltTablesOrCount, AreLaneTables, MatchTablesOrCount}
+use Rattle.lalrpop_base.specs.Words.{AreStatesFor, AreStatesOf, canonical_of}
 use Rattle.lalrpop_tables.specs.declared.build.options.Method.{Method}
 use Rattle.lalrpop_tables.specs.declared.build.options.Method.TheVariants.{Canonical, Lane}
 use Rattle.lalrpop_tables.specs.declared.construction.tables_or_count.TablesOrCount.{TablesOrCount}
 use Rattle.lalrpop_tables.specs.declared.construction.tables_or_count.TablesOrCount.TheVariants.{Tables, Conflicts}
 use Rattle.lalrpop_tables.proofs.theory.canonical.CanonicalAnswers.{Canonical-lacks, Canonical-tables}
 use Rattle.lalrpop_tables.proofs.theory.answers.Lr1Answers.{Fallback-answer}
-use Rattle.lalrpop_tables.proofs.theory.closures.TokenTables.{Lists, Passes, states_of}
+use Rattle.lalrpop_base.proofs.theory.closures.TokenTables.{Lists, Passes, states_of}
 
 -- canonical states with their conflicts counted
 module _ (g : Grammar) (start : NonterminalString) (well : IsWellFormed g) (own : AreOwn g) (differ : AllDiffer g.terminals) (states : List (State Bits)) (made : AreStatesFor itself Begins Passes Lists (canonical_of g start) states) where

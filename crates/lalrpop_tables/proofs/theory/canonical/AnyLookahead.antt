@@ -1,14 +1,14 @@
 -- The laws that lead from what the construction says with any lookahead to canonical states and to LR(0) states.
 use Rattle.std.proofs.Common.{ℕ, List, refl}
-use Rattle.lalrpop_base.specs.Words.{Bits, rules_of, AreOwn, AreLr0States, HasLr0States}
+use Rattle.lalrpop_base.specs.Words.{Bits, rules_of, AreOwn, AreLr0States, HasLr0States, FailsAfterLr0}
 use Rattle.lalrpop_tables.proofs.Types.{BuildError, Grammar, Nil, NonterminalString, State}
-use Rattle.lalrpop_tables.specs.Words.{FailsAfterLr0, IsKeptGrammar, AreSetTables, StopsWithSets, AreNilTables, StopsWithNil, lr0_of, AreBuiltTablesOf, FailsOn}
+use Rattle.lalrpop_tables.specs.Words.{IsKeptGrammar, AreSetTables, StopsWithSets, AreNilTables, StopsWithNil, lr0_of, AreBuiltTablesOf, FailsOn}
 use Rattle.lalrpop_tables.specs.declared.build.options.Method.TheVariants.{Canonical}
 use Rattle.lalrpop_tables.proofs.theory.canonical.CanonicalAnswers.{Set-tables, Set-fails}
 use Rattle.lalrpop_base.proofs.theory.grammars.Grammars.{productions_own}
-use Rattle.lalrpop_tables.proofs.theory.canonical.Lr0States.{nothing, never, stopped, Lists, Tables-lr0, Fails-lr0}
-use Rattle.lalrpop_tables.proofs.theory.early_stop.MadeUntil.{Stops-fail}
-use Rattle.lalrpop_tables.proofs.theory.early_stop.StoppedLr0.{stopped_after_lr0}
+use Rattle.lalrpop_base.proofs.theory.canonical.Lr0States.{nothing, never, stopped, Lists, Tables-lr0, Fails-lr0}
+use Rattle.lalrpop_base.proofs.theory.early_stop.MadeUntil.{Stops-fail}
+use Rattle.lalrpop_base.proofs.theory.early_stop.StoppedLr0.{stopped_after_lr0}
 
 module _ (g : Grammar) (start : NonterminalString) (kept : IsKeptGrammar g) where
   own : AreOwn g

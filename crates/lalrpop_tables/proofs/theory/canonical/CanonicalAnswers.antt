@@ -4,17 +4,18 @@ use Rattle.lalrpop_base.specs.Words.{Bits, AllDiffer, rules_of, IsWellFormed, Ar
 use Rattle.lalrpop_tables.proofs.Types.{BuildError, Conflict, Grammar, NonterminalString, State}
 use Rattle.lalrpop_base.specs.declared.lr1_core.state.BuildError.TheVariants.{Conflicts, Memory}
 use Rattle.lalrpop_base.specs.closures.Closure.{itself}
-use Rattle.lalrpop_tables.specs.Words.{StopsFor, AreBuiltTablesOf, FailsOn, AreTables, AreTablesFor, AreStatesOf, FailsBy, LacksTables, canonical_of}
+use Rattle.lalrpop_tables.specs.Words.{AreBuiltTablesOf, FailsOn, LacksTables}
+use Rattle.lalrpop_base.specs.Words.{StopsFor, AreTables, AreTablesFor, AreStatesOf, FailsBy, canonical_of}
 use Rattle.lalrpop_tables.specs.declared.build.options.Method.TheVariants.{Canonical}
-use Rattle.lalrpop_tables.proofs.theory.canonical.CanonicalConflicts.{canonical_failure}
-use Rattle.lalrpop_tables.proofs.theory.canonical.CanonicalContents.{are_canonical}
-use Rattle.lalrpop_tables.proofs.theory.canonical.Deciding.{tables_canonical, tables_valid, tables_faithful, whole_partly}
+use Rattle.lalrpop_base.proofs.theory.canonical.CanonicalConflicts.{canonical_failure}
+use Rattle.lalrpop_base.proofs.theory.canonical.CanonicalContents.{are_canonical}
+use Rattle.lalrpop_base.proofs.theory.canonical.Deciding.{tables_canonical, tables_valid, tables_faithful, whole_partly}
 use Rattle.lalrpop_tables.proofs.theory.answers.Lr1Answers.{Canonical-answer}
-use Rattle.lalrpop_tables.proofs.theory.early_stop.MadeUntil.{Stops-fail}
-use Rattle.lalrpop_tables.proofs.theory.early_stop.StoppedAnswers.{stopping, stops, not_lr1}
-use Rattle.lalrpop_tables.proofs.theory.early_stop.StoppedConflicts.{conflict_not_lr1}
-use Rattle.lalrpop_tables.proofs.theory.early_stop.StoppedStates.{begun_kernel}
-use Rattle.lalrpop_tables.proofs.theory.closures.TokenTables.{Passes, Lists, Tables-of, Fails-of}
+use Rattle.lalrpop_base.proofs.theory.early_stop.MadeUntil.{Stops-fail}
+use Rattle.lalrpop_base.proofs.theory.early_stop.StoppedAnswers.{stopping, stops, not_lr1}
+use Rattle.lalrpop_base.proofs.theory.early_stop.StoppedConflicts.{conflict_not_lr1}
+use Rattle.lalrpop_base.proofs.theory.early_stop.StoppedStates.{begun_kernel}
+use Rattle.lalrpop_base.proofs.theory.closures.TokenTables.{Passes, Lists, Tables-of, Fails-of}
 
 module _ (g : Grammar) (start : NonterminalString) (well : IsWellFormed g) (own : AreOwn g) (differ : AllDiffer g.terminals) where
   pub Canonical-tables : (tables : List (State Bits)) → AreTables (canonical_of g start) tables → AreBuiltTablesOf ⊥ Canonical 0 g start tables

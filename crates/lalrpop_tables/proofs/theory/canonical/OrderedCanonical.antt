@@ -2,10 +2,9 @@
 use Rattle.std.proofs.Common.{List, sym, subst}
 use Rattle.std.specs.Prelude.{Contains}
 use Rattle.std.specs.Borrow.{Bor}
-use Rattle.lalrpop_base.specs.Words.{Bits, FitsTokens, rules_of, Ascend, AreCanonicalStates, AreOrderedCanonical, AreRenumbered}
+use Rattle.lalrpop_base.specs.Words.{Bits, FitsTokens, rules_of, Ascend, AreCanonicalStates, AreOrderedCanonical, AreRenumbered, AreStatesOf, canonical_of}
 use Rattle.lalrpop_tables.proofs.Types.{Grammar, NonterminalString, Production, State}
-use Rattle.lalrpop_tables.specs.Words.{AreStatesOf, canonical_of}
-use Rattle.lalrpop_tables.proofs.theory.canonical.CanonicalConflicts.{reductions_fit}
+use Rattle.lalrpop_base.proofs.theory.canonical.CanonicalConflicts.{reductions_fit}
 use Rattle.lalrpop_base.proofs.theory.renumbering.RenumberedCanonical.{Canonical-renumbered}
 use Rattle.lalrpop_tables.proofs.theory.renumbering.RenumberedTables.{state_before, Some-renumbered}
 

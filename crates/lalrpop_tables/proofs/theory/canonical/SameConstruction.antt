@@ -6,7 +6,8 @@ use Rattle.lalrpop_base.specs.contracts.repr.TerminalStringOrd.TheImpl as termin
 use Rattle.lalrpop_tables.proofs.Types.{BuildError, Conflict, Grammar, NonterminalString, State}
 use Rattle.lalrpop_base.specs.declared.lr1_core.state.BuildError.TheVariants.{Conflicts, Memory}
 use Rattle.lalrpop_base.specs.Words.{AreCanonicalStates, AreOrderedCanonical, FitReductions, FailByCanonicalConflicts, ShiftsLead, listed_of, conflicts_of, AreAllConflicts}
-use Rattle.lalrpop_tables.specs.Words.{AreSomeCanonicalStates, StopsAfter, AreBuiltTablesOf, FailsOn, Construction, AreStatesOf, AreTables, canonical_of}
+use Rattle.lalrpop_tables.specs.Words.{AreBuiltTablesOf, FailsOn}
+use Rattle.lalrpop_base.specs.Words.{AreSomeCanonicalStates, StopsAfter, Construction, AreStatesOf, AreTables, canonical_of}
 use Rattle.lalrpop_tables.specs.declared.build.options.Method.TheVariants.{Canonical}
 
 module _ (g h : Grammar) (start other : NonterminalString) (same : canonical_of g start ≡ canonical_of h other) where

@@ -3,7 +3,8 @@ use Rattle.std.proofs.Common.{◌≡◌, ◌∙◌, ℕ, suc, Bool, true, List, 
 use Rattle.std.specs.Prelude.{slice_get, Contains}
 use Rattle.std.specs.Borrow.{Bor}
 use Rattle.std.proofs.lemmas.Option.{slice_get_within}
-use Rattle.lalrpop_base.specs.Words.{AllDiffer, AreClosed, AreCoherent, Bits, Contents, IsBitOf, IsCarried, IsLaneToken, IsLookahead, IsWellFormed, behind_parent, contents, contents_at, holds_token, of_start, productions, reduction_of, rules_of}
+use Rattle.lalrpop_base.specs.Words.{AllDiffer, AreClosed, AreCoherent, Bits, Contents, IsBitOf, IsCarried, IsLaneToken, IsLookahead, IsWellFormed, behind_parent}
+use Rattle.lalrpop_base.specs.Words.{contents, contents_at, holds_token, of_start, productions, reduction_of, rules_of, HoldCarried}
 use Rattle.lalrpop_base.specs.lanes.Lanes.{Gives}
 use Rattle.lalrpop_base.specs.states.States.{Reduction}
 use Rattle.lalrpop_tables.proofs.Types.{Grammar, NonterminalString, Production, State, Token}
@@ -17,12 +18,11 @@ use Rattle.lalrpop_base.proofs.theory.lists.Places.{filled}
 use Rattle.lalrpop_base.proofs.theory.sets.HeldTokens.{holds_has, place_there}
 use Rattle.lalrpop_base.proofs.theory.states.ContentsViews.{contains_of_map, lead_as_items_say}
 use Rattle.lalrpop_tables.specs.check.ByNumber.{HoldUnions}
-use Rattle.lalrpop_tables.specs.check.Check.{HoldCarried}
 use Rattle.lalrpop_tables.specs.follow_sets.FollowNodes.{AreOfGrammar}
 use Rattle.lalrpop_tables.specs.follow_sets.FollowWalks.{FindsLookaheads}
 use Rattle.lalrpop_tables.specs.lanes.LaneTraces.{places_in}
 use Rattle.lalrpop_tables.specs.states.NumberedStates.{AreNumberedStates}
-use Rattle.lalrpop_tables.specs.declared.construction.numbers.Numbers.{Numbers}
+use Rattle.lalrpop_base.specs.declared.numbers.Numbers.{Numbers}
 use Rattle.lalrpop_tables.specs.declared.lane_table.follow_sets.found.Found.{Found}
 use Rattle.lalrpop_tables.specs.declared.construction.numbered_state.NumberedState.{NumberedState}
 use Rattle.lalrpop_tables.proofs.theory.follow_sets.FollowSets.{lane_lookahead, rest_behind}

@@ -1,20 +1,19 @@
 -- States that pass by number pass the check.
 use Rattle.std.proofs.Common.{ℕ, ◌<◌, List, length, map, Some}
 use Rattle.std.specs.Prelude.{◌≡◌, slice_get, Contains}
-use Rattle.lalrpop_base.specs.Words.{AllDiffer, AreClosed, AreCoherent, Bits, HaveNoConflict, IsTarget, IsWellFormed, contents, productions, rules_of}
+use Rattle.lalrpop_base.specs.Words.{AllDiffer, AreClosed, AreCoherent, Bits, HaveNoConflict, IsTarget, IsWellFormed, contents, productions, rules_of, PassCheck}
+use Rattle.lalrpop_base.specs.Words.{AreNumbers}
 use Rattle.lalrpop_tables.proofs.Types.{Grammar, NonterminalString, State}
 use Rattle.lalrpop_tables.specs.check.ByNumber.{AllLeadOn, AreListedByNumber, AreReachedByNumber, HoldUnions}
-use Rattle.lalrpop_tables.specs.check.Check.{PassCheck}
 use Rattle.lalrpop_tables.specs.follow_sets.FollowWalks.{FindsLookaheads}
-use Rattle.lalrpop_tables.specs.grammars.Numbers.{AreNumbers}
 use Rattle.lalrpop_tables.specs.lanes.LaneTraces.{places_in}
 use Rattle.lalrpop_tables.specs.states.NumberedStates.{EdgesAscend}
-use Rattle.lalrpop_tables.specs.declared.construction.numbers.Numbers.{Numbers}
+use Rattle.lalrpop_base.specs.declared.numbers.Numbers.{Numbers}
 use Rattle.lalrpop_tables.specs.declared.lane_table.follow_sets.found.Found.{Found}
 use Rattle.lalrpop_tables.specs.declared.construction.numbered_state.NumberedState.{NumberedState}
 use Rattle.lalrpop_tables.proofs.theory.check.CarriedLookaheads.{Unions-carried, here_there}
-use Rattle.lalrpop_tables.proofs.theory.check.CheckAll.{Pass-all}
-use Rattle.lalrpop_tables.proofs.theory.check.CheckTables.{Right-closed}
+use Rattle.lalrpop_base.proofs.theory.check.CheckAll.{Pass-all}
+use Rattle.lalrpop_base.proofs.theory.check.CheckTables.{Right-closed}
 use Rattle.lalrpop_tables.proofs.theory.check.NumberedRight.{are_targets, keys_of_state, listed_all, numbered_states, of_grammar, right_states, state_at, targets}
 use Rattle.lalrpop_tables.proofs.theory.lane_states.LanePlaces.{closed_there}
 

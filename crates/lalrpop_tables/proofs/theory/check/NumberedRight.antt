@@ -7,10 +7,10 @@ use Rattle.std.proofs.lemmas.Bool.{cases_lt}
 use Rattle.std.proofs.lemmas.List.{length-map}
 use Rattle.std.proofs.lemmas.Option.{slice_get_within, slice_get-map}
 use Rattle.lalrpop_base.specs.Words.{AllDiffer, AreCoherent, Bits, Dotted, InKernel, IsAtStart, contents_at, in_kernel, contents_of, leads, productions, rules_of}
-use Rattle.lalrpop_base.specs.Words.{HaveNoConflict, IsMovedIn, IsReached, IsRightItem, IsRightState, IsRightTarget, IsTarget, AreRightStates, at_zero, lr0}
+use Rattle.lalrpop_base.specs.Words.{HaveNoConflict, IsMovedIn, IsReached, IsRightItem, IsRightState, IsRightTarget, IsTarget, AreRightStates, at_zero, with_dot}
+use Rattle.lalrpop_base.specs.Words.{AreNumbers, AreClosure}
 use Rattle.lalrpop_base.specs.closures.Closures.{over_edge}
 use Rattle.lalrpop_base.specs.closures.Closure.{dotted_of}
-use Rattle.lalrpop_base.specs.closures.CheckClosing.{AreClosure}
 use Rattle.lalrpop_base.specs.states.CheckStates.{AreListed, IsListed, dots, reduced, target_of}
 use Rattle.lalrpop_tables.proofs.Types.{Grammar, Nil, NonterminalString, Production, State, Symbol, Token}
 use Rattle.lalrpop_base.specs.declared.repr.Symbol.TheVariants.{Nonterminal, Terminal}
@@ -19,19 +19,17 @@ use Rattle.lalrpop_base.proofs.theory.lists.Places.{contains_at, filled, one_pla
 use Rattle.lalrpop_base.proofs.theory.states.ContentsViews.{contains_of_map, lead_as_items_say, some_of_map}
 use Rattle.lalrpop_tables.specs.check.ByNumber.{AllLeadOn, AreListedByNumber, AreReachedByNumber, IsListedState, IsReachedByNumber, LeadsOver, at_first, over_transition}
 use Rattle.lalrpop_tables.specs.follow_sets.FollowNodes.{AreAllReached, AreOfGrammar}
-use Rattle.lalrpop_tables.specs.grammars.Numbering.{with_dot}
-use Rattle.lalrpop_tables.specs.grammars.Numbers.{AreNumbers}
 use Rattle.lalrpop_tables.specs.lanes.LaneTraces.{places_in}
 use Rattle.lalrpop_tables.specs.states.NumberedStates.{AreNumberedStates, items_at, listed_items, listed_transitions, transitions_at}
-use Rattle.lalrpop_tables.specs.declared.construction.numbers.Numbers.{Numbers}
+use Rattle.lalrpop_base.specs.declared.numbers.Numbers.{Numbers}
 use Rattle.lalrpop_tables.specs.declared.construction.numbered_state.NumberedState.{NumberedState}
-use Rattle.lalrpop_tables.proofs.theory.canonical.Canonical.{InClosure-more}
-use Rattle.lalrpop_tables.proofs.theory.check.CheckTables.{item_at}
-use Rattle.lalrpop_tables.proofs.theory.check.NumberedItems.{behind_none, behind_some, by_parts, one_dot, one_production}
+use Rattle.lalrpop_base.proofs.theory.canonical.Canonical.{InClosure-more}
+use Rattle.lalrpop_base.proofs.theory.check.CheckTables.{item_at}
+use Rattle.lalrpop_base.proofs.theory.check.NumberedItems.{behind_none, behind_some, by_parts, one_dot, one_production}
 use Rattle.lalrpop_tables.proofs.theory.check.NumberedSteps.{Listed-numbered}
-use Rattle.lalrpop_tables.proofs.theory.states.NumberedItems.{items_differ}
-use Rattle.lalrpop_tables.proofs.theory.states.SameKernels.{past_in_kernel}
-use Rattle.lalrpop_tables.proofs.theory.states.Shifting.{of_dotted}
+use Rattle.lalrpop_base.proofs.theory.grammars.AscendingItems.{items_differ}
+use Rattle.lalrpop_base.proofs.theory.construction.SameKernels.{past_in_kernel}
+use Rattle.lalrpop_base.proofs.theory.construction.Shifting.{of_dotted}
 
 -- ---- the numbers from one to a count
 pub positive : ℕ → List ℕ
@@ -58,11 +56,11 @@ lead_target h s (Nonterminal a) = refl
 
 -- the dotted productions of a state as keys
 abbrev pub keys_of_state : State Bits → BTreeSet (Dotted Nil)
-keys_of_state s = record { keys = map (λ (d : Production × ℕ). lr0 d.0 d.1) (dots s.items.vec.items) }
+keys_of_state s = record { keys = map (λ (d : Production × ℕ). with_dot d.0 d.1) (dots s.items.vec.items) }
 
 pub keys_list : (s : State Bits) (k : Dotted Nil) → Contains (keys_of_state s).keys k ↔ Contains (dots s.items.vec.items) (k.production, k.index)
 keys_list s k =
-    let make : Production × ℕ → Dotted Nil = λ d. lr0 d.0 d.1 in (
+    let make : Production × ℕ → Dotted Nil = λ d. with_dot d.0 d.1 in (
       λ c.
           let f = contains_of_map make (dots s.items.vec.items) k c in
           subst (λ (i : Dotted Nil). Contains (dots s.items.vec.items) (i.production, i.index)) f.2 f.1,
@@ -244,17 +242,17 @@ module _ (g : Grammar) (n : Numbers) (numbers : AreNumbers (rules_of g) n) (star
       abbrev pub targets : List ℕ
       targets = positive (length states - 1)
 
-      item_there : (m k : ℕ) (p : Production) (dot : ℕ) → slice_get known k ≡ Some (with_dot p dot) → Contains (items_at list m) k → IsListed sets m (lr0 p dot)
+      item_there : (m k : ℕ) (p : Production) (dot : ℕ) → slice_get known k ≡ Some (with_dot p dot) → Contains (items_at list m) k → IsListed sets m (with_dot p dot)
       item_there m k p dot at c = go (slice_get list m) refl c
         where
-          go : (o : Option NumberedState) → slice_get list m ≡ o → Contains (listed_items o) k → IsListed sets m (lr0 p dot)
+          go : (o : Option NumberedState) → slice_get list m ≡ o → Contains (listed_items o) k → IsListed sets m (with_dot p dot)
           go None at_m d = absurd (Contains-none k d)
           go (Some state) at_m d =
               let o = state_at m state at_m in
               record {
                 set = keys_of_state o.old;
                 there = slice_get-map keys_of_state states m ∙ ap (option_map keys_of_state) o.at;
-                has = (keys_list o.old (lr0 p dot)).1 (as_listed m o.old state o.is p dot k at d);
+                has = (keys_list o.old (with_dot p dot)).1 (as_listed m o.old state o.is p dot k at d);
               }
 
       right_item : (s : ℕ) (old : State Bits) → slice_get states s ≡ Some old → (i : Dotted Bits) → Contains old.items.vec.items i → IsRightItem sets old (reduced old.reductions.items) i

@@ -6,16 +6,15 @@ use Rattle.std.proofs.lemmas.Bool.{cases_eq, false≢true}
 use Rattle.std.proofs.lemmas.List.{get_or-replicate, length-replicate, length-set}
 use Rattle.std.proofs.lemmas.List.Elements.{Contains-append_left, Contains-push}
 use Rattle.std.proofs.lemmas.Option.{get_or_from_slice_get, slice_get_within}
-use Rattle.lalrpop_base.specs.Words.{Bits, Dotted, InClosure, InKernel, Rules, contents_at}
+use Rattle.lalrpop_base.specs.Words.{Bits, Dotted, InClosure, InKernel, Rules, contents_at, AreNumbered, items_by}
 use Rattle.lalrpop_tables.proofs.Types.{Nil, NonterminalString, Production, State, Token}
-use Rattle.lalrpop_tables.proofs.theory.lists.Pushes.{push_both, push_counted}
+use Rattle.lalrpop_base.proofs.theory.lists.Zipped.{push_both, push_counted}
 use Rattle.lalrpop_base.proofs.theory.lists.Places.{filled, put_other}
 use Rattle.lalrpop_tables.specs.check.ByNumber.{AreListedByNumber, AreMarkedReached, HoldSets, HoldsUnion, IsListedState, ListsClosure, IsReachedByNumber, MarksTarget, MarksTargets, over_transition}
 use Rattle.lalrpop_tables.specs.follow_sets.FollowWalks.{AreUnions}
-use Rattle.lalrpop_tables.specs.grammars.Numbers.{AreNumbered, items_by}
 use Rattle.lalrpop_tables.specs.states.NumberedStates.{AreItemsAt, AreNumberedStates, IsNumberedState, listed_transitions, number_in}
-use Rattle.lalrpop_tables.specs.declared.construction.numbered.Numbered.{Numbered}
-use Rattle.lalrpop_tables.specs.declared.construction.numbers.Numbers.{Numbers}
+use Rattle.lalrpop_base.specs.declared.numbers.numbered.Numbered.{Numbered}
+use Rattle.lalrpop_base.specs.declared.numbers.Numbers.{Numbers}
 use Rattle.lalrpop_tables.specs.declared.construction.numbered_state.NumberedState.{NumberedState}
 use Rattle.lalrpop_tables.proofs.theory.follow_sets.FollowBits.{held_at}
 use Rattle.lalrpop_tables.proofs.theory.states.ItemNumbers.{items_at_by, same_dots}

@@ -4,7 +4,7 @@ use Rattle.std.specs.Prelude.{slice_get, MatchResult}
 use Rattle.std.specs.declared.result.Result.{Result}
 use Rattle.std.specs.declared.result.Result.TheVariants.{Ok, Err}
 use Rattle.std.proofs.lemmas.Option.{slice_get_within}
-use Rattle.lalrpop_base.specs.Words.{Bits, contents_at, AreLr0, HoldLalrTokens, AllDiffer, Contents, state_after}
+use Rattle.lalrpop_base.specs.Words.{Bits, contents_at, AreLr0, HoldLalrTokens, AllDiffer, Contents, state_after, HaveNoConflict, AreAllConflicts}
 use Rattle.lalrpop_base.specs.Words.{IsLR1, IsLALR1, productions, tokens_of, FitReductions, AreOrderedCanonical, IsCollapsed, AreCollapsedTables, FailsByCollapse}
 use Rattle.lalrpop_base.specs.conflicts.Conflicts.{HasNoConflict as HoldsNoConflict}
 use Rattle.lalrpop_tables.proofs.Types.{BuildError, Conflict, Grammar, NonterminalString, Production, State, Symbol, TerminalString, Token}
@@ -16,9 +16,8 @@ use Rattle.lalrpop_base.proofs.theory.lists.Lists.{Grown, from_nothing, more, gr
 use Rattle.lalrpop_base.proofs.theory.runs.Steps.{state_from-more}
 use Rattle.lalrpop_base.proofs.theory.closures.Valid.{action_live}
 use Rattle.lalrpop_tables.specs.Words.{AreLalrTables, TellsNotLALR1}
-use Rattle.lalrpop_base.specs.Words.{HaveNoConflict, AreAllConflicts}
-use Rattle.lalrpop_tables.proofs.theory.collapse.CollapseContents.{holds, old, now, number, is_collapse}
-use Rattle.lalrpop_tables.proofs.theory.conflicts.ConflictFree.{nowhere_conflict, free_contents, contents_free, none_listed}
+use Rattle.lalrpop_base.proofs.theory.collapse.CollapseContents.{holds, old, now, number, is_collapse}
+use Rattle.lalrpop_base.proofs.theory.conflicts.ConflictFree.{nowhere_conflict, free_contents, contents_free, none_listed}
 use Rattle.lalrpop_base.proofs.theory.lists.Places.{same_some}
 
 module _ (g : Grammar) (start : NonterminalString) (differ : AllDiffer g.terminals) (before after : List (State Bits)) (ordered : AreOrderedCanonical g start before) (c : IsCollapsed before after) where

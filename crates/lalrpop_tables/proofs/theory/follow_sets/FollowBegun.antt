@@ -5,28 +5,24 @@ use Rattle.std.proofs.lemmas.Bool.{cases_lt}
 use Rattle.std.proofs.lemmas.List.{get_or_default}
 use Rattle.std.proofs.lemmas.List.Elements.{Contains-append_left, Contains-push_cases, Contains-push}
 use Rattle.std.proofs.lemmas.Option.{slice_get_within}
-use Rattle.lalrpop_base.specs.Words.{Bits, Dotted, IsBitOf, IsFirst, has, join, rules_of, with_bit}
+use Rattle.lalrpop_base.specs.Words.{Bits, Dotted, IsBitOf, IsFirst, has, join, rules_of, with_bit, HasRest, IsRest, with_dot, dotted_at, HasBitAtOnce, IsFollowNode}
+use Rattle.lalrpop_base.specs.Words.{FollowsAtOnce}
 use Rattle.lalrpop_tables.proofs.Types.{Nil, NonterminalString, Symbol, Token}
 use Rattle.lalrpop_base.specs.declared.lookahead.token.Token.TheVariants.{Eof, Terminal as TokenOf}
 use Rattle.lalrpop_base.specs.declared.repr.Symbol.TheVariants.{Nonterminal}
-use Rattle.lalrpop_base.specs.lanes.FollowGraphs.{HasBitAtOnce, IsFollowNode}
 use Rattle.lalrpop_tables.specs.follow_sets.FollowNodes.{IsPass, nodes_of}
-use Rattle.lalrpop_tables.specs.grammars.Rests.{HasRest, IsRest}
-use Rattle.lalrpop_base.specs.lanes.FollowSets.{FollowsAtOnce}
 use Rattle.lalrpop_base.specs.lanes.FollowSets.FollowsAtOnce.{ends_input, is_first_behind}
 use Rattle.lalrpop_tables.specs.follow_sets.FollowWalks.{AreBegun, AreEmptySets, IsEndBit, IsRestBit, IsRestBitIn, IsSomeRestBit, TakesBits}
 use Rattle.lalrpop_tables.specs.lanes.LaneTraces.{places_in}
 use Rattle.lalrpop_tables.specs.states.NumberedStates.{items_at, transitions_at}
-use Rattle.lalrpop_tables.specs.grammars.Numbering.{with_dot}
-use Rattle.lalrpop_tables.specs.grammars.Numbers.{dotted_at}
 use Rattle.lalrpop_tables.specs.declared.construction.numbered_state.NumberedState.{NumberedState}
 use Rattle.lalrpop_tables.specs.declared.lane_table.follow_sets.pass.Pass.{Pass}
-use Rattle.lalrpop_tables.specs.declared.construction.numbers.rests.Rest.{Rest}
+use Rattle.lalrpop_base.specs.declared.numbers.rests.Rest.{Rest}
 use Rattle.lalrpop_base.proofs.theory.closures.Closing.{split_drop}
 use Rattle.lalrpop_tables.proofs.theory.follow_sets.FollowBits.{join_bits, takes_at, takes_none, takes_same, takes_then, with_bit_bits}
 use Rattle.lalrpop_tables.proofs.theory.follow_sets.FollowNodes.{item_known, item_listed, node_of_pair, node_within, nodes_counted, one_node, one_number, pair_of_node, state_of_item, state_of_node, transition_leads, transition_node, transitions_read}
 use Rattle.lalrpop_base.proofs.theory.lists.Members.{Contains-none, place}
-use Rattle.lalrpop_tables.proofs.theory.grammars.Numbers.{stands_at}
+use Rattle.lalrpop_base.proofs.theory.numbers.Numbers.{stands_at}
 use Rattle.lalrpop_base.proofs.theory.lists.Places.{same_some, slice_get_at}
 use Rattle.lalrpop_base.proofs.theory.grammars.Grammars.{same_front, same_after}
 

@@ -1,9 +1,9 @@
 -- Items of closed states: what stands in front, what is expanded, and where walks over right sides lead.
 use Rattle.std.proofs.Common.{◌≡◌, ◌⊎◌, inl, inr, ℕ, zero, suc, ◌≤◌, List, take, length, refl, sym, ◌∙◌, ap, subst, arith, Some}
-use Rattle.lalrpop_base.specs.Words.{AreClosed, at_zero, Contents, expanded, in_kernel, InClosure, IsAtStart, IsMoved, IsReached, items_of, leads, state_from, LeadsOver}
+use Rattle.lalrpop_base.specs.Words.{AreClosed, at_zero, Contents, expanded, in_kernel, InClosure, IsAtStart, IsMoved, IsReached, items_of, leads, state_from}
+use Rattle.lalrpop_base.specs.Words.{LeadsOver, IsBehindDot}
 use Rattle.lalrpop_base.specs.closures.Closures.{over_edge}
 use Rattle.std.specs.Prelude.{Contains}
-use Rattle.lalrpop_base.specs.states.States.{IsBehindDot}
 use Rattle.lalrpop_tables.proofs.Types.{NonterminalString, Production, Symbol}
 use Rattle.lalrpop_base.specs.declared.repr.Symbol.TheVariants.{Nonterminal}
 use Rattle.lalrpop_base.proofs.theory.lists.Lists.{take_past, same_some}

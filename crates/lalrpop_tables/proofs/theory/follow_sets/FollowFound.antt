@@ -4,13 +4,13 @@ use Rattle.std.specs.Prelude.{Contains, slice_get}
 use Rattle.std.specs.declared.alloc.Global.{Global}
 use Rattle.std.specs.declared.vec.Vec.{Vec}
 use Rattle.std.proofs.lemmas.Option.{slice_get_within}
-use Rattle.lalrpop_base.specs.Words.{Bits, has, Contents, Dotted, edge_ends, HoldsBit, IsSpread, Rules, rules_of, HasLookaheadBits, IsFollowNode, IsUnionOver, LeadsOver}
+use Rattle.lalrpop_base.specs.Words.{Bits, has, Contents, Dotted, edge_ends, HoldsBit, IsSpread, Rules, rules_of, HasLookaheadBits, IsFollowNode, IsUnionOver}
+use Rattle.lalrpop_base.specs.Words.{LeadsOver, with_dot}
 use Rattle.lalrpop_tables.proofs.Types.{Nil, NonterminalString, Production, Token}
 use Rattle.lalrpop_base.proofs.theory.states.ContentsViews.{lead_as_items_say}
 use Rattle.lalrpop_tables.specs.Words.{places_in}
 use Rattle.lalrpop_tables.specs.follow_sets.FollowNodes.{IsPass, nodes_of}
 use Rattle.lalrpop_tables.specs.follow_sets.FollowWalks.{AreBegun, AreIncludes, AreLookbacks, AreTokensOfSymbols, entries_at, FindsLookaheads, IsInUnion}
-use Rattle.lalrpop_tables.specs.grammars.Numbering.{with_dot}
 use Rattle.lalrpop_tables.specs.declared.lane_table.follow_sets.found.Found.{Found}
 use Rattle.lalrpop_tables.specs.declared.lane_table.follow_sets.pass.Pass.{Pass}
 use Rattle.lalrpop_tables.proofs.theory.follow_sets.FollowGraphs.{lookback_nodes, union_lookahead}

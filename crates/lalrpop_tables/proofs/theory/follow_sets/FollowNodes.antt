@@ -6,20 +6,18 @@ use Rattle.std.specs.Prelude.{slice_get, Some, Contains}
 use Rattle.std.proofs.lemmas.Bool.{cases_lt}
 use Rattle.std.proofs.lemmas.List.{length-map}
 use Rattle.std.proofs.lemmas.Option.{slice_get_past, slice_get_within, slice_get-map}
-use Rattle.lalrpop_base.specs.Words.{Bits, Contents, Dotted, contents_at, leads, no_contents}
+use Rattle.lalrpop_base.specs.Words.{Bits, Contents, Dotted, contents_at, leads, no_contents, AreExpansions, IsFollowNode}
 use Rattle.lalrpop_tables.proofs.Types.{Nil, NonterminalString, Symbol, Token}
 use Rattle.lalrpop_base.specs.declared.repr.Symbol.TheVariants.{Nonterminal}
 use Rattle.lalrpop_base.proofs.theory.states.ContentsViews.{some_of_map}
-use Rattle.lalrpop_base.specs.lanes.FollowGraphs.{IsFollowNode}
 use Rattle.lalrpop_tables.specs.follow_sets.FollowNodes.{IsNodeName, IsPass, IsTransitionNode, name_at, name_or, nodes_of}
 use Rattle.lalrpop_tables.specs.lanes.LaneTraces.{places_in}
 use Rattle.lalrpop_tables.specs.states.NumberedStates.{EdgesAscend, IsNumberedState, items_at, listed_items, listed_transitions, transitions_at}
-use Rattle.lalrpop_tables.specs.grammars.Numbers.{AreExpansions}
 use Rattle.lalrpop_tables.specs.declared.construction.numbered_state.NumberedState.{NumberedState}
 use Rattle.lalrpop_tables.specs.declared.lane_table.follow_sets.pass.Pass.{Pass}
 use Rattle.lalrpop_base.proofs.theory.lists.Members.{Contains-none, place}
 use Rattle.lalrpop_base.proofs.theory.lists.Places.{contains_at, filled, one_place, same_some, slice_get_at}
-use Rattle.lalrpop_tables.proofs.theory.states.StateEdges.{no_leads}
+use Rattle.lalrpop_base.proofs.theory.construction.StateEdges.{no_leads}
 
 -- ---- the nonterminal with a number
 -- where a nonterminal has the number, it is that

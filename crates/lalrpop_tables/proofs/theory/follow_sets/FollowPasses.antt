@@ -5,7 +5,7 @@ use Rattle.std.specs.declared.alloc.Global.{Global}
 use Rattle.std.specs.declared.vec.Vec.{Vec}
 use Rattle.std.proofs.lemmas.Option.{slice_get_within}
 use Rattle.lalrpop_base.specs.Words.{Bits, contents_at, Contents, items_of, IsReached, Rules, rules_of, HaveBegunNodes, IncludesFollow, IsFollowGraph, IsFollowNode}
-use Rattle.lalrpop_base.specs.states.States.{IsBehindDot}
+use Rattle.lalrpop_base.specs.Words.{with_dot, AreNumbers, IsBehindDot}
 use Rattle.lalrpop_tables.proofs.Types.{NonterminalString, Production, State, Symbol, Token}
 use Rattle.lalrpop_base.specs.declared.repr.Symbol.TheVariants.{Nonterminal}
 use Rattle.lalrpop_base.proofs.theory.states.ContentsViews.{lead_as_items_say}
@@ -13,9 +13,7 @@ use Rattle.lalrpop_tables.specs.Words.{places_in}
 use Rattle.lalrpop_tables.specs.follow_sets.FollowNodes.{IsPass, nodes_of}
 use Rattle.lalrpop_tables.specs.follow_sets.FollowWalks.{AreBegun, AreIncludes, GoesThrough}
 use Rattle.lalrpop_tables.specs.states.NumberedStates.{transitions_at}
-use Rattle.lalrpop_tables.specs.grammars.Numbering.{with_dot}
-use Rattle.lalrpop_tables.specs.grammars.Numbers.{AreNumbers}
-use Rattle.lalrpop_tables.specs.declared.construction.numbers.Numbers.{Numbers}
+use Rattle.lalrpop_base.specs.declared.numbers.Numbers.{Numbers}
 use Rattle.lalrpop_tables.specs.declared.lane_table.follow_sets.pass.Pass.{Pass}
 use Rattle.lalrpop_base.proofs.theory.closures.Closing.{split_drop}
 use Rattle.lalrpop_tables.proofs.theory.follow_sets.FollowClosures.{front_begun, front_expanded, front_started, walked_item}

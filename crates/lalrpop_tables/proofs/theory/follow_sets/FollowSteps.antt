@@ -2,23 +2,19 @@
 use Rattle.std.proofs.Common.{◌≡◌, ◌∙◌, ◌↔◌, inl, inr, ℕ, ◌+◌, ◌<◌, List, [], ◌∷◌, ◌++◌, length, get_or, refl, sym, ap, subst, arith, false}
 use Rattle.std.specs.Prelude.{slice_get, Option, Some, None, Contains, IsTrue}
 use Rattle.std.proofs.lemmas.Option.{get_or_from_slice_get}
-use Rattle.lalrpop_base.specs.Words.{Dotted, leads, rules_of, IsNullable}
+use Rattle.lalrpop_base.specs.Words.{Dotted, leads, rules_of, IsNullable, HasRest, IsRestOf, AddsThose, IsNumberBehind, IsFollowNode}
 use Rattle.lalrpop_tables.proofs.Types.{Nil, NonterminalString, Symbol}
 use Rattle.lalrpop_base.specs.declared.repr.Symbol.TheVariants.{Nonterminal}
-use Rattle.lalrpop_base.specs.lanes.FollowGraphs.{IsFollowNode}
 use Rattle.lalrpop_tables.specs.follow_sets.FollowNodes.{IsPass, nodes_of}
-use Rattle.lalrpop_tables.specs.grammars.Rests.{HasRest, IsRestOf}
 use Rattle.lalrpop_tables.specs.follow_sets.FollowWalks.{HasNullableRest, IsGoneOver, StepsThrough}
 use Rattle.lalrpop_tables.specs.lanes.LaneTraces.{places_in}
 use Rattle.lalrpop_tables.specs.states.NumberedStates.{IsNumberedState, listed_transitions, transitions_at}
-use Rattle.lalrpop_tables.specs.grammars.Numbering.{AddsThose}
 use Rattle.lalrpop_tables.specs.declared.construction.numbered_state.NumberedState.{NumberedState}
 use Rattle.lalrpop_tables.specs.declared.lane_table.follow_sets.pass.Pass.{Pass}
-use Rattle.lalrpop_tables.specs.declared.construction.numbers.rests.Rest.{Rest}
+use Rattle.lalrpop_base.specs.declared.numbers.rests.Rest.{Rest}
 use Rattle.lalrpop_base.proofs.theory.lists.Lists.{same_nonterminal}
-use Rattle.lalrpop_tables.specs.grammars.Numbers.{IsNumberBehind}
 use Rattle.lalrpop_base.proofs.theory.closures.Closing.{split_drop}
-use Rattle.lalrpop_tables.proofs.theory.grammars.DottedProductions.{those_none}
+use Rattle.lalrpop_base.proofs.theory.numbers.DottedProductions.{those_none}
 use Rattle.lalrpop_base.proofs.theory.lists.Members.{contains_head}
 use Rattle.lalrpop_tables.proofs.theory.follow_sets.FollowNodes.{node_within, one_node, transition_node}
 use Rattle.lalrpop_base.proofs.theory.lists.Places.{contains_at, same_some, slice_get_at}

@@ -2,21 +2,18 @@
 use Rattle.std.proofs.Common.{◌≡◌, ◌∙◌, inl, inr, ℕ, zero, suc, ◌+◌, ◌<◌, List, [], ◌∷◌, ◌++◌, length, get_or, refl, sym, ap, subst, arith, take, drop, true}
 use Rattle.std.specs.Prelude.{slice_get, Option, Some, None}
 use Rattle.std.proofs.lemmas.Option.{slice_get_within}
-use Rattle.lalrpop_base.specs.Words.{Contents, Dotted, leads, onward, state_from}
+use Rattle.lalrpop_base.specs.Words.{Contents, Dotted, leads, onward, state_from, AddsThose, with_dot, IsNumberBehind, LeadsOver}
 use Rattle.lalrpop_tables.proofs.Types.{Nil, Production, Symbol}
 use Rattle.lalrpop_base.specs.declared.repr.Symbol.TheVariants.{Nonterminal}
 use Rattle.lalrpop_base.proofs.theory.states.ContentsViews.{lead_as_items_say}
 use Rattle.lalrpop_base.proofs.theory.lists.Lists.{take_all, take_past}
 use Rattle.lalrpop_base.proofs.theory.runs.Steps.{state_from-more}
 use Rattle.lalrpop_tables.specs.follow_sets.FollowNodes.{IsPass}
-use Rattle.lalrpop_base.specs.lanes.FollowSets.{LeadsOver}
 use Rattle.lalrpop_tables.specs.follow_sets.FollowWalks.{GoesThrough, IsEndOfWalk, IsFrontOf, IsGoneOver, StepsThrough}
 use Rattle.lalrpop_tables.specs.lanes.LaneTraces.{places_in}
-use Rattle.lalrpop_tables.specs.grammars.Numbering.{AddsThose, with_dot}
-use Rattle.lalrpop_tables.specs.grammars.Numbers.{IsNumberBehind}
 use Rattle.lalrpop_tables.specs.declared.lane_table.follow_sets.pass.Pass.{Pass}
 use Rattle.lalrpop_base.proofs.theory.closures.Closing.{drop_split, split_drop}
-use Rattle.lalrpop_tables.proofs.theory.grammars.DottedProductions.{those_both, those_none}
+use Rattle.lalrpop_base.proofs.theory.numbers.DottedProductions.{those_both, those_none}
 use Rattle.lalrpop_tables.proofs.theory.follow_sets.FollowSets.{take_none}
 use Rattle.lalrpop_base.proofs.theory.lists.Places.{places_apart, same_some, slice_get_at}
 

@@ -6,18 +6,15 @@ use Rattle.std.proofs.lemmas.Option.{slice_get-map}
 use Rattle.std.specs.declared.alloc.Global.{Global}
 use Rattle.std.specs.declared.vec.Vec.{Vec}
 use Rattle.std.proofs.lemmas.List.Elements.{Contains-append_left, Contains-push_cases, Contains-push}
-use Rattle.lalrpop_base.specs.Words.{edge_ends}
+use Rattle.lalrpop_base.specs.Words.{edge_ends, AddsThose, with_dot, AreExpansions, IsFollowNode}
 use Rattle.lalrpop_base.specs.lists.Spreading.{listed_ends}
 use Rattle.lalrpop_tables.proofs.Types.{NonterminalString, Production}
 use Rattle.lalrpop_base.specs.declared.repr.Symbol.TheVariants.{Nonterminal}
 use Rattle.lalrpop_base.proofs.theory.lists.Lists.{same_nonterminal}
-use Rattle.lalrpop_base.specs.lanes.FollowGraphs.{IsFollowNode}
 use Rattle.lalrpop_tables.specs.follow_sets.FollowNodes.{IsNodeName, IsPass, name_at, nodes_of}
 use Rattle.lalrpop_tables.specs.follow_sets.FollowWalks.{AreEmptyLists, AreIncludes, AreLookbacks, EndsAt, GoesThrough, IsFrontOf, NotesEnds, SomeFront, SomeOfNode, entries_at}
-use Rattle.lalrpop_tables.specs.grammars.Numbering.{AddsThose, with_dot}
-use Rattle.lalrpop_tables.specs.grammars.Numbers.{AreExpansions}
 use Rattle.lalrpop_tables.specs.declared.lane_table.follow_sets.pass.Pass.{Pass}
-use Rattle.lalrpop_tables.proofs.theory.grammars.DottedProductions.{those_both}
+use Rattle.lalrpop_base.proofs.theory.numbers.DottedProductions.{those_both}
 use Rattle.lalrpop_tables.proofs.theory.follow_sets.FollowNodes.{node_within, nodes_counted, pair_of_node}
 use Rattle.lalrpop_tables.proofs.theory.follow_sets.FollowWalks.{one_front}
 use Rattle.lalrpop_base.proofs.theory.lists.Members.{Contains-none, place}

@@ -6,12 +6,12 @@ use Rattle.std.specs.declared.vec.Vec.{Vec}
 use Rattle.lalrpop_tables.proofs.Types.{Production}
 use Rattle.lalrpop_tables.specs.follow_sets.FollowNodes.{IsPass}
 use Rattle.lalrpop_tables.specs.follow_sets.FollowWalks.{AreEmptyLists, EndsAt, IsEndOfWalk, NotesEnds, entries_at, listed_entries}
-use Rattle.lalrpop_tables.specs.grammars.Numbering.{with_dot}
+use Rattle.lalrpop_base.specs.Words.{with_dot}
 use Rattle.lalrpop_tables.specs.declared.lane_table.follow_sets.pass.Pass.{Pass}
 use Rattle.lalrpop_tables.proofs.theory.follow_sets.FollowSteps.{those_pushed}
 use Rattle.lalrpop_base.proofs.theory.lists.Members.{Contains-none}
 use Rattle.lalrpop_base.proofs.theory.collapse.Merging.{set_elsewhere, set_here, set_length}
-use Rattle.lalrpop_tables.proofs.theory.grammars.Numbers.{dotted_differ}
+use Rattle.lalrpop_base.proofs.theory.numbers.Numbers.{dotted_differ}
 use Rattle.lalrpop_base.proofs.theory.lists.Places.{one_place, places_apart, push_cases, same_some, slice_get_at}
 
 -- the finished items of a state, with nodes

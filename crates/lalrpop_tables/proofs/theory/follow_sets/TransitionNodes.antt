@@ -4,12 +4,11 @@ use Rattle.std.specs.Prelude.{slice_get, get_or, Option, Some, None}
 use Rattle.std.proofs.lemmas.List.{get_or_append_left}
 use Rattle.std.proofs.Math.Seq.{get_or-append_seam}
 use Rattle.std.proofs.lemmas.Option.{slice_get_within}
-use Rattle.lalrpop_base.specs.Words.{AllDiffer}
+use Rattle.lalrpop_base.specs.Words.{AllDiffer, SymbolsAscend}
 use Rattle.lalrpop_tables.proofs.Types.{NonterminalString, Symbol}
 use Rattle.lalrpop_base.specs.declared.repr.Symbol.TheVariants.{Nonterminal}
 use Rattle.lalrpop_tables.specs.follow_sets.FollowNodes.{IsTransitionNode, nonterminals_of}
 use Rattle.lalrpop_tables.specs.states.NumberedStates.{EdgesAscend, listed_transitions, transitions_at}
-use Rattle.lalrpop_tables.specs.grammars.Numbers.{SymbolsAscend}
 use Rattle.lalrpop_tables.specs.declared.construction.numbered_state.NumberedState.{NumberedState}
 use Rattle.lalrpop_tables.proofs.theory.states.NonterminalEdges.{Listed-at, pair_at, pairs_differ}
 use Rattle.lalrpop_base.proofs.theory.lists.Places.{push_cases, slice_get-longer, slice_get-push_at, slice_get-append_behind}

@@ -8,11 +8,11 @@ use Rattle.std.proofs.lemmas.Bool.{cases_Bool, cases_lt, eq-eqb, eqb-true, eqb-f
 use Rattle.std.proofs.lemmas.List.{map-append, drop_all, length-take-le}
 use Rattle.std.proofs.lemmas.List.Elements.{Contains-append_cases}
 use Rattle.std.proofs.lemmas.Option.{slice_get_within}
-use Rattle.lalrpop_base.specs.Words.{AllDiffer, Bits, number_in, retargeted, retargeted_all}
+use Rattle.lalrpop_base.specs.Words.{AllDiffer, Bits, number_in, retargeted, retargeted_all, HasTransition}
 use Rattle.lalrpop_tables.proofs.Types.{NonterminalString, State, StateIndex, Symbol, TerminalString}
 use Rattle.lalrpop_base.specs.declared.repr.Symbol.TheVariants.{Nonterminal, Terminal}
 use Rattle.lalrpop_base.proofs.theory.states.ContentsViews.{contains_of_map}
-use Rattle.lalrpop_tables.specs.Words.{AreCopies, Edge, edge, edges, edges_from, edges_of, goto_edges, HasTransition, index, IsGraphOf, origin_of, origins}
+use Rattle.lalrpop_tables.specs.Words.{AreCopies, Edge, edge, edges, edges_from, edges_of, goto_edges, index, IsGraphOf, origin_of, origins}
 use Rattle.lalrpop_tables.specs.Words.{origins_of, shift_edges, targets_from, targets_of}
 use Rattle.lalrpop_tables.specs.graphs.GraphCopies.{Origin, retraced, without, moved, followed_all, FollowsInTurn, StandAmong, FollowsEdges}
 use Rattle.lalrpop_tables.specs.graphs.StateGraph.{target_of, nothing, IsChangedAt, IsListedAt}

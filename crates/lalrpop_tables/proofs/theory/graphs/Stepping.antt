@@ -21,7 +21,7 @@ use Rattle.lalrpop_tables.specs.Words.{Edge, edge, state_cmp, AddsStates, HaveSa
 use Rattle.lalrpop_tables.specs.graphs.StateGraph.{LeadsTo}
 use Rattle.lalrpop_base.proofs.theory.lists.Members.{Contains-none, contains_head, contains_map, contains_tail, contains-cons, Contains-reverse, Contains-from_reverse}
 use Rattle.lalrpop_base.proofs.theory.states.ContentsViews.{contains_of_map}
-use Rattle.lalrpop_tables.proofs.theory.lists.Filters.{is_kept, kept_holds, of_kept}
+use Rattle.lalrpop_base.proofs.theory.lists.Filters.{is_kept, kept_holds, of_kept}
 use Rattle.lalrpop_tables.proofs.theory.lane_tables.LaneColumns.{same_state}
 
 -- a state of all is in the set or left, exactly if it is in the set so far or left now

@@ -4,14 +4,13 @@ use Rattle.std.specs.Prelude.{Contains, slice_get}
 use Rattle.std.specs.Borrow.{Bor}
 use Rattle.std.proofs.lemmas.List.{length-map}
 use Rattle.std.proofs.lemmas.Option.{slice_get-map}
-use Rattle.lalrpop_base.specs.Words.{Bits, Contents, Dotted, Rules, HasLookaheadBits, IsLookahead}
+use Rattle.lalrpop_base.specs.Words.{Bits, Contents, Dotted, Rules, HasLookaheadBits, IsLookahead, with_dot}
 use Rattle.lalrpop_tables.proofs.Types.{Nil, NonterminalString, Production, State, Token}
 use Rattle.lalrpop_base.proofs.theory.states.ContentsViews.{some_of_map}
 use Rattle.lalrpop_tables.specs.follow_sets.FollowWalks.{FindsLookaheads}
 use Rattle.lalrpop_tables.specs.states.NumberedStates.{AreNumberedStates, AreReducedNumbers, IsNumberedState}
-use Rattle.lalrpop_tables.specs.grammars.Numbering.{with_dot}
 use Rattle.lalrpop_tables.specs.Words.{by, HasSamePlace, HaveSamePlaces, places_in}
-use Rattle.lalrpop_tables.specs.declared.construction.numbers.Numbers.{Numbers}
+use Rattle.lalrpop_base.specs.declared.numbers.Numbers.{Numbers}
 use Rattle.lalrpop_tables.specs.declared.lane_table.follow_sets.found.Found.{Found}
 use Rattle.lalrpop_tables.specs.declared.construction.numbered_state.NumberedState.{NumberedState}
 use Rattle.lalrpop_tables.proofs.theory.follow_sets.FollowSets.{lane_lookahead}

@@ -25,7 +25,7 @@ use Rattle.lalrpop_tables.proofs.theory.lane_states.LaneResolved.{one_token, pla
 use Rattle.lalrpop_tables.proofs.theory.lane_states.LaneShape.{here_closed, item_own, reduced_item, reduced_once}
 use Rattle.lalrpop_base.proofs.theory.collapse.Merging.{set_here}
 use Rattle.lalrpop_base.proofs.theory.lists.Places.{filled, same_some}
-use Rattle.lalrpop_tables.proofs.theory.states.StateEdges.{transition_leads}
+use Rattle.lalrpop_base.proofs.theory.construction.StateEdges.{transition_leads}
 use Rattle.lalrpop_base.proofs.theory.lists.Lists.{contains_place, place_contains}
 
 -- an action of a state is one wherever the places are the same

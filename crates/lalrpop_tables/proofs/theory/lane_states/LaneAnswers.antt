@@ -19,12 +19,12 @@ use Rattle.lalrpop_base.proofs.theory.collapse.LalrStates.{no_conflict_lalr}
 use Rattle.lalrpop_base.proofs.theory.lanes.LaneTables.{lanes_checked}
 use Rattle.lalrpop_base.proofs.theory.states.RightStates.{edges_awaited, reductions_valid}
 use Rattle.lalrpop_tables.specs.Words.{AreLaneStates, HasLaneBits, IsResolved, IsLaneAction, LanesMeet, HaveMeetingLanes, IsStep, AreLaneTables, AreLalrLaneTables, places_in}
-use Rattle.lalrpop_tables.specs.declared.construction.numbers.Numbers.{Numbers}
+use Rattle.lalrpop_base.specs.declared.numbers.Numbers.{Numbers}
 use Rattle.lalrpop_tables.specs.declared.lane_table.follow_sets.found.Found.{Found}
 use Rattle.lalrpop_tables.specs.declared.construction.numbered_state.NumberedState.{NumberedState}
 use Rattle.lalrpop_tables.proofs.theory.follow_sets.FollowSets.{rest_behind}
 use Rattle.lalrpop_tables.proofs.theory.lane_states.LaneLoop.{AreResolvedTo}
-use Rattle.lalrpop_tables.proofs.theory.conflicts.ConflictFree.{nowhere_conflict, free_contents}
+use Rattle.lalrpop_base.proofs.theory.conflicts.ConflictFree.{nowhere_conflict, free_contents}
 use Rattle.lalrpop_base.proofs.theory.grammars.Grammars.{known_symbols, known_rest}
 use Rattle.lalrpop_base.proofs.theory.grammars.KnownTerminals.{begun_bit}
 use Rattle.lalrpop_tables.proofs.theory.lane_states.LanePlaces.{places_same, lane_there}

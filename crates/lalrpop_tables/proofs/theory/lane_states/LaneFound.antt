@@ -2,7 +2,7 @@
 use Rattle.std.proofs.Common.{◌≡◌, ℕ, zero, suc, ◌<◌, ◌≤◌, List, [], ◌∷◌, drop, length, refl, arith, Option, Some, None, Bool, true}
 use Rattle.std.specs.Prelude.{Contains, slice_get}
 use Rattle.std.proofs.lemmas.Option.{slice_get_within}
-use Rattle.lalrpop_base.specs.Words.{Bits, AreClosed, contents_at, Contents, expands, Rules, shifts, starts, Valid}
+use Rattle.lalrpop_base.specs.Words.{Bits, AreClosed, contents_at, Contents, expands, Rules, shifts, starts, Valid, AreNumbers}
 use Rattle.lalrpop_tables.proofs.Types.{NonterminalString, Production, State, Symbol, Token}
 use Rattle.lalrpop_base.proofs.theory.closures.Closures.{reached_at}
 use Rattle.lalrpop_base.proofs.theory.lists.Lists.{grown}
@@ -11,9 +11,8 @@ use Rattle.lalrpop_tables.specs.follow_sets.FollowNodes.{AreAllReached, AreOfGra
 use Rattle.lalrpop_tables.specs.follow_sets.FollowWalks.{FindsLookaheads}
 use Rattle.lalrpop_tables.specs.lane_states.FoundLookaheads.{IsFoundAt}
 use Rattle.lalrpop_tables.specs.states.NumberedStates.{AreNumberedStates}
-use Rattle.lalrpop_tables.specs.grammars.Numbers.{AreNumbers}
 use Rattle.lalrpop_tables.specs.Words.{AreLaneStates, places_in}
-use Rattle.lalrpop_tables.specs.declared.construction.numbers.Numbers.{Numbers}
+use Rattle.lalrpop_base.specs.declared.numbers.Numbers.{Numbers}
 use Rattle.lalrpop_tables.specs.declared.lane_table.follow_sets.found.Found.{Found}
 use Rattle.lalrpop_tables.specs.declared.construction.numbered_state.NumberedState.{NumberedState}
 use Rattle.lalrpop_tables.proofs.theory.lane_states.LaneShape.{here_closed, right_at}

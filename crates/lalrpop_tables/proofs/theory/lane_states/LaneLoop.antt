@@ -8,7 +8,7 @@ use Rattle.lalrpop_tables.proofs.Types.{NonterminalString, State, TerminalString
 use Rattle.lalrpop_tables.specs.Words.{HasSamePlace, HaveSamePlaces, AreLaneStates, HaveFullItems, HoldAllFrom, IsResolved, IsResolvedAt, IsStep, places_in, edges, IsGraphOf}
 use Rattle.lalrpop_tables.specs.follow_sets.FollowWalks.{FindsLookaheads}
 use Rattle.lalrpop_tables.specs.states.NumberedStates.{AreNumberedStates}
-use Rattle.lalrpop_tables.specs.declared.construction.numbers.Numbers.{Numbers}
+use Rattle.lalrpop_base.specs.declared.numbers.Numbers.{Numbers}
 use Rattle.lalrpop_tables.specs.declared.lane_table.follow_sets.found.Found.{Found}
 use Rattle.lalrpop_tables.specs.declared.construction.numbered_state.NumberedState.{NumberedState}
 use Rattle.lalrpop_tables.specs.declared.state_graph.StateGraph.{StateGraph}

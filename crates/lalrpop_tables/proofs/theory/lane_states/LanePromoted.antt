@@ -7,17 +7,16 @@ use Rattle.std.proofs.lemmas.List.{length-map}
 use Rattle.std.proofs.lemmas.Option.{slice_get-map, slice_get_within}
 use Rattle.std.specs.Borrow.{Bor}
 use Rattle.std.specs.List.{AllZip}
-use Rattle.lalrpop_base.specs.Words.{Bits, has, Dotted, Rules, AreLr0States, contents_at, contents_of, leads, name_cmp, number_of}
+use Rattle.lalrpop_base.specs.Words.{Bits, has, Dotted, Rules, AreLr0States, contents_at, contents_of, leads, name_cmp, number_of, with_dot}
 use Rattle.lalrpop_base.specs.contracts.repr.TerminalStringOrd.TheImpl as terminal_ord
 use Rattle.lalrpop_base.specs.declared.repr.Symbol.TheVariants.{Nonterminal, Terminal}
 use Rattle.lalrpop_tables.proofs.Types.{Nil, NonterminalString, Production, State, StateIndex, Symbol, TerminalString, Token}
 use Rattle.lalrpop_base.proofs.theory.states.ContentsViews.{contains_of_map, some_of_map}
 use Rattle.lalrpop_tables.specs.Words.{dot_of, by, HasSamePlace, HaveSamePlaces, AreLaneStates, IsFull, HaveFullItems, HoldsAll, promoted_item, promoted_reduction, IsPromoted}
-use Rattle.lalrpop_tables.specs.grammars.Numbering.{with_dot}
 use Rattle.lalrpop_tables.specs.states.NumberedStates.{AreNumberedAs, AreNumberedStates, AreReducedNumbers, IsNumberedState}
 use Rattle.lalrpop_base.proofs.theory.lists.Places.{filled}
-use Rattle.lalrpop_tables.proofs.theory.lists.Zipped.{zip_at, zip_old}
-use Rattle.lalrpop_tables.specs.declared.construction.numbers.Numbers.{Numbers}
+use Rattle.lalrpop_base.proofs.theory.lists.Zipped.{zip_at, zip_old}
+use Rattle.lalrpop_base.specs.declared.numbers.Numbers.{Numbers}
 use Rattle.lalrpop_tables.specs.declared.construction.numbered_state.NumberedState.{NumberedState}
 use Rattle.lalrpop_base.proofs.theory.lists.Members.{zipped_length}
 

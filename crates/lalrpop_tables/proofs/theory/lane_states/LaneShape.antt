@@ -13,7 +13,7 @@ use Rattle.lalrpop_base.proofs.theory.lanes.Lanes.{items_at}
 use Rattle.lalrpop_base.proofs.theory.lists.Lists.{grown}
 use Rattle.lalrpop_base.proofs.theory.closures.Valid.{of_grammar}
 use Rattle.lalrpop_tables.specs.Words.{dot_of, AreLaneStates, AreLr0Tables, HaveOwnItems}
-use Rattle.lalrpop_tables.proofs.theory.states.Reductions.{nothing_reduced}
+use Rattle.lalrpop_base.proofs.theory.construction.Reductions.{nothing_reduced}
 use Rattle.lalrpop_tables.proofs.theory.lane_states.LaneCoherent.{coherent_there}
 use Rattle.lalrpop_tables.proofs.theory.lane_states.LanePlaces.{AreSamePlaces, places_same, after_same, lr0_there, closed_there, reduces_there}
 

@@ -13,12 +13,12 @@ use Rattle.lalrpop_base.proofs.theory.states.Copies.{copies_closed}
 use Rattle.lalrpop_tables.specs.Words.{AreActions, AreClosedTables, AreCopiedConflicts, AreCopiedTables, AreCopies, AreLaneStates, AreLaneTables, AreLr0Copies}
 use Rattle.lalrpop_base.specs.Words.{number_in}
 use Rattle.lalrpop_tables.specs.Words.{asked_actions, HaveOwnItems, ReducesOwn}
-use Rattle.lalrpop_tables.proofs.theory.states.Reductions.{nothing_reduced}
+use Rattle.lalrpop_base.proofs.theory.construction.Reductions.{nothing_reduced}
 use Rattle.lalrpop_tables.proofs.theory.lanes.LaneAsked.{asked_of}
 use Rattle.lalrpop_tables.proofs.theory.merges.LaneCopies.{copies_coherent, copies_copying}
 use Rattle.lalrpop_tables.proofs.theory.lane_states.LanePlaces.{produced, produced_by, reduces_there}
 use Rattle.lalrpop_tables.proofs.theory.lane_states.LaneShape.{here_closed, here_reduces, lane_shape, own_items, some_states}
-use Rattle.lalrpop_tables.proofs.theory.conflicts.ConflictLists.{free_states}
+use Rattle.lalrpop_base.proofs.theory.conflicts.GrownConflicts.{free_states}
 use Rattle.lalrpop_tables.proofs.theory.lane_states.Resolving.{no_copies, own_numbers}
 use Rattle.lalrpop_base.proofs.theory.lists.Lists.{contains_place, place_contains}
 

@@ -1,8 +1,8 @@
 -- What a walk over a lane table finds of its states.
-use Rattle.std.proofs.Common.{◌≡◌, ℕ, ◌<◌, ◌⊎◌, inl, inr, ⊎_elim, Bool, true, false, not, length, arith, List, [], ◌∷◌, ◌++◌, refl, sym, ap, subst, ◌∙◌, append_assoc, append-nil}
+use Rattle.std.proofs.Common.{◌≡◌, ℕ, ◌<◌, ◌⊎◌, inl, inr, ⊎_elim, Bool, true, false, not, length, arith, List, [], ◌∷◌, ◌++◌, refl, sym, ap, subst}
 use Rattle.std.specs.Prelude.{Contains, ◌↔◌}
 use Rattle.std.specs.BTreeSet.{BTreeSet as SortedSet, insert_key}
-use Rattle.std.proofs.lemmas.List.Elements.{Contains-append_left, Contains-append_right, Contains-append_cases, Contains-push}
+use Rattle.std.proofs.lemmas.List.Elements.{Contains-append_left, Contains-append_right, Contains-push}
 use Rattle.lalrpop_base.specs.Words.{Bits}
 use Rattle.lalrpop_tables.proofs.Types.{StateIndex}
 use Rattle.lalrpop_tables.specs.Words.{Cells, HasCells, Successors, HasNext, AddsStates, AreReached, HasCellsBelow, IsClosedEdge, column, HasRow, IsBeachhead}
@@ -11,25 +11,8 @@ use Rattle.lalrpop_tables.specs.declared.lane_table.table.LaneTable.{LaneTable}
 use Rattle.lalrpop_tables.proofs.theory.lane_tables.LaneColumns.{in_last, last_in}
 use Rattle.lalrpop_tables.proofs.theory.lane_tables.LaneRows.{next_more, next_last}
 use Rattle.lalrpop_tables.proofs.theory.lane_tables.LaneTables.{Cell, key_added}
-use Rattle.lalrpop_base.proofs.theory.lists.Members.{Contains-none, contains_head, contains-cons}
-
--- ---- a walk over a list: it holds of what was passed
-pub record HoldsSoFar {X : Type 0} (P : List X → Type 0) (left all : List X) : Type 0 where
-  pub done : List X
-  pub whole : done ++ left ≡ all
-  pub holds : P done
-
-pub far_more : {X : Type 0} (P Q : List X → Type 0) (before left all : List X) (e : X) → HoldsSoFar P before all → before ≡ e ∷ left → ((done : List X) → P done → Q (done ++ e ∷ [])) → HoldsSoFar Q left all
-far_more P Q before left all e h first step = record { done = h.done ++ e ∷ []; whole = append_assoc h.done (e ∷ []) left ∙ ap (λ es. h.done ++ es) (sym first) ∙ h.whole; holds = step h.done h.holds }
-
-pub far_end : {X : Type 0} (P : List X → Type 0) (left all : List X) → left ≡ [] → HoldsSoFar P left all → P all
-far_end P left all none h = subst P (sym (append-nil h.done) ∙ ap (λ es. h.done ++ es) (sym none) ∙ h.whole) h.holds
-
-pub far_in : {X : Type 0} (P : List X → Type 0) (before left all : List X) (e : X) → HoldsSoFar P before all → before ≡ e ∷ left → Contains all e
-far_in {X} P before left all e h first = subst (λ (es : List X). Contains es e) (ap (λ es. h.done ++ es) (sym first) ∙ h.whole) (Contains-append_right h.done (e ∷ left) e (contains_head e left))
-
-pub either : {X : Type 0} (done : List X) (e x : X) → Contains (done ++ e ∷ []) x → Contains done x ⊎ (e ≡ x)
-either done e x c = ⊎_elim (λ a. inl a) (λ b. ⊎_elim (λ s. inr s) (λ n. absurd (Contains-none x n)) (contains-cons e [] x b)) (Contains-append_cases done (e ∷ []) x c)
+use Rattle.lalrpop_base.proofs.theory.lists.Members.{contains_head}
+use Rattle.lalrpop_base.proofs.theory.lists.EachLemmas.{either}
 
 -- ---- states put into a set
 abbrev pub AddedSoFar : List StateIndex → List StateIndex → List StateIndex → Type 0

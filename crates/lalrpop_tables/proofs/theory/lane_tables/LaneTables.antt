@@ -24,7 +24,7 @@ use Rattle.lalrpop_tables.specs.declared.lane_table.table.LaneTable.{LaneTable}
 use Rattle.lalrpop_base.proofs.theory.lists.Members.{Contains-none, contains_map, insert_key-has, insert_key-kept, insert_key-from}
 use Rattle.lalrpop_base.proofs.theory.lists.Places.{midst, around, at_midst}
 use Rattle.lalrpop_tables.proofs.theory.graphs.StateGraphs.{state_total}
-use Rattle.lalrpop_base.proofs.theory.lists.Updates.{IsInserted, IsReplaced}
+use Rattle.lalrpop_base.proofs.theory.lists.Updates.{IsInserted, IsReplaced, none_is}
 
 abbrev pub Cell : Type 0
 Cell = StateIndex × ConflictIndex
@@ -309,11 +309,6 @@ same_successors left old new c l up_old up_new same others = record {
         subst (λ (x : StateIndex). next_of new.successors x ≡ next_of old.successors x) here (same_keys _ _ same))
         (λ apart. ap keys_in (others q apart))
         (cases_Bool (is_eq (state_cmp left q)))
-
--- ---- what a look-up of a state finds
-pub none_is : {V : Type 0} (o : Option (Bor V)) → IsNone o → option_copied o ≡ None
-none_is None h = refl
-none_is (Some b) h = cc
 
 pub exactly_next : (es : Entries) (left : StateIndex) → Rises es → (o : Option (Bor (SortedSet StateIndex))) → option_copied o ≡ collection_at state_cmp es left → IfSome o (λ set. (right : StateIndex) → Contains set.now.keys right ↔ HasNext es left right)
 exactly_next es left rises None e = tt

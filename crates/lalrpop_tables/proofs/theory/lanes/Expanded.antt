@@ -9,14 +9,14 @@ use Rattle.lalrpop_base.specs.lists.CheckSets.{IsAdded}
 use Rattle.lalrpop_tables.specs.Words.{AddsNothing, AreExpanded, GainsOf, GivesBit, GivesCell, GivesSuccessor, KeepsAll, VisitsOf, places_in}
 use Rattle.lalrpop_tables.specs.lanes.LaneSteps.{LeadsTo}
 use Rattle.lalrpop_tables.specs.declared.lane_table.lane.ground.Ground.{Ground}
-use Rattle.lalrpop_tables.specs.declared.walk.Walk.{Walk}
+use Rattle.lalrpop_base.specs.declared.collections.walk.Walk.{Walk}
 use Rattle.lalrpop_tables.specs.declared.lane_table.table.LaneTable.{LaneTable}
-use Rattle.lalrpop_tables.specs.declared.place.Place.{Place}
+use Rattle.lalrpop_base.specs.declared.lr1_core.place.Place.{Place}
 use Rattle.lalrpop_tables.proofs.theory.lanes.Gains.{Gains-same}
 use Rattle.lalrpop_tables.proofs.theory.lanes.GainsSome.{GainsSome-all, Gains-again, kept_all}
 use Rattle.lalrpop_base.proofs.theory.lists.Members.{Contains-none}
 use Rattle.lalrpop_tables.proofs.theory.lanes.Unshifting.{back_cases}
-use Rattle.lalrpop_tables.proofs.theory.lists.Walks.{Visits-again, Visits-same}
+use Rattle.lalrpop_base.proofs.theory.collections.Walks.{Visits-again, Visits-same}
 
 -- both places stand at the start of a production, in one state and of one nonterminal
 pub record AreAlike (p q : Place) : Type 0 where

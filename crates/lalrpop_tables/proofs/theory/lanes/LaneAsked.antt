@@ -15,7 +15,7 @@ use Rattle.lalrpop_base.specs.conflicts.HeldShifts.{IsHeldBit}
 use Rattle.lalrpop_tables.specs.Words.{action_order, AreActions, asked_actions, conflict_actions, reduce_action}
 use Rattle.lalrpop_base.proofs.theory.grammars.AscendingItems.{production_exact}
 use Rattle.lalrpop_base.proofs.theory.lists.Bounded.{in_flat_map}
-use Rattle.lalrpop_tables.proofs.theory.lists.Filters.{is_kept, kept_holds, of_kept}
+use Rattle.lalrpop_base.proofs.theory.lists.Filters.{is_kept, kept_holds, of_kept}
 use Rattle.lalrpop_base.proofs.theory.lists.Members.{Contains-none, contains_head, contains_tail, contains-cons, of_flat}
 use Rattle.lalrpop_base.proofs.theory.lists.Lists.{contains_place, place_contains}
 

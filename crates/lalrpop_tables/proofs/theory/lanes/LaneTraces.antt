@@ -3,26 +3,26 @@ use Rattle.std.proofs.Common.{◌≡◌, ℕ, ◌+◌, ◌-◌, ◌<◌, ◌≤�
 use Rattle.std.specs.Prelude.{Contains}
 use Rattle.std.specs.List.{flat_map, range_with_len}
 use Rattle.std.proofs.lemmas.Option.{slice_get_within}
-use Rattle.lalrpop_base.specs.Words.{LeadsBack, IsTracedTo, itself, back, Contents, Rules, productions, rules_of}
+use Rattle.lalrpop_base.specs.Words.{LeadsBack, IsTracedTo, itself, back, Contents, Rules, productions, rules_of, at_place, Visits}
 use Rattle.lalrpop_tables.proofs.Types.{Production}
 use Rattle.lalrpop_base.specs.declared.repr.Symbol.TheVariants.{Nonterminal}
-use Rattle.lalrpop_tables.specs.Words.{at_place, IsGround, Gains, Visits, Some_of, GivesCell, GivesBit, GivesSuccessor, GainsOf, VisitsOf, Reaches, GainsAll}
+use Rattle.lalrpop_tables.specs.Words.{IsGround, Gains, Some_of, GivesCell, GivesBit, GivesSuccessor, GainsOf, VisitsOf, Reaches, GainsAll}
 use Rattle.lalrpop_tables.specs.Words.{GainsSomeOf, GainsSomeOfAll, IsEndPlace, AreInRange, places_in}
 use Rattle.lalrpop_tables.specs.lanes.LaneSteps.{LeadsTo, IsReached}
 use Rattle.lalrpop_tables.specs.declared.lane_table.lane.ground.Ground.{Ground}
-use Rattle.lalrpop_tables.specs.declared.walk.Walk.{Walk}
+use Rattle.lalrpop_base.specs.declared.collections.walk.Walk.{Walk}
 use Rattle.lalrpop_tables.specs.declared.lane_table.table.LaneTable.{LaneTable}
-use Rattle.lalrpop_tables.specs.declared.place.Place.{Place}
+use Rattle.lalrpop_base.specs.declared.lr1_core.place.Place.{Place}
 use Rattle.lalrpop_base.proofs.theory.lists.Bounded.{in_flat_map}
-use Rattle.lalrpop_tables.proofs.theory.check.CheckSending.{same_place}
+use Rattle.lalrpop_base.proofs.theory.check.CheckSending.{same_place}
 use Rattle.lalrpop_base.proofs.theory.closures.Closing.{split_drop}
 use Rattle.lalrpop_tables.proofs.theory.states.EdgeLeads.{leads_within}
 use Rattle.lalrpop_tables.proofs.theory.lanes.Gains.{Gains-none, Gains-then, Gains-same}
 use Rattle.lalrpop_tables.proofs.theory.lanes.GainsSome.{GainsSome-last, GainsSome-none}
 use Rattle.lalrpop_base.proofs.theory.lists.Members.{contains_map, Contains-range}
 use Rattle.lalrpop_base.proofs.theory.lists.Places.{filled}
-use Rattle.lalrpop_tables.proofs.theory.lists.SomeOf.{some_none, some_kept, some_last, some_cases}
-use Rattle.lalrpop_tables.proofs.theory.lists.Walks.{All-wait, IsTraversing, Traversing-end, Traversing-smaller, Traversing-start, Traversing-step, next_visited, visited_such}
+use Rattle.lalrpop_tables.proofs.theory.lanes.SomeOf.{some_none, some_kept, some_last, some_cases}
+use Rattle.lalrpop_base.proofs.theory.collections.Walks.{All-wait, IsTraversing, Traversing-end, Traversing-smaller, Traversing-start, Traversing-step, next_visited, visited_such}
 use Rattle.lalrpop_tables.proofs.theory.lanes.Unepsilon.{parent_item}
 use Rattle.lalrpop_tables.proofs.theory.lanes.Unshifting.{back_cases}
 

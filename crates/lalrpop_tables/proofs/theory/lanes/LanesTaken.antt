@@ -1,13 +1,13 @@
 -- The lane of a reduction, or a part of it: the cell where it starts, and what the places give to which it leads back.
 use Rattle.std.proofs.Common.{◌≡◌, ℕ, suc, ◌⊎◌, inl, inr, length, refl, sym, ◌∙◌, ap, subst, true}
 use mathlib.Core.Bool.{true≢false}
-use Rattle.lalrpop_base.specs.Words.{Bits, has, no_bits, has-no_bits, IsTracedTo, IsLaneSuccessor, Contents, Rules, rules_of}
+use Rattle.lalrpop_base.specs.Words.{Bits, has, no_bits, has-no_bits, IsTracedTo, IsLaneSuccessor, Contents, Rules, rules_of, at_place}
 use Rattle.lalrpop_tables.proofs.Types.{Production, StateIndex}
-use Rattle.lalrpop_tables.specs.Words.{at_place, Gains, GainsSomeOfAll, Nothing, GivesCell, GivesBit, GivesSuccessor, Reaches, GainsAll, AddsTokens}
+use Rattle.lalrpop_tables.specs.Words.{Gains, GainsSomeOfAll, Nothing, GivesCell, GivesBit, GivesSuccessor, Reaches, GainsAll, AddsTokens}
 use Rattle.lalrpop_tables.specs.Words.{AreSameTables, places_in, GivesAt, IsLaneBit, TakesLane, TakesPartOfLane}
 use Rattle.lalrpop_tables.specs.declared.lane_table.lane.ground.Ground.{Ground}
 use Rattle.lalrpop_tables.specs.declared.lane_table.table.LaneTable.{LaneTable}
-use Rattle.lalrpop_tables.specs.declared.place.Place.{Place}
+use Rattle.lalrpop_base.specs.declared.lr1_core.place.Place.{Place}
 use Rattle.lalrpop_tables.proofs.theory.lanes.Gains.{same_index, as_well, Gains-tokens, Gains-then}
 use Rattle.lalrpop_tables.proofs.theory.lanes.GainsSome.{GainsSome-last, same_kept}
 

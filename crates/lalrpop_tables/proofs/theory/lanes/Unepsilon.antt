@@ -7,21 +7,22 @@ use Rattle.lalrpop_tables.proofs.Types.{NonterminalString, Production, State, Sy
 use Rattle.lalrpop_base.specs.declared.lookahead.token.Token.TheVariants.{Eof, Terminal as TokenOf}
 use Rattle.lalrpop_base.specs.declared.repr.Symbol.TheVariants.{Nonterminal}
 use Rattle.lalrpop_base.proofs.theory.states.ContentsViews.{contains_of_map}
-use Rattle.lalrpop_tables.specs.Words.{at_place, Gains, Nothing, Visits, IsHere, IsEnd, IsEndBit, IsParent, IsFollowBit, IsPassedOn, rest_of, Some_of}
+use Rattle.lalrpop_tables.specs.Words.{Gains, Nothing, IsHere, IsEnd, IsEndBit, IsParent, IsFollowBit, IsPassedOn, rest_of, Some_of}
+use Rattle.lalrpop_base.specs.Words.{at_place, Visits}
 use Rattle.lalrpop_tables.specs.Words.{GivesCell, GivesBit, GivesSuccessor, GainsOf, GainsSome, GainsSomeOf, VisitsOf, AreInRange, places_in}
 use Rattle.lalrpop_tables.specs.lanes.LaneSteps.{LeadsTo}
 use Rattle.lalrpop_tables.specs.declared.lane_table.lane.ground.Ground.{Ground}
-use Rattle.lalrpop_tables.specs.declared.walk.Walk.{Walk}
+use Rattle.lalrpop_base.specs.declared.collections.walk.Walk.{Walk}
 use Rattle.lalrpop_tables.specs.declared.lane_table.table.LaneTable.{LaneTable}
-use Rattle.lalrpop_tables.specs.declared.place.Place.{Place}
-use Rattle.lalrpop_tables.proofs.theory.check.CheckSending.{same_place}
+use Rattle.lalrpop_base.specs.declared.lr1_core.place.Place.{Place}
+use Rattle.lalrpop_base.proofs.theory.check.CheckSending.{same_place}
 use Rattle.lalrpop_base.proofs.theory.closures.Closing.{drop_split, split_drop}
 use Rattle.lalrpop_tables.proofs.theory.lanes.Gains.{Gains-none, Gains-then}
 use Rattle.lalrpop_tables.proofs.theory.lanes.GainsSome.{GainsSome-last, GainsSome-then, GainsSome-all, GainsSome-wider}
 use Rattle.lalrpop_base.proofs.theory.lists.Members.{contains_map}
-use Rattle.lalrpop_tables.proofs.theory.lists.SomeOf.{some_none, some_kept, some_last, some_cases}
+use Rattle.lalrpop_tables.proofs.theory.lanes.SomeOf.{some_none, some_kept, some_last, some_cases}
 use Rattle.lalrpop_tables.proofs.theory.lanes.Unshifting.{back_cases}
-use Rattle.lalrpop_tables.proofs.theory.lists.Walks.{Visits-none, Visits-then, Visits-same}
+use Rattle.lalrpop_base.proofs.theory.collections.Walks.{Visits-none, Visits-then, Visits-same}
 
 -- ---- what gives
 module _ (g : List Production) (start : NonterminalString) (states : ℕ → Contents) where

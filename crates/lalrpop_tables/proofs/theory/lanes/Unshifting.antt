@@ -2,27 +2,27 @@
 use Rattle.std.proofs.Common.{◌≡◌, ℕ, suc, ◌-◌, ◌<◌, ◌⊎◌, inl, inr, ◌↔◌, List, [], ◌∷◌, ◌++◌, reverse, drop, refl, sym, ◌∙◌, ap, subst, arith, Some, append_assoc, append-nil}
 use Rattle.std.specs.Prelude.{Contains, slice_get}
 use Rattle.std.proofs.lemmas.List.Elements.{Contains-append_right, Contains-push_cases}
-use Rattle.lalrpop_base.specs.Words.{IsNullable, LeadsBack, to_parent, behind_parent, of_start, Contents, leads, rules_of}
+use Rattle.lalrpop_base.specs.Words.{IsNullable, LeadsBack, to_parent, behind_parent, of_start, Contents, leads, rules_of, at_place, Visits}
 use Rattle.lalrpop_base.specs.lanes.Lanes.{over_edge, Gives}
 use Rattle.lalrpop_tables.proofs.Types.{NonterminalString, Production, StateIndex, Symbol, Token}
 use Rattle.lalrpop_base.specs.declared.repr.Symbol.TheVariants.{Nonterminal}
-use Rattle.lalrpop_tables.specs.Words.{at_place, IsGround, Gains, GainsSome, Nowhere, Nothing, IsPair, Visits, Some_of, GivesCell, GivesBit, GivesSuccessor}
+use Rattle.lalrpop_tables.specs.Words.{IsGround, Gains, GainsSome, Nowhere, Nothing, IsPair, Some_of, GivesCell, GivesBit, GivesSuccessor}
 use Rattle.lalrpop_tables.specs.Words.{GainsOf, GainsSomeOf, VisitsOf, AreInRange, places_in, edge, edges, sources_over}
 use Rattle.lalrpop_tables.specs.lanes.LaneSteps.{LeadsTo}
 use Rattle.lalrpop_tables.specs.declared.lane_table.lane.ground.Ground.{Ground}
-use Rattle.lalrpop_tables.specs.declared.walk.Walk.{Walk}
+use Rattle.lalrpop_base.specs.declared.collections.walk.Walk.{Walk}
 use Rattle.lalrpop_tables.specs.declared.lane_table.table.LaneTable.{LaneTable}
-use Rattle.lalrpop_tables.specs.declared.place.Place.{Place}
-use Rattle.lalrpop_tables.proofs.theory.check.CheckSending.{same_place}
+use Rattle.lalrpop_base.specs.declared.lr1_core.place.Place.{Place}
+use Rattle.lalrpop_base.proofs.theory.check.CheckSending.{same_place}
 use Rattle.lalrpop_base.proofs.theory.closures.Closing.{drop_split, split_drop}
 use Rattle.lalrpop_tables.proofs.theory.states.EdgeLeads.{leads_edge}
 use Rattle.lalrpop_tables.proofs.theory.lanes.Gains.{Gains-none, Gains-then, Gains-same}
 use Rattle.lalrpop_tables.proofs.theory.lanes.GainsSome.{GainsSome-last}
 use Rattle.lalrpop_base.proofs.theory.lists.Members.{Contains-none, contains_head, Contains-reverse, Contains-from_reverse}
 use Rattle.lalrpop_base.proofs.theory.lists.Places.{same_some}
-use Rattle.lalrpop_tables.proofs.theory.lists.SomeOf.{some_none, some_kept, some_last, some_cases}
+use Rattle.lalrpop_tables.proofs.theory.lanes.SomeOf.{some_none, some_kept, some_last, some_cases}
 use Rattle.lalrpop_tables.proofs.theory.graphs.Stepping.{source_edge, edge_source}
-use Rattle.lalrpop_tables.proofs.theory.lists.Walks.{Visits-none, Visits-then, Visits-same}
+use Rattle.lalrpop_base.proofs.theory.collections.Walks.{Visits-none, Visits-then, Visits-same}
 
 -- ---- what leads back, and what gives
 module _ (g : List Production) (states : ℕ → Contents) where

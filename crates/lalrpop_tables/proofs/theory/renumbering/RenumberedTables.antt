@@ -9,7 +9,8 @@ use Rattle.lalrpop_base.specs.declared.lr1_core.state.Items.{Items}
 use Rattle.lalrpop_tables.proofs.Types.{Grammar, NonterminalString, Production, State, TerminalString}
 use Rattle.lalrpop_base.proofs.theory.renumbering.Renumbering.{faithful-renumbered}
 use Rattle.lalrpop_tables.specs.Words.{AreMergedTables, AreRenumberedMerged, AreLaneTables, HaveFullItems, AreCopiedTables, AreLr0Copies}
-use Rattle.lalrpop_tables.specs.Words.{AreRenumberedCopies, AreRenumberedTables, AreRenumberedLaneTables, Construction, AreTables, canonical_of}
+use Rattle.lalrpop_tables.specs.Words.{AreRenumberedCopies, AreRenumberedTables, AreRenumberedLaneTables}
+use Rattle.lalrpop_base.specs.Words.{Construction, AreTables, canonical_of}
 use Rattle.lalrpop_base.proofs.theory.lists.Places.{same_some, filled}
 use Rattle.lalrpop_base.proofs.theory.renumbering.Renumbered.{entry_from}
 

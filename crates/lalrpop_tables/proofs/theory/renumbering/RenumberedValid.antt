@@ -2,10 +2,9 @@
 use Rattle.std.proofs.Common.{◌≡◌, ◌↔◌, ℕ, ◌<◌, inl, inr, List, [], sym, ◌∙◌, ap, subst, arith, Some}
 use Rattle.std.specs.Prelude.{Contains, slice_get, map}
 use Rattle.std.proofs.lemmas.Bool.{cases_lt}
-use Rattle.lalrpop_base.specs.Words.{Bits, Valid, ValidToken, Rules, HasItemToken, AreRenumbered}
+use Rattle.lalrpop_base.specs.Words.{Bits, Valid, ValidToken, Rules, HasItemToken, AreRenumbered, IsStateFor, HaveSameContents, AreSomeCanonicalStates}
 use Rattle.lalrpop_tables.proofs.Types.{NonterminalString, State, Symbol, TerminalString}
 use Rattle.lalrpop_base.specs.closures.Closure.{dotted_of}
-use Rattle.lalrpop_tables.specs.Words.{IsStateFor, HaveSameContents, AreSomeCanonicalStates}
 use Rattle.lalrpop_tables.proofs.theory.renumbering.RenumberedTables.{state_before}
 use Rattle.lalrpop_base.proofs.theory.lists.BothFacts.{turned_both}
 

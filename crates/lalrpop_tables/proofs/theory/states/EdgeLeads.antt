@@ -7,14 +7,14 @@ use Rattle.std.specs.declared.cmp.Ordering.{Ordering}
 use Rattle.std.proofs.lemmas.List.Elements.{Contains-append_left, Contains-append_right, Contains-append_cases}
 use Rattle.std.proofs.lemmas.Map.Entries.{btree_map_get_place}
 use Rattle.std.proofs.lemmas.Option.{slice_get_within}
-use Rattle.lalrpop_base.specs.Words.{number_of, contents_at, leads, name_cmp}
+use Rattle.lalrpop_base.specs.Words.{number_of, contents_at, leads, name_cmp, HasTransition}
 use Rattle.lalrpop_base.specs.contracts.repr.TerminalStringOrd.TheImpl as terminal_ord
 use Rattle.lalrpop_base.specs.contracts.repr.NonterminalStringOrd.TheImpl as name_ord
 use Rattle.lalrpop_tables.proofs.Types.{NonterminalString, State, StateIndex, Symbol, TerminalString, Token}
 use Rattle.lalrpop_base.specs.declared.repr.Symbol.TheVariants.{Nonterminal, Terminal}
 use Rattle.lalrpop_base.proofs.theory.states.ContentsViews.{contains_of_map}
-use Rattle.lalrpop_tables.specs.Words.{places_in, Edge, edge, edges, edges_of, edges_from, shift_edges, goto_edges, HasTransition}
-use Rattle.lalrpop_tables.proofs.theory.states.StateEdges.{leads_transition}
+use Rattle.lalrpop_tables.specs.Words.{places_in, Edge, edge, edges, edges_of, edges_from, shift_edges, goto_edges}
+use Rattle.lalrpop_base.proofs.theory.construction.StateEdges.{leads_transition}
 use Rattle.lalrpop_base.proofs.theory.lists.Members.{Contains-none, contains_map, place}
 
 -- the value of an entry

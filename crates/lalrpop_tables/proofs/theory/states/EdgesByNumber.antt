@@ -4,18 +4,16 @@ use Rattle.std.specs.Prelude.{Contains, slice_get}
 use Rattle.std.specs.Map.{keys_of}
 use Rattle.std.proofs.lemmas.List.Elements.{Contains-append_left, Contains-push, Contains-push_cases}
 use Rattle.std.proofs.lemmas.Option.{slice_get-map, slice_get_within}
-use Rattle.lalrpop_base.specs.Words.{AllDiffer}
+use Rattle.lalrpop_base.specs.Words.{AllDiffer, NumbersAscend, AreEdgesListed, Entries, HasEntry, IsEntryAdded, edge_entries, list_entries}
 use Rattle.lalrpop_base.specs.declared.repr.Symbol.TheVariants.{Nonterminal, Terminal}
 use Rattle.lalrpop_base.proofs.theory.lists.Members.{Contains-none, place}
 use Rattle.lalrpop_base.proofs.theory.lists.Places.{one_place, places_apart, push_cases, same_some}
 use Rattle.lalrpop_base.proofs.theory.states.ContentsViews.{some_of_map}
 use Rattle.lalrpop_tables.proofs.Types.{NonterminalString, StateIndex, Symbol, TerminalString}
-use Rattle.lalrpop_tables.proofs.theory.states.Moves.{edge_of, entry_from, entry_kept, entry_there, listed_of, no_entry}
-use Rattle.lalrpop_tables.specs.grammars.Numbers.{NumbersAscend}
+use Rattle.lalrpop_base.proofs.theory.construction.Moves.{edge_of, entry_from, entry_kept, entry_there, listed_of, no_entry}
 use Rattle.lalrpop_tables.specs.states.NumberedStates.{AddsGotos, AddsShifts, AreEdgesBy, AreListedBy, EdgesAscend, HasKeys, IsKeyAt}
-use Rattle.lalrpop_tables.specs.states.Transitions.{AreEdgesListed, Entries, HasEntry, IsEntryAdded, edge_entries, list_entries}
-use Rattle.lalrpop_tables.specs.declared.construction.transitions.EdgeLists.{EdgeLists}
-use Rattle.lalrpop_tables.specs.declared.construction.transitions.Edges.{Edges}
+use Rattle.lalrpop_base.specs.declared.lr1_core.transitions.TransitionLists.{TransitionLists}
+use Rattle.lalrpop_base.specs.declared.lr1_core.transitions.Transitions.{Transitions}
 
 -- ---- which there are
 pub ListedBy-none : (symbols : List Symbol) (list : List (ℕ × ℕ)) (entries : Entries) → list ≡ [] → entries.shifts ≡ [] → entries.gotos ≡ [] → AreListedBy symbols list entries
@@ -119,7 +117,7 @@ one_target list ascend x m k a b =
     ]
 
 -- those of lists are those of the maps that these make
-pub EdgesBy-all : (symbols : List Symbol) (list : List (ℕ × ℕ)) (lists : EdgeLists) (edges : Edges) → AreListedBy symbols list (list_entries lists) → AreEdgesListed lists edges → EdgesAscend list → AreEdgesBy symbols list (edge_entries edges)
+pub EdgesBy-all : (symbols : List Symbol) (list : List (ℕ × ℕ)) (lists : TransitionLists) (edges : Transitions) → AreListedBy symbols list (list_entries lists) → AreEdgesListed lists edges → EdgesAscend list → AreEdgesBy symbols list (edge_entries edges)
 EdgesBy-all symbols list lists edges listed made ascend = record {
   listed = record {
     named = listed.named;

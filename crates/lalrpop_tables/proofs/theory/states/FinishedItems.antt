@@ -7,7 +7,7 @@ use Rattle.lalrpop_base.specs.Words.{AllDiffer}
 use Rattle.lalrpop_base.proofs.theory.lists.Members.{Contains-none, place}
 use Rattle.lalrpop_base.proofs.theory.lists.Places.{differ_push, slice_get-longer, slice_get-push_at}
 use Rattle.lalrpop_tables.specs.states.NumberedStates.{HasFinished, finished_at, finished_in, finished_only}
-use Rattle.lalrpop_tables.specs.declared.construction.numbers.Numbers.{Numbers}
+use Rattle.lalrpop_base.specs.declared.numbers.Numbers.{Numbers}
 
 -- each is there, and no other, once where the items differ
 pub record AreFinishedOf (n : Numbers) (items finished : List ℕ) : Type 0 where

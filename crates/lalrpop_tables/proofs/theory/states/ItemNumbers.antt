@@ -3,22 +3,20 @@ use Rattle.std.proofs.Common.{◌≡◌, ◌∙◌, ℕ, List, length, map, sym,
 use Rattle.std.specs.Prelude.{slice_get, option_map, Contains}
 use Rattle.std.proofs.lemmas.List.{length-map}
 use Rattle.std.proofs.lemmas.Option.{slice_get_within, slice_get-map}
-use Rattle.lalrpop_base.specs.Words.{AllDiffer, Dotted, InKernel}
+use Rattle.lalrpop_base.specs.Words.{AllDiffer, Dotted, InKernel, with_dot, dotted_at, item_by, items_by, Ascend}
 use Rattle.lalrpop_base.specs.closures.Closure.{dotted_of}
-use Rattle.lalrpop_base.specs.grammars.Ascending.{Ascend}
 use Rattle.lalrpop_base.proofs.theory.lists.Members.{contains_map, place}
 use Rattle.lalrpop_base.proofs.theory.lists.Places.{contains_at, filled, one_place, same_some}
 use Rattle.lalrpop_base.proofs.theory.grammars.Tables.{same_lr0}
 use Rattle.lalrpop_base.proofs.theory.states.ContentsViews.{contains_of_map, some_of_map}
 use Rattle.lalrpop_tables.proofs.Types.{Nil, Production}
-use Rattle.lalrpop_tables.proofs.theory.grammars.Numbers.{stands_at}
-use Rattle.lalrpop_tables.proofs.theory.states.NumberedItems.{AreNumbered, items_differ}
-use Rattle.lalrpop_tables.proofs.theory.states.Shifting.{of_dotted}
-use Rattle.lalrpop_tables.specs.grammars.Numbering.{with_dot}
-use Rattle.lalrpop_tables.specs.grammars.Numbers as numbers
-use Rattle.lalrpop_tables.specs.grammars.Numbers.{dotted_at, item_by, items_by}
+use Rattle.lalrpop_base.proofs.theory.numbers.Numbers.{stands_at}
+use Rattle.lalrpop_tables.proofs.theory.states.NumberedItems.{AreNumbered}
+use Rattle.lalrpop_base.proofs.theory.grammars.AscendingItems.{items_differ}
+use Rattle.lalrpop_base.proofs.theory.construction.Shifting.{of_dotted}
+use Rattle.lalrpop_base.specs.numbers.Numbers as numbers
 use Rattle.lalrpop_tables.specs.states.NumberedStates.{AreItemsAt, number_in}
-use Rattle.lalrpop_tables.specs.declared.construction.numbered.Numbered.{Numbered}
+use Rattle.lalrpop_base.specs.declared.numbers.numbered.Numbered.{Numbered}
 
 -- items by number have the numbers that they are made of
 pub items_at_by : {L : Type 0} (known : List (Dotted Nil)) (list : List (Numbered L)) → numbers.AreNumbered known list → AreItemsAt known (map number_in list) (items_by known list)

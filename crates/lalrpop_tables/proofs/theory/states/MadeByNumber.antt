@@ -4,22 +4,17 @@ use Rattle.std.specs.Prelude.{slice_get, Contains, option_map}
 use Rattle.std.specs.List.{AllZip}
 use Rattle.std.proofs.lemmas.List.{length-map}
 use Rattle.std.proofs.lemmas.Option.{slice_get-map, slice_get_within}
-use Rattle.lalrpop_base.specs.Words.{Dotted, Rules, contents_of, leads}
+use Rattle.lalrpop_base.specs.Words.{Dotted, Rules, contents_of, leads, reductions_of, seen_reduction, state_entries, with_dot, AreNumbers, IsNumberBehind}
 use Rattle.lalrpop_base.proofs.theory.lists.Members.{zipped_length}
 use Rattle.lalrpop_base.proofs.theory.lists.Places.{filled}
 use Rattle.lalrpop_tables.proofs.Types.{Production, State, Symbol, Token}
-use Rattle.lalrpop_tables.proofs.theory.lists.Zipped.{zip_at}
+use Rattle.lalrpop_base.proofs.theory.lists.Zipped.{zip_at, push_both, push_counted}
 use Rattle.lalrpop_tables.proofs.theory.states.ItemNumbers.{Items-numbered}
-use Rattle.lalrpop_tables.proofs.theory.lists.Pushes.{push_both, push_counted}
 use Rattle.lalrpop_tables.proofs.theory.states.EdgesByNumber.{one_target}
 use Rattle.lalrpop_tables.proofs.theory.states.NumberedItems.{dots_in}
-use Rattle.lalrpop_tables.proofs.theory.states.StateEdges.{leads_transition, transition_leads}
-use Rattle.lalrpop_tables.specs.Words.{reductions_of, seen}
-use Rattle.lalrpop_tables.specs.states.States.{state_entries}
-use Rattle.lalrpop_tables.specs.grammars.Numbering.{with_dot}
-use Rattle.lalrpop_tables.specs.grammars.Numbers.{AreNumbers, IsNumberBehind}
+use Rattle.lalrpop_base.proofs.theory.construction.StateEdges.{leads_transition, transition_leads}
 use Rattle.lalrpop_tables.specs.states.NumberedStates.{AreEdgesBy, AreItemsAt, AreNumberedAs, IsMadeByNumber, IsNumberedAs, IsNumberedState, finished_at, finished_in, finished_only}
-use Rattle.lalrpop_tables.specs.declared.construction.numbers.Numbers.{Numbers}
+use Rattle.lalrpop_base.specs.declared.numbers.Numbers.{Numbers}
 use Rattle.lalrpop_tables.specs.declared.construction.numbered_state.NumberedState.{NumberedState}
 
 module _ {L : Type 0} (g : Rules) (n : Numbers) (numbers : AreNumbers g n) where
@@ -84,14 +79,14 @@ module _ {L : Type 0} (g : Rules) (n : Numbers) (numbers : AreNumbers g n) where
     -- and with its reductions, where these are those of the finished items
     pub Numbered-as : IsMadeByNumber n state.items.items state.edges.items old → state.reductions.items ≡ finished_in n state.items.items → IsNumberedAs n old state
     Numbered-as made same =
-        let zip : AllZip IsFinishedBy state.reductions.items (map seen old.reductions.items) =
+        let zip : AllZip IsFinishedBy state.reductions.items (map seen_reduction old.reductions.items) =
         subst (λ (rs : List (L × Production)). AllZip IsFinishedBy state.reductions.items rs) (sym made.finished)
         (subst (λ (ks : List ℕ). AllZip IsFinishedBy ks (reductions_of old.items.vec.items)) (sym same) (Finished-zip state.items.items old.items.vec.items made.items)) in
         record {
           is = Numbered-state made.items made.edges;
           reduced = record {
-            counted = sym (zipped_length IsFinishedBy state.reductions.items (map seen old.reductions.items) zip) ∙ length-map old.reductions.items seen;
-            each = λ j k r at_r at_k. zip_at IsFinishedBy state.reductions.items (map seen old.reductions.items) zip j k (seen r) at_k (slice_get-map seen old.reductions.items j ∙ ap (option_map seen) at_r);
+            counted = sym (zipped_length IsFinishedBy state.reductions.items (map seen_reduction old.reductions.items) zip) ∙ length-map old.reductions.items seen_reduction;
+            each = λ j k r at_r at_k. zip_at IsFinishedBy state.reductions.items (map seen_reduction old.reductions.items) zip j k (seen_reduction r) at_k (slice_get-map seen_reduction old.reductions.items j ∙ ap (option_map seen_reduction) at_r);
           };
         }
 

@@ -5,13 +5,12 @@ use Rattle.std.specs.declared.cmp.Ordering.TheVariants.{Less, Greater}
 use Rattle.std.proofs.Math.Seq.{drop-cons}
 use Rattle.std.proofs.lemmas.List.{drop_all}
 use Rattle.std.proofs.lemmas.Option.{slice_get-get_or, slice_get_within}
-use Rattle.lalrpop_base.specs.Words.{AllDiffer}
+use Rattle.lalrpop_base.specs.Words.{AllDiffer, SymbolsAscend, symbol_order}
 use Rattle.lalrpop_tables.proofs.Types.{NonterminalString, Symbol, TerminalString}
 use Rattle.lalrpop_base.specs.declared.repr.Symbol.TheVariants.{Nonterminal, Terminal}
 use Rattle.lalrpop_base.proofs.theory.conflicts.ConflictLists.{ordered-head, ordered-tail}
 use Rattle.lalrpop_tables.specs.follow_sets.FollowNodes.{as_pair, nonterminals_of}
 use Rattle.lalrpop_tables.specs.states.NumberedStates.{EdgesAscend}
-use Rattle.lalrpop_tables.specs.grammars.Numbers.{SymbolsAscend, symbol_order}
 use Rattle.lalrpop_base.proofs.theory.lists.Places.{contains_at, filled, same_some}
 use Rattle.lalrpop_base.proofs.theory.lists.SortedPlaces.{Sorted-places}
 

@@ -1,19 +1,10 @@
--- Items and reductions by the numbers of their dotted productions, one after the other.
-use Rattle.std.proofs.Common.{◌≡◌, ◌∙◌, inl, inr, ℕ, ◌<◌, List, [], ◌∷◌, ◌++◌, length, refl, sym, ap, subst, map}
+-- Items by the numbers of their dotted productions.
+use Rattle.std.proofs.Common.{◌≡◌, ◌∙◌, ℕ, ◌<◌, List, length, ap, subst, map}
 use Rattle.std.specs.Prelude.{◌↔◌, slice_get, Some, Contains}
-use Rattle.std.specs.Borrow.{Bor}
-use Rattle.lalrpop_base.specs.Words.{AllDiffer, Bits, Dotted}
+use Rattle.lalrpop_base.specs.Words.{Dotted}
 use Rattle.lalrpop_tables.proofs.Types.{Nil, Production}
 use Rattle.lalrpop_base.proofs.theory.states.ContentsViews.{contains_map, contains_of_map}
-use Rattle.lalrpop_base.specs.grammars.Ascending.{Ascend}
-use Rattle.lalrpop_tables.specs.states.NumberedStates.{AreReducedNumbers, HasDots}
-use Rattle.lalrpop_tables.specs.grammars.Numbering.{with_dot}
-use Rattle.lalrpop_base.proofs.theory.grammars.AscendingItems.{precedes_asymmetric}
-use Rattle.lalrpop_tables.proofs.theory.lists.Pushes.{push_both, push_counted}
-
--- dotted productions that ascend differ
-pub items_differ : (items : List (Dotted Nil)) → Ascend items → AllDiffer items
-items_differ items ascend i j x l at_i at_j = let before = ascend i j x x l at_i at_j in precedes_asymmetric x x before before
+use Rattle.lalrpop_tables.specs.states.NumberedStates.{HasDots}
 
 -- ---- the items of a state
 -- these are the numbers of the items that have any
@@ -33,18 +24,3 @@ dots_in {L} items i =
           let f = contains_of_map parts items same c in
           (f.0, f.1, ap (λ (q : Production × ℕ). q.0) f.2, ap (λ (q : Production × ℕ). q.1) f.2),
     )
-
--- ---- the reductions of a state
--- no reductions have none
-pub Reduced-none : (items : List (Dotted Nil)) → AreReducedNumbers {L = Bits} items [] []
-Reduced-none items = record { counted = refl; each = λ j k r at. cc }
-
--- one reduction more
-pub Reduced-more : (items : List (Dotted Nil)) (done : List (Bits × Bor Production)) (r : Bits × Bor Production) (list : List ℕ) (n : ℕ) → AreReducedNumbers items done list → slice_get items n ≡ Some (with_dot r.1.now (length r.1.now.symbols)) → AreReducedNumbers items (done ++ r ∷ []) (list ++ n ∷ [])
-Reduced-more items done r list n before at = record {
-  counted = push_counted done r list n before.counted;
-  each = λ j k q at_q at_k. elim (push_both done r list n before.counted j q k at_q at_k) [
-    | inl was ↦ before.each j k q was.0 was.1
-    | inr new ↦ ap (slice_get items) (sym new.2) ∙ at ∙ ap (λ (p : Bits × Bor Production). Some (with_dot p.1.now (length p.1.now.symbols))) new.1
-  ];
-}

@@ -1,14 +1,13 @@
 //! Whether the symbols behind dots lead to states that list the moved items.
 ghost use Rattle.std.specs.Prelude.{◌≡◌, ◌<◌, ℕ, length, slice_get, Some, Contains, IsTrue};
-ghost use Rattle.lalrpop_base.specs.Words.{Rules};
+ghost use Rattle.lalrpop_base.specs.Words.{Rules, AreNumbers};
 ghost use Rattle.lalrpop_tables.specs.check.ByNumber.{AllLeadOn, LeadOn, LeadsOn};
-ghost use Rattle.lalrpop_tables.specs.grammars.Numbers.{AreNumbers};
 ghost use Rattle.lalrpop_tables.specs.states.NumberedStates.{EdgesAscend};
 ghost use Rattle.lalrpop_tables.specs.declared.construction.numbered_state.NumberedState.{NumberedState as ByNumbers};
 
 use crate::construction::numbered_state::NumberedState;
-use crate::construction::numbers::Numbers;
 use crate::lane_table::follow_sets::edges::place_of;
+use lalrpop_base::numbers::Numbers;
 
 // Whether halving finds a number.
 fn has_number(list: &[usize], number: usize) -> bool

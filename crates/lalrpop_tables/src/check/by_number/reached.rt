@@ -1,6 +1,6 @@
 //! Whether states are reached from the first, to which no edge leads.
 ghost use Rattle.std.specs.Prelude.{◌≡◌, ◌<◌, ◌⊎◌, length, slice_get, Some, true, IfOk, IsFalse, IsTrue};
-ghost use Rattle.lalrpop_base.specs.states.CheckStates.{LeadsBy, IsTarget};
+ghost use Rattle.lalrpop_base.specs.Words.{LeadsBy, IsTarget};
 ghost use Rattle.lalrpop_tables.specs.check.ByNumber.{AreReachedByNumber, MarksTarget, MarksTargets};
 
 use crate::construction::numbered_state::NumberedState;

@@ -16,7 +16,7 @@ use lalrpop_base::repr::grammar::Grammar;
 use std::alloc::Global;
 
 // Whether a set holds all tokens of another.
-#[tactic(auto, using(crate::proofs::theory::check::CheckSending::holds_joined))]
+#[tactic(auto, using(lalrpop_base::proofs::theory::check::CheckSending::holds_joined))]
 fn holds_all(alloc: Global, set: &TokenSet, other: &TokenSet) -> Result<bool, OutOfMemory>
     ensures { IfOk result (λ yes. IsTrue yes →
         (bit : ℕ) → IsTrue (has other.now bit) → IsTrue (has set.now bit)) }

@@ -1,14 +1,14 @@
 //! The kernels that are expected of states.
 ghost use Rattle.std.specs.Prelude.{IfSome, IsTrue};
-ghost use Rattle.lalrpop_tables.specs.check.ExpectedKernels.{AreMovedKernel, IsMovedNumber, NumbersRise};
+ghost use Rattle.lalrpop_base.specs.Words.{AreMovedKernel, IsMovedNumber, NumbersRise};
 ghost use Rattle.lalrpop_tables.specs.states.NumberedStates.{EdgesAscend};
 
-use crate::construction::numbered::Numbered;
 use crate::construction::numbered_state::NumberedState;
-use crate::construction::numbers::Numbers;
 use crate::lane_table::follow_sets::edges::place_of;
 use lalrpop_base::lookahead::nil::Nil;
 use lalrpop_base::memory::OutOfMemory;
+use lalrpop_base::numbers::Numbers;
+use lalrpop_base::numbers::numbered::Numbered;
 use std::alloc::Global;
 
 /// For each state the kernel that is expected of it, by number: what the first state that leads

@@ -1,22 +1,21 @@
 //! States by number, each of which lists the closure of its kernel.
 ghost use Rattle.std.specs.Prelude.{◌≡◌, ◌<◌, ℕ, length, Contains, IfOk, IfSome};
-ghost use Rattle.lalrpop_base.specs.Words.{AllDiffer, AreItemsBy, Rules};
+ghost use Rattle.lalrpop_base.specs.Words.{AllDiffer, AreItemsBy, Rules, IsKernelOf, no_tokens, AreNumbered, AreNumbers, NumbersAscend, items_by};
 ghost use Rattle.lalrpop_tables.specs.check.ByNumber.{AreListedByNumber, IsListedOver, ListsClosure};
-ghost use Rattle.lalrpop_tables.specs.check.ExpectedKernels.{IsKernelOf, no_tokens};
-ghost use Rattle.lalrpop_tables.specs.grammars.Numbers.{AreNumbered, AreNumbers, NumbersAscend, items_by};
 
 use super::kernels::Kernels;
 use super::transitions::{are_items, are_reductions, take_gotos, take_shifts};
 use crate::construction::closure::closure;
 use crate::construction::lr::Lr;
-use crate::construction::numbered::{Numbered, list_numbers};
+use crate::construction::numbered::list_numbers;
 use crate::construction::numbered_state::{NumberedState, finished_of};
-use crate::construction::numbers::Numbers;
 use crate::construction::workspace::Workspace;
 use lalrpop_base::collections::sparse_map::SparseMap;
 use lalrpop_base::lookahead::nil::Nil;
 use lalrpop_base::lr1_core::state::Lr1State;
 use lalrpop_base::memory::OutOfMemory;
+use lalrpop_base::numbers::Numbers;
+use lalrpop_base::numbers::numbered::Numbered;
 use std::alloc::Global;
 
 // Adds the symbol behind the dot of an item.
@@ -89,7 +88,7 @@ fn state_over<'grammar>(
 }
 
 // The kernel that is expected of a state: of the first the productions of the start symbol.
-#[tactic(auto, using(crate::proofs::theory::check::ExpectedKernels::moved_kernel, crate::proofs::theory::check::NumberedSteps::if_some))]
+#[tactic(auto, using(lalrpop_base::proofs::theory::check::ExpectedKernels::moved_kernel, crate::proofs::theory::check::NumberedSteps::if_some))]
 fn kernel_of<'list>(
     _lr: &Lr<'_, Nil>,
     numbers: &Numbers<'_>,

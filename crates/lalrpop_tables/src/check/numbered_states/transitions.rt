@@ -1,15 +1,15 @@
 //! Items, transitions and reductions that have the numbers which are expected of them.
 ghost use Rattle.std.specs.Prelude.{◌≡◌, slice_get, Some, IfOk, IfSome, IsTrue, OnOk};
-ghost use Rattle.lalrpop_tables.specs.grammars.Numbering.{with_dot};
+ghost use Rattle.lalrpop_base.specs.Words.{with_dot};
 ghost use Rattle.lalrpop_tables.specs.states.NumberedStates.{AddsGotos, AddsShifts, AreItemsAt, AreReducedNumbers, HasKeys, IsKeyAt};
 
-use crate::construction::numbers::Numbers;
 use lalrpop_base::exact::equal;
 use lalrpop_base::lookahead::nil::Nil;
 use lalrpop_base::lookahead::token_set::TokenSet;
 use lalrpop_base::lr1_core::item::Lr1Item;
 use lalrpop_base::lr1_core::state::StateIndex;
 use lalrpop_base::memory::OutOfMemory;
+use lalrpop_base::numbers::Numbers;
 use lalrpop_base::repr::{NonterminalString, Production, Symbol, TerminalString};
 use std::alloc::Global;
 use std::collections::BTreeMap;

@@ -6,9 +6,9 @@ ghost use Rattle.lalrpop_base.specs.declared.lr1_core.state.Action.{Action as Th
 ghost use Rattle.lalrpop_base.specs.conflicts.HeldShifts.{held_shift, IsHeldBit};
 ghost use Rattle.lalrpop_tables.specs.lane_states.LaneStates.{ActionsAscend, AreActions, asked_actions, reduce_action};
 
-use crate::conflicts::holds_terminal;
 use lalrpop_base::collections::Set;
 use lalrpop_base::lookahead::token_set::TokenSet;
+use lalrpop_base::lr1_core::all_conflicts::holds_terminal;
 use lalrpop_base::lr1_core::state::{Action, Lr1State, StateIndex};
 use lalrpop_base::memory::OutOfMemory;
 use lalrpop_base::repr::terminals::TerminalSet;

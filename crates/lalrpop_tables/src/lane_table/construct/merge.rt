@@ -6,15 +6,13 @@ mod walk;
 
 ghost use Rattle.std.specs.Prelude.{◌≡◌, ◌≤◌, ◌↔◌, ℕ, Bool, true, false, List, length, slice_get, Some, Contains, IfOk, IsTrue, OnOk, IfErr};
 ghost use Rattle.std.specs.Map.{keys_of};
-ghost use Rattle.lalrpop_base.specs.Words.{Bits, AreCoherent, contents, IsCopying};
+ghost use Rattle.lalrpop_base.specs.Words.{Bits, AreCoherent, contents, IsCopying, AreDisjoint, number_in};
 ghost use Rattle.lalrpop_base.specs.declared.lr1_core.state.State.{State};
 ghost use Rattle.lalrpop_base.specs.declared.lr1_core.state.StateIndex.{StateIndex as Number};
 ghost use Rattle.lalrpop_base.specs.declared.repr.TerminalString.{TerminalString as Terminal};
-ghost use Rattle.lalrpop_base.specs.lanes.Contexts.{AreDisjoint};
 ghost use Rattle.lalrpop_tables.specs.graphs.GraphCopies.{FollowsCopies};
 ghost use Rattle.lalrpop_tables.specs.lane_tables.LaneTables.{HasRow, IsClosed, IsRow};
 ghost use Rattle.lalrpop_tables.specs.merges.Merges.{Advances, AreCopies, HasWalked, IsMergeError, IsMerging, IsPatchable, IsResolvedCopy, TookOwnColumns};
-ghost use Rattle.lalrpop_base.specs.renumbering.Renumbered.{number_in};
 ghost use Rattle.lalrpop_tables.specs.declared.lane_table.construct.merge.MergeError.TheVariants.{Memory};
 
 use self::context_sets::ContextSets;

@@ -1,10 +1,9 @@
 //! States that are merged along the lanes of one state, and copied where their tokens overlap.
 ghost use Rattle.std.specs.Prelude.{◌≡◌, ◌↔◌, ◌+◌, true, false, List, length, slice_get, Some, Contains, IfOk, OnOk};
 ghost use Rattle.std.specs.Map.{keys_of};
-ghost use Rattle.lalrpop_base.specs.Words.{AreCoherent, Bits};
+ghost use Rattle.lalrpop_base.specs.Words.{AreCoherent, Bits, AreAmong, AreDisjoint};
 ghost use Rattle.lalrpop_base.specs.declared.lr1_core.state.State.{State};
 ghost use Rattle.lalrpop_base.specs.declared.lr1_core.state.StateIndex.{StateIndex as Number};
-ghost use Rattle.lalrpop_base.specs.lanes.Contexts.{AreAmong, AreDisjoint};
 ghost use Rattle.lalrpop_tables.specs.lane_tables.LaneTables.{HasRow, IsClosed, IsRow};
 ghost use Rattle.lalrpop_tables.specs.merges.Merges.{Advances, AreCopies, IsMerging, IsPatchable};
 ghost use Rattle.lalrpop_tables.specs.lane_states.Resolving.{IsCopied};

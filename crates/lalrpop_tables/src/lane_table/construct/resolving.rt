@@ -1,6 +1,6 @@
 //! The tokens of the reductions of one state.
 ghost use Rattle.std.specs.Prelude.{◌≡◌, length, IfOk, OnErr, MatchBool};
-ghost use Rattle.lalrpop_base.specs.lanes.Contexts.{AreAmong};
+ghost use Rattle.lalrpop_base.specs.Words.{AreAmong};
 ghost use Rattle.lalrpop_tables.specs.lane_states.LaneStates.{IsAttempted};
 ghost use Rattle.lalrpop_tables.specs.lane_tables.LaneTables.{AreInRange, ColumnsOverlap};
 

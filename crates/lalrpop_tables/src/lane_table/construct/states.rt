@@ -1,19 +1,18 @@
 //! All states of a construction, promoted and then resolved.
 ghost use Rattle.std.specs.Prelude.{IfOk, OnOk, MatchOption};
-ghost use Rattle.lalrpop_base.specs.Words.{rules_of};
+ghost use Rattle.lalrpop_base.specs.Words.{rules_of, AreNumbers};
 ghost use Rattle.lalrpop_tables.specs.lane_states.LaneStates.{AreLaneStates, AreLaneTables, HaveMeetingLanes, HoldAllFrom, IsReadyToConstruct};
-ghost use Rattle.lalrpop_tables.specs.grammars.Numbers.{AreNumbers};
 ghost use Rattle.lalrpop_tables.specs.states.NumberedStates.{AreNumberedStates};
 
 use super::LaneTableConstruct;
 use super::promote::promote_states;
 use crate::construction::numbered_state::NumberedState;
-use crate::construction::numbers::Numbers;
 use crate::construction::states::NumberedStates;
 use crate::lane_table::follow_sets::Found;
 use lalrpop_base::lookahead::token_set::TokenSet;
 use lalrpop_base::lr1_core::state::Lr1State;
 use lalrpop_base::memory::OutOfMemory;
+use lalrpop_base::numbers::Numbers;
 use std::alloc::Global;
 
 impl<'grammar> LaneTableConstruct<'grammar> {

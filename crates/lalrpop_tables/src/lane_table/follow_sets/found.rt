@@ -1,11 +1,10 @@
 //! What one pass over states finds.
 ghost use Rattle.std.specs.Prelude.{◌<◌, ◌↔◌, ℕ, length, Contains, IfOk, IsTrue};
-ghost use Rattle.lalrpop_base.specs.Words.{AreClosed, AreCoherent, IsWellFormed, has, rules_of};
+ghost use Rattle.lalrpop_base.specs.Words.{AreClosed, AreCoherent, IsWellFormed, has, rules_of, AreNumbers};
 ghost use Rattle.lalrpop_tables.specs.follow_sets.FollowNodes.{AreOfGrammar, AreAllReached, IsPass};
 ghost use Rattle.lalrpop_tables.specs.follow_sets.FollowWalks.{AreUnions, FindsLookaheads, HoldsSomeOf, entries_at};
 ghost use Rattle.lalrpop_tables.specs.lanes.LaneTraces.{places_in};
 ghost use Rattle.lalrpop_tables.specs.states.NumberedStates.{AreNumberedStates};
-ghost use Rattle.lalrpop_tables.specs.grammars.Numbers.{AreNumbers};
 
 use super::begun::begun_sets;
 use super::includes::includes;
@@ -16,10 +15,10 @@ use super::start::Start;
 use super::tokens::{shifted_tokens, tokens_of};
 use super::unions::unions_of;
 use crate::construction::numbered_state::NumberedState;
-use crate::construction::numbers::Numbers;
 use lalrpop_base::lookahead::token_set::TokenSet;
 use lalrpop_base::lr1_core::state::Lr1State;
 use lalrpop_base::memory::OutOfMemory;
+use lalrpop_base::numbers::Numbers;
 use lalrpop_base::repr::NonterminalString;
 use lalrpop_base::repr::grammar::Grammar;
 use lalrpop_base::repr::terminals::TerminalSet;

@@ -3,7 +3,7 @@ ghost use Rattle.std.specs.Prelude.{◌≡◌, ◌<◌, ℕ, length, Contains, I
 ghost use Rattle.lalrpop_base.specs.declared.repr.Production.{Production as OfGrammar};
 ghost use Rattle.lalrpop_tables.specs.follow_sets.FollowNodes.{IsPass};
 ghost use Rattle.lalrpop_tables.specs.follow_sets.FollowWalks.{AreEmptyLists, EndsAt, GoesThrough, IsFrontOf, NotesEnds, SomeFront};
-ghost use Rattle.lalrpop_tables.specs.grammars.Numbering.{AddsThose};
+ghost use Rattle.lalrpop_base.specs.Words.{AddsThose};
 
 use super::pass::Pass;
 use super::walk::walk;

@@ -2,7 +2,7 @@
 ghost use Rattle.std.specs.Prelude.{◌≡◌, ◌<◌, ◌++◌, ℕ, length, slice_get, Some, Contains, IfOk, OnOk};
 ghost use Rattle.lalrpop_tables.specs.follow_sets.FollowNodes.{AreNodes, AreTransitionNodes, IsNonterminalOrCount, nonterminals_of};
 ghost use Rattle.lalrpop_tables.specs.states.NumberedStates.{EdgesAscend};
-ghost use Rattle.lalrpop_tables.specs.grammars.Numbers.{SymbolsAscend};
+ghost use Rattle.lalrpop_base.specs.Words.{SymbolsAscend};
 ghost use Rattle.lalrpop_tables.specs.declared.construction.numbered_state.NumberedState.{NumberedState as ByNumbers};
 
 use super::edges::place_of;

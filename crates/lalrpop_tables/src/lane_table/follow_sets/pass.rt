@@ -2,14 +2,14 @@
 ghost use Rattle.lalrpop_base.specs.declared.repr.NonterminalString.{NonterminalString as Name};
 ghost use Rattle.lalrpop_base.specs.declared.repr.Symbol.TheVariants.{Nonterminal};
 ghost use Rattle.lalrpop_tables.specs.follow_sets.FollowNodes.{IsNodeName, IsPass};
-ghost use Rattle.lalrpop_tables.specs.grammars.Numbers.{AreExpansions};
+ghost use Rattle.lalrpop_base.specs.Words.{AreExpansions};
 
 use super::nodes::Nodes;
 use super::start::Start;
 use crate::construction::numbered_state::NumberedState;
-use crate::construction::numbers::Numbers;
-use crate::construction::numbers::rests::Rest;
 use lalrpop_base::lr1_core::state::Lr1State;
+use lalrpop_base::numbers::Numbers;
+use lalrpop_base::numbers::rests::Rest;
 use lalrpop_base::repr::NonterminalString;
 use lalrpop_base::repr::grammar::Grammar;
 

@@ -2,12 +2,12 @@
 ghost use Rattle.std.specs.Prelude.{IfOk};
 ghost use Rattle.lalrpop_base.specs.declared.repr.Symbol.TheVariants.{Nonterminal};
 ghost use Rattle.lalrpop_tables.specs.follow_sets.FollowNodes.{IsNumberOrCount, IsStart};
-ghost use Rattle.lalrpop_tables.specs.grammars.Numbers.{AreExpansions, SymbolsAscend};
+ghost use Rattle.lalrpop_base.specs.Words.{AreExpansions, SymbolsAscend};
 
-use crate::construction::numbers::Numbers;
-use crate::construction::numbers::symbols::number_of;
 use lalrpop_base::exact::equal;
 use lalrpop_base::memory::OutOfMemory;
+use lalrpop_base::numbers::Numbers;
+use lalrpop_base::numbers::symbols::number_of;
 use lalrpop_base::repr::{NonterminalString, Symbol};
 use std::alloc::Global;
 

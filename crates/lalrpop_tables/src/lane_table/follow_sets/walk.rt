@@ -1,11 +1,10 @@
 //! Walks over the right sides of productions, from state to state.
 ghost use Rattle.std.specs.Prelude.{◌≡◌, ◌<◌, length, slice_get, Some, IfOk, OnOk, None, ◌↔◌, IsTrue};
-ghost use Rattle.lalrpop_base.specs.Words.{Dotted};
+ghost use Rattle.lalrpop_base.specs.Words.{Dotted, AddsThose};
 ghost use Rattle.lalrpop_base.specs.declared.lookahead.nil.Nil.{Nil};
 ghost use Rattle.lalrpop_base.specs.declared.repr.Production.{Production as OfGrammar};
 ghost use Rattle.lalrpop_tables.specs.follow_sets.FollowNodes.{IsPass};
 ghost use Rattle.lalrpop_tables.specs.follow_sets.FollowWalks.{GoesThrough, HasNullableRest, IsEndOfWalk, IsFrontOf, IsGoneOver, StepsThrough};
-ghost use Rattle.lalrpop_tables.specs.grammars.Numbering.{AddsThose};
 
 use super::edges::place_of;
 use super::pass::Pass;

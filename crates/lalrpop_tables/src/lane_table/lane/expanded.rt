@@ -11,8 +11,8 @@ ghost use Rattle.lalrpop_base.specs.contracts.repr.NonterminalStringEq.TheImpl.L
 ghost use Rattle.lalrpop_base.specs.contracts.repr.NonterminalStringOrd.TheImpl.Laws as name_ord;
 ghost use Rattle.lalrpop_tables.specs.lanes.Expanded.{expanded_exact};
 
-use crate::place::Place;
 use lalrpop_base::exact::Exact;
+use lalrpop_base::lr1_core::place::Place;
 use lalrpop_base::repr::NonterminalString;
 use std::cmp::Ordering;
 use std::marker::Model;

@@ -1,18 +1,17 @@
 //! Steps back without a symbol, from the start of a production.
 ghost use Rattle.std.specs.Prelude.{◌≡◌, ◌<◌, OnErr, OnOk, Contains, length};
-ghost use Rattle.lalrpop_base.specs.Words.{productions, rules_of};
+ghost use Rattle.lalrpop_base.specs.Words.{productions, rules_of, Visits};
 ghost use Rattle.lalrpop_tables.specs.lanes.LaneSteps.{Gains, GainsOf, GainsSome, GainsSomeOf, IsEnd, IsEndBit, IsFollowBit, IsGround, IsHere, IsParent, IsPassedOn, IsPlaceIf, Nothing, VisitsOf};
-ghost use Rattle.lalrpop_tables.specs.Walks.{Visits};
 ghost use Rattle.lalrpop_tables.specs.lane_tables.LaneTables.{AreInRange, AreSameTables};
 
 use super::ground::Ground;
 use crate::lane_table::context_set::ConflictIndex;
 use crate::lane_table::table::LaneTable;
-use crate::place::Place;
-use crate::walk::Walk;
+use lalrpop_base::collections::walk::Walk;
 use lalrpop_base::exact::equal;
 use lalrpop_base::lookahead::token_set::TokenSet;
 use lalrpop_base::lr1_core::item::Item;
+use lalrpop_base::lr1_core::place::Place;
 use lalrpop_base::lr1_core::state::StateIndex;
 use lalrpop_base::memory::OutOfMemory;
 use lalrpop_base::repr::NonterminalString;

@@ -1,17 +1,15 @@
 //! Steps back over edges, from a dot past the start.
 ghost use Rattle.std.specs.Prelude.{◌≡◌, ◌<◌, ◌-◌, ℕ, Some, OnErr, OnOk, Contains, length};
-ghost use Rattle.lalrpop_base.specs.Words.{leads};
-ghost use Rattle.lalrpop_tables.specs.check.CheckCarrying.{at_place};
+ghost use Rattle.lalrpop_base.specs.Words.{leads, at_place, Visits};
 ghost use Rattle.lalrpop_tables.specs.lanes.LaneSteps.{Gains, GainsOf, GainsSome, GainsSomeOf, IsGround, IsPair, Nothing, Nowhere, VisitsOf};
-ghost use Rattle.lalrpop_tables.specs.Walks.{Visits};
 ghost use Rattle.lalrpop_tables.specs.lane_tables.LaneTables.{AreInRange};
 ghost use Rattle.lalrpop_tables.specs.lanes.LaneTraces.{places_in};
 ghost use Rattle.lalrpop_tables.specs.graphs.StateGraph.{edge, edges};
 
 use super::ground::Ground;
 use crate::lane_table::table::LaneTable;
-use crate::place::Place;
-use crate::walk::Walk;
+use lalrpop_base::collections::walk::Walk;
+use lalrpop_base::lr1_core::place::Place;
 use lalrpop_base::lr1_core::state::{State, StateIndex};
 use lalrpop_base::memory::OutOfMemory;
 use lalrpop_base::repr::Symbol;

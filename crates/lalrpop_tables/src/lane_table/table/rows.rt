@@ -1,9 +1,8 @@
 //! The rows of a lane table.
 ghost use Rattle.std.specs.Prelude.{◌≡◌, ◌<◌, ◌↔◌, List, length, Some, Contains, IfOk, OnOk, IfErr};
 ghost use Rattle.std.specs.Map.{keys_of};
-ghost use Rattle.lalrpop_base.specs.Words.{Bits};
+ghost use Rattle.lalrpop_base.specs.Words.{Bits, AreDisjoint};
 ghost use Rattle.lalrpop_base.specs.declared.lr1_core.state.StateIndex.{StateIndex as Number};
-ghost use Rattle.lalrpop_base.specs.lanes.Contexts.{AreDisjoint};
 ghost use Rattle.lalrpop_tables.specs.lane_tables.LaneRows.{AddsRows, AreRowsOf, IsFirstOverlap, JoinsRow, MakesRow, MeetsRow, row_at};
 ghost use Rattle.lalrpop_tables.specs.lane_tables.LaneTables.{HasRow, IsRow};
 ghost use Rattle.lalrpop_tables.specs.declared.lane_table.context_set.OverlappingLookahead.TheVariants.{Overlapping};

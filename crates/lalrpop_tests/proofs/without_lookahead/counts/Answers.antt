@@ -1,4 +1,4 @@
-use Rattle.lalrpop_tables.proofs.theory.states.Lookaheads.{nothing_fits}
+use Rattle.lalrpop_base.proofs.theory.construction.Lookaheads.{nothing_fits}
 use Rattle.lalrpop_tests.proofs.without_lookahead.counts.Goals as goal
 
 pub new-requires-clause-fits : goal.new-requires-clause-fits

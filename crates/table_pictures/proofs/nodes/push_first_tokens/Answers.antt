@@ -1,4 +1,4 @@
-use Rattle.std.proofs.Common.{◌≡◌, ◌++◌, sym, ap, ◌∙◌, map, take, string_bytes, append_assoc}
+use Rattle.std.proofs.Common.{◌++◌, sym, ap, ◌∙◌, map, take, string_bytes, append_assoc}
 use Rattle.std.proofs.lemmas.List.{append-nil}
 use Rattle.std.specs.Iterator.Adapters.{take_count, take_source}
 use Rattle.std.specs.List.{flat_map}

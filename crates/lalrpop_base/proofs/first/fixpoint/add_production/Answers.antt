@@ -1,7 +1,6 @@
 use Rattle.std.proofs.Common.{◌≡◌, ap, ◌∙◌, set}
 use Rattle.std.proofs.lemmas.List.{get_or_default}
-use Rattle.lalrpop_base.specs.Words.{Bits, join}
-use Rattle.lalrpop_base.specs.first.FirstNumbers.{set_at}
+use Rattle.lalrpop_base.specs.Words.{Bits, join, set_at}
 use Rattle.lalrpop_base.proofs.first.fixpoint.add_production.Goals as goal
 
 pub given_by-requires : goal.given_by-requires

@@ -1,7 +1,7 @@
 use Rattle.std.proofs.Common.{◌++◌, List, take}
 use Rattle.std.specs.List.{AllZip}
 use Rattle.lalrpop_base.proofs.Types.{Production}
-use Rattle.lalrpop_base.specs.first.FirstNumbers.{IsNumberedProduction}
+use Rattle.lalrpop_base.specs.Words.{IsNumberedProduction}
 use Rattle.lalrpop_base.proofs.first.numbered.add_numbered.Given as goal
 
 abbrev pub invariant-loop-production : goal.invariant-loop-production

@@ -3,8 +3,7 @@ use Rattle.std.specs.List.{flat_map}
 use Rattle.std.proofs.lemmas.List.{append_assoc}
 use Rattle.std.proofs.lemmas.List.Elements.{Contains-append_left, Contains-append_right}
 use Rattle.lalrpop_base.proofs.Types.{NonterminalData, NonterminalString, Production, TerminalString}
-use Rattle.lalrpop_base.specs.Words.{productions}
-use Rattle.lalrpop_base.specs.first.FirstNumbers.{AreReady}
+use Rattle.lalrpop_base.specs.Words.{productions, AreReady}
 use Rattle.lalrpop_base.proofs.theory.first.FirstFixpoint.{Ready-all}
 use Rattle.lalrpop_base.proofs.first.numbered.number_productions.Goals as goal
 

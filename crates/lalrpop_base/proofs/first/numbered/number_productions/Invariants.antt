@@ -1,8 +1,7 @@
 use Rattle.std.proofs.Common.{◌≡◌, ◌++◌, List}
 use Rattle.std.specs.List.{AllZip, flat_map}
 use Rattle.lalrpop_base.proofs.Types.{NonterminalData, NonterminalString, Production}
-use Rattle.lalrpop_base.specs.Words.{productions}
-use Rattle.lalrpop_base.specs.first.FirstNumbers.{IsNumberedProduction, AreReady}
+use Rattle.lalrpop_base.specs.Words.{productions, IsNumberedProduction, AreReady}
 use Rattle.lalrpop_base.proofs.first.numbered.number_productions.Given as goal
 
 abbrev pub invariant-loop-name : goal.invariant-loop-name

@@ -1,6 +1,6 @@
 use Rattle.std.proofs.Common.{take}
 use Rattle.std.specs.List.{AllZip}
-use Rattle.lalrpop_base.specs.first.FirstNumbers.{IsNumberedSymbol}
+use Rattle.lalrpop_base.specs.Words.{IsNumberedSymbol}
 use Rattle.lalrpop_base.proofs.first.numbered.number_symbols.Given as goal
 
 abbrev pub invariant-loop-symbol : goal.invariant-loop-symbol

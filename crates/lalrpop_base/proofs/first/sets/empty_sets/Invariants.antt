@@ -1,6 +1,5 @@
 use Rattle.std.proofs.Common.{◌≡◌, ℕ, length}
-use Rattle.lalrpop_base.specs.Words.{no_bits}
-use Rattle.lalrpop_base.specs.first.FirstNumbers.{set_at}
+use Rattle.lalrpop_base.specs.Words.{no_bits, set_at}
 use Rattle.lalrpop_base.proofs.first.sets.empty_sets.Given as goal
 
 abbrev pub invariant-loop-name : goal.invariant-loop-name

@@ -5,7 +5,7 @@ use Rattle.std.proofs.lemmas.List.Elements.{Contains-get_or}
 use Rattle.lalrpop_base.specs.declared.first.numbered.NumberedSymbol.{NumberedSymbol}
 use Rattle.lalrpop_base.specs.declared.first.numbered.NumberedSymbol.TheVariants.{Bit}
 use Rattle.lalrpop_base.proofs.Types.{TerminalString}
-use Rattle.lalrpop_base.specs.first.FirstNumbers.{GivesByNumber}
+use Rattle.lalrpop_base.specs.Words.{GivesByNumber}
 use Rattle.lalrpop_base.proofs.theory.first.FirstTables.{First-init, First-one, First-bit, First-name, First-passed, First-stopped, First-end}
 use Rattle.lalrpop_base.proofs.first.sets.given_by.Goals as goal
 

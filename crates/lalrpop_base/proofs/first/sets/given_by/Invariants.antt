@@ -1,5 +1,5 @@
 use Rattle.std.proofs.Common.{length}
-use Rattle.lalrpop_base.specs.first.FirstNumbers.{GivesByNumber}
+use Rattle.lalrpop_base.specs.Words.{GivesByNumber}
 use Rattle.lalrpop_base.proofs.theory.first.FirstTables.{FirstSoFar}
 use Rattle.lalrpop_base.proofs.first.sets.given_by.Given as goal
 

@@ -1,5 +1,5 @@
 use Rattle.std.proofs.Common.{take}
-use Rattle.lalrpop_base.specs.first.FirstUses.{AddsUses}
+use Rattle.lalrpop_base.specs.Words.{AddsUses}
 use Rattle.lalrpop_base.proofs.first.uses.add_uses.Given as goal
 
 abbrev pub invariant-loop-symbol : goal.invariant-loop-symbol

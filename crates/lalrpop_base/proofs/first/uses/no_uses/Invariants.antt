@@ -1,5 +1,5 @@
 use Rattle.std.proofs.Common.{◌≡◌, ℕ, [], length}
-use Rattle.lalrpop_base.specs.first.FirstUses.{uses_at}
+use Rattle.lalrpop_base.specs.Words.{uses_at}
 use Rattle.lalrpop_base.proofs.first.uses.no_uses.Given as goal
 
 abbrev pub invariant-loop-name : goal.invariant-loop-name

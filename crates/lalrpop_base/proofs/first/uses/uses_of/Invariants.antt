@@ -1,5 +1,5 @@
 use Rattle.std.proofs.Common.{◌≡◌, length, take}
-use Rattle.lalrpop_base.specs.first.FirstUses.{AreUses}
+use Rattle.lalrpop_base.specs.Words.{AreUses}
 use Rattle.lalrpop_base.proofs.first.uses.uses_of.Given as goal
 
 abbrev pub invariant-loop-number : goal.invariant-loop-number

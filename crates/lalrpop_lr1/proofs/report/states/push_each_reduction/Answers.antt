@@ -1,5 +1,5 @@
 use Rattle.lalrpop_lr1.specs.Words.{reduction_lines}
-use Rattle.lalrpop_lr1.proofs.theory.reports.ReportTexts.{one_more}
+use Rattle.lalrpop_base.proofs.theory.lists.Pieces.{one_more}
 use Rattle.lalrpop_lr1.proofs.report.states.push_each_reduction.Goals as goal
 
 pub loop-reduction-preserved : goal.loop-reduction-preserved

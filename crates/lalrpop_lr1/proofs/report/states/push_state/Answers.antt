@@ -1,6 +1,7 @@
 use Rattle.std.proofs.Common.{◌∙◌, ◌++◌, ap, refl, string_bytes}
 use Rattle.lalrpop_lr1.specs.Words.{items_block, reductions_block, conflict_block, block_at}
-use Rattle.lalrpop_lr1.proofs.theory.reports.ReportTexts.{blocks_at_places, six_pieces}
+use Rattle.lalrpop_lr1.proofs.theory.reports.ReportTexts.{blocks_at_places}
+use Rattle.lalrpop_base.proofs.theory.lists.Pieces.{six_pieces}
 use Rattle.lalrpop_lr1.proofs.report.states.push_state.Goals as goal
 
 pub returns : goal.returns

@@ -4,7 +4,7 @@ use Rattle.std.specs.List.{list_any}
 use Rattle.std.specs.Ordering.{nat_cmp, eq_by_cmp}
 use Rattle.lalrpop_lr1.specs.Words.{state_number, ascending}
 use Rattle.lalrpop_lr1.proofs.theory.reports.ReportNumbers.{one_number_more, keys_ascend}
-use Rattle.lalrpop_tables.proofs.theory.closures.SharedItems.{mapped_more}
+use Rattle.lalrpop_base.proofs.theory.closures.SharedItems.{mapped_more}
 use Rattle.lalrpop_lr1.proofs.report.summary.numbers_of.Goals as goal
 
 pub loop-conflict-init : goal.loop-conflict-init

@@ -1,7 +1,7 @@
 use Rattle.std.proofs.Common.{◌∙◌, ◌++◌, ap, string_bytes, codes}
 use Rattle.std.specs.Fmt.{decimal}
 use Rattle.std.specs.List.{flat_map}
-use Rattle.lalrpop_lr1.proofs.theory.reports.ReportTexts.{three_pieces}
+use Rattle.lalrpop_base.proofs.theory.lists.Pieces.{three_pieces}
 use Rattle.lalrpop_lr1.proofs.report.summary.push_conflict_states.Goals as goal
 
 pub returns : goal.returns

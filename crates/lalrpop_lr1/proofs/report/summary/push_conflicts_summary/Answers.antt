@@ -1,6 +1,6 @@
 use Rattle.std.proofs.Common.{◌∙◌, ◌++◌, ap, string_bytes, codes}
 use Rattle.lalrpop_lr1.specs.Words.{kind_line}
-use Rattle.lalrpop_lr1.proofs.theory.reports.ReportTexts.{four_pieces}
+use Rattle.lalrpop_base.proofs.theory.lists.Pieces.{four_pieces}
 use Rattle.lalrpop_lr1.proofs.report.summary.push_conflicts_summary.Goals as goal
 
 pub returns : goal.returns

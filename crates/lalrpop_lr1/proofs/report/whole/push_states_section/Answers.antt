@@ -1,4 +1,4 @@
-use Rattle.lalrpop_lr1.proofs.theory.reports.ReportTexts.{two_pieces}
+use Rattle.lalrpop_base.proofs.theory.lists.Pieces.{two_pieces}
 use Rattle.lalrpop_lr1.proofs.report.whole.push_states_section.Goals as goal
 
 pub returns : goal.returns

@@ -1,9 +1,8 @@
 use Rattle.std.proofs.Common.{◌≡◌, ℕ, true, subst}
 use Rattle.std.specs.Prelude.{IfSome, is_some}
-use Rattle.lalrpop_base.specs.Words.{IsLALR1, IsOnNoRightSide, productions}
+use Rattle.lalrpop_base.specs.Words.{IsLALR1, IsOnNoRightSide, productions, lr0_of}
 use Rattle.lalrpop_tables.proofs.Types.{Grammar, NonterminalString}
 use Rattle.lalrpop_tables.specs.Words.{AreBuiltTablesOf}
-use Rattle.lalrpop_tables.specs.answers.Results.{lr0_of}
 use Rattle.lalrpop_tables.proofs.theory.answers.ByLanes.{said_of}
 use Rattle.lalrpop_tables.proofs.build.by_lanes.tables_by_lanes.Goals as goal
 

@@ -2,9 +2,8 @@ use Rattle.std.proofs.Common.{◌≡◌, ℕ, refl, sym, ◌∙◌, ap, subst, a
 use Rattle.std.specs.Prelude.{slice_get}
 use Rattle.std.proofs.lemmas.Option.{slice_get_within}
 use Rattle.std.proofs.lemmas.Bool.{cases_lt}
-use Rattle.lalrpop_base.specs.Words.{Bits, EachItem}
+use Rattle.lalrpop_base.specs.Words.{Bits, EachItem, HoldsCarried}
 use Rattle.lalrpop_tables.proofs.Types.{State}
-use Rattle.lalrpop_tables.specs.Words.{HoldsCarried}
 use Rattle.lalrpop_base.proofs.theory.lists.Places.{slice_get_at, same_some}
 use Rattle.lalrpop_tables.proofs.check.carrying.all_have_carried.Goals as goal
 

@@ -1,8 +1,7 @@
 use Rattle.std.proofs.Common.{◌≡◌, ℕ, ◌<◌}
 use Rattle.std.specs.Prelude.{slice_get, Some}
-use Rattle.lalrpop_base.specs.Words.{Bits, EachItem}
+use Rattle.lalrpop_base.specs.Words.{Bits, EachItem, HoldsCarried}
 use Rattle.lalrpop_tables.proofs.Types.{State}
-use Rattle.lalrpop_tables.specs.Words.{HoldsCarried}
 use Rattle.lalrpop_tables.proofs.check.carrying.all_have_carried.Given as goal
 
 abbrev pub invariant-loop-number : goal.invariant-loop-number

@@ -3,7 +3,7 @@ use Rattle.std.proofs.lemmas.Grind.{common_steps}
 use Rattle.std.proofs.lemmas.List.{nil_from_length}
 use Rattle.lalrpop_base.proofs.theory.grammars.Grammars.{productions_own}
 use Rattle.lalrpop_base.proofs.theory.lists.Members.{contains_head}
-use Rattle.lalrpop_tables.proofs.theory.check.CheckCarrying.{Carrying-start, Carrying-step, Carrying-smaller, Carrying-end, known_place}
+use Rattle.lalrpop_base.proofs.theory.check.CheckCarrying.{Carrying-start, Carrying-step, Carrying-smaller, Carrying-end, known_place}
 use Rattle.lalrpop_tables.proofs.check.carrying.carried.Goals as goal
 
 pub loop-place-init : goal.loop-place-init

@@ -1,4 +1,4 @@
-use Rattle.lalrpop_tables.proofs.theory.check.CheckCarrying.{IsCarrying, work}
+use Rattle.lalrpop_base.proofs.theory.check.CheckCarrying.{IsCarrying, work}
 use Rattle.lalrpop_tables.proofs.check.carrying.carried.Given as goal
 
 abbrev pub invariant-loop-place : goal.invariant-loop-place

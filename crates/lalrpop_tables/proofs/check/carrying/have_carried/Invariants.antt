@@ -1,5 +1,4 @@
-use Rattle.lalrpop_base.specs.Words.{EachBelow}
-use Rattle.lalrpop_tables.specs.Words.{HoldsCarried}
+use Rattle.lalrpop_base.specs.Words.{EachBelow, HoldsCarried}
 use Rattle.lalrpop_tables.proofs.check.carrying.have_carried.Given as goal
 
 abbrev pub invariant-loop-reduction : goal.invariant-loop-reduction

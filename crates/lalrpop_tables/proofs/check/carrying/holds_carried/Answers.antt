@@ -2,8 +2,8 @@ use Rattle.std.proofs.Common.{◌≡◌, sym, subst, true, refl}
 use Rattle.std.specs.Prelude.{Contains}
 use Rattle.lalrpop_base.specs.Words.{Bits, has, Dotted, finished}
 use Rattle.lalrpop_tables.proofs.Types.{Nil}
-use Rattle.lalrpop_tables.specs.declared.place.Place.{Place}
-use Rattle.lalrpop_tables.proofs.theory.check.CheckSending.{holds_joined}
+use Rattle.lalrpop_base.specs.declared.lr1_core.place.Place.{Place}
+use Rattle.lalrpop_base.proofs.theory.check.CheckSending.{holds_joined}
 use Rattle.lalrpop_base.proofs.theory.lists.Places.{same_some}
 use Rattle.lalrpop_tables.proofs.check.carrying.holds_carried.Goals as goal
 

@@ -4,7 +4,7 @@ use Rattle.std.proofs.lemmas.Option.{slice_get_within}
 use Rattle.lalrpop_base.specs.Words.{IsFirstSetBefore, FitsTokens, Rules, rules_of, HasKnownTerminals}
 use Rattle.lalrpop_tables.proofs.Types.{Symbol}
 use Rattle.lalrpop_base.specs.declared.repr.Symbol.TheVariants.{Nonterminal}
-use Rattle.lalrpop_tables.proofs.theory.check.CheckSending.{Gives-over, Gives-into}
+use Rattle.lalrpop_base.proofs.theory.check.CheckSending.{Gives-over, Gives-into}
 use Rattle.lalrpop_base.proofs.theory.grammars.Grammars.{known_symbols, known_rest}
 use Rattle.lalrpop_tables.proofs.check.carrying.send_on.Goals as goal
 

@@ -1,9 +1,8 @@
 use Rattle.std.proofs.Common.{◌≡◌, ◌+◌, ◌∙◌, sym, ap}
-use Rattle.lalrpop_base.specs.Words.{Dotted}
+use Rattle.lalrpop_base.specs.Words.{Dotted, at_place}
 use Rattle.lalrpop_tables.proofs.Types.{Nil}
-use Rattle.lalrpop_tables.specs.Words.{at_place}
-use Rattle.lalrpop_tables.specs.declared.place.Place.{Place}
-use Rattle.lalrpop_tables.proofs.theory.check.CheckSending.{Over-end, Over-nowhere, Over-one}
+use Rattle.lalrpop_base.specs.declared.lr1_core.place.Place.{Place}
+use Rattle.lalrpop_base.proofs.theory.check.CheckSending.{Over-end, Over-nowhere, Over-one}
 use Rattle.lalrpop_tables.proofs.check.carrying.send_over.Goals as goal
 
 pub returns-in_default : goal.returns-in_default

@@ -1,8 +1,8 @@
 use Rattle.std.proofs.Common.{◌≡◌, ◌∙◌, ◌+◌, ◌++◌, ◌∷◌, [], subst, sym, refl, ap, take, List}
 use Rattle.std.proofs.lemmas.List.{take_more, take_all}
 use Rattle.lalrpop_tables.proofs.Types.{Production}
-use Rattle.lalrpop_tables.specs.Words.{Sends, IsBegunAt}
-use Rattle.lalrpop_tables.proofs.theory.check.CheckSending.{Begun-none, Begun-more}
+use Rattle.lalrpop_base.specs.Words.{Sends, IsBegunAt}
+use Rattle.lalrpop_base.proofs.theory.check.CheckSending.{Begun-none, Begun-more}
 use Rattle.lalrpop_tables.proofs.check.carrying.send_productions.Goals as goal
 
 pub loop-production-init : goal.loop-production-init

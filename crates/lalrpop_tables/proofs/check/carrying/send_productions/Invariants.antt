@@ -1,5 +1,5 @@
 use Rattle.std.proofs.Common.{take}
-use Rattle.lalrpop_tables.specs.Words.{Sends, IsBegunAt}
+use Rattle.lalrpop_base.specs.Words.{Sends, IsBegunAt}
 use Rattle.lalrpop_tables.proofs.check.carrying.send_productions.Given as goal
 
 abbrev pub invariant-loop-production : goal.invariant-loop-production

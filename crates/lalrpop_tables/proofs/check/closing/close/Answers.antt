@@ -4,8 +4,8 @@ use Rattle.std.proofs.lemmas.List.{nil_from_length}
 use Rattle.lalrpop_base.specs.Words.{Dotted}
 use Rattle.lalrpop_base.proofs.theory.grammars.Grammars.{productions_own}
 use Rattle.lalrpop_tables.proofs.Types.{Nil}
-use Rattle.lalrpop_tables.specs.declared.walk.Walk.{Walk}
-use Rattle.lalrpop_tables.proofs.theory.check.CheckClosing.{Closing-start, Closing-step, Closing-smaller, Closing-end}
+use Rattle.lalrpop_base.specs.declared.collections.walk.Walk.{Walk}
+use Rattle.lalrpop_base.proofs.theory.check.CheckClosing.{Closing-start, Closing-step, Closing-smaller, Closing-end}
 use Rattle.lalrpop_tables.proofs.check.closing.close.Goals as goal
 
 pub loop-item-init : goal.loop-item-init

@@ -1,5 +1,5 @@
 use Rattle.std.proofs.Common.{◌+◌, ◌-◌, length}
-use Rattle.lalrpop_tables.proofs.theory.check.CheckClosing.{IsClosing, room}
+use Rattle.lalrpop_base.proofs.theory.check.CheckClosing.{IsClosing, room}
 use Rattle.lalrpop_tables.proofs.check.closing.close.Given as goal
 
 abbrev pub invariant-loop-item : goal.invariant-loop-item

@@ -2,8 +2,8 @@ use Rattle.std.proofs.lemmas.Result.{IfOk-weaker}
 use Rattle.std.proofs.Common.{map}
 use Rattle.lalrpop_base.specs.closures.Closure.{dotted_of}
 use Rattle.lalrpop_base.specs.Words.{IsMovedIn, IsMovedOf}
-use Rattle.lalrpop_tables.proofs.theory.check.CheckClosing.{Closure-of}
-use Rattle.lalrpop_tables.proofs.theory.lists.Walks.{All-wait}
+use Rattle.lalrpop_base.proofs.theory.check.CheckClosing.{Closure-of}
+use Rattle.lalrpop_base.proofs.theory.collections.Walks.{All-wait}
 use Rattle.lalrpop_tables.proofs.check.closing.moved_closure.Goals as goal
 
 pub close-requires-clause-waiting : goal.close-requires-clause-waiting

@@ -1,8 +1,8 @@
 use Rattle.std.proofs.lemmas.Result.{IfOk-weaker}
 use Rattle.lalrpop_base.specs.Words.{IsAtStart, IsBegun, productions, productions_of}
 use Rattle.lalrpop_base.proofs.theory.grammars.Grammars.{productions_own}
-use Rattle.lalrpop_tables.proofs.theory.check.CheckClosing.{Begun-start, Closure-of}
-use Rattle.lalrpop_tables.proofs.theory.lists.Walks.{All-wait}
+use Rattle.lalrpop_base.proofs.theory.check.CheckClosing.{Begun-start, Closure-of}
+use Rattle.lalrpop_base.proofs.theory.collections.Walks.{All-wait}
 use Rattle.lalrpop_tables.proofs.check.closing.start_closure.Goals as goal
 
 pub close-requires-clause-waiting : goal.close-requires-clause-waiting

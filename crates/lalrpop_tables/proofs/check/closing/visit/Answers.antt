@@ -1,8 +1,7 @@
 use Rattle.std.proofs.Common.{◌≡◌, OnOk, subst, sym}
-use Rattle.lalrpop_base.specs.Words.{Dotted}
+use Rattle.lalrpop_base.specs.Words.{Dotted, Visits}
 use Rattle.lalrpop_base.proofs.theory.grammars.Tables.{same_lr0}
 use Rattle.lalrpop_tables.proofs.Types.{Nil}
-use Rattle.lalrpop_tables.specs.Words.{Visits}
 use Rattle.lalrpop_tables.proofs.check.closing.visit.Goals as goal
 
 pub visit-requires : goal.visit-requires

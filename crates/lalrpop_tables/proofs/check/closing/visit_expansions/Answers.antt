@@ -2,7 +2,7 @@ use Rattle.std.proofs.Common.{◌∙◌, sym, ap, arith, refl}
 use Rattle.std.specs.Prelude.{Some}
 use Rattle.std.proofs.lemmas.Option.{slice_get_within}
 use Rattle.lalrpop_base.specs.declared.repr.Symbol.TheVariants.{Nonterminal}
-use Rattle.lalrpop_tables.proofs.theory.check.CheckClosing.{Expansions-over, Expansions-none}
+use Rattle.lalrpop_base.proofs.theory.check.CheckClosing.{Expansions-over, Expansions-none}
 use Rattle.lalrpop_tables.proofs.check.closing.visit_expansions.Goals as goal
 
 pub returns : goal.returns

@@ -1,6 +1,6 @@
 use Rattle.std.proofs.Common.{◌≡◌, ◌<◌, ap, arith}
 use Rattle.lalrpop_base.specs.Words.{Bits, Dotted}
-use Rattle.lalrpop_tables.proofs.theory.check.CheckClosing.{Moved-one, Moved-unmoved}
+use Rattle.lalrpop_base.proofs.theory.check.CheckClosing.{Moved-one, Moved-unmoved}
 use Rattle.lalrpop_tables.proofs.check.closing.visit_if_moved.Goals as goal
 
 pub returns-in_ok-visit : goal.returns-in_ok-visit

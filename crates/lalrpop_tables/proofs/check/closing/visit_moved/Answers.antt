@@ -1,8 +1,7 @@
 use Rattle.std.proofs.Common.{◌≡◌, ◌∙◌, ◌+◌, ◌++◌, ◌∷◌, [], subst, sym, ap, take, List}
 use Rattle.std.proofs.lemmas.List.{take_more, take_all}
-use Rattle.lalrpop_base.specs.Words.{Bits, Dotted, IsMovedOf}
-use Rattle.lalrpop_tables.specs.Words.{Visits}
-use Rattle.lalrpop_tables.proofs.theory.check.CheckClosing.{Moved-none, Moved-more}
+use Rattle.lalrpop_base.specs.Words.{Bits, Dotted, IsMovedOf, Visits}
+use Rattle.lalrpop_base.proofs.theory.check.CheckClosing.{Moved-none, Moved-more}
 use Rattle.lalrpop_tables.proofs.check.closing.visit_moved.Goals as goal
 
 pub loop-item-init : goal.loop-item-init

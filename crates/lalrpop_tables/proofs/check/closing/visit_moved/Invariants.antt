@@ -1,6 +1,5 @@
 use Rattle.std.proofs.Common.{take}
-use Rattle.lalrpop_base.specs.Words.{IsMovedOf}
-use Rattle.lalrpop_tables.specs.Words.{Visits}
+use Rattle.lalrpop_base.specs.Words.{IsMovedOf, Visits}
 use Rattle.lalrpop_tables.proofs.check.closing.visit_moved.Given as goal
 
 abbrev pub invariant-loop-item : goal.invariant-loop-item

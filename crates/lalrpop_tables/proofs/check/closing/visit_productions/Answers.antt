@@ -1,9 +1,8 @@
 use Rattle.std.proofs.Common.{◌≡◌, ◌∙◌, ◌+◌, ◌++◌, ◌∷◌, [], subst, sym, refl, ap, take, List}
 use Rattle.std.proofs.lemmas.List.{take_more, take_all}
 use Rattle.lalrpop_tables.proofs.Types.{Production}
-use Rattle.lalrpop_base.specs.Words.{IsBegun}
-use Rattle.lalrpop_tables.specs.Words.{Visits}
-use Rattle.lalrpop_tables.proofs.theory.check.CheckClosing.{Begun-none, Begun-more}
+use Rattle.lalrpop_base.specs.Words.{IsBegun, Visits}
+use Rattle.lalrpop_base.proofs.theory.check.CheckClosing.{Begun-none, Begun-more}
 use Rattle.lalrpop_tables.proofs.check.closing.visit_productions.Goals as goal
 
 pub loop-production-init : goal.loop-production-init

@@ -1,6 +1,5 @@
 use Rattle.std.proofs.Common.{take}
-use Rattle.lalrpop_base.specs.Words.{IsBegun}
-use Rattle.lalrpop_tables.specs.Words.{Visits}
+use Rattle.lalrpop_base.specs.Words.{IsBegun, Visits}
 use Rattle.lalrpop_tables.proofs.check.closing.visit_productions.Given as goal
 
 abbrev pub invariant-loop-production : goal.invariant-loop-production

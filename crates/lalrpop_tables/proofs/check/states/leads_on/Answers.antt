@@ -1,6 +1,6 @@
 use Rattle.std.proofs.Common.{◌≡◌, ◌∙◌, ◌+◌, sym, subst}
 use Rattle.std.specs.Prelude.{slice_get, Some, Contains}
-use Rattle.lalrpop_base.specs.Words.{Bits, Dotted, lr0}
+use Rattle.lalrpop_base.specs.Words.{Bits, Dotted, with_dot}
 use Rattle.lalrpop_tables.proofs.Types.{Symbol}
 use Rattle.lalrpop_base.proofs.theory.lists.Places.{slice_get_at}
 use Rattle.lalrpop_base.proofs.theory.states.CheckStates.{leads_nowhere, leads_outside, leads_inside}
@@ -28,6 +28,6 @@ returns c =
     let set = c.index-listed-to.result in
     let there = slice_get_at c.args.listed.now c.in-Some.to set c.if-to-listed.false c.index-listed-to.is in
     let is = leads_inside c.args.listed.now c.args.state.now c.args.item.now x at c.in-Some.to set (sym c.target.ensures ∙ c.in-Some.is) there in (
-      λ h. is.0 (subst (λ (d : Dotted Bits). Contains set.keys (lr0 d.production (d.index + 1))) c.item.view_is (c.has_key.ensures.0 h)),
-      λ all. c.has_key.ensures.1 (subst (λ (d : Dotted Bits). Contains set.keys (lr0 d.production (d.index + 1))) (sym c.item.view_is) (is.1 all)),
+      λ h. is.0 (subst (λ (d : Dotted Bits). Contains set.keys (with_dot d.production (d.index + 1))) c.item.view_is (c.has_key.ensures.0 h)),
+      λ all. c.has_key.ensures.1 (subst (λ (d : Dotted Bits). Contains set.keys (with_dot d.production (d.index + 1))) (sym c.item.view_is) (is.1 all)),
     )

@@ -1,7 +1,7 @@
 use Rattle.std.proofs.Common.{◌≡◌, ℕ, ◌∙◌, ap, subst}
 use Rattle.std.specs.Prelude.{IfErr}
-use Rattle.lalrpop_base.specs.Words.{Bits}
-use Rattle.lalrpop_tables.specs.Words.{FailsOn, Settings, canonical_of}
+use Rattle.lalrpop_base.specs.Words.{Bits, Settings, canonical_of}
+use Rattle.lalrpop_tables.specs.Words.{FailsOn}
 use Rattle.lalrpop_tables.proofs.construction.canonical.build_canonical_states.Goals as goal
 
 pub returns-clause-tables : goal.returns-clause-tables

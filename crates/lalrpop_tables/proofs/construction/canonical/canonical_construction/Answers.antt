@@ -1,9 +1,7 @@
 use Rattle.std.proofs.Common.{◌≡◌, ◌∙◌, List, ap, sym, subst}
-use Rattle.lalrpop_base.specs.Words.{Bits, FitsTokens}
+use Rattle.lalrpop_base.specs.Words.{Bits, FitsTokens, Construction, Settings, construction_of}
 use Rattle.lalrpop_tables.proofs.Types.{Nil, TerminalString}
-use Rattle.lalrpop_tables.specs.Words.{Construction, Settings}
-use Rattle.lalrpop_tables.specs.answers.Results.{construction_of}
-use Rattle.lalrpop_tables.proofs.theory.states.Lookaheads.{eof_fits}
+use Rattle.lalrpop_base.proofs.theory.construction.Lookaheads.{eof_fits}
 use Rattle.lalrpop_tables.proofs.construction.canonical.canonical_construction.Goals as goal
 
 pub with_lookahead-requires : goal.with_lookahead-requires

@@ -1,11 +1,10 @@
 use Rattle.std.proofs.Common.{subst}
 use Rattle.std.proofs.lemmas.Result.{IfOk-weaker}
-use Rattle.lalrpop_base.specs.Words.{Bits, Begins}
+use Rattle.lalrpop_base.specs.Words.{Bits, Begins, AreStatesFor, Construction}
 use Rattle.lalrpop_base.specs.closures.Closure.{itself}
-use Rattle.lalrpop_tables.specs.Words.{AreStatesFor, Construction}
 use Rattle.lalrpop_base.proofs.theory.grammars.Grammars.{productions_own}
 use Rattle.lalrpop_tables.proofs.theory.answers.TablesOrCount.{Canonical-counted}
-use Rattle.lalrpop_tables.proofs.theory.closures.TokenTables.{Lists, Passes}
+use Rattle.lalrpop_base.proofs.theory.closures.TokenTables.{Lists, Passes}
 use Rattle.lalrpop_tables.proofs.construction.canonical.canonical_states_or_count.Goals as goal
 
 pub returns : goal.returns

@@ -1,13 +1,12 @@
 use Rattle.std.proofs.Common.{ℕ, List, sym, subst}
 use Rattle.std.specs.Prelude.{Contains}
 use Rattle.std.proofs.lemmas.Result.{IfOk-weaker}
-use Rattle.lalrpop_tables.specs.grammars.Numbers.{AreNumbered, items_by}
-use Rattle.lalrpop_base.specs.Words.{IsClosureBy, readings}
-use Rattle.lalrpop_tables.specs.declared.construction.numbered.Numbered.{Numbered}
+use Rattle.lalrpop_base.specs.Words.{AreNumbered, items_by, IsClosureBy, readings}
+use Rattle.lalrpop_base.specs.declared.numbers.numbered.Numbered.{Numbered}
 use Rattle.lalrpop_base.proofs.theory.lists.Gathering.{Gathers-none}
-use Rattle.lalrpop_tables.proofs.theory.closures.Rising.{Gathers-rising, numbers_rise}
-use Rattle.lalrpop_tables.proofs.theory.closures.SharedItems.{number_known}
-use Rattle.lalrpop_tables.proofs.theory.closures.Unfolded.{Closure-of}
+use Rattle.lalrpop_base.proofs.theory.closures.Rising.{Gathers-rising, numbers_rise}
+use Rattle.lalrpop_base.proofs.theory.closures.SharedItems.{number_known}
+use Rattle.lalrpop_base.proofs.theory.closures.Unfolded.{Closure-of}
 use Rattle.lalrpop_tables.proofs.construction.closure.closure.Goals as goal
 
 pub gather_shared-requires : goal.gather_shared-requires

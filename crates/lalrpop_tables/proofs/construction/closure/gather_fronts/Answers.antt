@@ -1,12 +1,11 @@
 use Rattle.std.proofs.Common.{◌≡◌, ◌∙◌, ◌+◌, ◌++◌, ◌∷◌, [], ℕ, ap, sym, subst, take, map, List}
 use Rattle.std.specs.Prelude.{get_or}
 use Rattle.std.proofs.lemmas.List.{take_all, map-append}
-use Rattle.lalrpop_base.specs.Words.{Bits, readings}
+use Rattle.lalrpop_base.specs.Words.{Bits, readings, with_tokens}
 use Rattle.lalrpop_base.specs.lists.Entries.{GathersMore}
-use Rattle.lalrpop_tables.specs.closures.Sharing.{with_tokens}
 use Rattle.lalrpop_base.proofs.theory.lists.Gathering.{More-none, More-one, More-then}
 use Rattle.lalrpop_base.proofs.theory.closures.Readings.{readings_differ}
-use Rattle.lalrpop_tables.proofs.theory.closures.SharedItems.{mapped_more, read_within}
+use Rattle.lalrpop_base.proofs.theory.closures.SharedItems.{mapped_more, read_within}
 use Rattle.lalrpop_tables.proofs.construction.closure.gather_fronts.Goals as goal
 
 pub loop-number-init : goal.loop-number-init

@@ -1,7 +1,6 @@
 use Rattle.std.proofs.Common.{take}
 use Rattle.lalrpop_base.specs.lists.Entries.{GathersMore}
-use Rattle.lalrpop_tables.specs.closures.Sharing.{with_tokens}
-use Rattle.lalrpop_base.specs.Words.{readings}
+use Rattle.lalrpop_base.specs.Words.{with_tokens, readings}
 use Rattle.lalrpop_tables.proofs.construction.closure.gather_fronts.Given as goal
 
 abbrev pub invariant-loop-number : goal.invariant-loop-number

@@ -1,12 +1,11 @@
 use Rattle.std.proofs.Common.{◌≡◌, ◌+◌, ◌++◌, ◌∷◌, [], ℕ, sym, subst, take, map, List}
 use Rattle.std.proofs.lemmas.List.{take_all}
-use Rattle.lalrpop_base.specs.Words.{Bits, readings}
+use Rattle.lalrpop_base.specs.Words.{Bits, readings, parts_in}
 use Rattle.lalrpop_base.specs.lists.Entries.{GathersMore}
-use Rattle.lalrpop_tables.specs.closures.Sharing.{parts_in}
-use Rattle.lalrpop_tables.specs.declared.construction.numbered.Numbered.{Numbered}
+use Rattle.lalrpop_base.specs.declared.numbers.numbered.Numbered.{Numbered}
 use Rattle.lalrpop_base.proofs.theory.lists.Gathering.{More-none, More-one, More-then}
 use Rattle.lalrpop_base.proofs.theory.closures.Readings.{readings_differ}
-use Rattle.lalrpop_tables.proofs.theory.closures.SharedItems.{mapped_more}
+use Rattle.lalrpop_base.proofs.theory.closures.SharedItems.{mapped_more}
 use Rattle.lalrpop_tables.proofs.construction.closure.gather_kernel.Goals as goal
 
 pub loop-item-init : goal.loop-item-init

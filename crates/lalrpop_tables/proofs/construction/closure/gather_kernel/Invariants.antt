@@ -1,7 +1,6 @@
 use Rattle.std.proofs.Common.{take}
 use Rattle.lalrpop_base.specs.lists.Entries.{GathersMore}
-use Rattle.lalrpop_tables.specs.closures.Sharing.{parts_in}
-use Rattle.lalrpop_base.specs.Words.{readings}
+use Rattle.lalrpop_base.specs.Words.{parts_in, readings}
 use Rattle.lalrpop_tables.proofs.construction.closure.gather_kernel.Given as goal
 
 abbrev pub invariant-loop-item : goal.invariant-loop-item

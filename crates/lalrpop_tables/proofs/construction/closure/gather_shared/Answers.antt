@@ -3,12 +3,11 @@ use Rattle.std.specs.Prelude.{Contains}
 use Rattle.std.proofs.lemmas.Grind.{common_steps, flat_map-append}
 use Rattle.std.proofs.lemmas.List.{map-append, nil_from_length}
 use Rattle.std.proofs.lemmas.List.Elements.{Contains-append_right}
-use Rattle.lalrpop_base.specs.Words.{Bits, readings}
+use Rattle.lalrpop_base.specs.Words.{Bits, readings, list_at, unfolded, with_tokens}
 use Rattle.lalrpop_base.specs.lists.Entries.{GathersMore}
-use Rattle.lalrpop_tables.specs.closures.Sharing.{list_at, unfolded, with_tokens}
 use Rattle.lalrpop_base.proofs.theory.lists.Gathering.{More-then}
 use Rattle.lalrpop_base.proofs.theory.lists.Members.{contains_head, contains_map}
-use Rattle.lalrpop_tables.proofs.theory.closures.Unfolded.{list_read}
+use Rattle.lalrpop_base.proofs.theory.closures.Unfolded.{list_read}
 use Rattle.lalrpop_tables.proofs.construction.closure.gather_shared.Goals as goal
 
 pub index-requires : goal.index-requires

@@ -1,7 +1,6 @@
 use Rattle.std.proofs.Common.{◌≡◌, ◌++◌}
-use Rattle.lalrpop_base.specs.Words.{readings}
+use Rattle.lalrpop_base.specs.Words.{readings, unfolded}
 use Rattle.lalrpop_base.specs.lists.Entries.{GathersMore}
-use Rattle.lalrpop_tables.specs.closures.Sharing.{unfolded}
 use Rattle.lalrpop_tables.proofs.construction.closure.gather_shared.Given as goal
 
 -- the entries so far are gathered

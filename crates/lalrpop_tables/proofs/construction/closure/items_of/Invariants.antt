@@ -1,5 +1,5 @@
 use Rattle.std.proofs.Common.{◌≡◌, ◌++◌, map}
-use Rattle.lalrpop_tables.specs.closures.Sharing.{numbered_of}
+use Rattle.lalrpop_base.specs.Words.{numbered_of}
 use Rattle.lalrpop_tables.proofs.construction.closure.items_of.Given as goal
 
 abbrev pub invariant-loop-number : goal.invariant-loop-number

@@ -2,13 +2,13 @@ use Rattle.std.proofs.Common.{◌≡◌, ◌∙◌, ap, subst, refl, true, false
 use Rattle.std.specs.Prelude.{slice_get}
 use Rattle.lalrpop_base.specs.Words.{Bits, Dotted}
 use Rattle.lalrpop_base.specs.lists.Entries.IsPut.{came}
-use Rattle.lalrpop_base.proofs.theory.lists.Queues.{put_with}
+use Rattle.lalrpop_base.proofs.theory.collections.Queues.{put_with}
 use Rattle.lalrpop_tables.proofs.Types.{Nil}
 use Rattle.std.proofs.lemmas.Option.{slice_get_within}
 use Rattle.lalrpop_base.specs.declared.repr.Symbol.TheVariants.{Nonterminal}
-use Rattle.lalrpop_tables.proofs.theory.grammars.Numbers.{behind_is, finished}
+use Rattle.lalrpop_base.proofs.theory.numbers.Numbers.{behind_is, finished}
 use Rattle.lalrpop_base.proofs.theory.lists.Places.{slice_get_at}
-use Rattle.lalrpop_tables.proofs.theory.closures.SharedItems.{read_item, rest_known, Finished-shares, Terminal-shares, Restless-shares, rest_is, Gave-shares}
+use Rattle.lalrpop_base.proofs.theory.closures.SharedItems.{read_item, rest_known, Finished-shares, Terminal-shares, Restless-shares, rest_is, Gave-shares}
 use Rattle.lalrpop_tables.proofs.construction.closure.share.Goals as goal
 
 pub returns-in_default-clause-shares : goal.returns-in_default-clause-shares

@@ -2,12 +2,11 @@ use Rattle.std.proofs.Common.{◌≡◌, ◌<◌, ℕ, List, [], rules, arith, s
 use Rattle.std.specs.Prelude.{Contains}
 use Rattle.std.proofs.lemmas.Grind.{common_steps}
 use Rattle.std.proofs.lemmas.List.{nil_from_length}
-use Rattle.lalrpop_base.specs.Words.{Bits, Dotted, meant}
-use Rattle.lalrpop_tables.specs.grammars.Numbers.{items_by}
+use Rattle.lalrpop_base.specs.Words.{Bits, Dotted, meant, items_by}
 use Rattle.lalrpop_base.proofs.theory.lists.Members.{contains_head}
 use Rattle.lalrpop_base.proofs.theory.closures.Readings.{items_meant, readings_keys}
-use Rattle.lalrpop_tables.proofs.theory.closures.SharedItems.{front_known, fronts_are, number_known}
-use Rattle.lalrpop_tables.proofs.theory.closures.Sharing.{Sharing-start, Sharing-step, Sharing-smaller}
+use Rattle.lalrpop_base.proofs.theory.closures.SharedItems.{front_known, fronts_are, number_known}
+use Rattle.lalrpop_base.proofs.theory.closures.Sharing.{Sharing-start, Sharing-step, Sharing-smaller}
 use Rattle.lalrpop_tables.proofs.construction.closure.share_all.Goals as goal
 
 pub loop-symbol-init : goal.loop-symbol-init

@@ -1,8 +1,6 @@
 use Rattle.std.proofs.Common.{◌≤◌, length, map}
-use Rattle.lalrpop_tables.specs.grammars.Numbers.{items_by}
-use Rattle.lalrpop_tables.specs.closures.Sharing.{IsSharing}
-use Rattle.lalrpop_base.specs.Words.{meant, readings}
-use Rattle.lalrpop_tables.proofs.theory.closures.Sharing.{work}
+use Rattle.lalrpop_base.specs.Words.{items_by, IsSharing, meant, readings}
+use Rattle.lalrpop_base.proofs.theory.closures.Sharing.{work}
 use Rattle.lalrpop_tables.proofs.construction.closure.share_all.Given as goal
 
 abbrev pub invariant-loop-symbol : goal.invariant-loop-symbol

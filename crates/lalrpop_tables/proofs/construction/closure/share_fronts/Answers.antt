@@ -1,13 +1,11 @@
 use Rattle.std.proofs.Common.{refl, arith, ◌≡◌, ◌∙◌, ◌+◌, ◌++◌, ◌∷◌, [], ℕ, ap, sym, subst, take, map, List}
 use Rattle.std.specs.Prelude.{get_or}
 use Rattle.std.proofs.lemmas.List.{take_all, map-append}
-use Rattle.lalrpop_base.specs.Words.{Bits, Dotted, readings}
-use Rattle.lalrpop_tables.specs.grammars.Numbers.{item_by, items_by}
-use Rattle.lalrpop_tables.specs.closures.Sharing.{Shares, fronts_in}
-use Rattle.lalrpop_tables.specs.declared.construction.numbered.Numbered.{Numbered}
+use Rattle.lalrpop_base.specs.Words.{Bits, Dotted, readings, item_by, items_by, Shares, fronts_in}
+use Rattle.lalrpop_base.specs.declared.numbers.numbered.Numbered.{Numbered}
 use Rattle.lalrpop_base.proofs.theory.lists.Members.{contains_map, Contains-none}
-use Rattle.lalrpop_tables.proofs.theory.closures.SharedItems.{mapped_more, read_within}
-use Rattle.lalrpop_tables.proofs.theory.closures.Sharing.{Shares-nothing, Shares-then}
+use Rattle.lalrpop_base.proofs.theory.closures.SharedItems.{mapped_more, read_within}
+use Rattle.lalrpop_base.proofs.theory.closures.Sharing.{Shares-nothing, Shares-then}
 use Rattle.lalrpop_tables.proofs.construction.closure.share_fronts.Goals as goal
 
 pub loop-number-init : goal.loop-number-init

@@ -1,7 +1,5 @@
 use Rattle.std.proofs.Common.{◌≡◌, take}
-use Rattle.lalrpop_tables.specs.grammars.Numbers.{items_by}
-use Rattle.lalrpop_tables.specs.closures.Sharing.{Shares, fronts_in}
-use Rattle.lalrpop_base.specs.Words.{readings}
+use Rattle.lalrpop_base.specs.Words.{items_by, Shares, fronts_in, readings}
 use Rattle.lalrpop_tables.proofs.construction.closure.share_fronts.Given as goal
 
 abbrev pub invariant-loop-number : goal.invariant-loop-number

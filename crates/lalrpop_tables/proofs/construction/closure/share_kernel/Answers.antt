@@ -1,12 +1,10 @@
 use Rattle.std.proofs.Common.{refl, arith, ◌≡◌, ◌∙◌, ◌+◌, ◌++◌, ◌∷◌, [], ap, sym, subst, take, map, List}
 use Rattle.std.proofs.lemmas.List.{take_all, map-append}
-use Rattle.lalrpop_base.specs.Words.{Bits, Dotted, meant, readings}
-use Rattle.lalrpop_tables.specs.grammars.Numbers.{item_by, items_by}
-use Rattle.lalrpop_tables.specs.closures.Sharing.{Shares}
-use Rattle.lalrpop_tables.specs.declared.construction.numbered.Numbered.{Numbered}
+use Rattle.lalrpop_base.specs.Words.{Bits, Dotted, meant, readings, item_by, items_by, Shares}
+use Rattle.lalrpop_base.specs.declared.numbers.numbered.Numbered.{Numbered}
 use Rattle.lalrpop_base.proofs.theory.lists.Members.{Contains-none}
-use Rattle.lalrpop_tables.proofs.theory.closures.SharedItems.{mapped_more}
-use Rattle.lalrpop_tables.proofs.theory.closures.Sharing.{Shares-nothing, Shares-then}
+use Rattle.lalrpop_base.proofs.theory.closures.SharedItems.{mapped_more}
+use Rattle.lalrpop_base.proofs.theory.closures.Sharing.{Shares-nothing, Shares-then}
 use Rattle.lalrpop_tables.proofs.construction.closure.share_kernel.Goals as goal
 
 pub loop-item-init : goal.loop-item-init

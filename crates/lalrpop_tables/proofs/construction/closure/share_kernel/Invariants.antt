@@ -1,7 +1,5 @@
 use Rattle.std.proofs.Common.{◌≡◌, take, map}
-use Rattle.lalrpop_tables.specs.grammars.Numbers.{items_by}
-use Rattle.lalrpop_tables.specs.closures.Sharing.{Shares}
-use Rattle.lalrpop_base.specs.Words.{meant, readings}
+use Rattle.lalrpop_base.specs.Words.{items_by, Shares, meant, readings}
 use Rattle.lalrpop_tables.proofs.construction.closure.share_kernel.Given as goal
 
 abbrev pub invariant-loop-item : goal.invariant-loop-item

@@ -1,5 +1,5 @@
 use Rattle.std.proofs.Common.{◌≡◌, take, map}
-use Rattle.lalrpop_tables.specs.Words.{begun}
+use Rattle.lalrpop_base.specs.Words.{begun}
 use Rattle.lalrpop_tables.proofs.construction.lr.begun_items.Given as goal
 
 abbrev pub invariant-loop-production : goal.invariant-loop-production

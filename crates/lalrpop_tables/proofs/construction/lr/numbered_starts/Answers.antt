@@ -2,16 +2,14 @@ use Rattle.std.proofs.Common.{◌≡◌, ◌∙◌, ◌+◌, ◌++◌, ◌∷◌
 use Rattle.std.specs.Prelude.{Contains, IsSome, IsNone, slice_get}
 use Rattle.std.proofs.lemmas.List.{map-append, take_all}
 use Rattle.std.proofs.lemmas.Option.{slice_get_within}
-use Rattle.lalrpop_base.specs.Words.{Dotted, begun_of}
+use Rattle.lalrpop_base.specs.Words.{Dotted, begun_of, begun, AreNumbered, dotted_at, item_by, items_by}
 use Rattle.lalrpop_tables.proofs.Types.{Nil, Production}
-use Rattle.lalrpop_tables.specs.grammars.Numbers.{AreNumbered, dotted_at, item_by, items_by}
-use Rattle.lalrpop_tables.specs.Words.{begun}
-use Rattle.lalrpop_tables.specs.declared.construction.numbered.Numbered.{Numbered}
+use Rattle.lalrpop_base.specs.declared.numbers.numbered.Numbered.{Numbered}
 use Rattle.lalrpop_base.proofs.theory.grammars.Grammars.{productions_among}
 use Rattle.lalrpop_base.proofs.theory.lists.Members.{Contains-none}
-use Rattle.lalrpop_tables.proofs.theory.grammars.Numbers.{at_number}
-use Rattle.lalrpop_tables.proofs.theory.states.NumberedMoves.{more_numbered}
-use Rattle.lalrpop_tables.proofs.theory.closures.SharedItems.{mapped_more}
+use Rattle.lalrpop_base.proofs.theory.numbers.Numbers.{at_number}
+use Rattle.lalrpop_base.proofs.theory.construction.NumberedMoves.{more_numbered}
+use Rattle.lalrpop_base.proofs.theory.closures.SharedItems.{mapped_more}
 use Rattle.lalrpop_tables.proofs.construction.lr.numbered_starts.Goals as goal
 
 some_by : (o : Option ℕ) → (IsNone o → ⊥) → IsSome o

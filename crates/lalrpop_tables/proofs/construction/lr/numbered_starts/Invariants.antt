@@ -1,6 +1,5 @@
 use Rattle.std.proofs.Common.{◌≡◌, map, take}
-use Rattle.lalrpop_tables.specs.grammars.Numbers.{AreNumbered, items_by}
-use Rattle.lalrpop_tables.specs.Words.{begun}
+use Rattle.lalrpop_base.specs.Words.{AreNumbered, items_by, begun}
 use Rattle.lalrpop_tables.proofs.construction.lr.numbered_starts.Given as goal
 
 abbrev pub invariant-loop-production : goal.invariant-loop-production

@@ -1,8 +1,7 @@
 use Rattle.std.proofs.Common.{◌≡◌, ◌∙◌, ◌++◌, ◌∷◌, [], ap, sym, take, ◌+◌, List}
 use Rattle.std.proofs.lemmas.List.{take_more}
-use Rattle.lalrpop_base.specs.Words.{Dotted}
-use Rattle.lalrpop_tables.specs.Words.{reductions_of}
-use Rattle.lalrpop_tables.proofs.theory.states.Moves.{reductions_of-append}
+use Rattle.lalrpop_base.specs.Words.{Dotted, reductions_of}
+use Rattle.lalrpop_base.proofs.theory.construction.Moves.{reductions_of-append}
 use Rattle.lalrpop_tables.proofs.construction.reductions.reductions.Goals as goal
 
 pub loop-item-preserved : goal.loop-item-preserved

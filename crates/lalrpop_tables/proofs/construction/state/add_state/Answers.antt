@@ -1,13 +1,12 @@
 use Rattle.std.proofs.Common.{◌≡◌, ◌∙◌, ℕ, List, Some, ap, sym, subst}
 use Rattle.std.specs.Prelude.{slice_get}
-use Rattle.lalrpop_base.specs.Words.{Dotted, IsClosureBy}
-use Rattle.lalrpop_tables.specs.grammars.Numbers.{AreAllNumbered, items_by}
+use Rattle.lalrpop_base.specs.Words.{Dotted, IsClosureBy, AreAllNumbered, items_by}
 use Rattle.lalrpop_tables.specs.states.NumberedStates.{AreItemsAt}
-use Rattle.lalrpop_tables.specs.declared.construction.numbered.Numbered.{Numbered}
+use Rattle.lalrpop_base.specs.declared.numbers.numbered.Numbered.{Numbered}
 use Rattle.lalrpop_base.proofs.theory.lists.Members.{contains_map}
 use Rattle.lalrpop_base.proofs.theory.lists.Places.{contains_at}
 use Rattle.lalrpop_tables.proofs.theory.states.ItemNumbers.{items_at_by}
-use Rattle.lalrpop_tables.proofs.theory.states.NumberedBuilding.{Building-grown}
+use Rattle.lalrpop_base.proofs.theory.construction.NumberedBuilding.{Building-grown}
 use Rattle.lalrpop_tables.proofs.construction.state.add_state.Goals as goal
 
 pub closure-requires-clause-known : goal.closure-requires-clause-known

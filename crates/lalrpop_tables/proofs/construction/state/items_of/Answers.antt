@@ -2,12 +2,11 @@ use Rattle.std.proofs.Common.{◌≡◌, ◌∙◌, ◌<◌, ◌++◌, ◌∷◌
 use Rattle.std.specs.Prelude.{Contains}
 use Rattle.std.proofs.lemmas.List.{map-append, nil_from_length}
 use Rattle.std.proofs.lemmas.List.Elements.{Contains-append_left, Contains-push}
-use Rattle.lalrpop_base.specs.Words.{Dotted}
+use Rattle.lalrpop_base.specs.Words.{Dotted, dotted_at, item_by, items_by}
 use Rattle.lalrpop_tables.proofs.Types.{Nil, Production}
-use Rattle.lalrpop_tables.specs.grammars.Numbers.{dotted_at, item_by, items_by}
-use Rattle.lalrpop_tables.specs.declared.construction.numbered.Numbered.{Numbered}
+use Rattle.lalrpop_base.specs.declared.numbers.numbered.Numbered.{Numbered}
 use Rattle.lalrpop_base.proofs.theory.collapse.Merging.{taken}
-use Rattle.lalrpop_tables.proofs.theory.closures.SharedItems.{read_item}
+use Rattle.lalrpop_base.proofs.theory.closures.SharedItems.{read_item}
 use Rattle.lalrpop_tables.proofs.construction.state.items_of.Goals as goal
 
 pub loop-item-init : goal.loop-item-init

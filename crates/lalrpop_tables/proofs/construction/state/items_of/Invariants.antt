@@ -1,5 +1,5 @@
 use Rattle.std.proofs.Common.{◌≡◌, ◌++◌}
-use Rattle.lalrpop_tables.specs.grammars.Numbers.{items_by}
+use Rattle.lalrpop_base.specs.Words.{items_by}
 use Rattle.lalrpop_tables.proofs.construction.state.items_of.Given as goal
 
 abbrev pub invariant-loop-item : goal.invariant-loop-item

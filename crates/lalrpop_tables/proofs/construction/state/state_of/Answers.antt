@@ -1,8 +1,6 @@
 use Rattle.std.proofs.Common.{List, sym, subst, refl}
-use Rattle.lalrpop_base.specs.Words.{Dotted, IsClosureBy}
-use Rattle.lalrpop_tables.specs.grammars.Numbers.{AreNumbered}
-use Rattle.lalrpop_tables.specs.Words.{AreMoves}
-use Rattle.lalrpop_tables.proofs.theory.states.Coherence.{Built-made, Reached-extends, Reached-led}
+use Rattle.lalrpop_base.specs.Words.{Dotted, IsClosureBy, AreMoves, AreNumbered}
+use Rattle.lalrpop_base.proofs.theory.construction.Coherence.{Built-made, Reached-extends, Reached-led}
 use Rattle.lalrpop_tables.proofs.construction.state.state_of.Goals as goal
 
 pub transitions-requires-clause-known : goal.transitions-requires-clause-known

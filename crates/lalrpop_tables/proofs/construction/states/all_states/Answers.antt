@@ -1,9 +1,9 @@
 use Rattle.std.proofs.Common.{◌∙◌, sym}
 use Rattle.std.proofs.lemmas.List.{length-map}
-use Rattle.lalrpop_tables.specs.grammars.Numbers.{items_by, kernels_by}
-use Rattle.lalrpop_tables.proofs.theory.conflicts.ConflictLists.{States-of}
-use Rattle.lalrpop_tables.proofs.theory.states.Building.{Building-all}
-use Rattle.lalrpop_tables.proofs.theory.states.NumberedBuilding.{Fewer-left}
+use Rattle.lalrpop_base.specs.Words.{items_by, kernels_by}
+use Rattle.lalrpop_base.proofs.theory.conflicts.GrownConflicts.{States-of}
+use Rattle.lalrpop_base.proofs.theory.construction.Building.{Building-all}
+use Rattle.lalrpop_base.proofs.theory.construction.NumberedBuilding.{Fewer-left}
 use Rattle.lalrpop_tables.proofs.construction.states.all_states.Goals as goal
 
 pub loop-states-smaller : goal.loop-states-smaller

@@ -1,6 +1,6 @@
 use Rattle.std.proofs.Common.{◌-◌}
 use Rattle.lalrpop_base.proofs.theory.states.Universe.{kernels_limit}
-use Rattle.lalrpop_tables.specs.states.Building.{AreMadeSoFar}
+use Rattle.lalrpop_base.specs.Words.{AreMadeSoFar}
 use Rattle.lalrpop_tables.proofs.construction.states.all_states.Given as goal
 
 abbrev pub invariant-loop-states : goal.invariant-loop-states

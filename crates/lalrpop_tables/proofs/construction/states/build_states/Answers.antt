@@ -1,14 +1,11 @@
 use Rattle.std.proofs.Common.{◌≡◌, ◌∙◌, List, length, map, refl, subst, sym}
 use Rattle.std.proofs.lemmas.Bool.{false≢true}
 use Rattle.std.proofs.lemmas.List.{length-map}
-use Rattle.lalrpop_base.specs.Words.{IsClosureBy, ListsAll}
+use Rattle.lalrpop_base.specs.Words.{IsClosureBy, ListsAll, begun, items_by, kernels_by, AreMadeSoFar}
 use Rattle.lalrpop_tables.proofs.Types.{State}
-use Rattle.lalrpop_tables.specs.grammars.Numbers.{items_by, kernels_by}
-use Rattle.lalrpop_tables.specs.states.Building.{AreMadeSoFar}
-use Rattle.lalrpop_tables.specs.Words.{begun}
-use Rattle.lalrpop_tables.proofs.theory.conflicts.ConflictLists.{Listed-more}
-use Rattle.lalrpop_tables.proofs.theory.early_stop.MadeUntil.{nothing_listed, nothing_is_few, enough_for, Made-enough, Made-all}
-use Rattle.lalrpop_tables.proofs.theory.states.NumberedBuilding.{Fewer-left, last_added}
+use Rattle.lalrpop_base.proofs.theory.conflicts.GrownConflicts.{Listed-more}
+use Rattle.lalrpop_base.proofs.theory.early_stop.MadeUntil.{nothing_listed, nothing_is_few, enough_for, Made-enough, Made-all}
+use Rattle.lalrpop_base.proofs.theory.construction.NumberedBuilding.{Fewer-left, last_added}
 use Rattle.lalrpop_tables.proofs.construction.states.build_states.Goals as goal
 
 pub loop-conflicts-init : goal.loop-conflicts-init

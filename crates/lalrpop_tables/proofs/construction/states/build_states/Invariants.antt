@@ -1,8 +1,6 @@
 use Rattle.std.proofs.Common.{◌-◌, length}
 use Rattle.lalrpop_base.proofs.theory.states.Universe.{kernels_limit}
-use Rattle.lalrpop_base.specs.Words.{ListsAll}
-use Rattle.lalrpop_tables.specs.Words.{AreEnough}
-use Rattle.lalrpop_tables.specs.states.Building.{AreMadeSoFar}
+use Rattle.lalrpop_base.specs.Words.{ListsAll, AreEnough, AreMadeSoFar}
 use Rattle.lalrpop_tables.proofs.construction.states.build_states.Given as goal
 
 abbrev pub invariant-loop-conflicts : goal.invariant-loop-conflicts

@@ -1,9 +1,7 @@
 use Rattle.std.proofs.Common.{◌∙◌, [], ◌∷◌, List, ap, map, refl, subst}
-use Rattle.lalrpop_base.specs.Words.{AreItemsBy, Dotted}
-use Rattle.lalrpop_tables.specs.grammars.Numbers.{items_by}
-use Rattle.lalrpop_tables.specs.Words.{begun}
-use Rattle.lalrpop_tables.proofs.theory.states.NumberedBuilding.{Building-begun, same_kernels}
-use Rattle.lalrpop_tables.proofs.theory.states.NumberedEdges.{first_numbered, only_numbered}
+use Rattle.lalrpop_base.specs.Words.{AreItemsBy, Dotted, begun, items_by}
+use Rattle.lalrpop_base.proofs.theory.construction.NumberedBuilding.{Building-begun, same_kernels}
+use Rattle.lalrpop_base.proofs.theory.construction.NumberedEdges.{first_numbered, only_numbered}
 use Rattle.lalrpop_tables.proofs.construction.states.first_kernels.Goals as goal
 
 pub returns : goal.returns

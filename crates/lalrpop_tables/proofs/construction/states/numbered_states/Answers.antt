@@ -1,14 +1,14 @@
 use Rattle.std.proofs.Common.{◌≡◌, ◌∙◌, ◌<◌, Contains, List, ap, length, ℕ, subst, sym}
 use Rattle.std.proofs.lemmas.List.{length-map}
 use Rattle.lalrpop_tables.proofs.Types.{State}
-use Rattle.lalrpop_tables.specs.grammars.Numbers.{items_by, kernels_by}
+use Rattle.lalrpop_base.specs.Words.{items_by, kernels_by}
 use Rattle.lalrpop_tables.specs.states.NumberedStates.{AreNumberedAs, IsMadeByNumber, finished_in}
 use Rattle.lalrpop_tables.specs.declared.construction.numbered_state.NumberedState.{NumberedState}
-use Rattle.lalrpop_tables.proofs.theory.conflicts.ConflictLists.{States-of}
-use Rattle.lalrpop_tables.proofs.theory.states.Building.{Building-all}
+use Rattle.lalrpop_base.proofs.theory.conflicts.GrownConflicts.{States-of}
+use Rattle.lalrpop_base.proofs.theory.construction.Building.{Building-all}
 use Rattle.lalrpop_tables.proofs.theory.states.ItemNumbers.{Items-numbered}
 use Rattle.lalrpop_tables.proofs.theory.states.MadeByNumber.{As-more, Numbered-as}
-use Rattle.lalrpop_tables.proofs.theory.states.NumberedBuilding.{Fewer-left}
+use Rattle.lalrpop_base.proofs.theory.construction.NumberedBuilding.{Fewer-left}
 use Rattle.lalrpop_tables.proofs.construction.states.numbered_states.Goals as goal
 
 pub loop-list-smaller : goal.loop-list-smaller

@@ -1,5 +1,5 @@
 use Rattle.std.proofs.Common.{◌∙◌, ap, arith, Some}
-use Rattle.lalrpop_tables.proofs.theory.states.NumberedMoves.{Added-none, Added-over}
+use Rattle.lalrpop_base.proofs.theory.construction.NumberedMoves.{Added-none, Added-over}
 use Rattle.lalrpop_base.proofs.theory.lists.Places.{slice_get_at}
 use Rattle.lalrpop_tables.proofs.construction.transitions.add_move.Goals as goal
 

@@ -3,18 +3,15 @@ use Rattle.std.proofs.lemmas.Result.{IfOk-weaker}
 use Rattle.std.specs.Map.{keys_of}
 use Rattle.std.specs.Prelude.{length, slice_get}
 use Rattle.std.proofs.lemmas.List.{map-append, nil_from_length}
-use Rattle.lalrpop_base.specs.Words.{AddsOnce, Dotted}
+use Rattle.lalrpop_base.specs.Words.{AddsOnce, Dotted, Groups, IsEntryAdded, list_entries, NumberedGroups, groups_by, items_by, kernels_by, symbol_at}
 use Rattle.lalrpop_tables.proofs.Types.{Symbol}
-use Rattle.lalrpop_tables.specs.Words.{Groups}
-use Rattle.lalrpop_tables.specs.states.Transitions.{IsEntryAdded, list_entries}
-use Rattle.lalrpop_tables.specs.grammars.Numbers.{NumberedGroups, groups_by, items_by, kernels_by, symbol_at}
-use Rattle.lalrpop_tables.specs.declared.construction.numbered.Numbered.{Numbered}
-use Rattle.lalrpop_tables.proofs.theory.states.Contained.{added_or_not, decided, decided_list, decided_numbered}
+use Rattle.lalrpop_base.specs.declared.numbers.numbered.Numbered.{Numbered}
+use Rattle.lalrpop_base.proofs.theory.construction.Contained.{added_or_not, decided, decided_list, decided_numbered}
 use Rattle.lalrpop_base.proofs.theory.lists.Members.{contains_map}
-use Rattle.lalrpop_tables.proofs.theory.states.Moves.{AreSomeEdges, Edges-none, Edges-more, Edges-all}
+use Rattle.lalrpop_base.proofs.theory.construction.Moves.{AreSomeEdges, Edges-none, Edges-more, Edges-all}
 use Rattle.lalrpop_tables.proofs.theory.states.EdgesByNumber.{EdgesBy-all, Keys-ascend, Keys-of, ListedBy-more, ListedBy-none}
-use Rattle.lalrpop_tables.proofs.theory.states.NumberedEdges.{all_known, differ_by, either_by, numbered_by, taken, taken_among}
-use Rattle.lalrpop_tables.proofs.theory.states.NumberedMoves.{group_by, symbol_is}
+use Rattle.lalrpop_base.proofs.theory.construction.NumberedEdges.{all_known, differ_by, either_by, numbered_by, taken, taken_among}
+use Rattle.lalrpop_base.proofs.theory.construction.NumberedMoves.{group_by, symbol_is}
 use Rattle.lalrpop_base.proofs.theory.lists.Places.{slice_get_at}
 use Rattle.lalrpop_base.proofs.theory.closures.Readings.{on_ok}
 use Rattle.lalrpop_tables.proofs.construction.transitions.edges_of.Goals as goal

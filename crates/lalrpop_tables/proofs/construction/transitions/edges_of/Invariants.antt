@@ -1,8 +1,7 @@
 use Rattle.std.proofs.Common.{◌≡◌, ◌++◌}
-use Rattle.lalrpop_tables.specs.grammars.Numbers.{AreAllNumbered, groups_by, kernels_by}
-use Rattle.lalrpop_tables.proofs.theory.states.Moves.{AreSomeEdges}
+use Rattle.lalrpop_base.specs.Words.{AreAllNumbered, groups_by, kernels_by, list_entries}
+use Rattle.lalrpop_base.proofs.theory.construction.Moves.{AreSomeEdges}
 use Rattle.lalrpop_tables.specs.states.NumberedStates.{AreListedBy}
-use Rattle.lalrpop_tables.specs.states.Transitions.{list_entries}
 use Rattle.std.specs.Map.{keys_of}
 use Rattle.lalrpop_tables.proofs.construction.transitions.edges_of.Given as goal
 

@@ -1,12 +1,10 @@
 use Rattle.std.proofs.Common.{◌≡◌, ◌+◌, ◌++◌, ◌∷◌, [], List, sym, subst, take}
 use Rattle.std.proofs.lemmas.List.{take_all}
-use Rattle.lalrpop_base.specs.Words.{Dotted}
-use Rattle.lalrpop_tables.specs.grammars.Numbers.{AreGroupsOf, NumberedGroups, groups_by, item_by, items_by}
-use Rattle.lalrpop_tables.specs.Words.{AreMoves}
-use Rattle.lalrpop_tables.specs.declared.construction.numbered.Numbered.{Numbered}
+use Rattle.lalrpop_base.specs.Words.{Dotted, AreMoves, AreGroupsOf, NumberedGroups, groups_by, item_by, items_by}
+use Rattle.lalrpop_base.specs.declared.numbers.numbered.Numbered.{Numbered}
 use Rattle.lalrpop_base.proofs.theory.lists.Members.{Contains-none}
-use Rattle.lalrpop_tables.proofs.theory.states.Moves.{Moves-none, Moves-more}
-use Rattle.lalrpop_tables.proofs.theory.closures.SharedItems.{mapped_more}
+use Rattle.lalrpop_base.proofs.theory.construction.Moves.{Moves-none, Moves-more}
+use Rattle.lalrpop_base.proofs.theory.closures.SharedItems.{mapped_more}
 use Rattle.lalrpop_tables.proofs.construction.transitions.moves_of.Goals as goal
 
 pub loop-item-init : goal.loop-item-init

@@ -1,6 +1,5 @@
 use Rattle.std.proofs.Common.{take}
-use Rattle.lalrpop_tables.specs.grammars.Numbers.{AreGroupsOf, groups_by, items_by}
-use Rattle.lalrpop_tables.specs.Words.{AreMoves}
+use Rattle.lalrpop_base.specs.Words.{AreGroupsOf, groups_by, items_by, AreMoves}
 use Rattle.lalrpop_tables.proofs.construction.transitions.moves_of.Given as goal
 
 abbrev pub invariant-loop-item : goal.invariant-loop-item

@@ -1,7 +1,6 @@
-use Rattle.lalrpop_tables.specs.grammars.Numbers.{NumberedGroups, groups_by, items_by}
-use Rattle.lalrpop_tables.specs.states.Transitions.{AreMoves}
-use Rattle.lalrpop_base.proofs.theory.lists.SparseMaps.{rising_differ}
-use Rattle.lalrpop_tables.proofs.theory.states.PermutedMoves.{groups_permuted, moves_permuted}
+use Rattle.lalrpop_base.specs.Words.{NumberedGroups, groups_by, items_by, AreMoves}
+use Rattle.lalrpop_base.proofs.theory.collections.SparseMaps.{rising_differ}
+use Rattle.lalrpop_base.proofs.theory.construction.PermutedMoves.{groups_permuted, moves_permuted}
 use Rattle.lalrpop_tables.proofs.construction.transitions.transitions.Goals as goal
 
 pub edges_of-requires-clause-known : goal.edges_of-requires-clause-known

@@ -3,7 +3,8 @@ use mathlib.Core.Bool.{true≢false}
 use Rattle.lalrpop_tables.proofs.Types.{Action}
 use Rattle.lalrpop_base.specs.Words.{Reduces}
 use Rattle.lalrpop_base.proofs.theory.lanes.Contexts.{reduces_there, reduces_nowhere}
-use Rattle.lalrpop_tables.proofs.theory.lane_tables.LaneTableStates.{EachSoFar, far_in, far_more, far_end, each_more}
+use Rattle.lalrpop_tables.proofs.theory.lane_tables.LaneTableStates.{EachSoFar, each_more}
+use Rattle.lalrpop_base.proofs.theory.lists.EachLemmas.{far_in, far_more, far_end}
 use Rattle.lalrpop_tables.proofs.lane_table.context_set.has_reduction.Goals as goal
 
 pub loop-action-preserved : goal.loop-action-preserved

@@ -1,6 +1,7 @@
 use Rattle.lalrpop_base.specs.Words.{Reduces}
 use Rattle.lalrpop_tables.proofs.Types.{Action}
-use Rattle.lalrpop_tables.proofs.theory.lane_tables.LaneTableStates.{HoldsSoFar, EachSoFar}
+use Rattle.lalrpop_tables.proofs.theory.lane_tables.LaneTableStates.{EachSoFar}
+use Rattle.lalrpop_base.proofs.theory.lists.EachLemmas.{HoldsSoFar}
 use Rattle.lalrpop_tables.proofs.lane_table.context_set.has_reduction.Given as goal
 
 abbrev pub invariant-loop-action : goal.invariant-loop-action

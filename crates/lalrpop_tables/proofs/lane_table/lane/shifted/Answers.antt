@@ -2,7 +2,7 @@ use Rattle.std.proofs.Common.{◌≡◌, ℕ, sym, ◌∙◌, ap, subst, true, r
 use Rattle.std.specs.Prelude.{slice_get, Some}
 use mathlib.Core.Bool.{true≢false}
 use Rattle.lalrpop_base.specs.Words.{Bits, has, has-no_bits}
-use Rattle.lalrpop_tables.proofs.theory.grammars.Following.{only_bit}
+use Rattle.lalrpop_tables.proofs.theory.follow_sets.Following.{only_bit}
 use Rattle.lalrpop_tables.proofs.lane_table.lane.shifted.Goals as goal
 
 pub returns-in_ok-of-in-Some : goal.returns-in_ok-of-in-Some

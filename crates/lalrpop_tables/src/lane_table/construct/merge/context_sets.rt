@@ -1,7 +1,7 @@
 //! The set of each state, and the context of each set.
 ghost use Rattle.std.specs.Prelude.{◌≡◌, Some, length, map, IfOk, OnOk, OnErr, MatchBool};
 ghost use Rattle.lalrpop_base.specs.declared.lr1_core.state.StateIndex.{StateIndex as State};
-ghost use Rattle.lalrpop_base.specs.lanes.Contexts.{MeetInUnion};
+ghost use Rattle.lalrpop_base.specs.Words.{MeetInUnion};
 ghost use Rattle.lalrpop_tables.specs.merges.StateSets.{AddsColumns, AreJoined, HasSet, IsMade, OwnSets, context_of, replaced_entry, set_of};
 
 use crate::lane_table::construct::state_set::StateSet;

@@ -1,9 +1,8 @@
 //! Copies of states, and the edges that lead to them.
 ghost use Rattle.std.specs.Prelude.{◌≡◌, ◌<◌, ℕ, length, slice_get, Some, IfOk, OnOk, OnErr, IfErr};
-ghost use Rattle.lalrpop_base.specs.lanes.Contexts.{AreDisjoint};
+ghost use Rattle.lalrpop_base.specs.Words.{AreDisjoint, retargeted_all};
 ghost use Rattle.lalrpop_tables.specs.lane_tables.LaneTables.{ColumnsOverlap, HasRow, IsRow, RowOverlaps};
 ghost use Rattle.lalrpop_tables.specs.merges.Merges.{Advances, AreTargetsAmong, HaveNoNewMarks, IsFresh, IsLonger, IsMergeError, IsMerging, IsPushed, IsRelinked, IsTaken, IsWalked, index as index_of, replaced};
-ghost use Rattle.lalrpop_base.specs.renumbering.Renumbered.{retargeted_all};
 ghost use Rattle.lalrpop_tables.specs.merges.StateSets.{context_of};
 
 use super::{Merge, MergeError};

@@ -1,4 +1,4 @@
-use Rattle.lalrpop_base.proofs.theory.lists.MultimapLemmas.{pairs_and_one}
+use Rattle.lalrpop_base.proofs.theory.collections.MultimapLemmas.{pairs_and_one}
 use Rattle.lalrpop_base.proofs.collections.multimap.Multimap.from_pairs.Goals as goal
 
 pub loop-key-preserved : goal.loop-key-preserved

@@ -1,4 +1,4 @@
-use Rattle.lalrpop_base.proofs.theory.lists.MultimapLemmas.{told_everywhere, err_everywhere}
+use Rattle.lalrpop_base.proofs.theory.collections.MultimapLemmas.{told_everywhere, err_everywhere}
 use Rattle.lalrpop_base.proofs.collections.multimap.MultimapCollection.push.Goals as goal
 
 pub returns-clause-told : goal.returns-clause-told

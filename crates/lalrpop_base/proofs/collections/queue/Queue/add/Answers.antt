@@ -1,5 +1,5 @@
 use Rattle.std.proofs.Common.{◌≡◌, ◌∙◌, ◌<◌, false, true, rules, length, get_or, sym}
-use Rattle.lalrpop_base.proofs.theory.lists.Queues.{Marked-few, Marked-added, mark_read, with_new, with_waiting}
+use Rattle.lalrpop_base.proofs.theory.collections.Queues.{Marked-few, Marked-added, mark_read, with_new, with_waiting}
 use Rattle.lalrpop_base.proofs.collections.queue.Queue.add.Goals as goal
 
 pub returns-then-index-clause-added : goal.returns-then-index-clause-added

@@ -1,5 +1,5 @@
 use Rattle.std.proofs.Common.{◌∙◌}
-use Rattle.lalrpop_base.proofs.theory.lists.Queues.{waits_below}
+use Rattle.lalrpop_base.proofs.theory.collections.Queues.{waits_below}
 use Rattle.lalrpop_base.proofs.collections.queue.Queue.full.Goals as goal
 
 pub loop-number-preserved : goal.loop-number-preserved

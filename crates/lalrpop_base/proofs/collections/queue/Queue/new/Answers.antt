@@ -1,4 +1,4 @@
-use Rattle.lalrpop_base.proofs.theory.lists.Queues.{Marked-none, no_mark}
+use Rattle.lalrpop_base.proofs.theory.collections.Queues.{Marked-none, no_mark}
 use Rattle.lalrpop_base.proofs.collections.queue.Queue.new.Goals as goal
 
 pub invariant_of-result : goal.invariant_of-result

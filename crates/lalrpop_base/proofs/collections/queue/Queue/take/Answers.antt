@@ -1,5 +1,5 @@
 use Rattle.std.proofs.Common.{◌≡◌, ◌<◌, ◌∷◌, length, rules}
-use Rattle.lalrpop_base.proofs.theory.lists.Queues.{Marked-taken, taken_within}
+use Rattle.lalrpop_base.proofs.theory.collections.Queues.{Marked-taken, taken_within}
 use Rattle.lalrpop_base.proofs.collections.queue.Queue.take.Goals as goal
 
 pub index_mut-requires : goal.index_mut-requires

@@ -1,7 +1,7 @@
 use Rattle.std.proofs.Common.{◌≡◌, ◌∙◌, ◌++◌, ◌∷◌, [], ap, set}
 use Rattle.std.proofs.lemmas.Result.{on_ok_weaker}
 use Rattle.lalrpop_base.proofs.theory.lists.Updates.{IsReplaced, pushed_fresh, pushed_known}
-use Rattle.lalrpop_base.proofs.theory.lists.SparseMaps.{changed_replaced, changed_differ, pushed_inserted}
+use Rattle.lalrpop_base.proofs.theory.collections.SparseMaps.{changed_replaced, changed_differ, pushed_inserted}
 use Rattle.lalrpop_base.proofs.collections.sparse_map.SparseMap+Sequence+T.push_at.Goals as goal
 
 pub returns-in-Some-clause-pushed : goal.returns-in-Some-clause-pushed

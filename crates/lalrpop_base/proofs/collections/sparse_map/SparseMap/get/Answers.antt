@@ -1,4 +1,4 @@
-use Rattle.lalrpop_base.proofs.theory.lists.SparseMaps.{placed_differ}
+use Rattle.lalrpop_base.proofs.theory.collections.SparseMaps.{placed_differ}
 use Rattle.lalrpop_base.proofs.collections.sparse_map.SparseMap.get.Goals as goal
 
 pub returns-in-Some-clause-differ : goal.returns-in-Some-clause-differ

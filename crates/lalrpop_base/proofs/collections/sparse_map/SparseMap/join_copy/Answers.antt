@@ -3,7 +3,7 @@ use Rattle.std.specs.Prelude.{MatchBool}
 use Rattle.std.proofs.lemmas.Result.{on_ok_weaker}
 use Rattle.lalrpop_base.proofs.theory.closures.Readings.{joined_fresh, joined_known, where_ok}
 use Rattle.lalrpop_base.proofs.theory.lists.Updates.{IsReplaced}
-use Rattle.lalrpop_base.proofs.theory.lists.SparseMaps.{changed_replaced, changed_differ, pushed_inserted}
+use Rattle.lalrpop_base.proofs.theory.collections.SparseMaps.{changed_replaced, changed_differ, pushed_inserted}
 use Rattle.lalrpop_base.proofs.collections.sparse_map.SparseMap.join_copy.Goals as goal
 
 pub returns-in-Some-clause-joined : goal.returns-in-Some-clause-joined

@@ -1,7 +1,7 @@
 use Rattle.std.proofs.Common.{◌≡◌, ◌<◌, ◌≤◌, length, arith, Some}
 use Rattle.std.specs.Prelude.{slice_get}
 use Rattle.lalrpop_base.proofs.theory.lists.Places.{slice_get_at}
-use Rattle.lalrpop_base.proofs.theory.lists.SparseMaps.{with_key, none_past, none_outside, none_other}
+use Rattle.lalrpop_base.proofs.theory.collections.SparseMaps.{with_key, none_past, none_outside, none_other}
 use Rattle.lalrpop_base.proofs.collections.sparse_map.SparseMap.place_of.Goals.{else-place-len-via-then-place-len+else-index-number, else-place-len-via-else-place-len}
 use Rattle.lalrpop_base.proofs.collections.sparse_map.SparseMap.place_of.Goals as goal
 

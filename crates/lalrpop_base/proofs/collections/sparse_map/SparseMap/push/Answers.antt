@@ -1,7 +1,7 @@
 use Rattle.std.proofs.Common.{◌≡◌, ◌<◌, ◌≤◌, length, arith, set, refl}
 use Rattle.std.specs.Prelude.{Contains}
 use Rattle.std.specs.Map.{keys_of}
-use Rattle.lalrpop_base.proofs.theory.lists.SparseMaps.{placed_differ, placed_kept, placed_more, placed_resized}
+use Rattle.lalrpop_base.proofs.theory.collections.SparseMaps.{placed_differ, placed_kept, placed_more, placed_resized}
 use Rattle.lalrpop_base.proofs.collections.sparse_map.SparseMap.push.Goals.{then-len-count+in_ok-resize, else-len-count}
 use Rattle.lalrpop_base.proofs.collections.sparse_map.SparseMap.push.Goals as goal
 

@@ -1,6 +1,6 @@
 use Rattle.std.proofs.Common.{rules}
 use Rattle.std.proofs.lemmas.List.Sorted.{IsNonDecreasingBy-from_sort_by_key}
-use Rattle.lalrpop_base.proofs.theory.lists.SparseMaps.{rising}
+use Rattle.lalrpop_base.proofs.theory.collections.SparseMaps.{rising}
 use Rattle.lalrpop_base.proofs.collections.sparse_map.SparseMap.take_rising.Goals as goal
 
 pub returns-clause-rising : goal.returns-clause-rising

@@ -1,6 +1,6 @@
 use Rattle.std.proofs.Common.{◌≡◌, ◌++◌, length}
 use Rattle.std.specs.Map.{keys_of}
-use Rattle.lalrpop_base.specs.first.FirstNumbers.{numbers_from}
+use Rattle.lalrpop_base.specs.Words.{numbers_from}
 use Rattle.lalrpop_base.proofs.first.names.Names.new.Given as goal
 
 abbrev pub invariant-loop-name : goal.invariant-loop-name

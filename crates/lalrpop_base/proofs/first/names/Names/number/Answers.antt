@@ -2,8 +2,7 @@ use Rattle.std.proofs.Common.{◌≡◌, Some, None, length, rules, sym, ◌∙�
 use Rattle.std.specs.BTreeMap.{is_at}
 use Rattle.std.specs.Map.{lookup, keys_of}
 use Rattle.std.proofs.lemmas.Map.Entries.{length-keys_of}
-use Rattle.lalrpop_base.specs.Words.{name_cmp}
-use Rattle.lalrpop_base.specs.first.FirstNumbers.{numbers_from}
+use Rattle.lalrpop_base.specs.Words.{name_cmp, numbers_from}
 use Rattle.lalrpop_base.proofs.theory.first.FirstNumbers.{place_first, place_none}
 use Rattle.lalrpop_base.proofs.first.names.Names.number.Goals as goal
 

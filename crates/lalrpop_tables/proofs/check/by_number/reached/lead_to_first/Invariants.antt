@@ -1,5 +1,4 @@
-use Rattle.lalrpop_base.specs.Words.{EachBelow, Bits}
-use Rattle.lalrpop_base.specs.states.CheckStates.{LeadsFrom}
+use Rattle.lalrpop_base.specs.Words.{EachBelow, Bits, LeadsFrom}
 use Rattle.lalrpop_tables.proofs.Types.{State}
 use Rattle.lalrpop_tables.proofs.check.by_number.reached.lead_to_first.Given as goal
 

@@ -1,6 +1,5 @@
-use Rattle.lalrpop_base.specs.Words.{EachBelow}
-use Rattle.lalrpop_tables.specs.check.ExpectedKernels.{IsMovedNumber}
-use Rattle.lalrpop_tables.specs.declared.construction.numbered.Numbered.{Numbered}
+use Rattle.lalrpop_base.specs.Words.{EachBelow, IsMovedNumber}
+use Rattle.lalrpop_base.specs.declared.numbers.numbered.Numbered.{Numbered}
 use Rattle.lalrpop_tables.proofs.Types.{Nil}
 use Rattle.lalrpop_tables.proofs.check.numbered_states.kernels.are_moved.Given as goal
 

@@ -1,5 +1,5 @@
 use Rattle.std.proofs.Common.{arith}
-use Rattle.lalrpop_tables.proofs.theory.check.ExpectedKernels.{all_rise}
+use Rattle.lalrpop_base.proofs.theory.check.ExpectedKernels.{all_rise}
 use Rattle.lalrpop_tables.proofs.check.numbered_states.kernels.rise.Goals as goal
 
 pub loop-place-init : goal.loop-place-init

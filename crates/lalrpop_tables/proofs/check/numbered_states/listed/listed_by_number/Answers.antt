@@ -1,15 +1,13 @@
 use Rattle.std.proofs.Common.{◌≡◌, ◌∙◌, ◌+◌, ◌++◌, ◌∷◌, [], ℕ, List, ap, subst, sym, take, length}
 use Rattle.std.specs.Prelude.{IfSome, Option}
 use Rattle.std.proofs.lemmas.List.{take_all, take_more}
-use Rattle.lalrpop_base.specs.Words.{Bits}
+use Rattle.lalrpop_base.specs.Words.{Bits, IsKernelAt, IsKernelOf, items_by}
 use Rattle.lalrpop_base.proofs.theory.grammars.Grammars.{productions_own}
 use Rattle.lalrpop_tables.proofs.Types.{Nil, State}
 use Rattle.lalrpop_tables.specs.check.ByNumber.{AreListedByNumber, IsListedOver, IsListedState, ListsClosure}
-use Rattle.lalrpop_tables.specs.check.ExpectedKernels.{IsKernelAt, IsKernelOf}
-use Rattle.lalrpop_tables.specs.grammars.Numbers.{items_by}
-use Rattle.lalrpop_tables.specs.declared.construction.numbered.Numbered.{Numbered}
+use Rattle.lalrpop_base.specs.declared.numbers.numbered.Numbered.{Numbered}
 use Rattle.lalrpop_tables.specs.declared.construction.numbered_state.NumberedState.{NumberedState}
-use Rattle.lalrpop_tables.proofs.theory.check.ExpectedKernels.{start_kernel}
+use Rattle.lalrpop_base.proofs.theory.check.ExpectedKernels.{start_kernel}
 use Rattle.lalrpop_tables.proofs.theory.check.NumberedSteps.{Listed-more}
 use Rattle.lalrpop_tables.proofs.check.numbered_states.listed.listed_by_number.Goals as goal
 

@@ -1,9 +1,8 @@
 use Rattle.std.proofs.Common.{◌≡◌, ◌∙◌, ◌<◌, ℕ, List, length, map, subst, sym}
 use Rattle.std.specs.Prelude.{Contains}
 use Rattle.std.proofs.lemmas.Result.{IfOk-weaker}
-use Rattle.lalrpop_base.specs.Words.{AllDiffer}
+use Rattle.lalrpop_base.specs.Words.{AllDiffer, items_by}
 use Rattle.lalrpop_tables.specs.states.NumberedStates.{AreItemsAt, number_in}
-use Rattle.lalrpop_tables.specs.grammars.Numbers.{items_by}
 use Rattle.lalrpop_tables.proofs.theory.check.NumberedSteps.{Listed-closure, if_some}
 use Rattle.lalrpop_tables.proofs.theory.states.ItemNumbers.{numbers_differ, numbers_known}
 use Rattle.lalrpop_tables.proofs.check.numbered_states.listed.listed_state.Goals as goal

@@ -1,10 +1,9 @@
 use Rattle.std.proofs.Common.{◌<◌, ℕ, List, [], length, refl, subst, sym}
 use Rattle.std.specs.Prelude.{Contains}
 use Rattle.std.specs.Borrow.{Bor}
-use Rattle.lalrpop_base.specs.Words.{AllDiffer, Bits, Dotted}
+use Rattle.lalrpop_base.specs.Words.{AllDiffer, Bits, Dotted, Entries}
 use Rattle.lalrpop_tables.proofs.Types.{Production, State, Symbol}
 use Rattle.lalrpop_tables.specs.states.NumberedStates.{HasFinished, AddsGotos, AddsShifts, AreItemsAt, AreReducedNumbers}
-use Rattle.lalrpop_tables.specs.states.Transitions.{Entries}
 use Rattle.lalrpop_tables.specs.declared.construction.numbered_state.NumberedState.{NumberedState}
 use Rattle.lalrpop_tables.proofs.theory.states.MadeByNumber.{Numbered-state}
 use Rattle.lalrpop_tables.proofs.theory.states.EdgesByNumber.{Keys-ascend, Keys-none, ListedBy-none}

@@ -3,9 +3,8 @@ use Rattle.std.specs.Prelude.{slice_get}
 use Rattle.std.proofs.lemmas.Bool.{cases_lt}
 use Rattle.std.proofs.lemmas.List.{get_or_default}
 use Rattle.std.proofs.lemmas.Option.{slice_get_within}
-use Rattle.lalrpop_base.specs.Words.{Bits, Dotted}
+use Rattle.lalrpop_base.specs.Words.{Bits, Dotted, with_dot}
 use Rattle.lalrpop_base.proofs.theory.lists.Places.{same_some, slice_get_at}
-use Rattle.lalrpop_tables.specs.grammars.Numbering.{with_dot}
 use Rattle.lalrpop_tables.proofs.check.numbered_states.transitions.are_items.Goals as goal
 
 pub loop-place-preserved : goal.loop-place-preserved

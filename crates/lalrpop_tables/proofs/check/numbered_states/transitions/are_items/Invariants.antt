@@ -1,7 +1,6 @@
 use Rattle.std.proofs.Common.{◌≡◌, ℕ, ◌<◌, Some}
 use Rattle.std.specs.Prelude.{slice_get}
-use Rattle.lalrpop_base.specs.Words.{Bits, Dotted}
-use Rattle.lalrpop_tables.specs.grammars.Numbering.{with_dot}
+use Rattle.lalrpop_base.specs.Words.{Bits, Dotted, with_dot}
 use Rattle.lalrpop_tables.proofs.check.numbered_states.transitions.are_items.Given as goal
 
 abbrev pub invariant-loop-place : goal.invariant-loop-place

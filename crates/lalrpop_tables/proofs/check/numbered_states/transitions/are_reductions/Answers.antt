@@ -4,10 +4,9 @@ use Rattle.std.specs.Borrow.{Bor}
 use Rattle.std.proofs.lemmas.Bool.{cases_lt}
 use Rattle.std.proofs.lemmas.List.{get_or_default}
 use Rattle.std.proofs.lemmas.Option.{slice_get_within}
-use Rattle.lalrpop_base.specs.Words.{Bits}
+use Rattle.lalrpop_base.specs.Words.{Bits, with_dot}
 use Rattle.lalrpop_tables.proofs.Types.{Production}
 use Rattle.lalrpop_base.proofs.theory.lists.Places.{same_some, slice_get_at}
-use Rattle.lalrpop_tables.specs.grammars.Numbering.{with_dot}
 use Rattle.lalrpop_tables.proofs.check.numbered_states.transitions.are_reductions.Goals as goal
 
 pub loop-place-preserved : goal.loop-place-preserved

@@ -1,9 +1,8 @@
 use Rattle.std.proofs.Common.{◌≡◌, ℕ, ◌<◌, Some, length}
 use Rattle.std.specs.Prelude.{slice_get}
 use Rattle.std.specs.Borrow.{Bor}
-use Rattle.lalrpop_base.specs.Words.{Bits}
+use Rattle.lalrpop_base.specs.Words.{Bits, with_dot}
 use Rattle.lalrpop_tables.proofs.Types.{Production}
-use Rattle.lalrpop_tables.specs.grammars.Numbering.{with_dot}
 use Rattle.lalrpop_tables.proofs.check.numbered_states.transitions.are_reductions.Given as goal
 
 abbrev pub invariant-loop-place : goal.invariant-loop-place

@@ -1,6 +1,6 @@
 use Rattle.std.proofs.Common.{inl, inr}
 use Rattle.std.proofs.lemmas.Result.{IfOk-weaker}
-use Rattle.lalrpop_tables.proofs.theory.closures.EpsilonMoves.{holds_none}
+use Rattle.lalrpop_base.proofs.theory.closures.EpsilonMoves.{holds_none}
 use Rattle.lalrpop_tables.proofs.construction.epsilon_moves.NilLookaheadBuild.epsilon_moves.Goals as goal
 
 pub returns : goal.returns

@@ -1,7 +1,7 @@
 use Rattle.std.proofs.Common.{inl, inr}
 use Rattle.lalrpop_base.specs.closures.EpsilonMoves.IsGivenAt.{given}
 use Rattle.lalrpop_base.proofs.theory.closures.Readings.{readings_differ, where_ok}
-use Rattle.lalrpop_tables.proofs.theory.closures.EpsilonMoves.{holds_none}
+use Rattle.lalrpop_base.proofs.theory.closures.EpsilonMoves.{holds_none}
 use Rattle.lalrpop_tables.proofs.construction.epsilon_moves.NilLookaheadBuild.give.Goals as goal
 
 pub returns : goal.returns

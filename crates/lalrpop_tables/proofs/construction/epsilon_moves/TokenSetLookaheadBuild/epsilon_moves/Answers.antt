@@ -1,6 +1,6 @@
 use Rattle.std.proofs.lemmas.Result.{IfOk-weaker}
 use Rattle.lalrpop_base.specs.Words.{IsFirstSetBefore, FitsTokens, Rules}
-use Rattle.lalrpop_tables.proofs.theory.closures.EpsilonMoves.{First-holds}
+use Rattle.lalrpop_base.proofs.theory.closures.EpsilonMoves.{First-holds}
 use Rattle.lalrpop_base.proofs.theory.grammars.Grammars.{known_by_rules}
 use Rattle.lalrpop_tables.proofs.construction.epsilon_moves.TokenSetLookaheadBuild.epsilon_moves.Goals as goal
 

@@ -6,7 +6,7 @@ use Rattle.lalrpop_base.proofs.theory.closures.Readings.{readings_differ, where_
 use Rattle.lalrpop_base.proofs.theory.grammars.Grammars.{known_by_rules}
 use Rattle.lalrpop_base.proofs.theory.lists.JoinedTwice.{joined_both}
 use Rattle.lalrpop_base.proofs.theory.sets.BitSets.{join_turned}
-use Rattle.lalrpop_tables.proofs.theory.grammars.RestsGiven.{rest_gives}
+use Rattle.lalrpop_base.proofs.theory.numbers.RestsGiven.{rest_gives}
 use Rattle.lalrpop_tables.proofs.construction.epsilon_moves.TokenSetLookaheadBuild.give.Goals as goal
 
 pub returns-then-not-rest : goal.returns-then-not-rest

@@ -1,10 +1,10 @@
 use Rattle.std.proofs.Common.{◌∙◌, ap, subst, sym}
 use Rattle.std.proofs.lemmas.Result.{IfOk-weaker, IfErr-weaker}
 use Rattle.lalrpop_tables.proofs.Types.{Nil}
-use Rattle.lalrpop_tables.specs.Words.{StopsFor, Construction, Settings, AreTablesFor, FailsFor}
+use Rattle.lalrpop_base.specs.Words.{StopsFor, Construction, Settings, AreTablesFor, FailsFor}
 use Rattle.lalrpop_base.proofs.theory.lists.BothFacts.{MatchResult-both, IfErr-given}
-use Rattle.lalrpop_tables.proofs.theory.canonical.Lr0States.{nothing, never, stopped, Lists, Tables-lr0, Fails-lr0, Tables-free, Stops-listed}
-use Rattle.lalrpop_tables.proofs.theory.early_stop.StoppedLr0.{stopped_after_lr0}
+use Rattle.lalrpop_base.proofs.theory.canonical.Lr0States.{nothing, never, stopped, Lists, Tables-lr0, Fails-lr0, Tables-free, Stops-listed}
+use Rattle.lalrpop_base.proofs.theory.early_stop.StoppedLr0.{stopped_after_lr0}
 use Rattle.lalrpop_tables.proofs.construction.lr.Lr+Nil.build_lr0_states.Goals as goal
 
 pub returns-clause-states : goal.returns-clause-states

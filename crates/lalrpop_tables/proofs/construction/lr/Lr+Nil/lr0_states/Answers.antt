@@ -1,7 +1,7 @@
 use Rattle.std.proofs.Common.{ap, subst, sym}
 use Rattle.lalrpop_tables.proofs.Types.{Nil}
-use Rattle.lalrpop_tables.specs.Words.{AreStatesFor, Construction, Settings}
-use Rattle.lalrpop_tables.proofs.theory.canonical.Lr0States.{nothing, never, stopped, Lists, States-lr0}
+use Rattle.lalrpop_base.specs.Words.{AreStatesFor, Construction, Settings}
+use Rattle.lalrpop_base.proofs.theory.canonical.Lr0States.{nothing, never, stopped, Lists, States-lr0}
 use Rattle.lalrpop_tables.proofs.construction.lr.Lr+Nil.lr0_states.Goals as goal
 
 pub returns-clause-states : goal.returns-clause-states

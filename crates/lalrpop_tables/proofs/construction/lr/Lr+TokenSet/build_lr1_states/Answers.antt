@@ -1,14 +1,13 @@
 use Rattle.std.proofs.Common.{◌≡◌, ℕ, ◌∙◌, ap, length, sym, subst}
 use Rattle.std.proofs.lemmas.Result.{IfOk-weaker, IfErr-weaker}
-use Rattle.lalrpop_base.specs.Words.{Bits, no_bits, with_bit, rules_of, productions_of, Begins}
+use Rattle.lalrpop_base.specs.Words.{Bits, no_bits, with_bit, rules_of, productions_of, Begins, StopsFor, Construction, Settings, AreTablesFor, canonical_of}
 use Rattle.lalrpop_tables.proofs.Types.{Grammar, NonterminalString}
 use Rattle.lalrpop_base.specs.closures.Closure.{itself}
-use Rattle.lalrpop_tables.specs.Words.{StopsFor, Construction, Settings, AreTablesFor, canonical_of}
 use Rattle.lalrpop_base.proofs.theory.lists.BothFacts.{MatchResult-both, IfErr-given}
 use Rattle.lalrpop_tables.proofs.theory.canonical.CanonicalAnswers.{Set-tables, Set-fails}
 use Rattle.lalrpop_tables.proofs.theory.canonical.SameConstruction.{Same-tables, Same-fails}
-use Rattle.lalrpop_tables.proofs.theory.early_stop.StoppedAnswers.{stopping}
-use Rattle.lalrpop_tables.proofs.theory.closures.TokenTables.{Passes, Lists, Tables-of, Fails-of}
+use Rattle.lalrpop_base.proofs.theory.early_stop.StoppedAnswers.{stopping}
+use Rattle.lalrpop_base.proofs.theory.closures.TokenTables.{Passes, Lists, Tables-of, Fails-of}
 use Rattle.lalrpop_tables.proofs.construction.lr.Lr+TokenSet.build_lr1_states.Goals as goal
 
 abbrev settings : Grammar → NonterminalString → ℕ → Bits → Settings Bits

@@ -1,5 +1,5 @@
 use Rattle.std.proofs.lemmas.Result.{IfOk-weaker}
-use Rattle.lalrpop_tables.proofs.theory.closures.EpsilonMoves.{Begun-all}
+use Rattle.lalrpop_base.proofs.theory.closures.EpsilonMoves.{Begun-all}
 use Rattle.lalrpop_tables.proofs.construction.lr.Lr.begun_items.Goals as goal
 
 pub returns : goal.returns

@@ -1,5 +1,5 @@
 use Rattle.std.proofs.lemmas.Result.{IfOk-weaker, IfErr-weaker}
-use Rattle.lalrpop_tables.proofs.theory.early_stop.MadeUntil.{made_tables, made_failure, made_stopped}
+use Rattle.lalrpop_base.proofs.theory.early_stop.MadeUntil.{made_tables, made_failure, made_stopped}
 use Rattle.lalrpop_tables.proofs.construction.lr.Lr.build_states.Goals as goal
 
 pub returns-clause-tables : goal.returns-clause-tables

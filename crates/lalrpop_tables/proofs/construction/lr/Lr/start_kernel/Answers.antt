@@ -1,7 +1,6 @@
 use Rattle.std.proofs.Common.{◌∙◌, ap, subst, sym}
-use Rattle.lalrpop_base.specs.Words.{rules_of, AreItemsBy}
-use Rattle.lalrpop_tables.specs.grammars.Numbers.{AreNumbered, items_by}
-use Rattle.lalrpop_tables.proofs.theory.states.Shifting.{Start-items}
+use Rattle.lalrpop_base.specs.Words.{rules_of, AreItemsBy, AreNumbered, items_by}
+use Rattle.lalrpop_base.proofs.theory.construction.Shifting.{Start-items}
 use Rattle.lalrpop_tables.proofs.construction.lr.Lr.start_kernel.Goals as goal
 
 pub returns-clause-known : goal.returns-clause-known

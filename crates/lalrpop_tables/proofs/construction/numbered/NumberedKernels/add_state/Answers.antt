@@ -1,7 +1,6 @@
 use Rattle.std.proofs.Common.{List, ap, subst, arith}
-use Rattle.lalrpop_base.specs.Words.{AddsOnce, list_exact}
-use Rattle.lalrpop_tables.specs.declared.construction.numbered.Numbered.{Numbered}
-use Rattle.lalrpop_tables.specs.grammars.Numbers.{numbered_exact}
+use Rattle.lalrpop_base.specs.Words.{AddsOnce, list_exact, numbered_exact}
+use Rattle.lalrpop_base.specs.declared.numbers.numbered.Numbered.{Numbered}
 use Rattle.lalrpop_tables.proofs.theory.states.InsertedKernels.{inserted_differ, inserted_more, inserted_once, inserted_stands}
 use Rattle.lalrpop_tables.proofs.construction.numbered.NumberedKernels.add_state.Goals as goal
 

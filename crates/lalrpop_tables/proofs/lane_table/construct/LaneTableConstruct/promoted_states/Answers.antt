@@ -1,8 +1,6 @@
 use Rattle.std.proofs.Common.{ap, sym, subst}
-use Rattle.lalrpop_base.specs.Words.{Rules, rules_of, AreLr0States}
+use Rattle.lalrpop_base.specs.Words.{Rules, rules_of, AreLr0States, Construction, AreNumbers}
 use Rattle.lalrpop_tables.proofs.Types.{Nil}
-use Rattle.lalrpop_tables.specs.Words.{Construction}
-use Rattle.lalrpop_tables.specs.grammars.Numbers.{AreNumbers}
 use Rattle.lalrpop_tables.proofs.theory.lane_states.LanePromoted.{Numbered-promoted, promoted_lanes, promoted_full, full_set}
 use Rattle.lalrpop_tables.proofs.lane_table.construct.LaneTableConstruct.promoted_states.Goals as goal
 

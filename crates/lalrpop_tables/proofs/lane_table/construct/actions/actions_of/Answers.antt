@@ -6,7 +6,7 @@ use Rattle.lalrpop_base.specs.Words.{has}
 use Rattle.lalrpop_base.specs.declared.lr1_core.state.Action.{Action as TheAction}
 use Rattle.lalrpop_base.specs.conflicts.HeldShifts.{held_shift, IsHeldBit}
 use Rattle.lalrpop_tables.specs.Words.{reduce_action}
-use Rattle.lalrpop_tables.proofs.theory.conflicts.HeldShifts.{gathered_asked}
+use Rattle.lalrpop_tables.proofs.theory.lanes.HeldShifts.{gathered_asked}
 use Rattle.lalrpop_tables.proofs.theory.lanes.LaneActions.{asked_same, no_actions}
 use Rattle.lalrpop_tables.proofs.lane_table.construct.actions.actions_of.Goals as goal
 

@@ -4,7 +4,7 @@ use Rattle.lalrpop_base.specs.declared.lookahead.token.Token.TheVariants.{Termin
 use Rattle.lalrpop_base.specs.declared.lr1_core.state.Action.TheVariants.{Shift}
 use Rattle.lalrpop_tables.proofs.Types.{TerminalString}
 use Rattle.lalrpop_tables.specs.Words.{AreActions}
-use Rattle.lalrpop_tables.proofs.theory.conflicts.HeldShifts.{shift_passed, shift_taken}
+use Rattle.lalrpop_tables.proofs.theory.lanes.HeldShifts.{shift_passed, shift_taken}
 use Rattle.lalrpop_tables.proofs.theory.lanes.LaneActions.{one_action}
 use Rattle.lalrpop_tables.proofs.lane_table.construct.actions.add_shift.Goals as goal
 

@@ -4,7 +4,7 @@ use Rattle.std.proofs.lemmas.List.{take_all, take_more}
 use Rattle.lalrpop_base.specs.conflicts.StateConflicts.{Reduction}
 use Rattle.lalrpop_base.specs.Words.{Bits, has}
 use Rattle.lalrpop_base.specs.conflicts.HeldShifts.{IsHeldBit}
-use Rattle.lalrpop_tables.proofs.theory.conflicts.HeldShifts.{held_more, held_none}
+use Rattle.lalrpop_base.proofs.theory.conflicts.HeldShifts.{held_more, held_none}
 use Rattle.lalrpop_tables.proofs.lane_table.construct.actions.held_tokens.Goals as goal
 
 pub loop-reduction-init : goal.loop-reduction-init

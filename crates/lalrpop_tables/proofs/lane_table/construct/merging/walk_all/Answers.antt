@@ -1,6 +1,6 @@
 use Rattle.std.proofs.Common.{◌∙◌, []}
 use Rattle.lalrpop_tables.specs.Words.{Advances}
-use Rattle.lalrpop_tables.proofs.theory.lane_tables.LaneTableStates.{far_in, far_more}
+use Rattle.lalrpop_base.proofs.theory.lists.EachLemmas.{far_in, far_more}
 use Rattle.lalrpop_tables.proofs.theory.merges.Merges.{advances_none, advances_on, row_on}
 use Rattle.lalrpop_tables.proofs.lane_table.construct.merging.walk_all.Goals as goal
 

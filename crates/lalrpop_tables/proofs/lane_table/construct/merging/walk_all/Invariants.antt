@@ -1,5 +1,5 @@
 use Rattle.lalrpop_tables.specs.Words.{Advances}
-use Rattle.lalrpop_tables.proofs.theory.lane_tables.LaneTableStates.{HoldsSoFar}
+use Rattle.lalrpop_base.proofs.theory.lists.EachLemmas.{HoldsSoFar}
 use Rattle.lalrpop_tables.proofs.lane_table.construct.merging.walk_all.Given as goal
 
 abbrev pub invariant-loop-state : goal.invariant-loop-state

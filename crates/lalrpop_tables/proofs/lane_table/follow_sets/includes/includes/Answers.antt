@@ -3,7 +3,7 @@ use Rattle.std.specs.Prelude.{slice_get, Some}
 use Rattle.std.specs.declared.alloc.Global.{Global}
 use Rattle.std.specs.declared.vec.Vec.{Vec}
 use Rattle.lalrpop_tables.specs.follow_sets.FollowWalks.{GoesThrough, SomeFront}
-use Rattle.lalrpop_tables.specs.grammars.Numbering.{AddsThose}
+use Rattle.lalrpop_base.specs.Words.{AddsThose}
 use Rattle.lalrpop_tables.specs.declared.lane_table.follow_sets.pass.Pass.{Pass}
 use Rattle.lalrpop_tables.proofs.theory.follow_sets.FollowNodes.{state_of_node}
 use Rattle.lalrpop_tables.proofs.theory.follow_sets.FrontWalks.{WalksFrom, WalksOver, all_includes, all_lookbacks, expansion_front, from_more, from_none, pair_named}

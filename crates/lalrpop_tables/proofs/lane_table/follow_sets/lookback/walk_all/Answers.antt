@@ -2,7 +2,7 @@ use Rattle.std.proofs.Common.{◌≡◌, ◌∙◌, List, ℕ, ap, arith, get_or
 use Rattle.std.proofs.lemmas.List.{take_more}
 use Rattle.lalrpop_base.proofs.theory.lists.Lists.{take_all}
 use Rattle.lalrpop_tables.proofs.theory.follow_sets.FrontWalks.{WalksOver, walks_more}
-use Rattle.lalrpop_tables.proofs.theory.closures.SharedItems.{read_within}
+use Rattle.lalrpop_base.proofs.theory.closures.SharedItems.{read_within}
 use Rattle.lalrpop_tables.proofs.lane_table.follow_sets.lookback.walk_all.Goals as goal
 
 pub walk_from-requires-clause-front : goal.walk_from-requires-clause-front

@@ -1,11 +1,10 @@
 use Rattle.std.proofs.Common.{◌≡◌, ◌∙◌, ◌+◌, ◌++◌, ◌∷◌, [], Global, List, ℕ, Vec, ap, arith, length, refl, subst, sym, take}
 use Rattle.std.proofs.lemmas.List.{length-take-le, take_all, take_more}
 use mathlib.Core.Bool.{true≢false}
-use Rattle.lalrpop_base.specs.Words.{Dotted}
+use Rattle.lalrpop_base.specs.Words.{Dotted, AreExpansions}
 use Rattle.lalrpop_tables.proofs.Types.{Nil, NonterminalString}
 use Rattle.lalrpop_base.specs.declared.repr.Symbol.TheVariants.{Nonterminal}
-use Rattle.lalrpop_tables.specs.grammars.Numbers.{AreExpansions}
-use Rattle.lalrpop_tables.proofs.theory.grammars.FrontNumbers.{Fronts-more, Fronts-none, Fronts-same}
+use Rattle.lalrpop_base.proofs.theory.numbers.FrontNumbers.{Fronts-more, Fronts-none, Fronts-same}
 use Rattle.lalrpop_tables.proofs.lane_table.follow_sets.start.fronts_of.Goals as goal
 use Rattle.lalrpop_tables.proofs.lane_table.follow_sets.start.fronts_of.Goals.{then-item-eq0+then-equal+in_ok-push, else-item-eq0, else-item-eq0-via-then-item-eq0+else-equal, else-item-eq0-via-else-item-eq0}
 

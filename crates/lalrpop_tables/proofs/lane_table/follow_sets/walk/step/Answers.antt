@@ -4,7 +4,7 @@ use Rattle.std.proofs.lemmas.Option.{get_or_from_slice_get, slice_get_within}
 use Rattle.std.specs.declared.alloc.Global.{Global}
 use Rattle.std.specs.declared.vec.Vec.{Vec}
 use Rattle.lalrpop_tables.specs.follow_sets.FollowWalks.{IsGoneOver, StepsThrough}
-use Rattle.lalrpop_tables.specs.grammars.Numbering.{AddsThose}
+use Rattle.lalrpop_base.specs.Words.{AddsThose}
 use Rattle.lalrpop_tables.specs.declared.construction.numbered_state.NumberedState.{NumberedState}
 use Rattle.lalrpop_tables.proofs.theory.follow_sets.FollowSteps.{kept_through, node_number, none_over, none_through, pushed_through, some_over}
 use Rattle.lalrpop_base.proofs.theory.lists.Places.{filled}

@@ -1,11 +1,10 @@
 use Rattle.std.proofs.Common.{subst, arith}
 use Rattle.std.specs.Prelude.{Some, None}
 use Rattle.std.proofs.lemmas.Option.{slice_get_within}
-use Rattle.lalrpop_base.specs.Words.{Dotted}
+use Rattle.lalrpop_base.specs.Words.{Dotted, AddsThose, with_dot}
 use Rattle.lalrpop_tables.proofs.Types.{Nil}
 use Rattle.lalrpop_base.specs.declared.repr.Production.{Production as OfGrammar}
 use Rattle.lalrpop_tables.specs.follow_sets.FollowWalks.{GoesThrough, IsEndOfWalk, IsGoneOver}
-use Rattle.lalrpop_tables.specs.grammars.Numbering.{AddsThose, with_dot}
 use Rattle.lalrpop_tables.proofs.theory.follow_sets.FollowWalks.{ended_through, none_there, number_behind, one_front, stopped_through, symbol_there, walk_begins, walk_ends, walk_more, walk_stops}
 use Rattle.lalrpop_tables.proofs.lane_table.follow_sets.walk.walk.Goals as goal
 

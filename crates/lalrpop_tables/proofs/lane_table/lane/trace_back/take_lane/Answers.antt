@@ -1,8 +1,7 @@
 use Rattle.std.proofs.Common.{◌≡◌, ap, length}
-use Rattle.lalrpop_base.specs.Words.{Dotted}
+use Rattle.lalrpop_base.specs.Words.{Dotted, at_place}
 use Rattle.lalrpop_tables.proofs.Types.{Nil}
-use Rattle.lalrpop_tables.specs.Words.{at_place}
-use Rattle.lalrpop_tables.specs.declared.place.Place.{Place}
+use Rattle.lalrpop_base.specs.declared.lr1_core.place.Place.{Place}
 use Rattle.lalrpop_tables.proofs.theory.lanes.LanesTaken.{lane_taken, nothing_taken, part_taken}
 use Rattle.lalrpop_tables.proofs.theory.lanes.GainsSome.{on_err}
 use Rattle.lalrpop_tables.proofs.lane_table.lane.trace_back.take_lane.Goals as goal

@@ -1,9 +1,9 @@
 use Rattle.std.proofs.Common.{◌≡◌, [], refl, rules, subst, arith}
 use Rattle.std.proofs.lemmas.Grind.{common_steps}
 use Rattle.std.proofs.lemmas.List.{nil_from_length}
-use Rattle.lalrpop_tables.specs.declared.walk.Walk.{Walk}
-use Rattle.lalrpop_tables.specs.Words.{Visits}
-use Rattle.lalrpop_tables.specs.declared.place.Place.{Place}
+use Rattle.lalrpop_base.specs.declared.collections.walk.Walk.{Walk}
+use Rattle.lalrpop_base.specs.Words.{Visits}
+use Rattle.lalrpop_base.specs.declared.lr1_core.place.Place.{Place}
 use Rattle.lalrpop_tables.proofs.theory.lanes.Expanded.{Expanded-kept, Expanded-none}
 use Rattle.lalrpop_tables.proofs.theory.lanes.LaneTraces.{Tracing-start, Tracing-step, Tracing-smaller, Tracing-end, Tracing-part, nothing_traced, place_listed}
 use Rattle.lalrpop_tables.proofs.theory.lanes.GainsSome.{kept_all, on_err}

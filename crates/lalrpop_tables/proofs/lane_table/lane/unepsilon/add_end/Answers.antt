@@ -1,7 +1,7 @@
 use Rattle.std.proofs.Common.{sym, refl}
 use mathlib.Core.Bool.{true≢false}
 use Rattle.lalrpop_base.specs.Words.{rules_of}
-use Rattle.lalrpop_tables.proofs.theory.grammars.Following.{end_gained, no_end}
+use Rattle.lalrpop_tables.proofs.theory.follow_sets.Following.{end_gained, no_end}
 use Rattle.lalrpop_tables.proofs.theory.lane_tables.LaneTables.{same_tables}
 use Rattle.lalrpop_tables.proofs.theory.lanes.GainsSome.{on_err}
 use Rattle.lalrpop_tables.proofs.lane_table.lane.unepsilon.add_end.Goals as goal

@@ -2,7 +2,7 @@ use Rattle.std.proofs.Common.{◌+◌, sym, ◌∙◌, subst}
 use mathlib.Core.Bool.{true≢false}
 use Rattle.lalrpop_base.specs.Words.{IsFirstSet, Rules, rules_of, HasKnownTerminals}
 use Rattle.lalrpop_tables.specs.Words.{IsFollowBit, IsHere, IsParent, Nothing}
-use Rattle.lalrpop_tables.proofs.theory.grammars.Following.{no_follow, no_passed, follow_gained, follow_passed}
+use Rattle.lalrpop_tables.proofs.theory.follow_sets.Following.{no_follow, no_passed, follow_gained, follow_passed}
 use Rattle.lalrpop_tables.proofs.theory.lanes.GainsSome.{on_err, GainsSome-all, GainsSome-none, GainsSome-same}
 use Rattle.lalrpop_base.proofs.theory.grammars.Grammars.{known_symbols, known_rest}
 use Rattle.lalrpop_tables.proofs.lane_table.lane.unepsilon.follow.Goals as goal

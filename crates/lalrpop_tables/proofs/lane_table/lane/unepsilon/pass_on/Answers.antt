@@ -1,8 +1,9 @@
 use Rattle.std.proofs.Common.{◌≡◌, subst, sym, ◌∙◌, refl}
-use Rattle.lalrpop_tables.specs.Words.{at_place, IsPlaceIf, Visits}
-use Rattle.lalrpop_tables.specs.declared.place.Place.{Place}
-use Rattle.lalrpop_tables.proofs.theory.check.CheckSending.{same_place}
-use Rattle.lalrpop_tables.proofs.theory.lists.Walks.{Visits-same}
+use Rattle.lalrpop_tables.specs.Words.{IsPlaceIf}
+use Rattle.lalrpop_base.specs.Words.{at_place, Visits}
+use Rattle.lalrpop_base.specs.declared.lr1_core.place.Place.{Place}
+use Rattle.lalrpop_base.proofs.theory.check.CheckSending.{same_place}
+use Rattle.lalrpop_base.proofs.theory.collections.Walks.{Visits-same}
 use Rattle.lalrpop_tables.proofs.lane_table.lane.unepsilon.pass_on.Goals as goal
 
 pub returns : goal.returns

@@ -1,6 +1,6 @@
 use Rattle.std.proofs.Common.{◌≡◌, ◌∙◌, subst}
-use Rattle.lalrpop_tables.specs.Words.{Visits}
-use Rattle.lalrpop_tables.specs.declared.place.Place.{Place}
+use Rattle.lalrpop_base.specs.Words.{Visits}
+use Rattle.lalrpop_base.specs.declared.lr1_core.place.Place.{Place}
 use Rattle.lalrpop_tables.proofs.theory.lanes.Gains.{Gains-successor}
 use Rattle.lalrpop_tables.proofs.theory.lanes.GainsSome.{GainsSome-refused, GainsSome-successor, on_err}
 use Rattle.lalrpop_tables.proofs.lane_table.lane.unshift.step_back.Goals as goal

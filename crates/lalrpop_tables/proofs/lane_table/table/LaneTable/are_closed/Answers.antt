@@ -1,6 +1,7 @@
 use Rattle.std.proofs.Common.{refl}
 use Rattle.lalrpop_tables.specs.Words.{IsClosedEdge}
-use Rattle.lalrpop_tables.proofs.theory.lane_tables.LaneTableStates.{EachSoFar, far_in, far_more, far_end, each_more}
+use Rattle.lalrpop_tables.proofs.theory.lane_tables.LaneTableStates.{EachSoFar, each_more}
+use Rattle.lalrpop_base.proofs.theory.lists.EachLemmas.{far_in, far_more, far_end}
 use Rattle.lalrpop_tables.proofs.lane_table.table.LaneTable.are_closed.Goals as goal
 
 pub returns-then-not-is_closed_edge : goal.returns-then-not-is_closed_edge

@@ -1,5 +1,6 @@
 use Rattle.lalrpop_tables.specs.Words.{IsClosedEdge}
-use Rattle.lalrpop_tables.proofs.theory.lane_tables.LaneTableStates.{HoldsSoFar, EachSoFar}
+use Rattle.lalrpop_tables.proofs.theory.lane_tables.LaneTableStates.{EachSoFar}
+use Rattle.lalrpop_base.proofs.theory.lists.EachLemmas.{HoldsSoFar}
 use Rattle.lalrpop_tables.proofs.lane_table.table.LaneTable.are_closed.Given as goal
 
 abbrev pub invariant-loop-successor : goal.invariant-loop-successor

@@ -1,7 +1,8 @@
 use Rattle.std.proofs.Common.{sym, ◌∙◌}
 use mathlib.Core.Bool.{true≢false}
 use Rattle.std.proofs.lemmas.Map.Views.{btree_set_contains_iff}
-use Rattle.lalrpop_tables.proofs.theory.lane_tables.LaneTableStates.{BeachSoFar, far_more, far_end, beach_more, beach_past, beachheads}
+use Rattle.lalrpop_tables.proofs.theory.lane_tables.LaneTableStates.{BeachSoFar, beach_more, beach_past, beachheads}
+use Rattle.lalrpop_base.proofs.theory.lists.EachLemmas.{far_more, far_end}
 use Rattle.lalrpop_tables.proofs.theory.lane_tables.LaneTables.{state_exact}
 use Rattle.lalrpop_tables.proofs.theory.graphs.StateGraphs.{state_total}
 use Rattle.lalrpop_tables.proofs.lane_table.table.LaneTable.beachhead_states.Goals as goal

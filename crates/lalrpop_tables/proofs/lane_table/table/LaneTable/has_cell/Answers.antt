@@ -1,6 +1,7 @@
 use Rattle.std.proofs.Common.{refl, sym, ◌∙◌}
 use Rattle.lalrpop_tables.proofs.theory.lane_tables.LaneColumns.{same_state, other_state}
-use Rattle.lalrpop_tables.proofs.theory.lane_tables.LaneTableStates.{EachSoFar, IsOther, far_in, far_more, far_end, each_more, no_cells, cell_there}
+use Rattle.lalrpop_tables.proofs.theory.lane_tables.LaneTableStates.{EachSoFar, IsOther, each_more, no_cells, cell_there}
+use Rattle.lalrpop_base.proofs.theory.lists.EachLemmas.{far_in, far_more, far_end}
 use Rattle.lalrpop_tables.proofs.lane_table.table.LaneTable.has_cell.Goals as goal
 
 pub returns-then-eq : goal.returns-then-eq

@@ -1,4 +1,5 @@
-use Rattle.lalrpop_tables.proofs.theory.lane_tables.LaneTableStates.{HoldsSoFar, EachSoFar, IsOther}
+use Rattle.lalrpop_tables.proofs.theory.lane_tables.LaneTableStates.{EachSoFar, IsOther}
+use Rattle.lalrpop_base.proofs.theory.lists.EachLemmas.{HoldsSoFar}
 use Rattle.lalrpop_tables.proofs.lane_table.table.LaneTable.has_cell.Given as goal
 
 abbrev pub invariant-loop-row : goal.invariant-loop-row

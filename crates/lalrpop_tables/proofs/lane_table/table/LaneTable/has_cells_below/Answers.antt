@@ -1,5 +1,6 @@
 use Rattle.std.proofs.Common.{refl, arith}
-use Rattle.lalrpop_tables.proofs.theory.lane_tables.LaneTableStates.{EachSoFar, IsBelow, far_in, far_more, far_end, each_more, below_all, below_one}
+use Rattle.lalrpop_tables.proofs.theory.lane_tables.LaneTableStates.{EachSoFar, IsBelow, each_more, below_all, below_one}
+use Rattle.lalrpop_base.proofs.theory.lists.EachLemmas.{far_in, far_more, far_end}
 use Rattle.lalrpop_tables.proofs.lane_table.table.LaneTable.has_cells_below.Goals as goal
 
 pub returns-then-state-count : goal.returns-then-state-count

@@ -1,5 +1,6 @@
 use Rattle.std.proofs.Common.{refl}
-use Rattle.lalrpop_tables.proofs.theory.lane_tables.LaneTableStates.{EachSoFar, HasClosed, far_in, far_more, far_end, each_more, closed_all}
+use Rattle.lalrpop_tables.proofs.theory.lane_tables.LaneTableStates.{EachSoFar, HasClosed, each_more, closed_all}
+use Rattle.lalrpop_base.proofs.theory.lists.EachLemmas.{far_in, far_more, far_end}
 use Rattle.lalrpop_tables.proofs.lane_table.table.LaneTable.has_closed_edges.Goals as goal
 
 pub returns-then-not-are_closed : goal.returns-then-not-are_closed

@@ -1,4 +1,5 @@
-use Rattle.lalrpop_tables.proofs.theory.lane_tables.LaneTableStates.{HoldsSoFar, EachSoFar, HasClosed}
+use Rattle.lalrpop_tables.proofs.theory.lane_tables.LaneTableStates.{EachSoFar, HasClosed}
+use Rattle.lalrpop_base.proofs.theory.lists.EachLemmas.{HoldsSoFar}
 use Rattle.lalrpop_tables.proofs.lane_table.table.LaneTable.has_closed_edges.Given as goal
 
 abbrev pub invariant-loop-state : goal.invariant-loop-state

@@ -1,4 +1,5 @@
-use Rattle.lalrpop_tables.proofs.theory.lane_tables.LaneTableStates.{ReachedSoFar, far_more, far_end, reached_more}
+use Rattle.lalrpop_tables.proofs.theory.lane_tables.LaneTableStates.{ReachedSoFar, reached_more}
+use Rattle.lalrpop_base.proofs.theory.lists.EachLemmas.{far_more, far_end}
 use Rattle.lalrpop_tables.proofs.lane_table.table.LaneTable.reached_states.Goals as goal
 
 pub loop-state-preserved : goal.loop-state-preserved

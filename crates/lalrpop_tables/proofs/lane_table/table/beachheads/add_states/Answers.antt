@@ -1,4 +1,5 @@
-use Rattle.lalrpop_tables.proofs.theory.lane_tables.LaneTableStates.{AddedSoFar, far_more, far_end, added_more}
+use Rattle.lalrpop_tables.proofs.theory.lane_tables.LaneTableStates.{AddedSoFar, added_more}
+use Rattle.lalrpop_base.proofs.theory.lists.EachLemmas.{far_more, far_end}
 use Rattle.lalrpop_tables.proofs.lane_table.table.beachheads.add_states.Goals as goal
 
 pub loop-state-preserved : goal.loop-state-preserved

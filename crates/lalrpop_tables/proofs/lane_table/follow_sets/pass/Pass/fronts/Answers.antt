@@ -3,7 +3,7 @@ use Rattle.std.specs.Prelude.{slice_get}
 use Rattle.std.specs.declared.alloc.Global.{Global}
 use Rattle.std.specs.declared.vec.Vec.{Vec}
 use Rattle.lalrpop_base.specs.declared.repr.Symbol.TheVariants.{Nonterminal}
-use Rattle.lalrpop_tables.specs.grammars.Numbers.{AreExpansions}
+use Rattle.lalrpop_base.specs.Words.{AreExpansions}
 use Rattle.lalrpop_tables.proofs.theory.follow_sets.FollowNodes.{fronts_listed, fronts_of_start}
 use Rattle.lalrpop_base.proofs.theory.lists.Places.{slice_get_at}
 use Rattle.lalrpop_tables.proofs.lane_table.follow_sets.pass.Pass.fronts.Goals as goal

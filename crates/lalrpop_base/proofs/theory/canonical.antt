@@ -1,0 +1,6 @@
+-- Canonical states and LR(0) states.
+pub mod Canonical
+pub mod CanonicalConflicts
+pub mod CanonicalContents
+pub mod Deciding
+pub mod Lr0States

@@ -1,2 +1,0 @@
--- Closures of kernels.
-pub mod Sharing

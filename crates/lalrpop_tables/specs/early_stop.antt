@@ -1,2 +1,0 @@
--- A construction that stops early.
-pub mod EarlyStop
