@@ -1,0 +1,5 @@
+// What calls leave behind where a growth in them was refused.
+mod parses;
+mod reports;
+mod runs;
+mod traces;

@@ -1,0 +1,237 @@
+// Reports to writers that take a part of the text, and of results that no construction gives.
+
+use grammar_text::symbols::name_of;
+use lalrpop_base::lookahead::nil::Nil;
+use lalrpop_base::lr1_core::state::{BuildError, Lr1Result, LrResult, TableConstructionError};
+use lalrpop_base::repr::terminals::TerminalSet;
+use lalrpop_lr1::report::{Counted, ReportError, ReportGenerator, Sink, generate_report};
+use lalrpop_tables::build::build_lr0_states;
+use lalrpop_tables::build::options::Options;
+use lalrpop_tables::lr1::build_states;
+use std::alloc::Global;
+use std::io::{self, ErrorKind, Write};
+use std::test::Fail;
+use test_fixtures::texts::{ONE, grammar};
+
+/// The report of one production's states, with lookahead.
+pub(crate) const ONE_TERMINAL: &str = "Lalrpop Report File
+========================================
+
+Summary
+----------------------------------------
+
+Constructed 2 states
+
+State Table
+----------------------------------------
+
+State 0 {
+
+    S -> . \"x\"
+        lookahead \"x\" Eof
+
+    \"x\" shift and goto 1
+
+}
+
+State 1 {
+
+    S -> \"x\" .
+        lookahead \"x\" Eof
+
+
+    reduction S -> \"x\"
+        lookahead Eof
+
+
+}
+";
+
+/// A writer that takes at most `step` bytes a call and `left` bytes in all, and then has the fault,
+/// or answers 0 where there is none.
+#[derive(Drop)]
+pub(crate) struct Taking {
+    pub(crate) taken: Vec<u8>,
+    pub(crate) step: usize,
+    pub(crate) left: usize,
+    pub(crate) fault: Option<ErrorKind>,
+}
+
+impl Write for Taking {
+    fn write(&mut self, buf: &[u8]) -> io::Result<usize> {
+        let n = self.step.min(self.left).min(buf.len());
+        if n == 0 {
+            return match self.fault {
+                Some(kind) => Err(io::Error::from(kind)),
+                None => Ok(0),
+            };
+        }
+        self.taken.extend_from_slice(&buf[..n])?;
+        self.left -= n;
+        Ok(n)
+    }
+
+    fn flush(&mut self) -> io::Result<()> {
+        Ok(())
+    }
+}
+
+fn told(answer: &Result<(), ReportError>) -> &'static str {
+    match answer {
+        Ok(()) => "whole",
+        Err(ReportError::Write(_)) => "write",
+        Err(ReportError::WriteZero) => "zero",
+        Err(ReportError::Memory) => "memory",
+        Err(ReportError::NoTables) => "no tables",
+    }
+}
+
+// What a report to a writer that stops is answered, its faults, and what the writer took.
+fn sent(
+    alloc: Global,
+    terminals: &TerminalSet,
+    outcome: &Lr1Result,
+    step: usize,
+    left: usize,
+    fault: Option<ErrorKind>,
+) -> (&'static str, u64, Vec<u8>) {
+    let mut out = Counted::new(Taking {
+        taken: Vec::new(alloc),
+        step,
+        left,
+        fault,
+    });
+    let answer = generate_report(alloc, &mut out, terminals, outcome);
+    let faults = out.faults();
+    (told(&answer), faults, out.into_inner().taken)
+}
+
+// What went out is a beginning of the text, so that a writer that takes ten bytes holds `Lalrpop
+// Re`.
+#[test]
+fn writers_that_stop(rt: HostRuntime) -> Result<(), Fail> {
+    let alloc = rt.alloc();
+    let grammar = grammar(alloc, "S = \"x\"")?;
+    let outcome = build_states(alloc, &grammar, name_of(alloc, "S")?, &Options::default());
+    for left in 0..ONE_TERMINAL.len() + 1 {
+        for (step, fault, stopped) in [
+            (1, Some(ErrorKind::Interrupted), "write"),
+            (3, None, "zero"),
+            (1000, Some(ErrorKind::BrokenPipe), "write"),
+            (1000, None, "zero"),
+        ] {
+            let is_cut = left < ONE_TERMINAL.len();
+            let (answer, faults, taken) = sent(
+                alloc,
+                &grammar.terminals,
+                &outcome,
+                step,
+                left,
+                fault,
+            );
+            assert_eq!(rt; answer, if is_cut { stopped } else { "whole" });
+            assert_eq!(rt; faults, if is_cut { 1 } else { 0 });
+            assert_eq!(rt; taken.as_slice(), &ONE_TERMINAL.as_bytes()[..left]);
+        }
+    }
+    Ok(())
+}
+
+/// The report of one production's LR(0) states.
+pub(crate) const WITHOUT_LOOKAHEAD: &str = "Lalrpop Report File
+========================================
+
+Summary
+----------------------------------------
+
+Constructed 2 states
+
+State Table
+----------------------------------------
+
+State 0 {
+
+    S -> . \"x\"
+
+    \"x\" shift and goto 1
+
+}
+
+State 1 {
+
+    S -> \"x\" .
+
+
+    reduction S -> \"x\"
+
+
+}
+";
+
+// The same as `sent`, of a result without lookahead and by a generator of reports.
+fn generated(
+    alloc: Global,
+    terminals: &TerminalSet,
+    outcome: &LrResult<'_, Nil>,
+    left: usize,
+    fault: Option<ErrorKind>,
+) -> (&'static str, u64, Vec<u8>) {
+    let mut out = Counted::new(Taking {
+        taken: Vec::new(alloc),
+        step: 7,
+        left,
+        fault,
+    });
+    let answer = ReportGenerator::new(&mut out, terminals).report_lr_table_construction(
+        alloc, outcome,
+    );
+    let faults = out.faults();
+    (told(&answer), faults, out.into_inner().taken)
+}
+
+#[test]
+fn writers_that_stop_a_generator(rt: HostRuntime) -> Result<(), Fail> {
+    let alloc = rt.alloc();
+    let grammar = grammar(alloc, ONE)?;
+    let outcome = build_lr0_states(alloc, &grammar, name_of(alloc, "S")?);
+    for left in 0..WITHOUT_LOOKAHEAD.len() {
+        let beginning = &WITHOUT_LOOKAHEAD.as_bytes()[..left];
+        let fault = Some(ErrorKind::BrokenPipe);
+        let (answer, faults, taken) = generated(alloc, &grammar.terminals, &outcome, left, fault);
+        assert_eq!(rt; (answer, faults), ("write", 1));
+        assert_eq!(rt; taken.as_slice(), beginning);
+        let (answer, faults, taken) = generated(alloc, &grammar.terminals, &outcome, left, None);
+        assert_eq!(rt; (answer, faults), ("zero", 1));
+        assert_eq!(rt; taken.as_slice(), beginning);
+    }
+    let (answer, faults, taken) = generated(alloc, &grammar.terminals, &outcome, 1000, None);
+    assert_eq!(rt; (answer, faults), ("whole", 0));
+    assert_eq!(rt; taken.as_slice(), WITHOUT_LOOKAHEAD.as_bytes());
+    Ok(())
+}
+
+const NO_CONFLICTS: &str = "
+Failure
+Constructed 0 states
+Has 0 conflicts
+States with conflicts: \n
+State Table
+----------------------------------------
+";
+
+#[test]
+fn results_without_tables(rt: HostRuntime) -> Result<(), Fail> {
+    let alloc = rt.alloc();
+    let grammar = grammar(alloc, "")?;
+    let outcome: Lr1Result = Err(BuildError::Memory);
+    let (answer, faults, taken) = sent(alloc, &grammar.terminals, &outcome, 1, 1000, None);
+    assert_eq!(rt; (answer, faults, taken.len()), ("no tables", 0, 0));
+    let outcome: Lr1Result = Err(BuildError::Conflicts(TableConstructionError {
+        states: Vec::new(alloc),
+        conflicts: Vec::new(alloc),
+    }));
+    let (answer, faults, taken) = sent(alloc, &grammar.terminals, &outcome, 9, 1000, None);
+    assert_eq!(rt; (answer, faults), ("whole", 0));
+    assert!(rt; String::from_utf8(taken)?.as_str().ends_with(NO_CONFLICTS));
+    Ok(())
+}

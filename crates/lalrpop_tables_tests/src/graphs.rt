@@ -1,0 +1,48 @@
+// Graphs of states that are not all built.
+ghost use Rattle.lalrpop_base.specs.Words.{IsWellFormed};
+
+use grammar_text::symbols::name_of;
+use lalrpop_base::lr1_core::state::{BuildError, Lr1State, StateIndex};
+use lalrpop_base::repr::Symbol;
+use lalrpop_base::repr::grammar::Grammar;
+use lalrpop_tables::build::options::Options;
+use lalrpop_tables::lr1::build_states;
+use lalrpop_tables::state_graph::StateGraph;
+use std::alloc::Global;
+use std::test::Fail;
+use test_fixtures::texts::{EMPTY_FIRST, grammar, literal};
+
+// The states that are built before the first conflict stops the construction.
+fn first_states<'g>(alloc: Global, grammar: &'g Grammar) -> Result<Vec<Lr1State<'g>>, Fail>
+    requires { IsWellFormed grammar.now }
+{
+    let options = Options {
+        stop_after: 1,
+        ..Options::default()
+    };
+    match build_states(alloc, grammar, name_of(alloc, "S")?, &options) {
+        Err(BuildError::Conflicts(error)) => Ok(error.states),
+        _ => Err(Fail::from("no conflict")),
+    }
+}
+
+// S0 leads over B, E and "z" to S1, S2 and S3. Edges are visited newest first.
+#[test]
+fn targets_need_not_be_built(rt: HostRuntime) -> Result<(), Fail> {
+    let alloc = rt.alloc();
+    let grammar = grammar(alloc, EMPTY_FIRST)?;
+    let states = first_states(alloc, &grammar)?;
+    assert_eq!(rt; states.len(), 1);
+    let graph = StateGraph::new(alloc, &states)?;
+    let mut successors = Vec::new(alloc);
+    for state in graph.successors(StateIndex(0)) {
+        successors.push(state.0)?;
+    }
+    assert_eq!(rt; successors.as_slice(), [2, 1, 3].as_slice());
+    let z = Symbol::Terminal(literal(alloc, "z")?);
+    assert!(rt; graph.predecessors(StateIndex(3), &z).next() == Some(StateIndex(0)));
+    assert!(rt; graph.successors(StateIndex(3)).next().is_none());
+    let found = graph.trace_back(alloc, StateIndex(3), &vec![in alloc; z]?)?;
+    assert_eq!(rt; found.as_slice(), [StateIndex(0)].as_slice());
+    Ok(())
+}

@@ -1,0 +1,251 @@
+// What is added to lists, sets and maps that hold something: a refused growth leaves what was there.
+use lalrpop_base::collections::Collection;
+use lalrpop_base::collections::multimap::Multimap;
+use lalrpop_base::kernel_set::KernelSet;
+use lalrpop_base::lookahead::nil::Nil;
+use lalrpop_base::lookahead::token::Token;
+use lalrpop_base::lookahead::token_set::TokenSet;
+use lalrpop_base::lr1_core::item::Item;
+use lalrpop_base::lr1_core::state::StateIndex;
+use lalrpop_base::memory::OutOfMemory;
+use lalrpop_base::repr::Production;
+use lalrpop_base::repr::terminals::TerminalSet;
+use lalrpop_base::sequence::Sequence;
+use refused_growth::attempts::Attempt;
+use std::alloc::Global;
+use std::test::Fail;
+use test_fixtures::growths::each_growth_refused;
+use test_fixtures::texts::{ONE, first_production, grammar, many_terminals, only};
+
+// A full list, as a vector or as a sequence, into which a number is pushed.
+#[derive(Drop)]
+enum FullList {
+    Vector(Vec<u32>),
+    Sequence(Sequence<u32>),
+}
+
+impl FullList {
+    // Pushes 7, and tells whether it said so.
+    fn push(&mut self) -> Result<bool, OutOfMemory> {
+        match self {
+            FullList::Vector(list) => Collection::push(list, 7),
+            FullList::Sequence(list) => {
+                list.push(7)?;
+                Ok(true)
+            }
+        }
+    }
+
+    // The numbers of the list.
+    fn numbers(&self) -> &[u32] {
+        match self {
+            FullList::Vector(list) => list.as_slice(),
+            FullList::Sequence(list) => list.as_slice(),
+        }
+    }
+}
+
+impl Attempt for FullList {
+    fn attempt(&mut self, _alloc: Global) -> Option<bool> {
+        match self.push() {
+            Ok(changed) => Some(changed && self.numbers() == [0, 1, 2, 3, 4, 5, 7].as_slice()),
+            Err(_) if self.numbers() == [0, 1, 2, 3, 4, 5].as_slice() => None,
+            Err(_) => Some(false),
+        }
+    }
+}
+
+// Six numbers fill their block of the heap.
+#[test]
+fn a_full_list(rt: HostRuntime) -> Result<(), Fail> {
+    let alloc = rt.alloc();
+    let mut vector = FullList::Vector(Vec::from_slice(alloc, &[0, 1, 2, 3, 4, 5])?);
+    each_growth_refused(alloc, &mut vector)?;
+    let list = Vec::from_slice(alloc, &[0, 1, 2, 3, 4, 5])?;
+    let mut sequence = FullList::Sequence(Sequence::from_vec(list));
+    each_growth_refused(alloc, &mut sequence)
+}
+
+// How the end comes to a set.
+#[derive(Clone, Copy, PartialEq, Eq)]
+enum How {
+    Joined,
+    Inserted,
+    InsertedAsEnd,
+}
+
+// A set with a token, which needs another word for the end.
+#[derive(Drop)]
+struct SecondWord<'t> {
+    set: TokenSet,
+    old: TokenSet,
+    end: TokenSet,
+    terminals: &'t TerminalSet,
+    how: How,
+}
+
+impl Attempt for SecondWord<'_> {
+    fn attempt(&mut self, _alloc: Global) -> Option<bool> {
+        let added = match self.how {
+            How::Joined => self.set.union_with(&self.end),
+            How::Inserted => self.set.insert(Token::Eof, self.terminals),
+            How::InsertedAsEnd => self.set.insert_eof(self.terminals),
+        };
+        match added {
+            Ok(grew) => Some(grew && self.set.len() == 2 && self.set.contains_eof(self.terminals)),
+            Err(_) if self.set == self.old => None,
+            Err(_) => Some(false),
+        }
+    }
+}
+
+// A copy of a set has no more room than it needs.
+#[test]
+fn a_second_word(rt: HostRuntime) -> Result<(), Fail> {
+    let alloc = rt.alloc();
+    let terminals = many_terminals(alloc)?;
+    for how in [How::Joined, How::Inserted, How::InsertedAsEnd] {
+        let old = only(alloc, "5", &terminals)?;
+        assert_eq!(rt; old.len(), 1);
+        let mut second = SecondWord {
+            set: old.clone(alloc)?,
+            old,
+            end: TokenSet::eof(alloc, &terminals)?,
+            terminals: &terminals,
+            how,
+        };
+        each_growth_refused(alloc, &mut second)?;
+    }
+    Ok(())
+}
+
+// A map that gets a value of a key that is there, by itself or as a pair.
+#[derive(Drop)]
+struct OldKey {
+    map: Multimap<u32, Vec<u64>>,
+    is_pair: bool,
+}
+
+// Whether a map has these values under a key.
+fn has_values(map: &Multimap<u32, Vec<u64>>, key: u32, values: &[u64]) -> bool {
+    match map.get(&key) {
+        Some(list) => list.as_slice() == values,
+        None => false,
+    }
+}
+
+impl Attempt for OldKey {
+    fn attempt(&mut self, _alloc: Global) -> Option<bool> {
+        let pushed = if self.is_pair {
+            Collection::push(&mut self.map, (2, 4))
+        } else {
+            self.map.push(2, 4)
+        };
+        let others = has_values(&self.map, 1, &[8]) && has_values(&self.map, 3, &[9]);
+        let is_old = has_values(&self.map, 2, &[0, 1, 2, 3]);
+        match pushed {
+            Ok(changed) => {
+                let is_new = has_values(&self.map, 2, &[0, 1, 2, 3, 4]);
+                Some(changed && others && is_new)
+            }
+            Err(_) if others && is_old => None,
+            Err(_) => Some(false),
+        }
+    }
+}
+
+// A list that grew by single values is full at four.
+#[test]
+fn an_old_key(rt: HostRuntime) -> Result<(), Fail> {
+    let alloc = rt.alloc();
+    for is_pair in [false, true] {
+        let mut map = Multimap::new(alloc);
+        map.push(1, 8)?;
+        map.push(3, 9)?;
+        map.push(2, 0)?;
+        map.push(2, 1)?;
+        map.push(2, 2)?;
+        map.push(2, 3)?;
+        each_growth_refused(alloc, &mut OldKey { map, is_pair })?;
+    }
+    Ok(())
+}
+
+// A kernel of an item that stands in it so many times.
+fn kernel_of<'g>(
+    alloc: Global,
+    production: &'g Production,
+    count: usize,
+) -> Result<Sequence<Item<'g, Nil>>, OutOfMemory> {
+    let mut kernel = Sequence::new(alloc);
+    for _ in 0..count {
+        kernel.push(Item::lr0(production, 0))?;
+    }
+    Ok(kernel)
+}
+
+// A set of kernels of 1 item, of 2 and so on, which gets the next.
+#[derive(Drop)]
+struct NextKernel<'g> {
+    set: KernelSet<Sequence<Item<'g, Nil>>>,
+    production: &'g Production,
+    count: usize,
+}
+
+impl Attempt for NextKernel<'_> {
+    fn attempt(&mut self, alloc: Global) -> Option<bool> {
+        let Ok(kernel) = kernel_of(alloc, self.production, self.count.saturating_add(1)) else {
+            return None;
+        };
+        match self.set.add_state(kernel) {
+            Ok(number) => Some(number == StateIndex(self.count)),
+            Err(_) => None,
+        }
+    }
+}
+
+// Adds kernels of 1 item to so many.
+fn add_kernels<'g>(
+    alloc: Global,
+    set: &mut KernelSet<Sequence<Item<'g, Nil>>>,
+    production: &'g Production,
+    count: usize,
+) -> Result<(), OutOfMemory> {
+    for number in 0..count {
+        set.add_state(kernel_of(alloc, production, number.saturating_add(1))?)?;
+    }
+    Ok(())
+}
+
+// How many kernels are handed out in the order of their numbers, the first of 1 item.
+fn handed_out(set: &mut KernelSet<Sequence<Item<'_, Nil>>>) -> usize {
+    for number in 0..99 {
+        match set.next() {
+            Some(kernel) if kernel.len() == number + 1 => {}
+            _ => return number,
+        }
+    }
+    99
+}
+
+// Behind all turns the set has each kernel once. Of four kernels the queue is full, of fifteen the
+// map.
+#[test]
+fn a_next_kernel(rt: HostRuntime) -> Result<(), Fail> {
+    let alloc = rt.alloc();
+    let grammar = grammar(alloc, ONE)?;
+    let production = first_production(alloc, &grammar, "S")?;
+    for count in [1, 4, 15] {
+        let mut set = KernelSet::new(alloc);
+        add_kernels(alloc, &mut set, production, count)?;
+        let mut next = NextKernel {
+            set,
+            production,
+            count,
+        };
+        each_growth_refused(alloc, &mut next)?;
+        assert_eq!(rt; handed_out(&mut next.set), count + 1);
+        assert!(rt; next.set.next().is_none());
+    }
+    Ok(())
+}

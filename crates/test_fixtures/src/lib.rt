@@ -1,0 +1,6 @@
+//! What tests of several crates share: grammars, terminals and sets of tokens from texts, and calls
+//! whose growths are refused.
+#![tactic(auto)]
+
+pub mod growths;
+pub mod texts;

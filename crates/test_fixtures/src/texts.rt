@@ -1,0 +1,80 @@
+//! Grammars, terminals, sets of tokens and productions, from texts.
+ghost use Rattle.std.specs.Prelude.{IfOk};
+ghost use Rattle.lalrpop_base.specs.Words.{IsWellFormed};
+
+use grammar_text::grammar::read;
+use grammar_text::symbols::name_of;
+use lalrpop_base::lookahead::token::Token;
+use lalrpop_base::lookahead::token_set::TokenSet;
+use lalrpop_base::memory::OutOfMemory;
+use lalrpop_base::repr::grammar::Grammar;
+use lalrpop_base::repr::terminals::TerminalSet;
+use lalrpop_base::repr::{Production, TerminalString};
+use lalrpop_base::text::Text;
+use std::alloc::Global;
+use std::test::Fail;
+
+/// Sums of names and of sums in parentheses.
+pub const SUMS: &str = "S = E\nE = E \"-\" T\nE = T\nT = \"N\"\nT = \"(\" E \")\"";
+
+/// One production of one terminal.
+pub const ONE: &str = "S = \"x\"";
+
+/// Two ends behind each of two beginnings, crossed.
+pub const CROSSED: &str =
+    "S = \"a\" A \"d\"\nS = \"b\" B \"d\"\nS = \"a\" B \"e\"\nS = \"b\" A \"e\"\nA = \"c\"\nB = \"c\"";
+
+/// A right side without symbols before a terminal that may begin without it.
+pub const EMPTY_FIRST: &str = "S = E \"x\"\nE = B E \"y\"\nE = \"z\"\nB =";
+
+/// The grammar of a text.
+pub fn grammar(alloc: Global, text: &str) -> Result<Grammar, Fail>
+    ensures { IfOk result IsWellFormed }
+{
+    Ok(read(alloc, text)?)
+}
+
+/// The literal of a text.
+pub fn literal(alloc: Global, text: &str) -> Result<TerminalString, OutOfMemory> {
+    Ok(TerminalString::Literal(Text::new(alloc, text)?))
+}
+
+/// The literals of texts.
+pub fn literals(alloc: Global, texts: &[&str]) -> Result<Vec<TerminalString>, OutOfMemory> {
+    let mut all = Vec::new(alloc);
+    for text in texts {
+        all.push(literal(alloc, text)?)?;
+    }
+    Ok(all)
+}
+
+/// The literals `0` to `63`, of which each has a bit of the first word, and the end has none.
+pub fn many_terminals(alloc: Global) -> Result<TerminalSet, Fail> {
+    let mut all = Vec::new(alloc);
+    for number in 0..64 {
+        let text = format!(in alloc; "{number}")?;
+        all.push(literal(alloc, text.as_str())?)?;
+    }
+    Ok(TerminalSet::new(alloc, all)?)
+}
+
+/// The set of one literal, which has no token where the literal is no terminal.
+pub fn only(alloc: Global, text: &str, terminals: &TerminalSet) -> Result<TokenSet, OutOfMemory> {
+    let terminal = literal(alloc, text)?;
+    if terminals.bit(&terminal).is_none() {
+        return Ok(TokenSet::new(alloc, terminals));
+    }
+    TokenSet::of(alloc, Token::Terminal(terminal), terminals)
+}
+
+/// The first production of a name.
+pub fn first_production<'g>(
+    alloc: Global,
+    grammar: &'g Grammar,
+    name: &str,
+) -> Result<&'g Production, Fail> {
+    match grammar.productions_for(&name_of(alloc, name)?).first() {
+        Some(production) => Ok(production),
+        None => Err(Fail::from("no production")),
+    }
+}
