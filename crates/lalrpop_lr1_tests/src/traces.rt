@@ -1,12 +1,12 @@
 // Nodes and graphs of traces: how nodes are compared, and which terminals a graph knows.
-use grammar_text::symbols::name_of;
+use grammar_text::symbols::{literals, name_of};
 use lalrpop_base::lr1_core::item::Item;
 use lalrpop_base::repr::grammar::Grammar;
 use lalrpop_base::repr::terminals::TerminalSet;
 use lalrpop_lr1::trace::{TraceGraph, TraceGraphNode};
 use std::alloc::Global;
 use std::test::Fail;
-use test_fixtures::texts::{ONE, first_production, grammar, literals};
+use test_fixtures::texts::{ONE, first_production, grammar};
 
 /// The graph of one edge, from S to the beginning of its first production.
 pub(crate) fn one_edge<'g>(alloc: Global, grammar: &'g Grammar) -> Result<TraceGraph<'g>, Fail> {

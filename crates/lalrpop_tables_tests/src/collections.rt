@@ -1,4 +1,5 @@
 // Collections and what a push answers, at types of the standard library and at the lookaheads.
+use grammar_text::symbols::literals;
 use lalrpop_base::collections::multimap::Multimap;
 use lalrpop_base::collections::{Collection, Set, push_twice};
 use lalrpop_base::lookahead::nil::Nil;
@@ -7,7 +8,6 @@ use lalrpop_base::lookahead::token_set::TokenSet;
 use lalrpop_base::lookahead::{Lookahead, join, join_twice, make_empty};
 use lalrpop_base::repr::terminals::TerminalSet;
 use std::test::Fail;
-use test_fixtures::texts::literals;
 
 #[test]
 fn second_pushes(rt: HostRuntime) -> Result<(), Fail> {

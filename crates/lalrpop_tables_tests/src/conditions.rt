@@ -2,7 +2,7 @@
 // gone.
 ghost use Rattle.lalrpop_base.specs.Words.{IsWellFormed};
 
-use grammar_text::symbols::name_of;
+use grammar_text::symbols::{literals, name_of};
 use lalrpop_base::lookahead::token::Token;
 use lalrpop_base::lookahead::token_set::TokenSet;
 use lalrpop_base::lr1_core::coherent::are_coherent;
@@ -19,7 +19,7 @@ use lalrpop_tables::build::options::{Method, Options};
 use std::alloc::Global;
 use std::collections::BTreeMap;
 use std::test::Fail;
-use test_fixtures::texts::{ONE, first_production, grammar, literal, literals};
+use test_fixtures::texts::{ONE, first_production, grammar, literal};
 
 #[test]
 fn grammars_that_are_not_well_formed(rt: HostRuntime) -> Result<(), Fail> {

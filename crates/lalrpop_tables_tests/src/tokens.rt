@@ -1,4 +1,5 @@
 // Tokens, terminals and sets of tokens: what they print, and their equality, order and hash.
+use grammar_text::symbols::literals;
 use lalrpop_base::lookahead::token::Token;
 use lalrpop_base::lookahead::token_set::TokenSet;
 use lalrpop_base::repr::TerminalString;
@@ -6,7 +7,7 @@ use lalrpop_base::repr::terminals::{TerminalSet, TerminalSetError};
 use lalrpop_base::text::Text;
 use std::hash::{DefaultHasher, Hash, Hasher};
 use std::test::Fail;
-use test_fixtures::texts::{literal, literals, only};
+use test_fixtures::texts::{literal, only};
 
 #[test]
 fn tokens_print(rt: HostRuntime) -> Result<(), Fail> {

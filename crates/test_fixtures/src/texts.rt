@@ -39,15 +39,6 @@ pub fn literal(alloc: Global, text: &str) -> Result<TerminalString, OutOfMemory>
     Ok(TerminalString::Literal(Text::new(alloc, text)?))
 }
 
-/// The literals of texts.
-pub fn literals(alloc: Global, texts: &[&str]) -> Result<Vec<TerminalString>, OutOfMemory> {
-    let mut all = Vec::new(alloc);
-    for text in texts {
-        all.push(literal(alloc, text)?)?;
-    }
-    Ok(all)
-}
-
 /// The literals `0` to `63`, of which each has a bit of the first word, and the end has none.
 pub fn many_terminals(alloc: Global) -> Result<TerminalSet, Fail> {
     let mut all = Vec::new(alloc);

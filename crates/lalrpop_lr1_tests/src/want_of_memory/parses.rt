@@ -2,7 +2,7 @@
 ghost use Rattle.std.specs.Prelude.{◌<◌, length};
 ghost use Rattle.lalrpop_base.specs.Words.{AreCoherent, IsWellFormed};
 
-use grammar_text::symbols::name_of;
+use grammar_text::symbols::{literals, name_of};
 use lalrpop_base::lr1_core::coherent::are_coherent;
 use lalrpop_base::lr1_core::state::{Lr1State, StateIndex};
 use lalrpop_base::repr::grammar::{Grammar, is_well_formed};
@@ -18,7 +18,7 @@ use refused_growth::attempts::Attempt;
 use std::alloc::Global;
 use std::test::Fail;
 use test_fixtures::growths::{each_growth_refused, no_growth_needed};
-use test_fixtures::texts::{ONE, SUMS, grammar, literal, literals};
+use test_fixtures::texts::{ONE, SUMS, grammar, literal};
 
 // The beginning of a sum, which is shifted.
 #[derive(Drop)]

@@ -1,4 +1,5 @@
 // Maps of collections, sets of tokens and sets of kernels.
+use grammar_text::symbols::literals;
 use lalrpop_base::collections::multimap::Multimap;
 use lalrpop_base::collections::{Collection, Set, push_twice};
 use lalrpop_base::kernel_set::KernelSet;
@@ -15,7 +16,7 @@ use refused_growth::attempts::Attempt;
 use std::alloc::Global;
 use std::test::Fail;
 use test_fixtures::growths::each_growth_refused;
-use test_fixtures::texts::{ONE, first_production, grammar, literal, literals};
+use test_fixtures::texts::{ONE, first_production, grammar, literal};
 
 // A map with the key 1 alone, into which a value of the key 2 is pushed, or that pair.
 #[derive(Drop)]
