@@ -289,11 +289,7 @@ fn applied_columns(rt: HostRuntime) -> Result<(), Fail> {
     let Some(state) = states.get(5) else {
         panic!(rt; "too few states");
     };
-    each_growth_refused(
-        &rt,
-        alloc,
-        &mut given_columns(alloc, &grammar, state, &actions)?,
-    )
+    each_growth_refused(alloc, &mut given_columns(alloc, &grammar, state, &actions)?)
 }
 
 // States with a table by which S5 is copied.
