@@ -1,0 +1,173 @@
+"""Tests of the readers of what `lrshow` writes, and of the listings of its data."""
+import itertools
+import json
+import unittest
+
+from gate.shown import data, graph, page
+from gate.shown.listings import LINE, Listings
+
+
+def data_of(count):
+    """The data of so many equal productions `S = "x"`, each two of which are in conflict."""
+    def state(number, shifts, reductions):
+        items = [{"production": it, "dot": number, "lookahead": ["x", None]} for it in range(count)]
+        return {"number": number, "items": items, "shifts": shifts, "gotos": {}, "reductions": reductions}
+
+    reductions = [{"production": it, "lookahead": [None]} for it in range(count)]
+    actions = [{"reduce": it, "items": [{"production": it, "dot": 1, "examples": []}]} for it in range(count)]
+    it = {
+        "format": "lrshow", "version": 1, "start": "S", "terminals": ["x"],
+        "productions": [{"number": it, "nonterminal": "S", "symbols": [{"terminal": "x"}]} for it in range(count)],
+        "states": [state(0, {"x": 1}, []), state(1, {}, reductions)],
+        "conflicts": [{"state": 1, "lookahead": [None], "actions": it} for it in itertools.combinations(actions, 2)],
+    }
+    return json.dumps(it, separators=(",", ":")) + "\n"
+
+
+DATA, TWICE = data_of(1), data_of(2)
+# The data of `S = A "x"`, `S = "x"`, `A =`, in one state, whose conflict has an example.
+EXAMPLE = '{"symbols":[null,{"terminal":"x"}],"place":1,"reductions":[{"start":0,"end":1,"nonterminal":"A"}]}'
+SHIFTED = (
+    '{"format":"lrshow","version":1,"start":"S","terminals":["x"],"productions":[{"number":2,"nonterminal":"A",'
+    '"symbols":[]},{"number":0,"nonterminal":"S","symbols":[{"nonterminal":"A"},{"terminal":"x"}]},{"number":1,'
+    '"nonterminal":"S","symbols":[{"terminal":"x"}]}],"states":[{"number":0,"items":[{"production":2,"dot":0,'
+    '"lookahead":["x"]},{"production":1,"dot":0,"lookahead":[null]}],"shifts":{"x":0},"gotos":{},"reductions":'
+    '[{"production":2,"lookahead":["x"]}]}],"conflicts":[{"state":0,"lookahead":["x"],"actions":[{"reduce":2,"items":'
+    f'[{{"production":2,"dot":0,"examples":[{EXAMPLE}]}}]}},'
+    '{"shift":"x","state":0,"items":[{"production":1,"dot":0,"examples":[]}]}]}]}'
+)
+HEAD = f"Lalrpop Report File\n{'=' * 40}\n\nSummary\n{LINE}\n\n"
+BEGUN, ENDED = (f'\n    S -> {it}\n        lookahead "x" Eof\n' for it in ('. "x"', '"x" .'))
+MADE = '\n    reduction S -> "x"\n        lookahead Eof\n'
+REPORT = (
+    f"{HEAD}Constructed 2 states\n\nState Table\n{LINE}\n\nState 0 {{\n{BEGUN}\n    \"x\" shift and goto 1\n\n}}\n"
+    f"\nState 1 {{\n{ENDED}\n{MADE}\n\n}}\n"
+)
+FAILED = "Failure\nConstructed 2 states\nHas 1 conflicts\n    reduce/reduce: 1\nStates with conflicts:  1\n"
+CONFLICT = "\n    reduce/reduce conflict\n" + 2 * '        reduction S -> "x"\n' + "        lookahead Eof\n}\n"
+TWICE_REPORT = REPORT.replace("Constructed 2 states\n", FAILED)[:-2] + CONFLICT
+for part in (BEGUN, ENDED, MADE):
+    TWICE_REPORT = TWICE_REPORT.replace(part, 2 * part)
+SHIFTED_REPORT = (
+    f"{HEAD}Failure\nConstructed 1 states\nHas 1 conflicts\n    shift/reduce:  1\nStates with conflicts:  0\n"
+    f'\nState Table\n{LINE}\n\nState 0 {{\n\n    A -> .\n        lookahead "x"\n\n    S -> . "x"\n        lookahead Eof'
+    '\n\n\n    reduction A ->\n        lookahead "x"\n\n    "x" shift and goto 0\n\n\n    shift/reduce conflict\n'
+    '        reduction A ->\n        shift     "x"    shift and goto 0\n        lookahead "x"\n}\n'
+)
+EXPLAINED = 'conflict 1 in state 0 on "x"\n  reduce A ->\n    (*) "x"\n  shift "x"\n'
+# A part of data, what is put in its place, and a part of the reason.
+SPOILT_DATA = (
+    *((DATA, *it) for it in (
+        ('["x",null]}],"shifts":{"x"', '[null,"x"]}],"shifts":{"x"', "tokens [None, 'x']"),
+        ('{"number":0,"nonterminal":"S"', '{"number":1,"nonterminal":"S"', "no production 0"),
+        ('"version":1', '"version":1,"version":1', "a member stands twice"), ("[]}\n", "[]", "no JSON"),
+        ('"version":1', '"version":NaN', "NaN is no JSON"), ('"version":1', '"version":2', "another format, version"),
+        ('"version":1,', "", "the whole has other members than format version"),
+        ('"terminals":["x"]', '"terminals":["x","a"]', "terminals twice, or in another order"),
+        ('{"terminal":"x"}', '{"terminal":"y"}', "production 0: unknown symbol 'y'"),
+        ('"symbols":[', '"more":0,"symbols":[', "a production has other members"),
+        ('{"number":0,"nonterminal"', '{"number":-1,"nonterminal"', "production -1 of 'S'"),
+        ('"states":[{"number":0', '"states":[{"number":1', "state 0 has number 1"),
+        ('"dot":1', '"dot":2', "state 1: dot 2 of 1"), ('{"x":1}', '{"x":2}', "state 0: an edge to no state"),
+        ('{"x":1}', '{"y":1}', "state 0: shifts ['y']"), ('"nonterminal":"S",', "", "another form: KeyError"),
+    )),
+    *((TWICE, *it) for it in (
+        ('{"number":1,"nonterminal"', '{"number":0,"nonterminal"', "a production's number twice"),
+        ('{"state":1', '{"state":2', "conflict 0: no state 2"), ('{"reduce":0,', '{"reduce":2,', "no reduction by 2"),
+        ('{"state":1,"lookahead":[null]', '{"state":1,"lookahead":[]', "conflict 0: tokens [], 2 actions"),
+        ('"dot":1,"examples"', '"dot":0,"examples"', "other items than the finished one"),
+    )),
+    *((SHIFTED, *it) for it in (
+        ('"nonterminal":"A","symbols"', '"nonterminal":"T","symbols"', "productions in another order"),
+        ('"shift":"x","state":0', '"shift":"x","state":1', "conflict 0: no shift of 'x' to 1"),
+        ('{"production":1,"dot":0,"examples"', '{"production":2,"dot":0,"examples"', "items that don't shift 'x'"),
+        ('{"production":1,"dot":0,"examples"', '{"production":0,"dot":1,"examples"', "no such item in state 0"),
+        (EXAMPLE, ",".join(4 * [EXAMPLE]), "conflict 0: 4 examples"),
+        ('"place":1', '"place":3', "an example with place 3 of 2"), ('"end":1', '"end":3', "symbols 0 to 3"),
+        ('"A"}]}', '"A"},{"start":1,"end":2,"nonterminal":"S"}]}', "a reduction within the one before it"),
+    )),
+)
+X, END = "&quot;x&quot;", '<BR ALIGN="LEFT"/>'
+KERNELS = f"S -&gt; &bull; {X}{END}", f"S -&gt; {X} &bull;{END}"
+REDUCE = f"<I>reduce</I> S -&gt; {X} <I>on</I> Eof{END}"
+GRAPH = (
+    "digraph states {\n  node [shape=box fontname=monospace];\n  edge [fontname=monospace];\n"
+    f"  0 [label=<<B>State 0</B>{END}{KERNELS[0]}>];\n  1 [label=<<B>State 1</B>{END}{KERNELS[1]}{REDUCE}>];\n"
+    f"  0 -> 1 [label=< {X}>];\n}}\n"
+)
+ACROSS = GRAPH.replace("  0 [", "  rankdir=LR;\n  0 [", 1)
+RED = f'<FONT COLOR="red">reduce S -&gt; {X}, or S -&gt; {X}, on Eof</FONT>{END}'
+TWICE_DRAWN = GRAPH.replace(f"{REDUCE}>]", f"{2 * REDUCE}{RED}> color=red penwidth=2]")
+for part in KERNELS:
+    TWICE_DRAWN = TWICE_DRAWN.replace(part, 2 * part)
+SPOILT_GRAPHS = (
+    *((GRAPH, *it) for it in (
+        ("0 -> 1", "0 -> 0", "edges"), ("&bull; &quot;", "&quot; &bull;", "state 0 is drawn as"),
+        ("=< &quot;x&quot;>", '=< "x>', "edges"), ("=< &quot;x", "=< <&quot;x", "a label that is no XML"),
+        ("=< &quot;x", "=< &nosuch;&quot;x", "a label that is no XML"),
+        ("=< &quot;x", "=< <B/>&quot;x", "an edge whose label has parts"),
+        ("State 0</B>", "State 0</B><U/>", "a label with U"), (">];\n}", ">]\n}", "a line that is no node and no edge"),
+        ("  0 [", "  rankdir=LR;\n  0 [", "a line that is no node and no edge"),
+        (">];\n}", "> color=red fontcolor=red];\n}", "edges"),
+        ("/>>];\n  0", "/>> color=red penwidth=2];\n  0", "state 1:"),
+        ("/>>];\n  0", "/>State 2>];\n  0", "a line of a node without its end"),
+        (">];\n}", ">];\n  1 [label=<>];\n}", "a node after an edge"),
+    )),
+    (ACROSS, "LR", "TB", "another beginning or end"), (ACROSS, "  0 [label", "  2 [label", "nodes [2, 1]"),
+)
+PAGE = (
+    '<!DOCTYPE html>\n<html lang="en"><head><meta http-equiv="Content-Security-Policy" content="default-src \'none\'; '
+    "script-src 'unsafe-inline'\">\n<title>States</title><style>p { margin: 0; }</style></head><body><p></p>\n"
+    '<script id="data" type="application/json">\n{}</script>\n<script>\nJSON.parse("{}");\n</script></body></html>\n'
+)
+SPOILT_PAGES = (
+    ('"x"', '"y"', "unknown symbol"), ("<p>", '<p onclick="x">', "p has ['onclick']"),
+    ("<p>", "<script>alert(1)</script><p>", "the page has [('style', {}), ('script', {}), ('script'"),
+    ("<p>", '<img src="http://a"><p>', "the page has elements ['img']"),
+    ("'none'", "'self'", "the page may load"), ('"conflicts":[]}', '"conflicts":[]', "no JSON"),
+    ('"production":0,"dot":1', '"production":0,"dot":0', "the page holds other data"),
+)
+
+
+def page_of(text):
+    return PAGE.replace("{}", text.replace("<", "\\u003c"), 1)
+
+
+class Readers(unittest.TestCase):
+    def refuse(self, reason, check, *given):
+        with self.subTest(reason=reason):
+            with self.assertRaises(data.WrongData) as found:
+                check(*given)
+            self.assertIn(reason, str(found.exception))
+
+    def test_data(self):
+        for text in (DATA, TWICE, SHIFTED):
+            self.assertEqual(data.read(text.encode()), json.loads(text))
+        for text, old, new, reason in SPOILT_DATA:
+            self.refuse(reason, data.read, text.replace(old, new, 1).encode())
+
+    def test_listings(self):
+        for text, report, explained in (
+            (DATA, REPORT, "no conflicts\n"),
+            (SHIFTED, SHIFTED_REPORT, EXPLAINED),
+            (TWICE, TWICE_REPORT, "conflict 1 in state 1 on Eof\n" + 2 * '  reduce S -> "x"\n'),
+        ):
+            listings = Listings(json.loads(text))
+            self.assertEqual(listings.report(), report)
+            self.assertEqual(listings.explanation(), explained)
+
+    def test_graphs(self):
+        graph.check(TWICE_DRAWN, json.loads(TWICE), None)
+        for drawn, around in ((GRAPH, None), (ACROSS, 0), (ACROSS, 1)):
+            graph.check(drawn, json.loads(DATA), around)
+        for drawn, old, new, reason in SPOILT_GRAPHS:
+            around, text = 0 if drawn == ACROSS else None, drawn.replace(old, new, 1)
+            self.refuse(reason, graph.check, text, json.loads(DATA), around)
+        self.assertEqual(graph.few(["x"] * 10), ' "x"' * 8 + " and 2 more")
+
+    def test_pages(self):
+        page.check(page_of(DATA), json.loads(DATA))
+        for old, new, reason in SPOILT_PAGES:
+            self.refuse(reason, page.check, page_of(DATA).replace(old, new, 1), json.loads(DATA))
+        # (an element in the text of the data)
+        self.refuse("the data have a sign", page.held, PAGE.replace("{}", "<b>", 1))
