@@ -5,6 +5,7 @@ pub mod Grammar
 pub mod Marks
 pub mod Names
 pub mod NewStart
+pub mod Orders
 pub mod Refusals
 pub mod SameGrammars
 pub mod TerminalPlaces

@@ -1,5 +1,5 @@
 //! A normalised grammar: names, terminals, symbols and productions.
-pub mod augment;
+mod augmentation;
 pub mod grammar;
 pub mod inlined;
 pub mod norm_error;
@@ -9,6 +9,7 @@ ghost use Rattle.std.specs.Prelude.{◌≡◌, ◌<◌, ◌↔◌, IsTrue, IfOk,
 ghost use Rattle.std.specs.Coded.{coded_ℕ};
 ghost use Rattle.lalrpop_base.specs.grammars.Names.{nonterminal_text, terminal_text, symbol_text};
 
+pub use self::augmentation::{augment, is_on_no_right_side};
 pub use self::grammar::{
     ActionFnDefn, ActionFnDefnKind, Algorithm, Attribute, Grammar, NonterminalData, is_well_formed,
 };
@@ -46,6 +47,8 @@ impl NonterminalString {
 
 impl fmt::Display for NonterminalString {
     ghost output = { λ x. Some (nonterminal_text x) };
+
+    ghost styled_output = { λ x _. Some (nonterminal_text x) };
 
     fn fmt<W: fmt::Write>(&self, f: &mut fmt::Formatter<W>) -> fmt::Result {
         f.write_str(self.text.as_str())
@@ -94,11 +97,14 @@ impl TerminalString {
 impl fmt::Display for TerminalString {
     ghost output = { λ x. Some (terminal_text x) };
 
+    ghost styled_output = { λ x _. Some (terminal_text x) };
+
     fn fmt<W: fmt::Write>(&self, f: &mut fmt::Formatter<W>) -> fmt::Result {
         match self {
             TerminalString::Literal(text) => {
-                let text = text.as_str();
-                write!(f, "\"{text}\"")
+                f.write_str("\"")?;
+                f.write_str(text.as_str())?;
+                f.write_str("\"")
             }
             TerminalString::Bare(text) => f.write_str(text.as_str()),
             TerminalString::Error => f.write_str("error"),
@@ -144,6 +150,8 @@ impl Symbol {
 
 impl fmt::Display for Symbol {
     ghost output = { λ x. Some (symbol_text x) };
+
+    ghost styled_output = { λ x _. Some (symbol_text x) };
 
     fn fmt<W: fmt::Write>(&self, f: &mut fmt::Formatter<W>) -> fmt::Result {
         match self {

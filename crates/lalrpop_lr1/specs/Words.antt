@@ -9,6 +9,9 @@ pub use Rattle.lalrpop_lr1.specs.runs.FaithfulAnswers.{AnswersTrees, ForEachCano
 pub use Rattle.lalrpop_lr1.specs.runs.FaithfulAnswers.{IsLimit, IsOutcomeFor, IsTreeWithin, StepsAreRight, TakesBeginning}
 pub use Rattle.lalrpop_lr1.specs.runs.Headline.{IsAccepted, IsToldByTables}
 pub use Rattle.lalrpop_lr1.specs.inlining.InlineChoices.{behind, choices, completed, extended, followed, inlined, is_named, laid_out, mentions, part_symbols, parts}
+pub use Rattle.lalrpop_lr1.specs.inlining.InlineMeetings.{AreMarkedAmong, ComesBack, ComesBackFrom, GoesPast, IsComeBackTo, IsEntered, IsInside, IsMetName, IsNewest}
+pub use Rattle.lalrpop_lr1.specs.inlining.InlineMeetings.{IsPassed, LeadsBack, Leaves, NamesBy, through, here, inside, later, mentions_back, no_more, past_over, passing}
+pub use Rattle.lalrpop_lr1.specs.inlining.InlineMeetings.{with_next}
 pub use Rattle.lalrpop_lr1.specs.inlining.InlineOrder.{HasSpan, IsCycleOf, IsInlineOrder, IsMarked, IsMarkedEntry, IsOnRing, Leads, Mentions, more, one}
 pub use Rattle.lalrpop_lr1.specs.inlining.InlineRefusals.{IsPastLast}
 pub use Rattle.lalrpop_lr1.specs.inlining.InlineSteps.{Entry, IsEntryReplaced, Made, View, alternatives_in, choice_defn, choice_production, chosen, entry_view}
@@ -42,6 +45,6 @@ pub use Rattle.lalrpop_lr1.specs.traces.Traces.{Backtrace, Gives, GoesOn, HasOwn
 pub use Rattle.lalrpop_lr1.specs.traces.Traces.{Takes, begins, dot_edge, dotted, first, given, itself, onward, own_edge, reduction_traced, shift_traced}
 pub use Rattle.lalrpop_lr1.specs.trees.TreeSteps.{GivesStep, Step, around_of, enters, forest_of, is_entering, leaves_node, meets_leaf, open_node, step_of, step_text}
 pub use Rattle.lalrpop_lr1.specs.trees.TreeSteps.{steps_left, steps_of, steps_over, steps_text, tree_by, tree_within}
-pub use Rattle.lalrpop_lr1.specs.traces.Walks.{GivesNext, GivesNextMeeting, GoesTo, HasSkipped, IsEnded, IsOfFirst, IsOfFirstMeeting, IsSameFilter, Meets, NoneMeets}
+pub use Rattle.lalrpop_lr1.specs.traces.Walks.{GivesNext, GivesNextMeeting, GoesTo, HasSkipped, IsEnded, IsExhausted, IsOfFirst, IsOfFirstMeeting, IsSameFilter, Meets, NoneMeets}
 pub use Rattle.lalrpop_lr1.specs.traces.Walks.{and_behind, bound, bound_of, edge_weight, frames, load, load_of, numbers_at, paths_over, remaining, steps, to_come}
 pub use Rattle.lalrpop_lr1.specs.traces.Walks.{total, weight}

@@ -1,5 +1,6 @@
 -- Nonterminals that are inlined.
 pub mod InlineChoices
+pub mod InlineMeetings
 pub mod InlineOrder
 pub mod InlineRefusals
 pub mod InlineSteps

@@ -11,6 +11,7 @@ ghost use Rattle.lalrpop_base.specs.declared.repr.NonterminalString.{Nonterminal
 ghost use Rattle.lalrpop_base.specs.declared.repr.TerminalString.{TerminalString};
 ghost use Rattle.lalrpop_base.specs.declared.repr.Production.{Production};
 ghost use Rattle.lalrpop_base.specs.declared.repr.grammar.ActionFnDefn.{ActionFnDefn};
+ghost use Rattle.lalrpop_lr1.specs.inlining.InlineMeetings.{IsComeBackTo, NamesBy};
 ghost use Rattle.lalrpop_lr1.specs.inlining.InlineOrder.{IsMarked, Mentions, IsInlineOrder, IsOnRing, IsCycleOf};
 ghost use Rattle.lalrpop_lr1.specs.inlining.Inlined.{IsInlined, IsLaidOut, IsRefusalOf};
 
@@ -29,6 +30,7 @@ pub fn inline_order(alloc: Global, grammar: &Grammar) -> NormResult<Vec<Nontermi
     ensures order { IfOk result (λ order. IsInlineOrder grammar.now order.items) }
     ensures acyclic { OnOk result ((a : NonterminalString) → IsOnRing grammar.now a → ⊥) }
     ensures refused { IfErr result (IsCycleOf grammar.now) }
+    ensures met { IfErr result (NamesBy (IsComeBackTo grammar.now)) }
 {
     ordered(alloc, grammar)
 }
@@ -51,6 +53,7 @@ pub fn inline(alloc: Global, grammar: Grammar) -> NormResult<Grammar>
         IsLaidOut h.action_fn_defns.items p) }
     ensures acyclic { OnOk result ((a : NonterminalString) → IsOnRing grammar a → ⊥) }
     ensures refused { IfErr result (IsRefusalOf grammar) }
+    ensures met { IfErr result (NamesBy (IsComeBackTo grammar)) }
 {
     let order = ordered(alloc, &grammar)?;
     let users = users_of(alloc, &grammar)?;

@@ -18,11 +18,11 @@ pub use Rattle.lalrpop_tables.specs.lanes.LaneTraces.{GivesAt, HaveOwnItems, IsL
 pub use Rattle.lalrpop_tables.specs.lanes.LaneTraces.{TakesPartOfLane, places_in}
 pub use Rattle.lalrpop_tables.specs.canonical.Laws.{AreNilTables, AreSetTables, IsKeptGrammar, StopsWithNil, StopsWithSets, lr0_of}
 pub use Rattle.lalrpop_tables.specs.lane_states.Lr0Copies.{AreClosedTables, AreCopiedConflicts, AreCopiedTables, AreLr0Copies, FailsByCopies}
-pub use Rattle.lalrpop_tables.specs.answers.Lr1Answers.{AreBuiltTablesOf, AreTablesBy, AreTablesOf, FailsOn, HasConflictsOf, IsConflictCount, LacksTables}
+pub use Rattle.lalrpop_tables.specs.answers.Lr1Answers.{AreBuiltTablesOf, AreTablesBy, AreTablesOf, FailsOn, HasConflictsOf, IsConflictCount, LacksTables, up_to_greatest}
 pub use Rattle.lalrpop_tables.specs.merges.MergeWalks.{ComesTo, HasJoinedBut, IsJoin, IsJoinMade, IsMergeWalk, join_to, joins_to, most_joins}
-pub use Rattle.lalrpop_tables.specs.merges.Merges.{Advances, AreApart, AreCopies, AreReductionsOf, AreTargetsAmong, AreUnited, HasJoined, HasWalked, HaveNoNewMarks}
-pub use Rattle.lalrpop_tables.specs.merges.Merges.{IsApart, IsContext, IsCopyOf, IsFresh, IsJoinedCopy, IsLonger, IsMerging, IsPatchable, IsPushed, IsResolvedCopy, IsTaken}
-pub use Rattle.lalrpop_tables.specs.merges.Merges.{IsVisited, IsWalked, TookOwnColumns, index, replaced, unset, unvisited}
+pub use Rattle.lalrpop_tables.specs.merges.Merges.{Advances, AreApart, AreCopies, AreReductionsOf, AreTargetsAmong, AreUnited, HasJoined, HasWalked, HaveNoNewMarks, HaveWalked, HasEdge, HasTarget}
+pub use Rattle.lalrpop_tables.specs.merges.Merges.{IsApart, IsContext, IsCopyOf, IsFresh, IsJoinedCopy, IsLedTo, IsLimit, IsLinked, IsLonger, IsMerging, IsPatchable, IsPushed, IsResolvedCopy, IsTaken}
+pub use Rattle.lalrpop_tables.specs.merges.Merges.{CannotJoin, IsApartIfNone, IsRefusedJoin, IsVisited, IsWalked, KeepsStates, TookOwnColumns, index, replaced, unset, unvisited}
 pub use Rattle.lalrpop_tables.specs.graphs.Neighbours.{sources_left}
 pub use Rattle.lalrpop_tables.specs.renumbering.RenumberedTables.{AreRenumberedCopies, AreRenumberedLaneTables, AreRenumberedTables}
 pub use Rattle.lalrpop_tables.specs.lane_states.Resolving.{IsCopied, IsResolving}

@@ -46,8 +46,8 @@ pub fn build_lr1_states<'grammar>(
 
 /// The LR(1) states of a grammar by their construction numbers, or how many canonical conflicts it
 /// has. They are those of `build_lr1_states`, but conflicts are counted and not listed: all of
-/// them, since `stop_after` is not looked at. A number above the greatest `usize` is answered as
-/// want of memory: no list of so many could be had.
+/// them, since `stop_after` is not looked at. If they are more than the greatest `usize`, that
+/// number is returned.
 pub fn lr1_states_or_count<'grammar>(
     alloc: Global,
     grammar: &'grammar Grammar,

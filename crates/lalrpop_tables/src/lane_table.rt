@@ -4,6 +4,7 @@ pub mod construct;
 pub mod context_set;
 pub(crate) mod follow_sets;
 pub mod lane;
+mod own;
 pub mod table;
 
 ghost use Rattle.std.specs.Prelude.{IfOk, IfErr, MatchResult};
@@ -13,6 +14,7 @@ ghost use Rattle.lalrpop_tables.specs.lane_states.LaneStates.{AreLalrLaneTables}
 ghost use Rattle.lalrpop_tables.specs.lane_states.Lr0Copies.{AreCopiedTables, FailsByCopies};
 
 use self::construct::LaneTableConstruct;
+pub use self::own::{have_own_items, reduces_own};
 use lalrpop_base::lr1_core::state::Lr1Result;
 use lalrpop_base::repr::NonterminalString;
 use lalrpop_base::repr::grammar::Grammar;

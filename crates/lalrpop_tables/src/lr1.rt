@@ -59,8 +59,8 @@ pub fn build_states<'grammar>(
 
 /// The tables of a grammar for a start symbol, numbered as those of `build_states`, or how many
 /// canonical conflicts it has. States are never collapsed, whatever `algorithm.lalr` says. No
-/// conflict is listed, and all are counted, since `stop_after` is not looked at. A number above the
-/// greatest `usize` is answered as want of memory: no list of so many could be had.
+/// conflict is listed, and all are counted, since `stop_after` is not looked at. If they are more
+/// than the greatest `usize`, that number is returned.
 pub fn build_states_or_count<'grammar>(
     alloc: Global,
     grammar: &'grammar Grammar,

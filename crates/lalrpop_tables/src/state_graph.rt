@@ -12,6 +12,7 @@ ghost use Rattle.lalrpop_tables.specs.graphs.StateGraph.{Edge, edges, edges_of, 
 
 use self::lists::{list_of, push_at};
 use self::neighbours::{Predecessors, Successors};
+use itertools::Itertools;
 use lalrpop_base::lr1_core::state::{State, StateIndex};
 use lalrpop_base::memory::OutOfMemory;
 use lalrpop_base::repr::Symbol;
@@ -147,7 +148,7 @@ impl StateGraph {
         for state in states {
             self.push_sources(*state, symbol, &mut sources)?;
         }
-        Ok(in_order(sources))
+        Ok(in_order(alloc, sources)?)
     }
 
     // Puts the states from which the symbol leads to the state behind the others.
@@ -168,11 +169,15 @@ impl StateGraph {
 }
 
 // The states, ascending, none twice.
-fn in_order(mut states: Vec<StateIndex>) -> Vec<StateIndex>
-    ensures same { HaveSameStates states.items result.items }
-    ensures ascending { IsStrictlySortedBy state_cmp result.items }
+fn in_order(alloc: Global, states: Vec<StateIndex>) -> Result<Vec<StateIndex>, OutOfMemory>
+    ensures same { IfOk result (λ list. HaveSameStates states.items list.items) }
+    ensures ascending { IfOk result (λ list. IsStrictlySortedBy state_cmp list.items) }
 {
-    states.sort_unstable();
-    states.dedup();
-    states
+    let sorted = states.into_iter().sorted(alloc)?;
+    let mut ordered = Vec::new(alloc);
+    for state in sorted {
+        ordered.push(state)?;
+    }
+    ordered.dedup();
+    Ok(ordered)
 }

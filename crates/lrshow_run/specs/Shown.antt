@@ -16,7 +16,6 @@ use Rattle.table_pictures.specs.Graphs.{graph}
 use Rattle.table_pictures.specs.Page.{page}
 use Rattle.lrshow_run.specs.Built.{AreBuilt}
 use Rattle.lrshow_run.specs.Words.{Asked, Form, Json, Graph, Page}
-use Rattle.lrshow_run.specs.declared.shown.TheConstants.{MANY}
 
 -- a status, a text and a remark
 pub record IsOutput (status : ℕ) (text remark : List ℕ) (s : Shown) : Type 0 where
@@ -29,9 +28,13 @@ pub record IsOutput (status : ℕ) (text remark : List ℕ) (s : Shown) : Type 0
 abbrev pub no_state : ℕ → List ℕ
 no_state number = line (codes "no state " ++ decimal number)
 
+-- a graph of at most three hundred states is shown without a remark
+abbrev pub most_states : ℕ
+most_states = 300
+
 -- a remark on how to cut the graph of many states
 abbrev pub how_to_cut : ℕ → List ℕ
-how_to_cut count = if nat_lt MANY count then line (decimal count ++ codes " states: --around STATE shows one and its neighbours") else []
+how_to_cut count = if nat_lt most_states count then line (decimal count ++ codes " states: --around STATE shows one and its neighbours") else []
 
 -- the graph of all states, or of the one with a number and its neighbours where there is such a state
 abbrev pub IsGraphShown : Grammar → NonterminalString → ℕ → List (State Bits) → List (Conflict Bits) → Option ℕ → Shown → Type 0

@@ -1,5 +1,5 @@
 -- The first paths of a walk, found one by one.
-use Rattle.std.proofs.Common.{◌≡◌, ℕ, zero, suc, ◌+◌, ◌-◌, ◌<◌, ◌≤◌, ◌⊎◌, inl, inr, false, List, [], ◌∷◌, ◌++◌, length, take, refl, sym, ◌∙◌, ap, subst, arith, append_assoc}
+use Rattle.std.proofs.Common.{◌≡◌, ℕ, zero, suc, ◌+◌, ◌-◌, ◌<◌, ◌≤◌, ◌⊎◌, inl, inr, true, false, List, [], ◌∷◌, ◌++◌, length, take, refl, sym, ◌∙◌, ap, subst, arith, append_assoc}
 use Rattle.std.specs.Prelude.{Contains, IsTrue}
 use Rattle.std.proofs.lemmas.List.{append-nil}
 use Rattle.std.proofs.lemmas.Grind.{flat_map-append}
@@ -41,13 +41,22 @@ module _ (P : List ℕ → Type 0) where
   none_left n [] not = none
   none_left n (p ∷ ps) not = skip (not p (contains_head p ps)) (none_left n ps (λ q c. not q (contains_tail p ps q c)))
 
+-- ---- what a walk has left
+-- the walk has these paths still, or none and an allocation failure to report
+abbrev pub HasLeft : List (List ℕ) → PathEnumerator → Type 0
+HasLeft rest walk = ((to_come walk ≡ rest) × (walk.refused ≡ false)) ⊎ ((to_come walk ≡ []) × (walk.refused ≡ true))
+
+left_of : (rest : List (List ℕ)) (walk : PathEnumerator) → GoesTo rest walk → HasLeft rest walk
+left_of rest walk (inl h) = inl (h.0, h.1)
+left_of rest walk (inr h) = inr (h.0.here, h.1)
+
 -- ---- a walk over all paths
 -- the walk has shown some paths, and the first of the rest are to be shown
 pub record IsListing (begun walk : PathEnumerator) (left : ℕ) (old now : List ℕ) : Type 0 where
   pub graph : walk.graph.now ≡ begun.graph.now
   pub shown : List (List ℕ)
   pub rest : List (List ℕ)
-  pub goes : GoesTo rest walk
+  pub goes : HasLeft rest walk
   pub first : take 3 (to_come begun) ≡ shown ++ take left rest
   pub text : now ≡ old ++ path_lines begun.graph.now shown
 
@@ -55,7 +64,7 @@ pub listing_begins : (walk : PathEnumerator) (text : List ℕ) → walk.refused 
 listing_begins walk text told = record { graph = refl; shown = []; rest = to_come walk; goes = inl (refl, told); first = refl; text = sym (append-nil text) }
 
 -- a walk that gives something had it to come
-rest_of_walk : (walk : PathEnumerator) (rest new : List (List ℕ)) (path : List ℕ) → GoesTo rest walk → to_come walk ≡ path ∷ new → rest ≡ path ∷ new
+rest_of_walk : (walk : PathEnumerator) (rest new : List (List ℕ)) (path : List ℕ) → HasLeft rest walk → to_come walk ≡ path ∷ new → rest ≡ path ∷ new
 rest_of_walk walk rest new path (inl h) e = sym h.0 ∙ e
 rest_of_walk walk rest new path (inr h) e = absurd (nil≢cons (sym h.0 ∙ e))
 
@@ -72,7 +81,7 @@ listing_more begun walk next left old now new example h l same o grown =
       graph = same ∙ h.graph;
       shown = h.shown ++ o.path ∷ [];
       rest = o.rest;
-      goes = o.others;
+      goes = left_of o.rest next o.others;
       first = h.first ∙ ap (λ xs. h.shown ++ take left xs) rest ∙ ap (λ xs. h.shown ++ xs) (taken_one left o.path o.rest l) ∙ path_more h.shown o.path (take (left - 1) o.rest);
       text = line_more begun.graph.now h.shown o.path old now new h.text (grown ∙ ap (λ xs. now ++ xs) (line_of_path begun.graph.now o.path example here));
     }
@@ -94,7 +103,7 @@ take_of_none n xs e = ap (take n) e ∙ taken_nil n
 pub listing_ends : (begun walk : PathEnumerator) (left : ℕ) (old now : List ℕ) → IsListing begun walk left old now → left ≤ 0 → now ≡ old ++ path_lines begun.graph.now (take 3 (to_come begun))
 listing_ends begun walk left old now h l = listed begun walk left old now h (take_none left h.rest l)
 
-nothing_left : (walk : PathEnumerator) (rest : List (List ℕ)) → GoesTo rest walk → walk.refused ≡ false → to_come walk ≡ [] → rest ≡ []
+nothing_left : (walk : PathEnumerator) (rest : List (List ℕ)) → HasLeft rest walk → walk.refused ≡ false → to_come walk ≡ [] → rest ≡ []
 nothing_left walk rest (inl h) told e = sym h.0 ∙ e
 nothing_left walk rest (inr h) told e = absurd (true≢false (sym h.1 ∙ told))
 
@@ -107,7 +116,7 @@ pub record IsFiltering (begun walk : FilteredPathEnumerator) (left : ℕ) (old n
   pub same : IsSameFilter begun walk
   pub shown : List (List ℕ)
   pub rest : List (List ℕ)
-  pub goes : GoesTo rest walk.base
+  pub goes : HasLeft rest walk.base
   pub first : (more : List (List ℕ)) → AreFirst (Meets begun) left rest more → AreFirst (Meets begun) 3 (to_come begun.base) (shown ++ more)
   pub text : now ≡ old ++ path_lines begun.base.graph.now shown
 
@@ -147,7 +156,7 @@ nil-append : {X : Type 0} (xs : List X) (y : X) (ys : List X) → [] ≡ xs ++ y
 nil-append [] y ys e = nil≢cons e
 nil-append (x ∷ xs) y ys e = nil≢cons e
 
-rest_of_filtered : (walk : PathEnumerator) (rest skipped new : List (List ℕ)) (path : List ℕ) → GoesTo rest walk → to_come walk ≡ skipped ++ path ∷ new → rest ≡ skipped ++ path ∷ new
+rest_of_filtered : (walk : PathEnumerator) (rest skipped new : List (List ℕ)) (path : List ℕ) → HasLeft rest walk → to_come walk ≡ skipped ++ path ∷ new → rest ≡ skipped ++ path ∷ new
 rest_of_filtered walk rest skipped new path (inl h) e = sym h.0 ∙ e
 rest_of_filtered walk rest skipped new path (inr h) e = absurd (nil-append skipped path new (sym h.0 ∙ e))
 
@@ -164,7 +173,7 @@ filtering_more begun walk next left old now new example h l same o grown =
       same = record { graph = same.graph ∙ h.same.graph; first_sets = same.first_sets ∙ h.same.first_sets; lookahead = same.lookahead ∙ h.same.lookahead };
       shown = h.shown ++ o.path ∷ [];
       rest = o.rest;
-      goes = o.others;
+      goes = left_of o.rest next.base o.others;
       first = λ more k.
           let one = kept_one (Meets begun) left o.path o.rest more l (meets_begun begun walk h.same o.path o.meets) k in
           let all = skip_all (Meets begun) left o.skipped (o.path ∷ o.rest) (o.path ∷ more) (none_begun begun walk h.same o.skipped o.before) one in
@@ -187,7 +196,7 @@ enough_of P (suc n) all l = absurd (omega (arith, l))
 pub filtering_ends : (begun walk : FilteredPathEnumerator) (left : ℕ) (old now : List ℕ) → IsFiltering begun walk left old now → left ≤ 0 → Grows (AreFirstLines begun) old now
 filtering_ends begun walk left old now h l = filtered begun walk left old now h (enough_of (Meets begun) left h.rest l)
 
-rest_told : (walk : PathEnumerator) (rest : List (List ℕ)) → GoesTo rest walk → walk.refused ≡ false → to_come walk ≡ rest
+rest_told : (walk : PathEnumerator) (rest : List (List ℕ)) → HasLeft rest walk → walk.refused ≡ false → to_come walk ≡ rest
 rest_told walk rest (inl h) told = h.0
 rest_told walk rest (inr h) told = absurd (true≢false (sym h.1 ∙ told))
 

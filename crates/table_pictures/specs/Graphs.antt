@@ -9,7 +9,6 @@ use Rattle.lalrpop_base.specs.declared.lr1_core.state.State.{State}
 use Rattle.lalrpop_base.specs.declared.lr1_core.state.StateIndex.{StateIndex}
 use Rattle.table_pictures.specs.Edges.{edges}
 use Rattle.table_pictures.specs.Nodes.{node}
-use Rattle.table_pictures.specs.declared.dot.TheConstants.{OPENING}
 use Rattle.table_pictures.specs.declared.edges.Shown.{Shown}
 use Rattle.table_pictures.specs.declared.edges.Shown.TheVariants.{All, Around}
 
@@ -35,6 +34,10 @@ abbrev pub shows_state : List (State Bits) → Shown → State Bits → Bool
 shows_state states All state = true
 shows_state states (Around number) state = state.index.0 == number || leads_there number state || comes_from (slice_get states number) state.index.0
 
+-- a graph is directed, its nodes are boxes, and all its texts have letters of one width
+abbrev pub opening : List ℕ
+opening = codes "digraph states {\n  node [shape=box fontname=monospace];\n  edge [fontname=monospace];\n"
+
 -- a graph of all states lies from top to bottom, one of a state and its neighbours from left to right
 abbrev pub direction : Shown → List ℕ
 direction All = []
@@ -47,4 +50,4 @@ module _ (start : NonterminalString) (terminals : List TerminalString) (states :
 
   -- the graph: a node for each state that is shown, and then the edges of each state that are shown
   abbrev pub graph : List ℕ
-  graph = OPENING.now ++ (direction shown ++ (flat_map shown_node states ++ (flat_map (edges conflicts shown) states ++ codes "}\n")))
+  graph = opening ++ (direction shown ++ (flat_map shown_node states ++ (flat_map (edges conflicts shown) states ++ codes "}\n")))

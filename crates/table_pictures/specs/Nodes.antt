@@ -14,15 +14,18 @@ use Rattle.lalrpop_base.specs.declared.lr1_core.state.Conflict.{Conflict}
 use Rattle.lalrpop_base.specs.declared.lr1_core.state.State.{State}
 use Rattle.table_pictures.specs.Escape.{xml_text}
 use Rattle.table_pictures.specs.Symbols.{production_xml, symbols_xml, tokens_xml}
-use Rattle.table_pictures.specs.declared.nodes.TheConstants.{LINE_END}
 
 -- an item is of the kernel: its dot is past the start, or it is of the start and in the first state
 abbrev pub is_kernel_item : NonterminalString → ℕ → Dotted Bits → Bool
 is_kernel_item start number item = nat_lt 0 item.index || ((number == 0) && name_eq.ghosts.eq item.production.nonterminal start)
 
+-- a line of a node ends with a break that puts it to the left
+abbrev pub line_end : List ℕ
+line_end = codes "<BR ALIGN=\"LEFT\"/>"
+
 -- the line of an item, with the dot between its symbols
 abbrev pub item_line : Dotted Bits → List ℕ
-item_line item = xml_text (nonterminal_text item.production.nonterminal) ++ (codes " -&gt;" ++ (symbols_xml (prefix_of item) ++ (codes " &bull;" ++ (symbols_xml (rest_of item) ++ LINE_END.now))))
+item_line item = xml_text (nonterminal_text item.production.nonterminal) ++ (codes " -&gt;" ++ (symbols_xml (prefix_of item) ++ (codes " &bull;" ++ (symbols_xml (rest_of item) ++ line_end))))
 
 -- the line of an item of the kernel; other items have none
 abbrev pub kernel_line : NonterminalString → ℕ → Dotted Bits → List ℕ
@@ -52,11 +55,11 @@ node_head number = codes "  " ++ (decimal number ++ (codes " [label=<<B>State " 
 module _ (terminals : List TerminalString) where
   -- the line of a reduction
   abbrev pub reduction_line : Bits × Bor Production → List ℕ
-  reduction_line (set, p) = codes "<I>reduce</I> " ++ (production_xml p.now ++ (codes " <I>on</I>" ++ (tokens_xml terminals set ++ LINE_END.now)))
+  reduction_line (set, p) = codes "<I>reduce</I> " ++ (production_xml p.now ++ (codes " <I>on</I>" ++ (tokens_xml terminals set ++ line_end)))
 
   -- the red line of a conflict
   abbrev pub red_line : Conflict Bits → List ℕ
-  red_line conflict = codes "<FONT COLOR=\"red\">" ++ (conflict_xml conflict ++ (tokens_xml terminals conflict.lookahead ++ (codes "</FONT>" ++ LINE_END.now)))
+  red_line conflict = codes "<FONT COLOR=\"red\">" ++ (conflict_xml conflict ++ (tokens_xml terminals conflict.lookahead ++ (codes "</FONT>" ++ line_end)))
 
   -- the line of a conflict of a state; those of other states have none
   abbrev pub conflict_line : ℕ → Conflict Bits → List ℕ

@@ -1,17 +1,35 @@
 -- The page of the JSON of tables.
-use Rattle.std.specs.Prelude.{ℕ, List, ◌++◌}
+use Rattle.std.specs.Prelude.{ℕ, List, ◌++◌, codes}
 use Rattle.table_pictures.specs.Escape.{inert}
-use Rattle.table_pictures.specs.declared.page.TheConstants.{HEAD, BODY, SCRIPT, END}
+use Rattle.table_pictures.specs.declared.page.TheConstants.{BODY}
 use Rattle.table_pictures.specs.declared.script.TheConstants.{TREES, DRAWING, FINDING}
 use Rattle.table_pictures.specs.declared.style.TheConstants.{STYLE}
 
+-- the policy of a page: a browser loads nothing from outside, and takes the style and the scripts from the page alone
+abbrev pub policy : List ℕ
+policy = codes "default-src 'none'; style-src 'unsafe-inline'; script-src 'unsafe-inline'"
+
+-- a page begins with its policy, which stands before each style and each script
+abbrev pub page_start : List ℕ
+page_start =
+    codes "<!DOCTYPE html>\n<html lang=\"en\">\n<head>\n<meta charset=\"utf-8\">\n<meta name=\"viewport\" content=\"width=device-width, initial-scale=1\">\n"
+    ++ (codes "<meta http-equiv=\"Content-Security-Policy\"\n  content=\"" ++ (policy ++ codes "\">\n<title>States</title>\n<style>\n"))
+
 -- what stands before the data of a page
 abbrev pub page_head : List ℕ
-page_head = HEAD.now ++ (STYLE.now ++ BODY.now)
+page_head = page_start ++ (STYLE.now ++ BODY.now)
 
--- what stands behind the data of a page
+-- the data end with their element, and the script of a page begins in an element of its own
+abbrev pub script_start : List ℕ
+script_start = codes "</script>\n<script>\n\"use strict\";\n"
+
+-- a page ends with its script
+abbrev pub script_end : List ℕ
+script_end = codes "</script>\n</body>\n</html>\n"
+
+-- what stands after the data of a page
 abbrev pub page_end : List ℕ
-page_end = SCRIPT.now ++ (TREES.now ++ (DRAWING.now ++ (FINDING.now ++ END.now)))
+page_end = script_start ++ (TREES.now ++ (DRAWING.now ++ (FINDING.now ++ script_end)))
 
 -- a page: fixed texts round the data, which hold no `<`
 abbrev pub page : List ℕ → List ℕ

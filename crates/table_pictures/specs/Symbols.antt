@@ -9,7 +9,6 @@ use Rattle.lalrpop_base.specs.declared.repr.TerminalString.{TerminalString}
 use Rattle.lalrpop_base.specs.declared.lookahead.token.Token.{Token}
 use Rattle.lalrpop_base.specs.declared.lookahead.token.Token.TheVariants.{Eof, Error as ErrorToken, Terminal as TerminalToken}
 use Rattle.table_pictures.specs.Escape.{xml_text}
-use Rattle.table_pictures.specs.declared.nodes.TheConstants.{MOST}
 
 -- a symbol behind a space
 abbrev pub symbol_xml : Symbol → List ℕ
@@ -33,10 +32,14 @@ token_xml Eof = codes " Eof"
 token_xml ErrorToken = codes " Error"
 token_xml (TerminalToken t) = terminal_xml t
 
+-- eight tokens of a set are shown at most
+abbrev pub most_tokens : ℕ
+most_tokens = 8
+
 -- how many tokens there are past those that are shown, if there are some
 abbrev pub more_tokens : ℕ → List ℕ
-more_tokens count = if nat_lt MOST count then codes " <I>and " ++ (decimal (count - MOST) ++ codes " more</I>") else []
+more_tokens count = if nat_lt most_tokens count then codes " <I>and " ++ (decimal (count - most_tokens) ++ codes " more</I>") else []
 
 -- the first tokens of a set by rising bit, and how many more there are
 abbrev pub tokens_xml : List TerminalString → Bits → List ℕ
-tokens_xml terminals set = flat_map token_xml (take MOST (map (token_of terminals) (rising set))) ++ more_tokens (length (rising set))
+tokens_xml terminals set = flat_map token_xml (take most_tokens (map (token_of terminals) (rising set))) ++ more_tokens (length (rising set))

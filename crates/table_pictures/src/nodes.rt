@@ -2,8 +2,8 @@
 ghost use Rattle.std.specs.Prelude.{◌≡◌, ◌++◌, OnOk, map, length, string_bytes, take};
 ghost use Rattle.std.specs.List.{flat_map};
 ghost use Rattle.lalrpop_base.specs.Words.{rising, seen, token_of};
-ghost use Rattle.table_pictures.specs.Nodes.{action_xml, conflict_line, conflict_xml, has_conflict, is_kernel_item, item_line, kernel_line, node, node_end, node_head, red_line, reduction_line};
-ghost use Rattle.table_pictures.specs.Symbols.{more_tokens, production_xml, symbol_xml, symbols_xml, terminal_xml, token_xml, tokens_xml};
+ghost use Rattle.table_pictures.specs.Nodes.{action_xml, conflict_line, conflict_xml, has_conflict, is_kernel_item, item_line, kernel_line, line_end, node, node_end, node_head, red_line, reduction_line};
+ghost use Rattle.table_pictures.specs.Symbols.{more_tokens, most_tokens, production_xml, symbol_xml, symbols_xml, terminal_xml, token_xml, tokens_xml};
 
 use super::escape::push_xml;
 use lalrpop_base::lookahead::token::TokenRef;
@@ -20,6 +20,14 @@ const MOST: usize = 8;
 
 // What ends a line of a node.
 const LINE_END: &str = "<BR ALIGN=\"LEFT\"/>";
+
+// Appends the end of a line of a node.
+fn push_line_end(text: &mut String) -> Result<(), OutOfMemory>
+    ensures { OnOk result (string_bytes text.new ≡ string_bytes text.old ++ line_end) }
+{
+    text.push_str(LINE_END)?;
+    Ok(())
+}
 
 /// Appends the node of a state, with the conflicts among those of all states that are its own.
 pub(crate) fn push_node(
@@ -123,7 +131,7 @@ fn push_item(alloc: Global, text: &mut String, item: &Lr1Item<'_>) -> Result<(),
     push_symbols(alloc, text, item.prefix())?;
     text.push_str(" &bull;")?;
     push_symbols(alloc, text, item.rest())?;
-    text.push_str(LINE_END)?;
+    push_line_end(text)?;
     Ok(())
 }
 
@@ -192,7 +200,7 @@ fn push_reduction(
     push_production(alloc, text, reduction.1)?;
     text.push_str(" <I>on</I>")?;
     push_tokens(alloc, text, &reduction.0, terminals)?;
-    text.push_str(LINE_END)?;
+    push_line_end(text)?;
     Ok(())
 }
 
@@ -219,7 +227,7 @@ fn push_first_tokens(
     terminals: &TerminalSet,
 ) -> Result<(), OutOfMemory>
     ensures { OnOk result (string_bytes text.new ≡ string_bytes text.old ++ flat_map token_xml
-        (take MOST (map (token_of terminals.now) (rising tokens.now)))) }
+        (take most_tokens (map (token_of terminals.now) (rising tokens.now)))) }
 {
     for token in tokens.iter(terminals).take(MOST) {
         push_token(alloc, text, token)?;
@@ -314,7 +322,7 @@ fn push_red_line(
     push_conflict(alloc, text, conflict)?;
     push_tokens(alloc, text, &conflict.lookahead, terminals)?;
     text.push_str("</FONT>")?;
-    text.push_str(LINE_END)?;
+    push_line_end(text)?;
     Ok(())
 }
 

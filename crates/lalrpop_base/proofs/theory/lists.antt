@@ -22,4 +22,5 @@ pub mod SetLemmas
 pub mod SortedPlaces
 pub mod Spreading
 pub mod Updates
+pub mod Written
 pub mod Zipped

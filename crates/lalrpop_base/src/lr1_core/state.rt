@@ -1,4 +1,5 @@
 //! States, actions, conflicts and errors.
+ghost use Rattle.std.specs.Fmt.{WritesOnOk, WritesStyledOnOk};
 ghost use Rattle.std.specs.Prelude.{◌≡◌, ◌++◌, Some, codes, decimal};
 ghost use Rattle.lalrpop_base.specs.declared.lr1_core.state.BuildError.TheVariants.{Conflicts, Memory};
 
@@ -7,7 +8,17 @@ use crate::lookahead::token_set::TokenSet;
 use crate::memory::OutOfMemory;
 use crate::repr::{NonterminalString, Production, TerminalString};
 use std::collections::BTreeMap;
-use std::fmt;
+use std::fmt::{self, Write};
+
+/// Writes a number in decimal digits, whatever the style.
+pub(super) fn write_decimal<W: fmt::Write>(f: &mut fmt::Formatter<W>, number: usize) -> fmt::Result
+    ensures writes { WritesOnOk W.write_str_gives f.old result (decimal number) f.new }
+    ensures styled { WritesStyledOnOk W.write_str_gives f.old result (decimal number) f.new }
+{
+    let mut digits = fmt::InlineText::<20>::new();
+    write!(digits, "{number}")?;
+    f.write_str(digits.as_str())
+}
 
 /// The number of a state.
 #[derive(Clone, Copy, PartialEq, Eq, PartialOrd, Ord, Hash)]
@@ -24,8 +35,10 @@ impl fmt::Debug for StateIndex {
 impl fmt::Display for StateIndex {
     ghost output = { λ index. Some (decimal index.0) };
 
+    ghost styled_output = { λ index _. Some (decimal index.0) };
+
     fn fmt<W: fmt::Write>(&self, f: &mut fmt::Formatter<W>) -> fmt::Result {
-        write!(f, "{}", self.0)
+        write_decimal(f, self.0)
     }
 }
 

@@ -7,6 +7,7 @@ pub mod InlineEntries
 pub mod InlineForests
 pub mod InlineFrames
 pub mod InlineMarks
+pub mod InlineMeetings
 pub mod InlineMembers
 pub mod InlinePlaces
 pub mod InlineRings

@@ -82,9 +82,14 @@ to_come walk = and_behind walk.stack.items (remaining walk)
 abbrev pub paths_over : PathEnumerator → ℕ → List (List ℕ)
 paths_over walk k = over walk.graph.now (node_count walk.graph.now - length (frames walk)) (path_of (frames walk)) k
 
--- the walk has these paths still, or none and a refused growth to tell
+-- the walk has no path, and none comes if it goes on
+pub record IsExhausted (walk : PathEnumerator) : Type 0 where
+  pub here : to_come walk ≡ []
+  pub left : remaining walk ≡ []
+
+-- the walk has these paths still, or none and a refused growth to tell; where it has none, none comes if it goes on
 abbrev pub GoesTo : List (List ℕ) → PathEnumerator → Type 0
-GoesTo rest walk = ((to_come walk ≡ rest) × (walk.refused ≡ false)) ⊎ ((to_come walk ≡ []) × (walk.refused ≡ true))
+GoesTo rest walk = ((to_come walk ≡ rest) × (walk.refused ≡ false) × (rest ≡ [] → IsExhausted walk)) ⊎ (IsExhausted walk × (walk.refused ≡ true))
 
 -- the example is that of the first path, and the walk goes on to the others
 pub record IsOfFirst (old : PathEnumerator) (example : Example) (new : PathEnumerator) : Type 0 where
@@ -95,11 +100,11 @@ pub record IsOfFirst (old : PathEnumerator) (example : Example) (new : PathEnume
   pub first : to_come old ≡ path ∷ rest
   pub others : GoesTo rest new
 
--- a walk gives the example of its first path, and nothing where it has none; behind a refused growth nothing comes
+-- a walk gives the example of its first path, and nothing where it has none; after the last path and after a refused growth it is exhausted
 abbrev pub GivesNext : PathEnumerator → Option (Result Example OutOfMemory) → PathEnumerator → Type 0
-GivesNext old None new = (old.refused ≡ false) × (to_come old ≡ []) × (to_come new ≡ []) × (new.refused ≡ false)
+GivesNext old None new = (old.refused ≡ false) × (to_come old ≡ []) × IsExhausted new × (new.refused ≡ false)
 GivesNext old (Some (Ok example)) new = IsOfFirst old example new
-GivesNext old (Some (Err e)) new = (to_come new ≡ []) × (new.refused ≡ false)
+GivesNext old (Some (Err e)) new = IsExhausted new × (new.refused ≡ false)
 
 -- the tokens with which what follows the place of a path can begin, and the lookahead, have one in common
 abbrev pub Meets : FilteredPathEnumerator → List ℕ → Type 0
@@ -126,11 +131,11 @@ pub record IsOfFirstMeeting (old : FilteredPathEnumerator) (example : Example) (
   pub meets : Meets old path
   pub others : GoesTo rest new.base
 
--- a filtered walk gives the example of its first path that meets the lookahead, and nothing where none does; behind a refused growth nothing comes
+-- a filtered walk gives the example of its first path that meets the lookahead, and nothing where none does; after the last path and after a refused growth it is exhausted
 abbrev pub GivesNextMeeting : FilteredPathEnumerator → Option (Result Example OutOfMemory) → FilteredPathEnumerator → Type 0
-GivesNextMeeting old None new = (old.base.refused ≡ false) × NoneMeets old (to_come old.base) × (to_come new.base ≡ []) × (new.base.refused ≡ false)
+GivesNextMeeting old None new = (old.base.refused ≡ false) × NoneMeets old (to_come old.base) × IsExhausted new.base × (new.base.refused ≡ false)
 GivesNextMeeting old (Some (Ok example)) new = IsOfFirstMeeting old example new
-GivesNextMeeting old (Some (Err e)) new = (to_come new.base ≡ []) × (new.base.refused ≡ false)
+GivesNextMeeting old (Some (Err e)) new = IsExhausted new.base × (new.base.refused ≡ false)
 
 -- the paths that a filtered walk passed over do not meet the lookahead; then it has the others, or a refused growth to tell, as it has where one was to tell before
 pub record HasSkipped (old new : FilteredPathEnumerator) : Type 0 where

@@ -12,10 +12,9 @@ ghost use Rattle.lalrpop_lr1.specs.trees.ParseTrees.{tree_of};
 
 use super::{ParseError, parse};
 use crate::interpret::ParseTree;
-use lalrpop_base::repr::augment::augment;
 use lalrpop_base::repr::grammar::Grammar;
 use lalrpop_base::repr::norm_error::NormResult;
-use lalrpop_base::repr::{NonterminalString, TerminalString};
+use lalrpop_base::repr::{NonterminalString, TerminalString, augment};
 use lalrpop_tables::build::options::Options;
 use std::alloc::Global;
 use std::marker::Model;

@@ -7,6 +7,7 @@ ghost use Rattle.std.specs.BTreeMap.{IsOrdered};
 ghost use Rattle.std.specs.BTreeSet.{contains};
 ghost use Rattle.lalrpop_base.specs.Words.{name_cmp, inline_mark};
 ghost use Rattle.lalrpop_base.specs.declared.repr.NonterminalString.{NonterminalString};
+ghost use Rattle.lalrpop_lr1.specs.inlining.InlineMeetings.{AreMarkedAmong, IsComeBackTo, NamesBy};
 ghost use Rattle.lalrpop_lr1.specs.inlining.InlineOrder.{IsMarked, IsInlineOrder, IsOnRing, IsCycleOf};
 
 use depth_first::{Walk, walk_from};
@@ -40,6 +41,8 @@ pub fn is_marked(attributes: &[Attribute]) -> bool
 fn marked(alloc: Global, grammar: &Grammar) -> Result<Vec<NonterminalString>, OutOfMemory>
     ensures found { IfOk result
         (λ names. (a : NonterminalString) → Contains names.items a ↔ IsMarked grammar.now a) }
+    ensures among { IfOk result
+        (λ names. AreMarkedAmong grammar.now.nonterminals.entries names.items) }
     ensures ordered { OnOk result (IsOrdered name_cmp grammar.now.nonterminals) }
 {
     let mut names = Vec::new(alloc);
@@ -72,6 +75,7 @@ pub fn ordered(alloc: Global, grammar: &Grammar) -> NormResult<Vec<NonterminalSt
     ensures rising { OnOk result (IsOrdered name_cmp grammar.now.nonterminals) }
     ensures acyclic { OnOk result ((a : NonterminalString) → IsOnRing grammar.now a → ⊥) }
     ensures refused { IfErr result (IsCycleOf grammar.now) }
+    ensures met { IfErr result (NamesBy (IsComeBackTo grammar.now)) }
 {
     let names = marked(alloc, grammar)?;
     let pending = set_of(alloc, &names)?;

@@ -266,6 +266,7 @@ impl<'graph, 'grammar> PathEnumerator<'graph, 'grammar> {
             return Some(Err(OutOfMemory));
         }
         if !self.found_trace() {
+            self.stop();
             return None;
         }
         let example = self.example(self.alloc);

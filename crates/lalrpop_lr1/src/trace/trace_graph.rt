@@ -22,6 +22,7 @@ use lalrpop_base::memory::OutOfMemory;
 use lalrpop_base::repr::NonterminalString;
 use std::alloc::Global;
 use std::collections::BTreeMap;
+use std::fmt;
 use std::marker::Model;
 
 /// The number of a node, by its first appearance.
@@ -55,6 +56,13 @@ impl<'grammar> Model for TraceGraph<'grammar> {
 
     ghost invariant = { λ g. IsKept g.indices (by_number g.indices.entries) g.edges.items
         g.incoming };
+}
+
+/// Prints the edges, in the order of their numbers.
+impl<'grammar> fmt::Debug for TraceGraph<'grammar> {
+    fn fmt<W: fmt::Write>(&self, f: &mut fmt::Formatter<W>) -> fmt::Result {
+        write!(f, "{:?}", self.edges)
+    }
 }
 
 impl<'grammar> TraceGraph<'grammar> {

@@ -8,6 +8,7 @@ pub mod LaneAsked
 pub mod LaneTraces
 pub mod LaneTracing
 pub mod LanesTaken
+pub mod OwnItems
 pub mod SomeOf
 pub mod Unepsilon
 pub mod Unshifting

@@ -1,5 +1,5 @@
 -- What a construction of LR(1) tables answers for a grammar and a start symbol: tables, or states with their conflicts (Knuth 1965; DeRemer and Pennello 1982 for LALR(1)).
-use Rattle.std.specs.Prelude.{◌≡◌, ◌⊎◌, ℕ, ◌<◌, List, length}
+use Rattle.std.specs.Prelude.{◌≡◌, ◌⊎◌, ℕ, ◌<◌, ◌-◌, ◌^◌, nat_lt, cond, List, length}
 use Rattle.lalrpop_base.specs.Words.{Bits, AreCoherent, contents, IfConflicts, IsOnNoRightSide, AreFaithful, IsLR1, IsLALR1, productions, rules_of}
 use Rattle.lalrpop_base.specs.Words.{AreSomeCanonicalStates, StopsAfter, AreStatesOf, AreTables, canonical_of, AreCanonicalStates, AreOrderedCanonical}
 use Rattle.lalrpop_base.specs.Words.{FailByCanonicalConflicts, AreAllConflicts}
@@ -71,9 +71,13 @@ pub record LacksTables (g : Grammar) (start : NonterminalString) (states : List 
   pub all : AreAllConflicts g.terminals states listed
   pub conflicts : FailByCanonicalConflicts g start states listed
 
--- how many conflicts the canonical states have of a grammar for which there are no tables
+-- a number, or the greatest of 64 bits if it is greater
+abbrev pub up_to_greatest : ℕ → ℕ
+up_to_greatest n = cond (nat_lt n (2 ^ 64)) n (2 ^ 64 - 1)
+
+-- how many conflicts the canonical states have of a grammar for which there are no tables, or the greatest number of 64 bits if they have more
 pub record IsConflictCount (g : Grammar) (start : NonterminalString) (n : ℕ) : Type 0 where
   pub states : List (State Bits)
   pub listed : List (Conflict Bits)
   pub lacks : LacksTables g start states listed
-  pub counted : n ≡ length listed
+  pub counted : n ≡ up_to_greatest (length listed)

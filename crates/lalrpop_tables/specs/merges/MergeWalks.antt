@@ -2,7 +2,7 @@
 use Rattle.std.specs.Prelude.{◌≡◌, ◌≤◌, ◌⊎◌, ◌+◌, ◌*◌, ℕ, List, length, map, slice_get, Some, Contains}
 use Rattle.lalrpop_base.specs.declared.lr1_core.state.StateIndex.{StateIndex}
 use Rattle.lalrpop_tables.specs.lane_tables.LaneTables.{IsSuccessor}
-use Rattle.lalrpop_tables.specs.merges.Merges.{Advances, IsJoinedCopy, IsVisited, IsWalked, LeadsTo, index, unvisited}
+use Rattle.lalrpop_tables.specs.merges.Merges.{Advances, IsJoinedCopy, IsLedTo, IsVisited, IsWalked, LeadsTo, index, unvisited}
 use Rattle.lalrpop_tables.specs.declared.lane_table.construct.merge.Merge.{Merge}
 use Rattle.lalrpop_tables.specs.declared.lane_table.construct.merge.walk.Join.{Join}
 
@@ -19,9 +19,9 @@ pub record IsJoin (merge : Merge) (join : Join) : Type 0 where
   pub walked : IsWalked merge join.state
   pub leads : LeadsTo merge join.state join.successor
 
--- the state of a join was joined to a copy of the successor, and the walk went on from this copy
+-- the state of a join was joined to a copy of the successor, to which its edges were led, and the walk went on from this copy
 abbrev pub IsJoinMade : Merge → Join → Type 0
-IsJoinMade merge join = (copy : StateIndex) × IsJoinedCopy join.state join.successor copy merge × IsVisited merge copy.0
+IsJoinMade merge join = (copy : StateIndex) × IsJoinedCopy join.state join.successor copy merge × IsVisited merge copy.0 × IsLedTo merge join.state join.successor copy
 
 -- the join of the state to each successor of its original was made, or is pending
 pub record HasJoinedBut (pending : List Join) (merge : Merge) (n : ℕ) : Type 0 where

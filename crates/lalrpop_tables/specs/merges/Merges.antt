@@ -1,5 +1,5 @@
 -- States of a lane table joined into sets whose tokens agree, and copies of those that do not (Pager 1977, "A practical general method for constructing LR(k) parsers").
-use Rattle.std.specs.Prelude.{◌≡◌, ◌≤◌, ◌<◌, ◌+◌, ◌⊎◌, ◌==◌, ◌++◌, ◌∷◌, ℕ, cond, Bool, true, false, List, [], length, map, slice_get, Option, None, Some}
+use Rattle.std.specs.Prelude.{◌≡◌, ◌≤◌, ◌<◌, ◌+◌, ◌⊎◌, ◌==◌, ◌++◌, ◌∷◌, ℕ, cond, Bool, true, false, List, [], length, map, slice_get, Option, None, Some, Contains}
 use Rattle.std.specs.Borrow.{Bor}
 use Rattle.lalrpop_base.specs.Words.{Bits, has, AreCoherent, AreAmong, AreDisjoint, HasAt, IsApplied, MeetInUnion, number_in, retargeted_all}
 use Rattle.lalrpop_base.specs.declared.lr1_core.state.Action.{Action}
@@ -51,7 +51,7 @@ pub record IsContext (table : LaneTable) (columns : List Bits) : Type 0 where
   pub tokens : (k bit : ℕ) → HasAt columns k bit → InColumn table k bit
 
 -- ---- the merging
--- what the calls keep: the states are copies; each state that the table names is its own original, and the successors have rows; no row overlaps; the tokens of each set are apart; each copy of a state with a row has a set
+-- what the calls keep: the states are copies; each state that the table names is its own original, and the successors have rows; no row overlaps; the tokens of each set are apart; each copy of a state with a row has a set; each state before the first copy is its own original
 pub record IsMerging (merge : Merge) : Type 0 where
   pub handed : List (State Bits)
   pub copies : AreCopies false handed merge.originals.items merge.states.items
@@ -62,6 +62,7 @@ pub record IsMerging (merge : Merge) : Type 0 where
   pub contexts : (k : ℕ) (columns : List Bits) → slice_get merge.context_sets.contexts.items k ≡ Some columns → IsContext merge.table.now columns
   pub sets : (n o : ℕ) → slice_get merge.originals.items n ≡ Some o → HasRow merge.table.now (index o) → HasSet merge.context_sets (index n)
   pub start : HasRow merge.table.now merge.inconsistent_state
+  pub first : (n : ℕ) → n < merge.first_copy → slice_get merge.originals.items n ≡ Some n
 
 -- the state is one of the list, and a copy of a state with a row
 pub record IsWalked (merge : Merge) (state : StateIndex) : Type 0 where
@@ -77,7 +78,15 @@ IsVisited merge n = slice_get merge.visited.items n ≡ Some true
 abbrev pub HaveNoNewMarks : Merge → Merge → Type 0
 HaveNoNewMarks old new = (n : ℕ) → IsVisited new n → IsVisited old n
 
--- what a call changes: copies are made, each of which counts, and numbers, sets and marks are kept
+-- an edge of the list leads to the state with the number
+abbrev pub HasTarget : {K : Type 0} → List (K × StateIndex) → ℕ → Type 0
+HasTarget {K} entries m = (k : ℕ) × (entry : K × StateIndex) × (slice_get entries k ≡ Some entry) × (entry.1.0 ≡ m)
+
+-- a shift or a goto of state n leads to state m
+abbrev pub HasEdge : List (State Bits) → ℕ → ℕ → Type 0
+HasEdge states n m = (state : State Bits) × (slice_get states n ≡ Some state) × (HasTarget state.shifts.entries m ⊎ HasTarget state.gotos.entries m)
+
+-- what a call changes: copies are made, each of which counts, and numbers, sets and marks are kept; no edge comes to lead to a state that is its own original
 pub record Advances (old new : Merge) : Type 0 where
   pub ready : IsMerging new
   pub table : new.table ≡ old.table
@@ -88,6 +97,7 @@ pub record Advances (old new : Merge) : Type 0 where
   pub copies : (exact : Bool) (handed : List (State Bits)) → AreCopies exact handed old.originals.items old.states.items → AreCopies exact handed new.originals.items new.states.items
   pub sets : (n m : ℕ) → n < length old.states.items → m < length old.states.items → set_of old.context_sets (index n) ≡ set_of old.context_sets (index m) → set_of new.context_sets (index n) ≡ set_of new.context_sets (index m)
   pub marks : (n : ℕ) → IsVisited old n → IsVisited new n
+  pub edges : (n m : ℕ) → n < length old.states.items → slice_get old.originals.items m ≡ Some m → HasEdge new.states.items n m → HasEdge old.states.items n m
 
 -- how many of the marks are not set
 abbrev pub unset : List Bool → ℕ
@@ -109,15 +119,24 @@ pub record IsJoinedCopy (state successor copy : StateIndex) (merge : Merge) : Ty
   pub original : slice_get merge.originals.items copy.0 ≡ Some successor.0
   pub together : set_of merge.context_sets state ≡ set_of merge.context_sets copy
 
--- the state was joined to a copy of each successor of its original, from which was walked on
+-- no edge of the state leads to the successor, unless that is the copy to which the state was joined
+abbrev pub IsLedTo : Merge → StateIndex → StateIndex → StateIndex → Type 0
+IsLedTo merge state successor copy = (copy ≡ successor → ⊥) → ¬ HasEdge merge.states.items state.0 successor.0
+
+-- the state was joined to a copy of each successor of its original, from which was walked on, and to which its edges were led
 pub record HasJoined (merge : Merge) (n : ℕ) : Type 0 where
   pub original : ℕ
   pub there : slice_get merge.originals.items n ≡ Some original
-  pub joined : (right : StateIndex) → IsSuccessor merge.table.now (index original) right → (copy : StateIndex) × IsJoinedCopy (index n) right copy merge × IsVisited merge copy.0
+  pub joined : (right : StateIndex) → IsSuccessor merge.table.now (index original) right → (copy : StateIndex) × IsJoinedCopy (index n) right copy merge × IsVisited merge copy.0 × IsLedTo merge (index n) right copy
 
 -- the state was walked from, and each state newly walked from was joined to its successors
 pub record HasWalked (state : StateIndex) (old new : Merge) : Type 0 where
   pub there : IsVisited new state.0
+  pub joined : (n : ℕ) → IsVisited new n → IsVisited old n ⊎ HasJoined new n
+
+-- each of the states was walked from, and each state newly walked from was joined to its successors
+pub record HaveWalked (states : List StateIndex) (old new : Merge) : Type 0 where
+  pub there : (state : StateIndex) → Contains states state → IsVisited new state.0
   pub joined : (n : ℕ) → IsVisited new n → IsVisited old n ⊎ HasJoined new n
 
 -- the targets of a state that were the one number are the other
@@ -129,6 +148,29 @@ pub record IsRelinked (n old new : ℕ) (before after : List (State Bits)) : Typ
   pub others : (k : ℕ) → (k ≡ n → ⊥) → slice_get after k ≡ slice_get before k
   pub shifts : target.shifts.entries ≡ retargeted_all (replaced old new) source.shifts.entries
   pub gotos : target.gotos.entries ≡ retargeted_all (replaced old new) source.gotos.entries
+
+-- the edges of the state that led to the successor lead to the copy, its other edges lead where they led, and each other state stays
+pub record IsLinked (state successor copy : ℕ) (before after : List (State Bits)) : Type 0 where
+  pub source : State Bits
+  pub target : State Bits
+  pub was : slice_get before state ≡ Some source
+  pub is : slice_get after state ≡ Some target
+  pub others : (k : ℕ) (other : State Bits) → (k ≡ state → ⊥) → slice_get before k ≡ Some other → slice_get after k ≡ Some other
+  pub shifts : target.shifts.entries ≡ retargeted_all (replaced successor copy) source.shifts.entries
+  pub gotos : target.gotos.entries ≡ retargeted_all (replaced successor copy) source.gotos.entries
+
+-- each state stays, and others may stand after them
+abbrev pub KeepsStates : Merge → Merge → Type 0
+KeepsStates old new = (n : ℕ) (state : State Bits) → slice_get old.states.items n ≡ Some state → slice_get new.states.items n ≡ Some state
+
+-- if state n is a copy of the successor, and not the successor itself, the tokens of the two sets meet
+abbrev pub CannotJoin : Merge → StateIndex → StateIndex → ℕ → Type 0
+CannotJoin merge state successor n = slice_get merge.originals.items n ≡ Some successor.0 → (n ≡ successor.0 → ⊥) → MeetInUnion (context_of merge.context_sets state) (context_of merge.context_sets (index n))
+
+-- if there is none, no copy of the successor can be joined, and nothing changed
+abbrev pub IsApartIfNone : StateIndex → StateIndex → Merge → Merge → Option StateIndex → Type 0
+IsApartIfNone state successor old new None = ((n : ℕ) → CannotJoin old state successor n) × (new ≡ old)
+IsApartIfNone state successor old new (Some copy) = Unit {0}
 
 -- there is no copy, or such a one
 abbrev pub IsJoinedIfAny : StateIndex → StateIndex → Merge → Option StateIndex → Type 0
@@ -155,6 +197,18 @@ IsMergeError merge (Apart left right) = IsApart merge.table.now left right
 IsMergeError merge CopyLimit = (merge.copies_left ≡ 0) × ColumnsOverlap merge.table.now
 IsMergeError merge Memory = Unit {0}
 
+-- the copy limit is reported only if no copy is left
+abbrev pub IsLimit : Merge → MergeError → Type 0
+IsLimit merge (Apart left right) = Unit {0}
+IsLimit merge CopyLimit = merge.copies_left ≡ 0
+IsLimit merge Memory = Unit {0}
+
+-- a join is refused only if no copy of the successor can be joined; an allocation failure says nothing
+abbrev pub IsRefusedJoin : Merge → StateIndex → StateIndex → MergeError → Type 0
+IsRefusedJoin merge state successor (Apart left right) = (n : ℕ) → CannotJoin merge state successor n
+IsRefusedJoin merge state successor CopyLimit = (n : ℕ) → CannotJoin merge state successor n
+IsRefusedJoin merge state successor Memory = Unit {0}
+
 -- ---- a copy
 -- a copy of a state, and the number of its original, stand behind the others
 pub record IsPushed (copy : State Bits) (original : ℕ) (old new : Merge) : Type 0 where
@@ -165,6 +219,7 @@ pub record IsPushed (copy : State Bits) (original : ℕ) (old new : Merge) : Typ
   pub originals : new.originals.items ≡ old.originals.items ++ original ∷ []
   pub visited : new.visited.items ≡ old.visited.items ++ false ∷ []
   pub left : new.copies_left + 1 ≡ old.copies_left
+  pub first : new.first_copy ≡ old.first_copy
 
 -- no copy was made
 pub record IsLonger (old new : Merge) : Type 0 where
@@ -175,6 +230,7 @@ pub record IsLonger (old new : Merge) : Type 0 where
   pub originals : new.originals.items ≡ old.originals.items
   pub visited : (new.visited.items ≡ old.visited.items) ⊎ (new.visited.items ≡ old.visited.items ++ false ∷ [])
   pub left : new.copies_left ≡ old.copies_left
+  pub first : new.first_copy ≡ old.first_copy
 
 -- the copy of a state is new, its tokens are those of the state's row, and nothing but it is still to be visited in the place of a copy that was left
 pub record IsFresh (state copy : StateIndex) (old new : Merge) : Type 0 where

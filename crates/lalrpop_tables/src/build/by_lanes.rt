@@ -12,9 +12,8 @@ use crate::lane_table::construct::LaneTableConstruct;
 use lalrpop_base::lookahead::nil::Nil;
 use lalrpop_base::lr1_core::state::Lr1State;
 use lalrpop_base::memory::OutOfMemory;
-use lalrpop_base::repr::NonterminalString;
-use lalrpop_base::repr::augment::is_on_no_right_side;
 use lalrpop_base::repr::grammar::Grammar;
+use lalrpop_base::repr::{NonterminalString, is_on_no_right_side};
 use std::alloc::Global;
 
 /// The tables of a grammar by the lane way, where the method asks for it, and there are lane tables

@@ -50,7 +50,7 @@ pub fn build_canonical_states<'grammar>(
 }
 
 /// The canonical states of a grammar by their construction numbers, or how many conflicts they
-/// have. A number of conflicts above the greatest `usize` is answered as want of memory.
+/// have. The greatest `usize` stands for a number of conflicts above it.
 pub fn canonical_states_or_count<'grammar>(
     alloc: Global,
     grammar: &'grammar Grammar,
@@ -65,5 +65,5 @@ pub fn canonical_states_or_count<'grammar>(
     let _terminals = grammar.terminals.all();
     let canonical = canonical_construction(alloc, grammar, lr)?;
     let states = all_states(alloc, &canonical)?;
-    tables_or_count(states, &grammar.terminals)
+    Ok(tables_or_count(states, &grammar.terminals))
 }

@@ -3,6 +3,7 @@ ghost use Rattle.std.specs.Prelude.{◌≡◌, ◌<◌, [], IfOk, OnOk, IfErr, �
 ghost use Rattle.std.specs.List.{flat_map};
 ghost use Rattle.lalrpop_base.specs.Words.{state_conflicts, FailWith, HaveNoConflict};
 ghost use Rattle.lalrpop_base.specs.declared.lr1_core.state.Conflict.{Conflict};
+ghost use Rattle.lalrpop_tables.specs.answers.Lr1Answers.{up_to_greatest};
 ghost use Rattle.lalrpop_tables.specs.answers.TablesOrCount.{MatchTablesOrCount};
 
 use super::lr::Lr;
@@ -47,23 +48,32 @@ pub fn tables_or_conflicts<'grammar, L: Lookahead>(
     Err(BuildError::Conflicts(TableConstructionError { states, conflicts }))
 }
 
-/// The states, as tables where they have no conflict, else the number of their conflicts. A number
-/// above the greatest `usize` is answered as want of memory: no list of so many could be had.
-#[tactic(auto, using(std::proofs::lemmas::List::nil_from_length, lalrpop_base::proofs::theory::conflicts::GrownConflicts::free_states))]
+// How many conflicts the states have, or the greatest `usize` if they have more.
+fn count_conflicts<'grammar>(states: &[Lr1State<'grammar>], terminals: &TerminalSet) -> usize
+    ensures { result ≡ up_to_greatest
+        (length (flat_map (state_conflicts terminals.now) states.now)) }
+{
+    match conflict_count_of(states, terminals) {
+        Some(count) => count,
+        None => usize::MAX,
+    }
+}
+
+/// The states, as tables where they have no conflict, else the number of their conflicts, or the
+/// greatest `usize` if they have more.
+#[tactic(auto, using(crate::proofs::theory::answers::Counts::nil_from_greatest, lalrpop_base::proofs::theory::conflicts::GrownConflicts::free_states))]
 pub fn tables_or_count<'grammar>(
     states: Vec<Lr1State<'grammar>>,
     terminals: &TerminalSet,
-) -> Result<TablesOrCount<'grammar>, OutOfMemory>
-    ensures { IfOk result (MatchTablesOrCount
+) -> TablesOrCount<'grammar>
+    ensures { MatchTablesOrCount
         (λ tables. (tables ≡ states.entry.items) × HaveNoConflict terminals.now tables)
-        (λ n. (0 < n) ×
-        (n ≡ length (flat_map (state_conflicts terminals.now) states.entry.items)))) }
+        (λ n. (0 < n) × (n ≡ up_to_greatest
+        (length (flat_map (state_conflicts terminals.now) states.entry.items)))) result }
 {
-    let Some(count) = conflict_count_of(&states, terminals) else {
-        return Err(OutOfMemory);
-    };
+    let count = count_conflicts(&states, terminals);
     if count > 0 {
-        return Ok(TablesOrCount::Conflicts(count));
+        return TablesOrCount::Conflicts(count);
     }
-    Ok(TablesOrCount::Tables(states))
+    TablesOrCount::Tables(states)
 }

@@ -6,6 +6,7 @@ use lalrpop_base::lr1_core::state::Lr1State;
 pub enum TablesOrCount<'grammar> {
     /// The states of the tables.
     Tables(Vec<Lr1State<'grammar>>),
-    /// How many conflicts the canonical states have, where there are no tables; at least 1.
+    /// How many conflicts the canonical states have, where there are no tables: at least 1, and
+    /// at most the greatest `usize`.
     Conflicts(usize),
 }

@@ -3,6 +3,8 @@ use Rattle.lalrpop_lr1.proofs.Types.{NonterminalString}
 use Rattle.lalrpop_lr1.specs.Words.{IsMarked, IsInlineOrder, view_of, inlined_by, IsRefusalOf}
 use Rattle.lalrpop_lr1.proofs.theory.inlining.InlineStages.{first_stage, one_inlined, inlined_past, all_inlined, refusal_past, inlined_well_formed, inlined_unmentioned, inlined_lists, inlined_kept, inlined_laid_out}
 use Rattle.lalrpop_lr1.proofs.theory.inlining.InlineUsers.{first_mentioned, stage_on, mentioned_on, next_covered, stage_ordered}
+use Rattle.lalrpop_lr1.specs.Words.{IsComeBackTo}
+use Rattle.lalrpop_lr1.proofs.theory.inlining.InlineMeetings.{past_named}
 use Rattle.lalrpop_lr1.proofs.inline.inline.Goals as goal
 
 pub loop-name-init : goal.loop-name-init
@@ -91,3 +93,8 @@ returns-clause-laid_out c =
     let order : List NonterminalString = c.deref-name-items.result.now in
     inlined_laid_out c.args.grammar c.loop-name.inlined order c.in_ok-order.ensures.rising c.requires (subst (IsInlineOrder c.args.grammar) (sym c.deref-name-items.ensures.value) c.in_ok-order.ensures.order)
     (all_inlined order c.loop-name.name-index (view_of c.loop-name.inlined) (inlined_by order (view_of c.args.grammar)) (omega (arith, c.loop-name-test.false)) c.loop-name.invariant.view)
+
+pub returns-in_err-inlined-clause-met : goal.returns-in_err-inlined-clause-met
+returns-in_err-inlined-clause-met c =
+    let step = past_named (IsComeBackTo c.args.grammar) _ c.in_err-inlined.field-0.0 c.in_err-inlined.ensures.err in
+    search (rules, step)

@@ -73,7 +73,7 @@ module _ (g : Grammar) where
       ]
 
   -- what is marked, and where the walk neither is nor is to come, was left
-  marked_left : (w : Walk) (c : NonterminalString) → IsWalk g w → contains name_cmp w.pending c ≡ false → contains name_cmp w.visiting c ≡ false → IsMarked g c → Contains w.order.items c
+  pub marked_left : (w : Walk) (c : NonterminalString) → IsWalk g w → contains name_cmp w.pending c ≡ false → contains name_cmp w.visiting c ≡ false → IsMarked g c → Contains w.order.items c
   marked_left w c is pending visiting marked = go ((is.marked c).0 marked)
     where
       go : (contains name_cmp w.pending c ≡ true) ⊎ (contains name_cmp w.visiting c ≡ true) ⊎ Contains w.order.items c → Contains w.order.items c

@@ -1,11 +1,12 @@
 //! A depth first walk along what marked nonterminals mention, with its own stack.
-ghost use Rattle.std.specs.Prelude.{◌≡◌, ◌≤◌, ◌+◌, ◌*◌, ◌++◌, [], ◌∷◌, true, false, None, Some, reverse, IfOk, OnOk, IfErr, Contains, length};
+ghost use Rattle.std.specs.Prelude.{◌≡◌, ◌≤◌, ◌+◌, ◌*◌, ◌++◌, [], ◌∷◌, true, false, List, None, Some, reverse, IfOk, OnOk, IfErr, Contains, length};
 ghost use Rattle.std.specs.BTreeMap.{get};
 ghost use Rattle.std.specs.List.{flat_map};
 ghost use Rattle.std.specs.BTreeSet.{contains};
 ghost use Rattle.lalrpop_base.specs.Words.{name_cmp};
 ghost use Rattle.lalrpop_base.specs.declared.repr.NonterminalString.{NonterminalString};
 ghost use Rattle.lalrpop_lr1.specs.inlining.InlineOrder.{IsMarked, IsCycleOf, HasSpan};
+ghost use Rattle.lalrpop_lr1.specs.inlining.InlineMeetings.{ComesBack, ComesBackFrom, GoesPast, IsInside, IsMetName, IsNewest, LeadsBack, NamesBy, with_next};
 ghost use Rattle.lalrpop_lr1.specs.inlining.InlineWalks.{mentioned_in, names_of, IsWalk, IsFrame, HasFrames, HasNext, IsWalked, LeadTo};
 
 use lalrpop_base::memory::OutOfMemory;
@@ -78,6 +79,7 @@ fn meet(alloc: Global, grammar: &Grammar, name: &NonterminalString, walk: &Walk)
     ensures left { OnOk result (contains name_cmp walk.now.visiting name.now ≡ false) }
     ensures refused { IfErr result
         (λ e. LeadTo grammar.now walk.now name.now → IsCycleOf grammar.now e) }
+    ensures met { IfErr result (NamesBy (IsMetName walk.now name.now)) }
 {
     if walk.visiting.contains(name) {
         return Err(NormError::Cycle {
@@ -103,7 +105,14 @@ fn next_pending(
         LeadTo grammar.now walk.now c }
     ensures name { frame.new.name ≡ frame.old.name }
     ensures next { IfOk result (HasNext grammar.now walk.now frame.new) }
+    ensures past { IfOk result (λ next. (path : List NonterminalString) →
+        IsInside walk.now path →
+        GoesPast grammar.now path walk.now.order.items (reverse frame.old.others.items)
+        (with_next next (reverse frame.new.others.items))) }
     ensures refused { IfErr result (IsCycleOf grammar.now) }
+    ensures met { IfErr result (NamesBy (λ name. (path : List NonterminalString) →
+        IsInside walk.now path →
+        ComesBack grammar.now path (reverse frame.old.others.items) walk.now.order.items name)) }
 {
     while let Some(other) = frame.others.pop() {
         if walk.pending.contains(&other) {
@@ -130,6 +139,9 @@ fn enter(
     ensures taken { contains name_cmp walk.new.pending name ≡ false }
     ensures fewer { length walk.new.pending.keys + 1 ≡ length walk.old.pending.keys }
     ensures more { OnOk result (length frames.new.items ≡ length frames.old.items + 1) }
+    ensures newest { OnOk result
+        (IsNewest grammar.now name (reverse frames.old.items) (reverse frames.new.items)) }
+    ensures order { OnOk result (walk.new.order.items ≡ walk.old.order.items) }
 {
     walk.pending.remove(&name);
     walk.visiting.insert(name.clone(alloc)?)?;
@@ -153,7 +165,12 @@ fn step(
         (IsWalked grammar.now walk.old walk.new (reverse frames.new.items)) }
     ensures falls { OnOk result (2 * length walk.new.pending.keys + length frames.new.items ≤
         2 * length walk.old.pending.keys + length frames.old.items) }
+    ensures back { OnOk result (LeadsBack grammar.now (frame ∷ reverse frames.old.items)
+        walk.old.order.items (reverse frames.new.items) walk.new.order.items) }
     ensures refused { IfErr result (IsCycleOf grammar.now) }
+    ensures met { IfErr result (NamesBy (λ name. (rest : List NonterminalString) →
+        ComesBackFrom grammar.now rest (frame ∷ reverse frames.old.items) walk.old.order.items
+        name)) }
 {
     if let Some(name) = next_pending(alloc, grammar, walk, &mut frame)? {
         frames.push(frame)?;
@@ -176,7 +193,13 @@ pub(super) fn walk_from(
     requires outside { HasFrames grammar.now walk.now None [] }
     ensures walked { OnOk result (IsWalked grammar.now walk.old walk.new []) }
     ensures left { OnOk result (contains name_cmp walk.new.pending name.now ≡ false) }
+    ensures back { OnOk result ((rest : List NonterminalString) →
+        (b : NonterminalString) →
+        ComesBack grammar.now [] rest walk.new.order.items b →
+        ComesBack grammar.now [] (name.now ∷ rest) walk.old.order.items b) }
     ensures refused { IfErr result (IsCycleOf grammar.now) }
+    ensures met { IfErr result (NamesBy (λ b. (rest : List NonterminalString) →
+        ComesBack grammar.now [] (name.now ∷ rest) walk.old.order.items b)) }
 {
     if !walk.pending.contains(name) {
         return Ok(());

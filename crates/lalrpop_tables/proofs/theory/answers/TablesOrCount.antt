@@ -1,10 +1,10 @@
 -- Tables, or the number of conflicts: what is answered of states whose conflicts were counted, by either method, and under other numbers.
-use Rattle.std.proofs.Common.{◌≡◌, ◌≢◌, ℕ, ◌<◌, List, [], length, refl, sym, ap, subst, arith}
+use Rattle.std.proofs.Common.{◌≡◌, ◌≢◌, ℕ, ◌<◌, List, [], length, refl, sym, ◌∙◌, ap, subst, arith}
 use Rattle.std.specs.List.{flat_map}
 use Rattle.lalrpop_base.specs.Words.{AllDiffer, Bits, IsLALR1, IsOnNoRightSide, IsWellFormed, productions, rules_of, state_conflicts, AreOwn, Begins, HaveNoConflict}
 use Rattle.lalrpop_tables.proofs.Types.{Conflict, Grammar, NonterminalString, State}
 use Rattle.lalrpop_base.specs.closures.Closure.{itself}
-use Rattle.lalrpop_tables.specs.Words.{AreBuiltTablesOrCount, AreLaneTables, MatchTablesOrCount}
+use Rattle.lalrpop_tables.specs.Words.{AreBuiltTablesOrCount, AreLaneTables, MatchTablesOrCount, up_to_greatest}
 use Rattle.lalrpop_base.specs.Words.{AreStatesFor, AreStatesOf, canonical_of}
 use Rattle.lalrpop_tables.specs.declared.build.options.Method.{Method}
 use Rattle.lalrpop_tables.specs.declared.build.options.Method.TheVariants.{Canonical, Lane}
@@ -19,13 +19,13 @@ module _ (g : Grammar) (start : NonterminalString) (well : IsWellFormed g) (own 
   abbrev listed : List (Conflict Bits)
   listed = flat_map (state_conflicts g.terminals) states
 
-  some : (n : ℕ) → 0 < n → n ≡ length listed → listed ≢ []
-  some n more counted none = let l : length listed ≡ 0 = ap length none in absurd (omega arith)
+  some : (n : ℕ) → 0 < n → n ≡ up_to_greatest (length listed) → listed ≢ []
+  some n more counted none = let l : n ≡ 0 = counted ∙ ap (λ xs. up_to_greatest (length xs)) none in absurd (omega (arith, more, l))
 
   of : AreStatesOf (canonical_of g start) states
   of = states_of (canonical_of g start) states made
 
-  pub Canonical-counted : (answer : TablesOrCount) → MatchTablesOrCount (λ tables. (tables ≡ states) × HaveNoConflict g.terminals tables) (λ n. (0 < n) × (n ≡ length listed)) answer → AreBuiltTablesOrCount Canonical 0 g start answer
+  pub Canonical-counted : (answer : TablesOrCount) → MatchTablesOrCount (λ tables. (tables ≡ states) × HaveNoConflict g.terminals tables) (λ n. (0 < n) × (n ≡ up_to_greatest (length listed))) answer → AreBuiltTablesOrCount Canonical 0 g start answer
   Canonical-counted (Tables tables) h = Canonical-tables g start well own differ tables.items (record { made = subst (AreStatesOf (canonical_of g start)) (sym h.0) of; free = h.1 })
   Canonical-counted (Conflicts n) h = record {
     states = states;

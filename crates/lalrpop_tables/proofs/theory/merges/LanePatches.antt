@@ -104,6 +104,7 @@ module _ (actions : List Action) (old : Merge) where
       contexts = ready.contexts;
       sets = ready.sets;
       start = ready.start;
+      first = ready.first;
     })
 
     now_originals : now.originals.items ≡ old.originals.items

@@ -12,15 +12,23 @@ use Rattle.std.proofs.lemmas.Nat.{mul-le}
 use Rattle.std.proofs.lemmas.Option.{slice_get_within}
 use Rattle.lalrpop_tables.proofs.Types.{StateIndex}
 use Rattle.lalrpop_base.proofs.theory.states.ContentsViews.{contains_of_map}
-use Rattle.lalrpop_tables.specs.Words.{Advances, HasWalked, HaveNoNewMarks, IsJoinedCopy, IsMerging, IsSuccessor, IsVisited, IsWalked, index, state_cmp, unvisited}
+use Rattle.lalrpop_tables.specs.Words.{Advances, HasJoined, HasWalked, HaveNoNewMarks, HaveWalked, IsJoinedCopy, IsLinked, IsMerging, IsSuccessor, IsVisited, IsWalked, index, state_cmp, unvisited}
 use Rattle.lalrpop_tables.specs.Words.{ComesTo, HasJoinedBut, IsJoin, IsJoinMade, IsMergeWalk, join_to, joins_to, most_joins}
 use Rattle.lalrpop_tables.specs.declared.lane_table.construct.merge.Merge.{Merge}
 use Rattle.lalrpop_tables.specs.declared.lane_table.construct.merge.walk.Join.{Join}
 use Rattle.lalrpop_tables.specs.declared.lane_table.table.LaneTable.{LaneTable}
 use Rattle.lalrpop_base.proofs.theory.lists.Members.{contains_map, Contains-none, Contains-range, Contains-reverse, Contains-from_reverse, apart-from_sorted, pigeonhole}
-use Rattle.lalrpop_tables.proofs.theory.merges.Merges.{advances_on, copy_on, leads_on, mark_advance, mark_cases, mark_less, mark_there, marked, walked_on}
+use Rattle.lalrpop_tables.proofs.theory.merges.Merges.{advances_on, copy_on, leads_on, led_on, mark_advance, mark_cases, mark_less, mark_there, marked, successor_own, walked_on}
 use Rattle.lalrpop_base.proofs.theory.lists.Places.{same_some}
+use Rattle.lalrpop_tables.proofs.theory.merges.LinkedStates.{linked_led}
 use Rattle.lalrpop_tables.proofs.theory.graphs.StateGraphs.{state_total}
+
+-- ---- what was joined stays so
+module _ (now new : Merge) (ready : IsMerging now) (a : Advances now new) (n original : ℕ) (right : StateIndex) (there : slice_get now.originals.items n ≡ Some original) (e : IsSuccessor now.table.now (index original) right) where
+  pub done_on : IsJoinMade now (join_to (index n) right) → IsJoinMade new (join_to (index n) right)
+  done_on done =
+      let row = ready.closed (index original) right e in
+      (done.0, copy_on now new ready a n original right done.0 there done.1, a.marks done.0.0 done.2, led_on now new ready a n original right done.0 there (ready.rows right row) done.3)
 
 -- ---- a step of a walk
 module _ (old now new : Merge) (rest after : List Join) (w : IsMergeWalk old now rest) (a : Advances now new) where
@@ -38,7 +46,9 @@ module _ (old now new : Merge) (rest after : List Join) (w : IsMergeWalk old now
       there = a.originals n h.original h.there;
       joined = λ right e. elim (h.joined right (subst (λ (t : Bor LaneTable). IsSuccessor t.now (index h.original) right) a.table e)) [
         | inl pending ↦ made (join_to (index n) right) pending
-        | inr done ↦ inr (done.0, copy_on now new ready a n h.original right done.0 h.there done.1, a.marks done.0.0 done.2)
+        | inr done ↦
+            let was : IsSuccessor now.table.now (index h.original) right = subst (λ (t : Bor LaneTable). IsSuccessor t.now (index h.original) right) a.table e in
+            inr (done_on now new ready a n h.original right h.there was done)
       ];
     }
 
@@ -67,11 +77,13 @@ pub last_join : (old now : Merge) (join : Join) (pending before : List Join) →
 last_join old now join pending before w split = w.joins join (subst (λ (l : List Join). Contains l join) (sym split) (Contains-push before join))
 
 -- it is made, and its copy is come to
-pub walk_joins : (old now mid new : Merge) (join : Join) (copy : StateIndex) (pending before after : List Join) → IsMergeWalk old now pending → pending ≡ before ++ join ∷ [] → Advances now mid → HaveNoNewMarks now mid → unvisited mid ≤ unvisited now → IsJoinedCopy join.state join.successor copy mid →
+pub walk_joins : (old now mid new : Merge) (join : Join) (copy : StateIndex) (pending before after : List Join) → IsMergeWalk old now pending → pending ≡ before ++ join ∷ [] → Advances now mid → HaveNoNewMarks now mid → unvisited mid ≤ unvisited now → IsJoinedCopy join.state join.successor copy mid → IsLinked join.state.0 join.successor.0 copy.0 now.states.items mid.states.items →
     Advances mid new → unvisited new ≤ unvisited mid → ComesTo copy mid new before after → IsMergeWalk old new after
-walk_joins old now mid new join copy pending before after w split a marks less is b fewer c =
+walk_joins old now mid new join copy pending before after w split a marks less is link b fewer c =
     let walked = walked_on now mid a join.state (last_join old now join pending before w split).walked in
-    let done : IsJoinMade new join = (copy, copy_on mid new a.ready b join.state.0 walked.original join.successor copy walked.there is, c.there) in
+    let can = last_join old now join pending before w split in
+    let own : slice_get mid.originals.items join.successor.0 ≡ Some join.successor.0 = a.originals join.successor.0 join.successor.0 (successor_own now w.advances.ready join.state join.successor can.walked can.leads) in
+    let done : IsJoinMade new join = (copy, copy_on mid new a.ready b join.state.0 walked.original join.successor copy walked.there is, c.there, led_on mid new a.ready b join.state.0 walked.original join.successor copy walked.there own (linked_led join.state join.successor copy now mid link)) in
     walk_on old now new pending after w (advances_on now mid new a b)
     (λ other p. elim (Contains-push_cases before join other (subst (λ (l : List Join). Contains l other) split p)) [
       | inl was ↦ inl (c.kept other was)
@@ -92,6 +104,33 @@ walk_ends old new state pending w none there = record {
       there = j.there;
       joined = λ right e. elim (j.joined right e) [ inl among ↦ let listed = among.1 in absurd (omega (arith, listed, none)) | inr done ↦ done ];
     })
+  ];
+}
+
+-- ---- one walk after the other
+-- what was joined stays so
+pub joined_on : (now new : Merge) → IsMerging now → Advances now new → (n : ℕ) → HasJoined now n → HasJoined new n
+joined_on now new ready a n h = record {
+  original = h.original;
+  there = a.originals n h.original h.there;
+  joined = λ right e.
+      let was : IsSuccessor now.table.now (index h.original) right = subst (λ (t : Bor LaneTable). IsSuccessor t.now (index h.original) right) a.table e in
+      done_on now new ready a n h.original right h.there was (h.joined right was);
+}
+
+pub walked_none : (merge : Merge) → HaveWalked [] merge merge
+walked_none merge = record { there = λ state c. absurd (Contains-none state c); joined = λ n h. inl h }
+
+-- a walk from a further state
+pub walked_more : (old now new : Merge) (done : List StateIndex) (state : StateIndex) → Advances old now → HaveWalked done old now → Advances now new → HasWalked state now new → HaveWalked (done ++ state ∷ []) old new
+walked_more old now new done state a h b w = record {
+  there = λ s c. elim (Contains-push_cases done state s c) [
+    | inl was ↦ b.marks s.0 (h.there s was)
+    | inr same ↦ subst (λ (t : StateIndex). IsVisited new t.0) same w.there
+  ];
+  joined = λ n v. elim (w.joined n v) [
+    | inl was ↦ elim (h.joined n was) [ inl before ↦ inl before | inr j ↦ inr (joined_on now new a.ready b n j) ]
+    | inr j ↦ inr j
   ];
 }
 

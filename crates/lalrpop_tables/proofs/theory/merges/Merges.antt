@@ -13,7 +13,7 @@ use Rattle.std.specs.Map.{keys_of}
 use mathlib.Core.Bool.{true≢false}
 use Rattle.lalrpop_base.proofs.theory.states.ContentsViews.{contains_of_map}
 use Rattle.lalrpop_tables.specs.Words.{Rows, ColumnsOverlap, HasRow, IsClosed, IsRow, IsSuccessor, RowOverlaps, index}
-use Rattle.lalrpop_tables.specs.Words.{IsVisited, AreCopies, IsContext, IsMerging, IsWalked, Advances, unset, unvisited}
+use Rattle.lalrpop_tables.specs.Words.{IsVisited, AreCopies, IsContext, IsMerging, IsWalked, Advances, HasEdge, IsLedTo, unset, unvisited}
 use Rattle.lalrpop_tables.specs.Words.{AreUnited, IsJoinedCopy, IsApart, set_of, context_of, HasSet, AreJoined, OwnSets}
 use Rattle.lalrpop_tables.specs.merges.Merges.{LeadsTo}
 use Rattle.lalrpop_tables.specs.declared.lane_table.construct.merge.Merge.{Merge}
@@ -102,7 +102,7 @@ row_context table state row r disjoint = record { counted = r.counted; disjoint 
 
 -- ---- steps
 pub advances_none : (merge : Merge) → IsMerging merge → Advances merge merge
-advances_none merge ready = record { ready = ready; table = refl; start = refl; longer = omega arith; counted = refl; originals = λ n o e. e; copies = λ exact handed c. c; sets = λ n m l k e. e; marks = λ n h. h }
+advances_none merge ready = record { ready = ready; table = refl; start = refl; longer = omega arith; counted = refl; originals = λ n o e. e; copies = λ exact handed c. c; sets = λ n m l k e. e; marks = λ n h. h; edges = λ n m l own h. h }
 
 pub advances_on : (a b c : Merge) → Advances a b → Advances b c → Advances a c
 advances_on a b c x y = record {
@@ -115,6 +115,7 @@ advances_on a b c x y = record {
   copies = λ exact handed k. y.copies exact handed (x.copies exact handed k);
   sets = λ n m l k e. let d = x.longer in y.sets n m (omega arith) (omega arith) (x.sets n m l k e);
   marks = λ n h. y.marks n (x.marks n h);
+  edges = λ n m l own h. let d = x.longer in x.edges n m l own (y.edges n m (omega arith) (x.originals m m own) h);
 }
 
 pub row_on : (old new : Merge) → Advances old new → (s : StateIndex) → HasRow old.table.now s → HasRow new.table.now s
@@ -169,6 +170,10 @@ module _ (old new : Merge) (ready : IsMerging old) (a : Advances old new) where
   pub copy_on : (n o : ℕ) (right copy : StateIndex) → slice_get old.originals.items n ≡ Some o → IsJoinedCopy (index n) right copy old → IsJoinedCopy (index n) right copy new
   copy_on n o right copy at j = record { original = a.originals copy.0 right.0 j.original; together = a.sets n copy.0 (listed n o at) (listed copy.0 right.0 j.original) j.together }
 
+  -- and no edge comes to lead to the successor
+  pub led_on : (n o : ℕ) (right copy : StateIndex) → slice_get old.originals.items n ≡ Some o → slice_get old.originals.items right.0 ≡ Some right.0 → IsLedTo old (index n) right copy → IsLedTo new (index n) right copy
+  led_on n o right copy at own led other h = led other (a.edges n right.0 (listed n o at) own h)
+
 -- ---- other sets
 module _ (old : Merge) (ready : IsMerging old) (sets : ContextSets) where
   abbrev with_sets : Merge
@@ -185,10 +190,11 @@ module _ (old : Merge) (ready : IsMerging old) (sets : ContextSets) where
     contexts = contexts;
     sets = λ n o at row. has n (let l = slice_get_within old.originals.items n o at in let e = ready.copies.counted in omega arith) (ready.sets n o at row);
     start = ready.start;
+    first = ready.first;
   }
 
   pub sets_advance : IsMerging with_sets → ((n m : ℕ) → n < length old.states.items → m < length old.states.items → set_of old.context_sets (index n) ≡ set_of old.context_sets (index m) → set_of sets (index n) ≡ set_of sets (index m)) → Advances old with_sets
-  sets_advance new_ready kept = record { ready = new_ready; table = refl; start = refl; longer = omega arith; counted = refl; originals = λ n o e. e; copies = λ exact handed c. c; sets = kept; marks = λ n h. h }
+  sets_advance new_ready kept = record { ready = new_ready; table = refl; start = refl; longer = omega arith; counted = refl; originals = λ n o e. e; copies = λ exact handed c. c; sets = kept; marks = λ n h. h; edges = λ n m l own h. h }
 
   module _ (source target : StateIndex) (w : IsWalked old source) (v : IsWalked old target) where
     joined_advance : AreJoined source target old.context_sets sets → Advances old with_sets
@@ -231,6 +237,7 @@ marked_advance merge visited ready counted marks = record {
     contexts = ready.contexts;
     sets = ready.sets;
     start = ready.start;
+    first = ready.first;
   };
   table = refl;
   start = refl;
@@ -240,6 +247,7 @@ marked_advance merge visited ready counted marks = record {
   copies = λ exact handed c. c;
   sets = λ n m l k e. e;
   marks = marks;
+  edges = λ n m l own h. h;
 }
 
 abbrev pub marked : Merge → StateIndex → Merge
@@ -266,7 +274,7 @@ mark_less merge s at = let e = unset-set merge.visited.items s.0 at in omega ari
 -- ---- the beginning
 module _ (merge : Merge) (rows : Rows) (coherent : AreCoherent merge.states.items) (closed : IsClosed (length merge.states.items) merge.table.now) (keys : (state : StateIndex) → Contains (keys_of rows) state ↔ HasRow merge.table.now state)
     (each : (state : StateIndex) (row : List Bits) → Contains rows (state, row) → IsRow merge.table.now state row × AreDisjoint row) (start : HasRow merge.table.now merge.inconsistent_state) (own_sets : OwnSets rows merge.context_sets)
-    (counted : length merge.originals.items ≡ length merge.states.items) (own : (n : ℕ) → n < length merge.states.items → slice_get merge.originals.items n ≡ Some n) (visited : length merge.visited.items ≡ length merge.states.items) where
+    (counted : length merge.originals.items ≡ length merge.states.items) (own : (n : ℕ) → n < length merge.states.items → slice_get merge.originals.items n ≡ Some n) (visited : length merge.visited.items ≡ length merge.states.items) (before : merge.first_copy ≡ length merge.states.items) where
   row_listed : (s : StateIndex) → HasRow merge.table.now s → s.0 < length merge.states.items
   row_listed s row = elim row [ inl cell ↦ closed.cells s cell.0 cell.1 | inr next ↦ (closed.numbers s next.0 next.1).0 ]
 
@@ -292,11 +300,13 @@ module _ (merge : Merge) (rows : Rows) (coherent : AreCoherent merge.states.item
         let same : n ≡ o = same_some n o (sym (own n (let l = slice_get_within merge.originals.items n o at in omega arith)) ∙ at) in
         subst (λ k. HasSet merge.context_sets (index k)) (sym same) (own_sets.has (index o) ((keys (index o)).1 row));
     start = start;
+    first = λ n l. own n (omega (arith, l, before));
   }
 
 -- ---- other states
-pub states_advance : (old : Merge) (states : Vec (State Bits) Global) → IsMerging old → length states.items ≡ length old.states.items → ((exact : Bool) (handed : List (State Bits)) → AreCopies exact handed old.originals.items old.states.items → AreCopies exact handed old.originals.items states.items) → Advances old (record old { states = states })
-states_advance old states ready counted copies = record {
+pub states_advance : (old : Merge) (states : Vec (State Bits) Global) → IsMerging old → length states.items ≡ length old.states.items → ((exact : Bool) (handed : List (State Bits)) → AreCopies exact handed old.originals.items old.states.items → AreCopies exact handed old.originals.items states.items) →
+    ((n m : ℕ) → slice_get old.originals.items m ≡ Some m → HasEdge states.items n m → HasEdge old.states.items n m) → Advances old (record old { states = states })
+states_advance old states ready counted copies led = record {
   ready = record {
     handed = ready.handed;
     copies = copies false ready.handed ready.copies;
@@ -307,6 +317,7 @@ states_advance old states ready counted copies = record {
     contexts = ready.contexts;
     sets = ready.sets;
     start = ready.start;
+    first = ready.first;
   };
   table = refl;
   start = refl;
@@ -316,6 +327,7 @@ states_advance old states ready counted copies = record {
   copies = copies;
   sets = λ n m l k e. e;
   marks = λ n h. h;
+  edges = λ n m l own h. led n m own h;
 }
 
 pub merging_coherent : (merge : Merge) → IsMerging merge → AreCoherent merge.states.items

@@ -4,13 +4,13 @@ use Rattle.std.specs.Prelude.{slice_get}
 use Rattle.std.specs.Borrow.{Bor}
 use Rattle.lalrpop_base.specs.Words.{Bits, AreDisjoint}
 use Rattle.lalrpop_tables.proofs.Types.{State, StateIndex}
-use Rattle.lalrpop_tables.specs.Words.{HasRow, IsRow, IsSuccessor, RowOverlaps, index, IsVisited, HaveNoNewMarks, AreCopies, IsContext, IsMerging}
+use Rattle.lalrpop_tables.specs.Words.{HasRow, IsRow, IsSuccessor, RowOverlaps, index, IsVisited, HaveNoNewMarks, AreCopies, IsContext, IsMerging, HasEdge, KeepsStates}
 use Rattle.lalrpop_tables.specs.Words.{Advances, unset, IsPushed, IsLonger, IsFresh, set_of, context_of, HasSet, IsMade, AddsColumns}
 use Rattle.lalrpop_tables.specs.declared.lane_table.construct.merge.Merge.{Merge}
 use Rattle.lalrpop_tables.specs.declared.lane_table.construct.merge.context_sets.ContextSets.{ContextSets}
 use Rattle.lalrpop_tables.specs.declared.lane_table.table.LaneTable.{LaneTable}
 use Rattle.lalrpop_tables.proofs.theory.merges.LaneCopies.{copies_pushed}
-use Rattle.lalrpop_base.proofs.theory.lists.Places.{slice_get-longer, slice_get-push_at, push_cases}
+use Rattle.lalrpop_base.proofs.theory.lists.Places.{slice_get-append_before, slice_get-longer, slice_get-push_at, push_cases}
 use Rattle.lalrpop_tables.proofs.theory.merges.Merges.{row_context, sets_advance, sets_ready, unmarked_push, unset-push}
 
 module _ (old : Merge) (ready : IsMerging old) (state copy : StateIndex) (row : List Bits) (sets : ContextSets) (has_row : HasRow old.table.now state) (numbered : copy.0 ≡ length old.states.items) (is_row : IsRow old.table.now state row) (disjoint : AreDisjoint row) (adds : AddsColumns row old.context_sets sets) where
@@ -73,6 +73,7 @@ module _ (old : Merge) (ready : IsMerging old) (state copy : StateIndex) (row : 
               contexts = λ k columns at. subst (λ (t : Bor LaneTable). IsContext t.now columns) (sym l.table) (new_contexts k columns (subst (λ (s : ContextSets). slice_get s.contexts.items k ≡ Some columns) l.sets at));
               sets = λ n o at r. subst (λ (s : ContextSets). HasSet s (index n)) (sym l.sets) (mid.ready.sets n o (subst (λ (xs : List ℕ). slice_get xs n ≡ Some o) l.originals at) (subst (λ (t : Bor LaneTable). HasRow t.now (index o)) l.table r));
               start = subst (λ (t : Bor LaneTable). HasRow t.now new.inconsistent_state) (sym l.table) (subst (HasRow old.table.now) (sym l.start) ready.start);
+              first = λ n k. ap (λ (xs : List ℕ). slice_get xs n) l.originals ∙ ready.first n (let f = l.first in omega (arith, k, f));
             };
             table = l.table;
             start = l.start;
@@ -82,7 +83,11 @@ module _ (old : Merge) (ready : IsMerging old) (state copy : StateIndex) (row : 
             copies = λ exact handed c. subst (λ (xs : List (State Bits)). AreCopies exact handed new.originals.items xs) (sym l.states) (subst (λ (xs : List ℕ). AreCopies exact handed xs old.states.items) (sym l.originals) c);
             sets = λ n m x y e. subst (λ (s : ContextSets). set_of s (index n) ≡ set_of s (index m)) (sym l.sets) (kept_below n m x y e);
             marks = longer_kept;
+            edges = λ n m x own h. subst (λ (xs : List (State Bits)). HasEdge xs n m) l.states h;
           }
+
+      pub unpushed_states : KeepsStates old new
+      unpushed_states n s e = ap (λ (xs : List (State Bits)). slice_get xs n) l.states ∙ e
 
     module _ (source fresh : State Bits) (at : slice_get old.states.items state.0 ≡ Some source) (index_is : fresh.index.0 ≡ length old.states.items) (items : fresh.items.vec.items ≡ source.items.vec.items) (shifts : fresh.shifts.entries ≡ source.shifts.entries) (reductions : fresh.reductions.items ≡ source.reductions.items) (gotos : fresh.gotos.entries ≡ source.gotos.entries)
         (new : Merge) (p : IsPushed fresh state.0 (record old { context_sets = sets }) new) where
@@ -112,6 +117,7 @@ module _ (old : Merge) (ready : IsMerging old) (state copy : StateIndex) (row : 
           contexts = λ k columns at. subst (λ (t : Bor LaneTable). IsContext t.now columns) (sym p.table) (new_contexts k columns (subst (λ (s : ContextSets). slice_get s.contexts.items k ≡ Some columns) p.sets at));
           sets = λ n o e r. subst (λ (s : ContextSets). HasSet s (index n)) (sym p.sets) (new_sets n o (subst (λ (xs : List ℕ). slice_get xs n ≡ Some o) p.originals e) (subst (λ (t : Bor LaneTable). HasRow t.now (index o)) p.table r));
           start = subst (λ (t : Bor LaneTable). HasRow t.now new.inconsistent_state) (sym p.table) (subst (HasRow old.table.now) (sym p.start) ready.start);
+          first = λ n k. new_originals n n (ready.first n (let f = p.first in omega (arith, k, f)));
         };
         table = p.table;
         start = p.start;
@@ -121,7 +127,11 @@ module _ (old : Merge) (ready : IsMerging old) (state copy : StateIndex) (row : 
         copies = new_copies;
         sets = λ n m x y e. subst (λ (s : ContextSets). set_of s (index n) ≡ set_of s (index m)) (sym p.sets) (kept_below n m x y e);
         marks = λ n h. ap (λ (ms : List Bool). slice_get ms n) p.visited ∙ slice_get-longer old.visited.items (false ∷ []) n true h;
+        edges = λ n m l own h. (h.0, sym (ap (λ (xs : List (State Bits)). slice_get xs n) p.states ∙ slice_get-append_before old.states.items (fresh ∷ []) n l) ∙ h.1, h.2);
       }
+
+      pub pushed_states : KeepsStates old new
+      pushed_states n s e = ap (λ (xs : List (State Bits)). slice_get xs n) p.states ∙ slice_get-longer old.states.items (fresh ∷ []) n s e
 
       pub pushed_marks : HaveNoNewMarks old new
       pushed_marks n h = unmarked_push old.visited.items n (ap (λ (ms : List Bool). slice_get ms n) (sym p.visited) ∙ h)

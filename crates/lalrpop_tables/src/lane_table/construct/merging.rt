@@ -1,11 +1,11 @@
 //! States that are merged along the lanes of one state, and copied where their tokens overlap.
-ghost use Rattle.std.specs.Prelude.{◌≡◌, ◌↔◌, ◌+◌, true, false, List, length, slice_get, Some, Contains, IfOk, OnOk};
+ghost use Rattle.std.specs.Prelude.{◌≡◌, ◌↔◌, ◌+◌, true, false, List, length, slice_get, Some, Contains, IfOk, IsTrue, OnOk};
 ghost use Rattle.std.specs.Map.{keys_of};
 ghost use Rattle.lalrpop_base.specs.Words.{AreCoherent, Bits, AreAmong, AreDisjoint};
 ghost use Rattle.lalrpop_base.specs.declared.lr1_core.state.State.{State};
 ghost use Rattle.lalrpop_base.specs.declared.lr1_core.state.StateIndex.{StateIndex as Number};
 ghost use Rattle.lalrpop_tables.specs.lane_tables.LaneTables.{HasRow, IsClosed, IsRow};
-ghost use Rattle.lalrpop_tables.specs.merges.Merges.{Advances, AreCopies, IsMerging, IsPatchable};
+ghost use Rattle.lalrpop_tables.specs.merges.Merges.{Advances, AreCopies, HaveWalked, IsMerging, IsPatchable, IsVisited};
 ghost use Rattle.lalrpop_tables.specs.lane_states.Resolving.{IsCopied};
 ghost use Rattle.lalrpop_tables.specs.graphs.StateGraph.{edges, IsGraphOf};
 
@@ -103,6 +103,8 @@ fn walk_and_patch<'grammar>(
         merge.new.originals.items merge.new.states.items) }
     ensures counted { OnOk result (merge.new.copies_left + length merge.new.states.items ≡
         merge.old.copies_left + length merge.old.states.items) }
+    ensures visited { IfOk result (λ resolved. IsTrue resolved → (state : Number) →
+        Contains beachheads.now.keys state → IsVisited merge.new state.0) }
 {
     match walk_all(alloc, merge, beachheads) {
         Ok(()) => {
@@ -124,6 +126,7 @@ fn walk_all<'grammar>(
     requires rows { (state : Number) →
         Contains states.now.keys state → HasRow merge.old.table.now state }
     ensures advances { Advances merge.old merge.new }
+    ensures walked { OnOk result (HaveWalked states.now.keys merge.old merge.new) }
 {
     for state in states.iter() {
         merge.start(alloc, *state)?;

@@ -1,5 +1,4 @@
 use Rattle.std.proofs.Common.{subst}
-use Rattle.std.proofs.lemmas.Result.{IfOk-weaker}
 use Rattle.lalrpop_base.specs.Words.{Bits, Begins, AreStatesFor, Construction}
 use Rattle.lalrpop_base.specs.closures.Closure.{itself}
 use Rattle.lalrpop_base.proofs.theory.grammars.Grammars.{productions_own}
@@ -13,4 +12,4 @@ returns c =
     let states = c.in_ok-states.states.items in
     let own = productions_own g c.requires.well_formed c.len-names.ensures.ordered in
     let made = subst (λ (k : Construction Bits). AreStatesFor itself Begins Passes Lists k states) c.in_ok-canonical.ensures c.in_ok-states.ensures in
-    IfOk-weaker c.tables_or_count.result _ _ (Canonical-counted g c.args.lr.construction.start c.requires.well_formed own c.all-terminals.ensures.distinct states made) c.tables_or_count.ensures
+    Canonical-counted g c.args.lr.construction.start c.requires.well_formed own c.all-terminals.ensures.distinct states made c.tables_or_count.result c.tables_or_count.ensures

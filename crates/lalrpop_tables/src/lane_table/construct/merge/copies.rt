@@ -2,7 +2,7 @@
 ghost use Rattle.std.specs.Prelude.{◌≡◌, ◌<◌, ℕ, length, slice_get, Some, IfOk, OnOk, OnErr, IfErr};
 ghost use Rattle.lalrpop_base.specs.Words.{AreDisjoint, retargeted_all};
 ghost use Rattle.lalrpop_tables.specs.lane_tables.LaneTables.{ColumnsOverlap, HasRow, IsRow, RowOverlaps};
-ghost use Rattle.lalrpop_tables.specs.merges.Merges.{Advances, AreTargetsAmong, HaveNoNewMarks, IsFresh, IsLonger, IsMergeError, IsMerging, IsPushed, IsRelinked, IsTaken, IsWalked, index as index_of, replaced};
+ghost use Rattle.lalrpop_tables.specs.merges.Merges.{Advances, AreTargetsAmong, HaveNoNewMarks, IsFresh, IsLimit, IsLonger, IsMergeError, IsMerging, IsPushed, IsRelinked, IsTaken, IsWalked, KeepsStates, index as index_of, replaced};
 ghost use Rattle.lalrpop_tables.specs.merges.StateSets.{context_of};
 
 use super::{Merge, MergeError};
@@ -86,6 +86,8 @@ impl<'table, 'grammar> Merge<'table, 'grammar> {
         ensures marks { HaveNoNewMarks self.old self.new }
         ensures copied { IfOk result (λ copy. IsFresh state copy self.old self.new) }
         ensures error { IfErr result (IsMergeError self.new) }
+        ensures limit { IfErr result (IsLimit self.old) }
+        ensures kept { KeepsStates self.old self.new }
     {
         if self.copies_left == 0 {
             return Err(MergeError::CopyLimit);

@@ -1,9 +1,9 @@
 //! The walk along the successors of a lane table.
-ghost use Rattle.std.specs.Prelude.{◌≡◌, ◌≤◌, ◌<◌, ◌++◌, length, reverse, slice_get, Some, IfOk, IfErr, IsTrue, OnOk};
+ghost use Rattle.std.specs.Prelude.{◌≡◌, ◌≤◌, ◌<◌, ◌++◌, length, reverse, slice_get, Some, IfOk, IfErr, IsFalse, IsTrue, OnOk};
 ghost use Rattle.std.specs.BTreeSet.{IsOrdered};
 ghost use Rattle.lalrpop_tables.specs.lane_tables.LaneTables.{ColumnsOverlap};
 ghost use Rattle.lalrpop_tables.specs.merges.MergeWalks.{ComesTo, joins_to, most_joins};
-ghost use Rattle.lalrpop_tables.specs.merges.Merges.{Advances, AreUnited, HasWalked, HaveNoNewMarks, IsJoinedCopy, IsJoinedIfAny, IsMergeError, IsMerging, IsWalked, LeadsTo, index as index_of, unvisited};
+ghost use Rattle.lalrpop_tables.specs.merges.Merges.{Advances, AreUnited, CannotJoin, HasWalked, HaveNoNewMarks, IsApartIfNone, IsJoinedCopy, IsJoinedIfAny, IsLimit, IsLinked, IsMergeError, IsMerging, IsRefusedJoin, IsWalked, KeepsStates, LeadsTo, index as index_of, unvisited};
 ghost use Rattle.lalrpop_tables.specs.graphs.StateGraph.{state_cmp};
 
 use super::{Merge, MergeError};
@@ -83,6 +83,8 @@ impl<'table, 'grammar> Merge<'table, 'grammar> {
         ensures marks { HaveNoNewMarks self.old self.new }
         ensures joined { IfOk result
             (λ joined. IsTrue joined → IsJoinedCopy state successor (index_of index) self.new) }
+        ensures apart { IfOk result (λ joined. IsFalse joined →
+            CannotJoin self.old state successor index × (self.new ≡ self.old)) }
         ensures same { self.new ≡ record self.old { context_sets = self.new.context_sets } }
     {
         if index == successor.0 || self.originals[index] != successor.0 {
@@ -104,6 +106,7 @@ impl<'table, 'grammar> Merge<'table, 'grammar> {
         ensures advances { Advances self.old self.new }
         ensures marks { HaveNoNewMarks self.old self.new }
         ensures joined { IfOk result (IsJoinedIfAny state successor self.new) }
+        ensures apart { IfOk result (IsApartIfNone state successor self.old self.new) }
         ensures same { self.new ≡ record self.old { context_sets = self.new.context_sets } }
     {
         let first = self.first_copy;
@@ -132,6 +135,8 @@ impl<'table, 'grammar> Merge<'table, 'grammar> {
         ensures joined { IfOk result (λ copy. IsJoinedCopy state successor copy self.new) }
         ensures fewer { OnOk result (unvisited self.new ≤ unvisited self.old) }
         ensures error { IfErr result (IsMergeError self.new) }
+        ensures limit { IfErr result (IsLimit self.old) }
+        ensures kept { KeepsStates self.old self.new }
     {
         let copy = self.copy_state(alloc, successor)?;
         if !self.union(alloc, state, copy)? {
@@ -156,6 +161,9 @@ impl<'table, 'grammar> Merge<'table, 'grammar> {
         ensures joined { IfOk result (λ copy. IsJoinedCopy state successor copy self.new) }
         ensures fewer { OnOk result (unvisited self.new ≤ unvisited self.old) }
         ensures error { IfErr result (IsMergeError self.new) }
+        ensures limit { IfErr result (IsLimit self.old) }
+        ensures kept { KeepsStates self.old self.new }
+        ensures refused { IfErr result (IsRefusedJoin self.old state successor) }
     {
         match self.existing_copy(alloc, state, successor)? {
             Some(copy) => Ok(copy),
@@ -178,6 +186,10 @@ impl<'table, 'grammar> Merge<'table, 'grammar> {
         ensures joined { IfOk result (λ copy. IsJoinedCopy state successor copy self.new) }
         ensures fewer { OnOk result (unvisited self.new ≤ unvisited self.old) }
         ensures error { IfErr result (IsMergeError self.new) }
+        ensures limit { IfErr result (IsLimit self.old) }
+        ensures linked { IfOk result (λ copy. IsLinked state.0 successor.0 copy.0
+            self.old.states.items self.new.states.items) }
+        ensures refused { IfErr result (IsRefusedJoin self.old state successor) }
     {
         if self.union(alloc, state, successor)? {
             return Ok(successor);

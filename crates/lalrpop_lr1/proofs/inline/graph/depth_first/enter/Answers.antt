@@ -20,3 +20,12 @@ returns-clause-walked c =
     let all : f.others.items ≡ mentioned_in (productions_of g f.name) = c.in_ok-others.ensures ∙ ap (λ (ps : List Production). mentioned_in ps) c.productions_for.ensures in
     let pushed : reverse c.push.new.self.items ≡ f ∷ reverse fs = ap (λ (l : List Frame). reverse l) c.in_ok-push.ensures.items ∙ reverse-append fs (f ∷ []) in
     subst (IsWalked g w m) (sym pushed) (entered_walk g w m f (reverse fs) c.requires.walk c.requires.pending c.requires.frames c.remove.ensures.updates.0 into refl all)
+
+pub returns-clause-newest : goal.returns-clause-newest
+returns-clause-newest c =
+    let g = c.args.grammar.now in
+    let f : Frame = record { name = c.args.name; others = c.in_ok-others.others } in
+    let fs : List Frame = c.args.frames.now.items in
+    let all : f.others.items ≡ mentioned_in (productions_of g f.name) = c.in_ok-others.ensures ∙ ap (λ (ps : List Production). mentioned_in ps) c.productions_for.ensures in
+    let pushed : reverse c.push.new.self.items ≡ f ∷ reverse fs = ap (λ (l : List Frame). reverse l) c.in_ok-push.ensures.items ∙ reverse-append fs (f ∷ []) in
+    (f, pushed, refl, all)

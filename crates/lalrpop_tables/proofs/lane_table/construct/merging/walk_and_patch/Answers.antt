@@ -1,4 +1,6 @@
-use Rattle.std.proofs.Common.{true}
+use Rattle.std.proofs.Common.{true, ◌∙◌, ap}
+use Rattle.std.specs.Prelude.{slice_get}
+use Rattle.lalrpop_tables.specs.declared.lane_table.construct.merge.Merge.{Merge}
 use Rattle.lalrpop_tables.proofs.theory.lane_states.Resolving.{copied_weaker, patchable_on}
 use Rattle.lalrpop_tables.proofs.lane_table.construct.merging.walk_and_patch.Goals as goal
 
@@ -9,4 +11,7 @@ pub returns-in_ok-patch_target_starts-in-Ok-clause-copies : goal.returns-in_ok-p
 returns-in_ok-patch_target_starts-in-Ok-clause-copies c = c.patch_target_starts.ensures.copies true c.args.merge.now.states.items (c.walk_all.ensures.advances.copies true c.args.merge.now.states.items c.requires.begun)
 
 pub returns-in-Err : goal.returns-in-Err
-returns-in-Err c = record { copies = copied_weaker c.args.merge.now c.walk_all.new.merge c.requires.begun c.walk_all.ensures.advances; counted = c.walk_all.ensures.advances.counted }
+returns-in-Err c = record { copies = copied_weaker c.args.merge.now c.walk_all.new.merge c.requires.begun c.walk_all.ensures.advances; counted = c.walk_all.ensures.advances.counted; visited = λ e. cc }
+
+pub returns-in_ok-patch_target_starts-in-Ok-clause-visited : goal.returns-in_ok-patch_target_starts-in-Ok-clause-visited
+returns-in_ok-patch_target_starts-in-Ok-clause-visited c e state among = ap (λ (m : Merge). slice_get m.visited.items state.0) c.patch_target_starts.ensures.same ∙ c.in-Ok.ensures.walked.there state among

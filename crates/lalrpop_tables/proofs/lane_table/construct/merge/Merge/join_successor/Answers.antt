@@ -1,6 +1,13 @@
 use Rattle.std.proofs.Common.{subst}
 use Rattle.lalrpop_tables.specs.Words.{AreUnited}
 use Rattle.lalrpop_tables.proofs.theory.merges.Merges.{advances_on, walked_on, successor_own, successor_walked}
+use Rattle.std.proofs.Common.{ap, ◌∙◌, List}
+use Rattle.std.specs.Prelude.{slice_get}
+use Rattle.lalrpop_base.specs.Words.{Bits}
+use Rattle.lalrpop_tables.proofs.Types.{State}
+use Rattle.lalrpop_tables.specs.declared.lane_table.construct.merge.Merge.{Merge}
+use Rattle.lalrpop_tables.proofs.theory.merges.LinkedStates.{linked_copy, linked_itself}
+use Rattle.lalrpop_tables.proofs.theory.merges.Merges.{walked_listed}
 use Rattle.lalrpop_tables.proofs.lane_table.construct.merge.Merge.join_successor.Goals as goal
 
 pub union-requires-clause-target : goal.union-requires-clause-target
@@ -26,3 +33,15 @@ pub returns-clause-advances : goal.returns-clause-advances
 returns-clause-advances c =
     let all = advances_on c.args.self.now c.union.new.self c.some_copy.new.self c.union.ensures.advances c.some_copy.ensures.advances in
     advances_on c.args.self.now c.some_copy.new.self c.patch_links.new.self all c.patch_links.ensures.advances
+
+pub returns-then-branch-clause-linked : goal.returns-then-branch-clause-linked
+returns-then-branch-clause-linked c =
+    let old = c.args.self.now in
+    linked_itself c.args.state.0 c.args.successor.0 old.states.items c.union.new.self.states.items (walked_listed old c.requires.ready c.args.state c.requires.walked) (ap (λ (m : Merge). m.states.items) c.union.ensures.same)
+
+pub returns-clause-linked : goal.returns-clause-linked
+returns-clause-linked c =
+    let old = c.args.self.now in
+    let same = ap (λ (m : Merge). m.states.items) c.union.ensures.same in
+    linked_copy c.args.state.0 c.args.successor.0 c.in_ok-copy.copy.0 old.states.items c.some_copy.new.self.states.items c.patch_links.new.self.states.items (walked_listed old c.requires.ready c.args.state c.requires.walked)
+    (λ k state at. c.some_copy.ensures.kept k state (ap (λ (xs : List (State Bits)). slice_get xs k) same ∙ at)) c.patch_links.ensures.relinked

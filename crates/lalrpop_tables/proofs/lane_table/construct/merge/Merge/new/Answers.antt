@@ -9,7 +9,7 @@ returns-clause-ready c =
     let n = c.len-count.ensures in
     let counted : length c.in_ok-originals.originals.items ≡ length c.args.states.items = let l = c.in_ok-originals.ensures.counted in omega arith in
     let visited : length c.in_ok-visited.visited.items ≡ length c.args.states.items = let l = c.in_ok-visited.ensures.len in let m = c.in_ok-visited.visited.ok.0 in omega arith in
-    new_merging _ c.args.rows.entries c.requires.coherent c.requires.closed c.requires.rows c.requires.each c.requires.start c.in_ok-context_sets.ensures counted (λ m l. c.in_ok-originals.ensures.own m (omega arith)) visited
+    new_merging _ c.args.rows.entries c.requires.coherent c.requires.closed c.requires.rows c.requires.each c.requires.start c.in_ok-context_sets.ensures counted (λ m l. c.in_ok-originals.ensures.own m (omega arith)) visited (omega arith)
 
 pub returns-clause-copies : goal.returns-clause-copies
 returns-clause-copies c =

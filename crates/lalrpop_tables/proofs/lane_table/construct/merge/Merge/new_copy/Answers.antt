@@ -4,6 +4,7 @@ use Rattle.std.proofs.lemmas.Option.{slice_get_within}
 use Rattle.lalrpop_tables.specs.Words.{IsApart, AreUnited}
 use Rattle.lalrpop_tables.specs.declared.lane_table.construct.merge.Merge.{Merge}
 use Rattle.lalrpop_tables.proofs.theory.merges.Merges.{advances_on, row_on, walked_on, leads_on, copy_walked, successor_row, apart_copy}
+use Rattle.lalrpop_tables.proofs.theory.merges.LinkedStates.{kept_on, kept_same}
 use Rattle.lalrpop_tables.proofs.lane_table.construct.merge.Merge.new_copy.Goals as goal
 
 pub copy_state-requires-clause-row : goal.copy_state-requires-clause-row
@@ -38,3 +39,12 @@ returns-then-not-branch-clause-error c =
 
 pub returns-clause-advances : goal.returns-clause-advances
 returns-clause-advances c = advances_on c.args.self.now c.copy_state.new.self c.union.new.self c.copy_state.ensures.advances c.union.ensures.advances
+
+pub returns-in_err-union-clause-kept : goal.returns-in_err-union-clause-kept
+returns-in_err-union-clause-kept c = kept_on c.args.self.now c.copy_state.new.self c.union.new.self c.copy_state.ensures.kept (kept_same c.copy_state.new.self c.union.new.self (ap (λ (m : Merge). m.states) c.union.ensures.same))
+
+pub returns-then-not-branch-clause-kept : goal.returns-then-not-branch-clause-kept
+returns-then-not-branch-clause-kept c = kept_on c.args.self.now c.copy_state.new.self c.union.new.self c.copy_state.ensures.kept (kept_same c.copy_state.new.self c.union.new.self (ap (λ (m : Merge). m.states) c.union.ensures.same))
+
+pub returns-clause-kept : goal.returns-clause-kept
+returns-clause-kept c = kept_on c.args.self.now c.copy_state.new.self c.union.new.self c.copy_state.ensures.kept (kept_same c.copy_state.new.self c.union.new.self (ap (λ (m : Merge). m.states) c.union.ensures.same))

@@ -1,5 +1,6 @@
 use Rattle.std.proofs.Common.{refl}
 use Rattle.lalrpop_tables.proofs.theory.merges.LaneCopies.{copies_patched}
+use Rattle.lalrpop_tables.proofs.theory.merges.LinkedStates.{linked_edges}
 use Rattle.lalrpop_tables.proofs.theory.merges.Merges.{states_advance, walked_listed}
 use Rattle.lalrpop_base.proofs.theory.collapse.Merging.{set_here, set_elsewhere, set_length}
 use Rattle.lalrpop_base.proofs.theory.lists.Places.{slice_get_at}
@@ -13,6 +14,7 @@ returns-clause-advances c =
     let at = slice_get_at old.states.items n c.index_mut-state.result.now listed c.index_mut-state.ensures.value in
     states_advance old _ c.requires.ready (set_length old.states.items n _) (λ exact handed copies.
     copies_patched exact handed old.originals.items old.states.items copies n c.args.original_successor.0 c.args.cloned_successor.0 c.index_mut-state.result.now _ at c.requires.own c.requires.copy refl refl c.replace_targets.ensures refl c.replace_targets-2.ensures)
+    (linked_edges old.originals.items old.states.items n c.args.original_successor.0 c.args.cloned_successor.0 c.index_mut-state.result.now _ at c.requires.copy c.replace_targets.ensures c.replace_targets-2.ensures)
 
 pub returns-clause-relinked : goal.returns-clause-relinked
 returns-clause-relinked c =

@@ -39,7 +39,7 @@ loop-join-preserved c =
     let new = c.come_to-in-Some.new.self in
     let came = c.in_ok-come_to-2.ensures.came in
     record {
-      walk = walk_joins old now mid new c.in-Some.join c.in_ok-copy.copy c.loop-join.pending.items c.pop.new.self.items c.come_to-in-Some.new.pending.items c.loop-join.invariant.walk c.in-Some.ensures.items c.join_successor.ensures.advances c.join_successor.ensures.marks c.in_ok-copy.ensures.fewer c.in_ok-copy.ensures.joined
+      walk = walk_joins old now mid new c.in-Some.join c.in_ok-copy.copy c.loop-join.pending.items c.pop.new.self.items c.come_to-in-Some.new.pending.items c.loop-join.invariant.walk c.in-Some.ensures.items c.join_successor.ensures.advances c.join_successor.ensures.marks c.in_ok-copy.ensures.fewer c.in_ok-copy.ensures.joined c.in_ok-copy.ensures.linked
           c.come_to-in-Some.ensures.advances c.come_to-in-Some.ensures.fewer came;
       there = c.come_to-in-Some.ensures.advances.marks c.args.state.0 (c.join_successor.ensures.advances.marks c.args.state.0 c.loop-join.invariant.there);
     }
