@@ -1,41 +1,24 @@
--- The items of LR(0) states are of productions of the grammar.
-use Rattle.std.proofs.Common.{◌≡◌, ◌∙◌, ◌<◌, ℕ, List, length, sym, ap, subst, arith, Some}
-use Rattle.std.specs.Prelude.{Contains, slice_get}
-use Rattle.std.proofs.lemmas.Option.{slice_get_within}
-use Rattle.lalrpop_base.specs.Words.{AreCoherent, contents_at, Dotted, Contents, Rules, IsWellFormed, productions, productions_of, rules_of, AreLr0States, on_any, lr0_contents}
+-- The traces of a state, and what each action that is traced keeps.
+use Rattle.std.proofs.Common.{◌≡◌, ◌∙◌, ◌<◌, ℕ, List, length, sym, subst, arith}
+use Rattle.lalrpop_base.specs.Words.{AreCoherent, IsWellFormed, productions, rules_of, AreLr0States}
 use Rattle.lalrpop_base.specs.declared.lookahead.nil.Nil.{Nil}
 use Rattle.lalrpop_base.specs.declared.lr1_core.state.Action.{Action}
 use Rattle.lalrpop_base.specs.declared.lr1_core.state.State.{State}
 use Rattle.lalrpop_base.specs.declared.repr.NonterminalString.{NonterminalString}
-use Rattle.lalrpop_base.specs.declared.repr.Production.{Production}
 use Rattle.lalrpop_base.specs.declared.repr.grammar.Grammar.{Grammar}
-use Rattle.lalrpop_base.proofs.theory.states.ContentsViews.{contains_map}
-use Rattle.lalrpop_base.proofs.theory.lanes.Lanes.{items_at}
-use Rattle.lalrpop_base.proofs.theory.closures.Valid.{of_grammar}
 use Rattle.table_questions.specs.Traces.{AreReady, IsTracing}
 use Rattle.table_questions.specs.declared.ask.lane_tables.Traces.{Traces}
-use Rattle.lalrpop_base.proofs.theory.grammars.Grammars.{productions_among}
-use Rattle.lalrpop_tables.specs.Words.{dot_of, HaveOwnItems, IsReadyToTrace, ReducesOwn}
+use Rattle.lalrpop_tables.specs.Words.{HaveOwnItems, IsReadyToTrace, ReducesOwn}
 use Rattle.lalrpop_tables.specs.declared.lane_table.lane.LaneTracer.{LaneTracer}
 
-pub own_items : (g : Rules) (start : NonterminalString) (states : List (State Nil)) → AreLr0States g start states → HaveOwnItems g.productions states
-own_items g start states made n state item at among =
-    let l = made.live n (slice_get_within states n state at) in
-    let r = items_at g.productions start (lr0_contents states) made.lr0 l.prefix n l.live l.after in
-    of_grammar ((r.items item.production item.index).0 (subst (λ (s : Contents). Contains s.items (item.production, item.index)) (sym (ap (contents_at on_any) at)) (contains_map dot_of state.items.vec.items item among)))
-
 -- the traces of a state that is listed
-pub ready_traces : (traces : Traces) (start : NonterminalString) → IsWellFormed traces.grammar.now → AreLr0States (rules_of traces.grammar.now) start traces.states.items → traces.state < length traces.states.items → AreReady traces
-ready_traces traces start well made listed = record {
+pub ready_traces : (traces : Traces) (start : NonterminalString) → IsWellFormed traces.grammar.now → AreLr0States (rules_of traces.grammar.now) start traces.states.items → HaveOwnItems (productions traces.grammar.now) traces.states.items → traces.state < length traces.states.items → AreReady traces
+ready_traces traces start well made own listed = record {
   well_formed = well;
   coherent = made.coherent;
-  own = own_items (rules_of traces.grammar.now) start traces.states.items made;
+  own = own;
   listed = listed;
 }
-
--- a production of a name is the grammar's
-pub own_production : (g : Grammar) (name : NonterminalString) (ps : List Production) (p : Production) → ps ≡ productions_of g name → Contains ps p → Contains (productions g) p
-own_production g name ps p same held = productions_among g name p (subst (λ (xs : List Production). Contains xs p) same held)
 
 -- ---- one action more
 pub tracing_more : (traces : Traces) (old new : LaneTracer Nil) → IsTracing traces old → IsReadyToTrace new → (new.grammar.now ≡ old.grammar.now) × (new.start ≡ old.start) × (new.states.now ≡ old.states.now) × (new.table.conflicts ≡ old.table.conflicts) → IsTracing traces new

@@ -3,6 +3,7 @@ use grammar_text::builder::GrammarBuilder;
 use grammar_text::builder_error::BuilderError;
 use grammar_text::symbols::literals;
 use lalrpop_base::repr::grammar::Grammar;
+use lalrpop_base::repr::norm_error::NormError;
 use lalrpop_lr1::inline::inline_order;
 use std::alloc::Global;
 use table_questions::ask::refusal;
@@ -20,6 +21,7 @@ pub(crate) fn answer(
     match question.call {
         "read" => Ok(Some(read_grammar(alloc, grammar)?)),
         "inline_order" => Ok(Some(order(alloc, grammar)?)),
+        "cycle" => Ok(Some(cycle(alloc, grammar)?)),
         "grammar_builder" => Ok(Some(built(alloc, question)?)),
         "literals" => Ok(Some(literals_of(alloc, question)?)),
         _ => Ok(None),
@@ -53,6 +55,17 @@ fn order(alloc: Global, grammar: &Grammar) -> Result<String, QuestionError> {
             push_names(&mut text, &names)?;
             text.push_str("\n")?;
             Ok(text)
+        }
+        Err(error) => refusal(alloc, error),
+    }
+}
+
+// The name and the place that a ring of marked nonterminals is reported with.
+fn cycle(alloc: Global, grammar: &Grammar) -> Result<String, QuestionError> {
+    match inline_order(alloc, grammar) {
+        Ok(_) => Ok(String::from_str(alloc, "no cycle\n")?),
+        Err(NormError::Cycle { span, name }) => {
+            Ok(format!(in alloc; "{name} at {}..{}\n", span.0, span.1)?)
         }
         Err(error) => refusal(alloc, error),
     }

@@ -14,10 +14,10 @@ use lalrpop_lr1::headline::{ParseError, parse};
 use lalrpop_lr1::interpret::{
     InterpretError, LookaheadInterpret, ParseTree, interpret, interpret_partial,
 };
-use lalrpop_tables::build::{Options, build_lr0_states};
+use lalrpop_tables::build::build_lr0_states;
 use lalrpop_tables::lr1::build_states;
 use std::alloc::Global;
-use table_questions::ask::arguments::method_at;
+use table_questions::ask::arguments::{is_option, method_at, options_among};
 use table_questions::ask::states::start_of;
 use table_questions::question::{Question, QuestionError};
 use table_questions::show::states::push_counts;
@@ -66,7 +66,7 @@ pub(super) fn input_of(alloc: Global, question: &Question<'_>) -> Result<Input, 
                 }
             }
             None if *word == "," => is_behind = true,
-            None if *word == "collapsed" => {}
+            None if is_option(word) => {}
             None => return Err(QuestionError::Argument(4)),
         }
     }
@@ -86,10 +86,7 @@ fn parsed(
     requires { IsWellFormed grammar.now }
 {
     let start = start_of(alloc, question, 1)?;
-    let options = Options {
-        method: method_at(question, 2)?,
-        ..Options::default()
-    };
+    let options = options_among(question, 4, method_at(question, 2)?);
     let input = input_of(alloc, question)?;
     shown(
         alloc,
@@ -106,10 +103,7 @@ fn parsed_by_tables(
     requires { IsWellFormed grammar.now }
 {
     let start = start_of(alloc, question, 1)?;
-    let options = Options {
-        method: method_at(question, 2)?,
-        ..Options::default()
-    };
+    let options = options_among(question, 4, method_at(question, 2)?);
     let input = input_of(alloc, question)?;
     let first = start.clone(alloc)?;
     let mut text = String::new(alloc);
@@ -170,10 +164,7 @@ fn run_by_tables(
     requires { IsWellFormed grammar.now }
 {
     let start = start_of(alloc, question, 1)?;
-    let options = Options {
-        method: method_at(question, 2)?,
-        ..Options::default()
-    };
+    let options = options_among(question, 4, method_at(question, 2)?);
     let built = build_states(alloc, grammar, start, &options);
     if let Ok(states) = &built {
         return run_over(alloc, question, &grammar.terminals, states);

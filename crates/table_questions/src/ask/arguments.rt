@@ -39,6 +39,24 @@ pub fn options_from(
     Ok(options)
 }
 
+/// The options that words among the arguments from a number on name. Other words are passed over.
+pub fn options_among(question: &Question<'_>, number: usize, method: Method) -> Options {
+    let mut options = Options {
+        method,
+        ..Options::default()
+    };
+    for word in question.from(number) {
+        set_option(&mut options, word);
+    }
+    options
+}
+
+/// Whether a word names an option.
+pub fn is_option(word: &str) -> bool {
+    let mut options = Options::default();
+    set_option(&mut options, word)
+}
+
 // Takes the option that a word names, and tells whether it is one.
 fn set_option(options: &mut Options, word: &str) -> bool {
     if let Some(digits) = word.strip_prefix("max_copies=") {
@@ -110,28 +128,40 @@ fn have_known_terminals(symbols: &[Symbol], terminals: &TerminalSet) -> bool
     true
 }
 
-// The token that a word stands for: `Eof`, `Error`, or a literal of the set. The word is the
-// argument with a number.
+// The token that the argument with a number stands for, which is of the set.
 fn known_token(
     alloc: Global,
-    word: &str,
+    question: &Question<'_>,
     terminals: &TerminalSet,
     number: usize,
 ) -> Result<Token, QuestionError>
     ensures { IfOk result (IsKnown terminals.now) }
 {
+    match token_at(alloc, question, number)? {
+        Token::Terminal(terminal) => match terminals.bit(&terminal) {
+            Some(_) => Ok(Token::Terminal(terminal)),
+            None => Err(QuestionError::Argument(number)),
+        },
+        Token::Eof => Ok(Token::Eof),
+        Token::Error => Ok(Token::Error),
+    }
+}
+
+/// The token that the argument with a number stands for, which need be no terminal of the grammar.
+pub fn token_at(
+    alloc: Global,
+    question: &Question<'_>,
+    number: usize,
+) -> Result<Token, QuestionError> {
+    let word = question.argument(number)?;
     if word == "Eof" {
         return Ok(Token::Eof);
     }
     if word == "Error" {
         return Ok(Token::Error);
     }
-    let Some(text) = unquoted(word) else {
-        return Err(QuestionError::Argument(number));
-    };
-    let terminal = TerminalString::Literal(Text::new(alloc, text)?);
-    match terminals.bit(&terminal) {
-        Some(_) => Ok(Token::Terminal(terminal)),
+    match unquoted(word) {
+        Some(text) => Ok(Token::Terminal(TerminalString::Literal(Text::new(alloc, text)?))),
         None => Err(QuestionError::Argument(number)),
     }
 }
@@ -151,7 +181,7 @@ pub fn tokens_between(
         if word == "All" {
             tokens.union_with(&TokenSet::all(alloc, terminals)?)?;
         } else if word != "collapsed" {
-            let token = known_token(alloc, word, terminals, number)?;
+            let token = known_token(alloc, question, terminals, number)?;
             tokens.insert(token, terminals)?;
         }
     }

@@ -1,8 +1,7 @@
 //! Questions of lane tables.
-ghost use Rattle.std.specs.Prelude.{IfOk, IsTrue};
-ghost use Rattle.lalrpop_base.specs.Words.{IsWellFormed, productions};
+ghost use Rattle.std.specs.Prelude.{IfOk};
+ghost use Rattle.lalrpop_base.specs.Words.{IsWellFormed};
 ghost use Rattle.table_questions.specs.Traces.{AreReady, IsTracing};
-ghost use Rattle.lalrpop_tables.specs.Words.{ReducesOwn};
 
 use super::arguments::{piece_end, tokens_between};
 use super::context_sets::actions_of;
@@ -10,10 +9,9 @@ use super::graphs::lr0_states;
 use super::states::start_of;
 use crate::question::{Question, QuestionError};
 use crate::show::context_set::column_of;
-use crate::show::lane_table::{push_actions, push_lane_table};
+use crate::show::lane_table::{push_actions, push_lane_table, push_row};
 use crate::show::words::push_tokens;
 use lalrpop_base::collections::Set;
-use lalrpop_base::exact::contains;
 use lalrpop_base::first::FirstSets;
 use lalrpop_base::lookahead::nil::Nil;
 use lalrpop_base::lookahead::token_set::TokenSet;
@@ -26,6 +24,7 @@ use lalrpop_base::repr::terminals::TerminalSet;
 use lalrpop_tables::lane_table::context_set::{ConflictIndex, OverlappingLookahead};
 use lalrpop_tables::lane_table::lane::LaneTracer;
 use lalrpop_tables::lane_table::table::LaneTable;
+use lalrpop_tables::lane_table::{have_own_items, reduces_own};
 use lalrpop_tables::state_graph::StateGraph;
 use std::alloc::Global;
 
@@ -40,6 +39,7 @@ pub fn answer(
     match question.call {
         "lane_table" => Ok(Some(traced_table(alloc, question, grammar)?)),
         "lane_table_of" => Ok(Some(made_table(alloc, question, grammar)?)),
+        "row_of" => Ok(Some(made_row(alloc, question, grammar)?)),
         _ => Ok(None),
     }
 }
@@ -88,6 +88,9 @@ pub fn traces_of<'grammar>(
     let states = lr0_states(alloc, grammar, copy)?;
     if state >= states.len() {
         return Err(QuestionError::Argument(2));
+    }
+    if !have_own_items(grammar, &states) {
+        return Err(QuestionError::Argument(1));
     }
     let actions = actions_of(alloc, &states[state])?;
     Ok(Traces {
@@ -202,7 +205,7 @@ fn trace<'grammar>(
     if place < from || place >= to || place >= traces.actions.len() {
         return Ok(());
     }
-    if !is_own(traces.grammar, action) {
+    if !reduces_own(traces.grammar, action) {
         return Ok(());
     }
     let copy = action.clone(alloc)?;
@@ -210,28 +213,39 @@ fn trace<'grammar>(
     tracer.start_trace(alloc, state, ConflictIndex::new(place), copy)
 }
 
-// Whether an action is no reduction by a production of another grammar.
-#[tactic(auto, using(crate::proofs::OwnItems::own_production))]
-fn is_own(grammar: &Grammar, action: &Action<'_>) -> bool
-    ensures { IsTrue result → ReducesOwn (productions grammar.now) action.now }
-{
-    match action {
-        Action::Shift(..) => true,
-        Action::Reduce(production) => contains(
-            grammar.productions_for(&production.nonterminal),
-            *production,
-        ),
-    }
-}
-
-// A table with the cells and successors that arguments name.
+// What the calls of a table tell that has the cells and successors that arguments name.
 fn made_table(
     alloc: Global,
     question: &Question<'_>,
     grammar: &Grammar,
 ) -> Result<String, QuestionError> {
-    let columns = question.number(1)?;
+    let table = table_of(alloc, question, grammar)?;
     let count = question.number(2)?;
+    let mut text = String::new(alloc);
+    push_lane_table(alloc, &mut text, &table, count, &grammar.terminals)?;
+    Ok(text)
+}
+
+// The row of a state in such a table, or that its columns overlap.
+fn made_row(
+    alloc: Global,
+    question: &Question<'_>,
+    grammar: &Grammar,
+) -> Result<String, QuestionError> {
+    let table = table_of(alloc, question, grammar)?;
+    let state = StateIndex(question.number(2)?);
+    let mut text = String::new(alloc);
+    push_row(alloc, &mut text, &table, state, &grammar.terminals)?;
+    Ok(text)
+}
+
+// A table with the cells and successors that arguments name from the third on.
+fn table_of<'grammar>(
+    alloc: Global,
+    question: &Question<'_>,
+    grammar: &'grammar Grammar,
+) -> Result<LaneTable<'grammar>, QuestionError> {
+    let columns = question.number(1)?;
     let mut table = LaneTable::new(alloc, grammar, columns);
     let after = question.arguments.len().saturating_add(1);
     let mut begin: usize = 3;
@@ -242,9 +256,7 @@ fn made_table(
             begin = end.saturating_add(1);
         }
     }
-    let mut text = String::new(alloc);
-    push_lane_table(alloc, &mut text, &table, count, &grammar.terminals)?;
-    Ok(text)
+    Ok(table)
 }
 
 // Adds a cell or a successor, by the arguments from one number to before another.

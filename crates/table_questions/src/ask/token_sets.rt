@@ -1,5 +1,5 @@
 //! Questions of token sets.
-use super::arguments::{piece_end, tokens_between};
+use super::arguments::{piece_end, token_at, tokens_between};
 use crate::question::{Question, QuestionError};
 use crate::show::words::push_tokens;
 use lalrpop_base::lookahead::token_set::TokenSet;
@@ -8,6 +8,7 @@ use lalrpop_base::repr::grammar::Grammar;
 use lalrpop_base::repr::terminals::TerminalSet;
 use std::alloc::Global;
 use std::cmp::Ordering;
+use std::hash::{DefaultHasher, Hash, Hasher};
 
 /// The answer to a question of token sets, where the call is one.
 pub fn answer(
@@ -16,9 +17,66 @@ pub fn answer(
     grammar: &Grammar,
 ) -> Result<Option<String>, QuestionError> {
     match question.call {
+        "token_set" => Ok(Some(token_set(alloc, question, &grammar.terminals)?)),
         "token_sets" => Ok(Some(token_sets(alloc, question, &grammar.terminals)?)),
         _ => Ok(None),
     }
+}
+
+// What the calls of one set report: its bits, whether it has tokens, also those of no terminal, and
+// what is left after the end of the input was taken out twice.
+fn token_set(
+    alloc: Global,
+    question: &Question<'_>,
+    terminals: &TerminalSet,
+) -> Result<String, QuestionError> {
+    let after = question.arguments.len().saturating_add(1);
+    let comma = piece_end(question, 1, after);
+    let mut set = tokens_between(alloc, question, 1, comma, terminals)?;
+    let mut text = String::new(alloc);
+    push_line(&mut text, "tokens", &set, terminals)?;
+    write!(text, "bits {set:?}\n")?;
+    for number in comma.saturating_add(1)..after {
+        let token = token_at(alloc, question, number)?;
+        write!(
+            text,
+            "contains {token} {}\n",
+            set.contains(&token, terminals)
+        )?;
+    }
+    let first = set.take_eof(terminals);
+    let second = set.take_eof(terminals);
+    write!(text, "take_eof {first}, then {second}\n")?;
+    push_line(&mut text, "left", &set, terminals)?;
+    push_reserved(alloc, &mut text, &mut set, terminals)?;
+    Ok(text)
+}
+
+// Appends whether a set for which room is reserved equals a new one with the same tokens, and
+// whether their hashes are equal.
+fn push_reserved(
+    alloc: Global,
+    text: &mut String,
+    set: &mut TokenSet,
+    terminals: &TerminalSet,
+) -> Result<(), OutOfMemory> {
+    let mut plain = TokenSet::new(alloc, terminals);
+    plain.union_with(set)?;
+    set.reserve(terminals.all().len().saturating_add(2))?;
+    let are_equal = *set == plain;
+    let are_hashed_equally = hash(set) == hash(&plain);
+    write!(
+        text,
+        "equal {are_equal}, equal hashes {are_hashed_equally}\n"
+    )?;
+    Ok(())
+}
+
+// What a hasher makes of a set.
+fn hash(set: &TokenSet) -> u64 {
+    let mut hasher = DefaultHasher::new();
+    set.hash(&mut hasher);
+    hasher.finish()
 }
 
 // What the calls of two sets tell.

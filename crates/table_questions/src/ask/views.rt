@@ -1,10 +1,10 @@
 //! Questions of what states show of the stack.
 ghost use Rattle.lalrpop_base.specs.Words.{IsWellFormed};
 
+use super::checks::states_by;
 use super::states::start_of;
 use crate::question::{Question, QuestionError};
 use crate::show::words::push_list;
-use lalrpop_base::lookahead::nil::Nil;
 use lalrpop_base::lr1_core::state::{BuildError, State};
 use lalrpop_base::repr::grammar::Grammar;
 use lalrpop_tables::build::build_lr0_states;
@@ -24,11 +24,15 @@ pub fn answer(
     }
 }
 
-// The views of the LR(0) states.
+// The views of the LR(0) states, or of the canonical ones.
 fn views(alloc: Global, question: &Question<'_>, grammar: &Grammar) -> Result<String, QuestionError>
     requires { IsWellFormed grammar.now }
 {
     let start = start_of(alloc, question, 1)?;
+    if question.is(2, "canonical") {
+        let states = states_by(alloc, grammar, start, "canonical")?;
+        return views_of(alloc, &states);
+    }
     match build_lr0_states(alloc, grammar, start) {
         Ok(states) => views_of(alloc, &states),
         Err(BuildError::Conflicts(error)) => views_of(alloc, &error.states),
@@ -37,7 +41,7 @@ fn views(alloc: Global, question: &Question<'_>, grammar: &Grammar) -> Result<St
 }
 
 // The views of states.
-fn views_of(alloc: Global, states: &[State<'_, Nil>]) -> Result<String, QuestionError> {
+fn views_of<L>(alloc: Global, states: &[State<'_, L>]) -> Result<String, QuestionError> {
     let mut text = String::new(alloc);
     for state in states {
         push_views(alloc, &mut text, state)?;
@@ -46,10 +50,10 @@ fn views_of(alloc: Global, states: &[State<'_, Nil>]) -> Result<String, Question
 }
 
 // Appends the views of a state.
-fn push_views(
+fn push_views<L>(
     alloc: Global,
     text: &mut String,
-    state: &State<'_, Nil>,
+    state: &State<'_, L>,
 ) -> Result<(), QuestionError> {
     write!(text, "state {}\n  max_prefix", state.index)?;
     if state.items.vec.is_empty() {

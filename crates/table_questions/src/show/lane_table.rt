@@ -102,8 +102,8 @@ fn push_rows(
     Ok(())
 }
 
-// Appends the row of a state.
-fn push_row(
+/// Appends the row of a state, or that its columns overlap.
+pub fn push_row(
     alloc: Global,
     text: &mut String,
     table: &LaneTable<'_>,
