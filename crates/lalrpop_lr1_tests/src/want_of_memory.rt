@@ -1,4 +1,5 @@
 // What calls leave behind where a growth in them was refused.
+mod calls;
 mod parses;
 mod reports;
 mod runs;

@@ -30,6 +30,15 @@ fn tokens_print(rt: HostRuntime) -> Result<(), Fail> {
 }
 
 #[test]
+#[allow(deprecated)]
+fn the_deprecated_constant_is_the_end(rt: HostRuntime) -> Result<(), Fail> {
+    let alloc = rt.alloc();
+    assert_eq!(rt; Token::EOF, Token::Eof);
+    assert_eq!(rt; format!(in alloc; "{}", Token::EOF)?.as_str(), "Eof");
+    Ok(())
+}
+
+#[test]
 fn terminals_without_repeats(rt: HostRuntime) -> Result<(), Fail> {
     let alloc = rt.alloc();
     let terminals = TerminalSet::new(alloc, literals(alloc, &["b", "a"])?)?;

@@ -1,5 +1,5 @@
-//! Tests of what `lrtab` answers where no case file can ask: readers and writers that fail, and
-//! memory that is refused.
+//! Tests of `lrtab`: each kind of result once, and what no case file can ask. This is readers and
+//! writers that fail, and memory that is refused.
 #![tactic(auto)]
 
 #[cfg(test)]

@@ -1,8 +1,9 @@
-//! Runs of the program `lrtab` that no stored case can ask: readers that fail, outputs that close,
-//! growths that are refused.
+//! Runs of the program `lrtab`: the rows of its table, and what no stored case can ask. This is
+//! readers that fail, outputs that close, and growths that are refused.
 mod deep;
 mod explanations;
 mod reports;
+mod rows;
 mod want_of_memory;
 
 use lalrpop_tables::build::Method;

@@ -69,6 +69,7 @@ fn a_full_list(rt: HostRuntime) -> Result<(), Fail> {
 // How the end comes to a set.
 #[derive(Clone, Copy, PartialEq, Eq)]
 enum How {
+    Pushed,
     Joined,
     Inserted,
     InsertedAsEnd,
@@ -80,21 +81,37 @@ struct SecondWord<'t> {
     set: TokenSet,
     old: TokenSet,
     end: TokenSet,
+    pushed: Vec<TokenSet>,
     terminals: &'t TerminalSet,
     how: How,
 }
 
+impl SecondWord<'_> {
+    // Pushes one of the sets that are made for that.
+    fn push(&mut self) -> Option<Result<bool, OutOfMemory>> {
+        let end = self.pushed.pop()?;
+        Some(Collection::push(&mut self.set, end))
+    }
+
+    // Adds the end, none where all sets are pushed.
+    fn add(&mut self) -> Option<Result<bool, OutOfMemory>> {
+        match self.how {
+            How::Pushed => self.push(),
+            How::Joined => Some(self.set.union_with(&self.end)),
+            How::Inserted => Some(self.set.insert(Token::Eof, self.terminals)),
+            How::InsertedAsEnd => Some(self.set.insert_eof(self.terminals)),
+        }
+    }
+}
+
 impl Attempt for SecondWord<'_> {
     fn attempt(&mut self, _alloc: Global) -> Option<bool> {
-        let added = match self.how {
-            How::Joined => self.set.union_with(&self.end),
-            How::Inserted => self.set.insert(Token::Eof, self.terminals),
-            How::InsertedAsEnd => self.set.insert_eof(self.terminals),
-        };
-        match added {
-            Ok(grew) => Some(grew && self.set.len() == 2 && self.set.contains_eof(self.terminals)),
-            Err(_) if self.set == self.old => None,
-            Err(_) => Some(false),
+        match self.add() {
+            Some(Ok(grew)) => {
+                Some(grew && self.set.len() == 2 && self.set.contains_eof(self.terminals))
+            }
+            Some(Err(_)) if self.set == self.old => None,
+            _ => Some(false),
         }
     }
 }
@@ -104,13 +121,18 @@ impl Attempt for SecondWord<'_> {
 fn a_second_word(rt: HostRuntime) -> Result<(), Fail> {
     let alloc = rt.alloc();
     let terminals = many_terminals(alloc)?;
-    for how in [How::Joined, How::Inserted, How::InsertedAsEnd] {
+    for how in [How::Pushed, How::Joined, How::Inserted, How::InsertedAsEnd] {
         let old = only(alloc, "5", &terminals)?;
         assert_eq!(rt; old.len(), 1);
+        let mut pushed = Vec::new(alloc);
+        for _ in 0..20 {
+            pushed.push(TokenSet::eof(alloc, &terminals)?)?;
+        }
         let mut second = SecondWord {
             set: old.clone(alloc)?,
             old,
             end: TokenSet::eof(alloc, &terminals)?,
+            pushed,
             terminals: &terminals,
             how,
         };

@@ -3,9 +3,9 @@ use super::{each_closed_output, ran_by};
 use lalrpop_tables::build::Method;
 use std::test::Fail;
 
-const ARROW: &str = "Ty = \"int\"\nTy = \"bool\"\nTy = Ty \"->\" Ty\n";
+pub(super) const ARROW: &str = "Ty = \"int\"\nTy = \"bool\"\nTy = Ty \"->\" Ty\n";
 
-const ARROW_EXPLAINED: &str = "conflict 1 in state 5 on \"->\"
+pub(super) const ARROW_EXPLAINED: &str = "conflict 1 in state 5 on \"->\"
   reduce Ty -> Ty \"->\" Ty
     Ty \"->\" Ty (*) \"->\" Ty
   shift \"->\"
