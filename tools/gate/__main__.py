@@ -9,6 +9,7 @@ COMMANDS = {
     "borrows": ("gate.borrows", "tries a view that outlives its grammar, which must not compile"),
     "quotes": ("gate.quotes", "compares what pages quote from the sources with the sources"),
     "pages": ("gate.pages", "checks the form of the pages: widths, terms and links"),
+    "crates": ("gate.crates_graph", "compares the graph of crates in ARCHITECTURE.md with crates.txt"),
     "guide": ("gate.guide", "runs the commands that pages show, and compares what they print"),
     "replay": ("gate.replay.lrtab", "replays the stored cases of lrtab"),
     "replay-by-data": ("gate.replay.by_data", "replays parse cases by the data of lrshow"),

@@ -1,27 +1,25 @@
 """tools/run borrows
 
-A view of an item lives as long as the grammar and no longer. In a scratch copy of the base crate
-the module view_outlives_grammar.txt must be refused, with the borrow checker's error for a value
-that is moved while it is borrowed. Without its line `drop(grammar);` the module must compile, so
-that it is refused for that line alone. Nothing is proved for either.
+A view of an item lives as long as the grammar and no longer. In a scratch copy of the crate of
+items the module view_outlives_grammar.txt must be refused, with the borrow checker's error for a
+value that is moved while it is borrowed. Without its line `drop(grammar);` the module must compile,
+so that it is refused for that line alone. Nothing is proved for either. The crates below are taken
+as they were proved here by `rt ci` or by `rt check` in a crate above.
 """
-import shutil
 import subprocess
 import tempfile
 
-from gate.files import ROOT, listed, read, write
+from gate.files import ROOT, read, write
+from gate.mutants.scratch import prepared
 
-CRATE, MODULE = "lalrpop_base", "view_outlives_grammar"
+CRATE, MODULE = "lalrpop_states", "view_outlives_grammar"
 MOVE, ERROR = "    drop(grammar);\n", "error[borrow-e0505]"
 
 
 def compiled(root, module):
     """What the compiler prints of a copy of the crate that has this module too, and its status."""
     with tempfile.TemporaryDirectory(prefix="borrows-") as room:
-        crate = f"{room}/crates/{CRATE}"
-        for part in ("src", "specs", "proofs"):
-            shutil.copytree(f"{root}/crates/{CRATE}/{part}", f"{crate}/{part}")
-        write(f"{room}/crates.txt", f"{CRATE}: {' '.join(listed(root)[CRATE])}\n")
+        crate = prepared(CRATE, root, room, False)
         write(f"{crate}/src/{MODULE}.rt", module)
         head, tactic, rest = read(f"{crate}/src/lib.rt").partition("#![tactic(auto)]\n")
         write(f"{crate}/src/lib.rt", f"{head}{tactic}mod {MODULE};\n{rest}")

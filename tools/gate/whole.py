@@ -15,8 +15,14 @@ import time
 from gate.files import ROOT, read, write
 
 # The parts that run beside `rt ci`, and those after it: a name, and a command of tools/run.
-BESIDE = (("tests of the gate", "test"), ("borrows", "borrows"), ("quotes", "quotes"), ("pages", "pages"))
+BESIDE = (
+    ("tests of the gate", "test"),
+    ("quotes", "quotes"),
+    ("pages", "pages"),
+    ("graph of crates", "crates"),
+)
 AFTER = (
+    ("borrows", "borrows"),
     ("commands of the pages", "guide"),
     ("replays of lrtab", "replay"),
     ("replays by the data of lrshow", "replay-by-data"),

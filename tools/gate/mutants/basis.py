@@ -31,6 +31,13 @@ def without_comments(text):
     return "\n".join(it for it in lines if it)
 
 
+def plain(text):
+    """The text of a declaration without comments, imports and words of visibility, which a refusal
+    does not rest on."""
+    lines = [it for it in without_comments(text).split("\n") if not re.match(r" *(pub )?(ghost )?use ", it)]
+    return re.sub(r"(?m)^( *)pub(\([a-z ]+\))? ", r"\1", "\n".join(lines))
+
+
 def imports_of(text):
     """What a file imports from specs: by the name that it uses, the crate, the path and the name there."""
     found = {}
@@ -50,7 +57,7 @@ def words_of(text):
         if start.re is MODULE:
             module = start[0]
             continue
-        own = text[start.start() : end]
+        own = text[start.start() : end].rstrip()
         own = f"{module}\n{own}" if own.startswith(" ") else own
         constructors = re.findall(r"(?m)^ +(?:pub )?([^\W\d]\w*) :", own) if start["kind"] == "data" else []
         found.update({it: own for it in [start["name"], *constructors]})
@@ -82,7 +89,7 @@ class Crate:
                     self.functions.setdefault(it.name, []).append((source, it))
                 elif model or (it.kind != "impl" and not it.owner):
                     name = model[1] if model else it.name
-                    self.types.setdefault(name, []).append((source, without_comments(it.text)))
+                    self.types.setdefault(name, []).append((source, plain(it.text)))
 
 
 def calls_in(text):
@@ -146,7 +153,7 @@ class Repository:
     def called(self, crates, calls):
         """The contracts of the functions that may be called, with their sources."""
         return {
-            (source, without_comments(it.contract))
+            (source, plain(it.contract))
             for above, name in calls
             for crate in crates
             for source, it in crate.functions.get(name, ())
@@ -187,8 +194,8 @@ class Mutated:
         if around and all(old in around[-1].text for old, _ in mutant.pairs):
             line = text.count("\n", 0, around[-1].start)
             marks = "\n".join(marks_above(lines, line))
-            self.text = without_comments(f"{marks}\n{around[-1].text}")
-            self.contract, self.owner = without_comments(around[-1].contract), around[-1].owner
+            self.text = plain(f"{marks}\n{around[-1].text}")
+            self.contract, self.owner = plain(around[-1].contract), around[-1].owner
             if is_of_a_trait(lines, line):
                 self.calls = {(it, self.name) for it in TYPE.findall(self.owner.partition(" for ")[0])}
         self.calls |= calls_in(without_comments("\n".join([self.text, *(new for _, new in mutant.pairs)])))

@@ -1,4 +1,4 @@
-"""tools/run mutants [--all] [--write] [--anew] [--beside FOLDER | --unedited] [CRATE..]
+"""tools/run mutants [--all] [--write [--since COMMIT]] [--anew] [--beside FOLDER | --unedited] [CRATE..]
 
 Tries mutants of the crates named, or of all: the prover must refuse each. A mutant is an edit in
 crates/CRATE/mutants/MODULE/NAME.edit that turns the meaning of a function.
@@ -10,6 +10,7 @@ others are tried too, chosen by the hash of the commit.
 
   --all       tries all mutants
   --write     writes the refusals into the ledgers, and tries no mutant whose basis is as it was
+  --since C   keeps the refusals at the commit C whose basis had all that the basis has now
   --anew      tries what it tries again, although an earlier run on this machine refused the same
   --beside F  runs beside `rt ci`, which writes what it prints to F/said and its end to F/status
   --unedited  tries copies of functions without the edits: each must be proved
@@ -34,6 +35,7 @@ from gate.mutants.kept import Kept
 from gate.mutants.ledger import Ledger
 from gate.mutants.mutant import mutants_of
 from gate.mutants.scratch import NotProved, prepared, wait_for
+from gate.mutants.since import still_refused
 from gate.mutants.trial import Trial
 
 # How many mutants are tried of which nothing changed.
@@ -82,13 +84,13 @@ def some_of(mutants, count, commit):
     return sorted(mutants, key=lambda it: hashlib.sha256(f"{commit} {it.name}".encode()).hexdigest())[:count]
 
 
-def choice(crates, how, root):
+def choice(crates, how, root, kept):
     """The mutants that are tried, and a line about them."""
     every = [it for crate in crates for it in crate.sums]
     if how.all or how.unedited:
         return every, f"mutants: all {len(every)} are tried"
     moved = {it for crate in crates for it in crate.ledger.unknown} if how.write else set()
-    changed = [it for crate in crates for it in crate.changed() if crate.sums[it] not in moved]
+    changed = [it for crate in crates for it in crate.changed() if crate.sums[it] not in moved and it not in kept]
     commit = commit_of(root)
     others = [] if how.write else some_of([it for it in every if it not in changed], OTHERS, commit)
     beside = f", and {len(others)} others by commit {commit[:8] or 'none'}" if others else ""
@@ -117,6 +119,7 @@ def given(words):
     for flag in ("--all", "--write", "--anew", "--unedited"):
         parser.add_argument(flag, action="store_true")
     parser.add_argument("--beside", metavar="FOLDER")
+    parser.add_argument("--since", metavar="COMMIT")
     parser.add_argument("--head-start", type=float, default=30.0)
     parser.add_argument("crates", metavar="CRATE", nargs="*")
     how = parser.parse_args(words)
@@ -133,7 +136,9 @@ def main(words, root=ROOT):
         print(f"mutants: no crate {unknown[0]} has any; these have: {', '.join(names)}")
         return 2
     crates = [Mutants(root, it, repository) for it in how.crates or names]
-    chosen, line = choice(crates, how, root)
+    changed = [it for crate in crates for it in crate.changed()]
+    kept = still_refused(root, how.since, repository, changed) if how.write and how.since else set()
+    chosen, line = choice(crates, how, root, kept)
     print(line, flush=True)
     if how.beside:
         # (rt ci gives out its jobs by the memory that is free when it begins)
@@ -142,17 +147,17 @@ def main(words, root=ROOT):
     lanes = BoundedSemaphore(lanes_now())
     with ThreadPoolExecutor(max(len(parts), 1)) as pool:
         trials = list(pool.map(lambda it: tried(root, *it, how, lanes), [it for it in parts if it[1]]))
-    return ended(crates, trials, how)
+    return ended(crates, trials, how, kept)
 
 
-def ended(crates, trials, how):
+def ended(crates, trials, how, kept):
     """Writes the ledgers where that is asked for, prints how the trials ended, and returns the status."""
     refused = [it for trial in trials for it in trial.refused]
     wrong = [line for it in [*crates, *trials] for line in it.wrong]
     if how.write:
         moved = {it for crate in crates for it in crate.ledger.unknown}
         for crate in crates:
-            crate.record(refused, moved)
+            crate.record([*refused, *kept], moved)
     elif not how.unedited:
         wrong += [line for crate in crates for line in crate.ledger.complaints()]
         stale = [it for crate in crates for it in crate.changed() if it in refused and it.place in crate.ledger.sums]

@@ -1,6 +1,8 @@
 """Tests what a mutant's checksum covers. In a small repository one text is changed at a time: the
 mutant must count as changed, or must not."""
 import os
+import re
+import subprocess
 import tempfile
 import unittest
 
@@ -8,6 +10,7 @@ from gate.files import read, write
 from gate.mutants.basis import Repository
 from gate.mutants.command import Mutants
 from gate.mutants.mutant import mutants_of
+from gate.mutants.since import still_refused
 
 FILES = {
     "crates.txt": "low:\nother:\nhigh: low\n",
@@ -35,6 +38,7 @@ pub struct Number {
 }
 
 impl Model for Number {
+    ghost use Rattle.low.specs.Lists.{Grows};
     ghost invariant = { λ n. n.value > 0 };
 }
 
@@ -150,6 +154,9 @@ COUNTS_NOT = {
     "a comment of a definition": (LISTS, "-- the lists that grow", "-- all lists that grow"),
     "a comment of a type": (LOW, "/// A number.", "/// One number."),
     "an import of a proof file": (ANSWERS, "use Rattle.high.proofs.Lemmas.{first}\n", "use Rattle.high.proofs.More.{first}\n"),
+    "an import of a type's model": (LOW, "    ghost use Rattle.low.specs.Lists.{Grows};\n", ""),
+    "who sees a function that it calls": (LOW, "pub fn increased", "pub(crate) fn increased"),
+    "who sees a field of a type": (LOW, "    value: usize", "    pub value: usize"),
     "a crate that is not below": ("crates/other/src/lib.rt", "ensures { ⊤ }", "ensures { result ≡ n }"),
     "another mutant": ("crates/high/mutants/part/add.edit", "new: self.value", "new: more"),
 }
@@ -223,3 +230,79 @@ class Bases(unittest.TestCase):
         crate = self.crate()
         self.assertEqual(crate.wrong, ["high/part/sum: an old text does not stand once in the file"])
         self.assertEqual([it.place for it in mutants_of(f"{self.root}/crates/high")], ["part/add", "part/sum"])
+
+
+class Since(unittest.TestCase):
+    """Refusals at an earlier commit, when the crate of the mutants had another name."""
+
+    def setUp(self):
+        room = tempfile.TemporaryDirectory(prefix="since-test-")
+        self.addCleanup(room.cleanup)
+        self.root = room.name
+        self.put(FILES)
+        crate = Mutants(self.root, "high", Repository(self.root))
+        crate.record(crate.changed(), set())
+        self.git("init", "-q")
+        self.commit()
+        os.rename(f"{self.root}/crates/high", f"{self.root}/crates/higher")
+        self.put({renamed(path): renamed(text) for path, text in FILES.items()})
+
+    def put(self, files):
+        for path, text in files.items():
+            write(f"{self.root}/{path}", text)
+
+    def git(self, *words):
+        who = ["-c", "user.name=n", "-c", "user.email=e"]
+        subprocess.run(["git", "-C", self.root, *who, *words], check=True)
+
+    def commit(self):
+        self.git("add", "-A")
+        self.git("commit", "-qm", "A commit")
+
+    def kept_while(self, path, old, new):
+        """The mutants that are kept while a text is another."""
+        path = f"{self.root}/{renamed(path)}"
+        text, old = read(path), renamed(old)
+        self.assertEqual(text.count(old), 1, old)
+        write(path, text.replace(old, renamed(new)))
+        mutants = mutants_of(f"{self.root}/crates/higher")
+        kept = still_refused(self.root, "HEAD", Repository(self.root), mutants)
+        write(path, text)
+        return sorted(it.place for it in kept)
+
+    def test_nothing(self):
+        self.assertEqual(self.kept_while(LOW, "    n + 1", "    n + 1"), ["part/add", "part/sum"])
+
+    def test_what_counts(self):
+        for what, change in COUNTS.items():
+            with self.subTest(what):
+                self.assertNotIn("part/sum", self.kept_while(*change))
+
+    def test_what_counts_not(self):
+        for what, change in COUNTS_NOT.items():
+            with self.subTest(what):
+                self.assertIn("part/sum", self.kept_while(*change))
+
+    def test_a_function_less(self):
+        """A call is resolved by its name. With a function less of that name the refusal holds."""
+        gone = """    fn helped(n: usize) -> usize
+        ensures helps { result ≡ n }
+    {
+        n
+    }
+"""
+        self.assertEqual(self.kept_while(PART, gone, ""), ["part/add", "part/sum"])
+
+    def test_a_line_that_does_not_agree(self):
+        write(f"{self.root}/crates/higher/mutants/ledger.txt", "part/sum 0 0\n")
+        os.rename(f"{self.root}/crates/higher", f"{self.root}/crates/high")
+        self.put(FILES)
+        self.commit()
+        os.rename(f"{self.root}/crates/high", f"{self.root}/crates/higher")
+        self.put({renamed(path): renamed(text) for path, text in FILES.items()})
+        self.assertEqual(self.kept_while(LOW, "    n + 1", "    n + 1"), [])
+
+
+def renamed(text):
+    """The text with another name of the crate of the mutants."""
+    return re.sub(r"\bhigh\b", "higher", text)
