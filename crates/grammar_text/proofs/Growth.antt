@@ -7,17 +7,17 @@ use Rattle.std.specs.Str.{bytes_eq}
 use Rattle.std.specs.BTreeMap.{BTreeMap, get, is_at, IsOrdered}
 use Rattle.std.proofs.lemmas.Map.Text.{is_eq-slice_cmp}
 use Rattle.lalrpop_base.specs.Words.{name_cmp, name_exact}
-use Rattle.lalrpop_base.specs.declared.repr.NonterminalString.{NonterminalString}
-use Rattle.lalrpop_base.specs.declared.repr.TerminalString.{TerminalString}
-use Rattle.lalrpop_base.specs.declared.repr.Symbol.{Symbol}
-use Rattle.lalrpop_base.specs.declared.repr.Production.{Production}
-use Rattle.lalrpop_base.specs.declared.repr.grammar.NonterminalData.{NonterminalData}
+use Rattle.lalrpop_grammar.specs.declared.repr.NonterminalString.{NonterminalString}
+use Rattle.lalrpop_grammar.specs.declared.repr.TerminalString.{TerminalString}
+use Rattle.lalrpop_grammar.specs.declared.repr.Symbol.{Symbol}
+use Rattle.lalrpop_grammar.specs.declared.repr.Production.{Production}
+use Rattle.lalrpop_grammar.specs.declared.repr.grammar.NonterminalData.{NonterminalData}
 use Rattle.std.proofs.lemmas.List.{map-append, append-nil, length-map}
 use Rattle.std.proofs.lemmas.List.Folds.{list_any-append}
 use Rattle.std.proofs.lemmas.Grind.{flat_map-append}
 use Rattle.std.specs.BTreeSet.{contains}
-use Rattle.lalrpop_base.specs.declared.repr.ActionFn.{ActionFn}
-use Rattle.lalrpop_base.specs.declared.repr.Span.{Span}
+use Rattle.lalrpop_grammar.specs.declared.repr.ActionFn.{ActionFn}
+use Rattle.lalrpop_grammar.specs.declared.repr.Span.{Span}
 use Rattle.grammar_text.specs.declared.lines.Line.TheVariants.{Blank, Fault}
 use Rattle.grammar_text.specs.declared.lines.PlacedLine.{PlacedLine}
 use Rattle.grammar_text.specs.declared.collected.Collected.{Collected}

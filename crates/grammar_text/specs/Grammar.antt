@@ -6,18 +6,18 @@ use Rattle.std.specs.Str.{bytes_eq}
 use Rattle.std.specs.BTreeMap.{get, IsOrdered}
 use Rattle.std.specs.declared.cmp.Ordering.{Ordering}
 use Rattle.lalrpop_base.specs.Words.{inline_mark, name_cmp}
-use Rattle.lalrpop_base.specs.contracts.repr.TerminalStringOrd.TheImpl as terminal
-use Rattle.lalrpop_base.specs.declared.repr.NonterminalString.{NonterminalString}
-use Rattle.lalrpop_base.specs.declared.repr.TerminalString.{TerminalString}
-use Rattle.lalrpop_base.specs.declared.repr.Symbol.{Symbol}
-use Rattle.lalrpop_base.specs.declared.repr.Symbol.TheVariants.{Nonterminal, Terminal}
-use Rattle.lalrpop_base.specs.declared.repr.Production.{Production}
-use Rattle.lalrpop_base.specs.declared.repr.Span.{Span}
-use Rattle.lalrpop_base.specs.declared.repr.grammar.Grammar.{Grammar}
-use Rattle.lalrpop_base.specs.declared.repr.grammar.Attribute.{Attribute}
-use Rattle.lalrpop_base.specs.declared.repr.grammar.NonterminalData.{NonterminalData}
-use Rattle.lalrpop_base.specs.declared.repr.grammar.ActionFnDefn.{ActionFnDefn}
-use Rattle.lalrpop_base.specs.declared.repr.grammar.ActionFnDefnKind.TheVariants.{User}
+use Rattle.lalrpop_grammar.specs.contracts.repr.TerminalStringOrd.TheImpl as terminal
+use Rattle.lalrpop_grammar.specs.declared.repr.NonterminalString.{NonterminalString}
+use Rattle.lalrpop_grammar.specs.declared.repr.TerminalString.{TerminalString}
+use Rattle.lalrpop_grammar.specs.declared.repr.Symbol.{Symbol}
+use Rattle.lalrpop_grammar.specs.declared.repr.Symbol.TheVariants.{Nonterminal, Terminal}
+use Rattle.lalrpop_grammar.specs.declared.repr.Production.{Production}
+use Rattle.lalrpop_grammar.specs.declared.repr.Span.{Span}
+use Rattle.lalrpop_grammar.specs.declared.repr.grammar.Grammar.{Grammar}
+use Rattle.lalrpop_grammar.specs.declared.repr.grammar.Attribute.{Attribute}
+use Rattle.lalrpop_grammar.specs.declared.repr.grammar.NonterminalData.{NonterminalData}
+use Rattle.lalrpop_grammar.specs.declared.repr.grammar.ActionFnDefn.{ActionFnDefn}
+use Rattle.lalrpop_grammar.specs.declared.repr.grammar.ActionFnDefnKind.TheVariants.{User}
 use Rattle.grammar_text.specs.declared.lines.Line.{Line}
 use Rattle.grammar_text.specs.declared.lines.Line.TheVariants.{Blank, Production as production_line, Inline, Fault}
 use Rattle.grammar_text.specs.declared.lines.PlacedLine.{PlacedLine}

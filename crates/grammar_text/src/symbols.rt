@@ -1,7 +1,7 @@
 //! Names, literals and symbols of a grammar text.
 ghost use Rattle.std.specs.Prelude.{◌≡◌, ◌==◌, ◌<◌, IfOk, Some, None, MatchOption, map, option_map};
 ghost use Rattle.std.specs.List.{slice_split, list_all};
-ghost use Rattle.lalrpop_base.specs.declared.repr.TerminalString.TheVariants.{Literal};
+ghost use Rattle.lalrpop_grammar.specs.declared.repr.TerminalString.TheVariants.{Literal};
 ghost use Rattle.grammar_text.specs.Symbols.{starts_name, continues_name, is_name, name_of, up_to_quote, quoted, symbol_of, symbols_of};
 
 use lalrpop_base::memory::OutOfMemory;

@@ -1,14 +1,1 @@
-pub mod check
-pub mod closures
-pub mod collapse
-pub mod conflicts
-pub mod construction
-pub mod first
-pub mod grammars
-pub mod lanes
-pub mod lists
-pub mod numbers
-pub mod parsing
-pub mod renumbering
-pub mod states
 pub mod Words

@@ -1,17 +1,15 @@
 //! Grammars, sets of tokens, items and states: what the construction of LR(1) tables and the parser
-//! share.
+//! share. This crate passes on the modules of five smaller crates.
+//!
+//! - Of `lalrpop_collections`: `exact`, `memory`, `sequence`, `text`.
+//! - Of `lalrpop_grammar`: `first`, `repr`, `spread`.
+//! - Of `lalrpop_numbers`: `numbers`.
+//! - Of `lalrpop_states`: `collections`, `kernel_set`, `lookahead`, `lr1_core`.
+//! - Of `lr1_theory`: `laws`.
 #![tactic(auto)]
 
-pub mod collections;
-pub mod exact;
-pub mod first;
-pub mod kernel_set;
-pub mod laws;
-pub mod lookahead;
-pub mod lr1_core;
-pub mod memory;
-pub mod numbers;
-pub mod repr;
-pub mod sequence;
-pub mod spread;
-pub mod text;
+pub use lalrpop_collections::{exact, memory, sequence, text};
+pub use lalrpop_grammar::{first, repr, spread};
+pub use lalrpop_numbers::numbers;
+pub use lalrpop_states::{collections, kernel_set, lookahead, lr1_core};
+pub use lr1_theory::laws;

@@ -1,6 +1,6 @@
 //! Comparing answers with what is owed.
 use crate::ask::answer;
-use crate::case_file::{Case, CaseFile};
+use case_files::case_file::{Case, CaseFile};
 use lalrpop_base::memory::OutOfMemory;
 use std::alloc::Global;
 use table_questions::question::{Question, QuestionError};

@@ -5,7 +5,6 @@
 #![tactic(auto)]
 
 mod ask;
-mod case_file;
 mod compare;
 mod making;
 mod refuse;

@@ -1,7 +1,7 @@
 //! Growths refused in turn: what the public calls answer where memory ends in them.
 use crate::ask::answer;
-use crate::case_file::{Case, CaseFile};
 use anyhow::Context;
+use case_files::case_file::{Case, CaseFile};
 use lalrpop_base::memory::OutOfMemory;
 use refused_growth::attempts::{Attempt, Outcome, refused_in_turn};
 use std::alloc::{AllocError, Global};

@@ -1,12 +1,8 @@
--- The types of base that proofs name.
-pub use Rattle.lalrpop_base.specs.declared.lookahead.nil.Nil.{Nil}
-pub use Rattle.lalrpop_base.specs.declared.lookahead.token.Token.{Token}
-pub use Rattle.lalrpop_base.specs.declared.lr1_core.state.Conflict.{Conflict}
-pub use Rattle.lalrpop_base.specs.declared.lr1_core.state.State.{State}
-pub use Rattle.lalrpop_base.specs.declared.lr1_core.state.StateIndex.{StateIndex}
-pub use Rattle.lalrpop_base.specs.declared.repr.NonterminalString.{NonterminalString}
-pub use Rattle.lalrpop_base.specs.declared.repr.Production.{Production}
-pub use Rattle.lalrpop_base.specs.declared.repr.Symbol.{Symbol}
-pub use Rattle.lalrpop_base.specs.declared.repr.TerminalString.{TerminalString}
-pub use Rattle.lalrpop_base.specs.declared.repr.grammar.Grammar.{Grammar}
-pub use Rattle.lalrpop_base.specs.declared.repr.grammar.NonterminalData.{NonterminalData}
+-- The types that proofs name.
+pub use Rattle.lalrpop_grammar.specs.declared.lookahead.token.Token.{Token}
+pub use Rattle.lalrpop_grammar.specs.declared.repr.NonterminalString.{NonterminalString}
+pub use Rattle.lalrpop_grammar.specs.declared.repr.Production.{Production}
+pub use Rattle.lalrpop_grammar.specs.declared.repr.TerminalString.{TerminalString}
+pub use Rattle.lalrpop_grammar.specs.declared.repr.grammar.Grammar.{Grammar}
+pub use Rattle.lalrpop_grammar.specs.declared.repr.grammar.NonterminalData.{NonterminalData}
+pub use Rattle.lalrpop_states.specs.declared.lr1_core.state.State.{State}

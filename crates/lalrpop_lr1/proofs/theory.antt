@@ -1,6 +1,2 @@
 -- What the proofs of the functions stand on, a folder for each thing that it is of.
-pub mod inlining
-pub mod reports
 pub mod runs
-pub mod traces
-pub mod trees

@@ -1,8 +1,4 @@
-pub mod inlining
-pub mod reports
 pub mod runs
-pub mod traces
-pub mod trees
 pub mod Words
 pub use Rattle.lalrpop_base.specs.Words as BaseWords
 pub use Rattle.lalrpop_tables.specs.Words as TablesWords

@@ -6,15 +6,15 @@ mod parse_error;
 ghost use Rattle.std.specs.Prelude.{IfOk, IfErr};
 ghost use Rattle.lalrpop_base.specs.Words.{IsOnNoRightSide, IsFirstWrong, IsWellFormed, productions};
 ghost use Rattle.lalrpop_tables.specs.Words.{Collapses, HasConflictsOf};
-ghost use Rattle.lalrpop_lr1.specs.runs.FaithfulAnswers.{IsTreeWithin, IsCutOffByTables};
+ghost use Rattle.lalrpop_parser.specs.runs.FaithfulAnswers.{IsTreeWithin, IsCutOffByTables};
 ghost use Rattle.lalrpop_lr1.specs.runs.Headline.{IsAccepted, IsToldByTables};
 ghost use Rattle.lalrpop_lr1.specs.runs.ParseAnswers.{HadTables, HadTablesWhere, IfConflicts, IfRefusedAt, IfLimitTold, TellsTrees};
-ghost use Rattle.lalrpop_lr1.specs.trees.ParseTrees.{tree_of};
+ghost use Rattle.lalrpop_parser.specs.trees.ParseTrees.{tree_of};
 
-use crate::interpret::ParseTree;
 use by_tables::parse_by_tables;
 use lalrpop_base::lr1_core::state::BuildError;
 use lalrpop_base::repr::{Grammar, NonterminalString, TerminalString};
+use lalrpop_parser::interpret::ParseTree;
 use lalrpop_tables::build::options::Options;
 use lalrpop_tables::lr1::build_states;
 pub use parse_error::ParseError;

@@ -1,9 +1,16 @@
-//! What stands on tables: the parser, whose trees are printed and counted, traces that explain
-//! conflicts, the report and the inliner.
+//! What uses LR(1) tables: the main contract, the parser, examples that explain conflicts, the
+//! report and the inliner. This crate passes on the modules of four smaller crates.
+//!
+//! - `headline`: the main contract. It builds tables, and parses by them.
+//! - Of `lalrpop_inline`: `inline`, the inliner.
+//! - Of `lalrpop_parser`: `interpret`, the parser and its trees.
+//! - Of `lalrpop_report`: `report`, the report of a construction.
+//! - Of `lalrpop_traces`: `trace`, examples of input that lead to a conflict.
 #![tactic(auto)]
 
 pub mod headline;
-pub mod inline;
-pub mod interpret;
-pub mod report;
-pub mod trace;
+
+pub use lalrpop_inline::inline;
+pub use lalrpop_parser::interpret;
+pub use lalrpop_report::report;
+pub use lalrpop_traces::trace;

@@ -1,2 +1,3 @@
--- The collapse of canonical states to LALR(1) states.
+-- States merged where they have the same dotted productions.
+pub mod Collapsed
 pub mod Lalr

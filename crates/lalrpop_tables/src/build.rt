@@ -1,25 +1,27 @@
 //! LR(1) states by the method that is asked for, and the construction of states.
 mod by_lanes;
-pub mod options;
 
 ghost use Rattle.std.specs.Prelude.{IfOk, IfErr};
 ghost use Rattle.lalrpop_base.specs.Words.{IsWellFormed};
 ghost use Rattle.lalrpop_tables.specs.answers.Lr1Answers.{AreBuiltTablesOf, FailsOn};
 ghost use Rattle.lalrpop_tables.specs.answers.TablesOrCount.{AreBuiltTablesOrCount};
 
-use crate::construction::canonical::{build_canonical_states, canonical_states_or_count};
-pub use crate::construction::kernel::Kernel;
-pub use crate::construction::lookahead_build::LookaheadBuild;
-pub use crate::construction::lr::Lr;
-pub use crate::construction::lr0::build_lr0_states;
-pub use crate::construction::tables_or_count::TablesOrCount;
 use by_lanes::tables_by_lanes;
 use lalrpop_base::lr1_core::state::Lr1Result;
 use lalrpop_base::memory::OutOfMemory;
 pub use lalrpop_base::numbers::rests::Rest;
 use lalrpop_base::repr::NonterminalString;
 use lalrpop_base::repr::grammar::Grammar;
-pub use options::{Method, Options};
+use lalrpop_construction::construction::canonical::{
+    build_canonical_states, canonical_states_or_count,
+};
+pub use lalrpop_construction::construction::kernel::Kernel;
+pub use lalrpop_construction::construction::lookahead_build::LookaheadBuild;
+pub use lalrpop_construction::construction::lr::Lr;
+pub use lalrpop_construction::construction::lr0::build_lr0_states;
+pub use lalrpop_construction::construction::tables_or_count::TablesOrCount;
+pub use lalrpop_construction::options;
+pub use lalrpop_construction::options::{Method, Options};
 use std::alloc::Global;
 
 /// The LR(1) states of a grammar by their construction numbers, or its canonical conflicts. By the

@@ -5,14 +5,14 @@ ghost use Rattle.lalrpop_tables.specs.collapse.Lalr.{Collapses};
 ghost use Rattle.lalrpop_tables.specs.answers.Lr1Answers.{AreTablesOf, AreBuiltTablesOf, FailsOn};
 ghost use Rattle.lalrpop_tables.specs.answers.TablesOrCount.{AreTablesOrCount};
 
-use crate::build::options::{Method, Options};
 use crate::build::{TablesOrCount, build_lr1_states, lr1_states_or_count};
 use crate::build_lalr::build_lalr_states;
-use crate::renumber::renumber;
 use lalrpop_base::lr1_core::state::Lr1Result;
 use lalrpop_base::memory::OutOfMemory;
 use lalrpop_base::repr::NonterminalString;
 use lalrpop_base::repr::grammar::Grammar;
+use lalrpop_construction::options::{Method, Options};
+use lalrpop_state_graph::renumber::renumber;
 use std::alloc::Global;
 
 // The states by their construction numbers, collapsed where the grammar asks for it.

@@ -1,9 +1,9 @@
 -- A list of conflicts that has grown by those of one shift more.
 use Rattle.std.proofs.Common.{◌≡◌, List, ◌∷◌, ◌++◌, ◌∙◌, sym, ap, append_assoc}
 use Rattle.std.specs.List.{flat_map}
-use Rattle.lalrpop_base.specs.declared.repr.TerminalString.{TerminalString}
-use Rattle.lalrpop_base.specs.declared.lr1_core.state.StateIndex.{StateIndex}
-use Rattle.lalrpop_base.specs.declared.lr1_core.state.Conflict.{Conflict}
+use Rattle.lalrpop_grammar.specs.declared.repr.TerminalString.{TerminalString}
+use Rattle.lalrpop_states.specs.declared.lr1_core.state.StateIndex.{StateIndex}
+use Rattle.lalrpop_states.specs.declared.lr1_core.state.Conflict.{Conflict}
 use Rattle.lalrpop_tables_tests.specs.declared.word_lookahead.Word.{Word}
 use Rattle.lalrpop_tables_tests.specs.WordConflicts.{Reduction, shift_conflicts}
 

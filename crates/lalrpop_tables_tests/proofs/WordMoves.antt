@@ -5,14 +5,14 @@ use Rattle.std.proofs.lemmas.Bool.{or_cases, cases_eq, cases_Bool, false≢true}
 use Rattle.std.proofs.lemmas.Option.{slice_get_within}
 use Rattle.std.proofs.lemmas.Nat.Bits.{bit_at-pow_same, bit_at-pow_other}
 use Rattle.lalrpop_base.specs.Words.{Bits, has, has-join, has-no_bits, holds_token, IsFirstSet, IsNullable, AllDiffer, FitsTokens, HasToken, Rules, HasKnownTerminals}
-use Rattle.lalrpop_base.specs.declared.lookahead.token.Token.{Token}
-use Rattle.lalrpop_base.specs.declared.lookahead.token.Token.TheVariants.{Eof, Error, Terminal as TokenOf}
-use Rattle.lalrpop_base.specs.declared.repr.Production.{Production}
-use Rattle.lalrpop_base.specs.declared.repr.Symbol.{Symbol}
-use Rattle.lalrpop_base.specs.declared.repr.TerminalString.{TerminalString}
-use Rattle.lalrpop_base.proofs.theory.sets.HeldTokens.{place_there}
-use Rattle.lalrpop_base.proofs.theory.grammars.KnownTerminals.{token_bit, held_bit, bit_held, begun_bit}
-use Rattle.lalrpop_base.proofs.theory.lists.Places.{one_place, same_some}
+use Rattle.lalrpop_grammar.specs.declared.lookahead.token.Token.{Token}
+use Rattle.lalrpop_grammar.specs.declared.lookahead.token.Token.TheVariants.{Eof, Error, Terminal as TokenOf}
+use Rattle.lalrpop_grammar.specs.declared.repr.Production.{Production}
+use Rattle.lalrpop_grammar.specs.declared.repr.Symbol.{Symbol}
+use Rattle.lalrpop_grammar.specs.declared.repr.TerminalString.{TerminalString}
+use Rattle.lalrpop_states.proofs.theory.states.HeldTokens.{place_there}
+use Rattle.lalrpop_states.proofs.theory.grammars.KnownTerminals.{token_bit, held_bit, bit_held, begun_bit}
+use Rattle.lalrpop_collections.proofs.theory.lists.Places.{one_place, same_some}
 use Rattle.lalrpop_tables_tests.specs.declared.word_lookahead.Word.{Word}
 use Rattle.lalrpop_tables_tests.specs.Words.{bits_of_word, has-bits_of_word, word-zero, word-or}
 use Rattle.lalrpop_tables_tests.specs.WordMoves.{BeginsLow, IsWordOf}

@@ -3,12 +3,12 @@ use Rattle.std.specs.Prelude.{ℕ, ◌^◌, ◌==◌, not, bit_and, List, [], �
 use Rattle.std.specs.List.{flat_map}
 use Rattle.std.specs.Borrow.{Bor}
 use Rattle.lalrpop_base.specs.Words.{place_in}
-use Rattle.lalrpop_base.specs.declared.repr.Production.{Production}
-use Rattle.lalrpop_base.specs.declared.repr.TerminalString.{TerminalString}
-use Rattle.lalrpop_base.specs.declared.lr1_core.state.StateIndex.{StateIndex}
-use Rattle.lalrpop_base.specs.declared.lr1_core.state.State.{State}
-use Rattle.lalrpop_base.specs.declared.lr1_core.state.Conflict.{Conflict}
-use Rattle.lalrpop_base.specs.declared.lr1_core.state.Action.TheVariants.{Shift, Reduce}
+use Rattle.lalrpop_grammar.specs.declared.repr.Production.{Production}
+use Rattle.lalrpop_grammar.specs.declared.repr.TerminalString.{TerminalString}
+use Rattle.lalrpop_states.specs.declared.lr1_core.state.StateIndex.{StateIndex}
+use Rattle.lalrpop_states.specs.declared.lr1_core.state.State.{State}
+use Rattle.lalrpop_states.specs.declared.lr1_core.state.Conflict.{Conflict}
+use Rattle.lalrpop_states.specs.declared.lr1_core.state.Action.TheVariants.{Shift, Reduce}
 use Rattle.lalrpop_tables_tests.specs.declared.word_lookahead.Word.{Word}
 use Rattle.lalrpop_tables_tests.specs.Words.{holds_bit}
 

@@ -22,6 +22,14 @@ use std::test::Fail;
 use test_fixtures::texts::{ONE, first_production, grammar, literal};
 
 #[test]
+fn options_by_default(rt: HostRuntime) -> Result<(), Fail> {
+    let options = Options::default();
+    assert!(rt; options.method == Method::Lane);
+    assert_eq!(rt; (options.stop_after, options.max_copies), (0, 10000));
+    Ok(())
+}
+
+#[test]
 fn grammars_that_are_not_well_formed(rt: HostRuntime) -> Result<(), Fail> {
     let alloc = rt.alloc();
     let s = name_of(alloc, "S")?;

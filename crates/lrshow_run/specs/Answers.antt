@@ -1,6 +1,6 @@
 -- What the program tells.
 use Rattle.std.specs.Prelude.{◌≡◌, ℕ, List, Option, None, Some, codes}
-use Rattle.lalrpop_tables.specs.declared.build.options.Method.{Method}
+use Rattle.lalrpop_construction.specs.declared.options.Method.{Method}
 use Rattle.lrtab_run.specs.Answers.{IsAnswerTo}
 use Rattle.lrtab_run.specs.Shown.{line}
 use Rattle.lrtab_run.specs.declared.answer.Answer.{Answer}

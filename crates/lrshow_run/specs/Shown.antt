@@ -2,11 +2,11 @@
 use Rattle.std.specs.Prelude.{◌≡◌, ◌<◌, ◌≤◌, nat_lt, ℕ, List, [], ◌++◌, length, Option, None, Some, codes, string_bytes, if◌then◌else◌}
 use Rattle.std.specs.Fmt.{decimal}
 use Rattle.lalrpop_base.specs.Words.{Bits}
-use Rattle.lalrpop_base.specs.declared.lr1_core.state.Conflict.{Conflict}
-use Rattle.lalrpop_base.specs.declared.lr1_core.state.State.{State}
-use Rattle.lalrpop_base.specs.declared.repr.NonterminalString.{NonterminalString}
-use Rattle.lalrpop_base.specs.declared.repr.grammar.Grammar.{Grammar}
-use Rattle.lalrpop_tables.specs.declared.build.options.Method.{Method}
+use Rattle.lalrpop_states.specs.declared.lr1_core.state.Conflict.{Conflict}
+use Rattle.lalrpop_states.specs.declared.lr1_core.state.State.{State}
+use Rattle.lalrpop_grammar.specs.declared.repr.NonterminalString.{NonterminalString}
+use Rattle.lalrpop_grammar.specs.declared.repr.grammar.Grammar.{Grammar}
+use Rattle.lalrpop_construction.specs.declared.options.Method.{Method}
 use Rattle.grammar_text.specs.Symbols.{name_of}
 use Rattle.lrtab_run.specs.Shown.{line}
 use Rattle.lrtab_run.specs.declared.answer.Shown.{Shown}

@@ -6,12 +6,12 @@ use Rattle.std.proofs.lemmas.Grind.{flat_map-append}
 use mathlib.Core.Bool.{true≢false}
 use mathlib.Core.List.{nil≢cons}
 use Rattle.lalrpop_base.specs.Words.{Bits, has, IsFirstSet, Rules}
-use Rattle.lalrpop_base.proofs.theory.lists.Members.{contains_head, contains_tail}
+use Rattle.lalrpop_collections.proofs.theory.lists.Members.{contains_head, contains_tail}
 use Rattle.lalrpop_lr1.specs.Words.{IsExampleOf, following, prefixes, place, spelled, Graph, AreKnownEdges, to_come, GoesTo, IsOfFirst, Meets}
 use Rattle.lalrpop_lr1.specs.Words.{NoneMeets, IsSameFilter, IsOfFirstMeeting}
-use Rattle.lalrpop_lr1.specs.declared.trace.enumerator.PathEnumerator.{PathEnumerator}
-use Rattle.lalrpop_lr1.specs.declared.trace.example.Example.{Example}
-use Rattle.lalrpop_lr1.specs.declared.trace.filtered.FilteredPathEnumerator.{FilteredPathEnumerator}
+use Rattle.lalrpop_traces.specs.declared.trace.enumerator.PathEnumerator.{PathEnumerator}
+use Rattle.lalrpop_traces.specs.declared.trace.example.Example.{Example}
+use Rattle.lalrpop_traces.specs.declared.trace.filtered.FilteredPathEnumerator.{FilteredPathEnumerator}
 use Rattle.lrtab_run.specs.Explained.{AreFirst, enough, none, skip, keep, marked_line, path_line, path_lines}
 use Rattle.lrtab_run.specs.Explaining.{Grows, AreFirstLines}
 

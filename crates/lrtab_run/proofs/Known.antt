@@ -2,7 +2,7 @@
 use Rattle.std.proofs.Common.{◌≡◌, ℕ, inl, inr, List, Option, None, Some, Result, Ok, Err, subst}
 use Rattle.std.specs.Prelude.{IfSome, IfOk, position, string_bytes}
 use Rattle.std.specs.Str.{IsUtf8}
-use Rattle.lalrpop_base.specs.declared.memory.OutOfMemory.{OutOfMemory}
+use Rattle.lalrpop_collections.specs.declared.memory.OutOfMemory.{OutOfMemory}
 use Rattle.lrtab_run.specs.declared.answer.Answer.{Answer}
 use Rattle.lrtab_run.specs.declared.answer.Shown.{Shown}
 use Rattle.lrtab_run.specs.declared.answer.Answer.TheVariants.{Output, Fault, Usage, TooManyActions, Memory}
@@ -10,7 +10,7 @@ use Rattle.grammar_text.specs.declared.read_error.ReadError.TheVariants.{Line as
 use Rattle.grammar_text.specs.Lines.{lines_of, is_fault}
 use Rattle.grammar_text.specs.Faults.{IsFaultOf}
 use Rattle.grammar_text.specs.Grammar.{StandsFor}
-use Rattle.lalrpop_base.specs.declared.repr.grammar.Grammar.{Grammar}
+use Rattle.lalrpop_grammar.specs.declared.repr.grammar.Grammar.{Grammar}
 use Rattle.lrtab_run.specs.Answers.{OfFile, IsOutputOf, IsCyclic, IsTooMany, inlined, IsFaultText, IsAnswerTo, IsAnswerToGrammar}
 
 of_file : (P : List ℕ → Type 0) (bytes : List ℕ) (known : Option (List ℕ)) → IfSome known (λ xs. bytes ≡ xs) → P bytes → OfFile P (Some known)

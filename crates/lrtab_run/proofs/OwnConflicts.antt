@@ -4,21 +4,21 @@ use Rattle.std.specs.Prelude.{Contains, slice_get}
 use Rattle.std.specs.List.{filter, flat_map}
 use Rattle.std.proofs.lemmas.List.Elements.{Contains-append_cases}
 use Rattle.lalrpop_base.specs.Words.{Bits, has, Dotted, share, shift_conflict, conflicts_on_place, shift_conflicts, reduce_conflict, later_conflicts}
-use Rattle.lalrpop_base.specs.Words.{reduce_conflicts, state_conflicts, place_in, productions, IsWellFormed, rules_of, AreAllConflicts, AreStatesOf, canonical_of}
+use Rattle.lalrpop_base.specs.Words.{reduce_conflicts, state_conflicts, place_in, productions, IsWellFormed, rules_of, AreAllConflicts}
+use Rattle.lalrpop_tables.specs.Words.{AreStatesOf, canonical_of}
 use Rattle.lalrpop_base.specs.Words.{reductions_of, seen_reduction}
-use Rattle.lalrpop_base.specs.conflicts.StateConflicts.{Reduction}
-use Rattle.lalrpop_base.specs.declared.lr1_core.state.Conflict.{Conflict}
-use Rattle.lalrpop_base.specs.declared.lr1_core.state.State.{State}
-use Rattle.lalrpop_base.specs.declared.lr1_core.state.StateIndex.{StateIndex}
-use Rattle.lalrpop_base.specs.declared.repr.NonterminalString.{NonterminalString}
-use Rattle.lalrpop_base.specs.declared.repr.Production.{Production}
-use Rattle.lalrpop_base.specs.declared.repr.TerminalString.{TerminalString}
-use Rattle.lalrpop_base.specs.declared.repr.grammar.Grammar.{Grammar}
-use Rattle.lalrpop_base.proofs.theory.states.ContentsViews.{contains_of_map, contains_map}
-use Rattle.lalrpop_base.proofs.theory.grammars.Grammars.{known_symbols}
-use Rattle.lalrpop_base.proofs.theory.lists.Filters.{of_kept}
-use Rattle.lalrpop_base.proofs.theory.lists.Members.{Contains-none, contains_head, contains_tail, contains-cons, of_flat}
-use Rattle.lalrpop_base.proofs.theory.lists.Lists.{contains_place}
+use Rattle.lalrpop_states.specs.conflicts.StateConflicts.{Reduction}
+use Rattle.lalrpop_states.specs.declared.lr1_core.state.Conflict.{Conflict}
+use Rattle.lalrpop_states.specs.declared.lr1_core.state.State.{State}
+use Rattle.lalrpop_states.specs.declared.lr1_core.state.StateIndex.{StateIndex}
+use Rattle.lalrpop_grammar.specs.declared.repr.NonterminalString.{NonterminalString}
+use Rattle.lalrpop_grammar.specs.declared.repr.Production.{Production}
+use Rattle.lalrpop_grammar.specs.declared.repr.TerminalString.{TerminalString}
+use Rattle.lalrpop_grammar.specs.declared.repr.grammar.Grammar.{Grammar}
+use Rattle.lalrpop_collections.proofs.theory.lists.Lists.{contains_of_map, contains_map, contains_place}
+use Rattle.lalrpop_grammar.proofs.theory.grammars.Grammars.{known_symbols}
+use Rattle.lalrpop_collections.proofs.theory.lists.Filters.{of_kept}
+use Rattle.lalrpop_collections.proofs.theory.lists.Members.{Contains-none, contains_head, contains_tail, contains-cons, of_flat}
 use Rattle.lrtab_run.specs.Explaining.{AreOwnStates, IsOwnConflict}
 
 -- ---- reductions by some productions, and conflicts of them

@@ -3,18 +3,18 @@ use Rattle.std.proofs.Common.{◌≡◌, ◌≤◌, ℕ, List, Result, Ok, Err, 
 use Rattle.std.specs.Prelude.{IfOk, IfErr, string_bytes}
 use Rattle.std.specs.declared.string.String.{String}
 use Rattle.lalrpop_base.specs.Words.{Bits, contents, HasOutcome, IsOnNoRightSide, Parsed, Refused, Limit, IsFirstWrong, beside, no_trees, leaves, nodes, productions}
-use Rattle.lalrpop_base.specs.declared.lr1_core.state.State.{State}
-use Rattle.lalrpop_base.specs.declared.memory.OutOfMemory.{OutOfMemory}
-use Rattle.lalrpop_base.specs.declared.repr.NonterminalString.{NonterminalString}
-use Rattle.lalrpop_base.specs.declared.repr.TerminalString.{TerminalString}
-use Rattle.lalrpop_base.specs.declared.repr.TerminalString.TheVariants.{Literal}
-use Rattle.lalrpop_base.specs.declared.repr.grammar.Grammar.{Grammar}
+use Rattle.lalrpop_states.specs.declared.lr1_core.state.State.{State}
+use Rattle.lalrpop_collections.specs.declared.memory.OutOfMemory.{OutOfMemory}
+use Rattle.lalrpop_grammar.specs.declared.repr.NonterminalString.{NonterminalString}
+use Rattle.lalrpop_grammar.specs.declared.repr.TerminalString.{TerminalString}
+use Rattle.lalrpop_grammar.specs.declared.repr.TerminalString.TheVariants.{Literal}
+use Rattle.lalrpop_grammar.specs.declared.repr.grammar.Grammar.{Grammar}
 use Rattle.lalrpop_tables.specs.Words.{AreTablesOf}
-use Rattle.lalrpop_tables.specs.declared.build.options.Method.{Method}
+use Rattle.lalrpop_construction.specs.declared.options.Method.{Method}
 use Rattle.lalrpop_lr1.specs.Words.{IsAnswer, IsTreeWithin, IsCutOff, AnswersTrees, IfRefused, IfLimit, tree_of}
-use Rattle.lalrpop_lr1.specs.declared.interpret.error.InterpretError.{InterpretError}
-use Rattle.lalrpop_lr1.specs.declared.interpret.error.InterpretError.TheVariants.{Refused as RefusedBy, Limit as LimitPassed, Memory}
-use Rattle.lalrpop_lr1.specs.declared.interpret.tree.ParseTree.{ParseTree}
+use Rattle.lalrpop_parser.specs.declared.interpret.error.InterpretError.{InterpretError}
+use Rattle.lalrpop_parser.specs.declared.interpret.error.InterpretError.TheVariants.{Refused as RefusedBy, Limit as LimitPassed, Memory}
+use Rattle.lalrpop_parser.specs.declared.interpret.tree.ParseTree.{ParseTree}
 use Rattle.lrtab_run.specs.Words.{Parse}
 use Rattle.lrtab_run.specs.Shown.{IsTextOf, IsParseShown, IsTaskShown}
 

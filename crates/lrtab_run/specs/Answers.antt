@@ -10,9 +10,9 @@ use Rattle.grammar_text.specs.declared.read_error.ReadError.TheVariants.{Line as
 use Rattle.grammar_text.specs.Lines.{lines_of, is_fault}
 use Rattle.grammar_text.specs.Faults.{IsFaultOf}
 use Rattle.grammar_text.specs.Grammar.{StandsFor}
-use Rattle.lalrpop_base.specs.declared.repr.NonterminalString.{NonterminalString}
-use Rattle.lalrpop_base.specs.declared.repr.grammar.Grammar.{Grammar}
-use Rattle.lalrpop_tables.specs.declared.build.options.Method.{Method}
+use Rattle.lalrpop_grammar.specs.declared.repr.NonterminalString.{NonterminalString}
+use Rattle.lalrpop_grammar.specs.declared.repr.grammar.Grammar.{Grammar}
+use Rattle.lalrpop_construction.specs.declared.options.Method.{Method}
 use Rattle.lalrpop_lr1.specs.Words.{IsOnRing, HasTooMany}
 use Rattle.lrtab_run.specs.Words.{Asked}
 use Rattle.lrtab_run.specs.Shown.{line, IsShown, IsShownInlined}

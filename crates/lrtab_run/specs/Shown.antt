@@ -3,19 +3,19 @@ use Rattle.std.specs.Prelude.{◌≡◌, ◌↔◌, ◌⊎◌, ℕ, ◌<◌, ◌
 use Rattle.std.specs.Fmt.{decimal}
 use Rattle.lalrpop_base.specs.Words.{Bits, contents, IsSentence, IsOnNoRightSide, token_text, Outcome, Parsed, Refused, Limit, HasOutcome, IsFirstWrong}
 use Rattle.lalrpop_base.specs.Words.{Contents, Tree, beside, no_trees, leaves, nodes, IsParseTree, IsWellFormed, productions, rules_of}
-use Rattle.lalrpop_base.specs.declared.lr1_core.state.State.{State}
-use Rattle.lalrpop_base.specs.declared.lr1_core.state.TableConstructionError.{TableConstructionError}
-use Rattle.lalrpop_base.specs.declared.repr.NonterminalString.{NonterminalString}
-use Rattle.lalrpop_base.specs.declared.repr.Production.{Production}
-use Rattle.lalrpop_base.specs.declared.repr.TerminalString.{TerminalString}
-use Rattle.lalrpop_base.specs.declared.repr.TerminalString.TheVariants.{Literal}
-use Rattle.lalrpop_base.specs.declared.repr.grammar.Grammar.{Grammar}
+use Rattle.lalrpop_states.specs.declared.lr1_core.state.State.{State}
+use Rattle.lalrpop_states.specs.declared.lr1_core.state.TableConstructionError.{TableConstructionError}
+use Rattle.lalrpop_grammar.specs.declared.repr.NonterminalString.{NonterminalString}
+use Rattle.lalrpop_grammar.specs.declared.repr.Production.{Production}
+use Rattle.lalrpop_grammar.specs.declared.repr.TerminalString.{TerminalString}
+use Rattle.lalrpop_grammar.specs.declared.repr.TerminalString.TheVariants.{Literal}
+use Rattle.lalrpop_grammar.specs.declared.repr.grammar.Grammar.{Grammar}
 use Rattle.lalrpop_tables.specs.Words.{AreTablesOf, HasConflictsOf, IsConflictCount}
-use Rattle.lalrpop_tables.specs.declared.build.options.Method.{Method}
+use Rattle.lalrpop_construction.specs.declared.options.Method.{Method}
 use Rattle.lalrpop_lr1.specs.Words.{IsCutOff, IsOutcomeFor, IsMarked, Mentions, IsInlined, tree_of, tree_text, tables_report, failure_report}
-use Rattle.lalrpop_lr1.specs.declared.interpret.error.InterpretError.{InterpretError}
-use Rattle.lalrpop_lr1.specs.declared.interpret.error.InterpretError.TheVariants.{Refused as RefusedBy, Limit as LimitPassed, Memory}
-use Rattle.lalrpop_lr1.specs.declared.interpret.tree.ParseTree.{ParseTree}
+use Rattle.lalrpop_parser.specs.declared.interpret.error.InterpretError.{InterpretError}
+use Rattle.lalrpop_parser.specs.declared.interpret.error.InterpretError.TheVariants.{Refused as RefusedBy, Limit as LimitPassed, Memory}
+use Rattle.lalrpop_parser.specs.declared.interpret.tree.ParseTree.{ParseTree}
 use Rattle.grammar_text.specs.Symbols.{name_of}
 use Rattle.lrtab_run.specs.Explained.{IsExplanation}
 use Rattle.lrtab_run.specs.Words.{Asked, Task, Parse, Report, Explain}

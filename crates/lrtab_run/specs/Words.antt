@@ -2,8 +2,8 @@
 use Rattle.std.specs.Prelude.{ℕ, ◌^◌, nat_lt, ◌&&◌, List, [], ◌∷◌, length, map, Option, None, Some, option_map, codes, if◌then◌else◌, string_bytes}
 use Rattle.std.specs.Str.{bytes_eq, all_ascii_digits}
 use Rattle.std.specs.Str.Parse.{digits_value}
-use Rattle.lalrpop_tables.specs.declared.build.options.Method.{Method}
-use Rattle.lalrpop_tables.specs.declared.build.options.Method.TheVariants.{Lane, Canonical}
+use Rattle.lalrpop_construction.specs.declared.options.Method.{Method}
+use Rattle.lalrpop_construction.specs.declared.options.Method.TheVariants.{Lane, Canonical}
 use Rattle.lrtab_run.specs.declared.words.Request.{Request}
 use Rattle.lrtab_run.specs.declared.words.Task.{Task as TaskWords}
 use Rattle.lrtab_run.specs.declared.words.Task.TheVariants.{Parse as ParseWords, Report as ReportWords, Explain as ExplainWords}

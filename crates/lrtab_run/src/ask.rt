@@ -1,8 +1,8 @@
 //! What a program may be asked of a grammar.
 ghost use Rattle.std.specs.Prelude.{◌≡◌, IfOk, false};
 ghost use Rattle.lalrpop_base.specs.Words.{IsWellFormed};
-ghost use Rattle.lalrpop_base.specs.declared.repr.grammar.Grammar.{Grammar};
-ghost use Rattle.lalrpop_tables.specs.declared.build.options.Method.{Method};
+ghost use Rattle.lalrpop_grammar.specs.declared.repr.grammar.Grammar.{Grammar};
+ghost use Rattle.lalrpop_construction.specs.declared.options.Method.{Method};
 ghost use Rattle.lrtab_run.specs.declared.answer.Shown.{Shown};
 
 use crate::answer::Shown;

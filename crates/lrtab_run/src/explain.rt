@@ -5,7 +5,7 @@ mod lines;
 
 ghost use Rattle.std.specs.Prelude.{◌≡◌, ◌↔◌, IfOk, OnOk, IsTrue, Some, Contains, slice_get, string_bytes};
 ghost use Rattle.lalrpop_base.specs.Words.{IsWellFormed, productions, rules_of, Bits};
-ghost use Rattle.lalrpop_base.specs.declared.lr1_core.state.Conflict.{Conflict};
+ghost use Rattle.lalrpop_states.specs.declared.lr1_core.state.Conflict.{Conflict};
 ghost use Rattle.lalrpop_tables.specs.Words.{ReducesOwn};
 ghost use Rattle.lrtab_run.specs.Explained.{IsReducePart, IsShiftPart, IsItemPart, IsActionPart, IsConflictPart, IsExplanation, HasParts};
 ghost use Rattle.lrtab_run.specs.Explaining.{Grows, AreOwnStates, IsOwnConflict};

@@ -1,7 +1,7 @@
 //! What `lrtab` shows of a grammar.
 ghost use Rattle.std.specs.Prelude.{◌≡◌, IfOk, map, string_bytes, false, is_ok, if◌then◌else◌};
 ghost use Rattle.lalrpop_base.specs.Words.{IsWellFormed};
-ghost use Rattle.lalrpop_base.specs.declared.repr.TerminalString.TheVariants.{Literal};
+ghost use Rattle.lalrpop_grammar.specs.declared.repr.TerminalString.TheVariants.{Literal};
 ghost use Rattle.lrtab_run.specs.Words.{Parse, Report, Explain, request_view};
 ghost use Rattle.lrtab_run.specs.Shown.{IsCountText, IsShown, IsTaskShown, IsTextOf};
 ghost use Rattle.lrtab_run.specs.Answers.{IsShownWhole};

@@ -1,10 +1,10 @@
 -- Examples of input as JSON.
 use Rattle.std.specs.Prelude.{ℕ, List, ◌++◌, codes}
 use Rattle.std.specs.Fmt.{decimal}
-use Rattle.lalrpop_lr1.specs.declared.trace.example.Example.{Example}
-use Rattle.lalrpop_lr1.specs.declared.trace.example.ExampleSymbol.{ExampleSymbol}
-use Rattle.lalrpop_lr1.specs.declared.trace.example.ExampleSymbol.TheVariants.{Symbol as SymbolOf, Epsilon}
-use Rattle.lalrpop_lr1.specs.declared.trace.example.Reduction.{Reduction}
+use Rattle.lalrpop_traces.specs.declared.trace.example.Example.{Example}
+use Rattle.lalrpop_traces.specs.declared.trace.example.ExampleSymbol.{ExampleSymbol}
+use Rattle.lalrpop_traces.specs.declared.trace.example.ExampleSymbol.TheVariants.{Symbol as SymbolOf, Epsilon}
+use Rattle.lalrpop_traces.specs.declared.trace.example.Reduction.{Reduction}
 use Rattle.table_data.specs.declared.examples.ShownItem.{ShownItem}
 use Rattle.table_data.specs.Json.{array}
 use Rattle.table_data.specs.Names.{name_json, symbol_json}

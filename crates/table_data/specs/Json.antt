@@ -2,7 +2,7 @@
 use Rattle.std.specs.Prelude.{ℕ, List, [], ◌∷◌, ◌++◌, codes}
 use Rattle.std.specs.Fmt.{decimal}
 use Rattle.std.specs.List.{flat_map}
-use Rattle.lalrpop_base.specs.declared.lr1_core.state.StateIndex.{StateIndex}
+use Rattle.lalrpop_states.specs.declared.lr1_core.state.StateIndex.{StateIndex}
 
 -- the text of a value behind a separator
 abbrev pub behind : {X : Type 0} → List ℕ → (X → List ℕ) → X → List ℕ

@@ -2,13 +2,13 @@
 use Rattle.std.specs.Prelude.{ℕ, List, ◌++◌, codes, map}
 use Rattle.json.specs.Print.{quoted}
 use Rattle.lalrpop_base.specs.Words.{Bits, rising, token_of}
-use Rattle.lalrpop_base.specs.declared.repr.NonterminalString.{NonterminalString}
-use Rattle.lalrpop_base.specs.declared.repr.TerminalString.{TerminalString}
-use Rattle.lalrpop_base.specs.declared.repr.TerminalString.TheVariants.{Literal, Bare, Error}
-use Rattle.lalrpop_base.specs.declared.repr.Symbol.{Symbol}
-use Rattle.lalrpop_base.specs.declared.repr.Symbol.TheVariants.{Nonterminal, Terminal}
-use Rattle.lalrpop_base.specs.declared.lookahead.token.Token.{Token}
-use Rattle.lalrpop_base.specs.declared.lookahead.token.Token.TheVariants.{Eof, Error as ErrorToken, Terminal as TerminalToken}
+use Rattle.lalrpop_grammar.specs.declared.repr.NonterminalString.{NonterminalString}
+use Rattle.lalrpop_grammar.specs.declared.repr.TerminalString.{TerminalString}
+use Rattle.lalrpop_grammar.specs.declared.repr.TerminalString.TheVariants.{Literal, Bare, Error}
+use Rattle.lalrpop_grammar.specs.declared.repr.Symbol.{Symbol}
+use Rattle.lalrpop_grammar.specs.declared.repr.Symbol.TheVariants.{Nonterminal, Terminal}
+use Rattle.lalrpop_grammar.specs.declared.lookahead.token.Token.{Token}
+use Rattle.lalrpop_grammar.specs.declared.lookahead.token.Token.TheVariants.{Eof, Error as ErrorToken, Terminal as TerminalToken}
 use Rattle.table_data.specs.Json.{array}
 
 -- a nonterminal is its name

@@ -1,7 +1,7 @@
 -- Productions as JSON.
 use Rattle.std.specs.Prelude.{ℕ, List, ◌++◌, codes}
 use Rattle.std.specs.Fmt.{decimal}
-use Rattle.lalrpop_base.specs.declared.repr.Production.{Production}
+use Rattle.lalrpop_grammar.specs.declared.repr.Production.{Production}
 use Rattle.table_data.specs.Json.{array}
 use Rattle.table_data.specs.Names.{name_json, symbol_json}
 

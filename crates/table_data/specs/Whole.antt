@@ -1,10 +1,10 @@
 -- The whole JSON text of a grammar and its states.
 use Rattle.std.specs.Prelude.{◌≡◌, ℕ, List, ◌++◌, codes}
 use Rattle.lalrpop_base.specs.Words.{Bits, productions}
-use Rattle.lalrpop_base.specs.declared.repr.NonterminalString.{NonterminalString}
-use Rattle.lalrpop_base.specs.declared.repr.grammar.Grammar.{Grammar}
-use Rattle.lalrpop_base.specs.declared.lr1_core.state.Conflict.{Conflict}
-use Rattle.lalrpop_base.specs.declared.lr1_core.state.State.{State}
+use Rattle.lalrpop_grammar.specs.declared.repr.NonterminalString.{NonterminalString}
+use Rattle.lalrpop_grammar.specs.declared.repr.grammar.Grammar.{Grammar}
+use Rattle.lalrpop_states.specs.declared.lr1_core.state.Conflict.{Conflict}
+use Rattle.lalrpop_states.specs.declared.lr1_core.state.State.{State}
 use Rattle.table_data.specs.declared.conflicts.ShownConflict.{ShownConflict}
 use Rattle.table_data.specs.Conflicts.{AreShown, conflict_json}
 use Rattle.table_data.specs.Json.{array}

@@ -2,11 +2,11 @@
 use Rattle.std.specs.Prelude.{ℕ, ◌==◌, ◌||◌, Bool, true, false, List, [], ◌++◌, Option, None, Some, codes, map, slice_get, if◌then◌else◌}
 use Rattle.std.specs.List.{flat_map, list_any}
 use Rattle.lalrpop_base.specs.Words.{Bits}
-use Rattle.lalrpop_base.specs.declared.repr.NonterminalString.{NonterminalString}
-use Rattle.lalrpop_base.specs.declared.repr.TerminalString.{TerminalString}
-use Rattle.lalrpop_base.specs.declared.lr1_core.state.Conflict.{Conflict}
-use Rattle.lalrpop_base.specs.declared.lr1_core.state.State.{State}
-use Rattle.lalrpop_base.specs.declared.lr1_core.state.StateIndex.{StateIndex}
+use Rattle.lalrpop_grammar.specs.declared.repr.NonterminalString.{NonterminalString}
+use Rattle.lalrpop_grammar.specs.declared.repr.TerminalString.{TerminalString}
+use Rattle.lalrpop_states.specs.declared.lr1_core.state.Conflict.{Conflict}
+use Rattle.lalrpop_states.specs.declared.lr1_core.state.State.{State}
+use Rattle.lalrpop_states.specs.declared.lr1_core.state.StateIndex.{StateIndex}
 use Rattle.table_pictures.specs.Edges.{edges}
 use Rattle.table_pictures.specs.Nodes.{node}
 use Rattle.table_pictures.specs.declared.edges.Shown.{Shown}

@@ -1,15 +1,16 @@
 -- The traces of a state, and what each action that is traced keeps.
 use Rattle.std.proofs.Common.{◌≡◌, ◌∙◌, ◌<◌, ℕ, List, length, sym, subst, arith}
-use Rattle.lalrpop_base.specs.Words.{AreCoherent, IsWellFormed, productions, rules_of, AreLr0States}
-use Rattle.lalrpop_base.specs.declared.lookahead.nil.Nil.{Nil}
-use Rattle.lalrpop_base.specs.declared.lr1_core.state.Action.{Action}
-use Rattle.lalrpop_base.specs.declared.lr1_core.state.State.{State}
-use Rattle.lalrpop_base.specs.declared.repr.NonterminalString.{NonterminalString}
-use Rattle.lalrpop_base.specs.declared.repr.grammar.Grammar.{Grammar}
+use Rattle.lalrpop_base.specs.Words.{AreCoherent, IsWellFormed, productions, rules_of}
+use Rattle.lalrpop_tables.specs.Words.{AreLr0States}
+use Rattle.lalrpop_states.specs.declared.lookahead.nil.Nil.{Nil}
+use Rattle.lalrpop_states.specs.declared.lr1_core.state.Action.{Action}
+use Rattle.lalrpop_states.specs.declared.lr1_core.state.State.{State}
+use Rattle.lalrpop_grammar.specs.declared.repr.NonterminalString.{NonterminalString}
+use Rattle.lalrpop_grammar.specs.declared.repr.grammar.Grammar.{Grammar}
 use Rattle.table_questions.specs.Traces.{AreReady, IsTracing}
 use Rattle.table_questions.specs.declared.ask.lane_tables.Traces.{Traces}
 use Rattle.lalrpop_tables.specs.Words.{HaveOwnItems, IsReadyToTrace, ReducesOwn}
-use Rattle.lalrpop_tables.specs.declared.lane_table.lane.LaneTracer.{LaneTracer}
+use Rattle.lalrpop_lanes.specs.declared.lane_table.lane.LaneTracer.{LaneTracer}
 
 -- the traces of a state that is listed
 pub ready_traces : (traces : Traces) (start : NonterminalString) → IsWellFormed traces.grammar.now → AreLr0States (rules_of traces.grammar.now) start traces.states.items → HaveOwnItems (productions traces.grammar.now) traces.states.items → traces.state < length traces.states.items → AreReady traces

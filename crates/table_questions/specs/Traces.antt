@@ -1,10 +1,10 @@
 -- What the tracing of actions of LR(0) states asks for.
 use Rattle.std.specs.Prelude.{◌≡◌, ◌<◌, length}
 use Rattle.lalrpop_base.specs.Words.{AreCoherent, IsWellFormed, productions}
-use Rattle.lalrpop_base.specs.declared.lookahead.nil.Nil.{Nil}
+use Rattle.lalrpop_states.specs.declared.lookahead.nil.Nil.{Nil}
 use Rattle.table_questions.specs.declared.ask.lane_tables.Traces.{Traces}
 use Rattle.lalrpop_tables.specs.Words.{HaveOwnItems, IsReadyToTrace}
-use Rattle.lalrpop_tables.specs.declared.lane_table.lane.LaneTracer.{LaneTracer}
+use Rattle.lalrpop_lanes.specs.declared.lane_table.lane.LaneTracer.{LaneTracer}
 
 -- the states are coherent ones of a well-formed grammar, and the traced one is among them
 pub record AreReady (traces : Traces) : Type 0 where

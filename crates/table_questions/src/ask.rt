@@ -17,7 +17,7 @@ pub mod views;
 
 ghost use Rattle.lalrpop_base.specs.Words.{IsWellFormed};
 
-use crate::question::{Question, QuestionError};
+use case_files::question::{Question, QuestionError};
 use lalrpop_base::repr::grammar::Grammar;
 use lalrpop_base::repr::norm_error::NormError;
 use std::alloc::Global;

@@ -2,5 +2,6 @@
 #![tactic(auto)]
 
 pub mod ask;
-pub mod question;
 pub mod show;
+
+pub use case_files::question;

@@ -1,7 +1,5 @@
-//! What answers look like: one printing for each kind of value.
+//! Texts that show context sets and lane tables, and those of `case_files`.
 pub mod context_set;
-pub mod grammar;
-pub mod graph;
 pub mod lane_table;
-pub mod states;
-pub mod words;
+
+pub use case_files::show::{grammar, graph, states, words};

@@ -5,19 +5,19 @@ use Rattle.std.specs.Coded.{Coded, code_by, coded×, coded_list}
 use Rattle.std.specs.List.{filter}
 use Rattle.lalrpop_base.specs.Words.{IsAugmented, Bits, contents, IsOnNoRightSide, Outcome, Parsed, HasOutcome, Refused as RefusedIn, Limit as CutOff, Tree}
 use Rattle.lalrpop_base.specs.Words.{Node, beside, no_trees, nodes, IsParseTree, IsWellFormed, name_cmp, productions}
-use Rattle.lalrpop_base.specs.contracts.repr.NonterminalString as name
-use Rattle.lalrpop_base.specs.contracts.repr.Production as production
-use Rattle.lalrpop_base.specs.contracts.repr.grammar.Grammar as whole
-use Rattle.lalrpop_base.specs.declared.lr1_core.state.State.{State}
-use Rattle.lalrpop_base.specs.declared.repr.NonterminalString.{NonterminalString}
-use Rattle.lalrpop_base.specs.declared.repr.Production.{Production}
-use Rattle.lalrpop_base.specs.declared.repr.TerminalString.{TerminalString}
-use Rattle.lalrpop_base.specs.declared.repr.grammar.Grammar.{Grammar}
+use Rattle.lalrpop_grammar.specs.contracts.repr.NonterminalString as name
+use Rattle.lalrpop_grammar.specs.contracts.repr.Production as production
+use Rattle.lalrpop_grammar.specs.contracts.repr.grammar.Grammar as whole
+use Rattle.lalrpop_states.specs.declared.lr1_core.state.State.{State}
+use Rattle.lalrpop_grammar.specs.declared.repr.NonterminalString.{NonterminalString}
+use Rattle.lalrpop_grammar.specs.declared.repr.Production.{Production}
+use Rattle.lalrpop_grammar.specs.declared.repr.TerminalString.{TerminalString}
+use Rattle.lalrpop_grammar.specs.declared.repr.grammar.Grammar.{Grammar}
 use Rattle.lalrpop_tables.specs.Words.{Collapses, AreTablesOf}
-use Rattle.lalrpop_tables.specs.declared.build.options.Options.{Options}
+use Rattle.lalrpop_construction.specs.declared.options.Options.{Options}
 use Rattle.lalrpop_lr1.specs.runs.ParseAnswers.{IsOutcomeTold}
 use Rattle.lalrpop_lr1.specs.declared.headline.parse_error.ParseError.{ParseError}
-use Rattle.lalrpop_lr1.specs.declared.interpret.tree.ParseTree.{ParseTree}
+use Rattle.lalrpop_parser.specs.declared.interpret.tree.ParseTree.{ParseTree}
 
 -- a grammar with a new start symbol, and what it was before: its productions, and the start symbol that the new one is above
 pub record Augmented : Type 0 where

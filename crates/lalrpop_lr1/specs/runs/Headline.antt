@@ -1,17 +1,17 @@
 -- What is promised from a grammar to its trees: that LR(1) grammars have deterministic parsers (Knuth 1965), in this library's words.
 use Rattle.std.specs.Prelude.{◌≡◌, ℕ, ◌≤◌, List, Result, IfOk, IfErr}
 use Rattle.lalrpop_base.specs.Words.{Bits, contents, HasOutcome, beside, no_trees, leaves, nodes, IsLR1, IsLALR1, productions}
-use Rattle.lalrpop_base.specs.declared.lr1_core.state.State.{State}
-use Rattle.lalrpop_base.specs.declared.repr.NonterminalString.{NonterminalString}
-use Rattle.lalrpop_base.specs.declared.repr.TerminalString.{TerminalString}
-use Rattle.lalrpop_base.specs.declared.repr.grammar.Grammar.{Grammar}
+use Rattle.lalrpop_states.specs.declared.lr1_core.state.State.{State}
+use Rattle.lalrpop_grammar.specs.declared.repr.NonterminalString.{NonterminalString}
+use Rattle.lalrpop_grammar.specs.declared.repr.TerminalString.{TerminalString}
+use Rattle.lalrpop_grammar.specs.declared.repr.grammar.Grammar.{Grammar}
 use Rattle.lalrpop_tables.specs.Words.{Collapses, AreTablesOf}
-use Rattle.lalrpop_tables.specs.declared.build.options.Options.{Options}
-use Rattle.lalrpop_lr1.specs.runs.FaithfulAnswers.{IsCutOff}
+use Rattle.lalrpop_construction.specs.declared.options.Options.{Options}
+use Rattle.lalrpop_parser.specs.runs.FaithfulAnswers.{IsCutOff}
 use Rattle.lalrpop_lr1.specs.runs.ParseAnswers.{IsOutcomeTold, IfLimitTold}
-use Rattle.lalrpop_lr1.specs.trees.ParseTrees.{tree_of}
+use Rattle.lalrpop_parser.specs.trees.ParseTrees.{tree_of}
 use Rattle.lalrpop_lr1.specs.declared.headline.parse_error.ParseError.{ParseError}
-use Rattle.lalrpop_lr1.specs.declared.interpret.tree.ParseTree.{ParseTree}
+use Rattle.lalrpop_parser.specs.declared.interpret.tree.ParseTree.{ParseTree}
 
 -- the grammar is LR(1), or LALR(1) where its states are collapsed
 pub record IsAccepted (collapsed : Type 0) (g : Grammar) (start : NonterminalString) : Type 0 where

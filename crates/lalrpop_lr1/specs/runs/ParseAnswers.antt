@@ -1,18 +1,18 @@
 -- What an answer of the parse by a grammar's tables says: a tree, a refusal, the limit, or conflicts in the place of tables. Want of memory says nothing.
 use Rattle.std.specs.Prelude.{ℕ, List, Result, Ok, Err}
 use Rattle.lalrpop_base.specs.Words.{Bits, Outcome, Parsed, Refused as RefusedIn, Limit as CutOff, Tree, IsParseTree}
-use Rattle.lalrpop_base.specs.declared.lookahead.token.Token.{Token}
-use Rattle.lalrpop_base.specs.declared.lr1_core.state.TableConstructionError.{TableConstructionError}
-use Rattle.lalrpop_base.specs.declared.repr.NonterminalString.{NonterminalString}
-use Rattle.lalrpop_base.specs.declared.repr.Production.{Production}
-use Rattle.lalrpop_base.specs.declared.repr.TerminalString.{TerminalString}
-use Rattle.lalrpop_lr1.specs.runs.FaithfulAnswers.{IsOutcomeFor}
-use Rattle.lalrpop_lr1.specs.trees.ParseTrees.{tree_of}
+use Rattle.lalrpop_grammar.specs.declared.lookahead.token.Token.{Token}
+use Rattle.lalrpop_states.specs.declared.lr1_core.state.TableConstructionError.{TableConstructionError}
+use Rattle.lalrpop_grammar.specs.declared.repr.NonterminalString.{NonterminalString}
+use Rattle.lalrpop_grammar.specs.declared.repr.Production.{Production}
+use Rattle.lalrpop_grammar.specs.declared.repr.TerminalString.{TerminalString}
+use Rattle.lalrpop_parser.specs.runs.FaithfulAnswers.{IsOutcomeFor}
+use Rattle.lalrpop_parser.specs.trees.ParseTrees.{tree_of}
 use Rattle.lalrpop_lr1.specs.declared.headline.parse_error.ParseError.{ParseError}
 use Rattle.lalrpop_lr1.specs.declared.headline.parse_error.ParseError.TheVariants.{Conflicts, Refused, Limit, Memory}
-use Rattle.lalrpop_lr1.specs.declared.interpret.error.InterpretError.{InterpretError}
-use Rattle.lalrpop_lr1.specs.declared.interpret.error.InterpretError.TheVariants.{Refused as RefusedBy, Limit as LimitPassed, Memory as NoMemory}
-use Rattle.lalrpop_lr1.specs.declared.interpret.tree.ParseTree.{ParseTree}
+use Rattle.lalrpop_parser.specs.declared.interpret.error.InterpretError.{InterpretError}
+use Rattle.lalrpop_parser.specs.declared.interpret.error.InterpretError.TheVariants.{Refused as RefusedBy, Limit as LimitPassed, Memory as NoMemory}
+use Rattle.lalrpop_parser.specs.declared.interpret.tree.ParseTree.{ParseTree}
 
 -- there were tables, by which a tree, a refusal or the limit was answered
 abbrev pub HadTables : Result ParseTree ParseError → Type 0

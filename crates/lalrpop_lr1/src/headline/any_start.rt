@@ -2,19 +2,19 @@
 //! of the old.
 ghost use Rattle.std.specs.Prelude.{◌≡◌, IfOk, IfErr};
 ghost use Rattle.lalrpop_base.specs.Words.{HasNewStart, IsRefusedStart, IsFirstWrong, Tree, Node, beside, no_trees, IsWellFormed, productions};
-ghost use Rattle.lalrpop_base.specs.declared.repr.NonterminalString.{NonterminalString};
+ghost use Rattle.lalrpop_grammar.specs.declared.repr.NonterminalString.{NonterminalString};
 ghost use Rattle.lalrpop_tables.specs.Words.{Collapses, HasConflictsOf};
 ghost use Rattle.lalrpop_lr1.specs.runs.AnyStart.{IsTreeBelow, TellsTreesBelow, IsToldByTablesAbove};
-ghost use Rattle.lalrpop_lr1.specs.runs.FaithfulAnswers.{IsCutOffByTables};
+ghost use Rattle.lalrpop_parser.specs.runs.FaithfulAnswers.{IsCutOffByTables};
 ghost use Rattle.lalrpop_lr1.specs.runs.Headline.{IsAccepted};
 ghost use Rattle.lalrpop_lr1.specs.runs.ParseAnswers.{HadTables, HadTablesWhere, IfConflicts, IfRefusedAt, IfLimitTold};
-ghost use Rattle.lalrpop_lr1.specs.trees.ParseTrees.{tree_of};
+ghost use Rattle.lalrpop_parser.specs.trees.ParseTrees.{tree_of};
 
 use super::{ParseError, parse};
-use crate::interpret::ParseTree;
 use lalrpop_base::repr::grammar::Grammar;
 use lalrpop_base::repr::norm_error::NormResult;
 use lalrpop_base::repr::{NonterminalString, TerminalString, augment};
+use lalrpop_parser::interpret::ParseTree;
 use lalrpop_tables::build::options::Options;
 use std::alloc::Global;
 use std::marker::Model;

@@ -1,15 +1,15 @@
 //! The promise of tables at hand: by states that are faithful to a grammar, exactly its parse trees.
 ghost use Rattle.std.specs.Prelude.{◌≡◌, ◌<◌, ◌≤◌, length, IfOk, IfErr};
 ghost use Rattle.lalrpop_base.specs.Words.{AreCoherent, AreFaithful, contents, IsOnNoRightSide, HasOutcome, IsFirstWrong, productions, beside, no_trees, leaves, nodes};
-ghost use Rattle.lalrpop_lr1.specs.runs.Answers.{IsAnswer};
-ghost use Rattle.lalrpop_lr1.specs.runs.FaithfulAnswers.{AnswersTrees, IfLimit, IfRefused, IsCutOff, IsLimit, IsTreeWithin};
-ghost use Rattle.lalrpop_lr1.specs.trees.ParseTrees.{tree_of};
+ghost use Rattle.lalrpop_parser.specs.runs.Answers.{IsAnswer};
+ghost use Rattle.lalrpop_parser.specs.runs.FaithfulAnswers.{AnswersTrees, IfLimit, IfRefused, IsCutOff, IsLimit, IsTreeWithin};
+ghost use Rattle.lalrpop_parser.specs.trees.ParseTrees.{tree_of};
 
-use crate::interpret::{InterpretError, ParseTree, interpret};
 use lalrpop_base::lookahead::token_set::TokenSet;
 use lalrpop_base::lr1_core::state::Lr1State;
 use lalrpop_base::repr::grammar::Grammar;
 use lalrpop_base::repr::{NonterminalString, TerminalString};
+use lalrpop_parser::interpret::{InterpretError, ParseTree, interpret};
 use std::alloc::Global;
 
 /// Parses a list of terminals by tables of a grammar, in at most so many steps. Whoever made the

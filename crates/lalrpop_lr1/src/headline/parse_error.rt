@@ -2,10 +2,10 @@
 ghost use Rattle.std.specs.Prelude.{◌≡◌};
 ghost use Rattle.lalrpop_lr1.specs.runs.ParseAnswers.{told_by};
 
-use crate::interpret::{InterpretError, ParseTree};
 use lalrpop_base::lookahead::token::Token;
 use lalrpop_base::lookahead::token_set::TokenSet;
 use lalrpop_base::lr1_core::state::Lr1TableConstructionError;
+use lalrpop_parser::interpret::{InterpretError, ParseTree};
 use thiserror::Error;
 
 /// Why there is no tree: the grammar has conflicts in the place of tables, or as the parser says.

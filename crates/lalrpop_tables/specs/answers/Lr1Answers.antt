@@ -1,21 +1,21 @@
 -- What a construction of LR(1) tables answers for a grammar and a start symbol: tables, or states with their conflicts (Knuth 1965; DeRemer and Pennello 1982 for LALR(1)).
 use Rattle.std.specs.Prelude.{◌≡◌, ◌⊎◌, ℕ, ◌<◌, ◌-◌, ◌^◌, nat_lt, cond, List, length}
 use Rattle.lalrpop_base.specs.Words.{Bits, AreCoherent, contents, IfConflicts, IsOnNoRightSide, AreFaithful, IsLR1, IsLALR1, productions, rules_of}
-use Rattle.lalrpop_base.specs.Words.{AreSomeCanonicalStates, StopsAfter, AreStatesOf, AreTables, canonical_of, AreCanonicalStates, AreOrderedCanonical}
-use Rattle.lalrpop_base.specs.Words.{FailByCanonicalConflicts, AreAllConflicts}
-use Rattle.lalrpop_base.specs.declared.lr1_core.state.BuildError.{BuildError}
-use Rattle.lalrpop_base.specs.declared.lr1_core.state.BuildError.TheVariants.{Conflicts}
-use Rattle.lalrpop_base.specs.declared.lr1_core.state.Conflict.{Conflict}
-use Rattle.lalrpop_base.specs.declared.lr1_core.state.State.{State}
-use Rattle.lalrpop_base.specs.declared.lr1_core.state.TableConstructionError.{TableConstructionError}
-use Rattle.lalrpop_base.specs.declared.repr.NonterminalString.{NonterminalString}
-use Rattle.lalrpop_base.specs.declared.repr.grammar.Grammar.{Grammar}
+use Rattle.lalrpop_construction.specs.Words.{AreSomeCanonicalStates, StopsAfter, AreStatesOf, AreTables, canonical_of, AreCanonicalStates, AreOrderedCanonical}
+use Rattle.lalrpop_construction.specs.Words.{FailByCanonicalConflicts}
+use Rattle.lalrpop_base.specs.Words.{AreAllConflicts}
+use Rattle.lalrpop_states.specs.declared.lr1_core.state.BuildError.{BuildError}
+use Rattle.lalrpop_states.specs.declared.lr1_core.state.BuildError.TheVariants.{Conflicts}
+use Rattle.lalrpop_states.specs.declared.lr1_core.state.State.{State}
+use Rattle.lalrpop_states.specs.declared.lr1_core.state.TableConstructionError.{TableConstructionError}
+use Rattle.lalrpop_grammar.specs.declared.repr.NonterminalString.{NonterminalString}
+use Rattle.lalrpop_grammar.specs.declared.repr.grammar.Grammar.{Grammar}
 use Rattle.lalrpop_tables.specs.collapse.Lalr.{AreMergedTables, AreRenumberedMerged, FailsAsLalr}
-use Rattle.lalrpop_tables.specs.lane_states.LaneStates.{AreLaneTables}
-use Rattle.lalrpop_tables.specs.lane_states.Lr0Copies.{AreCopiedTables}
+use Rattle.lalrpop_lane_states.specs.lane_states.LaneStates.{AreLaneTables}
+use Rattle.lalrpop_lane_states.specs.lane_states.Lr0Copies.{AreCopiedTables}
 use Rattle.lalrpop_tables.specs.renumbering.RenumberedTables.{AreRenumberedCopies, AreRenumberedTables, AreRenumberedLaneTables}
-use Rattle.lalrpop_tables.specs.declared.build.options.Method.{Method}
-use Rattle.lalrpop_tables.specs.declared.build.options.Method.TheVariants.{Lane, Canonical}
+use Rattle.lalrpop_construction.specs.declared.options.Method.{Method}
+use Rattle.lalrpop_construction.specs.declared.options.Method.TheVariants.{Lane, Canonical}
 
 -- tables of a grammar, by which method, and whether states were collapsed; the constructed canonical tables, the lane tables with copies and without, and the merged ones are parameters, since tables have other numbers than their construction gave them
 pub record AreTablesBy (Built Copies Lanes Merged : List (State Bits) → Type 0) (collapsed : Type 0) (method : Method) (g : Grammar) (start : NonterminalString) (tables : List (State Bits)) : Type 0 where
@@ -61,23 +61,3 @@ pub record HasConflictsOf (collapsed : Type 0) (stop_after : ℕ) (g : Grammar) 
 -- an error has them; want of memory says nothing
 abbrev pub FailsOn : Type 0 → ℕ → Grammar → NonterminalString → BuildError Bits → Type 0
 FailsOn collapsed stop_after g start = IfConflicts (HasConflictsOf collapsed stop_after g start)
-
--- the states and conflicts of a grammar for which there are no tables, where none is left out: its canonical states, with exactly its canonical conflicts, of which there are some
-pub record LacksTables (g : Grammar) (start : NonterminalString) (states : List (State Bits)) (listed : List (Conflict Bits)) : Type 0 where
-  -- some prefix and token have two valid actions
-  pub not_lr1 : ¬ IsLR1 (productions g) start
-  pub canonical : AreCanonicalStates (rules_of g) start states
-  pub built : AreStatesOf (canonical_of g start) states
-  pub all : AreAllConflicts g.terminals states listed
-  pub conflicts : FailByCanonicalConflicts g start states listed
-
--- a number, or the greatest of 64 bits if it is greater
-abbrev pub up_to_greatest : ℕ → ℕ
-up_to_greatest n = cond (nat_lt n (2 ^ 64)) n (2 ^ 64 - 1)
-
--- how many conflicts the canonical states have of a grammar for which there are no tables, or the greatest number of 64 bits if they have more
-pub record IsConflictCount (g : Grammar) (start : NonterminalString) (n : ℕ) : Type 0 where
-  pub states : List (State Bits)
-  pub listed : List (Conflict Bits)
-  pub lacks : LacksTables g start states listed
-  pub counted : n ≡ up_to_greatest (length listed)

@@ -1,18 +1,11 @@
 -- What a construction of LR(1) tables answers where conflicts are counted and not listed: tables, or the number of the canonical conflicts (Knuth 1965).
 use Rattle.std.specs.Prelude.{ℕ, List}
-use Rattle.lalrpop_base.specs.Words.{Bits}
-use Rattle.lalrpop_base.specs.declared.lr1_core.state.State.{State}
-use Rattle.lalrpop_base.specs.declared.repr.NonterminalString.{NonterminalString}
-use Rattle.lalrpop_base.specs.declared.repr.grammar.Grammar.{Grammar}
-use Rattle.lalrpop_tables.specs.answers.Lr1Answers.{AreBuiltTablesOf, AreTablesOf, IsConflictCount}
-use Rattle.lalrpop_tables.specs.declared.build.options.Method.{Method}
-use Rattle.lalrpop_tables.specs.declared.construction.tables_or_count.TablesOrCount.{TablesOrCount}
-use Rattle.lalrpop_tables.specs.declared.construction.tables_or_count.TablesOrCount.TheVariants.{Tables, Conflicts}
-
--- the one is said of tables, the other of the number of conflicts
-abbrev pub MatchTablesOrCount : (List (State Bits) → Type 0) → (ℕ → Type 0) → TablesOrCount → Type 0
-MatchTablesOrCount AreMade IsNumber (Tables tables) = AreMade tables.items
-MatchTablesOrCount AreMade IsNumber (Conflicts n) = IsNumber n
+use Rattle.lalrpop_grammar.specs.declared.repr.NonterminalString.{NonterminalString}
+use Rattle.lalrpop_grammar.specs.declared.repr.grammar.Grammar.{Grammar}
+use Rattle.lalrpop_tables.specs.answers.Lr1Answers.{AreBuiltTablesOf, AreTablesOf}
+use Rattle.lalrpop_construction.specs.canonical.CanonicalAnswers.{IsConflictCount, MatchTablesOrCount}
+use Rattle.lalrpop_construction.specs.declared.options.Method.{Method}
+use Rattle.lalrpop_construction.specs.declared.construction.tables_or_count.TablesOrCount.{TablesOrCount}
 
 -- tables of a grammar under the numbers that tables have, by the method, with at most so many copies; or how many canonical conflicts it has
 abbrev pub AreTablesOrCount : Method → ℕ → Grammar → NonterminalString → TablesOrCount → Type 0

@@ -1,19 +1,19 @@
 -- What the construction of states says with any lookahead, read with sets of tokens and without lookahead. Public functions state these laws.
 use Rattle.std.specs.Prelude.{ℕ, List}
 use Rattle.std.specs.BTreeMap.{IsOrdered}
-use Rattle.lalrpop_base.specs.Words.{Bits, AllDiffer, IsWellFormed, name_cmp, rules_of, productions_of, FailsAfterLr0, StopsFor, AreTablesFor, Construction}
-use Rattle.lalrpop_base.specs.Words.{canonical_of, AreLr0States, HasLr0States, HaveNoNilConflict, ListsNilConflicts}
-use Rattle.lalrpop_base.specs.contracts.lookahead.nil.NilLookahead.TheImpl as nil_lookahead
-use Rattle.lalrpop_base.specs.contracts.lookahead.token_lookahead.TokenSetLookahead.TheImpl as set_lookahead
-use Rattle.lalrpop_base.specs.declared.lookahead.nil.Nil.{Nil}
-use Rattle.lalrpop_base.specs.declared.lr1_core.state.BuildError.{BuildError}
-use Rattle.lalrpop_base.specs.declared.lr1_core.state.State.{State}
-use Rattle.lalrpop_base.specs.declared.repr.NonterminalString.{NonterminalString}
-use Rattle.lalrpop_base.specs.declared.repr.grammar.Grammar.{Grammar}
-use Rattle.lalrpop_tables.specs.answers.Lr1Answers.{AreBuiltTablesOf, FailsOn}
-use Rattle.lalrpop_tables.specs.contracts.construction.epsilon_moves.NilLookaheadBuild.TheImpl as nil_build
-use Rattle.lalrpop_tables.specs.contracts.construction.epsilon_moves.TokenSetLookaheadBuild.TheImpl as set_build
-use Rattle.lalrpop_tables.specs.declared.build.options.Method.TheVariants.{Canonical}
+use Rattle.lalrpop_base.specs.Words.{Bits, AllDiffer, IsWellFormed, name_cmp, rules_of, productions_of}
+use Rattle.lalrpop_construction.specs.Words.{FailsAfterLr0, StopsFor, AreTablesFor, Construction}
+use Rattle.lalrpop_construction.specs.Words.{canonical_of, AreLr0States, HasLr0States, HaveNoNilConflict, ListsNilConflicts}
+use Rattle.lalrpop_states.specs.contracts.lookahead.nil.NilLookahead.TheImpl as nil_lookahead
+use Rattle.lalrpop_states.specs.contracts.lookahead.token_lookahead.TokenSetLookahead.TheImpl as set_lookahead
+use Rattle.lalrpop_states.specs.declared.lookahead.nil.Nil.{Nil}
+use Rattle.lalrpop_states.specs.declared.lr1_core.state.BuildError.{BuildError}
+use Rattle.lalrpop_states.specs.declared.lr1_core.state.State.{State}
+use Rattle.lalrpop_grammar.specs.declared.repr.NonterminalString.{NonterminalString}
+use Rattle.lalrpop_grammar.specs.declared.repr.grammar.Grammar.{Grammar}
+use Rattle.lalrpop_construction.specs.canonical.CanonicalAnswers.{AreCanonicalTables, FailsByConflicts}
+use Rattle.lalrpop_construction.specs.contracts.construction.epsilon_moves.NilLookaheadBuild.TheImpl as nil_build
+use Rattle.lalrpop_construction.specs.contracts.construction.epsilon_moves.TokenSetLookaheadBuild.TheImpl as set_build
 
 -- the grammar is well-formed, its names ascend in its map, and no terminal stands twice
 pub record IsKeptGrammar (g : Grammar) : Type 0 where
@@ -39,14 +39,14 @@ StopsWithSets g start stop_after =
 abbrev pub SetTablesAreCanonical : Type 0
 SetTablesAreCanonical =
     (g : Grammar) (start : NonterminalString) → IsKeptGrammar g → (tables : List (State Bits)) →
-    AreSetTables g start tables → AreBuiltTablesOf ⊥ Canonical 0 g start tables
+    AreSetTables g start tables → AreCanonicalTables g start tables
 
 -- such an error has the states and conflicts of a grammar for which there are no tables
 abbrev pub SetErrorsAreCanonical : Type 0
 SetErrorsAreCanonical =
     (g : Grammar) (start : NonterminalString) (stop_after : ℕ) → IsKeptGrammar g →
     (error : BuildError Bits) → StopsWithSets g start stop_after error →
-    FailsOn ⊥ stop_after g start error
+    FailsByConflicts stop_after g start error
 
 -- ---- without lookahead
 -- the construction of states without lookahead

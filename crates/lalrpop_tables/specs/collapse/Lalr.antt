@@ -1,14 +1,15 @@
 -- LALR(1) tables: what the collapse of a grammar's canonical states tells of the grammar.
 use Rattle.std.specs.Prelude.{◌≡◌, ◌⊎◌, ℕ, List, IsTrue}
-use Rattle.lalrpop_base.specs.Words.{Bits, AreCoherent, contents, IfConflicts, AreFaithful, IsLALR1, productions, rules_of, FailsAfter, AreTables, canonical_of}
-use Rattle.lalrpop_base.specs.Words.{AreOrdered, AreCollapsedTables, FailsByCollapse, AreRenumbered, HaveNoConflict}
-use Rattle.lalrpop_base.specs.declared.lr1_core.state.BuildError.{BuildError}
-use Rattle.lalrpop_base.specs.declared.lr1_core.state.State.{State}
-use Rattle.lalrpop_base.specs.declared.repr.NonterminalString.{NonterminalString}
-use Rattle.lalrpop_base.specs.declared.repr.Production.{Production}
-use Rattle.lalrpop_base.specs.declared.repr.grammar.Grammar.{Grammar}
-use Rattle.lalrpop_tables.specs.declared.build.options.Method.TheVariants.{Canonical}
-use Rattle.lalrpop_tables.specs.declared.build.options.Options.{Options}
+use Rattle.lalrpop_base.specs.Words.{Bits, AreCoherent, contents, IfConflicts, AreFaithful, IsLALR1, productions, rules_of}
+use Rattle.lalrpop_construction.specs.Words.{FailsAfter, AreTables, canonical_of}
+use Rattle.lalrpop_tables.specs.collapse.Collapsed.{AreOrdered, AreCollapsedTables, FailsByCollapse}
+use Rattle.lalrpop_base.specs.Words.{AreRenumbered, HaveNoConflict}
+use Rattle.lalrpop_states.specs.declared.lr1_core.state.BuildError.{BuildError}
+use Rattle.lalrpop_states.specs.declared.lr1_core.state.State.{State}
+use Rattle.lalrpop_grammar.specs.declared.repr.NonterminalString.{NonterminalString}
+use Rattle.lalrpop_grammar.specs.declared.repr.grammar.Grammar.{Grammar}
+use Rattle.lalrpop_construction.specs.declared.options.Method.TheVariants.{Canonical}
+use Rattle.lalrpop_construction.specs.declared.options.Options.{Options}
 
 -- the states are to be collapsed: the grammar asks for it, and the canonical construction decides
 pub record Collapses (g : Grammar) (options : Options) : Type 0 where
@@ -19,10 +20,6 @@ pub record Collapses (g : Grammar) (options : Options) : Type 0 where
 pub record AreLalrTables (g : Grammar) (start : NonterminalString) (tables : List (State Bits)) : Type 0 where
   pub lalr : IsLALR1 (productions g) start
   pub faithful : AreFaithful (productions g) start (contents g.terminals tables)
-
--- an error with conflicts comes of a grammar that is not LALR(1); want of memory says nothing
-abbrev pub TellsNotLALR1 : List Production → NonterminalString → BuildError Bits → Type 0
-TellsNotLALR1 g start = IfConflicts (λ error. ¬ IsLALR1 g start)
 
 -- the states of an error are coherent; want of memory says nothing
 abbrev pub HasCoherentStates : BuildError Bits → Type 0

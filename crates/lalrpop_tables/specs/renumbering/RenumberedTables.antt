@@ -1,11 +1,12 @@
 -- What the construction of tables answers, with the numbers of a table.
 use Rattle.std.specs.Prelude.{◌≡◌, ◌<◌, ◌≤◌, ◌+◌, ℕ, List, length}
-use Rattle.lalrpop_base.specs.Words.{Bits, Rules, Construction, AreTables, AreLr0States, AreRenumbered, HaveNoConflict}
-use Rattle.lalrpop_base.specs.declared.lookahead.nil.Nil.{Nil}
-use Rattle.lalrpop_base.specs.declared.lr1_core.state.State.{State}
-use Rattle.lalrpop_base.specs.declared.repr.NonterminalString.{NonterminalString}
-use Rattle.lalrpop_tables.specs.lane_states.LaneStates.{AreLaneTables, HaveFullItems}
-use Rattle.lalrpop_tables.specs.lane_states.Lr0Copies.{AreCopiedTables}
+use Rattle.lalrpop_base.specs.Words.{Bits, Rules, AreRenumbered, HaveNoConflict}
+use Rattle.lalrpop_construction.specs.Words.{Construction, AreTables, AreLr0States}
+use Rattle.lalrpop_states.specs.declared.lookahead.nil.Nil.{Nil}
+use Rattle.lalrpop_states.specs.declared.lr1_core.state.State.{State}
+use Rattle.lalrpop_grammar.specs.declared.repr.NonterminalString.{NonterminalString}
+use Rattle.lalrpop_lane_states.specs.lane_states.LaneStates.{AreLaneTables, HaveFullItems}
+use Rattle.lalrpop_lane_states.specs.lane_states.Lr0Copies.{AreCopiedTables}
 
 -- the tables that a construction makes, renumbered; there is a state, and none has a conflict
 pub record AreRenumberedTables (c : Construction Bits) (tables : List (State Bits)) : Type 0 where

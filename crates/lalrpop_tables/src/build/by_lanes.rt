@@ -1,19 +1,21 @@
 //! LR(1) states by the lane way: lane tables, where they pass the check.
 ghost use Rattle.std.specs.Prelude.{◌≡◌, ◌<◌, length, true, IfOk, IfSome, IsSomeAnd, is_some};
-ghost use Rattle.lalrpop_base.specs.Words.{AreCoherent, contents, IsOnNoRightSide, AreFaithful, IsLALR1, IsWellFormed, productions, rules_of, PassCheck, lr0_of};
-ghost use Rattle.lalrpop_tables.specs.lane_states.LaneStates.{AreLaneTables, IsReadyToConstruct};
-ghost use Rattle.lalrpop_tables.specs.lane_states.Lr0Copies.{AreCopiedTables};
+ghost use Rattle.lalrpop_base.specs.Words.{AreCoherent, contents, IsOnNoRightSide, AreFaithful, IsLALR1, IsWellFormed, productions, rules_of};
+ghost use Rattle.lalrpop_check.specs.Words.{PassCheck};
+ghost use Rattle.lalrpop_construction.specs.Words.{lr0_of};
+ghost use Rattle.lalrpop_lane_states.specs.lane_states.LaneStates.{AreLaneTables, IsReadyToConstruct};
+ghost use Rattle.lalrpop_lane_states.specs.lane_states.Lr0Copies.{AreCopiedTables};
 ghost use Rattle.lalrpop_tables.specs.answers.Lr1Answers.{AreBuiltTablesOf};
 
-use super::options::{Method, Options};
-use crate::check::check_over;
-use crate::construction::lr::Lr;
-use crate::lane_table::construct::LaneTableConstruct;
 use lalrpop_base::lookahead::nil::Nil;
 use lalrpop_base::lr1_core::state::Lr1State;
 use lalrpop_base::memory::OutOfMemory;
 use lalrpop_base::repr::grammar::Grammar;
 use lalrpop_base::repr::{NonterminalString, is_on_no_right_side};
+use lalrpop_check::check::check_over;
+use lalrpop_construction::construction::lr::Lr;
+use lalrpop_construction::options::{Method, Options};
+use lalrpop_lane_states::lane_table::construct::LaneTableConstruct;
 use std::alloc::Global;
 
 /// The tables of a grammar by the lane way, where the method asks for it, and there are lane tables

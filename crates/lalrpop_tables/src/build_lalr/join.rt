@@ -1,7 +1,7 @@
 //! A state joined to another with the same dotted productions.
 ghost use Rattle.std.specs.Prelude.{◌≡◌, OnOk};
 ghost use Rattle.lalrpop_base.specs.Words.{joined_item, joined_at, joined_items, IsJoined};
-ghost use Rattle.lalrpop_base.specs.collapse.Merging.{Overlays};
+ghost use Rattle.lalrpop_states.specs.collapse.Merging.{Overlays};
 
 use lalrpop_base::lr1_core::item::Lr1Item;
 use lalrpop_base::lr1_core::state::{Lr1State, State, StateIndex};

@@ -1,6 +1,7 @@
 //! The numbers of the merged states.
 ghost use Rattle.std.specs.Prelude.{◌≡◌, IfOk, map};
-ghost use Rattle.lalrpop_base.specs.Words.{dots, dots_in, AreFirstNumbers, bare};
+ghost use Rattle.lalrpop_base.specs.Words.{dots, AreFirstNumbers, bare};
+ghost use Rattle.lalrpop_tables.specs.collapse.Collapsed.{dots_in};
 
 use lalrpop_base::kernel_set::KernelSet;
 use lalrpop_base::lr1_core::item::{Lr0Item, Lr1Item};

@@ -1,5 +1,5 @@
 //! The order of the transitions of states.
-ghost use Rattle.lalrpop_base.specs.Words.{IsOrderedState, AreOrdered};
+ghost use Rattle.lalrpop_tables.specs.collapse.Collapsed.{IsOrderedState, AreOrdered};
 
 use lalrpop_base::lr1_core::state::Lr1State;
 

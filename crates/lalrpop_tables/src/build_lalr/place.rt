@@ -1,12 +1,12 @@
 //! States placed by their numbers, each joined to those with the same number.
 ghost use Rattle.std.specs.Prelude.{IfOk, OnOk};
 ghost use Rattle.lalrpop_base.specs.Words.{Places, AreMoved, number_in};
-ghost use Rattle.lalrpop_base.specs.collapse.Merging.{ArePlaced};
+ghost use Rattle.lalrpop_states.specs.collapse.Merging.{ArePlaced};
 
 use super::join::join_state;
-use crate::renumber::renumber_state;
 use lalrpop_base::lr1_core::state::Lr1State;
 use lalrpop_base::memory::OutOfMemory;
+use lalrpop_state_graph::renumber::renumber_state;
 use std::alloc::Global;
 
 // Joins a state to the one with its number, or puts it behind the others.

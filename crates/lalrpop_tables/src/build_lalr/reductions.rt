@@ -2,7 +2,7 @@
 ghost use Rattle.std.specs.Prelude.{IfOk};
 ghost use Rattle.std.specs.List.{AllZip};
 ghost use Rattle.lalrpop_base.specs.Words.{AreJoinedReductions, HasTokensOf, IsReduced};
-ghost use Rattle.lalrpop_base.specs.collapse.Merging.{AreListed};
+ghost use Rattle.lalrpop_states.specs.collapse.Merging.{AreListed};
 
 use lalrpop_base::collections::multimap::Multimap;
 use lalrpop_base::lookahead::token_set::TokenSet;

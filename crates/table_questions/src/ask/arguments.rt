@@ -2,7 +2,7 @@
 ghost use Rattle.std.specs.Prelude.{IfOk, IsTrue};
 ghost use Rattle.lalrpop_base.specs.Words.{HasKnownTerminals, IsKnown};
 
-use crate::question::{Question, QuestionError};
+use case_files::question::{Question, QuestionError};
 use grammar_text::symbols::{symbol_of, symbols_of, unquoted};
 use lalrpop_base::lookahead::token::Token;
 use lalrpop_base::lookahead::token_set::TokenSet;

@@ -3,9 +3,9 @@ ghost use Rattle.lalrpop_base.specs.Words.{IsWellFormed};
 
 use super::refusal;
 use super::states::start_of;
-use crate::question::{Question, QuestionError};
-use crate::show::states::push_counts;
-use crate::show::words::push_production;
+use case_files::question::{Question, QuestionError};
+use case_files::show::states::push_counts;
+use case_files::show::words::push_production;
 use lalrpop_base::memory::OutOfMemory;
 use lalrpop_base::repr::grammar::{Grammar, is_well_formed};
 use lalrpop_base::repr::{NonterminalString, augment, is_on_no_right_side};

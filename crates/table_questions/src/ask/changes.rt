@@ -1,6 +1,6 @@
 //! Changes of LR(1) states that words name.
 use super::arguments::{known_symbol, piece_end, tokens_between};
-use crate::question::{Question, QuestionError};
+use case_files::question::{Question, QuestionError};
 use lalrpop_base::lookahead::token_set::TokenSet;
 use lalrpop_base::lr1_core::state::{Items, Lr1State, State, StateIndex};
 use lalrpop_base::repr::Symbol;

@@ -3,7 +3,7 @@ ghost use Rattle.lalrpop_base.specs.Words.{IsWellFormed};
 
 use super::changes::change_states;
 use super::states::start_of;
-use crate::question::{Question, QuestionError};
+use case_files::question::{Question, QuestionError};
 use lalrpop_base::lr1_core::coherent::are_coherent;
 use lalrpop_base::lr1_core::collapsible::are_collapsible;
 use lalrpop_base::lr1_core::state::{BuildError, Lr1Result, Lr1State, TableConstructionError};

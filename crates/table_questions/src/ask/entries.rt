@@ -3,8 +3,8 @@ ghost use Rattle.lalrpop_base.specs.Words.{IsWellFormed};
 
 use super::arguments::{method_at, options_from};
 use super::states::{canonical_states, start_of};
-use crate::question::{Question, QuestionError};
-use crate::show::states::{push_counts, push_entry};
+use case_files::question::{Question, QuestionError};
+use case_files::show::states::{push_counts, push_entry};
 use lalrpop_base::lookahead::token::Token;
 use lalrpop_base::lr1_core::conflict_count;
 use lalrpop_base::lr1_core::state::Lr1State;

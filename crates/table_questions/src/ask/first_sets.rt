@@ -3,8 +3,8 @@ ghost use Rattle.lalrpop_base.specs.Words.{IsWellFormed};
 
 use super::arguments::{known_symbols, tokens_between};
 use super::states::start_of;
-use crate::question::{Question, QuestionError};
-use crate::show::words::push_tokens;
+use case_files::question::{Question, QuestionError};
+use case_files::show::words::push_tokens;
 use lalrpop_base::first::FirstSets;
 use lalrpop_base::lookahead::token_set::TokenSet;
 use lalrpop_base::repr::grammar::Grammar;

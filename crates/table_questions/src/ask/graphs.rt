@@ -1,10 +1,11 @@
 //! Questions of the graph of LR(0) states.
 ghost use Rattle.std.specs.Prelude.{IfOk};
-ghost use Rattle.lalrpop_base.specs.Words.{IsWellFormed, rules_of, AreLr0States};
+ghost use Rattle.lalrpop_base.specs.Words.{IsWellFormed, rules_of};
+ghost use Rattle.lalrpop_tables.specs.Words.{AreLr0States};
 
 use super::states::start_of;
-use crate::question::{Question, QuestionError};
-use crate::show::graph::push_state_list;
+use case_files::question::{Question, QuestionError};
+use case_files::show::graph::push_state_list;
 use grammar_text::symbols::{symbol_of, symbols_of};
 use lalrpop_base::lr1_core::lr0::Lr0State;
 use lalrpop_base::lr1_core::state::{BuildError, StateIndex, TableConstructionError};

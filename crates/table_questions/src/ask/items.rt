@@ -1,5 +1,5 @@
 //! Items that words name.
-use crate::question::QuestionError;
+use case_files::question::QuestionError;
 use lalrpop_base::lr1_core::item::{Item, Lr0Item};
 use lalrpop_base::repr::Production;
 use lalrpop_base::repr::grammar::Grammar;

@@ -1,7 +1,7 @@
 //! Questions of kernels, without lookahead.
 use super::items::item_of;
-use crate::question::{Question, QuestionError};
-use crate::show::words::push_item;
+use case_files::question::{Question, QuestionError};
+use case_files::show::words::push_item;
 use grammar_text::symbols::pieces;
 use lalrpop_base::kernel_set::{self, KernelSet};
 use lalrpop_base::lookahead::nil::Nil;

@@ -6,7 +6,7 @@ ghost use Rattle.lalrpop_tables.specs.Words.{IsMerging};
 use super::checks::states_of;
 use super::context_sets::push_reductions;
 use super::lane_tables::{Traces, traced, traces_of};
-use crate::question::{Question, QuestionError};
+use case_files::question::{Question, QuestionError};
 use lalrpop_base::lr1_core::coherent::are_coherent;
 use lalrpop_base::lr1_core::state::{Lr1State, StateIndex};
 use lalrpop_base::memory::OutOfMemory;

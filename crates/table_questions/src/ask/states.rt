@@ -3,9 +3,9 @@ ghost use Rattle.lalrpop_base.specs.Words.{IsWellFormed};
 
 use super::arguments::{method_at, options_from};
 use super::changes::change_states;
-use crate::question::{Question, QuestionError};
-use crate::show::states::{push_counts, push_result};
-use crate::show::words::ShownLookahead;
+use case_files::question::{Question, QuestionError};
+use case_files::show::states::{push_counts, push_result};
+use case_files::show::words::ShownLookahead;
 use grammar_text::symbols::{is_a_name, name_of};
 use lalrpop_base::lr1_core::collapsible::are_collapsible;
 use lalrpop_base::lr1_core::state::{BuildError, Lr1State, LrResult, TableConstructionError};

@@ -1,7 +1,7 @@
 //! Questions of token sets.
 use super::arguments::{piece_end, token_at, tokens_between};
-use crate::question::{Question, QuestionError};
-use crate::show::words::push_tokens;
+use case_files::question::{Question, QuestionError};
+use case_files::show::words::push_tokens;
 use lalrpop_base::lookahead::token_set::TokenSet;
 use lalrpop_base::memory::OutOfMemory;
 use lalrpop_base::repr::grammar::Grammar;

@@ -3,8 +3,8 @@ ghost use Rattle.lalrpop_base.specs.Words.{IsWellFormed};
 
 use super::checks::states_by;
 use super::states::start_of;
-use crate::question::{Question, QuestionError};
-use crate::show::words::push_list;
+use case_files::question::{Question, QuestionError};
+use case_files::show::words::push_list;
 use lalrpop_base::lr1_core::state::{BuildError, State};
 use lalrpop_base::repr::grammar::Grammar;
 use lalrpop_tables::build::build_lr0_states;

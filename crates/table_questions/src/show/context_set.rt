@@ -2,7 +2,7 @@
 //! answers.
 ghost use Rattle.std.specs.Prelude.{◌≡◌, ◌<◌, length};
 
-use super::words::push_tokens;
+use case_files::show::words::push_tokens;
 use lalrpop_base::lookahead::token::Token;
 use lalrpop_base::lookahead::token_set::TokenSet;
 use lalrpop_base::memory::OutOfMemory;

@@ -1,7 +1,7 @@
 //! Lane tables, and the actions that their columns stand for.
 use super::context_set::push_columns;
-use super::graph::push_state_set;
-use super::words::push_production;
+use case_files::show::graph::push_state_set;
+use case_files::show::words::push_production;
 use lalrpop_base::collections::Set;
 use lalrpop_base::lr1_core::state::{Action, StateIndex};
 use lalrpop_base::memory::OutOfMemory;

@@ -1,7 +1,7 @@
 use Rattle.std.proofs.Common.{◌≡◌, ◌||◌, drop}
 use Rattle.std.specs.List.{list_any}
 use Rattle.std.specs.BTreeSet.{contains}
-use Rattle.lalrpop_base.specs.declared.repr.TerminalString.{TerminalString}
+use Rattle.lalrpop_grammar.specs.declared.repr.TerminalString.{TerminalString}
 use Rattle.grammar_text.specs.Grammar.{terminal_cmp, terminals_of}
 use Rattle.grammar_text.specs.Collected.{is_same}
 use Rattle.grammar_text.proofs.collected.add_terminals.Given as goal

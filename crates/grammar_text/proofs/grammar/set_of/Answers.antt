@@ -1,7 +1,7 @@
 use Rattle.std.proofs.Common.{◌≡◌, List, sym, ◌∙◌, subst, arith}
 use Rattle.std.proofs.lemmas.Grind.{common_steps}
 use Rattle.std.specs.List.Sorted.{IsStrictlySortedBy}
-use Rattle.lalrpop_base.specs.declared.repr.TerminalString.{TerminalString}
+use Rattle.lalrpop_grammar.specs.declared.repr.TerminalString.{TerminalString}
 use Rattle.grammar_text.specs.Grammar.{terminal_cmp}
 use Rattle.grammar_text.proofs.WellFormed.{no_repeat}
 use Rattle.grammar_text.proofs.grammar.set_of.Goals as goal

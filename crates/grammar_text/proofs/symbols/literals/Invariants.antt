@@ -1,5 +1,5 @@
 use Rattle.std.proofs.Common.{◌≡◌, ◌++◌, map, drop}
-use Rattle.lalrpop_base.specs.declared.repr.TerminalString.TheVariants.{Literal}
+use Rattle.lalrpop_grammar.specs.declared.repr.TerminalString.TheVariants.{Literal}
 use Rattle.grammar_text.proofs.symbols.literals.Given as goal
 
 -- the literals so far, and those of the texts that are left

@@ -10,17 +10,19 @@ use Rattle.std.proofs.lemmas.List.Elements.{filter-append}
 use Rattle.lalrpop_base.specs.Words.{IsAugmented, contents, IsOnNoRightSide, start_production, HasNewStart, Outcome, Parsed, HasOutcome, IsFirstWrong, Tree}
 use Rattle.lalrpop_base.specs.Words.{Node, no_trees, beside, trees_of, nodes, IsParseTree, IsWellFormed, name_cmp, productions}
 use Rattle.lalrpop_lr1.proofs.Types.{Grammar, NonterminalData, NonterminalString, Production, TerminalString}
-use Rattle.lalrpop_base.proofs.theory.first.FirstNames.{name_same, name_self}
-use Rattle.lalrpop_base.proofs.theory.grammars.NewStart.{Entry, listed, is_augmented}
-use Rattle.lalrpop_base.proofs.theory.grammars.Augmented.{alone, from_old, one_more, augmented_trees, same_wrong}
-use Rattle.lalrpop_base.proofs.theory.lists.Lists.{contains_head, contains_tail, some≢none}
-use Rattle.lalrpop_tables.specs.declared.build.options.Options.{Options}
-use Rattle.lalrpop_lr1.specs.Words.{productions_but, seen_over, IsAboveOld, IsTreeBelow, IsOutcomeBelow, TellsTreesBelow, IsToldByTablesAbove, IsTreeWithin}
-use Rattle.lalrpop_lr1.specs.Words.{IsOutcomeFor, IsToldByTables, IfRefusedAt, TellsTrees, IsOutcomeTold, tree_of}
+use Rattle.lalrpop_grammar.proofs.theory.first.FirstNames.{name_same, name_self}
+use Rattle.lalrpop_grammar.proofs.theory.grammars.NewStart.{Entry, listed, is_augmented}
+use Rattle.lalrpop_grammar.proofs.theory.grammars.Augmented.{alone, from_old, one_more, augmented_trees, same_wrong}
+use Rattle.lalrpop_collections.proofs.theory.lists.Lists.{contains_head, contains_tail, some≢none}
+use Rattle.lalrpop_construction.specs.declared.options.Options.{Options}
+use Rattle.lalrpop_lr1.specs.Words.{productions_but, seen_over, IsAboveOld, IsTreeBelow, IsOutcomeBelow, TellsTreesBelow, IsToldByTablesAbove}
+use Rattle.lalrpop_parser.specs.Words.{IsTreeWithin}
+use Rattle.lalrpop_parser.specs.Words.{IsOutcomeFor, tree_of}
+use Rattle.lalrpop_lr1.specs.Words.{IsToldByTables, IfRefusedAt, TellsTrees, IsOutcomeTold}
 use Rattle.lalrpop_lr1.specs.runs.AnyStart.{above}
 use Rattle.lalrpop_lr1.specs.declared.headline.parse_error.ParseError.{ParseError}
 use Rattle.lalrpop_lr1.specs.declared.headline.parse_error.ParseError.TheVariants.{Conflicts, Refused, Limit, Memory}
-use Rattle.lalrpop_lr1.specs.declared.interpret.tree.ParseTree.{ParseTree}
+use Rattle.lalrpop_parser.specs.declared.interpret.tree.ParseTree.{ParseTree}
 
 -- ---- without the new start symbol's production the old ones are left
 module _ (f : NonterminalString) (entry : NonterminalData) (p : Production) (one : entry.productions.items ≡ p ∷ []) (named : p.nonterminal ≡ f) where

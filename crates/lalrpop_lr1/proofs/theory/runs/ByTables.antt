@@ -4,11 +4,11 @@ use Rattle.std.specs.Prelude.{Result, Ok, Err, IfOk, IfErr}
 use Rattle.lalrpop_base.specs.Words.{AreCoherent, AreFaithful, Bits, contents, Contents, IsFirstWrong, IsOnNoRightSide, productions}
 use Rattle.lalrpop_lr1.proofs.Types.{Grammar, NonterminalString, Production, State, TerminalString}
 use Rattle.lalrpop_tables.specs.Words.{AreTablesOf}
-use Rattle.lalrpop_tables.specs.declared.build.options.Method.{Method}
-use Rattle.lalrpop_lr1.specs.Words.{ForEachGrammar, IfRefused, IsTreeWithin, tree_of}
-use Rattle.lalrpop_lr1.specs.declared.interpret.error.InterpretError.{InterpretError}
-use Rattle.lalrpop_lr1.specs.declared.interpret.error.InterpretError.TheVariants.{Refused, Limit, Memory}
-use Rattle.lalrpop_lr1.specs.declared.interpret.tree.ParseTree.{ParseTree}
+use Rattle.lalrpop_construction.specs.declared.options.Method.{Method}
+use Rattle.lalrpop_parser.specs.Words.{ForEachGrammar, IfRefused, IsTreeWithin, tree_of}
+use Rattle.lalrpop_parser.specs.declared.interpret.error.InterpretError.{InterpretError}
+use Rattle.lalrpop_parser.specs.declared.interpret.error.InterpretError.TheVariants.{Refused, Limit, Memory}
+use Rattle.lalrpop_parser.specs.declared.interpret.tree.ParseTree.{ParseTree}
 
 -- ---- tables that a construction made are what the parser needs, also under other names of the states and the start symbol
 module _ (collapsed : Type 0) (method : Method) (copies : ℕ) (g : Grammar) (start name : NonterminalString) (named : name ≡ start) (tables states : List (State Bits)) (same : states ≡ tables)

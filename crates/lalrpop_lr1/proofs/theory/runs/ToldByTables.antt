@@ -4,14 +4,15 @@ use Rattle.std.specs.Prelude.{Result, Ok, Err, IfOk, IfErr}
 use Rattle.lalrpop_base.specs.Words.{Bits, contents, IsOnNoRightSide, Outcome, HasOutcome, IsFirstWrong, beside, no_trees, leaves, nodes, productions}
 use Rattle.lalrpop_lr1.proofs.Types.{Grammar, NonterminalString, State, TerminalString, Token}
 use Rattle.lalrpop_tables.specs.Words.{Collapses, AreTablesOf}
-use Rattle.lalrpop_tables.specs.declared.build.options.Options.{Options}
+use Rattle.lalrpop_construction.specs.declared.options.Options.{Options}
 use Rattle.lalrpop_lr1.proofs.theory.runs.ByTables.{made_states}
-use Rattle.lalrpop_lr1.specs.Words.{IsAnswer, IsTreeWithin, IsCutOff, IsCutOffByTables, IsOutcomeFor, AnswersTrees, IfRefused, IfLimit}
-use Rattle.lalrpop_lr1.specs.Words.{IsAccepted, IsToldByTables, HadTablesWhere, IfRefusedAt, IfLimitTold, IsOutcomeTold, TellsTrees, told_by, tree_of}
+use Rattle.lalrpop_parser.specs.Words.{IsAnswer, IsTreeWithin, IsCutOff, IsCutOffByTables, IsOutcomeFor, AnswersTrees, IfRefused, IfLimit}
+use Rattle.lalrpop_lr1.specs.Words.{IsAccepted, IsToldByTables, HadTablesWhere, IfRefusedAt, IfLimitTold, IsOutcomeTold, TellsTrees, told_by}
+use Rattle.lalrpop_parser.specs.Words.{tree_of}
 use Rattle.lalrpop_lr1.specs.declared.headline.parse_error.ParseError.{ParseError}
-use Rattle.lalrpop_lr1.specs.declared.interpret.error.InterpretError.{InterpretError}
-use Rattle.lalrpop_lr1.specs.declared.interpret.error.InterpretError.TheVariants.{Refused as RefusedBy, Limit as LimitPassed, Memory as NoMemory}
-use Rattle.lalrpop_lr1.specs.declared.interpret.tree.ParseTree.{ParseTree}
+use Rattle.lalrpop_parser.specs.declared.interpret.error.InterpretError.{InterpretError}
+use Rattle.lalrpop_parser.specs.declared.interpret.error.InterpretError.TheVariants.{Refused as RefusedBy, Limit as LimitPassed, Memory as NoMemory}
+use Rattle.lalrpop_parser.specs.declared.interpret.tree.ParseTree.{ParseTree}
 
 -- ---- without the state that refuses the same is told
 outcome_told : (R : Outcome → Type 0) (states : List (State Bits)) (answer : Result ParseTree (InterpretError Bits)) → IsAnswer R states answer → IsOutcomeTold R (told_by answer)

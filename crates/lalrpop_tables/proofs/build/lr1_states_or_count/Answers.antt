@@ -1,11 +1,12 @@
 use Rattle.std.proofs.Common.{◌≡◌, List, ap, subst, sym}
 use Rattle.std.specs.Prelude.{IfOk}
 use Rattle.std.proofs.lemmas.Result.{IfOk-weaker}
-use Rattle.lalrpop_base.specs.Words.{Bits, IsLALR1, IsOnNoRightSide, productions, rules_of, Construction, lr0_of}
+use Rattle.lalrpop_base.specs.Words.{Bits, IsLALR1, IsOnNoRightSide, productions, rules_of}
+use Rattle.lalrpop_construction.specs.Words.{Construction, lr0_of}
 use Rattle.lalrpop_tables.proofs.Types.{Nil, State}
-use Rattle.lalrpop_tables.specs.Words.{AreLaneTables}
-use Rattle.lalrpop_tables.specs.answers.TablesOrCount.{AreBuiltTablesOrCount}
-use Rattle.lalrpop_tables.specs.declared.build.options.Method.TheVariants.{Canonical, Lane}
+use Rattle.lalrpop_construction.specs.Words.{AreCanonicalTablesOrCount}
+use Rattle.lalrpop_lane_states.specs.Words.{AreLaneTables}
+use Rattle.lalrpop_construction.specs.declared.options.Method.TheVariants.{Lane}
 use Rattle.lalrpop_tables.proofs.theory.answers.ByLanes.{if_told, not_there}
 use Rattle.lalrpop_tables.proofs.theory.answers.TablesOrCount.{Fallback-or-count}
 use Rattle.lalrpop_tables.proofs.build.lr1_states_or_count.Goals as goal
@@ -20,7 +21,7 @@ returns c =
     let method = c.args.options.now.method in
     -- by the lane way there were no tables, so the grammar is not LALR(1)
     let none : (tables : List (State Bits)) → method ≡ Lane → IsOnNoRightSide (productions g) start → IsLALR1 (productions g) start → AreLaneTables (rules_of g) start tables = λ tables lane alone lalr. absurd (not_there _ c.in_default.is (c.in_ok-by_lanes.ensures.lalr lane alone lalr)) in
-    let made = subst (λ start. IfOk c.canonical_states_or_count.result (AreBuiltTablesOrCount Canonical 0 g start)) (ap (λ (k : Construction Nil). k.start) c.in_ok-by_lanes.ensures.over) c.canonical_states_or_count.ensures in
+    let made = subst (λ start. IfOk c.canonical_states_or_count.result (AreCanonicalTablesOrCount g start)) (ap (λ (k : Construction Nil). k.start) c.in_ok-by_lanes.ensures.over) c.canonical_states_or_count.ensures in
     record { answer = IfOk-weaker c.canonical_states_or_count.result _ _ (Fallback-or-count g start method c.args.options.now.max_copies none) made }
 
 pub canonical_states_or_count-requires-clause-over : goal.canonical_states_or_count-requires-clause-over

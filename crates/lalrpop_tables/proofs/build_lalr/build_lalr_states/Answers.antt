@@ -1,7 +1,7 @@
 use Rattle.std.proofs.Common.{◌≡◌, refl, rules, arith}
 use Rattle.std.proofs.lemmas.Grind.{common_steps}
-use Rattle.lalrpop_tables.specs.declared.build.options.Method.TheVariants.{Canonical}
-use Rattle.lalrpop_base.proofs.theory.collapse.CollapseCanonical.{Canonical-collapsible}
+use Rattle.lalrpop_construction.specs.declared.options.Method.TheVariants.{Canonical}
+use Rattle.lalrpop_tables.proofs.theory.collapse.CollapseCanonical.{Canonical-collapsible}
 use Rattle.lalrpop_tables.proofs.theory.answers.Lr1Answers.{Collapse-answers, Collapse-fails}
 use Rattle.lalrpop_tables.proofs.build_lalr.build_lalr_states.Goals as goal
 

@@ -1,11 +1,12 @@
 use Rattle.std.proofs.Common.{◌≡◌, ◌∙◌, List, ℕ, map, subst, ap}
 use Rattle.std.specs.List.{flat_map}
 use Rattle.std.proofs.lemmas.Result.{IfOk-weaker, IfErr-weaker}
-use Rattle.lalrpop_base.specs.Words.{Bits, state_conflicts, dots_in, IsCollapsed, AreOrdered, AreFirstNumbers, AreMoved, number_in}
+use Rattle.lalrpop_base.specs.Words.{Bits, state_conflicts, AreFirstNumbers, AreMoved, number_in}
+use Rattle.lalrpop_tables.specs.Words.{dots_in, IsCollapsed, AreOrdered}
 use Rattle.lalrpop_tables.proofs.Types.{State}
-use Rattle.lalrpop_base.proofs.theory.lists.BothFacts.{MatchResult-both}
+use Rattle.lalrpop_collections.proofs.theory.lists.BothFacts.{MatchResult-both}
 use Rattle.lalrpop_tables.proofs.theory.collapse.CollapseTold.{Answer-ordered}
-use Rattle.lalrpop_base.proofs.theory.collapse.MergedCollapse.{Merged-collapsed, Collapse-tables, Collapse-failure}
+use Rattle.lalrpop_tables.proofs.theory.collapse.MergedCollapse.{Merged-collapsed, Collapse-tables, Collapse-failure}
 use Rattle.lalrpop_tables.proofs.build_lalr.merge_states.Goals as goal
 
 pub returns-clause-merged : goal.returns-clause-merged

@@ -1,6 +1,6 @@
 use Rattle.lalrpop_tables.specs.Words.{lr0_of}
 use Rattle.lalrpop_tables.proofs.theory.canonical.AnyLookahead.{Law-nil-tables, Law-nil-errors, Law-nil-stops}
-use Rattle.lalrpop_base.proofs.theory.canonical.Lr0States.{Tables-free, Stops-listed}
+use Rattle.lalrpop_construction.proofs.theory.canonical.Lr0States.{Tables-free, Stops-listed}
 use Rattle.lalrpop_tables.proofs.laws.states_without_lookahead.Goals as goal
 
 pub returns-clause-tables : goal.returns-clause-tables

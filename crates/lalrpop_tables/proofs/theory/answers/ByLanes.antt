@@ -3,10 +3,12 @@ use Rattle.std.proofs.Common.{◌≡◌, ℕ, true, refl, List, Option, None, So
 use Rattle.std.specs.Prelude.{IfOk, IfSome, IsSomeAnd, MatchOption, is_some}
 use Rattle.std.specs.declared.result.Result.{Result}
 use Rattle.std.specs.declared.result.Result.TheVariants.{Ok, Err}
-use Rattle.lalrpop_base.specs.Words.{AreFaithful, Bits, IsLALR1, IsOnNoRightSide, contents, productions, rules_of, PassCheck}
+use Rattle.lalrpop_base.specs.Words.{AreFaithful, Bits, IsLALR1, IsOnNoRightSide, contents, productions, rules_of}
+use Rattle.lalrpop_check.specs.Words.{PassCheck}
 use Rattle.lalrpop_tables.proofs.Types.{Grammar, NonterminalString, State}
-use Rattle.lalrpop_tables.specs.Words.{AreBuiltTablesOf, AreCopiedTables, AreLaneTables, AreLalrLaneTables}
-use Rattle.lalrpop_tables.specs.declared.build.options.Method.TheVariants.{Lane}
+use Rattle.lalrpop_tables.specs.Words.{AreBuiltTablesOf}
+use Rattle.lalrpop_lane_states.specs.Words.{AreCopiedTables, AreLaneTables, AreLalrLaneTables}
+use Rattle.lalrpop_construction.specs.declared.options.Method.TheVariants.{Lane}
 use Rattle.lalrpop_tables.proofs.theory.answers.Lr1Answers.{Lane-answer}
 
 -- the lane tables of an LALR(1) grammar whose start symbol stands on no right side pass the check

@@ -3,40 +3,28 @@ use Rattle.std.proofs.Common.{◌≡◌, ℕ, ◌<◌, inl, inr, List, length, r
 use Rattle.std.specs.Prelude.{IfOk, IfErr, MatchResult}
 use Rattle.std.specs.declared.result.Result.{Result}
 use Rattle.std.specs.declared.result.Result.TheVariants.{Ok, Err}
-use Rattle.lalrpop_base.specs.Words.{Bits, contents, AreCoherent, AreFaithful, IsLALR1, IsOnNoRightSide, productions, rules_of, AreSomeCanonicalStates}
+use Rattle.lalrpop_base.specs.Words.{Bits, contents, AreCoherent, AreFaithful, IsLALR1, IsOnNoRightSide, productions, rules_of}
 use Rattle.lalrpop_tables.proofs.Types.{BuildError, Grammar, NonterminalString, State}
-use Rattle.lalrpop_base.specs.declared.lr1_core.state.BuildError.TheVariants.{Conflicts, Memory}
-use Rattle.lalrpop_base.specs.declared.lr1_core.state.TableConstructionError.{TableConstructionError}
-use Rattle.lalrpop_base.proofs.theory.states.RightStates.{faithful_lr1}
-use Rattle.lalrpop_base.specs.Words.{AreCanonicalStates, AreCollapsedTables, FailsByCollapse, AreRenumbered}
-use Rattle.lalrpop_tables.specs.Words.{AreLalrTables, TellsNotLALR1}
-use Rattle.lalrpop_tables.specs.Words.{HasCoherentStates, FailsAsLalr, AreLaneTables, AreCopiedTables, AreTablesBy, AreTablesOf, AreBuiltTablesOf}
+use Rattle.lalrpop_states.specs.declared.lr1_core.state.BuildError.TheVariants.{Conflicts, Memory}
+use Rattle.lalrpop_states.specs.declared.lr1_core.state.TableConstructionError.{TableConstructionError}
+use Rattle.lalrpop_grammar.proofs.theory.states.RightStates.{faithful_lr1}
+use Rattle.lalrpop_tables.specs.Words.{AreCollapsedTables, FailsByCollapse}
+use Rattle.lalrpop_base.specs.Words.{AreRenumbered}
+use Rattle.lalrpop_tables.specs.Words.{AreLalrTables}
+use Rattle.lalrpop_base.specs.Words.{TellsNotLALR1}
+use Rattle.lalrpop_tables.specs.Words.{HasCoherentStates, FailsAsLalr, AreTablesBy, AreTablesOf, AreBuiltTablesOf}
+use Rattle.lalrpop_lane_states.specs.Words.{AreLaneTables, AreCopiedTables}
+use Rattle.lalrpop_construction.specs.Words.{AreCanonicalTables, FailsByConflicts}
 use Rattle.lalrpop_tables.specs.Words.{HasConflictsOf, FailsOn}
-use Rattle.lalrpop_base.specs.Words.{AreTables, canonical_of}
-use Rattle.lalrpop_tables.specs.declared.build.options.Method.{Method}
-use Rattle.lalrpop_tables.specs.declared.build.options.Method.TheVariants.{Lane, Canonical}
+use Rattle.lalrpop_construction.specs.Words.{AreTables, canonical_of}
+use Rattle.lalrpop_construction.specs.declared.options.Method.{Method}
+use Rattle.lalrpop_construction.specs.declared.options.Method.TheVariants.{Lane, Canonical}
 use Rattle.lalrpop_tables.proofs.theory.collapse.CollapseLalr.{lalr_lr1}
-use Rattle.lalrpop_tables.proofs.theory.canonical.OrderedCanonical.{Ordered-canonical, Ordered-renumbered}
-use Rattle.lalrpop_tables.proofs.theory.renumbering.RenumberedTables.{Faithful-renumbered, Tables-renumbered, Lanes-renumbered, Either-renumbered, Merged-renumbered, Some-renumbered}
+use Rattle.lalrpop_tables.proofs.theory.renumbering.RenumberedTables.{Ordered-renumbered, Faithful-renumbered, Tables-renumbered, Lanes-renumbered, Either-renumbered, Merged-renumbered, Some-renumbered}
 use Rattle.lalrpop_tables.proofs.theory.renumbering.RenumberedValid.{Valid-renumbered}
 
 module _ (g : Grammar) (start : NonterminalString) (tables : List (State Bits)) where
   -- ---- each way of making tables
-  pub Canonical-answer : AreTables (canonical_of g start) tables → AreCanonicalStates (rules_of g) start tables → AreSomeCanonicalStates (rules_of g) start tables → AreFaithful (productions g) start (contents g.terminals tables) → AreBuiltTablesOf ⊥ Canonical 0 g start tables
-  Canonical-answer made canonical valid faithful = record {
-    coherent = made.made.coherent;
-    some = made.made.some;
-    lr1 = faithful_lr1 (productions g) start (contents g.terminals tables) faithful;
-    faithful = faithful;
-    valid = λ _ _. valid;
-    canonical = λ _ _. Ordered-canonical g start tables made.made canonical;
-    built = λ _ _. made;
-    lalr1 = λ c. absurd c;
-    merged = λ c. absurd c;
-    either = λ _. inr made;
-    lanes = λ e. cc;
-  }
-
   pub Lane-answer : (copies : ℕ) → AreCopiedTables (rules_of g) start copies tables → AreFaithful (productions g) start (contents g.terminals tables) → (IsOnNoRightSide (productions g) start → IsLALR1 (productions g) start → AreLaneTables (rules_of g) start tables) → AreBuiltTablesOf ⊥ Lane copies g start tables
   Lane-answer copies copied faithful lanes = record {
     coherent = copied.closed.coherent;
@@ -53,18 +41,18 @@ module _ (g : Grammar) (start : NonterminalString) (tables : List (State Bits)) 
   }
 
   -- canonical tables, by either method; by the lane way only where there are no lane tables of an LALR(1) grammar
-  pub Fallback-answer : (method : Method) (copies : ℕ) → (method ≡ Lane → IsOnNoRightSide (productions g) start → IsLALR1 (productions g) start → AreLaneTables (rules_of g) start tables) → AreBuiltTablesOf ⊥ Canonical 0 g start tables → AreBuiltTablesOf ⊥ method copies g start tables
+  pub Fallback-answer : (method : Method) (copies : ℕ) → (method ≡ Lane → IsOnNoRightSide (productions g) start → IsLALR1 (productions g) start → AreLaneTables (rules_of g) start tables) → AreCanonicalTables g start tables → AreBuiltTablesOf ⊥ method copies g start tables
   Fallback-answer method copies lanes t = record {
     coherent = t.coherent;
     some = t.some;
     lr1 = t.lr1;
     faithful = t.faithful;
-    valid = λ n _. t.valid n refl;
-    canonical = λ n _. t.canonical n refl;
-    built = λ n _. t.built n refl;
+    valid = λ n _. t.valid;
+    canonical = λ n _. t.canonical;
+    built = λ n _. t.built;
     lalr1 = λ c. absurd c;
     merged = λ c. absurd c;
-    either = λ _. inr (t.built (λ c. c) refl);
+    either = λ _. inr t.built;
     lanes = lanes;
   }
 
@@ -116,6 +104,20 @@ Answer-renumbered collapsed method copies g start built tables r t = record {
 }
 
 -- ---- errors
+-- an error of the canonical construction is one where nothing is collapsed
+pub Canonical-fails : (g : Grammar) (start : NonterminalString) (stop_after : ℕ) (error : BuildError Bits) → FailsByConflicts stop_after g start error → FailsOn ⊥ stop_after g start error
+Canonical-fails g start stop_after (Conflicts error) f = record {
+  not_lr1 = λ _. f.not_lr1;
+  not_lalr1 = λ c. absurd c;
+  canonical = λ _. f.canonical;
+  built = λ _. f.built;
+  all = λ _. f.all;
+  conflicts = λ _. f.conflicts;
+  stopped = λ _. f.stopped;
+  merged = λ c. absurd c;
+}
+Canonical-fails g start stop_after Memory f = tt
+
 module _ (g : Grammar) (start : NonterminalString) (stop_after : ℕ) where
   -- an error of the canonical construction, or of the collapse of what it makes
   merged_error : (collapsed : Type 0) → collapsed → (error : TableConstructionError Bits) → FailsAsLalr g start stop_after (Conflicts error) → ¬ IsLALR1 (productions g) start → HasConflictsOf collapsed stop_after g start error

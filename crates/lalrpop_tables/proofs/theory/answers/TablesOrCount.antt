@@ -1,41 +1,19 @@
 -- Tables, or the number of conflicts: what is answered of states whose conflicts were counted, by either method, and under other numbers.
 use Rattle.std.proofs.Common.{◌≡◌, ◌≢◌, ℕ, ◌<◌, List, [], length, refl, sym, ◌∙◌, ap, subst, arith}
 use Rattle.std.specs.List.{flat_map}
-use Rattle.lalrpop_base.specs.Words.{AllDiffer, Bits, IsLALR1, IsOnNoRightSide, IsWellFormed, productions, rules_of, state_conflicts, AreOwn, Begins, HaveNoConflict}
-use Rattle.lalrpop_tables.proofs.Types.{Conflict, Grammar, NonterminalString, State}
-use Rattle.lalrpop_base.specs.closures.Closure.{itself}
-use Rattle.lalrpop_tables.specs.Words.{AreBuiltTablesOrCount, AreLaneTables, MatchTablesOrCount, up_to_greatest}
-use Rattle.lalrpop_base.specs.Words.{AreStatesFor, AreStatesOf, canonical_of}
-use Rattle.lalrpop_tables.specs.declared.build.options.Method.{Method}
-use Rattle.lalrpop_tables.specs.declared.build.options.Method.TheVariants.{Canonical, Lane}
-use Rattle.lalrpop_tables.specs.declared.construction.tables_or_count.TablesOrCount.{TablesOrCount}
-use Rattle.lalrpop_tables.specs.declared.construction.tables_or_count.TablesOrCount.TheVariants.{Tables, Conflicts}
-use Rattle.lalrpop_tables.proofs.theory.canonical.CanonicalAnswers.{Canonical-lacks, Canonical-tables}
+use Rattle.lalrpop_base.specs.Words.{Bits, IsLALR1, IsOnNoRightSide, productions, rules_of}
+use Rattle.lalrpop_tables.proofs.Types.{Grammar, NonterminalString, State}
+use Rattle.lalrpop_tables.specs.Words.{AreBuiltTablesOrCount}
+use Rattle.lalrpop_construction.specs.Words.{AreCanonicalTablesOrCount}
+use Rattle.lalrpop_lane_states.specs.Words.{AreLaneTables}
+use Rattle.lalrpop_construction.specs.declared.options.Method.{Method}
+use Rattle.lalrpop_construction.specs.declared.options.Method.TheVariants.{Lane}
+use Rattle.lalrpop_construction.specs.declared.construction.tables_or_count.TablesOrCount.{TablesOrCount}
+use Rattle.lalrpop_construction.specs.declared.construction.tables_or_count.TablesOrCount.TheVariants.{Tables, Conflicts}
 use Rattle.lalrpop_tables.proofs.theory.answers.Lr1Answers.{Fallback-answer}
-use Rattle.lalrpop_base.proofs.theory.closures.TokenTables.{Lists, Passes, states_of}
-
--- canonical states with their conflicts counted
-module _ (g : Grammar) (start : NonterminalString) (well : IsWellFormed g) (own : AreOwn g) (differ : AllDiffer g.terminals) (states : List (State Bits)) (made : AreStatesFor itself Begins Passes Lists (canonical_of g start) states) where
-  abbrev listed : List (Conflict Bits)
-  listed = flat_map (state_conflicts g.terminals) states
-
-  some : (n : ℕ) → 0 < n → n ≡ up_to_greatest (length listed) → listed ≢ []
-  some n more counted none = let l : n ≡ 0 = counted ∙ ap (λ xs. up_to_greatest (length xs)) none in absurd (omega (arith, more, l))
-
-  of : AreStatesOf (canonical_of g start) states
-  of = states_of (canonical_of g start) states made
-
-  pub Canonical-counted : (answer : TablesOrCount) → MatchTablesOrCount (λ tables. (tables ≡ states) × HaveNoConflict g.terminals tables) (λ n. (0 < n) × (n ≡ up_to_greatest (length listed))) answer → AreBuiltTablesOrCount Canonical 0 g start answer
-  Canonical-counted (Tables tables) h = Canonical-tables g start well own differ tables.items (record { made = subst (AreStatesOf (canonical_of g start)) (sym h.0) of; free = h.1 })
-  Canonical-counted (Conflicts n) h = record {
-    states = states;
-    listed = listed;
-    lacks = Canonical-lacks g start well own differ states listed of (record { all = refl; some = some n h.0 h.1 });
-    counted = h.1;
-  }
 
 -- what the canonical construction answers, by either method; by the lane way only where there are no lane tables of an LALR(1) grammar
 pub Fallback-or-count : (g : Grammar) (start : NonterminalString) (method : Method) (copies : ℕ) → ((tables : List (State Bits)) → method ≡ Lane → IsOnNoRightSide (productions g) start → IsLALR1 (productions g) start → AreLaneTables (rules_of g) start tables) →
-    (answer : TablesOrCount) → AreBuiltTablesOrCount Canonical 0 g start answer → AreBuiltTablesOrCount method copies g start answer
+    (answer : TablesOrCount) → AreCanonicalTablesOrCount g start answer → AreBuiltTablesOrCount method copies g start answer
 Fallback-or-count g start method copies none (Tables tables) t = Fallback-answer g start tables.items method copies (none tables.items) t
 Fallback-or-count g start method copies none (Conflicts n) counted = counted

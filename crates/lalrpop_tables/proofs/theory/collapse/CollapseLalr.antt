@@ -5,20 +5,23 @@ use Rattle.std.specs.declared.result.Result.{Result}
 use Rattle.std.specs.declared.result.Result.TheVariants.{Ok, Err}
 use Rattle.std.proofs.lemmas.Option.{slice_get_within}
 use Rattle.lalrpop_base.specs.Words.{Bits, contents_at, AreLr0, HoldLalrTokens, AllDiffer, Contents, state_after, HaveNoConflict, AreAllConflicts}
-use Rattle.lalrpop_base.specs.Words.{IsLR1, IsLALR1, productions, tokens_of, FitReductions, AreOrderedCanonical, IsCollapsed, AreCollapsedTables, FailsByCollapse}
-use Rattle.lalrpop_base.specs.conflicts.Conflicts.{HasNoConflict as HoldsNoConflict}
+use Rattle.lalrpop_base.specs.Words.{IsLR1, IsLALR1, productions}
+use Rattle.lalrpop_construction.specs.Words.{tokens_of, FitReductions, AreOrderedCanonical}
+use Rattle.lalrpop_tables.specs.Words.{IsCollapsed, AreCollapsedTables, FailsByCollapse}
+use Rattle.lalrpop_grammar.specs.conflicts.Conflicts.{HasNoConflict as HoldsNoConflict}
 use Rattle.lalrpop_tables.proofs.Types.{BuildError, Conflict, Grammar, NonterminalString, Production, State, Symbol, TerminalString, Token}
-use Rattle.lalrpop_base.specs.declared.lr1_core.state.BuildError.TheVariants.{Conflicts, Memory}
-use Rattle.lalrpop_base.proofs.theory.closures.Closures.{state_from-last, reached_at, reached_live}
-use Rattle.lalrpop_base.proofs.theory.collapse.Collapse.{collapsed_lr0, collapsed_tokens}
-use Rattle.lalrpop_base.proofs.theory.collapse.LalrStates.{lalr_faithful, no_conflict_lalr, lalr_no_conflict, action_lalr}
-use Rattle.lalrpop_base.proofs.theory.lists.Lists.{Grown, from_nothing, more, grown}
-use Rattle.lalrpop_base.proofs.theory.runs.Steps.{state_from-more}
-use Rattle.lalrpop_base.proofs.theory.closures.Valid.{action_live}
-use Rattle.lalrpop_tables.specs.Words.{AreLalrTables, TellsNotLALR1}
-use Rattle.lalrpop_base.proofs.theory.collapse.CollapseContents.{holds, old, now, number, is_collapse}
-use Rattle.lalrpop_base.proofs.theory.conflicts.ConflictFree.{nowhere_conflict, free_contents, contents_free, none_listed}
-use Rattle.lalrpop_base.proofs.theory.lists.Places.{same_some}
+use Rattle.lalrpop_states.specs.declared.lr1_core.state.BuildError.TheVariants.{Conflicts, Memory}
+use Rattle.lr1_theory.proofs.theory.closures.Closures.{state_from-last, reached_at, reached_live}
+use Rattle.lr1_theory.proofs.theory.collapse.Collapse.{collapsed_lr0, collapsed_tokens}
+use Rattle.lr1_theory.proofs.theory.collapse.LalrStates.{lalr_faithful, no_conflict_lalr, lalr_no_conflict, action_lalr}
+use Rattle.lalrpop_collections.proofs.theory.lists.Lists.{Grown, from_nothing, more, grown}
+use Rattle.lalrpop_grammar.proofs.theory.runs.Steps.{state_from-more}
+use Rattle.lalrpop_grammar.proofs.theory.closures.Valid.{action_live}
+use Rattle.lalrpop_tables.specs.Words.{AreLalrTables}
+use Rattle.lalrpop_base.specs.Words.{TellsNotLALR1}
+use Rattle.lalrpop_tables.proofs.theory.collapse.CollapseContents.{holds, old, now, number, is_collapse}
+use Rattle.lalrpop_construction.proofs.theory.conflicts.ConflictFree.{nowhere_conflict, free_contents, contents_free, none_listed}
+use Rattle.lalrpop_collections.proofs.theory.lists.Places.{same_some}
 
 module _ (g : Grammar) (start : NonterminalString) (differ : AllDiffer g.terminals) (before after : List (State Bits)) (ordered : AreOrderedCanonical g start before) (c : IsCollapsed before after) where
   abbrev was : ℕ → Contents

@@ -3,12 +3,13 @@ use Rattle.std.proofs.Common.{[], sym, subst, ◌≡◌, ◌<◌, List, length}
 use Rattle.std.specs.Prelude.{MatchResult, IfOk, IfErr}
 use Rattle.std.specs.declared.result.Result.{Result}
 use Rattle.std.specs.declared.result.Result.TheVariants.{Ok, Err}
-use Rattle.lalrpop_base.specs.Words.{Bits, AreCoherent, AreOrdered, AreCollapsedTables, FailsByCollapse, FailWith}
+use Rattle.lalrpop_base.specs.Words.{Bits, AreCoherent, FailWith}
+use Rattle.lalrpop_tables.specs.Words.{AreOrdered, AreCollapsedTables, FailsByCollapse}
 use Rattle.lalrpop_tables.proofs.Types.{BuildError, Conflict, State, TerminalString}
-use Rattle.lalrpop_base.specs.declared.lr1_core.state.BuildError.TheVariants.{Conflicts, Memory}
+use Rattle.lalrpop_states.specs.declared.lr1_core.state.BuildError.TheVariants.{Conflicts, Memory}
 use Rattle.lalrpop_tables.specs.Words.{HasCoherentStates, HasOrderedStates}
-use Rattle.lalrpop_base.proofs.theory.collapse.CollapseCoherent.{Collapsed-coherent}
-use Rattle.lalrpop_base.proofs.theory.collapse.CollapseDots.{Collapsed-some}
+use Rattle.lalrpop_tables.proofs.theory.collapse.CollapseCoherent.{Collapsed-coherent}
+use Rattle.lalrpop_tables.proofs.theory.collapse.CollapseDots.{Collapsed-some}
 
 coherent_error : (terminals : List TerminalString) (before : List (State Bits)) → AreCoherent before → (error : BuildError Bits) → FailsByCollapse terminals before error → HasOrderedStates error → HasCoherentStates error
 coherent_error terminals before coherent (Conflicts error) f ordered = Collapsed-coherent before error.states.items coherent f.0 ordered

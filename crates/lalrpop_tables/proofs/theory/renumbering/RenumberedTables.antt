@@ -3,16 +3,20 @@ use Rattle.std.proofs.Common.{◌≡◌, ◌⊎◌, ◌<◌, ℕ, inl, inr, ⊎_
 use Rattle.std.specs.Prelude.{Contains, slice_get}
 use Rattle.std.proofs.lemmas.Bool.{cases_lt}
 use Rattle.std.proofs.lemmas.Option.{slice_get_within}
-use Rattle.lalrpop_base.specs.Words.{Bits, contents, AreFaithful, Rules, rules_of, IsRenumberedState, AreRenumbered, number_in, HaveNoConflict}
-use Rattle.lalrpop_base.specs.conflicts.StateConflicts.{HasNoConflict}
-use Rattle.lalrpop_base.specs.declared.lr1_core.state.Items.{Items}
+use Rattle.lalrpop_base.specs.Words.{Bits, contents, AreFaithful, Rules, rules_of, IsRenumberedState, AreRenumbered, number_in, HaveNoConflict, Ascend, FitsTokens}
+use Rattle.lalrpop_construction.specs.Words.{AreOrderedCanonical}
+use Rattle.lalrpop_states.specs.conflicts.StateConflicts.{HasNoConflict}
+use Rattle.lalrpop_states.specs.declared.lr1_core.state.Items.{Items}
 use Rattle.lalrpop_tables.proofs.Types.{Grammar, NonterminalString, Production, State, TerminalString}
-use Rattle.lalrpop_base.proofs.theory.renumbering.Renumbering.{faithful-renumbered}
-use Rattle.lalrpop_tables.specs.Words.{AreMergedTables, AreRenumberedMerged, AreLaneTables, HaveFullItems, AreCopiedTables, AreLr0Copies}
+use Rattle.lr1_theory.proofs.theory.renumbering.Renumbering.{faithful-renumbered}
+use Rattle.lalrpop_tables.specs.Words.{AreMergedTables, AreRenumberedMerged}
+use Rattle.lalrpop_lane_states.specs.Words.{AreLaneTables, HaveFullItems, AreCopiedTables, AreLr0Copies}
 use Rattle.lalrpop_tables.specs.Words.{AreRenumberedCopies, AreRenumberedTables, AreRenumberedLaneTables}
-use Rattle.lalrpop_base.specs.Words.{Construction, AreTables, canonical_of}
-use Rattle.lalrpop_base.proofs.theory.lists.Places.{same_some, filled}
-use Rattle.lalrpop_base.proofs.theory.renumbering.Renumbered.{entry_from}
+use Rattle.lalrpop_construction.specs.Words.{Construction, AreTables, canonical_of}
+use Rattle.lalrpop_collections.proofs.theory.lists.Places.{same_some, filled}
+use Rattle.lr1_theory.proofs.theory.renumbering.Renumbered.{entry_from}
+use Rattle.std.specs.Borrow.{Bor}
+use Rattle.lalrpop_tables.proofs.theory.renumbering.RenumberedCanonical.{Canonical-renumbered}
 
 -- a state under another number has no conflict where it had none
 no_conflict_after : (new : ℕ → ℕ) (terminals : List TerminalString) (before after : State Bits) → IsRenumberedState new before after → HasNoConflict terminals before → HasNoConflict terminals after
@@ -98,3 +102,16 @@ Copies-renumbered g start copies built tables copied r = record {
 pub Either-renumbered : (g : Grammar) (start : NonterminalString) (copies : ℕ) (built tables : List (State Bits)) → AreCopiedTables (rules_of g) start copies built ⊎ AreTables (canonical_of g start) built → AreRenumbered g.terminals built tables →
     AreRenumberedCopies (rules_of g) start copies tables ⊎ AreRenumberedTables (canonical_of g start) tables
 Either-renumbered g start copies built tables either r = ⊎_elim (λ copied. inl (Copies-renumbered (rules_of g) start copies built tables copied r)) (λ made. inr (Tables-renumbered (canonical_of g start) built tables made r)) either
+
+pub Ordered-renumbered : (g : Grammar) (start : NonterminalString) (before after : List (State Bits)) → AreRenumbered g.terminals before after → AreOrderedCanonical g start before → AreOrderedCanonical g start after
+Ordered-renumbered g start before after r o = record {
+  canonical = Canonical-renumbered (rules_of g) before after r start o.canonical;
+  coherent = r.coherent;
+  some = Some-renumbered g.terminals before after r o.some;
+  ascend = λ n s at.
+      let b = state_before g.terminals before after r n s at in
+      subst (λ is. Ascend is.vec.items) (sym b.2.items) (o.ascend (r.old n) b.0 b.1);
+  fit = λ n s at.
+      let b = state_before g.terminals before after r n s at in
+      subst (λ rs. (q : Bits × Bor Production) → Contains rs.items q → FitsTokens g.terminals q.0) (sym b.2.reductions) (o.fit (r.old n) b.0 b.1);
+}

@@ -2,11 +2,12 @@
 use Rattle.std.proofs.Common.{◌≡◌, ◌↔◌, ℕ, ◌<◌, inl, inr, List, [], sym, ◌∙◌, ap, subst, arith, Some}
 use Rattle.std.specs.Prelude.{Contains, slice_get, map}
 use Rattle.std.proofs.lemmas.Bool.{cases_lt}
-use Rattle.lalrpop_base.specs.Words.{Bits, Valid, ValidToken, Rules, HasItemToken, AreRenumbered, IsStateFor, HaveSameContents, AreSomeCanonicalStates}
+use Rattle.lalrpop_base.specs.Words.{Bits, Valid, ValidToken, Rules, HasItemToken, AreRenumbered}
+use Rattle.lalrpop_construction.specs.Words.{IsStateFor, HaveSameContents, AreSomeCanonicalStates}
 use Rattle.lalrpop_tables.proofs.Types.{NonterminalString, State, Symbol, TerminalString}
-use Rattle.lalrpop_base.specs.closures.Closure.{dotted_of}
+use Rattle.lalrpop_states.specs.closures.Closure.{dotted_of}
 use Rattle.lalrpop_tables.proofs.theory.renumbering.RenumberedTables.{state_before}
-use Rattle.lalrpop_base.proofs.theory.lists.BothFacts.{turned_both}
+use Rattle.lalrpop_collections.proofs.theory.lists.BothFacts.{turned_both}
 
 -- a state with the same items is one of the same prefixes
 same_prefix : (g : Rules) (start : NonterminalString) (u : List Symbol) (before after : State Bits) → after.items ≡ before.items → IsStateFor g start u before → IsStateFor g start u after

@@ -1,4 +1,4 @@
-use Rattle.lalrpop_base.proofs.theory.construction.Lookaheads.{nothing_fits}
+use Rattle.lalrpop_construction.proofs.theory.construction.Lookaheads.{nothing_fits}
 use Rattle.lalrpop_tables_tests.proofs.without_lookahead.counts.Goals as goal
 
 pub new-requires-clause-fits : goal.new-requires-clause-fits

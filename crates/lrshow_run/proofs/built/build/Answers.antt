@@ -1,5 +1,5 @@
 use Rattle.std.proofs.Common.{ap, inr}
-use Rattle.lalrpop_tables.specs.declared.build.options.Options.{Options}
+use Rattle.lalrpop_construction.specs.declared.options.Options.{Options}
 use Rattle.lrtab_run.proofs.Plain.{plain_conflicts}
 use Rattle.lrshow_run.proofs.built.build.Goals as goal
 

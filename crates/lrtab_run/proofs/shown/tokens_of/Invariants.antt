@@ -1,5 +1,5 @@
 use Rattle.std.proofs.Common.{◌≡◌, ◌++◌, map, drop, string_bytes}
-use Rattle.lalrpop_base.specs.declared.repr.TerminalString.TheVariants.{Literal}
+use Rattle.lalrpop_grammar.specs.declared.repr.TerminalString.TheVariants.{Literal}
 use Rattle.lrtab_run.proofs.shown.tokens_of.Given as goal
 
 -- the literals so far, and those of the words that are left

@@ -1,6 +1,6 @@
 use Rattle.std.proofs.Common.{◌≡◌, ◌++◌, map, take}
 use Rattle.std.specs.Borrow.{Bor}
-use Rattle.lalrpop_base.specs.declared.repr.Production.{Production}
+use Rattle.lalrpop_grammar.specs.declared.repr.Production.{Production}
 use Rattle.table_data.proofs.rules.add_each.Given as goal
 
 -- the productions so far are added

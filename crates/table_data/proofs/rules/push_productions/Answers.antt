@@ -1,6 +1,6 @@
 use Rattle.std.proofs.Common.{◌∙◌, ◌++◌, ap, codes, string_bytes}
 use Rattle.std.specs.Borrow.{Bor}
-use Rattle.lalrpop_base.specs.declared.repr.Production.{Production}
+use Rattle.lalrpop_grammar.specs.declared.repr.Production.{Production}
 use Rattle.table_data.specs.Json.{array}
 use Rattle.table_data.specs.Rules.{production_json}
 use Rattle.table_data.proofs.Loops.{array_of, grew_by}

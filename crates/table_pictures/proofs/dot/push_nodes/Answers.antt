@@ -1,5 +1,5 @@
 use Rattle.table_pictures.specs.Graphs.{shown_node}
-use Rattle.lalrpop_base.proofs.theory.lists.Pieces.{one_more}
+use Rattle.lalrpop_collections.proofs.theory.lists.Pieces.{one_more}
 use Rattle.table_pictures.proofs.dot.push_nodes.Goals as goal
 
 pub loop-state-preserved : goal.loop-state-preserved

@@ -1,5 +1,5 @@
 use Rattle.std.proofs.Common.{string_bytes}
-use Rattle.lalrpop_base.proofs.theory.lists.Pieces.{five_pieces}
+use Rattle.lalrpop_collections.proofs.theory.lists.Pieces.{five_pieces}
 use Rattle.table_pictures.proofs.nodes.push_red_line.Goals as goal
 
 pub returns : goal.returns

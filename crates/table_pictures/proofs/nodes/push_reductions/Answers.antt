@@ -1,5 +1,5 @@
 use Rattle.table_pictures.specs.Nodes.{reduction_line}
-use Rattle.lalrpop_base.proofs.theory.lists.Pieces.{one_more}
+use Rattle.lalrpop_collections.proofs.theory.lists.Pieces.{one_more}
 use Rattle.table_pictures.proofs.nodes.push_reductions.Goals as goal
 
 pub loop-reduction-preserved : goal.loop-reduction-preserved

@@ -4,7 +4,7 @@ use Rattle.table_pictures.specs.Page.{page, page_start, page_head, script_start,
 use Rattle.table_pictures.specs.declared.page.TheConstants.{HEAD, BODY, SCRIPT, END}
 use Rattle.table_pictures.specs.declared.script.TheConstants.{TREES, DRAWING, FINDING}
 use Rattle.table_pictures.specs.declared.style.TheConstants.{STYLE}
-use Rattle.lalrpop_base.proofs.theory.lists.Pieces.{five_pieces, three_pieces, two_pieces}
+use Rattle.lalrpop_collections.proofs.theory.lists.Pieces.{five_pieces, three_pieces, two_pieces}
 use Rattle.table_pictures.proofs.page.page_text.Goals as goal
 
 -- the texts of the code are those of the definitions

@@ -1,6 +1,6 @@
 use Rattle.std.proofs.Common.{◌≡◌, map, ap}
 use Rattle.lalrpop_base.specs.Words.{Node, beside, no_trees, trees_of}
-use Rattle.lalrpop_lr1.specs.Words.{tree_of}
+use Rattle.lalrpop_parser.specs.Words.{tree_of}
 use Rattle.lalrpop_lr1.proofs.theory.runs.AnyStart.{last_of_one}
 use Rattle.lalrpop_lr1.proofs.headline.any_start.only_child.Goals as goal
 

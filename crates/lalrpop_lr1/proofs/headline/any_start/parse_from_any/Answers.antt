@@ -2,7 +2,8 @@ use Rattle.std.proofs.Common.{◌≡◌, ap, subst, ◌∙◌, Ok, Err}
 use Rattle.lalrpop_base.specs.Words.{IsOnNoRightSide, IsFirstWrong, productions}
 use Rattle.lalrpop_lr1.proofs.Types.{Grammar, NonterminalString}
 use Rattle.lalrpop_tables.specs.Words.{Collapses, HasConflictsOf}
-use Rattle.lalrpop_lr1.specs.Words.{Augmented, IsAboveOld, IsTreeWithin, IsAccepted, IsToldByTables, HadTables, HadTablesWhere, IfConflicts, IfRefusedAt, TellsTrees, tree_of}
+use Rattle.lalrpop_lr1.specs.Words.{Augmented, IsAboveOld, IsAccepted, IsToldByTables, HadTables, HadTablesWhere, IfConflicts, IfRefusedAt, TellsTrees}
+use Rattle.lalrpop_parser.specs.Words.{IsTreeWithin, tree_of}
 use Rattle.lalrpop_lr1.proofs.theory.runs.AnyStart.{carried, is_alone, has_child, child_below, child_told, error_told, refused_old, run_of_child, run_of_error}
 use Rattle.lalrpop_lr1.proofs.headline.any_start.parse_from_any.Goals as goal
 

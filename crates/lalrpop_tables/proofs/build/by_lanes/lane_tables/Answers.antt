@@ -1,5 +1,5 @@
 use Rattle.lalrpop_base.specs.Words.{rules_of}
-use Rattle.lalrpop_tables.specs.Words.{AreCopiedTables, AreLaneTables}
+use Rattle.lalrpop_lane_states.specs.Words.{AreCopiedTables, AreLaneTables}
 use Rattle.lalrpop_tables.proofs.theory.answers.ByLanes.{Kept-said, Lanes-pass, Passing-said, and_told, if_told, nothing_told, there_told}
 use Rattle.lalrpop_tables.proofs.build.by_lanes.lane_tables.Goals as goal
 

@@ -2,8 +2,8 @@ use Rattle.std.proofs.Common.{◌≡◌, ◌∙◌, true, false, sym, subst, rul
 use Rattle.std.specs.Prelude.{IfOk, IfSome}
 use Rattle.std.proofs.lemmas.Grind.{common_steps}
 use Rattle.lalrpop_tables.specs.Words.{AreBuiltTablesOf}
-use Rattle.lalrpop_tables.specs.declared.build.options.Method.{Method}
-use Rattle.lalrpop_tables.specs.declared.build.options.Method.TheVariants.{Lane}
+use Rattle.lalrpop_construction.specs.declared.options.Method.{Method}
+use Rattle.lalrpop_construction.specs.declared.options.Method.TheVariants.{Lane}
 use Rattle.lalrpop_tables.proofs.theory.answers.ByLanes.{Lanes-answer, Lanes-there}
 use Rattle.lalrpop_tables.proofs.build.by_lanes.lane_tables_by.Goals as goal
 

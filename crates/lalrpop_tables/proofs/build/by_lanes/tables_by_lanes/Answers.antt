@@ -1,6 +1,7 @@
 use Rattle.std.proofs.Common.{◌≡◌, ℕ, true, subst}
 use Rattle.std.specs.Prelude.{IfSome, is_some}
-use Rattle.lalrpop_base.specs.Words.{IsLALR1, IsOnNoRightSide, productions, lr0_of}
+use Rattle.lalrpop_base.specs.Words.{IsLALR1, IsOnNoRightSide, productions}
+use Rattle.lalrpop_construction.specs.Words.{lr0_of}
 use Rattle.lalrpop_tables.proofs.Types.{Grammar, NonterminalString}
 use Rattle.lalrpop_tables.specs.Words.{AreBuiltTablesOf}
 use Rattle.lalrpop_tables.proofs.theory.answers.ByLanes.{said_of}

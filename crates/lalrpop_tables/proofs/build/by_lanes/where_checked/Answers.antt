@@ -1,6 +1,6 @@
 use Rattle.std.proofs.Common.{◌∙◌, ap, sym}
 use Rattle.lalrpop_tables.proofs.Types.{Nil}
-use Rattle.lalrpop_base.specs.Words.{Construction}
+use Rattle.lalrpop_construction.specs.Words.{Construction}
 use Rattle.lalrpop_tables.proofs.build.by_lanes.where_checked.Goals as goal
 
 pub check_over-requires-clause-coherent : goal.check_over-requires-clause-coherent

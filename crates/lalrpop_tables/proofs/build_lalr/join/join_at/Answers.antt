@@ -1,7 +1,7 @@
 use Rattle.std.proofs.Common.{◌≡◌, ◌∙◌, ap, sym, get_or, slice_set, arith}
 use Rattle.lalrpop_base.specs.Words.{Bits, Dotted, joined_item}
-use Rattle.lalrpop_base.proofs.theory.collapse.MergingItems.{joined_there, joined_past}
-use Rattle.lalrpop_base.proofs.theory.lists.Places.{slice_get_at}
+use Rattle.lalrpop_tables.proofs.theory.collapse.MergingItems.{joined_there, joined_past}
+use Rattle.lalrpop_collections.proofs.theory.lists.Places.{slice_get_at}
 use Rattle.lalrpop_tables.proofs.build_lalr.join.join_at.Goals as goal
 
 pub returns-in_ok-join_item : goal.returns-in_ok-join_item

@@ -1,7 +1,7 @@
 use Rattle.std.proofs.Common.{◌≡◌, ◌∙◌, ◌+◌, ◌++◌, ◌∷◌, [], ◌<◌, List, ℕ, ap, sym, take, length, arith}
 use Rattle.std.proofs.lemmas.List.{take_more, length-take}
 use Rattle.lalrpop_base.specs.Words.{Bits, Dotted, joined_at, joined_items}
-use Rattle.lalrpop_base.proofs.theory.collapse.MergingItems.{joined_more}
+use Rattle.lalrpop_tables.proofs.theory.collapse.MergingItems.{joined_more}
 use Rattle.lalrpop_tables.proofs.build_lalr.join.join_items.Goals as goal
 
 pub loop-place-preserved : goal.loop-place-preserved

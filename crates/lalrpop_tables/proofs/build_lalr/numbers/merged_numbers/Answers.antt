@@ -1,10 +1,11 @@
 use Rattle.std.proofs.Common.{◌≡◌, ◌∙◌, ◌+◌, ◌++◌, ◌∷◌, [], List, ℕ, Some, ap, sym, subst, take, map, refl, inl}
 use Rattle.std.specs.Prelude.{slice_get}
 use Rattle.std.proofs.lemmas.List.{take_more, take_all, map-append}
-use Rattle.lalrpop_base.specs.Words.{Bits, dots, Dotted, dots_in, bare, AreFirstNumbers}
+use Rattle.lalrpop_base.specs.Words.{Bits, dots, Dotted, bare, AreFirstNumbers}
+use Rattle.lalrpop_tables.specs.Words.{dots_in}
 use Rattle.lalrpop_tables.proofs.Types.{Nil, State, StateIndex}
-use Rattle.lalrpop_base.proofs.theory.construction.Contained.{decided_kernel, added_or_not}
-use Rattle.lalrpop_base.proofs.theory.collapse.MergedNumbers.{AreListed, Listed-none, Listed-more, Listed-numbers, mapped_numbers, bare_apart, no_lookahead}
+use Rattle.lalrpop_numbers.proofs.theory.construction.Contained.{decided_kernel, added_or_not}
+use Rattle.lalrpop_tables.proofs.theory.collapse.MergedNumbers.{AreListed, Listed-none, Listed-more, Listed-numbers, mapped_numbers, bare_apart, no_lookahead}
 use Rattle.lalrpop_tables.proofs.build_lalr.numbers.merged_numbers.Goals as goal
 
 abbrev bare_in : State Bits → List (Dotted Nil)

@@ -1,7 +1,8 @@
 use Rattle.std.proofs.Common.{map, take}
-use Rattle.lalrpop_base.specs.Words.{Bits, dots_in, bare}
+use Rattle.lalrpop_base.specs.Words.{Bits, bare}
+use Rattle.lalrpop_tables.specs.Words.{dots_in}
 use Rattle.lalrpop_tables.proofs.Types.{State}
-use Rattle.lalrpop_base.proofs.theory.collapse.MergedNumbers.{AreListed}
+use Rattle.lalrpop_tables.proofs.theory.collapse.MergedNumbers.{AreListed}
 use Rattle.lalrpop_tables.proofs.build_lalr.numbers.merged_numbers.Given as goal
 
 abbrev pub invariant-loop-state : goal.invariant-loop-state

@@ -1,4 +1,4 @@
-use Rattle.lalrpop_base.proofs.theory.lists.EachLemmas.{each_below_more, each_of_below}
+use Rattle.lalrpop_collections.proofs.theory.lists.EachLemmas.{each_below_more, each_of_below}
 use Rattle.lalrpop_tables.proofs.build_lalr.order.read_order.Goals as goal
 
 pub loop-state-preserved : goal.loop-state-preserved

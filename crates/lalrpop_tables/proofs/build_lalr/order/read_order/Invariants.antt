@@ -1,4 +1,5 @@
-use Rattle.lalrpop_base.specs.Words.{EachBelow, IsOrderedState}
+use Rattle.lalrpop_base.specs.Words.{EachBelow}
+use Rattle.lalrpop_tables.specs.Words.{IsOrderedState}
 use Rattle.lalrpop_tables.proofs.build_lalr.order.read_order.Given as goal
 
 abbrev pub invariant-loop-state : goal.invariant-loop-state

@@ -2,9 +2,9 @@ use Rattle.std.proofs.Common.{List, [], ◌∷◌, ◌++◌, sym, subst, ap, ◌
 use Rattle.std.proofs.lemmas.List.{nil_from_length}
 use Rattle.lalrpop_base.specs.Words.{Bits, AreMoved, and_one, number_in}
 use Rattle.lalrpop_tables.proofs.Types.{State}
-use Rattle.lalrpop_base.specs.renumbering.Moved.{no_more}
-use Rattle.lalrpop_base.proofs.theory.collapse.Merging.{taken}
-use Rattle.lalrpop_base.proofs.theory.renumbering.Moved.{Moved-append}
+use Rattle.lr1_theory.specs.renumbering.Moved.{no_more}
+use Rattle.lalrpop_states.proofs.theory.collapse.Merging.{taken}
+use Rattle.lr1_theory.proofs.theory.renumbering.Moved.{Moved-append}
 use Rattle.lalrpop_tables.proofs.build_lalr.place.number_states.Goals as goal
 
 pub loop-state-init : goal.loop-state-init

@@ -2,8 +2,8 @@ use Rattle.std.proofs.Common.{◌<◌, ◌≤◌, List, length, refl, arith}
 use Rattle.std.proofs.lemmas.Result.{on_ok_weaker}
 use Rattle.lalrpop_base.specs.Words.{Bits}
 use Rattle.lalrpop_tables.proofs.Types.{State}
-use Rattle.lalrpop_base.proofs.theory.collapse.Merging.{Places-joined, Places-pushed}
-use Rattle.lalrpop_base.proofs.theory.lists.Places.{slice_get_at}
+use Rattle.lalrpop_states.proofs.theory.collapse.Merging.{Places-joined, Places-pushed}
+use Rattle.lalrpop_collections.proofs.theory.lists.Places.{slice_get_at}
 use Rattle.lalrpop_tables.proofs.build_lalr.place.place_state.Goals as goal
 
 pub returns-then-number-len : goal.returns-then-number-len

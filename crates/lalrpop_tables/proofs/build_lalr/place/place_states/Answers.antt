@@ -2,8 +2,8 @@ use Rattle.std.proofs.Common.{List, [], ◌++◌, refl, sym, subst, ap, ◌∙�
 use Rattle.std.proofs.lemmas.List.{nil_from_length}
 use Rattle.lalrpop_base.specs.Words.{Bits}
 use Rattle.lalrpop_tables.proofs.Types.{State}
-use Rattle.lalrpop_base.specs.collapse.Merging.{ArePlaced, none}
-use Rattle.lalrpop_base.proofs.theory.collapse.Merging.{taken}
+use Rattle.lalrpop_states.specs.collapse.Merging.{ArePlaced, none}
+use Rattle.lalrpop_states.proofs.theory.collapse.Merging.{taken}
 use Rattle.lalrpop_tables.proofs.build_lalr.place.place_states.Goals as goal
 
 pub loop-state-init : goal.loop-state-init

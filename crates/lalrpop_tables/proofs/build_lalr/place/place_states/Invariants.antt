@@ -1,5 +1,5 @@
 use Rattle.std.proofs.Common.{◌≡◌, ◌++◌}
-use Rattle.lalrpop_base.specs.collapse.Merging.{ArePlaced}
+use Rattle.lalrpop_states.specs.collapse.Merging.{ArePlaced}
 use Rattle.lalrpop_tables.proofs.build_lalr.place.place_states.Given as goal
 
 abbrev pub invariant-loop-state : goal.invariant-loop-state

@@ -1,5 +1,5 @@
 use Rattle.std.proofs.lemmas.Result.{IfOk-weaker}
-use Rattle.lalrpop_base.proofs.theory.collapse.MergingReductions.{Listed-joined}
+use Rattle.lalrpop_tables.proofs.theory.collapse.MergingReductions.{Listed-joined}
 use Rattle.lalrpop_tables.proofs.build_lalr.reductions.join_reductions.Goals as goal
 
 pub returns : goal.returns

@@ -4,7 +4,7 @@ use Rattle.std.proofs.lemmas.List.Elements.{AllZip-push}
 use Rattle.std.proofs.lemmas.List.{nil_from_length}
 use Rattle.lalrpop_base.specs.Words.{Bits, IsReduced}
 use Rattle.lalrpop_tables.proofs.Types.{State}
-use Rattle.lalrpop_base.proofs.theory.collapse.Merging.{taken}
+use Rattle.lalrpop_states.proofs.theory.collapse.Merging.{taken}
 use Rattle.lalrpop_tables.proofs.build_lalr.reductions.reduce_states.Goals as goal
 
 pub loop-state-init : goal.loop-state-init

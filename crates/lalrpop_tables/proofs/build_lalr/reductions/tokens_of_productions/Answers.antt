@@ -1,5 +1,5 @@
-use Rattle.lalrpop_base.proofs.theory.collapse.Merging.{taken}
-use Rattle.lalrpop_base.proofs.theory.collapse.MergingReductions.{Tokens-more}
+use Rattle.lalrpop_states.proofs.theory.collapse.Merging.{taken}
+use Rattle.lalrpop_tables.proofs.theory.collapse.MergingReductions.{Tokens-more}
 use Rattle.lalrpop_tables.proofs.build_lalr.reductions.tokens_of_productions.Goals as goal
 
 pub loop-tokens-preserved : goal.loop-tokens-preserved

@@ -1,5 +1,5 @@
 use Rattle.std.proofs.Common.{List, length, ap}
-use Rattle.lalrpop_base.specs.declared.repr.TerminalString.{TerminalString}
+use Rattle.lalrpop_grammar.specs.declared.repr.TerminalString.{TerminalString}
 use Rattle.lalrpop_tables_tests.proofs.WordMoves.{end_fits}
 use Rattle.lalrpop_tables_tests.proofs.word_lookahead.Word.eof.Goals as goal
 

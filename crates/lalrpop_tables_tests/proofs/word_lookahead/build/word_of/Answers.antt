@@ -1,7 +1,7 @@
 use Rattle.std.proofs.Common.{◌≡◌, List, refl, subst, arith, Some}
 use Rattle.std.specs.Prelude.{slice_get}
 use Rattle.std.proofs.lemmas.Option.{slice_get_read}
-use Rattle.lalrpop_base.specs.declared.repr.TerminalString.{TerminalString}
+use Rattle.lalrpop_grammar.specs.declared.repr.TerminalString.{TerminalString}
 use Rattle.lalrpop_tables_tests.proofs.WordMoves.{Word-none, Word-more}
 use Rattle.lalrpop_tables_tests.proofs.word_lookahead.build.word_of.Goals as goal
 

@@ -1,6 +1,6 @@
 use Rattle.std.proofs.Common.{◌++◌, ◌∙◌, sym, ap}
 use Rattle.lalrpop_tables_tests.specs.WordConflicts.{conflicts_on_place}
-use Rattle.lalrpop_base.proofs.theory.conflicts.ConflictLemmas.{bit_is_place}
+use Rattle.lalrpop_states.proofs.theory.conflicts.ConflictLemmas.{bit_is_place}
 use Rattle.lalrpop_tables_tests.proofs.WordConflictLemmas.{shift_more}
 use Rattle.lalrpop_tables_tests.proofs.word_lookahead.conflicts.add_shift_conflicts.Goals as goal
 

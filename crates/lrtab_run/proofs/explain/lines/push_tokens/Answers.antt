@@ -1,5 +1,5 @@
 use Rattle.lalrpop_lr1.specs.Words.{tokens_text, tokens_in}
-use Rattle.lalrpop_lr1.proofs.theory.reports.ReportTexts.{text_after}
+use Rattle.lalrpop_report.proofs.theory.reports.ReportTexts.{text_after}
 use Rattle.lrtab_run.proofs.explain.lines.push_tokens.Goals as goal
 
 pub returns : goal.returns

@@ -1,7 +1,7 @@
 use Rattle.std.proofs.Common.{List, arith, refl, subst}
 use Rattle.lalrpop_base.specs.Words.{productions}
-use Rattle.lalrpop_base.specs.declared.lookahead.nil.Nil.{Nil}
-use Rattle.lalrpop_base.specs.declared.lr1_core.state.State.{State}
+use Rattle.lalrpop_states.specs.declared.lookahead.nil.Nil.{Nil}
+use Rattle.lalrpop_states.specs.declared.lr1_core.state.State.{State}
 use Rattle.lalrpop_tables.specs.Words.{HaveOwnItems}
 use Rattle.table_questions.proofs.OwnItems.{ready_traces}
 use Rattle.table_questions.proofs.ask.lane_tables.traces_of.Goals as goal

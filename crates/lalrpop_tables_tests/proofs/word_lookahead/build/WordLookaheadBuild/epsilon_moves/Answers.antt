@@ -2,8 +2,8 @@ use Rattle.std.proofs.Common.{◌≡◌, length, sym, ◌∙◌, ap, subst}
 use Rattle.std.specs.Prelude.{Contains}
 use Rattle.std.proofs.lemmas.Result.{IfOk-weaker}
 use Rattle.lalrpop_base.specs.Words.{has, IsFirstSet, AllDiffer, Rules, HasKnownTerminals}
-use Rattle.lalrpop_base.specs.declared.repr.Production.{Production}
-use Rattle.lalrpop_base.proofs.theory.grammars.Grammars.{known_symbols}
+use Rattle.lalrpop_grammar.specs.declared.repr.Production.{Production}
+use Rattle.lalrpop_grammar.proofs.theory.grammars.Grammars.{known_symbols}
 use Rattle.lalrpop_tables_tests.specs.WordMoves.{IsWordOf}
 use Rattle.lalrpop_tables_tests.proofs.WordMoves.{Word-holds, Word-fits, low_bit}
 use Rattle.lalrpop_tables_tests.proofs.word_lookahead.build.WordLookaheadBuild.epsilon_moves.Goals as goal

@@ -1,0 +1,10 @@
+//! Case files, their questions, and the texts that show grammars and states in them.
+//!
+//! - `case_file`: the cases of a file.
+//! - `question`: the words of a question.
+//! - `show`: texts that show grammars, states and what they hold.
+#![tactic(auto)]
+
+pub mod case_file;
+pub mod question;
+pub mod show;

@@ -1,6 +1,0 @@
-use Rattle.std.proofs.Common.{take}
-use Rattle.lalrpop_base.specs.Words.{IsQueued}
-use Rattle.lalrpop_base.proofs.first.fixpoint.queue_all.Given as goal
-
-abbrev pub invariant-loop-number : goal.invariant-loop-number
-invariant-loop-number l = IsQueued (take l.number-index l.numbers) l.fn.queue l.queue

@@ -1,7 +1,0 @@
-use Rattle.std.proofs.Common.{length}
-use Rattle.lalrpop_base.specs.first.FirstTables.{Gives}
-use Rattle.lalrpop_base.proofs.theory.first.FirstTables.{FirstSoFar}
-use Rattle.lalrpop_base.proofs.first.table.first_by.Given as goal
-
-abbrev pub invariant-loop-symbol : goal.invariant-loop-symbol
-invariant-loop-symbol l = FirstSoFar (Gives l.terminals l.table.entries) (length l.terminals) l.symbols l.set l.symbol-index

@@ -1,5 +1,0 @@
-use Rattle.lalrpop_base.proofs.theory.renumbering.Renumbering.{faithful-renumbered}
-use Rattle.lalrpop_base.proofs.laws.renumbered_states.Goals as goal
-
-pub returns : goal.returns
-returns c g start new old before after r = faithful-renumbered new old before after r g start

@@ -1,5 +1,0 @@
-use Rattle.std.proofs.Common.{◌≡◌, ℕ, ◌≤◌, slice_index}
-use Rattle.lalrpop_base.proofs.lookahead.word_changes.trimmed_len.Given as goal
-
-abbrev pub invariant-loop-place : goal.invariant-loop-place
-invariant-loop-place l = (k : ℕ) → l.place ≤ k → slice_index l.words k ≡ 0

@@ -1,7 +1,0 @@
-use Rattle.lalrpop_base.specs.conflicts.StateConflicts.{HasNoConflict}
-use Rattle.lalrpop_base.specs.Words.{Bits, EachBelow}
-use Rattle.lalrpop_base.proofs.Types.{State}
-use Rattle.lalrpop_base.proofs.lr1_core.all_conflicts.have_no_conflict.Given as goal
-
-abbrev pub invariant-loop-state : goal.invariant-loop-state
-invariant-loop-state l = EachBelow (λ (s : State Bits). HasNoConflict l.terminals s) l.states l.state-index

@@ -1,5 +1,0 @@
-use Rattle.std.proofs.Common.{◌≡◌, take}
-use Rattle.lalrpop_base.proofs.lr1_core.clones.clone_reductions.Given as goal
-
-abbrev pub invariant-loop-lookahead : goal.invariant-loop-lookahead
-invariant-loop-lookahead g l = l.copy.items ≡ take l.lookahead-index l.reductions

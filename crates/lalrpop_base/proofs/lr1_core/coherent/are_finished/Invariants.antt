@@ -1,7 +1,0 @@
-use Rattle.std.proofs.Common.{Bor, length}
-use Rattle.lalrpop_base.proofs.Types.{Production}
-use Rattle.lalrpop_base.specs.Words.{HasItem, EachBelow}
-use Rattle.lalrpop_base.proofs.lr1_core.coherent.are_finished.Given as goal
-
-abbrev pub invariant-loop-reduction : goal.invariant-loop-reduction
-invariant-loop-reduction g l = EachBelow (λ (r : g.row.L.Denot × Bor Production). HasItem l.items r.1.now (length r.1.now.symbols)) l.reductions l.reduction-index

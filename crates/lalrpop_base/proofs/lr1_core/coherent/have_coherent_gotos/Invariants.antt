@@ -1,9 +1,0 @@
-use Rattle.std.proofs.Common.{◌↔◌}
-use Rattle.lalrpop_base.specs.declared.repr.Symbol.TheVariants.{Nonterminal}
-use Rattle.lalrpop_base.specs.Words.{EachEntry, IsCoherentStep}
-use Rattle.lalrpop_base.proofs.lr1_core.coherent.have_coherent_gotos.Given as goal
-
-abbrev pub invariant-loop-name : goal.invariant-loop-name
-invariant-loop-name g l =
-    EachEntry (λ name target. IsCoherentStep l.states l.items (Nonterminal name) target.0) l.name-iterator
-    ↔ EachEntry (λ name target. IsCoherentStep l.states l.items (Nonterminal name) target.0) l.gotos.entries

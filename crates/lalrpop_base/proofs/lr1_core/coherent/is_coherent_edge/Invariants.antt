@@ -1,6 +1,0 @@
-use Rattle.std.proofs.Common.{◌<◌}
-use Rattle.lalrpop_base.specs.Words.{Dotted, IsShifted, symbol_of, EachBelow}
-use Rattle.lalrpop_base.proofs.lr1_core.coherent.is_coherent_edge.Given as goal
-
-abbrev pub invariant-loop-item : goal.invariant-loop-item
-invariant-loop-item g l = EachBelow (λ (item : Dotted g.row.L.Denot). 0 < item.index → IsShifted l.source (symbol_of l.symbol) item) l.target l.item-index

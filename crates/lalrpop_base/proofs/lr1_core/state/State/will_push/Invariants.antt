@@ -1,7 +1,0 @@
-use Rattle.std.proofs.Common.{◌≡◌, drop, None}
-use Rattle.std.specs.Prelude.{option_copied}
-use Rattle.lalrpop_base.specs.Words.{rest_of, shortest_from}
-use Rattle.lalrpop_base.proofs.lr1_core.state.State.will_push.Given as goal
-
-abbrev pub invariant-loop-item : goal.invariant-loop-item
-invariant-loop-item g l = shortest_from rest_of (option_copied l.best) (drop l.item-index l.self.items.vec.items) ≡ shortest_from rest_of None l.self.items.vec.items

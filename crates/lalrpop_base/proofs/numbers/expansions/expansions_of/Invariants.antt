@@ -1,6 +1,0 @@
-use Rattle.std.proofs.Common.{take}
-use Rattle.lalrpop_base.specs.Words.{AreAllExpansions, lists_of}
-use Rattle.lalrpop_base.proofs.numbers.expansions.expansions_of.Given as goal
-
-abbrev pub invariant-loop-number : goal.invariant-loop-number
-invariant-loop-number l = AreAllExpansions l.symbols (take l.number l.items) (lists_of l.expansions.items)

@@ -1,5 +1,0 @@
-use Rattle.std.proofs.Common.{◌≡◌, ◌++◌}
-use Rattle.lalrpop_base.proofs.numbers.symbols.list_set.Given as goal
-
-abbrev pub invariant-loop-symbol : goal.invariant-loop-symbol
-invariant-loop-symbol l = l.symbols.items ++ l.symbol-iterator ≡ l.fn.set.keys

@@ -1,9 +1,0 @@
-use Rattle.lalrpop_base.proofs.theory.lists.Halving.{halving_found, halving_none}
-use Rattle.lalrpop_base.proofs.theory.lists.Orders.{symbol_exact, symbol_order, symbol_total}
-use Rattle.lalrpop_base.proofs.numbers.symbols.number_of.Goals as goal
-
-pub returns-in-Ok : goal.returns-in-Ok
-returns-in-Ok c = halving_found symbol_order symbol_exact symbol_total c.args.symbols.now c.requires c.args.symbol.now c.in-Ok.number c.in-Ok.ensures.bound c.in-Ok.ensures.ok
-
-pub returns-in-Err : goal.returns-in-Err
-returns-in-Err c = halving_none symbol_order symbol_exact symbol_total c.args.symbols.now c.requires c.args.symbol.now c.in-Err.field-0 c.in-Err.ensures.position

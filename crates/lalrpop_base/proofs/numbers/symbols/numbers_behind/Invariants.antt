@@ -1,6 +1,0 @@
-use Rattle.std.proofs.Common.{take}
-use Rattle.lalrpop_base.specs.Words.{AreNumbersBehind}
-use Rattle.lalrpop_base.proofs.numbers.symbols.numbers_behind.Given as goal
-
-abbrev pub invariant-loop-item : goal.invariant-loop-item
-invariant-loop-item l = AreNumbersBehind l.symbols (take l.item-index l.items) l.behind.items

@@ -1,5 +1,0 @@
-use Rattle.std.proofs.Common.{◌≡◌, take}
-use Rattle.lalrpop_base.proofs.repr.grammar.clone_action_fn_defns.Given as goal
-
-abbrev pub invariant-loop-defn : goal.invariant-loop-defn
-invariant-loop-defn l = l.copy.items ≡ take l.defn-index l.defns

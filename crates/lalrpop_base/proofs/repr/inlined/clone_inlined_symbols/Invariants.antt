@@ -1,5 +1,0 @@
-use Rattle.std.proofs.Common.{◌≡◌, take}
-use Rattle.lalrpop_base.proofs.repr.inlined.clone_inlined_symbols.Given as goal
-
-abbrev pub invariant-loop-symbol : goal.invariant-loop-symbol
-invariant-loop-symbol l = l.copy ≡ take l.symbol-index l.symbols

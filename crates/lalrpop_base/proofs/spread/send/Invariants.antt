@@ -1,5 +1,0 @@
-use Rattle.lalrpop_base.specs.lists.Spreading.{IsSent}
-use Rattle.lalrpop_base.proofs.spread.send.Given as goal
-
-abbrev pub invariant-loop-to : goal.invariant-loop-to
-invariant-loop-to l = IsSent l.from l.ends l.to-index l.fn.sets.items l.sets.items l.fn.waiting l.waiting

@@ -1,6 +1,0 @@
--- Canonical states and LR(0) states.
-pub mod Canonical
-pub mod CanonicalConflicts
-pub mod CanonicalContents
-pub mod Deciding
-pub mod Lr0States

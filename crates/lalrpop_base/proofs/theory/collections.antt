@@ -1,5 +1,0 @@
--- Queues, walks, sparse maps and multimaps.
-pub mod MultimapLemmas
-pub mod Queues
-pub mod SparseMaps
-pub mod Walks

@@ -1,4 +1,0 @@
--- Lanes traced back over LR(0) states, and the tokens that they find.
-pub mod Contexts
-pub mod LaneTables
-pub mod Lanes

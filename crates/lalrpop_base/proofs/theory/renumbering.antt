@@ -1,5 +1,0 @@
--- States under other numbers.
-pub mod Moved
-pub mod Renumbered
-pub mod RenumberedCanonical
-pub mod Renumbering

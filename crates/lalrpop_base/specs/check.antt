@@ -1,5 +1,0 @@
--- The check of tables.
-pub mod Check
-pub mod CheckCarrying
-pub mod CheckPlaces
-pub mod ExpectedKernels

@@ -1,7 +1,0 @@
--- Closures of kernels, and valid items.
-pub mod CheckClosing
-pub mod Closing
-pub mod Closure
-pub mod Closures
-pub mod EpsilonMoves
-pub mod Sharing

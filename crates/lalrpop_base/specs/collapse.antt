@@ -1,5 +1,0 @@
--- States merged where they have the same dotted productions.
-pub mod Collapse
-pub mod Collapsed
-pub mod Collapsible
-pub mod Merging

@@ -1,7 +1,0 @@
--- The states that a construction makes: kernels, transitions and reductions.
-pub mod Building
-pub mod EarlyStop
-pub mod Ready
-pub mod Results
-pub mod States
-pub mod Transitions

@@ -1,5 +1,0 @@
--- Lanes traced back over LR(0) states, and the tokens that they find.
-pub mod Contexts
-pub mod FollowGraphs
-pub mod FollowSets
-pub mod Lanes

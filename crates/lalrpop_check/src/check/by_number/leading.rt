@@ -1,0 +1,89 @@
+//! Whether the symbols behind dots lead to states that list the moved items.
+ghost use Rattle.std.specs.Prelude.{◌≡◌, ◌<◌, ℕ, length, slice_get, Some, Contains, IsTrue};
+ghost use Rattle.lalrpop_base.specs.Words.{Rules, AreNumbers};
+ghost use Rattle.lalrpop_check.specs.check.ByNumber.{AllLeadOn, LeadOn, LeadsOn};
+ghost use Rattle.lalrpop_construction.specs.states.NumberedStates.{EdgesAscend};
+ghost use Rattle.lalrpop_construction.specs.declared.construction.numbered_state.NumberedState.{NumberedState as ByNumbers};
+
+use lalrpop_base::numbers::Numbers;
+use lalrpop_construction::construction::numbered_state::NumberedState;
+use lalrpop_follow_sets::follow_sets::edges::place_of;
+
+// Whether halving finds a number.
+fn has_number(list: &[usize], number: usize) -> bool
+    ensures { IsTrue result → Contains list.now number }
+{
+    let mut low = 0;
+    let mut high = list.len();
+    while low < high {
+        let middle = low + (high - low) / 2;
+        if list[middle] < number {
+            low = middle + 1;
+        } else {
+            high = middle;
+        }
+    }
+    low < list.len() && list[low] == number
+}
+
+// Whether the symbol behind the dot of an item leads to a state that lists the moved item.
+fn leads_on(
+    numbers: &Numbers<'_>,
+    states: &[NumberedState],
+    edges: &[(usize, usize)],
+    item: usize,
+) -> bool
+    requires numbers { (g : Rules) × AreNumbers g numbers.now }
+    requires ascend { EdgesAscend edges.now }
+    requires known { item < length numbers.now.items.items }
+    ensures { IsTrue result → LeadsOn numbers.now states.now edges.now item }
+{
+    let Some(symbol) = numbers.behind[item] else {
+        return true;
+    };
+    let Some(place) = place_of(edges, symbol) else {
+        return false;
+    };
+    let target = edges[place].1;
+    if target >= states.len() {
+        return false;
+    }
+    has_number(&states[target].items, item + 1)
+}
+
+// Whether those of all items of a state do.
+fn lead_on(numbers: &Numbers<'_>, states: &[NumberedState], state: &NumberedState) -> bool
+    requires numbers { (g : Rules) × AreNumbers g numbers.now }
+    requires ascend { EdgesAscend state.now.edges.items }
+    requires known { (k : ℕ) →
+        Contains state.now.items.items k →
+        k < length numbers.now.items.items }
+    ensures { IsTrue result → LeadOn numbers.now states.now state.now }
+{
+    for item in &state.items {
+        if !leads_on(numbers, states, &state.edges, *item) {
+            return false;
+        }
+    }
+    true
+}
+
+/// Whether those of all items of all states do.
+pub(super) fn all_lead_on(numbers: &Numbers<'_>, states: &[NumberedState]) -> bool
+    requires numbers { (g : Rules) × AreNumbers g numbers.now }
+    requires ascend { (s : ℕ) (state : ByNumbers) →
+        slice_get states.now s ≡ Some state →
+        EdgesAscend state.edges.items }
+    requires known { (s k : ℕ) (state : ByNumbers) →
+        slice_get states.now s ≡ Some state →
+        Contains state.items.items k →
+        k < length numbers.now.items.items }
+    ensures { IsTrue result → AllLeadOn numbers.now states.now }
+{
+    for state in states {
+        if !lead_on(numbers, states, state) {
+            return false;
+        }
+    }
+    true
+}

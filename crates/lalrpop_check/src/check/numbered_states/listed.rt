@@ -1,0 +1,167 @@
+//! States by number, each of which lists the closure of its kernel.
+ghost use Rattle.std.specs.Prelude.{◌≡◌, ◌<◌, ℕ, length, Contains, IfOk, IfSome};
+ghost use Rattle.lalrpop_base.specs.Words.{AllDiffer, AreItemsBy, Rules, AreNumbered, AreNumbers, NumbersAscend, items_by};
+ghost use Rattle.lalrpop_check.specs.check.ExpectedKernels.{IsKernelOf, no_tokens};
+ghost use Rattle.lalrpop_check.specs.check.ByNumber.{AreListedByNumber, IsListedOver, ListsClosure};
+
+use super::kernels::Kernels;
+use super::transitions::{are_items, are_reductions, take_gotos, take_shifts};
+use lalrpop_base::collections::sparse_map::SparseMap;
+use lalrpop_base::lookahead::nil::Nil;
+use lalrpop_base::lr1_core::state::Lr1State;
+use lalrpop_base::memory::OutOfMemory;
+use lalrpop_base::numbers::Numbers;
+use lalrpop_base::numbers::numbered::Numbered;
+use lalrpop_construction::construction::closure::closure;
+use lalrpop_construction::construction::lr::Lr;
+use lalrpop_construction::construction::numbered::list_numbers;
+use lalrpop_construction::construction::numbered_state::{NumberedState, finished_of};
+use lalrpop_construction::construction::workspace::Workspace;
+use std::alloc::Global;
+
+// Adds the symbol behind the dot of an item.
+fn add_symbol(
+    numbers: &Numbers<'_>,
+    item: usize,
+    symbols: &mut SparseMap<Nil>,
+) -> Result<(), OutOfMemory>
+    requires numbers { (g : Rules) × AreNumbers g numbers.now }
+    requires known { item < length numbers.now.items.items }
+{
+    if let Some(symbol) = numbers.behind[item] {
+        symbols.join(symbol, Nil)?;
+    }
+    Ok(())
+}
+
+// The symbols behind the dots of items, by rising number.
+fn symbols_behind(
+    alloc: Global,
+    numbers: &Numbers<'_>,
+    items: &[usize],
+    symbols: &mut SparseMap<Nil>,
+) -> Result<Vec<(usize, Nil)>, OutOfMemory>
+    requires numbers { (g : Rules) × AreNumbers g numbers.now }
+    requires known { (k : ℕ) → Contains items.now k → k < length numbers.now.items.items }
+    ensures { IfOk result (λ symbols. NumbersAscend symbols.items) }
+{
+    for item in items {
+        add_symbol(numbers, *item, symbols)?;
+    }
+    symbols.take_rising(alloc)
+}
+
+// A state by number, where its items are these, its transitions are over the symbols behind their
+// dots, and its reductions are the finished ones.
+fn state_over<'grammar>(
+    alloc: Global,
+    numbers: &Numbers<'grammar>,
+    items: Vec<usize>,
+    symbols: &[(usize, Nil)],
+    state: &Lr1State<'grammar>,
+) -> Result<Option<NumberedState>, OutOfMemory>
+    requires numbers { (g : Rules) × AreNumbers g numbers.now }
+    requires known { (k : ℕ) → Contains items.items k → k < length numbers.now.items.items }
+    requires differ { AllDiffer items.items }
+    requires rising { NumbersAscend symbols.now }
+    ensures { IfOk result (λ answer. IfSome answer
+        (λ new. IsListedOver numbers.now items.items state.now new)) }
+{
+    if !are_items(numbers, &items, &state.items.vec) {
+        return Ok(None);
+    }
+    let mut edges = Vec::with_capacity(alloc, symbols.len())?;
+    if !take_gotos(&numbers.symbols, symbols, &state.gotos, &mut edges)? {
+        return Ok(None);
+    }
+    if !take_shifts(&numbers.symbols, symbols, &state.shifts, &mut edges)? {
+        return Ok(None);
+    }
+    let reductions = finished_of(alloc, numbers, &items)?;
+    if !are_reductions(numbers, &reductions, &state.reductions) {
+        return Ok(None);
+    }
+    Ok(Some(NumberedState {
+        items,
+        edges,
+        reductions,
+    }))
+}
+
+// The kernel that is expected of a state: of the first the productions of the start symbol.
+#[tactic(auto, using(crate::proofs::theory::check::ExpectedKernels::moved_kernel, crate::proofs::theory::check::NumberedSteps::if_some))]
+fn kernel_of<'list>(
+    _lr: &Lr<'_, Nil>,
+    numbers: &Numbers<'_>,
+    start: &'list [Numbered<Nil>],
+    kernels: &'list Kernels,
+    place: usize,
+) -> Option<&'list [Numbered<Nil>]>
+    requires numbers { AreNumbers _lr.now.construction.rules numbers.now }
+    requires start { IsKernelOf _lr.now.construction numbers.now 0 start.now }
+    ensures { IfSome result
+        (λ kernel. IsKernelOf _lr.now.construction numbers.now place kernel.now) }
+{
+    if place == 0 {
+        Some(start)
+    } else {
+        kernels.kernel(numbers, place)
+    }
+}
+
+// A state by number, where it lists the closure of the kernel.
+fn listed_state<'grammar>(
+    alloc: Global,
+    lr: &Lr<'grammar, Nil>,
+    numbers: &Numbers<'grammar>,
+    kernel: &[Numbered<Nil>],
+    work: &mut Workspace<Nil>,
+    state: &Lr1State<'grammar>,
+) -> Result<Option<NumberedState>, OutOfMemory>
+    requires numbers { AreNumbers lr.now.construction.rules numbers.now }
+    requires known { AreNumbered numbers.now.items.items kernel.now }
+    requires kernel { AreItemsBy no_tokens lr.now.construction.rules
+        (items_by numbers.now.items.items kernel.now) }
+    ensures closed { IfOk result (λ answer. IfSome answer (λ _.
+        ListsClosure lr.now.construction.rules (items_by numbers.now.items.items kernel.now)
+        state.now)) }
+    ensures listed { IfOk result (λ answer. IfSome answer
+        (λ new. IsListedOver numbers.now new.items.items state.now new)) }
+{
+    let list = closure(alloc, lr, numbers, kernel, work)?;
+    let mut items = Vec::with_capacity(alloc, list.len())?;
+    list_numbers(&list, &mut items)?;
+    let symbols = symbols_behind(alloc, numbers, &items, &mut work.shared)?;
+    state_over(alloc, numbers, items, &symbols, state)
+}
+
+/// The states by number, where each lists the closure of its kernel and reduces its finished items.
+pub(crate) fn listed_by_number<'grammar>(
+    alloc: Global,
+    lr: &Lr<'grammar, Nil>,
+    numbers: &Numbers<'grammar>,
+    states: &[Lr1State<'grammar>],
+) -> Result<Option<Vec<NumberedState>>, OutOfMemory>
+    requires { AreNumbers lr.now.construction.rules numbers.now }
+    ensures { IfOk result (λ answer. IfSome answer (λ list. AreListedByNumber
+        lr.now.construction.rules lr.now.construction.start numbers.now states.now list.items)) }
+{
+    let grammar = lr.grammar();
+    let _names = grammar.nonterminals.len();
+    let start = lr.start_kernel(alloc, numbers)?;
+    let mut kernels = Kernels::new(alloc, states.len())?;
+    let mut work = Workspace::new(alloc);
+    let mut list = Vec::with_capacity(alloc, states.len())?;
+    for state in states {
+        let place = list.len();
+        let Some(kernel) = kernel_of(lr, numbers, start.as_slice(), &kernels, place) else {
+            return Ok(None);
+        };
+        let Some(new) = listed_state(alloc, lr, numbers, kernel, &mut work, state)? else {
+            return Ok(None);
+        };
+        kernels.add_moves(numbers, place + 1, &new)?;
+        list.push(new)?;
+    }
+    Ok(Some(list))
+}

@@ -1,0 +1,26 @@
+-- Lists, ordered sets and the entries of maps.
+pub mod Apart
+pub mod Ascending
+pub mod BothFacts
+pub mod Bounded
+pub mod CheckSets
+pub mod EachLemmas
+pub mod Filters
+pub mod Gathering
+pub mod Growth
+pub mod Halving
+pub mod JoinedTwice
+pub mod LeadingBytes
+pub mod Lists
+pub mod Members
+pub mod Partitions
+pub mod Pieces
+pub mod Places
+pub mod RisingLemmas
+pub mod RisingOrder
+pub mod SetLemmas
+pub mod SortedPlaces
+pub mod Spreading
+pub mod Updates
+pub mod Written
+pub mod Zipped

@@ -1,0 +1,3 @@
+-- States and their items.
+pub mod KernelLemmas
+pub mod Settled

@@ -1,0 +1,2 @@
+-- States and their items.
+pub mod Kernels

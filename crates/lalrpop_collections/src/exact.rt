@@ -1,0 +1,52 @@
+//! Types whose `==` tells apart all that clauses tell apart.
+ghost use Rattle.std.specs.Prelude.{◌≡◌, ◌↔◌, IsTrue, IfSome, IsNone, Contains};
+ghost use Rattle.lalrpop_collections.specs.lists.Places.{IsFirstPlace};
+ghost use Rattle.std.proofs.Common.{eqb-true};
+ghost use Rattle.lalrpop_collections.specs.lists.Exact.{Exactly, text_exact, list_exact};
+
+use crate::sequence::Sequence;
+use crate::text::Text;
+
+/// `==` answers true at equal values alone.
+pub trait Exact: Eq {
+    ghost exact: { Exactly Self.eq };
+}
+
+impl Exact for usize {
+    ghost exact = { eqb-true };
+}
+
+impl Exact for Text {
+    ghost exact = { text_exact };
+}
+
+impl<T: Exact> Exact for Sequence<T> {
+    ghost exact = { list_exact T.exact };
+}
+
+/// `==`, as a test of being one value.
+pub fn equal<T: Exact>(a: &T, b: &T) -> bool
+    ensures { IsTrue result ↔ (a.now ≡ b.now) }
+{
+    a == b
+}
+
+/// The first place of a value in a list.
+pub fn place_of<T: Exact>(items: &[T], item: &T) -> Option<usize>
+    ensures found { IfSome result (λ place. IsFirstPlace items.now item.now place) }
+    ensures absent { IsNone result → ¬ Contains items.now item.now }
+{
+    for (place, x) in items.iter().enumerate() {
+        if equal(x, item) {
+            return Some(place);
+        }
+    }
+    None
+}
+
+/// Whether a value is in a list.
+pub fn contains<T: Exact>(items: &[T], item: &T) -> bool
+    ensures { IsTrue result ↔ Contains items.now item.now }
+{
+    place_of(items, item).is_some()
+}

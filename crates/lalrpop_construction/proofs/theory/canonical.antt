@@ -1,0 +1,11 @@
+-- Canonical states and LR(0) states.
+pub mod Canonical
+pub mod CanonicalAnswers
+pub mod CanonicalConflicts
+pub mod CanonicalContents
+pub mod CanonicalCounts
+pub mod Counts
+pub mod Deciding
+pub mod Lr0States
+pub mod OrderedCanonical
+pub mod SameConstruction

@@ -1,0 +1,131 @@
+-- The transitions of a state by the numbers of their symbols, as they come: which there are, and in which order.
+use Rattle.std.proofs.Common.{◌≡◌, ◌∙◌, ◌<◌, ℕ, inl, inr, length, List, [], ◌∷◌, ◌++◌, sym, ap, subst, Some, option_map, append_assoc, append-nil, refl, arith}
+use Rattle.std.specs.Prelude.{Contains, slice_get}
+use Rattle.std.specs.Map.{keys_of}
+use Rattle.std.proofs.lemmas.List.Elements.{Contains-append_left, Contains-push, Contains-push_cases}
+use Rattle.std.proofs.lemmas.Option.{slice_get-map, slice_get_within}
+use Rattle.lalrpop_base.specs.Words.{AllDiffer, NumbersAscend, AreEdgesListed, Entries, HasEntry, IsEntryAdded, edge_entries, list_entries}
+use Rattle.lalrpop_grammar.specs.declared.repr.Symbol.TheVariants.{Nonterminal, Terminal}
+use Rattle.lalrpop_collections.proofs.theory.lists.Members.{Contains-none, place}
+use Rattle.lalrpop_collections.proofs.theory.lists.Places.{one_place, places_apart, push_cases, same_some}
+use Rattle.lalrpop_collections.proofs.theory.lists.Lists.{some_of_map}
+use Rattle.lalrpop_construction.proofs.Types.{NonterminalString, StateIndex, Symbol, TerminalString}
+use Rattle.lalrpop_construction.proofs.theory.construction.Moves.{edge_of, entry_from, entry_kept, entry_there, listed_of, no_entry}
+use Rattle.lalrpop_construction.specs.states.NumberedStates.{AddsGotos, AddsShifts, AreEdgesBy, AreListedBy, EdgesAscend, HasKeys, IsKeyAt}
+use Rattle.lalrpop_states.specs.declared.lr1_core.transitions.TransitionLists.{TransitionLists}
+use Rattle.lalrpop_states.specs.declared.lr1_core.transitions.Transitions.{Transitions}
+
+-- ---- which there are
+pub ListedBy-none : (symbols : List Symbol) (list : List (ℕ × ℕ)) (entries : Entries) → list ≡ [] → entries.shifts ≡ [] → entries.gotos ≡ [] → AreListedBy symbols list entries
+ListedBy-none symbols list entries none s t = record {
+  named = λ x m c. absurd (Contains-none (x, m) (subst (λ (es : List (ℕ × ℕ)). Contains es (x, m)) none c));
+  there = λ x m y at c. absurd (Contains-none (x, m) (subst (λ (es : List (ℕ × ℕ)). Contains es (x, m)) none c));
+  back = λ x y target at h. absurd (no_entry entries s t y target h);
+}
+
+-- one transition more
+pub ListedBy-more : (symbols : List Symbol) → AllDiffer symbols → (x m : ℕ) (s : Symbol) → slice_get symbols x ≡ Some s → (list : List (ℕ × ℕ)) (old new : Entries) → AreListedBy symbols list old → IsEntryAdded s (record { 0 = m }) old new → AreListedBy symbols (list ++ (x, m) ∷ []) new
+ListedBy-more symbols differ x m s at list old new before adds =
+    let target : StateIndex = record { 0 = m } in
+    record {
+      named = λ y k c. elim (Contains-push_cases list (x, m) (y, k) c) [
+        | inl was ↦ before.named y k was
+        | inr same ↦ subst (λ (p : ℕ × ℕ). p.0 < length symbols) same (slice_get_within symbols x s at)
+      ];
+      there = λ y k t at_t c. elim (Contains-push_cases list (x, m) (y, k) c) [
+        | inl was ↦ entry_kept s target old new adds t (record { 0 = k }) (before.there y k t at_t was)
+        | inr same ↦
+            let symbol : s ≡ t = same_some s t (sym at ∙ ap (λ (p : ℕ × ℕ). slice_get symbols p.0) same ∙ at_t) in
+            subst (λ (n : ℕ). HasEntry new t (record { 0 = n })) (ap (λ (p : ℕ × ℕ). p.1) same) (subst (λ (u : Symbol). HasEntry new u target) symbol (entry_there s target old new adds))
+      ];
+      back = λ y t other at_t h. elim (entry_from s target old new adds t other h) [
+        | inl had ↦ Contains-append_left list ((x, m) ∷ []) (y, other.0) (before.back y t other at_t had)
+        | inr is ↦
+            let place : x ≡ y = one_place symbols differ x y s at (at_t ∙ ap Some is.0) in
+            let number : m ≡ other.0 = ap (λ (n : StateIndex). n.0) (sym is.1) in
+            subst (λ (k : ℕ). Contains (list ++ (x, m) ∷ []) (y, k)) number (subst (λ (z : ℕ). Contains (list ++ (x, m) ∷ []) (z, m)) place (Contains-push list (x, m)))
+      ];
+    }
+
+-- no goto, and no shift
+pub Gotos-none : (symbols : List Symbol) (list : List (ℕ × ℕ)) → AddsGotos symbols list list []
+Gotos-none symbols list differ entries before = subst (λ (gotos : List (NonterminalString × StateIndex)). AreListedBy symbols list (record { shifts = entries.shifts; gotos = gotos })) (sym (append-nil entries.gotos)) before
+
+pub Shifts-none : (symbols : List Symbol) (list : List (ℕ × ℕ)) → AddsShifts symbols list list []
+Shifts-none symbols list differ entries before = subst (λ (shifts : List (TerminalString × StateIndex)). AreListedBy symbols list (record { shifts = shifts; gotos = entries.gotos })) (sym (append-nil entries.shifts)) before
+
+-- a goto more, and a shift more
+pub Gotos-more : (symbols : List Symbol) (old middle new : List (ℕ × ℕ)) (done : List (NonterminalString × StateIndex)) (a : NonterminalString) (x m : ℕ) → slice_get symbols x ≡ Some (Nonterminal a) → new ≡ middle ++ (x, m) ∷ [] → AddsGotos symbols old middle done → AddsGotos symbols old new (done ++ (a, record { 0 = m }) ∷ [])
+Gotos-more symbols old middle new done a x m at push before differ entries was =
+    let first : Entries = record { shifts = entries.shifts; gotos = entries.gotos ++ done } in
+    let second : Entries = record { shifts = entries.shifts; gotos = entries.gotos ++ (done ++ (a, record { 0 = m }) ∷ []) } in
+    subst (λ (es : List (ℕ × ℕ)). AreListedBy symbols es second) (sym push) (ListedBy-more symbols differ x m (Nonterminal a) at middle first second (before differ entries was) (sym (append_assoc entries.gotos done ((a, record { 0 = m }) ∷ [])), refl))
+
+pub Shifts-more : (symbols : List Symbol) (old middle new : List (ℕ × ℕ)) (done : List (TerminalString × StateIndex)) (t : TerminalString) (x m : ℕ) → slice_get symbols x ≡ Some (Terminal t) → new ≡ middle ++ (x, m) ∷ [] → AddsShifts symbols old middle done → AddsShifts symbols old new (done ++ (t, record { 0 = m }) ∷ [])
+Shifts-more symbols old middle new done t x m at push before differ entries was =
+    let first : Entries = record { shifts = entries.shifts ++ done; gotos = entries.gotos } in
+    let second : Entries = record { shifts = entries.shifts ++ (done ++ (t, record { 0 = m }) ∷ []); gotos = entries.gotos } in
+    subst (λ (es : List (ℕ × ℕ)). AreListedBy symbols es second) (sym push) (ListedBy-more symbols differ x m (Terminal t) at middle first second (before differ entries was) (sym (append_assoc entries.shifts done ((t, record { 0 = m }) ∷ [])), refl))
+
+-- of some entries these were taken, and the rest is left
+pub record IsPartly {X : Type 0} (Adds : List X → Type 0) (rest all : List X) : Type 0 where
+  pub done : List X
+  pub whole : done ++ rest ≡ all
+  pub adds : Adds done
+
+pub Partly-more : {X : Type 0} (Adds More : List X → Type 0) (e : X) (before rest all : List X) → before ≡ e ∷ rest → IsPartly Adds before all → ((done : List X) → Adds done → More (done ++ e ∷ [])) → IsPartly More rest all
+Partly-more {X} Adds More e before rest all next p step = record {
+  done = p.done ++ e ∷ [];
+  whole = append_assoc p.done (e ∷ []) rest ∙ ap (λ (es : List X). p.done ++ es) (sym next) ∙ p.whole;
+  adds = step p.done p.adds;
+}
+
+pub Partly-all : {X : Type 0} (Adds : List X → Type 0) (rest all : List X) → rest ≡ [] → IsPartly Adds rest all → Adds all
+Partly-all {X} Adds rest all none p = subst Adds (sym (append-nil p.done) ∙ ap (λ (es : List X). p.done ++ es) (sym none) ∙ p.whole) p.adds
+
+-- ---- their order
+pub Keys-none : {V : Type 0} (list : List (ℕ × ℕ)) (others : List (ℕ × V)) → list ≡ [] → HasKeys list others
+Keys-none list others none k e at = let there : slice_get [] k ≡ Some e = ap (λ (es : List (ℕ × ℕ)). slice_get es k) (sym none) ∙ at in cc
+
+pub Keys-more : {V : Type 0} (list : List (ℕ × ℕ)) (others : List (ℕ × V)) (x m : ℕ) → IsKeyAt others (length list) x → HasKeys list others → HasKeys (list ++ (x, m) ∷ []) others
+Keys-more list others x m here before k e at = elim (push_cases list (x, m) k e at) [
+  | inl was ↦ before k e was
+  | inr end ↦ subst (λ (n : ℕ). IsKeyAt others n e.0) (sym end.0) (subst (λ (y : ℕ). IsKeyAt others (length list) y) (ap (λ (p : ℕ × ℕ). p.0) end.1) here)
+]
+
+pub Keys-of : {V : Type 0} (list : List (ℕ × ℕ)) (others : List (ℕ × V)) → keys_of list ≡ keys_of others → HasKeys list others
+Keys-of {V} list others same k e at = some_of_map (λ (g : ℕ × V). g.0) (slice_get others k) e.0 (sym (slice_get-map (λ (g : ℕ × V). g.0) others k) ∙ ap (λ (ks : List ℕ). slice_get ks k) (sym same) ∙ slice_get-map (λ (g : ℕ × ℕ). g.0) list k ∙ ap (option_map (λ (g : ℕ × ℕ). g.0)) at)
+
+-- they rise where the others do
+pub Keys-ascend : {V : Type 0} (list : List (ℕ × ℕ)) (others : List (ℕ × V)) → HasKeys list others → NumbersAscend others → EdgesAscend list
+Keys-ascend list others keys rise i j d e l at_i at_j =
+    let a = keys i d at_i in
+    let b = keys j e at_j in
+    subst (λ (k : ℕ). k < e.0) a.2 (subst (λ (k : ℕ). (a.0).0 < k) b.2 (rise i j a.0 b.0 l a.1 b.1))
+
+-- and then each number leads to one state
+pub one_target : (list : List (ℕ × ℕ)) → EdgesAscend list → (x m k : ℕ) → Contains list (x, m) → Contains list (x, k) → m ≡ k
+one_target list ascend x m k a b =
+    let p = place list (x, m) a in
+    let q = place list (x, k) b in
+    elim (places_apart p.0 q.0) [
+      | inl before ↦ absurd (let l = ascend p.0 q.0 (x, m) (x, k) before p.2 q.2 in omega arith)
+      | inr other ↦ elim other [
+        | inl behind ↦ absurd (let l = ascend q.0 p.0 (x, k) (x, m) behind q.2 p.2 in omega arith)
+        | inr same ↦ ap (λ (e : ℕ × ℕ). e.1) (same_some (x, m) (x, k) (sym p.2 ∙ ap (slice_get list) same ∙ q.2))
+      ]
+    ]
+
+-- those of lists are those of the maps that these make
+pub EdgesBy-all : (symbols : List Symbol) (list : List (ℕ × ℕ)) (lists : TransitionLists) (edges : Transitions) → AreListedBy symbols list (list_entries lists) → AreEdgesListed lists edges → EdgesAscend list → AreEdgesBy symbols list (edge_entries edges)
+EdgesBy-all symbols list lists edges listed made ascend = record {
+  listed = record {
+    named = listed.named;
+    there = λ x m s at c.
+        let there = edge_of lists edges made s (record { 0 = m }) (listed.there x m s at c) in
+        let number : (there.0).0 ≡ m = one_target list ascend x (there.0).0 m (listed.back x s there.0 at (listed_of lists edges made s there.0 there.1)) c in
+        subst (λ (n : ℕ). HasEntry (edge_entries edges) s (record { 0 = n })) number there.1;
+    back = λ x s target at h. listed.back x s target at (listed_of lists edges made s target h);
+  };
+  ascend = ascend;
+}

@@ -1,0 +1,21 @@
+-- The words of this crate's contracts, by name: where each is defined.
+pub use Rattle.lalrpop_construction.specs.canonical.CanonicalAnswers.{AreCanonicalTables, AreCanonicalTablesOrCount, FailsByConflicts, HasCanonicalConflicts, IsConflictCount, LacksTables, MatchTablesOrCount, up_to_greatest}
+pub use Rattle.lalrpop_construction.specs.closures.EpsilonMoves.{AreBegunWith, AreEpsilonMoves, IsBegunWith}
+pub use Rattle.lalrpop_construction.specs.closures.Sharing.{AllFit, HasShare, IsFront, IsNamed, IsShared, IsSharing, MayFollow, MayFollowIn, Shared, Shares, StandsBehind}
+pub use Rattle.lalrpop_construction.specs.closures.Sharing.{StandsBehindOne, fronts_in, list_at, numbered_of, parts_in, unfolded, with_tokens}
+pub use Rattle.lalrpop_construction.specs.conflicts.CanonicalConflicts.{AreCanonicalConflictsOf, FailByCanonicalConflicts, ShiftsLead, StatesAscend, listed_of}
+pub use Rattle.lalrpop_construction.specs.conflicts.ListedConflicts.{conflict_of, conflicts_of}
+pub use Rattle.lalrpop_construction.specs.construction.Building.{AreMadeSoFar, Building}
+pub use Rattle.lalrpop_construction.specs.construction.EarlyStop.{AreEnough, AreMadeFor, AreMadeUntilBy, ArePartlyBuilt, ArePartlyBuiltBy, AreSomeCanonicalStates}
+pub use Rattle.lalrpop_construction.specs.construction.EarlyStop.{AreSomeLr0States, FailsAfterLr0, GoesOnBeforeLast, HasDotted, HaveSameContents, IsLr0StateFor, IsStateFor}
+pub use Rattle.lalrpop_construction.specs.construction.EarlyStop.{FailsAfter}
+pub use Rattle.lalrpop_construction.specs.construction.EarlyStop.{ListFewer, Lr0StopsAfter, StopsAfter, StopsFor}
+pub use Rattle.lalrpop_construction.specs.construction.Ready.{IsReadyToBuild}
+pub use Rattle.lalrpop_construction.specs.construction.Results.{AreStatesFor, AreStatesOf, AreTables, AreTablesFor, Construction, FailsBy, FailsFor}
+pub use Rattle.lalrpop_construction.specs.construction.Results.{Settings, canonical_of}
+pub use Rattle.lalrpop_construction.specs.construction.Results.{construction_of, lr0_of}
+pub use Rattle.lalrpop_construction.specs.states.Canonical.{AreCanonicalStates, AreOrderedCanonical, FitReductions, is_with_token, tokens_of}
+pub use Rattle.lalrpop_construction.specs.states.Lr0.{AreLr0States, HasLr0States, HaveNoNilConflict, ListsNilConflicts, lr0_contents, on_any}
+pub use Rattle.lalrpop_construction.specs.states.SamePlaces.{HasSamePlace, HaveSamePlaces}
+pub use Rattle.lalrpop_construction.specs.states.SamePlaces.{by, dot_of}
+pub use Rattle.lalrpop_construction.specs.states.SamePlaces.{places_in}

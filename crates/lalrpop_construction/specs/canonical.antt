@@ -1,0 +1,2 @@
+-- Canonical states and LR(0) states.
+pub mod CanonicalAnswers

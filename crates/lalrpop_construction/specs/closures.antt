@@ -1,0 +1,3 @@
+-- Closures of kernels, and valid items.
+pub mod EpsilonMoves
+pub mod Sharing

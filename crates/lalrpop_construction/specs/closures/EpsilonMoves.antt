@@ -1,0 +1,48 @@
+-- What an item leads to without a symbol, with any lookahead: the items of the nonterminal behind its dot, and which tokens they get.
+use Rattle.std.specs.Prelude.{◌≡◌, ◌⊎◌, ◌↔◌, Bool, true, false, List, map, Contains}
+use Rattle.std.specs.Map.{keys_of}
+use Rattle.lalrpop_grammar.specs.grammars.Tokens.{FitsTokens}
+use Rattle.lalrpop_grammar.specs.grammars.WellFormed.{Rules}
+use Rattle.lalrpop_collections.specs.lists.Bits.{Bits}
+use Rattle.lalrpop_collections.specs.lists.Entries.{IsJoinedAt}
+use Rattle.lalrpop_collections.specs.lists.Places.{AllDiffer}
+use Rattle.lalrpop_states.specs.states.Contents.{holds_token}
+use Rattle.lalrpop_states.specs.states.Items.{Dotted}
+use Rattle.lalrpop_grammar.specs.declared.lookahead.token.Token.{Token}
+use Rattle.lalrpop_grammar.specs.declared.repr.NonterminalString.{NonterminalString}
+use Rattle.lalrpop_grammar.specs.declared.repr.Production.{Production}
+use Rattle.lalrpop_grammar.specs.declared.repr.Symbol.{Symbol}
+use Rattle.lalrpop_states.specs.closures.Closure.{dotted_of}
+
+-- the item is of a production of the nonterminal, with the dot at the start and the lookahead
+pub record IsBegunWith {L : Type 0} (g : Rules) (name : NonterminalString) (lookahead : L) (i : Dotted L) : Type 0 where
+  pub start : i.index ≡ 0
+  pub among : Contains g.productions i.production
+  pub named : i.production.nonterminal ≡ name
+  pub same : i.lookahead ≡ lookahead
+
+-- an item of each production of the nonterminal, once, with the dot at the start and the lookahead, and no other item
+pub record AreBegunWith {L : Type 0} (g : Rules) (name : NonterminalString) (lookahead : L) (items : List (Dotted L)) : Type 0 where
+  pub each : (i : Dotted L) → Contains items i → IsBegunWith g name lookahead i
+  pub all : (p : Production) → Contains g.productions p → p.nonterminal ≡ name → Contains (map dotted_of items) (p, 0)
+  pub once : AllDiffer (map dotted_of items)
+
+-- the nonterminal has no production
+abbrev pub HasNoProduction : Rules → NonterminalString → Type 0
+HasNoProduction g name = (p : Production) → Contains g.productions p → p.nonterminal ≡ name → ⊥
+
+-- what may follow a nonterminal where it stands before symbols in an item: the tokens with which these can begin, and the item's own where they let them pass
+pub record IsGiven {L : Type 0} (meaning : L → Bits) (begins : Rules → List Symbol → Token → Type 0) (passes : Rules → List Symbol → Type 0) (g : Rules) (rest : List Symbol) (lookahead given : L) : Type 0 where
+  pub fits : FitsTokens g.terminals (meaning lookahead) → FitsTokens g.terminals (meaning given)
+  pub holds : (t : Token) → (holds_token g.terminals (meaning given) t ≡ true) ↔ (begins g rest t ⊎ (passes g rest × (holds_token g.terminals (meaning lookahead) t ≡ true)))
+
+-- what may follow a nonterminal there went to its key, where it has a production; told is whether the key has something new
+pub data IsGivenAt {K L : Type 0} (meaning : L → Bits) (begins : Rules → List Symbol → Token → Type 0) (passes : Rules → List Symbol → Type 0) (g : Rules) (name : NonterminalString) (rest : List Symbol) (lookahead : L) (key : K) (told : Bool) (old new : List (K × Bits)) : Type 0 where
+  given : (tokens : L) → IsGiven meaning begins passes g rest lookahead tokens → IsJoinedAt key (meaning tokens) told old new → AllDiffer (keys_of new) → IsGivenAt meaning begins passes g name rest lookahead key told old new
+  barren : HasNoProduction g name → new ≡ old → told ≡ false → IsGivenAt meaning begins passes g name rest lookahead key told old new
+
+-- what an item gives to the productions of the nonterminal behind its dot: what may follow that there
+pub record AreEpsilonMoves {L : Type 0} (meaning : L → Bits) (begins : Rules → List Symbol → Token → Type 0) (passes : Rules → List Symbol → Type 0) (g : Rules) (name : NonterminalString) (rest : List Symbol) (lookahead : L) (moves : List (Dotted L)) : Type 0 where
+  pub given : L
+  pub begun : AreBegunWith g name given moves
+  pub is : IsGiven meaning begins passes g rest lookahead given

@@ -1,0 +1,132 @@
+-- A closure by nonterminals: all productions of one have the dot in front and the same tokens, which are kept once for each nonterminal, by its number.
+use Rattle.std.specs.Prelude.{◌≡◌, ◌≤◌, ◌<◌, ◌+◌, ◌⊎◌, ℕ, zero, suc, true, List, [], ◌∷◌, length, map, drop, slice_get, Some, Contains}
+use Rattle.std.specs.List.{flat_map}
+use Rattle.std.specs.Map.{keys_of}
+use Rattle.std.specs.declared.vec.Vec.{Vec}
+use Rattle.lalrpop_grammar.specs.closures.Closures.{InClosure}
+use Rattle.lalrpop_grammar.specs.grammars.Tokens.{FitsTokens}
+use Rattle.lalrpop_grammar.specs.grammars.WellFormed.{Rules}
+use Rattle.lalrpop_collections.specs.lists.Bits.{Bits}
+use Rattle.lalrpop_collections.specs.lists.Places.{AllDiffer}
+use Rattle.lalrpop_states.specs.states.Contents.{holds_token}
+use Rattle.lalrpop_states.specs.states.Items.{Dotted}
+use Rattle.lalrpop_grammar.specs.declared.lookahead.token.Token.{Token}
+use Rattle.lalrpop_grammar.specs.declared.repr.NonterminalString.{NonterminalString}
+use Rattle.lalrpop_grammar.specs.declared.repr.Production.{Production}
+use Rattle.lalrpop_grammar.specs.declared.repr.Symbol.{Symbol}
+use Rattle.lalrpop_grammar.specs.declared.repr.Symbol.TheVariants.{Nonterminal}
+use Rattle.lalrpop_states.specs.closures.Closure.{HasItemToken, InKernel, InTokenClosureBy}
+use Rattle.lalrpop_collections.specs.lists.Entries.{AllBelow, Grows, burden}
+use Rattle.lalrpop_numbers.specs.declared.numbers.numbered.Numbered.{Numbered}
+use Rattle.lalrpop_numbers.specs.declared.numbers.Numbers.{Numbers}
+
+-- tokens by the number of a nonterminal
+abbrev pub Shared : Type 0
+Shared = List (ℕ × Bits)
+
+-- the nonterminal has the number
+abbrev pub IsNamed : Numbers → ℕ → NonterminalString → Type 0
+IsNamed n x name = slice_get n.symbols.items x ≡ Some (Nonterminal name)
+
+-- the nonterminal with the number stands behind the dot of the item, before these symbols
+pub record StandsBehind (n : Numbers) (i : Dotted Bits) (x : ℕ) (after : List Symbol) : Type 0 where
+  pub name : NonterminalString
+  pub named : IsNamed n x name
+  pub behind : drop i.index i.production.symbols ≡ Nonterminal name ∷ after
+
+-- the nonterminal with the number stands behind the dot of one of the items
+pub record StandsBehindOne (n : Numbers) (items : List (Dotted Bits)) (x : ℕ) : Type 0 where
+  pub item : Dotted Bits
+  pub among : Contains items item
+  pub after : List Symbol
+  pub behind : StandsBehind n item x after
+
+-- the nonterminal is in the table with the token
+pub record HasSharedToken (g : Rules) (table : Shared) (x : ℕ) (t : Token) : Type 0 where
+  pub set : Bits
+  pub entry : Contains table (x, set)
+  pub there : holds_token g.terminals set t ≡ true
+
+-- each set holds bits of tokens
+abbrev pub AllFit : Rules → Shared → Type 0
+AllFit g table = AllBelow (length g.terminals + 2) table
+
+-- a production of the nonterminal with the number, with the dot in front and these tokens
+pub record IsFront (g : Rules) (n : Numbers) (x : ℕ) (tokens : Bits) (i : Dotted Bits) : Type 0 where
+  pub start : i.index ≡ 0
+  pub among : Contains g.productions i.production
+  pub named : IsNamed n x i.production.nonterminal
+  pub same : i.lookahead ≡ tokens
+
+-- what may follow a nonterminal is a parameter: the tokens with which symbols begin, and which symbols let tokens pass
+module _ (begins : Rules → List Symbol → Token → Type 0) (passes : Rules → List Symbol → Type 0) (g : Rules) (n : Numbers) where
+  -- the token may follow a nonterminal that stands before the symbols in the item
+  abbrev pub MayFollow : Dotted Bits → List Symbol → Token → Type 0
+  MayFollow i after t = begins g after t ⊎ (passes g after × (holds_token g.terminals i.lookahead t ≡ true))
+
+  -- the token may follow the nonterminal with the number in one of the items
+  pub record MayFollowIn (items : List (Dotted Bits)) (x : ℕ) (t : Token) : Type 0 where
+    pub item : Dotted Bits
+    pub among : Contains items item
+    pub after : List Symbol
+    pub behind : StandsBehind n item x after
+    pub follows : MayFollow item after t
+
+  -- the nonterminal is in the table with all that may follow it in the item
+  pub record HasShare (table : Shared) (i : Dotted Bits) (x : ℕ) (after : List Symbol) : Type 0 where
+    pub set : Bits
+    pub entry : Contains table (x, set)
+    pub all : (t : Token) → MayFollow i after t → holds_token g.terminals set t ≡ true
+
+  -- the nonterminal behind the dot of the item, where it has productions, is in the table with all that may follow it there
+  abbrev pub IsShared : Shared → Dotted Bits → Type 0
+  IsShared table i = (q : Production) (after : List Symbol) → drop i.index i.production.symbols ≡ Nonterminal q.nonterminal ∷ after → Contains g.productions q → (x : ℕ) × IsNamed n x q.nonterminal × HasShare table i x after
+
+  -- what the items give went to the table, and no more; a nonterminal that has something new is in the queue
+  pub record Shares (items : List (Dotted Bits)) (old new : Shared) (queue pushed : List ℕ) : Type 0 where
+    pub grows : Grows old new queue pushed
+    pub keys : (e : ℕ × Bits) → Contains new e → Contains (keys_of old) e.0 ⊎ StandsBehindOne n items e.0
+    pub tokens : (e : ℕ × Bits) (t : Token) → Contains new e → holds_token g.terminals e.1 t ≡ true → HasSharedToken g old e.0 t ⊎ MayFollowIn items e.0 t
+    pub there : (i : Dotted Bits) → Contains items i → IsShared new i
+    pub pushed_found : (x : ℕ) → Contains pushed x → Contains queue x ⊎ Contains (keys_of new) x
+    pub differ : AllDiffer (keys_of old) → AllDiffer (keys_of new)
+    pub weighed : ((i : Dotted Bits) → Contains items i → FitsTokens g.terminals i.lookahead) → AllFit g old → AllFit g new × (burden (length g.terminals + 2) old + length pushed ≤ burden (length g.terminals + 2) new + length queue)
+
+  -- what is in the table belongs to the closure of the kernel; what the kernel gives is in it, and what a nonterminal of it gives, unless that is in the queue
+  pub record IsSharing (kernel : List (Dotted Bits)) (table : Shared) (queue : List ℕ) : Type 0 where
+    pub known : (e : ℕ × Bits) → Contains table e → e.0 < length n.symbols.items
+    pub reached : (e : ℕ × Bits) (q : Production) → Contains table e → IsNamed n e.0 q.nonterminal → Contains g.productions q → InClosure g.productions (InKernel kernel) q 0
+    pub tokens : (e : ℕ × Bits) (q : Production) (t : Token) → Contains table e → IsNamed n e.0 q.nonterminal → Contains g.productions q → holds_token g.terminals e.1 t ≡ true →
+        InTokenClosureBy (begins g) (passes g) g.productions (InClosure g.productions (InKernel kernel)) (HasItemToken g.terminals kernel) q 0 t
+    pub kernel_shared : (i : Dotted Bits) → Contains kernel i → IsShared table i
+    pub shared : (e : ℕ × Bits) → Contains table e → Contains queue e.0 ⊎ ((i : Dotted Bits) → IsFront g n e.0 e.1 i → IsShared table i)
+    pub queued : (x : ℕ) → Contains queue x → Contains (keys_of table) x
+    pub differ : AllDiffer (keys_of table)
+    pub fit : AllFit g table
+
+-- ---- the items of a closure
+-- productions with the dot in front, by their numbers, with the tokens
+abbrev pub fronts_in : {L : Type 0} → L → List ℕ → List (Numbered L)
+fronts_in tokens numbers = map (λ k. record { number = k; lookahead = tokens }) numbers
+
+-- the numbers of items, with what their lookaheads stand for
+abbrev pub parts_in : {L : Type 0} → (L → Bits) → List (Numbered L) → List (ℕ × Bits)
+parts_in {L} meaning items = map (λ (e : Numbered L). (e.number, meaning e.lookahead)) items
+
+-- the list at a place
+abbrev pub list_at : {A : Type 0} → List (Vec ℕ A) → ℕ → List ℕ
+list_at [] k = []
+list_at (v ∷ vs) zero = v.items
+list_at (v ∷ vs) (suc k) = list_at vs k
+
+-- numbers with the tokens
+abbrev pub with_tokens : Bits → List ℕ → List (ℕ × Bits)
+with_tokens tokens numbers = map (λ (k : ℕ). (k, tokens)) numbers
+
+-- the productions of each nonterminal of a table, by their numbers with the dot in front, with its tokens
+abbrev pub unfolded : Numbers → Shared → List (ℕ × Bits)
+unfolded n table = flat_map (λ (e : ℕ × Bits). with_tokens e.1 (list_at n.expansions.items e.0)) table
+
+-- an entry of a map as an item by its number
+abbrev pub numbered_of : {L : Type 0} → ℕ × L → Numbered L
+numbered_of e = record { number = e.0; lookahead = e.1 }

@@ -1,0 +1,3 @@
+-- The conflicts of states.
+pub mod CanonicalConflicts
+pub mod ListedConflicts

@@ -1,0 +1,5 @@
+-- The states that a construction makes: kernels, transitions and reductions.
+pub mod Building
+pub mod EarlyStop
+pub mod Ready
+pub mod Results

@@ -1,0 +1,63 @@
+-- The canonical states of a grammar (Knuth 1965; Aho, Sethi and Ullman, section 4.7), as the code's states.
+use Rattle.std.specs.Prelude.{◌≡◌, ◌<◌, ◌==◌, ◌&&◌, ℕ, Bool, true, false, List, length, slice_get, Option, Some, None, Contains}
+use Rattle.std.specs.Borrow.{Bor}
+use Rattle.std.specs.List.{list_any}
+use Rattle.lalrpop_grammar.specs.closures.Closures.{IsReached, TokenKernelsDiffer}
+use Rattle.lalrpop_grammar.specs.conflicts.Conflicts.{ReducesInOrder}
+use Rattle.lalrpop_collections.specs.lists.Bits.{Bits}
+use Rattle.lalrpop_grammar.specs.parsing.Laws.{AreCanonicalWith}
+use Rattle.lalrpop_states.specs.states.Coherent.{AreCoherent}
+use Rattle.lalrpop_states.specs.states.Contents.{contents, holds_token}
+use Rattle.lalrpop_states.specs.states.Items.{Dotted}
+use Rattle.lalrpop_grammar.specs.grammars.Tokens.{FitsTokens}
+use Rattle.lalrpop_grammar.specs.grammars.WellFormed.{Rules, rules_of}
+use Rattle.lalrpop_collections.specs.lists.Places.{AllDiffer}
+use Rattle.lalrpop_grammar.specs.contracts.repr.ProductionPartialEq.TheImpl as production_eq
+use Rattle.lalrpop_grammar.specs.declared.lookahead.token.Token.{Token}
+use Rattle.lalrpop_states.specs.declared.lr1_core.state.State.{State}
+use Rattle.lalrpop_grammar.specs.declared.repr.NonterminalString.{NonterminalString}
+use Rattle.lalrpop_grammar.specs.declared.repr.Production.{Production}
+use Rattle.lalrpop_grammar.specs.declared.repr.TerminalString.{TerminalString}
+use Rattle.lalrpop_grammar.specs.declared.repr.grammar.Grammar.{Grammar}
+use Rattle.lalrpop_states.specs.grammars.Ascending.{Ascend, production_order}
+
+-- ---- the tokens of the states' items
+module _ {L : Type 0} (holds : L → Token → Bool) where
+  -- whether the item is the dotted production and holds the token
+  abbrev pub is_with_token : Production → ℕ → Token → Dotted L → Bool
+  is_with_token p dot t item = (production_eq.ghosts.eq item.production p && (item.index == dot)) && holds item.lookahead t
+
+  -- whether one of a state's items is
+  abbrev pub tokens_at : Option (State L) → Production → ℕ → Token → Bool
+  tokens_at None p dot t = false
+  tokens_at (Some state) p dot t = list_any (is_with_token p dot t) state.items.vec.items
+
+  -- which tokens the dotted productions of each state have
+  abbrev pub tokens_in : List (State L) → ℕ → Production → ℕ → Token → Bool
+  tokens_in states n = tokens_at (slice_get states n)
+
+-- the same over sets of tokens, whose bits the terminals number
+abbrev pub tokens_of : List TerminalString → List (State Bits) → ℕ → Production → ℕ → Token → Bool
+tokens_of terminals states = tokens_in (holds_token terminals) states
+
+-- ---- the states
+-- the states are canonical, each with exactly the tokens of its items, of which none stands twice; no kernel stands twice; each state is reached; and reductions ascend by their productions
+pub record AreCanonicalStates (g : Rules) (start : NonterminalString) (states : List (State Bits)) : Type 0 where
+  pub canonical : AreCanonicalWith g.productions start (contents g.terminals states) (tokens_of g.terminals states)
+  pub once : (n : ℕ) → AllDiffer (contents g.terminals states n).items
+  pub differ : TokenKernelsDiffer (contents g.terminals states) (λ n p dot t. tokens_of g.terminals states n p dot t ≡ true)
+  pub reached : (n : ℕ) → n < length states → IsReached (contents g.terminals states) n
+  pub ascend : (n : ℕ) → ReducesInOrder production_order (contents g.terminals states n)
+
+-- ---- what a collapse asks of them
+-- the tokens of the state's reductions are tokens of the terminals
+abbrev pub FitReductions : List TerminalString → State Bits → Type 0
+FitReductions terminals s = (r : Bits × Bor Production) → Contains s.reductions.items r → FitsTokens terminals r.0
+
+-- the canonical states of the grammar under any numbers, at least one: they lead to one another, items ascend, and reductions hold tokens of the terminals alone
+pub record AreOrderedCanonical (g : Grammar) (start : NonterminalString) (states : List (State Bits)) : Type 0 where
+  pub canonical : AreCanonicalStates (rules_of g) start states
+  pub coherent : AreCoherent states
+  pub some : 0 < length states
+  pub ascend : (n : ℕ) (s : State Bits) → slice_get states n ≡ Some s → Ascend s.items.vec.items
+  pub fit : (n : ℕ) (s : State Bits) → slice_get states n ≡ Some s → FitReductions g.terminals s

@@ -1,0 +1,68 @@
+//! LR(1) states by the canonical construction.
+ghost use Rattle.std.specs.Prelude.{◌≡◌, IfOk, IfErr};
+ghost use Rattle.lalrpop_base.specs.Words.{IsWellFormed};
+ghost use Rattle.lalrpop_construction.specs.construction.Results.{canonical_of, lr0_of};
+ghost use Rattle.lalrpop_construction.specs.canonical.CanonicalAnswers.{AreCanonicalTables, AreCanonicalTablesOrCount, FailsByConflicts};
+
+use super::lr::Lr;
+use super::results::tables_or_count;
+use super::states::all_states;
+use super::tables_or_count::TablesOrCount;
+use lalrpop_base::lookahead::nil::Nil;
+use lalrpop_base::lookahead::token_set::TokenSet;
+use lalrpop_base::lr1_core::state::Lr1Result;
+use lalrpop_base::memory::OutOfMemory;
+use lalrpop_base::repr::grammar::Grammar;
+use std::alloc::Global;
+
+// The construction whose start symbol Eof follows.
+fn canonical_construction<'grammar>(
+    alloc: Global,
+    grammar: &'grammar Grammar,
+    lr: Lr<'grammar, Nil>,
+) -> Result<Lr<'grammar, TokenSet>, OutOfMemory>
+    requires { lr.construction ≡ lr0_of grammar.now lr.construction.start }
+    ensures { IfOk result (λ canonical. canonical.construction ≡ canonical_of grammar.now
+        lr.entry.construction.start) }
+{
+    let eof = TokenSet::eof(alloc, &grammar.terminals)?;
+    Ok(lr.with_lookahead(eof))
+}
+
+/// The canonical states of a grammar by their construction numbers, or their conflicts, where its
+/// construction without lookahead is at hand.
+pub fn build_canonical_states<'grammar>(
+    alloc: Global,
+    grammar: &'grammar Grammar,
+    lr: Lr<'grammar, Nil>,
+    stop_after: usize,
+) -> Lr1Result<'grammar>
+    requires { lr.construction ≡ lr0_of grammar.now lr.construction.start }
+    ensures tables { IfOk result (λ tables. AreCanonicalTables grammar.now
+        lr.entry.construction.start tables.items) }
+    ensures no_tables { IfErr result
+        (FailsByConflicts stop_after grammar.now lr.entry.construction.start) }
+{
+    let mut canonical = canonical_construction(alloc, grammar, lr)?;
+    canonical.set_stop_after(stop_after);
+    canonical.build_lr1_states(alloc)
+}
+
+/// The canonical states of a grammar by their construction numbers, or how many conflicts they
+/// have. The greatest `usize` stands for a number of conflicts above it.
+pub fn canonical_states_or_count<'grammar>(
+    alloc: Global,
+    grammar: &'grammar Grammar,
+    lr: Lr<'grammar, Nil>,
+) -> Result<TablesOrCount<'grammar>, OutOfMemory>
+    requires well_formed { IsWellFormed grammar.now }
+    requires over { lr.construction ≡ lr0_of grammar.now lr.construction.start }
+    ensures { IfOk result
+        (AreCanonicalTablesOrCount grammar.now lr.entry.construction.start) }
+{
+    let _names = grammar.nonterminals.len();
+    let _terminals = grammar.terminals.all();
+    let canonical = canonical_construction(alloc, grammar, lr)?;
+    let states = all_states(alloc, &canonical)?;
+    Ok(tables_or_count(states, &grammar.terminals))
+}

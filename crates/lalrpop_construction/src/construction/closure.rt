@@ -1,0 +1,270 @@
+//! The closure of a kernel. All productions of a nonterminal have the dot in front there and get
+//! the same tokens, so that these are kept by nonterminal.
+ghost use Rattle.std.specs.Prelude.{◌≡◌, ◌<◌, ◌≤◌, ◌∷◌, [], ℕ, IfOk, OnOk, IfSome, IfNone, Contains, length, map};
+ghost use Rattle.std.specs.Map.{keys_of};
+ghost use Rattle.lalrpop_base.specs.Words.{Bits, AreNumbered, AreNumbers, item_by, items_by};
+ghost use Rattle.lalrpop_construction.specs.closures.Sharing.{IsSharing, Shares, fronts_in, numbered_of, parts_in, unfolded};
+ghost use Rattle.lalrpop_construction.specs.closures.Sharing.{with_tokens};
+ghost use Rattle.lalrpop_base.specs.Words.{AreItemsBy, IsClosureBy, meant, readings};
+ghost use Rattle.lalrpop_collections.specs.lists.Entries.{GathersMore};
+
+use super::lookahead_build::LookaheadBuild;
+use super::lr::Lr;
+use super::workspace::Workspace;
+use lalrpop_base::collections::queue::Queue;
+use lalrpop_base::collections::sparse_map::SparseMap;
+use lalrpop_base::lookahead::Lookahead;
+use lalrpop_base::memory::OutOfMemory;
+use lalrpop_base::numbers::Numbers;
+use lalrpop_base::numbers::numbered::Numbered;
+use lalrpop_base::repr::Symbol;
+use std::alloc::Global;
+
+// Adds what an item gives to the nonterminal behind its dot, which goes into the queue if it is new
+// or has more now.
+fn share<'grammar, L: LookaheadBuild>(
+    alloc: Global,
+    lr: &Lr<'grammar, L>,
+    numbers: &Numbers<'grammar>,
+    number: usize,
+    tokens: &L,
+    shared: &mut SparseMap<L>,
+    queue: &mut Queue,
+) -> Result<(), OutOfMemory>
+    requires numbers { AreNumbers lr.now.construction.rules numbers.now }
+    requires known { number < length numbers.now.items.items }
+    requires limit { length numbers.now.symbols.items ≤ queue.old.limit }
+    ensures limit { queue.new.limit ≡ queue.old.limit }
+    ensures shares { OnOk result (Shares L.begins L.passes lr.now.construction.rules numbers.now
+        (item_by numbers.now.items.items (record
+        { number = number; lookahead = L.meaning tokens.now }) ∷ [])
+        (readings L.meaning shared.old) (readings L.meaning shared.new)
+        queue.old.numbers queue.new.numbers) }
+{
+    let Some(symbol) = numbers.behind[number] else {
+        return Ok(());
+    };
+    let Some(rest) = &numbers.rests[number] else {
+        return Ok(());
+    };
+    let Some((next, remainder)) = numbers.items[number].shift_symbol() else {
+        return Ok(());
+    };
+    let Symbol::Nonterminal(name) = next else {
+        return Ok(());
+    };
+    let _grammar = lr.grammar();
+    if L::give(alloc, lr, name, remainder, rest, tokens, symbol, shared)? {
+        queue.add(symbol)?;
+    }
+    Ok(())
+}
+
+// Adds what the items of a kernel give.
+fn share_kernel<'grammar, L: LookaheadBuild>(
+    alloc: Global,
+    lr: &Lr<'grammar, L>,
+    numbers: &Numbers<'grammar>,
+    kernel: &[Numbered<L>],
+    shared: &mut SparseMap<L>,
+    queue: &mut Queue,
+) -> Result<(), OutOfMemory>
+    requires numbers { AreNumbers lr.now.construction.rules numbers.now }
+    requires known { AreNumbered numbers.now.items.items kernel.now }
+    requires limit { length numbers.now.symbols.items ≤ queue.old.limit }
+    ensures limit { queue.new.limit ≡ queue.old.limit }
+    ensures shares { OnOk result (Shares L.begins L.passes lr.now.construction.rules numbers.now
+        (map (meant L.meaning) (items_by numbers.now.items.items kernel.now))
+        (readings L.meaning shared.old) (readings L.meaning shared.new)
+        queue.old.numbers queue.new.numbers) }
+{
+    for item in kernel {
+        share(
+            alloc,
+            lr,
+            numbers,
+            item.number,
+            &item.lookahead,
+            shared,
+            queue,
+        )?;
+    }
+    Ok(())
+}
+
+// Adds what the productions of a nonterminal give, with the dot in front and its tokens.
+fn share_fronts<'grammar, L: LookaheadBuild>(
+    alloc: Global,
+    lr: &Lr<'grammar, L>,
+    numbers: &Numbers<'grammar>,
+    fronts: &[usize],
+    tokens: &L,
+    shared: &mut SparseMap<L>,
+    queue: &mut Queue,
+) -> Result<(), OutOfMemory>
+    requires numbers { AreNumbers lr.now.construction.rules numbers.now }
+    requires known { AreNumbered numbers.now.items.items
+        (fronts_in (L.meaning tokens.now) fronts.now) }
+    requires limit { length numbers.now.symbols.items ≤ queue.old.limit }
+    ensures limit { queue.new.limit ≡ queue.old.limit }
+    ensures shares { OnOk result (Shares L.begins L.passes lr.now.construction.rules numbers.now
+        (items_by numbers.now.items.items (fronts_in (L.meaning tokens.now) fronts.now))
+        (readings L.meaning shared.old) (readings L.meaning shared.new)
+        queue.old.numbers queue.new.numbers) }
+{
+    for number in fronts {
+        share(alloc, lr, numbers, *number, tokens, shared, queue)?;
+    }
+    Ok(())
+}
+
+// The tokens of a nonterminal, as a copy of its own.
+#[tactic(auto, using(lalrpop_collections::proofs::theory::lists::Members::contains_map))]
+fn shared_tokens<L: Lookahead>(
+    alloc: Global,
+    shared: &SparseMap<L>,
+    symbol: usize,
+) -> Result<Option<L>, OutOfMemory>
+    ensures found { IfOk result (λ answer. IfSome answer
+        (λ tokens. Contains (readings L.meaning shared.now) (symbol, L.meaning tokens))) }
+    ensures none { IfOk result (λ answer. IfNone answer
+        (¬ Contains (keys_of shared.now) symbol)) }
+{
+    match shared.get(symbol) {
+        Some(tokens) => Ok(Some(tokens.copy(alloc)?)),
+        None => Ok(None),
+    }
+}
+
+// The tokens that a kernel gives to each nonterminal of its closure.
+fn share_all<'grammar, L: LookaheadBuild>(
+    alloc: Global,
+    lr: &Lr<'grammar, L>,
+    numbers: &Numbers<'grammar>,
+    kernel: &[Numbered<L>],
+    shared: &mut SparseMap<L>,
+    queue: &mut Queue,
+) -> Result<(), OutOfMemory>
+    requires numbers { AreNumbers lr.now.construction.rules numbers.now }
+    requires known { AreNumbered numbers.now.items.items kernel.now }
+    requires kernel { AreItemsBy L.meaning lr.now.construction.rules
+        (items_by numbers.now.items.items kernel.now) }
+    ensures { OnOk result (IsSharing L.begins L.passes lr.now.construction.rules
+        numbers.now (map (meant L.meaning) (items_by numbers.now.items.items kernel.now))
+        (readings L.meaning shared.new) []) }
+{
+    shared.clear();
+    queue.restart(numbers.symbols.len())?;
+    share_kernel(alloc, lr, numbers, kernel, shared, queue)?;
+    while let Some(symbol) = queue.take() {
+        if let Some(tokens) = shared_tokens(alloc, shared, symbol)? {
+            let fronts = &numbers.expansions[symbol];
+            share_fronts(alloc, lr, numbers, fronts, &tokens, shared, queue)?;
+        }
+    }
+    Ok(())
+}
+
+// Adds the items of a kernel.
+fn gather_kernel<L: Lookahead>(
+    alloc: Global,
+    kernel: &[Numbered<L>],
+    table: &mut SparseMap<L>,
+) -> Result<(), OutOfMemory>
+    ensures { OnOk result (GathersMore (parts_in L.meaning kernel.now)
+        (readings L.meaning table.old) (readings L.meaning table.new)) }
+{
+    for item in kernel {
+        table.join_copy(alloc, item.number, &item.lookahead)?;
+    }
+    Ok(())
+}
+
+// Adds the productions of a nonterminal, with the dot in front and its tokens, which the last one
+// keeps.
+fn gather_fronts<L: Lookahead>(
+    alloc: Global,
+    fronts: &[usize],
+    tokens: L,
+    table: &mut SparseMap<L>,
+) -> Result<(), OutOfMemory>
+    ensures { OnOk result (GathersMore (with_tokens (L.meaning tokens) fronts.now)
+        (readings L.meaning table.old) (readings L.meaning table.new)) }
+{
+    let Some((last, others)) = fronts.split_last() else {
+        return Ok(());
+    };
+    for number in others {
+        table.join_copy(alloc, *number, &tokens)?;
+    }
+    table.join(*last, tokens)?;
+    Ok(())
+}
+
+// Adds the productions of all nonterminals of a closure.
+fn gather_shared<'grammar, L: Lookahead>(
+    alloc: Global,
+    numbers: &Numbers<'grammar>,
+    shared: Vec<(usize, L)>,
+    table: &mut SparseMap<L>,
+) -> Result<(), OutOfMemory>
+    requires { (e : ℕ × Bits) →
+        Contains (readings L.meaning shared.items) e →
+        e.0 < length numbers.now.expansions.items }
+    ensures { OnOk result (GathersMore
+        (unfolded numbers.now (readings L.meaning shared.items))
+        (readings L.meaning table.old) (readings L.meaning table.new)) }
+{
+    for (symbol, tokens) in shared {
+        gather_fronts(alloc, &numbers.expansions[symbol], tokens, table)?;
+    }
+    Ok(())
+}
+
+// The entries of a table as items.
+fn items_of<L: Lookahead>(
+    alloc: Global,
+    entries: Vec<(usize, L)>,
+) -> Result<Vec<Numbered<L>>, OutOfMemory>
+    ensures { IfOk result (λ items. items.items ≡ map numbered_of entries.items) }
+{
+    let mut items = Vec::with_capacity(alloc, entries.len())?;
+    for (number, lookahead) in entries {
+        items.push(Numbered { number, lookahead })?;
+    }
+    Ok(items)
+}
+
+/// The items to which a kernel leads without a symbol, with the tokens that may follow them,
+/// ascending.
+pub fn closure<'grammar, L: LookaheadBuild>(
+    alloc: Global,
+    lr: &Lr<'grammar, L>,
+    numbers: &Numbers<'grammar>,
+    kernel: &[Numbered<L>],
+    work: &mut Workspace<L>,
+) -> Result<Vec<Numbered<L>>, OutOfMemory>
+    requires numbers { AreNumbers lr.now.construction.rules numbers.now }
+    requires known { AreNumbered numbers.now.items.items kernel.now }
+    requires kernel { AreItemsBy L.meaning lr.now.construction.rules
+        (items_by numbers.now.items.items kernel.now) }
+    ensures known { IfOk result (λ items. AreNumbered numbers.now.items.items items.items) }
+    ensures closed { IfOk result (λ items. IsClosureBy L.meaning L.begins L.passes
+        lr.now.construction.rules (items_by numbers.now.items.items kernel.now)
+        (items_by numbers.now.items.items items.items)) }
+{
+    share_all(
+        alloc,
+        lr,
+        numbers,
+        kernel,
+        &mut work.shared,
+        &mut work.queue,
+    )?;
+    work.items.clear();
+    gather_kernel(alloc, kernel, &mut work.items)?;
+    let shared = work.shared.take_all(alloc)?;
+    gather_shared(alloc, numbers, shared, &mut work.items)?;
+    let entries = work.items.take_rising(alloc)?;
+    items_of(alloc, entries)
+}

@@ -1,0 +1,109 @@
+//! The states of a grammar, by their kernels.
+ghost use Rattle.std.specs.Prelude.{◌↔◌, [], IsTrue, IfOk};
+ghost use Rattle.lalrpop_construction.specs.construction.EarlyStop.{AreEnough, AreMadeFor};
+ghost use Rattle.lalrpop_base.specs.Words.{AreNumbers};
+ghost use Rattle.lalrpop_construction.specs.construction.Results.{AreStatesFor};
+ghost use Rattle.lalrpop_construction.specs.construction.Building.{AreMadeSoFar};
+ghost use Rattle.lalrpop_construction.specs.states.NumberedStates.{AreNumberedAs};
+
+use super::lookahead_build::LookaheadBuild;
+use super::lr::Lr;
+use super::numbered::NumberedKernels;
+use super::numbered_state::{NumberedState, numbered_state};
+use super::results::push_conflicts;
+use super::state::add_state;
+use super::workspace::Workspace;
+use lalrpop_base::lr1_core::state::{Conflict, State};
+use lalrpop_base::memory::OutOfMemory;
+use lalrpop_base::numbers::Numbers;
+use std::alloc::Global;
+
+/// States, and their conflicts.
+pub type States<'grammar, L> = (Vec<State<'grammar, L>>, Vec<Conflict<'grammar, L>>);
+
+/// States, and each by numbers.
+pub type NumberedStates<'grammar, L> = (Vec<State<'grammar, L>>, Vec<NumberedState>);
+
+// Whether so many conflicts are enough to stop; 0 is none.
+fn are_enough(stop_after: usize, found: usize) -> bool
+    ensures { IsTrue result ↔ AreEnough stop_after found }
+{
+    stop_after > 0 && stop_after <= found
+}
+
+// The kernels when a construction begins: that of the start symbol, which has no state yet.
+fn first_kernels<'grammar, L: LookaheadBuild>(
+    alloc: Global,
+    lr: &Lr<'grammar, L>,
+    numbers: &Numbers<'grammar>,
+) -> Result<NumberedKernels<L>, OutOfMemory>
+    requires { AreNumbers lr.now.construction.rules numbers.now }
+    ensures { IfOk result (λ kernels. AreMadeSoFar L.meaning L.begins L.passes lr.now.construction
+        numbers.now.items.items kernels []) }
+{
+    let mut kernels = NumberedKernels::new(alloc);
+    kernels.add_state(lr.start_kernel(alloc, numbers)?)?;
+    Ok(kernels)
+}
+
+/// The states, numbered as their kernels first appear, and their conflicts, until enough are
+/// listed.
+pub fn build_states<'grammar, L: LookaheadBuild>(
+    alloc: Global,
+    lr: &Lr<'grammar, L>,
+) -> Result<States<'grammar, L>, OutOfMemory>
+    ensures { IfOk result (λ made. AreMadeFor L.meaning L.begins L.passes L.lists_conflicts lr.now
+        made.0.items made.1.items) }
+{
+    let numbers = lr.numbers();
+    let mut kernels = first_kernels(alloc, lr, numbers)?;
+    let mut work = Workspace::new(alloc);
+    let mut states = Vec::new(alloc);
+    let mut conflicts = Vec::new(alloc);
+    while add_state(alloc, lr, numbers, &mut kernels, &mut states, &mut work)? {
+        push_conflicts(alloc, lr, &states[states.len() - 1], &mut conflicts)?;
+        if are_enough(lr.stop_after(), conflicts.len()) {
+            return Ok((states, conflicts));
+        }
+    }
+    Ok((states, conflicts))
+}
+
+/// All states, numbered as their kernels first appear. No conflict is looked for.
+pub fn all_states<'grammar, L: LookaheadBuild>(
+    alloc: Global,
+    lr: &Lr<'grammar, L>,
+) -> Result<Vec<State<'grammar, L>>, OutOfMemory>
+    ensures { IfOk result (λ states. AreStatesFor L.meaning L.begins L.passes L.lists_conflicts
+        lr.now.construction states.items) }
+{
+    let numbers = lr.numbers();
+    let mut kernels = first_kernels(alloc, lr, numbers)?;
+    let mut work = Workspace::new(alloc);
+    let mut states = Vec::new(alloc);
+    while add_state(alloc, lr, numbers, &mut kernels, &mut states, &mut work)? {}
+    Ok(states)
+}
+
+/// All states, numbered as their kernels first appear, and each by numbers. No conflict is looked
+/// for.
+pub(crate) fn numbered_states<'grammar, L: LookaheadBuild>(
+    alloc: Global,
+    lr: &Lr<'grammar, L>,
+    numbers: &Numbers<'grammar>,
+) -> Result<NumberedStates<'grammar, L>, OutOfMemory>
+    requires { AreNumbers lr.now.construction.rules numbers.now }
+    ensures states { IfOk result (λ made. AreStatesFor L.meaning L.begins L.passes
+        L.lists_conflicts lr.now.construction made.0.items) }
+    ensures numbered { IfOk result
+        (λ made. AreNumberedAs numbers.now made.0.items made.1.items) }
+{
+    let mut kernels = first_kernels(alloc, lr, numbers)?;
+    let mut work = Workspace::new(alloc);
+    let mut states = Vec::new(alloc);
+    let mut list = Vec::new(alloc);
+    while add_state(alloc, lr, numbers, &mut kernels, &mut states, &mut work)? {
+        list.push(numbered_state(alloc, numbers, &work.numbers, &work.edges)?)?;
+    }
+    Ok((states, list))
+}

@@ -1,0 +1,3 @@
+-- States and their items.
+pub mod EdgePlaces
+pub mod NonterminalEdges

@@ -1,0 +1,3 @@
+pub mod follow_sets
+pub mod lanes
+pub mod Words

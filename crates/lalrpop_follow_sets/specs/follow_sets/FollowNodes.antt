@@ -1,0 +1,109 @@
+-- The nodes of the follow graph by number (DeRemer and Pennello 1982), and what a pass over states goes over.
+use Rattle.std.specs.Prelude.{◌≡◌, ◌<◌, ◌≤◌, ◌+◌, ◌⊎◌, ℕ, zero, suc, List, [], ◌∷◌, length, map, get_or, slice_get, Option, Some, None, Contains}
+use Rattle.lalrpop_base.specs.Words.{AllDiffer, AreClosed, AreCoherent, Contents, IsReached, IsWellFormed, rules_of, AreExpansions, AreNumbers, AreRests}
+use Rattle.lalrpop_grammar.specs.declared.repr.NonterminalString.{NonterminalString}
+use Rattle.lalrpop_grammar.specs.declared.repr.Production.{Production}
+use Rattle.lalrpop_grammar.specs.declared.repr.Symbol.{Symbol}
+use Rattle.lalrpop_grammar.specs.declared.repr.Symbol.TheVariants.{Nonterminal, Terminal}
+use Rattle.lalrpop_construction.specs.states.SamePlaces.{places_in}
+use Rattle.lalrpop_construction.specs.states.NumberedStates.{AreNumberedStates, transitions_at}
+use Rattle.lalrpop_numbers.specs.declared.numbers.Numbers.{Numbers}
+use Rattle.lalrpop_follow_sets.specs.declared.follow_sets.nodes.Nodes.{Nodes}
+use Rattle.lalrpop_construction.specs.declared.construction.numbered_state.NumberedState.{NumberedState}
+use Rattle.lalrpop_follow_sets.specs.declared.follow_sets.pass.Pass.{Pass}
+use Rattle.lalrpop_follow_sets.specs.declared.follow_sets.start.Start.{Start}
+
+-- ---- the start symbol
+-- the number of the name among the symbols, or how many these are, where it is none of them
+abbrev pub IsNumberOrCount : List Symbol → NonterminalString → ℕ → Type 0
+IsNumberOrCount symbols name x = (slice_get symbols x ≡ Some (Nonterminal name)) ⊎ ((x ≡ length symbols) × ¬ Contains symbols (Nonterminal name))
+
+-- the number of the start symbol, and those of its productions with the dot in front
+pub record IsStart (n : Numbers) (name : NonterminalString) (start : Start) : Type 0 where
+  pub number : IsNumberOrCount n.symbols.items name start.number
+  pub fronts : AreExpansions n.items.items (Nonterminal name) start.fronts.items
+
+-- ---- nodes
+-- the nonterminal that a symbol is, and the start symbol for a terminal
+abbrev pub name_or : NonterminalString → Symbol → NonterminalString
+name_or start (Nonterminal a) = a
+name_or start (Terminal t) = start
+
+-- the nonterminal with the number, and the start symbol where no nonterminal has the number
+abbrev pub name_at : List Symbol → NonterminalString → ℕ → NonterminalString
+name_at [] start x = start
+name_at (s ∷ symbols) start zero = name_or start s
+name_at (s ∷ symbols) start (suc x) = name_at symbols start x
+
+-- pairs of a state and the number of a nonterminal, as pairs of a state and a nonterminal
+abbrev pub follow_nodes : List Symbol → NonterminalString → List (ℕ × ℕ) → List (ℕ × NonterminalString)
+follow_nodes symbols start pairs = map (λ (p : ℕ × ℕ). (p.0, name_at symbols start p.1)) pairs
+
+-- the pair is that of a transition over a nonterminal, and its number is that of the state's first node and the place of the transition together
+pub record IsTransitionNode (symbols : List Symbol) (states : List NumberedState) (firsts : List ℕ) (node s x : ℕ) : Type 0 where
+  pub place : ℕ
+  pub target : ℕ
+  pub name : NonterminalString
+  pub edge : slice_get (transitions_at states s) place ≡ Some (x, target)
+  pub symbol : slice_get symbols x ≡ Some (Nonterminal name)
+  pub number : node ≡ get_or firsts s 0 + place
+
+-- the nodes: for each state its transitions over nonterminals, and the start symbol in state 0 besides, where it has no such transition
+pub record AreNodes (symbols : List Symbol) (first : ℕ) (states : List NumberedState) (nodes : Nodes) : Type 0 where
+  pub counted : length nodes.firsts.items ≡ length states
+  pub here : (s place x target : ℕ) (a : NonterminalString) → slice_get (transitions_at states s) place ≡ Some (x, target) → slice_get symbols x ≡ Some (Nonterminal a) → slice_get nodes.pairs.items (get_or nodes.firsts.items s 0 + place) ≡ Some (s, x)
+  pub from : (node s x : ℕ) → slice_get nodes.pairs.items node ≡ Some (s, x) → ((s ≡ 0) × (x ≡ first)) ⊎ IsTransitionNode symbols states nodes.firsts.items node s x
+  pub begun : Contains nodes.pairs.items (0, first)
+  pub differ : AllDiffer nodes.pairs.items
+
+-- the nodes of the transitions alone
+pub record AreTransitionNodes (symbols : List Symbol) (states : List NumberedState) (nodes : Nodes) : Type 0 where
+  pub counted : length nodes.firsts.items ≡ length states
+  pub here : (s place x target : ℕ) (a : NonterminalString) → slice_get (transitions_at states s) place ≡ Some (x, target) → slice_get symbols x ≡ Some (Nonterminal a) → slice_get nodes.pairs.items (get_or nodes.firsts.items s 0 + place) ≡ Some (s, x)
+  pub from : (node s x : ℕ) → slice_get nodes.pairs.items node ≡ Some (s, x) → IsTransitionNode symbols states nodes.firsts.items node s x
+  pub differ : AllDiffer nodes.pairs.items
+
+-- those transitions of a state that stand before the first over a terminal, each as the state and the number of its symbol
+abbrev pub as_pair : ℕ → ℕ → Option Symbol → List (ℕ × ℕ) → List (ℕ × ℕ)
+as_pair s x (Some (Nonterminal a)) pairs = (s, x) ∷ pairs
+as_pair s x (Some (Terminal t)) pairs = []
+as_pair s x None pairs = []
+
+abbrev pub nonterminals_of : List Symbol → ℕ → List (ℕ × ℕ) → List (ℕ × ℕ)
+nonterminals_of symbols s [] = []
+nonterminals_of symbols s (e ∷ es) = as_pair s e.0 (slice_get symbols e.0) (nonterminals_of symbols s es)
+
+-- the number is that of a nonterminal among the symbols, or how many these are
+abbrev pub IsNonterminalOrCount : List Symbol → ℕ → Type 0
+IsNonterminalOrCount symbols x = ((a : NonterminalString) × (slice_get symbols x ≡ Some (Nonterminal a))) ⊎ (x ≡ length symbols)
+
+-- ---- the pass
+-- each dotted production of a state is of a production of the grammar
+abbrev pub AreOfGrammar : List Production → (ℕ → Contents) → Type 0
+AreOfGrammar productions states = (s : ℕ) (q : Production) (dot : ℕ) → Contains (states s).items (q, dot) → Contains productions q × (dot ≤ length q.symbols)
+
+-- each of the states below the count is reached over edges
+abbrev pub AreAllReached : (ℕ → Contents) → ℕ → Type 0
+AreAllReached states count = (n : ℕ) → n < count → IsReached states n
+
+-- states of a grammar, closed and reached, by numbers, with the rests of dotted productions and the nodes of their follow graph
+pub record IsPass (pass : Pass) : Type 0 where
+  pub well_formed : IsWellFormed pass.grammar.now
+  pub numbers : AreNumbers (rules_of pass.grammar.now) pass.numbers.now
+  pub coherent : AreCoherent pass.states.now
+  pub some : 0 < length pass.states.now
+  pub closed : AreClosed (rules_of pass.grammar.now).productions pass.name.now (places_in pass.states.now)
+  pub reached : AreAllReached (places_in pass.states.now) (length pass.states.now)
+  pub own : AreOfGrammar (rules_of pass.grammar.now).productions (places_in pass.states.now)
+  pub numbered : AreNumberedStates pass.numbers.now pass.states.now pass.numbered.now
+  pub rests : AreRests (rules_of pass.grammar.now) pass.numbers.now.items.items pass.rests.now
+  pub start : IsStart pass.numbers.now pass.name.now pass.start.now
+  pub nodes : AreNodes pass.numbers.now.symbols.items pass.start.now.number pass.numbered.now pass.nodes.now
+
+-- the nodes of the pass, as pairs of a state and a nonterminal
+abbrev pub nodes_of : Pass → List (ℕ × NonterminalString)
+nodes_of pass = follow_nodes pass.numbers.now.symbols.items pass.name.now pass.nodes.now.pairs.items
+
+-- a node with the number as that of its symbol stands for the nonterminal
+abbrev pub IsNodeName : Pass → ℕ → NonterminalString → Type 0
+IsNodeName pass x a = (slice_get pass.numbers.now.symbols.items x ≡ Some (Nonterminal a)) ⊎ ((x ≡ pass.start.now.number) × (a ≡ pass.name.now))

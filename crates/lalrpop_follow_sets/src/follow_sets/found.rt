@@ -1,0 +1,131 @@
+//! What one pass over states finds.
+ghost use Rattle.std.specs.Prelude.{◌<◌, ◌↔◌, ℕ, length, Contains, IfOk, IsTrue};
+ghost use Rattle.lalrpop_base.specs.Words.{AreClosed, AreCoherent, IsWellFormed, has, rules_of, AreNumbers};
+ghost use Rattle.lalrpop_follow_sets.specs.follow_sets.FollowNodes.{AreOfGrammar, AreAllReached, IsPass};
+ghost use Rattle.lalrpop_follow_sets.specs.follow_sets.FollowWalks.{AreUnions, FindsLookaheads, HoldsSomeOf, entries_at};
+ghost use Rattle.lalrpop_construction.specs.states.SamePlaces.{places_in};
+ghost use Rattle.lalrpop_construction.specs.states.NumberedStates.{AreNumberedStates};
+
+use super::begun::begun_sets;
+use super::includes::includes;
+use super::lookback::{Lookback, empty_lookback};
+use super::nodes::nodes_of;
+use super::pass::Pass;
+use super::start::Start;
+use super::tokens::{shifted_tokens, tokens_of};
+use super::unions::unions_of;
+use lalrpop_base::lookahead::token_set::TokenSet;
+use lalrpop_base::lr1_core::state::Lr1State;
+use lalrpop_base::memory::OutOfMemory;
+use lalrpop_base::numbers::Numbers;
+use lalrpop_base::repr::NonterminalString;
+use lalrpop_base::repr::grammar::Grammar;
+use lalrpop_base::repr::terminals::TerminalSet;
+use lalrpop_base::spread::spread;
+use lalrpop_construction::construction::numbered_state::NumberedState;
+use std::alloc::Global;
+
+/// The follow sets of nonterminals in states, and where they go.
+#[derive(Drop)]
+pub struct Found {
+    /// For each node its follow set.
+    follow: Vec<TokenSet>,
+    /// For each state the numbers of finished items, each with a node whose set it has.
+    lookback: Lookback,
+    /// For each symbol the set of its token.
+    tokens: Vec<TokenSet>,
+}
+
+// The follow sets of a pass, and where they go.
+fn find(alloc: Global, pass: &Pass<'_, '_>) -> Result<Found, OutOfMemory>
+    requires { IsPass pass.now }
+    ensures { IfOk result (FindsLookaheads (rules_of pass.now.grammar.now) pass.now.name.now
+        pass.now.numbers.now (places_in pass.now.states.now) (length pass.now.states.now)) }
+{
+    let begun = begun_sets(alloc, pass)?;
+    let mut lookback = empty_lookback(alloc, pass.numbered.len())?;
+    let edges = includes(alloc, pass, &mut lookback)?;
+    Ok(Found {
+        follow: spread(alloc, begun, &edges)?,
+        lookback,
+        tokens: tokens_of(alloc, &pass.grammar.terminals, &pass.numbers.symbols)?,
+    })
+}
+
+impl Found {
+    /// What is found over states of a grammar, which are closed.
+    pub fn new<'grammar>(
+        alloc: Global,
+        grammar: &'grammar Grammar,
+        name: &NonterminalString,
+        states: &[Lr1State<'grammar>],
+        numbers: &Numbers<'grammar>,
+        numbered: &[NumberedState],
+    ) -> Result<Found, OutOfMemory>
+        requires well_formed { IsWellFormed grammar.now }
+        requires numbers { AreNumbers (rules_of grammar.now) numbers.now }
+        requires coherent { AreCoherent states.now }
+        requires some { 0 < length states.now }
+        requires closed { AreClosed (rules_of grammar.now).productions name.now
+            (places_in states.now) }
+        requires reached { AreAllReached (places_in states.now) (length states.now) }
+        requires own { AreOfGrammar (rules_of grammar.now).productions (places_in states.now) }
+        requires numbered { AreNumberedStates numbers.now states.now numbered.now }
+        ensures { IfOk result (FindsLookaheads (rules_of grammar.now) name.now numbers.now
+            (places_in states.now) (length states.now)) }
+    {
+        let start = Start::new(alloc, numbers, name)?;
+        let nodes = nodes_of(alloc, &numbers.symbols, numbered, start.number)?;
+        let pass = Pass {
+            grammar,
+            name,
+            states,
+            numbers,
+            numbered,
+            rests: &numbers.rests,
+            start: &start,
+            nodes: &nodes,
+        };
+        find(alloc, &pass)
+    }
+
+    /// For each of the numbers of finished items of a state the tokens found.
+    pub fn unions(
+        &self,
+        alloc: Global,
+        terminals: &TerminalSet,
+        state: usize,
+        reductions: &[usize],
+    ) -> Result<Vec<TokenSet>, OutOfMemory>
+        requires listed { state < length self.now.lookback.items }
+        requires within { (k m : ℕ) →
+            Contains (entries_at self.now.lookback.items state) (k, m) →
+            m < length self.now.follow.items }
+        ensures { IfOk result (λ unions. AreUnions self.now.follow.items
+            (entries_at self.now.lookback.items state) reductions.now unions.items) }
+    {
+        unions_of(
+            alloc,
+            terminals,
+            &self.follow,
+            reductions,
+            &self.lookback[state],
+        )
+    }
+
+    /// The tokens of the symbols of transitions.
+    pub fn shifted(
+        &self,
+        alloc: Global,
+        terminals: &TerminalSet,
+        edges: &[(usize, usize)],
+    ) -> Result<TokenSet, OutOfMemory>
+        requires { (x target : ℕ) →
+            Contains edges.now (x, target) →
+            x < length self.now.tokens.items }
+        ensures { IfOk result (λ set. (bit : ℕ) →
+            IsTrue (has set bit) ↔ HoldsSomeOf self.now.tokens.items edges.now bit) }
+    {
+        shifted_tokens(alloc, terminals, &self.tokens, edges)
+    }
+}

@@ -1,0 +1,10 @@
+pub mod closures
+pub mod collapse
+pub mod conflicts
+pub mod first
+pub mod grammars
+pub mod lanes
+pub mod parsing
+pub mod renumbering
+pub mod states
+pub mod Words

@@ -1,0 +1,2 @@
+-- Closures of kernels, and valid items.
+pub mod Closures

@@ -1,0 +1,2 @@
+-- States merged where they have the same dotted productions.
+pub mod Collapse

@@ -1,0 +1,3 @@
+-- The conflicts of states.
+pub mod ConflictLists
+pub mod Conflicts

@@ -1,0 +1,36 @@
+-- What a grammar derives: Aho, Sethi and Ullman, "Compilers", sections 4.2 and 4.4. A grammar is here the list of its productions.
+use Rattle.std.specs.Prelude.{List, [], ◌∷◌, ◌++◌, Contains, map}
+use Rattle.lalrpop_grammar.specs.declared.repr.NonterminalString.{NonterminalString}
+use Rattle.lalrpop_grammar.specs.declared.repr.Production.{Production}
+use Rattle.lalrpop_grammar.specs.declared.repr.Symbol.{Symbol}
+use Rattle.lalrpop_grammar.specs.declared.repr.Symbol.TheVariants.{Nonterminal, Terminal}
+use Rattle.lalrpop_grammar.specs.declared.repr.TerminalString.{TerminalString}
+
+-- a list derives a list when it becomes it by replacing, any number of times (none too), one nonterminal by the right side of one of its productions
+pub data Derives (g : List Production) : List Symbol → List Symbol → Type 0 where
+  as_it_is : {l : List Symbol} → Derives g l l
+  replace : (before after : List Symbol) (p : Production) {m : List Symbol} → Contains g p → Derives g (before ++ (p.symbols ++ after)) m → Derives g (before ++ Nonterminal p.nonterminal ∷ after) m
+
+-- a list is nullable when it derives the empty list
+abbrev pub IsNullable : List Production → List Symbol → Type 0
+IsNullable g l = Derives g l []
+
+-- t is in FIRST(l) when l derives a list that begins with t
+abbrev pub IsFirst : List Production → List Symbol → TerminalString → Type 0
+IsFirst g l t = (rest : List Symbol) × Derives g l (Terminal t ∷ rest)
+
+-- a list of terminals, as a list of symbols
+abbrev pub symbols_of : List TerminalString → List Symbol
+symbols_of w = map Terminal w
+
+-- a sentence is a list of terminals that the start symbol derives: Knuth 1965, section I
+abbrev pub IsSentence : List Production → NonterminalString → List TerminalString → Type 0
+IsSentence g start w = Derives g (Nonterminal start ∷ []) (symbols_of w)
+
+-- a beginning is a list of terminals with which a list begins that the start symbol derives. The empty list is one. What follows may be any symbols, which is this project's form of a prefix of a sentence
+abbrev pub IsBeginning : List Production → NonterminalString → List TerminalString → Type 0
+IsBeginning g start w = (rest : List Symbol) × Derives g (Nonterminal start ∷ []) (symbols_of w ++ rest)
+
+-- a nonterminal stands on no right side
+abbrev pub IsOnNoRightSide : List Production → NonterminalString → Type 0
+IsOnNoRightSide g a = (p : Production) → Contains g p → Contains p.symbols (Nonterminal a) → ⊥

@@ -1,0 +1,2 @@
+-- States under other numbers.
+pub mod Renumbering

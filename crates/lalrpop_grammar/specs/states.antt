@@ -1,0 +1,3 @@
+-- States and their items.
+pub mod Copies
+pub mod States

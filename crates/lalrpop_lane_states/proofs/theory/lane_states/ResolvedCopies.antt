@@ -1,0 +1,141 @@
+-- Which states are resolved, and which have the reductions that they had.
+use Rattle.std.proofs.Common.{◌≡◌, ℕ, ◌+◌, Result, Ok, Err, IfOk, ◌<◌, ◌≤◌, inl, inr, Bool, true, false, List, length, Some, refl, slice_set, sym, ap, subst, ◌∙◌, arith}
+use Rattle.std.specs.Prelude.{slice_get}
+use Rattle.std.proofs.lemmas.Bool.{cases_lt}
+use Rattle.std.proofs.lemmas.Option.{slice_get_within}
+use Rattle.lalrpop_base.specs.Words.{Bits, Rules}
+use Rattle.lalrpop_lane_states.proofs.Types.{Action, NonterminalString, State, StateIndex}
+use Rattle.lalrpop_lane_states.specs.Words.{Advances, AreApart, AreResolvedUpTo, HasOverlap, HasSameReductions, IsApartAt, IsAttempted, IsMerging, IsResolvedCopy, IsTried}
+use Rattle.lalrpop_state_graph.specs.Words.{AreCopies}
+use Rattle.lalrpop_lane_states.specs.declared.lane_table.construct.copying.Copying.{Copying}
+use Rattle.lalrpop_lane_states.specs.declared.lane_table.construct.merge.Merge.{Merge}
+use Rattle.lalrpop_lanes.specs.declared.lane_table.table.LaneTable.{LaneTable}
+use Rattle.lalrpop_lane_states.proofs.theory.lane_states.LaneLoop.{set_step}
+use Rattle.lalrpop_lane_states.proofs.theory.lane_states.LaneResolved.{applied_same}
+use Rattle.lalrpop_state_graph.proofs.theory.graphs.GraphCopies.{number_at}
+use Rattle.lalrpop_lane_states.proofs.theory.merges.LanePatches.{taken_apart}
+use Rattle.lalrpop_states.proofs.theory.collapse.Merging.{set_here}
+use Rattle.lalrpop_collections.proofs.theory.lists.Places.{filled, same_some}
+
+-- ---- one state
+same_reductions : (states : List (State Bits)) (n : ℕ) → HasSameReductions states states n
+same_reductions states n before after was is = ap (λ (s : State Bits). s.reductions.items) (same_some after before (sym is ∙ was))
+
+pub tried_same : (index : ℕ) (states : List (State Bits)) → IsTried index false states states
+tried_same index states = record { apart = λ e. cc; kept = λ n other. same_reductions states n; longer = omega arith }
+
+-- a state is resolved if its reductions took columns that share no token
+pub tried_taken : (index : ℕ) (old new : List (State Bits)) (before after : State Bits) → slice_get old index ≡ Some before → new ≡ slice_set old index after → (actions : List Action) (table : LaneTable) → IsAttempted actions table before after → IsTried index true old new
+tried_taken index old new before after at set actions table a =
+    let place = applied_same actions a.columns before after a.applied in
+    let step = set_step index old new before after at set place a.applied.items in
+    let is : slice_get new index ≡ Some after = ap (λ (xs : List (State Bits)). slice_get xs index) set ∙ set_here old index after (slice_get_within old index before at) in
+    record {
+      apart = λ e state there.
+          subst (λ (s : State Bits). AreApart s.reductions.items) (same_some after state (sym is ∙ there))
+          (taken_apart actions a.columns index old new (record { before = before; after = after; was = at; is = is; counted = step.counted; others = step.others; disjoint = a.disjoint; applied = a.applied }));
+      kept = λ n other first second was now. same_reductions old n first second was (sym (step.others n (other refl)) ∙ now);
+      longer = let k = step.counted in omega arith;
+    }
+
+-- ---- a merge
+module _ (old mid : Merge) (begun : AreCopies true old.states.items old.originals.items old.states.items) (on : Advances old mid) where
+  own : (n : ℕ) (before : State Bits) → slice_get old.states.items n ≡ Some before → slice_get mid.originals.items n ≡ Some n
+  own n before was = on.originals n n (begun.own n (slice_get_within old.states.items n before was))
+
+  -- walks change no reductions
+  walked_kept : (n : ℕ) → HasSameReductions old.states.items mid.states.items n
+  walked_kept n before after was is =
+      let c = (on.copies true old.states.items begun).each n after is in
+      let here : slice_get old.states.items n ≡ Some c.0 = ap (slice_get old.states.items) (sym (number_at mid.originals.items n n (own n before was))) ∙ c.1 in
+      c.2.reductions ∙ ap (λ (s : State Bits). s.reductions.items) (same_some c.0 before (sym here ∙ was))
+
+  pub walked_tried : IsTried old.inconsistent_state.0 false old.states.items mid.states.items
+  walked_tried = record { apart = λ e. cc; kept = λ n other. walked_kept n; longer = on.longer }
+
+  module _ (ready : IsMerging old) (new : Merge) (same : new ≡ record mid { states = new.states }) (counted : length new.states.items ≡ length mid.states.items) (others : (n : ℕ) → (slice_get mid.originals.items n ≡ Some mid.inconsistent_state.0 → ⊥) → slice_get new.states.items n ≡ slice_get mid.states.items n) (resolved : (n : ℕ) → IsResolvedCopy new n) where
+    target : slice_get new.originals.items old.inconsistent_state.0 ≡ Some new.inconsistent_state.0
+    target =
+        let n = old.inconsistent_state.0 in
+        ap (λ (m : Merge). slice_get m.originals.items n) same
+        ∙ on.originals n n (ready.rows old.inconsistent_state ready.start)
+        ∙ ap (λ (s : StateIndex). Some s.0) (sym on.start)
+        ∙ ap (λ (m : Merge). Some m.inconsistent_state.0) (sym same)
+
+    pub patched_tried : IsTried old.inconsistent_state.0 true old.states.items new.states.items
+    patched_tried = record {
+      apart = λ e state there. resolved old.inconsistent_state.0 state target there;
+      kept = λ n other before after was is.
+          let apart = λ (e : slice_get mid.originals.items n ≡ Some mid.inconsistent_state.0). other refl (same_some n old.inconsistent_state.0 (sym (own n before was) ∙ e ∙ ap (λ (s : StateIndex). Some s.0) on.start)) in
+          walked_kept n before after was (sym (others n apart) ∙ is);
+      longer = let k = on.longer in omega arith;
+    }
+
+pub tried_on : (i j : ℕ) (resolved : Bool) (a b c d : List (State Bits)) → i ≡ j → a ≡ b → c ≡ d → IsTried i resolved a c → IsTried j resolved b d
+tried_on i j resolved a b c d place was is tried = subst (λ n. IsTried n resolved b d) place (subst (λ (xs : List (State Bits)). IsTried i resolved xs d) was (subst (λ (xs : List (State Bits)). IsTried i resolved a xs) is tried))
+
+-- a state that was not resolved has an overlap
+pub overlap_if : {E : Type 0} (g : Rules) (start : NonterminalString) (copies n : ℕ) → HasOverlap g start copies n → (r : Result (Copying × Bool) E) → IfOk r (λ answer. answer.1 ≡ false → HasOverlap g start copies n)
+overlap_if g start copies n h (Ok answer) = λ e. h
+overlap_if g start copies n h (Err e) = tt
+
+-- ---- all states
+-- states from the first number on are resolved up to the place, and the others have the reductions that were handed in
+pub record AreResolvedBelow (first index : ℕ) (handed states : List (State Bits)) : Type 0 where
+  pub reached : first ≤ index
+  pub before : (n : ℕ) → n < first → HasSameReductions handed states n
+  pub resolved : (n : ℕ) → first ≤ n → n < index → IsApartAt states n
+  pub left : (n : ℕ) → index ≤ n → HasSameReductions handed states n
+  pub longer : length handed ≤ length states
+
+pub below_none : (first : ℕ) (handed : List (State Bits)) → AreResolvedBelow first first handed handed
+below_none first handed = record { reached = omega arith; before = λ n l. same_reductions handed n; resolved = λ n l m. absurd (omega arith); left = λ n l. same_reductions handed n; longer = omega arith }
+
+module _ (first index : ℕ) (handed old new : List (State Bits)) (below : AreResolvedBelow first index handed old) (listed : index < length old) (done : Bool) (tried : IsTried index done old new) where
+  before_it : (n : ℕ) → first ≤ n → n < index → IsApartAt new n
+  before_it n l m state at =
+      let was = filled old n (omega arith) in
+      let same = tried.kept n (λ e here. absurd (omega (arith, here, m))) was.0 state was.1 at in
+      subst (λ rs. AreApart rs) (sym same) (below.resolved n l m was.0 was.1)
+
+  kept_on : (n : ℕ) → HasSameReductions handed old n → (done ≡ true → n ≡ index → ⊥) → HasSameReductions handed new n
+  kept_on n same other before after was is =
+      let middle = filled old n (let w = slice_get_within handed n before was in let k = below.longer in omega arith) in
+      tried.kept n other middle.0 after middle.1 is ∙ same before middle.0 was middle.1
+
+  before_first : (n : ℕ) → n < first → HasSameReductions handed new n
+  before_first n l = kept_on n (below.before n l) (λ e here. let k = below.reached in absurd (omega (arith, here, l)))
+
+  behind_it : (n : ℕ) → index ≤ n → (done ≡ true → n ≡ index → ⊥) → HasSameReductions handed new n
+  behind_it n l = kept_on n (below.left n l)
+
+  pub below_more : done ≡ true → AreResolvedBelow first (index + 1) handed new
+  below_more held = record {
+    reached = let k = below.reached in omega arith;
+    before = before_first;
+    resolved = λ n l m. elim (cases_lt n index) [
+      | inl less ↦ before_it n l less
+      | inr most ↦ subst (IsApartAt new) (let e : index ≡ n = omega arith in e) (tried.apart held)
+    ];
+    left = λ n l. behind_it n (omega arith) (λ e here. absurd (omega (arith, here, l)));
+    longer = let k = below.longer in let m = tried.longer in omega arith;
+  }
+
+  pub ends_here : (g : Rules) (start : NonterminalString) (copies : ℕ) → done ≡ false → HasOverlap g start copies index → AreResolvedUpTo g start copies first index handed new
+  ends_here g start copies failed overlap = record {
+    before = before_first;
+    resolved = before_it;
+    left = λ n l. behind_it n l (λ held here. cc);
+    ends = inr overlap;
+  }
+
+pub ends_all : (g : Rules) (start : NonterminalString) (copies first index : ℕ) (handed states : List (State Bits)) → AreResolvedBelow first index handed states → (index < length states → ⊥) → AreResolvedUpTo g start copies first (length states) handed states
+ends_all g start copies first index handed states below past = record {
+  before = below.before;
+  resolved = λ n l m. below.resolved n l (elim (cases_lt index (length states)) [
+    | inl less ↦ absurd (past less)
+    | inr most ↦ omega arith
+  ]);
+  left = λ n l before after was is. absurd (let w = slice_get_within states n after is in omega arith);
+  ends = inl refl;
+}

@@ -1,0 +1,2 @@
+-- Lane tables, and the tokens of their columns.
+pub mod LaneClosed

@@ -1,0 +1,5 @@
+-- Lanes traced back over LR(0) states, and the tokens that they find.
+pub mod HeldShifts
+pub mod LaneActions
+pub mod LaneAsked
+pub mod LaneTracing

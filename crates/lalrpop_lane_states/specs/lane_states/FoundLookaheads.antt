@@ -1,0 +1,27 @@
+-- Lookahead sets that a pass over states finds, put into the states one by one.
+use Rattle.std.specs.Prelude.{◌≡◌, ℕ, List, [], ◌∷◌, length, slice_get, Some}
+use Rattle.std.specs.Borrow.{Bor}
+use Rattle.lalrpop_base.specs.Words.{Bits, Rules, AreNumbers}
+use Rattle.lalrpop_states.specs.declared.lr1_core.state.State.{State}
+use Rattle.lalrpop_grammar.specs.declared.repr.NonterminalString.{NonterminalString}
+use Rattle.lalrpop_grammar.specs.declared.repr.Production.{Production}
+use Rattle.lalrpop_follow_sets.specs.follow_sets.FollowWalks.{FindsLookaheads}
+use Rattle.lalrpop_construction.specs.states.SamePlaces.{places_in}
+use Rattle.lalrpop_construction.specs.states.NumberedStates.{AreReducedNumbers, IsNumberedState}
+use Rattle.lalrpop_numbers.specs.declared.numbers.Numbers.{Numbers}
+use Rattle.lalrpop_follow_sets.specs.declared.follow_sets.found.Found.{Found}
+use Rattle.lalrpop_construction.specs.declared.construction.numbered_state.NumberedState.{NumberedState}
+
+-- the lookahead sets of the states are found, by the numbers of their grammar, and the state at the place is also given by these
+pub record IsFoundAt (g : Rules) (start : NonterminalString) (states : List (State Bits)) (n : ℕ) (found : Found) (state : NumberedState) : Type 0 where
+  pub numbers : Numbers
+  pub of_grammar : AreNumbers g numbers
+  pub finds : FindsLookaheads g start numbers (places_in states) (length states) found
+  pub numbered : IsNumberedState numbers (places_in states n) state
+  pub reduced : (old : State Bits) → slice_get states n ≡ Some old → AreReducedNumbers numbers.items.items old.reductions.items state.reductions.items
+
+-- the reductions, each with the set at its place
+abbrev pub with_sets : List Bits → List (Bits × Bor Production) → List (Bits × Bor Production)
+with_sets [] reductions = []
+with_sets (set ∷ sets) [] = []
+with_sets (set ∷ sets) (r ∷ reductions) = (set, r.1) ∷ with_sets sets reductions

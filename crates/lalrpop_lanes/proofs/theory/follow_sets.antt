@@ -1,0 +1,2 @@
+-- What follows nonterminals in states, by one pass.
+pub mod Following

@@ -1,0 +1,5 @@
+-- Lane tables, and the tokens of their columns.
+pub mod LaneColumns
+pub mod LaneRows
+pub mod LaneTableStates
+pub mod LaneTables

@@ -1,0 +1,3 @@
+pub mod lane_tables
+pub mod lanes
+pub mod Words

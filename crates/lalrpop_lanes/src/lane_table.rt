@@ -1,0 +1,7 @@
+//! Lanes, and the table of the tokens that they have.
+pub mod context_set;
+pub mod lane;
+mod own;
+pub mod table;
+
+pub use own::{have_own_items, reduces_own};

@@ -1,0 +1,128 @@
+//! Steps back without a symbol, from the start of a production.
+ghost use Rattle.std.specs.Prelude.{◌≡◌, ◌<◌, OnErr, OnOk, Contains, length};
+ghost use Rattle.lalrpop_base.specs.Words.{productions, rules_of, Visits};
+ghost use Rattle.lalrpop_lanes.specs.lanes.LaneSteps.{Gains, GainsOf, GainsSome, GainsSomeOf, IsEnd, IsEndBit, IsFollowBit, IsGround, IsHere, IsParent, IsPassedOn, IsPlaceIf, Nothing, VisitsOf};
+ghost use Rattle.lalrpop_lanes.specs.lane_tables.LaneTables.{AreInRange, AreSameTables};
+
+use super::ground::Ground;
+use crate::lane_table::context_set::ConflictIndex;
+use crate::lane_table::table::LaneTable;
+use lalrpop_base::collections::walk::Walk;
+use lalrpop_base::exact::equal;
+use lalrpop_base::lookahead::token_set::TokenSet;
+use lalrpop_base::lr1_core::item::Item;
+use lalrpop_base::lr1_core::place::Place;
+use lalrpop_base::lr1_core::state::StateIndex;
+use lalrpop_base::memory::OutOfMemory;
+use lalrpop_base::repr::NonterminalString;
+use std::alloc::Global;
+
+// The end stands behind the start symbol.
+fn add_end<'grammar, L>(
+    alloc: Global,
+    ground: &Ground<'_, 'grammar, L>,
+    name: &NonterminalString,
+    state: usize,
+    conflict: ConflictIndex,
+    table: &mut LaneTable<'grammar>,
+) -> Result<(), OutOfMemory>
+    requires { conflict.index < table.old.conflicts }
+    ensures gains { OnOk result (Gains conflict.index (IsEnd ground.now.start.now name.now state)
+        (IsEndBit (rules_of ground.now.grammar.now) ground.now.start.now name.now state) Nothing
+        table.old table.new) }
+    ensures err { OnErr result (AreSameTables table.old table.new) }
+    ensures columns { table.new.conflicts ≡ table.old.conflicts }
+    ensures in_range { AreInRange table.old → AreInRange table.new }
+{
+    if equal(name, ground.start) {
+        let end = TokenSet::eof(alloc, &ground.grammar.terminals)?;
+        table.add_lookahead(StateIndex(state), conflict, &end)?;
+    }
+    Ok(())
+}
+
+// Goes to an item of a state, if so.
+fn pass_on<'grammar, L>(
+    nullable: bool,
+    state: usize,
+    item: &Item<'grammar, L>,
+    walk: &mut Walk<Place<'grammar>>,
+) -> Result<(), OutOfMemory>
+    ensures { OnOk result (Visits (IsPlaceIf nullable state item.now) walk.old walk.new) }
+{
+    if !nullable {
+        return Ok(());
+    }
+    let item = item.to_lr0();
+    let place = Place { state, item };
+    walk.visit(place.copy(), place)?;
+    Ok(())
+}
+
+// Adds what can stand behind the nonterminal in an item, and goes there if that is nullable.
+fn follow<'grammar, L>(
+    alloc: Global,
+    ground: &Ground<'_, 'grammar, L>,
+    name: &NonterminalString,
+    state: usize,
+    item: &Item<'grammar, L>,
+    conflict: ConflictIndex,
+    table: &mut LaneTable<'grammar>,
+    walk: &mut Walk<Place<'grammar>>,
+) -> Result<(), OutOfMemory>
+    requires there { conflict.index < table.old.conflicts }
+    requires ground { IsGround ground.now }
+    requires own { Contains (productions ground.now.grammar.now) item.now.production }
+    ensures gains { OnOk result (Gains conflict.index (IsHere state (IsParent name.now item.now))
+        (λ row bit. IsHere state
+        (IsFollowBit (rules_of ground.now.grammar.now) name.now item.now bit) row) Nothing table.old
+        table.new) }
+    ensures part { OnErr result (GainsSome conflict.index
+        (IsHere state (IsParent name.now item.now)) (λ row bit. IsHere state
+        (IsFollowBit (rules_of ground.now.grammar.now) name.now item.now bit) row) Nothing table.old
+        table.new) }
+    ensures visits { OnOk result (Visits
+        (IsPassedOn (rules_of ground.now.grammar.now) name.now state item.now) walk.old walk.new) }
+    ensures columns { table.new.conflicts ≡ table.old.conflicts }
+    ensures in_range { AreInRange table.old → AreInRange table.new }
+{
+    if !item.can_shift_nonterminal(name) {
+        return Ok(());
+    }
+    let rest = item.symbol_sets().suffix;
+    let mut first = ground.first_sets.first0(alloc, rest)?;
+    let nullable = first.take_eof(&ground.grammar.terminals);
+    table.add_lookahead(StateIndex(state), conflict, &first)?;
+    pass_on(nullable, state, item, walk)?;
+    Ok(())
+}
+
+/// Steps back from a place at the start of its production to the items of its state that expand to
+/// it.
+pub(crate) fn unepsilon<'grammar, L>(
+    alloc: Global,
+    ground: &Ground<'_, 'grammar, L>,
+    place: &Place<'grammar>,
+    conflict: ConflictIndex,
+    table: &mut LaneTable<'grammar>,
+    walk: &mut Walk<Place<'grammar>>,
+) -> Result<(), OutOfMemory>
+    requires there { conflict.index < table.old.conflicts }
+    requires ground { IsGround ground.now }
+    requires begun { place.now.item.index ≡ 0 }
+    requires listed { place.now.state < length ground.now.states.now }
+    ensures gains { OnOk result (GainsOf ground.now place.now conflict.index table.old table.new) }
+    ensures part { OnErr result
+        (GainsSomeOf ground.now place.now conflict.index table.old table.new) }
+    ensures visits { OnOk result (VisitsOf ground.now place.now walk.old walk.new) }
+    ensures columns { table.new.conflicts ≡ table.old.conflicts }
+    ensures in_range { AreInRange table.old → AreInRange table.new }
+{
+    let name = place.name();
+    let state = place.state;
+    add_end(alloc, ground, name, state, conflict, table)?;
+    for item in ground.states[state].items.vec.iter() {
+        follow(alloc, ground, name, state, item, conflict, table, walk)?;
+    }
+    Ok(())
+}

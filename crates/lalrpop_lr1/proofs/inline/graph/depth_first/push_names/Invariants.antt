@@ -1,7 +1,0 @@
-use Rattle.std.proofs.Common.{◌≡◌, ◌++◌, take}
-use Rattle.std.specs.List.{flat_map}
-use Rattle.lalrpop_lr1.specs.Words.{names_of}
-use Rattle.lalrpop_lr1.proofs.inline.graph.depth_first.push_names.Given as goal
-
-abbrev pub invariant-loop-symbol : goal.invariant-loop-symbol
-invariant-loop-symbol l = l.names.items ≡ l.initial.names.items ++ flat_map names_of (take l.symbol-index l.symbols)

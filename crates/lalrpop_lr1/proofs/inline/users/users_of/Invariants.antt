@@ -1,8 +1,0 @@
-use Rattle.std.proofs.Common.{◌≡◌, ◌++◌, List}
-use Rattle.lalrpop_lr1.proofs.Types.{NonterminalData, NonterminalString}
-use Rattle.lalrpop_lr1.proofs.theory.inlining.InlineUsers.{AreUsersOf}
-use Rattle.lalrpop_lr1.proofs.inline.users.users_of.Given as goal
-
--- the users so far are those of the entries so far
-abbrev pub invariant-loop-name : goal.invariant-loop-name
-invariant-loop-name l = (done : List (NonterminalString × NonterminalData)) × (done ++ l.name-iterator ≡ l.grammar.nonterminals.entries) × AreUsersOf l.grammar done l.users

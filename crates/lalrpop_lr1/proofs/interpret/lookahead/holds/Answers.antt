@@ -1,8 +1,0 @@
-use Rattle.lalrpop_base.proofs.theory.sets.HeldTokens.{holds_has, same_test}
-use Rattle.lalrpop_base.specs.Words.{holds_token}
-use Rattle.lalrpop_lr1.proofs.interpret.lookahead.holds.Goals as goal
-
-pub returns : goal.returns
-returns c =
-    let has = holds_has c.args.terminals.now c.all-distinct.ensures.distinct c.args.tokens.now c.args.token.now in
-    same_test c.contains.result (holds_token c.args.terminals.now c.args.tokens.now c.args.token.now) (λ h. has.1 (c.contains.ensures.0 h), λ h. c.contains.ensures.1 (has.0 h))

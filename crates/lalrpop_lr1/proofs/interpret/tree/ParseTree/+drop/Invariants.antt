@@ -1,6 +1,0 @@
-use Rattle.lalrpop_lr1.specs.Words.{tree_nodes}
-use Rattle.lalrpop_lr1.proofs.interpret.tree.ParseTree.+drop.Given as goal
-
--- each time one node is dropped
-abbrev pub decreases-loop-tree : goal.decreases-loop-tree
-decreases-loop-tree l = tree_nodes l.rest.items

@@ -1,7 +1,0 @@
-use mathlib.Core.Bool.{true≢false}
-use Rattle.std.proofs.Common.{sym}
-use Rattle.lalrpop_lr1.proofs.theory.reports.ReportTexts.{no_rising}
-use Rattle.lalrpop_lr1.proofs.report.printer.NilLookaheadPrinter.has_anything_to_print.Goals as goal
-
-pub returns : goal.returns
-returns g c = (λ yes. absurd (true≢false (sym yes)), λ some. absurd (some no_rising))

@@ -1,8 +1,0 @@
-use Rattle.std.proofs.Common.{◌≡◌, ◌++◌, string_bytes, take}
-use Rattle.std.specs.List.{flat_map}
-use Rattle.lalrpop_lr1.specs.Words.{item_lines}
-use Rattle.lalrpop_lr1.proofs.report.states.push_items.Given as goal
-
-abbrev pub invariant-loop-item : goal.invariant-loop-item
-invariant-loop-item g l =
-    string_bytes l.text ≡ string_bytes l.fn.text ++ flat_map (item_lines g.L.Lookahead.meaning l.terminals l.width) (take l.item-index l.items)

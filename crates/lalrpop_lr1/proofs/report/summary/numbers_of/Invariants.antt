@@ -1,7 +1,0 @@
-use Rattle.std.proofs.Common.{map, take}
-use Rattle.lalrpop_lr1.specs.Words.{state_number}
-use Rattle.lalrpop_lr1.proofs.theory.reports.ReportNumbers.{HasNumbers}
-use Rattle.lalrpop_lr1.proofs.report.summary.numbers_of.Given as goal
-
-abbrev pub invariant-loop-conflict : goal.invariant-loop-conflict
-invariant-loop-conflict g l = HasNumbers l.numbers (map (state_number {L = g.row.L.Denot}) (take l.conflict-index l.conflicts))

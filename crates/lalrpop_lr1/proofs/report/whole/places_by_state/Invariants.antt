@@ -1,7 +1,0 @@
-use Rattle.std.proofs.Common.{take}
-use Rattle.lalrpop_lr1.specs.Words.{ArePlacesOf}
-use Rattle.lalrpop_lr1.proofs.report.whole.places_by_state.Given as goal
-
-abbrev pub invariant-loop-place : goal.invariant-loop-place
-invariant-loop-place g l =
-    ArePlacesOf {L = g.row.L.Denot} l.conflicts (take l.place l.conflicts) l.places

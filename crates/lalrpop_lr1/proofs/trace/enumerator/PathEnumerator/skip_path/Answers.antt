@@ -1,5 +1,0 @@
-use Rattle.lalrpop_lr1.proofs.theory.traces.Walks.{standing_bound, refused_less}
-use Rattle.lalrpop_lr1.proofs.trace.enumerator.PathEnumerator.skip_path.Goals as goal
-
-pub returns-in-Err-clause-falls : goal.returns-in-Err-clause-falls
-returns-in-Err-clause-falls c = refused_less c.advance.new.self.stack.items _ _ c.in-Err.ensures.err (standing_bound c.args.self.now c.requires.standing)

@@ -1,5 +1,0 @@
-use Rattle.std.proofs.Common.{◌≡◌, ◌++◌, take}
-use Rattle.lalrpop_lr1.proofs.trace.spelling.push_copies.Given as goal
-
-abbrev pub invariant-loop-symbol : goal.invariant-loop-symbol
-invariant-loop-symbol l = l.symbols.items ≡ l.initial.symbols.items ++ take l.symbol-index l.list

@@ -1,7 +1,0 @@
-use Rattle.std.proofs.Common.{subst}
-use Rattle.lalrpop_lr1.specs.Words.{IsGraph}
-use Rattle.lalrpop_lr1.proofs.theory.traces.TraceGraphs.{kept_graph}
-use Rattle.lalrpop_lr1.proofs.trace.trace_graph.TraceGraph.len.Goals as goal
-
-pub returns-clause-graph : goal.returns-clause-graph
-returns-clause-graph c = subst IsGraph c.self.view_is (kept_graph c.self.invariant)

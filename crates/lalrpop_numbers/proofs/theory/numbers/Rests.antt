@@ -1,0 +1,80 @@
+-- What stands behind the nonterminal behind a dot.
+use Rattle.std.proofs.Common.{◌≡◌, ◌∙◌, inl, inr, ℕ, ◌+◌, ◌<◌, ◌≤◌, Bool, true, false, List, [], ◌∷◌, ◌++◌, drop, length, refl, sym, ap, subst, arith, eqb-true, eq-eqb}
+use Rattle.std.specs.Prelude.{slice_get, Option, Some, not, ◌&&◌, ◌==◌}
+use Rattle.std.proofs.lemmas.Bool.{cases_lt, true≢false}
+use Rattle.std.proofs.lemmas.Option.{slice_get_within}
+use Rattle.lalrpop_grammar.specs.Words.{IsFirstSet, Rules}
+use Rattle.lalrpop_collections.specs.Words.{Bits, has, both}
+use Rattle.lalrpop_states.specs.Words.{Dotted}
+use Rattle.lalrpop_numbers.specs.Words.{AreRests, HasRest, IsRest, IsRestOf}
+use Rattle.lalrpop_numbers.proofs.Types.{Nil, NonterminalString, Symbol, TerminalString}
+use Rattle.lalrpop_grammar.specs.declared.repr.Symbol.TheVariants.{Nonterminal, Terminal}
+use Rattle.lalrpop_numbers.specs.declared.numbers.rests.Rest.{Rest}
+use Rattle.lalrpop_states.proofs.theory.closures.Closing.{drop_split, rest_from, split_drop}
+use Rattle.lalrpop_collections.proofs.theory.lists.Members.{Contains-none}
+use Rattle.lalrpop_collections.proofs.theory.lists.Places.{contains_at, filled, same_some}
+use Rattle.lalrpop_collections.proofs.theory.lists.Zipped.{push_both, push_counted}
+
+-- ---- the rest of one dotted production
+-- nothing is behind a terminal
+pub no_rest : (i : Dotted Nil) (s : Symbol) (t : TerminalString) → slice_get i.production.symbols i.index ≡ Some s → s ≡ Terminal t → (a : NonterminalString) (after : List Symbol) → ¬ HasRest i a after
+no_rest i s t at is a after behind =
+    let there : slice_get i.production.symbols i.index ≡ Some (Nonterminal a) = split_drop i.index i.production.symbols (Nonterminal a) after behind in
+    apart (same_some s (Nonterminal a) (sym at ∙ there))
+  where
+    apart : s ≡ Nonterminal a → ⊥
+    apart e = cc
+
+-- what follows a nonterminal behind the dot is its rest
+pub rest_behind : (i : Dotted Nil) (s : Symbol) (a : NonterminalString) (after : List Symbol) → slice_get i.production.symbols i.index ≡ Some s → s ≡ Nonterminal a → after ≡ drop (i.index + 1) i.production.symbols → HasRest i a after
+rest_behind i s a after at is rest =
+    drop_split i.index i.production.symbols (Nonterminal a) (at ∙ ap Some is) ∙ ap (λ (xs : List Symbol). Nonterminal a ∷ xs) (sym (rest_from i.index i.production.symbols after rest))
+
+-- a conjunction of two that hold
+and_true : (a b : Bool) → a ≡ true → b ≡ true → (a && b) ≡ true
+and_true true true g h = refl
+and_true true false g h = cc
+and_true false b g h = cc
+
+-- FIRST without its end, and whether that was there
+pub rest_is : (g : Rules) (after : List Symbol) (old new : Bits) (nullable : Bool) (end : ℕ) → end ≡ length g.terminals → IsFirstSet g after old → nullable ≡ has old end → ((bit : ℕ) → has new bit ≡ (has old bit && not (bit == end))) →
+    IsRest g after (record { first = new; nullable = nullable })
+rest_is g after old new nullable end is first was left = record {
+  first = λ bit. (
+    λ h.
+        let parts = both (has old bit) (not (bit == end)) (sym (left bit) ∙ h) in
+        let below : bit < length g.terminals = within bit (first.fits bit parts.0) (bit == end) refl parts.1 in
+        let t = filled g.terminals bit below in
+        (t.0, t.1, (first.begins bit t.0 t.1).0 parts.0),
+    λ h.
+        let l : bit < length g.terminals = slice_get_within g.terminals bit h.0 h.1 in
+        left bit ∙ and_true (has old bit) (not (bit == end)) ((first.begins bit h.0 h.1).1 h.2) (other bit l (bit == end) refl),
+  );
+  nullable = (λ h. first.ends.0 (ap (has old) (sym is) ∙ sym was ∙ h), λ h. was ∙ ap (has old) is ∙ first.ends.1 h);
+}
+  where
+    within : (bit : ℕ) → bit ≤ length g.terminals → (b : Bool) → (bit == end) ≡ b → not b ≡ true → bit < length g.terminals
+    within bit most true e h = cc
+    within bit most false e h = elim (cases_lt bit (length g.terminals)) [
+      | inl l ↦ l
+      | inr l ↦ let same : bit ≡ end = omega (arith, is, l, most) in absurd (true≢false (sym (eq-eqb bit end same) ∙ e))
+    ]
+
+    other : (bit : ℕ) → bit < length g.terminals → (b : Bool) → (bit == end) ≡ b → not b ≡ true
+    other bit l true e = let same = eqb-true bit end e in absurd (omega (arith, is, l, same))
+    other bit l false e = refl
+
+-- ---- the rests, one more
+-- no items have no rests
+pub rests_none : (g : Rules) → AreRests g [] []
+rests_none g = record { counted = refl; each = λ k i rest at. absurd (Contains-none i (contains_at [] i k at)) }
+
+-- one item more has its rest
+pub rests_more : (g : Rules) (items : List (Dotted Nil)) (rests : List (Option Rest)) (i : Dotted Nil) (rest : Option Rest) → AreRests g items rests → IsRestOf g i rest → AreRests g (items ++ i ∷ []) (rests ++ rest ∷ [])
+rests_more g items rests i rest before is = record {
+  counted = push_counted items i rests rest before.counted;
+  each = λ k j found at_j at_found. elim (push_both items i rests rest before.counted k j found at_j at_found) [
+    | inl was ↦ before.each k j found was.0 was.1
+    | inr new ↦ subst (λ (d : Dotted Nil). IsRestOf g d found) new.1 (subst (IsRestOf g i) new.2 is)
+  ];
+}

@@ -1,0 +1,2 @@
+pub mod numbers
+pub mod Words

@@ -1,0 +1,7 @@
+-- The words of this crate's contracts, by name: where each is defined.
+pub use Rattle.lalrpop_numbers.specs.numbers.Numbering.{AddsStart, AddsThose, AreAllExpansions, AreEmpty, AreNumbersBehind, IsNumberOf, IsStartFrom, IsStartOf}
+pub use Rattle.lalrpop_numbers.specs.numbers.Numbering.{all_dots, lists_of, with_dots}
+pub use Rattle.lalrpop_numbers.specs.numbers.Numbers.{AreAllNumbered, AreBehindDots, AreExpansions, AreGroupsOf, AreItemsOf, AreNumbered, AreNumbers, IsNumberBehind}
+pub use Rattle.lalrpop_numbers.specs.numbers.Numbers.{MovesToNext, NumberedGroups, NumbersAscend, SymbolsAscend, dotted_at, groups_by, item_by, items_by, kernels_by}
+pub use Rattle.lalrpop_numbers.specs.numbers.Numbers.{numbered_exact, symbol_at, symbol_order}
+pub use Rattle.lalrpop_numbers.specs.numbers.Rests.{AreRests, HasRest, IsRest, IsRestOf}

@@ -1,0 +1,13 @@
+use Rattle.std.proofs.Common.{◌≡◌, List, ℕ, true, ◌++◌, length}
+use Rattle.std.specs.Fmt.{HasWritten, IsPlainFormatter}
+use Rattle.lalrpop_parser.specs.Words.{forest_of, steps_of, steps_text, trees_text}
+use Rattle.lalrpop_parser.proofs.interpret.tree.text.show_children.Given as goal
+
+-- what was written, and what the steps that are left write, is the text of all
+abbrev pub invariant-steps : goal.invariant-steps
+invariant-steps g l =
+    IsPlainFormatter l.initial.f → (done : List ℕ) × HasWritten g.W.Write.write_str_gives l.initial.f done l.f
+    × (done ++ steps_text l.is_first (steps_of l.walk) ≡ trees_text true (forest_of l.children.items))
+
+abbrev pub decreases-steps : goal.decreases-steps
+decreases-steps g l = length (steps_of l.walk)

@@ -1,0 +1,66 @@
+-- Trees that are dropped: how many nodes are left.
+use Rattle.std.proofs.Common.{◌≡◌, ◌+◌, ◌<◌, ℕ, suc, List, [], ◌∷◌, ◌++◌, Vec, Global, map, refl, ap, ◌∙◌, arith}
+use Rattle.lalrpop_base.specs.Words.{Tree, Leaf, Node, Trees, beside, trees_of, nodes}
+use Rattle.lalrpop_parser.proofs.Types.{NonterminalString}
+use Rattle.lalrpop_parser.specs.Words.{tree_of, tree_nodes}
+use Rattle.lalrpop_parser.specs.declared.interpret.tree.ParseTree.{ParseTree}
+use Rattle.lalrpop_parser.specs.declared.interpret.tree.ParseTree.TheOpen as Open
+use Rattle.lalrpop_parser.specs.declared.interpret.tree.ParseTree.TheViews.{roll-ParseTree, Nonterminal}
+use denote.Hole.Carrier.{roll}
+use denote.Hole.Rolled.{depth_is}
+use Rattle.lalrpop_parser.proofs.interpret.tree.ParseTree.TheLaws.{the_size}
+use Rattle.lalrpop_parser.proofs.theory.trees.TreeViews.{tree_of_roll}
+use Rattle.lalrpop_parser.proofs.theory.runs.Parses.{nodes_cons}
+
+-- trees have the nodes of the first and those of the others
+pub tree_nodes_cons : (x : ParseTree) (xs : List ParseTree) → tree_nodes (x ∷ xs) ≡ tree_nodes (x ∷ []) + tree_nodes xs
+tree_nodes_cons x xs = nodes_cons (tree_of x) (trees_of (map tree_of xs))
+
+some_node : (t : Tree) (ts : Trees) → 0 < nodes (beside t ts)
+some_node (Leaf x) ts = omega arith
+some_node (Node a children) ts = omega arith
+
+-- no nodes are in no trees alone
+pub no_nodes : (xs : List ParseTree) → tree_nodes xs ≡ 0 → xs ≡ []
+no_nodes [] none = refl
+no_nodes (x ∷ xs) none =
+    let some : 0 < tree_nodes (x ∷ xs) = some_node (tree_of x) (trees_of (map tree_of xs)) in
+    absurd (omega (arith, some, none))
+
+-- a node and its children are one more than the children
+pub nodes_below : (x : ParseTree) (a : NonterminalString) (children xs : List ParseTree) → tree_of x ≡ Node a (trees_of (map tree_of children)) → tree_nodes (x ∷ xs) ≡ suc (tree_nodes children + tree_nodes xs)
+nodes_below x a children xs is = ap (λ (t : Tree). nodes (beside t (trees_of (map tree_of xs)))) is
+
+-- the last tree may be counted first
+pub last_first : (front : List ParseTree) (x : ParseTree) → tree_nodes (front ++ x ∷ []) ≡ tree_nodes (x ∷ front)
+last_first [] x = refl
+last_first (y ∷ front) x =
+    let h : tree_nodes (front ++ x ∷ []) ≡ tree_nodes (x ∷ front) = last_first front x in
+    let l : tree_nodes (y ∷ (front ++ x ∷ [])) ≡ tree_nodes (y ∷ []) + tree_nodes (front ++ x ∷ []) = tree_nodes_cons y (front ++ x ∷ []) in
+    let r : tree_nodes (x ∷ front) ≡ tree_nodes (x ∷ []) + tree_nodes front = tree_nodes_cons x front in
+    let s : tree_nodes (x ∷ (y ∷ front)) ≡ tree_nodes (x ∷ []) + tree_nodes (y ∷ front) = tree_nodes_cons x (y ∷ front) in
+    let u : tree_nodes (y ∷ front) ≡ tree_nodes (y ∷ []) + tree_nodes front = tree_nodes_cons y front in
+    omega (arith, h, l, r, s, u)
+
+-- a tree is popped, and a node of it or of the others is dropped
+pub one_fewer : (rest front after : List ParseTree) (x bare : ParseTree) → rest ≡ front ++ x ∷ [] → tree_nodes (bare ∷ after) ≡ tree_nodes (x ∷ front) → tree_nodes (bare ∷ []) ≡ 1 → tree_nodes after < tree_nodes rest
+one_fewer rest front after x bare popped kept one =
+    let whole : tree_nodes rest ≡ tree_nodes (x ∷ front) = ap tree_nodes popped ∙ last_first front x in
+    let split : tree_nodes (bare ∷ after) ≡ tree_nodes (bare ∷ []) + tree_nodes after = tree_nodes_cons bare after in
+    omega (arith, whole, split, kept, one)
+
+-- a node alone has no children
+pub bare_node : (x : ParseTree) (a : NonterminalString) (children : Vec ParseTree Global) → x ≡ Nonterminal a children → tree_nodes (x ∷ []) ≡ 1 → children.items ≡ []
+unfolding roll-ParseTree roll
+bare_node x a children is one =
+    let seen : tree_of x ≡ Node a (trees_of (map tree_of children.items)) = ap tree_of is ∙ tree_of_roll (Open.Nonterminal a children) in
+    let n : tree_nodes (x ∷ []) ≡ suc (tree_nodes children.items + 0) = nodes_below x a children.items [] seen in
+    no_nodes children.items (omega (arith, n, one))
+
+one_more : (n m : ℕ) → n ≡ m + 1 → 0 < n
+one_more n m e = omega (arith, e)
+
+-- each tree has a depth
+pub some_depth : (x : ParseTree) → 0 < the_size x
+unfolding denote.Hole.Rolled.depth Rattle.lalrpop_parser.specs.declared.interpret.tree.ParseTree.TheBlock.the_depth
+some_depth x = one_more (the_size x) _ (depth_is _ _ _ _ x)

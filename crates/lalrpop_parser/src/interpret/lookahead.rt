@@ -1,0 +1,69 @@
+//! How a state chooses its reduction.
+ghost use Rattle.std.specs.Prelude.{◌≡◌, Bool, true, List, option_copied};
+ghost use Rattle.lalrpop_base.specs.Words.{holds_token, contents_of, reduction_on};
+ghost use Rattle.lalrpop_grammar.specs.declared.lookahead.token.Token.{Token};
+ghost use Rattle.lalrpop_grammar.specs.declared.repr.TerminalString.{TerminalString};
+
+use lalrpop_base::lookahead::Lookahead;
+use lalrpop_base::lookahead::nil::Nil;
+use lalrpop_base::lookahead::token::Token;
+use lalrpop_base::lookahead::token_set::TokenSet;
+use lalrpop_base::lr1_core::state::State;
+use lalrpop_base::repr::Production;
+use lalrpop_base::repr::terminals::TerminalSet;
+
+/// A lookahead by which states parse.
+pub trait LookaheadInterpret: Lookahead {
+    // Whether it holds a token, by the list that numbers the terminals.
+    ghost holds: { List TerminalString → Self → Token → Bool };
+
+    /// The production of the first reduction of a state whose lookahead holds a token.
+    fn reduction<'grammar>(
+        state: &State<'grammar, Self>,
+        token: &Token,
+        terminals: &TerminalSet,
+    ) -> Option<&'grammar Production>
+        ensures { option_copied result ≡ reduction_on
+            (contents_of (holds terminals.now) state.now).reductions token.now };
+}
+
+// Without lookahead every token is held.
+impl LookaheadInterpret for Nil {
+    ghost holds = { λ _ _ _. true };
+
+    fn reduction<'grammar>(
+        state: &State<'grammar, Nil>,
+        _token: &Token,
+        _terminals: &TerminalSet,
+    ) -> Option<&'grammar Production> {
+        match state.reductions.first() {
+            Some(reduction) => Some(reduction.1),
+            None => None,
+        }
+    }
+}
+
+impl LookaheadInterpret for TokenSet {
+    ghost holds = { holds_token };
+
+    fn reduction<'grammar>(
+        state: &State<'grammar, TokenSet>,
+        token: &Token,
+        terminals: &TerminalSet,
+    ) -> Option<&'grammar Production> {
+        for reduction in state.reductions.iter() {
+            if holds(&reduction.0, token, terminals) {
+                return Some(reduction.1);
+            }
+        }
+        None
+    }
+}
+
+// Whether a token is in a set, as a function of both.
+fn holds(tokens: &TokenSet, token: &Token, terminals: &TerminalSet) -> bool
+    ensures { result ≡ holds_token terminals.now tokens.now token.now }
+{
+    let _distinct = terminals.all();
+    tokens.contains(token, terminals)
+}

@@ -1,0 +1,16 @@
+-- The conflicts of a list by the numbers of their states: as places in the list.
+use Rattle.std.specs.Prelude.{◌≡◌, ℕ, List, [], map, slice_get, Option, Some, None}
+use Rattle.std.specs.Ordering.{nat_cmp}
+use Rattle.std.specs.declared.vec.Vec.{Vec}
+use Rattle.lalrpop_base.specs.Words.{collection_at}
+use Rattle.lalrpop_states.specs.declared.lr1_core.state.Conflict.{Conflict}
+use Rattle.lalrpop_report.specs.reports.Report.{conflicts_in}
+
+-- the places that are listed, none where there is no list
+abbrev pub places_of : {A : Type 0} → Option (Vec ℕ A) → List ℕ
+places_of None = []
+places_of (Some places) = places.items
+
+-- the map has, for the number of each state, the places at which the conflicts of the state stand in the list
+abbrev pub ArePlacesOf : {L A : Type 0} → List (Conflict L) → List (Conflict L) → List (ℕ × Vec ℕ A) → Type 0
+ArePlacesOf {L} all conflicts places = (number : ℕ) → map (slice_get all) (places_of (collection_at nat_cmp places number)) ≡ map (λ (c : Conflict L). Some c) (conflicts_in conflicts number)

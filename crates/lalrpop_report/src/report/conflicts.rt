@@ -1,0 +1,123 @@
+//! The blocks of conflicts.
+ghost use Rattle.std.specs.Prelude.{◌≡◌, ◌++◌, OnOk, string_bytes, slice_get};
+ghost use Rattle.std.specs.List.{flat_map};
+ghost use Rattle.lalrpop_report.specs.reports.ReportStates.{shift_reduce_lines, reduce_reduce_lines, actions_lines, conflict_block, block_at};
+
+use super::lines::{push_filled, push_lookahead, push_production};
+use super::printer::LookaheadPrinter;
+use lalrpop_base::lr1_core::state::{Action, Conflict, StateIndex};
+use lalrpop_base::memory::OutOfMemory;
+use lalrpop_base::repr::terminals::TerminalSet;
+use lalrpop_base::repr::{Production, TerminalString};
+use std::alloc::Global;
+
+// Appends the lines of a reduction and a shift.
+fn push_shift_action(
+    alloc: Global,
+    text: &mut String,
+    production: &Production,
+    terminal: &TerminalString,
+    target: StateIndex,
+) -> Result<(), OutOfMemory>
+    ensures { OnOk result (string_bytes text.new ≡ string_bytes text.old ++ shift_reduce_lines
+        production.now terminal.now target) }
+{
+    let width = terminal
+        .display_len()
+        .max(production.nonterminal.display_len());
+    let shown = format!(in alloc; "{terminal}")?;
+    text.push_str("    shift/reduce conflict\n        reduction ")?;
+    push_production(text, production)?;
+    text.push_str("        shift     ")?;
+    push_filled(text, shown.as_str(), width)?;
+    write!(text, "    shift and goto {target}\n")?;
+    Ok(())
+}
+
+// Appends the lines of two reductions.
+fn push_reduce_action(
+    text: &mut String,
+    production: &Production,
+    other: &Production,
+) -> Result<(), OutOfMemory>
+    ensures { OnOk result (string_bytes text.new ≡ string_bytes text.old ++ reduce_reduce_lines
+        production.now other.now) }
+{
+    text.push_str("    reduce/reduce conflict\n        reduction ")?;
+    push_production(text, production)?;
+    text.push_str("        reduction ")?;
+    push_production(text, other)?;
+    Ok(())
+}
+
+// Appends the lines of the two actions of a conflict.
+fn push_actions(
+    alloc: Global,
+    text: &mut String,
+    production: &Production,
+    action: &Action<'_>,
+) -> Result<(), OutOfMemory>
+    ensures { OnOk result
+        (string_bytes text.new ≡ string_bytes text.old ++ actions_lines production.now action.now) }
+{
+    match action {
+        Action::Shift(terminal, target) => {
+            push_shift_action(alloc, text, production, terminal, *target)?;
+            Ok(())
+        }
+        Action::Reduce(other) => {
+            push_reduce_action(text, production, other)?;
+            Ok(())
+        }
+    }
+}
+
+// Appends the block of a conflict.
+fn push_conflict<L: LookaheadPrinter<String>>(
+    alloc: Global,
+    text: &mut String,
+    conflict: &Conflict<'_, L>,
+    terminals: &TerminalSet,
+) -> Result<(), OutOfMemory>
+    ensures { OnOk result (string_bytes text.new ≡ string_bytes text.old ++ conflict_block L.meaning
+        terminals.now conflict.now) }
+{
+    text.push_str("\n")?;
+    push_actions(alloc, text, conflict.production, &conflict.action)?;
+    push_lookahead(text, &conflict.lookahead, terminals)?;
+    Ok(())
+}
+
+// Appends the block of the conflict at a place, if there is one.
+fn push_conflict_at<L: LookaheadPrinter<String>>(
+    alloc: Global,
+    text: &mut String,
+    conflicts: &[Conflict<'_, L>],
+    place: usize,
+    terminals: &TerminalSet,
+) -> Result<(), OutOfMemory>
+    ensures { OnOk result (string_bytes text.new ≡ string_bytes text.old ++ block_at L.meaning
+        terminals.now (slice_get conflicts.now place)) }
+{
+    if place < conflicts.len() {
+        push_conflict(alloc, text, &conflicts[place], terminals)?;
+    }
+    Ok(())
+}
+
+/// Appends the blocks of the conflicts at places.
+pub(crate) fn push_conflicts_at<L: LookaheadPrinter<String>>(
+    alloc: Global,
+    text: &mut String,
+    conflicts: &[Conflict<'_, L>],
+    places: &[usize],
+    terminals: &TerminalSet,
+) -> Result<(), OutOfMemory>
+    ensures { OnOk result (string_bytes text.new ≡ string_bytes text.old ++ flat_map
+        (λ place. block_at L.meaning terminals.now (slice_get conflicts.now place)) places.now) }
+{
+    for place in places {
+        push_conflict_at(alloc, text, conflicts, *place, terminals)?;
+    }
+    Ok(())
+}

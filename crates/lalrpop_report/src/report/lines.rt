@@ -1,0 +1,133 @@
+//! The lines of a report.
+ghost use Rattle.std.specs.Prelude.{◌≡◌, ◌++◌, OnOk, string_bytes};
+ghost use Rattle.lalrpop_report.specs.reports.ReportLines.{filled, symbols_text, production_line, lookahead_line, item_lines, reduction_lines, shift_line, goto_line};
+
+use super::printer::LookaheadPrinter;
+use lalrpop_base::lr1_core::item::Item;
+use lalrpop_base::lr1_core::state::StateIndex;
+use lalrpop_base::memory::OutOfMemory;
+use lalrpop_base::repr::terminals::TerminalSet;
+use lalrpop_base::repr::{NonterminalString, Production, Symbol, TerminalString};
+use std::alloc::Global;
+
+/// Appends a text, and spaces up to a number of characters.
+pub(crate) fn push_filled(text: &mut String, shown: &str, width: usize) -> Result<(), OutOfMemory>
+    ensures { OnOk result
+        (string_bytes text.new ≡ string_bytes text.old ++ filled width shown.now) }
+{
+    let _length = shown.len();
+    write!(text, "{shown:width$}")?;
+    Ok(())
+}
+
+// Appends symbols, each behind a space.
+fn push_symbols(text: &mut String, symbols: &[Symbol]) -> Result<(), OutOfMemory>
+    ensures { OnOk result
+        (string_bytes text.new ≡ string_bytes text.old ++ symbols_text symbols.now) }
+{
+    for symbol in symbols {
+        write!(text, " {symbol}")?;
+    }
+    Ok(())
+}
+
+/// Appends the line of a production.
+pub(crate) fn push_production(text: &mut String, production: &Production) -> Result<(), OutOfMemory>
+    ensures { OnOk result
+        (string_bytes text.new ≡ string_bytes text.old ++ production_line production.now) }
+{
+    write!(text, "{} ->", production.nonterminal)?;
+    push_symbols(text, production.symbols.as_slice())?;
+    text.push_str("\n")?;
+    Ok(())
+}
+
+/// Appends the line of a lookahead, if it holds a token.
+pub(crate) fn push_lookahead<L: LookaheadPrinter<String>>(
+    text: &mut String,
+    lookahead: &L,
+    terminals: &TerminalSet,
+) -> Result<(), OutOfMemory>
+    ensures { OnOk result (string_bytes text.new ≡ string_bytes text.old ++ lookahead_line L.meaning
+        terminals.now lookahead.now) }
+{
+    if !lookahead.has_anything_to_print() {
+        return Ok(());
+    }
+    text.push_str("        lookahead")?;
+    if lookahead.print(terminals, text).is_err() {
+        return Err(OutOfMemory);
+    }
+    text.push_str("\n")?;
+    Ok(())
+}
+
+/// Appends an empty line and the lines of an item, whose nonterminal stands in a width.
+pub(crate) fn push_item<L: LookaheadPrinter<String>>(
+    text: &mut String,
+    item: &Item<'_, L>,
+    width: usize,
+    terminals: &TerminalSet,
+) -> Result<(), OutOfMemory>
+    ensures { OnOk result (string_bytes text.new ≡ string_bytes text.old ++ item_lines L.meaning
+        terminals.now width item.now) }
+{
+    text.push_str("\n    ")?;
+    push_filled(text, item.production.nonterminal.text.as_str(), width)?;
+    text.push_str(" ->")?;
+    push_symbols(text, item.prefix())?;
+    text.push_str(" .")?;
+    push_symbols(text, item.rest())?;
+    text.push_str("\n")?;
+    push_lookahead(text, &item.lookahead, terminals)?;
+    Ok(())
+}
+
+/// Appends an empty line and the lines of a reduction.
+pub(crate) fn push_reduction<L: LookaheadPrinter<String>>(
+    text: &mut String,
+    reduction: &(L, &Production),
+    terminals: &TerminalSet,
+) -> Result<(), OutOfMemory>
+    ensures { OnOk result (string_bytes text.new ≡ string_bytes text.old ++ reduction_lines
+        L.meaning terminals.now reduction.now) }
+{
+    text.push_str("\n    reduction ")?;
+    push_production(text, reduction.1)?;
+    push_lookahead(text, &reduction.0, terminals)?;
+    Ok(())
+}
+
+/// Appends the line of a shift, whose terminal stands in a width.
+pub(crate) fn push_shift(
+    alloc: Global,
+    text: &mut String,
+    terminal: &TerminalString,
+    target: StateIndex,
+    width: usize,
+) -> Result<(), OutOfMemory>
+    ensures { OnOk result
+        (string_bytes text.new ≡ string_bytes text.old ++ shift_line width (terminal.now, target)) }
+{
+    let shown = format!(in alloc; "{terminal}")?;
+    text.push_str("    ")?;
+    push_filled(text, shown.as_str(), width)?;
+    write!(text, " shift and goto {target}\n")?;
+    Ok(())
+}
+
+/// Appends the line of a goto, whose nonterminal stands in a width.
+pub(crate) fn push_goto(
+    text: &mut String,
+    nonterminal: &NonterminalString,
+    target: StateIndex,
+    width: usize,
+) -> Result<(), OutOfMemory>
+    ensures { OnOk result (string_bytes text.new ≡ string_bytes text.old ++ goto_line width
+        (nonterminal.now, target)) }
+{
+    text.push_str("    ")?;
+    push_filled(text, nonterminal.text.as_str(), width)?;
+    write!(text, " goto {target}\n")?;
+    Ok(())
+}

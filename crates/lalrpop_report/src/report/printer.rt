@@ -1,0 +1,86 @@
+//! What prints in a report: tokens, and names whose length counts.
+ghost use Rattle.std.specs.Prelude.{◌≡◌, ◌≢◌, ◌++◌, ◌↔◌, [], ℕ, List, length, IsTrue, OnOk, codes};
+ghost use Rattle.std.specs.Fmt.{WritesInCalls};
+ghost use Rattle.lalrpop_base.specs.Words.{rising, nonterminal_text, terminal_text, token_text, seen};
+ghost use Rattle.lalrpop_report.specs.reports.ReportLines.{tokens_in, tokens_text};
+
+use lalrpop_base::lookahead::Lookahead;
+use lalrpop_base::lookahead::nil::Nil;
+use lalrpop_base::lookahead::token::TokenRef;
+use lalrpop_base::lookahead::token_set::TokenSet;
+use lalrpop_base::repr::terminals::TerminalSet;
+use lalrpop_base::repr::{NonterminalString, TerminalString};
+use std::fmt;
+
+/// A lookahead whose tokens can be printed to a writer.
+pub trait LookaheadPrinter<W: fmt::Write>: Lookahead {
+    /// Prints the tokens by rising bit, each behind a space.
+    fn print(&self, terminals: &TerminalSet, out: &mut W) -> fmt::Result
+        ensures { OnOk result (WritesInCalls W.write_str_gives out.old
+            (tokens_text (tokens_in terminals.now (Self.meaning self.now))) out.new) };
+
+    /// Whether there is a token.
+    fn has_anything_to_print(&self) -> bool
+        ensures { IsTrue result ↔ (rising (Self.meaning self.now) ≢ []) };
+}
+
+impl<W: fmt::Write> LookaheadPrinter<W> for Nil {
+    fn print(&self, _terminals: &TerminalSet, _out: &mut W) -> fmt::Result {
+        Ok(())
+    }
+
+    fn has_anything_to_print(&self) -> bool {
+        false
+    }
+}
+
+impl<W: fmt::Write> LookaheadPrinter<W> for TokenSet {
+    fn print(&self, terminals: &TerminalSet, out: &mut W) -> fmt::Result {
+        for token in self.iter(terminals) {
+            print_token(token, out)?;
+        }
+        Ok(())
+    }
+
+    fn has_anything_to_print(&self) -> bool {
+        self.len() > 0
+    }
+}
+
+// Prints a token behind a space.
+fn print_token<W: fmt::Write>(token: TokenRef<'_>, out: &mut W) -> fmt::Result
+    ensures { OnOk result (WritesInCalls W.write_str_gives out.old
+        (codes " " ++ token_text (seen token.entry)) out.new) }
+{
+    match token {
+        TokenRef::Eof => write!(out, " Eof"),
+        TokenRef::Error => write!(out, " Error"),
+        TokenRef::Terminal(terminal) => write!(out, " {terminal}"),
+    }
+}
+
+/// A name whose printed length counts.
+pub trait HasDisplayLen {
+    // What is printed.
+    ghost shown: { Self → List ℕ };
+
+    /// How many bytes are printed.
+    fn display_len(&self) -> usize
+        ensures { result ≡ length (shown self.now) };
+}
+
+impl HasDisplayLen for TerminalString {
+    ghost shown = { terminal_text };
+
+    fn display_len(&self) -> usize {
+        TerminalString::display_len(self)
+    }
+}
+
+impl HasDisplayLen for NonterminalString {
+    ghost shown = { nonterminal_text };
+
+    fn display_len(&self) -> usize {
+        NonterminalString::display_len(self)
+    }
+}

@@ -1,0 +1,161 @@
+//! The block of a state.
+ghost use Rattle.std.specs.Prelude.{◌≡◌, ◌++◌, OnOk, string_bytes, map, List, Some, slice_get};
+ghost use Rattle.std.specs.List.{flat_map};
+ghost use Rattle.lalrpop_base.specs.Words.{Dotted, nonterminal_text};
+ghost use Rattle.lalrpop_states.specs.declared.lr1_core.state.Conflict.{Conflict};
+ghost use Rattle.lalrpop_report.specs.reports.ReportLines.{longest, reduction_lines, shift_line, goto_line};
+ghost use Rattle.lalrpop_report.specs.reports.ReportStates.{items_block, reductions_block, edges_lines, state_block};
+
+use super::conflicts::push_conflicts_at;
+use super::lines::{push_goto, push_item, push_reduction, push_shift};
+use super::printer::{HasDisplayLen, LookaheadPrinter};
+use lalrpop_base::lr1_core::item::Item;
+use lalrpop_base::lr1_core::state::{Conflict, State, StateIndex};
+use lalrpop_base::memory::OutOfMemory;
+use lalrpop_base::repr::terminals::TerminalSet;
+use lalrpop_base::repr::{NonterminalString, Production, TerminalString};
+use std::alloc::Global;
+use std::collections::BTreeMap;
+
+// The length of the longest nonterminal of items.
+fn widest_nonterminal<L>(items: &[Item<'_, L>]) -> usize
+    ensures { result ≡ longest
+        (map (λ (i : Dotted L). nonterminal_text i.production.nonterminal) items.now) }
+{
+    let mut width = 0;
+    for item in items {
+        width = width.max(HasDisplayLen::display_len(&item.production.nonterminal));
+    }
+    width
+}
+
+// The length of the longest key.
+fn widest_key<K: Ord + HasDisplayLen, V>(edges: &BTreeMap<K, V>) -> usize
+    ensures { result ≡ longest (map (λ (e : K × V). K.shown e.0) edges.now.entries) }
+{
+    let mut width = 0;
+    for (key, _value) in edges.iter() {
+        width = width.max(key.display_len());
+    }
+    width
+}
+
+// Appends the items of a state.
+fn push_items<L: LookaheadPrinter<String>>(
+    text: &mut String,
+    items: &[Item<'_, L>],
+    terminals: &TerminalSet,
+) -> Result<(), OutOfMemory>
+    ensures { OnOk result (string_bytes text.new ≡ string_bytes text.old ++ items_block L.meaning
+        terminals.now items.now) }
+{
+    let width = widest_nonterminal(items);
+    for item in items {
+        push_item(text, item, width, terminals)?;
+    }
+    Ok(())
+}
+
+// Appends the lines of reductions.
+fn push_each_reduction<L: LookaheadPrinter<String>>(
+    text: &mut String,
+    reductions: &[(L, &Production)],
+    terminals: &TerminalSet,
+) -> Result<(), OutOfMemory>
+    ensures { OnOk result (string_bytes text.new ≡ string_bytes text.old ++ flat_map
+        (reduction_lines L.meaning terminals.now) reductions.now) }
+{
+    for reduction in reductions {
+        push_reduction(text, reduction, terminals)?;
+    }
+    Ok(())
+}
+
+// Appends the reductions behind an empty line, if there are some.
+fn push_reductions<L: LookaheadPrinter<String>>(
+    text: &mut String,
+    reductions: &[(L, &Production)],
+    terminals: &TerminalSet,
+) -> Result<(), OutOfMemory>
+    ensures { OnOk result (string_bytes text.new ≡ string_bytes text.old ++ reductions_block
+        L.meaning terminals.now reductions.now) }
+{
+    if reductions.is_empty() {
+        return Ok(());
+    }
+    text.push_str("\n")?;
+    push_each_reduction(text, reductions, terminals)?;
+    Ok(())
+}
+
+// Appends the lines of shifts.
+fn push_shifts(
+    alloc: Global,
+    text: &mut String,
+    shifts: &BTreeMap<TerminalString, StateIndex>,
+    width: usize,
+) -> Result<(), OutOfMemory>
+    ensures { OnOk result (string_bytes text.new ≡ string_bytes text.old ++ flat_map
+        (shift_line width) shifts.now.entries) }
+{
+    for (terminal, target) in shifts.iter() {
+        push_shift(alloc, text, terminal, *target, width)?;
+    }
+    Ok(())
+}
+
+// Appends the lines of gotos.
+fn push_gotos(
+    text: &mut String,
+    gotos: &BTreeMap<NonterminalString, StateIndex>,
+    width: usize,
+) -> Result<(), OutOfMemory>
+    ensures { OnOk result (string_bytes text.new ≡ string_bytes text.old ++ flat_map
+        (goto_line width) gotos.now.entries) }
+{
+    for (nonterminal, target) in gotos.iter() {
+        push_goto(text, nonterminal, *target, width)?;
+    }
+    Ok(())
+}
+
+// Appends the shifts and the gotos, each part behind an empty line.
+fn push_edges(
+    alloc: Global,
+    text: &mut String,
+    shifts: &BTreeMap<TerminalString, StateIndex>,
+    gotos: &BTreeMap<NonterminalString, StateIndex>,
+) -> Result<(), OutOfMemory>
+    ensures { OnOk result (string_bytes text.new ≡ string_bytes text.old ++ edges_lines
+        shifts.now.entries gotos.now.entries) }
+{
+    let width = widest_key(shifts).max(widest_key(gotos));
+    text.push_str("\n")?;
+    push_shifts(alloc, text, shifts, width)?;
+    text.push_str("\n")?;
+    push_gotos(text, gotos, width)?;
+    Ok(())
+}
+
+/// Appends the block of a state with the conflicts at places.
+pub(crate) fn push_state<L: LookaheadPrinter<String>>(
+    alloc: Global,
+    text: &mut String,
+    state: &State<'_, L>,
+    conflicts: &[Conflict<'_, L>],
+    places: &[usize],
+    terminals: &TerminalSet,
+) -> Result<(), OutOfMemory>
+    ensures { (own : List (Conflict L)) →
+        map (slice_get conflicts.now) places.now ≡ map (λ (c : Conflict L). Some c) own →
+        OnOk result (string_bytes text.new
+        ≡ string_bytes text.old ++ state_block L.meaning terminals.now own state.now) }
+{
+    write!(text, "State {} {{\n", state.index)?;
+    push_items(text, &state.items.vec, terminals)?;
+    push_reductions(text, &state.reductions, terminals)?;
+    push_edges(alloc, text, &state.shifts, &state.gotos)?;
+    push_conflicts_at(alloc, text, conflicts, places, terminals)?;
+    text.push_str("}\n")?;
+    Ok(())
+}

@@ -1,0 +1,175 @@
+//! The whole text of a report.
+ghost use Rattle.std.specs.Prelude.{◌≡◌, ◌++◌, IfOk, IfErr, OnOk, string_bytes, Some};
+ghost use Rattle.std.specs.List.{flat_map};
+ghost use Rattle.std.specs.Ordering.{nat_cmp};
+ghost use Rattle.lalrpop_base.specs.Words.{collection_at};
+ghost use Rattle.lalrpop_report.specs.reports.Report.{next_state, states_section, tables_report, failure_report, error_report, report_text};
+ghost use Rattle.lalrpop_report.specs.reports.ReportPlaces.{places_of, ArePlacesOf};
+ghost use Rattle.lalrpop_report.specs.reports.ReportSinks.{IfWriteFault, TellsOfText};
+
+use super::error::ReportError;
+use super::printer::LookaheadPrinter;
+use super::states::push_state;
+use super::summary::{push_conflicts_summary, push_opening, push_section_header, push_states_line};
+use lalrpop_base::collections::multimap::Multimap;
+use lalrpop_base::lr1_core::state::{BuildError, Conflict, LrResult, State};
+use lalrpop_base::memory::OutOfMemory;
+use lalrpop_base::repr::terminals::TerminalSet;
+use std::alloc::Global;
+
+// The places of conflicts, by the numbers of their states.
+type Places = Multimap<usize, Vec<usize>>;
+
+// Where the conflicts of each state stand.
+fn places_by_state<L>(alloc: Global, conflicts: &[Conflict<'_, L>]) -> Result<Places, OutOfMemory>
+    ensures { IfOk result (λ places. ArePlacesOf conflicts.now conflicts.now places) }
+{
+    let mut places = Multimap::new(alloc);
+    for (place, conflict) in conflicts.iter().enumerate() {
+        Multimap::push(&mut places, conflict.state.0, place)?;
+    }
+    Ok(places)
+}
+
+// The places for the number of a state.
+fn places_in(places: &Places, number: usize) -> &[usize]
+    ensures { result.now ≡ places_of (collection_at nat_cmp places.now number) }
+{
+    match places.get(&number) {
+        Some(list) => list.as_slice(),
+        None => &[],
+    }
+}
+
+// Appends an empty line and the block of a state with its conflicts.
+fn push_next_state<L: LookaheadPrinter<String>>(
+    alloc: Global,
+    text: &mut String,
+    state: &State<'_, L>,
+    conflicts: &[Conflict<'_, L>],
+    places: &Places,
+    terminals: &TerminalSet,
+) -> Result<(), OutOfMemory>
+    requires { ArePlacesOf conflicts.now conflicts.now places.now }
+    ensures { OnOk result (string_bytes text.new ≡ string_bytes text.old ++ next_state L.meaning
+        terminals.now conflicts.now state.now) }
+{
+    text.push_str("\n")?;
+    let own = places_in(places, state.index.0);
+    push_state(alloc, text, state, conflicts, own, terminals)?;
+    Ok(())
+}
+
+// Appends the blocks of states with their conflicts.
+fn push_states<L: LookaheadPrinter<String>>(
+    alloc: Global,
+    text: &mut String,
+    states: &[State<'_, L>],
+    conflicts: &[Conflict<'_, L>],
+    places: &Places,
+    terminals: &TerminalSet,
+) -> Result<(), OutOfMemory>
+    requires { ArePlacesOf conflicts.now conflicts.now places.now }
+    ensures { OnOk result (string_bytes text.new ≡ string_bytes text.old ++ flat_map
+        (next_state L.meaning terminals.now conflicts.now) states.now) }
+{
+    for state in states {
+        push_next_state(alloc, text, state, conflicts, places, terminals)?;
+    }
+    Ok(())
+}
+
+// Appends the section of the states.
+fn push_states_section<L: LookaheadPrinter<String>>(
+    alloc: Global,
+    text: &mut String,
+    states: &[State<'_, L>],
+    conflicts: &[Conflict<'_, L>],
+    terminals: &TerminalSet,
+) -> Result<(), OutOfMemory>
+    ensures { OnOk result (string_bytes text.new ≡ string_bytes text.old ++ states_section L.meaning
+        terminals.now conflicts.now states.now) }
+{
+    let places = places_by_state(alloc, conflicts)?;
+    push_section_header(text, "State Table")?;
+    push_states(alloc, text, states, conflicts, &places, terminals)?;
+    Ok(())
+}
+
+// The report of tables.
+fn tables_text<'grammar, L: LookaheadPrinter<String>>(
+    alloc: Global,
+    terminals: &TerminalSet,
+    states: &[State<'grammar, L>],
+) -> Result<String, OutOfMemory>
+    ensures { IfOk result
+        (λ text. string_bytes text ≡ tables_report L.meaning terminals.now states.now) }
+{
+    let conflicts: Vec<Conflict<'grammar, L>> = Vec::new(alloc);
+    let mut text = String::new(alloc);
+    push_opening(&mut text)?;
+    push_states_line(&mut text, states.len())?;
+    push_states_section(alloc, &mut text, states, &conflicts, terminals)?;
+    Ok(text)
+}
+
+// The report of conflicts.
+fn failure_text<L: LookaheadPrinter<String>>(
+    alloc: Global,
+    terminals: &TerminalSet,
+    states: &[State<'_, L>],
+    conflicts: &[Conflict<'_, L>],
+) -> Result<String, OutOfMemory>
+    ensures { IfOk result (λ text. string_bytes text ≡ failure_report L.meaning terminals.now
+        states.now conflicts.now) }
+{
+    let mut text = String::new(alloc);
+    push_opening(&mut text)?;
+    text.push_str("Failure\n")?;
+    push_states_line(&mut text, states.len())?;
+    push_conflicts_summary(alloc, &mut text, conflicts)?;
+    push_states_section(alloc, &mut text, states, conflicts, terminals)?;
+    Ok(text)
+}
+
+// The text of the report of an error.
+fn error_text<L: LookaheadPrinter<String>>(
+    alloc: Global,
+    terminals: &TerminalSet,
+    error: &BuildError<'_, L>,
+) -> Result<String, ReportError>
+    ensures text { IfOk result
+        (λ text. error_report L.meaning terminals.now error.now ≡ Some (string_bytes text)) }
+    ensures offered { IfErr result (λ e. IfWriteFault e ⊥) }
+    ensures tables { IfErr result (TellsOfText (error_report L.meaning terminals.now error.now)) }
+{
+    match error {
+        BuildError::Conflicts(error) => Ok(failure_text(
+            alloc,
+            terminals,
+            &error.states,
+            &error.conflicts,
+        )?),
+        BuildError::Memory => Err(ReportError::NoTables),
+    }
+}
+
+/// The text of the report of what a construction answers.
+pub fn report_text<L: LookaheadPrinter<String>>(
+    alloc: Global,
+    terminals: &TerminalSet,
+    outcome: &LrResult<'_, L>,
+) -> Result<String, ReportError>
+    ensures text { IfOk result
+        (λ text. report_text L.meaning terminals.now outcome.now ≡ Some (string_bytes text)) }
+    ensures offered { IfErr result (λ e. IfWriteFault e ⊥) }
+    ensures tables { IfErr result (TellsOfText (report_text L.meaning terminals.now outcome.now)) }
+{
+    match outcome {
+        Ok(states) => Ok(tables_text(alloc, terminals, states)?),
+        Err(error) => {
+            let text = error_text(alloc, terminals, error)?;
+            Ok(text)
+        }
+    }
+}

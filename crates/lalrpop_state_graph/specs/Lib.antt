@@ -1,0 +1,2 @@
+pub mod graphs
+pub mod Words

@@ -1,0 +1,5 @@
+-- Graphs of states.
+pub mod Copies
+pub mod GraphCopies
+pub mod Neighbours
+pub mod StateGraph

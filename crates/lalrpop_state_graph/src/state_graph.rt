@@ -1,0 +1,183 @@
+//! Where the shifts and gotos of states lead, in both directions.
+mod copies;
+mod lists;
+pub mod neighbours;
+mod origins;
+
+ghost use Rattle.std.specs.Prelude.{◌≡◌, ◌↔◌, ◌∷◌, [], List, reverse, take, IfOk, OnOk, Contains};
+ghost use Rattle.std.specs.List.Sorted.{IsStrictlySortedBy};
+ghost use Rattle.lalrpop_states.specs.declared.lr1_core.state.StateIndex.{StateIndex};
+ghost use Rattle.lalrpop_state_graph.specs.graphs.Neighbours.{targets_left, sources_left};
+ghost use Rattle.lalrpop_state_graph.specs.graphs.StateGraph.{Edge, edges, edges_of, IsGraphOf, IsGrown, LeadsTo, targets_of, sources_over, edge, state_cmp, AddsStates, HaveSameStates, IsStepBack};
+
+use self::lists::{list_of, push_at};
+use self::neighbours::{Predecessors, Successors};
+use itertools::Itertools;
+use lalrpop_base::lr1_core::state::{State, StateIndex};
+use lalrpop_base::memory::OutOfMemory;
+use lalrpop_base::repr::Symbol;
+use std::alloc::Global;
+
+/// The shifts and gotos of a list of states, by number. A target that is not in the list is a state
+/// without successors.
+#[derive(Drop)]
+pub struct StateGraph {
+    successors: Vec<Vec<StateIndex>>,
+    predecessors: Vec<Vec<(Symbol, StateIndex)>>,
+}
+
+impl StateGraph {
+    /// The graph of the states, numbered by their places.
+    #[tactic(auto, using(crate::proofs::theory::graphs::StateGraphs::empty_graph))]
+    pub fn new<'grammar, L>(
+        alloc: Global,
+        states: &[State<'grammar, L>],
+    ) -> Result<StateGraph, OutOfMemory>
+        ensures graph { IfOk result (IsGraphOf (edges states.now)) }
+    {
+        let mut graph = StateGraph {
+            successors: Vec::new(alloc),
+            predecessors: Vec::new(alloc),
+        };
+        graph.add_states(alloc, states, 0)?;
+        Ok(graph)
+    }
+
+    // Adds the edges of the states from a number on.
+    fn add_states<'grammar, L>(
+        &mut self,
+        alloc: Global,
+        states: &[State<'grammar, L>],
+        first: usize,
+    ) -> Result<(), OutOfMemory>
+        ensures { OnOk result (IsGraphOf (edges (take first states.now)) self.old →
+            IsGraphOf (edges states.now) self.new) }
+    {
+        for number in first..states.len() {
+            self.add_state(alloc, StateIndex(number), &states[number])?;
+        }
+        Ok(())
+    }
+
+    // Adds the edges of a state, in order.
+    fn add_state<L>(
+        &mut self,
+        alloc: Global,
+        source: StateIndex,
+        state: &State<'_, L>,
+    ) -> Result<(), OutOfMemory>
+        ensures { OnOk result (IsGrown (edges_of source state.now) self.old self.new) }
+    {
+        for (symbol, target) in state.edges() {
+            self.add_edge(alloc, source, symbol.to_symbol(alloc)?, target)?;
+        }
+        Ok(())
+    }
+
+    // Adds an edge behind the others.
+    #[tactic(auto, using(crate::proofs::theory::graphs::StateGraphs::map_cond))]
+    fn add_edge(
+        &mut self,
+        alloc: Global,
+        source: StateIndex,
+        symbol: Symbol,
+        target: StateIndex,
+    ) -> Result<(), OutOfMemory>
+        ensures { OnOk result (IsGrown (edge source symbol target ∷ []) self.old self.new) }
+    {
+        push_at(alloc, &mut self.successors, source.0, target)?;
+        push_at(alloc, &mut self.predecessors, target.0, (symbol, source))?;
+        Ok(())
+    }
+
+    /// The targets of the edges of a state: of its gotos and then of its shifts, each by descending
+    /// symbol.
+    pub fn successors(&self, state: StateIndex) -> Successors<'_>
+        ensures targets { targets_left result ≡ reverse (targets_of self.now state) }
+    {
+        Successors {
+            targets: list_of(&self.successors, state.0),
+        }
+    }
+
+    /// The states from which an edge over the symbol leads to the state, descending.
+    pub fn predecessors<'a>(&'a self, state: StateIndex, symbol: &'a Symbol) -> Predecessors<'a>
+        ensures sources { sources_left result ≡ reverse (sources_over self.now symbol.now state) }
+    {
+        Predecessors {
+            edges: list_of(&self.predecessors, state.0),
+            symbol,
+        }
+    }
+
+    /// The states from which the symbols lead to the state, ascending, none twice.
+    pub fn trace_back(
+        &self,
+        alloc: Global,
+        state: StateIndex,
+        symbols: &[Symbol],
+    ) -> Result<Vec<StateIndex>, OutOfMemory>
+        ensures ascending { IfOk result (λ found. IsStrictlySortedBy state_cmp found.items) }
+        ensures exactly { IfOk result (λ found. (es : List Edge) →
+            IsGraphOf es self.now →
+            (r : StateIndex) →
+            Contains found.items r ↔ LeadsTo es r symbols.now state) }
+    {
+        let mut found = Vec::new(alloc);
+        found.push(state)?;
+        let mut left = symbols;
+        while let Some((symbol, before)) = left.split_last() {
+            found = self.step_back(alloc, &found, symbol)?;
+            left = before;
+        }
+        Ok(found)
+    }
+
+    // The states from which the symbol leads to one of the states, ascending, none twice.
+    fn step_back(
+        &self,
+        alloc: Global,
+        states: &[StateIndex],
+        symbol: &Symbol,
+    ) -> Result<Vec<StateIndex>, OutOfMemory>
+        ensures sources { IfOk result
+            (λ sources. IsStepBack self.now symbol.now states.now sources.items) }
+        ensures ascending { IfOk result (λ sources. IsStrictlySortedBy state_cmp sources.items) }
+    {
+        let mut sources = Vec::new(alloc);
+        for state in states {
+            self.push_sources(*state, symbol, &mut sources)?;
+        }
+        Ok(in_order(alloc, sources)?)
+    }
+
+    // Puts the states from which the symbol leads to the state behind the others.
+    fn push_sources(
+        &self,
+        state: StateIndex,
+        symbol: &Symbol,
+        sources: &mut Vec<StateIndex>,
+    ) -> Result<(), OutOfMemory>
+        ensures { OnOk result (AddsStates (sources_over self.now symbol.now state) sources.old.items
+            sources.new.items) }
+    {
+        for source in self.predecessors(state, symbol) {
+            sources.push(source)?;
+        }
+        Ok(())
+    }
+}
+
+// The states, ascending, none twice.
+fn in_order(alloc: Global, states: Vec<StateIndex>) -> Result<Vec<StateIndex>, OutOfMemory>
+    ensures same { IfOk result (λ list. HaveSameStates states.items list.items) }
+    ensures ascending { IfOk result (λ list. IsStrictlySortedBy state_cmp list.items) }
+{
+    let sorted = states.into_iter().sorted(alloc)?;
+    let mut ordered = Vec::new(alloc);
+    for state in sorted {
+        ordered.push(state)?;
+    }
+    ordered.dedup();
+    Ok(ordered)
+}

@@ -1,0 +1,53 @@
+//! Lists by number.
+ghost use Rattle.std.specs.Prelude.{◌≡◌, ◌<◌, length, OnOk};
+ghost use Rattle.lalrpop_state_graph.specs.graphs.StateGraph.{AreSameLists, IsChangedAt, IsListedAt, list_at, nothing};
+
+use lalrpop_base::memory::OutOfMemory;
+use std::alloc::Global;
+
+/// The values of a number, none where it has no list.
+pub(super) fn list_of<X>(lists: &[Vec<X>], number: usize) -> &[X]
+    ensures { result.now ≡ list_at lists.now number }
+{
+    if number < lists.len() {
+        return lists[number].as_slice();
+    }
+    &[]
+}
+
+/// Puts a value behind the others of a number. Numbers up to it that have no list yet get one.
+#[tactic(auto, using(crate::proofs::theory::graphs::StateGraphs::listed_more))]
+pub(super) fn push_at<X: Drop>(
+    alloc: Global,
+    lists: &mut Vec<Vec<X>>,
+    number: usize,
+    value: X,
+) -> Result<(), OutOfMemory>
+    ensures { OnOk result (IsListedAt number value lists.old.items lists.new.items) }
+{
+    grow(alloc, lists, number)?;
+    lists[number].push(value)?;
+    Ok(())
+}
+
+/// Leaves a number no value.
+pub(super) fn clear_at<X: Drop>(lists: &mut Vec<Vec<X>>, number: usize)
+    ensures { IsChangedAt number nothing lists.old.items lists.new.items }
+{
+    let count = lists.len();
+    if number >= count {
+        return;
+    }
+    lists[number].clear();
+}
+
+// Gives each number up to the one a list, an empty one where it has none.
+fn grow<X: Drop>(alloc: Global, lists: &mut Vec<Vec<X>>, number: usize) -> Result<(), OutOfMemory>
+    ensures same { AreSameLists lists.old.items lists.new.items }
+    ensures there { OnOk result (number < length lists.new.items) }
+{
+    while lists.len() <= number {
+        lists.push(Vec::new(alloc))?;
+    }
+    Ok(())
+}

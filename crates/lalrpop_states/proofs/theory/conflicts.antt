@@ -1,0 +1,5 @@
+-- The conflicts of states.
+pub mod ConflictCounts
+pub mod ConflictLemmas
+pub mod FreeStates
+pub mod HeldShifts

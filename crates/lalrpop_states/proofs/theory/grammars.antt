@@ -1,0 +1,3 @@
+-- Grammars, their names and tokens, derivations and parse trees.
+pub mod AscendingItems
+pub mod KnownTerminals

@@ -1,0 +1,3 @@
+-- The check of tables.
+pub mod CheckCarrying
+pub mod CheckPlaces

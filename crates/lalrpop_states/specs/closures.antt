@@ -1,0 +1,4 @@
+-- Closures of kernels, and valid items.
+pub mod CheckClosing
+pub mod Closing
+pub mod Closure

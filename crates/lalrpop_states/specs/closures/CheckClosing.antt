@@ -1,0 +1,35 @@
+-- The closure of dotted productions without tokens: closures of items of Aho, Sethi and Ullman, section 4.7.
+use Rattle.std.specs.Prelude.{◌≡◌, ◌↔◌, ◌<◌, ℕ, List, map, slice_get, Some, Contains}
+use Rattle.lalrpop_grammar.specs.closures.Closures.{InClosure}
+use Rattle.lalrpop_grammar.specs.grammars.WellFormed.{productions, productions_of}
+use Rattle.lalrpop_collections.specs.lists.Bits.{Bits}
+use Rattle.lalrpop_states.specs.states.Items.{Dotted}
+use Rattle.lalrpop_states.specs.declared.lookahead.nil.Nil.{Nil}
+use Rattle.lalrpop_grammar.specs.declared.repr.NonterminalString.{NonterminalString}
+use Rattle.lalrpop_grammar.specs.declared.repr.Production.{Production}
+use Rattle.lalrpop_grammar.specs.declared.repr.Symbol.TheVariants.{Nonterminal}
+use Rattle.lalrpop_grammar.specs.declared.repr.grammar.Grammar.{Grammar}
+use Rattle.lalrpop_states.specs.closures.Closure.{dotted_of}
+
+-- the production is among these, and the dot is at its start
+pub record IsBegun (ps : List Production) (k : Dotted Nil) : Type 0 where
+  pub start : k.index ≡ 0
+  pub among : Contains ps k.production
+
+-- a production of the nonterminal behind the dot of an item, with the dot at the start
+pub record IsExpansionOf (g : Grammar) (item k : Dotted Nil) : Type 0 where
+  pub name : NonterminalString
+  pub behind : slice_get item.production.symbols item.index ≡ Some (Nonterminal name)
+  pub begun : IsBegun (productions_of g name) k
+
+-- what is listed with a moved dot
+abbrev pub IsMovedIn : List (Production × ℕ) → Production → ℕ → Type 0
+IsMovedIn items p dot = (0 < dot) × Contains items (p, dot)
+
+-- the same of items
+abbrev pub IsMovedOf : List (Dotted Bits) → Dotted Nil → Type 0
+IsMovedOf items k = IsMovedIn (map dotted_of items) k.production k.index
+
+-- the keys are the closure of the kernel
+abbrev pub AreClosure : Grammar → (Production → ℕ → Type 0) → List (Dotted Nil) → Type 0
+AreClosure g kernel keys = (k : Dotted Nil) → Contains keys k ↔ InClosure (productions g) kernel k.production k.index

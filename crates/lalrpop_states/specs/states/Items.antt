@@ -1,0 +1,26 @@
+-- A production with a dot, and a lookahead.
+use Rattle.std.specs.Prelude.{◌≡◌, ℕ, Bool, true, ◌==◌, ◌&&◌}
+use Rattle.std.proofs.Common.{ap, ◌∙◌, eqb-true}
+use Rattle.lalrpop_collections.specs.lists.Exact.{Exactly, both}
+use Rattle.lalrpop_states.specs.declared.lookahead.nil.Nil.{Nil}
+use Rattle.lalrpop_grammar.specs.declared.repr.Production.{Production}
+
+pub record Dotted (L : Type 0) : Type 0 where
+  pub production : Production
+  pub index : ℕ
+  pub lookahead : L
+
+-- the production with its dot at a place, without lookahead
+abbrev pub with_dot : Production → ℕ → Dotted Nil
+with_dot p dot = record { production = p; index = dot; lookahead = record {} }
+
+-- items are equal where their parts are
+pub dotted_exact : {L : Type 0} (E : Production → Production → Bool) (F : L → L → Bool) → Exactly E → Exactly F →
+    (a b : Dotted L) → (E a.production b.production && ((a.index == b.index) && F a.lookahead b.lookahead)) ≡ true → a ≡ b
+dotted_exact {L} E F e f a b h =
+    let make : Production → ℕ → L → Dotted L = λ p i l. record { production = p; index = i; lookahead = l } in
+    let first = both (E a.production b.production) ((a.index == b.index) && F a.lookahead b.lookahead) h in
+    let second = both (a.index == b.index) (F a.lookahead b.lookahead) first.1 in
+    ap (λ p. make p a.index a.lookahead) (e _ _ first.0)
+    ∙ ap (λ i. make b.production i a.lookahead) (eqb-true _ _ second.0)
+    ∙ ap (λ l. make b.production b.index l) (f _ _ second.1)

@@ -1,0 +1,54 @@
+//! Lookaheads by key, joined as they come.
+ghost use Rattle.std.specs.Prelude.{◌≡◌, OnOk, IfOk, IsNone, IfSome, Contains, Some, option_copied};
+ghost use Rattle.std.specs.BTreeMap.{keys};
+ghost use Rattle.lalrpop_collections.specs.Words.{AllDiffer, Bits};
+ghost use Rattle.lalrpop_collections.specs.lists.Entries.{IsJoinedAt, readings};
+
+use crate::lookahead::{Lookahead, join};
+use lalrpop_collections::exact::Exact;
+use lalrpop_collections::memory::OutOfMemory;
+use lalrpop_grammar::lookahead::token_set::TokenSet;
+use std::alloc::Global;
+use std::collections::BTreeMap;
+
+/// Joins tokens to those of a key, and tells whether the key is new or has more now.
+pub fn add_tokens<K: Ord + Exact + Drop, L: Lookahead>(
+    alloc: Global,
+    map: &mut BTreeMap<K, L>,
+    key: K,
+    tokens: &L,
+) -> Result<bool, OutOfMemory>
+    ensures joined { IfOk result (λ told. IsJoinedAt key (L.meaning tokens.now) told
+        (readings L.meaning map.old.entries) (readings L.meaning map.new.entries)) }
+    ensures differ { OnOk result (AllDiffer (keys map.new)) }
+{
+    if let Some(known) = map.get_mut(&key) {
+        return join(alloc, known, tokens);
+    }
+    map.insert(key, tokens.copy(alloc)?)?;
+    Ok(true)
+}
+
+/// The lookahead of a key, where it has one.
+pub fn tokens_of<'map, K: Ord + Exact, L>(map: &'map BTreeMap<K, L>, key: &K) -> Option<&'map L>
+    ensures found { IfSome result (λ lookahead. Contains map.now.entries (key.now, lookahead.now)) }
+    ensures none { IsNone result → ¬ Contains (keys map.now) key.now }
+{
+    map.get(key)
+}
+
+/// The tokens of a key, where it has some.
+pub fn find_tokens<'map, K: Ord + Exact>(
+    map: &'map BTreeMap<K, TokenSet>,
+    key: &K,
+) -> Option<&'map TokenSet>
+    ensures found { (set : Bits) →
+        option_copied result ≡ Some set →
+        Contains map.now.entries (key.now, set) }
+    ensures all { AllDiffer (keys map.now) →
+        (set : Bits) →
+        Contains map.now.entries (key.now, set) →
+        option_copied result ≡ Some set }
+{
+    tokens_of(map, key)
+}

@@ -1,0 +1,82 @@
+//! What a state does on a token, and where its gotos lead.
+ghost use Rattle.std.specs.Prelude.{◌≡◌, Bool, option_copied, option_map};
+ghost use Rattle.std.specs.BTreeMap.{get};
+ghost use Rattle.lalrpop_states.specs.states.ActionEntries.{action_on, table_entry, shift_of};
+ghost use Rattle.lalrpop_states.specs.states.Contents.{contents_of, holds_token, number_of};
+ghost use Rattle.lalrpop_grammar.specs.parsing.Runs.{reduction_on};
+ghost use Rattle.lalrpop_grammar.specs.grammars.WellFormed.{name_cmp};
+ghost use Rattle.lalrpop_collections.specs.lists.Bits.{Bits};
+ghost use Rattle.lalrpop_grammar.specs.declared.lookahead.token.Token.{Token};
+
+use super::state::{Lr1State, State, StateIndex};
+use lalrpop_grammar::lookahead::token::Token;
+use lalrpop_grammar::lookahead::token_set::TokenSet;
+use lalrpop_grammar::repr::terminals::TerminalSet;
+use lalrpop_grammar::repr::{NonterminalString, Production};
+
+/// An entry of the action table: a shift to a state, or a reduction by a production.
+#[derive(Clone, Copy, Debug, PartialEq, Eq)]
+pub enum ActionEntry<'grammar> {
+    Shift(StateIndex),
+    Reduce(&'grammar Production),
+}
+
+impl<'grammar, L> State<'grammar, L> {
+    /// The target of the goto of a nonterminal, if it has one, by one look-up.
+    pub fn goto(&self, name: &NonterminalString) -> Option<StateIndex>
+        ensures target { result ≡ get name_cmp self.now.gotos name.now }
+    {
+        self.gotos.get(name).copied()
+    }
+}
+
+impl<'grammar> State<'grammar, TokenSet> {
+    /// What the state does on a token, if anything: as a run of the parser does, it shifts where it
+    /// can, even where a reduction holds the token too.
+    pub fn action(&self, token: &Token, terminals: &TerminalSet) -> Option<ActionEntry<'grammar>>
+        ensures entry { option_map table_entry result ≡ action_on
+            (contents_of (holds_token terminals.now) self.now) token.now }
+    {
+        match shift_target(self, token) {
+            Some(target) => Some(ActionEntry::Shift(target)),
+            None => first_reduction(self, token, terminals).map(ActionEntry::Reduce),
+        }
+    }
+}
+
+// Where the shift of a token leads, if it has one.
+fn shift_target<'grammar>(state: &Lr1State<'grammar>, token: &Token) -> Option<StateIndex>
+    ensures target { (holds : Bits → Token → Bool) →
+        option_map number_of result ≡ shift_of (contents_of holds state.now) token.now }
+{
+    match token {
+        Token::Terminal(terminal) => state.shifts.get(terminal).copied(),
+        Token::Eof => None,
+        Token::Error => None,
+    }
+}
+
+// The production of the first reduction that holds a token.
+fn first_reduction<'grammar>(
+    state: &Lr1State<'grammar>,
+    token: &Token,
+    terminals: &TerminalSet,
+) -> Option<&'grammar Production>
+    ensures first { option_copied result ≡ reduction_on
+        (contents_of (holds_token terminals.now) state.now).reductions token.now }
+{
+    for reduction in state.reductions.iter() {
+        if holds(&reduction.0, token, terminals) {
+            return Some(reduction.1);
+        }
+    }
+    None
+}
+
+// Whether a token is in a set, as a function of both.
+fn holds(tokens: &TokenSet, token: &Token, terminals: &TerminalSet) -> bool
+    ensures { result ≡ holds_token terminals.now tokens.now token.now }
+{
+    let _distinct = terminals.all();
+    tokens.contains(token, terminals)
+}

@@ -1,0 +1,228 @@
+//! States that lead to one another as items say.
+ghost use Rattle.std.specs.Prelude.{◌≡◌, ◌-◌, ◌<◌, ◌↔◌, ℕ, List, slice_get, Some, IsTrue, IfOk};
+ghost use Rattle.lalrpop_collections.specs.lists.Each.{EachEntry};
+ghost use Rattle.lalrpop_grammar.specs.grammars.Names.{symbol_text};
+ghost use Rattle.lalrpop_states.specs.states.Coherent.{AreCoherent, IsCoherentState, IsCoherentEdge, IsCoherentStep, HasItem, StartsAtZero, AreFinished, IsAt, IsShifted, symbol_of};
+
+use super::item::Item;
+use super::state::{State, StateIndex};
+use lalrpop_collections::exact::equal;
+use lalrpop_collections::memory::OutOfMemory;
+use lalrpop_grammar::repr::{NonterminalString, Production, Symbol, TerminalString};
+use std::alloc::Global;
+use std::collections::BTreeMap;
+use std::fmt;
+
+/// Whether the states lead to one another as their items say. The empty list does.
+pub fn are_coherent<'grammar, L>(states: &[State<'grammar, L>]) -> bool
+    ensures { IsTrue result ↔ AreCoherent states.now }
+{
+    for (place, state) in states.iter().enumerate() {
+        if !is_coherent_state(states, place, state) {
+            return false;
+        }
+    }
+    true
+}
+
+// Whether one state is numbered by its place, and its edges, start and reductions are right.
+fn is_coherent_state<'grammar, L>(
+    states: &[State<'grammar, L>],
+    place: usize,
+    state: &State<'grammar, L>,
+) -> bool
+    ensures { IsTrue result ↔ IsCoherentState states.now place state.now }
+{
+    let items = state.items.vec.as_slice();
+    if state.index.0 != place {
+        return false;
+    }
+    if !starts_right(place, items) {
+        return false;
+    }
+    if !have_coherent_shifts(states, items, &state.shifts) {
+        return false;
+    }
+    if !have_coherent_gotos(states, items, &state.gotos) {
+        return false;
+    }
+    are_finished(items, &state.reductions)
+}
+
+// Whether all dots of the first state stand at the start.
+fn starts_right<'grammar, L>(place: usize, items: &[Item<'grammar, L>]) -> bool
+    ensures { IsTrue result ↔ (place ≡ 0 → StartsAtZero items.now) }
+{
+    place > 0 || starts_at_zero(items)
+}
+
+// Whether all dots stand at the start.
+fn starts_at_zero<'grammar, L>(items: &[Item<'grammar, L>]) -> bool
+    ensures { IsTrue result ↔ StartsAtZero items.now }
+{
+    for item in items {
+        if item.index > 0 {
+            return false;
+        }
+    }
+    true
+}
+
+// Whether each reduction is a finished item.
+fn are_finished<'grammar, L>(
+    items: &[Item<'grammar, L>],
+    reductions: &[(L, &'grammar Production)],
+) -> bool
+    ensures { IsTrue result ↔ AreFinished items.now reductions.now }
+{
+    for reduction in reductions {
+        let production = reduction.1;
+        if !has_item(items, production, production.symbols.len()) {
+            return false;
+        }
+    }
+    true
+}
+
+fn have_coherent_shifts<'grammar, L>(
+    states: &[State<'grammar, L>],
+    items: &[Item<'grammar, L>],
+    shifts: &BTreeMap<TerminalString, StateIndex>,
+) -> bool
+    ensures { IsTrue result ↔ EachEntry
+        (λ t target. IsCoherentStep states.now items.now (Symbol.Terminal t) target.0)
+        shifts.now.entries }
+{
+    for (terminal, target) in shifts.iter() {
+        if !is_coherent_step(states, items, SymbolRef::Terminal(terminal), *target) {
+            return false;
+        }
+    }
+    true
+}
+
+fn have_coherent_gotos<'grammar, L>(
+    states: &[State<'grammar, L>],
+    items: &[Item<'grammar, L>],
+    gotos: &BTreeMap<NonterminalString, StateIndex>,
+) -> bool
+    ensures { IsTrue result ↔ EachEntry
+        (λ name target. IsCoherentStep states.now items.now (Symbol.Nonterminal name) target.0)
+        gotos.now.entries }
+{
+    for (name, target) in gotos.iter() {
+        if !is_coherent_step(states, items, SymbolRef::Nonterminal(name), *target) {
+            return false;
+        }
+    }
+    true
+}
+
+/// A symbol that is borrowed, since a copy would take memory.
+#[derive(Clone, Copy, Debug, PartialEq, Eq)]
+pub enum SymbolRef<'a> {
+    Nonterminal(&'a NonterminalString),
+    Terminal(&'a TerminalString),
+}
+
+impl SymbolRef<'_> {
+    /// A copy of the symbol.
+    pub fn to_symbol(self, alloc: Global) -> Result<Symbol, OutOfMemory>
+        ensures { IfOk result (λ symbol. symbol ≡ symbol_of self.entry) }
+    {
+        match self {
+            SymbolRef::Nonterminal(name) => Ok(Symbol::Nonterminal(name.clone(alloc)?)),
+            SymbolRef::Terminal(terminal) => Ok(Symbol::Terminal(terminal.clone(alloc)?)),
+        }
+    }
+}
+
+impl fmt::Display for SymbolRef<'_> {
+    ghost output = { λ symbol. Some (symbol_text (symbol_of symbol)) };
+
+    ghost styled_output = { λ symbol _. Some (symbol_text (symbol_of symbol)) };
+
+    fn fmt<W: fmt::Write>(&self, f: &mut fmt::Formatter<W>) -> fmt::Result {
+        match self {
+            SymbolRef::Nonterminal(name) => fmt::Display::fmt(*name, f),
+            SymbolRef::Terminal(terminal) => fmt::Display::fmt(*terminal, f),
+        }
+    }
+}
+
+fn is_symbol(symbol: &Symbol, wanted: SymbolRef) -> bool
+    ensures { IsTrue result ↔ (symbol.now ≡ symbol_of wanted.entry) }
+{
+    match (symbol, wanted) {
+        (Symbol::Nonterminal(a), SymbolRef::Nonterminal(b)) => equal(a, b),
+        (Symbol::Terminal(a), SymbolRef::Terminal(b)) => equal(a, b),
+        (Symbol::Nonterminal(_), SymbolRef::Terminal(_)) => false,
+        (Symbol::Terminal(_), SymbolRef::Nonterminal(_)) => false,
+    }
+}
+
+// Whether an edge leads to a state whose items came over it.
+fn is_coherent_step<'grammar, L>(
+    states: &[State<'grammar, L>],
+    source: &[Item<'grammar, L>],
+    symbol: SymbolRef,
+    target: StateIndex,
+) -> bool
+    ensures { IsTrue result ↔ IsCoherentStep states.now source.now (symbol_of symbol.entry)
+        target.0 }
+{
+    if target.0 >= states.len() {
+        return false;
+    }
+    let to = &states[target.0];
+    is_coherent_edge(source, symbol, &to.items.vec)
+}
+
+// Whether the items have a production with the dot at a place.
+fn has_item<'grammar, L>(items: &[Item<'grammar, L>], production: &Production, index: usize) -> bool
+    ensures { IsTrue result ↔ HasItem items.now production.now index }
+{
+    for item in items {
+        if is_at(item, production, index) {
+            return true;
+        }
+    }
+    false
+}
+
+// Whether an item is a production with the dot at a place.
+fn is_at<'grammar, L>(item: &Item<'grammar, L>, production: &Production, index: usize) -> bool
+    ensures { IsTrue result ↔ IsAt item.now production.now index }
+{
+    item.index == index && equal(item.production, production)
+}
+
+// Whether each item whose dot moved has the symbol before its dot, and its origin in the source.
+fn is_coherent_edge<'grammar, L>(
+    source: &[Item<'grammar, L>],
+    symbol: SymbolRef,
+    target: &[Item<'grammar, L>],
+) -> bool
+    ensures { IsTrue result ↔ IsCoherentEdge source.now (symbol_of symbol.entry) target.now }
+{
+    for item in target {
+        if !is_shifted(source, symbol, item) {
+            return false;
+        }
+    }
+    true
+}
+
+fn is_shifted<'grammar, L>(
+    source: &[Item<'grammar, L>],
+    symbol: SymbolRef,
+    item: &Item<'grammar, L>,
+) -> bool
+    ensures { IsTrue result ↔
+        (0 < item.now.index → IsShifted source.now (symbol_of symbol.entry) item.now) }
+{
+    if item.index == 0 {
+        return true;
+    }
+    is_symbol(item.shifted_symbol(), symbol) && has_item(source, item.production, item.index - 1)
+}

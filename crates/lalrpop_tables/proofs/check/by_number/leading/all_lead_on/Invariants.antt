@@ -1,6 +1,0 @@
-use Rattle.lalrpop_base.specs.Words.{EachBelow}
-use Rattle.lalrpop_tables.specs.check.ByNumber.{LeadOn}
-use Rattle.lalrpop_tables.proofs.check.by_number.leading.all_lead_on.Given as goal
-
-abbrev pub invariant-loop-state : goal.invariant-loop-state
-invariant-loop-state l = EachBelow (LeadOn l.numbers l.states) l.states l.state-index

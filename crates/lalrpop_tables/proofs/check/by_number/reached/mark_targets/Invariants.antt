@@ -1,6 +1,0 @@
-use Rattle.std.proofs.Common.{take}
-use Rattle.lalrpop_tables.specs.check.ByNumber.{MarksTargets}
-use Rattle.lalrpop_tables.proofs.check.by_number.reached.mark_targets.Given as goal
-
-abbrev pub invariant-loop-edge : goal.invariant-loop-edge
-invariant-loop-edge l = MarksTargets (take l.edge-index l.edges) l.fn.marks.items l.marks.items

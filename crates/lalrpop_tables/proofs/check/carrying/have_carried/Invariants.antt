@@ -1,5 +1,0 @@
-use Rattle.lalrpop_base.specs.Words.{EachBelow, HoldsCarried}
-use Rattle.lalrpop_tables.proofs.check.carrying.have_carried.Given as goal
-
-abbrev pub invariant-loop-reduction : goal.invariant-loop-reduction
-invariant-loop-reduction l = EachBelow (HoldsCarried l.table.entries l.state) l.reductions l.reduction-index

@@ -1,7 +1,0 @@
-use Rattle.std.proofs.Common.{take}
-use Rattle.lalrpop_base.specs.lists.Entries.{GathersMore}
-use Rattle.lalrpop_base.specs.Words.{parts_in, readings}
-use Rattle.lalrpop_tables.proofs.construction.closure.gather_kernel.Given as goal
-
-abbrev pub invariant-loop-item : goal.invariant-loop-item
-invariant-loop-item g l = GathersMore (parts_in g.L.Lookahead.meaning (take l.item-index l.kernel)) (readings g.L.Lookahead.meaning l.fn.table) (readings g.L.Lookahead.meaning l.table)

@@ -1,9 +1,0 @@
-use Rattle.std.proofs.Common.{◌≡◌, ◌++◌, map}
-use Rattle.lalrpop_base.specs.Words.{numbered_of}
-use Rattle.lalrpop_tables.proofs.construction.closure.items_of.Given as goal
-
-abbrev pub invariant-loop-number : goal.invariant-loop-number
-invariant-loop-number g l = record {
-  made : l.items.items ≡ map numbered_of l.yielded;
-  left : l.yielded ++ l.number-iterator.rest.items ≡ l.fn.entries.items;
-}

@@ -1,5 +1,0 @@
-use Rattle.lalrpop_tables.proofs.theory.merges.Merges.{merging_coherent}
-use Rattle.lalrpop_tables.proofs.lane_table.construct.merge.Merge.start.Goals as goal
-
-pub returns-clause-coherent : goal.returns-clause-coherent
-returns-clause-coherent c = merging_coherent c.walk.new.self c.walk.ensures.advances.ready

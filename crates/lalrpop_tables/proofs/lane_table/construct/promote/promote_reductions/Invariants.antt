@@ -1,6 +1,0 @@
-use Rattle.std.proofs.Common.{◌≡◌, map, take}
-use Rattle.lalrpop_tables.specs.Words.{promoted_reduction}
-use Rattle.lalrpop_tables.proofs.lane_table.construct.promote.promote_reductions.Given as goal
-
-abbrev pub invariant-loop-reduction : goal.invariant-loop-reduction
-invariant-loop-reduction l = l.list.items ≡ map (promoted_reduction l.all) (take l.reduction-index l.reductions)

@@ -1,5 +1,0 @@
-use Rattle.lalrpop_base.proofs.theory.lanes.Contexts.{TookUntil}
-use Rattle.lalrpop_tables.proofs.lane_table.context_set.ContextSet.given_to.Given as goal
-
-abbrev pub invariant-loop-tokens : goal.invariant-loop-tokens
-invariant-loop-tokens l = TookUntil l.actions.keys l.self l.reductions l.given.items l._tokens-index

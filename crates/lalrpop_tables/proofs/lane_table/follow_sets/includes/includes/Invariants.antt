@@ -1,5 +1,0 @@
-use Rattle.lalrpop_tables.proofs.theory.follow_sets.FrontWalks.{WalksFrom}
-use Rattle.lalrpop_tables.proofs.lane_table.follow_sets.includes.includes.Given as goal
-
-abbrev pub invariant-loop-node : goal.invariant-loop-node
-invariant-loop-node l = WalksFrom l.fn.pass l.node l.edges.items l.lookback.items

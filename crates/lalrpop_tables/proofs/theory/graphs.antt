@@ -1,5 +1,0 @@
--- Graphs of states.
-pub mod GraphCopies
-pub mod MovedOrigins
-pub mod StateGraphs
-pub mod Stepping

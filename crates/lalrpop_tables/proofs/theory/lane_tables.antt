@@ -1,6 +1,0 @@
--- Lane tables, and the tokens of their columns.
-pub mod LaneClosed
-pub mod LaneColumns
-pub mod LaneRows
-pub mod LaneTableStates
-pub mod LaneTables

@@ -1,4 +1,0 @@
--- Graphs of states.
-pub mod GraphCopies
-pub mod Neighbours
-pub mod StateGraph

@@ -1,2 +1,0 @@
--- States by the numbers of their items and symbols.
-pub mod NumberedStates

@@ -1,0 +1,2 @@
+-- FIRST, and how it is found.
+pub mod FirstTokens

@@ -1,0 +1,337 @@
+-- The graph of a trace: what is kept of it, with a node or an edge more.
+use Rattle.std.proofs.Common.{◌≡◌, ℕ, zero, suc, ◌+◌, ◌-◌, ◌≤◌, inl, inr, Bool, true, false, cond, List, [], ◌∷◌, ◌++◌, map, length, refl, sym, ◌∙◌, ap, subst, arith, ⊎_elim, append-nil, IsTrue, ◌↔◌, Result, Ok, Err}
+use Rattle.std.specs.Prelude.{slice_get, OnOk, OnErr, ◌⊎◌, Option, Some, None, Contains, is_some, ◌&&◌, option_copied}
+use Rattle.std.specs.Borrow.{Bor}
+use Rattle.std.specs.Option.{option_eq}
+use Rattle.std.specs.Ordering.{is_eq}
+use Rattle.std.specs.BTreeMap.{BTreeMap, get, is_at}
+use Rattle.std.specs.Map.{lookup}
+use Rattle.std.specs.Cmp.{Equal-is}
+use Rattle.std.specs.declared.alloc.Global.{Global}
+use Rattle.std.specs.declared.vec.Vec.{Vec}
+use Rattle.std.specs.declared.cmp.Ordering.TheVariants.{Equal}
+use Rattle.std.proofs.lemmas.Bool.{cases_Bool}
+use Rattle.std.proofs.lemmas.List.{drop_all, map-append}
+use Rattle.std.proofs.lemmas.List.Elements.{Contains-append_left, Contains-push_cases}
+use mathlib.Core.Bool.{true≢false}
+use lib.Pointwise.{pointwise}
+use Rattle.lalrpop_base.specs.Words.{list_exact, both, IsNumbering, by_number, key_numbered, AddsOnce, collection_at, PushesAt, SameAt, AllDiffer}
+use Rattle.lalrpop_grammar.specs.contracts.repr.exact.SymbolExact.TheImpl as symbol_exactly
+use Rattle.lalrpop_grammar.specs.contracts.repr.SymbolEq.TheImpl.Laws as symbol_equality
+use Rattle.lalrpop_grammar.specs.contracts.repr.SymbolPartialEq.TheImpl as symbol_eq
+use Rattle.lalrpop_traces.proofs.Types.{Symbol}
+use Rattle.lalrpop_states.specs.declared.lr1_core.symbol_sets.SymbolSets.{SymbolSets}
+use Rattle.lalrpop_collections.proofs.theory.states.KernelLemmas.{IsNext, all_differ, list_grows, next_numbering, exact_by_cmp}
+use Rattle.lalrpop_collections.proofs.theory.collections.MultimapLemmas.{tied_at, everywhere}
+use Rattle.lalrpop_state_graph.specs.Words.{listed}
+use Rattle.lalrpop_numbers.proofs.theory.construction.Contained.{Decided, decided, added_or_not}
+use Rattle.lalrpop_collections.proofs.theory.lists.Members.{contains_map, place}
+use Rattle.lalrpop_collections.proofs.theory.lists.Places.{differ_push, push_cases, contains_at, same_some}
+use Rattle.lalrpop_traces.specs.Words.{Graph, PlainEdge, plain, plain_edge, IsGraph, IsKept, IsFrom, SameLabels, HaveEnds, KeepPlaces, AddsBoth, AddsNoOther, AddsEdge, places_from}
+use Rattle.lalrpop_traces.specs.contracts.trace.node.TraceGraphNodeOrd.TheImpl as node_ord
+use Rattle.lalrpop_traces.specs.contracts.trace.node.TraceGraphNodeEq.TheImpl as node_equality
+use Rattle.lalrpop_traces.specs.contracts.trace.node.TraceGraphNodePartialEq.TheImpl as node_eq
+use Rattle.lalrpop_traces.specs.contracts.trace.node.TraceGraphNodeExact.TheImpl as node_exactly
+use Rattle.lalrpop_traces.specs.declared.trace.node.TraceGraphNode.{TraceGraphNode}
+use Rattle.lalrpop_traces.specs.declared.trace.trace_graph.TraceGraphEdge.{TraceGraphEdge}
+
+-- ---- nodes
+-- nodes that tie in order are one
+pub tied_nodes : (x y : TraceGraphNode) → node_ord.ghosts.cmp x y ≡ Equal → x ≡ y
+tied_nodes = exact_by_cmp node_eq.ghosts.eq node_ord.ghosts.cmp node_exactly.Laws.exact-law node_ord.Laws.matches_eq-law
+
+-- what a map of numbers has is numbered
+numbered_some : {K : Type 0} (o : Option K) → IsTrue (is_some o) → (k : K) × (o ≡ Some k)
+numbered_some None h = absurd (true≢false (sym h))
+numbered_some (Some k) h = (k, refl)
+
+module _ {numbers : BTreeMap TraceGraphNode ℕ} {edges : List TraceGraphEdge} {incoming : List (TraceGraphNode × Vec ℕ Global)} (kept : IsKept numbers (by_number numbers.entries) edges incoming) where
+  pub kept_graph : IsGraph (record { nodes = by_number numbers.entries; edges = edges })
+  kept_graph = record { nodes = all_differ kept.numbered; edges = kept.differ; ends = kept.ends }
+
+  -- a node has a number where it is in the list
+  pub kept_node : (node : TraceGraphNode) → IsTrue (is_some (get node_ord.ghosts.cmp numbers node)) ↔ Contains (by_number numbers.entries) node
+  kept_node node = (
+    λ h. let n = numbered_some (get node_ord.ghosts.cmp numbers node) h in contains_at (by_number numbers.entries) node n.0 (kept.numbered.found node n.0 n.1),
+    λ c. let at = place (by_number numbers.entries) node c in ap is_some (kept.numbered.numbered node at.0 at.2),
+  )
+
+without_pending : {numbers : BTreeMap TraceGraphNode ℕ} {pending : List TraceGraphNode} → IsNumbering node_ord.ghosts.cmp numbers pending → IsNumbering node_ord.ghosts.cmp numbers []
+without_pending {numbers} numbering = let whole = numbering.whole in record {
+  found = numbering.found;
+  numbered = numbering.numbered;
+  outside = numbering.outside;
+  whole = whole;
+  fewer = omega arith;
+  waits = sym (drop_all (length numbers.entries - length {A = TraceGraphNode} []) (by_number numbers.entries) (omega (arith, whole)));
+}
+
+ends_more : (nodes more : List TraceGraphNode) (edges : List TraceGraphEdge) (node : TraceGraphNode) → more ≡ nodes ++ node ∷ [] → HaveEnds nodes edges → HaveEnds more edges
+ends_more nodes more edges node is ends k e at =
+    let P : TraceGraphNode → List TraceGraphNode → Type 0 = λ n xs. Contains xs n in
+    let both_ends = ends k e at in
+    (subst (P e.from) (sym is) (Contains-append_left nodes (node ∷ []) e.from both_ends.0), subst (P e.to) (sym is) (Contains-append_left nodes (node ∷ []) e.to both_ends.1))
+
+-- a graph with a node more
+pub kept_more : {old new : BTreeMap TraceGraphNode ℕ} {edges : List TraceGraphEdge} {incoming : List (TraceGraphNode × Vec ℕ Global)} {k : TraceGraphNode} {v : ℕ} →
+    IsKept old (by_number old.entries) edges incoming → IsNext node_ord.ghosts.cmp old new k v → IsKept new (by_number new.entries) edges incoming
+kept_more {old} {new} {edges} {incoming} {k} {v} kept step = record {
+  numbered = without_pending (next_numbering tied_nodes kept.numbered step);
+  places = kept.places;
+  differ = kept.differ;
+  ends = ends_more (by_number old.entries) (by_number new.entries) edges k (list_grows kept.numbered step) kept.ends;
+}
+
+-- ---- edges
+pub ends_push : (nodes : List TraceGraphNode) (edges : List TraceGraphEdge) (e : TraceGraphEdge) → HaveEnds nodes edges → Contains nodes e.from → Contains nodes e.to → HaveEnds nodes (edges ++ e ∷ [])
+ends_push nodes edges e ends from to k f at =
+    elim (push_cases edges e k f at) [
+      | inl before ↦ ends k f before
+      | inr here ↦ (subst (Contains nodes) (ap (λ (g : TraceGraphEdge). g.from) here.1) from, subst (Contains nodes) (ap (λ (g : TraceGraphEdge). g.to) here.1) to)
+    ]
+
+pub plain_push : (edges : List TraceGraphEdge) (e : TraceGraphEdge) → map plain (edges ++ e ∷ []) ≡ map plain edges ++ plain e ∷ []
+plain_push edges e = map-append plain edges (e ∷ [])
+
+-- the places with an edge more
+places_push : (n : ℕ) (node : TraceGraphNode) (edges : List TraceGraphEdge) (e : TraceGraphEdge) →
+    places_from n node (edges ++ e ∷ []) ≡ places_from n node edges ++ cond (node_eq.ghosts.eq e.to node) ((n + length edges) ∷ []) []
+places_push n node [] e = ap (λ (k : ℕ). cond (node_eq.ghosts.eq e.to node) (k ∷ []) []) (omega arith)
+places_push n node (x ∷ edges) e =
+    let rest : List ℕ = cond (node_eq.ghosts.eq e.to node) ((n + length (x ∷ edges)) ∷ []) [] in
+    let later : places_from (suc n) node (edges ++ e ∷ []) ≡ places_from (suc n) node edges ++ rest =
+    places_push (suc n) node edges e ∙ ap (λ (k : ℕ). places_from (suc n) node edges ++ cond (node_eq.ghosts.eq e.to node) (k ∷ []) []) (omega arith) in
+    elim (node_eq.ghosts.eq x.to node) as (λ b. cond b (n ∷ places_from (suc n) node (edges ++ e ∷ [])) (places_from (suc n) node (edges ++ e ∷ [])) ≡ cond b (n ∷ places_from (suc n) node edges) (places_from (suc n) node edges) ++ rest) [
+      | true ↦ ap (λ ks. n ∷ ks) later
+      | false ↦ later
+    ]
+
+pushed_listed : (old new : Option (Vec ℕ Global)) (x : ℕ) → PushesAt (λ (v : Vec ℕ Global). v.items ≡ []) (λ (v : Vec ℕ Global) (i : ℕ) (w : Vec ℕ Global). w.items ≡ v.items ++ i ∷ []) old x new → listed new ≡ listed old ++ x ∷ []
+pushed_listed None None x p = absurd p
+pushed_listed (Some o) None x p = absurd p
+pushed_listed (Some o) (Some n) x p = p
+pushed_listed None (Some n) x p = p.2 ∙ ap (λ xs. xs ++ x ∷ []) p.1
+
+-- the places of the edges to each node, once the place of one more was pushed
+pub places_kept : (old new : List (TraceGraphNode × Vec ℕ Global)) (key : TraceGraphNode) (n : ℕ) (edges : List TraceGraphEdge) (e : TraceGraphEdge) → key ≡ e.to → n ≡ length edges →
+    PushesAt (λ (v : Vec ℕ Global). v.items ≡ []) (λ (v : Vec ℕ Global) (i : ℕ) (w : Vec ℕ Global). w.items ≡ v.items ++ i ∷ []) (collection_at node_ord.ghosts.cmp old key) n (collection_at node_ord.ghosts.cmp new key) →
+    ((q : TraceGraphNode) → is_eq (node_ord.ghosts.cmp key q) ≡ false → collection_at node_ord.ghosts.cmp new q ≡ collection_at node_ord.ghosts.cmp old q) →
+    ((q : TraceGraphNode) → listed (collection_at node_ord.ghosts.cmp old q) ≡ places_from 0 q edges) →
+    (q : TraceGraphNode) → listed (collection_at node_ord.ghosts.cmp new q) ≡ places_from 0 q (edges ++ e ∷ [])
+places_kept old new key n edges e is_key is_n pushed others kept q =
+    let total = node_ord.Laws.total-law in
+    let tied_is : node_eq.ghosts.eq e.to q ≡ is_eq (node_ord.ghosts.cmp key q) = node_ord.Laws.matches_eq-law e.to q ∙ ap (λ k. is_eq (node_ord.ghosts.cmp k q)) (sym is_key) in
+    let more : places_from 0 q (edges ++ e ∷ []) ≡ places_from 0 q edges ++ cond (is_eq (node_ord.ghosts.cmp key q)) (n ∷ []) [] =
+    places_push 0 q edges e ∙ ap (λ b. places_from 0 q edges ++ cond b ((0 + length edges) ∷ []) []) tied_is
+    ∙ ap (λ (k : ℕ). places_from 0 q edges ++ cond (is_eq (node_ord.ghosts.cmp key q)) (k ∷ []) []) (omega (arith, is_n)) in
+    ⊎_elim
+    (λ tied. let tie : node_ord.ghosts.cmp key q ≡ Equal = (Equal-is (node_ord.ghosts.cmp key q)).0 tied in
+    ap listed (tied_at total key q tie new) ∙ pushed_listed (collection_at node_ord.ghosts.cmp old key) (collection_at node_ord.ghosts.cmp new key) n pushed
+    ∙ ap (λ (o : Option (Vec ℕ Global)). listed o ++ n ∷ []) (sym (tied_at total key q tie old))
+    ∙ ap (λ ks. ks ++ n ∷ []) (kept q)
+    ∙ ap (λ b. places_from 0 q edges ++ cond b (n ∷ []) []) (sym tied) ∙ sym more)
+    (λ apart. ap listed (others q apart) ∙ kept q ∙ sym (append-nil (places_from 0 q edges))
+    ∙ ap (λ b. places_from 0 q edges ++ cond b (n ∷ []) []) (sym apart) ∙ sym more)
+    (cases_Bool (is_eq (node_ord.ghosts.cmp key q)))
+
+-- ---- places
+-- a place is that of an edge to the node
+pub place_sound : (n : ℕ) (node : TraceGraphNode) (edges : List TraceGraphEdge) (j p : ℕ) → slice_get (places_from n node edges) j ≡ Some p → (k : ℕ) × (e : TraceGraphEdge) × (p ≡ n + k) × (slice_get edges k ≡ Some e) × (e.to ≡ node)
+place_sound n node [] j p at = cc
+place_sound n node (x ∷ edges) j p at = sound_by n node x edges j p (λ i h. place_sound (suc n) node edges i p h) (node_eq.ghosts.eq x.to node) refl at where
+  later : (n : ℕ) (node : TraceGraphNode) (x : TraceGraphEdge) (edges : List TraceGraphEdge) (p : ℕ) → (k : ℕ) × (e : TraceGraphEdge) × (p ≡ suc n + k) × (slice_get edges k ≡ Some e) × (e.to ≡ node) →
+      (k : ℕ) × (e : TraceGraphEdge) × (p ≡ n + k) × (slice_get (x ∷ edges) k ≡ Some e) × (e.to ≡ node)
+  later n node x edges p h = let same = h.2 in (suc h.0, h.1, omega arith, h.3, h.4)
+
+  sound_by : (n : ℕ) (node : TraceGraphNode) (x : TraceGraphEdge) (edges : List TraceGraphEdge) (j p : ℕ) →
+      ((i : ℕ) → slice_get (places_from (suc n) node edges) i ≡ Some p → (k : ℕ) × (e : TraceGraphEdge) × (p ≡ suc n + k) × (slice_get edges k ≡ Some e) × (e.to ≡ node)) →
+      (b : Bool) → node_eq.ghosts.eq x.to node ≡ b → slice_get (cond b (n ∷ places_from (suc n) node edges) (places_from (suc n) node edges)) j ≡ Some p →
+      (k : ℕ) × (e : TraceGraphEdge) × (p ≡ n + k) × (slice_get (x ∷ edges) k ≡ Some e) × (e.to ≡ node)
+  sound_by n node x edges j p ih false e at = later n node x edges p (ih j at)
+  sound_by n node x edges zero p ih true e at = (0, x, sym (same_some n p at) ∙ omega arith, refl, node_exactly.Laws.exact-law x.to node e)
+  sound_by n node x edges (suc j) p ih true e at = later n node x edges p (ih j at)
+
+-- each edge to the node has its place there
+pub place_complete : (n : ℕ) (node : TraceGraphNode) (edges : List TraceGraphEdge) (k : ℕ) (e : TraceGraphEdge) → slice_get edges k ≡ Some e → e.to ≡ node → (j : ℕ) × (slice_get (places_from n node edges) j ≡ Some (n + k))
+place_complete n node [] k e at to = cc
+place_complete n node (x ∷ edges) zero e at to =
+    let same : x ≡ e = same_some x e at in
+    let here : node_eq.ghosts.eq x.to node ≡ true = ap (λ (y : TraceGraphNode). node_eq.ghosts.eq x.to y) (sym (ap (λ (g : TraceGraphEdge). g.to) same ∙ to)) ∙ node_equality.Laws.laws-law.refl x.to in
+    (0, ap (λ b. slice_get (cond b (n ∷ places_from (suc n) node edges) (places_from (suc n) node edges)) 0) here ∙ ap (λ (m : ℕ). Some m) (omega arith))
+place_complete n node (x ∷ edges) (suc k) e at to =
+    let rest = place_complete (suc n) node edges k e at to in
+    let up : suc n + k ≡ n + suc k = omega arith in
+    let there : slice_get (places_from (suc n) node edges) rest.0 ≡ Some (n + suc k) = rest.1 ∙ ap (λ (m : ℕ). Some m) up in
+    elim (node_eq.ghosts.eq x.to node) as (λ b. (j : ℕ) × (slice_get (cond b (n ∷ places_from (suc n) node edges) (places_from (suc n) node edges)) j ≡ Some (n + suc k))) [
+      | true ↦ (suc rest.0, there)
+      | false ↦ (rest.0, there)
+    ]
+
+-- ---- labels
+pointwise_itself : (xs : List Symbol) → pointwise symbol_eq.ghosts.eq xs xs ≡ true
+pointwise_itself [] = refl
+pointwise_itself (x ∷ xs) = ap (λ b. b && pointwise symbol_eq.ghosts.eq xs xs) (symbol_equality.laws-law.refl x) ∙ pointwise_itself xs
+
+same_cursor : (a b : Option (Bor Symbol)) → option_eq (λ (x y : Bor Symbol). symbol_eq.ghosts.eq x.now y.now) a b ≡ true → option_copied a ≡ option_copied b
+same_cursor None None h = refl
+same_cursor None (Some y) h = absurd (true≢false (sym h))
+same_cursor (Some x) None h = absurd (true≢false (sym h))
+same_cursor (Some x) (Some y) h = ap (λ s. Some s) (symbol_exactly.Laws.exact-law x.now y.now h)
+
+cursor_same : (a b : Option (Bor Symbol)) → option_copied a ≡ option_copied b → option_eq (λ (x y : Bor Symbol). symbol_eq.ghosts.eq x.now y.now) a b ≡ true
+cursor_same None None h = refl
+cursor_same None (Some y) h = cc
+cursor_same (Some x) None h = cc
+cursor_same (Some x) (Some y) h = ap (λ s. symbol_eq.ghosts.eq x.now s) (sym (same_some x.now y.now h)) ∙ symbol_equality.laws-law.refl x.now
+
+abbrev labels_eq : SymbolSets → SymbolSets → Bool
+labels_eq a b = pointwise symbol_eq.ghosts.eq a.prefix.now b.prefix.now && (option_eq (λ (x y : Bor Symbol). symbol_eq.ghosts.eq x.now y.now) a.cursor b.cursor && pointwise symbol_eq.ghosts.eq a.suffix.now b.suffix.now)
+
+-- labels are equal where they are of the same symbols
+pub labels_same : (a b : SymbolSets) (r : Bool) → r ≡ labels_eq a b → IsTrue r ↔ SameLabels a b
+labels_same a b r is = (
+  λ h.
+      let middle : Bool = option_eq (λ (x y : Bor Symbol). symbol_eq.ghosts.eq x.now y.now) a.cursor b.cursor in
+      let last : Bool = pointwise symbol_eq.ghosts.eq a.suffix.now b.suffix.now in
+      let first = both (pointwise symbol_eq.ghosts.eq a.prefix.now b.prefix.now) (middle && last) (sym is ∙ h) in
+      let second = both middle last first.1 in
+      record { prefix = list_exact symbol_exactly.Laws.exact-law a.prefix.now b.prefix.now first.0; cursor = same_cursor a.cursor b.cursor second.0; suffix = list_exact symbol_exactly.Laws.exact-law a.suffix.now b.suffix.now second.1 },
+  λ same.
+      let first : pointwise symbol_eq.ghosts.eq a.prefix.now b.prefix.now ≡ true = ap (λ (xs : List Symbol). pointwise symbol_eq.ghosts.eq a.prefix.now xs) (sym same.prefix) ∙ pointwise_itself a.prefix.now in
+      let last : pointwise symbol_eq.ghosts.eq a.suffix.now b.suffix.now ≡ true = ap (λ (xs : List Symbol). pointwise symbol_eq.ghosts.eq a.suffix.now xs) (sym same.suffix) ∙ pointwise_itself a.suffix.now in
+      is ∙ rw (first, cursor_same a.cursor b.cursor same.cursor, last) refl,
+)
+
+pub plain_same : (from to : TraceGraphNode) (a b : SymbolSets) → SameLabels a b → plain_edge from to a ≡ plain_edge from to b
+plain_same from to a b same =
+    ap (λ (xs : List Symbol). let e : PlainEdge = record { from = from; to = to; prefix = xs; cursor = option_copied a.cursor; suffix = a.suffix.now } in e) same.prefix
+    ∙ ap (λ (o : Option Symbol). let e : PlainEdge = record { from = from; to = to; prefix = b.prefix.now; cursor = o; suffix = a.suffix.now } in e) same.cursor
+    ∙ ap (λ (xs : List Symbol). let e : PlainEdge = record { from = from; to = to; prefix = b.prefix.now; cursor = option_copied b.cursor; suffix = xs } in e) same.suffix
+
+-- an edge to the node that comes from another with the labels says what the edge of these says
+pub from_plain : (from to : TraceGraphNode) (labels : SymbolSets) (e : TraceGraphEdge) → e.to ≡ to → IsFrom from labels e → plain e ≡ plain_edge from to labels
+from_plain from to labels e is_to is = ap (λ (f : TraceGraphNode). plain_edge f e.to e.symbol_sets) is.0 ∙ ap (λ (t : TraceGraphNode). plain_edge from t e.symbol_sets) is_to ∙ plain_same from to e.symbol_sets labels is.1
+
+pub plain_from : (from to : TraceGraphNode) (labels : SymbolSets) (e : TraceGraphEdge) → plain e ≡ plain_edge from to labels → IsFrom from labels e
+plain_from from to labels e is = (ap (λ (p : PlainEdge). p.from) is, record { prefix = ap (λ (p : PlainEdge). p.prefix) is; cursor = ap (λ (p : PlainEdge). p.cursor) is; suffix = ap (λ (p : PlainEdge). p.suffix) is })
+
+-- what an edge of the list says is at its place
+pub plain_place : (edges : List TraceGraphEdge) (p : PlainEdge) → Contains (map plain edges) p → (k : ℕ) × (e : TraceGraphEdge) × (slice_get edges k ≡ Some e) × (plain e ≡ p)
+plain_place edges p c = let at = place (map plain edges) p c in plain_at edges at.0 p at.2 where
+  plain_at : (es : List TraceGraphEdge) (k : ℕ) (p : PlainEdge) → slice_get (map plain es) k ≡ Some p → (k : ℕ) × (e : TraceGraphEdge) × (slice_get es k ≡ Some e) × (plain e ≡ p)
+  plain_at [] k p at = cc
+  plain_at (e ∷ es) zero p at = (0, e, refl, same_some (plain e) p at)
+  plain_at (e ∷ es) (suc k) p at = let h = plain_at es k p at in (suc h.0, h.1, h.2, h.3)
+
+pub plain_there : (edges : List TraceGraphEdge) (k : ℕ) (e : TraceGraphEdge) → slice_get edges k ≡ Some e → Contains (map plain edges) (plain e)
+plain_there edges k e at = contains_map plain edges e (contains_at edges e k at)
+
+-- ---- what is kept, with the same entries
+pub kept_same : {old new : BTreeMap TraceGraphNode ℕ} {edges : List TraceGraphEdge} {incoming : List (TraceGraphNode × Vec ℕ Global)} → new.entries ≡ old.entries → IsKept old (by_number old.entries) edges incoming → IsKept new (by_number new.entries) edges incoming
+kept_same {old} {new} {edges} {incoming} same kept =
+    let lookup_same : (k : TraceGraphNode) → get node_ord.ghosts.cmp new k ≡ get node_ord.ghosts.cmp old k = λ k. ap (λ es. lookup (is_at (node_ord.ghosts.cmp k)) es) same in
+    let P : List (TraceGraphNode × ℕ) → Type 0 = λ es. (n : ℕ) → length es ≤ n → key_numbered n es ≡ None in
+    let Q : List (TraceGraphNode × ℕ) → Type 0 = λ es. length (by_number es) ≡ length es in
+    let R : List (TraceGraphNode × ℕ) → Type 0 = λ es. HaveEnds (by_number es) edges in
+    record {
+      numbered = without_pending {pending = []} (record {
+        found = λ k n h. ap (λ es. slice_get (by_number es) n) same ∙ kept.numbered.found k n (sym (lookup_same k) ∙ h);
+        numbered = λ k n h. lookup_same k ∙ kept.numbered.numbered k n (sym (ap (λ es. slice_get (by_number es) n) same) ∙ h);
+        outside = subst P (sym same) kept.numbered.outside;
+        whole = subst Q (sym same) kept.numbered.whole;
+        fewer = omega arith;
+        waits = let whole : length (by_number new.entries) ≡ length new.entries = subst Q (sym same) kept.numbered.whole in
+            sym (drop_all (length new.entries - length {A = TraceGraphNode} []) (by_number new.entries) (omega (arith, whole)));
+      });
+      places = kept.places;
+      differ = kept.differ;
+      ends = subst R (sym same) kept.ends;
+    }
+
+same_listed : (old new : Option (Vec ℕ Global)) → SameAt (λ (v w : Vec ℕ Global). w.items ≡ v.items) old new → listed new ≡ listed old
+same_listed None None h = refl
+same_listed None (Some w) h = absurd h
+same_listed (Some v) None h = absurd h
+same_listed (Some v) (Some w) h = h
+
+-- the same edges to each node
+pub kept_refused : {numbers : BTreeMap TraceGraphNode ℕ} {nodes : List TraceGraphNode} {edges now : List TraceGraphEdge} {old new : List (TraceGraphNode × Vec ℕ Global)} (key : TraceGraphNode) → now ≡ edges →
+    ((q : TraceGraphNode) → is_eq (node_ord.ghosts.cmp key q) ≡ false → collection_at node_ord.ghosts.cmp new q ≡ collection_at node_ord.ghosts.cmp old q) →
+    SameAt (λ (v w : Vec ℕ Global). w.items ≡ v.items) (collection_at node_ord.ghosts.cmp old key) (collection_at node_ord.ghosts.cmp new key) → IsKept numbers nodes edges old → IsKept numbers nodes now new
+kept_refused {numbers} {nodes} {edges} {now} {old} {new} key same_edges others same kept =
+    let everywhere_same = everywhere node_ord.Laws.total-law (λ (v w : Vec ℕ Global). w.items ≡ v.items) (λ v. refl) old new key others same in
+    let P : List TraceGraphEdge → Type 0 = λ es. IsKept numbers nodes es new in
+    subst P (sym same_edges) (record {
+      numbered = kept.numbered;
+      places = λ q. same_listed (collection_at node_ord.ghosts.cmp old q) (collection_at node_ord.ghosts.cmp new q) (everywhere_same q) ∙ kept.places q;
+      differ = kept.differ;
+      ends = kept.ends;
+    })
+
+-- a graph with an edge more
+pub kept_pushed : {numbers : BTreeMap TraceGraphNode ℕ} {nodes : List TraceGraphNode} {edges now : List TraceGraphEdge} {old new : List (TraceGraphNode × Vec ℕ Global)} (key : TraceGraphNode) (n : ℕ) (e : TraceGraphEdge) → key ≡ e.to → n ≡ length edges → now ≡ edges ++ e ∷ [] →
+    PushesAt (λ (v : Vec ℕ Global). v.items ≡ []) (λ (v : Vec ℕ Global) (i : ℕ) (w : Vec ℕ Global). w.items ≡ v.items ++ i ∷ []) (collection_at node_ord.ghosts.cmp old key) n (collection_at node_ord.ghosts.cmp new key) →
+    ((q : TraceGraphNode) → is_eq (node_ord.ghosts.cmp key q) ≡ false → collection_at node_ord.ghosts.cmp new q ≡ collection_at node_ord.ghosts.cmp old q) →
+    Contains nodes e.from → Contains nodes e.to → ¬ Contains (map plain edges) (plain e) → IsKept numbers nodes edges old → IsKept numbers nodes now new
+kept_pushed {numbers} {nodes} {edges} {now} {old} {new} key n e is_key is_n is_now pushed others from to fresh kept =
+    let P : List TraceGraphEdge → Type 0 = λ es. IsKept numbers nodes es new in
+    let D : List PlainEdge → Type 0 = AllDiffer in
+    subst P (sym is_now) (record {
+      numbered = kept.numbered;
+      places = places_kept old new key n edges e is_key is_n pushed others kept.places;
+      differ = subst D (sym (plain_push edges e)) (differ_push (map plain edges) (plain e) kept.differ fresh);
+      ends = ends_push nodes edges e kept.ends from to;
+    })
+
+-- what follows from the answer of a call that succeeded
+pub on_ok : {A E : Type 0} (r : Result A E) {P Q : Type 0} → OnOk r P → (P → Q) → OnOk r Q
+on_ok (Ok a) h f = f h
+on_ok (Err e) h f = tt
+
+-- nodes that were added in turn
+pub adds_both : (old middle newer new : List TraceGraphNode) (from to a b : TraceGraphNode) → a ≡ from → b ≡ to → new ≡ newer → AddsOnce old middle a → AddsOnce middle newer b → AddsBoth old new from to
+adds_both old middle newer new from to a b is_from is_to same first second =
+    (middle, subst (AddsOnce old middle) is_from first, let P : List TraceGraphNode → Type 0 = λ xs. AddsOnce middle xs to in subst P (sym same) (subst (AddsOnce middle newer) is_to second))
+
+-- ---- which nodes were added
+pub decided_node : Decided TraceGraphNode
+decided_node = decided node_eq.ghosts.eq node_exactly.Laws.exact-law (λ x. node_equality.Laws.laws-law.refl x)
+
+-- a node more is no other than the one that was added
+node_more : (old new : List TraceGraphNode) (a node : TraceGraphNode) → a ≡ node → AddsOnce old new a → (n : TraceGraphNode) → Contains new n → Contains old n ⊎ (n ≡ node)
+node_more old new a node is added n c = elim (added_or_not decided_node old new a added) [
+  | inl same ↦ inl (let P : List TraceGraphNode → Type 0 = λ xs. Contains xs n in subst P same c)
+  | inr grown ↦ elim (Contains-push_cases old a n (let P : List TraceGraphNode → Type 0 = λ xs. Contains xs n in subst P grown c)) [ inl before ↦ inl before | inr here ↦ inr (sym here ∙ is) ]
+]
+
+pub no_other_first : (old new : List TraceGraphNode) (from to a : TraceGraphNode) → a ≡ from → AddsOnce old new a → AddsNoOther old new from to
+no_other_first old new from to a is added n c = elim (node_more old new a from is added n c) [ inl before ↦ inl before | inr first ↦ inr (inl first) ]
+
+pub no_other_second : (old middle new : List TraceGraphNode) (from to a b : TraceGraphNode) → a ≡ from → AddsOnce old middle a → b ≡ to → AddsOnce middle new b → AddsNoOther old new from to
+no_other_second old middle new from to a b is_from first is_to second n c = elim (node_more middle new b to is_to second n c) [ inl before ↦ no_other_first old middle from to a is_from first n before | inr added ↦ inr (inr added) ]
+
+pub no_other_same : (old middle new : List TraceGraphNode) (from to : TraceGraphNode) → AddsNoOther old middle from to → new ≡ middle → AddsNoOther old new from to
+no_other_same old middle new from to none same n c = none n (let P : List TraceGraphNode → Type 0 = λ xs. Contains xs n in subst P same c)
+
+-- an edge more, or a refused one, leaves the nodes
+pub nodes_stay : {A E : Type 0} (r : Result A E) (old new : Graph) (edges : List TraceGraphEdge) → OnOk r (new ≡ record { nodes = old.nodes; edges = edges }) → OnErr r (new ≡ old) → new.nodes ≡ old.nodes
+nodes_stay (Ok a) old new edges pushed err = ap (λ (g : Graph). g.nodes) pushed
+nodes_stay (Err e) old new edges pushed err = ap (λ (g : Graph). g.nodes) err
+
+-- an edge was put behind those among which none said the same
+pub adds_edge : (old middle new : List TraceGraphEdge) (e : TraceGraphEdge) → middle ≡ old → new ≡ middle ++ e ∷ [] → ¬ Contains (map plain middle) (plain e) → AddsEdge old new e
+adds_edge old middle new e same grown out = inr (λ c. out (let P : List TraceGraphEdge → Type 0 = λ es. Contains (map plain es) (plain e) in subst P (sym same) c), grown ∙ ap (λ es. es ++ e ∷ []) same)
+
+pub has_edge_already : (old new : List TraceGraphEdge) (e : TraceGraphEdge) → new ≡ old → Contains (map plain new) (plain e) → AddsEdge old new e
+has_edge_already old new e same c = inl (let P : List TraceGraphEdge → Type 0 = λ es. Contains (map plain es) (plain e) in subst P same c, same)
+
+-- a node that got its number is among the nodes
+pub numbered_there : (nodes more : List TraceGraphNode) (n : ℕ) (a node : TraceGraphNode) → a ≡ node → slice_get nodes n ≡ Some a → KeepPlaces nodes more → Contains more node
+numbered_there nodes more n a node is at stay = contains_at more node n (stay n node (at ∙ ap (λ x. Some x) is))
+
+-- the edges of a graph that did not change
+pub graph_same : (old new : Graph) (edges : List TraceGraphEdge) → new.nodes ≡ old.nodes → new.edges ≡ edges → edges ≡ old.edges → IsGraph old → IsGraph new
+graph_same old new edges nodes same_edges same is =
+    let P : List TraceGraphEdge → Type 0 = λ es. IsGraph (record { nodes = new.nodes; edges = es }) in
+    let Q : List TraceGraphNode → Type 0 = λ ns. IsGraph (record { nodes = ns; edges = old.edges }) in
+    subst P (sym (same_edges ∙ same)) (subst Q (sym nodes) is)

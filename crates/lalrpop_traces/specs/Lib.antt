@@ -1,0 +1,2 @@
+pub mod traces
+pub mod Words

@@ -1,0 +1,79 @@
+-- The example paths of a trace graph, and what a walk over them has left. A path lists the numbers of its edges, innermost first.
+use Rattle.std.specs.Prelude.{◌≡◌, ℕ, zero, suc, ◌-◌, Bool, true, false, ◌||◌, cond, List, [], ◌∷◌, ◌++◌, length, take, reverse, Option, Some, None}
+use Rattle.std.specs.List.{flat_map}
+use Rattle.lalrpop_base.specs.Words.{Dotted, AllDiffer}
+use Rattle.lalrpop_traces.specs.contracts.trace.node.TraceGraphNodePartialEq.TheImpl as node_eq
+use Rattle.lalrpop_traces.specs.traces.Examples.{edge_of, path_of}
+use Rattle.lalrpop_traces.specs.traces.TraceGraphs.{node_count, numbers_to, numbers_from}
+use Rattle.lalrpop_traces.specs.declared.trace.node.TraceGraphNode.{TraceGraphNode}
+use Rattle.lalrpop_traces.specs.declared.trace.node.TraceGraphNode.TheVariants.{Nonterminal, Item}
+use Rattle.lalrpop_traces.specs.declared.trace.trace_graph.TraceGraph.{TraceGraph}
+use Rattle.lalrpop_traces.specs.declared.trace.trace_graph.TraceGraphEdge.{TraceGraphEdge}
+use Rattle.lalrpop_traces.specs.declared.trace.enumerator.EnumeratorState.{EnumeratorState}
+
+abbrev pub source_of : Option TraceGraphEdge → Option TraceGraphNode
+source_of None = None
+source_of (Some e) = Some e.from
+
+abbrev pub target_of : Option TraceGraphEdge → Option TraceGraphNode
+target_of None = None
+target_of (Some e) = Some e.to
+
+abbrev pub is_item : Option TraceGraphNode → Bool
+is_item None = false
+is_item (Some (Nonterminal name)) = false
+is_item (Some (Item item)) = true
+
+abbrev pub are_one : Option TraceGraphNode → Option TraceGraphNode → Bool
+are_one None b = false
+are_one (Some a) None = false
+are_one (Some a) (Some b) = node_eq.ghosts.eq a b
+
+-- the node of an item, whatever its lookahead
+abbrev pub item_node : {L : Type 0} → Dotted L → TraceGraphNode
+item_node i = Item (record { production = i.production; index = i.index; lookahead = record {} })
+
+module _ (graph : TraceGraph) where
+  -- the node from which an edge comes, if there is one
+  abbrev pub source : ℕ → Option TraceGraphNode
+  source k = source_of (edge_of graph k)
+
+  -- the node to which it leads
+  abbrev pub target : ℕ → Option TraceGraphNode
+  target k = target_of (edge_of graph k)
+
+  -- backwards from a node over edges to the first item: each edge leads to the node from which the one before it comes, and the last one alone comes from an item
+  abbrev pub GoesBack : Option TraceGraphNode → List ℕ → Type 0
+  GoesBack here [] = ⊥
+  GoesBack here (k ∷ []) = (target k ≡ here) × (is_item (source k) ≡ true)
+  GoesBack here (k ∷ (j ∷ path)) = (target k ≡ here) × (is_item (source k) ≡ false) × GoesBack (source k) (j ∷ path)
+
+  -- the nonterminal nodes on the way
+  abbrev pub passed : List ℕ → List (Option TraceGraphNode)
+  passed [] = []
+  passed (k ∷ []) = []
+  passed (k ∷ (j ∷ path)) = source k ∷ passed (j ∷ path)
+
+  -- an example path goes from a node backwards over edges to the first item, past no nonterminal twice
+  pub record IsPath (start : TraceGraphNode) (path : List ℕ) : Type 0 where
+    pub goes : GoesBack (Some start) path
+    pub once : AllDiffer (passed path)
+
+  -- an edge comes from the node from which one of those comes
+  abbrev pub comes_again : ℕ → List ℕ → Bool
+  comes_again k [] = false
+  comes_again k (j ∷ taken) = are_one (source j) (source k) || comes_again k taken
+
+  -- the paths that go on over an edge, past so many nonterminals at most, after those edges, the newest first
+  abbrev pub over : ℕ → List ℕ → ℕ → List (List ℕ)
+  over zero taken k = cond (is_item (source k)) (reverse (k ∷ taken) ∷ []) []
+  over (suc n) taken k = cond (is_item (source k)) (reverse (k ∷ taken) ∷ []) (cond (comes_again k taken) [] (flat_map (over n (k ∷ taken)) (reverse (numbers_from graph k))))
+
+  -- the paths back from a node, depth first, the newest edges first. Past more nonterminals than there are nodes none goes
+  abbrev pub paths : TraceGraphNode → List (List ℕ)
+  paths start = flat_map (over (node_count graph) []) (reverse (numbers_to graph start))
+
+  -- the paths that a walk has left after the edges that it took, the newest first, with so many edges left at the newest node
+  abbrev pub left_over : TraceGraphNode → List EnumeratorState → ℕ → List (List ℕ)
+  left_over start [] left = flat_map (over (node_count graph) []) (reverse (take left (numbers_to graph start)))
+  left_over start (s ∷ below) left = flat_map (over (node_count graph - length (s ∷ below)) (path_of (s ∷ below))) (reverse (take left (numbers_from graph s.number))) ++ left_over start below s.left

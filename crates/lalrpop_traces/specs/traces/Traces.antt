@@ -1,0 +1,100 @@
+-- Backtraces: the nonterminals that are met on the way back from an item, and the edges that the items on the way give.
+use Rattle.std.specs.Prelude.{◌≡◌, ◌↔◌, ℕ, ◌+◌, List, take, drop, slice_get, Some, Contains}
+use Rattle.lalrpop_base.specs.Words.{Bits, IsNullable, Dotted, Rules, HasKnownTerminals}
+use Rattle.lalrpop_states.specs.declared.lookahead.nil.Nil.{Nil}
+use Rattle.lalrpop_grammar.specs.declared.repr.NonterminalString.{NonterminalString}
+use Rattle.lalrpop_grammar.specs.declared.repr.Production.{Production}
+use Rattle.lalrpop_grammar.specs.declared.repr.Symbol.TheVariants.{Nonterminal}
+use Rattle.lalrpop_states.specs.declared.lr1_core.state.State.{State}
+use Rattle.lalrpop_states.specs.declared.lr1_core.state.StateIndex.{StateIndex}
+use Rattle.lalrpop_state_graph.specs.Words.{edges}
+use Rattle.lalrpop_state_graph.specs.graphs.StateGraph.{LeadsTo}
+use Rattle.lalrpop_traces.specs.traces.TraceGraphs.{Graph, PlainEdge, plain_edges, IsEnd, IsGraph}
+use Rattle.lalrpop_traces.specs.declared.trace.ground.Traced.{Traced}
+use Rattle.lalrpop_traces.specs.declared.trace.ground.Traced.TheVariants.{Shift, Reduce}
+use Rattle.lalrpop_traces.specs.declared.trace.node.TraceGraphNode.{TraceGraphNode}
+use Rattle.lalrpop_traces.specs.declared.trace.node.TraceGraphNode.TheVariants.{Nonterminal as NameNode, Item as ItemNode}
+
+-- what is traced back: a shift or a reduction, by an item in a state, among states over the productions of a grammar
+pub record Backtrace : Type 0 where
+  pub traced : Traced
+  pub productions : List Production
+  pub states : List (State Bits)
+  pub state : StateIndex
+  pub item : Dotted Nil
+
+-- how a shift is traced back
+abbrev pub shift_traced : List Production → List (State Bits) → StateIndex → Dotted Nil → Backtrace
+shift_traced productions states state item = record { traced = Shift; productions = productions; states = states; state = state; item = item }
+
+-- how a reduction is
+abbrev pub reduction_traced : List Production → List (State Bits) → StateIndex → Dotted Nil → Backtrace
+reduction_traced productions states state item = record { traced = Reduce; productions = productions; states = states; state = state; item = item }
+
+-- a nonterminal in a state
+abbrev pub Meeting : Type 0
+Meeting = StateIndex × NonterminalString
+
+-- a production with its dot, without a lookahead
+abbrev pub dotted : Production → ℕ → Dotted Nil
+dotted p index = record { production = p; index = index; lookahead = record {} }
+
+-- an edge that carries the symbols around the dot of a production
+abbrev pub dot_edge : TraceGraphNode → TraceGraphNode → Production → ℕ → PlainEdge
+dot_edge from to p index = record { from = from; to = to; prefix = take index p.symbols; cursor = slice_get p.symbols index; suffix = drop (index + 1) p.symbols }
+
+-- the edge to an item from its nonterminal
+abbrev pub own_edge : Production → ℕ → PlainEdge
+own_edge p index = dot_edge (NameNode p.nonterminal) (ItemNode (dotted p index)) p index
+
+-- where a shift is traced, an item with its dot at the start goes on; where a reduction is, one goes on if what follows the symbol behind its dot derives the empty list
+abbrev pub GoesOnBy : Traced → List Production → Dotted Bits → Type 0
+GoesOnBy Shift productions item = item.index ≡ 0
+GoesOnBy Reduce productions item = IsNullable productions (drop (item.index + 1) item.production.symbols)
+
+-- the item stands in the state
+abbrev pub StandsIn : List (State Bits) → StateIndex → Dotted Bits → Type 0
+StandsIn states n item = (state : State Bits) × (slice_get states n.0 ≡ Some state) × Contains state.items.vec.items item
+
+-- the productions of the traced item and of the items of the states are those of the grammar
+pub record HasOwnProductions (b : Backtrace) : Type 0 where
+  pub item : Contains b.productions b.item.production
+  pub items : (n : StateIndex) (i : Dotted Bits) → StandsIn b.states n i → Contains b.productions i.production
+
+-- each terminal of a production is one of the grammar's
+abbrev pub HasOwnTerminals : Rules → Type 0
+HasOwnTerminals g = (p : Production) → Contains g.productions p → HasKnownTerminals g.terminals p.symbols
+
+module _ (b : Backtrace) where
+  -- the item stands in the state, with the nonterminal behind its dot
+  abbrev pub Takes : Meeting → Dotted Bits → Type 0
+  Takes m item = StandsIn b.states m.0 item × (slice_get item.production.symbols item.index ≡ Some (Nonterminal m.1))
+
+  abbrev pub GoesOn : Dotted Bits → Type 0
+  GoesOn item = GoesOnBy b.traced b.productions item
+
+  -- the production's nonterminal, in a state from which the symbols before the dot lead to the state of the item
+  abbrev pub IsSource : Production → ℕ → StateIndex → Meeting → Type 0
+  IsSource p index state m = (m.1 ≡ p.nonterminal) × LeadsTo (edges b.states) m.0 (take index p.symbols) state
+
+  -- met is the nonterminal of the traced item in each state from which its prefix leads to the traced state; and where an item takes a nonterminal that was met, and goes on, the nonterminal of the item in each state from which its prefix leads there
+  pub data IsMet : Meeting → Type 0 where
+    begins : {m : Meeting} → IsSource b.item.production b.item.index b.state m → IsMet m
+    goes_on : {m n : Meeting} {item : Dotted Bits} → IsMet m → Takes m item → GoesOn item → IsSource item.production item.index m.0 n → IsMet n
+
+  -- an item that takes a nonterminal and goes on gives an edge from its own nonterminal to that one, and where a reduction is traced the edge to itself from its own; one that stops gives an edge from itself to the nonterminal
+  pub data Gives (name : NonterminalString) (item : Dotted Bits) (e : PlainEdge) : Type 0 where
+    onward : GoesOn item → e ≡ dot_edge (NameNode item.production.nonterminal) (NameNode name) item.production item.index → Gives name item e
+    itself : GoesOn item → b.traced ≡ Reduce → e ≡ own_edge item.production item.index → Gives name item e
+    stops : ¬ GoesOn item → e ≡ dot_edge (ItemNode (dotted item.production item.index)) (NameNode name) item.production item.index → Gives name item e
+
+  -- the edge to the traced item from its nonterminal, and those that the items give which take a nonterminal that was met
+  pub data IsTraced (e : PlainEdge) : Type 0 where
+    first : e ≡ own_edge b.item.production b.item.index → IsTraced e
+    given : (m : Meeting) (item : Dotted Bits) → IsMet m → Takes m item → Gives m.1 item e → IsTraced e
+
+-- the graph has exactly the edges of the backtrace, each once, and exactly the ends of these are its nodes
+pub record IsTraceOf (b : Backtrace) (graph : Graph) : Type 0 where
+  pub exactly : (e : PlainEdge) → Contains (plain_edges graph) e ↔ IsTraced b e
+  pub nodes : (n : TraceGraphNode) → Contains graph.nodes n ↔ IsEnd (plain_edges graph) n
+  pub is_graph : IsGraph graph

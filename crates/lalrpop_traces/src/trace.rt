@@ -1,0 +1,145 @@
+//! How a state came to have an item: graphs of what was pushed and popped, and examples of input.
+pub mod enumerator;
+pub mod example;
+pub mod filtered;
+mod giving;
+mod ground;
+mod known;
+mod meeting;
+pub mod node;
+mod nullable;
+mod spelling;
+pub mod trace_graph;
+
+ghost use Rattle.std.specs.Prelude.{◌≡◌, IfOk};
+ghost use Rattle.lalrpop_traces.specs.traces.Meetings.{asked};
+ghost use Rattle.lalrpop_traces.specs.traces.Examples.{CarryRightSides};
+ghost use Rattle.lalrpop_traces.specs.traces.TraceGraphs.{AreKnownEdges};
+ghost use Rattle.lalrpop_traces.specs.traces.TraceOrder.{IsInOrder};
+ghost use Rattle.lalrpop_traces.specs.traces.Traces.{HasOwnProductions, HasOwnTerminals, IsTraceOf, shift_traced, reduction_traced};
+
+pub use enumerator::PathEnumerator;
+pub use example::{Example, ExampleSymbol, Reduction};
+pub use filtered::FilteredPathEnumerator;
+use ground::{Ground, Trace, Traced};
+use lalrpop_base::first::FirstSets;
+use lalrpop_base::lr1_core::item::Lr0Item;
+use lalrpop_base::lr1_core::state::{Lr1State, StateIndex};
+use lalrpop_base::memory::OutOfMemory;
+use lalrpop_state_graph::state_graph::StateGraph;
+use meeting::{Met, trace_item};
+pub use node::TraceGraphNode;
+use std::alloc::Global;
+use std::collections::BTreeSet;
+pub use trace_graph::{NodeIndex, TraceGraph, TraceGraphEdge};
+
+/// Traces backwards over states.
+#[derive(Drop)]
+pub struct Tracer<'trace, 'grammar> {
+    ground: Ground<'trace, 'grammar>,
+}
+
+impl<'trace, 'grammar> Tracer<'trace, 'grammar> {
+    /// A tracer over states, which may have targets that are not in the list.
+    pub fn new(
+        alloc: Global,
+        first_sets: &'trace FirstSets<'grammar>,
+        states: &'trace [Lr1State<'grammar>],
+    ) -> Result<Self, OutOfMemory>
+        ensures states { IfOk result (λ tracer. tracer.ground.states.now ≡ states.now) }
+        ensures rules { IfOk result (λ tracer. tracer.ground.first_sets.now ≡ first_sets.now) }
+    {
+        Ok(Tracer {
+            ground: Ground {
+                states,
+                first_sets,
+                state_graph: StateGraph::new(alloc, states)?,
+            },
+        })
+    }
+
+    /// How a state came to have an item that shifts: back to the items whose dot is past the start.
+    pub fn backtrace_shift(
+        &self,
+        alloc: Global,
+        state: StateIndex,
+        item: Lr0Item<'grammar>,
+    ) -> Result<TraceGraph<'grammar>, OutOfMemory>
+        ensures traced { IfOk result (IsTraceOf (shift_traced
+            self.now.ground.first_sets.now.productions self.now.ground.states.now state
+            item.entry)) }
+        ensures ordered { IfOk result (IsInOrder (shift_traced
+            self.now.ground.first_sets.now.productions self.now.ground.states.now state
+            item.entry)) }
+        ensures right_sides { IfOk result (λ graph. HasOwnProductions (shift_traced
+            self.now.ground.first_sets.now.productions self.now.ground.states.now state
+            item.entry) →
+            CarryRightSides self.now.ground.first_sets.now.productions graph.edges) }
+        ensures known { IfOk result (λ graph. HasOwnTerminals self.now.ground.first_sets.now →
+            HasOwnProductions (shift_traced self.now.ground.first_sets.now.productions
+            self.now.ground.states.now state item.entry) →
+            AreKnownEdges self.now.ground.first_sets.now.terminals graph.edges) }
+    {
+        let trace = Trace {
+            traced: Traced::Shift,
+            state,
+            item,
+            ground: &self.ground,
+        };
+        graph_of(alloc, &trace)
+    }
+
+    /// How a state came to have an item that is or will be reduced: back to the items behind which
+    /// more is to come.
+    pub fn backtrace_reduce(
+        &self,
+        alloc: Global,
+        state: StateIndex,
+        item: Lr0Item<'grammar>,
+    ) -> Result<TraceGraph<'grammar>, OutOfMemory>
+        ensures traced { IfOk result (IsTraceOf (reduction_traced
+            self.now.ground.first_sets.now.productions self.now.ground.states.now state
+            item.entry)) }
+        ensures ordered { IfOk result (IsInOrder (reduction_traced
+            self.now.ground.first_sets.now.productions self.now.ground.states.now state
+            item.entry)) }
+        ensures right_sides { IfOk result (λ graph. HasOwnProductions (reduction_traced
+            self.now.ground.first_sets.now.productions self.now.ground.states.now state
+            item.entry) →
+            CarryRightSides self.now.ground.first_sets.now.productions graph.edges) }
+        ensures known { IfOk result (λ graph. HasOwnTerminals self.now.ground.first_sets.now →
+            HasOwnProductions (reduction_traced self.now.ground.first_sets.now.productions
+            self.now.ground.states.now state item.entry) →
+            AreKnownEdges self.now.ground.first_sets.now.terminals graph.edges) }
+    {
+        let trace = Trace {
+            traced: Traced::Reduce,
+            state,
+            item,
+            ground: &self.ground,
+        };
+        graph_of(alloc, &trace)
+    }
+}
+
+// The graph of a trace.
+fn graph_of<'grammar>(
+    alloc: Global,
+    trace: &Trace<'_, '_, 'grammar>,
+) -> Result<TraceGraph<'grammar>, OutOfMemory>
+    ensures traced { IfOk result (IsTraceOf (asked trace.now)) }
+    ensures ordered { IfOk result (IsInOrder (asked trace.now)) }
+    ensures right_sides { IfOk result (λ graph. HasOwnProductions (asked trace.now) →
+        CarryRightSides trace.now.ground.now.first_sets.now.productions graph.edges) }
+    ensures known { IfOk result (λ graph. HasOwnTerminals trace.now.ground.now.first_sets.now →
+        HasOwnProductions (asked trace.now) →
+        AreKnownEdges trace.now.ground.now.first_sets.now.terminals graph.edges) }
+{
+    let mut met = Met {
+        trace_graph: TraceGraph::new(alloc),
+        visited_set: BTreeSet::new(alloc),
+    };
+    trace_item(alloc, trace, &mut met)?;
+    let Met { trace_graph, .. } = met;
+    Ok(trace_graph)
+}

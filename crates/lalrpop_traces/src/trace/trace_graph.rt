@@ -1,0 +1,383 @@
+//! The graph of a trace.
+ghost use Rattle.std.specs.Prelude.{◌≡◌, ◌∷◌, ◌++◌, ◌↔◌, [], ℕ, List, Some, None, IsTrue, IsNone, IfOk, OnOk, OnErr, false, Contains, map, length, slice_get, option_copied};
+ghost use Rattle.lalrpop_base.specs.Words.{AddsOnce, AllDiffer};
+ghost use Rattle.lalrpop_grammar.specs.declared.repr.Production.{Production};
+ghost use Rattle.lalrpop_grammar.specs.declared.repr.TerminalString.{TerminalString};
+ghost use Rattle.lalrpop_traces.specs.traces.Paths.{is_item, item_node, source, are_one, paths, IsPath};
+ghost use Rattle.lalrpop_traces.specs.traces.Examples.{prefix_of, cursor_of, suffix_of, reduced_name, IsExampleOf, CarryRightSides, SpellsDerivation};
+ghost use Rattle.lalrpop_traces.specs.traces.TraceGraphs.{AreKnownEdges, IsKnownLabel, IsGraph, IsFrom, KeepPlaces, AddsBoth, AddsNoOther, AddsEdge, SameLabels, plain, plain_edge, node_count, numbers_to, numbers_from};
+ghost use Rattle.lalrpop_traces.specs.traces.Walks.{to_come};
+ghost use Rattle.lalrpop_traces.specs.declared.trace.example.Example.{Example};
+ghost use Rattle.lalrpop_traces.specs.declared.trace.trace_graph.TraceGraphEdge.{TraceGraphEdge};
+
+use super::enumerator::PathEnumerator;
+use super::filtered::FilteredPathEnumerator;
+use super::node::TraceGraphNode;
+use lalrpop_base::collections::multimap::Multimap;
+use lalrpop_base::exact::equal;
+use lalrpop_base::first::FirstSets;
+use lalrpop_base::lr1_core::item::{Lr0Item, Lr1Item};
+use lalrpop_base::lr1_core::symbol_sets::SymbolSets;
+use lalrpop_base::memory::OutOfMemory;
+use lalrpop_base::repr::NonterminalString;
+use std::alloc::Global;
+use std::collections::BTreeMap;
+use std::fmt;
+use std::marker::Model;
+
+/// The number of a node, by its first appearance.
+#[derive(Clone, Copy, Debug, PartialEq, Eq, PartialOrd, Ord)]
+pub struct NodeIndex(pub usize);
+
+/// An edge, and the symbols around what its target stands for.
+#[derive(Debug, Drop)]
+pub struct TraceGraphEdge<'grammar> {
+    pub from: TraceGraphNode<'grammar>,
+    pub to: TraceGraphNode<'grammar>,
+    pub symbol_sets: SymbolSets<'grammar>,
+}
+
+/// Nodes, and edges between them, none twice. The edges to a node are kept by their numbers.
+#[derive(Drop)]
+pub struct TraceGraph<'grammar> {
+    alloc: Global,
+    indices: BTreeMap<TraceGraphNode<'grammar>, usize>,
+    edges: Vec<TraceGraphEdge<'grammar>>,
+    incoming: Multimap<TraceGraphNode<'grammar>, Vec<usize>>,
+}
+
+impl<'grammar> Model for TraceGraph<'grammar> {
+    ghost use Rattle.lalrpop_base.specs.Words.{by_number};
+    ghost use Rattle.lalrpop_traces.specs.traces.TraceGraphs.{Graph, IsKept};
+
+    ghost Value = { Graph };
+
+    ghost view = { λ g. record { nodes = by_number g.indices.entries; edges = g.edges.items } };
+
+    ghost invariant = { λ g. IsKept g.indices (by_number g.indices.entries) g.edges.items
+        g.incoming };
+}
+
+/// Prints the edges, in the order of their numbers.
+impl<'grammar> fmt::Debug for TraceGraph<'grammar> {
+    fn fmt<W: fmt::Write>(&self, f: &mut fmt::Formatter<W>) -> fmt::Result {
+        write!(f, "{:?}", self.edges)
+    }
+}
+
+impl<'grammar> TraceGraph<'grammar> {
+    /// A graph without nodes.
+    pub fn new(alloc: Global) -> Self
+        ensures { result ≡ record { nodes = []; edges = [] } }
+    {
+        TraceGraph {
+            alloc,
+            indices: BTreeMap::new(alloc),
+            edges: Vec::new(alloc),
+            incoming: Multimap::new(alloc),
+        }
+    }
+
+    /// The number of an equal node, or the next number.
+    pub fn add_node(&mut self, node: TraceGraphNode<'grammar>) -> Result<NodeIndex, OutOfMemory>
+        ensures graph { IsGraph self.new }
+        ensures added { OnOk result (AddsOnce self.old.nodes self.new.nodes node.entry) }
+        ensures numbered { IfOk result
+            (λ index. slice_get self.new.nodes index.0 ≡ Some node.entry) }
+        ensures stay { KeepPlaces self.old.nodes self.new.nodes }
+        ensures edges { self.new.edges ≡ self.old.edges }
+        ensures err { OnErr result (self.new ≡ self.old) }
+    {
+        if let Some(index) = self.indices.get(&node) {
+            return Ok(NodeIndex(*index));
+        }
+        let index = self.indices.len();
+        self.indices.insert(node, index)?;
+        Ok(NodeIndex(index))
+    }
+
+    /// Adds an edge where there is no equal one, and its nodes. After want of memory nodes may
+    /// stand, the edge does not.
+    pub fn add_edge(
+        &mut self,
+        from: TraceGraphNode<'grammar>,
+        to: TraceGraphNode<'grammar>,
+        labels: SymbolSets<'grammar>,
+    ) -> Result<(), OutOfMemory>
+        ensures graph { IsGraph self.new }
+        ensures nodes { OnOk result (AddsBoth self.old.nodes self.new.nodes from.entry to.entry) }
+        ensures no_other { AddsNoOther self.old.nodes self.new.nodes from.entry to.entry }
+        ensures added { OnOk result (AddsEdge self.old.edges self.new.edges
+            (record { from = from.entry; to = to.entry; symbol_sets = labels.entry })) }
+        ensures stay { KeepPlaces self.old.nodes self.new.nodes }
+        ensures err { OnErr result (self.new.edges ≡ self.old.edges) }
+    {
+        let alloc = self.alloc;
+        self.add_node(from.clone(alloc)?)?;
+        self.add_node(to.clone(alloc)?)?;
+        if self.has_edge(&from, &to, &labels) {
+            return Ok(());
+        }
+        let key = to.clone(alloc)?;
+        self.push_edge(
+            key,
+            TraceGraphEdge {
+                from,
+                to,
+                symbol_sets: labels,
+            },
+        )
+    }
+
+    // Puts an edge to a node behind the others.
+    fn push_edge(
+        &mut self,
+        key: TraceGraphNode<'grammar>,
+        edge: TraceGraphEdge<'grammar>,
+    ) -> Result<(), OutOfMemory>
+        requires key { key ≡ edge.to }
+        requires from { Contains self.old.nodes edge.from }
+        requires to { Contains self.old.nodes edge.to }
+        requires fresh { ¬ Contains (map plain self.old.edges) (plain edge) }
+        ensures graph { IsGraph self.new }
+        ensures pushed { OnOk result (self.new ≡ record
+            { nodes = self.old.nodes; edges = self.old.edges ++ edge.entry ∷ [] }) }
+        ensures err { OnErr result (self.new ≡ self.old) }
+    {
+        let number = self.edges.len();
+        self.edges.reserve(1)?;
+        self.incoming.push(key, number)?;
+        self.edges.push(edge).unwrap();
+        Ok(())
+    }
+
+    // Whether there is an equal edge.
+    fn has_edge(
+        &self,
+        from: &TraceGraphNode<'grammar>,
+        to: &TraceGraphNode<'grammar>,
+        labels: &SymbolSets<'grammar>,
+    ) -> bool
+        ensures { IsTrue result ↔ Contains (map plain self.now.edges)
+            (plain_edge from.now to.now labels.now) }
+    {
+        for number in self.numbers_to(to) {
+            if self.is_edge(*number, from, labels) {
+                return true;
+            }
+        }
+        false
+    }
+
+    // Whether the edge with the number comes from the node with the labels.
+    fn is_edge(
+        &self,
+        number: usize,
+        from: &TraceGraphNode<'grammar>,
+        labels: &SymbolSets<'grammar>,
+    ) -> bool
+        ensures there { (e : TraceGraphEdge) →
+            slice_get self.now.edges number ≡ Some e →
+            IsTrue result ↔ IsFrom from.now labels.now e }
+        ensures none { slice_get self.now.edges number ≡ None → result ≡ false }
+    {
+        let edges = self.edges();
+        if number >= edges.len() {
+            return false;
+        }
+        let edge = &edges[number];
+        equal(&edge.from, from) && same_labels(&edge.symbol_sets, labels)
+    }
+
+    /// Whether the item is a node.
+    pub fn contains(&self, item: &Lr0Item<'grammar>) -> bool
+        ensures { IsTrue result ↔ Contains self.now.nodes (TraceGraphNode.Item item.now) }
+    {
+        self.indices
+            .contains_key(&TraceGraphNode::Item(item.to_lr0()))
+    }
+
+    /// The edges in the order in which they were added.
+    pub fn edges(&self) -> &[TraceGraphEdge<'grammar>]
+        ensures edges { result.now ≡ self.now.edges }
+        ensures graph { IsGraph self.now }
+    {
+        self.edges.as_slice()
+    }
+
+    /// The examples of the paths back from an item, the newest edges first.
+    pub fn lr0_examples<'graph>(
+        &'graph self,
+        alloc: Global,
+        item: Lr0Item<'grammar>,
+    ) -> Result<PathEnumerator<'graph, 'grammar>, OutOfMemory>
+        ensures graph { IfOk result (λ walk. walk.graph.now ≡ self.now) }
+        ensures paths { IfOk result (λ walk. to_come walk ≡ paths self.now (item_node item.entry)) }
+        ensures exact { IfOk result (λ walk. (path : List ℕ) →
+            Contains (to_come walk) path ↔ IsPath self.now (item_node item.entry) path) }
+        ensures once { IfOk result (λ walk. AllDiffer (to_come walk)) }
+        ensures derivations { IfOk result (λ walk. (productions : List Production) →
+            CarryRightSides productions self.now.edges →
+            (path : List ℕ) (example : Example) →
+            Contains (to_come walk) path →
+            IsExampleOf self.now path example →
+            SpellsDerivation productions example) }
+        ensures refused { IfOk result (λ walk. walk.refused ≡ false) }
+    {
+        // A field is read, so that what is kept of a graph is known.
+        let _edges = &self.edges;
+        PathEnumerator::new(alloc, self, item)
+    }
+
+    /// Those examples that can go on with a token of the item's lookahead.
+    pub fn lr1_examples<'graph>(
+        &'graph self,
+        alloc: Global,
+        first_sets: &'graph FirstSets<'grammar>,
+        item: &Lr1Item<'grammar>,
+    ) -> Result<FilteredPathEnumerator<'graph, 'grammar>, OutOfMemory>
+        requires known { AreKnownEdges first_sets.now.terminals self.now.edges }
+        ensures known { IfOk result
+            (λ it. AreKnownEdges it.first_sets.now.terminals it.base.graph.now.edges) }
+        ensures graph { IfOk result (λ it. it.base.graph.now ≡ self.now) }
+        ensures first_sets { IfOk result (λ it. it.first_sets.now ≡ first_sets.now) }
+        ensures lookahead { IfOk result (λ it. it.lookahead ≡ item.now.lookahead) }
+        ensures paths { IfOk result (λ it. to_come it.base ≡ paths self.now (item_node item.now)) }
+        ensures exact { IfOk result (λ it. (path : List ℕ) →
+            Contains (to_come it.base) path ↔ IsPath self.now (item_node item.now) path) }
+        ensures once { IfOk result (λ it. AllDiffer (to_come it.base)) }
+        ensures derivations { IfOk result (λ it. (productions : List Production) →
+            CarryRightSides productions self.now.edges →
+            (path : List ℕ) (example : Example) →
+            Contains (to_come it.base) path →
+            IsExampleOf self.now path example →
+            SpellsDerivation productions example) }
+        ensures refused { IfOk result (λ it. it.base.refused ≡ false) }
+    {
+        // A field is read, so that what is kept of a graph is known.
+        let _edges = &self.edges;
+        FilteredPathEnumerator::new(alloc, first_sets, self, item)
+    }
+}
+
+impl<'grammar> TraceGraph<'grammar> {
+    /// The number of nodes.
+    pub(crate) fn len(&self) -> usize
+        ensures count { result ≡ node_count self.now }
+        ensures graph { IsGraph self.now }
+    {
+        self.indices.len()
+    }
+
+    /// The numbers of the edges to a node, the newest last.
+    pub(crate) fn numbers_to(&self, node: &TraceGraphNode<'grammar>) -> &[usize]
+        ensures { result.now ≡ numbers_to self.now node.now }
+    {
+        let Some(numbers) = self.incoming.get(node) else {
+            return &[];
+        };
+        numbers.as_slice()
+    }
+
+    /// The number of the edge to a node at a place among those to it.
+    pub(crate) fn number_to(&self, node: &TraceGraphNode<'grammar>, place: usize) -> Option<usize>
+        ensures { result ≡ slice_get (numbers_to self.now node.now) place }
+    {
+        let numbers = self.numbers_to(node);
+        if place < numbers.len() {
+            return Some(numbers[place]);
+        }
+        None
+    }
+
+    /// The same of the node from which an edge comes.
+    pub(crate) fn number_from(&self, edge: usize, place: usize) -> Option<usize>
+        ensures { result ≡ slice_get (numbers_from self.now edge) place }
+    {
+        let edges = self.edges();
+        if edge >= edges.len() {
+            return None;
+        }
+        self.number_to(&edges[edge].from, place)
+    }
+
+    /// How many edges lead to the node from which an edge comes.
+    pub(crate) fn count_from(&self, edge: usize) -> usize
+        ensures { result ≡ length (numbers_from self.now edge) }
+    {
+        let edges = self.edges();
+        if edge >= edges.len() {
+            return 0;
+        }
+        self.numbers_to(&edges[edge].from).len()
+    }
+
+    /// Whether an edge comes from an item.
+    pub(crate) fn comes_from_item(&self, edge: usize) -> bool
+        ensures { result ≡ is_item (source self.now edge) }
+    {
+        let edges = self.edges();
+        if edge >= edges.len() {
+            return false;
+        }
+        match &edges[edge].from {
+            TraceGraphNode::Item(_) => true,
+            TraceGraphNode::Nonterminal(_) => false,
+        }
+    }
+
+    /// Whether two edges come from one node.
+    pub(crate) fn come_together(&self, a: usize, b: usize) -> bool
+        ensures { result ≡ are_one (source self.now a) (source self.now b) }
+    {
+        let edges = self.edges();
+        if a >= edges.len() || b >= edges.len() {
+            return false;
+        }
+        edges[a].from == edges[b].from
+    }
+
+    /// The labels of an edge.
+    pub(crate) fn labels(&self, edge: usize) -> SymbolSets<'grammar>
+        ensures there { (e : TraceGraphEdge) →
+            slice_get self.now.edges edge ≡ Some e →
+            result ≡ e.symbol_sets }
+        ensures known { (terminals : List TerminalString) →
+            AreKnownEdges terminals self.now.edges →
+            IsKnownLabel terminals result }
+        ensures prefix { result.prefix.now ≡ prefix_of (slice_get self.now.edges edge) }
+        ensures cursor { option_copied result.cursor ≡ cursor_of (slice_get self.now.edges edge) }
+        ensures suffix { result.suffix.now ≡ suffix_of (slice_get self.now.edges edge) }
+    {
+        let edges = self.edges();
+        if edge >= edges.len() {
+            return SymbolSets::new();
+        }
+        edges[edge].symbol_sets
+    }
+
+    /// The nonterminal to which an edge reduces.
+    pub(crate) fn reduced_name(
+        &self,
+        alloc: Global,
+        edge: usize,
+    ) -> Result<Option<NonterminalString>, OutOfMemory>
+        ensures { IfOk result (λ name. name ≡ reduced_name (slice_get self.now.edges edge)) }
+    {
+        let edges = self.edges();
+        if edge >= edges.len() {
+            return Ok(None);
+        }
+        match &edges[edge].from {
+            TraceGraphNode::Nonterminal(name) => Ok(Some(name.clone(alloc)?)),
+            TraceGraphNode::Item(item) => Ok(Some(item.production.nonterminal.clone(alloc)?)),
+        }
+    }
+}
+
+// Whether two labels are of the same symbols.
+fn same_labels<'grammar>(a: &SymbolSets<'grammar>, b: &SymbolSets<'grammar>) -> bool
+    ensures { IsTrue result ↔ SameLabels a.now b.now }
+{
+    a == b
+}

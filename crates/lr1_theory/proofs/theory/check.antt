@@ -1,0 +1,2 @@
+-- The check of tables.
+pub mod CheckSending

@@ -1,0 +1,2 @@
+-- The conflicts of states.
+pub mod Conflicts

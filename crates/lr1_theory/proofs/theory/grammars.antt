@@ -1,0 +1,2 @@
+-- Grammars, their names and tokens, derivations and parse trees.
+pub mod Tables

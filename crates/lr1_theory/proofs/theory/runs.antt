@@ -1,0 +1,3 @@
+-- Runs of the parser.
+pub mod Outcomes
+pub mod Prompt

@@ -1,0 +1,3 @@
+pub mod construction
+pub mod renumbering
+pub mod Words

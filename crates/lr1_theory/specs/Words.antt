@@ -1,0 +1,5 @@
+-- The words of this crate's contracts, by name: where each is defined.
+pub use Rattle.lr1_theory.specs.construction.States.{AreBuiltBy, Extends, HasTransition, IsBuilt, IsBuiltBy, IsBuiltOfBy, IsLedTo, Leads, LeadsToAdded, begun}
+pub use Rattle.lr1_theory.specs.construction.States.{state_entries}
+pub use Rattle.lr1_theory.specs.renumbering.Moved.{AreMoved, GrowsBy, and_one}
+pub use Rattle.lr1_theory.specs.renumbering.Renumbered.{AreRenumbered, IsRenumberedState, KeepsOrder, number_in, retargeted, retargeted_all, stands_first}

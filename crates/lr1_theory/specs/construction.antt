@@ -1,0 +1,2 @@
+-- The states that a construction makes: kernels, transitions and reductions.
+pub mod States

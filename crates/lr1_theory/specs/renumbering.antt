@@ -1,0 +1,3 @@
+-- States under other numbers.
+pub mod Moved
+pub mod Renumbered
