@@ -1,31 +1,36 @@
-//! Case files: grammars with questions, each with the text that is owed.
+//! Case files: grammars with questions, each with the expected text.
 use lalrpop_base::memory::OutOfMemory;
 use std::alloc::Global;
 
-/// A question of a grammar, and the text owed.
+/// A question on a grammar, and the expected text.
 #[derive(Drop)]
 pub struct Case {
-    /// The number of the question's line, counted from 1.
+    /// The number of the line of the question, counted from 1.
     pub line: usize,
+    /// The question, without `ask`.
     pub question: String,
+    /// The text of the grammar.
     pub grammar: String,
+    /// The expected text.
     pub owed: String,
 }
 
-/// A line that doesn't stand where it may, counted from 1, and why.
+/// A fault of a case file: a line where it is not allowed.
 #[derive(Drop)]
 pub struct Fault {
+    /// The number of the line, counted from 1.
     pub line: usize,
+    /// What is wrong, for a message.
     pub what: &'static str,
 }
 
-// Where a line stands.
+// The part of a case file that a line is in.
 #[derive(Clone, Copy, PartialEq, Eq)]
 enum Part {
     Outside,
     Grammar,
     Owed,
-    // Outside, behind a fault that was told.
+    // Outside of blocks, after a line that was reported as a fault.
     Lost,
 }
 
@@ -43,7 +48,7 @@ pub struct CaseFile {
 }
 
 impl CaseFile {
-    /// The cases of a text, and its faults.
+    /// The cases of a text, and its faults. `OutOfMemory` if an allocation fails.
     pub fn new(alloc: Global, text: &str) -> Result<Self, OutOfMemory> {
         let mut file = CaseFile::empty(alloc);
         let mut rest = text;
@@ -62,7 +67,7 @@ impl CaseFile {
         Ok(file)
     }
 
-    // The file without lines.
+    // A file without lines.
     fn empty(alloc: Global) -> Self {
         CaseFile {
             alloc,
@@ -98,7 +103,8 @@ impl CaseFile {
         Ok(())
     }
 
-    // Adds a line outside of blocks: an empty one, or a remark.
+    // Adds a line outside of blocks: an empty line or a remark. Any other line is a fault, which is
+    // reported once until the next block.
     fn add_outside(&mut self, number: usize, line: &str) -> Result<(), OutOfMemory> {
         if line.is_empty() || line.starts_with('#') || self.part == Part::Lost {
             return Ok(());
@@ -107,7 +113,7 @@ impl CaseFile {
         self.fault(number, "neither a remark nor the head of a block")
     }
 
-    // Adds a line behind the head of a block.
+    // Adds a line of a grammar, between the head of a block and its first question.
     fn add_to_grammar(&mut self, number: usize, line: &str) -> Result<(), OutOfMemory> {
         if line == "end" {
             self.part = Part::Outside;
@@ -119,7 +125,7 @@ impl CaseFile {
         }
     }
 
-    // Adds a line behind a question.
+    // Adds a line after a question.
     fn add_to_owed(&mut self, number: usize, line: &str) -> Result<(), OutOfMemory> {
         if line == "end" {
             self.part = Part::Outside;
@@ -134,7 +140,7 @@ impl CaseFile {
         }
     }
 
-    // Begins a question.
+    // Begins a question. Its expected text is empty so far.
     fn ask(&mut self, number: usize, question: &str) -> Result<(), OutOfMemory> {
         self.part = Part::Owed;
         self.asked = number;
@@ -143,7 +149,7 @@ impl CaseFile {
         Ok(())
     }
 
-    // Takes the question as a case.
+    // Adds the question and its expected text as a case.
     fn finish(&mut self) -> Result<(), OutOfMemory> {
         let case = Case {
             line: self.asked,
@@ -155,14 +161,15 @@ impl CaseFile {
         Ok(())
     }
 
-    // Keeps a fault.
+    // Adds a fault.
     fn fault(&mut self, line: usize, what: &'static str) -> Result<(), OutOfMemory> {
         self.faults.push(Fault { line, what })?;
         Ok(())
     }
 }
 
-// The question of a line, where it is one: a production of a nonterminal called `ask` is none.
+// The question that a line asks, if it asks one. A production of a nonterminal `ask` is not a
+// question.
 fn asked_by(line: &str) -> Option<&str> {
     match line.strip_prefix("ask ") {
         Some(question) if !question.starts_with('=') => Some(question),
@@ -170,7 +177,7 @@ fn asked_by(line: &str) -> Option<&str> {
     }
 }
 
-// Appends a line with its end.
+// Appends a line and a line end.
 fn push_line(text: &mut String, line: &str) -> Result<(), OutOfMemory> {
     text.push_str(line)?;
     text.push_str("\n")?;

@@ -1,15 +1,16 @@
-//! Questions: a call by its name, with words as arguments.
+//! Questions: the name of a call, and words as its arguments.
 use lalrpop_base::memory::OutOfMemory;
 use std::alloc::{AllocError, AllocFailed, Global};
 
-/// Why a question has no answer.
+/// Why a question has no result.
 #[derive(Clone, Copy, Debug, PartialEq, Eq)]
 pub enum QuestionError {
     /// No call has the name.
     Call,
-    /// The argument with this number, counted from 1, is missing or not of the form that the call
-    /// asks for.
+    /// The argument with this number, counted from 1, is missing or does not have the form that the
+    /// call expects.
     Argument(usize),
+    /// An allocation failed.
     Memory,
 }
 
@@ -31,7 +32,7 @@ impl<T: Drop> From<AllocFailed<T>> for QuestionError {
     }
 }
 
-/// A call by its name, with words as arguments.
+/// The name of a call, and words as its arguments.
 #[derive(Drop)]
 pub struct Question<'text> {
     pub call: &'text str,
@@ -39,7 +40,7 @@ pub struct Question<'text> {
 }
 
 impl<'text> Question<'text> {
-    /// The question that the words of a line make.
+    /// The question of a line, whose words are separated by spaces.
     pub fn new(alloc: Global, line: &'text str) -> Result<Self, OutOfMemory> {
         let (call, others) = first_word(line);
         let mut arguments = Vec::new(alloc);
@@ -63,7 +64,7 @@ impl<'text> Question<'text> {
         }
     }
 
-    /// The argument with a number, counted from 1, as a number.
+    /// The argument with a number, counted from 1, read as a number.
     pub fn number(&self, number: usize) -> Result<usize, QuestionError> {
         match self.argument(number)?.parse::<usize>() {
             Ok(value) => Ok(value),
@@ -71,7 +72,7 @@ impl<'text> Question<'text> {
         }
     }
 
-    /// The arguments from a number on, counted from 1; none where there are not so many.
+    /// The arguments from a number on, counted from 1. The list is empty if there are fewer.
     pub fn from(&self, number: usize) -> &[&'text str] {
         let place = number.saturating_sub(1);
         if place < self.arguments.len() {
@@ -81,7 +82,7 @@ impl<'text> Question<'text> {
         }
     }
 
-    /// Whether the argument with a number, counted from 1, is the word.
+    /// Whether the argument with a number, counted from 1, is the given word.
     pub fn is(&self, number: usize, word: &str) -> bool {
         match self.argument(number) {
             Ok(argument) => argument == word,
@@ -89,7 +90,7 @@ impl<'text> Question<'text> {
         }
     }
 
-    /// Whether one of the arguments behind the first is the word.
+    /// Whether one of the arguments after the first is the given word.
     pub fn has(&self, word: &str) -> bool {
         for argument in self.from(2) {
             if *argument == word {
@@ -99,7 +100,7 @@ impl<'text> Question<'text> {
         false
     }
 
-    /// How many arguments stand before the first that is the word.
+    /// The number of arguments before the first one that is the given word, or of all if none is.
     pub fn until(&self, word: &str) -> usize {
         let mut count: usize = 0;
         for argument in &self.arguments {
@@ -112,7 +113,7 @@ impl<'text> Question<'text> {
     }
 }
 
-// The first word of a line, and what stands behind it.
+// The first word of a line, and the text after it.
 fn first_word(line: &str) -> (&str, &str) {
     match line.split_once(' ') {
         Some((word, more)) => (word, more),
@@ -120,7 +121,7 @@ fn first_word(line: &str) -> (&str, &str) {
     }
 }
 
-// Takes a word as an argument. An empty one is none.
+// Adds a word as an argument, unless it is empty.
 fn push_word<'text>(arguments: &mut Vec<&'text str>, word: &'text str) -> Result<(), OutOfMemory> {
     if !word.is_empty() {
         arguments.push(word)?;

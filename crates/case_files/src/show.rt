@@ -1,4 +1,4 @@
-//! Texts that show grammars, states and what they hold.
+//! Texts that show grammars, states and their parts.
 pub mod grammar;
 pub mod graph;
 pub mod states;

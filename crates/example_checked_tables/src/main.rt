@@ -1,5 +1,5 @@
-//! Asks of tables, whoever made them, whether they are those of a grammar: `check_tables` says so
-//! of the tables that were built, and not of these once each reduction has lost the end of input.
+//! Checks whether states are tables of a grammar, whatever made them. `check_tables` returns `true`
+//! for the tables that were built, and `false` once each reduction has lost the end of input.
 #![tactic(auto)]
 
 ghost use Rattle.lalrpop_base.specs.Words.{IsWellFormed};
@@ -37,8 +37,8 @@ fn main(rt: HostRuntime) -> anyhow::Result<()> {
     Ok(())
 }
 
-// Whether some states are tables of the grammar. States that don't lead to one another, and no
-// state at all, are none, and the check may not be asked of them.
+// Whether states are tables of the grammar. `check_tables` requires coherent states, and at least
+// one. Other states are no tables.
 fn are_tables<'grammar>(
     alloc: Global,
     grammar: &'grammar Grammar,

@@ -1,6 +1,7 @@
-//! Prints the LR(1) tables of a grammar as a generator of parsers would: a row for each state, with
-//! a column for each terminal and the end of the input, or for each nonterminal. An action n > 0
-//! shifts and goes to state n, -1 - p reduces by the production with action p, and 0 is none.
+//! Prints the LR(1) tables of a grammar as a parser generator would. They have a row for each
+//! state, with a column for each terminal and the end of input, or for each nonterminal. An action
+//! n > 0 shifts and goes to state n. An action -1 - p reduces by the production with action p. The
+//! number 0 is no action.
 #![tactic(auto)]
 
 use anyhow::bail;
@@ -41,7 +42,7 @@ fn main(rt: HostRuntime) -> anyhow::Result<()> {
     Ok(())
 }
 
-// The terminals, and the end of the input.
+// The terminals, and then the end of input.
 fn tokens_of(alloc: Global, terminals: &TerminalSet) -> Result<Vec<Token>, OutOfMemory> {
     let mut tokens = Vec::new(alloc);
     for terminal in terminals.all() {
@@ -65,7 +66,7 @@ fn actions(
     Ok(row)
 }
 
-// What a state does on a token, as a number.
+// The action of a state on a token, as a number.
 fn action(state: &Lr1State<'_>, token: &Token, terminals: &TerminalSet) -> anyhow::Result<i32> {
     match state.action(token, terminals) {
         Some(ActionEntry::Shift(target)) => Ok(i32::try_from(target.0)?),

@@ -30,7 +30,7 @@ grown_at : (b : Bool) (grown : NonterminalData) (old without new : Option Nonter
 grown_at true grown old without new w e f g = ap (option_map entry_view) f ∙ g
 grown_at false grown old without new w e f g = ap (option_map entry_view) (f ∙ e)
 
--- the entry of a name grows, and the others stay
+-- the entry of a name grows by a production, and the other entries stay
 pub entries_grown : (m without n : BTreeMap NonterminalString NonterminalData) (name : NonterminalString) (grown : NonterminalData) (entry : Option NonterminalData) (p : Production)
     → ((a : NonterminalString) → get name_cmp without a ≡ cond (is_at (name_cmp name) a) None (get name_cmp m a))
     → ((a : NonterminalString) → get name_cmp n a ≡ cond (is_at (name_cmp name) a) (Some grown) (get name_cmp without a))
@@ -42,7 +42,7 @@ entries_grown m without n name grown entry p removed inserted was made a =
     grown_at (is_eq (slice_cmp nat_cmp name.text a.text)) grown (get name_cmp m a) (get name_cmp without a) (get name_cmp n a) w (removed a) (inserted a) is
     ∙ ap (λ b. cond b w (option_map entry_view (get name_cmp m a))) (is_eq-slice_cmp name.text a.text)
 
--- the same of a mark
+-- the entry of a name grows by a mark, and the other entries stay
 pub entries_marked : (m without n : BTreeMap NonterminalString NonterminalData) (name : NonterminalString) (grown : NonterminalData) (entry : Option NonterminalData) (span : Span)
     → ((a : NonterminalString) → get name_cmp without a ≡ cond (is_at (name_cmp name) a) None (get name_cmp m a))
     → ((a : NonterminalString) → get name_cmp n a ≡ cond (is_at (name_cmp name) a) (Some grown) (get name_cmp without a))
@@ -54,7 +54,7 @@ entries_marked m without n name grown entry span removed inserted was made a =
     grown_at (is_eq (slice_cmp nat_cmp name.text a.text)) grown (get name_cmp m a) (get name_cmp without a) (get name_cmp n a) w (removed a) (inserted a) is
     ∙ ap (λ b. cond b w (option_map entry_view (get name_cmp m a))) (is_eq-slice_cmp name.text a.text)
 
--- a production with an action
+-- a production with an action and a span
 abbrev pub production_with : NonterminalString → List Symbol → ActionFn → Span → Production
 production_with a symbols action span = record { nonterminal = a; symbols = symbols; action = action; span = span }
 
@@ -63,13 +63,14 @@ named_once : (named : Bool) (a b : NonterminalString) (ls : List PlacedLine) (p 
 named_once true a b ls p h = ap (λ x. with_production (entry_of x ls) p) (h refl)
 named_once false a b ls p h = refl
 
--- the terminals of productions and of one more
+-- a terminal passes among those of productions and one more exactly if it passes among those of the
+-- productions or of the one
 terminals_in-more : (p : TerminalString → Bool) (ps : List Production) (q : Production) → list_any p (terminals_in (ps ++ q ∷ [])) ≡ (list_any p (terminals_in ps) || list_any p (terminals_of q.symbols))
 terminals_in-more p ps q =
     ap (list_any p) (flat_map-append (λ (x : Production). terminals_of x.symbols) ps (q ∷ []) ∙ ap (λ ts. terminals_in ps ++ ts) (append-nil (terminals_of q.symbols)))
     ∙ list_any-append p (terminals_in ps) (terminals_of q.symbols)
 
--- what was collected grows by a production
+-- if what was collected of lines grows by a production, it is collected of the lines and that one
 pub collected_more : (ls : List PlacedLine) (old new : Collected) (a name : NonterminalString) (symbols : List Symbol) (action : ActionFn) (span : Span) → IsCollected ls old
     → action.0 ≡ length old.action_fn_defns.items → name ≡ a
     → ((b : NonterminalString) → option_map entry_view (get name_cmp new.nonterminals b)
@@ -106,7 +107,7 @@ marked_once : (named : Bool) (a b : NonterminalString) (ls : List PlacedLine) (s
 marked_once true a b ls span h = ap (λ x. with_mark (entry_of x ls) span) (h refl)
 marked_once false a b ls span h = refl
 
--- what was collected grows by a mark
+-- if what was collected of lines grows by a mark, it is collected of the lines and that one
 pub collected_marked : (ls : List PlacedLine) (old new : Collected) (a : NonterminalString) (span : Span) → IsCollected ls old
     → ((b : NonterminalString) → option_map entry_view (get name_cmp new.nonterminals b)
     ≡ cond (bytes_eq a.text b.text) (with_mark (option_map entry_view (get name_cmp old.nonterminals a)) span) (option_map entry_view (get name_cmp old.nonterminals b)))
@@ -130,7 +131,7 @@ idle : (l : PlacedLine) → (l.line ≡ Blank) ⊎ (l.line ≡ Fault) → ((n : 
 idle l (inl e) = (λ n. ap (production_of n l.span) e, λ a. ap (line_names a) e)
 idle l (inr e) = (λ n. ap (production_of n l.span) e, λ a. ap (line_names a) e)
 
--- a line without a production adds nothing
+-- what was collected of lines is collected of them and a line without a production or mark, too
 pub collected_same : (ls : List PlacedLine) (c : Collected) (l : PlacedLine) → IsCollected ls c → (l.line ≡ Blank) ⊎ (l.line ≡ Fault) → IsCollected (ls ++ l ∷ []) c
 collected_same ls c l was is =
     let (none, unnamed) = idle l is in

@@ -1,4 +1,4 @@
--- Productions of lines, numbered as they come.
+-- The productions of lines have their actions in the order of lines.
 use Rattle.std.proofs.Common.{◌≡◌, ℕ, ◌+◌, Bool, true, false, List, [], ◌∷◌, ◌++◌, length, Option, None, Some, cond, option_map, refl, sym, ap, ◌∙◌, arith, append_assoc, length-append, add-zero, zero-add}
 use Rattle.std.proofs.lemmas.List.{append-nil}
 use Rattle.std.proofs.lemmas.List.Elements.{filter-append}
@@ -16,7 +16,8 @@ use Rattle.std.proofs.lemmas.Grind.{flat_map-append}
 use Rattle.lalrpop_base.specs.Words.{inline_mark}
 use Rattle.grammar_text.specs.Grammar.{production_of, productions_from, productions_in, has_name, names, line_names, line_marks, marks_in, Entry, entry_of, with_production, with_mark}
 
--- the productions of lines, and of those after them
+-- the productions of two lists of lines are those of the first, and then those of the second with
+-- the next actions
 pub productions_from-append : (k : ℕ) (ls ms : List PlacedLine) → productions_from k (ls ++ ms) ≡ productions_from k ls ++ productions_from (k + length (productions_from k ls)) ms
 productions_from-append k [] ms = ap (λ n. productions_from n ms) (sym (add-zero k))
 productions_from-append k (l ∷ ls) ms =
@@ -28,7 +29,7 @@ productions_from-append k (l ∷ ls) ms =
     ∙ ap (λ n. first ++ (others ++ productions_from n ms)) counted
     ∙ sym (append_assoc first others (productions_from (k + length (first ++ others)) ms))
 
--- the productions of lines and of one more
+-- the productions of lines and one more are those of the lines, and then that of the one
 pub productions_in-more : (ls : List PlacedLine) (l : PlacedLine) → productions_in (ls ++ l ∷ []) ≡ productions_in ls ++ production_of (length (productions_in ls)) l.span l.line
 productions_in-more ls l =
     productions_from-append 0 ls (l ∷ [])
@@ -61,7 +62,7 @@ no_marks a (production_line b symbols) e = refl
 no_marks a (Inline b) e = rw e refl
 no_marks a Fault e = refl
 
--- nor marks
+-- a name that no line names has no marks
 pub unmarked : (a : NonterminalString) (ls : List PlacedLine) → find (names a) ls ≡ None → marks_in a ls ≡ []
 unmarked a [] h = refl
 unmarked a (l ∷ ls) h =
@@ -85,7 +86,8 @@ entry_at true (Some first) ps marks p l e empty bare = refl
 entry_at false None ps marks p l e empty bare = refl
 entry_at false (Some first) ps marks p l e empty bare = ap (λ qs. entry_from qs marks (Some first)) (append-nil ps)
 
--- a production more of a name
+-- if a line has a production of a name, it is added to the entry of that name, and the other
+-- entries stay
 pub entry_of-more : (a b : NonterminalString) (ls : List PlacedLine) (l : PlacedLine) (p : Production)
     → productions_in (ls ++ l ∷ []) ≡ productions_in ls ++ p ∷ [] → l.span ≡ p.span → names a l ≡ has_name a p → line_marks a l.line ≡ []
     → entry_of a (ls ++ l ∷ []) ≡ cond (has_name a p) (with_production (entry_of a ls) p) (entry_of a ls)
@@ -104,7 +106,7 @@ mark_at true (Some first) ps marks l empty bare = refl
 mark_at false None ps marks l empty bare = refl
 mark_at false (Some first) ps marks l empty bare = ap (λ ms. entry_from ps ms (Some first)) (append-nil marks)
 
--- a mark more of a name
+-- if a line has a mark of a name, it is added to the entry of that name
 pub entry_of-marked : (a b : NonterminalString) (ls : List PlacedLine) (l : PlacedLine) → productions_in (ls ++ l ∷ []) ≡ productions_in ls → (named : Bool) → names a l ≡ named → line_marks a l.line ≡ cond named (inline_mark ∷ []) []
     → entry_of a (ls ++ l ∷ []) ≡ cond named (with_mark (entry_of a ls) l.span) (entry_of a ls)
 entry_of-marked a b ls l same named is marks =
@@ -114,7 +116,7 @@ entry_of-marked a b ls l same named is marks =
     ∙ ap (λ t. entry_from (filter (has_name a) (productions_in ls)) (marks_in a ls ++ cond named (inline_mark ∷ []) []) (option_or (find (names a) ls) (cond t (Some l) None))) is
     ∙ mark_at named (find (names a) ls) (filter (has_name a) (productions_in ls)) (marks_in a ls) l (unnamed a 0 ls) (unmarked a ls)
 
--- a line that does not name it adds nothing
+-- a line that does not name a nonterminal and has no production leaves its entry
 pub entry_of-same : (a : NonterminalString) (ls : List PlacedLine) (l : PlacedLine) → productions_in (ls ++ l ∷ []) ≡ productions_in ls → names a l ≡ false → entry_of a (ls ++ l ∷ []) ≡ entry_of a ls
 entry_of-same a ls l same unnamed =
     ap (λ ms. entry_from (filter (has_name a) (productions_in (ls ++ l ∷ []))) ms (find (names a) (ls ++ l ∷ []))) (marks_in-same a ls l (no_marks a l.line unnamed))

@@ -16,11 +16,11 @@ use Rattle.grammar_text.specs.Collected.{IsCollected, IsSoFar}
 use Rattle.grammar_text.specs.Faults.{IsTooLong, IsFaultOf}
 use Rattle.grammar_text.proofs.TooLong.{counted}
 
--- the lines of a text, as bytes
+-- the lines of a text, each as a list of bytes
 abbrev pub raw_lines : List ℕ → List (List ℕ)
 raw_lines text = slice_split (λ b. b == 10) text
 
--- how many bytes lines have, each with an end
+-- the number of bytes of lines, each with a line end of one byte
 abbrev pub size : List (List ℕ) → ℕ
 size [] = 0
 size (l ∷ ls) = length l + 1 + size ls
@@ -30,12 +30,13 @@ size_at true b n ls h = omega (arith, h)
 size_at false b n [] h = omega (arith, h)
 size_at false b n (l ∷ ls) h = omega (arith, h)
 
--- with an end behind the last line too, there is a byte more than in the text
+-- the lines of a text, each with a line end, have one byte more than the text
 size_of : (text : List ℕ) → size (raw_lines text) ≡ length text + 1
 size_of [] = refl
 size_of (b ∷ bs) = size_at (b == 10) b (length bs) (raw_lines bs) (size_of bs)
 
--- no element of the first list passes
+-- if no element of the first list passes, the place of the first that passes is counted from the
+-- end of that list
 passed : {X : Type 0} (p : X → Bool) (xs ys : List X) → position_or_len p xs ≡ length xs → position_or_len p (xs ++ ys) ≡ length xs + position_or_len p ys
 passed p xs ys h =
     let behind = length xs + position_or_len p ys in
@@ -50,7 +51,8 @@ found p xs ys y h e =
 not_found : {X : Type 0} (p : X → Bool) (xs : List X) → position_or_len p xs ≡ length xs → position p xs ≡ None
 not_found p xs h = ap (λ n. cond (ltb n (length xs)) (Some n) None) h ∙ ap (λ b. cond b (Some (length xs)) None) (le-ltb (length xs) (length xs) (omega arith))
 
--- so many lines of a text are read, and the next begins at the offset: none of them is a fault, and this is what they have given
+-- a number of lines of a text is read and the next begins at the offset: none of them is a fault,
+-- and `so_far` is what they give
 pub record IsRead (text : List ℕ) (number at : ℕ) (so_far : Result Collected ReadError) : Type 0 where
   pub done : List PlacedLine
   pub parted : done ++ placed_from at (drop number (raw_lines text)) ≡ lines_of text
@@ -59,11 +61,11 @@ pub record IsRead (text : List ℕ) (number at : ℕ) (so_far : Result Collected
   pub no_fault : position_or_len is_fault done ≡ length done
   pub given : IsSoFar done so_far
 
--- nothing is read
+-- before the first line, no line is read
 pub begun : (text : List ℕ) (c : Collected) → IsCollected [] c → IsRead text 0 0 (Ok c)
 begun text c given = record { done = []; parted = refl; counted = refl; placed = omega (arith, size_of text); no_fault = refl; given = (given, omega (arith, counted [] c given)) }
 
--- what a list has at a place comes first behind those before it
+-- the element at a place comes first in the list without those before the place
 pub next_line : (ps : List (List ℕ)) (k : ℕ) (l : List ℕ) → k < length ps → l ≡ get_or ps k l → drop k ps ≡ l ∷ drop (k + 1) ps
 next_line ps k l within same = at_drop_more (λ (qs : List (List ℕ)). qs) ps k l within ∙ ap (λ x. x ∷ drop (k + 1) ps) (sym same)
 
@@ -73,13 +75,13 @@ module _ (text : List ℕ) (number at : ℕ) (so_far : Result Collected ReadErro
     pub ends_within : at + length line ≤ length text
     ends_within = omega (arith, was.placed, ap size next)
 
-    -- a fault is the first
+    -- if the line is a fault, it is the first of the text
     pub first_fault : is_fault (placed_of at line) ≡ true → position is_fault (lines_of text) ≡ Some number
     first_fault e =
         let left = placed_from (at + (length line + 1)) (drop (number + 1) (raw_lines text)) in
         ap (position is_fault) (sym was.parted ∙ ap (λ ps. was.done ++ placed_from at ps) next) ∙ found is_fault was.done left (placed_of at line) was.no_fault e ∙ ap Some was.counted
 
-    -- a line more
+    -- if the line is no fault, one line more is read
     pub more : (new : Result Collected ReadError) → is_fault (placed_of at line) ≡ false → IsSoFar (was.done ++ placed_of at line ∷ []) new → IsRead text (number + 1) (at + (length line + 1)) new
     more new e given =
         let l = placed_of at line in
@@ -104,7 +106,7 @@ module _ (text : List ℕ) (number at : ℕ) (so_far : Result Collected ReadErro
     pub all_given : IsSoFar (lines_of text) so_far
     all_given = let P : List PlacedLine → Type 0 = λ ls. IsSoFar ls so_far in subst P all was.given
 
--- what lines have given, if they could be collected
+-- what lines have given is what is collected of them, if it is no error
 pub all_collected : (ls : List PlacedLine) (so_far : Result Collected ReadError) → IsSoFar ls so_far → IfOk so_far (IsCollected ls)
 all_collected ls (Ok c) given = given.0
 all_collected ls (Err e) given = tt
@@ -118,7 +120,7 @@ fault_of ls (Line n) none long = absurd long
 fault_of ls TooManyActions none long = (none, long)
 fault_of ls Memory none long = tt
 
--- and why they could not
+-- if no line is a fault, an error of what lines have given is a fault of them
 pub not_collected : (ls : List PlacedLine) (so_far : Result Collected ReadError) → position is_fault ls ≡ None → IsSoFar ls so_far → IfErr so_far (IsFaultOf ls)
 not_collected ls (Ok c) none given = tt
 not_collected ls (Err e) none given = fault_of ls e none given

@@ -7,12 +7,12 @@ use Rattle.std.specs.List.{slice_split, position_or_len, before_first, after_fir
 use Rattle.grammar_text.specs.Symbols.{quoted}
 use Rattle.grammar_text.specs.Lines.{without_cr}
 
--- a piece is cut off at the first such byte
+-- the first piece of a text ends before the first such byte, and the others are those of the rest
 pub split_some : (c : ℕ) (bs piece more : List ℕ) → position_or_len (λ b. b == c) bs < length bs → piece ≡ before_first (λ b. b == c) bs → more ≡ after_first (λ b. b == c) bs
     → slice_split (λ b. b == c) bs ≡ piece ∷ slice_split (λ b. b == c) more
 split_some c bs piece more h x y = rw (x, y) (slice_split_first (λ b. b == c) bs 0 h)
 
--- with no such byte there is one piece
+-- a text without such a byte is one piece
 pub split_none : (c : ℕ) (bs : List ℕ) → position_or_len (λ b. b == c) bs ≡ length bs → slice_split (λ b. b == c) bs ≡ bs ∷ []
 split_none c bs e = slice_split_none (λ b. b == c) bs (λ k d h. fails_before_first (λ b. b == c) bs k d (omega arith))
 
@@ -20,7 +20,7 @@ cond_none : (t : Bool) (x : Option (List ℕ)) → (t ≡ true → ⊥) → cond
 cond_none true x h = absurd (h refl)
 cond_none false x h = refl
 
--- what does not begin with a quote is no literal
+-- a word that does not begin with a quote is no literal
 pub not_quoted : (w : List ℕ) → ((rest : List ℕ) → w ≢ 34 ∷ rest) → quoted w ≡ None
 not_quoted [] h = refl
 not_quoted (b ∷ bs) h = cond_none (b == 34) _ (λ e. h bs (ap (λ c. c ∷ bs) (eqb-true b 34 e)))
@@ -41,7 +41,7 @@ cr_none [] h = refl
 cr_none (b ∷ []) h = cr_kept_at (b == 13) b (λ e. h [] (ap (λ c. c ∷ []) (eqb-true b 13 e)))
 cr_none (b ∷ c ∷ bs) h = ap (λ xs. b ∷ xs) (cr_none (c ∷ bs) (λ front e. h (b ∷ front) (ap (λ xs. b ∷ xs) e)))
 
--- no line is longer than before without its CR
+-- a line without its CR is no longer than the line
 pub without_cr-le : (line : List ℕ) → length (without_cr line) ≤ length line
 without_cr-le [] = omega arith
 without_cr-le (b ∷ []) = cr_le_at (b == 13) b

@@ -19,7 +19,7 @@ one n span (Production a symbols) h = refl
 one n span (Inline a) h = cc
 one n span Fault h = cc
 
--- as many actions as productions
+-- there are as many actions as productions
 pub counted : (ls : List PlacedLine) (c : Collected) → IsCollected ls c → c.action_fn_defns.len ≡ length (productions_in ls)
 counted ls c was = c.action_fn_defns.ok.0 ∙ ap length was.actions ∙ length-map (productions_in ls) (λ _. user_action)
 
@@ -28,13 +28,13 @@ longer ls l h =
     let n = length (productions_in ls) in
     omega (arith, ap length (productions_in-more ls l), length-append (productions_in ls) (production_of n l.span l.line), one n l.span l.line h)
 
--- what a line that can't be added says of all lines
+-- if a line cannot be added to what lines give, the lines and it are too long
 pub too_long : (ls : List PlacedLine) (l : PlacedLine) (c : Collected) (e : ReadError) → IsCollected ls c → IsFull c l e → IsTooLong (ls ++ l ∷ []) e
 too_long ls l c (LineError n) was full = full
 too_long ls l c TooManyActions was full = omega (arith, counted ls c was, full.1, longer ls l full.0)
 too_long ls l c Memory was full = tt
 
--- lines that are too long stay so with more behind them
+-- lines that are too long are too long with more lines after them
 pub too_long_still : (ls more : List PlacedLine) (e : ReadError) → IsTooLong ls e → IsTooLong (ls ++ more) e
 too_long_still ls more (LineError n) was = was
 too_long_still ls more TooManyActions was = omega (arith, was, ap length (productions_from-append 0 ls more), length-append (productions_in ls) (productions_from (0 + length (productions_in ls)) more))

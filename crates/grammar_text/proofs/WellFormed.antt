@@ -1,4 +1,4 @@
--- The grammar that lines stand for is well-formed.
+-- The grammar that lines give is well-formed.
 use Rattle.std.proofs.Common.{◌≡◌, ℕ, suc, zero, ◌+◌, ◌<◌, ◌≤◌, Bool, true, false, ◌||◌, List, [], ◌∷◌, ◌++◌, length, Option, None, Some, cond, option_map, refl, sym, ap, ◌∙◌, subst, arith, add-zero, get_or}
 use Rattle.std.specs.Prelude.{filter, find, Contains, All, vec_len, slice_get}
 use Rattle.std.specs.List.{flat_map, list_any}
@@ -37,7 +37,7 @@ use Rattle.grammar_text.specs.Collected.{IsCollected, is_same}
 use Rattle.grammar_text.proofs.Numbered.{entry_from}
 use Rattle.lalrpop_collections.proofs.theory.lists.Lists.{contains_place, place_contains}
 
--- the actions count up from k
+-- the actions of productions are k, k + 1 and so on
 abbrev IsNumberedFrom : ℕ → List Production → Type 0
 IsNumberedFrom k [] = Unit {0}
 IsNumberedFrom k (p ∷ ps) = (p.action.0 ≡ k) × IsNumberedFrom (k + 1) ps
@@ -56,7 +56,7 @@ below : (n k : ℕ) (ps : List Production) → IsNumberedFrom k ps → k + lengt
 below n k [] h le = λ i d lt. omega arith
 below n k (p ∷ ps) h le = All-cons (λ (p : Production). p.action.0 < n) p ps (omega (arith, h.0)) (below n (k + 1) ps h.1 (omega arith))
 
--- the actions rise, from k on
+-- the actions of productions are at least k and ascend
 abbrev Rises : ℕ → List Production → Type 0
 Rises k [] = Unit {0}
 Rises k (p ∷ ps) = (k ≤ p.action.0) × Rises (p.action.0 + 1) ps
@@ -96,7 +96,7 @@ in_flat f [] k x y e c = cc
 in_flat {X} {A} f (z ∷ xs) zero x y e c = let same : x ≡ z = cc in let P : X → Type 0 = λ w. Contains (f w) y in Contains-append_left (f z) (flat_map f xs) y (subst P same c)
 in_flat f (z ∷ xs) (suc k) x y e c = Contains-append_right (f z) (flat_map f xs) y (in_flat f xs k x y e c)
 
--- the terminals of a production are among those of all
+-- a terminal of the right side of a production is among the terminals of all productions
 known : (ps : List Production) (p : Production) → Contains ps p → (k : ℕ) (t : TerminalString) → slice_get p.symbols k ≡ Some (Terminal t) → Contains (terminals_in ps) t
 known ps p c k t e =
     let at = contains_place ps p c in
@@ -106,7 +106,7 @@ listed : (e : Entry) (ps : List Production) (marks : List Attribute) (found : Op
 listed e ps marks None h = cc
 listed e ps marks (Some first) h = let same : e ≡ record { productions = ps; attributes = marks; span = first.span } = cc in ap (λ (x : Entry). x.productions) same
 
--- the productions of an entry
+-- the entry of a name has the productions of that name
 entry_listed : (ls : List PlacedLine) (g : Grammar) (name : NonterminalString) (entry : NonterminalData) → StandsFor ls g → get name_cmp g.nonterminals name ≡ Some entry → entry.productions.items ≡ filter (has_name name) (productions_in ls)
 entry_listed ls g name entry stands found =
     listed (entry_view entry) (filter (has_name name) (productions_in ls)) (marks_in name ls) (find (names name) ls) (ap (option_map entry_view) (sym found) ∙ stands.entries name)
@@ -124,7 +124,7 @@ one_of ls g name p stands c =
       numbered = omega (arith, counted, low);
     }
 
--- the grammar that lines stand for is well-formed
+-- the grammar that lines give is well-formed
 pub well_formed : (ls : List PlacedLine) (g : Grammar) → StandsFor ls g → IsWellFormed g
 well_formed ls g stands k name entry e =
     let found = btree_map_get_place name_order.total-law g.nonterminals k name entry stands.ordered e in
@@ -183,7 +183,7 @@ any_at t (x ∷ xs) (suc k) e = or_true (is_same x t) (list_any (λ x. is_same x
 any_from : (t : TerminalString) (xs : List TerminalString) → Contains xs t → list_any (λ x. is_same x t) xs ≡ true
 any_from t xs c = let at = contains_place xs t c in any_at t xs at.0 at.1
 
--- terminals that ascend are not repeated
+-- an ascending list of terminals has no repeated terminal
 pub no_repeat : (xs : List TerminalString) → IsStrictlySortedBy terminal_cmp xs → (place : ℕ) (x : TerminalString) → IsFirstRepeat xs place x → ⊥
 no_repeat xs ordered place x repeat =
     let k = repeat.before.0 in
@@ -194,7 +194,7 @@ no_repeat xs ordered place x repeat =
     let never : Equal ≡ Less = sym (same_terminal x) ∙ both in
     cc
 
--- the terminals that were collected are those of the right sides
+-- the keys of the set that was collected are the terminals of the right sides
 pub terminals_found : (ls : List PlacedLine) (s : BTreeSet TerminalString) → set.IsOrdered terminal_cmp s → ((t : TerminalString) → set.contains terminal_cmp s t ≡ list_any (λ x. is_same x t) (terminals_in (productions_in ls))) → AreTerminalsOf ls s.keys
 terminals_found ls s ordered has = record {
   ascending = ordered;
@@ -203,7 +203,7 @@ terminals_found ls s ordered has = record {
       (λ c. any_to t (terminals_in (productions_in ls)) (sym (has t) ∙ iff.1 c), λ c. iff.0 (has t ∙ any_from t (terminals_in (productions_in ls)) c));
 }
 
--- the parts that were collected make the grammar
+-- a grammar that has the parts that were collected is the one that lines give
 pub stands_for : (ls : List PlacedLine) (c : Collected) (g : Grammar) → IsCollected ls c → g.nonterminals ≡ c.nonterminals → g.terminals ≡ c.terminals.keys → IsStrictlySortedBy terminal_cmp g.terminals
     → g.action_fn_defns.items ≡ c.action_fn_defns.items → g.algorithm.lalr ≡ false → StandsFor ls g
 stands_for ls c g was entries terminals ascending actions lane =

@@ -19,17 +19,19 @@ use Rattle.grammar_text.specs.declared.read_error.ReadError.TheVariants.{Line as
 use Rattle.grammar_text.specs.Grammar.{entry_view, entry_of, terminal_cmp, terminals_in, productions_in, user_action}
 use Rattle.grammar_text.specs.Faults.{IsTooLong}
 
--- whether two terminals are one
+-- whether the order of terminals finds two terminals equal
 abbrev pub is_same : TerminalString → TerminalString → Bool
 is_same x t = is_eq (terminal_cmp x t)
 
--- what was collected is what the lines stand for
+-- what was collected is what the lines give: an entry for each name, the terminals of the right
+-- sides, and an action for each production
 pub record IsCollected (lines : List PlacedLine) (c : Collected) : Type 0 where
   pub entries : (a : NonterminalString) → option_map entry_view (get name_cmp c.nonterminals a) ≡ entry_of a lines
   pub ordered : IsOrdered name_cmp c.nonterminals
   pub terminals : (t : TerminalString) → contains terminal_cmp c.terminals t ≡ list_any (λ x. is_same x t) (terminals_in (productions_in lines))
   pub actions : c.action_fn_defns.items ≡ map (λ _. user_action) (productions_in lines)
 
+-- whether what a line says is a production
 abbrev pub is_production_line : Line → Bool
 is_production_line Blank = false
 is_production_line (Production a symbols) = true
@@ -44,16 +46,17 @@ is_production l = is_production_line l.line
 abbrev pub production_at : NonterminalString → List Symbol → Span → PlacedLine
 production_at a symbols span = record { line = Production a symbols; span = span }
 
--- the line that says that a nonterminal is to be inlined
+-- the line that marks a nonterminal to be inlined
 abbrev pub inline_at : NonterminalString → Span → PlacedLine
 inline_at a span = record { line = Inline a; span = span }
 
--- an action is wanted where there is no number left; memory may be refused at any line
+-- an error says why a line cannot be added: it is a production and no number of an action is left,
+-- or an allocation failed
 abbrev pub IsFull : Collected → PlacedLine → ReadError → Type 0
 IsFull c line (LineError n) = ⊥
 IsFull c line TooManyActions = (is_production line ≡ true) × (2 ^ 32 ≤ vec_len c.action_fn_defns)
 IsFull c line Memory = Unit {0}
 
--- what the lines so far have given: what they stand for, or why it could not be collected
+-- what the lines so far have given: what was collected, or why it could not be collected
 abbrev pub IsSoFar : List PlacedLine → Result Collected ReadError → Type 0
 IsSoFar lines so_far = MatchResult so_far (λ c. IsCollected lines c × (vec_len c.action_fn_defns ≤ 2 ^ 32)) (IsTooLong lines)

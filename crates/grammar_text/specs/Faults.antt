@@ -6,13 +6,16 @@ use Rattle.grammar_text.specs.declared.read_error.ReadError.TheVariants.{Line, T
 use Rattle.grammar_text.specs.Lines.{is_fault}
 use Rattle.grammar_text.specs.Grammar.{productions_in}
 
--- there are more productions than numbers of actions; memory may be refused at any lines
+-- an error says why lines are too long: there are more productions than numbers of actions, or an
+-- allocation failed
 abbrev pub IsTooLong : List PlacedLine → ReadError → Type 0
 IsTooLong lines (Line n) = ⊥
 IsTooLong lines TooManyActions = 2 ^ 32 < length (productions_in lines)
 IsTooLong lines Memory = Unit {0}
 
--- the number of the first line that is no grammar line, counted from 1; or, where each is one, that there are too many
+-- an error says why lines give no grammar: it has the number, counted from 1, of the first line
+-- that is no grammar line; or each line is a grammar line and there are too many productions; or an
+-- allocation failed
 abbrev pub IsFaultOf : List PlacedLine → ReadError → Type 0
 IsFaultOf lines (Line n) = (at : ℕ) × (position is_fault lines ≡ Some at) × (n ≡ at + 1)
 IsFaultOf lines TooManyActions = (position is_fault lines ≡ None) × (2 ^ 32 < length (productions_in lines))

@@ -9,53 +9,59 @@ use Rattle.grammar_text.specs.declared.lines.Line.TheVariants.{Blank, Production
 use Rattle.grammar_text.specs.declared.lines.PlacedLine.{PlacedLine}
 use Rattle.grammar_text.specs.Symbols.{name_of, is_name, symbols_of}
 
+-- a production, if the words of the right side have symbols, and else a fault
 abbrev pub production_line : NonterminalString → Option (List Symbol) → Line
 production_line a None = Fault
 production_line a (Some symbols) = Production a symbols
 
+-- whether a list is empty
 abbrev pub is_empty : {A : Type 0} → List A → Bool
 is_empty [] = true
 is_empty (x ∷ xs) = false
 
--- what two words say, and others behind them: where they are `inline` and a name alone, that it is to be inlined, and else it is a fault
+-- what two words say that have no `=` between a name and symbols, with the words after them: a mark
+-- if they are `inline` and a name alone, and else a fault
 abbrev pub marked_line : List ℕ → List ℕ → List (List ℕ) → Line
 marked_line w v ws = if is_empty ws && (bytes_eq w (codes "inline") && is_name v) then Inline (name_of v) else Fault
 
--- what a line of these words says: nothing, a production where they are a name, `=` and symbol words, a name to be inlined, and else it is a fault
+-- what a line of these words says: nothing if there are no words; a production if they are a name,
+-- `=` and words of symbols; a mark if they are `inline` and a name; and else a fault
 abbrev pub line_of_words : List (List ℕ) → Line
 line_of_words [] = Blank
 line_of_words (w ∷ []) = Fault
 line_of_words (w ∷ v ∷ ws) = if bytes_eq v (codes "=") && is_name w then production_line (name_of w) (symbols_of ws) else marked_line w v ws
 
--- words stand between spaces and tabs
+-- the words of a line are the parts between spaces and tabs that are not empty
 abbrev pub words_of : List ℕ → List (List ℕ)
 words_of line = filter (λ w. not (is_empty w)) (flat_map (λ piece. slice_split (λ b. b == 9) piece) (slice_split (λ b. b == 32) line))
 
--- a CR at the end of a line belongs to the line end
+-- the line without a CR at its end, since that CR belongs to the line end
 abbrev pub without_cr : List ℕ → List ℕ
 without_cr [] = []
 without_cr (b ∷ []) = if b == 13 then [] else b ∷ []
 without_cr (b ∷ c ∷ bs) = b ∷ without_cr (c ∷ bs)
 
--- a line that begins at an offset: what it says, and the places of its first byte and after its last
+-- a line that begins at an offset: what it says, and its span, which has the offsets of its first
+-- byte and of the byte after its last without a CR
 abbrev pub placed_of : ℕ → List ℕ → PlacedLine
 placed_of at line = record { line = line_of_words (words_of (without_cr line)); span = record { 0 = at; 1 = at + length (without_cr line) } }
 
--- lines of which the first begins at an offset
+-- lines of which the first begins at an offset, and each next one after the LF of the one before
 abbrev pub placed_from : ℕ → List (List ℕ) → List PlacedLine
 placed_from at [] = []
 placed_from at (l ∷ ls) = placed_of at l ∷ placed_from (at + (length l + 1)) ls
 
--- what a text says, line by line; lines are parted by LF
+-- the lines of a text, which LF separates
 abbrev pub lines_of : List ℕ → List PlacedLine
 lines_of text = placed_from 0 (slice_split (λ b. b == 10) text)
 
+-- whether what a line says is a fault
 abbrev pub is_fault_line : Line → Bool
 is_fault_line Blank = false
 is_fault_line (Production a symbols) = false
 is_fault_line (Inline a) = false
 is_fault_line Fault = true
 
--- a line that is no grammar line
+-- whether a line is no grammar line
 abbrev pub is_fault : PlacedLine → Bool
 is_fault l = is_fault_line l.line

@@ -1,4 +1,4 @@
-//! What the lines of a grammar text stand for, gathered line by line.
+//! What the lines of a grammar text give, collected line by line.
 ghost use Rattle.std.specs.Prelude.{◌≡◌, ◌≤◌, ◌<◌, ◌^◌, ◌∷◌, [], ◌++◌, ◌||◌, List, IfOk, OnOk, IfErr, Some, vec_len, option_map, if◌then◌else◌};
 ghost use Rattle.std.specs.List.{list_any};
 ghost use Rattle.std.specs.Str.{bytes_eq};
@@ -32,7 +32,7 @@ pub struct Collected {
 }
 
 impl Collected {
-    /// What no line stands for.
+    /// What an empty list of lines gives.
     pub fn new(alloc: Global) -> Collected
         ensures { IsCollected [] result }
     {
@@ -43,7 +43,7 @@ impl Collected {
         }
     }
 
-    /// What lines stand for, or why it could not be collected.
+    /// What lines give, or why it could not be collected.
     pub fn of_lines(alloc: Global, lines: Vec<PlacedLine>) -> Result<Collected, ReadError>
         ensures { IsSoFar lines.items result }
     {
@@ -54,7 +54,7 @@ impl Collected {
         so_far
     }
 
-    // Adds a line.
+    // Adds what a line gives. A blank line and a fault give nothing.
     fn add(&mut self, alloc: Global, line: PlacedLine) -> Result<(), ReadError>
         ensures ok { OnOk result ((lines : List PlacedLine) →
             IsCollected lines self.old →
@@ -73,7 +73,7 @@ impl Collected {
         }
     }
 
-    // Adds a production, which has the next action.
+    // Adds a production. It has the next action.
     fn add_production(
         &mut self,
         alloc: Global,
@@ -120,7 +120,7 @@ impl Collected {
     }
 }
 
-/// What the lines so far have given, with a line more.
+/// What the lines so far and one more line give. An error of the lines so far stays.
 pub fn with_line(
     alloc: Global,
     so_far: Result<Collected, ReadError>,
@@ -134,7 +134,7 @@ pub fn with_line(
     Ok(collected)
 }
 
-// The action with a number, where there is one.
+// The action with the number `count`, if `count` fits into 32 bits.
 fn action_after(count: usize) -> Result<ActionFn, ReadError>
     ensures ok { IfOk result (λ action. action.0 ≡ count) }
     ensures few { OnOk result (count < 2 ^ 32) }
@@ -146,7 +146,7 @@ fn action_after(count: usize) -> Result<ActionFn, ReadError>
     }
 }
 
-// The definition of an action that a grammar text gives.
+// The definition of an action: it is the user's, returns `()`, and is not fallible.
 fn user_defn(alloc: Global) -> Result<ActionFnDefn, OutOfMemory>
     ensures { IfOk result (λ defn. defn ≡ user_action) }
 {
@@ -157,7 +157,7 @@ fn user_defn(alloc: Global) -> Result<ActionFnDefn, OutOfMemory>
     })
 }
 
-// Adds the terminals among symbols.
+// Adds the terminals among the symbols.
 fn add_terminals(
     alloc: Global,
     terminals: &mut BTreeSet<TerminalString>,
@@ -173,7 +173,7 @@ fn add_terminals(
     Ok(())
 }
 
-// Adds a symbol that is a terminal.
+// Adds the symbol if it is a terminal.
 fn add_terminal(
     alloc: Global,
     terminals: &mut BTreeSet<TerminalString>,
@@ -189,7 +189,7 @@ fn add_terminal(
     Ok(())
 }
 
-// Adds a production to the entry of its name.
+// Adds a production to the entry of its nonterminal.
 fn add_to_entry(
     alloc: Global,
     nonterminals: &mut BTreeMap<NonterminalString, NonterminalData>,
@@ -210,7 +210,7 @@ fn add_to_entry(
     Ok(())
 }
 
-// The entry with a production more, or a new one.
+// The entry with the production added, or a new entry with the production alone.
 fn grown_entry(
     alloc: Global,
     entry: Option<NonterminalData>,
@@ -231,7 +231,7 @@ fn grown_entry(
     Ok(grown)
 }
 
-// The entry with a mark more, or a new one.
+// The entry with the mark `inline` added, or a new entry with the mark alone.
 fn marked_entry(
     alloc: Global,
     entry: Option<NonterminalData>,

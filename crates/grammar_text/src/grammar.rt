@@ -19,7 +19,8 @@ use lalrpop_base::repr::terminals::{TerminalSet, TerminalSetError};
 use std::alloc::Global;
 use std::collections::BTreeSet;
 
-/// Reads a grammar text.
+/// Reads a grammar text. It returns an error if a line is no grammar line, if there are more
+/// productions than numbers of actions, or if an allocation fails.
 pub fn read(alloc: Global, text: &str) -> Result<Grammar, ReadError>
     ensures ok { IfOk result (StandsFor (lines_of text.now)) }
     ensures well_formed { IfOk result IsWellFormed }
@@ -31,8 +32,9 @@ pub fn read(alloc: Global, text: &str) -> Result<Grammar, ReadError>
     Ok(grammar_of(alloc, collected)?)
 }
 
-// What the lines of a text stand for. A line that is no grammar line is told before any other
-// refusal, so a refusal to add a line waits for the lines behind it.
+// Collects what the lines of a text say. If a line is no grammar line, `collected_of` reports that
+// line rather than too many actions. So it reads all lines before it returns an error of
+// `with_line`.
 fn collected_of(alloc: Global, text: &str) -> Result<Collected, ReadError>
     ensures ok { IfOk result (IsCollected (lines_of text.now)) }
     ensures no_fault { OnOk result (position is_fault (lines_of text.now) ≡ None) }
@@ -54,7 +56,7 @@ fn collected_of(alloc: Global, text: &str) -> Result<Collected, ReadError>
     so_far
 }
 
-// The grammar of what was collected.
+/// The grammar of what was collected.
 pub(crate) fn grammar_of(alloc: Global, collected: Collected) -> Result<Grammar, OutOfMemory>
     ensures { IfOk result (λ grammar. (lines : List PlacedLine) →
         IsCollected lines collected →
@@ -70,7 +72,7 @@ pub(crate) fn grammar_of(alloc: Global, collected: Collected) -> Result<Grammar,
     })
 }
 
-// A set as one that numbers its terminals.
+// The set of terminals, numbered in ascending order.
 fn set_of(alloc: Global, terminals: BTreeSet<TerminalString>) -> Result<TerminalSet, OutOfMemory>
     ensures value { IfOk result (λ set. set ≡ terminals.keys) }
     ensures ascending { IfOk result (IsStrictlySortedBy terminal_cmp) }

@@ -1,4 +1,4 @@
-//! Lines of a grammar text.
+//! The lines of a grammar text, and what each line says.
 ghost use Rattle.std.specs.Prelude.{◌≡◌, ◌==◌, ◌<◌, ◌+◌, ◌^◌, ◌++◌, ◌∷◌, [], filter, not, IfOk, OnOk, map, length};
 ghost use Rattle.std.specs.List.{slice_split};
 ghost use Rattle.grammar_text.specs.Lines.{is_empty, words_of, without_cr, marked_line, line_of_words, placed_of, is_fault};
@@ -8,26 +8,27 @@ use lalrpop_base::memory::OutOfMemory;
 use lalrpop_base::repr::{NonterminalString, Span, Symbols};
 use std::alloc::Global;
 
-/// What a line says.
+/// What a line of a grammar text says.
 #[derive(Drop)]
 pub enum Line {
     /// A line without words.
     Blank,
+    /// The left side and the right side of a production.
     Production(NonterminalString, Symbols),
-    /// A nonterminal that is to be inlined.
+    /// A mark: the nonterminal is to be inlined.
     Inline(NonterminalString),
-    /// Anything else.
+    /// A line that is no grammar line.
     Fault,
 }
 
-/// A line with its place: its first byte, and the one after its last.
+/// A line and its span: the offsets in bytes of its first byte and of the byte after its last.
 #[derive(Drop)]
 pub struct PlacedLine {
     pub line: Line,
     pub span: Span,
 }
 
-// What a line of these words says.
+// What a line with these words says.
 fn line_of_words(alloc: Global, words: &[&str]) -> Result<Line, OutOfMemory>
     ensures { IfOk result (λ line. line ≡ line_of_words (map (λ w. w.now) words.now)) }
 {
@@ -46,7 +47,7 @@ fn line_of_words(alloc: Global, words: &[&str]) -> Result<Line, OutOfMemory>
     }
 }
 
-// What a line says that is no production.
+// What a line says that is no production: a mark, or else a fault.
 fn marked_line(alloc: Global, first: &str, second: &str, rest: &[&str]) -> Result<Line, OutOfMemory>
     ensures { IfOk result
         (λ line. line ≡ marked_line first.now second.now (map (λ w. w.now) rest.now)) }
@@ -57,7 +58,7 @@ fn marked_line(alloc: Global, first: &str, second: &str, rest: &[&str]) -> Resul
     Ok(Line::Fault)
 }
 
-// The words of a line.
+// The words of a line, which are between spaces and tabs.
 fn words_in<'a>(alloc: Global, line: &'a str) -> Result<Vec<&'a str>, OutOfMemory>
     ensures { IfOk result (λ words. map (λ w. w.now) words.items ≡ words_of line.now) }
 {
@@ -82,7 +83,7 @@ fn push_words<'a>(alloc: Global, words: &mut Vec<&'a str>, part: &'a str) -> Res
     Ok(())
 }
 
-// Adds a word, unless it is empty.
+// Adds a word to the list, unless the word is empty.
 fn push_word<'a>(words: &mut Vec<&'a str>, word: &'a str) -> Result<(), OutOfMemory>
     ensures { OnOk result (map (λ w. w.now) words.new.items
         ≡ map (λ w. w.now) words.old.items ++ filter (λ w. not (is_empty w)) (word.now ∷ [])) }
@@ -93,7 +94,7 @@ fn push_word<'a>(words: &mut Vec<&'a str>, word: &'a str) -> Result<(), OutOfMem
     Ok(())
 }
 
-// The line without the CR that belongs to its end.
+// The line without a CR at its end, which belongs to the line end.
 fn before_cr(line: &str) -> &str
     ensures { result.now ≡ without_cr line.now }
 {
@@ -103,7 +104,7 @@ fn before_cr(line: &str) -> &str
     }
 }
 
-/// What a line says, with its place; it begins at an offset.
+/// What a line says, and its span. The line begins at the offset `at`, in bytes.
 pub fn placed_line(alloc: Global, line: &str, at: usize) -> Result<PlacedLine, OutOfMemory>
     requires { at + length line.now < 2 ^ 64 }
     ensures { IfOk result (λ placed. placed ≡ placed_of at line.now) }
@@ -116,7 +117,7 @@ pub fn placed_line(alloc: Global, line: &str, at: usize) -> Result<PlacedLine, O
 }
 
 impl PlacedLine {
-    /// Whether it is no grammar line.
+    /// Whether the line is no grammar line.
     pub fn is_no_grammar_line(&self) -> bool
         ensures { result ≡ is_fault self.now }
     {

@@ -1,4 +1,4 @@
-//! Why a text gives no grammar.
+//! The error of the reader of a grammar text.
 ghost use Rattle.std.specs.Prelude.{◌≡◌};
 ghost use Rattle.grammar_text.specs.declared.read_error.ReadError.TheVariants.{Memory};
 
@@ -10,7 +10,9 @@ use std::alloc::{AllocError, AllocFailed};
 pub enum ReadError {
     /// The number of the first line that is no grammar line, counted from 1.
     Line(usize),
+    /// There are more than 2^32 productions, so the numbers of actions do not suffice.
     TooManyActions,
+    /// An allocation failed.
     Memory,
 }
 

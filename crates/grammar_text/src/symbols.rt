@@ -10,7 +10,8 @@ use lalrpop_base::sequence::Sequence;
 use lalrpop_base::text::Text;
 use std::alloc::Global;
 
-/// The pieces of a text between the places of an ASCII character.
+/// The pieces of a text between the occurrences of an ASCII character. If the character occurs n
+/// times, there are n + 1 pieces.
 pub fn pieces<'a>(alloc: Global, text: &'a str, by: char) -> Result<Vec<&'a str>, OutOfMemory>
     requires { by < 128 }
     ensures { IfOk result
@@ -33,14 +34,14 @@ fn starts_a_name(b: u8) -> bool
     b.is_ascii_alphabetic() || b == b'_'
 }
 
-// Whether a byte may follow in a name.
+// Whether a byte may come in a name after its first byte.
 fn continues_a_name(b: u8) -> bool
     ensures { result ≡ continues_name b }
 {
     starts_a_name(b) || b.is_ascii_digit()
 }
 
-/// Whether a word is a name.
+/// Whether a word is a name: an ASCII letter or `_`, and then ASCII letters, digits or `_`.
 pub fn is_a_name(word: &str) -> bool
     ensures { result ≡ is_name word.now }
 {
@@ -50,14 +51,14 @@ pub fn is_a_name(word: &str) -> bool
     }
 }
 
-// Whether each byte may follow in a name.
+// Whether each byte may come in a name after its first byte.
 fn all_continue(bytes: &[u8]) -> bool
     ensures { result ≡ list_all continues_name bytes.now }
 {
     bytes.iter().all(|b| continues_a_name(*b))
 }
 
-/// The text of a literal.
+/// The text between the quotes, if the word is a literal, and else `None`.
 pub fn unquoted(word: &str) -> Option<&str>
     ensures { MatchOption result (quoted word.now ≡ None)
         (λ text. quoted word.now ≡ Some text.now) }
@@ -68,7 +69,7 @@ pub fn unquoted(word: &str) -> Option<&str>
     }
 }
 
-// What stands before the quote that ends a word, and holds no other.
+// The text before the first quote, if the text is not empty and nothing comes after the quote.
 fn before_last_quote(body: &str) -> Option<&str>
     ensures { MatchOption result (up_to_quote body.now ≡ None)
         (λ text. up_to_quote body.now ≡ Some text.now) }
@@ -80,7 +81,7 @@ fn before_last_quote(body: &str) -> Option<&str>
     Some(text)
 }
 
-/// The name that a word is.
+/// The nonterminal that a word names.
 pub fn name_of(alloc: Global, word: &str) -> Result<NonterminalString, OutOfMemory>
     ensures { IfOk result (λ name. name ≡ name_of word.now) }
 {
@@ -89,7 +90,7 @@ pub fn name_of(alloc: Global, word: &str) -> Result<NonterminalString, OutOfMemo
     })
 }
 
-/// The symbol that a word stands for.
+/// The symbol of a word: a nonterminal or a literal. `None` if the word is neither.
 pub fn symbol_of(alloc: Global, word: &str) -> Result<Option<Symbol>, OutOfMemory>
     ensures { IfOk result (λ symbol. symbol ≡ symbol_of word.now) }
 {
@@ -105,7 +106,7 @@ pub fn symbol_of(alloc: Global, word: &str) -> Result<Option<Symbol>, OutOfMemor
     }
 }
 
-/// The symbols that words stand for, where each stands for one.
+/// The symbols of words. `None` if a word is neither a name nor a literal.
 pub fn symbols_of(alloc: Global, words: &[&str]) -> Result<Option<Symbols>, OutOfMemory>
     ensures { IfOk result (λ symbols. symbols ≡ symbols_of (map (λ w. w.now) words.now)) }
 {
@@ -119,7 +120,7 @@ pub fn symbols_of(alloc: Global, words: &[&str]) -> Result<Option<Symbols>, OutO
     Ok(Some(symbols))
 }
 
-/// The literals of texts, which stand here without quotes: tokens for a parser.
+/// The literals with these texts, which are given without quotes. They are tokens for a parser.
 pub fn literals(alloc: Global, texts: &[&str]) -> Result<Vec<TerminalString>, OutOfMemory>
     ensures { IfOk result (λ all. all.items ≡ map (λ t. Literal t.now) texts.now) }
 {

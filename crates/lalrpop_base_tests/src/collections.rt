@@ -1,4 +1,4 @@
-// Collections and what a push answers, at types of the standard library and at the lookaheads.
+// Collections and the results of pushes, for types of the standard library and for lookaheads.
 use grammar_text::symbols::literals;
 use lalrpop_base::collections::multimap::Multimap;
 use lalrpop_base::collections::{Collection, Set, push_twice};

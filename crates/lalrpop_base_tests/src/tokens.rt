@@ -1,4 +1,4 @@
-// Tokens, terminals and sets of tokens: what they print, and their equality, order and hash.
+// Tokens, terminals and sets of tokens: their printed texts, equality, order and hash.
 use grammar_text::symbols::literals;
 use lalrpop_base::lookahead::token::Token;
 use lalrpop_base::lookahead::token_set::TokenSet;
@@ -53,14 +53,15 @@ fn terminals_without_repeats(rt: HostRuntime) -> Result<(), Fail> {
     Ok(())
 }
 
-// What a hasher makes of a set.
+// The hash of a set.
 fn hash(set: &TokenSet) -> u64 {
     let mut hasher = DefaultHasher::new();
     set.hash(&mut hasher);
     hasher.finish()
 }
 
-// The bit of the end is 2 and that of the error is 3. The order is that of the rising lists.
+// With two terminals, the bit of `Eof` is 2 and that of `Error` is 3. Sets are ordered as the
+// ascending lists of their bits.
 #[test]
 fn sets_go_by_their_bits(rt: HostRuntime) -> Result<(), Fail> {
     let alloc = rt.alloc();

@@ -1,4 +1,4 @@
-// Texts, lists, items and states: what they print, and their equality and order.
+// Texts, lists, items and states: their printed texts, equality and order.
 use grammar_text::symbols::name_of;
 use lalrpop_base::exact::{contains, equal, place_of};
 use lalrpop_base::lookahead::Lookahead;
@@ -13,7 +13,8 @@ use std::fmt;
 use std::test::Fail;
 use test_fixtures::texts::{first_production, grammar, literal};
 
-// A literal prints between quotes, so its length counts them; a nonterminal heeds no width.
+// A literal is printed between quotes, so its length includes them. A nonterminal ignores the width
+// of a format.
 #[test]
 fn lengths_of_what_is_printed(rt: HostRuntime) -> Result<(), Fail> {
     let alloc = rt.alloc();
@@ -89,7 +90,7 @@ fn a_new_start_symbol_has_the_place_of_the_old(rt: HostRuntime) -> Result<(), Fa
     Ok(())
 }
 
-// Prints what stands behind an item.
+// Prints the lookahead in the form that it has after an item.
 #[derive(Drop)]
 struct Suffix<'l, L> {
     lookahead: &'l L,

@@ -1,4 +1,4 @@
-//! Calls by their names: each answers a text.
+//! The calls that a question can name. Each returns a text.
 mod any_start;
 mod error_texts;
 mod grammars;
@@ -17,7 +17,8 @@ use std::alloc::Global;
 use table_questions::ask::refusal;
 use table_questions::question::{Question, QuestionError};
 
-/// The answer to a question of the grammar that a text stands for.
+/// The result of a question on the grammar of a text. The errors are those of the question: an
+/// unknown call, a wrong argument, or an allocation failure.
 pub(crate) fn answer(
     alloc: Global,
     question: &Question<'_>,
@@ -33,8 +34,8 @@ pub(crate) fn answer(
     }
 }
 
-// The answer to a question of a grammar, whose marked nonterminals are inlined first where the call
-// asks for it.
+// The result of a question on a grammar as it was read, or else on the grammar with its marked
+// nonterminals inlined.
 fn answer_of_grammar(
     alloc: Global,
     question: &Question<'_>,
@@ -51,7 +52,8 @@ fn answer_of_grammar(
     }
 }
 
-// The answer to a question of a grammar without marked nonterminals.
+// The result of a question on a grammar without marked nonterminals. The argument `collapsed` marks
+// the grammar for the collapse to LALR(1) states.
 fn answer_of_inlined(
     alloc: Global,
     question: &Question<'_>,
@@ -65,7 +67,7 @@ fn answer_of_inlined(
     answer_of_each(alloc, question, &grammar)
 }
 
-// The grammar, whose canonical states are to be merged.
+// The grammar, marked for the collapse to LALR(1) states.
 fn collapsing(grammar: Grammar) -> Grammar
     requires { IsWellFormed grammar }
     ensures { IsWellFormed result }
@@ -84,7 +86,7 @@ fn collapsing(grammar: Grammar) -> Grammar
     }
 }
 
-// The answer of the group of calls that has the question's.
+// The result of the first group of calls that has the call of the question.
 fn answer_of_each(
     alloc: Global,
     question: &Question<'_>,
@@ -104,7 +106,8 @@ fn answer_of_each(
     Err(QuestionError::Call)
 }
 
-// The answer to a question of reports, runs and traces, where the call is one.
+// The result of a question on reports, parses for any start symbol, runs, error texts and traces.
+// `None` if the call has another name.
 fn answer_of_runs(
     alloc: Global,
     question: &Question<'_>,

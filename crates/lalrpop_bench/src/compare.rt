@@ -1,11 +1,11 @@
-//! Comparing answers with what is owed.
+//! Comparing results with the expected texts.
 use crate::ask::answer;
 use case_files::case_file::{Case, CaseFile};
 use lalrpop_base::memory::OutOfMemory;
 use std::alloc::Global;
 use table_questions::question::{Question, QuestionError};
 
-/// How many cases agree and differ, and whether each could be asked.
+/// The numbers of cases that agree and that differ, and whether something could not be asked.
 #[derive(Clone, Copy, Debug, Default, PartialEq, Eq)]
 pub(crate) struct Tally {
     pub(crate) agree: usize,
@@ -14,7 +14,7 @@ pub(crate) struct Tally {
 }
 
 impl Tally {
-    /// Of a file that can't be read.
+    /// The tally of a file that cannot be read.
     pub(crate) fn unread() -> Self {
         Tally {
             is_faulty: true,
@@ -22,14 +22,15 @@ impl Tally {
         }
     }
 
-    /// Adds the cases of a file.
+    /// Adds the tally of a file.
     pub(crate) fn add(&mut self, other: &Tally) {
         self.agree = self.agree.saturating_add(other.agree);
         self.differ = self.differ.saturating_add(other.differ);
         self.is_faulty = self.is_faulty || other.is_faulty;
     }
 
-    /// The status of the program: 2 where something could not be asked, 1 where a case differs.
+    /// The exit status of the program: 2 if something could not be asked, 1 if a case differs, and
+    /// else 0.
     pub(crate) fn status(&self) -> u8 {
         if self.is_faulty {
             2
@@ -41,7 +42,7 @@ impl Tally {
     }
 }
 
-/// Asks the cases of a file. The text tells the faults and the cases that differ.
+/// Asks the cases of a file. The text reports the faults and the cases that differ.
 pub(crate) fn compare_file(
     alloc: Global,
     name: &str,
@@ -113,7 +114,7 @@ fn compare_case(
     }
 }
 
-// Compares an answer with the text owed, and tells the first line that differs.
+// Compares a result with the expected text, and reports the first line that differs.
 fn compare_texts(
     report: &mut String,
     tally: &mut Tally,
@@ -136,7 +137,7 @@ fn compare_texts(
     Ok(())
 }
 
-// The first lines in which two texts differ, empty where a text has ended.
+// The first lines in which two texts differ. A line is empty if its text has ended.
 fn first_difference<'a>(a: &'a str, b: &'a str) -> (&'a str, &'a str) {
     let mut left = a;
     let mut right = b;
@@ -152,7 +153,7 @@ fn first_difference<'a>(a: &'a str, b: &'a str) -> (&'a str, &'a str) {
     (left, y)
 }
 
-// The first line of a text, and what stands behind it.
+// The first line of a text, and the text after it.
 fn first_line(text: &str) -> (&str, &str) {
     match text.split_once('\n') {
         Some((line, more)) => (line, more),

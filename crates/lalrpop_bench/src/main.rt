@@ -1,7 +1,10 @@
-//! `lalrpop_bench FILE..` asks the libraries' public calls what case files ask, and compares the
-//! answers with what the files owe. `lalrpop_bench time FILE START` tells how long each part of the
-//! way to the tables of a grammar takes, `lalrpop_bench make KIND SIZE` prints a grammar, and
-//! `lalrpop_bench refuse FILE..` asks cases while memory ends in the calls.
+//! The program that asks the libraries' public calls the questions of case files.
+//!
+//! - `lalrpop_bench FILE..` compares the results with the expected texts of the files.
+//! - `lalrpop_bench refuse FILE..` asks cases while allocations are refused in the calls.
+//! - `lalrpop_bench time FILE START` prints the time of each part of making the tables of a
+//!   grammar.
+//! - `lalrpop_bench make KIND SIZE` prints a grammar.
 #![tactic(auto)]
 
 mod ask;
@@ -32,7 +35,7 @@ fn main(rt: HostRuntime) -> ExitCode {
     }
 }
 
-// Does what the words ask for, and answers the status.
+// Does what the arguments ask for, and returns the exit status.
 fn run(rt: &HostRuntime) -> anyhow::Result<u8> {
     let mut words = Vec::new(rt.alloc());
     for word in env::args(rt)?.skip(1) {
@@ -53,13 +56,13 @@ fn run(rt: &HostRuntime) -> anyhow::Result<u8> {
     Ok(compare_files(rt, &words)?.status())
 }
 
-// Tells how to call the program.
+// Prints how to call the program, and returns the exit status 2.
 fn usage(rt: &HostRuntime) -> anyhow::Result<u8> {
     eprintln!(rt; "{USAGE}")?;
     Ok(2)
 }
 
-// Times the parts for the file and the start symbol that the words name.
+// Times the parts for the file and the start symbol that the arguments name.
 fn run_time(rt: &HostRuntime, words: &[String]) -> anyhow::Result<u8> {
     let Some((name, others)) = words.split_first() else {
         return usage(rt);
@@ -76,7 +79,7 @@ fn run_time(rt: &HostRuntime, words: &[String]) -> anyhow::Result<u8> {
     }
 }
 
-// Prints the grammar of the kind and the size that the words name.
+// Prints the grammar of the kind and the size that the arguments name.
 fn run_make(rt: &HostRuntime, words: &[String]) -> anyhow::Result<u8> {
     let Some((kind, others)) = words.split_first() else {
         return usage(rt);
@@ -97,7 +100,7 @@ fn run_make(rt: &HostRuntime, words: &[String]) -> anyhow::Result<u8> {
     }
 }
 
-// Compares the files that the words name.
+// Compares the files that the arguments name.
 fn compare_files(rt: &HostRuntime, names: &[String]) -> anyhow::Result<Tally> {
     let mut all = Tally::default();
     for name in names {
@@ -108,7 +111,7 @@ fn compare_files(rt: &HostRuntime, names: &[String]) -> anyhow::Result<Tally> {
     Ok(all)
 }
 
-// Compares a file, and tells how many of its cases agree.
+// Compares a file, and prints how many of its cases agree.
 fn file_tally(rt: &HostRuntime, name: &str) -> anyhow::Result<Tally> {
     let Ok(bytes) = fs::read(rt, name) else {
         println!(rt; "{name}: cannot be read")?;

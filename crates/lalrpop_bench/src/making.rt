@@ -1,5 +1,5 @@
-//! Grammars that are made by rule, so that the tables of large ones can be timed. Each begins with
-//! `S`, which is on no right side.
+//! Grammars that are made by rules, so that the tables of large ones can be timed. The start symbol
+//! of each is `S`, which is on no right side.
 mod keywords;
 mod levels;
 
@@ -9,10 +9,10 @@ use keywords::print_keywords;
 use levels::{print_brackets, print_levels, print_operators, print_statements};
 use std::io;
 
-/// The greatest size.
+/// The greatest size of a grammar.
 pub(crate) const MOST: usize = 1_000_000;
 
-/// Prints the grammar of a kind and a size. False where there is no such kind.
+/// Prints the grammar of a kind and a size. The result is `false` if there is no such kind.
 pub(crate) fn print_grammar(rt: &HostRuntime, kind: &str, size: usize) -> io::Result<bool>
     requires { size ≤ 1000000 }
 {
@@ -31,7 +31,8 @@ pub(crate) fn print_grammar(rt: &HostRuntime, kind: &str, size: usize) -> io::Re
     Ok(true)
 }
 
-// Names of which each stands for the next; the word stands before a line of each name.
+// A chain of nonterminals, each of which derives the next one alone. If `word` is not empty, a line
+// with `word` and the nonterminal comes before each production.
 fn print_chain(rt: &HostRuntime, word: &str, size: usize) -> io::Result<()>
     requires { size ≤ 1000000 }
 {
@@ -45,7 +46,7 @@ fn print_chain(rt: &HostRuntime, word: &str, size: usize) -> io::Result<()>
     println!(rt; "N{size} = \"x\"")
 }
 
-// One right side of so many symbols.
+// One right side with `size` symbols.
 fn print_long(rt: &HostRuntime, size: usize) -> io::Result<()> {
     print!(rt; "S =")?;
     for _place in 0..size {
@@ -54,7 +55,7 @@ fn print_long(rt: &HostRuntime, size: usize) -> io::Result<()> {
     println!(rt; "")
 }
 
-// A state with a shift for each of so many terminals.
+// Productions that give a state with shifts for `size` terminals.
 fn print_terminals(rt: &HostRuntime, size: usize) -> io::Result<()> {
     for place in 0..size {
         println!(rt; "S = \"t{place}\"")?;

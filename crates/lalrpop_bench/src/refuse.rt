@@ -1,4 +1,4 @@
-//! Growths refused in turn: what the public calls answer where memory ends in them.
+//! Refusing allocations in turn: the results of the public calls if memory ends in them.
 use crate::ask::answer;
 use anyhow::Context;
 use case_files::case_file::{Case, CaseFile};
@@ -8,10 +8,10 @@ use std::alloc::{AllocError, Global};
 use std::fs;
 use table_questions::question::{Question, QuestionError};
 
-/// How many cases of each call are asked, unless there are fewer.
+/// The greatest number of cases of each call that are asked.
 const CASES: usize = 3;
 
-/// A question that can be asked again.
+/// A question that can be asked again, with the grammar and the expected text of its case.
 #[derive(Drop)]
 struct Asked<'case> {
     question: Question<'case>,
@@ -29,10 +29,10 @@ impl Attempt for Asked<'_> {
     }
 }
 
-/// Asks some cases of each call in files over and over, where each turn has a little more memory
-/// than the one before, and tells how many turns refused a growth of each. The answer is the status:
-/// 0 where each turn told of want of memory and of nothing else, up to the owed answer, and where
-/// each case had such a turn; 2 where a file can't be read; else 1.
+/// Asks the first cases of each call over and over. Each turn has a little more memory than the one
+/// before. It prints the number of turns of each case in which an allocation was refused. The exit
+/// status is 0 if each such turn reported an allocation failure, the last turn gave the expected
+/// text, and each case had such a turn. It is 2 if a file cannot be read, and else 1.
 pub(crate) fn refuse_in_files(rt: &HostRuntime, names: &[String]) -> anyhow::Result<u8> {
     let mut cases = Vec::new(rt.alloc());
     for name in names {
@@ -47,7 +47,7 @@ pub(crate) fn refuse_in_files(rt: &HostRuntime, names: &[String]) -> anyhow::Res
     refuse_in_cases(rt, &cases)
 }
 
-// Takes the first cases of each call in a file, unless enough of the call are there.
+// Takes the first cases of each call in a file, up to `CASES` of a call.
 fn take_cases(file: CaseFile, cases: &mut Vec<Case>) -> Result<(), AllocError> {
     for case in file.cases {
         if count_of(cases, call_of(&case)) < CASES {
@@ -65,12 +65,12 @@ fn call_of(case: &Case) -> &str {
     }
 }
 
-// How many of the cases ask a call.
+// The number of cases that ask a call.
 fn count_of(cases: &[Case], call: &str) -> usize {
     cases.iter().filter(|case| call_of(case) == call).count()
 }
 
-// Asks cases over and over, and tells of each.
+// Asks cases over and over, and prints the outcome of each.
 fn refuse_in_cases(rt: &HostRuntime, cases: &[Case]) -> anyhow::Result<u8> {
     let mut turns: usize = 0;
     let mut faults: usize = 0;
@@ -102,7 +102,7 @@ fn refuse_in_cases(rt: &HostRuntime, cases: &[Case]) -> anyhow::Result<u8> {
     Ok(if faults == 0 { 0 } else { 1 })
 }
 
-// Asks a case in turn after turn, up to the first that has memory enough.
+// Asks a case in turn after turn, up to the first turn with enough memory.
 fn refuse_case(alloc: Global, case: &Case) -> Result<Outcome, OutOfMemory> {
     let question = Question::new(alloc, case.question.as_str())?;
     let mut asked = Asked {

@@ -1,3 +1,3 @@
-//! What the answers on traces look like.
+//! Texts that show traces and examples.
 pub(crate) mod example;
 pub(crate) mod trace_graph;

@@ -1,4 +1,4 @@
-//! How long each part of the way to the tables of a grammar takes.
+//! The time of each part of making the tables of a grammar.
 mod parts;
 
 ghost use Rattle.lalrpop_base.specs.Words.{IsWellFormed};
@@ -14,8 +14,8 @@ use lalrpop_lr1::inline::inline;
 use parts::{time_canonical, time_first, time_lanes, time_lr0};
 use std::{fs, io};
 
-/// Tells the time of each part for a file and a start symbol, and answers the status: 2 where there
-/// is no grammar. None where the start symbol is no name.
+/// Prints the time of each part for a file and a start symbol, and returns the exit status: 2 if
+/// the file gives no grammar. `None` if the start symbol is no name.
 pub(crate) fn time_file(rt: &HostRuntime, name: &str, start: &str) -> anyhow::Result<Option<u8>> {
     if !is_a_name(start) {
         return Ok(None);
@@ -36,13 +36,13 @@ pub(crate) fn time_file(rt: &HostRuntime, name: &str, start: &str) -> anyhow::Re
     }
 }
 
-// Tells that there is no number left for an action.
+// Prints that no number is left for an action, and returns the exit status 2.
 fn too_many_actions(rt: &HostRuntime, name: &str) -> io::Result<u8> {
     eprintln!(rt; "{name}: too many actions")?;
     Ok(2)
 }
 
-// Times the parts for a grammar, whose marked nonterminals are inlined first.
+// Times the parts for a grammar. Its marked nonterminals are inlined first.
 fn time_read(
     rt: &HostRuntime,
     name: &str,
@@ -67,7 +67,7 @@ fn time_read(
     }
 }
 
-// Times the parts, one after another.
+// Times the parts, one after the other.
 fn time_parts(rt: &HostRuntime, grammar: &Grammar, start: &NonterminalString) -> anyhow::Result<u8>
     requires { IsWellFormed grammar.now }
 {

@@ -1,2 +1,2 @@
--- What the proofs of the functions stand on, a folder for each thing that it is of.
+-- The lemmas that the proofs of the functions use, in a folder for each topic.
 pub mod check

@@ -1,3 +1,3 @@
--- The words of this crate's contracts, by name: where each is defined.
+-- The definitions that the contracts of this crate name, each with its file.
 pub use Rattle.lalrpop_check.specs.check.Check.{HoldCarried, PassCheck}
 pub use Rattle.lalrpop_check.specs.check.ExpectedKernels.{AreMovedKernel, IsKernelAt, IsKernelOf, IsMovedNumber, NumbersRise, no_tokens}

@@ -1,4 +1,4 @@
-//! The check of tables: whoever made them, a yes says that they are faithful.
+//! The check of tables, whoever made them. If it returns `true`, the tables are faithful.
 mod by_number;
 mod carrying;
 mod closing;
@@ -21,7 +21,7 @@ use lalrpop_base::repr::grammar::Grammar;
 use lalrpop_construction::construction::lr::Lr;
 use std::alloc::Global;
 
-// Whether closed states hold what is carried to them.
+// Whether the reductions of closed states hold the tokens that are carried to them.
 fn hold_carried<'grammar>(
     alloc: Global,
     grammar: &'grammar Grammar,
@@ -41,11 +41,16 @@ fn hold_carried<'grammar>(
     Ok(held)
 }
 
-/// Whether states are tables of a grammar: state 0 holds the closure of the start's productions,
-/// each target that of what was moved, transitions and reductions are what the items say, the
-/// tokens that are carried over the states' own edges lie inside those of the reductions, and no
-/// state has a conflict. Each item of a state is visited a small constant number of times for each
-/// token.
+/// Whether states are tables of a grammar. These conditions are checked:
+///
+/// - State 0 is the closure of the start symbol's productions.
+/// - Each target of an edge is the closure of the moved items.
+/// - Transitions and reductions are those of the items.
+/// - Each reduction holds the tokens that the states' own edges carry to it.
+/// - No state has a conflict.
+///
+/// Each item of a state is visited a small constant number of times for each token. `OutOfMemory`
+/// if an allocation fails.
 #[tactic(auto, using(lalrpop_construction::proofs::theory::construction::Lookaheads::nothing_fits))]
 pub fn check_tables<'grammar>(
     alloc: Global,
@@ -66,7 +71,8 @@ pub fn check_tables<'grammar>(
     check_over(alloc, grammar, &lr, start, states)
 }
 
-/// As `check_tables`, where a construction without lookahead is at hand.
+/// Returns the same as `check_tables`. The caller passes `lr`, a construction without lookahead of
+/// the same grammar and start symbol, so none is made.
 pub fn check_over<'grammar>(
     alloc: Global,
     grammar: &'grammar Grammar,

@@ -1,4 +1,4 @@
--- The theory of LR(1) parsing, over the definitions of specs alone.
+-- Lemmas on lists, sets and collections, over the definitions of specs alone.
 pub mod collections
 pub mod lists
 pub mod sets

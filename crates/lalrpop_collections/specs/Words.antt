@@ -1,4 +1,4 @@
--- The words of this crate's contracts, by name: where each is defined.
+-- The list of the definitions that this crate's contracts use, with the place of each.
 pub use Rattle.lalrpop_collections.specs.lists.Bits.{Bits, IsRising, bits_of, has, has-at, has-bits_of, has-join, has-no_bits, has-place}
 pub use Rattle.lalrpop_collections.specs.lists.Bits.{has-rising, has-with_bit, join, join_twice, new_bit, no_bits, rising, same_bits, with_bit}
 pub use Rattle.lalrpop_collections.specs.lists.CheckSets.{HaveSame}

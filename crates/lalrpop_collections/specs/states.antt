@@ -1,2 +1,2 @@
--- States and their items.
+-- Kernels of states, by number.
 pub mod Kernels

@@ -1,4 +1,5 @@
-//! What values are pushed into: lists, sets, maps of them, and nothing at all.
+//! Collections, into which items are pushed: lists, sets, maps of collections, and `()`, which
+//! keeps nothing.
 pub mod multimap;
 pub mod queue;
 pub mod sets;
@@ -19,24 +20,24 @@ pub type Map<K, V> = BTreeMap<K, V>;
 /// A set whose values are kept in order.
 pub type Set<T> = BTreeSet<T>;
 
-/// A value that others can be pushed into.
+/// A collection, into which items can be pushed.
 pub trait Collection {
     type Item;
 
-    // The two hold the same.
+    // Two collections have the same contents.
     ghost same: { Self → Self → Type 0 };
 
-    // It holds nothing.
+    // A collection has no items.
     ghost is_empty: { Self → Type 0 };
 
-    // The second is the first with the item pushed.
+    // The second collection is the first one with the item pushed.
     ghost pushes: { Self → Self.Item → Self → Type 0 };
 
-    /// A collection that holds nothing yet.
+    /// A collection without items.
     fn empty(alloc: Global) -> Self
         ensures { is_empty result };
 
-    /// Pushes an item, and answers whether the collection changed.
+    /// Pushes an item, and returns whether the collection changed.
     fn push(&mut self, item: Self::Item) -> Result<bool, OutOfMemory>
         ensures pushed { IfOk result (λ _. pushes self.old item self.new) }
         ensures told { IfOk result
@@ -105,7 +106,8 @@ impl<T: Ord + Drop> Collection for BTreeSet<T> {
     ghost same_itself = { λ _. refl };
 }
 
-/// A second push of an equal value into a set changes nothing.
+/// Pushes two equal values into a set. The result is `false`, since the second push changes
+/// nothing.
 pub fn push_twice<T: Ord + Drop>(set: &mut Set<T>, item: T, again: T) -> Result<bool, OutOfMemory>
     requires { T.cmp item again ≡ Equal }
     ensures { IfOk result (λ changed. changed ≡ false) }

@@ -1,4 +1,4 @@
-//! Types whose `==` tells apart all that clauses tell apart.
+//! Types whose `==` is `true` only for values that clauses see as equal.
 ghost use Rattle.std.specs.Prelude.{◌≡◌, ◌↔◌, IsTrue, IfSome, IsNone, Contains};
 ghost use Rattle.lalrpop_collections.specs.lists.Places.{IsFirstPlace};
 ghost use Rattle.std.proofs.Common.{eqb-true};
@@ -7,7 +7,7 @@ ghost use Rattle.lalrpop_collections.specs.lists.Exact.{Exactly, text_exact, lis
 use crate::sequence::Sequence;
 use crate::text::Text;
 
-/// `==` answers true at equal values alone.
+/// A type whose `==` is `true` for equal values only.
 pub trait Exact: Eq {
     ghost exact: { Exactly Self.eq };
 }
@@ -24,14 +24,14 @@ impl<T: Exact> Exact for Sequence<T> {
     ghost exact = { list_exact T.exact };
 }
 
-/// `==`, as a test of being one value.
+/// Whether two values are equal, by `==`.
 pub fn equal<T: Exact>(a: &T, b: &T) -> bool
     ensures { IsTrue result ↔ (a.now ≡ b.now) }
 {
     a == b
 }
 
-/// The first place of a value in a list.
+/// The first place of a value in a list: the index of the first equal entry.
 pub fn place_of<T: Exact>(items: &[T], item: &T) -> Option<usize>
     ensures found { IfSome result (λ place. IsFirstPlace items.now item.now place) }
     ensures absent { IsNone result → ¬ Contains items.now item.now }

@@ -1,4 +1,4 @@
-//! A text, seen as its bytes.
+//! A text, which clauses see as the list of its bytes.
 mod leading_bytes;
 
 ghost use Rattle.std.specs.Fmt.{styled_text};
@@ -22,13 +22,14 @@ use std::hash::{Hash, Hasher};
 use std::marker::Model;
 use std::sync::Arc;
 
-/// Copies share the bytes. Texts that differ in the first eight bytes are compared by these alone.
+/// A text, whose copies share its bytes. Texts that differ in the first eight bytes are compared by
+/// these bytes alone.
 #[derive(Drop)]
 pub struct Text {
     shared: Arc<Leading>,
 }
 
-// A string behind its leading number.
+// A string with its leading number, which is made from the first eight bytes of the string.
 #[derive(Drop)]
 struct Leading {
     number: u64,
@@ -48,13 +49,14 @@ impl Model for Text {
 }
 
 impl Text {
+    /// A text with the bytes of a string slice, which are copied.
     pub fn new(alloc: Global, text: &str) -> Result<Self, OutOfMemory>
         ensures { IfOk result (λ made. made ≡ text.now) }
     {
         Text::from_string(alloc, String::from_str(alloc, text)?)
     }
 
-    /// Takes a string as it is: its bytes are not copied.
+    /// A text with the bytes of a string, which are not copied.
     pub fn from_string(alloc: Global, string: String) -> Result<Self, OutOfMemory>
         ensures { IfOk result (λ made. made ≡ string_bytes string) }
     {
@@ -64,7 +66,7 @@ impl Text {
         })
     }
 
-    /// The string. Its bytes are copied only where a copy of the text shares them.
+    /// The string of the text. Its bytes are copied only if a copy of the text shares them.
     pub fn into_string(self, alloc: Global) -> Result<String, OutOfMemory>
         ensures { IfOk result (λ string. string_bytes string ≡ self) }
     {
@@ -74,6 +76,7 @@ impl Text {
         }
     }
 
+    /// The text as a string slice.
     pub fn as_str(&self) -> &str
         ensures { result.now ≡ self.now }
     {
@@ -88,8 +91,8 @@ impl Text {
         self.shared.as_ref().number
     }
 
-    // The order of two texts with one leading number. Where no byte stands behind the leading ones,
-    // their lengths tell it.
+    // The order of two texts with the same leading number. If neither text has more than eight
+    // bytes, the order is that of their lengths.
     fn order_led(&self, other: &Text) -> Ordering
         requires same { leading_number self.now ≡ leading_number other.now }
         requires own { AreBytes self.now }
@@ -103,11 +106,12 @@ impl Text {
         own.cmp(others)
     }
 
-    /// The allocator with which it was made.
+    /// The allocator with which the text was made.
     pub fn allocator(&self) -> Global {
         *self.shared.as_ref().string.allocator()
     }
 
+    /// A copy, which shares the bytes. It keeps the allocator of the text.
     pub fn clone(&self, _alloc: Global) -> Result<Self, OutOfMemory>
         ensures { IfOk result (λ copy. copy ≡ self.now) }
     {

@@ -1,4 +1,4 @@
--- The words of this crate's contracts, by name: where each is defined.
+-- The definitions that the contracts of this crate use, by the modules that have them.
 pub use Rattle.lalrpop_construction.specs.canonical.CanonicalAnswers.{AreCanonicalTables, AreCanonicalTablesOrCount, FailsByConflicts, HasCanonicalConflicts, IsConflictCount, LacksTables, MatchTablesOrCount, up_to_greatest}
 pub use Rattle.lalrpop_construction.specs.closures.EpsilonMoves.{AreBegunWith, AreEpsilonMoves, IsBegunWith}
 pub use Rattle.lalrpop_construction.specs.closures.Sharing.{AllFit, HasShare, IsFront, IsNamed, IsShared, IsSharing, MayFollow, MayFollowIn, Shared, Shares, StandsBehind}

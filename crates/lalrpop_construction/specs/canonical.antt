@@ -1,2 +1,2 @@
--- Canonical states and LR(0) states.
+-- The results of the canonical construction.
 pub mod CanonicalAnswers

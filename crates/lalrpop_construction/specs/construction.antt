@@ -1,4 +1,4 @@
--- The states that a construction makes: kernels, transitions and reductions.
+-- The states that a construction makes, and its results.
 pub mod Building
 pub mod EarlyStop
 pub mod Ready

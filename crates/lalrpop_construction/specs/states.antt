@@ -1,4 +1,4 @@
--- States and their items.
+-- Canonical states, LR(0) states, and states by number.
 pub mod Canonical
 pub mod Lr0
 pub mod NumberedStates

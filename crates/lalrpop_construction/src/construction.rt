@@ -1,4 +1,4 @@
-//! The construction of LR(0) and LR(1) states, for every lookahead.
+//! The construction of LR(0) and canonical LR(1) states, for any lookahead.
 pub mod canonical;
 pub mod closure;
 mod epsilon_moves;

@@ -1,14 +1,15 @@
-//! How tables are made.
+//! The options of a construction of tables.
 ghost use Rattle.std.specs.Prelude.{◌≡◌};
 
-/// Which construction decides.
+/// The method by which LR(1) tables are made. The lane method falls back on the canonical
+/// construction if it finds no tables that pass the check.
 #[derive(Clone, Copy, Debug, PartialEq, Eq)]
 pub enum Method {
     Lane,
     Canonical,
 }
 
-/// What a construction of LR(1) states is asked for.
+/// The method by which LR(1) states are made, and its limits.
 #[derive(Clone, Copy, Debug, PartialEq, Eq)]
 pub struct Options {
     pub method: Method,

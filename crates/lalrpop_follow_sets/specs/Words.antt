@@ -1,4 +1,4 @@
--- The words of this crate's contracts, by name: where each is defined.
+-- The definitions that the contracts of this crate name, each with its file.
 pub use Rattle.lalrpop_follow_sets.specs.lanes.FollowGraphs.{HasBitAtOnce, HasLookbackNodes, HaveBegunNodes, IsFollowGraph, IsFollowNode, IsUnionOver}
 pub use Rattle.lalrpop_follow_sets.specs.lanes.FollowSets.{FollowsAtOnce, HasLookaheadBits, HoldsLookaheads, InFollow, IncludesFollow, IsLookahead, LeadsOver, at_once}
 pub use Rattle.lalrpop_follow_sets.specs.lanes.FollowSets.{ends_input, included, is_first_behind}

@@ -1,3 +1,3 @@
--- What follows nonterminals in states, by one pass.
+-- The follow sets of nonterminals in states, by one pass.
 pub mod FollowNodes
 pub mod FollowWalks

@@ -1,4 +1,5 @@
-//! What follows nonterminals in states: the tokens of all lanes, in one pass over the states.
+//! The follow sets of nonterminals in states, which give the tokens of all lanes, by one pass over
+//! the states.
 //!
 //! - `follow_sets`: the pass (DeRemer and Pennello 1982).
 #![tactic(auto)]

@@ -1,2 +1,2 @@
--- States merged where they have the same dotted productions.
+-- The merge of states with the same dotted productions.
 pub mod Collapse

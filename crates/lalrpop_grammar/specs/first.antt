@@ -1,4 +1,4 @@
--- FIRST, and how it is found.
+-- FIRST sets, and the steps that compute them.
 pub mod First
 pub mod FirstNumbers
 pub mod FirstSets

@@ -1,2 +1,2 @@
--- Lanes traced back over LR(0) states, and the tokens that they find.
+-- Lanes traced back over LR(0) states, and the tokens that they give.
 pub mod Lanes

@@ -1,4 +1,5 @@
--- Parse trees, valid items and runs of the parser: what is promised speaks of these.
+-- Parse trees, valid items and runs of the parser. The promises of the main contract are about
+-- these.
 pub mod Laws
 pub mod Runs
 pub mod Trees

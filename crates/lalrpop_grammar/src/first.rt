@@ -1,4 +1,5 @@
-//! FIRST: the terminals with which what a list of symbols derives can begin.
+//! FIRST sets. FIRST of a list of symbols is the set of the terminals with which a list that it
+//! derives can begin.
 mod fixpoint;
 mod names;
 mod numbered;
@@ -21,7 +22,7 @@ use lalrpop_collections::memory::OutOfMemory;
 use std::alloc::Global;
 use std::marker::Model;
 
-/// The first sets of the nonterminals of a grammar. Clauses see them as the rules of the grammar.
+/// The FIRST sets of the nonterminals of a grammar. Clauses see them as the rules of the grammar.
 #[derive(Drop)]
 pub struct FirstSets<'grammar> {
     grammar: &'grammar Grammar,
@@ -41,7 +42,7 @@ impl<'grammar> Model for FirstSets<'grammar> {
 }
 
 impl<'grammar> FirstSets<'grammar> {
-    /// The first sets of a grammar.
+    /// The FIRST sets of a grammar.
     pub fn new(alloc: Global, grammar: &'grammar Grammar) -> Result<Self, OutOfMemory>
         requires { IsWellFormed grammar.now }
         ensures made { IfOk result (λ sets. sets ≡ rules_of grammar.now) }
@@ -50,8 +51,8 @@ impl<'grammar> FirstSets<'grammar> {
         Ok(FirstSets { grammar, sets })
     }
 
-    /// FIRST of the symbols, with `Eof` where they are nullable. A name without an entry has the
-    /// empty set.
+    /// FIRST of the symbols, with `Eof` if the symbols are nullable. The set of a name without an
+    /// entry is empty.
     pub fn first0(&self, alloc: Global, symbols: &[Symbol]) -> Result<TokenSet, OutOfMemory>
         requires known { HasKnownTerminals self.now.terminals symbols.now }
         ensures first { IfOk result (λ set. IsFirstSet self.now symbols.now set) }
@@ -59,7 +60,8 @@ impl<'grammar> FirstSets<'grammar> {
         first_by(alloc, &self.sets, &self.grammar.terminals, symbols)
     }
 
-    /// FIRST of the symbols, with `follow` in the place of `Eof` where they are nullable.
+    /// FIRST of the symbols, with the tokens of `follow` instead of `Eof` if the symbols are
+    /// nullable.
     pub fn first1(
         &self,
         alloc: Global,
@@ -87,6 +89,7 @@ impl<'grammar> FirstSets<'grammar> {
         has_eof(&self.sets, &self.grammar.terminals, name)
     }
 
+    /// A copy of the sets, for the same grammar.
     pub fn clone(&self, alloc: Global) -> Result<Self, OutOfMemory>
         ensures made { IfOk result (λ copy. copy ≡ self.now) }
     {

@@ -1,11 +1,11 @@
-//! Laws over the types of grammars. The contract of each function is the law. Only the last one does
-//! something: it returns the constant of which its law speaks.
+//! Laws of the types of grammars. The contract of each function is the law. Only the last function
+//! does something: it returns the constant of which its law speaks.
 ghost use Rattle.std.specs.Prelude.{◌≡◌};
 ghost use Rattle.lalrpop_grammar.specs.grammars.Orders.{TerminalsCompare, SymbolsCompare, TokensCompare, ProductionsCompare};
 
 use crate::lookahead::token::Token;
 
-/// The orders that are derived from declarations.
+/// The orders that are derived from the declarations of types.
 pub fn orders()
     ensures terminals { TerminalsCompare }
     ensures symbols { SymbolsCompare }

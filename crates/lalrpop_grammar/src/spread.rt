@@ -1,4 +1,4 @@
-//! Least sets over the edges of a graph.
+//! The least sets over the edges of a graph.
 ghost use Rattle.std.specs.Prelude.{◌≡◌, ◌<◌, ℕ, length, Contains, IfOk, IfSome, IfNone, OnOk, [], ◌↔◌};
 ghost use Rattle.lalrpop_collections.specs.lists.Spreading.{HoldsBit, IsJoinedInto, IsSent, IsSpread, edge_ends};
 
@@ -8,7 +8,8 @@ use lalrpop_collections::memory::OutOfMemory;
 use std::alloc::Global;
 use std::mem::replace;
 
-/// Each set joined with those of all numbers from which edges lead to its own. Nothing is copied.
+/// Joins into the set of each number the sets of all numbers from which edges lead to it, in one
+/// step or more. The edges of number n lead to the numbers in `edges[n]`. No set is copied.
 pub fn spread(
     alloc: Global,
     sets: Vec<TokenSet>,
@@ -30,7 +31,7 @@ pub fn spread(
     Ok(sets)
 }
 
-// Joins the set of a number into those of the ends of its edges. Those that grew wait.
+// Joins the set of `from` into the sets at the ends of its edges. The ends whose sets grew wait.
 fn send(
     alloc: Global,
     from: usize,
@@ -52,7 +53,7 @@ fn send(
     Ok(())
 }
 
-// Joins the set of a number into that of another, and tells whether that one grew.
+// Joins the set of `from` into that of `to`, and returns whether the latter grew.
 fn join_into(
     alloc: Global,
     from: usize,
@@ -66,7 +67,7 @@ fn join_into(
     if from == to {
         return Ok(false);
     }
-    let set = replace(&mut sets[from], TokenSet::empty_set(alloc)); // put back below
+    let set = replace(&mut sets[from], TokenSet::empty_set(alloc)); // `set` is put back below
     let grew = sets[to].union_with(&set)?;
     sets[from] = set;
     Ok(grew)

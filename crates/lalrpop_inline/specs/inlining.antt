@@ -1,4 +1,4 @@
--- Nonterminals that are inlined.
+-- The inlining of nonterminals.
 pub mod InlineChoices
 pub mod InlineMeetings
 pub mod InlineOrder

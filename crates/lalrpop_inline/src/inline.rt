@@ -23,9 +23,10 @@ use lalrpop_base::repr::norm_error::NormResult;
 use std::alloc::Global;
 use users::users_of;
 
-/// The marked nonterminals in an order to inline them. They are visited in the order of their
-/// names, and what one mentions from the last mention to the first. A refusal names the nonterminal
-/// at which the walk came to one that it was in.
+/// The marked nonterminals in an order to inline them: each after the marked ones that it mentions.
+/// A depth first walk visits them in the order of their names, and those that one mentions from the
+/// last mention to the first. If the walk comes back to a nonterminal that it is in, the error is
+/// `Cycle` and names that one. The error is `Memory` if an allocation fails.
 pub fn inline_order(alloc: Global, grammar: &Grammar) -> NormResult<Vec<NonterminalString>>
     ensures order { IfOk result (λ order. IsInlineOrder grammar.now order.items) }
     ensures acyclic { OnOk result ((a : NonterminalString) → IsOnRing grammar.now a → ⊥) }
@@ -35,8 +36,10 @@ pub fn inline_order(alloc: Global, grammar: &Grammar) -> NormResult<Vec<Nontermi
     ordered(alloc, grammar)
 }
 
-/// The grammar with its marked nonterminals inlined. They keep their entries; new actions are
-/// numbered entry by entry, in the order of the names, as each nonterminal is inlined.
+/// The grammar with its marked nonterminals inlined. They keep their entries. New actions are
+/// numbered as each nonterminal is inlined, entry by entry in the order of the names. The error is
+/// `Cycle` if a nonterminal would have to be inlined into itself. It is `TooManyActions` if an
+/// action would have a number above 4294967295, and `Memory` if an allocation fails.
 pub fn inline(alloc: Global, grammar: Grammar) -> NormResult<Grammar>
     requires { IsWellFormed grammar }
     ensures inlined { IfOk result (IsInlined grammar) }

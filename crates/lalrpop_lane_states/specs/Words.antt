@@ -1,4 +1,4 @@
--- The words of this crate's contracts, by name: where each is defined.
+-- The definitions that the contracts of this crate name, each with its file.
 pub use Rattle.lalrpop_lane_states.specs.lane_states.LaneStates.{AreLalrLaneTables, AreLaneStates, AreLaneTables, AreLr0Tables, AreTraced}
 pub use Rattle.lalrpop_lane_states.specs.lane_states.LaneStates.{HasActionBit, HaveFullItems, HaveMeetingLanes}
 pub use Rattle.lalrpop_lane_states.specs.lane_states.LaneStates.{HoldAllFrom, HoldsAll, IsAttempted, IsBitAt, IsFull, IsPromoted, IsResolvedAt, IsStep}

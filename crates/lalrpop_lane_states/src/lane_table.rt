@@ -1,5 +1,5 @@
-//! The lane way: LR(0) states whose reductions get the tokens that tracing back over the states
-//! finds.
+//! The lane method: LR(0) states whose reductions get the tokens that are found by tracing back
+//! over the states.
 pub mod construct;
 
 ghost use Rattle.std.specs.Prelude.{IfOk, IfErr, MatchResult};
@@ -15,8 +15,10 @@ use lalrpop_base::repr::grammar::Grammar;
 pub use lalrpop_lanes::lane_table::{context_set, have_own_items, lane, reduces_own, table};
 use std::alloc::Global;
 
-/// The lane tables of a grammar: its LR(0) states, which are copied at most so often where two
-/// actions share a token; or these with their conflicts, as they stood when no more could be done.
+/// The lane tables of a grammar and a start symbol: the LR(0) states with the tokens of their
+/// lanes. If two actions share a token, states are copied, at most `max_copies` times in all. If
+/// there are no tables, the error has the states as they are then, with their conflicts. An
+/// allocation failure is an error, too.
 pub fn build_lane_table_states<'grammar>(
     alloc: Global,
     grammar: &'grammar Grammar,
@@ -28,7 +30,7 @@ pub fn build_lane_table_states<'grammar>(
         (λ tables. AreCopiedTables (rules_of grammar.now) start max_copies tables.items) }
     ensures failure { IfErr result (FailsByCopies (rules_of grammar.now) start max_copies) }
 
-    // Where the start symbol stands on no right side: an LALR(1) grammar has no copies.
+    // If the start symbol is on no right side, the tables of an LALR(1) grammar have no copies.
     ensures lalr { IsOnNoRightSide (productions grammar.now) start →
         MatchResult result (λ tables. IsLALR1 (productions grammar.now) start →
         AreLalrLaneTables (rules_of grammar.now) start tables.items)

@@ -1,4 +1,4 @@
--- The words of this crate's contracts, by name: where each is defined.
+-- The definitions that the contracts of this crate name, each with its file.
 pub use Rattle.lalrpop_lanes.specs.lane_tables.LaneRows.{AddsRows, AreGathered, AreRowsOf, Cells, HasCells, HasIn, HasNext, JoinsRow, MakesRow, MeetsRow, Rows, StandsFor}
 pub use Rattle.lalrpop_lanes.specs.lane_tables.LaneRows.{Successors, ThisRow, row_at}
 pub use Rattle.lalrpop_lanes.specs.lane_tables.LaneTableStates.{AreReached, HasCellsBelow, IsClosedEdge}

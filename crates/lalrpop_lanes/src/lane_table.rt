@@ -1,4 +1,4 @@
-//! Lanes, and the table of the tokens that they have.
+//! Lanes, and the table of their tokens.
 pub mod context_set;
 pub mod lane;
 mod own;

@@ -1,4 +1,4 @@
-//! Lanes: the tokens that tracing back over LR(0) states finds, and lane tables.
+//! Lanes: the tokens that are found by tracing back over LR(0) states, and lane tables.
 //!
 //! - `lane_table`: the tracer of lanes, and the lane table.
 #![tactic(auto)]

@@ -1,4 +1,5 @@
-//! The promise on one page: tables for LR(1) grammars alone, and by them exactly their parse trees.
+//! The main contract: tables for LR(1) grammars alone, and by these tables exactly their parse
+//! trees.
 pub mod any_start;
 pub mod by_tables;
 mod parse_error;
@@ -21,7 +22,8 @@ pub use parse_error::ParseError;
 use parse_error::told_by;
 use std::alloc::Global;
 
-/// Builds the tables of a grammar, and parses a list of terminals by them, in at most so many steps.
+/// Builds the tables of a grammar, and parses a list of terminals by them, in at most `limit`
+/// steps. Each shift and each reduction is one step. The error says why there is no tree.
 pub fn parse<'grammar>(
     alloc: Global,
     grammar: &'grammar Grammar,
@@ -32,25 +34,27 @@ pub fn parse<'grammar>(
 ) -> Result<ParseTree, ParseError<'grammar>>
     requires { IsWellFormed grammar.now }
 
-    // There are tables exactly where the grammar is accepted.
+    // There are tables exactly if the grammar is accepted.
     ensures decides { HadTablesWhere
         (IsAccepted (Collapses grammar.now options.now) grammar.now start) result }
 
-    // By them, where the start symbol is on no right side: a tree is a parse tree within the limit,
+    // If the start symbol is on no right side, a tree is a parse tree within the limit.
     ensures parses { IfOk result (λ tree. IsOnNoRightSide (productions grammar.now) start →
         IsTreeWithin limit tokens.items (tree_of tree) (productions grammar.now) start) }
-    // and a refusal names the first wrong token.
+    // Under the same condition a refusal names the first wrong token.
     ensures refuses { IfErr result (IfRefusedAt (λ token.
         IsOnNoRightSide (productions grammar.now) start →
         IsFirstWrong (productions grammar.now) start tokens.items token)) }
-    // The limit is told where that many steps were made and there is another.
+    // If the limit is the result, `limit` steps were made and there is another.
     ensures limit { IfErr result (IfLimitTold
         (IsCutOffByTables (productions grammar.now) start tokens.items limit)) }
-    // A list with a parse tree has that tree as its answer, or the limit, and so it has one alone.
+    // By tables, if the start symbol is on no right side, a list with a parse tree gives this tree,
+    // the limit or an allocation failure. So it has no other one.
     ensures one_tree { IsOnNoRightSide (productions grammar.now) start →
         TellsTrees limit tokens.items result (productions grammar.now) start }
 
-    // By which tables, whatever the start symbol; and where there are none, by which conflicts.
+    // A tree, a refusal or the limit comes from a run by tables, whatever the start symbol. If
+    // there are no tables, the error has the conflicts.
     ensures run { HadTables result →
         IsToldByTables grammar.now options.now start tokens.items limit result }
     ensures conflicts { IfErr result (IfConflicts (HasConflictsOf

@@ -1,4 +1,4 @@
-// Actions that can fail, which no text says.
+// Inlining of actions that can fail, which no text gives.
 use lalrpop_base::repr::grammar::{Grammar, is_well_formed};
 use lalrpop_base::repr::norm_error::NormResult;
 use lalrpop_lr1::inline::inline;
@@ -6,7 +6,7 @@ use std::alloc::Global;
 use std::test::Fail;
 use test_fixtures::texts::grammar;
 
-// A grammar inlined, where it is well-formed.
+// The grammar with its marked nonterminals inlined. `None` if it is not well-formed.
 fn inlined(alloc: Global, grammar: Grammar) -> Option<NormResult<Grammar>> {
     if !is_well_formed(&grammar) {
         return None;
@@ -14,7 +14,7 @@ fn inlined(alloc: Global, grammar: Grammar) -> Option<NormResult<Grammar>> {
     Some(inline(alloc, grammar))
 }
 
-// A new action can fail where the outer one or an inlined one can.
+// A new action can fail if the outer action or an inlined one can.
 #[test]
 fn new_actions_fail_where_a_part_does(rt: HostRuntime) -> Result<(), Fail> {
     let alloc = rt.alloc();

@@ -1,4 +1,4 @@
-// Nodes and graphs of traces: how nodes are compared, and which terminals a graph knows.
+// The nodes and graphs of traces: how nodes are compared, and which terminals a graph has.
 use grammar_text::symbols::{literals, name_of};
 use lalrpop_base::lr1_core::item::Item;
 use lalrpop_base::repr::grammar::Grammar;
@@ -8,7 +8,7 @@ use std::alloc::Global;
 use std::test::Fail;
 use test_fixtures::texts::{ONE, first_production, grammar};
 
-/// The graph of one edge, from S to the beginning of its first production.
+/// The graph of one edge, from S to its first production with the dot at the start.
 pub(crate) fn one_edge<'g>(alloc: Global, grammar: &'g Grammar) -> Result<TraceGraph<'g>, Fail> {
     let item = Item::lr0(first_production(alloc, grammar, "S")?, 0);
     let from = TraceGraphNode::from(name_of(alloc, "S")?);
@@ -29,7 +29,7 @@ fn terminals_of_a_trace_graph(rt: HostRuntime) -> Result<(), Fail> {
     Ok(())
 }
 
-// A terminal behind the symbol behind the dot has to be known too.
+// A terminal in the suffix of an edge must be known, too.
 #[test]
 fn terminals_of_a_suffix(rt: HostRuntime) -> Result<(), Fail> {
     let alloc = rt.alloc();
@@ -42,7 +42,7 @@ fn terminals_of_a_suffix(rt: HostRuntime) -> Result<(), Fail> {
     Ok(())
 }
 
-// A name comes before an item.
+// A nonterminal comes before an item.
 #[test]
 fn nodes_are_compared(rt: HostRuntime) -> Result<(), Fail> {
     let alloc = rt.alloc();

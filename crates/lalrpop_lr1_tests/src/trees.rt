@@ -1,4 +1,4 @@
-// Parse trees: what they print, and their equality.
+// Parse trees: their printed texts, and their equality.
 use grammar_text::symbols::name_of;
 use lalrpop_lr1::interpret::ParseTree;
 use std::alloc::Global;
@@ -25,7 +25,7 @@ fn trees_are_compared(rt: HostRuntime) -> Result<(), Fail> {
     Ok(())
 }
 
-// A tree of so many nonterminals, one below the other, over a terminal.
+// A tree of `count` nonterminals, one below the other, over a terminal.
 fn chain(alloc: Global, count: usize, leaf: &str) -> Result<ParseTree, Fail> {
     let mut tree = ParseTree::Terminal(literal(alloc, leaf)?);
     for _ in 0..count {
@@ -34,7 +34,7 @@ fn chain(alloc: Global, count: usize, leaf: &str) -> Result<ParseTree, Fail> {
     Ok(tree)
 }
 
-// Nothing recurses as deep as a tree.
+// Copying, comparing and printing a tree do not recurse, so the tree can be this deep.
 #[test]
 fn deep_trees(rt: HostRuntime) -> Result<(), Fail> {
     let alloc = rt.alloc();

@@ -1,4 +1,5 @@
-// Reports to writers that take a part of the text, and of results that no construction gives.
+// Reports to writers that take a part of the text, and reports of results that no construction
+// gives.
 
 use grammar_text::symbols::name_of;
 use lalrpop_base::lookahead::nil::Nil;
@@ -13,7 +14,7 @@ use std::io::{self, ErrorKind, Write};
 use std::test::Fail;
 use test_fixtures::texts::{ONE, grammar};
 
-/// The report of one production's states, with lookahead.
+/// The report of the LR(1) states of one production.
 pub(crate) const ONE_TERMINAL: &str = "Lalrpop Report File
 ========================================
 
@@ -47,8 +48,8 @@ State 1 {
 }
 ";
 
-/// A writer that takes at most `step` bytes a call and `left` bytes in all, and then has the fault,
-/// or answers 0 where there is none.
+/// A writer that takes at most `step` bytes in a call and `left` bytes in all. After that it
+/// returns the fault, or 0 if it has none.
 #[derive(Drop)]
 pub(crate) struct Taking {
     pub(crate) taken: Vec<u8>,
@@ -86,7 +87,8 @@ fn told(answer: &Result<(), ReportError>) -> &'static str {
     }
 }
 
-// What a report to a writer that stops is answered, its faults, and what the writer took.
+// The result of a report to a writer that stops, the number of its faults, and the bytes that the
+// writer took.
 fn sent(
     alloc: Global,
     terminals: &TerminalSet,
@@ -106,8 +108,8 @@ fn sent(
     (told(&answer), faults, out.into_inner().taken)
 }
 
-// What went out is a beginning of the text, so that a writer that takes ten bytes holds `Lalrpop
-// Re`.
+// The bytes that the writer took are a beginning of the text. For example, a writer that takes ten
+// bytes has `Lalrpop Re`.
 #[test]
 fn writers_that_stop(rt: HostRuntime) -> Result<(), Fail> {
     let alloc = rt.alloc();
@@ -137,7 +139,7 @@ fn writers_that_stop(rt: HostRuntime) -> Result<(), Fail> {
     Ok(())
 }
 
-/// The report of one production's LR(0) states.
+/// The report of the LR(0) states of one production.
 pub(crate) const WITHOUT_LOOKAHEAD: &str = "Lalrpop Report File
 ========================================
 
@@ -168,7 +170,7 @@ State 1 {
 }
 ";
 
-// The same as `sent`, of a result without lookahead and by a generator of reports.
+// As `sent`, for a result without lookahead and a generator of reports.
 fn generated(
     alloc: Global,
     terminals: &TerminalSet,

@@ -1,3 +1,3 @@
--- The theory of LR(1) parsing, over the definitions of specs alone.
+-- Lemmas on the numbers of a grammar, over the definitions of specs alone.
 pub mod construction
 pub mod numbers

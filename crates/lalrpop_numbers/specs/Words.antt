@@ -1,4 +1,4 @@
--- The words of this crate's contracts, by name: where each is defined.
+-- The list of the definitions that this crate's contracts use, with the place of each.
 pub use Rattle.lalrpop_numbers.specs.numbers.Numbering.{AddsStart, AddsThose, AreAllExpansions, AreEmpty, AreNumbersBehind, IsNumberOf, IsStartFrom, IsStartOf}
 pub use Rattle.lalrpop_numbers.specs.numbers.Numbering.{all_dots, lists_of, with_dots}
 pub use Rattle.lalrpop_numbers.specs.numbers.Numbers.{AreAllNumbered, AreBehindDots, AreExpansions, AreGroupsOf, AreItemsOf, AreNumbered, AreNumbers, IsNumberBehind}

@@ -22,23 +22,24 @@ use rests::{Rest, rests_of};
 use std::alloc::Global;
 use symbols::{list_symbols, numbers_behind};
 
-/// The symbols and dotted productions of a grammar: the number of each is its place in its list.
+/// The symbols and dotted productions of a grammar. The number of each is its place in its list.
 #[derive(Drop)]
 pub struct Numbers<'grammar> {
-    /// The dotted productions, ascending, so that one with its dot moved stands behind it.
+    /// The dotted productions, ascending. If a dot can move, the next entry has the dot moved.
     pub items: Vec<Lr0Item<'grammar>>,
-    /// For each dotted production the number of the symbol behind its dot.
+    /// For each dotted production, the number of the symbol after its dot.
     pub behind: Vec<Option<usize>>,
     /// The symbols of right sides, ascending.
     pub symbols: Vec<Symbol>,
-    /// For each symbol the numbers of its productions with the dot in front.
+    /// For each symbol, the numbers of its productions with the dot at the start.
     pub expansions: Vec<Vec<usize>>,
-    /// For each dotted production its rest, if a nonterminal stands behind its dot.
+    /// For each dotted production, its rest, if a nonterminal is after its dot.
     pub rests: Vec<Option<Rest>>,
 }
 
 impl<'grammar> Numbers<'grammar> {
-    /// Each symbol of a right side is looked up by its text twice, by halving.
+    /// The numbers of a grammar. Each symbol of a right side is looked up by its text twice, in
+    /// logarithmic time.
     pub fn new(
         alloc: Global,
         grammar: &'grammar Grammar,
@@ -62,8 +63,8 @@ impl<'grammar> Numbers<'grammar> {
         })
     }
 
-    /// The number of a dotted production. Those of one production stand side by side in the order
-    /// of their dots, so the number of any of them tells it.
+    /// The number of a dotted production. The dotted productions of one production are next to each
+    /// other, in the order of their dots. So the number of any of them gives those of the others.
     pub fn number_of(&self, item: &Lr0Item<'grammar>) -> Option<usize>
         requires { (g : Rules) × AreNumbers g self.now }
         ensures found { IfSome result (λ k. slice_get self.now.items.items k ≡ Some item.now) }

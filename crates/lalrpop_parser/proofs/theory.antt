@@ -1,3 +1,3 @@
--- What the proofs of the functions stand on, a folder for each thing that it is of.
+-- Lemmas that the proofs of the functions use, in a folder for each subject.
 pub mod runs
 pub mod trees

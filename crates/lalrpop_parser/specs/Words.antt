@@ -1,4 +1,4 @@
--- The words of this crate's contracts, by name: where each is defined.
+-- The definitions that the contracts of this crate name, each with the file that has it.
 pub use Rattle.lalrpop_parser.specs.runs.Answers.{IsAnswer, IsFailure, IsPartialAnswer}
 pub use Rattle.lalrpop_parser.specs.trees.EqualTrees.{equal_tree, tree_exact, tree_same}
 pub use Rattle.lalrpop_parser.specs.runs.FaithfulAnswers.{AnswersTrees, ForEachCanonical, ForEachGrammar, HasEnough, HasOneTree, IfLimit, IfRefused, IsCutOff, IsCutOffByTables}

@@ -1,4 +1,4 @@
--- Parse trees, walked from the left.
+-- Parse trees, walked from left to right.
 pub mod EqualTrees
 pub mod ParseTrees
 pub mod TreeSteps

@@ -22,7 +22,8 @@ use machine::Machine;
 use std::alloc::Global;
 pub use tree::ParseTree;
 
-/// The tree of a list of terminals, by at most so many steps: each shift and each reduction is one.
+/// The parse tree of a list of terminals, in at most `limit` steps. Each shift and each reduction
+/// is one step.
 pub fn interpret<'a, 'grammar, L: LookaheadInterpret>(
     alloc: Global,
     states: &'a [State<'grammar, L>],
@@ -42,14 +43,16 @@ pub fn interpret<'a, 'grammar, L: LookaheadInterpret>(
         tokens.items (nodes (beside (tree_of tree) no_trees)) (tree_of tree)) }
     ensures within { IfOk result (λ tree. nodes (beside (tree_of tree) no_trees) ≤ limit) }
 
-    // The limit is told exactly where that many steps were made and there is another.
+    // The error is `Limit` exactly if `limit` steps were made and there is another, unless an
+    // allocation fails.
     ensures limit { IfErr result
         (IfLimit (IsCutOff (contents_in (L.holds terminals.now) states.now) tokens.items limit)) }
     ensures cut_off { IsCutOff (contents_in (L.holds terminals.now) states.now) tokens.items limit →
         IsLimit result }
 
-    // Where the states are faithful to a grammar, its parse trees within the limit are answered,
-    // and no others.
+    // Let the states be faithful to a grammar whose start symbol is on no right side. Then the list
+    // has at most one parse tree. A tree in the result is that one, and within the limit. If the
+    // list has one, the result is that tree, the limit or an allocation failure.
     ensures one_tree { ForEachGrammar (contents_in (L.holds terminals.now) states.now)
         (HasOneTree tokens.items) }
     ensures parsed { IfOk result (λ tree. ForEachGrammar
@@ -58,8 +61,8 @@ pub fn interpret<'a, 'grammar, L: LookaheadInterpret>(
     ensures parses { ForEachGrammar (contents_in (L.holds terminals.now) states.now)
         (AnswersTrees limit tokens.items states.now result) }
 
-    // A refusal names the first wrong token; over canonical states it comes right behind the last
-    // right one.
+    // For such a grammar a refusal names the first wrong token. Over canonical states it comes
+    // right after the last right one.
     ensures refused { IfErr result (IfRefused (λ _ token. ForEachGrammar
         (contents_in (L.holds terminals.now) states.now)
         (λ g start. IsFirstWrong g start tokens.items token)) states.now) }
@@ -67,8 +70,8 @@ pub fn interpret<'a, 'grammar, L: LookaheadInterpret>(
         (contents_in (L.holds terminals.now) states.now) (λ g start. IsPromptRefusal g start
         (contents_in (L.holds terminals.now) states.now) tokens.items state token)) states.now) }
 
-    // Over canonical states no step is made on a wrong token, and the list has a limit that is
-    // enough for it.
+    // Over canonical states no step is made on a wrong token. From some limit on, the limit is
+    // never the result.
     ensures right { ForEachCanonical (contents_in (L.holds terminals.now) states.now)
         (StepsAreRight (contents_in (L.holds terminals.now) states.now) tokens.items) }
     ensures ends { ForEachCanonical (contents_in (L.holds terminals.now) states.now)
@@ -77,8 +80,8 @@ pub fn interpret<'a, 'grammar, L: LookaheadInterpret>(
     Machine::new(alloc, limit).run(alloc, states, terminals, tokens)
 }
 
-/// The stack of states once all terminals are shifted, the newest last. The end of the input is not
-/// fed.
+/// The stack of states after all terminals are shifted, the newest last. No reduction is made on
+/// `Eof`. The errors are those of `interpret`.
 pub fn interpret_partial<'a, 'grammar, L: LookaheadInterpret>(
     alloc: Global,
     states: &'a [State<'grammar, L>],
@@ -92,8 +95,8 @@ pub fn interpret_partial<'a, 'grammar, L: LookaheadInterpret>(
         (contents_in (L.holds terminals.now) states.now) (begin tokens.items) limit) states.now
         result }
 
-    // As of `interpret`; and where the states are faithful to a grammar, its beginnings are taken,
-    // and no other lists.
+    // The limit and refusals are as those of `interpret`. For a grammar as there, a list with a
+    // stack is one of its beginnings, and no beginning is refused.
     ensures limit { IfErr result
         (IfLimit (IsCutOff (contents_in (L.holds terminals.now) states.now) tokens.items limit)) }
     ensures refused { IfErr result (IfRefused (λ _ token. ForEachGrammar

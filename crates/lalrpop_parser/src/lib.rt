@@ -1,5 +1,5 @@
-//! The parser: it parses lists of terminals by LR(1) states, to trees that are printed, compared and
-//! counted without recursion.
+//! The parser. It parses lists of terminals by LR(1) states. Its trees are printed, copied and
+//! dropped without recursion. They are compared without recursion, too, unless an allocation fails.
 //!
 //! - `interpret`: the parser, its trees and its errors.
 #![tactic(auto)]

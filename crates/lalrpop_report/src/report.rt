@@ -1,5 +1,4 @@
-//! The report of a construction: a text that tells of its states, and of its conflicts where there
-//! are some.
+//! The report of a construction: a text with its states, and with its conflicts if there are some.
 mod conflicts;
 pub mod error;
 mod lines;
@@ -24,8 +23,8 @@ pub use sink::{Counted, Sink};
 use std::alloc::Global;
 pub use whole::report_text;
 
-/// Writes the report of what a construction answers. The text is made whole before its first byte
-/// goes out.
+/// Writes the report of the result of a construction. The whole text is made before its first byte
+/// is written. The error says why the report was not written whole.
 pub fn generate_report<W: Sink>(
     alloc: Global,
     out: &mut W,
@@ -50,7 +49,7 @@ pub fn generate_report<W: Sink>(
     report(alloc, out, terminals, outcome)
 }
 
-// The same for every lookahead.
+// As `generate_report`, for any lookahead.
 fn report<W: Sink, L: LookaheadPrinter<String>>(
     alloc: Global,
     out: &mut W,
@@ -82,6 +81,7 @@ pub struct ReportGenerator<'report, W: Sink> {
 }
 
 impl<'report, W: Sink> ReportGenerator<'report, W> {
+    /// A generator that writes to this sink. The terminals are those of the grammar.
     pub fn new(out: &'report mut W, terminals: &'report TerminalSet) -> Self
         ensures same_sink { result.out.ghost_name ≡ out.entry.ghost_name }
         ensures sink { result.out.now ≡ out.old }
@@ -90,7 +90,8 @@ impl<'report, W: Sink> ReportGenerator<'report, W> {
         ReportGenerator { out, terminals }
     }
 
-    /// Writes the report of what a construction answers, for every lookahead.
+    /// Writes the report of the result of a construction, for any lookahead, as `generate_report`
+    /// does.
     pub fn report_lr_table_construction<L: LookaheadPrinter<String>>(
         &mut self,
         alloc: Global,

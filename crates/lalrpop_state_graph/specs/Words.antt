@@ -1,4 +1,4 @@
--- The words of this crate's contracts, by name: where each is defined.
+-- The definitions that the contracts of this crate use, by the modules that have them.
 pub use Rattle.lalrpop_state_graph.specs.graphs.Copies.{AreCopies, AreReductionsOf}
 pub use Rattle.lalrpop_state_graph.specs.graphs.Copies.{IsCopyOf}
 pub use Rattle.lalrpop_state_graph.specs.graphs.Copies.{index}

@@ -1,7 +1,7 @@
-//! Where the transitions of states lead, by the numbers of states.
+//! The graph of the states of a table, and new numbers for the states.
 //!
-//! - `renumber`: the numbers of the states of a table.
-//! - `state_graph`: where shifts and gotos lead, in both directions.
+//! - `renumber`: new numbers, by which the states with a goto come first.
+//! - `state_graph`: the shifts and gotos of states, by source and by target.
 #![tactic(auto)]
 
 pub mod renumber;

@@ -1,5 +1,5 @@
-//! The numbers of the states of a table: state 0 first, then the states with a goto, then the
-//! others.
+//! New numbers for the states of a table: state 0 is first, then come the states with a goto, and
+//! then the others.
 ghost use Rattle.std.specs.Prelude.{◌≡◌, ◌+◌, ◌<◌, ◌^◌, ◌++◌, ◌∷◌, [], List, length, cond, count_by, IfOk, OnOk};
 ghost use Rattle.lalrpop_base.specs.Words.{AreCoherent, ArePlaces, parted, fails, stands_first, number_in, retargeted, retargeted_all, IsRenumberedState};
 ghost use Rattle.lalrpop_base.specs.Words.{AreRenumbered, AreMoved, GrowsBy};
@@ -10,21 +10,22 @@ use lalrpop_base::memory::OutOfMemory;
 use std::alloc::Global;
 use std::collections::BTreeMap;
 
-// Whether a state stands among the first: state 0, or one with a goto.
+// Whether a state is in the first part: it is state 0 or has a goto.
 fn is_first(state: &Lr1State) -> bool
     ensures { result ≡ stands_first state.now }
 {
     state.index.0 == 0 || !state.gotos.is_empty()
 }
 
-// How many states stand among the first.
+// How many states are in the first part.
 fn count_first(states: &[Lr1State]) -> usize
     ensures { result ≡ count_by stands_first states.now }
 {
     states.iter().filter(|state| is_first(state)).count()
 }
 
-// The next number for a state: one of those at the front, or of those behind.
+// Adds the new number of a state to the list: the next number of its part. `front` and `back` are
+// the next numbers of the two parts.
 fn push_number(
     state: &Lr1State,
     front: &mut usize,
@@ -49,7 +50,7 @@ fn push_number(
     Ok(())
 }
 
-// The new number of each state.
+// The new numbers of the states, in their old order.
 fn new_numbers(alloc: Global, states: &[Lr1State]) -> Result<Vec<usize>, OutOfMemory>
     ensures { IfOk result
         (λ numbers. ArePlaces stands_first states.now (length states.now) numbers.items) }
@@ -63,7 +64,7 @@ fn new_numbers(alloc: Global, states: &[Lr1State]) -> Result<Vec<usize>, OutOfMe
     Ok(numbers)
 }
 
-/// A state's new number; a number outside the list stays.
+/// The new number of a state. A number outside the list stays.
 pub(crate) fn renumbered(numbers: &[usize], index: StateIndex) -> StateIndex
     ensures { result ≡ retargeted (number_in numbers.now) index }
 {
@@ -83,7 +84,8 @@ fn renumber_targets<K: Ord + Drop>(targets: &mut BTreeMap<K, StateIndex>, number
     });
 }
 
-// A state under its new number, with its targets under theirs.
+/// The state with its new number, and with the new numbers of its targets. `numbers` has the new
+/// number of each old one. A number outside the list stays.
 pub fn renumber_state<'grammar>(
     mut state: Lr1State<'grammar>,
     numbers: &[usize],
@@ -96,7 +98,7 @@ pub fn renumber_state<'grammar>(
     state
 }
 
-// Puts a state behind those of its part.
+// Adds a state, under its new number, after the others of its part.
 fn push_state<'grammar>(
     state: Lr1State<'grammar>,
     numbers: &[usize],
@@ -134,8 +136,11 @@ fn move_states<'grammar>(
     Ok(front)
 }
 
-/// The states with state 0 first, then those with a goto, then the others, each part in its old
-/// order, and with the numbers of their places. Linear in the size of the states.
+/// The states under new numbers, in the order of these: state 0, then the states with a goto, then
+/// the others.
+///
+/// Within a part the states keep their order. The time is linear in the size of the states.
+/// `OutOfMemory` if an allocation fails.
 pub fn renumber<'grammar>(
     alloc: Global,
     states: Vec<Lr1State<'grammar>>,

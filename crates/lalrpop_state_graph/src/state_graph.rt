@@ -1,4 +1,4 @@
-//! Where the shifts and gotos of states lead, in both directions.
+//! The graph of states: their shifts and gotos, by source and by target.
 mod copies;
 mod lists;
 pub mod neighbours;
@@ -18,8 +18,8 @@ use lalrpop_base::memory::OutOfMemory;
 use lalrpop_base::repr::Symbol;
 use std::alloc::Global;
 
-/// The shifts and gotos of a list of states, by number. A target that is not in the list is a state
-/// without successors.
+/// The shifts and gotos of a list of states, by the numbers of their sources and of their targets.
+/// A target that is not in the list is a state without successors.
 #[derive(Drop)]
 pub struct StateGraph {
     successors: Vec<Vec<StateIndex>>,
@@ -27,7 +27,8 @@ pub struct StateGraph {
 }
 
 impl StateGraph {
-    /// The graph of the states, numbered by their places.
+    /// The graph of the states. The number of a state is its index in the list. `OutOfMemory` if an
+    /// allocation fails.
     #[tactic(auto, using(crate::proofs::theory::graphs::StateGraphs::empty_graph))]
     pub fn new<'grammar, L>(
         alloc: Global,
@@ -43,7 +44,7 @@ impl StateGraph {
         Ok(graph)
     }
 
-    // Adds the edges of the states from a number on.
+    // Adds the edges of the states whose number is at least `first`.
     fn add_states<'grammar, L>(
         &mut self,
         alloc: Global,
@@ -74,7 +75,7 @@ impl StateGraph {
         Ok(())
     }
 
-    // Adds an edge behind the others.
+    // Adds an edge after the others.
     #[tactic(auto, using(crate::proofs::theory::graphs::StateGraphs::map_cond))]
     fn add_edge(
         &mut self,
@@ -90,8 +91,8 @@ impl StateGraph {
         Ok(())
     }
 
-    /// The targets of the edges of a state: of its gotos and then of its shifts, each by descending
-    /// symbol.
+    /// The targets of the edges of a state: first those of its gotos by descending nonterminal, and
+    /// then those of its shifts by descending terminal.
     pub fn successors(&self, state: StateIndex) -> Successors<'_>
         ensures targets { targets_left result ≡ reverse (targets_of self.now state) }
     {
@@ -100,7 +101,7 @@ impl StateGraph {
         }
     }
 
-    /// The states from which an edge over the symbol leads to the state, descending.
+    /// The states from which an edge over the symbol leads to the state, by descending number.
     pub fn predecessors<'a>(&'a self, state: StateIndex, symbol: &'a Symbol) -> Predecessors<'a>
         ensures sources { sources_left result ≡ reverse (sources_over self.now symbol.now state) }
     {
@@ -110,7 +111,8 @@ impl StateGraph {
         }
     }
 
-    /// The states from which the symbols lead to the state, ascending, none twice.
+    /// The states from which the list of symbols leads to the state, ascending, each once.
+    /// `OutOfMemory` if an allocation fails.
     pub fn trace_back(
         &self,
         alloc: Global,
@@ -133,7 +135,7 @@ impl StateGraph {
         Ok(found)
     }
 
-    // The states from which the symbol leads to one of the states, ascending, none twice.
+    // The states from which the symbol leads to one of the states, ascending, each once.
     fn step_back(
         &self,
         alloc: Global,
@@ -151,7 +153,7 @@ impl StateGraph {
         Ok(in_order(alloc, sources)?)
     }
 
-    // Puts the states from which the symbol leads to the state behind the others.
+    // Adds the states from which the symbol leads to the state after the other sources.
     fn push_sources(
         &self,
         state: StateIndex,
@@ -168,7 +170,7 @@ impl StateGraph {
     }
 }
 
-// The states, ascending, none twice.
+// The same states, ascending, each once.
 fn in_order(alloc: Global, states: Vec<StateIndex>) -> Result<Vec<StateIndex>, OutOfMemory>
     ensures same { IfOk result (λ list. HaveSameStates states.items list.items) }
     ensures ascending { IfOk result (λ list. IsStrictlySortedBy state_cmp list.items) }

@@ -1,4 +1,4 @@
--- The words of this crate's contracts, by name: where each is defined.
+-- The definitions that the contracts of this crate use, by the modules that have them.
 pub use Rattle.lalrpop_states.specs.check.CheckCarrying.{AllHoldCarried, AreCarried, AreCarriedTo, Carried, Gives, HasBegun, HasStarted, HoldsCarried, IsBegunAt}
 pub use Rattle.lalrpop_states.specs.check.CheckCarrying.{IsCarriedTo, IsInto, IsOver, Sends, at_place, target_from, target_in}
 pub use Rattle.lalrpop_states.specs.check.CheckCarrying.{IsSettled}

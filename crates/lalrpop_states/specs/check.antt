@@ -1,3 +1,3 @@
--- The check of tables.
+-- Definitions for the check of tables.
 pub mod CheckCarrying
 pub mod CheckPlaces

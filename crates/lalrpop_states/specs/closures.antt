@@ -1,4 +1,4 @@
--- Closures of kernels, and valid items.
+-- Closures of kernels.
 pub mod CheckClosing
 pub mod Closing
 pub mod Closure

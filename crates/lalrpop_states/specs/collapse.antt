@@ -1,3 +1,3 @@
--- States merged where they have the same dotted productions.
+-- Merging of states that have the same dotted productions.
 pub mod Collapsible
 pub mod Merging

@@ -1,2 +1,2 @@
--- The states that a construction makes: kernels, transitions and reductions.
+-- The transitions and reductions that a construction makes.
 pub mod Transitions

@@ -1,2 +1,2 @@
--- Grammars, their names and tokens, derivations and parse trees.
+-- The order of productions and items.
 pub mod Ascending

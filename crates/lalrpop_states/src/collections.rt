@@ -1,4 +1,4 @@
-//! Collections that hold lookaheads, beside those that hold anything.
+//! Collections of lookaheads, and those of `lalrpop_collections`.
 pub mod sparse_map;
 pub mod tokens;
 

@@ -1,4 +1,4 @@
-//! Kernels, numbered by their first appearance and handed out once each.
+//! Sets of kernels. A kernel is numbered when it first appears, and is handed out once.
 ghost use Rattle.std.specs.Prelude.{◌≡◌, ◌+◌, ◌-◌, ◌++◌, ◌∷◌, [], ℕ, List, length, drop, slice_get, Some, IfOk, OnOk, OnErr, IfSome, IfNone, Contains};
 ghost use Rattle.lalrpop_collections.specs.lists.Exact.{Exactly};
 ghost use Rattle.lalrpop_collections.specs.states.Kernels.{Kernels, AddsOnce};
@@ -11,27 +11,27 @@ use std::fmt;
 use std::hash::Hash;
 use std::marker::Model;
 
-/// What makes a state, as the items in which its closure begins.
+/// A kernel: a value that determines a state, for example the items of which it is the closure.
 pub trait Kernel: fmt::Debug + Hash + Eq + PartialOrd + Ord + Drop {
-    /// What names a state.
+    /// The index of a state.
     type Index: Copy + fmt::Debug;
 
-    // The index with the number.
+    // The index of the state with a number.
     ghost numbered: { ℕ → Self.Index };
 
-    /// The index with a number.
+    /// The index of the state with a number.
     fn index(number: usize) -> Self::Index
         ensures { result ≡ numbered number };
 
-    /// An equal kernel.
+    /// An equal kernel. `OutOfMemory` if an allocation fails.
     fn copy(&self, alloc: Global) -> Result<Self, OutOfMemory>
         ensures { IfOk result (λ copy. copy ≡ self.now) };
 
-    // Equal kernels are one kernel.
+    // Kernels for which `==` returns true are the same.
     ghost equal_is_same: { Exactly Self.eq };
 }
 
-/// Kernels that differ, in the order of their numbers, of which the first were handed out.
+/// Distinct kernels with their numbers, of which those with the lowest numbers were handed out.
 #[derive(Drop)]
 pub struct KernelSet<K: Ord> {
     numbers: BTreeMap<K, usize>,
@@ -65,7 +65,8 @@ impl<K: Kernel> KernelSet<K> {
         }
     }
 
-    /// The number of an equal kernel, or the next number.
+    /// Adds the kernel, unless an equal one is there, and returns its index. A new kernel gets the
+    /// next number. `OutOfMemory` if an allocation fails.
     pub fn add_state(&mut self, kernel: K) -> Result<K::Index, OutOfMemory>
         ensures added { OnOk result (AddsOnce self.old.list self.new.list kernel) }
         ensures numbered { IfOk result (λ index. (n : ℕ) × (index ≡ K.numbered n) ×
@@ -86,7 +87,7 @@ impl<K: Kernel> KernelSet<K> {
         Ok(K::index(number))
     }
 
-    /// Hands out the next kernel by number.
+    /// Hands out the kernel with the lowest number that was not handed out yet, if there is one.
     pub fn next(&mut self) -> Option<K>
         ensures next { IfSome result
             (λ kernel. slice_get self.old.list self.old.handed ≡ Some kernel) }

@@ -1,8 +1,8 @@
 //! Items, states and conflicts, for any lookahead.
 //!
-//! - `collections`: sparse maps and maps of tokens, which hold lookaheads.
+//! - `collections`: sparse maps, and maps from keys to lookaheads.
 //! - `kernel_set`: kernels, numbered by their first appearance.
-//! - `lookahead`: the trait of lookaheads, with `Nil` and sets of tokens.
+//! - `lookahead`: the trait of lookaheads, implemented by `Nil` and by sets of tokens.
 //! - `lr1_core`: items, states, transitions, conflicts and errors.
 #![tactic(auto)]
 

@@ -1,4 +1,4 @@
-//! Tokens, and what may follow an item.
+//! Lookaheads: the tokens that may follow an item.
 pub mod nil;
 pub mod token_lookahead;
 
@@ -21,17 +21,19 @@ use std::alloc::Global;
 use std::fmt;
 use std::hash::Hash;
 
-/// What may follow an item: a finite set of the bits of tokens.
+/// The lookahead of an item: it means a finite set of bits, each of which is the index of a token
+/// that may follow.
 pub trait Lookahead: fmt::Debug + Eq + Ord + Hash + Drop + Collection<Item = Self> {
-    // The set that the value stands for.
+    // The set that a value means.
     ghost meaning: { Self → Bits };
 
-    /// An equal value.
+    /// An equal value. `OutOfMemory` if an allocation fails.
     fn copy(&self, alloc: Global) -> Result<Self, OutOfMemory>
         ensures { IfOk result (λ copy. copy ≡ self.now) };
 
-    /// Joins a value into this one, and tells whether this one changed. A lookahead that needs no
-    /// copy of the value for it may say how.
+    /// Adds the tokens of `from` to this value, and returns whether this value changed.
+    /// `OutOfMemory` if an allocation fails. The default body pushes a copy of `from`. A lookahead
+    /// that needs no copy may replace it.
     fn join_with(&mut self, alloc: Global, from: &Self) -> Result<bool, OutOfMemory>
         ensures joined { OnOk result
             (meaning self.new ≡ joined (meaning self.old) (meaning from.now)) }
@@ -43,13 +45,14 @@ pub trait Lookahead: fmt::Debug + Eq + Ord + Hash + Drop + Collection<Item = Sel
         self.push(copy)
     }
 
-    /// What is printed behind an item.
+    /// Writes the text that is printed after an item. The text may be empty.
     fn fmt_as_item_suffix<W: fmt::Write>(&self, f: &mut fmt::Formatter<W>) -> fmt::Result;
 
-    // The list has the conflicts of the state, in order.
+    // Whether the list has the conflicts of the state, in order.
     ghost lists_conflicts: { State Self → List TerminalString → List (Conflict Self) → Type 0 };
 
-    /// The conflicts of a state, in order.
+    /// The conflicts of a state, in the order of `lists_conflicts`. `OutOfMemory` if an allocation
+    /// fails.
     fn conflicts<'grammar>(
         alloc: Global,
         state: &State<'grammar, Self>,
@@ -57,24 +60,25 @@ pub trait Lookahead: fmt::Debug + Eq + Ord + Hash + Drop + Collection<Item = Sel
     ) -> Result<Vec<Conflict<'grammar, Self>>, OutOfMemory>
         ensures { IfOk result (λ list. lists_conflicts state.now terminals.now list.items) };
 
-    // `==` answers true at one value alone.
+    // Values for which `==` returns true are the same.
     ghost equal_is_same: { Exactly Self.eq };
 
-    // Values with equal meanings are equal.
+    // Values with the same meaning are the same.
     ghost same_by_meaning: { (a b : Self) → meaning a ≡ meaning b → a ≡ b };
 
-    // A push answers false at one value alone.
+    // Two values hold the same, in the sense of `Collection`, only if they are the same.
     ghost reads_all: { (a b : Self) → Self.Collection.same a b ↔ (b ≡ a) };
 
     // An empty value means the empty set.
     ghost empty_is_empty: { (e : Self) → Self.Collection.is_empty e → meaning e ≡ no_bits };
 
-    // A push is the join.
+    // After a push the value means the union of both sets.
     ghost push_is_join: { (a b c : Self) → Self.Collection.pushes a b c →
         meaning c ≡ joined (meaning a) (meaning b) };
 }
 
-/// Joins a value into another, and tells whether it changed.
+/// Adds the tokens of `from` to `into`, and returns whether `into` changed. `OutOfMemory` if an
+/// allocation fails.
 pub fn join<L: Lookahead>(alloc: Global, into: &mut L, from: &L) -> Result<bool, OutOfMemory>
     ensures joined { OnOk result
         (L.meaning into.new ≡ joined (L.meaning into.old) (L.meaning from.now)) }
@@ -85,7 +89,8 @@ pub fn join<L: Lookahead>(alloc: Global, into: &mut L, from: &L) -> Result<bool,
     into.join_with(alloc, from)
 }
 
-/// A second join changes nothing.
+/// Joins `from` into `into` twice, and returns whether the second join changed `into`, which it
+/// never does. `OutOfMemory` if an allocation fails.
 pub fn join_twice<L: Lookahead>(alloc: Global, into: &mut L, from: &L) -> Result<bool, OutOfMemory>
     ensures { IfOk result (λ changed. changed ≡ false) }
 {

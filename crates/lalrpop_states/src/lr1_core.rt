@@ -1,4 +1,4 @@
-//! Items, states and what goes wrong with them.
+//! Items, states, transitions, conflicts and errors.
 pub mod actions;
 pub mod all_conflicts;
 mod clones;

@@ -1,3 +1,3 @@
--- What a construction of tables answers.
+-- The results of a construction of tables.
 pub mod Lr1Answers
 pub mod TablesOrCount

@@ -1,3 +1,3 @@
--- States merged where they have the same dotted productions.
+-- States of which those with the same dotted productions are merged.
 pub mod Collapsed
 pub mod Lalr

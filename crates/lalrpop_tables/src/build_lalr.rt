@@ -1,4 +1,4 @@
-//! LALR(1) states: canonical ones, merged where they list the same dotted productions.
+//! LALR(1) states: canonical states, of which those with the same dotted productions are merged.
 mod join;
 mod numbers;
 mod order;
@@ -30,7 +30,8 @@ use place::{number_states, place_states};
 use reductions::reduce_states;
 use std::alloc::Global;
 
-// The states merged.
+// Merges the states with the same dotted productions. The error has the conflicts of the merged
+// states.
 fn merge_states<'grammar>(
     alloc: Global,
     states: Vec<Lr1State<'grammar>>,
@@ -51,8 +52,10 @@ fn merge_states<'grammar>(
     tables_or_conflicts(reduced, conflicts)
 }
 
-/// The states merged, numbered by their first appearance, or with their conflicts. Dotted
-/// productions are looked up by order, so the time is near linear in the size of the states.
+/// The states, of which those with the same dotted productions are merged. They are numbered by
+/// their first appearance. The error has the merged states and their conflicts, or is `Memory` if
+/// an allocation fails. Lists of dotted productions are looked up by their order, so the time is
+/// nearly linear in the size of the states.
 pub fn collapse_to_lalr_states<'grammar>(
     alloc: Global,
     states: Vec<Lr1State<'grammar>>,
@@ -65,8 +68,8 @@ pub fn collapse_to_lalr_states<'grammar>(
     ensures coherent { MatchResult result (λ tables. AreCoherent tables.items) HasCoherentStates }
     ensures some { 0 < length states.entry.items → IfOk result (λ tables. 0 < length tables.items) }
 
-    // Canonical states of a grammar, under any numbers, have tables exactly where it is LALR(1),
-    // and then faithful ones.
+    // Let the states be canonical ones of a grammar, under any numbers. Then there are tables
+    // exactly if the grammar is LALR(1), and the tables are faithful.
     ensures lalr { (g : Rules) (start : Start) →
         g.terminals ≡ terminals.now →
         AreOrderedCanonical g start states.entry.items →
@@ -77,9 +80,9 @@ pub fn collapse_to_lalr_states<'grammar>(
     merge_states(alloc, states, terminals)
 }
 
-/// The LALR(1) states of a grammar, numbered by their first appearance, or its conflicts. Only
-/// states of the canonical method are merged; where the construction fails, its error is the
-/// answer.
+/// The states of `build_lr1_states`, or an error. Under `Method::Canonical` the states are merged
+/// into LALR(1) states, numbered by their first appearance. Under `Method::Lane` they stay as they
+/// are. The error is that of `build_lr1_states` or of the merge.
 #[tactic(auto, using(crate::proofs::theory::answers::Lr1Answers::Failure_by_method))]
 pub fn build_lalr_states<'grammar>(
     alloc: Global,

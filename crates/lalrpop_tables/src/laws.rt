@@ -1,9 +1,9 @@
-//! What the construction of states says with one lookahead. Each function does nothing, and its
-//! contract is the law.
+//! What the construction of states promises, with sets of tokens and without lookahead. Each
+//! function does nothing, and its contract is the law.
 ghost use Rattle.lalrpop_tables.specs.canonical.Laws.{SetTablesAreCanonical, SetErrorsAreCanonical};
 ghost use Rattle.lalrpop_tables.specs.canonical.Laws.{NilTablesAreLr0, NilTablesAreFree, NilErrorsHaveLr0, NilErrorsStop, NilErrorsListConflicts};
 
-/// States with sets of tokens, where Eof follows the start symbol.
+/// States with sets of tokens, if Eof follows the start symbol.
 pub fn states_with_sets()
     ensures tables { SetTablesAreCanonical }
     ensures errors { SetErrorsAreCanonical }

@@ -15,7 +15,7 @@ use lalrpop_construction::options::{Method, Options};
 use lalrpop_state_graph::renumber::renumber;
 use std::alloc::Global;
 
-// The states by their construction numbers, collapsed where the grammar asks for it.
+// The states by their construction numbers, collapsed if the grammar and the method ask for it.
 fn build_unnumbered_states<'grammar>(
     alloc: Global,
     grammar: &'grammar Grammar,
@@ -34,10 +34,11 @@ fn build_unnumbered_states<'grammar>(
     build_lr1_states(alloc, grammar, start, options)
 }
 
-/// The tables of a grammar for a start symbol, or its conflicts. By the lane way they are lane
-/// tables, where there are such and they pass the check; else, and by the canonical method, the
-/// canonical construction decides. State 0 is the first; behind it the states with a goto stand
-/// before those without. The states of an error keep their construction numbers.
+/// The tables of a grammar for a start symbol, or its conflicts. Under `Method::Lane` they are lane
+/// tables, if there are such and they pass the check. Else, and under `Method::Canonical`, the
+/// canonical construction decides. State 0 is the first. After it come the states with a goto, and
+/// then those without. The states of an error keep their construction numbers. The error is
+/// `Memory` if an allocation fails.
 pub fn build_states<'grammar>(
     alloc: Global,
     grammar: &'grammar Grammar,
@@ -45,8 +46,8 @@ pub fn build_states<'grammar>(
     options: &Options,
 ) -> Lr1Result<'grammar>
     requires { IsWellFormed grammar.now }
-    // Tables exactly where the grammar is LR(1), or LALR(1) where states are collapsed, and else
-    // the canonical conflicts.
+    // There are tables exactly if the grammar is LR(1), or, if states are collapsed, LALR(1). Else
+    // the error has the conflicts.
     ensures tables { IfOk result (λ tables. AreTablesOf (Collapses grammar.now options.now)
         options.now.method options.now.max_copies grammar.now start tables.items) }
     ensures no_tables { IfErr result
@@ -59,8 +60,9 @@ pub fn build_states<'grammar>(
 
 /// The tables of a grammar for a start symbol, numbered as those of `build_states`, or how many
 /// canonical conflicts it has. States are never collapsed, whatever `algorithm.lalr` says. No
-/// conflict is listed, and all are counted, since `stop_after` is not looked at. If they are more
-/// than the greatest `usize`, that number is returned.
+/// conflict is listed. All conflicts are counted, since `stop_after` is not read. If they are more
+/// than the greatest `usize`, that number is returned. The error is `OutOfMemory` if an allocation
+/// fails.
 pub fn build_states_or_count<'grammar>(
     alloc: Global,
     grammar: &'grammar Grammar,

@@ -12,7 +12,7 @@ use std::alloc::Global;
 use std::test::Fail;
 use test_fixtures::texts::{EMPTY_FIRST, grammar, literal};
 
-// The states that are built before the first conflict stops the construction.
+// The states that are built until the first conflict stops the construction.
 fn first_states<'g>(alloc: Global, grammar: &'g Grammar) -> Result<Vec<Lr1State<'g>>, Fail>
     requires { IsWellFormed grammar.now }
 {
@@ -26,7 +26,7 @@ fn first_states<'g>(alloc: Global, grammar: &'g Grammar) -> Result<Vec<Lr1State<
     }
 }
 
-// S0 leads over B, E and "z" to S1, S2 and S3. Edges are visited newest first.
+// S0 leads by B, E and "z" to S1, S2 and S3. The newest edge is visited first.
 #[test]
 fn targets_need_not_be_built(rt: HostRuntime) -> Result<(), Fail> {
     let alloc = rt.alloc();

@@ -1,6 +1,6 @@
 //! Examples of input that lead to a conflict.
 //!
-//! - `trace`: backtraces, as graphs of what was pushed and popped, and the examples of their paths.
+//! - `trace`: backtraces, which are graphs, and the examples that their paths spell.
 #![tactic(auto)]
 
 pub mod trace;

@@ -1,4 +1,4 @@
-//! How a state came to have an item: graphs of what was pushed and popped, and examples of input.
+//! Backtraces: graphs of how a state came to have an item, and examples of input that lead there.
 pub mod enumerator;
 pub mod example;
 pub mod filtered;
@@ -33,14 +33,15 @@ use std::alloc::Global;
 use std::collections::BTreeSet;
 pub use trace_graph::{NodeIndex, TraceGraph, TraceGraphEdge};
 
-/// Traces backwards over states.
+/// Makes backtraces over states.
 #[derive(Drop)]
 pub struct Tracer<'trace, 'grammar> {
     ground: Ground<'trace, 'grammar>,
 }
 
 impl<'trace, 'grammar> Tracer<'trace, 'grammar> {
-    /// A tracer over states, which may have targets that are not in the list.
+    /// A tracer over states. Their targets may be outside the list. The error is `OutOfMemory` if
+    /// an allocation fails.
     pub fn new(
         alloc: Global,
         first_sets: &'trace FirstSets<'grammar>,
@@ -58,7 +59,8 @@ impl<'trace, 'grammar> Tracer<'trace, 'grammar> {
         })
     }
 
-    /// How a state came to have an item that shifts: back to the items whose dot is past the start.
+    /// The graph of how a state came to have an item that shifts. The trace goes back to items
+    /// whose dot is past the start. The error is `OutOfMemory` if an allocation fails.
     pub fn backtrace_shift(
         &self,
         alloc: Global,
@@ -89,8 +91,9 @@ impl<'trace, 'grammar> Tracer<'trace, 'grammar> {
         graph_of(alloc, &trace)
     }
 
-    /// How a state came to have an item that is or will be reduced: back to the items behind which
-    /// more is to come.
+    /// The graph of how a state came to have an item that is or will be reduced. The trace goes
+    /// back to items with a nonterminal after the dot, if the symbols after that do not derive the
+    /// empty list. The error is `OutOfMemory` if an allocation fails.
     pub fn backtrace_reduce(
         &self,
         alloc: Global,

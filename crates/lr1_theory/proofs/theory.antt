@@ -1,4 +1,4 @@
--- The theory of LR(1) parsing, over the definitions of specs alone.
+-- The theory of LR(1) parsing: theorems on the definitions in specs, which mention no function.
 pub mod check
 pub mod closures
 pub mod collapse

@@ -1,4 +1,4 @@
--- The words of this crate's contracts, by name: where each is defined.
+-- The definitions of this crate that contracts use, by the modules that have them.
 pub use Rattle.lr1_theory.specs.construction.States.{AreBuiltBy, Extends, HasTransition, IsBuilt, IsBuiltBy, IsBuiltOfBy, IsLedTo, Leads, LeadsToAdded, begun}
 pub use Rattle.lr1_theory.specs.construction.States.{state_entries}
 pub use Rattle.lr1_theory.specs.renumbering.Moved.{AreMoved, GrowsBy, and_one}

@@ -1,2 +1,2 @@
--- The states that a construction makes: kernels, transitions and reductions.
+-- The states that a construction makes.
 pub mod States

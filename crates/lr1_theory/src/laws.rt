@@ -1,5 +1,5 @@
-//! Laws over the definitions. The contract of each function is the law, and it does nothing. Those of
-//! the types of grammars are of `lalrpop_grammar`.
+//! Theorems on the definitions. The contract of each function states theorems, and the function
+//! does nothing. Theorems on the types of grammars are in `lalrpop_grammar`.
 ghost use Rattle.lalrpop_grammar.specs.parsing.Laws.{FirstByCases, SentencesHaveTrees, FirstSetsAreFirst, FirstSetsAreNullable};
 ghost use Rattle.lalrpop_grammar.specs.parsing.Laws.{RunsHaveOutcomes, OutcomesAreUnique, OneParseTree, AnswersAreTrees, StepsAreNodes, RefusalsAreRight, ShiftsBegin, BeginningsAreShifted, FaithfulAreLr1};
 ghost use Rattle.lalrpop_grammar.specs.parsing.Laws.{ReachedAreLive, ClosedHaveRightItems, ClosedAreLr0, CopiesAreClosed, LaneTokensAreLalr, LanesAreFaithful, LanesAreChecked, LalrAreFaithful, LalrStatesHaveNoConflict, CollapsedHoldLalrTokens, CheckedAreFaithful};
@@ -10,25 +10,25 @@ ghost use Rattle.lalrpop_grammar.specs.parsing.Laws.{DefinitionsAreMet, SeveralL
 
 pub use lalrpop_grammar::laws::{deprecated_end, orders};
 
-/// What a grammar derives.
+/// Theorems on derivations: on FIRST of a list of symbols, and on the parse trees of sentences.
 pub fn derivations()
     ensures first { FirstByCases }
     ensures trees { SentencesHaveTrees }
 {}
 
-/// First sets.
+/// Theorems on FIRST sets.
 pub fn first_sets()
     ensures first { FirstSetsAreFirst }
     ensures nullable { FirstSetsAreNullable }
 {}
 
-/// A run has exactly one outcome.
+/// Each run of the parser has exactly one outcome.
 pub fn outcomes()
     ensures some { RunsHaveOutcomes }
     ensures unique { OutcomesAreUnique }
 {}
 
-/// Runs over faithful states.
+/// Theorems on runs of the parser over faithful states.
 pub fn faithful_states()
     ensures one_tree { OneParseTree }
     ensures answers { AnswersAreTrees }
@@ -39,7 +39,8 @@ pub fn faithful_states()
     ensures lr1 { FaithfulAreLr1 }
 {}
 
-/// States built by closures.
+/// Theorems on closed states: state 0 is the closure of the start, and each target is the closure
+/// of the moved items.
 pub fn closed_states()
     ensures reached { ReachedAreLive }
     ensures right { ClosedHaveRightItems }
@@ -47,26 +48,26 @@ pub fn closed_states()
     ensures copies { CopiesAreClosed }
 {}
 
-/// The lane way finds the LALR tokens.
+/// Theorems on lanes: they find the LALR(1) lookaheads.
 pub fn lanes()
     ensures tokens { LaneTokensAreLalr }
     ensures faithful { LanesAreFaithful }
     ensures checked { LanesAreChecked }
 {}
 
-/// States that hold their LALR tokens.
+/// Theorems on states that hold their LALR(1) lookaheads.
 pub fn lalr_states()
     ensures faithful { LalrAreFaithful }
     ensures conflicts { LalrStatesHaveNoConflict }
     ensures collapsed { CollapsedHoldLalrTokens }
 {}
 
-/// What the check of tables implies.
+/// Tables that pass the check are faithful.
 pub fn checked_tables()
     ensures { CheckedAreFaithful }
 {}
 
-/// Canonical states.
+/// Theorems on canonical states.
 pub fn canonical_states()
     ensures tokens { CanonicalTokensAreValid }
     ensures faithful { CanonicalAreFaithful }
@@ -74,14 +75,14 @@ pub fn canonical_states()
     ensures one { CanonicalStatesAreOne }
 {}
 
-/// Runs over canonical states.
+/// Theorems on runs of the parser over canonical states.
 pub fn canonical_runs()
     ensures ends { CanonicalRunsEnd }
     ensures right { CanonicalStepsAreRight }
     ensures prompt { CanonicalRefusalsArePrompt }
 {}
 
-/// What the canonical conflicts decide, and where they are listed.
+/// Theorems on canonical conflicts: whether the grammar is LR(1), and which lists have them.
 pub fn conflicts()
     ensures none { NoConflictIsLr1 }
     ensures empty { NoConflictIsEmptyList }
@@ -90,12 +91,12 @@ pub fn conflicts()
     ensures of_states { StateConflictsAreCanonical }
 {}
 
-/// States under other numbers.
+/// Faithful states stay faithful under other numbers.
 pub fn renumbered_states()
     ensures { RenumberedAreFaithful }
 {}
 
-/// A new start symbol.
+/// Theorems on grammars that are augmented with a new start symbol.
 pub fn augmented()
     ensures alone { AugmentedStandsAlone }
     ensures trees { AugmentedTrees }
@@ -105,7 +106,7 @@ pub fn augmented()
     ensures refusals { AugmentedRefusals }
 {}
 
-/// The definitions can be met, and are not met by spoilt states.
+/// Examples: some grammars and states meet the definitions, and states that were made wrong do not.
 pub fn instances()
     ensures met { DefinitionsAreMet }
     ensures parsed { SeveralListsParse }

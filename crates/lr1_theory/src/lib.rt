@@ -1,4 +1,4 @@
-//! The theorems on LR(1) parsing, over the definitions and over what these see of states.
+//! Theorems on the definitions of LR(1) parsing, and on the contents of states.
 //!
 //! - `laws`: the theorems, as contracts of functions that do nothing.
 #![tactic(auto)]

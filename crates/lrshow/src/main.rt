@@ -1,5 +1,5 @@
-//! `lrshow` shows the tables of a grammar, or its conflicts, to other tools: as JSON, as a graph, as
-//! a page.
+//! `lrshow` shows the tables of a grammar, or its conflicts, in a form for other tools: as JSON, as
+//! a graph, or as a page.
 #![tactic(auto)]
 
 use lrshow_run::run::run;

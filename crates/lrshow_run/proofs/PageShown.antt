@@ -1,4 +1,4 @@
--- What is shown of the text of a page.
+-- What is shown for a page.
 use Rattle.std.proofs.Common.{◌≡◌, ℕ, List, [], Result, Ok, Err, ◌∙◌}
 use Rattle.std.specs.Prelude.{IfOk}
 use Rattle.lalrpop_base.specs.Words.{Bits}
@@ -13,7 +13,7 @@ use Rattle.table_pictures.specs.Page.{page}
 use Rattle.lrshow_run.specs.Shown.{IsFormShown, IsOutput}
 use Rattle.lrshow_run.specs.Words.{Page}
 
--- what is put out with the text of the page of some data is shown for a page
+-- if a text is the page of some data, then what is shown with that text is what is shown for a page
 pub page_shown : (g : Grammar) (start : NonterminalString) (status : ℕ) (states : List (State Bits)) (conflicts : List (Conflict Bits)) (json text : List ℕ) → IsData g start states conflicts json → text ≡ page json → (r : Result Shown OutOfMemory) → IfOk r (IsOutput status text []) →
     IfOk r (IsFormShown g start status states conflicts Page)
 page_shown g start status states conflicts json text held is (Ok s) out = (json, held, record { ended = out.ended; whole = out.whole ∙ is; remarked = out.remarked })

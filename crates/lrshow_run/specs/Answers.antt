@@ -1,4 +1,4 @@
--- What the program tells.
+-- The result of the program, and how it relates to its arguments and the file.
 use Rattle.std.specs.Prelude.{◌≡◌, ℕ, List, Option, None, Some, codes}
 use Rattle.lalrpop_construction.specs.declared.options.Method.{Method}
 use Rattle.lrtab_run.specs.Answers.{IsAnswerTo}
@@ -8,11 +8,12 @@ use Rattle.lrtab_run.specs.declared.answer.Answer.TheVariants.{Usage}
 use Rattle.lrshow_run.specs.Words.{Asked}
 use Rattle.lrshow_run.specs.Shown.{IsShown}
 
--- what `lrshow` tells on words: the usage text where they are no request, and nothing else then
+-- a result is that of `lrshow` for its arguments: `Usage` if they are no request, and else a result
+-- for the request and the file
 abbrev pub IsAnswer : Method → Option Asked → List ℕ → Option (Option (List ℕ)) → Answer → Type 0
 IsAnswer method None name file answer = answer ≡ Usage
 IsAnswer method (Some request) name file answer = IsAnswerTo (λ g. IsShown method g request) name file answer
 
--- how `lrshow` is used
+-- the usage text of `lrshow`
 abbrev pub usage : List ℕ
 usage = line (codes "usage: lrshow FILE START (json | dot [--around STATE] | html)")

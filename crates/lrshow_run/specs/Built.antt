@@ -1,4 +1,4 @@
--- What tables a grammar has, or what conflicts.
+-- The tables of a grammar, or its conflicts.
 use Rattle.std.specs.Prelude.{◌≡◌, ◌⊎◌, ℕ, List, []}
 use Rattle.lalrpop_base.specs.Words.{Bits}
 use Rattle.lalrpop_states.specs.declared.lr1_core.state.Conflict.{Conflict}
@@ -10,13 +10,13 @@ use Rattle.lalrpop_tables.specs.Words.{AreTablesOf, HasConflictsOf}
 use Rattle.lalrpop_construction.specs.declared.options.Method.{Method}
 use Rattle.lrtab_run.specs.Shown.{most_copies}
 
--- the tables that the method gives, and no conflict, with status 0
+-- the tables that the method makes were built, without a conflict and with status 0
 pub record AreBuiltTables (method : Method) (g : Grammar) (start : NonterminalString) (status : ℕ) (states : List (State Bits)) (conflicts : List (Conflict Bits)) : Type 0 where
   pub tables : AreTablesOf ⊥ method most_copies g start states
   pub ended : status ≡ 0
   pub free : conflicts ≡ []
 
--- or, for want of tables, the canonical states and conflicts, with status 1
+-- or, if there are no tables, the canonical states and conflicts were built, with status 1
 pub record AreBuiltConflicts (g : Grammar) (start : NonterminalString) (status : ℕ) (states : List (State Bits)) (conflicts : List (Conflict Bits)) : Type 0 where
   pub error : TableConstructionError Bits
   pub no_tables : HasConflictsOf ⊥ 0 g start error
@@ -24,6 +24,6 @@ pub record AreBuiltConflicts (g : Grammar) (start : NonterminalString) (status :
   pub of_states : states ≡ error.states.items
   pub of_conflicts : conflicts ≡ error.conflicts.items
 
--- the one or the other
+-- tables were built, or states with conflicts
 abbrev pub AreBuilt : Method → Grammar → NonterminalString → ℕ → List (State Bits) → List (Conflict Bits) → Type 0
 AreBuilt method g start status states conflicts = AreBuiltTables method g start status states conflicts ⊎ AreBuiltConflicts g start status states conflicts

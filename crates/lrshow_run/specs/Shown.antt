@@ -1,4 +1,4 @@
--- What the program shows of a grammar, which a text stands for and whose marked nonterminals are inlined.
+-- What the program shows of a grammar that a text gives, with its marked nonterminals inlined.
 use Rattle.std.specs.Prelude.{◌≡◌, ◌<◌, ◌≤◌, nat_lt, ℕ, List, [], ◌++◌, length, Option, None, Some, codes, string_bytes, if◌then◌else◌}
 use Rattle.std.specs.Fmt.{decimal}
 use Rattle.lalrpop_base.specs.Words.{Bits}
@@ -17,26 +17,27 @@ use Rattle.table_pictures.specs.Page.{page}
 use Rattle.lrshow_run.specs.Built.{AreBuilt}
 use Rattle.lrshow_run.specs.Words.{Asked, Form, Json, Graph, Page}
 
--- a status, a text and a remark
+-- a status, a text and a remark are what is shown
 pub record IsOutput (status : ℕ) (text remark : List ℕ) (s : Shown) : Type 0 where
   pub ended : s.status ≡ status
   pub whole : string_bytes s.text ≡ text
   pub remarked : string_bytes s.remark ≡ remark
 
 -- ---- the graph
--- the message where there is no state with the number
+-- the message if there is no state with the number
 abbrev pub no_state : ℕ → List ℕ
 no_state number = line (codes "no state " ++ decimal number)
 
--- a graph of at most three hundred states is shown without a remark
+-- the greatest number of states whose graph is shown without a remark
 abbrev pub most_states : ℕ
 most_states = 300
 
--- a remark on how to cut the graph of many states
+-- the remark on how to cut the graph of many states
 abbrev pub how_to_cut : ℕ → List ℕ
 how_to_cut count = if nat_lt most_states count then line (decimal count ++ codes " states: --around STATE shows one and its neighbours") else []
 
--- the graph of all states, or of the one with a number and its neighbours where there is such a state
+-- what is shown for a graph: that of all states, or, if there is a state with the number, that of
+-- this state and its neighbours
 abbrev pub IsGraphShown : Grammar → NonterminalString → ℕ → List (State Bits) → List (Conflict Bits) → Option ℕ → Shown → Type 0
 IsGraphShown g start status states conflicts None s = IsOutput status (graph start g.terminals states conflicts (shown_of None)) (how_to_cut (length states)) s
 IsGraphShown g start status states conflicts (Some number) s =
@@ -44,13 +45,15 @@ IsGraphShown g start status states conflicts (Some number) s =
     × (length states ≤ number → IsOutput 2 [] (no_state number) s)
 
 -- ---- what is asked
--- what is shown for a form of states that were built: their data, their graph, or the page of their data
+-- what is shown in a form of states and conflicts that were built: their data, their graph, or the
+-- page of their data
 abbrev pub IsFormShown : Grammar → NonterminalString → ℕ → List (State Bits) → List (Conflict Bits) → Form → Shown → Type 0
 IsFormShown g start status states conflicts Json s = (json : List ℕ) × IsData g start states conflicts json × IsOutput status json [] s
 IsFormShown g start status states conflicts (Graph around) s = IsGraphShown g start status states conflicts around s
 IsFormShown g start status states conflicts Page s = (json : List ℕ) × IsData g start states conflicts json × IsOutput status (page json) [] s
 
--- what is shown of a grammar for a request: the tables that the method gives, or for want of tables the canonical states and their conflicts
+-- what is shown of a grammar for a request: the tables that the method makes or, if there are no
+-- tables, the canonical states and their conflicts
 pub record IsShown (method : Method) (g : Grammar) (request : Asked) (s : Shown) : Type 0 where
   pub status : ℕ
   pub states : List (State Bits)

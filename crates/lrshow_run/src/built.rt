@@ -1,4 +1,4 @@
-//! What tables a grammar has, or what conflicts.
+//! The tables of a grammar, or its conflicts.
 ghost use Rattle.std.specs.Prelude.{◌≡◌, IfOk, false};
 ghost use Rattle.lalrpop_base.specs.Words.{IsWellFormed};
 ghost use Rattle.lrshow_run.specs.Built.{AreBuilt};
@@ -11,16 +11,16 @@ use lalrpop_tables::build::{Method, Options};
 use lalrpop_tables::lr1::build_states;
 use std::alloc::Global;
 
-/// Tables, without a conflict, or the states of conflicts and these.
+/// Tables, without conflicts; or the states with conflicts, and the conflicts.
 #[derive(Drop)]
 pub(crate) struct Built<'grammar> {
-    /// 0 for tables, 1 for conflicts.
+    /// The exit status: 0 for tables, 1 for conflicts.
     pub(crate) status: u8,
     pub(crate) states: Vec<Lr1State<'grammar>>,
     pub(crate) conflicts: Vec<Lr1Conflict<'grammar>>,
 }
 
-/// The tables of a grammar by a method, or the states of its conflicts and these.
+/// The tables of a grammar by a method, or the states with conflicts and the conflicts.
 pub(crate) fn build<'grammar>(
     alloc: Global,
     grammar: &'grammar Grammar,
@@ -47,7 +47,7 @@ pub(crate) fn build<'grammar>(
     }
 }
 
-// The states of conflicts, and these.
+// The states and the conflicts of an error, with the exit status 1.
 fn failed(error: Lr1TableConstructionError<'_>) -> Built<'_>
     ensures status { result.status ≡ 1 }
     ensures states { result.states.items ≡ error.entry.states.items }

@@ -1,4 +1,4 @@
-//! What the program `lrshow` answers to its words, over any reader and writers.
+//! What the program `lrshow` prints for its arguments, over any reader and writers.
 #![tactic(auto)]
 
 mod built;

@@ -36,7 +36,7 @@ impl Ask for Request<'_> {
     }
 }
 
-// What is shown for a form of what was built.
+// What is shown of the states and conflicts that were built, in a form.
 fn form_shown<'grammar>(
     alloc: Global,
     grammar: &'grammar Grammar,
@@ -56,7 +56,7 @@ fn form_shown<'grammar>(
     }
 }
 
-// The data of what was built.
+// The JSON text of what was built.
 fn data<'grammar>(
     alloc: Global,
     grammar: &'grammar Grammar,
@@ -70,7 +70,7 @@ fn data<'grammar>(
     tables_json(alloc, grammar, start, &built.states, &built.conflicts)
 }
 
-// A status and a text, with nothing to remark.
+// An exit status and a text, without a remark.
 fn whole(alloc: Global, status: u8, text: String) -> Result<Shown, OutOfMemory>
     ensures { IfOk result (IsOutput status (string_bytes text) []) }
 {
@@ -81,7 +81,7 @@ fn whole(alloc: Global, status: u8, text: String) -> Result<Shown, OutOfMemory>
     })
 }
 
-// The JSON of what was built.
+// What is shown for JSON.
 fn json<'grammar>(
     alloc: Global,
     grammar: &'grammar Grammar,
@@ -96,7 +96,7 @@ fn json<'grammar>(
     whole(alloc, built.status, text)
 }
 
-// The page of what was built.
+// What is shown for a page.
 fn page<'grammar>(
     alloc: Global,
     grammar: &'grammar Grammar,
@@ -112,10 +112,10 @@ fn page<'grammar>(
     whole(alloc, built.status, text)
 }
 
-// How many states a graph has at most without a word on how to cut it.
+// The greatest number of states whose graph is shown without a remark on how to cut it.
 const MANY: usize = 300;
 
-// The graph of all states that were built, and how to cut it where they are many.
+// What is shown for the graph of all states, with a remark on how to cut it if there are many.
 fn whole_graph<'grammar>(
     alloc: Global,
     grammar: &'grammar Grammar,
@@ -134,7 +134,7 @@ fn whole_graph<'grammar>(
     })
 }
 
-// The graph of a state that was built and of its neighbours, or that there is no such state.
+// What is shown for the graph of a state and its neighbours, or that there is no such state.
 fn graph_around<'grammar>(
     alloc: Global,
     grammar: &'grammar Grammar,
@@ -152,7 +152,7 @@ fn graph_around<'grammar>(
     whole(alloc, built.status, text)
 }
 
-// The text of a graph of what was built.
+// The text of a graph: of all states, or of those near the state `around`.
 fn graph<'grammar>(
     alloc: Global,
     grammar: &'grammar Grammar,
@@ -173,7 +173,7 @@ fn graph<'grammar>(
     )
 }
 
-// The message where there is no state with a number.
+// What is shown if there is no state with a number.
 fn no_state(alloc: Global, number: usize) -> Result<Shown, OutOfMemory>
     ensures { IfOk result (IsOutput 2 [] (no_state number)) }
 {
@@ -184,7 +184,7 @@ fn no_state(alloc: Global, number: usize) -> Result<Shown, OutOfMemory>
     })
 }
 
-// How to cut a graph that shows so many states.
+// The remark on how to cut a graph with so many states. It is empty for at most `MANY` states.
 fn how_to_cut(alloc: Global, count: usize) -> Result<String, OutOfMemory>
     ensures { IfOk result (λ text. string_bytes text ≡ how_to_cut count) }
 {

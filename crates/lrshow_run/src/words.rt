@@ -1,27 +1,29 @@
-//! The words of the command line.
+//! The arguments of the command line.
 ghost use Rattle.std.specs.Prelude.{◌≡◌, option_map, map, string_bytes};
 ghost use Rattle.lrshow_run.specs.Words.{form_of, lone_form, request_of, form_view, request_view};
 
 use grammar_text::symbols::is_a_name;
 use lrtab_run::words::limit_of;
 
-/// How tables are shown.
+/// The form in which tables are shown.
 #[derive(Clone, Copy)]
 pub enum Form {
     Json,
-    /// The graph of all states, or of one and its neighbours.
+    /// The graph of all states, or of the state with a number and its neighbours.
     Graph(Option<usize>),
+    /// A page for a browser.
     Page,
 }
 
-/// What the words ask for.
+/// What the arguments ask for.
 #[derive(Clone, Copy)]
 pub struct Request<'a> {
+    /// The name of the start symbol.
     pub start: &'a str,
     pub form: Form,
 }
 
-/// What words ask for, where they have its form.
+/// What the arguments ask for. `None` if they do not have the form of a request.
 pub fn request_of(words: &[String]) -> Option<Request<'_>>
     ensures { option_map request_view result ≡ request_of (map string_bytes words.now) }
 {
@@ -38,7 +40,7 @@ pub fn request_of(words: &[String]) -> Option<Request<'_>>
     })
 }
 
-// How the words behind the start symbol ask that tables be shown.
+// The form that the arguments after the start symbol ask for.
 fn form_of(verb: &str, rest: &[String]) -> Option<Form>
     ensures { option_map form_view result ≡ form_of verb.now (map string_bytes rest.now) }
 {
@@ -55,7 +57,7 @@ fn form_of(verb: &str, rest: &[String]) -> Option<Form>
     Some(Form::Graph(Some(state)))
 }
 
-// What a verb with no word behind it asks for.
+// The form that a verb without arguments after it asks for.
 fn lone_form(verb: &str) -> Option<Form>
     ensures { option_map form_view result ≡ lone_form verb.now }
 {

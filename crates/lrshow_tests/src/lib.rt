@@ -1,5 +1,5 @@
-//! Tests of what `lrshow` answers where no case file can ask: readers and writers that fail, and
-//! memory that is refused.
+//! Tests of `lrshow` that no stored run can express: readers and writers that fail, and allocations
+//! that are refused.
 #![tactic(auto)]
 
 #[cfg(test)]

@@ -1,5 +1,5 @@
-//! `lrtab` reads a grammar text, and parses words with its tables, reports these or explains its
-//! conflicts.
+//! `lrtab` reads a grammar text. It parses tokens by the tables of the grammar, reports the tables
+//! or conflicts, or explains the conflicts.
 #![tactic(auto)]
 
 use lrtab_run::host::{given_method, given_words, out_of_memory};

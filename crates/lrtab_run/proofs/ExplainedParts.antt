@@ -11,7 +11,7 @@ use Rattle.lrtab_run.specs.Explained.{HasParts, no_part, part, IsItemPart, IsShi
 use Rattle.lrtab_run.specs.Explaining.{Grows}
 
 module _ {X : Type 0} (IsPart : ℕ → X → List ℕ → Type 0) where
-  -- the parts of so many are there, and with those of the others they are the parts of all
+  -- a number of parts is there, and with those of the others they are the parts of all
   pub record AreDone (first : ℕ) (xs : List X) (count : ℕ) (old now : List ℕ) : Type 0 where
     pub done : List ℕ
     pub grown : now ≡ old ++ done
@@ -36,7 +36,7 @@ module _ {X : Type 0} (IsPart : ℕ → X → List ℕ → Type 0) where
     grown = d.grown;
   }
 
--- the line of a shift, and the examples of each item
+-- the text of a shift grows by its line and the examples of each item
 pub shift_grows : (g : Rules) (states : List (State Bits)) (state : StateIndex) (t : TerminalString) (items : List (Dotted Bits)) (old now new : List ℕ) → items ≡ items_at (slice_get states state.0) →
     now ≡ old ++ (codes "  shift " ++ (terminal_text t ++ codes "\n")) → Grows (HasParts (λ _ item. IsItemPart g states state t item) 0 items) now new → Grows (IsShiftPart g states state t) old new
 shift_grows g states state t items old now new are line grows = record {

@@ -15,19 +15,19 @@ use Rattle.lalrpop_traces.specs.declared.trace.filtered.FilteredPathEnumerator.{
 use Rattle.lrtab_run.specs.Explained.{AreFirst, enough, none, skip, keep, marked_line, path_line, path_lines}
 use Rattle.lrtab_run.specs.Explaining.{Grows, AreFirstLines}
 
--- ---- the place of an example is within it
+-- ---- the place of an example is at most its length
 
 -- the line of an example is that of its path
 line_of_path : (graph : Graph) (path : List ℕ) (example : Example) → IsExampleOf graph path example → marked_line example.symbols.items example.cursor ≡ path_line graph path
 line_of_path graph path example h = ap (λ n. marked_line example.symbols.items n) h.cursor ∙ ap (λ xs. marked_line xs (length (prefixes graph path))) h.symbols
 
--- a line more
+-- after the line of one path more, the text has the lines of the paths and of that one
 line_more : (graph : Graph) (shown : List (List ℕ)) (path old now new : List ℕ) → now ≡ old ++ path_lines graph shown → new ≡ now ++ path_line graph path → new ≡ old ++ path_lines graph (shown ++ path ∷ [])
 line_more graph shown path old now new e f =
     f ∙ ap (λ xs. xs ++ path_line graph path) e ∙ append_assoc old (path_lines graph shown) (path_line graph path)
     ∙ ap (λ xs. old ++ xs) (ap (λ xs. path_lines graph shown ++ xs) (sym (append-nil (path_line graph path))) ∙ sym (flat_map-append (path_line graph) shown (path ∷ [])))
 
--- a path more behind those before it
+-- a path moves from the front of the paths that are left to the end of those shown
 path_more : (shown : List (List ℕ)) (path : List ℕ) (more : List (List ℕ)) → shown ++ path ∷ more ≡ (shown ++ path ∷ []) ++ more
 path_more shown path more = sym (append_assoc shown (path ∷ []) more)
 
@@ -41,8 +41,8 @@ module _ (P : List ℕ → Type 0) where
   none_left n [] not = none
   none_left n (p ∷ ps) not = skip (not p (contains_head p ps)) (none_left n ps (λ q c. not q (contains_tail p ps q c)))
 
--- ---- what a walk has left
--- the walk has these paths still, or none and an allocation failure to report
+-- ---- the paths that a walk has left
+-- the walk has these paths left, or it has none and an allocation failure to report
 abbrev pub HasLeft : List (List ℕ) → PathEnumerator → Type 0
 HasLeft rest walk = ((to_come walk ≡ rest) × (walk.refused ≡ false)) ⊎ ((to_come walk ≡ []) × (walk.refused ≡ true))
 
@@ -51,7 +51,7 @@ left_of rest walk (inl h) = inl (h.0, h.1)
 left_of rest walk (inr h) = inr (h.0.here, h.1)
 
 -- ---- a walk over all paths
--- the walk has shown some paths, and the first of the rest are to be shown
+-- the walk has shown some paths, and with the first of the rest they are the first three paths
 pub record IsListing (begun walk : PathEnumerator) (left : ℕ) (old now : List ℕ) : Type 0 where
   pub graph : walk.graph.now ≡ begun.graph.now
   pub shown : List (List ℕ)
@@ -63,7 +63,7 @@ pub record IsListing (begun walk : PathEnumerator) (left : ℕ) (old now : List 
 pub listing_begins : (walk : PathEnumerator) (text : List ℕ) → walk.refused ≡ false → IsListing walk walk 3 text text
 listing_begins walk text told = record { graph = refl; shown = []; rest = to_come walk; goes = inl (refl, told); first = refl; text = sym (append-nil text) }
 
--- a walk that gives something had it to come
+-- the paths that are left of a walk that gives a path begin with that path
 rest_of_walk : (walk : PathEnumerator) (rest new : List (List ℕ)) (path : List ℕ) → HasLeft rest walk → to_come walk ≡ path ∷ new → rest ≡ path ∷ new
 rest_of_walk walk rest new path (inl h) e = sym h.0 ∙ e
 rest_of_walk walk rest new path (inr h) e = absurd (nil≢cons (sym h.0 ∙ e))
@@ -111,7 +111,8 @@ pub listing_stops : (begun walk : PathEnumerator) (left : ℕ) (old now : List �
 listing_stops begun walk left old now h told e = listed begun walk left old now h (take_of_none left h.rest (nothing_left walk h.rest h.goes told e))
 
 -- ---- a filtered walk
--- the walk has shown some paths that meet its lookahead, and the first such ones of the rest are to be shown
+-- the walk has shown some paths that meet its lookahead, and the first such ones of the rest are
+-- still to be shown
 pub record IsFiltering (begun walk : FilteredPathEnumerator) (left : ℕ) (old now : List ℕ) : Type 0 where
   pub same : IsSameFilter begun walk
   pub shown : List (List ℕ)
@@ -130,13 +131,15 @@ filtering_begins walk text told = record {
   text = sym (append-nil text);
 }
 
--- over the same graph with the same terminals
+-- the terminals of the edges are known to a filtered walk over the same graph with the same
+-- terminals
 pub known_same : (walk next : FilteredPathEnumerator) → IsSameFilter walk next → AreKnownEdges walk.first_sets.now.terminals walk.base.graph.now.edges → AreKnownEdges next.first_sets.now.terminals next.base.graph.now.edges
 known_same walk next same known =
     let Known : Rules → Graph → Type 0 = λ r g. AreKnownEdges r.terminals g.edges in
     subst (λ (r : Rules). Known r next.base.graph.now) (sym same.first_sets) (subst (λ (g : Graph). Known walk.first_sets.now g) (sym same.graph) known)
 
--- what meets the lookahead of one walk meets that of the same walk
+-- a path that meets the lookahead of a walk meets that of a walk with the same graph, FIRST sets
+-- and lookahead
 meets_same : (a b : FilteredPathEnumerator) → b.base.graph.now ≡ a.base.graph.now → b.first_sets.now ≡ a.first_sets.now → b.lookahead ≡ a.lookahead → (path : List ℕ) → Meets b path → Meets a path
 meets_same a b graph sets lookahead path m = (
   m.0,

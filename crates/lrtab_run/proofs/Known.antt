@@ -1,4 +1,4 @@
--- What is told of a file whose bytes may be known.
+-- Results for a file whose bytes may be known.
 use Rattle.std.proofs.Common.{◌≡◌, ℕ, inl, inr, List, Option, None, Some, Result, Ok, Err, subst}
 use Rattle.std.specs.Prelude.{IfSome, IfOk, position, string_bytes}
 use Rattle.std.specs.Str.{IsUtf8}
@@ -29,12 +29,12 @@ answer_known IsShown name bytes known Usage e h = h
 answer_known IsShown name bytes known TooManyActions e h = of_file IsTooMany bytes known e h
 answer_known IsShown name bytes known Memory e h = tt
 
--- what is told of a text is told of the file that has it
+-- a result for a text is a result for a file that has the text
 pub told_of_file : (IsShown : Grammar → Shown → Type 0) (name bytes : List ℕ) (known : Option (List ℕ)) (r : Result Answer OutOfMemory) → IfSome known (λ xs. bytes ≡ xs) → IfOk r (IsAnswerTo IsShown name (Some (Some bytes))) → IfOk r (IsAnswerTo IsShown name (Some known))
 told_of_file IsShown name bytes known (Ok answer) e h = answer_known IsShown name bytes known answer e h
 told_of_file IsShown name bytes known (Err error) e h = tt
 
--- what is told of the grammar that a text stands for is told of the text
+-- a result for the grammar that a text gives is a result for the text
 pub told_of_text : (IsShown : Grammar → Shown → Type 0) (name bytes : List ℕ) (g : Grammar) (r : Result Answer OutOfMemory) → IsUtf8 bytes → position is_fault (lines_of bytes) ≡ None → StandsFor (lines_of bytes) g → IfOk r (IsAnswerToGrammar IsShown g) → IfOk r (IsAnswerTo IsShown name (Some (Some bytes)))
 told_of_text IsShown name bytes g (Ok (Output s)) utf8 right stands h = record { utf8 = utf8; right = right; grammar = g; stands = stands; shown = h }
 told_of_text IsShown name bytes g (Ok (Fault text)) utf8 right stands h = inr (inr (h.0, record { utf8 = utf8; right = right; grammar = g; stands = stands; ring = h.1 }, h.2))

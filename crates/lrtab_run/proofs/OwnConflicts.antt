@@ -1,4 +1,5 @@
--- The items of constructed states, and the reductions of their conflicts, are of the grammar's productions.
+-- The items of states that were constructed, and the reductions of their conflicts, have
+-- productions of the grammar.
 use Rattle.std.proofs.Common.{◌≡◌, ℕ, inl, inr, Bool, true, false, cond, ◌==◌, List, [], ◌∷◌, length, ap, subst, Option, Some, None}
 use Rattle.std.specs.Prelude.{Contains, slice_get}
 use Rattle.std.specs.List.{filter, flat_map}

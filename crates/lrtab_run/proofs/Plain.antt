@@ -1,4 +1,5 @@
--- A grammar that is not marked for a collapse is not collapsed, and what is said of its tables holds without that condition.
+-- A grammar that is not marked for a collapse is not collapsed. So what is said of its tables holds
+-- without that condition.
 use Rattle.std.proofs.Common.{◌≡◌, ℕ, List, false, sym, subst, ◌∙◌}
 use mathlib.Core.Bool.{true≢false}
 use Rattle.lalrpop_base.specs.Words.{Bits}

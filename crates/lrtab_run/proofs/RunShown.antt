@@ -1,4 +1,4 @@
--- What is shown of the answer of a parse by tables.
+-- What is shown of the result of a parse by tables.
 use Rattle.std.proofs.Common.{◌≡◌, ◌≤◌, ℕ, List, Result, Ok, Err, refl, subst, inl, map}
 use Rattle.std.specs.Prelude.{IfOk, IfErr, string_bytes}
 use Rattle.std.specs.declared.string.String.{String}
@@ -18,7 +18,7 @@ use Rattle.lalrpop_parser.specs.declared.interpret.tree.ParseTree.{ParseTree}
 use Rattle.lrtab_run.specs.Words.{Parse}
 use Rattle.lrtab_run.specs.Shown.{IsTextOf, IsParseShown, IsTaskShown}
 
--- what is promised of an answer by the states
+-- what is promised of a result by the states
 module _ (g : Grammar) (start : NonterminalString) (w : List TerminalString) (limit : ℕ) (states : List (State Bits)) where
   pub record IsPromised (answer : Result ParseTree (InterpretError Bits)) : Type 0 where
     pub parses : IfOk answer (λ tree. IsOnNoRightSide (productions g) start → IsTreeWithin limit w (tree_of tree) (productions g) start)
@@ -70,7 +70,8 @@ module _ (method : Method) (max_copies : ℕ) (g : Grammar) (start name : Nonter
   }
   answer_shown (Err Memory) status text h shown = absurd shown
 
-  -- the text of an answer is what a parse shows, also under other names of the start symbol and the tokens
+  -- the text of a result is what a parse shows, also under other names of the start symbol and the
+  -- tokens
   pub parse_shown : {A : Type 0} (words : List (List ℕ)) → w ≡ map Literal words → (answer : Result ParseTree (InterpretError Bits)) (r : Result (ℕ × String A) OutOfMemory) → IsPromised g name w limit states answer →
       IfOk r (λ o. IsTextOf answer o.0 (string_bytes o.1)) → IfOk r (λ o. IsTaskShown method max_copies g start (Parse limit words) o.0 (string_bytes o.1))
   parse_shown words same answer (Ok o) h shown =

@@ -1,4 +1,5 @@
--- The graph of a reduction that is traced: its edges have terminals with bits, and its first examples are what is shown.
+-- The graph of a reduction that is traced: its edges have terminals with bits, and its first
+-- examples are what is shown.
 use Rattle.std.proofs.Common.{◌≡◌, ℕ, List, sym, ap, subst}
 use Rattle.std.specs.Prelude.{Contains}
 use Rattle.lalrpop_base.specs.Words.{Bits, Dotted, Rules}
@@ -26,7 +27,7 @@ module _ (g h : Rules) (states made : List (State Bits)) (same_rules : h ≡ g) 
       let own_terminals : HasOwnTerminals h = subst HasOwnTerminals (sym same_rules) own.known in
       subst (λ (r : Rules). AreKnownEdges r.terminals edges) same_rules (known own_terminals (own_productions own c))
 
-  -- what a walk over the graph shows are the first examples of the item
+  -- the text that a filtered walk over the graph shows has the first examples of the item
   pub traced_shown : (graph : Graph) (walk : FilteredPathEnumerator) (old new : List ℕ) → IsTraceOf (reduction_traced h.productions made state begun) graph → IsInOrder (reduction_traced h.productions made state begun) graph →
       walk.base.graph.now ≡ graph → walk.first_sets.now ≡ g → walk.lookahead ≡ item.lookahead → to_come walk.base ≡ paths graph (item_node item) → Grows (AreFirstLines walk) old new → Grows (AreReduceExamples g states state item) old new
   traced_shown graph walk old new trace order over sets lookahead come grows =

@@ -1,4 +1,4 @@
--- What the program tells, and what is told.
+-- The result of the program, and how it relates to its arguments and the file.
 use Rattle.std.specs.Prelude.{◌≡◌, ℕ, List, [], ◌∷◌, ◌++◌, Option, None, Some, IfSome, codes, position, string_bytes}
 use Rattle.std.proofs.Common.{◌⊎◌}
 use Rattle.std.specs.Fmt.{decimal}
@@ -17,17 +17,19 @@ use Rattle.lalrpop_lr1.specs.Words.{IsOnRing, HasTooMany}
 use Rattle.lrtab_run.specs.Words.{Asked}
 use Rattle.lrtab_run.specs.Shown.{line, IsShown, IsShownInlined}
 
--- a fact of the bytes of a file that is there, where they are known
+-- a fact holds of the bytes of a file: the file is there, and the fact holds of its bytes if they
+-- are known
 abbrev pub OfFile : (List ℕ → Type 0) → Option (Option (List ℕ)) → Type 0
 OfFile P None = ⊥
 OfFile P (Some bytes) = IfSome bytes P
 
--- the first word
+-- the first argument, which names the file, or nothing if there are no arguments
 abbrev pub file_name : List (List ℕ) → List ℕ
 file_name [] = []
 file_name (name ∷ words) = name
 
--- what is shown: the text of the file is UTF-8 and has no faulty line, and this is shown of the grammar that it stands for
+-- what is shown is that of a file: its bytes are UTF-8, no line is faulty, and this is shown of the
+-- grammar that the lines give
 pub record IsOutputOf (IsShown : Grammar → Shown → Type 0) (s : Shown) (bytes : List ℕ) : Type 0 where
   pub utf8 : IsUtf8 bytes
   pub right : position is_fault (lines_of bytes) ≡ None
@@ -35,7 +37,8 @@ pub record IsOutputOf (IsShown : Grammar → Shown → Type 0) (s : Shown) (byte
   pub stands : StandsFor (lines_of bytes) grammar
   pub shown : IsShownInlined (λ g. IsShown g s) grammar
 
--- the grammar that a text stands for has marked nonterminals that mention each other in a ring, of which a is one
+-- the grammar that a text gives has marked nonterminals that mention each other in a ring, and `a`
+-- is one of them
 pub record IsCyclic (bytes : List ℕ) (a : NonterminalString) : Type 0 where
   pub utf8 : IsUtf8 bytes
   pub right : position is_fault (lines_of bytes) ≡ None
@@ -43,19 +46,22 @@ pub record IsCyclic (bytes : List ℕ) (a : NonterminalString) : Type 0 where
   pub stands : StandsFor (lines_of bytes) grammar
   pub ring : IsOnRing grammar a
 
--- there are more actions than numbers for them, as the text stands or with its marked nonterminals inlined
+-- a text has more actions than numbers for them, before its marked nonterminals are inlined or
+-- after
 pub data IsTooMany (bytes : List ℕ) : Type 0 where
   in_text : IsUtf8 bytes → IsFaultOf (lines_of bytes) TooMany → IsTooMany bytes
   inlined : (g : Grammar) → IsUtf8 bytes → StandsFor (lines_of bytes) g → HasTooMany g → IsTooMany bytes
 
--- the file is not there, could not be read or is no UTF-8; or its text has a faulty line, and the first is named; or a nonterminal is named that would have to be inlined into itself
+-- a message says what is wrong with a file: it is not there, cannot be read or is not UTF-8; or its
+-- text has a faulty line, and the message has the number of the first; or the message names a
+-- marked nonterminal that would have to be inlined into itself
 abbrev pub IsFaultText : List ℕ → Option (Option (List ℕ)) → List ℕ → Type 0
 IsFaultText name file text =
     (text ≡ line (codes "cannot read " ++ name))
     ⊎ ((n : ℕ) × OfFile (λ bytes. IsUtf8 bytes × IsFaultOf (lines_of bytes) (LineFault n)) file × (text ≡ line (codes "line " ++ decimal n ++ codes ": not a grammar line")))
     ⊎ ((a : NonterminalString) × OfFile (λ bytes. IsCyclic bytes a) file × (text ≡ line (codes "cyclic inline of " ++ a.text)))
 
--- what a program tells of a file, where it has something to show of its grammar
+-- a result is right for a file, if `IsShown` says what is shown of a grammar
 abbrev pub IsAnswerTo : (Grammar → Shown → Type 0) → List ℕ → Option (Option (List ℕ)) → Answer → Type 0
 IsAnswerTo IsShown name file (Output s) = OfFile (IsOutputOf IsShown s) file
 IsAnswerTo IsShown name file (Fault text) = IsFaultText name file (string_bytes text)
@@ -63,7 +69,7 @@ IsAnswerTo IsShown name file Usage = ⊥
 IsAnswerTo IsShown name file TooManyActions = OfFile IsTooMany file
 IsAnswerTo IsShown name file Memory = Unit {0}
 
--- and of a grammar
+-- a result is right for a grammar, if `IsShown` says what is shown of a grammar
 abbrev pub IsAnswerToGrammar : (Grammar → Shown → Type 0) → Grammar → Answer → Type 0
 IsAnswerToGrammar IsShown g (Output s) = IsShownInlined (λ h. IsShown h s) g
 IsAnswerToGrammar IsShown g (Fault text) = (a : NonterminalString) × IsOnRing g a × (string_bytes text ≡ line (codes "cyclic inline of " ++ a.text))
@@ -71,16 +77,17 @@ IsAnswerToGrammar IsShown g Usage = ⊥
 IsAnswerToGrammar IsShown g TooManyActions = HasTooMany g
 IsAnswerToGrammar IsShown g Memory = Unit {0}
 
--- what `lrtab` shows of a grammar for a request; it remarks nothing
+-- what `lrtab` shows of a grammar for a request: a status and a text, without a remark
 pub record IsShownWhole (method : Method) (g : Grammar) (request : Asked) (s : Shown) : Type 0 where
   pub shown : IsShown method g request s.status (string_bytes s.text)
   pub plain : string_bytes s.remark ≡ []
 
--- what `lrtab` tells on words: the usage text where they are no request, and nothing else then
+-- a result is that of `lrtab` for its arguments: `Usage` if they are no request, and else a result
+-- for the request and the file
 abbrev pub IsAnswer : Method → Option Asked → List ℕ → Option (Option (List ℕ)) → Answer → Type 0
 IsAnswer method None name file answer = answer ≡ Usage
 IsAnswer method (Some request) name file answer = IsAnswerTo (λ g. IsShownWhole method g request) name file answer
 
--- how `lrtab` is used
+-- the usage text of `lrtab`
 abbrev pub usage : List ℕ
 usage = line (codes "usage: lrtab FILE START (parse LIMIT TOKEN.. | report | explain)")

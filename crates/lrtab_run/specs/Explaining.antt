@@ -1,4 +1,4 @@
--- Under what conditions conflicts are explained, and how the text grows.
+-- The conditions under which conflicts are explained, and how the text grows.
 use Rattle.std.specs.Prelude.{◌≡◌, ℕ, List, ◌++◌, Contains}
 use Rattle.lalrpop_base.specs.Words.{Bits, Dotted, Rules, HasKnownTerminals}
 use Rattle.lalrpop_states.specs.declared.lr1_core.state.Conflict.{Conflict}
@@ -10,23 +10,25 @@ use Rattle.lalrpop_lr1.specs.Words.{StandsIn, Meets, to_come}
 use Rattle.lalrpop_traces.specs.declared.trace.filtered.FilteredPathEnumerator.{FilteredPathEnumerator}
 use Rattle.lrtab_run.specs.Explained.{AreFirst, path_lines}
 
--- a text grew by one of which something holds
+-- a text grew by a text of which P holds
 pub record Grows (P : List ℕ → Type 0) (old new : List ℕ) : Type 0 where
   pub added : List ℕ
   pub holds : P added
   pub grown : new ≡ old ++ added
 
--- each item of the states is of one of the grammar's productions, whose terminals have bits
+-- the terminals of the grammar's productions have bits, and each item of the states has one of
+-- these productions
 pub record AreOwnStates (g : Rules) (states : List (State Bits)) : Type 0 where
   pub known : (p : Production) → Contains g.productions p → HasKnownTerminals g.terminals p.symbols
   pub items : (n : StateIndex) (i : Dotted Bits) → StandsIn states n i → Contains g.productions i.production
 
--- the reductions of a conflict are by some of the productions
+-- the reductions of a conflict are by productions of a list
 pub record IsOwnConflict (productions : List Production) (c : Conflict Bits) : Type 0 where
   pub production : Contains productions c.production.now
   pub action : ReducesOwn productions c.action
 
--- the lines of the first three paths to come that meet the lookahead of a walk
+-- the text has the lines of the first three paths to come that meet the lookahead of a filtered
+-- walk
 pub record AreFirstLines (walk : FilteredPathEnumerator) (text : List ℕ) : Type 0 where
   pub first : List (List ℕ)
   pub are_first : AreFirst (Meets walk) 3 (to_come walk.base) first

@@ -1,4 +1,4 @@
--- How an answer is told on two streams.
+-- How the result of a program is written to two streams.
 use Rattle.std.specs.Prelude.{◌≡◌, ℕ, List, [], Option, codes, string_bytes}
 use Rattle.std.proofs.Common.{◌⊎◌}
 use Rattle.std.specs.Io.KnownBytes.{Keeps, Appends}
@@ -7,23 +7,25 @@ use Rattle.lrtab_run.specs.declared.answer.Answer.TheVariants.{Output, Fault, Us
 use Rattle.lrtab_run.specs.Output.{AppendsBeginning}
 use Rattle.lrtab_run.specs.Shown.{line}
 
--- a text on standard error, or a beginning of it where that fails, and nothing on standard output
+-- a message went to standard error, or a beginning of it if that stream fails, and nothing to
+-- standard output
 pub record IsComplaint (text : List ℕ) (out_old out_new err_old err_new : Option (List ℕ)) : Type 0 where
   pub kept : Keeps out_old out_new
   pub told : AppendsBeginning err_old err_new text
 
--- a text on standard output, and a remark, or a beginning of it where that fails, on standard error, if there is one
+-- a text went to standard output; a remark, if there is one, went to standard error, or a beginning
+-- of it if that stream fails
 pub record IsWritten (text remark : List ℕ) (out_old out_new err_old err_new : Option (List ℕ)) : Type 0 where
   pub written : Appends out_old out_new text
   pub told : AppendsBeginning err_old err_new remark
   pub kept : remark ≡ [] → Keeps err_old err_new
 
--- standard output failed: a beginning of the text, and the message on standard error
+-- standard output failed: a beginning of the text went to it, and the message to standard error
 pub record IsCutOff (text : List ℕ) (out_old out_new err_old err_new : Option (List ℕ)) : Type 0 where
   pub written : AppendsBeginning out_old out_new text
   pub told : AppendsBeginning err_old err_new (line (codes "cannot write"))
 
--- the status, and what went to the two streams; a program has a usage text of its own
+-- a result has an exit status, and went to the two streams; each program has its own usage text
 abbrev pub IsTold : List ℕ → Answer → ℕ → Option (List ℕ) → Option (List ℕ) → Option (List ℕ) → Option (List ℕ) → Type 0
 IsTold usage (Output s) result o p e f = ((result ≡ s.status) × IsWritten (string_bytes s.text) (string_bytes s.remark) o p e f) ⊎ ((result ≡ 2) × IsCutOff (string_bytes s.text) o p e f)
 IsTold usage (Fault text) result o p e f = (result ≡ 2) × IsComplaint (string_bytes text) o p e f

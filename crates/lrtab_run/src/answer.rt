@@ -1,4 +1,4 @@
-//! What a program tells of a grammar's file: what it is asked, or why that can't be told.
+//! The result of a program for the file of a grammar: what it shows, or why it cannot show it.
 ghost use Rattle.std.specs.Prelude.{◌≡◌, ◌++◌, IfOk, IfSome, Some, Option, map, option_map, string_bytes, codes, List, ℕ, false};
 ghost use Rattle.std.specs.Fmt.{decimal};
 ghost use Rattle.lalrpop_base.specs.Words.{IsWellFormed};
@@ -20,25 +20,31 @@ use std::io::{ErrorKind, Read};
 /// What is shown of a grammar.
 #[derive(Drop)]
 pub struct Shown {
+    /// The exit status.
     pub status: u8,
-    /// For standard output.
+    /// The text for standard output.
     pub text: String,
-    /// For standard error, behind the text; empty where there is nothing to remark.
+    /// The text for standard error, which is written after the output. It is empty if there is
+    /// nothing to remark.
     pub remark: String,
 }
 
-/// What a program has to tell.
+/// The result of a program, which decides its outputs and its exit status.
 #[derive(Drop)]
 pub enum Answer {
+    /// What is shown of the grammar.
     Output(Shown),
-    /// A text for standard error.
+    /// A message for standard error: the file, a line or a mark in it is faulty.
     Fault(String),
+    /// The arguments are no request.
     Usage,
+    /// There are more actions than numbers for them, in the text or after inlining.
     TooManyActions,
+    /// An allocation failed.
     Memory,
 }
 
-/// The first word.
+/// The first argument, which is the name of the file. It is empty if there are no arguments.
 pub fn first_word(words: &[String]) -> &str
     ensures { result.now ≡ file_name (map string_bytes words.now) }
 {
@@ -48,7 +54,8 @@ pub fn first_word(words: &[String]) -> &str
     }
 }
 
-/// What a program has to tell of what it is asked of a file.
+/// The result for a request and a file. `file` is `None` if the file could not be opened.
+/// `OutOfMemory` if an allocation fails.
 pub fn answer_to<A: Ask, R: Read + Drop>(
     alloc: Global,
     ask: &A,
@@ -68,14 +75,14 @@ pub fn answer_to<A: Ask, R: Read + Drop>(
     }
 }
 
-// The message of a file that can't be read.
+// The message for a file that cannot be read.
 fn cannot_read(alloc: Global, name: &str) -> Result<String, OutOfMemory>
     ensures { IfOk result (λ text. string_bytes text ≡ line (codes "cannot read " ++ name.now)) }
 {
     Ok(format!(in alloc; "cannot read {name}\n")?)
 }
 
-// The message of a faulty line.
+// The message for a line that is no grammar line. Lines are counted from 1.
 fn faulty_line(alloc: Global, number: usize) -> Result<String, OutOfMemory>
     ensures { IfOk result (λ text. string_bytes text ≡ line
         (codes "line " ++ decimal number ++ codes ": not a grammar line")) }
@@ -83,7 +90,7 @@ fn faulty_line(alloc: Global, number: usize) -> Result<String, OutOfMemory>
     Ok(format!(in alloc; "line {number}: not a grammar line\n")?)
 }
 
-// The text of a file, where it can be read and is UTF-8.
+// The text of a file. `None` if the file cannot be read or is not UTF-8.
 fn text_of<R: Read + Drop>(alloc: Global, mut reader: R) -> Result<Option<String>, OutOfMemory>
     ensures { IfOk result
         (λ text. IfSome text (λ t. IfSome (R.remaining reader) (λ bytes. string_bytes t ≡ bytes))) }
@@ -101,7 +108,7 @@ fn text_of<R: Read + Drop>(alloc: Global, mut reader: R) -> Result<Option<String
     }
 }
 
-// What a program has to tell of what it is asked and of the text of its file.
+// The result for a request and the text of the file.
 fn answer_to_text<A: Ask>(
     alloc: Global,
     ask: &A,
@@ -119,8 +126,7 @@ fn answer_to_text<A: Ask>(
     }
 }
 
-// What a program has to tell of what it is asked and of a grammar, whose marked nonterminals are
-// inlined.
+// The result for a request and a grammar. The marked nonterminals of the grammar are inlined first.
 fn answer_to_grammar<A: Ask>(
     alloc: Global,
     ask: &A,
@@ -139,7 +145,7 @@ fn answer_to_grammar<A: Ask>(
     }
 }
 
-// The message of a nonterminal that would have to be inlined into itself.
+// The message for a marked nonterminal that would have to be inlined into itself.
 fn cyclic_inline(alloc: Global, name: &NonterminalString) -> Result<String, OutOfMemory>
     ensures { IfOk result
         (λ text. string_bytes text ≡ line (codes "cyclic inline of " ++ name.now.text)) }

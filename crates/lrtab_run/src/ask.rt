@@ -1,4 +1,4 @@
-//! What a program may be asked of a grammar.
+//! What a program can be asked of a grammar.
 ghost use Rattle.std.specs.Prelude.{◌≡◌, IfOk, false};
 ghost use Rattle.lalrpop_base.specs.Words.{IsWellFormed};
 ghost use Rattle.lalrpop_grammar.specs.declared.repr.grammar.Grammar.{Grammar};
@@ -11,12 +11,12 @@ use lalrpop_base::repr::grammar::Grammar;
 use lalrpop_tables::build::Method;
 use std::alloc::Global;
 
-/// What a program may be asked of a grammar whose marked nonterminals are inlined.
+/// A request of a program, for a grammar whose marked nonterminals are inlined.
 pub trait Ask {
-    // Whether this is what is shown of a grammar, by the method.
+    // Whether a value is what is shown of a grammar, by the method.
     ghost IsShown: { Self → Method → Grammar → Shown → Type 0 };
 
-    /// What is shown of a grammar, by the method.
+    /// What is shown of the grammar, by the method. `OutOfMemory` if an allocation fails.
     fn shown(&self, alloc: Global, method: Method, grammar: &Grammar) -> Result<Shown, OutOfMemory>
         requires well_formed { IsWellFormed grammar.now }
         requires canonical { grammar.now.algorithm.lalr ≡ false }

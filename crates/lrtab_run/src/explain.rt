@@ -1,4 +1,4 @@
-//! The explanation of conflicts: how each of their actions comes about, by examples of input.
+//! The explanation of conflicts: how the actions of each come about, by examples of input.
 mod examples;
 mod ground;
 mod lines;
@@ -23,7 +23,7 @@ use lalrpop_base::repr::{Production, Symbol, TerminalString};
 use lalrpop_lr1::trace::Tracer;
 use std::alloc::Global;
 
-/// The explanation of the conflicts of a grammar.
+/// The explanation of the conflicts of a grammar, as text. `OutOfMemory` if an allocation fails.
 pub fn explanation<'grammar>(
     alloc: Global,
     grammar: &'grammar Grammar,
@@ -50,7 +50,7 @@ pub fn explanation<'grammar>(
     Ok(text)
 }
 
-// Appends the parts of conflicts, numbered from 1.
+// Appends the parts of the conflicts, which are numbered from 1.
 fn push_conflicts<'grammar>(
     alloc: Global,
     text: &mut String,
@@ -110,7 +110,7 @@ fn push_action<'grammar>(
     }
 }
 
-// Appends the part of a reduction of a conflict: its production, and examples that go on with a
+// Appends the part of a reduction of a conflict: its production, and examples that can go on with a
 // token of the conflict.
 fn push_reduction<'grammar>(
     alloc: Global,
@@ -137,7 +137,7 @@ fn push_reduction<'grammar>(
 }
 
 // Appends the part of a shift: its terminal, and examples for each item of the state that shifts
-// it.
+// the terminal.
 fn push_shift<'grammar>(
     alloc: Global,
     text: &mut String,
@@ -155,7 +155,7 @@ fn push_shift<'grammar>(
     Ok(())
 }
 
-// Appends the examples of a shift for each of some items.
+// Appends the examples of each item that shifts the terminal.
 fn push_items<'grammar>(
     alloc: Global,
     text: &mut String,
@@ -193,7 +193,7 @@ fn push_item<'grammar>(
     Ok(())
 }
 
-// Whether the terminal stands behind the dot.
+// Whether the terminal comes directly after the dot of the item.
 fn shifts(item: &Lr1Item<'_>, terminal: &TerminalString) -> bool
     ensures { IsTrue result ↔ (slice_get item.now.production.symbols item.now.index ≡ Some
         (Symbol.Terminal terminal.now)) }

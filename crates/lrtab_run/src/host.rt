@@ -1,4 +1,4 @@
-//! What a program gets from the system, and how it ends where that is refused.
+//! What a program gets from the system, and how it ends if the system refuses memory.
 use crate::words::method_of;
 use lalrpop_base::memory::OutOfMemory;
 use lalrpop_tables::build::Method;
@@ -7,14 +7,14 @@ use std::env::VarError;
 use std::io::ErrorKind;
 use std::process::ExitCode;
 
-/// Tells that memory was refused.
+/// Writes that an allocation failed, and returns the exit status 3.
 pub fn out_of_memory(rt: &HostRuntime) -> ExitCode {
     let _ = eprintln!(rt; "out of memory");
     ExitCode::from(3)
 }
 
-/// The method that the environment asks for. Where there is no word, or one that is not UTF-8, it
-/// is the lane way.
+/// The method that the environment variable `LALRPOP_LANE_TABLE` asks for. It is the lane method if
+/// the variable is not set or is not UTF-8.
 pub fn given_method(rt: &HostRuntime) -> Result<Method, OutOfMemory> {
     match env::var(rt, "LALRPOP_LANE_TABLE") {
         Ok(word) => Ok(method_of(word.as_str())),
@@ -23,7 +23,8 @@ pub fn given_method(rt: &HostRuntime) -> Result<Method, OutOfMemory> {
     }
 }
 
-/// The words after the program's name. Where one is not UTF-8 they are no request, as no words are.
+/// The arguments after the program's name. If an argument is not UTF-8, the list is empty, and so
+/// it is no request.
 pub fn given_words(rt: &HostRuntime) -> Result<Vec<String>, OutOfMemory> {
     let mut words = Vec::new(rt.alloc());
     match env::args(rt) {

@@ -1,4 +1,4 @@
-//! What the program `lrtab` answers to its words, over any reader and writers.
+//! What the program `lrtab` prints for its arguments, over any reader and writers.
 #![tactic(auto)]
 
 pub mod answer;

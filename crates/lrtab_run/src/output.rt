@@ -1,11 +1,12 @@
-//! Writing a text whole.
+//! Writing a whole text.
 ghost use Rattle.std.specs.Prelude.{IsTrue};
 ghost use Rattle.std.specs.Io.KnownBytes.{Appends};
 ghost use Rattle.lrtab_run.specs.Output.{AppendsBeginning};
 
 use std::io::Write;
 
-/// Writes a text and flushes. It stops at an error of any kind, and where the writer takes nothing.
+/// Writes a text and flushes the writer. The result is `false` if the writer returns an error of
+/// any kind, or if it takes no byte.
 pub fn write_whole<W: Write>(out: &mut W, text: &[u8]) -> bool
     ensures whole { IsTrue result → Appends (W.contents out.old) (W.contents out.new) text.now }
     ensures part { AppendsBeginning (W.contents out.old) (W.contents out.new) text.now }
@@ -13,7 +14,7 @@ pub fn write_whole<W: Write>(out: &mut W, text: &[u8]) -> bool
     write_bytes(out, text) && out.flush().is_ok()
 }
 
-// Writes a text, a part at a time.
+// Writes a text part by part.
 fn write_bytes<W: Write>(out: &mut W, text: &[u8]) -> bool
     ensures whole { IsTrue result → Appends (W.contents out.old) (W.contents out.new) text.now }
     ensures part { AppendsBeginning (W.contents out.old) (W.contents out.new) text.now }

@@ -12,8 +12,8 @@ use lalrpop_tables::build::Method;
 use std::alloc::Global;
 use std::io::{Read, Write};
 
-/// Runs the program on its words, and answers its status. Nothing goes to `out` before the whole
-/// text is made.
+/// Runs the program on its arguments and returns the exit status. `file` is `None` if the file
+/// could not be opened. The whole text is made before a byte goes to `out`.
 pub fn run<R: Read, O: Write, E: Write>(
     alloc: Global,
     words: &[String],
@@ -36,7 +36,8 @@ where
 
 const USAGE: &str = "usage: lrtab FILE START (parse LIMIT TOKEN.. | report | explain)\n";
 
-/// What the program has to tell on its words.
+/// The result of the program for its arguments. `file` reads the file that the first argument
+/// names, and is `None` if that could not be opened.
 pub fn answer_of<R: Read + Drop>(
     alloc: Global,
     words: &[String],

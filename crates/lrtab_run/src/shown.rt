@@ -42,7 +42,7 @@ impl Ask for Request<'_> {
     }
 }
 
-// A status, and what a request of the tables of a grammar shows.
+// The exit status, and the text that a request shows of a grammar.
 fn shown(
     alloc: Global,
     request: &Request<'_>,
@@ -66,7 +66,8 @@ fn shown(
     }
 }
 
-// A status, and what a parse by the tables of a grammar shows, or how many conflicts it has.
+// The exit status and the text of a parse by the tables of a grammar. If it has no tables, the text
+// has the number of its conflicts.
 fn parse(
     alloc: Global,
     limit: usize,
@@ -90,7 +91,7 @@ fn parse(
     }
 }
 
-// A status, and the report of the tables of a grammar or of its conflicts.
+// The exit status, and the report of the tables of a grammar or of its conflicts.
 fn report(
     alloc: Global,
     start: NonterminalString,
@@ -111,14 +112,14 @@ fn report(
     }
 }
 
-// The status of a report: 0 for tables, 1 for conflicts.
+// The exit status of a report: 0 for tables, 1 for conflicts.
 fn status_of(outcome: &Lr1Result<'_>) -> u8
     ensures { result ≡ (if is_ok outcome.now then 0 else 1) }
 {
     if outcome.is_ok() { 0 } else { 1 }
 }
 
-// A status, and the explanation of the conflicts of a grammar, if it has some.
+// The exit status, and the explanation of the conflicts of a grammar, or that it has none.
 fn explain(
     alloc: Global,
     start: NonterminalString,
@@ -138,7 +139,7 @@ fn explain(
     }
 }
 
-// A status, and the text of the answer of a parse.
+// The exit status and the text of the result of a parse.
 fn text_of_answer(
     alloc: Global,
     answer: Result<ParseTree, InterpretError<'_, '_, TokenSet>>,
@@ -155,14 +156,14 @@ fn text_of_answer(
     }
 }
 
-// A status, and the text of a number of conflicts.
+// The exit status and the text for a number of conflicts.
 fn text_of_count(alloc: Global, count: usize) -> Result<(u8, String), OutOfMemory>
     ensures { IfOk result (λ o. IsCountText count o.0 (string_bytes o.1)) }
 {
     Ok((1, format!(in alloc; "conflicts: {count}\n")?))
 }
 
-// Words as literals.
+// The arguments as literals.
 fn tokens_of(alloc: Global, words: &[String]) -> Result<Vec<TerminalString>, OutOfMemory>
     ensures { IfOk result (λ tokens. tokens.items ≡ map Literal (map string_bytes words.now)) }
 {

@@ -1,4 +1,4 @@
-//! How an answer is told.
+//! How the result of a program is written.
 ghost use Rattle.std.specs.Prelude.{◌≡◌, ◌⊎◌, string_bytes};
 ghost use Rattle.lrtab_run.specs.Told.{IsTold, IsWritten, IsCutOff};
 ghost use Rattle.lrtab_run.specs.Output.{AppendsBeginning};
@@ -7,7 +7,8 @@ use crate::answer::{Answer, Shown};
 use crate::output::write_whole;
 use std::io::Write;
 
-/// Tells an answer, and answers the status. The usage text is a program's own.
+/// Writes a result to `out` and `err`, and returns the exit status: 2 for a faulty input or output,
+/// 3 for an allocation failure. Each program has its own usage text.
 pub fn tell<O: Write, E: Write>(answer: &Answer, usage: &str, out: &mut O, err: &mut E) -> u8
     ensures { IsTold usage.now answer.now result (O.contents out.old) (O.contents out.new)
         (E.contents err.old) (E.contents err.new) }
@@ -21,7 +22,7 @@ pub fn tell<O: Write, E: Write>(answer: &Answer, usage: &str, out: &mut O, err: 
     }
 }
 
-// Tells what is shown, and answers the status.
+// Writes what is shown, and returns the exit status: 2 if `out` does not take the whole text.
 fn tell_shown<O: Write, E: Write>(shown: &Shown, out: &mut O, err: &mut E) -> u8
     ensures { ((result ≡ shown.now.status)
         × IsWritten (string_bytes shown.now.text) (string_bytes shown.now.remark)
@@ -38,7 +39,7 @@ fn tell_shown<O: Write, E: Write>(shown: &Shown, out: &mut O, err: &mut E) -> u8
     complain(err, shown.remark.as_str(), shown.status)
 }
 
-/// Writes a message, and answers the status. A fault of the writer is not told.
+/// Writes a message, and returns the given exit status. An error of the writer is not reported.
 pub fn complain<E: Write>(err: &mut E, message: &str, status: u8) -> u8
     ensures status { result ≡ status }
     ensures told { AppendsBeginning (E.contents err.old) (E.contents err.new) message.now }

@@ -1,4 +1,4 @@
-//! The words of the command line.
+//! The arguments of the command line.
 ghost use Rattle.std.specs.Prelude.{◌≡◌, option_map, map, string_bytes};
 ghost use Rattle.std.specs.Str.{all_ascii_digits};
 ghost use Rattle.lrtab_run.specs.Words.{limit_of, lone_task, method_of, task_of, task_view, request_of, request_view};
@@ -6,24 +6,27 @@ ghost use Rattle.lrtab_run.specs.Words.{limit_of, lone_task, method_of, task_of,
 use grammar_text::symbols::is_a_name;
 use lalrpop_tables::build::Method;
 
-/// What is asked of the tables.
+/// What is asked of the tables of a grammar.
 #[derive(Clone, Copy)]
 pub enum Task<'a> {
-    /// A parse of tokens by at most so many steps.
+    /// A parse of tokens in at most so many steps.
     Parse(usize, &'a [String]),
+    /// The report of the tables or of the conflicts.
     Report,
+    /// The explanation of the conflicts.
     Explain,
 }
 
-/// What the words ask for.
+/// What the arguments ask for.
 #[derive(Clone, Copy)]
 pub struct Request<'a> {
+    /// The name of the start symbol.
     pub start: &'a str,
     pub task: Task<'a>,
 }
 
-/// The method that the environment's word asks for: the canonical one where it is "disabled", else
-/// the lane way.
+/// The method that the value of the environment variable asks for: the canonical method if the
+/// value is `disabled`, and else the lane method.
 pub fn method_of(word: &str) -> Method
     ensures { result ≡ method_of word.now }
 {
@@ -33,7 +36,7 @@ pub fn method_of(word: &str) -> Method
     Method::Lane
 }
 
-/// What words ask for, where they have its form.
+/// What the arguments ask for. `None` if they do not have the form of a request.
 pub fn request_of(words: &[String]) -> Option<Request<'_>>
     ensures { option_map request_view result ≡ request_of (map string_bytes words.now) }
 {
@@ -50,7 +53,7 @@ pub fn request_of(words: &[String]) -> Option<Request<'_>>
     })
 }
 
-// What the words behind the start symbol ask for.
+// What the arguments after the start symbol ask for.
 fn task_of<'a>(verb: &str, rest: &'a [String]) -> Option<Task<'a>>
     ensures { option_map task_view result ≡ task_of verb.now (map string_bytes rest.now) }
 {
@@ -64,7 +67,7 @@ fn task_of<'a>(verb: &str, rest: &'a [String]) -> Option<Task<'a>>
     Some(Task::Parse(limit, tokens))
 }
 
-// What a verb with no word behind it asks for.
+// What a verb without arguments after it asks for.
 fn lone_task<'a>(verb: &str) -> Option<Task<'a>>
     ensures { option_map task_view result ≡ lone_task verb.now }
 {
@@ -77,7 +80,8 @@ fn lone_task<'a>(verb: &str) -> Option<Task<'a>>
     None
 }
 
-/// The number that a word writes in decimal digits alone, where it fits.
+/// The number that an argument gives in decimal digits alone. `None` if it has another byte or no
+/// digit, or if the number does not fit into 64 bits.
 pub fn limit_of(word: &str) -> Option<usize>
     ensures { result ≡ limit_of word.now }
 {

@@ -1,5 +1,5 @@
-//! Tests of `lrtab`: each kind of result once, and what no case file can ask. This is readers and
-//! writers that fail, and memory that is refused.
+//! Tests of `lrtab`: each kind of result once, and what no stored case can express. These are
+//! readers and writers that fail, and allocations that are refused.
 #![tactic(auto)]
 
 #[cfg(test)]

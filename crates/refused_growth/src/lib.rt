@@ -1,4 +1,4 @@
-//! Growths that are refused on purpose, for tests: what a call answers where memory ends in it.
+//! Allocations that are refused on purpose, for tests: the results of a call if memory ends in it.
 #![tactic(auto)]
 
 pub mod attempts;

@@ -1,20 +1,21 @@
-//! A heap in which growth is refused.
+//! A heap in which allocations are refused.
 //!
-//! All memory is taken at first, some of it as a room for each turn. A turn frees its room, and
-//! takes it again but for the bytes that the call may have. Whatever the call leaves is taken behind
-//! it, so that no turn rests on what the turns before it left.
+//! All memory is taken first, some of it as a room for each turn. A turn frees its room, and takes
+//! it again except for the bytes that the call may have. After the call, all memory that it freed
+//! is taken. So no turn depends on what the turns before it left.
 use std::alloc::{AllocError, Global};
 
-/// How many bytes more a turn leaves than the one before: no growth takes less.
+/// The number of bytes that a turn leaves more than the turn before. No allocation takes less.
 pub(crate) const STEP: usize = 16;
 
-/// The most turns for which a room is a block of the heap itself.
+/// The greatest number of turns. It is so small that a room is still a block of the heap itself.
 pub(crate) const MOST_TURNS: usize = 8000;
 
+// The greatest number of blocks that are taken.
 const SLOTS: usize = 1 << 18;
 
-/// All memory. Each turn leaves a call `STEP` bytes more than the turn before, so the call fails at
-/// the first growth that does not fit.
+/// The whole memory, as blocks. Each turn leaves a call `STEP` bytes more than the turn before. So
+/// the call fails at the first allocation that does not fit.
 #[derive(Drop)]
 pub(crate) struct Refusing {
     room: usize,
@@ -23,7 +24,7 @@ pub(crate) struct Refusing {
 }
 
 impl Refusing {
-    /// Takes all memory, for so many turns.
+    /// Takes all memory, with a room for each of so many turns.
     pub(crate) fn new(alloc: Global, turns: usize) -> Result<Refusing, AllocError> {
         let room = turns.saturating_mul(STEP);
         let mut rooms = Vec::with_capacity(alloc, turns)?;
@@ -41,7 +42,7 @@ impl Refusing {
         Ok(refusing)
     }
 
-    /// Starts a turn, counted from 0: `STEP` bytes are left for each turn before it.
+    /// Starts a turn, counted from 0. It leaves `STEP` bytes for each turn before it.
     pub(crate) fn arm(&mut self, alloc: Global, turn: usize) {
         drop(self.rooms.pop());
         let kept = self.room.saturating_sub(turn.saturating_mul(STEP));
@@ -50,7 +51,7 @@ impl Refusing {
         }
     }
 
-    /// Ends a turn: takes the memory that the call has freed.
+    /// Ends a turn: takes all memory that is free.
     pub(crate) fn disarm(&mut self, alloc: Global) {
         for k in 0..66 {
             fill(alloc, &mut self.taken, 1064 - 16 * k);

@@ -1,21 +1,21 @@
-//! Tests with calls that are spoilt: each must be seen.
+//! Tests with faulty calls: each fault must be noticed.
 use crate::attempts::{Attempt, Outcome, refused_in_turn};
 use std::alloc::Global;
 use std::test::Fail;
 
-// What is wrong with a call that puts two numbers into a list.
+// What is wrong with a call that pushes two numbers.
 #[derive(Clone, Copy, Debug, PartialEq, Eq)]
 enum Spoilt {
     Not,
-    /// It keeps the first number where the second finds no memory.
+    /// It keeps the first number if an allocation for the second fails.
     KeepsHalf,
-    /// It says that it is done where there was no memory.
+    /// It reports success after an allocation failure.
     ClaimsSuccess,
-    /// It puts nothing.
+    /// It pushes nothing.
     GrowsNothing,
 }
 
-// A call that puts two numbers into lists of their own.
+// A call that pushes two numbers into lists of their own.
 #[derive(Drop)]
 struct Pushes {
     spoilt: Spoilt,
@@ -24,7 +24,7 @@ struct Pushes {
 }
 
 impl Pushes {
-    // Puts the numbers, and tells whether there was memory.
+    // Pushes the numbers, and returns whether it reports success.
     fn push_both(&mut self, alloc: Global) -> bool {
         if self.spoilt == Spoilt::GrowsNothing {
             return true;
@@ -57,7 +57,7 @@ impl Attempt for Pushes {
     }
 }
 
-// What becomes of a spoilt call.
+// The outcome of a faulty call.
 fn outcome_of(alloc: Global, spoilt: Spoilt) -> Result<Outcome, Fail> {
     let mut call = Pushes {
         spoilt,

@@ -1,31 +1,33 @@
--- What loops that append the texts of a list keep.
+-- Lemmas on loops that append the texts of a list.
 use Rattle.std.proofs.Common.{◌≡◌, ◌+◌, ◌<◌, ◌++◌, ◌∙◌, ◌∷◌, [], ℕ, List, ap, sym, refl, codes, append_assoc, append-nil, get_or, length, map, take}
 use Rattle.std.proofs.lemmas.List.{flat_map_more, take_more}
 use Rattle.std.specs.List.{flat_map}
 use Rattle.table_data.specs.Json.{array, behind, listed}
 
--- a list that grew by those of one item more
+-- if a list has those of the first i items and grows by those of item i, it has those of the first
+-- i + 1
 pub one_more : {X A : Type 0} (f : X → List A) (xs : List X) (i : ℕ) (x : X) (start now next : List A) → i < length xs → x ≡ get_or xs i x → now ≡ start ++ flat_map f (take i xs) → next ≡ now ++ f x →
     next ≡ start ++ flat_map f (take (i + 1) xs)
 one_more f xs i x start now next inside same so_far grew =
     grew ∙ ap (λ text. text ++ f x) so_far ∙ append_assoc start (flat_map f (take i xs)) (f x) ∙ ap (λ text. start ++ text) (ap (λ y. flat_map f (take i xs) ++ f y) same ∙ flat_map_more f (flat_map f []) (take i xs) (get_or xs i x) ∙ ap (flat_map f) (sym (take_more xs i x inside)))
 
--- the texts of values, the first behind a separator of its own: what a loop has still to write
+-- the texts of values, the first after a separator of its own and each other after a comma: what a
+-- loop still has to write
 abbrev pub going : {X : Type 0} → List ℕ → (X → List ℕ) → List X → List ℕ
 going separator text [] = []
 going separator text (x ∷ xs) = behind separator text x ++ flat_map (behind (codes ",") text) xs
 
--- at first, all is left
+-- before the first step, the whole list is left to be written, without a separator before it
 pub going_listed : {X : Type 0} (text : X → List ℕ) (xs : List X) → going [] text xs ≡ listed (codes ",") text xs
 going_listed text [] = refl
 going_listed text (x ∷ xs) = refl
 
--- behind the first value, each is behind a comma
+-- after the first value, each value comes after a comma
 pub going_on : {X : Type 0} (text : X → List ℕ) (xs : List X) → going (codes ",") text xs ≡ flat_map (behind (codes ",") text) xs
 going_on text [] = refl
 going_on text (x ∷ xs) = refl
 
--- one value more was written
+-- after one value more was written, the rest is left to be written
 pub going_step : {X : Type 0} (text : X → List ℕ) (separator : List ℕ) (left rest : List X) (x : X) (now next whole : List ℕ) → left ≡ x ∷ rest → next ≡ now ++ behind separator text x → now ++ going separator text left ≡ whole →
     next ++ going (codes ",") text rest ≡ whole
 going_step text separator left rest x now next whole split grew so_far =
@@ -35,7 +37,7 @@ going_step text separator left rest x now next whole split grew so_far =
     ∙ ap (λ t. now ++ going separator text t) (sym split)
     ∙ so_far
 
--- nothing is left
+-- if no value is left, the whole text is written
 pub going_end : {X : Type 0} (text : X → List ℕ) (separator : List ℕ) (left : List X) (now whole : List ℕ) → left ≡ [] → now ++ going separator text left ≡ whole → now ≡ whole
 going_end text separator left now whole none so_far =
     sym (append-nil now) ∙ ap (λ t. now ++ going separator text t) (sym none) ∙ so_far
@@ -49,11 +51,11 @@ before start piece others all now last grew ended whole = ended ∙ ap (λ t. t 
 pub grew_by : {X : Type 0} (text : X → List ℕ) (x y : X) (old new : List ℕ) → new ≡ old ++ text x → x ≡ y → new ≡ old ++ text y
 grew_by text x y old new grew same = grew ∙ ap (λ z. old ++ text z) same
 
--- what grew from nothing is all
+-- a text that grew from nothing is what was appended
 pub from_nothing : (start all last : List ℕ) → start ≡ [] → last ≡ start ++ all → last ≡ all
 from_nothing start all last none grew = grew ∙ ap (λ t. t ++ all) none
 
--- the texts of values that stand for others
+-- the texts of the images of values, each after a separator, are those of the list of images
 others_of : {X Y : Type 0} (separator : List ℕ) (text : Y → List ℕ) (of : X → Y) (xs : List X) → flat_map (behind separator (λ x. text (of x))) xs ≡ flat_map (behind separator text) (map of xs)
 others_of separator text of [] = refl
 others_of separator text of (x ∷ xs) = ap (λ t. behind separator text (of x) ++ t) (others_of separator text of xs)

@@ -1,4 +1,4 @@
--- Conflicts as JSON, and the items of their actions, of which examples are shown.
+-- Conflicts as JSON, and the items of their actions that are shown with examples.
 use Rattle.std.specs.Prelude.{◌≡◌, ℕ, Bool, false, cond, List, [], ◌∷◌, ◌++◌, length, map, codes, slice_get, Option, Some, None}
 use Rattle.std.specs.Fmt.{decimal}
 use Rattle.std.specs.List.{All, flat_map}
@@ -39,14 +39,14 @@ abbrev pub conflict_json : List TerminalString → ShownConflict → List ℕ
 conflict_json terminals shown = codes "{\"state\":" ++ (decimal shown.conflict.now.state.0 ++ (codes ",\"lookahead\":" ++ (tokens_json terminals shown.conflict.now.lookahead
     ++ (codes ",\"actions\":[" ++ (reduce_json shown.conflict.now.production.now shown.reduction.items ++ (codes "," ++ (action_json shown.conflict.now.action shown.other.items ++ codes "]}")))))))
 
--- ---- what items are shown
--- whether a symbol that is there is the terminal
+-- ---- the items that are shown
+-- whether there is a symbol and it is the terminal
 abbrev pub is_terminal : TerminalString → Option Symbol → Bool
 is_terminal t None = false
 is_terminal t (Some (Nonterminal name)) = false
 is_terminal t (Some (Terminal u)) = terminal_eq.ghosts.eq u t
 
--- whether the terminal stands behind the dot
+-- whether the terminal comes directly after the dot of an item
 abbrev pub shifts : TerminalString → Dotted Bits → Bool
 shifts t item = is_terminal t (slice_get item.production.symbols item.index)
 
@@ -54,29 +54,29 @@ shifts t item = is_terminal t (slice_get item.production.symbols item.index)
 abbrev pub place_of_shown : ShownItem → ℕ × ℕ
 place_of_shown shown = (shown.production, shown.dot)
 
--- those of an item, if something holds
+-- the number and the place of an item, if the test is true
 abbrev pub place_if : Bool → Dotted Bits → List (ℕ × ℕ)
 place_if test item = cond test ((item.production.action.0, item.index) ∷ []) []
 
--- those of the items that shift a terminal
+-- the numbers and places of the items that shift a terminal
 abbrev pub shifted_places : TerminalString → List (Dotted Bits) → List (ℕ × ℕ)
 shifted_places t items = flat_map (λ (item : Dotted Bits). place_if (shifts t item) item) items
 
--- those of the finished item of a production
+-- the number and the place of the finished item of a production
 abbrev pub reduced_places : Production → List (ℕ × ℕ)
 reduced_places p = (p.action.0, length p.symbols) ∷ []
 
--- those of the items of an action in a state
+-- the numbers and places of the items of an action in a state
 abbrev pub places_of : List (State Bits) → StateIndex → Action → List (ℕ × ℕ)
 places_of states state (Shift t target) = shifted_places t (items_at (slice_get states state.0))
 places_of states state (Reduce p) = reduced_places p.now
 
--- what is shown of a conflict are the items of its actions
+-- the items that are shown of a conflict are those of its actions
 pub record IsShown (states : List (State Bits)) (shown : ShownConflict) : Type 0 where
   pub reduction : map place_of_shown shown.reduction.items ≡ reduced_places shown.conflict.now.production.now
   pub other : map place_of_shown shown.other.items ≡ places_of states shown.conflict.now.state shown.conflict.now.action
 
--- what is shown are all conflicts, in their order
+-- all conflicts are shown, in their order, each with the items of its actions
 pub record AreShown (states : List (State Bits)) (conflicts : List (Conflict Bits)) (shown : List ShownConflict) : Type 0 where
   pub each : map (λ (s : ShownConflict). s.conflict.now) shown ≡ conflicts
   pub items : All (IsShown states) shown

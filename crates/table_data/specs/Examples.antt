@@ -9,12 +9,13 @@ use Rattle.table_data.specs.declared.examples.ShownItem.{ShownItem}
 use Rattle.table_data.specs.Json.{array}
 use Rattle.table_data.specs.Names.{name_json, symbol_json}
 
--- a symbol of an example, or null for the place of a right side without symbols
+-- a symbol of an example, or null for the mark of a right side without symbols
 abbrev pub word_json : ExampleSymbol → List ℕ
 word_json (SymbolOf x) = symbol_json x
 word_json Epsilon = codes "null"
 
--- a reduction of an example: the place of the first symbol that it takes, that behind the last, and the nonterminal to which these are reduced
+-- a reduction of an example: the place of the first symbol that it takes, the place after the last
+-- one, and the nonterminal to which these are reduced
 abbrev pub reduced_json : Reduction → List ℕ
 reduced_json r = codes "{\"start\":" ++ (decimal r.start ++ (codes ",\"end\":" ++ (decimal r.end ++ (codes ",\"nonterminal\":" ++ (name_json r.nonterminal ++ codes "}")))))
 

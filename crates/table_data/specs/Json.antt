@@ -4,7 +4,7 @@ use Rattle.std.specs.Fmt.{decimal}
 use Rattle.std.specs.List.{flat_map}
 use Rattle.lalrpop_states.specs.declared.lr1_core.state.StateIndex.{StateIndex}
 
--- the text of a value behind a separator
+-- the text of a value after a separator
 abbrev pub behind : {X : Type 0} → List ℕ → (X → List ℕ) → X → List ℕ
 behind separator text x = separator ++ text x
 
@@ -21,6 +21,6 @@ array separator text xs = codes "[" ++ (listed separator text xs ++ codes "]")
 abbrev pub object : {X : Type 0} → (X → List ℕ) → List X → List ℕ
 object text xs = codes "{" ++ (listed (codes ",") text xs ++ codes "}")
 
--- a member of an object: a key, whose text is given, and the number of a state
+-- a member of an object: a key, with the text that is given for it, and the number of a state
 abbrev pub member : {X : Type 0} → (X → List ℕ) → X × StateIndex → List ℕ
 member key (x, target) = key x ++ (codes ":" ++ decimal target.0)

@@ -11,11 +11,11 @@ use Rattle.lalrpop_grammar.specs.declared.lookahead.token.Token.{Token}
 use Rattle.lalrpop_grammar.specs.declared.lookahead.token.Token.TheVariants.{Eof, Error as ErrorToken, Terminal as TerminalToken}
 use Rattle.table_data.specs.Json.{array}
 
--- a nonterminal is its name
+-- a nonterminal is its name in quotes
 abbrev pub name_json : NonterminalString → List ℕ
 name_json name = quoted name.text
 
--- a terminal is its text, without the quotes of a grammar text
+-- a terminal is its text in the quotes of JSON, without those of a grammar text
 abbrev pub terminal_json : TerminalString → List ℕ
 terminal_json (Literal text) = quoted text
 terminal_json (Bare text) = quoted text
@@ -30,12 +30,13 @@ abbrev pub symbol_json : Symbol → List ℕ
 symbol_json (Nonterminal name) = of_kind (codes "nonterminal") (name_json name)
 symbol_json (Terminal t) = of_kind (codes "terminal") (terminal_json t)
 
--- a token: the text of a terminal, or null for the end of the input; false stands for the token of an error, which no grammar text has
+-- a token: the text of a terminal, null for the end of the input, or false for the token of an
+-- error, which no grammar text has
 abbrev pub token_json : Token → List ℕ
 token_json Eof = codes "null"
 token_json ErrorToken = codes "false"
 token_json (TerminalToken t) = terminal_json t
 
--- the tokens of a set, by rising bit
+-- the tokens of a set, by ascending bit
 abbrev pub tokens_json : List TerminalString → Bits → List ℕ
 tokens_json terminals set = array (codes ",") token_json (map (token_of terminals) (rising set))

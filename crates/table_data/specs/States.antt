@@ -19,7 +19,8 @@ module _ (terminals : List TerminalString) where
   abbrev pub reduction_json : Bits × Bor Production → List ℕ
   reduction_json (lookahead, p) = codes "{\"production\":" ++ (decimal p.now.action.0 ++ (codes ",\"lookahead\":" ++ (tokens_json terminals lookahead ++ codes "}")))
 
-  -- a state: its number, its items, the states to which terminals and nonterminals lead, and its reductions
+  -- a state: its number, its items, the states to which terminals and nonterminals lead, and its
+  -- reductions
   abbrev pub state_json : State Bits → List ℕ
   state_json state = codes "{\"number\":" ++ (decimal state.index.0 ++ (codes ",\"items\":" ++ (array (codes ",") item_json state.items.vec.items
       ++ (codes ",\"shifts\":" ++ (object (member terminal_json) state.shifts.entries ++ (codes ",\"gotos\":" ++ (object (member name_json) state.gotos.entries

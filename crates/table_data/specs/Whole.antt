@@ -12,7 +12,7 @@ use Rattle.table_data.specs.Names.{name_json, terminal_json}
 use Rattle.table_data.specs.Rules.{production_json}
 use Rattle.table_data.specs.States.{state_json}
 
--- a grammar, its start symbol, its states, and what is shown of its conflicts
+-- the text of a grammar, its start symbol, its states, and what is shown of its conflicts
 abbrev pub tables_json : Grammar → NonterminalString → List (State Bits) → List ShownConflict → List ℕ
 tables_json g start states shown = codes "{\"format\":\"lrshow\",\n\"version\":1,\n\"start\":" ++ (name_json start
     ++ (codes ",\n\"terminals\":" ++ (array (codes ",") terminal_json g.terminals
@@ -20,7 +20,8 @@ tables_json g start states shown = codes "{\"format\":\"lrshow\",\n\"version\":1
     ++ (codes ",\n\"states\":" ++ (array (codes ",\n") (state_json g.terminals) states
     ++ (codes ",\n\"conflicts\":" ++ (array (codes ",\n") (conflict_json g.terminals) shown ++ codes "}\n")))))))))
 
--- the JSON of a grammar, its start symbol and its states, with all conflicts and the items of these
+-- a text is the JSON of a grammar, its start symbol and its states, with all conflicts and the
+-- items of their actions
 pub record IsData (g : Grammar) (start : NonterminalString) (states : List (State Bits)) (conflicts : List (Conflict Bits)) (text : List ℕ) : Type 0 where
   pub shown : List ShownConflict
   pub each : AreShown states conflicts shown

@@ -1,4 +1,4 @@
-//! Conflicts: their tokens and their actions, with examples.
+//! Conflicts as JSON: their tokens and their actions, with examples.
 ghost use Rattle.std.specs.Prelude.{◌≡◌, ◌++◌, OnOk, string_bytes};
 ghost use Rattle.table_data.specs.Conflicts.{action_json, conflict_json, reduce_json, shift_json};
 
@@ -12,7 +12,8 @@ use lalrpop_base::repr::terminals::TerminalSet;
 use lalrpop_base::repr::{Production, TerminalString};
 use std::alloc::Global;
 
-/// A conflict, and examples of how its reduction and its other action come about.
+/// A conflict, and the items of its reduction and of its other action, with examples of how these
+/// come about.
 #[derive(Drop)]
 pub(crate) struct ShownConflict<'conflicts, 'grammar> {
     pub(crate) conflict: &'conflicts Lr1Conflict<'grammar>,

@@ -1,4 +1,4 @@
-//! Examples of input, and the items to which they lead.
+//! Examples of input as JSON, and the items to which they lead.
 ghost use Rattle.table_data.specs.Examples.{example_json, reduced_json, shown_json, word_json};
 
 use super::lists::push_array;
@@ -64,7 +64,8 @@ impl ToJson for Example {
     }
 }
 
-/// An item of an action, and examples of how it comes about.
+/// An item of an action: the number of its production, the place of its dot, and examples of how it
+/// comes about.
 #[derive(Drop)]
 pub(crate) struct ShownItem {
     pub(crate) production: usize,

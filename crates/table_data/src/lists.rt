@@ -1,4 +1,4 @@
-//! Arrays, and objects of targets.
+//! Arrays of JSON, and objects of the states to which symbols lead.
 ghost use Rattle.std.specs.Prelude.{◌≡◌, ◌++◌, OnOk, codes, string_bytes};
 ghost use Rattle.std.specs.List.{flat_map};
 ghost use Rattle.table_data.specs.Json.{array, behind, listed, member, object};
@@ -10,7 +10,8 @@ use lalrpop_base::repr::terminals::TerminalSet;
 use std::alloc::Global;
 use std::collections::BTreeMap;
 
-/// Appends an array of values.
+/// Appends an array of values. The separator comes between the values: a comma, and a line end if
+/// each value is on a line of its own.
 pub(crate) fn push_array<T: ToJson>(
     alloc: Global,
     text: &mut String,
@@ -46,7 +47,7 @@ fn push_listed<T: ToJson>(
     Ok(())
 }
 
-// Appends values, each behind a separator.
+// Appends values, each after a separator.
 fn push_others<T: ToJson>(
     alloc: Global,
     text: &mut String,
@@ -63,7 +64,7 @@ fn push_others<T: ToJson>(
     Ok(())
 }
 
-// Appends a value behind a separator.
+// Appends a value after a separator.
 fn push_other<T: ToJson>(
     alloc: Global,
     text: &mut String,
@@ -99,7 +100,7 @@ pub(crate) fn push_targets<K: Ord + ToJson>(
     Ok(())
 }
 
-// Appends a member of such an object behind a separator.
+// Appends a member of such an object after a separator.
 fn push_target<K: ToJson>(
     alloc: Global,
     text: &mut String,

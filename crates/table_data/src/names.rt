@@ -1,4 +1,4 @@
-//! Names, symbols and tokens.
+//! Names, symbols and tokens as JSON.
 ghost use Rattle.std.specs.Prelude.{◌≡◌, ◌++◌, OnOk, string_bytes};
 ghost use Rattle.lalrpop_base.specs.Words.{seen};
 ghost use Rattle.table_data.specs.Json.{behind};
@@ -75,7 +75,7 @@ fn push_kind<T: ToJson>(
     Ok(())
 }
 
-/// Appends an array of the tokens of a set, by rising bit.
+/// Appends an array of the tokens of a set, by ascending bit.
 pub(crate) fn push_tokens(
     alloc: Global,
     text: &mut String,
@@ -95,7 +95,7 @@ pub(crate) fn push_tokens(
     Ok(())
 }
 
-// Appends a token behind a separator.
+// Appends a token after a separator.
 fn push_token(
     alloc: Global,
     text: &mut String,

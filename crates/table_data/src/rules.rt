@@ -1,4 +1,4 @@
-//! Productions.
+//! Productions as JSON.
 ghost use Rattle.std.specs.Prelude.{◌≡◌, ◌++◌, IfOk, OnOk, map, string_bytes, codes};
 ghost use Rattle.lalrpop_base.specs.Words.{productions};
 ghost use Rattle.table_data.specs.Json.{array};
@@ -44,7 +44,8 @@ fn push_production(
     Ok(())
 }
 
-/// Appends an array of all productions of a grammar, name by name, each in a line.
+/// Appends an array of all productions of a grammar, nonterminal by nonterminal, each on a line of
+/// its own.
 pub(crate) fn push_productions(
     alloc: Global,
     text: &mut String,
@@ -58,7 +59,7 @@ pub(crate) fn push_productions(
     Ok(())
 }
 
-// All productions of a grammar, name by name.
+// All productions of a grammar, nonterminal by nonterminal.
 fn productions_in<'grammar>(
     alloc: Global,
     grammar: &'grammar Grammar,

@@ -1,4 +1,4 @@
-//! States: their items, edges and reductions.
+//! States as JSON: their items, edges and reductions.
 ghost use Rattle.std.specs.Prelude.{◌≡◌, ◌++◌, OnOk, string_bytes};
 ghost use Rattle.table_data.specs.States.{item_json, reduction_json, state_json};
 

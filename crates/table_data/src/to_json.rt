@@ -1,4 +1,4 @@
-//! What is written as JSON.
+//! The trait of values that are written as JSON.
 ghost use Rattle.std.specs.Prelude.{◌≡◌, ◌++◌, List, ℕ, OnOk, string_bytes};
 ghost use Rattle.std.specs.Fmt.{decimal};
 ghost use Rattle.json.specs.Print.{quoted};
@@ -9,12 +9,12 @@ use lalrpop_base::repr::terminals::TerminalSet;
 use serde_json::Value;
 use std::alloc::Global;
 
-/// A value whose JSON rests on it and on the terminals of the grammar alone.
+/// A value with a JSON text that depends only on the value and the terminals of the grammar.
 pub(crate) trait ToJson {
-    // The JSON text, by the terminals.
+    // The JSON text of a value, by the terminals.
     ghost json: { List TerminalString → Self → List ℕ };
 
-    /// Appends the JSON text.
+    /// Appends the JSON text. `OutOfMemory` if an allocation fails.
     fn push_json(
         &self,
         alloc: Global,
@@ -35,7 +35,7 @@ pub(crate) fn push_quoted(alloc: Global, text: &mut String, shown: &str) -> Resu
     Ok(())
 }
 
-/// Appends a number behind a text.
+/// Appends a label and a number.
 pub(crate) fn push_number(text: &mut String, label: &str, number: usize) -> Result<(), OutOfMemory>
     ensures { OnOk result (string_bytes text.new ≡ string_bytes text.old ++ (label.now ++ decimal
         number)) }

@@ -14,10 +14,10 @@ use lalrpop_base::repr::{Production, Symbol, TerminalString};
 use lalrpop_lr1::trace::{Example, Tracer};
 use std::alloc::Global;
 
-// How many examples are shown of an item.
+// The greatest number of examples that are shown of an item.
 const MOST: usize = 3;
 
-/// States, with the first sets and the terminals of their grammar, and what traces back over them.
+/// States, the FIRST sets and the terminals of their grammar, and the tracer over the states.
 #[derive(Drop)]
 pub(crate) struct Ground<'ground, 'grammar> {
     pub(crate) states: &'ground [Lr1State<'grammar>],
@@ -27,7 +27,7 @@ pub(crate) struct Ground<'ground, 'grammar> {
     ghost numbered: { terminals.now ≡ first_sets.now.terminals },
 }
 
-/// Conflicts, each with examples of how its actions come about.
+/// The conflicts, each with examples of how its actions come about.
 pub(crate) fn shown_conflicts<'conflicts, 'grammar>(
     alloc: Global,
     ground: &Ground<'_, 'grammar>,
@@ -75,7 +75,7 @@ fn shown_action<'grammar>(
     }
 }
 
-// The finished item of a reduction of a conflict, with examples that go on with a token of the
+// The finished item of a reduction of a conflict, with examples that can go on with a token of the
 // conflict.
 fn shown_reduction<'grammar>(
     alloc: Global,
@@ -119,7 +119,7 @@ fn shown_shifts<'grammar>(
     Ok(shown)
 }
 
-// Adds an item with examples, if it shifts the terminal.
+// Adds the item with examples, if it shifts the terminal.
 fn add_shift<'grammar>(
     alloc: Global,
     shown: &mut Vec<ShownItem>,
@@ -143,7 +143,7 @@ fn add_shift<'grammar>(
     Ok(())
 }
 
-// The first examples of a state's item that shifts.
+// The first examples of an item of a state that shifts.
 fn shifting_examples<'grammar>(
     alloc: Global,
     ground: &Ground<'_, 'grammar>,
@@ -160,8 +160,8 @@ fn shifting_examples<'grammar>(
     Ok(examples)
 }
 
-// The first examples of a finished item in a state that go on with a token of its lookahead: none
-// where the states have terminals that the grammar lacks.
+// The first examples of a finished item in a state that can go on with a token of its lookahead.
+// There are none if the states have terminals that the grammar lacks.
 fn meeting_examples<'grammar>(
     alloc: Global,
     ground: &Ground<'_, 'grammar>,
@@ -183,7 +183,7 @@ fn meeting_examples<'grammar>(
     Ok(examples)
 }
 
-// The items of a state, none where there is no such state.
+// The items of a state. The list is empty if there is no such state.
 fn items_in<'a, 'grammar>(
     states: &'a [Lr1State<'grammar>],
     state: StateIndex,
@@ -196,7 +196,7 @@ fn items_in<'a, 'grammar>(
     &[]
 }
 
-// Whether the terminal stands behind the dot.
+// Whether the terminal comes directly after the dot of the item.
 fn is_shifted(item: &Lr1Item<'_>, terminal: &TerminalString) -> bool
     ensures { result ≡ shifts terminal.now item.now }
 {

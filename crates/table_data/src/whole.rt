@@ -1,4 +1,4 @@
-//! The whole text.
+//! The whole JSON text.
 ghost use Rattle.std.specs.Prelude.{IfOk, string_bytes};
 ghost use Rattle.lalrpop_base.specs.Words.{IsWellFormed};
 ghost use Rattle.table_data.specs.Conflicts.{AreShown};
@@ -17,8 +17,8 @@ use lalrpop_base::repr::grammar::Grammar;
 use lalrpop_lr1::trace::Tracer;
 use std::alloc::Global;
 
-/// The JSON of a grammar, its start symbol, and the states of its tables or of its conflicts, with
-/// these.
+/// The JSON text of a grammar and its start symbol, with states and conflicts. The states are those
+/// of its tables, or those with the conflicts. `OutOfMemory` if an allocation fails.
 pub fn tables_json<'grammar>(
     alloc: Global,
     grammar: &'grammar Grammar,
@@ -47,7 +47,7 @@ pub fn tables_json<'grammar>(
     Ok(text)
 }
 
-// The conflicts with examples. Nothing is traced where there are none.
+// The conflicts with examples. If there are no conflicts, no tracer is made.
 fn shown_in<'conflicts, 'grammar>(
     alloc: Global,
     grammar: &'grammar Grammar,

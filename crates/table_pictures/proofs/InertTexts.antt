@@ -12,7 +12,7 @@ inert_clean [] clean = refl
 inert_clean (b ∷ bs) clean =
     ap (λ t. cond t (codes "\\u003c") (b ∷ []) ++ inert bs) (clean 0 (omega arith)) ∙ ap (λ t. b ∷ t) (inert_clean bs (λ k inside. clean (suc k) (omega arith)))
 
--- where no place passes, the text stays
+-- a text in which no place has `<` stays
 pub inert_none : (bs : List ℕ) → position_or_len (λ b. b == 60) bs ≡ length bs → inert bs ≡ bs
 inert_none bs none = inert_clean bs (λ k inside. fails_before_first (λ b. b == 60) bs k 0 (omega arith))
 
@@ -22,7 +22,8 @@ taken_clean [] (suc n) fits clean = refl
 taken_clean (b ∷ bs) (suc n) fits clean =
     ap (λ t. cond t (codes "\\u003c") (b ∷ []) ++ inert (take n bs)) (clean 0 (omega arith)) ∙ ap (λ t. b ∷ t) (taken_clean bs n (omega arith) (λ k inside. clean (suc k) (omega arith)))
 
--- the part before the first `<` stays, and then `<` is written by its number
+-- the part before the first `<` stays, then `<` is written by its number, and then the rest is
+-- written
 pub inert_some : (bs before behind : List ℕ) → position_or_len (λ b. b == 60) bs < length bs → before ≡ before_first (λ b. b == 60) bs → behind ≡ after_first (λ b. b == 60) bs →
     inert bs ≡ before ++ (codes "\\u003c" ++ inert behind)
 inert_some bs before behind h x y =

@@ -1,4 +1,4 @@
--- What is written of a text holds no markup.
+-- An escaped text has no markup.
 use Rattle.std.proofs.Common.{◌≡◌, ◌<◌, ◌≤◌, ◌+◌, ◌==◌, ◌||◌, ℕ, Bool, true, false, List, [], cond, nat_lt, refl, sym, ap, ◌∙◌, arith, count_by, inl, inr}
 use Rattle.std.proofs.lemmas.Bool.{cases_lt}
 use Rattle.std.proofs.lemmas.Bool.Decides.{nat_tests}
@@ -12,7 +12,7 @@ use Rattle.table_pictures.proofs.Counts.{chosen, none_counted, none_in_pieces}
 inert_byte_none : (b : ℕ) → count_by is_opening (inert_byte b) ≡ 0
 inert_byte_none b = chosen is_opening (b == 60) _ _ refl (λ e. ap (λ t. 0 + cond t 1 0) e)
 
--- what is written of a JSON text has no `<`
+-- a JSON text with each `<` escaped has no `<`
 pub inert_has_none : (json : List ℕ) → count_by is_opening (inert json) ≡ 0
 inert_has_none json = none_in_pieces is_opening inert_byte json inert_byte_none
 
@@ -47,6 +47,6 @@ xml_char_none c =
     chosen is_markup (c == 92) _ _ refl (λ _.
     chosen is_markup (c == 0xFFFE || c == 0xFFFF) _ _ (high_none 0xFFFD (omega arith)) (λ _. pictured_none c (nat_lt c 32) (c == 127) refl refl a b d))))))
 
--- what is written of a text as XML has no markup
+-- a text as XML has no markup
 pub xml_has_none : (text : List ℕ) → count_by is_markup (xml_text text) ≡ 0
 xml_has_none text = none_in_pieces is_markup xml_char (chars text) xml_char_none

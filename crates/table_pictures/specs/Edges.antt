@@ -15,22 +15,22 @@ use Rattle.table_pictures.specs.Escape.{xml_text}
 use Rattle.table_pictures.specs.declared.edges.Shown.{Shown}
 use Rattle.table_pictures.specs.declared.edges.Shown.TheVariants.{All, Around}
 
--- which states and edges are shown: all, or those near the state with a number
+-- the states and edges that are shown: all, or those near the state with a number
 abbrev pub shown_of : Option ℕ → Shown
 shown_of None = All
 shown_of (Some number) = Around number
 
--- an edge is shown: all are, or those that begin or end at a state
+-- whether an edge is shown: all edges are, or those that begin or end at a state
 abbrev pub shows_edge : Shown → ℕ → ℕ → Bool
 shows_edge All from to = true
 shows_edge (Around number) from to = from == number || to == number
 
--- an action is the shift of a terminal
+-- whether an action is the shift of a terminal
 abbrev pub shifts_terminal : TerminalString → Action → Bool
 shifts_terminal t (Shift other target) = terminal_eq.ghosts.eq other t
 shifts_terminal t (Reduce p) = false
 
--- a conflict is one of the shift of a terminal in a state
+-- whether a conflict has the shift of a terminal in a state as its other action
 abbrev pub is_shift_conflict : ℕ → TerminalString → Conflict Bits → Bool
 is_shift_conflict number t conflict = shifts_terminal t conflict.action && (conflict.state.0 == number)
 
@@ -38,7 +38,7 @@ is_shift_conflict number t conflict = shifts_terminal t conflict.action && (conf
 abbrev pub edge_line : ℕ → ℕ → List ℕ → List ℕ → List ℕ
 edge_line from to label style = codes "  " ++ (decimal from ++ (codes " -> " ++ (decimal to ++ (codes " [label=< " ++ (xml_text label ++ style)))))
 
--- what follows the label of a shift: it is red or not
+-- the text after the label of a shift, which is red or not
 abbrev pub shift_end : Bool → List ℕ
 shift_end red = if red then codes "> color=red fontcolor=red];\n" else codes ">];\n"
 
@@ -50,14 +50,14 @@ shift_line red from t to = edge_line from to (terminal_text t) (shift_end red)
 abbrev pub goto_line : ℕ → NonterminalString → ℕ → List ℕ
 goto_line from name to = edge_line from to (nonterminal_text name) (codes "> style=dashed];\n")
 
--- the line of a shift that is shown, red if a conflict is one of this shift
+-- the line of a shift, if it is shown; it is red if the shift is in a conflict
 abbrev pub shown_shift : List (Conflict Bits) → Shown → ℕ → TerminalString × StateIndex → List ℕ
 shown_shift conflicts shown from (t, target) = if shows_edge shown from target.0 then shift_line (list_any (is_shift_conflict from t) conflicts) from t target.0 else []
 
--- the line of a goto that is shown
+-- the line of a goto, if it is shown
 abbrev pub shown_goto : Shown → ℕ → NonterminalString × StateIndex → List ℕ
 shown_goto shown from (name, target) = if shows_edge shown from target.0 then goto_line from name target.0 else []
 
--- the edges of a state that are shown: a line each, the shifts first
+-- the edges of a state that are shown, each on a line, first the shifts and then the gotos
 abbrev pub edges : List (Conflict Bits) → Shown → State Bits → List ℕ
 edges conflicts shown state = flat_map (shown_shift conflicts shown state.index.0) state.shifts.entries ++ flat_map (shown_goto shown state.index.0) state.gotos.entries

@@ -12,42 +12,45 @@ use Rattle.table_pictures.specs.Nodes.{node}
 use Rattle.table_pictures.specs.declared.edges.Shown.{Shown}
 use Rattle.table_pictures.specs.declared.edges.Shown.TheVariants.{All, Around}
 
--- the index is the number
+-- whether an index is the number
 abbrev pub has_number : ℕ → StateIndex → Bool
 has_number number index = index.0 == number
 
--- one of these edges leads to the state with a number
+-- whether one of the edges leads to the state with a number
 abbrev pub leads_by : {K : Type 0} → ℕ → List (K × StateIndex) → Bool
 leads_by {K} number edges = list_any (has_number number) (map (λ (e : K × StateIndex). e.1) edges)
 
--- an edge of a state leads to the state with a number
+-- whether an edge of a state leads to the state with a number
 abbrev pub leads_there : ℕ → State Bits → Bool
 leads_there number state = leads_by number state.shifts.entries || leads_by number state.gotos.entries
 
--- the state, if there is one, leads to the state with a number
+-- whether there is a state and an edge of it leads to the state with a number
 abbrev pub comes_from : Option (State Bits) → ℕ → Bool
 comes_from None number = false
 comes_from (Some state) number = leads_there number state
 
--- a state is shown: all are, or the one with a number, those that lead there and those where it leads
+-- whether a state is shown: all states are, or the state with a number, those with an edge to it,
+-- and the targets of its edges
 abbrev pub shows_state : List (State Bits) → Shown → State Bits → Bool
 shows_state states All state = true
 shows_state states (Around number) state = state.index.0 == number || leads_there number state || comes_from (slice_get states number) state.index.0
 
--- a graph is directed, its nodes are boxes, and all its texts have letters of one width
+-- the beginning of a graph: it is directed, its nodes are boxes, and its texts have letters of one
+-- width
 abbrev pub opening : List ℕ
 opening = codes "digraph states {\n  node [shape=box fontname=monospace];\n  edge [fontname=monospace];\n"
 
--- a graph of all states lies from top to bottom, one of a state and its neighbours from left to right
+-- the direction of a graph: from top to bottom for all states, and from left to right for a state
+-- and its neighbours
 abbrev pub direction : Shown → List ℕ
 direction All = []
 direction (Around number) = codes "  rankdir=LR;\n"
 
 module _ (start : NonterminalString) (terminals : List TerminalString) (states : List (State Bits)) (conflicts : List (Conflict Bits)) (shown : Shown) where
-  -- the node of a state that is shown
+  -- the node of a state, if the state is shown
   abbrev pub shown_node : State Bits → List ℕ
   shown_node state = if shows_state states shown state then node terminals start conflicts state else []
 
-  -- the graph: a node for each state that is shown, and then the edges of each state that are shown
+  -- the text of a graph: a node for each state that is shown, and then the edges that are shown
   abbrev pub graph : List ℕ
   graph = opening ++ (direction shown ++ (flat_map shown_node states ++ (flat_map (edges conflicts shown) states ++ codes "}\n")))

@@ -15,11 +15,12 @@ use Rattle.lalrpop_states.specs.declared.lr1_core.state.State.{State}
 use Rattle.table_pictures.specs.Escape.{xml_text}
 use Rattle.table_pictures.specs.Symbols.{production_xml, symbols_xml, tokens_xml}
 
--- an item is of the kernel: its dot is past the start, or it is of the start and in the first state
+-- whether an item is in the kernel of its state: its dot is after a symbol, or the state is state 0
+-- and the left side is the start symbol
 abbrev pub is_kernel_item : NonterminalString → ℕ → Dotted Bits → Bool
 is_kernel_item start number item = nat_lt 0 item.index || ((number == 0) && name_eq.ghosts.eq item.production.nonterminal start)
 
--- a line of a node ends with a break that puts it to the left
+-- the end of a line of a node, which aligns the line to the left
 abbrev pub line_end : List ℕ
 line_end = codes "<BR ALIGN=\"LEFT\"/>"
 
@@ -27,20 +28,20 @@ line_end = codes "<BR ALIGN=\"LEFT\"/>"
 abbrev pub item_line : Dotted Bits → List ℕ
 item_line item = xml_text (nonterminal_text item.production.nonterminal) ++ (codes " -&gt;" ++ (symbols_xml (prefix_of item) ++ (codes " &bull;" ++ (symbols_xml (rest_of item) ++ line_end))))
 
--- the line of an item of the kernel; other items have none
+-- the line of an item that is in the kernel; other items have none
 abbrev pub kernel_line : NonterminalString → ℕ → Dotted Bits → List ℕ
 kernel_line start number item = if is_kernel_item start number item then item_line item else []
 
--- the action of a conflict that is not its own reduction
+-- the other action of a conflict, before its reduction
 abbrev pub action_xml : Action → List ℕ
 action_xml (Shift t target) = codes "shift to " ++ (decimal target.0 ++ codes ", or reduce ")
 action_xml (Reduce other) = codes "reduce " ++ (production_xml other.now ++ codes ", or ")
 
--- the two actions of a conflict
+-- the two actions of a conflict, and `on` for the tokens that follow
 abbrev pub conflict_xml : Conflict Bits → List ℕ
 conflict_xml conflict = action_xml conflict.action ++ (production_xml conflict.production.now ++ codes ", on")
 
--- a state has a conflict among those of all states
+-- whether a state has one of the conflicts
 abbrev pub has_conflict : List (Conflict Bits) → ℕ → Bool
 has_conflict conflicts number = list_any (λ (c : Conflict Bits). c.state.0 == number) conflicts
 
@@ -61,7 +62,7 @@ module _ (terminals : List TerminalString) where
   abbrev pub red_line : Conflict Bits → List ℕ
   red_line conflict = codes "<FONT COLOR=\"red\">" ++ (conflict_xml conflict ++ (tokens_xml terminals conflict.lookahead ++ (codes "</FONT>" ++ line_end)))
 
-  -- the line of a conflict of a state; those of other states have none
+  -- the line of a conflict in a state; conflicts in other states have none
   abbrev pub conflict_line : ℕ → Conflict Bits → List ℕ
   conflict_line number conflict = if conflict.state.0 == number then red_line conflict else []
 

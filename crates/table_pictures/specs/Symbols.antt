@@ -10,11 +10,11 @@ use Rattle.lalrpop_grammar.specs.declared.lookahead.token.Token.{Token}
 use Rattle.lalrpop_grammar.specs.declared.lookahead.token.Token.TheVariants.{Eof, Error as ErrorToken, Terminal as TerminalToken}
 use Rattle.table_pictures.specs.Escape.{xml_text}
 
--- a symbol behind a space
+-- a symbol after a space
 abbrev pub symbol_xml : Symbol → List ℕ
 symbol_xml symbol = xml_text (codes " " ++ symbol_text symbol)
 
--- symbols, each behind a space
+-- symbols, each after a space
 abbrev pub symbols_xml : List Symbol → List ℕ
 symbols_xml symbols = flat_map symbol_xml symbols
 
@@ -22,24 +22,24 @@ symbols_xml symbols = flat_map symbol_xml symbols
 abbrev pub production_xml : Production → List ℕ
 production_xml p = xml_text (nonterminal_text p.nonterminal) ++ (codes " -&gt;" ++ symbols_xml p.symbols)
 
--- a terminal behind a space
+-- a terminal after a space
 abbrev pub terminal_xml : TerminalString → List ℕ
 terminal_xml t = xml_text (codes " " ++ terminal_text t)
 
--- a token behind a space
+-- a token after a space
 abbrev pub token_xml : Token → List ℕ
 token_xml Eof = codes " Eof"
 token_xml ErrorToken = codes " Error"
 token_xml (TerminalToken t) = terminal_xml t
 
--- eight tokens of a set are shown at most
+-- the greatest number of tokens that are shown of a set
 abbrev pub most_tokens : ℕ
 most_tokens = 8
 
--- how many tokens there are past those that are shown, if there are some
+-- the number of tokens that are not shown, if there are such
 abbrev pub more_tokens : ℕ → List ℕ
 more_tokens count = if nat_lt most_tokens count then codes " <I>and " ++ (decimal (count - most_tokens) ++ codes " more</I>") else []
 
--- the first tokens of a set by rising bit, and how many more there are
+-- the first tokens of a set by ascending bit, and the number of the others
 abbrev pub tokens_xml : List TerminalString → Bits → List ℕ
 tokens_xml terminals set = flat_map token_xml (take most_tokens (map (token_of terminals) (rising set))) ++ more_tokens (length (rising set))

@@ -13,7 +13,8 @@ use lalrpop_base::repr::terminals::TerminalSet;
 use std::alloc::Global;
 use std::collections::BTreeMap;
 
-/// The graph of all states, or of one and its neighbours.
+/// The text of the graph of all states, or of the state with the number `around` and its
+/// neighbours. `OutOfMemory` if an allocation fails.
 pub fn graph_text<'grammar>(
     alloc: Global,
     start: &NonterminalString,
@@ -35,12 +36,12 @@ pub fn graph_text<'grammar>(
     Ok(text)
 }
 
-// What a graph begins with.
+// The beginning of a graph.
 const OPENING: &str =
     "digraph states {\n  node [shape=box fontname=monospace];\n  edge [fontname=monospace];\n";
 
-// How a graph lies: all states from top to bottom, one state and its neighbours from left to right,
-// where many of them stand one below the other.
+// The direction of a graph. A graph of all states goes from top to bottom. A graph of one state
+// goes from left to right, so that its many neighbours are one below the other.
 fn direction(shown: Shown) -> &'static str
     ensures { result.now ≡ direction shown }
 {
@@ -71,7 +72,7 @@ fn push_nodes<'grammar>(
     Ok(())
 }
 
-// Appends the node of a state if that is shown.
+// Appends the node of a state, if the state is shown.
 fn push_shown_node<'grammar>(
     alloc: Global,
     text: &mut String,
@@ -101,7 +102,8 @@ fn is_shown(states: &[Lr1State<'_>], shown: Shown, state: &Lr1State<'_>) -> bool
     }
 }
 
-// Whether a state is the one with a number, leads there, or is where that one leads.
+// Whether a state has the number, has an edge to the state with the number, or is the target of an
+// edge of that state.
 fn is_near(states: &[Lr1State<'_>], number: usize, state: &Lr1State<'_>) -> bool
     ensures { result ≡ shows_state states.now (Shown.Around number) state.now }
 {
@@ -110,21 +112,21 @@ fn is_near(states: &[Lr1State<'_>], number: usize, state: &Lr1State<'_>) -> bool
         || (number < states.len() && leads_to(&states[number], state.index.0))
 }
 
-// Whether an edge of a state leads to the one with a number.
+// Whether an edge of a state leads to the state with a number.
 fn leads_to(state: &Lr1State<'_>, number: usize) -> bool
     ensures { result ≡ leads_there number state.now }
 {
     has_target(&state.shifts, number) || has_target(&state.gotos, number)
 }
 
-// Whether one of these edges leads to the state with a number.
+// Whether one of the edges leads to the state with a number.
 fn has_target<K: Ord>(edges: &BTreeMap<K, StateIndex>, number: usize) -> bool
     ensures { result ≡ leads_by number edges.now.entries }
 {
     edges.values().any(|target| target.0 == number)
 }
 
-// Appends the edges of all states that are shown.
+// Appends the edges that are shown of each state.
 fn push_all_edges<'grammar>(
     alloc: Global,
     text: &mut String,

@@ -1,4 +1,4 @@
-//! The edges of a graph: a symbol that leads from a state to a state each.
+//! The edges of a graph. Each has a symbol, and leads from a state to a state.
 ghost use Rattle.std.specs.Prelude.{◌≡◌, ◌++◌, OnOk, string_bytes};
 ghost use Rattle.std.specs.List.{flat_map, list_any};
 ghost use Rattle.table_pictures.specs.Edges.{edges, goto_line, is_shift_conflict, shift_end, shift_line, shown_goto, shown_of, shown_shift, shows_edge};
@@ -10,16 +10,16 @@ use lalrpop_base::repr::{NonterminalString, TerminalString};
 use std::alloc::Global;
 use std::collections::BTreeMap;
 
-/// Which states and edges are shown.
+/// The states and edges that are shown.
 #[derive(Clone, Copy)]
 pub(crate) enum Shown {
     All,
-    /// A state and its neighbours, and the edges that begin or end at it.
+    /// The state with a number and its neighbours, and the edges that begin or end at that state.
     Around(usize),
 }
 
 impl Shown {
-    /// All, or the state with a number and its neighbours.
+    /// All states, or the state with the number and its neighbours.
     pub(crate) fn around(number: Option<usize>) -> Shown
         ensures { result ≡ shown_of number }
     {
@@ -74,7 +74,7 @@ fn push_shifts(
     Ok(())
 }
 
-// Appends the edge of a shift if that is shown.
+// Appends the edge of a shift, if the edge is shown.
 fn push_shown_shift(
     alloc: Global,
     text: &mut String,
@@ -95,7 +95,7 @@ fn push_shown_shift(
     Ok(())
 }
 
-// Whether a shift of a state is in a conflict.
+// Whether the shift of a terminal in a state is an action of a conflict.
 fn is_in_conflict(
     conflicts: &[Lr1Conflict<'_>],
     state: StateIndex,
@@ -106,7 +106,7 @@ fn is_in_conflict(
     conflicts.iter().any(|c| is_of_shift(c, state, terminal))
 }
 
-// Whether a conflict is one of a shift in a state.
+// Whether a conflict has the shift of a terminal in a state as its other action.
 fn is_of_shift(conflict: &Lr1Conflict<'_>, state: StateIndex, terminal: &TerminalString) -> bool
     ensures { result ≡ is_shift_conflict state.0 terminal.now conflict.now }
 {
@@ -116,7 +116,7 @@ fn is_of_shift(conflict: &Lr1Conflict<'_>, state: StateIndex, terminal: &Termina
     }
 }
 
-// Appends the edge of a shift.
+// Appends the edge of a shift, red if the shift is in a conflict.
 fn push_shift(
     alloc: Global,
     text: &mut String,
@@ -135,7 +135,7 @@ fn push_shift(
     Ok(())
 }
 
-// Appends what follows the label of a shift.
+// Appends the text after the label of a shift.
 fn push_shift_end(text: &mut String, is_red: bool) -> Result<(), OutOfMemory>
     ensures { OnOk result (string_bytes text.new ≡ string_bytes text.old ++ shift_end is_red) }
 {
@@ -163,7 +163,7 @@ fn push_gotos(
     Ok(())
 }
 
-// Appends the edge of a goto if that is shown.
+// Appends the edge of a goto, if the edge is shown.
 fn push_shown_goto(
     text: &mut String,
     from: StateIndex,

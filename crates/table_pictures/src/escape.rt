@@ -1,12 +1,12 @@
-//! Texts of a grammar inside other texts.
+//! Escaping texts of a grammar for XML and HTML.
 ghost use Rattle.std.specs.Prelude.{◌≡◌, ◌++◌, OnOk, count_by, string_bytes};
 ghost use Rattle.table_pictures.specs.Escape.{inert, is_markup, is_opening, pictured, xml_char, xml_text};
 
 use lalrpop_base::memory::OutOfMemory;
 
-/// Appends a text as XML. A control character is shown by its picture, and a character that XML
-/// doesn't have by the sign of replacement. A backslash stands twice, since Graphviz puts other texts
-/// in place of some letters behind one.
+/// Appends a text as XML, for a label of Graphviz. A control character is shown by its picture. A
+/// character that XML does not have is shown by the replacement character U+FFFD. A backslash is
+/// written twice, since Graphviz replaces some letters after a backslash by other texts.
 pub(crate) fn push_xml(text: &mut String, shown: &str) -> Result<(), OutOfMemory>
     ensures text { OnOk result
         (string_bytes text.new ≡ string_bytes text.old ++ xml_text shown.now) }
@@ -19,7 +19,7 @@ pub(crate) fn push_xml(text: &mut String, shown: &str) -> Result<(), OutOfMemory
     Ok(())
 }
 
-// Appends a character as XML.
+// Appends a character as XML, for a label of Graphviz.
 fn push_xml_char(text: &mut String, c: char) -> Result<(), OutOfMemory>
     ensures { OnOk result (string_bytes text.new ≡ string_bytes text.old ++ xml_char c) }
 {
@@ -35,7 +35,7 @@ fn push_xml_char(text: &mut String, c: char) -> Result<(), OutOfMemory>
     Ok(())
 }
 
-// The picture of a control character, and any other character as it is.
+// The picture of a control character, or any other character as it is.
 fn visible(c: char) -> char
     ensures { result ≡ pictured c }
 {
@@ -49,8 +49,8 @@ fn visible(c: char) -> char
     c
 }
 
-/// Appends a JSON text so that no part of it ends or begins anything in HTML. In JSON `<` stands in
-/// strings alone, where its number means the same.
+/// Appends a JSON text so that no part of it begins or ends an element of HTML. In JSON `<` is only
+/// in strings, and `\u003c` means the same there.
 pub(crate) fn push_inert(text: &mut String, json: &str) -> Result<(), OutOfMemory>
     ensures text { OnOk result
         (string_bytes text.new ≡ string_bytes text.old ++ inert json.now) }

@@ -1,4 +1,4 @@
-//! Pictures of tables: a graph for Graphviz, and a page.
+//! Pictures of tables: a graph for Graphviz, and a page for a browser.
 #![tactic(auto)]
 
 pub mod dot;

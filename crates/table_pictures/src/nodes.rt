@@ -1,4 +1,4 @@
-//! The nodes of a graph: a state each.
+//! The nodes of a graph. Each is a state.
 ghost use Rattle.std.specs.Prelude.{◌≡◌, ◌++◌, OnOk, map, length, string_bytes, take};
 ghost use Rattle.std.specs.List.{flat_map};
 ghost use Rattle.lalrpop_base.specs.Words.{rising, seen, token_of};
@@ -15,10 +15,10 @@ use lalrpop_base::repr::terminals::TerminalSet;
 use lalrpop_base::repr::{NonterminalString, Production, Symbol, TerminalString};
 use std::alloc::Global;
 
-// How many tokens of a reduction are shown.
+// The greatest number of tokens that are shown of a set.
 const MOST: usize = 8;
 
-// What ends a line of a node.
+// The end of a line of a node, which aligns the line to the left.
 const LINE_END: &str = "<BR ALIGN=\"LEFT\"/>";
 
 // Appends the end of a line of a node.
@@ -29,7 +29,8 @@ fn push_line_end(text: &mut String) -> Result<(), OutOfMemory>
     Ok(())
 }
 
-/// Appends the node of a state, with the conflicts among those of all states that are its own.
+/// Appends the node of a state. `conflicts` has those of all states, and the node shows those of
+/// its own state.
 pub(crate) fn push_node(
     alloc: Global,
     text: &mut String,
@@ -49,7 +50,7 @@ pub(crate) fn push_node(
     Ok(())
 }
 
-// Appends the head of a node.
+// Appends the head of a node, with the number of its state.
 fn push_head(text: &mut String, number: StateIndex) -> Result<(), OutOfMemory>
     ensures { OnOk result (string_bytes text.new ≡ string_bytes text.old ++ node_head number.0) }
 {
@@ -67,7 +68,7 @@ fn is_in_conflict(number: StateIndex, conflicts: &[Lr1Conflict<'_>]) -> bool
     conflicts.iter().any(|c| c.state.0 == number.0)
 }
 
-// Appends the end of a node.
+// Appends the end of a node, red if the state has a conflict.
 fn push_end(text: &mut String, is_red: bool) -> Result<(), OutOfMemory>
     ensures { OnOk result (string_bytes text.new ≡ string_bytes text.old ++ node_end is_red) }
 {
@@ -79,7 +80,7 @@ fn push_end(text: &mut String, is_red: bool) -> Result<(), OutOfMemory>
     Ok(())
 }
 
-// Appends the lines of the items of a kernel.
+// Appends the lines of the kernel items of a state.
 fn push_kernel(
     alloc: Global,
     text: &mut String,
@@ -96,7 +97,7 @@ fn push_kernel(
     Ok(())
 }
 
-// Appends the line of an item if that is of the kernel.
+// Appends the line of an item, if the item is in the kernel.
 fn push_kernel_item(
     alloc: Global,
     text: &mut String,
@@ -114,8 +115,8 @@ fn push_kernel_item(
     Ok(())
 }
 
-// Whether an item is of the kernel of its state: its dot is past the start, or it is one with which
-// the first state begins.
+// Whether an item is in the kernel of its state. Its dot is after a symbol, or the state is state 0
+// and the left side of the production is the start symbol.
 fn is_kernel(item: &Lr1Item<'_>, start: &NonterminalString, number: usize) -> bool
     ensures { result ≡ is_kernel_item start.now number item.now }
 {
@@ -135,7 +136,7 @@ fn push_item(alloc: Global, text: &mut String, item: &Lr1Item<'_>) -> Result<(),
     Ok(())
 }
 
-// Appends symbols, each behind a space.
+// Appends symbols, each after a space.
 fn push_symbols(alloc: Global, text: &mut String, symbols: &[Symbol]) -> Result<(), OutOfMemory>
     ensures { OnOk result
         (string_bytes text.new ≡ string_bytes text.old ++ symbols_xml symbols.now) }
@@ -146,7 +147,7 @@ fn push_symbols(alloc: Global, text: &mut String, symbols: &[Symbol]) -> Result<
     Ok(())
 }
 
-// Appends a symbol behind a space.
+// Appends a symbol after a space.
 fn push_symbol(alloc: Global, text: &mut String, symbol: &Symbol) -> Result<(), OutOfMemory>
     ensures { OnOk result (string_bytes text.new ≡ string_bytes text.old ++ symbol_xml symbol.now) }
 {
@@ -204,7 +205,7 @@ fn push_reduction(
     Ok(())
 }
 
-// Appends the first tokens of a set, each behind a space, and how many more there are.
+// Appends the first tokens of a set, each after a space, and the number of the others.
 fn push_tokens(
     alloc: Global,
     text: &mut String,
@@ -219,7 +220,7 @@ fn push_tokens(
     Ok(())
 }
 
-// Appends the first tokens of a set, each behind a space.
+// Appends the first tokens of a set, each after a space.
 fn push_first_tokens(
     alloc: Global,
     text: &mut String,
@@ -235,7 +236,7 @@ fn push_first_tokens(
     Ok(())
 }
 
-// Appends how many tokens there are past those that are shown.
+// Appends the number of tokens that are not shown, if there are such.
 fn push_more(text: &mut String, count: usize) -> Result<(), OutOfMemory>
     ensures { OnOk result (string_bytes text.new ≡ string_bytes text.old ++ more_tokens count) }
 {
@@ -247,7 +248,7 @@ fn push_more(text: &mut String, count: usize) -> Result<(), OutOfMemory>
     Ok(())
 }
 
-// Appends a token behind a space.
+// Appends a token after a space.
 fn push_token(alloc: Global, text: &mut String, token: TokenRef<'_>) -> Result<(), OutOfMemory>
     ensures { OnOk result
         (string_bytes text.new ≡ string_bytes text.old ++ token_xml (seen token.entry)) }
@@ -260,7 +261,7 @@ fn push_token(alloc: Global, text: &mut String, token: TokenRef<'_>) -> Result<(
     Ok(())
 }
 
-// Appends a terminal behind a space.
+// Appends a terminal after a space.
 fn push_terminal(
     alloc: Global,
     text: &mut String,
@@ -291,7 +292,7 @@ fn push_conflicts(
     Ok(())
 }
 
-// Appends the line of a conflict if that is one of a state.
+// Appends the line of a conflict, if the conflict is in the state.
 fn push_conflict_of(
     alloc: Global,
     text: &mut String,
@@ -308,7 +309,7 @@ fn push_conflict_of(
     Ok(())
 }
 
-// Appends, in red, the line of a conflict.
+// Appends the line of a conflict in red.
 fn push_red_line(
     alloc: Global,
     text: &mut String,
@@ -326,7 +327,7 @@ fn push_red_line(
     Ok(())
 }
 
-// Appends the two actions of a conflict.
+// Appends the two actions of a conflict, and `on` for the tokens that follow.
 fn push_conflict(
     alloc: Global,
     text: &mut String,
@@ -341,7 +342,7 @@ fn push_conflict(
     Ok(())
 }
 
-// Appends the action of a conflict that is not its reduction.
+// Appends the other action of a conflict, before its reduction.
 fn push_action(alloc: Global, text: &mut String, action: &Action<'_>) -> Result<(), OutOfMemory>
     ensures { OnOk result (string_bytes text.new ≡ string_bytes text.old ++ action_xml action.now) }
 {

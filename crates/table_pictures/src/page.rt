@@ -1,4 +1,4 @@
-//! One page to look at tables, without anything from outside.
+//! A page for a browser to look at tables. It loads nothing from outside.
 ghost use Rattle.std.specs.Prelude.{◌≡◌, IfOk, string_bytes};
 ghost use Rattle.table_pictures.specs.Page.{page};
 
@@ -8,7 +8,7 @@ use super::style::STYLE;
 use lalrpop_base::memory::OutOfMemory;
 use std::alloc::Global;
 
-/// The page of the JSON of tables.
+/// The HTML page for the JSON text of tables. `OutOfMemory` if an allocation fails.
 pub fn page_text(alloc: Global, json: &str) -> Result<String, OutOfMemory>
     ensures { IfOk result (λ text. string_bytes text ≡ page json.now) }
 {
@@ -25,7 +25,7 @@ pub fn page_text(alloc: Global, json: &str) -> Result<String, OutOfMemory>
     Ok(text)
 }
 
-// What stands before the style.
+// The part of a page before the style.
 const HEAD: &str = r##"<!DOCTYPE html>
 <html lang="en">
 <head>
@@ -37,7 +37,7 @@ const HEAD: &str = r##"<!DOCTYPE html>
 <style>
 "##;
 
-// What stands between the style and the data.
+// The part of a page between the style and the data.
 const BODY: &str = r##"</style>
 </head>
 <body>
@@ -67,13 +67,13 @@ const BODY: &str = r##"</style>
 <script id="data" type="application/json">
 "##;
 
-// What stands between the data and the script.
+// The part of a page between the data and the script.
 const SCRIPT: &str = r##"</script>
 <script>
 "use strict";
 "##;
 
-// What stands behind the script.
+// The part of a page after the script.
 const END: &str = r##"</script>
 </body>
 </html>

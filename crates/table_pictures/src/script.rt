@@ -1,7 +1,6 @@
-//! What a page does.
+//! The script of a page.
 
-/// Reads the data, and makes parts of a page out of texts alone, so that no name is ever read as
-/// HTML.
+/// Reads the data, and makes the parts of a page from texts alone. So no name is ever read as HTML.
 pub(crate) const TREES: &str =
     r##"const data = JSON.parse(document.getElementById("data").textContent);
 const production = new Map(data.productions.map((p) => [p.number, p]));
@@ -81,7 +80,7 @@ function told(example) {
 }
 "##;
 
-/// Draws conflicts and states as they are looked at.
+/// Draws conflicts and states when they come into view.
 pub(crate) const DRAWING: &str = r##"
 // Of each state, the symbol that leads to it, which is one, and the states from which it does; and
 // by the text of a symbol, the states to which it leads.
@@ -186,7 +185,8 @@ list("states", data.states, (where, s) =>
     `State ${s.number}`, (it) => drawState(s, it)));
 "##;
 
-/// Finds symbols and states, goes to states by keys, and draws all where the page is printed.
+/// Finds symbols and states, goes to states by keys, and draws every state and conflict before the
+/// page is printed.
 pub(crate) const FINDING: &str = r##"
 document.title = `States of ${data.start}`;
 document.getElementById("title").textContent = document.title;

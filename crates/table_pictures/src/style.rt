@@ -1,6 +1,6 @@
-//! How a page looks.
+//! The style of a page.
 
-/// The style of a page, light or dark as the reader has it.
+/// The style of a page, light or dark by the setting of the reader.
 pub(crate) const STYLE: &str = r##":root {
   color-scheme: light dark;
   --back: #fff; --fore: #1b1f24; --soft: #5c6570; --line: #d5dae0; --card: #f6f8fa;

@@ -1,4 +1,4 @@
--- The traces of a state, and what each action that is traced keeps.
+-- The traces of a state meet what tracing requires, and tracing an action keeps that.
 use Rattle.std.proofs.Common.{◌≡◌, ◌∙◌, ◌<◌, ℕ, List, length, sym, subst, arith}
 use Rattle.lalrpop_base.specs.Words.{AreCoherent, IsWellFormed, productions, rules_of}
 use Rattle.lalrpop_tables.specs.Words.{AreLr0States}
@@ -12,7 +12,7 @@ use Rattle.table_questions.specs.declared.ask.lane_tables.Traces.{Traces}
 use Rattle.lalrpop_tables.specs.Words.{HaveOwnItems, IsReadyToTrace, ReducesOwn}
 use Rattle.lalrpop_lanes.specs.declared.lane_table.lane.LaneTracer.{LaneTracer}
 
--- the traces of a state that is listed
+-- the traces of a listed state are ready
 pub ready_traces : (traces : Traces) (start : NonterminalString) → IsWellFormed traces.grammar.now → AreLr0States (rules_of traces.grammar.now) start traces.states.items → HaveOwnItems (productions traces.grammar.now) traces.states.items → traces.state < length traces.states.items → AreReady traces
 ready_traces traces start well made own listed = record {
   well_formed = well;

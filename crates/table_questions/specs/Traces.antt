@@ -1,4 +1,4 @@
--- What the tracing of actions of LR(0) states asks for.
+-- What the tracing of the actions of LR(0) states requires.
 use Rattle.std.specs.Prelude.{◌≡◌, ◌<◌, length}
 use Rattle.lalrpop_base.specs.Words.{AreCoherent, IsWellFormed, productions}
 use Rattle.lalrpop_states.specs.declared.lookahead.nil.Nil.{Nil}
@@ -6,14 +6,16 @@ use Rattle.table_questions.specs.declared.ask.lane_tables.Traces.{Traces}
 use Rattle.lalrpop_tables.specs.Words.{HaveOwnItems, IsReadyToTrace}
 use Rattle.lalrpop_lanes.specs.declared.lane_table.lane.LaneTracer.{LaneTracer}
 
--- the states are coherent ones of a well-formed grammar, and the traced one is among them
+-- the states are coherent and have items of a well-formed grammar, and the state whose actions are
+-- traced is among them
 pub record AreReady (traces : Traces) : Type 0 where
   pub well_formed : IsWellFormed traces.grammar.now
   pub coherent : AreCoherent traces.states.items
   pub own : HaveOwnItems (productions traces.grammar.now) traces.states.items
   pub listed : traces.state < length traces.states.items
 
--- what tracing keeps
+-- while actions are traced, the tracer is ready, has the grammar and the states, and has a column
+-- for each action
 pub record IsTracing (traces : Traces) (tracer : LaneTracer Nil) : Type 0 where
   pub ready : IsReadyToTrace tracer
   pub grammar : tracer.grammar.now ≡ traces.grammar.now

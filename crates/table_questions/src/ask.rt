@@ -1,4 +1,4 @@
-//! Calls by their names: each answers a text.
+//! The calls that a question can name. Each returns a text.
 pub mod arguments;
 pub mod augment;
 pub mod changes;
@@ -22,7 +22,8 @@ use lalrpop_base::repr::grammar::Grammar;
 use lalrpop_base::repr::norm_error::NormError;
 use std::alloc::Global;
 
-/// The answer to a question of sets, states and lanes, where the call is one.
+/// The result of a question on sets, states and lanes. `None` if the call has another name. An
+/// argument of a wrong form and an allocation failure are errors.
 pub fn answer(
     alloc: Global,
     question: &Question<'_>,
@@ -36,7 +37,7 @@ pub fn answer(
     answer_of_lanes(alloc, question, grammar)
 }
 
-/// Why a grammar is refused.
+/// The message for an error of inlining or augmenting a grammar.
 pub fn refusal(alloc: Global, error: NormError) -> Result<String, QuestionError> {
     match error {
         NormError::Cycle { span: _, name } => Ok(format!(in alloc; "cyclic inline of {name}\n")?),
@@ -45,7 +46,8 @@ pub fn refusal(alloc: Global, error: NormError) -> Result<String, QuestionError>
     }
 }
 
-// The answer to a question of sets, states, entries and new start symbols, where the call is one.
+// The result of a question on sets, states, entries, views and new start symbols. `None` if the
+// call has another name.
 fn answer_of_states(
     alloc: Global,
     question: &Question<'_>,
@@ -68,8 +70,8 @@ fn answer_of_states(
     augment::answer(alloc, question, grammar)
 }
 
-// The answer to a question of lane tables, checks, graphs, kernels and token sets, where the call
-// is one.
+// The result of a question on lane tables, context sets, checks, graphs, merging, kernels and token
+// sets. `None` if the call has another name.
 fn answer_of_lanes(
     alloc: Global,
     question: &Question<'_>,

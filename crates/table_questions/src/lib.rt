@@ -1,4 +1,4 @@
-//! Questions of FIRST sets, states, lanes and checks, as words, and the texts that answer them.
+//! Questions on FIRST sets, states, lanes and checks, and the texts of their results.
 #![tactic(auto)]
 
 pub mod ask;

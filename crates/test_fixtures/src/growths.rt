@@ -1,9 +1,10 @@
-//! Calls whose growths are refused in turn, as tests ask for them.
+//! Calls whose allocations are refused in turn, for tests.
 use refused_growth::attempts::{Attempt, Outcome, refused_in_turn};
 use std::alloc::Global;
 use std::test::Fail;
 
-// How many growths of a call were refused before it answered what is owed.
+// The number of turns in which an allocation of a call was refused, before it returned the expected
+// result.
 fn turns_of<A: Attempt>(alloc: Global, call: &mut A) -> Result<usize, Fail> {
     match refused_in_turn(alloc, call)? {
         Outcome::Refused(turns) => Ok(turns),
@@ -12,7 +13,8 @@ fn turns_of<A: Attempt>(alloc: Global, call: &mut A) -> Result<usize, Fail> {
     }
 }
 
-/// Fails unless a call meets a refused growth at least once, and each time leaves what it should.
+/// Fails unless an allocation of a call is refused in at least one turn. Each such turn must leave
+/// what the call promises for a failure, and the last turn must give the expected result.
 pub fn each_growth_refused<A: Attempt>(alloc: Global, call: &mut A) -> Result<(), Fail> {
     if turns_of(alloc, call)? == 0 {
         return Err(Fail::from("no growth was refused"));
@@ -20,7 +22,7 @@ pub fn each_growth_refused<A: Attempt>(alloc: Global, call: &mut A) -> Result<()
     Ok(())
 }
 
-/// Fails unless a call answers as it should where no growth is granted.
+/// Fails unless a call returns the expected result without any allocation.
 pub fn no_growth_needed<A: Attempt>(alloc: Global, call: &mut A) -> Result<(), Fail> {
     let turns = turns_of(alloc, call)?;
     if turns > 0 {

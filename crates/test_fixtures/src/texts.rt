@@ -14,17 +14,18 @@ use lalrpop_base::text::Text;
 use std::alloc::Global;
 use std::test::Fail;
 
-/// Sums of names and of sums in parentheses.
+/// Expressions of names and of expressions in parentheses, with `-` between them.
 pub const SUMS: &str = "S = E\nE = E \"-\" T\nE = T\nT = \"N\"\nT = \"(\" E \")\"";
 
-/// One production of one terminal.
+/// One production with one terminal.
 pub const ONE: &str = "S = \"x\"";
 
-/// Two ends behind each of two beginnings, crossed.
+/// Two beginnings and two ends. The end that comes after A with one beginning comes after B with
+/// the other.
 pub const CROSSED: &str =
     "S = \"a\" A \"d\"\nS = \"b\" B \"d\"\nS = \"a\" B \"e\"\nS = \"b\" A \"e\"\nA = \"c\"\nB = \"c\"";
 
-/// A right side without symbols before a terminal that may begin without it.
+/// A conflict on "z": E can begin with "z", or first with an empty B.
 pub const EMPTY_FIRST: &str = "S = E \"x\"\nE = B E \"y\"\nE = \"z\"\nB =";
 
 /// The grammar of a text.
@@ -39,7 +40,8 @@ pub fn literal(alloc: Global, text: &str) -> Result<TerminalString, OutOfMemory>
     Ok(TerminalString::Literal(Text::new(alloc, text)?))
 }
 
-/// The literals `0` to `63`, of which each has a bit of the first word, and the end has none.
+/// The literals `0` to `63`. Their bits fill the first 64-bit word of a set, so the bit of `Eof` is
+/// in the second one.
 pub fn many_terminals(alloc: Global) -> Result<TerminalSet, Fail> {
     let mut all = Vec::new(alloc);
     for number in 0..64 {
@@ -49,7 +51,7 @@ pub fn many_terminals(alloc: Global) -> Result<TerminalSet, Fail> {
     Ok(TerminalSet::new(alloc, all)?)
 }
 
-/// The set of one literal, which has no token where the literal is no terminal.
+/// The set of one literal. It is empty if the literal is not in the set of terminals.
 pub fn only(alloc: Global, text: &str, terminals: &TerminalSet) -> Result<TokenSet, OutOfMemory> {
     let terminal = literal(alloc, text)?;
     if terminals.bit(&terminal).is_none() {
@@ -58,7 +60,7 @@ pub fn only(alloc: Global, text: &str, terminals: &TerminalSet) -> Result<TokenS
     TokenSet::of(alloc, Token::Terminal(terminal), terminals)
 }
 
-/// The first production of a name.
+/// The first production of a nonterminal.
 pub fn first_production<'g>(
     alloc: Global,
     grammar: &'g Grammar,

@@ -6,7 +6,7 @@ use lalrpop_base::repr::grammar::{ActionFnDefnKind, Grammar, NonterminalData};
 use lalrpop_base::repr::inlined::{InlineActionFnDefn, InlinedSymbol};
 use lalrpop_base::repr::terminals::TerminalSet;
 
-/// Appends the entries of a grammar with their productions and places, and its terminals.
+/// Appends the entries of a grammar with their productions and spans, and its terminals.
 pub fn push_grammar(text: &mut String, grammar: &Grammar) -> Result<(), OutOfMemory> {
     for (name, entry) in grammar.nonterminals.iter() {
         push_entry(text, name, entry)?;
@@ -14,7 +14,7 @@ pub fn push_grammar(text: &mut String, grammar: &Grammar) -> Result<(), OutOfMem
     push_terminals(text, &grammar.terminals)
 }
 
-// Appends an entry with its productions.
+// Appends an entry with its span, its mark and its productions.
 fn push_entry(
     text: &mut String,
     name: &NonterminalString,
@@ -43,7 +43,7 @@ fn is_marked(entry: &NonterminalData) -> bool {
     false
 }
 
-// Appends the terminals, and a hyphen where there are none.
+// Appends the terminals, or a hyphen if there are none.
 fn push_terminals(text: &mut String, terminals: &TerminalSet) -> Result<(), OutOfMemory> {
     text.push_str("terminals")?;
     if terminals.all().is_empty() {
@@ -56,7 +56,7 @@ fn push_terminals(text: &mut String, terminals: &TerminalSet) -> Result<(), OutO
     Ok(())
 }
 
-/// Appends names, each behind a space, and a hyphen where there are none.
+/// Appends names, each after a space, or a hyphen if there are none.
 pub fn push_names(text: &mut String, names: &[NonterminalString]) -> Result<(), OutOfMemory> {
     if names.is_empty() {
         text.push_str(" -")?;
@@ -67,7 +67,7 @@ pub fn push_names(text: &mut String, names: &[NonterminalString]) -> Result<(), 
     Ok(())
 }
 
-/// Appends the productions of a grammar, name by name.
+/// Appends the productions of a grammar, nonterminal by nonterminal.
 pub fn push_productions(text: &mut String, grammar: &Grammar) -> Result<(), OutOfMemory> {
     for (_name, entry) in grammar.nonterminals.iter() {
         push_entry_productions(text, entry)?;
@@ -96,7 +96,8 @@ pub fn push_inline_actions(text: &mut String, grammar: &Grammar) -> Result<(), O
     Ok(())
 }
 
-// Appends an action that inlining made: the action that it is made of, and its symbols.
+// Appends an action that inlining made: the number of the action that it is made from, and its
+// symbols.
 fn push_inline_action(
     text: &mut String,
     number: usize,
@@ -110,7 +111,8 @@ fn push_inline_action(
     Ok(())
 }
 
-// Appends a symbol behind a space, and an inlined one as its action and symbols in parentheses.
+// Appends a symbol after a space. An inlined symbol is the number of its action and its symbols, in
+// parentheses.
 fn push_inlined_symbol(text: &mut String, symbol: &InlinedSymbol) -> Result<(), OutOfMemory> {
     match symbol {
         InlinedSymbol::Original(symbol) => write!(text, " {symbol}")?,

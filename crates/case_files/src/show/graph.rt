@@ -3,7 +3,7 @@ use lalrpop_base::collections::Set;
 use lalrpop_base::lr1_core::state::StateIndex;
 use lalrpop_base::memory::OutOfMemory;
 
-/// Appends the numbers of states, each behind a space, and a hyphen where there are none.
+/// Appends the numbers of states, each after a space, or a hyphen if there are none.
 pub fn push_state_list(text: &mut String, states: &[StateIndex]) -> Result<(), OutOfMemory> {
     if states.is_empty() {
         text.push_str(" -")?;
@@ -14,8 +14,8 @@ pub fn push_state_list(text: &mut String, states: &[StateIndex]) -> Result<(), O
     Ok(())
 }
 
-/// Appends the numbers of a set of states, ascending, each behind a space, and a hyphen where there
-/// are none.
+/// Appends the numbers of a set of states in ascending order, each after a space, or a hyphen if
+/// there are none.
 pub fn push_state_set(text: &mut String, states: &Set<StateIndex>) -> Result<(), OutOfMemory> {
     if states.is_empty() {
         text.push_str(" -")?;

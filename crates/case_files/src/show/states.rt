@@ -1,4 +1,4 @@
-//! States, conflicts, and what a construction answers.
+//! States, conflicts, and results of constructions.
 use super::words::{ShownLookahead, push_item, push_production};
 use lalrpop_base::lookahead::token::Token;
 use lalrpop_base::lr1_core::ActionEntry;
@@ -6,7 +6,7 @@ use lalrpop_base::lr1_core::state::{Action, BuildError, Conflict, LrResult, Stat
 use lalrpop_base::memory::OutOfMemory;
 use lalrpop_base::repr::terminals::TerminalSet;
 
-/// Appends what a construction answers: tables, or states with conflicts.
+/// Appends the result of a construction: tables, or states with conflicts.
 pub fn push_result<L: ShownLookahead>(
     text: &mut String,
     answer: &LrResult<'_, L>,
@@ -23,7 +23,7 @@ pub fn push_result<L: ShownLookahead>(
     }
 }
 
-/// Appends how many states and conflicts there are.
+/// Appends the numbers of states and conflicts.
 pub fn push_counts<L>(text: &mut String, answer: &LrResult<'_, L>) -> Result<(), OutOfMemory> {
     match answer {
         Ok(states) => write!(text, "tables: {} states\n", states.len())?,
@@ -129,7 +129,7 @@ fn push_action(text: &mut String, action: &Action<'_>) -> Result<(), OutOfMemory
     Ok(())
 }
 
-/// Appends what a state does on a token.
+/// Appends the action of a state on a token, or a hyphen if there is none.
 pub fn push_entry(
     text: &mut String,
     token: &Token,

@@ -1,4 +1,4 @@
-//! Questions of parsing for any start symbol.
+//! Questions on parsing for any start symbol.
 use super::runs::{input_of, shown};
 use lalrpop_base::repr::grammar::{Grammar, is_well_formed};
 use lalrpop_lr1::headline::any_start::{AugmentedGrammar, parse_from_any};
@@ -9,7 +9,7 @@ use table_questions::ask::refusal;
 use table_questions::ask::states::start_of;
 use table_questions::question::{Question, QuestionError};
 
-/// The answer to a question of any start symbol, where the call is one.
+/// The result of a question on parsing for any start symbol. `None` if the call has another name.
 pub(crate) fn answer(
     alloc: Global,
     question: &Question<'_>,
@@ -21,7 +21,7 @@ pub(crate) fn answer(
     }
 }
 
-// What is parsed from a grammar, wherever its start symbol stands.
+// The result of a parse by a grammar, whose start symbol may be on a right side.
 fn parsed(
     alloc: Global,
     question: &Question<'_>,

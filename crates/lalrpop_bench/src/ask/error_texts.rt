@@ -17,7 +17,7 @@ use std::alloc::Global;
 use std::io::{self, ErrorKind};
 use table_questions::question::{Question, QuestionError};
 
-/// The answer to a question of the texts of errors, where the call is one.
+/// The result of a question on the texts of errors. `None` if the call has another name.
 pub(crate) fn answer(
     alloc: Global,
     question: &Question<'_>,
@@ -35,7 +35,7 @@ pub(crate) fn answer(
     }
 }
 
-// Those of grammars.
+// Appends the texts of errors of grammars.
 fn push_of_grammars(alloc: Global, text: &mut String) -> Result<(), QuestionError> {
     let terminal = TerminalString::Literal(Text::new(alloc, "a")?);
     let name = NonterminalString {
@@ -51,7 +51,7 @@ fn push_of_grammars(alloc: Global, text: &mut String) -> Result<(), QuestionErro
     Ok(())
 }
 
-// No states, and no conflicts.
+// An error with no states and no conflicts.
 fn no_conflicts<'grammar>(alloc: Global) -> TableConstructionError<'grammar, TokenSet> {
     TableConstructionError {
         states: Vec::new(alloc),
@@ -59,19 +59,19 @@ fn no_conflicts<'grammar>(alloc: Global) -> TableConstructionError<'grammar, Tok
     }
 }
 
-// That of a construction.
+// Appends the text of an error of a construction.
 fn push_of_build(text: &mut String, error: &BuildError<'_, TokenSet>) -> Result<(), QuestionError> {
     write!(text, "{error}\n")?;
     Ok(())
 }
 
-// That of a parse by the tables of a grammar.
+// Appends the text of an error of a parse by the tables of a grammar.
 fn push_of_parse(text: &mut String, error: &ParseError<'_>) -> Result<(), QuestionError> {
     write!(text, "{error}\n")?;
     Ok(())
 }
 
-// Those of tables.
+// Appends the texts of errors of tables.
 fn push_of_tables(alloc: Global, text: &mut String) -> Result<(), QuestionError> {
     push_of_build(text, &BuildError::Conflicts(no_conflicts(alloc)))?;
     push_of_build(text, &BuildError::Memory)?;
@@ -89,7 +89,7 @@ fn push_of_tables(alloc: Global, text: &mut String) -> Result<(), QuestionError>
     Ok(())
 }
 
-// Those of parses.
+// Appends the texts of errors of parses.
 fn push_of_parses(alloc: Global, text: &mut String) -> Result<(), QuestionError> {
     let limit: InterpretError<'_, '_, TokenSet> = InterpretError::Limit;
     let memory: InterpretError<'_, '_, TokenSet> = InterpretError::Memory;
@@ -101,7 +101,7 @@ fn push_of_parses(alloc: Global, text: &mut String) -> Result<(), QuestionError>
     Ok(())
 }
 
-// Those of reports.
+// Appends the texts of errors of reports.
 fn push_of_reports(text: &mut String) -> Result<(), QuestionError> {
     let fault = io::Error::from(ErrorKind::BrokenPipe);
     write!(text, "{}\n", ReportError::Write(fault))?;

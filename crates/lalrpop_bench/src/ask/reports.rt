@@ -1,4 +1,4 @@
-//! Questions of reports.
+//! Questions on reports.
 ghost use Rattle.lalrpop_base.specs.Words.{IsWellFormed};
 
 use lalrpop_base::lr1_core::state::{BuildError, Lr1Result};
@@ -13,7 +13,7 @@ use table_questions::ask::arguments::{method_at, options_from};
 use table_questions::ask::states::start_of;
 use table_questions::question::{Question, QuestionError};
 
-/// The answer to a question of a report, where the call is one.
+/// The result of a question on a report. `None` if the call has another name.
 pub(crate) fn answer(
     alloc: Global,
     question: &Question<'_>,
@@ -50,7 +50,7 @@ fn report(
     lr1_report(alloc, grammar, &answer)
 }
 
-// Lists the conflicts, if there are any, from the last to the first.
+// Reverses the order of the conflicts, if there are any.
 fn reverse_conflicts(answer: &mut Lr1Result<'_>) {
     if let Err(BuildError::Conflicts(error)) = answer {
         error.conflicts.reverse();
@@ -90,7 +90,7 @@ fn lr1_report(
     text_of(alloc, written, &out.into_inner())
 }
 
-// What was written of a report.
+// The bytes that were written of a report, as text, or the text of the error.
 fn text_of(
     alloc: Global,
     written: Result<(), ReportError>,
@@ -103,7 +103,7 @@ fn text_of(
     }
 }
 
-// Whether an error tells of want of memory, which the list that is written to may meet, too.
+// Whether an error reports an allocation failure. The list that takes the bytes can have one, too.
 fn tells_of_memory(error: &ReportError) -> bool {
     match error {
         ReportError::Memory => true,

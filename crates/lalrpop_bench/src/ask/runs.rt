@@ -1,4 +1,4 @@
-//! Questions of runs: trees, stacks and refusals.
+//! Questions on runs: trees, stacks and refusals.
 ghost use Rattle.lalrpop_base.specs.Words.{IsWellFormed};
 
 use grammar_text::symbols::unquoted;
@@ -22,7 +22,7 @@ use table_questions::ask::states::start_of;
 use table_questions::question::{Question, QuestionError};
 use table_questions::show::states::push_counts;
 
-/// Terminals that are fed, those of a second list, and how many steps may be made.
+/// Terminals for a parse, those for a second parse, and a limit on the number of steps.
 #[derive(Drop)]
 pub(super) struct Input {
     pub(super) tokens: Vec<TerminalString>,
@@ -30,7 +30,7 @@ pub(super) struct Input {
     pub(super) limit: usize,
 }
 
-/// The answer to a question of runs, where the call is one.
+/// The result of a question on runs. `None` if the call has another name.
 pub(crate) fn answer(
     alloc: Global,
     question: &Question<'_>,
@@ -49,7 +49,8 @@ pub(crate) fn answer(
     }
 }
 
-/// What is fed: the words behind the limit, up to a comma and behind it.
+/// The input of a question. The arguments after the limit are the terminals: those before a comma
+/// for the first parse, and those after it for the second. Options are passed over.
 pub(super) fn input_of(alloc: Global, question: &Question<'_>) -> Result<Input, QuestionError> {
     let limit = question.number(3)?;
     let mut tokens = Vec::new(alloc);
@@ -77,7 +78,7 @@ pub(super) fn input_of(alloc: Global, question: &Question<'_>) -> Result<Input, 
     })
 }
 
-// What is parsed from a grammar.
+// The result of a parse from a grammar.
 fn parsed(
     alloc: Global,
     question: &Question<'_>,
@@ -94,7 +95,7 @@ fn parsed(
     )
 }
 
-// What is parsed by tables of a grammar.
+// The result of a parse by tables of a grammar.
 fn parsed_by_tables(
     alloc: Global,
     question: &Question<'_>,
@@ -120,7 +121,7 @@ fn parsed_by_tables(
     Ok(text)
 }
 
-/// What a call from a grammar to its trees answers.
+/// The text of the result of a call that parses from a grammar.
 pub(super) fn shown(
     alloc: Global,
     answer: Result<ParseTree, ParseError<'_>>,
@@ -137,7 +138,7 @@ pub(super) fn shown(
     Ok(text)
 }
 
-// The answer over LR(0) states, with or without conflicts.
+// The result of a question on runs over LR(0) states, with or without conflicts.
 fn run_without_lookahead(
     alloc: Global,
     question: &Question<'_>,
@@ -155,7 +156,7 @@ fn run_without_lookahead(
     }
 }
 
-// The answer over tables.
+// The result of a question on runs over tables, or the number of conflicts if there are none.
 fn run_by_tables(
     alloc: Global,
     question: &Question<'_>,
@@ -174,7 +175,7 @@ fn run_by_tables(
     Ok(text)
 }
 
-// The answer over states.
+// The result of a question on runs over states.
 fn run_over<'grammar, L: LookaheadInterpret>(
     alloc: Global,
     question: &Question<'_>,
@@ -213,7 +214,7 @@ fn run_over<'grammar, L: LookaheadInterpret>(
     Ok(text)
 }
 
-// Appends why there is no tree or stack.
+// Appends the reason why there is no tree or stack. An allocation failure is an error.
 fn push_failure<L>(text: &mut String, error: InterpretError<'_, '_, L>) -> Result<(), OutOfMemory> {
     match error {
         InterpretError::Refused(state, token) => {
@@ -228,7 +229,7 @@ fn push_failure<L>(text: &mut String, error: InterpretError<'_, '_, L>) -> Resul
     }
 }
 
-// Appends the states of a stack, the newest last.
+// Appends the states of a stack. The top of the stack is last.
 fn push_stack(text: &mut String, stack: &[StateIndex]) -> Result<(), OutOfMemory> {
     text.push_str("stack")?;
     for state in stack {

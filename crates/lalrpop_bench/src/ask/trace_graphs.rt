@@ -1,4 +1,4 @@
-//! Graphs of traces that are made by words.
+//! Graphs of traces that arguments make.
 use super::traces::{push_contained, push_examples};
 use crate::show::trace_graph::push_trace_edges;
 use grammar_text::symbols::{is_a_name, name_of};
@@ -9,7 +9,8 @@ use std::alloc::Global;
 use table_questions::ask::items::item_of;
 use table_questions::question::{Question, QuestionError};
 
-/// What the words of a question tell of the graph that they make, and its edges.
+/// The results of the calls that the arguments of a question name, one after the other, on one
+/// graph, and then the edges of the graph.
 pub(crate) fn graph_of_words(
     alloc: Global,
     question: &Question<'_>,
@@ -26,7 +27,8 @@ pub(crate) fn graph_of_words(
     Ok(text)
 }
 
-// Does what a word says: asks for an item or its examples, or adds a node or an edge.
+// Does what an argument asks for: whether an item is a node, the examples of an item, a new node,
+// or a new edge.
 fn follow_word<'grammar>(
     alloc: Global,
     text: &mut String,
@@ -71,7 +73,8 @@ fn add_edge<'grammar>(
     Ok(())
 }
 
-// The node that a word names: a name, or an item, also one that is borrowed.
+// The node that an argument names: a nonterminal or an item. After `&` the node is made from a
+// reference to the item.
 fn node_of<'grammar>(
     alloc: Global,
     grammar: &'grammar Grammar,

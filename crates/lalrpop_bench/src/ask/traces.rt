@@ -1,4 +1,4 @@
-//! Questions of traces: how a state came to have an item, and examples of input.
+//! Questions on traces: how a state came to have an item, and examples of input.
 ghost use Rattle.lalrpop_base.specs.Words.{IsWellFormed};
 ghost use Rattle.lalrpop_lr1.specs.Words.{AreKnownEdges};
 
@@ -21,10 +21,10 @@ use table_questions::ask::states::start_of;
 use table_questions::question::{Question, QuestionError};
 use table_questions::show::words::{push_item, push_tokens};
 
-// How many examples are shown.
+// The greatest number of examples that are shown.
 const MOST: usize = 12;
 
-/// The answer to a question of traces, where the call is one.
+/// The result of a question on traces. `None` if the call has another name.
 pub(crate) fn answer(
     alloc: Global,
     question: &Question<'_>,
@@ -41,7 +41,7 @@ pub(crate) fn answer(
     }
 }
 
-// The answer over the states of a grammar, whether there are conflicts or not.
+// The result of a question on the states of a grammar, with or without conflicts.
 fn answer_of_grammar(
     alloc: Global,
     question: &Question<'_>,
@@ -63,7 +63,7 @@ fn answer_of_grammar(
     }
 }
 
-// The answer over the trace of an item of a state.
+// The result of a question on the trace of an item of a state.
 fn answer_of_states<'grammar>(
     alloc: Global,
     question: &Question<'_>,
@@ -87,7 +87,7 @@ fn answer_of_states<'grammar>(
     answer_of_graph(alloc, question, grammar, &graph, item)
 }
 
-// The answer over the graph of a trace of an item.
+// The result of a question on the graph of the trace of an item.
 fn answer_of_graph<'grammar>(
     alloc: Global,
     question: &Question<'_>,
@@ -108,7 +108,7 @@ fn answer_of_graph<'grammar>(
     Ok(text)
 }
 
-// Appends for each item that is asked whether it is a node.
+// Appends, for each item of the arguments, whether it is a node.
 fn push_all_contained<'grammar>(
     text: &mut String,
     question: &Question<'_>,
@@ -135,7 +135,7 @@ pub(crate) fn push_contained<'grammar>(
     Ok(())
 }
 
-/// Appends the first examples of an item.
+/// Appends whether the walk over the examples of an item has found a trace, and the first examples.
 pub(crate) fn push_examples<'grammar>(
     alloc: Global,
     text: &mut String,
@@ -150,7 +150,7 @@ pub(crate) fn push_examples<'grammar>(
     Ok(())
 }
 
-// Appends the first examples of an item that can go on with one of the tokens that are asked.
+// Appends the first examples of an item that can go on with one of the tokens of the arguments.
 fn push_meeting<'grammar>(
     alloc: Global,
     text: &mut String,
@@ -179,7 +179,7 @@ fn push_meeting<'grammar>(
     Ok(())
 }
 
-// Appends what a walk back from an item tells of its first paths.
+// Appends the results of a walk back from an item, for its first paths.
 fn push_walk<'grammar>(
     alloc: Global,
     text: &mut String,
@@ -198,7 +198,7 @@ fn push_walk<'grammar>(
     push_paths(alloc, text, &first_sets, &grammar.terminals, walk)
 }
 
-// Appends what a walk tells of each path, of the first ones, whose terminals are known.
+// Appends the results of a walk for each of its first paths.
 fn push_paths<'grammar>(
     alloc: Global,
     text: &mut String,

@@ -1,16 +1,16 @@
-//! A grammar as languages have it: nonterminals of a few alternatives each, which a keyword tells
-//! apart, with lists, options and levels of operators.
+//! A grammar like those of programming languages. It has nonterminals of a few alternatives each,
+//! which a keyword distinguishes, with lists, options and levels of operators.
 ghost use Rattle.std.specs.Prelude.{◌≤◌, ◌<◌};
 
 use super::levels::print_levels;
 use std::io;
 
-// How many keywords and how many levels there are.
+// The number of keywords, and the number of levels of operators.
 const KEYWORDS: usize = 480;
 
 const LEVELS: usize = 20;
 
-/// So many nonterminals, each of which mentions later ones, and any one between parentheses.
+/// `size` nonterminals, each of which mentions later ones, and any one of them between parentheses.
 pub(super) fn print_keywords(rt: &HostRuntime, size: usize) -> io::Result<()>
     requires { size ≤ 1000000 }
 {
@@ -45,7 +45,7 @@ fn print_alternatives(rt: &HostRuntime, name: usize, drawn: u64, size: usize) ->
     println!(rt; "L{name} = L{name} \",\" X{first}")
 }
 
-// The number of a later nonterminal.
+// The number of a later nonterminal, at most `size`.
 fn later(name: usize, drawn: u64, size: usize) -> usize
     requires name { name < size }
     requires size { size ≤ 1000000 }
@@ -53,7 +53,7 @@ fn later(name: usize, drawn: u64, size: usize) -> usize
     name + 1 + (drawn % 1_000_003) as usize % (size - name)
 }
 
-// The next of numbers that are spread as drawn ones are, by the multiplier of Knuth's MMIX.
+// The next number of a pseudorandom sequence, by the multiplier of Knuth's MMIX.
 fn next_drawn(drawn: u64) -> u64 {
     drawn
         .wrapping_mul(6_364_136_223_846_793_005)

@@ -3,10 +3,10 @@ ghost use Rattle.std.specs.Prelude.{◌≤◌};
 
 use std::io;
 
-// How many levels the expressions of brackets and statements have.
+// The number of levels of the expressions in brackets and statements.
 const LEVELS: usize = 40;
 
-/// Operators that bind closer from level to level; a name stands for the first level.
+/// Operators that bind closer from level to level. The nonterminal `name` derives the first level.
 pub(super) fn print_levels(rt: &HostRuntime, name: &str, count: usize) -> io::Result<()>
     requires { count ≤ 1000000 }
 {
@@ -19,7 +19,8 @@ pub(super) fn print_levels(rt: &HostRuntime, name: &str, count: usize) -> io::Re
     println!(rt; "E{count} = \"id\"")
 }
 
-/// Expressions between as many pairs of brackets of their own, which make many canonical states.
+/// Expressions between pairs of brackets. Each pair has its own terminals, so there are many
+/// canonical states.
 pub(super) fn print_brackets(rt: &HostRuntime, size: usize) -> io::Result<()> {
     for place in 0..size {
         println!(rt; "S = \"b{place}\" B \"e{place}\"")?;
@@ -27,7 +28,7 @@ pub(super) fn print_brackets(rt: &HostRuntime, size: usize) -> io::Result<()> {
     print_levels(rt, "B", LEVELS)
 }
 
-/// Statements, each with a keyword of its own, an expression and nested blocks.
+/// Statements, each with keywords of its own, an expression and nested blocks.
 pub(super) fn print_statements(rt: &HostRuntime, size: usize) -> io::Result<()> {
     println!(rt; "S = L")?;
     println!(rt; "L =")?;
@@ -39,7 +40,7 @@ pub(super) fn print_statements(rt: &HostRuntime, size: usize) -> io::Result<()> 
     print_levels(rt, "A", LEVELS)
 }
 
-/// Operators without an order, so that there are conflicts of each with each.
+/// Operators without an order, so that each one has a conflict with each one.
 pub(super) fn print_operators(rt: &HostRuntime, size: usize) -> io::Result<()> {
     println!(rt; "S = E")?;
     for place in 0..size {

@@ -3,8 +3,8 @@ use lalrpop_base::memory::OutOfMemory;
 use lalrpop_lr1::trace::{Example, ExampleSymbol, Reduction};
 use std::alloc::Global;
 
-/// Appends an example behind a word: its symbols, the place of its cursor and its reductions.
-/// Copies of its parts are shown.
+/// Appends an example after `head`: its symbols, the place of its cursor and its reductions. Copies
+/// of its parts are shown, so that `clone` is tried.
 pub(crate) fn push_example(
     alloc: Global,
     text: &mut String,
@@ -19,8 +19,8 @@ pub(crate) fn push_example(
     push_reductions(alloc, text, &example.reductions)
 }
 
-// Appends a symbol of an example behind a space. The place of a right side without symbols is a
-// pair of parentheses.
+// Appends a symbol of an example after a space. `Epsilon`, which marks a right side without
+// symbols, is shown as a pair of parentheses.
 fn push_symbol(text: &mut String, symbol: &ExampleSymbol) -> Result<(), OutOfMemory> {
     match symbol {
         ExampleSymbol::Symbol(symbol) => write!(text, " {symbol}")?,
@@ -29,7 +29,7 @@ fn push_symbol(text: &mut String, symbol: &ExampleSymbol) -> Result<(), OutOfMem
     Ok(())
 }
 
-// Appends reductions, each behind a space, and a hyphen where there are none. Then the line ends.
+// Appends reductions, each after a space, or a hyphen if there are none, and a line end.
 fn push_reductions(
     alloc: Global,
     text: &mut String,

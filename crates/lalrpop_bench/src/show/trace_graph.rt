@@ -1,10 +1,10 @@
-//! Graphs of traces.
+//! The graphs of traces.
 use lalrpop_base::memory::OutOfMemory;
 use lalrpop_base::repr::terminals::TerminalSet;
 use lalrpop_lr1::trace::{TraceGraphEdge, TraceGraphNode};
 use table_questions::show::words::{push_item, push_list};
 
-/// Appends edges, each in a line.
+/// Appends edges, each on a line of its own.
 pub(crate) fn push_trace_edges(
     text: &mut String,
     edges: &[TraceGraphEdge<'_>],
@@ -16,7 +16,8 @@ pub(crate) fn push_trace_edges(
     Ok(())
 }
 
-// Appends an edge: its nodes, and the symbols around what its target stands for.
+// Appends an edge: its nodes, and its labels, which are the symbols before, at and after the
+// cursor.
 fn push_trace_edge(
     text: &mut String,
     edge: &TraceGraphEdge<'_>,
@@ -37,7 +38,7 @@ fn push_trace_edge(
     Ok(())
 }
 
-// Appends a node: a name, or an item.
+// Appends a node: a nonterminal or an item.
 fn push_node(
     text: &mut String,
     node: &TraceGraphNode<'_>,

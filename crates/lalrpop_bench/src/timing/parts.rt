@@ -1,5 +1,5 @@
-//! The parts that are timed. Each tells how many states it had to do with, FIRST how many
-//! nonterminals, and its milliseconds.
+//! The parts that are timed. Each prints its number of states and its milliseconds. The part of
+//! FIRST sets prints the number of nonterminals.
 ghost use Rattle.lalrpop_base.specs.Words.{IsWellFormed};
 
 use lalrpop_base::first::FirstSets;
@@ -19,13 +19,13 @@ use lalrpop_tables::lane_table::build_lane_table_states;
 use std::io;
 use std::time::Instant;
 
-// Tells a part, the number of its states, and the time since it was begun.
+// Prints the name of a part, its number of states, and the time since it began.
 fn tell(rt: &HostRuntime, part: &str, states: usize, begun: Instant) -> io::Result<()> {
     let milliseconds = begun.elapsed(rt)?.as_millis();
     println!(rt; "{part}: {states} states in {milliseconds} ms")
 }
 
-/// FIRST, of each nonterminal.
+/// Times the FIRST sets of all nonterminals.
 pub(crate) fn time_first(rt: &HostRuntime, grammar: &Grammar) -> anyhow::Result<()>
     requires { IsWellFormed grammar.now }
 {
@@ -37,7 +37,7 @@ pub(crate) fn time_first(rt: &HostRuntime, grammar: &Grammar) -> anyhow::Result<
     Ok(())
 }
 
-/// The LR(0) states.
+/// Times the LR(0) states.
 pub(crate) fn time_lr0(
     rt: &HostRuntime,
     grammar: &Grammar,
@@ -52,7 +52,7 @@ pub(crate) fn time_lr0(
     Ok(())
 }
 
-/// The lane tables, their check and their report.
+/// Times the lane tables, their check and their report.
 pub(crate) fn time_lanes(
     rt: &HostRuntime,
     grammar: &Grammar,
@@ -72,7 +72,7 @@ pub(crate) fn time_lanes(
     Ok(())
 }
 
-// The check of what a construction answers.
+// Times the check of the result of a construction. States that are not coherent are not checked.
 fn time_check<'grammar>(
     rt: &HostRuntime,
     grammar: &'grammar Grammar,
@@ -95,7 +95,7 @@ fn time_check<'grammar>(
     Ok(())
 }
 
-/// The canonical states and their collapse.
+/// Times the canonical states and their collapse.
 pub(crate) fn time_canonical(
     rt: &HostRuntime,
     grammar: &Grammar,
@@ -114,7 +114,7 @@ pub(crate) fn time_canonical(
     time_collapse(rt, grammar, own_states_of(answer)?)
 }
 
-// The collapse of states.
+// Times the collapse of states, if they are collapsible.
 fn time_collapse<'grammar>(
     rt: &HostRuntime,
     grammar: &'grammar Grammar,
@@ -129,7 +129,7 @@ fn time_collapse<'grammar>(
     Ok(())
 }
 
-// How many states there are, with or without conflicts.
+// The number of states, with or without conflicts.
 fn count_of<L>(answer: &LrResult<'_, L>) -> Result<usize, OutOfMemory> {
     match answer {
         Ok(states) => Ok(states.len()),
@@ -138,7 +138,7 @@ fn count_of<L>(answer: &LrResult<'_, L>) -> Result<usize, OutOfMemory> {
     }
 }
 
-// The states, with or without conflicts.
+// The states of a result, with or without conflicts.
 fn states_of<'a, 'grammar>(
     answer: &'a Lr1Result<'grammar>,
 ) -> Result<&'a [Lr1State<'grammar>], OutOfMemory> {
@@ -149,7 +149,7 @@ fn states_of<'a, 'grammar>(
     }
 }
 
-// The states themselves.
+// The states of a result by value, with or without conflicts.
 fn own_states_of<'grammar>(
     answer: Lr1Result<'grammar>,
 ) -> Result<Vec<Lr1State<'grammar>>, OutOfMemory> {

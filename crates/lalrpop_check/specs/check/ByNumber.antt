@@ -1,4 +1,4 @@
--- What the check of tables by number asks of states.
+-- The conditions of the check of tables by number.
 use Rattle.std.specs.Prelude.{◌≡◌, ◌<◌, ◌+◌, ◌⊎◌, ◌↔◌, ℕ, Bool, true, List, length, slice_get, Some, Contains}
 use Rattle.std.specs.Borrow.{Bor}
 use Rattle.lalrpop_base.specs.Words.{AllDiffer, Bits, Dotted, InClosure, InKernel, Rules, contents_of, has}
@@ -15,7 +15,8 @@ use Rattle.lalrpop_follow_sets.specs.declared.follow_sets.found.Found.{Found}
 use Rattle.lalrpop_construction.specs.declared.construction.numbered_state.NumberedState.{NumberedState}
 
 -- ---- one state
--- the state by number has these items, which are those of the state, its transitions, and its reductions: all of its finished items, each once
+-- the state by number has these items, the transitions of the state, and its reductions: these are
+-- by all of its finished items, once each
 pub record IsListedOver (n : Numbers) (items : List ℕ) (old : State Bits) (state : NumberedState) : Type 0 where
   pub same : state.items.items ≡ items
   pub listed : AreItemsAt n.items.items items old.items.vec.items
@@ -35,13 +36,14 @@ pub record IsListedState (g : Rules) (start : NonterminalString) (n : Numbers) (
   pub closed : ListsClosure g kernel old
   pub over : IsListedOver n state.items.items old state
 
--- and so does each
+-- each state of the list lists the closure of its kernel
 pub record AreListedByNumber (g : Rules) (start : NonterminalString) (n : Numbers) (states : List (State Bits)) (list : List NumberedState) : Type 0 where
   pub counted : length list ≡ length states
   pub each : (s : ℕ) (old : State Bits) (state : NumberedState) → slice_get states s ≡ Some old → slice_get list s ≡ Some state → IsListedState g start n s old state
 
--- ---- where symbols lead
--- the symbol behind the dot leads to a state that lists the moved item
+-- ---- the targets of symbols
+-- the symbol x leads to a state that lists the moved item. Below, this is so for the symbol after
+-- the item's dot, if there is one
 pub record LeadsOver (list : List NumberedState) (edges : List (ℕ × ℕ)) (item x : ℕ) : Type 0 where
   pub target : ℕ
   pub edge : Contains edges (x, target)
@@ -50,11 +52,11 @@ pub record LeadsOver (list : List NumberedState) (edges : List (ℕ × ℕ)) (it
 abbrev pub LeadsOn : Numbers → List NumberedState → List (ℕ × ℕ) → ℕ → Type 0
 LeadsOn n list edges item = (x : ℕ) → slice_get n.behind.items item ≡ Some (Some x) → LeadsOver list edges item x
 
--- so it is with all items of a state
+-- the symbol after the dot of each item of the state leads to a state that lists the moved item
 abbrev pub LeadOn : Numbers → List NumberedState → NumberedState → Type 0
 LeadOn n list state = (item : ℕ) → Contains state.items.items item → LeadsOn n list state.edges.items item
 
--- and of all states
+-- the same of each state of the list
 abbrev pub AllLeadOn : Numbers → List NumberedState → Type 0
 AllLeadOn n list = (s : ℕ) (state : NumberedState) → slice_get list s ≡ Some state → LeadOn n list state
 
@@ -63,35 +65,35 @@ pub data IsReachedByNumber (list : List NumberedState) : ℕ → Type 0 where
   at_first : IsReachedByNumber list 0
   over_transition : (s x m : ℕ) → IsReachedByNumber list s → Contains (transitions_at list s) (x, m) → IsReachedByNumber list m
 
--- what is marked is reached
+-- each marked state is reached
 abbrev pub AreMarkedReached : List NumberedState → List Bool → Type 0
 AreMarkedReached list marks = (m : ℕ) → slice_get marks m ≡ Some true → IsReachedByNumber list m
 
--- what is marked was, or is the state
+-- each marked state was marked before, or is the target
 pub record MarksTarget (target : ℕ) (old new : List Bool) : Type 0 where
   pub counted : length new ≡ length old
   pub from : (m : ℕ) → slice_get new m ≡ Some true → (slice_get old m ≡ Some true) ⊎ (m ≡ target)
 
--- what is marked was, or is a target of the edges
+-- each marked state was marked before, or is a target of the edges
 pub record MarksTargets (edges : List (ℕ × ℕ)) (old new : List Bool) : Type 0 where
   pub counted : length new ≡ length old
   pub from : (m : ℕ) → slice_get new m ≡ Some true → (slice_get old m ≡ Some true) ⊎ ((x : ℕ) × Contains edges (x, m))
 
--- all states are
+-- each state of the list is reached
 abbrev pub AreReachedByNumber : List NumberedState → Type 0
 AreReachedByNumber list = (s : ℕ) → s < length list → IsReachedByNumber list s
 
--- ---- what reductions hold
--- the reduction holds all that the union over the entries of its finished item has
+-- ---- tokens of reductions
+-- the reduction holds all tokens of the union over the entries of its finished item
 pub record HoldsUnion (follow : List Bits) (entries : List (ℕ × ℕ)) (k : ℕ) (held : Bits) : Type 0 where
   pub set : Bits
   pub union : (bit : ℕ) → (has set bit ≡ true) ↔ IsInUnion follow entries k bit
   pub within : (bit : ℕ) → has set bit ≡ true → has held bit ≡ true
 
--- each reduction holds all that the set at its place has
+-- each reduction holds all tokens of the set at its place
 abbrev pub HoldSets : List (Bits × Bor Production) → List Bits → Type 0
 HoldSets reductions sets = (j bit : ℕ) (r : Bits × Bor Production) (set : Bits) → slice_get reductions j ≡ Some r → slice_get sets j ≡ Some set → has set bit ≡ true → has r.0 bit ≡ true
 
--- each reduction of each state does
+-- each reduction of each state holds all tokens of the union for its finished item
 abbrev pub HoldUnions : Found → List (State Bits) → List NumberedState → Type 0
 HoldUnions found states list = (s j k : ℕ) (old : State Bits) (state : NumberedState) (r : Bits × Bor Production) → slice_get states s ≡ Some old → slice_get list s ≡ Some state → slice_get old.reductions.items j ≡ Some r → slice_get state.reductions.items j ≡ Some k → HoldsUnion found.follow.items (entries_at found.lookback.items s) k r.0

@@ -11,11 +11,15 @@ use Rattle.lalrpop_grammar.specs.declared.repr.NonterminalString.{NonterminalStr
 use Rattle.lalrpop_grammar.specs.declared.repr.grammar.Grammar.{Grammar}
 use Rattle.lalrpop_states.specs.conflicts.AllConflicts.{HaveNoConflict}
 
--- each reduction holds the tokens that are carried to its finished item from state 0 over the states' own edges
+-- each reduction holds the tokens that are carried to its finished item from state 0, over the
+-- states' own edges
 abbrev pub HoldCarried : Grammar → NonterminalString → List (State Bits) → Type 0
 HoldCarried g start states = (n : ℕ) (r : Reduction) (t : Token) → Contains (contents g.terminals states n).reductions r → IsCarried (productions g) start (contents g.terminals states) n r.production (length (r.production).symbols) t → r.holds t ≡ true
 
--- the rule of this library: state 0 is the closure of the start and every target that of what was moved, edges are the symbols behind the dots, reductions the finished items, once each, which hold the tokens carried to them, and no state has a conflict
+-- states pass the check of this library by four conditions. The states are closed: state 0 is the
+-- closure of the start, each target is the closure of the moved items, and the edges are those of
+-- the symbols after the dots. The reductions are by the finished items, once each. Each reduction
+-- holds the tokens that are carried to it. No state has a conflict
 pub record PassCheck (g : Grammar) (start : NonterminalString) (states : List (State Bits)) : Type 0 where
   pub closed : AreClosed (productions g) start (contents g.terminals states)
   pub reductions : (n : ℕ) → ReducesFinished (contents g.terminals states n)

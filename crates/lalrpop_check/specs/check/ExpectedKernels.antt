@@ -1,4 +1,5 @@
--- The kernels that the check of tables by number expects of states: kernel items of Aho, Sethi and Ullman, section 4.7.
+-- The kernels that the check of tables by number expects of states (kernel items of Aho, Sethi and
+-- Ullman, section 4.7).
 use Rattle.std.specs.Prelude.{◌≡◌, ◌↔◌, ◌<◌, ℕ, List, length, slice_get, Some, Contains}
 use Rattle.lalrpop_states.specs.closures.Closure.{AreItemsBy, InKernel}
 use Rattle.lalrpop_grammar.specs.closures.Closures.{IsAtStart}
@@ -14,7 +15,7 @@ use Rattle.lalrpop_numbers.specs.numbers.Numbers.{AreNumbered, items_by}
 use Rattle.lalrpop_numbers.specs.declared.numbers.numbered.Numbered.{Numbered}
 use Rattle.lalrpop_numbers.specs.declared.numbers.Numbers.{Numbers}
 
--- the number is that of a dotted production whose dot moved
+-- the number is that of a dotted production whose dot is not at the start
 pub record IsMovedNumber (n : Numbers) (k : ℕ) : Type 0 where
   pub item : Dotted Nil
   pub at : slice_get n.items.items k ≡ Some item
@@ -24,13 +25,14 @@ pub record IsMovedNumber (n : Numbers) (k : ℕ) : Type 0 where
 abbrev pub NumbersRise : List (Numbered Nil) → Type 0
 NumbersRise kernel = Ordered (λ (d e : Numbered Nil). d.number < e.number) kernel
 
--- items whose dots moved, by rising numbers, and there are some
+-- there are items, their dots are not at the start, and their numbers rise
 pub record AreMovedKernel (n : Numbers) (kernel : List (Numbered Nil)) : Type 0 where
   pub some : 0 < length kernel
   pub each : (e : Numbered Nil) → Contains kernel e → IsMovedNumber n e.number
   pub rise : NumbersRise kernel
 
--- a kernel of the state with the number: of the first state the productions of the start symbol, and of another dotted productions whose dots moved
+-- the list is a kernel of the state with the number: for state 0 the productions of the start
+-- symbol, and for another state some dotted productions whose dots are not at the start
 pub record IsKernelAt (g : Rules) (start : NonterminalString) (s : ℕ) (kernel : List (Dotted Nil)) : Type 0 where
   pub first : s ≡ 0 → (p : Production) (dot : ℕ) → InKernel kernel p dot ↔ IsAtStart g.productions start p dot
   pub some : 0 < s → 0 < length kernel
@@ -40,7 +42,7 @@ pub record IsKernelAt (g : Rules) (start : NonterminalString) (s : ℕ) (kernel 
 abbrev pub no_tokens : Nil → Bits
 no_tokens lookahead = no_bits
 
--- such a kernel by numbers
+-- the list is such a kernel by numbers
 pub record IsKernelOf (c : Construction Nil) (n : Numbers) (s : ℕ) (kernel : List (Numbered Nil)) : Type 0 where
   pub known : AreNumbered n.items.items kernel
   pub items : AreItemsBy no_tokens c.rules (items_by n.items.items kernel)

@@ -1,5 +1,5 @@
-//! The check of states by the numbers of their items. A yes says that they are tables; a no, that
-//! these means do not tell.
+//! The check of states by the numbers of their items. If it returns `true`, the states are tables.
+//! If it returns `false`, they may be tables or not.
 mod leading;
 mod reached;
 mod tokens;
@@ -25,7 +25,7 @@ use lalrpop_construction::construction::numbered_state::NumberedState;
 use lalrpop_follow_sets::follow_sets::Found;
 use std::alloc::Global;
 
-// Whether states by number that list closures pass.
+// Whether states that are known to list closures by number pass the check. A `false` says nothing.
 fn numbered_pass<'grammar>(
     alloc: Global,
     grammar: &'grammar Grammar,
@@ -60,7 +60,8 @@ fn numbered_pass<'grammar>(
     Ok(held)
 }
 
-/// Whether the numbers of their items tell of states that they are tables of a grammar.
+/// Whether the numbers of their items show that the states are tables of a grammar. A `false` says
+/// nothing.
 pub(super) fn pass_by_number<'grammar>(
     alloc: Global,
     grammar: &'grammar Grammar,

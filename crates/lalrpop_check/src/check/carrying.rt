@@ -1,4 +1,4 @@
-//! Tokens carried over the edges of states.
+//! Tokens that are carried over the edges of states.
 ghost use Rattle.std.specs.Prelude.{◌≡◌, ◌<◌, ◌↔◌, IfOk, OnOk, Contains, IsTrue, Some, true};
 ghost use Rattle.std.specs.Map.{keys_of};
 ghost use Rattle.lalrpop_base.specs.Words.{AreClosed, contents, EachItem, AllDiffer, IsWellFormed, productions, productions_of, rules_of, Sends, IsBegunAt, IsOver};
@@ -19,10 +19,10 @@ use lalrpop_base::repr::{NonterminalString, Production, Symbol};
 use std::alloc::Global;
 use std::collections::{BTreeMap, VecDeque};
 
-/// What is carried to each place.
+/// The tokens that are carried to each place.
 pub type Table<'grammar> = BTreeMap<Place<'grammar>, TokenSet>;
 
-// Sends tokens to a place, which goes into the queue if it is new or has more now.
+// Sends tokens to a place. The place is put into the queue if it is new or has more tokens now.
 fn send<'grammar>(
     alloc: Global,
     place: Place<'grammar>,
@@ -40,7 +40,7 @@ fn send<'grammar>(
     Ok(())
 }
 
-// Sends tokens to the productions of a nonterminal, dot first, in a state.
+// Sends tokens to the productions of a nonterminal in a state, with the dot at the start.
 fn send_productions<'grammar>(
     alloc: Global,
     grammar: &'grammar Grammar,
@@ -64,7 +64,8 @@ fn send_productions<'grammar>(
     Ok(())
 }
 
-// The number of the state to which a symbol leads from the one with a number.
+// The number of the state to which a symbol leads from the state `number`. `None` if there is no
+// such state or edge.
 fn target_at<'grammar>(
     states: &[Lr1State<'grammar>],
     number: usize,
@@ -79,7 +80,7 @@ fn target_at<'grammar>(
     }
 }
 
-// Sends tokens over the symbol behind the dot of a place.
+// Sends tokens over the symbol after the dot of a place.
 fn send_over<'grammar>(
     alloc: Global,
     states: &[Lr1State<'grammar>],
@@ -101,7 +102,7 @@ fn send_over<'grammar>(
     Ok(())
 }
 
-// The tokens of a place that has some.
+// A copy of the tokens of a place that the table has.
 fn tokens_at<'grammar>(
     alloc: Global,
     table: &Table<'grammar>,
@@ -117,7 +118,8 @@ fn tokens_at<'grammar>(
     }
 }
 
-// Sends what a place has, and what may follow there, to what it leads to.
+// Sends the tokens of a place over the symbol after its dot. If the symbol is a nonterminal, the
+// tokens that follow it are sent to its productions.
 fn send_on<'grammar>(
     alloc: Global,
     grammar: &'grammar Grammar,
@@ -148,7 +150,8 @@ fn send_on<'grammar>(
     Ok(())
 }
 
-/// The tokens that are carried to each place from the start.
+/// The tokens that are carried to each place, from `Eof` at the productions of the start symbol in
+/// state 0. `OutOfMemory` if an allocation fails.
 pub fn carried<'grammar>(
     alloc: Global,
     grammar: &'grammar Grammar,
@@ -175,7 +178,7 @@ pub fn carried<'grammar>(
     Ok(table)
 }
 
-// Whether a reduction of a state holds all that is carried to its finished item.
+// Whether a reduction of a state holds all tokens that are carried to its finished item.
 fn holds_carried<'grammar>(
     alloc: Global,
     table: &Table<'grammar>,
@@ -195,7 +198,7 @@ fn holds_carried<'grammar>(
     Ok(!more)
 }
 
-// Whether the reductions of a state hold all that is carried to its finished items.
+// Whether the reductions of a state hold all tokens that are carried to its finished items.
 fn have_carried<'grammar>(
     alloc: Global,
     table: &Table<'grammar>,
@@ -214,7 +217,8 @@ fn have_carried<'grammar>(
     Ok(true)
 }
 
-/// Whether the reductions of each state hold all that is carried to its finished items.
+/// Whether the reductions of each state hold all tokens that are carried to its finished items.
+/// `OutOfMemory` if an allocation fails.
 pub fn all_have_carried<'grammar>(
     alloc: Global,
     table: &Table<'grammar>,

@@ -13,7 +13,7 @@ use lalrpop_base::repr::{NonterminalString, Symbol};
 use std::alloc::Global;
 use std::collections::BTreeSet;
 
-/// Dotted productions.
+/// A set of dotted productions.
 pub type Set<'grammar> = BTreeSet<Lr0Item<'grammar>>;
 
 // Goes to an item.
@@ -26,7 +26,7 @@ fn visit<'grammar>(
     walk.visit(item.to_lr0(), item)
 }
 
-// Goes to the productions of a nonterminal, dot first.
+// Goes to the productions of a nonterminal, with the dot at the start.
 fn visit_productions<'grammar>(
     grammar: &'grammar Grammar,
     name: &NonterminalString,
@@ -46,7 +46,7 @@ fn visit_productions<'grammar>(
     Ok(())
 }
 
-// Goes to what an item leads to without a symbol.
+// Goes to the productions of the nonterminal after an item's dot, if there is one.
 fn visit_expansions<'grammar>(
     grammar: &'grammar Grammar,
     item: &Lr0Item<'grammar>,
@@ -64,7 +64,7 @@ fn visit_expansions<'grammar>(
     Ok(())
 }
 
-// All that those which wait lead to without a symbol.
+// The closure of the items that wait in the walk.
 fn close<'grammar>(
     grammar: &'grammar Grammar,
     mut walk: Walk<Lr0Item<'grammar>>,
@@ -82,7 +82,7 @@ fn close<'grammar>(
     Ok(visited)
 }
 
-/// The closure of the productions of the start symbol.
+/// The closure of the productions of the start symbol. `OutOfMemory` if an allocation fails.
 pub fn start_closure<'grammar>(
     alloc: Global,
     grammar: &'grammar Grammar,
@@ -98,7 +98,7 @@ pub fn start_closure<'grammar>(
     close(grammar, walk)
 }
 
-// Goes to the items whose dot moved.
+// Goes to the items of a list whose dot moved.
 fn visit_moved<'grammar>(
     items: &[Lr1Item<'grammar>],
     walk: &mut Walk<Lr0Item<'grammar>>,
@@ -111,7 +111,7 @@ fn visit_moved<'grammar>(
     Ok(())
 }
 
-// Goes to an item if its dot moved.
+// Goes to an item, if its dot moved.
 fn visit_if_moved<'grammar>(
     item: &Lr1Item<'grammar>,
     walk: &mut Walk<Lr0Item<'grammar>>,
@@ -124,7 +124,7 @@ fn visit_if_moved<'grammar>(
     Ok(())
 }
 
-/// The closure of the items whose dot moved.
+/// The closure of the items whose dot moved. `OutOfMemory` if an allocation fails.
 pub fn moved_closure<'grammar>(
     alloc: Global,
     grammar: &'grammar Grammar,

@@ -1,4 +1,4 @@
-//! States by number, as the closures that are expected of them tell it.
+//! States by number, made from the closures that are expected of them.
 mod kernels;
 pub(super) mod listed;
 mod transitions;

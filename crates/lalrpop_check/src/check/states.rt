@@ -1,4 +1,4 @@
-//! What the check of tables asks of each state by itself.
+//! The conditions of the check of tables on each state by itself.
 ghost use Rattle.std.specs.Prelude.{◌≡◌, ◌↔◌, ◌⊎◌, ℕ, IfOk, OnOk, Contains, IsTrue, MatchOption, length, slice_get, Some};
 ghost use Rattle.lalrpop_base.specs.Words.{Bits, IsAtStart, Dotted, AllDiffer, IsWellFormed, productions, AreClosure, LeadsBy, LeadsFrom, IsTarget, Lists};
 ghost use Rattle.lalrpop_base.specs.Words.{finished, LeadsOn, IsRightItem, IsRightTarget, IsRightState, AreRightStates};
@@ -46,7 +46,7 @@ fn add_targets_of<'grammar>(
     Ok(())
 }
 
-/// The numbers to which an edge leads.
+/// The numbers of the states to which edges lead.
 pub fn targets<'grammar>(
     alloc: Global,
     states: &[Lr1State<'grammar>],
@@ -88,7 +88,7 @@ pub fn listed_states<'grammar>(
     Ok(listed)
 }
 
-/// The number of the state to which a symbol leads.
+/// The number of the state to which a symbol leads from this state.
 pub fn target<'grammar>(state: &Lr1State<'grammar>, symbol: &Symbol) -> Option<usize>
     ensures { result ≡ target_of state.now symbol.now }
 {
@@ -104,7 +104,8 @@ pub fn target<'grammar>(state: &Lr1State<'grammar>, symbol: &Symbol) -> Option<u
     }
 }
 
-// Whether the symbol behind the dot of an item leads to a state that lists the moved item.
+// Whether the symbol after the dot of an item leads to a state that lists the moved item. A dot at
+// the end passes.
 fn leads_on<'grammar>(
     listed: &[Set<'grammar>],
     state: &Lr1State<'grammar>,
@@ -134,7 +135,7 @@ fn leads_on<'grammar>(
     has_key(&listed[to], &moved)
 }
 
-// Whether an item is right.
+// Whether the symbol after an item's dot leads on, or the item is finished and is reduced.
 fn is_right_item<'grammar>(
     listed: &[Set<'grammar>],
     state: &Lr1State<'grammar>,
@@ -156,7 +157,7 @@ fn is_right_item<'grammar>(
     has_key(reductions, &item.to_lr0())
 }
 
-// Whether all items of a state are right.
+// Whether all items of a state pass `is_right_item`.
 fn are_right_items<'grammar>(
     listed: &[Set<'grammar>],
     state: &Lr1State<'grammar>,
@@ -177,7 +178,7 @@ fn are_right_items<'grammar>(
     true
 }
 
-// The finished dotted productions of reductions, none where two are by one production.
+// The finished dotted productions of reductions. `None` if two reductions are by one production.
 fn reduced_items<'grammar>(
     alloc: Global,
     reductions: &[(TokenSet, &'grammar Production)],
@@ -197,7 +198,7 @@ fn reduced_items<'grammar>(
     Ok(Some(set))
 }
 
-// Whether a state is the closure of the start, if it is the first.
+// Whether a state is the closure of the start symbol's productions, if it is the first.
 fn is_right_first<'grammar>(
     alloc: Global,
     grammar: &'grammar Grammar,
@@ -216,7 +217,7 @@ fn is_right_first<'grammar>(
     Ok(have_same(&closure, here))
 }
 
-// Whether a state has an item and is the closure of what was moved, if it is a target.
+// Whether a state has an item, and is the closure of its items whose dot moved, if it is a target.
 fn is_right_target<'grammar>(
     alloc: Global,
     grammar: &'grammar Grammar,
@@ -239,8 +240,8 @@ fn is_right_target<'grammar>(
     Ok(have_same(&closure, here))
 }
 
-// Whether the reductions of a state are its finished items, once each, and the symbols behind its
-// dots lead on.
+// Whether each finished item of a state is reduced, no two reductions are by one production, and
+// the symbols after the dots lead on.
 fn has_right_actions<'grammar>(
     alloc: Global,
     listed: &[Set<'grammar>],
@@ -257,7 +258,7 @@ fn has_right_actions<'grammar>(
     Ok(are_right_items(listed, state, &reductions))
 }
 
-// Whether a state is right by itself.
+// Whether a state meets all conditions on a single state.
 fn is_right_state<'grammar>(
     alloc: Global,
     grammar: &'grammar Grammar,
@@ -285,7 +286,7 @@ fn is_right_state<'grammar>(
     Ok(free)
 }
 
-/// Whether each state is right by itself.
+/// Whether each state meets all conditions on a single state. `OutOfMemory` if an allocation fails.
 pub fn are_right_states<'grammar>(
     alloc: Global,
     grammar: &'grammar Grammar,

@@ -1,3 +1,3 @@
--- States and their items.
+-- Kernels of states, by number.
 pub mod KernelLemmas
 pub mod Settled

@@ -1,25 +1,28 @@
--- Lists in two parts, each in the order of the list: the elements that pass a test, and behind them the others.
+-- Lists in two parts: the elements that pass a test, and after them the others. Both parts are in
+-- the order of the list.
 use Rattle.std.specs.Prelude.{◌≡◌, ◌<◌, ◌+◌, ℕ, Bool, not, cond, List, ◌++◌, length, take, slice_get, Option, Some, None}
 use Rattle.std.specs.List.{filter}
 
 module _ {X : Type 0} (passes : X → Bool) where
-  -- how many of the first k elements pass
+  -- the number of the first k elements that pass
   abbrev pub rank : List X → ℕ → ℕ
   rank xs k = length (filter passes (take k xs))
 
 module _ {X : Type 0} (passes : X → Bool) where
+  -- an element does not pass
   abbrev pub fails : X → Bool
   fails x = not (passes x)
 
-  -- the elements that pass, and behind them the others
+  -- the elements that pass, and after them the others
   abbrev pub parted : List X → List X
   parted xs = filter passes xs ++ filter fails xs
 
+  -- the place in the parted list of an element that was at place k, and k if there is none
   abbrev pub parted_place : List X → ℕ → Option X → ℕ
   parted_place xs k None = k
   parted_place xs k (Some x) = cond (passes x) (rank passes xs k) (length (filter passes xs) + rank fails xs k)
 
-  -- the place in the parted list of the element at the place; a place past the end stays
+  -- the place in the parted list of the element at a place. A place past the end stays
   abbrev pub new_place : List X → ℕ → ℕ
   new_place xs k = parted_place xs k (slice_get xs k)
 

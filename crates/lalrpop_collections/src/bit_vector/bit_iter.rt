@@ -1,4 +1,4 @@
-//! The numbers of a bit vector, one after another.
+//! The iterator over the numbers of a bit vector.
 ghost use Rattle.std.specs.Prelude.{◌≡◌, ◌*◌, ◌≤◌, ℕ, List, length};
 ghost use Rattle.std.specs.Iterator.{YieldsFirst, item_count};
 ghost use Rattle.lalrpop_collections.specs.lists.BitVectors.{members_from, IsBitVector};
@@ -6,7 +6,8 @@ ghost use Rattle.lalrpop_collections.specs.lists.BitVectors.{members_from, IsBit
 use super::words::least_from;
 use std::marker::Model;
 
-/// The numbers of a bit vector that are still to come, rising.
+/// An iterator over the numbers of a bit vector, in ascending order. Clauses see it as the list of
+/// the numbers that it has not yet returned.
 #[derive(Drop)]
 pub struct BitIter<'words> {
     words: &'words [u64],
@@ -26,6 +27,7 @@ impl<'words> Model for BitIter<'words> {
 }
 
 impl<'words> BitIter<'words> {
+    /// An iterator over all numbers of a bit vector.
     pub fn new(words: &'words [u64]) -> BitIter<'words>
         requires { IsBitVector words.now }
         ensures { result ≡ members_from words.now 0 }

@@ -1,11 +1,11 @@
-//! Bit vectors, as they are made and changed.
+//! Functions that make and change bit vectors.
 ghost use Rattle.std.specs.Prelude.{◌≡◌, ◌≢◌, ◌+◌, ◌-◌, ◌/◌, ◌%◌, ◌^◌, ◌<◌, ◌≤◌, ◌==◌, ◌||◌, ◌&&◌, ℕ, List, length, slice_index, nat_lt, not, max, bit_and, bit_or, MatchBool, replicate, IfOk, OnOk, OnErr};
 ghost use Rattle.lalrpop_collections.specs.lists.BitVectors.{has_bit, IsTrimmed, IsBitVector};
 
 use crate::memory::OutOfMemory;
 use std::alloc::Global;
 
-/// Appends words 0 up to a count of words, if there are fewer.
+/// Appends zero words until there are `count` words. More words than `count` stay as they are.
 pub fn pad(words: &mut Vec<u64>, count: usize) -> Result<(), OutOfMemory>
     ensures padded { OnOk result (length words.new.items ≡ max (length words.old.items) count) }
     ensures same { (k : ℕ) → slice_index words.new.items k ≡ slice_index words.old.items k }
@@ -17,7 +17,7 @@ pub fn pad(words: &mut Vec<u64>, count: usize) -> Result<(), OutOfMemory>
     Ok(())
 }
 
-/// Puts a number into a bit vector with a word for it.
+/// Adds a number to a bit vector, which must have a word for the number.
 pub fn put(words: &mut [u64], number: usize)
     requires { number / 64 < length words.old }
     ensures put { (q : ℕ) → has_bit words.new q ≡ ((q == number) || has_bit words.old q) }
@@ -30,7 +30,8 @@ pub fn put(words: &mut [u64], number: usize)
     words[number / 64] |= 1 << (number % 64);
 }
 
-/// Takes a number out of a bit vector with a word for it.
+/// Removes a number from a bit vector, which must have a word for the number. The bit vector is not
+/// trimmed.
 pub fn take(words: &mut [u64], number: usize)
     requires { number / 64 < length words.old }
     ensures taken { (q : ℕ) → has_bit words.new q ≡ (has_bit words.old q && not (q == number)) }
@@ -40,7 +41,7 @@ pub fn take(words: &mut [u64], number: usize)
     words[number / 64] &= !(1 << (number % 64));
 }
 
-// How many words there are without the words 0 at the end.
+// The number of words without the zero words at the end.
 fn trimmed_len(words: &[u64]) -> usize
     ensures within { result ≤ length words.now }
     ensures rest { (k : ℕ) → result ≤ k → slice_index words.now k ≡ 0 }
@@ -54,7 +55,7 @@ fn trimmed_len(words: &[u64]) -> usize
     0
 }
 
-/// Takes the words 0 off the end.
+/// Removes the zero words at the end.
 pub fn trim(words: &mut Vec<u64>)
     ensures trimmed { IsTrimmed words.new.items }
     ensures len { length words.new.items ≤ length words.old.items }
@@ -64,7 +65,7 @@ pub fn trim(words: &mut Vec<u64>)
     words.truncate(len);
 }
 
-// Joins a word into that at a place, and tells whether that one changed.
+// Joins a word into the word at a place by bitwise or, and returns whether the latter changed.
 fn join_word(words: &mut [u64], place: usize, word: u64) -> bool
     requires { place < length words.old }
     ensures joined { slice_index words.new place ≡ bit_or (slice_index words.old place) word }
@@ -78,7 +79,8 @@ fn join_word(words: &mut [u64], place: usize, word: u64) -> bool
     new != old
 }
 
-/// Joins a bit vector into another with no fewer words, and tells whether that one changed.
+/// Adds the numbers of `other` to `words`, which must have at least as many words. Returns whether
+/// `words` changed.
 pub fn join_words(words: &mut [u64], other: &[u64]) -> bool
     requires { length other.now ≤ length words.old }
     ensures joined { (k : ℕ) →
@@ -95,7 +97,8 @@ pub fn join_words(words: &mut [u64], other: &[u64]) -> bool
     changed
 }
 
-/// The words of what is in both of two bit vectors, not trimmed.
+/// The words of the numbers that are in both bit vectors. They are not trimmed: the last words may
+/// be 0.
 pub fn meet_words(alloc: Global, left: &[u64], right: &[u64]) -> Result<Vec<u64>, OutOfMemory>
     ensures met { IfOk result (λ both. (k : ℕ) → slice_index both.items k ≡ bit_and
         (slice_index left.now k) (slice_index right.now k)) }
@@ -108,7 +111,7 @@ pub fn meet_words(alloc: Global, left: &[u64], right: &[u64]) -> Result<Vec<u64>
     Ok(both)
 }
 
-// So many words of 64 ones.
+// A list of `count` words, in each of which all 64 bits are 1.
 fn full_words(alloc: Global, count: usize) -> Result<Vec<u64>, OutOfMemory>
     ensures { IfOk result (λ words. words.items ≡ replicate count (2 ^ 64 - 1)) }
 {

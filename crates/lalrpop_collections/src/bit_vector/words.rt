@@ -1,5 +1,5 @@
-//! Bit vectors, as they are read: number n is bit n % 64 of word n / 64, and behind the last word
-//! all bits are 0.
+//! Functions that read bit vectors. Number n is bit n % 64 of word n / 64. All bits after the last
+//! word are 0.
 ghost use Rattle.std.specs.Prelude.{◌≡◌, ◌+◌, ◌*◌, ◌/◌, ◌^◌, ◌<◌, ◌≤◌, ℕ, List, length, slice_index, true, false, IsTrue, IsFalse, IfSome, IsNone};
 ghost use Rattle.lalrpop_collections.specs.lists.BitVectors.{has_bit, members_from, folded, IsBitVector, IsLeastFrom, IsLeastApart};
 ghost use Rattle.std.specs.Hash.FoldHasher.{folded_multiply};
@@ -10,7 +10,7 @@ use std::cmp::Ordering;
 
 const MULTIPLIER: u64 = 0x9e37_79b9_7f4a_7c15;
 
-// The word at a place, or 0 behind the last.
+// The word at a place, or 0 if there is none.
 fn word_at(words: &[u64], place: usize) -> u64
     ensures word { result ≡ slice_index words.now place }
     ensures low { result < 2 ^ 64 }
@@ -28,7 +28,7 @@ pub fn has_number(words: &[u64], number: usize) -> bool
     (word_at(words, number / 64) >> (number % 64)) & 1 == 1
 }
 
-// Whether a number of the word at a place of a bit vector is greater than one of that word.
+// Whether the word of `number` has a greater number.
 fn has_greater_beside(words: &[u64], number: usize) -> bool
     ensures yes { IsTrue result → (n : ℕ) × (number < n) × IsTrue (has_bit words.now n) }
     ensures no { IsFalse result → (n : ℕ) →
@@ -37,7 +37,7 @@ fn has_greater_beside(words: &[u64], number: usize) -> bool
     (word_at(words, number / 64) >> (number % 64)) >> 1 != 0
 }
 
-/// Whether a bit vector has a greater number than one.
+/// Whether a bit vector has a number greater than `number`.
 pub fn has_greater(words: &[u64], number: usize) -> bool
     requires { IsBitVector words.now }
     ensures yes { IsTrue result → (n : ℕ) × (number < n) × IsTrue (has_bit words.now n) }
@@ -46,7 +46,7 @@ pub fn has_greater(words: &[u64], number: usize) -> bool
     number / 64 + 1 < words.len() || has_greater_beside(words, number)
 }
 
-// The least number of a bit vector in the word of one, if it is not below that one.
+// The least number that is not below `first`, among the 64 numbers of the word of `first`.
 fn least_beside(words: &[u64], first: usize) -> Option<usize>
     requires { first ≤ 2 ^ 63 }
     ensures some { IfSome result (IsLeastFrom words.now first) }
@@ -60,7 +60,7 @@ fn least_beside(words: &[u64], first: usize) -> Option<usize>
     Some(first + rest.trailing_zeros() as usize)
 }
 
-/// The least number of a bit vector that is not below one.
+/// The least number of a bit vector that is not below `first`.
 pub fn least_from(words: &[u64], first: usize) -> Option<usize>
     requires few { length words.now ≤ 2 ^ 57 }
     requires first { first ≤ 64 * length words.now }
@@ -80,7 +80,7 @@ pub fn least_from(words: &[u64], first: usize) -> Option<usize>
     None
 }
 
-// The least number that is in one of two bit vectors alone.
+// The least number that exactly one of two bit vectors has.
 fn least_difference(left: &[u64], right: &[u64]) -> Option<usize>
     requires left { IsBitVector left.now }
     requires right { IsBitVector right.now }
@@ -96,8 +96,8 @@ fn least_difference(left: &[u64], right: &[u64]) -> Option<usize>
     None
 }
 
-// The order of two bit vectors whose least difference is a number: the one without it is the lesser
-// where it ends there, and the greater where it goes on.
+// The order of two bit vectors whose least difference is `number`. The bit vector without `number`
+// is the lesser one if it has no greater number. Otherwise it is the greater one.
 fn compare_from(left: &[u64], right: &[u64], number: usize) -> Ordering
     requires left { IsBitVector left.now }
     requires right { IsBitVector right.now }
@@ -116,7 +116,7 @@ fn compare_from(left: &[u64], right: &[u64], number: usize) -> Ordering
     Ordering::Less
 }
 
-/// The order of two bit vectors: that of their rising lists of numbers.
+/// The order of two bit vectors. It is the lexicographic order of their ascending lists of numbers.
 pub fn compare(left: &[u64], right: &[u64]) -> Ordering
     requires left { IsBitVector left.now }
     requires right { IsBitVector right.now }
@@ -143,7 +143,7 @@ pub fn share_number(left: &[u64], right: &[u64]) -> bool
     false
 }
 
-/// Whether each number of a bit vector is in another.
+/// Whether each number of `left` is in `right`.
 pub fn are_within(left: &[u64], right: &[u64]) -> bool
     ensures yes { IsTrue result →
         (n : ℕ) → IsTrue (has_bit left.now n) → IsTrue (has_bit right.now n) }
@@ -158,7 +158,7 @@ pub fn are_within(left: &[u64], right: &[u64]) -> bool
     true
 }
 
-// The two halves of a product of 128 bits, joined by xor.
+// The exclusive or of the two 64-bit halves of a product of 128 bits.
 fn folded_multiply(a: u64, b: u64) -> u64
     ensures { result ≡ folded_multiply a b }
 {
@@ -166,7 +166,7 @@ fn folded_multiply(a: u64, b: u64) -> u64
     (product & 0xFFFF_FFFF_FFFF_FFFF) as u64 ^ (product >> 64) as u64
 }
 
-/// The words folded into one, in their order.
+/// Folds the words into one word, in their order, for use in a hash.
 pub fn fold_words(words: &[u64]) -> u64
     ensures { result ≡ folded words.now }
 {

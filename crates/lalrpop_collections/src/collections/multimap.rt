@@ -1,4 +1,4 @@
-//! A map of collections, which clauses see as its entries.
+//! A map from keys to collections. Clauses see it as the list of its entries.
 ghost use Rattle.std.specs.Prelude.{◌≡◌, [], List, IfOk, OnOk, OnErr, ◌↔◌, IsTrue, MatchBool, option_copied, None, false};
 ghost use Rattle.std.specs.Ordering.{is_eq};
 ghost use Rattle.std.specs.Iterator.{IsFinite, Drains};
@@ -45,21 +45,21 @@ impl<K: Ord + Drop, C: Collection + Drop> Multimap<K, C> {
         }
     }
 
-    /// Whether nothing was pushed.
+    /// Whether the map has no keys.
     pub fn is_empty(&self) -> bool
         ensures { IsTrue result ↔ (self.now ≡ []) }
     {
         self.map.is_empty()
     }
 
-    /// The collection of a key that was pushed to.
+    /// The collection of a key, or `None` if no value was pushed for the key.
     pub fn get(&self, key: &K) -> Option<&C>
         ensures { option_copied result ≡ collection_at K.cmp self.now key.now }
     {
         self.map.get(key)
     }
 
-    /// The keys and their collections, by rising key.
+    /// An iterator over the keys and their collections, in ascending order of the keys.
     pub fn iter(&self) -> btree_map::Iter<'_, K, C>
         ensures entries { result ≡ self.now }
         ensures rising { IsStrictlySortedBy K.cmp (keys_of self.now) }
@@ -67,7 +67,7 @@ impl<K: Ord + Drop, C: Collection + Drop> Multimap<K, C> {
         self.map.iter()
     }
 
-    /// The keys and their collections, by rising key.
+    /// An iterator that takes the keys and their collections out, in ascending order of the keys.
     pub fn into_iter(self) -> btree_map::IntoIter<K, C>
         ensures entries { result ≡ self }
         ensures rising { IsStrictlySortedBy K.cmp (keys_of self) }
@@ -76,8 +76,8 @@ impl<K: Ord + Drop, C: Collection + Drop> Multimap<K, C> {
         map.into_iter()
     }
 
-    /// Pushes a value into the collection of a key, which is empty where there is none yet. A new
-    /// key is a change.
+    /// Pushes a value into the collection of a key, and returns whether the map changed. The
+    /// collection of a new key is empty before the push. A new key is a change.
     pub fn push(&mut self, key: K, value: C::Item) -> Result<bool, OutOfMemory>
         ensures pushed { OnOk result (PushesAt C.is_empty C.pushes
             (collection_at K.cmp self.old key) value (collection_at K.cmp self.new key)) }
@@ -103,7 +103,7 @@ impl<K: Ord + Drop, C: Collection + Drop> Multimap<K, C> {
         Ok(true)
     }
 
-    /// The map that the pairs make, pushed in turn.
+    /// A map into which the pairs were pushed, in their order.
     pub fn from_pairs<I: Iterator<Item = (K, C::Item)> + Drop>(
         alloc: Global,
         pairs: I,

@@ -1,4 +1,4 @@
-//! A queue of numbers, each of which waits at most once.
+//! A queue of numbers, in which each number waits at most once.
 ghost use Rattle.std.specs.Prelude.{◌≡◌, ◌<◌, ◌≤◌, ◌∷◌, [], ℕ, true, length, max, IfOk, OnOk, IfSome, IfNone};
 ghost use Rattle.lalrpop_collections.specs.lists.Queues.{Waiting, waiting_with, waits};
 
@@ -7,7 +7,8 @@ use std::alloc::Global;
 use std::collections::VecDeque;
 use std::marker::Model;
 
-/// Numbers below a limit that wait, the longest waiting first, and a mark for each that does.
+/// A queue of numbers below a limit, with the number that has waited longest first. The mark of a
+/// number says whether the number waits.
 #[derive(Drop)]
 pub struct Queue {
     numbers: VecDeque<usize>,
@@ -52,7 +53,7 @@ impl Queue {
         Ok(queue)
     }
 
-    /// Takes all numbers out, and lets those below a limit wait from now on.
+    /// Removes all numbers. If the limit is lower than `limit`, it becomes `limit`.
     pub fn restart(&mut self, limit: usize) -> Result<(), OutOfMemory>
         ensures limit { OnOk result (self.new.limit ≡ max self.old.limit limit) }
         ensures none { OnOk result (self.new.numbers ≡ []) }
@@ -71,7 +72,7 @@ impl Queue {
         while self.take().is_some() {}
     }
 
-    /// Lets a number wait behind the others, if it doesn't wait yet.
+    /// Adds a number at the end of the queue, if the number does not wait yet.
     pub fn add(&mut self, number: usize) -> Result<(), OutOfMemory>
         requires { number < self.old.limit }
         ensures limit { self.new.limit ≡ self.old.limit }
@@ -87,7 +88,7 @@ impl Queue {
         Ok(())
     }
 
-    /// Takes the number that waits longest.
+    /// Removes the number that has waited longest, and returns it.
     pub fn take(&mut self) -> Option<usize>
         ensures limit { self.new.limit ≡ self.old.limit }
         ensures within { IfSome result (λ number. number < self.old.limit) }

@@ -1,4 +1,4 @@
-//! Ordered sets, by what they contain.
+//! Functions on ordered sets, with contracts about the keys of the sets.
 ghost use Rattle.std.specs.Prelude.{◌≡◌, ◌↔◌, ◌+◌, length, IsTrue, IfOk, OnOk, MatchBool, Contains};
 ghost use Rattle.lalrpop_collections.specs.lists.Places.{AllDiffer};
 ghost use Rattle.lalrpop_collections.specs.lists.CheckSets.{IsAdded, HaveSame};
@@ -7,7 +7,7 @@ use crate::exact::Exact;
 use crate::memory::OutOfMemory;
 use std::collections::BTreeSet;
 
-/// Adds a key, and tells whether it is new.
+/// Adds a key, and returns whether it is new.
 pub fn add_key<K: Ord + Exact + Drop>(set: &mut BTreeSet<K>, key: K) -> Result<bool, OutOfMemory>
     ensures added { OnOk result (IsAdded key set.old.keys set.new.keys) }
     ensures told { IfOk result (λ told. MatchBool told

@@ -1,4 +1,4 @@
-//! A walk: each key is visited once.
+//! A walk over keys, which visits each key once.
 ghost use Rattle.std.specs.Prelude.{◌≡◌, [], OnOk};
 ghost use Rattle.lalrpop_collections.specs.lists.Walks.{Visits};
 
@@ -8,7 +8,8 @@ use crate::memory::OutOfMemory;
 use std::alloc::Global;
 use std::collections::{BTreeSet, VecDeque};
 
-/// The keys to which a walk went, and those of them that wait, the longest waiting first.
+/// The keys that a walk has visited, and those of them that wait. The key that has waited longest
+/// comes first.
 #[derive(Drop)]
 pub struct Walk<K: Ord> {
     pub visited: BTreeSet<K>,
@@ -16,7 +17,7 @@ pub struct Walk<K: Ord> {
 }
 
 impl<K: Ord + Exact + Drop> Walk<K> {
-    /// A walk that went nowhere yet.
+    /// A walk that has visited no key.
     pub fn new(alloc: Global) -> Walk<K>
         ensures visited { result.visited.keys ≡ [] }
         ensures waiting { result.waiting.items ≡ [] }
@@ -27,7 +28,7 @@ impl<K: Ord + Exact + Drop> Walk<K> {
         }
     }
 
-    /// Goes to a key, of which a copy is at hand, and which waits if it is new.
+    /// Visits a key, which comes with a copy of it. A new key waits from then on.
     pub fn visit(&mut self, key: K, copy: K) -> Result<(), OutOfMemory>
         requires { copy ≡ key }
         ensures { OnOk result (Visits (λ k. key ≡ k) self.old self.new) }

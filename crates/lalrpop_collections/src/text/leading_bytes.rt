@@ -1,8 +1,8 @@
-//! The first bytes of a text as one number.
+//! The first eight bytes of a text as one number.
 ghost use Rattle.std.specs.Prelude.{◌≡◌, slice_index};
 ghost use Rattle.lalrpop_collections.specs.lists.LeadingBytes.{AreBytes, leading_number};
 
-// The byte at a place, or 0 behind the last.
+// The byte at a place, or 0 if there is none.
 fn byte_at(bytes: &[u8], place: usize) -> u8
     ensures byte { result ≡ slice_index bytes.now place }
 {
@@ -12,8 +12,8 @@ fn byte_at(bytes: &[u8], place: usize) -> u8
     0
 }
 
-/// The first eight bytes as one number, the first byte the greatest digit, with bytes 0 behind the
-/// last one.
+/// The first eight bytes as one number, in which the first byte is the most significant one. Each
+/// missing byte counts as 0.
 pub(crate) fn leading_number(bytes: &[u8]) -> u64
     ensures number { result ≡ leading_number bytes.now }
     ensures bytes { AreBytes bytes.now }

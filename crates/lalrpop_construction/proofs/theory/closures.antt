@@ -1,4 +1,4 @@
--- Closures of kernels, and valid items.
+-- Closures of kernels, and valid dotted productions.
 pub mod EpsilonMoves
 pub mod Readings
 pub mod Rising

@@ -1,2 +1,2 @@
--- Grammars, their names and tokens, derivations and parse trees.
+-- Items and their tokens.
 pub mod ItemTokens

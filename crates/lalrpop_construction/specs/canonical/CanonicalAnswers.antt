@@ -1,4 +1,5 @@
--- What the canonical construction of LR(1) tables answers: tables, or states with their conflicts (Knuth 1965).
+-- The results of the canonical construction of LR(1) tables (Knuth 1965): tables, or states with
+-- their conflicts.
 use Rattle.std.specs.Prelude.{◌≡◌, ◌<◌, ◌-◌, ◌^◌, ℕ, nat_lt, cond, List, length}
 use Rattle.lalrpop_base.specs.Words.{Bits, AreCoherent, contents, IfConflicts, AreFaithful, IsLR1, productions, rules_of}
 use Rattle.lalrpop_construction.specs.construction.EarlyStop.{AreSomeCanonicalStates, StopsAfter}
@@ -15,36 +16,41 @@ use Rattle.lalrpop_grammar.specs.declared.repr.grammar.Grammar.{Grammar}
 use Rattle.lalrpop_construction.specs.declared.construction.tables_or_count.TablesOrCount.{TablesOrCount}
 use Rattle.lalrpop_construction.specs.declared.construction.tables_or_count.TablesOrCount.TheVariants.{Tables, Conflicts}
 
--- canonical tables of a grammar, under the numbers of their construction
+-- the states are canonical tables of the grammar, numbered in the order of their construction
 pub record AreCanonicalTables (g : Grammar) (start : NonterminalString) (tables : List (State Bits)) : Type 0 where
-  -- there is a state, and each target is one
+  -- the states are coherent, and there is one
   pub coherent : AreCoherent tables
   pub some : 0 < length tables
-  -- no prefix and token have two valid actions, and each live prefix leads to a state with exactly its valid dotted productions, transitions and reductions
+  -- no prefix and token have two valid actions;
+  -- each live prefix leads to a state with exactly its valid dotted productions, transitions and
+  -- reductions
   pub lr1 : IsLR1 (productions g) start
   pub faithful : AreFaithful (productions g) start (contents g.terminals tables)
-  -- there is a state for each live prefix, with exactly its valid items and their tokens
+  -- each state is that of a live prefix, with exactly its valid items and their tokens;
+  -- they are all canonical states, and they were built by the construction
   pub valid : AreSomeCanonicalStates (rules_of g) start tables
   pub canonical : AreOrderedCanonical g start tables
   pub built : AreTables (canonical_of g start) tables
 
--- the states and conflicts of a grammar for which there are no tables: canonical states, all of them where there is no early stop, with exactly the canonical conflicts
+-- the error has the states and conflicts of a grammar for which there are no tables;
+-- without early stop, these are all canonical states, with exactly the canonical conflicts
 pub record HasCanonicalConflicts (stop_after : ℕ) (g : Grammar) (start : NonterminalString) (error : TableConstructionError Bits) : Type 0 where
   -- some prefix and token have two valid actions
   pub not_lr1 : ¬ IsLR1 (productions g) start
-  -- without early stop: the canonical states and the canonical conflicts
+  -- without early stop, the error has the canonical states and the canonical conflicts
   pub canonical : stop_after ≡ 0 → AreCanonicalStates (rules_of g) start error.states.items
   pub built : stop_after ≡ 0 → AreStatesOf (canonical_of g start) error.states.items
   pub all : stop_after ≡ 0 → AreAllConflicts g.terminals error.states.items error.conflicts.items
   pub conflicts : stop_after ≡ 0 → FailByCanonicalConflicts g start error.states.items error.conflicts.items
-  -- with it: those of the states that are made by then
+  -- with early stop, it has the states that were made before it, and their conflicts
   pub stopped : StopsAfter (rules_of g) start stop_after error.states.items error.conflicts.items
 
--- an error has them; allocation failure says nothing
+-- the error has such states and conflicts; an allocation failure says nothing
 abbrev pub FailsByConflicts : ℕ → Grammar → NonterminalString → BuildError Bits → Type 0
 FailsByConflicts stop_after g start = IfConflicts (HasCanonicalConflicts stop_after g start)
 
--- the states and conflicts of a grammar for which there are no tables, where none is left out: its canonical states, with exactly its canonical conflicts, of which there are some
+-- the states and conflicts are those of a grammar for which there are no tables;
+-- they are all its canonical states, and exactly its canonical conflicts, of which there are some
 pub record LacksTables (g : Grammar) (start : NonterminalString) (states : List (State Bits)) (listed : List (Conflict Bits)) : Type 0 where
   -- some prefix and token have two valid actions
   pub not_lr1 : ¬ IsLR1 (productions g) start
@@ -57,18 +63,20 @@ pub record LacksTables (g : Grammar) (start : NonterminalString) (states : List 
 abbrev pub up_to_greatest : ℕ → ℕ
 up_to_greatest n = cond (nat_lt n (2 ^ 64)) n (2 ^ 64 - 1)
 
--- how many conflicts the canonical states have of a grammar for which there are no tables, or the greatest number of 64 bits if they have more
+-- there are no tables for the grammar, and the number is that of the conflicts of its canonical
+-- states, or the greatest number of 64 bits if they have more
 pub record IsConflictCount (g : Grammar) (start : NonterminalString) (n : ℕ) : Type 0 where
   pub states : List (State Bits)
   pub listed : List (Conflict Bits)
   pub lacks : LacksTables g start states listed
   pub counted : n ≡ up_to_greatest (length listed)
 
--- the one is said of tables, the other of the number of conflicts
+-- if the result is tables, they have the first property; if it is a number of conflicts, that has
+-- the second
 abbrev pub MatchTablesOrCount : (List (State Bits) → Type 0) → (ℕ → Type 0) → TablesOrCount → Type 0
 MatchTablesOrCount AreMade IsNumber (Tables tables) = AreMade tables.items
 MatchTablesOrCount AreMade IsNumber (Conflicts n) = IsNumber n
 
--- canonical tables of a grammar, or how many canonical conflicts it has
+-- the result is canonical tables of the grammar, or the number of its canonical conflicts
 abbrev pub AreCanonicalTablesOrCount : Grammar → NonterminalString → TablesOrCount → Type 0
 AreCanonicalTablesOrCount g start = MatchTablesOrCount (AreCanonicalTables g start) (IsConflictCount g start)

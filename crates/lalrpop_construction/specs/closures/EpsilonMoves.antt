@@ -1,4 +1,5 @@
--- What an item leads to without a symbol, with any lookahead: the items of the nonterminal behind its dot, and which tokens they get.
+-- The items that a closure adds for an item, with any lookahead: those of the productions of the
+-- nonterminal after its dot, with the tokens that they get.
 use Rattle.std.specs.Prelude.{◌≡◌, ◌⊎◌, ◌↔◌, Bool, true, false, List, map, Contains}
 use Rattle.std.specs.Map.{keys_of}
 use Rattle.lalrpop_grammar.specs.grammars.Tokens.{FitsTokens}
@@ -14,14 +15,15 @@ use Rattle.lalrpop_grammar.specs.declared.repr.Production.{Production}
 use Rattle.lalrpop_grammar.specs.declared.repr.Symbol.{Symbol}
 use Rattle.lalrpop_states.specs.closures.Closure.{dotted_of}
 
--- the item is of a production of the nonterminal, with the dot at the start and the lookahead
+-- the item has a production of the nonterminal, the dot at the start, and the lookahead
 pub record IsBegunWith {L : Type 0} (g : Rules) (name : NonterminalString) (lookahead : L) (i : Dotted L) : Type 0 where
   pub start : i.index ≡ 0
   pub among : Contains g.productions i.production
   pub named : i.production.nonterminal ≡ name
   pub same : i.lookahead ≡ lookahead
 
--- an item of each production of the nonterminal, once, with the dot at the start and the lookahead, and no other item
+-- the list has one item for each production of the nonterminal, and no other item;
+-- the dot is at the start, and the lookahead is the given one
 pub record AreBegunWith {L : Type 0} (g : Rules) (name : NonterminalString) (lookahead : L) (items : List (Dotted L)) : Type 0 where
   pub each : (i : Dotted L) → Contains items i → IsBegunWith g name lookahead i
   pub all : (p : Production) → Contains g.productions p → p.nonterminal ≡ name → Contains (map dotted_of items) (p, 0)
@@ -31,17 +33,22 @@ pub record AreBegunWith {L : Type 0} (g : Rules) (name : NonterminalString) (loo
 abbrev pub HasNoProduction : Rules → NonterminalString → Type 0
 HasNoProduction g name = (p : Production) → Contains g.productions p → p.nonterminal ≡ name → ⊥
 
--- what may follow a nonterminal where it stands before symbols in an item: the tokens with which these can begin, and the item's own where they let them pass
+-- the given tokens are those that may follow a nonterminal in an item;
+-- these are the tokens with which the symbols after it begin, and, if these symbols let tokens
+-- pass, the tokens of the item
 pub record IsGiven {L : Type 0} (meaning : L → Bits) (begins : Rules → List Symbol → Token → Type 0) (passes : Rules → List Symbol → Type 0) (g : Rules) (rest : List Symbol) (lookahead given : L) : Type 0 where
   pub fits : FitsTokens g.terminals (meaning lookahead) → FitsTokens g.terminals (meaning given)
   pub holds : (t : Token) → (holds_token g.terminals (meaning given) t ≡ true) ↔ (begins g rest t ⊎ (passes g rest × (holds_token g.terminals (meaning lookahead) t ≡ true)))
 
--- what may follow a nonterminal there went to its key, where it has a production; told is whether the key has something new
+-- the tokens that may follow the nonterminal were added to those of its key;
+-- if the nonterminal has no production, nothing may have been added;
+-- the flag is whether the key is new or has more tokens than before
 pub data IsGivenAt {K L : Type 0} (meaning : L → Bits) (begins : Rules → List Symbol → Token → Type 0) (passes : Rules → List Symbol → Type 0) (g : Rules) (name : NonterminalString) (rest : List Symbol) (lookahead : L) (key : K) (told : Bool) (old new : List (K × Bits)) : Type 0 where
   given : (tokens : L) → IsGiven meaning begins passes g rest lookahead tokens → IsJoinedAt key (meaning tokens) told old new → AllDiffer (keys_of new) → IsGivenAt meaning begins passes g name rest lookahead key told old new
   barren : HasNoProduction g name → new ≡ old → told ≡ false → IsGivenAt meaning begins passes g name rest lookahead key told old new
 
--- what an item gives to the productions of the nonterminal behind its dot: what may follow that there
+-- the moves of an item are those of the productions of the nonterminal after its dot, with the dot
+-- at the start and the tokens that may follow the nonterminal in the item
 pub record AreEpsilonMoves {L : Type 0} (meaning : L → Bits) (begins : Rules → List Symbol → Token → Type 0) (passes : Rules → List Symbol → Type 0) (g : Rules) (name : NonterminalString) (rest : List Symbol) (lookahead : L) (moves : List (Dotted L)) : Type 0 where
   pub given : L
   pub begun : AreBegunWith g name given moves

@@ -1,4 +1,5 @@
--- A closure by nonterminals: all productions of one have the dot in front and the same tokens, which are kept once for each nonterminal, by its number.
+-- A closure by nonterminals. A closure adds all productions of a nonterminal, with the dot at the
+-- start and the same tokens. So the tokens are kept once for each nonterminal, by its number.
 use Rattle.std.specs.Prelude.{◌≡◌, ◌≤◌, ◌<◌, ◌+◌, ◌⊎◌, ℕ, zero, suc, true, List, [], ◌∷◌, length, map, drop, slice_get, Some, Contains}
 use Rattle.std.specs.List.{flat_map}
 use Rattle.std.specs.Map.{keys_of}
@@ -20,7 +21,7 @@ use Rattle.lalrpop_collections.specs.lists.Entries.{AllBelow, Grows, burden}
 use Rattle.lalrpop_numbers.specs.declared.numbers.numbered.Numbered.{Numbered}
 use Rattle.lalrpop_numbers.specs.declared.numbers.Numbers.{Numbers}
 
--- tokens by the number of a nonterminal
+-- a table of numbers of nonterminals, each with the bits of its tokens
 abbrev pub Shared : Type 0
 Shared = List (ℕ × Bits)
 
@@ -28,39 +29,40 @@ Shared = List (ℕ × Bits)
 abbrev pub IsNamed : Numbers → ℕ → NonterminalString → Type 0
 IsNamed n x name = slice_get n.symbols.items x ≡ Some (Nonterminal name)
 
--- the nonterminal with the number stands behind the dot of the item, before these symbols
+-- the nonterminal with the number is after the dot of the item, before these symbols
 pub record StandsBehind (n : Numbers) (i : Dotted Bits) (x : ℕ) (after : List Symbol) : Type 0 where
   pub name : NonterminalString
   pub named : IsNamed n x name
   pub behind : drop i.index i.production.symbols ≡ Nonterminal name ∷ after
 
--- the nonterminal with the number stands behind the dot of one of the items
+-- the nonterminal with the number is after the dot of one of the items
 pub record StandsBehindOne (n : Numbers) (items : List (Dotted Bits)) (x : ℕ) : Type 0 where
   pub item : Dotted Bits
   pub among : Contains items item
   pub after : List Symbol
   pub behind : StandsBehind n item x after
 
--- the nonterminal is in the table with the token
+-- the table has the token for the nonterminal
 pub record HasSharedToken (g : Rules) (table : Shared) (x : ℕ) (t : Token) : Type 0 where
   pub set : Bits
   pub entry : Contains table (x, set)
   pub there : holds_token g.terminals set t ≡ true
 
--- each set holds bits of tokens
+-- each set of the table holds bits of tokens alone
 abbrev pub AllFit : Rules → Shared → Type 0
 AllFit g table = AllBelow (length g.terminals + 2) table
 
--- a production of the nonterminal with the number, with the dot in front and these tokens
+-- the item has a production of the nonterminal with the number, the dot at the start, and the
+-- tokens
 pub record IsFront (g : Rules) (n : Numbers) (x : ℕ) (tokens : Bits) (i : Dotted Bits) : Type 0 where
   pub start : i.index ≡ 0
   pub among : Contains g.productions i.production
   pub named : IsNamed n x i.production.nonterminal
   pub same : i.lookahead ≡ tokens
 
--- what may follow a nonterminal is a parameter: the tokens with which symbols begin, and which symbols let tokens pass
+-- which tokens begin symbols, and which symbols let tokens pass, are parameters
 module _ (begins : Rules → List Symbol → Token → Type 0) (passes : Rules → List Symbol → Type 0) (g : Rules) (n : Numbers) where
-  -- the token may follow a nonterminal that stands before the symbols in the item
+  -- the token may follow a nonterminal that is before the symbols in the item
   abbrev pub MayFollow : Dotted Bits → List Symbol → Token → Type 0
   MayFollow i after t = begins g after t ⊎ (passes g after × (holds_token g.terminals i.lookahead t ≡ true))
 
@@ -72,17 +74,19 @@ module _ (begins : Rules → List Symbol → Token → Type 0) (passes : Rules �
     pub behind : StandsBehind n item x after
     pub follows : MayFollow item after t
 
-  -- the nonterminal is in the table with all that may follow it in the item
+  -- the table has, for the nonterminal, all tokens that may follow it in the item
   pub record HasShare (table : Shared) (i : Dotted Bits) (x : ℕ) (after : List Symbol) : Type 0 where
     pub set : Bits
     pub entry : Contains table (x, set)
     pub all : (t : Token) → MayFollow i after t → holds_token g.terminals set t ≡ true
 
-  -- the nonterminal behind the dot of the item, where it has productions, is in the table with all that may follow it there
+  -- if the nonterminal after the dot of the item has productions, the table has, for it, all tokens
+  -- that may follow it there
   abbrev pub IsShared : Shared → Dotted Bits → Type 0
   IsShared table i = (q : Production) (after : List Symbol) → drop i.index i.production.symbols ≡ Nonterminal q.nonterminal ∷ after → Contains g.productions q → (x : ℕ) × IsNamed n x q.nonterminal × HasShare table i x after
 
-  -- what the items give went to the table, and no more; a nonterminal that has something new is in the queue
+  -- the tokens that the items give were added to the table, and no others;
+  -- a nonterminal that is new or has more tokens than before is in the queue
   pub record Shares (items : List (Dotted Bits)) (old new : Shared) (queue pushed : List ℕ) : Type 0 where
     pub grows : Grows old new queue pushed
     pub keys : (e : ℕ × Bits) → Contains new e → Contains (keys_of old) e.0 ⊎ StandsBehindOne n items e.0
@@ -92,7 +96,9 @@ module _ (begins : Rules → List Symbol → Token → Type 0) (passes : Rules �
     pub differ : AllDiffer (keys_of old) → AllDiffer (keys_of new)
     pub weighed : ((i : Dotted Bits) → Contains items i → FitsTokens g.terminals i.lookahead) → AllFit g old → AllFit g new × (burden (length g.terminals + 2) old + length pushed ≤ burden (length g.terminals + 2) new + length queue)
 
-  -- what is in the table belongs to the closure of the kernel; what the kernel gives is in it, and what a nonterminal of it gives, unless that is in the queue
+  -- the nonterminals and tokens of the table belong to the closure of the kernel;
+  -- the table has the tokens that the kernel gives;
+  -- it also has the tokens that each of its nonterminals gives, unless that is in the queue
   pub record IsSharing (kernel : List (Dotted Bits)) (table : Shared) (queue : List ℕ) : Type 0 where
     pub known : (e : ℕ × Bits) → Contains table e → e.0 < length n.symbols.items
     pub reached : (e : ℕ × Bits) (q : Production) → Contains table e → IsNamed n e.0 q.nonterminal → Contains g.productions q → InClosure g.productions (InKernel kernel) q 0
@@ -105,28 +111,29 @@ module _ (begins : Rules → List Symbol → Token → Type 0) (passes : Rules �
     pub fit : AllFit g table
 
 -- ---- the items of a closure
--- productions with the dot in front, by their numbers, with the tokens
+-- productions with the dot at the start, by their numbers, with the tokens
 abbrev pub fronts_in : {L : Type 0} → L → List ℕ → List (Numbered L)
 fronts_in tokens numbers = map (λ k. record { number = k; lookahead = tokens }) numbers
 
--- the numbers of items, with what their lookaheads stand for
+-- the numbers of items, each with the set of bits that its lookahead means
 abbrev pub parts_in : {L : Type 0} → (L → Bits) → List (Numbered L) → List (ℕ × Bits)
 parts_in {L} meaning items = map (λ (e : Numbered L). (e.number, meaning e.lookahead)) items
 
--- the list at a place
+-- the list at an index, or an empty one if there is none
 abbrev pub list_at : {A : Type 0} → List (Vec ℕ A) → ℕ → List ℕ
 list_at [] k = []
 list_at (v ∷ vs) zero = v.items
 list_at (v ∷ vs) (suc k) = list_at vs k
 
--- numbers with the tokens
+-- the numbers, each with the tokens
 abbrev pub with_tokens : Bits → List ℕ → List (ℕ × Bits)
 with_tokens tokens numbers = map (λ (k : ℕ). (k, tokens)) numbers
 
--- the productions of each nonterminal of a table, by their numbers with the dot in front, with its tokens
+-- the productions of each nonterminal of a table, by their numbers with the dot at the start, with
+-- the tokens of the nonterminal
 abbrev pub unfolded : Numbers → Shared → List (ℕ × Bits)
 unfolded n table = flat_map (λ (e : ℕ × Bits). with_tokens e.1 (list_at n.expansions.items e.0)) table
 
--- an entry of a map as an item by its number
+-- the item by number that has the number and lookahead of an entry
 abbrev pub numbered_of : {L : Type 0} → ℕ × L → Numbered L
 numbered_of e = record { number = e.0; lookahead = e.1 }

@@ -1,4 +1,5 @@
--- States as far as a construction has made them: the sets-of-items construction of Aho, Sethi and Ullman, section 4.7, before its end.
+-- The states that a construction has made so far.
+-- Source: the sets-of-items construction of Aho, Sethi and Ullman, section 4.7.
 use Rattle.std.specs.Prelude.{◌≡◌, ◌<◌, ◌≤◌, ℕ, List, length, map, slice_get, Some, Contains}
 use Rattle.lalrpop_states.specs.closures.Closure.{AreItemsBy, IsClosureBy}
 use Rattle.lalrpop_grammar.specs.grammars.WellFormed.{Rules}
@@ -15,7 +16,8 @@ use Rattle.lalrpop_numbers.specs.numbers.Numbers.{AreAllNumbered, kernels_by}
 use Rattle.lr1_theory.specs.construction.States.{IsBuiltOfBy, IsLedTo, begun}
 use Rattle.lalrpop_numbers.specs.declared.numbers.numbered.Numbered.{Numbered}
 
--- each kernel that was handed out has its state, all kernels are the grammar's, and a transition leads to each but the first
+-- there is a state for each kernel that was handed out, and all kernels are of the grammar;
+-- a transition leads to each kernel but the first one
 pub record Building {L : Type 0} (meaning : L → Bits) (C : List (Dotted L) → List (Dotted L) → Type 0) (g : Rules) (first : List (Dotted L)) (kernels : Kernels (List (Dotted L))) (states : List (State L)) : Type 0 where
   pub handed : kernels.handed ≡ length states
   pub fewer : kernels.handed ≤ length kernels.list
@@ -25,7 +27,8 @@ pub record Building {L : Type 0} (meaning : L → Bits) (C : List (Dotted L) →
   pub each : (n : ℕ) (state : State L) → slice_get states n ≡ Some state → IsBuiltOfBy C kernels.list n state
   pub led : (n : ℕ) → 0 < n → n < length kernels.list → IsLedTo states n
 
--- so it is with kernels by number, the first being that of the productions of the start symbol
+-- the states are built so far from the kernels, which are given by number;
+-- the first kernel is that of the productions of the start symbol
 pub record AreMadeSoFar {L : Type 0} (meaning : L → Bits) (begins : Rules → List Symbol → Token → Type 0) (passes : Rules → List Symbol → Type 0) (c : Construction L) (known : List (Dotted Nil)) (kernels : Kernels (List (Numbered L))) (states : List (State L)) : Type 0 where
   pub building : Building meaning (IsClosureBy meaning begins passes c.rules) c.rules (map (begun c.lookahead) c.first) (kernels_by known kernels) states
   pub numbered : AreAllNumbered known kernels.list

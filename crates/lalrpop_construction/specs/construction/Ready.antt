@@ -1,4 +1,4 @@
--- What a construction keeps.
+-- The invariant of a construction.
 use Rattle.std.specs.Prelude.{◌≡◌}
 use Rattle.lalrpop_grammar.specs.grammars.Tokens.{FitsTokens}
 use Rattle.lalrpop_grammar.specs.grammars.WellFormed.{IsWellFormed, Rules, rules_of}
@@ -8,7 +8,9 @@ use Rattle.lalrpop_states.specs.closures.Closing.{AreOwn}
 use Rattle.lalrpop_numbers.specs.numbers.Numbers.{AreNumbers}
 use Rattle.lalrpop_numbers.specs.declared.numbers.Numbers.{Numbers}
 
--- the grammar is well-formed and its productions are found by their names, the first sets and the numbers are its own, and the lookahead holds bits of its tokens
+-- the grammar is well-formed, and each production is found by its nonterminal;
+-- the FIRST sets and the numbers are those of the grammar;
+-- the lookahead holds bits of its tokens alone
 pub record IsReadyToBuild (g : Grammar) (first_sets : Rules) (numbers : Numbers) (lookahead : Bits) : Type 0 where
   pub well_formed : IsWellFormed g
   pub own : AreOwn g

@@ -1,4 +1,4 @@
--- What a construction answers: tables, or states with their conflicts.
+-- The results of a construction: tables, or states with their conflicts.
 use Rattle.std.specs.Prelude.{◌≢◌, ℕ, ◌<◌, List, [], map, length}
 use Rattle.lalrpop_states.specs.conflicts.Failures.{IfConflicts}
 use Rattle.lalrpop_grammar.specs.grammars.WellFormed.{Rules, productions_of, rules_of}
@@ -19,7 +19,8 @@ use Rattle.lalrpop_states.specs.closures.Closure.{IsClosureOf, IsClosureBy}
 use Rattle.lalrpop_states.specs.conflicts.AllConflicts.{HaveNoConflict, AreAllConflicts, ListsAll}
 use Rattle.lr1_theory.specs.construction.States.{begun, AreBuiltBy}
 
--- what states are made of: the rules of a grammar, its start symbol, the productions of that, and what may follow it
+-- a construction: the rules of a grammar, the start symbol, its productions, and the lookahead that
+-- follows it
 pub record Construction (L : Type 0) : Type 0 where
   pub rules : Rules
   pub start : NonterminalString
@@ -31,26 +32,27 @@ pub record Settings (L : Type 0) : Type 0 where
   pub construction : Construction L
   pub stop_after : ℕ
 
--- states built of the kernels, at least one, which lead to one another as their items say
+-- the states are built from kernels, of which the first is that of the start symbol;
+-- there is at least one state, and the states are coherent
 pub record AreStatesBy {L : Type 0} (Closes : List (Dotted L) → List (Dotted L) → Type 0) (c : Construction L) (states : List (State L)) : Type 0 where
   pub built : AreBuiltBy Closes (map (begun c.lookahead) c.first) states
   pub some : 0 < length states
   pub coherent : AreCoherent states
 
--- the same of sets of tokens
+-- the states with sets of tokens are built by the construction
 abbrev pub AreStatesOf : Construction Bits → List (State Bits) → Type 0
 AreStatesOf c = AreStatesBy (IsClosureOf c.rules) c
 
--- states without a conflict
+-- the states are built by the construction, and have no conflict
 pub record AreTables (c : Construction Bits) (states : List (State Bits)) : Type 0 where
   pub made : AreStatesOf c states
   pub free : HaveNoConflict c.rules.terminals states
 
--- an error has such states and all their conflicts, of which there are some
+-- the error has states that the construction builds, and all their conflicts; there are some
 abbrev pub FailsBy : Construction Bits → BuildError Bits → Type 0
 FailsBy c = IfConflicts (λ error. AreStatesOf c error.states.items × AreAllConflicts c.rules.terminals error.states.items error.conflicts.items)
 
--- the construction for a start symbol, which the lookahead follows
+-- the construction for a grammar and a start symbol, which the lookahead follows
 abbrev pub construction_of : {L : Type 0} → Grammar → NonterminalString → L → Construction L
 construction_of g start lookahead = record { rules = rules_of g; start = start; first = productions_of g start; lookahead = lookahead }
 
@@ -58,20 +60,24 @@ construction_of g start lookahead = record { rules = rules_of g; start = start; 
 abbrev pub lr0_of : Grammar → NonterminalString → Construction Nil
 lr0_of g start = construction_of g start (record {})
 
--- the canonical construction, where Eof follows the start symbol
+-- the canonical construction: Eof follows the start symbol
 abbrev pub canonical_of : Grammar → NonterminalString → Construction Bits
 canonical_of g start = construction_of g start (with_bit no_bits (length g.terminals))
 
--- ---- any lookahead: what it stands for, what expanded items give, and the conflicts that it lists are parameters
+-- ---- any lookahead
+-- its meaning, the tokens that begin symbols, the symbols that let tokens pass, and the conflicts
+-- that it lists are parameters
 module _ {L : Type 0} (meaning : L → Bits) (begins : Rules → List Symbol → Token → Type 0) (passes : Rules → List Symbol → Type 0) (lists : State L → List TerminalString → List (Conflict L) → Type 0) where
+  -- the states are built by the construction
   abbrev pub AreStatesFor : Construction L → List (State L) → Type 0
   AreStatesFor c = AreStatesBy (IsClosureBy meaning begins passes c.rules) c
 
-  -- states for which no conflict is listed
+  -- the states are built by the construction, and no conflict is listed for them
   pub record AreTablesFor (c : Construction L) (states : List (State L)) : Type 0 where
     pub made : AreStatesFor c states
     pub free : ListsAll lists c.rules.terminals states []
 
-  -- an error has such states and the conflicts that are listed for them, of which there are some
+  -- the error has states that the construction builds, and the conflicts that are listed for
+  -- them, of which there are some
   abbrev pub FailsFor : Construction L → BuildError L → Type 0
   FailsFor c = IfConflicts (λ error. AreStatesFor c error.states.items × ListsAll lists c.rules.terminals error.states.items error.conflicts.items × (error.conflicts.items ≢ []))

@@ -1,4 +1,5 @@
--- The canonical states of a grammar (Knuth 1965; Aho, Sethi and Ullman, section 4.7), as the code's states.
+-- The canonical states of a grammar (Knuth 1965; Aho, Sethi and Ullman, section 4.7), as states of
+-- the code.
 use Rattle.std.specs.Prelude.{◌≡◌, ◌<◌, ◌==◌, ◌&&◌, ℕ, Bool, true, false, List, length, slice_get, Option, Some, None, Contains}
 use Rattle.std.specs.Borrow.{Bor}
 use Rattle.std.specs.List.{list_any}
@@ -21,27 +22,30 @@ use Rattle.lalrpop_grammar.specs.declared.repr.TerminalString.{TerminalString}
 use Rattle.lalrpop_grammar.specs.declared.repr.grammar.Grammar.{Grammar}
 use Rattle.lalrpop_states.specs.grammars.Ascending.{Ascend, production_order}
 
--- ---- the tokens of the states' items
+-- ---- the tokens of the items of states
 module _ {L : Type 0} (holds : L → Token → Bool) where
-  -- whether the item is the dotted production and holds the token
+  -- whether the item has the dotted production and holds the token
   abbrev pub is_with_token : Production → ℕ → Token → Dotted L → Bool
   is_with_token p dot t item = (production_eq.ghosts.eq item.production p && (item.index == dot)) && holds item.lookahead t
 
-  -- whether one of a state's items is
+  -- whether one of the items of a state has the dotted production and holds the token
   abbrev pub tokens_at : Option (State L) → Production → ℕ → Token → Bool
   tokens_at None p dot t = false
   tokens_at (Some state) p dot t = list_any (is_with_token p dot t) state.items.vec.items
 
-  -- which tokens the dotted productions of each state have
+  -- whether the dotted production holds the token in the state with the number
   abbrev pub tokens_in : List (State L) → ℕ → Production → ℕ → Token → Bool
   tokens_in states n = tokens_at (slice_get states n)
 
--- the same over sets of tokens, whose bits the terminals number
+-- whether the dotted production holds the token in the state with the number, with sets of tokens;
+-- the bit of a terminal is its place in the list of terminals
 abbrev pub tokens_of : List TerminalString → List (State Bits) → ℕ → Production → ℕ → Token → Bool
 tokens_of terminals states = tokens_in (holds_token terminals) states
 
 -- ---- the states
--- the states are canonical, each with exactly the tokens of its items, of which none stands twice; no kernel stands twice; each state is reached; and reductions ascend by their productions
+-- the states are canonical, with the tokens of their items;
+-- a state has no dotted production twice, no two states have the same kernel, and each is reached;
+-- reductions ascend by their productions
 pub record AreCanonicalStates (g : Rules) (start : NonterminalString) (states : List (State Bits)) : Type 0 where
   pub canonical : AreCanonicalWith g.productions start (contents g.terminals states) (tokens_of g.terminals states)
   pub once : (n : ℕ) → AllDiffer (contents g.terminals states n).items
@@ -49,12 +53,13 @@ pub record AreCanonicalStates (g : Rules) (start : NonterminalString) (states : 
   pub reached : (n : ℕ) → n < length states → IsReached (contents g.terminals states) n
   pub ascend : (n : ℕ) → ReducesInOrder production_order (contents g.terminals states n)
 
--- ---- what a collapse asks of them
--- the tokens of the state's reductions are tokens of the terminals
+-- ---- the condition of a collapse
+-- the reductions of the state hold bits of tokens alone
 abbrev pub FitReductions : List TerminalString → State Bits → Type 0
 FitReductions terminals s = (r : Bits × Bor Production) → Contains s.reductions.items r → FitsTokens terminals r.0
 
--- the canonical states of the grammar under any numbers, at least one: they lead to one another, items ascend, and reductions hold tokens of the terminals alone
+-- the states are the canonical states of the grammar, under any numbers, and there is one;
+-- they are coherent, items ascend, and reductions hold bits of tokens alone
 pub record AreOrderedCanonical (g : Grammar) (start : NonterminalString) (states : List (State Bits)) : Type 0 where
   pub canonical : AreCanonicalStates (rules_of g) start states
   pub coherent : AreCoherent states

@@ -1,4 +1,5 @@
--- The LR(0) states of a grammar (DeRemer 1971; Aho, Sethi and Ullman, section 4.7), as the code's states without lookahead.
+-- The LR(0) states of a grammar (DeRemer 1971; Aho, Sethi and Ullman, section 4.7), as states of
+-- the code without lookahead.
 use Rattle.std.specs.Prelude.{◌≡◌, ◌≢◌, ◌<◌, ℕ, Bool, true, List, [], length, slice_get, Some}
 use Rattle.std.specs.List.{flat_map}
 use Rattle.lalrpop_grammar.specs.closures.Closures.{AreClosed}
@@ -18,11 +19,11 @@ use Rattle.lalrpop_grammar.specs.declared.repr.NonterminalString.{NonterminalStr
 use Rattle.lalrpop_grammar.specs.declared.repr.Symbol.{Symbol}
 use Rattle.lalrpop_states.specs.grammars.Ascending.{Ascend}
 
--- without lookahead a reduction is by its production on any token
+-- a reduction without lookahead is on any token
 abbrev pub on_any : Nil → Token → Bool
 on_any lookahead t = true
 
--- what each number of a list of states without lookahead stands for
+-- the contents of the state with each number, in a list of states without lookahead
 abbrev pub lr0_contents : List (State Nil) → ℕ → Contents
 lr0_contents states = contents_in on_any states
 
@@ -32,7 +33,10 @@ pub record IsAfterLive (g : Rules) (start : NonterminalString) (states : List (S
   pub live : IsLive g.productions start prefix
   pub after : state_after (lr0_contents states) prefix ≡ Some n
 
--- after each live prefix stands its state, with exactly the valid dotted productions, ascending and each once, their edges and the finished reductions; prefixes with the same valid dotted productions share it; and each state is after one of them
+-- each live prefix leads to its state, with exactly its valid dotted productions, ascending;
+-- the state has the edges and reductions of these items;
+-- live prefixes with the same valid dotted productions lead to the same state;
+-- some live prefix leads to each state
 pub record AreLr0States (g : Rules) (start : NonterminalString) (states : List (State Nil)) : Type 0 where
   pub lr0 : AreLr0 g.productions start (lr0_contents states)
   pub live : (n : ℕ) → n < length states → IsAfterLive g start states n
@@ -41,14 +45,15 @@ pub record AreLr0States (g : Rules) (start : NonterminalString) (states : List (
   pub some : 0 < length states
   pub coherent : AreCoherent states
 
--- the states of an error are; want of memory says nothing
+-- the states of the error are the LR(0) states; an allocation failure says nothing
 abbrev pub HasLr0States : Rules → NonterminalString → BuildError Nil → Type 0
 HasLr0States g start = IfConflicts (λ error. AreLr0States g start error.states.items)
 
--- no state has a conflict: a shift and a reduction, or two reductions
+-- no state has a shift and a reduction, or two reductions
 abbrev pub HaveNoNilConflict : List (State Nil) → Type 0
 HaveNoNilConflict states = flat_map nil_conflicts states ≡ []
 
--- an error lists the conflicts of each of its states, states ascending, and there are some; want of memory says nothing
+-- the error lists the conflicts of each of its states, in their order, and there are some;
+-- an allocation failure says nothing
 abbrev pub ListsNilConflicts : BuildError Nil → Type 0
 ListsNilConflicts = IfConflicts (λ error. (error.conflicts.items ≡ flat_map nil_conflicts error.states.items) × (error.conflicts.items ≢ []))

@@ -1,4 +1,4 @@
--- States at the same places: what does not look at their lookaheads.
+-- States that are the same but for their lookaheads.
 use Rattle.std.specs.Prelude.{List, Some, length, map, slice_get, ℕ, ◌≡◌, true}
 use Rattle.std.specs.Borrow.{Bor}
 use Rattle.lalrpop_base.specs.Words.{Dotted, Contents, contents_in}
@@ -14,7 +14,8 @@ dot_of item = (item.production, item.index)
 abbrev pub by : {L : Type 0} → L × Bor Production → Production
 by r = r.1.now
 
--- the second state is the first with other lookaheads: it has the same number, dotted productions, shifts, gotos and reduced productions
+-- the second state is the first one with other lookaheads;
+-- it has the same number, dotted productions, shifts, gotos and productions of reductions
 pub record HasSamePlace {K L : Type 0} (old : State K) (new : State L) : Type 0 where
   pub index : new.index ≡ old.index
   pub dots : map dot_of new.items.vec.items ≡ map dot_of old.items.vec.items
@@ -22,11 +23,12 @@ pub record HasSamePlace {K L : Type 0} (old : State K) (new : State L) : Type 0 
   pub gotos : new.gotos ≡ old.gotos
   pub reduced : map by new.reductions.items ≡ map by old.reductions.items
 
--- as many states, each with the place of the one at its own
+-- the lists have the same number of states, and the states at the same index differ in lookaheads
+-- alone
 pub record HaveSamePlaces {K L : Type 0} (old : List (State K)) (new : List (State L)) : Type 0 where
   pub counted : length new ≡ length old
   pub each : (n : ℕ) (before : State K) (after : State L) → slice_get old n ≡ Some before → slice_get new n ≡ Some after → HasSamePlace before after
 
--- what each number stands for, whatever tokens the reductions hold: lanes do not look at these
+-- the contents of the state with each number, with reductions on any token: lanes do not use tokens
 abbrev pub places_in : {L : Type 0} → List (State L) → ℕ → Contents
 places_in states = contents_in (λ lookahead t. true) states

@@ -1,4 +1,4 @@
-//! LR(1) states by the canonical construction.
+//! The canonical construction of LR(1) states.
 ghost use Rattle.std.specs.Prelude.{◌≡◌, IfOk, IfErr};
 ghost use Rattle.lalrpop_base.specs.Words.{IsWellFormed};
 ghost use Rattle.lalrpop_construction.specs.construction.Results.{canonical_of, lr0_of};
@@ -15,7 +15,7 @@ use lalrpop_base::memory::OutOfMemory;
 use lalrpop_base::repr::grammar::Grammar;
 use std::alloc::Global;
 
-// The construction whose start symbol Eof follows.
+// The canonical construction of a grammar: Eof follows the start symbol.
 fn canonical_construction<'grammar>(
     alloc: Global,
     grammar: &'grammar Grammar,
@@ -29,8 +29,12 @@ fn canonical_construction<'grammar>(
     Ok(lr.with_lookahead(eof))
 }
 
-/// The canonical states of a grammar by their construction numbers, or their conflicts, where its
-/// construction without lookahead is at hand.
+/// The canonical states of a grammar, or an error with their conflicts.
+///
+/// The states are numbered in the order in which the construction finds them. `lr` is the LR(0)
+/// construction of the grammar: its FIRST sets and numbers are reused. The construction stops after
+/// `stop_after` conflicts, and 0 means that it does not stop early. An allocation failure is
+/// `Memory`.
 pub fn build_canonical_states<'grammar>(
     alloc: Global,
     grammar: &'grammar Grammar,
@@ -48,8 +52,10 @@ pub fn build_canonical_states<'grammar>(
     canonical.build_lr1_states(alloc)
 }
 
-/// The canonical states of a grammar by their construction numbers, or how many conflicts they
-/// have. The greatest `usize` stands for a number of conflicts above it.
+/// The canonical states of a grammar, or the number of their conflicts.
+///
+/// The states are numbered in the order in which the construction finds them. A number of conflicts
+/// above the greatest `usize` is returned as that `usize`. `OutOfMemory` if an allocation fails.
 pub fn canonical_states_or_count<'grammar>(
     alloc: Global,
     grammar: &'grammar Grammar,

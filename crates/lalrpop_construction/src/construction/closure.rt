@@ -1,5 +1,7 @@
-//! The closure of a kernel. All productions of a nonterminal have the dot in front there and get
-//! the same tokens, so that these are kept by nonterminal.
+//! The closure of a kernel.
+//!
+//! A closure adds all productions of a nonterminal, with the dot at the start and the same tokens.
+//! So the tokens are kept once for each nonterminal, by its number, until the items are made.
 ghost use Rattle.std.specs.Prelude.{◌≡◌, ◌<◌, ◌≤◌, ◌∷◌, [], ℕ, IfOk, OnOk, IfSome, IfNone, Contains, length, map};
 ghost use Rattle.std.specs.Map.{keys_of};
 ghost use Rattle.lalrpop_base.specs.Words.{Bits, AreNumbered, AreNumbers, item_by, items_by};
@@ -20,8 +22,8 @@ use lalrpop_base::numbers::numbered::Numbered;
 use lalrpop_base::repr::Symbol;
 use std::alloc::Global;
 
-// Adds what an item gives to the nonterminal behind its dot, which goes into the queue if it is new
-// or has more now.
+// Adds the tokens that an item gives to the nonterminal after its dot. The nonterminal goes into
+// the queue if it is new or has more tokens than before.
 fn share<'grammar, L: LookaheadBuild>(
     alloc: Global,
     lr: &Lr<'grammar, L>,
@@ -60,7 +62,7 @@ fn share<'grammar, L: LookaheadBuild>(
     Ok(())
 }
 
-// Adds what the items of a kernel give.
+// Adds the tokens that the items of a kernel give.
 fn share_kernel<'grammar, L: LookaheadBuild>(
     alloc: Global,
     lr: &Lr<'grammar, L>,
@@ -92,7 +94,8 @@ fn share_kernel<'grammar, L: LookaheadBuild>(
     Ok(())
 }
 
-// Adds what the productions of a nonterminal give, with the dot in front and its tokens.
+// Adds the tokens that the productions of a nonterminal give. `fronts` has the numbers of these
+// productions with the dot at the start, and `tokens` are those of the nonterminal.
 fn share_fronts<'grammar, L: LookaheadBuild>(
     alloc: Global,
     lr: &Lr<'grammar, L>,
@@ -118,7 +121,7 @@ fn share_fronts<'grammar, L: LookaheadBuild>(
     Ok(())
 }
 
-// The tokens of a nonterminal, as a copy of its own.
+// A copy of the tokens of a nonterminal, if it has an entry.
 #[tactic(auto, using(lalrpop_collections::proofs::theory::lists::Members::contains_map))]
 fn shared_tokens<L: Lookahead>(
     alloc: Global,
@@ -136,7 +139,7 @@ fn shared_tokens<L: Lookahead>(
     }
 }
 
-// The tokens that a kernel gives to each nonterminal of its closure.
+// Fills `shared` with the tokens that each nonterminal of the closure of a kernel gets.
 fn share_all<'grammar, L: LookaheadBuild>(
     alloc: Global,
     lr: &Lr<'grammar, L>,
@@ -165,7 +168,7 @@ fn share_all<'grammar, L: LookaheadBuild>(
     Ok(())
 }
 
-// Adds the items of a kernel.
+// Adds the items of a kernel to the table.
 fn gather_kernel<L: Lookahead>(
     alloc: Global,
     kernel: &[Numbered<L>],
@@ -180,8 +183,8 @@ fn gather_kernel<L: Lookahead>(
     Ok(())
 }
 
-// Adds the productions of a nonterminal, with the dot in front and its tokens, which the last one
-// keeps.
+// Adds the productions of a nonterminal to the table, with the dot at the start and the tokens. The
+// last production gets the tokens themselves, and the others get copies.
 fn gather_fronts<L: Lookahead>(
     alloc: Global,
     fronts: &[usize],
@@ -201,7 +204,7 @@ fn gather_fronts<L: Lookahead>(
     Ok(())
 }
 
-// Adds the productions of all nonterminals of a closure.
+// Adds the productions of all nonterminals of a closure to the table.
 fn gather_shared<'grammar, L: Lookahead>(
     alloc: Global,
     numbers: &Numbers<'grammar>,
@@ -221,7 +224,7 @@ fn gather_shared<'grammar, L: Lookahead>(
     Ok(())
 }
 
-// The entries of a table as items.
+// The entries of a table, as items by number.
 fn items_of<L: Lookahead>(
     alloc: Global,
     entries: Vec<(usize, L)>,
@@ -235,8 +238,8 @@ fn items_of<L: Lookahead>(
     Ok(items)
 }
 
-/// The items to which a kernel leads without a symbol, with the tokens that may follow them,
-/// ascending.
+/// The items of the closure of a kernel, with their tokens, by rising number. `work` is memory that
+/// is reused from state to state. `OutOfMemory` if an allocation fails.
 pub fn closure<'grammar, L: LookaheadBuild>(
     alloc: Global,
     lr: &Lr<'grammar, L>,

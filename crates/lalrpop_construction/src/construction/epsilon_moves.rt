@@ -1,4 +1,5 @@
-//! What items give without lookahead, and with sets of tokens.
+//! The lookaheads of constructions. `Nil` gives no tokens to the nonterminal after a dot. Sets of
+//! tokens give FIRST of the symbols after it, and their own tokens if those symbols are nullable.
 ghost use Rattle.lalrpop_base.specs.Words.{IsNullable, Begins};
 
 use super::lookahead_build::LookaheadBuild;

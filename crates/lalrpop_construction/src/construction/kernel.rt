@@ -1,4 +1,4 @@
-//! The kernels of states.
+//! Kernels of states, as lists of items.
 ghost use Rattle.std.specs.Prelude.{◌≡◌, ◌<◌, All};
 ghost use Rattle.lalrpop_base.specs.Words.{list_exact, dotted_exact};
 ghost use Rattle.lalrpop_grammar.specs.contracts.repr.exact.ProductionExact.TheImpl.Laws.{exact-law as production_exact};
@@ -12,7 +12,7 @@ use lalrpop_base::sequence::Sequence;
 use std::alloc::Global;
 use std::marker::Model;
 
-/// The items in which the closure of a state begins.
+/// The kernel of a state: the items of which the closure is taken.
 #[derive(Debug, Drop, PartialEq, Eq, PartialOrd, Ord, Hash)]
 pub struct Kernel<'grammar, L: Lookahead> {
     items: Sequence<Item<'grammar, L>>,
@@ -30,7 +30,7 @@ impl<'grammar, L: Lookahead> Model for Kernel<'grammar, L> {
 }
 
 impl<'grammar, L: Lookahead> Kernel<'grammar, L> {
-    /// The kernel of the first state, whose dots stand at the start.
+    /// The kernel of the first state. All dots are at the start.
     pub fn start(items: Sequence<Item<'grammar, L>>) -> Self
         requires { All (λ i. i.index ≡ 0) items }
         ensures { result ≡ items.entry }
@@ -38,7 +38,7 @@ impl<'grammar, L: Lookahead> Kernel<'grammar, L> {
         Kernel { items }
     }
 
-    /// The kernel of a state to which a symbol leads, whose dots moved over it.
+    /// The kernel of a state to which a symbol leads. All dots are past the start.
     pub fn shifted(items: Sequence<Item<'grammar, L>>) -> Self
         requires { All (λ i. 0 < i.index) items }
         ensures { result ≡ items.entry }

@@ -1,4 +1,4 @@
-//! What an item gives to those to which it leads without a symbol.
+//! The lookaheads that a closure gives to the items that it adds.
 ghost use Rattle.std.specs.Prelude.{IfOk, List};
 ghost use Rattle.lalrpop_base.specs.Words.{HasKnownTerminals, Rules, IsRest, readings};
 ghost use Rattle.lalrpop_construction.specs.closures.EpsilonMoves.{AreEpsilonMoves};
@@ -17,14 +17,17 @@ use std::alloc::Global;
 
 /// A lookahead with which states can be made.
 pub trait LookaheadBuild: Lookahead {
-    // What the symbols derive can begin with the token.
+    // Whether the symbols may begin with the token: for sets of tokens, whether FIRST has it.
     ghost begins: { Rules → List Symbol → Token → Type 0 };
 
-    // The symbols let the tokens pass that stand behind them.
+    // Whether tokens after the symbols pass through them: for sets of tokens, whether the symbols
+    // are nullable.
     ghost passes: { Rules → List Symbol → Type 0 };
 
-    /// The productions of a nonterminal, dot first, with what may follow it where it stands before
-    /// the remainder of an item with the lookahead.
+    /// The productions of the nonterminal after the dot of an item, with the dot at the start and
+    /// the tokens that may follow the nonterminal there. `remainder` has the symbols after the
+    /// nonterminal in the item, and `lookahead` is that of the item. `OutOfMemory` if an allocation
+    /// fails.
     fn epsilon_moves<'grammar>(
         alloc: Global,
         lr: &Lr<'grammar, Self>,
@@ -36,10 +39,12 @@ pub trait LookaheadBuild: Lookahead {
         ensures moves { IfOk result (λ moves. AreEpsilonMoves Self.meaning begins passes
             lr.now.construction.rules nonterminal.now remainder.now lookahead.now moves.items) };
 
-    /// Joins what may follow a nonterminal, where it stands before the remainder of an item with the
-    /// lookahead, to what a map has for its number, and tells whether the number is new or has more
-    /// now. A nonterminal without a production need get nothing. A lookahead that finds what may
-    /// follow by what the remainder can begin with, may say how.
+    /// Adds the tokens that `epsilon_moves` gives to the nonterminal to those of its number in
+    /// `shared`. Returns whether the number is new or has more tokens than before; `OutOfMemory` if
+    /// an allocation fails. A nonterminal without productions may get nothing.
+    ///
+    /// The default body calls `epsilon_moves`. A lookahead may replace it by one that uses `_rest`:
+    /// FIRST of the remainder, and whether the remainder is nullable.
     fn give<'grammar>(
         alloc: Global,
         lr: &Lr<'grammar, Self>,

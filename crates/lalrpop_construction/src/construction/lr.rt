@@ -1,4 +1,4 @@
-//! The construction of states for a start symbol and what may follow it.
+//! The construction of states for a start symbol and the lookahead that follows it.
 ghost use Rattle.std.specs.Prelude.{◌≡◌, IfOk, IfErr, MatchResult, map};
 ghost use Rattle.lalrpop_base.specs.Words.{FitsTokens, IsWellFormed, rules_of, productions_of, AreNumbered, AreNumbers, items_by};
 ghost use Rattle.lalrpop_construction.specs.construction.EarlyStop.{FailsAfterLr0, StopsFor};
@@ -31,7 +31,8 @@ use lalrpop_base::sequence::Sequence;
 use std::alloc::Global;
 use std::marker::Model;
 
-/// A construction of states.
+/// A construction of states: a grammar with its FIRST sets and numbers, a start symbol with the
+/// lookahead that follows it, and the number of conflicts after which it stops.
 #[derive(Drop)]
 pub struct Lr<'grammar, L: Lookahead> {
     grammar: &'grammar Grammar,
@@ -65,7 +66,8 @@ impl<'grammar, L: Lookahead> Model for Lr<'grammar, L> {
 }
 
 impl<'grammar, L: Lookahead> Lr<'grammar, L> {
-    /// The start symbol is followed by one of the tokens of `lookahead`.
+    /// A construction for a start symbol, which the tokens of `lookahead` follow, without early
+    /// stop. `OutOfMemory` if an allocation fails.
     pub fn new(
         alloc: Global,
         grammar: &'grammar Grammar,
@@ -97,8 +99,8 @@ impl<'grammar, L: Lookahead> Lr<'grammar, L> {
         })
     }
 
-    /// The same construction with another lookahead of the start symbol: first sets and numbers are
-    /// handed on.
+    /// The same construction with another lookahead after the start symbol. The FIRST sets and
+    /// numbers are reused.
     pub(super) fn with_lookahead<M: Lookahead>(self, lookahead: M) -> Lr<'grammar, M>
         requires { FitsTokens self.construction.rules.terminals (M.meaning lookahead) }
         ensures { result ≡ record {
@@ -121,7 +123,7 @@ impl<'grammar, L: Lookahead> Lr<'grammar, L> {
         }
     }
 
-    /// After how many conflicts to stop; 0 for no early stop.
+    /// Sets after how many conflicts the construction stops; 0 for no early stop.
     pub fn set_stop_after(&mut self, stop_after: usize)
         ensures { self.new ≡ record
             { construction = self.old.construction; stop_after = stop_after } }
@@ -129,7 +131,7 @@ impl<'grammar, L: Lookahead> Lr<'grammar, L> {
         self.stop_after = stop_after;
     }
 
-    /// After how many conflicts it stops; 0 for no early stop.
+    /// After how many conflicts the construction stops; 0 for no early stop.
     pub(super) fn stop_after(&self) -> usize
         ensures { result ≡ self.now.stop_after }
     {
@@ -146,7 +148,7 @@ impl<'grammar, L: Lookahead> Lr<'grammar, L> {
         self.grammar
     }
 
-    /// The first sets of the grammar.
+    /// The FIRST sets of the grammar.
     pub fn first_sets(&self) -> &FirstSets<'grammar>
         ensures { result.now ≡ self.now.construction.rules }
     {
@@ -160,7 +162,8 @@ impl<'grammar, L: Lookahead> Lr<'grammar, L> {
         &self.numbers
     }
 
-    /// The productions of a nonterminal, dot first, with the lookahead.
+    /// The productions of a nonterminal, with the dot at the start and the lookahead.
+    /// `OutOfMemory` if an allocation fails.
     pub fn begun_items(
         &self,
         alloc: Global,
@@ -174,7 +177,8 @@ impl<'grammar, L: Lookahead> Lr<'grammar, L> {
         begun_items(alloc, grammar, nonterminal, lookahead)
     }
 
-    /// The productions of the start symbol, dot first, with its lookahead.
+    /// The kernel of the first state: the productions of the start symbol, with the dot at the
+    /// start and the lookahead. `OutOfMemory` if an allocation fails.
     pub fn start_kernel(
         &self,
         alloc: Global,
@@ -194,7 +198,8 @@ impl<'grammar, L: Lookahead> Lr<'grammar, L> {
 }
 
 impl<'grammar, L: LookaheadBuild> Lr<'grammar, L> {
-    /// The states, or their conflicts. A refused growth is answered by `Memory`.
+    /// The states, or an error with the states and their conflicts. An allocation failure is
+    /// `Memory`.
     pub fn build_states(self, alloc: Global) -> LrResult<'grammar, L>
         ensures tables { IfOk result (λ tables. AreTablesFor L.meaning L.begins L.passes
             L.lists_conflicts self.entry.construction tables.items) }
@@ -210,13 +215,14 @@ impl<'grammar, L: LookaheadBuild> Lr<'grammar, L> {
 }
 
 impl<'grammar> Lr<'grammar, TokenSet> {
-    /// The states with sets of tokens, or their conflicts.
+    /// The states with sets of tokens, or an error with the states and their conflicts. An
+    /// allocation failure is `Memory`.
     pub fn build_lr1_states(self, alloc: Global) -> Lr1Result<'grammar>
         ensures made { MatchResult result
             (λ tables. AreTables self.entry.construction tables.items)
             (λ error. self.entry.stop_after ≡ 0 → FailsBy self.entry.construction error) }
 
-        // Where Eof alone follows the start symbol of a grammar, as by the canonical method.
+        // These clauses apply if Eof alone follows the start symbol, as in the canonical method.
         ensures tables { (g : Rules) (start : Start) →
             self.entry.construction ≡ canonical_of g start →
             IfOk result (λ tables. AreCanonicalTables g start tables.items) }
@@ -231,7 +237,8 @@ impl<'grammar> Lr<'grammar, TokenSet> {
 }
 
 impl<'grammar> Lr<'grammar, Nil> {
-    /// The states without lookahead, or their conflicts.
+    /// The states without lookahead, or an error with the states and their conflicts. An
+    /// allocation failure is `Memory`.
     pub fn build_lr0_states(self, alloc: Global) -> LrResult<'grammar, Nil>
         ensures states { MatchResult result (λ tables. AreLr0States self.entry.construction.rules
             self.entry.construction.start tables.items) (λ error. self.entry.stop_after ≡ 0 →
@@ -245,7 +252,8 @@ impl<'grammar> Lr<'grammar, Nil> {
         self.build_states(alloc)
     }
 
-    /// The states without lookahead, whatever conflicts they have, and each by numbers.
+    /// The states without lookahead, and the same states by numbers. The states may have conflicts,
+    /// which are not looked for. `OutOfMemory` if an allocation fails.
     pub fn lr0_states(
         &self,
         alloc: Global,
@@ -263,7 +271,7 @@ impl<'grammar> Lr<'grammar, Nil> {
     }
 }
 
-// The productions of a nonterminal, dot first, with the lookahead.
+// The productions of a nonterminal, with the dot at the start and the lookahead.
 fn begun_items<'grammar, L: Lookahead>(
     alloc: Global,
     grammar: &'grammar Grammar,
@@ -284,7 +292,8 @@ fn begun_items<'grammar, L: Lookahead>(
     Ok(items)
 }
 
-// The productions of a nonterminal, dot first, with the lookahead, by number.
+// The productions of a nonterminal, with the dot at the start and the lookahead, as items by
+// number.
 fn numbered_starts<'grammar, L: Lookahead>(
     alloc: Global,
     grammar: &'grammar Grammar,

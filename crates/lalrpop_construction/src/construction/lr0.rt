@@ -1,4 +1,4 @@
-//! LR(0) states.
+//! The construction of LR(0) states.
 ghost use Rattle.std.specs.Prelude.{IfOk, IfErr, MatchResult};
 ghost use Rattle.lalrpop_base.specs.Words.{IsWellFormed, rules_of};
 ghost use Rattle.lalrpop_construction.specs.states.Lr0.{AreLr0States, HasLr0States, HaveNoNilConflict, ListsNilConflicts};
@@ -10,7 +10,8 @@ use lalrpop_base::repr::NonterminalString;
 use lalrpop_base::repr::grammar::Grammar;
 use std::alloc::Global;
 
-/// The LR(0) states of a grammar by their construction numbers, or their conflicts.
+/// The LR(0) states of a grammar, or an error with the states and their conflicts. The states are
+/// numbered in the order in which the construction finds them. An allocation failure is `Memory`.
 #[tactic(auto, using(crate::proofs::theory::construction::Lookaheads::nothing_fits))]
 pub fn build_lr0_states<'grammar>(
     alloc: Global,

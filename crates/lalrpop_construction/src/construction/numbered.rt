@@ -1,4 +1,4 @@
-//! The kernels of states, whose items stand by number.
+//! Kernels of states, whose items are given by number.
 ghost use Rattle.std.specs.Prelude.{◌≡◌, ◌+◌, ◌<◌, [], length, map, slice_get, Some, IfOk, OnOk, OnErr, IfSome, IsNone};
 ghost use Rattle.lalrpop_base.specs.Words.{AddsOnce, AllDiffer};
 ghost use Rattle.lalrpop_construction.specs.states.NumberedStates.{number_in};
@@ -12,7 +12,8 @@ use lalrpop_base::sequence::Sequence;
 use std::alloc::Global;
 use std::marker::Model;
 
-/// Puts the numbers of items in the place of others.
+/// Replaces the contents of `numbers` by the numbers of the items. `OutOfMemory` if an allocation
+/// fails.
 pub fn list_numbers<L: Lookahead>(
     list: &[Numbered<L>],
     numbers: &mut Vec<usize>,
@@ -26,7 +27,7 @@ pub fn list_numbers<L: Lookahead>(
     Ok(())
 }
 
-/// The items in which the closure of a state begins, by their numbers.
+/// The kernel of a state, with its items by number: the items of which the closure is taken.
 #[derive(Debug, Drop, PartialEq, Eq, PartialOrd, Ord, Hash)]
 pub struct NumberedKernel<L: Lookahead> {
     items: Sequence<Numbered<L>>,
@@ -59,8 +60,8 @@ impl<L: Lookahead> NumberedKernel<L> {
     }
 }
 
-/// Kernels that differ, in the order of their numbers, of which the first were handed out. Each
-/// stands once, and is found by its hash.
+/// Distinct kernels with their numbers, of which those with the lowest numbers were handed out. A
+/// kernel is found by its hash.
 #[derive(Drop)]
 pub struct NumberedKernels<L: Lookahead> {
     kernels: IndexSet<NumberedKernel<L>>,
@@ -81,7 +82,7 @@ impl<L: Lookahead> Model for NumberedKernels<L> {
 }
 
 impl<L: Lookahead> NumberedKernels<L> {
-    /// No kernels.
+    /// A set without kernels.
     pub fn new(alloc: Global) -> Self
         ensures { result ≡ record { list = []; handed = 0 } }
     {
@@ -91,7 +92,8 @@ impl<L: Lookahead> NumberedKernels<L> {
         }
     }
 
-    /// The number of an equal kernel, or the next number.
+    /// Adds the kernel, unless an equal one is there, and returns its index. A new kernel gets the
+    /// next number. `OutOfMemory` if an allocation fails.
     pub fn add_state(&mut self, kernel: NumberedKernel<L>) -> Result<StateIndex, OutOfMemory>
         ensures added { OnOk result (AddsOnce self.old.list self.new.list kernel) }
         ensures numbered { IfOk result
@@ -104,7 +106,8 @@ impl<L: Lookahead> NumberedKernels<L> {
         Ok(StateIndex(number))
     }
 
-    /// The number of the next kernel, which is handed out.
+    /// Hands out the kernel with the lowest number that was not handed out yet, if there is one, by
+    /// its number.
     pub fn next(&mut self) -> Option<usize>
         ensures next { IfSome result (λ number. number ≡ self.old.handed) }
         ensures within { IfSome result (λ number. number < length self.old.list) }

@@ -1,4 +1,4 @@
-//! A state by the numbers of its items and symbols.
+//! States whose items and symbols are given by number.
 ghost use Rattle.std.specs.Prelude.{◌≡◌, ◌++◌, ◌<◌, ℕ, length, Contains, IfOk, OnOk};
 ghost use Rattle.lalrpop_base.specs.Words.{AllDiffer, Rules, AreNumbers};
 ghost use Rattle.lalrpop_construction.specs.states.NumberedStates.{HasFinished, finished_at, finished_in};
@@ -7,13 +7,13 @@ use lalrpop_base::memory::OutOfMemory;
 use lalrpop_base::numbers::Numbers;
 use std::alloc::Global;
 
-/// A state by numbers.
+/// A state whose items and symbols are given by number.
 #[derive(Drop)]
 pub struct NumberedState {
     /// The numbers of its items.
     pub items: Vec<usize>,
-    /// For each transition the number of its symbol and the state to which it leads, by rising
-    /// symbol.
+    /// The transitions, sorted by symbol: the number of a symbol, and the number of the state to
+    /// which the symbol leads.
     pub edges: Vec<(usize, usize)>,
     /// The numbers of the finished items by which the state reduces, in the order of its
     /// reductions.
@@ -38,7 +38,7 @@ fn add_if_finished(
     Ok(())
 }
 
-/// The finished ones of items.
+/// The numbers of those items that are finished, in order. `OutOfMemory` if an allocation fails.
 pub fn finished_of(
     alloc: Global,
     numbers: &Numbers<'_>,
@@ -58,7 +58,8 @@ pub fn finished_of(
     Ok(finished)
 }
 
-/// The state of items and transitions by number. It reduces by the finished ones of its items.
+/// The state with the given items and transitions by number. The finished items are its reductions.
+/// `OutOfMemory` if an allocation fails.
 pub fn numbered_state(
     alloc: Global,
     numbers: &Numbers<'_>,

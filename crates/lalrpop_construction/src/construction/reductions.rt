@@ -8,7 +8,7 @@ use lalrpop_base::memory::OutOfMemory;
 use lalrpop_base::repr::Production;
 use std::alloc::Global;
 
-// Puts a reduction by an item behind the others, where its dot is at the end.
+// Adds a reduction by an item after the others, if the item is finished.
 fn push_finished<'grammar, L: Lookahead>(
     alloc: Global,
     item: &Item<'grammar, L>,
@@ -24,7 +24,8 @@ fn push_finished<'grammar, L: Lookahead>(
     Ok(())
 }
 
-/// The productions of the finished items, with their tokens, in order.
+/// The reductions of a state with the items: the lookaheads and productions of its finished items,
+/// in order. `OutOfMemory` if an allocation fails.
 pub fn reductions<'grammar, L: Lookahead>(
     alloc: Global,
     items: &[Item<'grammar, L>],

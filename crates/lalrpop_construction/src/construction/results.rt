@@ -1,4 +1,5 @@
-//! States as tables, or as an error with their conflicts, or as the number of these.
+//! The results of a construction: states as tables, an error with their conflicts, or the number of
+//! the conflicts.
 ghost use Rattle.std.specs.Prelude.{◌≡◌, ◌<◌, [], IfOk, OnOk, IfErr, ◌++◌, List, length};
 ghost use Rattle.std.specs.List.{flat_map};
 ghost use Rattle.lalrpop_base.specs.Words.{state_conflicts, FailWith, HaveNoConflict};
@@ -16,7 +17,7 @@ use lalrpop_base::memory::OutOfMemory;
 use lalrpop_base::repr::terminals::TerminalSet;
 use std::alloc::Global;
 
-/// Puts the conflicts of a state behind the others.
+/// Adds the conflicts of a state after the others. `OutOfMemory` if an allocation fails.
 pub fn push_conflicts<'grammar, L: Lookahead>(
     alloc: Global,
     lr: &Lr<'grammar, L>,
@@ -32,7 +33,7 @@ pub fn push_conflicts<'grammar, L: Lookahead>(
     Ok(())
 }
 
-/// The states, as tables where they have no conflict.
+/// The states as tables if there is no conflict, or an error with the states and conflicts.
 pub fn tables_or_conflicts<'grammar, L: Lookahead>(
     states: Vec<State<'grammar, L>>,
     conflicts: Vec<Conflict<'grammar, L>>,
@@ -47,7 +48,7 @@ pub fn tables_or_conflicts<'grammar, L: Lookahead>(
     Err(BuildError::Conflicts(TableConstructionError { states, conflicts }))
 }
 
-// How many conflicts the states have, or the greatest `usize` if they have more.
+// The number of conflicts of the states, or the greatest `usize` if they have more.
 fn count_conflicts<'grammar>(states: &[Lr1State<'grammar>], terminals: &TerminalSet) -> usize
     ensures { result ≡ up_to_greatest
         (length (flat_map (state_conflicts terminals.now) states.now)) }
@@ -58,8 +59,8 @@ fn count_conflicts<'grammar>(states: &[Lr1State<'grammar>], terminals: &Terminal
     }
 }
 
-/// The states, as tables where they have no conflict, else the number of their conflicts, or the
-/// greatest `usize` if they have more.
+/// The states as tables if they have no conflict, or the number of their conflicts. A number above
+/// the greatest `usize` is returned as that `usize`. Allocates nothing.
 #[tactic(auto, using(crate::proofs::theory::canonical::Counts::nil_from_greatest, crate::proofs::theory::conflicts::GrownConflicts::free_states))]
 pub fn tables_or_count<'grammar>(
     states: Vec<Lr1State<'grammar>>,

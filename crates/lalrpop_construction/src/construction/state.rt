@@ -1,4 +1,4 @@
-//! One state more of a construction.
+//! A step of a construction, which makes one state.
 ghost use Rattle.std.specs.Prelude.{◌≡◌, ◌+◌, ◌++◌, ◌∷◌, [], List, length, map, IsTrue, IsFalse, IfOk, OnOk};
 ghost use Rattle.lalrpop_base.specs.Words.{Dotted, Rules, AreAllNumbered, AreNumbered, AreNumbers, items_by, kernels_by, IsBuiltBy, Extends};
 ghost use Rattle.lalrpop_construction.specs.construction.Building.{AreMadeSoFar};
@@ -22,7 +22,7 @@ use lalrpop_base::numbers::Numbers;
 use lalrpop_base::numbers::numbered::Numbered;
 use std::alloc::Global;
 
-// Items by number as items.
+// The items that are given by number.
 fn items_of<'grammar, L: Lookahead>(
     alloc: Global,
     numbers: &Numbers<'grammar>,
@@ -39,7 +39,8 @@ fn items_of<'grammar, L: Lookahead>(
     Ok(items)
 }
 
-// The state of items by number, which has the number.
+// The state with the number and the items, which are given by number. The transitions by number are
+// left in `edges`.
 fn state_of<'grammar, L: LookaheadBuild>(
     alloc: Global,
     numbers: &Numbers<'grammar>,
@@ -83,8 +84,8 @@ fn state_of<'grammar, L: LookaheadBuild>(
     })
 }
 
-/// Makes the state of the next kernel, if one is left, and tells whether one was. Its items and
-/// transitions by number are left in `work`.
+/// Makes the state of the next kernel, if one is left, and returns whether one was. The items and
+/// transitions of the state by number are left in `work`. `OutOfMemory` if an allocation fails.
 pub(super) fn add_state<'grammar, L: LookaheadBuild>(
     alloc: Global,
     lr: &Lr<'grammar, L>,

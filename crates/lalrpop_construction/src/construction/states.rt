@@ -1,4 +1,4 @@
-//! The states of a grammar, by their kernels.
+//! The loops that make the states of a grammar, kernel after kernel.
 ghost use Rattle.std.specs.Prelude.{◌↔◌, [], IsTrue, IfOk};
 ghost use Rattle.lalrpop_construction.specs.construction.EarlyStop.{AreEnough, AreMadeFor};
 ghost use Rattle.lalrpop_base.specs.Words.{AreNumbers};
@@ -21,17 +21,17 @@ use std::alloc::Global;
 /// States, and their conflicts.
 pub type States<'grammar, L> = (Vec<State<'grammar, L>>, Vec<Conflict<'grammar, L>>);
 
-/// States, and each by numbers.
+/// States, and the same states by numbers.
 pub type NumberedStates<'grammar, L> = (Vec<State<'grammar, L>>, Vec<NumberedState>);
 
-// Whether so many conflicts are enough to stop; 0 is none.
+// Whether `found` conflicts are enough to stop after `stop_after` ones; 0 means no early stop.
 fn are_enough(stop_after: usize, found: usize) -> bool
     ensures { IsTrue result ↔ AreEnough stop_after found }
 {
     stop_after > 0 && stop_after <= found
 }
 
-// The kernels when a construction begins: that of the start symbol, which has no state yet.
+// The kernels when a construction begins: the kernel of the start symbol, which has no state yet.
 fn first_kernels<'grammar, L: LookaheadBuild>(
     alloc: Global,
     lr: &Lr<'grammar, L>,
@@ -46,8 +46,9 @@ fn first_kernels<'grammar, L: LookaheadBuild>(
     Ok(kernels)
 }
 
-/// The states, numbered as their kernels first appear, and their conflicts, until enough are
-/// listed.
+/// The states and their conflicts. The construction ends early if it has listed enough conflicts.
+/// States are numbered in the order in which their kernels first appear. `OutOfMemory` if an
+/// allocation fails.
 pub fn build_states<'grammar, L: LookaheadBuild>(
     alloc: Global,
     lr: &Lr<'grammar, L>,
@@ -69,7 +70,8 @@ pub fn build_states<'grammar, L: LookaheadBuild>(
     Ok((states, conflicts))
 }
 
-/// All states, numbered as their kernels first appear. No conflict is looked for.
+/// All states, numbered in the order in which their kernels first appear. Conflicts are not looked
+/// for. `OutOfMemory` if an allocation fails.
 pub fn all_states<'grammar, L: LookaheadBuild>(
     alloc: Global,
     lr: &Lr<'grammar, L>,
@@ -85,8 +87,8 @@ pub fn all_states<'grammar, L: LookaheadBuild>(
     Ok(states)
 }
 
-/// All states, numbered as their kernels first appear, and each by numbers. No conflict is looked
-/// for.
+/// All states, numbered in the order in which their kernels first appear, and the same states by
+/// numbers. Conflicts are not looked for. `OutOfMemory` if an allocation fails.
 pub(crate) fn numbered_states<'grammar, L: LookaheadBuild>(
     alloc: Global,
     lr: &Lr<'grammar, L>,

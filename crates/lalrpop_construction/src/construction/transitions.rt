@@ -14,10 +14,10 @@ use lalrpop_base::numbers::numbered::Numbered;
 use lalrpop_base::sequence::Sequence;
 use std::alloc::Global;
 
-/// The items to which each symbol behind a dot leads, by its number.
+/// For each symbol that is after a dot, by its number: the items with the dot moved over it.
 pub type Moves<L> = SparseMap<Sequence<Numbered<L>>>;
 
-// Moves the dot of an item over the symbol behind it, if there is one.
+// Adds the item with its dot moved to `moves`, if there is a symbol after the dot.
 fn add_move<'grammar, L: Lookahead>(
     alloc: Global,
     numbers: &Numbers<'grammar>,
@@ -42,7 +42,8 @@ fn add_move<'grammar, L: Lookahead>(
     Ok(())
 }
 
-// The items whose dot can move, moved, by the symbol over which.
+// Fills `moves` with the items whose dot can move, with the dot moved, by the symbol over which it
+// moved.
 fn moves_of<'grammar, L: Lookahead>(
     alloc: Global,
     numbers: &Numbers<'grammar>,
@@ -62,8 +63,8 @@ fn moves_of<'grammar, L: Lookahead>(
     Ok(())
 }
 
-// A transition to the state of each kernel, in maps and by number. New states are numbered in the
-// order of the list, in which symbols rise.
+// A transition to the state of each kernel, in maps and, in `list`, by number. New kernels get
+// numbers in the order of `moves`, which is sorted by symbol.
 fn edges_of<'grammar, L: Lookahead>(
     alloc: Global,
     numbers: &Numbers<'grammar>,
@@ -97,8 +98,9 @@ fn edges_of<'grammar, L: Lookahead>(
     edge_maps(alloc, lists)
 }
 
-/// The transitions over the symbols behind the dots of items, with a state for each kernel that
-/// these give. The same transitions by number are left in `list`.
+/// The transitions of a state with the items: one for each symbol that is after a dot. The kernels
+/// to which they lead are added to `kernels`. The same transitions by number are left in `list`.
+/// `OutOfMemory` if an allocation fails.
 pub fn transitions<'grammar, L: Lookahead>(
     alloc: Global,
     numbers: &Numbers<'grammar>,

@@ -1,4 +1,4 @@
-//! What the states of a construction are made in, one after the other.
+//! Memory that a construction reuses from state to state.
 
 use super::transitions::Moves;
 use lalrpop_base::collections::queue::Queue;
@@ -6,9 +6,13 @@ use lalrpop_base::collections::sparse_map::SparseMap;
 use lalrpop_base::lookahead::Lookahead;
 use std::alloc::Global;
 
-/// The tokens of nonterminals and those of items, of a closure, the nonterminals that wait to give
-/// theirs on, the moves of the items, and the numbers of these and of the transitions. What a state
-/// leaves here but the numbers is taken out before the next.
+/// Memory that a construction reuses from state to state.
+///
+/// - `shared`: the tokens of each nonterminal of a closure.
+/// - `queue`: the nonterminals whose tokens are not passed on yet.
+/// - `items`: the tokens of each item of the closure.
+/// - `moves`: the items with the dot moved, by the symbol over which it moved.
+/// - `numbers`, `edges`: the items and transitions of the state that was made last, by number.
 #[derive(Drop)]
 pub struct Workspace<L: Lookahead> {
     pub shared: SparseMap<L>,
@@ -20,6 +24,7 @@ pub struct Workspace<L: Lookahead> {
 }
 
 impl<L: Lookahead> Workspace<L> {
+    /// An empty workspace.
     pub fn new(alloc: Global) -> Self {
         Workspace {
             shared: SparseMap::new(alloc),

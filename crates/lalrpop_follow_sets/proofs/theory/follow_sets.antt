@@ -1,4 +1,4 @@
--- What follows nonterminals in states, by one pass.
+-- The follow sets of nonterminals in states, by one pass.
 pub mod FollowBegun
 pub mod FollowBits
 pub mod FollowClosures

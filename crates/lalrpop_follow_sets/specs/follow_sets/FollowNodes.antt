@@ -1,4 +1,5 @@
--- The nodes of the follow graph by number (DeRemer and Pennello 1982), and what a pass over states goes over.
+-- The nodes of the follow graph by number (DeRemer and Pennello 1982), and the data that a pass
+-- over states reads.
 use Rattle.std.specs.Prelude.{◌≡◌, ◌<◌, ◌≤◌, ◌+◌, ◌⊎◌, ℕ, zero, suc, List, [], ◌∷◌, length, map, get_or, slice_get, Option, Some, None, Contains}
 use Rattle.lalrpop_base.specs.Words.{AllDiffer, AreClosed, AreCoherent, Contents, IsReached, IsWellFormed, rules_of, AreExpansions, AreNumbers, AreRests}
 use Rattle.lalrpop_grammar.specs.declared.repr.NonterminalString.{NonterminalString}
@@ -14,11 +15,12 @@ use Rattle.lalrpop_follow_sets.specs.declared.follow_sets.pass.Pass.{Pass}
 use Rattle.lalrpop_follow_sets.specs.declared.follow_sets.start.Start.{Start}
 
 -- ---- the start symbol
--- the number of the name among the symbols, or how many these are, where it is none of them
+-- the number of the name among the symbols, or the count of the symbols, if the name is none of
+-- them
 abbrev pub IsNumberOrCount : List Symbol → NonterminalString → ℕ → Type 0
 IsNumberOrCount symbols name x = (slice_get symbols x ≡ Some (Nonterminal name)) ⊎ ((x ≡ length symbols) × ¬ Contains symbols (Nonterminal name))
 
--- the number of the start symbol, and those of its productions with the dot in front
+-- the number of the start symbol, and the numbers of its productions with the dot at the start
 pub record IsStart (n : Numbers) (name : NonterminalString) (start : Start) : Type 0 where
   pub number : IsNumberOrCount n.symbols.items name start.number
   pub fronts : AreExpansions n.items.items (Nonterminal name) start.fronts.items
@@ -29,17 +31,18 @@ abbrev pub name_or : NonterminalString → Symbol → NonterminalString
 name_or start (Nonterminal a) = a
 name_or start (Terminal t) = start
 
--- the nonterminal with the number, and the start symbol where no nonterminal has the number
+-- the nonterminal with the number, and the start symbol if no nonterminal has the number
 abbrev pub name_at : List Symbol → NonterminalString → ℕ → NonterminalString
 name_at [] start x = start
 name_at (s ∷ symbols) start zero = name_or start s
 name_at (s ∷ symbols) start (suc x) = name_at symbols start x
 
--- pairs of a state and the number of a nonterminal, as pairs of a state and a nonterminal
+-- pairs of a state and the number of a nonterminal, as pairs of a state and the nonterminal
 abbrev pub follow_nodes : List Symbol → NonterminalString → List (ℕ × ℕ) → List (ℕ × NonterminalString)
 follow_nodes symbols start pairs = map (λ (p : ℕ × ℕ). (p.0, name_at symbols start p.1)) pairs
 
--- the pair is that of a transition over a nonterminal, and its number is that of the state's first node and the place of the transition together
+-- the node is that of a transition over a nonterminal: its number is the number of the state's
+-- first node plus the place of the transition
 pub record IsTransitionNode (symbols : List Symbol) (states : List NumberedState) (firsts : List ℕ) (node s x : ℕ) : Type 0 where
   pub place : ℕ
   pub target : ℕ
@@ -48,7 +51,8 @@ pub record IsTransitionNode (symbols : List Symbol) (states : List NumberedState
   pub symbol : slice_get symbols x ≡ Some (Nonterminal name)
   pub number : node ≡ get_or firsts s 0 + place
 
--- the nodes: for each state its transitions over nonterminals, and the start symbol in state 0 besides, where it has no such transition
+-- the nodes are one for each transition of a state over a nonterminal, and one for the start symbol
+-- in state 0, which may be that of a transition; no two are the same
 pub record AreNodes (symbols : List Symbol) (first : ℕ) (states : List NumberedState) (nodes : Nodes) : Type 0 where
   pub counted : length nodes.firsts.items ≡ length states
   pub here : (s place x target : ℕ) (a : NonterminalString) → slice_get (transitions_at states s) place ≡ Some (x, target) → slice_get symbols x ≡ Some (Nonterminal a) → slice_get nodes.pairs.items (get_or nodes.firsts.items s 0 + place) ≡ Some (s, x)
@@ -56,14 +60,15 @@ pub record AreNodes (symbols : List Symbol) (first : ℕ) (states : List Numbere
   pub begun : Contains nodes.pairs.items (0, first)
   pub differ : AllDiffer nodes.pairs.items
 
--- the nodes of the transitions alone
+-- the nodes are those of the transitions alone
 pub record AreTransitionNodes (symbols : List Symbol) (states : List NumberedState) (nodes : Nodes) : Type 0 where
   pub counted : length nodes.firsts.items ≡ length states
   pub here : (s place x target : ℕ) (a : NonterminalString) → slice_get (transitions_at states s) place ≡ Some (x, target) → slice_get symbols x ≡ Some (Nonterminal a) → slice_get nodes.pairs.items (get_or nodes.firsts.items s 0 + place) ≡ Some (s, x)
   pub from : (node s x : ℕ) → slice_get nodes.pairs.items node ≡ Some (s, x) → IsTransitionNode symbols states nodes.firsts.items node s x
   pub differ : AllDiffer nodes.pairs.items
 
--- those transitions of a state that stand before the first over a terminal, each as the state and the number of its symbol
+-- the transitions of a state before its first one over a terminal, each as the pair of the state
+-- and the number of its symbol
 abbrev pub as_pair : ℕ → ℕ → Option Symbol → List (ℕ × ℕ) → List (ℕ × ℕ)
 as_pair s x (Some (Nonterminal a)) pairs = (s, x) ∷ pairs
 as_pair s x (Some (Terminal t)) pairs = []
@@ -73,7 +78,7 @@ abbrev pub nonterminals_of : List Symbol → ℕ → List (ℕ × ℕ) → List 
 nonterminals_of symbols s [] = []
 nonterminals_of symbols s (e ∷ es) = as_pair s e.0 (slice_get symbols e.0) (nonterminals_of symbols s es)
 
--- the number is that of a nonterminal among the symbols, or how many these are
+-- the number is that of a nonterminal among the symbols, or the count of the symbols
 abbrev pub IsNonterminalOrCount : List Symbol → ℕ → Type 0
 IsNonterminalOrCount symbols x = ((a : NonterminalString) × (slice_get symbols x ≡ Some (Nonterminal a))) ⊎ (x ≡ length symbols)
 
@@ -82,11 +87,12 @@ IsNonterminalOrCount symbols x = ((a : NonterminalString) × (slice_get symbols 
 abbrev pub AreOfGrammar : List Production → (ℕ → Contents) → Type 0
 AreOfGrammar productions states = (s : ℕ) (q : Production) (dot : ℕ) → Contains (states s).items (q, dot) → Contains productions q × (dot ≤ length q.symbols)
 
--- each of the states below the count is reached over edges
+-- each of the states below the count is reached from state 0 over edges
 abbrev pub AreAllReached : (ℕ → Contents) → ℕ → Type 0
 AreAllReached states count = (n : ℕ) → n < count → IsReached states n
 
--- states of a grammar, closed and reached, by numbers, with the rests of dotted productions and the nodes of their follow graph
+-- the pass is over states of a grammar that are closed and reached, with these states by number,
+-- the rests of dotted productions, and the nodes of the follow graph
 pub record IsPass (pass : Pass) : Type 0 where
   pub well_formed : IsWellFormed pass.grammar.now
   pub numbers : AreNumbers (rules_of pass.grammar.now) pass.numbers.now
@@ -104,6 +110,6 @@ pub record IsPass (pass : Pass) : Type 0 where
 abbrev pub nodes_of : Pass → List (ℕ × NonterminalString)
 nodes_of pass = follow_nodes pass.numbers.now.symbols.items pass.name.now pass.nodes.now.pairs.items
 
--- a node with the number as that of its symbol stands for the nonterminal
+-- a node whose symbol has the number x is of the nonterminal a
 abbrev pub IsNodeName : Pass → ℕ → NonterminalString → Type 0
 IsNodeName pass x a = (slice_get pass.numbers.now.symbols.items x ≡ Some (Nonterminal a)) ⊎ ((x ≡ pass.start.now.number) × (a ≡ pass.name.now))

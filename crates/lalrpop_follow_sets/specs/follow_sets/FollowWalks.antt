@@ -1,4 +1,5 @@
--- What a pass over states finds: what follows at once, where walks over right sides end, and which nodes these go through (DeRemer and Pennello 1982).
+-- The results of a pass over states (DeRemer and Pennello 1982): the tokens that follow a
+-- nonterminal at once, the ends of walks over right sides, and the nodes through which walks go.
 use Rattle.std.specs.Prelude.{◌≡◌, ◌<◌, ◌↔◌, ◌⊎◌, ℕ, true, List, [], ◌∷◌, length, drop, take, slice_get, Option, Some, None, Contains, MatchOption}
 use Rattle.std.specs.declared.alloc.Global.{Global}
 use Rattle.std.specs.declared.vec.Vec.{Vec}
@@ -18,13 +19,14 @@ use Rattle.lalrpop_numbers.specs.declared.numbers.Numbers.{Numbers}
 use Rattle.lalrpop_follow_sets.specs.declared.follow_sets.found.Found.{Found}
 use Rattle.lalrpop_follow_sets.specs.declared.follow_sets.pass.Pass.{Pass}
 
--- ---- what follows at once
--- as many sets as the count says, all of them empty
+-- ---- tokens that follow at once
+-- there are as many sets as the count says, and all are empty
 pub record AreEmptySets (count : ℕ) (sets : List Bits) : Type 0 where
   pub counted : length sets ≡ count
   pub empty : (n bit : ℕ) → ¬ HoldsBit sets n bit
 
--- the bit is of a terminal that begins what stands behind a nonterminal behind the dot of the item with the number, in the state of the node
+-- the bit is of a terminal in FIRST of an item's rest: the symbols after the nonterminal after its
+-- dot. The item has the number k, and the node n is that nonterminal in the state s
 pub record IsRestBit (pass : Pass) (s k n bit : ℕ) : Type 0 where
   pub name : NonterminalString
   pub after : List Symbol
@@ -34,37 +36,38 @@ pub record IsRestBit (pass : Pass) (s k n bit : ℕ) : Type 0 where
   pub node : IsFollowNode (nodes_of pass) n s name
   pub first : (t : TerminalString) × (slice_get (rules_of pass.grammar.now).terminals bit ≡ Some t) × IsFirst (rules_of pass.grammar.now).productions after t
 
--- the same of an item that the state lists, and of one that any state lists
+-- the same of some item that the state lists; below, of some item that any state lists
 abbrev pub IsRestBitIn : Pass → ℕ → ℕ → ℕ → Type 0
 IsRestBitIn pass s n bit = (k : ℕ) × Contains (items_at pass.numbered.now s) k × IsRestBit pass s k n bit
 
 abbrev pub IsSomeRestBit : Pass → ℕ → ℕ → Type 0
 IsSomeRestBit pass n bit = (s : ℕ) × IsRestBitIn pass s n bit
 
--- the node is of the start symbol, and the bit is that of the end
+-- the node is of the start symbol, and the bit is that of Eof
 abbrev pub IsEndBit : Pass → ℕ → ℕ → Type 0
 IsEndBit pass n bit = (s : ℕ) × IsFollowNode (nodes_of pass) n s pass.name.now × (bit ≡ length (rules_of pass.grammar.now).terminals)
 
--- the sets took such bits at numbers of nodes, and no others
+-- each set gets such bits of its number, keeps its own, and gets no others
 pub record TakesBits (Such : ℕ → ℕ → Type 0) (old new : List Bits) : Type 0 where
   pub counted : length new ≡ length old
   pub bits : (n bit : ℕ) → HoldsBit new n bit ↔ (HoldsBit old n bit ⊎ Such n bit)
 
--- the set of each node has exactly what follows at once
+-- the set of each node has exactly the bits of the tokens that follow its nonterminal at once
 pub record AreBegun (pass : Pass) (sets : List Bits) : Type 0 where
   pub counted : length sets ≡ length (nodes_of pass)
   pub begun : (n s : ℕ) (a : NonterminalString) → IsFollowNode (nodes_of pass) n s a → (bit : ℕ) → HoldsBit sets n bit ↔ HasBitAtOnce (rules_of pass.grammar.now) pass.name.now (places_in pass.states.now) (nodes_of pass) s a bit
 
 -- ---- walks
--- the number is that of the production with its dot in front
+-- the number is that of the production with the dot at the start
 abbrev pub IsFrontOf : Pass → ℕ → Production → Type 0
 IsFrontOf pass k q = slice_get pass.numbers.now.items.items k ≡ Some (with_dot q 0)
 
--- a nonterminal with a nullable rest stands behind the dot
+-- the symbol after the dot is a nonterminal, and the rest after it is nullable
 abbrev pub HasNullableRest : Pass → Dotted Nil → Type 0
 HasNullableRest pass i = (a : NonterminalString) × (after : List Symbol) × HasRest i a after × IsNullable (rules_of pass.grammar.now).productions after
 
--- a step from a state over the symbol behind the dot, a nonterminal with a nullable rest, goes by a transition; the node is that nonterminal in the state
+-- a step goes by a transition from the state over the symbol after the dot, which is a nonterminal
+-- with a nullable rest; the node n is that nonterminal in the state
 pub record StepsThrough (pass : Pass) (state : ℕ) (i : Dotted Nil) (n : ℕ) : Type 0 where
   pub name : NonterminalString
   pub after : List Symbol
@@ -74,11 +77,12 @@ pub record StepsThrough (pass : Pass) (state : ℕ) (i : Dotted Nil) (n : ℕ) :
   pub edge : (places_in pass.states.now state).goto name ≡ Some target
   pub node : IsFollowNode (nodes_of pass) n state name
 
--- the state to which the symbol behind the dot leads, if there is one
+-- the target is the state to which the symbol after the dot leads, if there is one
 abbrev pub IsGoneOver : Pass → ℕ → Dotted Nil → Option ℕ → Type 0
 IsGoneOver pass state i target = (s : Symbol) → slice_get i.production.symbols i.index ≡ Some s → leads (places_in pass.states.now state) s ≡ target
 
--- a walk over a production goes over a nonterminal with a nullable rest, by a transition; the node is that nonterminal in the state from which it leads
+-- a walk over a production goes by a transition over a nonterminal with a nullable rest; the node n
+-- is that nonterminal in the state from which the transition leads
 pub record GoesThrough (pass : Pass) (from : ℕ) (q : Production) (n : ℕ) : Type 0 where
   pub dot : ℕ
   pub state : ℕ
@@ -91,12 +95,14 @@ pub record GoesThrough (pass : Pass) (from : ℕ) (q : Production) (n : ℕ) : T
   pub edge : (places_in pass.states.now state).goto name ≡ Some target
   pub node : IsFollowNode (nodes_of pass) n state name
 
--- the state to which the right side leads, with the number of the finished item, and there is none where it leads nowhere
+-- the end is the state to which the right side leads, with the number of the finished item; there
+-- is no end if the right side leads to no state
 abbrev pub IsEndOfWalk : Pass → ℕ → Production → Option (ℕ × ℕ) → Type 0
 IsEndOfWalk pass from q end = MatchOption end (state_from (places_in pass.states.now) from q.symbols ≡ None) (λ end. LeadsOver (places_in pass.states.now) from q.symbols end.0 × (end.0 < length pass.states.now) × (slice_get pass.numbers.now.items.items end.1 ≡ Some (with_dot q (length q.symbols))))
 
--- ---- where walks end
--- the finished items with nodes of the state with the number, none behind the last list
+-- ---- the ends of walks
+-- the finished items, with nodes, that a list has for a state; no list has none. Below, those of
+-- the state with the number
 abbrev pub listed_entries : Option (Vec (ℕ × ℕ) Global) → List (ℕ × ℕ)
 listed_entries None = []
 listed_entries (Some entries) = entries.items
@@ -104,49 +110,52 @@ listed_entries (Some entries) = entries.items
 abbrev pub entries_at : List (Vec (ℕ × ℕ) Global) → ℕ → List (ℕ × ℕ)
 entries_at lookback s = listed_entries (slice_get lookback s)
 
--- the walk over the production from a state ends in a state, in the finished item with the number
+-- the walk over the production from a state ends in the state s, at the finished item with the
+-- number k
 abbrev pub EndsAt : Pass → ℕ → Production → ℕ → ℕ → Type 0
 EndsAt pass from q s k = LeadsOver (places_in pass.states.now) from q.symbols s × (slice_get pass.numbers.now.items.items k ≡ Some (with_dot q (length q.symbols)))
 
--- as many lists as the count says, all of them empty
+-- there are as many lists as the count says, and all are empty
 pub record AreEmptyLists (count : ℕ) (lookback : List (Vec (ℕ × ℕ) Global)) : Type 0 where
   pub counted : length lookback ≡ count
   pub empty : (s : ℕ) (e : ℕ × ℕ) → ¬ Contains (entries_at lookback s) e
 
--- entries with the node came for such states and items, and no others
+-- the lists get an entry with the node m for each such state and item, keep their own, and get no
+-- others
 pub record NotesEnds (m : ℕ) (Such : ℕ → ℕ → Type 0) (old new : List (Vec (ℕ × ℕ) Global)) : Type 0 where
   pub counted : length new ≡ length old
   pub entries : (s k n : ℕ) → Contains (entries_at new s) (k, n) ↔ (Contains (entries_at old s) (k, n) ⊎ ((n ≡ m) × Such s k))
 
--- one of the numbers is that of such a production with its dot in front
+-- one of the numbers is that of such a production with the dot at the start
 abbrev pub SomeFront : Pass → List ℕ → (Production → Type 0) → Type 0
 SomeFront pass fronts Such = (k : ℕ) × (q : Production) × Contains fronts k × IsFrontOf pass k q × Such q
 
--- a production of the node's nonterminal is such, with the node's state
+-- some production of the node's nonterminal is such, together with the node's state
 abbrev pub SomeOfNode : Pass → ℕ → (ℕ → Production → Type 0) → Type 0
 SomeOfNode pass m Such = (r : ℕ) × (q : Production) × IsFollowNode (nodes_of pass) m r q.nonterminal × Contains (rules_of pass.grammar.now).productions q × Such r q
 
--- an edge leads from a node to those through which walks over its productions go
+-- edges lead from a node exactly to the nodes through which walks over its productions go
 pub record AreIncludes (pass : Pass) (edges : List (Vec ℕ Global)) : Type 0 where
   pub counted : length edges ≡ length (nodes_of pass)
   pub ends : (m n : ℕ) → Contains (edge_ends edges m) n ↔ SomeOfNode pass m (λ r q. GoesThrough pass r q n)
 
--- for each state the finished items in which walks end there, with the nodes where these began
+-- for each state the finished items in which walks end there, each with the node where the walk
+-- began
 pub record AreLookbacks (pass : Pass) (lookback : List (Vec (ℕ × ℕ) Global)) : Type 0 where
   pub counted : length lookback ≡ length pass.states.now
   pub entries : (s k m : ℕ) → Contains (entries_at lookback s) (k, m) ↔ SomeOfNode pass m (λ r q. EndsAt pass r q s k)
 
--- ---- what is found
--- the bit is in the set of a node that stands with the number
+-- ---- results
+-- the bit is in the set of a node that is paired with the number
 abbrev pub IsInUnion : List Bits → List (ℕ × ℕ) → ℕ → ℕ → Type 0
 IsInUnion follow entries k bit = (m : ℕ) × Contains entries (k, m) × HoldsBit follow m bit
 
--- a set was joined to those of the numbers that are the item's
+-- a set was joined to the sets of those numbers that are the item's
 pub record JoinsUnions (set : Bits) (item : ℕ) (numbers : List ℕ) (old new : List Bits) : Type 0 where
   pub counted : length new ≡ length old
   pub each : (j k bit : ℕ) → slice_get numbers j ≡ Some k → HoldsBit new j bit ↔ (HoldsBit old j bit ⊎ ((k ≡ item) × (has set bit ≡ true)))
 
--- for each number the union of the sets of the nodes that stand with it
+-- for each number the union of the sets of the nodes that are paired with it
 pub record AreUnions (follow : List Bits) (entries : List (ℕ × ℕ)) (numbers : List ℕ) (unions : List Bits) : Type 0 where
   pub counted : length unions ≡ length numbers
   pub each : (j k bit : ℕ) → slice_get numbers j ≡ Some k → HoldsBit unions j bit ↔ IsInUnion follow entries k bit
@@ -155,21 +164,23 @@ pub record AreUnions (follow : List Bits) (entries : List (ℕ × ℕ)) (numbers
 abbrev pub HasTokenOf : List TerminalString → Symbol → ℕ → Type 0
 HasTokenOf terminals s bit = (t : TerminalString) × (s ≡ Terminal t) × (slice_get terminals bit ≡ Some t)
 
--- for each symbol the set of its token, the empty one of a nonterminal and of a terminal that is not in the list
+-- for each symbol the set of its token, which is empty for a nonterminal and for a terminal that is
+-- not in the list
 pub record AreTokensOfSymbols (terminals : List TerminalString) (symbols : List Symbol) (tokens : List Bits) : Type 0 where
   pub counted : length tokens ≡ length symbols
   pub each : (x bit : ℕ) (s : Symbol) → slice_get symbols x ≡ Some s → HoldsBit tokens x bit ↔ HasTokenOf terminals s bit
 
--- the bit is in the set of one of the transitions' symbols
+-- the bit is in the set of the symbol of one of the transitions
 abbrev pub HoldsSomeOf : List Bits → List (ℕ × ℕ) → ℕ → Type 0
 HoldsSomeOf tokens edges bit = (x : ℕ) × (target : ℕ) × Contains edges (x, target) × HoldsBit tokens x bit
 
--- a bit of the first set is in one of the others, or one is in two of these
+-- a bit of the first set is in one of the others, or a bit is in two of these
 pub data ShareBits (first : Bits) (sets : List Bits) : Type 0 where
   with_first : (j bit : ℕ) → has first bit ≡ true → HoldsBit sets j bit → ShareBits first sets
   with_other : (i j bit : ℕ) → i < j → HoldsBit sets i bit → HoldsBit sets j bit → ShareBits first sets
 
--- what a pass finds over states: the unions of the sets are the lookahead sets of finished items
+-- the result of a pass over states: for each finished item, the union of the follow sets of its
+-- nodes is its lookahead set
 pub record FindsLookaheads (g : Rules) (start : NonterminalString) (n : Numbers) (states : ℕ → Contents) (count : ℕ) (found : Found) : Type 0 where
   pub counted : length found.lookback.items ≡ count
   pub within : (s k m : ℕ) → Contains (entries_at found.lookback.items s) (k, m) → m < length found.follow.items

@@ -1,4 +1,5 @@
--- Follow sets of nonterminals in states, and the lookahead sets of reductions: DeRemer and Pennello 1982. They are read over states as lanes are, from items and edges alone.
+-- Follow sets of nonterminals in states, and the lookahead sets of reductions (DeRemer and Pennello
+-- 1982). Like lanes, the sets depend on items and edges alone.
 use Rattle.std.specs.Prelude.{◌≡◌, true, ℕ, ◌↔◌, List, ◌∷◌, take, drop, Contains, Some}
 use Rattle.lalrpop_grammar.specs.grammars.Grammar.{IsFirst, IsNullable}
 use Rattle.lalrpop_grammar.specs.grammars.Tokens.{IsBitOf}
@@ -19,12 +20,15 @@ use Rattle.lalrpop_grammar.specs.declared.repr.TerminalString.{TerminalString}
 abbrev pub LeadsOver : (ℕ → Contents) → ℕ → List Symbol → ℕ → Type 0
 LeadsOver states from symbols to = state_from states from symbols ≡ Some to
 
--- a token that follows a nonterminal in a state at once: it can begin what stands behind the nonterminal in an item of the state, or it is Eof and the nonterminal the start symbol
+-- a token follows a nonterminal in a state at once: it is in FIRST of the symbols after the
+-- nonterminal in an item of the state, or it is Eof and the nonterminal is the start symbol
 pub data FollowsAtOnce (g : List Production) (start : NonterminalString) (states : ℕ → Contents) : ℕ → NonterminalString → Token → Type 0 where
   is_first_behind : (s : ℕ) (a : NonterminalString) (q : Production) (dot : ℕ) (after : List Symbol) (t : TerminalString) → Contains (states s).items (q, dot) → drop dot q.symbols ≡ Nonterminal a ∷ after → IsFirst g after t → FollowsAtOnce g start states s a (TokenOf t)
   ends_input : (s : ℕ) → FollowsAtOnce g start states s start Eof
 
--- a nonterminal in a state includes the follow set of another one in another state: it stands behind the dot of an item, which is of the other nonterminal; what stands behind it is nullable, and what stands before the dot leads from the other state to this one
+-- a nonterminal a in a state s includes the follow set of b in a state r: a is after the dot of an
+-- item of s, which is of a production of b; the symbols after a are nullable, and those before the
+-- dot lead from r to s
 pub record IncludesFollow (g : List Production) (states : ℕ → Contents) (s : ℕ) (a : NonterminalString) (r : ℕ) (b : NonterminalString) : Type 0 where
   pub parent : Production
   pub dot : ℕ
@@ -35,12 +39,14 @@ pub record IncludesFollow (g : List Production) (states : ℕ → Contents) (s :
   pub leads : LeadsOver states r (take dot parent.symbols) s
   pub own : parent.nonterminal ≡ b
 
--- a token is in the follow set of a nonterminal in a state: it follows at once, or is in a follow set that this one includes
+-- a token is in the follow set of a nonterminal in a state: it follows at once, or it is in a
+-- follow set that this one includes
 pub data InFollow (g : List Production) (start : NonterminalString) (states : ℕ → Contents) : ℕ → NonterminalString → Token → Type 0 where
   at_once : {s : ℕ} {a : NonterminalString} {t : Token} → FollowsAtOnce g start states s a t → InFollow g start states s a t
   included : {r s : ℕ} {a b : NonterminalString} {t : Token} → IncludesFollow g states s a r b → InFollow g start states r b t → InFollow g start states s a t
 
--- a token is in the lookahead set of a production in a state: in the follow set of its nonterminal in a state from which its right side leads here
+-- a token is in the lookahead set of a production in a state: it is in the follow set of the
+-- production's nonterminal in a state from which the right side leads here
 pub record IsLookahead (g : List Production) (start : NonterminalString) (states : ℕ → Contents) (s : ℕ) (p : Production) (t : Token) : Type 0 where
   pub from : ℕ
   pub leads : LeadsOver states from p.symbols s
@@ -51,7 +57,8 @@ module _ (g : Rules) (start : NonterminalString) (states : ℕ → Contents) (s 
   abbrev pub HasLookaheadBits : Bits → Production → Type 0
   HasLookaheadBits set p = (bit : ℕ) → (has set bit ≡ true) ↔ ((t : Token) × IsBitOf g.terminals t bit × IsLookahead g.productions start states s p t)
 
-  -- each reduction of the state holds exactly the bits of its lookahead set, and the state has no conflict
+  -- each reduction of the state holds exactly the bits of its lookahead set, and the state has no
+  -- conflict
   pub record HoldsLookaheads (state : State Bits) : Type 0 where
     pub holds : (r : Reduction) → Contains state.reductions.items r → HasLookaheadBits r.0 r.1.now
     pub free : HasNoConflict g.terminals state

@@ -1,4 +1,4 @@
-//! What follows nonterminals in states at once.
+//! The tokens with which the set of each node begins: those that follow its nonterminal at once.
 ghost use Rattle.std.specs.Prelude.{◌≡◌, ◌<◌, length, Contains, IfOk, OnOk};
 ghost use Rattle.lalrpop_follow_sets.specs.follow_sets.FollowNodes.{IsPass, nodes_of};
 ghost use Rattle.lalrpop_follow_sets.specs.follow_sets.FollowWalks.{AreBegun, AreEmptySets, IsEndBit, IsRestBit, IsRestBitIn, IsSomeRestBit, TakesBits};
@@ -11,7 +11,7 @@ use lalrpop_base::memory::OutOfMemory;
 use lalrpop_base::repr::terminals::TerminalSet;
 use std::alloc::Global;
 
-/// As many empty sets as the count says.
+/// As many empty sets as `count` says.
 pub(super) fn empty_sets(
     alloc: Global,
     terminals: &TerminalSet,
@@ -26,7 +26,8 @@ pub(super) fn empty_sets(
     Ok(sets)
 }
 
-// Joins FIRST of an item's rest to the set of the nonterminal behind its dot.
+// Adds FIRST of an item's rest to the set of the nonterminal after its dot. The rest is the list of
+// symbols after this nonterminal.
 fn join_rest(
     pass: &Pass<'_, '_>,
     state: usize,
@@ -54,7 +55,7 @@ fn join_rest(
     Ok(())
 }
 
-// Joins what the items of a state give.
+// Adds FIRST of the rests of a state's items.
 fn join_rests(
     pass: &Pass<'_, '_>,
     state: usize,
@@ -72,7 +73,7 @@ fn join_rests(
     Ok(())
 }
 
-// Joins what the items of all states give.
+// Adds FIRST of the rests of all states' items.
 fn join_all(pass: &Pass<'_, '_>, sets: &mut Vec<TokenSet>) -> Result<(), OutOfMemory>
     requires pass { IsPass pass.now }
     requires counted { length sets.old.items ≡ length (nodes_of pass.now) }
@@ -84,7 +85,7 @@ fn join_all(pass: &Pass<'_, '_>, sets: &mut Vec<TokenSet>) -> Result<(), OutOfMe
     Ok(())
 }
 
-// Adds `Eof` to each set of the start symbol.
+// Adds `Eof` to the set of each node of the start symbol.
 fn add_ends(pass: &Pass<'_, '_>, sets: &mut Vec<TokenSet>) -> Result<(), OutOfMemory>
     requires pass { IsPass pass.now }
     requires counted { length sets.old.items ≡ length (nodes_of pass.now) }
@@ -98,7 +99,7 @@ fn add_ends(pass: &Pass<'_, '_>, sets: &mut Vec<TokenSet>) -> Result<(), OutOfMe
     Ok(())
 }
 
-/// For each node what follows at once.
+/// For each node the set of the tokens that follow its nonterminal at once.
 pub(super) fn begun_sets(alloc: Global, pass: &Pass<'_, '_>) -> Result<Vec<TokenSet>, OutOfMemory>
     requires pass { IsPass pass.now }
     ensures { IfOk result (λ sets. AreBegun pass.now sets.items) }

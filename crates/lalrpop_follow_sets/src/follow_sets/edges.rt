@@ -2,7 +2,8 @@
 ghost use Rattle.std.specs.Prelude.{◌≡◌, ℕ, slice_get, Some, Contains, IfSome, IsNone};
 ghost use Rattle.lalrpop_construction.specs.states.NumberedStates.{EdgesAscend};
 
-/// The place of the transition over a symbol, found by halving.
+/// The index of the transition over a symbol, found by binary search. A transition is a pair of the
+/// number of a symbol and a target state.
 pub fn place_of(edges: &[(usize, usize)], symbol: usize) -> Option<usize>
     requires { EdgesAscend edges.now }
     ensures found { IfSome result (λ place.

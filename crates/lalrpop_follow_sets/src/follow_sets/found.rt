@@ -1,4 +1,4 @@
-//! What one pass over states finds.
+//! The result of one pass over states.
 ghost use Rattle.std.specs.Prelude.{◌<◌, ◌↔◌, ℕ, length, Contains, IfOk, IsTrue};
 ghost use Rattle.lalrpop_base.specs.Words.{AreClosed, AreCoherent, IsWellFormed, has, rules_of, AreNumbers};
 ghost use Rattle.lalrpop_follow_sets.specs.follow_sets.FollowNodes.{AreOfGrammar, AreAllReached, IsPass};
@@ -25,18 +25,20 @@ use lalrpop_base::spread::spread;
 use lalrpop_construction::construction::numbered_state::NumberedState;
 use std::alloc::Global;
 
-/// The follow sets of nonterminals in states, and where they go.
+/// The follow sets of nonterminals in states, and the reductions to which their tokens go.
+/// `Found::new` makes it, and `unions` and `shifted` read it.
 #[derive(Drop)]
 pub struct Found {
     /// For each node its follow set.
     follow: Vec<TokenSet>,
-    /// For each state the numbers of finished items, each with a node whose set it has.
+    /// For each state, pairs of the number of a finished item and a node. The reduction by the item
+    /// takes the follow set of the node.
     lookback: Lookback,
-    /// For each symbol the set of its token.
+    /// For each symbol the set of its token, which is empty for a nonterminal.
     tokens: Vec<TokenSet>,
 }
 
-// The follow sets of a pass, and where they go.
+// Finds the follow sets of a pass, and the reductions to which they go.
 fn find(alloc: Global, pass: &Pass<'_, '_>) -> Result<Found, OutOfMemory>
     requires { IsPass pass.now }
     ensures { IfOk result (FindsLookaheads (rules_of pass.now.grammar.now) pass.now.name.now
@@ -53,7 +55,8 @@ fn find(alloc: Global, pass: &Pass<'_, '_>) -> Result<Found, OutOfMemory>
 }
 
 impl Found {
-    /// What is found over states of a grammar, which are closed.
+    /// Makes the pass over closed states of a grammar, each of which is reached from state 0.
+    /// `OutOfMemory` if an allocation fails.
     pub fn new<'grammar>(
         alloc: Global,
         grammar: &'grammar Grammar,
@@ -89,7 +92,8 @@ impl Found {
         find(alloc, &pass)
     }
 
-    /// For each of the numbers of finished items of a state the tokens found.
+    /// For each finished item in `reductions`, by number, its lookahead set in the state. The sets
+    /// have the order of `reductions`. `OutOfMemory` if an allocation fails.
     pub fn unions(
         &self,
         alloc: Global,
@@ -113,7 +117,8 @@ impl Found {
         )
     }
 
-    /// The tokens of the symbols of transitions.
+    /// The set of the terminals over which transitions lead. A transition is a pair of the number
+    /// of a symbol and a target state. `OutOfMemory` if an allocation fails.
     pub fn shifted(
         &self,
         alloc: Global,

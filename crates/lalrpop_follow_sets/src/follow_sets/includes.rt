@@ -8,7 +8,8 @@ use super::pass::Pass;
 use lalrpop_base::memory::OutOfMemory;
 use std::alloc::Global;
 
-/// For each node those that include its follow set. Each walk notes its node where it ends.
+/// For each node the nodes that include its follow set. Each walk from a node also adds this node
+/// to `lookback`, at the state and the finished item in which the walk ends.
 pub(super) fn includes(
     alloc: Global,
     pass: &Pass<'_, '_>,

@@ -1,4 +1,5 @@
-//! For each state the finished items in which walks to it end, with the nodes where these began.
+//! For each state the finished items in which walks end there, each with the node where its walk
+//! began.
 ghost use Rattle.std.specs.Prelude.{◌≡◌, ◌<◌, ℕ, length, Contains, IfOk, OnOk};
 ghost use Rattle.lalrpop_grammar.specs.declared.repr.Production.{Production as OfGrammar};
 ghost use Rattle.lalrpop_follow_sets.specs.follow_sets.FollowNodes.{IsPass};
@@ -10,10 +11,10 @@ use super::walk::walk;
 use lalrpop_base::memory::OutOfMemory;
 use std::alloc::Global;
 
-/// For each state the numbers of finished items, each with a node.
+/// For each state, pairs of the number of a finished item and a node.
 pub(super) type Lookback = Vec<Vec<(usize, usize)>>;
 
-/// As many empty lists as the count says.
+/// As many empty lists as `count` says.
 pub(super) fn empty_lookback(alloc: Global, count: usize) -> Result<Lookback, OutOfMemory>
     ensures { IfOk result (λ lookback. AreEmptyLists count lookback.items) }
 {
@@ -24,7 +25,8 @@ pub(super) fn empty_lookback(alloc: Global, count: usize) -> Result<Lookback, Ou
     Ok(lookback)
 }
 
-// Walks over a production, and notes the node where it ends.
+// Walks over a production, and adds the node to the list of the state in which the walk ends. The
+// nodes that the walk goes through are appended to `ends`.
 fn walk_from(
     pass: &Pass<'_, '_>,
     node: usize,
@@ -51,7 +53,8 @@ fn walk_from(
     Ok(())
 }
 
-/// Walks over each of the productions, and notes the node where they end.
+/// Walks over each of the productions, and adds the node to the lists of the states in which these
+/// walks end. The nodes that the walks go through are appended to `ends`.
 pub(super) fn walk_all(
     pass: &Pass<'_, '_>,
     node: usize,

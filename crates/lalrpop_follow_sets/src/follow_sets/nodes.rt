@@ -11,8 +11,8 @@ use lalrpop_base::repr::Symbol;
 use lalrpop_construction::construction::numbered_state::NumberedState;
 use std::alloc::Global;
 
-/// The nodes, by number: for each state its transitions over nonterminals, and the start symbol in
-/// state 0, if it has no such transition.
+/// The nodes, by number. Each state has a node for each of its transitions over nonterminals. The
+/// start symbol has a node in state 0 too, if state 0 has no transition over it.
 #[derive(Drop)]
 pub(super) struct Nodes {
     /// For each state the number of its first node.
@@ -21,7 +21,8 @@ pub(super) struct Nodes {
     pub(super) pairs: Vec<(usize, usize)>,
 }
 
-// Puts the nodes of a state behind the others. The transitions over nonterminals come first.
+// Appends the nodes of a state to `pairs`: one for each transition over a nonterminal. The
+// transitions over nonterminals come first in `edges`.
 fn add_nodes(
     symbols: &[Symbol],
     state: usize,
@@ -41,7 +42,7 @@ fn add_nodes(
     Ok(())
 }
 
-// The nodes of the transitions.
+// The nodes of the transitions over nonterminals.
 fn transition_nodes(
     alloc: Global,
     symbols: &[Symbol],
@@ -66,7 +67,7 @@ fn transition_nodes(
     Ok(Nodes { firsts, pairs })
 }
 
-/// The nodes of the transitions, and that of the start symbol in state 0.
+/// The nodes of the transitions over nonterminals, and the node of the start symbol in state 0.
 pub(super) fn nodes_of(
     alloc: Global,
     symbols: &[Symbol],

@@ -1,4 +1,4 @@
-//! What a pass over states goes over.
+//! The data that a pass over states reads.
 ghost use Rattle.lalrpop_grammar.specs.declared.repr.NonterminalString.{NonterminalString as Name};
 ghost use Rattle.lalrpop_grammar.specs.declared.repr.Symbol.TheVariants.{Nonterminal};
 ghost use Rattle.lalrpop_follow_sets.specs.follow_sets.FollowNodes.{IsNodeName, IsPass};
@@ -13,8 +13,8 @@ use lalrpop_base::repr::NonterminalString;
 use lalrpop_base::repr::grammar::Grammar;
 use lalrpop_construction::construction::numbered_state::NumberedState;
 
-/// States of a grammar, as they are and by number, with the rests of dotted productions and the
-/// nodes of the follow graph.
+/// States of a grammar as they are and by number, the rests of dotted productions, and the nodes of
+/// the follow graph.
 #[derive(Drop)]
 pub(super) struct Pass<'pass, 'grammar> {
     pub(super) grammar: &'grammar Grammar,
@@ -29,7 +29,8 @@ pub(super) struct Pass<'pass, 'grammar> {
 }
 
 impl<'pass, 'grammar> Pass<'pass, 'grammar> {
-    /// The numbers of the productions of a node's nonterminal with the dot in front.
+    /// The numbers of the productions of a node's nonterminal with the dot at the start. `symbol`
+    /// is the number of the nonterminal in the node.
     pub(super) fn fronts(&self, symbol: usize) -> &'pass [usize]
         requires { IsPass self.now }
         ensures { (a : Name) →

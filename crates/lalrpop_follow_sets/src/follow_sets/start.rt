@@ -14,13 +14,14 @@ use std::alloc::Global;
 /// The start symbol.
 #[derive(Drop)]
 pub(super) struct Start {
-    /// Its number, or how many symbols there are, where it stands on no right side.
+    /// The number of the symbol, or the count of all symbols, if the start symbol is on no right
+    /// side.
     pub(super) number: usize,
-    /// The numbers of its productions with the dot in front.
+    /// The numbers of the start symbol's productions with the dot at the start.
     pub(super) fronts: Vec<usize>,
 }
 
-// The number of a nonterminal, or how many symbols there are, where it stands on no right side.
+// The number of a nonterminal, or the count of all symbols, if the nonterminal is on no right side.
 fn number_or_count(
     alloc: Global,
     symbols: &[Symbol],
@@ -36,7 +37,7 @@ fn number_or_count(
     }
 }
 
-/// The numbers of the productions of a nonterminal with the dot in front.
+/// The numbers of the productions of a nonterminal with the dot at the start.
 pub(crate) fn fronts_of(
     alloc: Global,
     numbers: &Numbers,

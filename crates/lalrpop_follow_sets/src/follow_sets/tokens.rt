@@ -1,4 +1,4 @@
-//! The tokens of symbols, and whether sets share one.
+//! The tokens of symbols, and a test whether sets share a token.
 ghost use Rattle.std.specs.Prelude.{◌<◌, ◌↔◌, ℕ, IsTrue, MatchBool, IfOk, Contains, length};
 ghost use Rattle.lalrpop_base.specs.Words.{has};
 ghost use Rattle.lalrpop_follow_sets.specs.follow_sets.FollowWalks.{AreTokensOfSymbols, HasTokenOf, HoldsSomeOf, ShareBits};
@@ -10,7 +10,7 @@ use lalrpop_base::repr::Symbol;
 use lalrpop_base::repr::terminals::TerminalSet;
 use std::alloc::Global;
 
-// The token of a terminal in the grammar's list, and none of another symbol.
+// The set of the symbol's token, if it is a terminal in the grammar's list, else the empty set.
 fn token_of(
     alloc: Global,
     terminals: &TerminalSet,
@@ -28,7 +28,7 @@ fn token_of(
     Ok(set)
 }
 
-/// For each symbol the set of its token.
+/// For each symbol the set of its token, which is empty for a nonterminal.
 pub(super) fn tokens_of(
     alloc: Global,
     terminals: &TerminalSet,
@@ -44,7 +44,7 @@ pub(super) fn tokens_of(
     Ok(tokens)
 }
 
-/// The tokens that are shifted.
+/// The union of the sets of the transitions' symbols. These are the tokens that the state shifts.
 pub(super) fn shifted_tokens(
     alloc: Global,
     terminals: &TerminalSet,
@@ -62,7 +62,8 @@ pub(super) fn shifted_tokens(
     Ok(shifted)
 }
 
-/// Whether two of the sets share a token, or one with the first.
+/// Whether two of `sets` share a token, or one of them shares a token with `first`. `OutOfMemory`
+/// if an allocation fails.
 pub fn share_token(first: TokenSet, sets: &[TokenSet]) -> Result<bool, OutOfMemory>
     ensures { IfOk result (λ shared. MatchBool shared
         (ShareBits first sets.now)

@@ -8,7 +8,7 @@ use lalrpop_base::memory::OutOfMemory;
 use lalrpop_base::repr::terminals::TerminalSet;
 use std::alloc::Global;
 
-// Joins a follow set to the sets of the reductions by an item.
+// Adds the tokens of a follow set to the sets of the reductions by an item.
 fn join_found(
     found: &TokenSet,
     item: usize,
@@ -27,7 +27,8 @@ fn join_found(
     Ok(())
 }
 
-/// For each reduction the union of the follow sets of the nodes that stand with its item.
+/// For each reduction the union of the follow sets of the nodes that `lookback` pairs with its
+/// item.
 pub(super) fn unions_of(
     alloc: Global,
     terminals: &TerminalSet,

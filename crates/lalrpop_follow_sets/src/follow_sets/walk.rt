@@ -10,7 +10,7 @@ use super::edges::place_of;
 use super::pass::Pass;
 use lalrpop_base::memory::OutOfMemory;
 
-// Whether a nonterminal with a nullable rest stands behind the dot.
+// Whether the symbol after the dot is a nonterminal, and the rest after it is nullable.
 fn passes(pass: &Pass<'_, '_>, item: usize) -> bool
     requires pass { IsPass pass.now }
     requires known { item < length pass.now.numbers.now.items.items }
@@ -24,8 +24,8 @@ fn passes(pass: &Pass<'_, '_>, item: usize) -> bool
     }
 }
 
-// Goes over the symbol behind a dot: gives the state to which it leads. Where it is a nonterminal
-// with a nullable rest, its node is put behind the ends.
+// Goes over the symbol after a dot, and returns the state to which it leads. If the symbol is a
+// nonterminal with a nullable rest, its node is appended to `ends`.
 fn step(
     pass: &Pass<'_, '_>,
     state: usize,
@@ -54,8 +54,9 @@ fn step(
     Ok(Some(edges[place].1))
 }
 
-/// Walks over what stands behind a dot: gives the state and the finished item to which it leads.
-/// The nodes of nonterminals with a nullable rest are put behind the ends.
+/// Walks over the symbols after a dot, and returns the state and the finished item to which they
+/// lead. `None` if they lead to no state. The nodes of nonterminals with a nullable rest are
+/// appended to `ends`.
 pub(super) fn walk(
     pass: &Pass<'_, '_>,
     from: usize,

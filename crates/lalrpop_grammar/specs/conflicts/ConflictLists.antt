@@ -1,4 +1,5 @@
--- Lists of conflicts, as they are made by going through the shifted terminals and the reductions of a state.
+-- Lists of conflicts, in the order in which a loop over the shifted terminals and the reductions of
+-- a state makes them.
 use Rattle.std.specs.Prelude.{◌≡◌, ◌↔◌, ◌<◌, ℕ, true, List, [], ◌∷◌, ◌++◌, slice_get, Some}
 use Rattle.lalrpop_grammar.specs.declared.repr.TerminalString.{TerminalString}
 use Rattle.lalrpop_grammar.specs.declared.lookahead.token.Token.{Token}
@@ -14,31 +15,31 @@ pub record IsShiftConflict (t : TerminalString) (r : Reduction) (c : ConflictCon
   pub action : c.action ≡ Shift t
   pub exact : (s : Token) → (c.lookahead s ≡ true) ↔ (s ≡ TokenOf t)
 
--- the conflicts of a shift, going through the reductions
+-- the conflicts of a shift with the reductions of a list, in their order
 pub data ShiftPart (t : TerminalString) : List Reduction → List ConflictContents → Type 0 where
   no_more : ShiftPart t [] []
   in_conflict : {rs : List Reduction} {cs : List ConflictContents} (r : Reduction) (c : ConflictContents) → IsShiftConflict t r c → ShiftPart t rs cs → ShiftPart t (r ∷ rs) (c ∷ cs)
   apart : {rs : List Reduction} {cs : List ConflictContents} (r : Reduction) → (r.holds (TokenOf t) ≡ true → ⊥) → ShiftPart t rs cs → ShiftPart t (r ∷ rs) cs
 
--- those of each shifted terminal
+-- the conflicts of each shifted terminal, in turn
 pub data ShiftParts (rs : List Reduction) : List TerminalString → List ConflictContents → Type 0 where
   no_shifts : ShiftParts rs [] []
   shift_first : {ts : List TerminalString} {cs ds : List ConflictContents} (t : TerminalString) → ShiftPart t rs cs → ShiftParts rs ts ds → ShiftParts rs (t ∷ ts) (cs ++ ds)
 
--- a conflict of two reductions, on all tokens that they share, of which there is one
+-- a conflict of two reductions, on exactly the tokens that they share. There is at least one
 pub record IsReduceConflict (r q : Reduction) (c : ConflictContents) : Type 0 where
   pub some : (t : Token) × (r.holds t ≡ true) × (q.holds t ≡ true)
   pub production : c.production ≡ r.production
   pub action : c.action ≡ Reduce q.production
   pub exact : (s : Token) → (c.lookahead s ≡ true) ↔ ((r.holds s ≡ true) × (q.holds s ≡ true))
 
--- the conflicts of a reduction with later ones
+-- the conflicts of a reduction with the later ones
 pub data LaterPart (r : Reduction) : List Reduction → List ConflictContents → Type 0 where
   no_later : LaterPart r [] []
   with_later : {rs : List Reduction} {cs : List ConflictContents} (q : Reduction) (c : ConflictContents) → IsReduceConflict r q c → LaterPart r rs cs → LaterPart r (q ∷ rs) (c ∷ cs)
   shares_none : {rs : List Reduction} {cs : List ConflictContents} (q : Reduction) → ((t : Token) → r.holds t ≡ true → q.holds t ≡ true → ⊥) → LaterPart r rs cs → LaterPart r (q ∷ rs) cs
 
--- those of each reduction
+-- the conflicts of each reduction with the later ones, in turn
 pub data ReduceParts : List Reduction → List ConflictContents → Type 0 where
   no_reductions : ReduceParts [] []
   reduce_first : {rs : List Reduction} {cs ds : List ConflictContents} (r : Reduction) → LaterPart r rs cs → ReduceParts rs ds → ReduceParts (r ∷ rs) (cs ++ ds)

@@ -1,4 +1,5 @@
--- Productions whose names and terminals are numbers, and what sets by number give for them.
+-- Productions whose names and terminals are numbers, and the tokens that sets by number give for
+-- them.
 use Rattle.std.specs.Prelude.{◌≡◌, ◌≢◌, ℕ, zero, suc, ◌<◌, ◌⊎◌, ◌↔◌, true, cond, List, [], ◌∷◌, length, slice_get, Some, Contains}
 use Rattle.std.specs.List.{AllZip}
 use Rattle.std.specs.BTreeMap.{is_at}
@@ -14,7 +15,7 @@ use Rattle.lalrpop_grammar.specs.declared.first.numbered.NumberedProduction.{Num
 use Rattle.lalrpop_collections.specs.lists.Bits.{Bits, has}
 use Rattle.lalrpop_grammar.specs.grammars.WellFormed.{name_cmp, HasKnownTerminals}
 
--- the place of the name among the names, and the count of all where it is none of them
+-- the place of the name among the names, or the count of all if it is none of them
 abbrev pub place : List NonterminalString → NonterminalString → ℕ
 place [] name = zero
 place (a ∷ names) name = cond (is_at (name_cmp name) a) zero (suc (place names name))
@@ -42,16 +43,17 @@ pub record IsReady (terminals : List TerminalString) (names : List NonterminalSt
   pub known : HasKnownTerminals terminals p.symbols
   pub named : place names p.nonterminal < length names
 
--- each of the productions is
+-- each of the productions is ready
 abbrev pub AreReady : List TerminalString → List NonterminalString → List Production → Type 0
 AreReady terminals names productions = (p : Production) → Contains productions p → IsReady terminals names p
 
--- what Gives says of a table, of sets by number; end is the bit of Eof
+-- the bits that sets by number give for a list of symbols, as Gives has them for a table. The bit
+-- of Eof is end
 abbrev pub GivesByNumber : ℕ → List Bits → List NumberedSymbol → ℕ → Type 0
 GivesByNumber end sets [] bit = bit ≡ end
 GivesByNumber end sets (Bit b ∷ l) bit = bit ≡ b
 GivesByNumber end sets (Name n ∷ l) bit = ((has (set_at sets n) bit ≡ true) × (bit ≢ end)) ⊎ ((has (set_at sets n) end ≡ true) × GivesByNumber end sets l bit)
 
--- each bit among the symbols is below the end
+-- each bit among the symbols is below end
 abbrev pub HasBitsBelow : ℕ → List NumberedSymbol → Type 0
 HasBitsBelow end symbols = (b : ℕ) → Contains symbols (Bit b) → b < end

@@ -1,4 +1,4 @@
--- Tables of sets of tokens by name, and what they give for lists of symbols.
+-- Tables of sets of tokens by name, and the tokens that they give for lists of symbols.
 use Rattle.std.specs.Prelude.{◌≡◌, ◌≢◌, ℕ, ◌≤◌, ◌⊎◌, Bool, true, ◌&&◌, ◌||◌, ◌==◌, not, List, [], ◌∷◌, length, slice_get, Some, unwrap_or, Contains}
 use Rattle.std.specs.BTreeMap.{is_at}
 use Rattle.std.specs.Map.{lookup}
@@ -15,7 +15,7 @@ use Rattle.lalrpop_grammar.specs.grammars.WellFormed.{name_cmp}
 abbrev pub Table : Type 0
 Table = List (NonterminalString × Bits)
 
--- the set of a name, empty where it has none
+-- the set of a name, which is empty if the table has none
 abbrev pub set_of : Table → NonterminalString → Bits
 set_of table name = unwrap_or (lookup (is_at (name_cmp name)) table) no_bits
 
@@ -23,23 +23,25 @@ set_of table name = unwrap_or (lookup (is_at (name_cmp name)) table) no_bits
 abbrev pub is_in : Table → NonterminalString → ℕ → Bool
 is_in table name bit = has (set_of table name) bit
 
--- a table gives for a list the bits of its first symbol but Eof and, where that has Eof, those of the rest; for the empty list Eof
+-- the bits that a table gives for a list: those of its first symbol except Eof and, if that symbol
+-- has Eof, those of the rest. For the empty list it is Eof
 abbrev pub Gives : List TerminalString → Table → List Symbol → ℕ → Type 0
 Gives terminals table [] bit = bit ≡ length terminals
 Gives terminals table (Terminal t ∷ l) bit = slice_get terminals bit ≡ Some t
 Gives terminals table (Nonterminal a ∷ l) bit = ((is_in table a bit ≡ true) × (bit ≢ length terminals)) ⊎ ((is_in table a (length terminals) ≡ true) × Gives terminals table l bit)
 
--- a set but Eof, whose bit is the end, is joined to another, and told is whether Eof was in it
+-- a set except Eof, whose bit is end, is joined to another. The flag says whether Eof was in the
+-- former
 pub record IsSetJoined (told : Bool) (end : ℕ) (found old new : Bits) : Type 0 where
   pub nullable : told ≡ has found end
   pub members : (bit : ℕ) → has new bit ≡ ((has old bit || has found bit) && not (bit == end))
 
--- the table holds only what it should
+-- the table has only right bits: terminals in FIRST of the name, and Eof if the name is nullable
 pub record IsRight (terminals : List TerminalString) (g : List Production) (table : Table) : Type 0 where
   pub begins : (a : NonterminalString) (bit : ℕ) (t : TerminalString) → slice_get terminals bit ≡ Some t → is_in table a bit ≡ true → IsFirst g (Nonterminal a ∷ []) t
   pub nullable : (a : NonterminalString) → is_in table a (length terminals) ≡ true → IsNullable g (Nonterminal a ∷ [])
   pub fits : (a : NonterminalString) (bit : ℕ) → is_in table a bit ≡ true → bit ≤ length terminals
 
--- the table has for each production what it gives for its right side
+-- the table has for the name of each production all that it gives for the right side
 abbrev pub IsClosed : List TerminalString → List Production → Table → Type 0
 IsClosed terminals productions table = (p : Production) (bit : ℕ) → Contains productions p → Gives terminals table p.symbols bit → is_in table p.nonterminal bit ≡ true

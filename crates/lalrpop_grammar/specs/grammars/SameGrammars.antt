@@ -1,11 +1,11 @@
--- Grammars that differ in nothing but where they lie in memory.
+-- Grammars that differ only in their places in memory.
 use Rattle.std.specs.Prelude.{◌≡◌}
 use Rattle.std.specs.List.{AllZip}
 use Rattle.lalrpop_grammar.specs.declared.repr.NonterminalString.{NonterminalString}
 use Rattle.lalrpop_grammar.specs.declared.repr.grammar.NonterminalData.{NonterminalData}
 use Rattle.lalrpop_grammar.specs.declared.repr.grammar.Grammar.{Grammar}
 
--- entries with equal productions, attributes and places
+-- entries with equal productions, attributes and spans
 pub record IsSameEntry (a b : NonterminalData) : Type 0 where
   pub productions : b.productions.items ≡ a.productions.items
   pub attributes : b.attributes.items ≡ a.attributes.items

@@ -17,12 +17,13 @@ pub record HasPlaces (xs : List TerminalString) (n : ℕ) (places : BTreeMap Ter
   pub sound : (t : TerminalString) (p : ℕ) → get terminal.ghosts.cmp places t ≡ Some p → (p < n) × (slice_get xs p ≡ Some t)
   pub complete : (t : TerminalString) (p : ℕ) → p < n → slice_get xs p ≡ Some t → get terminal.ghosts.cmp places t ≡ Some p
 
--- the places of all terminals, or the first place whose terminal stands earlier too
+-- the places of all terminals, or the first place whose terminal is also at an earlier one
 abbrev pub IsIndexed : List TerminalString → Indexed → Type 0
 IsIndexed xs (Places places) = HasPlaces xs (length xs) places
 IsIndexed xs (Repeat place) = (x : TerminalString) × IsFirstRepeat xs place x
 
--- terminals without repeats, few enough to number two tokens more, with the map of their places
+-- the terminals all differ, there are few enough to number two more tokens, and the map has their
+-- places
 pub record ArePlaced (xs : List TerminalString) (places : BTreeMap TerminalString ℕ) : Type 0 where
   pub numbered : IsNumbered xs
   pub placed : HasPlaces xs (length xs) places

@@ -13,17 +13,18 @@ IsTerminal Eof = ⊥
 IsTerminal Error = ⊥
 IsTerminal (Terminal t) = Unit {0}
 
--- a token that borrows its terminal, as a token
+-- the token that equals a token with a borrowed terminal
 abbrev pub seen : TokenRef → Token
 seen EofRef = Eof
 seen ErrorRef = Error
 seen (TerminalRef t) = Terminal t.now
 
+-- the terminal if there is one, and the token otherwise
 abbrev token_past : Option TerminalString → Token → Token
 token_past None token = token
 token_past (Some t) token = Terminal t
 
--- the token with the bit: a terminal by its place, then the end, then an error
+-- the token with the bit: a terminal by its place, then Eof, then Error
 abbrev pub token_of : List TerminalString → ℕ → Token
 token_of terminals bit = token_past (slice_get terminals bit) (cond (bit == length terminals) Eof Error)
 
@@ -37,12 +38,12 @@ IsBitOf terminals (Terminal t) bit = slice_get terminals bit ≡ Some t
 abbrev pub HasToken : List TerminalString → Bits → Token → Type 0
 HasToken terminals set token = (bit : ℕ) × IsBitOf terminals token bit × IsTrue (has set bit)
 
--- a terminal is in the list
+-- the token is known: if it is a terminal, the list has it
 abbrev pub IsKnown : List TerminalString → Token → Type 0
 IsKnown terminals Eof = Unit {0}
 IsKnown terminals Error = Unit {0}
 IsKnown terminals (Terminal t) = Contains terminals t
 
--- every bit is that of a token
+-- each bit is that of a token
 abbrev pub FitsTokens : List TerminalString → Bits → Type 0
 FitsTokens terminals set = (bit : ℕ) → IsTrue (has set bit) → bit ≤ length terminals + 1

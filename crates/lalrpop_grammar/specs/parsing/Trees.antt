@@ -6,13 +6,13 @@ use Rattle.lalrpop_grammar.specs.declared.repr.Production.{Production}
 use Rattle.lalrpop_grammar.specs.declared.repr.Symbol.{Symbol}
 use Rattle.lalrpop_grammar.specs.declared.repr.Symbol.TheVariants.{Nonterminal, Terminal}
 
--- a parse tree without where it lies in memory: a terminal, or a nonterminal over its children
+-- a parse tree, whatever its place in memory is: a terminal, or a nonterminal over its children
 mutual
   pub data Tree : Type 0 where
     Leaf : TerminalString → Tree
     Node : NonterminalString → Trees → Tree
 
-  -- trees beside one another
+  -- trees in a row
   pub data Trees : Type 0 where
     no_trees : Trees
     beside : Tree → Trees → Trees
@@ -38,13 +38,14 @@ leaves no_trees = []
 leaves (beside (Leaf t) ts) = t ∷ leaves ts
 leaves (beside (Node a children) ts) = leaves children ++ leaves ts
 
--- how many nodes there are, inner ones and leaves
+-- the number of nodes, both inner ones and leaves
 abbrev pub nodes : Trees → ℕ
 nodes no_trees = 0
 nodes (beside (Leaf t) ts) = suc (nodes ts)
 nodes (beside (Node a children) ts) = suc (nodes children + nodes ts)
 
--- a production of g gives a node: its nonterminal is the node's name, its symbols are the children's roots
+-- a production of g gives a node: the nonterminal of the production is the node's name, and its
+-- symbols are the children's roots
 pub record IsNode (g : List Production) (a : NonterminalString) (children : Trees) : Type 0 where
   pub production : Production
   pub of_grammar : Contains g production
@@ -57,7 +58,8 @@ AreOfGrammar g no_trees = Unit {0}
 AreOfGrammar g (beside (Leaf t) ts) = AreOfGrammar g ts
 AreOfGrammar g (beside (Node a children) ts) = IsNode g a children × AreOfGrammar g children × AreOfGrammar g ts
 
--- a parse tree of a terminal list from the start symbol: its root is the start symbol, its inner nodes are given by productions, and its leaves are the list
+-- a parse tree of a list of terminals from the start symbol: its root is the start symbol,
+-- productions give its inner nodes, and its leaves are the list
 pub record IsParseTree (g : List Production) (start : NonterminalString) (w : List TerminalString) (t : Tree) : Type 0 where
   pub from_start : root t ≡ Nonterminal start
   pub of_grammar : AreOfGrammar g (beside t no_trees)

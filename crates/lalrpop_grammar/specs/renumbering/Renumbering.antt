@@ -4,12 +4,13 @@ use Rattle.lalrpop_grammar.specs.declared.repr.NonterminalString.{NonterminalStr
 use Rattle.lalrpop_grammar.specs.declared.repr.Symbol.{Symbol}
 use Rattle.lalrpop_grammar.specs.states.States.{Contents, leads}
 
--- the number that a target has then
+-- the new number of a target
 abbrev pub renumbered : (ℕ → ℕ) → Option ℕ → Option ℕ
 renumbered new None = None
 renumbered new (Some n) = Some (new n)
 
--- a one-to-one change of state numbers that fixes 0 and commutes with shifts and gotos, and changes nothing else
+-- a renumbering is a one-to-one change of state numbers. It keeps 0, commutes with shifts and
+-- gotos, and changes nothing else
 pub record IsRenumbering (new old : ℕ → ℕ) (before after : ℕ → Contents) : Type 0 where
   pub there : (n : ℕ) → old (new n) ≡ n
   pub back : (n : ℕ) → new (old n) ≡ n
@@ -22,6 +23,6 @@ pub record IsRenumbering (new old : ℕ → ℕ) (before after : ℕ → Content
 abbrev pub HasGoto : Contents → Type 0
 HasGoto s = (a : NonterminalString) × (n : ℕ) × (s.goto a ≡ Some n)
 
--- behind state 0 the states below a number that have a goto stand before those without
+-- after state 0, and below a number, the states that have a goto are before those without
 abbrev pub PutsGotosFirst : ℕ → (ℕ → Contents) → Type 0
 PutsGotosFirst count states = (n m : ℕ) → 0 < n → n < m → m < count → HasGoto (states m) → HasGoto (states n)

@@ -1,4 +1,4 @@
-//! The first sets by a worklist: a production waits while it may add something to the sets.
+//! FIRST sets by a worklist, in which a production waits while it may add tokens to the sets.
 ghost use Rattle.std.specs.Prelude.{◌≡◌, ◌<◌, ℕ, length, Contains, IfOk, OnOk};
 ghost use Rattle.std.specs.List.{zip};
 ghost use Rattle.std.specs.Map.{keys_of};
@@ -20,7 +20,7 @@ use lalrpop_collections::collections::queue::Queue;
 use lalrpop_collections::memory::OutOfMemory;
 use std::alloc::Global;
 
-// The first sets of a grammar.
+// The FIRST sets of a grammar, by name.
 pub(super) fn first_table(alloc: Global, grammar: &Grammar) -> Result<Table, OutOfMemory>
     requires { IsWellFormed grammar.now }
     ensures { IfOk result (λ table. AreFirstSetsOf (rules_of grammar.now) table.entries) }
@@ -30,8 +30,8 @@ pub(super) fn first_table(alloc: Global, grammar: &Grammar) -> Result<Table, Out
     names.into_table(alloc, sets)
 }
 
-// The first sets by the numbers of the names. At first all productions wait; behind a set that
-// grew those that use its name do.
+// The FIRST sets, by the numbers of the names. At first all productions wait. If the set of a name
+// grows, the productions that use the name wait again.
 fn first_sets(alloc: Global, grammar: &Grammar, names: &Names) -> Result<Vec<TokenSet>, OutOfMemory>
     requires formed { IsWellFormed grammar.now }
     requires names { names.now ≡ keys_of grammar.now.nonterminals.entries }
@@ -56,7 +56,8 @@ fn first_sets(alloc: Global, grammar: &Grammar, names: &Names) -> Result<Vec<Tok
     Ok(sets)
 }
 
-// Adds what a production gives, and queues the uses of its name where the set of that grew.
+// Adds the tokens that a production gives to the set of its name. If that set grew, the productions
+// that use the name are queued.
 fn turn(
     alloc: Global,
     terminals: &TerminalSet,
@@ -79,7 +80,7 @@ fn turn(
     Ok(())
 }
 
-// Adds what a production gives, and tells whether the set of its name grew.
+// Adds the tokens that a production gives, and returns whether the set of its name grew.
 fn add_production(
     alloc: Global,
     terminals: &TerminalSet,
@@ -96,7 +97,7 @@ fn add_production(
     Ok(grew)
 }
 
-// Queues numbers that do not wait yet.
+// Queues those of the numbers that do not wait yet.
 fn queue_all(numbers: &[usize], queue: &mut Queue) -> Result<(), OutOfMemory>
     requires { (k : ℕ) → Contains numbers.now k → k < queue.old.limit }
     ensures { OnOk result (IsQueued numbers.now queue.old queue.new) }

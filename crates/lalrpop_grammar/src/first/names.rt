@@ -1,4 +1,4 @@
-//! The names of a grammar, by number.
+//! The names of the nonterminals of a grammar, by number.
 ghost use Rattle.std.specs.Prelude.{◌≡◌, length, IfOk};
 ghost use Rattle.std.specs.List.{zip};
 ghost use Rattle.std.specs.Map.{keys_of};
@@ -13,7 +13,7 @@ use std::alloc::Global;
 use std::collections::BTreeMap;
 use std::marker::Model;
 
-// The names of a grammar, in their order, each with its place.
+// The names of the nonterminals of a grammar, in their order. The number of a name is its place.
 #[derive(Drop)]
 pub(super) struct Names {
     numbers: BTreeMap<NonterminalString, usize>,
@@ -34,7 +34,7 @@ impl Model for Names {
 }
 
 impl Names {
-    // The names that have an entry.
+    // The names that have an entry in the grammar.
     pub(super) fn new(alloc: Global, grammar: &Grammar) -> Result<Self, OutOfMemory>
         ensures { IfOk result (λ names. names ≡ keys_of grammar.now.nonterminals.entries) }
     {
@@ -46,14 +46,14 @@ impl Names {
         Ok(Names { numbers })
     }
 
-    // How many names there are.
+    // The number of names.
     pub(super) fn len(&self) -> usize
         ensures { result ≡ length self.now }
     {
         self.numbers.len()
     }
 
-    // The number of a name, and the count of all for a name that isn't one of these.
+    // The number of a name, or the count of all names if the name is not one of them.
     pub(super) fn number(&self, name: &NonterminalString) -> usize
         ensures { result ≡ place self.now name.now }
     {
@@ -63,7 +63,7 @@ impl Names {
         }
     }
 
-    // The sets, each under its name.
+    // The table in which each name has the set with its number.
     pub(super) fn into_table(self, alloc: Global, sets: Vec<TokenSet>) -> Result<Table, OutOfMemory>
         requires { length sets.items ≡ length self }
         ensures { IfOk result (λ table. table.entries ≡ zip self sets.items) }

@@ -21,14 +21,14 @@ pub(super) enum NumberedSymbol {
     Name(usize),
 }
 
-// A production by the number of its name and by its symbols.
+// A production: the number of its name, and its symbols.
 #[derive(Drop)]
 pub(super) struct NumberedProduction {
     pub name: usize,
     pub symbols: Sequence<NumberedSymbol>,
 }
 
-// All productions of a grammar, name by name.
+// All productions of a grammar, in the order of the names.
 pub(super) fn number_productions(
     alloc: Global,
     grammar: &Grammar,
@@ -52,7 +52,7 @@ pub(super) fn number_productions(
     Ok(numbered)
 }
 
-// Adds some productions.
+// Appends productions, by number.
 fn add_numbered(
     alloc: Global,
     terminals: &TerminalSet,
@@ -74,7 +74,7 @@ fn add_numbered(
     Ok(())
 }
 
-// The symbols of a right side.
+// The symbols of a right side, by number.
 fn number_symbols(
     alloc: Global,
     terminals: &TerminalSet,

@@ -1,4 +1,4 @@
-//! Sets of tokens by the numbers of names.
+//! Sets of tokens, by the numbers of names.
 ghost use Rattle.std.specs.Prelude.{◌≡◌, ◌↔◌, ℕ, true, false, length, IfOk};
 ghost use Rattle.lalrpop_collections.specs.lists.Bits.{has, no_bits};
 ghost use Rattle.lalrpop_grammar.specs.first.FirstTables.{IsSetJoined};
@@ -11,7 +11,7 @@ use crate::repr::terminals::TerminalSet;
 use lalrpop_collections::memory::OutOfMemory;
 use std::alloc::Global;
 
-// An empty set for each of so many names.
+// An empty set for each of `names` names.
 pub(super) fn empty_sets(
     alloc: Global,
     terminals: &TerminalSet,
@@ -27,7 +27,7 @@ pub(super) fn empty_sets(
     Ok(sets)
 }
 
-// What sets give for a right side.
+// FIRST of a right side, if the FIRST set of each name is the set with its number.
 pub(super) fn given_by(
     alloc: Global,
     sets: &[TokenSet],
@@ -57,7 +57,7 @@ pub(super) fn given_by(
     Ok(set)
 }
 
-// Joins the set of a name but `Eof`, and tells whether `Eof` was in it.
+// Adds the set of a name, except `Eof`, to `set`. Returns whether the set of the name has `Eof`.
 fn join_name(
     sets: &[TokenSet],
     terminals: &TerminalSet,

@@ -11,9 +11,10 @@ use lalrpop_collections::memory::OutOfMemory;
 use std::alloc::Global;
 use std::collections::BTreeMap;
 
+// The set of tokens of each name.
 pub(super) type Table = BTreeMap<NonterminalString, TokenSet>;
 
-// What a table gives for a list.
+// FIRST of a list of symbols, if the FIRST set of each name is its set in the table.
 pub(super) fn first_by(
     alloc: Global,
     table: &Table,
@@ -44,7 +45,7 @@ pub(super) fn first_by(
     Ok(set)
 }
 
-// Joins the set of a name but `Eof`, and tells whether `Eof` was in it.
+// Adds the set of a name, except `Eof`, to `set`. Returns whether the set of the name has `Eof`.
 fn join_name(
     table: &Table,
     terminals: &TerminalSet,
@@ -61,7 +62,7 @@ fn join_name(
     }
 }
 
-// Joins a set but `Eof`, and tells whether `Eof` was in it.
+// Adds a set, except `Eof`, to `set`. Returns whether the former has `Eof`.
 pub(super) fn join_set(
     found: &TokenSet,
     terminals: &TerminalSet,

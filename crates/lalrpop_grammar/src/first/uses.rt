@@ -1,4 +1,4 @@
-//! The productions on whose right sides a name stands.
+//! The uses of a name: the productions that have the name on their right sides.
 ghost use Rattle.std.specs.Prelude.{◌≡◌, [], ◌∷◌, length, IfOk, OnOk};
 ghost use Rattle.lalrpop_grammar.specs.first.FirstUses.{AreUses, AddsUses};
 
@@ -7,10 +7,11 @@ use lalrpop_collections::memory::OutOfMemory;
 use lalrpop_collections::sequence::Sequence;
 use std::alloc::Global;
 
-// For each name the numbers of the productions on whose right sides it stands, by rising number.
+// For each name, the numbers of the productions that use it, ascending. A production is listed once
+// for each occurrence of the name on its right side.
 pub(super) type Uses = Vec<Sequence<usize>>;
 
-// The uses of so many names by some productions.
+// The uses of the names below `names` by productions.
 pub(super) fn uses_of(
     alloc: Global,
     names: usize,
@@ -26,7 +27,7 @@ pub(super) fn uses_of(
     Ok(uses)
 }
 
-// Names without uses.
+// An empty list of uses for each name below `names`.
 fn no_uses(alloc: Global, names: usize) -> Result<Uses, OutOfMemory>
     ensures count { IfOk result (λ uses. length uses.items ≡ names) }
     ensures uses { IfOk result (λ uses. AreUses [] uses.items) }
@@ -38,7 +39,7 @@ fn no_uses(alloc: Global, names: usize) -> Result<Uses, OutOfMemory>
     Ok(uses)
 }
 
-// Adds the uses by the right side of a production.
+// Adds the uses that the right side of a production has.
 fn add_uses(number: usize, symbols: &[NumberedSymbol], uses: &mut Uses) -> Result<(), OutOfMemory>
     ensures { OnOk result (AddsUses number symbols.now uses.old.items uses.new.items) }
 {
@@ -48,7 +49,7 @@ fn add_uses(number: usize, symbols: &[NumberedSymbol], uses: &mut Uses) -> Resul
     Ok(())
 }
 
-// Adds the use by a symbol of a production, where it is a name that has uses.
+// Adds the use by one symbol of a production, if the symbol is a name with a list of uses.
 fn add_use(number: usize, symbol: NumberedSymbol, uses: &mut Uses) -> Result<(), OutOfMemory>
     ensures { OnOk result (AddsUses number (symbol ∷ []) uses.old.items uses.new.items) }
 {

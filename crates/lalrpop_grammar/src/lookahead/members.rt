@@ -1,4 +1,5 @@
-//! The tokens of a set.
+//! Calls on sets of tokens that take or return tokens. The terminals of the grammar give each token
+//! its bit.
 ghost use Rattle.std.specs.Prelude.{◌≡◌, ◌≢◌, ◌+◌, ◌^◌, ◌<◌, ◌≤◌, ◌↔◌, ℕ, List, length, map, IsTrue, IfOk, OnOk, OnErr, not, MatchBool, IfSome, IsSome, Some, nat_le, IsFalse, ◌==◌, ◌&&◌};
 ghost use Rattle.lalrpop_collections.specs.lists.Bits.{Bits, no_bits, has, rising, with_bit, join};
 ghost use Rattle.lalrpop_grammar.specs.grammars.Tokens.{IsBitOf, HasToken, IsKnown, FitsTokens, token_of};
@@ -9,7 +10,8 @@ use crate::repr::terminals::TerminalSet;
 use lalrpop_collections::memory::OutOfMemory;
 use std::alloc::Global;
 
-// The bit of a token, if it has one.
+// The bit of a token, if it has one. The bits below the count n of terminals are those of the
+// terminals, in their order. `Eof` has bit n, and `Error` has bit n + 1.
 fn bit_of(token: &Token, terminals: &TerminalSet) -> Option<usize>
     ensures found { IfSome result (IsBitOf terminals.now token.now) }
     ensures only { (bit : ℕ) → IsBitOf terminals.now token.now bit → result ≡ Some bit }
@@ -25,20 +27,21 @@ fn bit_of(token: &Token, terminals: &TerminalSet) -> Option<usize>
 }
 
 impl TokenSet {
+    /// A set without tokens.
     pub fn new(alloc: Global, _terminals: &TerminalSet) -> TokenSet
         ensures { result ≡ no_bits }
     {
         TokenSet::empty_set(alloc)
     }
 
-    /// All terminals and the end.
+    /// The set of all terminals and `Eof`.
     pub fn all(alloc: Global, terminals: &TerminalSet) -> Result<TokenSet, OutOfMemory>
         ensures { IfOk result (λ set. (bit : ℕ) → has set bit ≡ nat_le bit (length terminals.now)) }
     {
         TokenSet::below(alloc, terminals.all().len() + 1)
     }
 
-    /// Adds a token, and tells whether the set grew.
+    /// Adds a token, and returns whether the set grew.
     pub fn insert(&mut self, token: Token, terminals: &TerminalSet) -> Result<bool, OutOfMemory>
         requires { IsKnown terminals.now token }
         ensures inserted { OnOk result
@@ -51,7 +54,7 @@ impl TokenSet {
         self.insert_bit(bit)
     }
 
-    /// Whether a token is in the set; an unknown terminal is not.
+    /// Whether a token is in the set. An unknown terminal is in no set.
     pub fn contains(&self, token: &Token, terminals: &TerminalSet) -> bool
         ensures { IsTrue result ↔ HasToken terminals.now self.now token.now }
     {
@@ -61,14 +64,14 @@ impl TokenSet {
         }
     }
 
-    /// Whether each bit is that of a token.
+    /// Whether each bit of the set is the bit of a token.
     pub fn fits(&self, terminals: &TerminalSet) -> bool
         ensures { IsTrue result ↔ FitsTokens terminals.now self.now }
     {
         !self.has_greater_bit(terminals.all().len() + 1)
     }
 
-    /// The tokens by rising bit.
+    /// An iterator over the tokens of the set, in ascending order of their bits.
     pub fn iter<'a>(&'a self, terminals: &'a TerminalSet) -> TokenSetIter<'a>
         ensures { map (token_of result.terminals.now) result.bits ≡ map (token_of terminals.now)
             (rising self.now) }
@@ -79,6 +82,7 @@ impl TokenSet {
         }
     }
 
+    /// The number of tokens.
     pub fn len(&self) -> usize
         ensures { result ≡ length (rising self.now) }
     {
@@ -87,7 +91,7 @@ impl TokenSet {
 }
 
 impl TokenSet {
-    /// A set of one token.
+    /// The set of one token.
     pub fn of(alloc: Global, token: Token, terminals: &TerminalSet) -> Result<TokenSet, OutOfMemory>
         requires { IsKnown terminals.now token }
         ensures { IfOk result
@@ -98,14 +102,14 @@ impl TokenSet {
         Ok(set)
     }
 
-    /// Whether the end is in the set.
+    /// Whether `Eof` is in the set.
     pub fn contains_eof(&self, terminals: &TerminalSet) -> bool
         ensures { result ≡ has self.now (length terminals.now) }
     {
         self.contains_bit(terminals.all().len())
     }
 
-    /// Takes the end out of the set, and tells whether it was there.
+    /// Removes `Eof`, and returns whether it was in the set.
     pub fn take_eof(&mut self, terminals: &TerminalSet) -> bool
         ensures was { result ≡ has self.old (length terminals.now) }
         ensures left { (bit : ℕ) →
@@ -114,14 +118,14 @@ impl TokenSet {
         self.take_bit(terminals.all().len())
     }
 
-    /// A set of the end alone.
+    /// The set of `Eof` alone.
     pub fn eof(alloc: Global, terminals: &TerminalSet) -> Result<TokenSet, OutOfMemory>
         ensures { IfOk result (λ set. set ≡ with_bit no_bits (length terminals.now)) }
     {
         TokenSet::of(alloc, Token::Eof, terminals)
     }
 
-    /// Adds the end, and tells whether the set grew.
+    /// Adds `Eof`, and returns whether the set grew.
     pub fn insert_eof(&mut self, terminals: &TerminalSet) -> Result<bool, OutOfMemory>
         ensures inserted { OnOk result (self.new ≡ with_bit self.old (length terminals.now)) }
         ensures told { IfOk result
@@ -131,7 +135,7 @@ impl TokenSet {
         self.insert_bit(terminals.all().len())
     }
 
-    /// As `insert`.
+    /// Does the same as `insert`.
     pub fn insert_with(
         &mut self,
         token: Token,

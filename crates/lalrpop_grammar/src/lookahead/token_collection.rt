@@ -1,4 +1,4 @@
-//! Sets of tokens as collections: what is pushed is joined.
+//! Sets of tokens as collections. A push adds the tokens of a set.
 ghost use Rattle.std.specs.Prelude.{◌≡◌, refl};
 ghost use Rattle.lalrpop_collections.specs.lists.Bits.{no_bits, join};
 

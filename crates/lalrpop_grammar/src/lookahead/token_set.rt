@@ -25,7 +25,8 @@ use std::fmt;
 use std::hash::{Hash, Hasher};
 use std::marker::Model;
 
-/// A set of tokens, by their bits: bit n is bit n % 64 of word n / 64, and the last word is not 0.
+/// A set of tokens, by their bits. Bit n of the set is bit n % 64 of word n / 64. The last word is
+/// not 0.
 #[derive(Drop)]
 pub struct TokenSet {
     words: Vec<u64>,
@@ -48,6 +49,7 @@ impl Model for TokenSet {
 }
 
 impl TokenSet {
+    /// A set without bits.
     pub fn empty_set(alloc: Global) -> TokenSet
         ensures { result ≡ no_bits }
     {
@@ -56,7 +58,7 @@ impl TokenSet {
         }
     }
 
-    // The words.
+    // The words of the set, of 64 bits each.
     fn words(&self) -> &[u64]
         ensures view { bits_of_words result.now ≡ self.now }
         ensures is { IsBitVector result.now }
@@ -64,7 +66,7 @@ impl TokenSet {
         &self.words
     }
 
-    // The bits, rising.
+    /// An iterator over the bits of the set, in ascending order.
     pub fn bits(&self) -> BitIter<'_>
         ensures items { result ≡ rising self.now }
         ensures small { length result ≤ 2 ^ 63 }
@@ -72,6 +74,7 @@ impl TokenSet {
         BitIter::new(self.words())
     }
 
+    /// Whether a bit is in the set.
     pub fn contains_bit(&self, bit: usize) -> bool
         ensures has { result ≡ has self.now bit }
         ensures small { IsTrue result → bit < 2 ^ 63 }
@@ -79,7 +82,7 @@ impl TokenSet {
         has_number(self.words(), bit)
     }
 
-    // Whether a bit of the set is greater than one.
+    /// Whether the set has a bit greater than `bit`.
     pub fn has_greater_bit(&self, bit: usize) -> bool
         ensures yes { IsTrue result → (q : ℕ) × (bit < q) × IsTrue (has self.now q) }
         ensures no { IsFalse result → (q : ℕ) → bit < q → has self.now q ≡ false }
@@ -87,7 +90,7 @@ impl TokenSet {
         has_greater(self.words(), bit)
     }
 
-    // Adds a bit where it belongs, and tells whether the set grew.
+    /// Adds a bit, and returns whether the set grew.
     pub fn insert_bit(&mut self, bit: usize) -> Result<bool, OutOfMemory>
         requires { bit < 2 ^ 63 }
         ensures inserted { OnOk result (self.new ≡ with_bit self.old bit) }
@@ -104,7 +107,7 @@ impl TokenSet {
         Ok(true)
     }
 
-    // Takes a bit out, and tells whether it was there.
+    /// Removes a bit, and returns whether it was in the set.
     pub fn take_bit(&mut self, bit: usize) -> bool
         ensures was { result ≡ has self.old bit }
         ensures left { (q : ℕ) → has self.new q ≡ (has self.old q && not (q == bit)) }
@@ -117,7 +120,7 @@ impl TokenSet {
         true
     }
 
-    /// Adds the bits of another set, and tells whether this one grew.
+    /// Adds the bits of another set, and returns whether this set grew.
     pub fn union_with(&mut self, other: &TokenSet) -> Result<bool, OutOfMemory>
         ensures joined { OnOk result (self.new ≡ join self.old other.now) }
         ensures told { IfOk result
@@ -128,7 +131,7 @@ impl TokenSet {
         Ok(join_words(&mut self.words, &other.words))
     }
 
-    /// The bits that are in both sets.
+    /// The set of the bits that are in both sets.
     pub fn intersection(&self, alloc: Global, other: &TokenSet) -> Result<TokenSet, OutOfMemory>
         ensures { IfOk result (λ both. (q : ℕ) → has both q ≡ (has self.now q && has other.now q)) }
     {
@@ -163,7 +166,7 @@ impl TokenSet {
         !self.is_disjoint(other)
     }
 
-    /// Whether each bit is in another set, too.
+    /// Whether each bit of this set is in another set, too.
     pub fn is_subset(&self, other: &TokenSet) -> bool
         ensures yes { IsTrue result →
             (bit : ℕ) →
@@ -175,7 +178,7 @@ impl TokenSet {
         are_within(self.words(), other.words())
     }
 
-    /// Makes room for more bits.
+    /// Makes room for `len / 64 + 1` more words of 64 bits.
     pub fn reserve(&mut self, len: usize) -> Result<(), OutOfMemory>
         ensures { self.new ≡ self.old }
     {
@@ -183,6 +186,7 @@ impl TokenSet {
         Ok(())
     }
 
+    /// A copy of the set.
     pub fn clone(&self, alloc: Global) -> Result<TokenSet, OutOfMemory>
         ensures { IfOk result (λ copy. copy ≡ self.now) }
     {
@@ -191,7 +195,7 @@ impl TokenSet {
         })
     }
 
-    // The set of one bit.
+    /// The set of one bit.
     pub fn single(alloc: Global, bit: usize) -> Result<TokenSet, OutOfMemory>
         requires { bit < 2 ^ 63 }
         ensures { IfOk result (λ set. set ≡ with_bit no_bits bit) }
@@ -201,7 +205,7 @@ impl TokenSet {
         Ok(set)
     }
 
-    // The set of the numbers below a count.
+    /// The set of the bits below `count`.
     pub fn below(alloc: Global, count: usize) -> Result<TokenSet, OutOfMemory>
         requires { count ≤ 2 ^ 63 }
         ensures { IfOk result (λ set. (bit : ℕ) → has set bit ≡ nat_lt bit count) }

@@ -1,4 +1,4 @@
-//! A new start symbol, which stands on no right side.
+//! A new start symbol, which is on no right side.
 ghost use Rattle.std.specs.Prelude.{◌≡◌, ◌↔◌, ◌∷◌, [], ◌++◌, List, Contains, IfOk, IfErr, IsTrue, vec_len};
 ghost use Rattle.std.specs.BTreeMap.{get, insert_entry};
 ghost use Rattle.lalrpop_grammar.specs.grammars.Grammar.{IsOnNoRightSide, IsSentence, IsBeginning};
@@ -19,10 +19,12 @@ use lalrpop_collections::sequence::Sequence;
 use lalrpop_collections::text::Text;
 use std::alloc::Global;
 
-/// The grammar with a new start symbol, and its name. Tables of that grammar for that name parse
-/// the same lists, each tree with one node more at its root, wherever the old start symbol stands.
-/// A grammar may lose its tables: `S = S | "a"` has tables for `S`, and a conflict at the end of
-/// input for a symbol above it.
+/// The grammar with a new start symbol, and the name of that symbol. Tables of the new grammar for
+/// that name parse the same lists. Each tree has one more node at its root, even if the old start
+/// symbol is on right sides. A grammar may lose its tables. For example, `S = S | "a"` has tables
+/// for `S`, but a conflict at the end of input for a new symbol that derives `S`. Returns
+/// `TooManyActions` if the new action would have a number above 4294967295, and `Memory` if an
+/// allocation fails.
 pub fn augment(
     alloc: Global,
     grammar: Grammar,
@@ -58,7 +60,7 @@ pub fn augment(
     Ok((augmented, name))
 }
 
-// The number of the next action, where there is one.
+// The number of the next action. Returns `TooManyActions` if the number does not fit into 32 bits.
 fn next_action(grammar: &Grammar) -> NormResult<ActionFn>
     ensures ok { IfOk result (λ action. action.0 ≡ vec_len grammar.now.action_fn_defns) }
     ensures err { IfErr result (IsRefusedStart grammar.now) }
@@ -69,7 +71,7 @@ fn next_action(grammar: &Grammar) -> NormResult<ActionFn>
     }
 }
 
-// Where the entry of a name stands.
+// The span of the entry of a name, or `Span(0, 0)` if the name has no entry.
 fn span_of(grammar: &Grammar, name: &NonterminalString) -> Span
     ensures { result ≡ span_of (get name_cmp grammar.now.nonterminals name.now) }
 {
@@ -79,7 +81,7 @@ fn span_of(grammar: &Grammar, name: &NonterminalString) -> Span
     }
 }
 
-// The first unused name of those with two underscores and more before a name.
+// The first unused name of those with two, three and more underscores before `start`.
 fn new_name(
     alloc: Global,
     grammar: &Grammar,
@@ -127,7 +129,7 @@ pub fn is_on_no_right_side(grammar: &Grammar, name: &NonterminalString) -> bool
     true
 }
 
-// Whether a name is on the right side of none of some productions.
+// Whether a name is on no right side of some productions.
 fn is_in_no_production(productions: &[Production], name: &NonterminalString) -> bool
     ensures { IsTrue result ↔ IsOnNoRightSide productions.now name.now }
 {
@@ -162,7 +164,7 @@ fn only(alloc: Global, symbol: Symbol) -> Result<Symbols, OutOfMemory>
     Ok(symbols)
 }
 
-// The entry of one production, without marks.
+// The entry with one production, without attributes.
 fn entry_of(alloc: Global, production: Production) -> Result<NonterminalData, OutOfMemory>
     ensures { IfOk result (IsEntryOf production) }
 {
@@ -176,7 +178,7 @@ fn entry_of(alloc: Global, production: Production) -> Result<NonterminalData, Ou
     })
 }
 
-// An action of the user that cannot fail and answers nothing.
+// A user's action that cannot fail, with the return type `()`.
 fn start_action(alloc: Global) -> Result<ActionFnDefn, OutOfMemory>
     ensures { IfOk result (λ action. action ≡ start_action) }
 {
@@ -187,7 +189,7 @@ fn start_action(alloc: Global) -> Result<ActionFnDefn, OutOfMemory>
     })
 }
 
-// The grammar with an entry and an action more.
+// The grammar with one more entry, and with the action of a new start symbol as the last action.
 fn with_entry(
     alloc: Global,
     grammar: Grammar,

@@ -1,4 +1,4 @@
-//! `==` of names, terminals, symbols and productions is exact.
+//! `==` of names, terminals, symbols and productions is `true` for equal values only.
 ghost use Rattle.std.specs.Prelude.{refl};
 ghost use Rattle.std.proofs.Common.{sym, ap};
 ghost use mathlib.Core.Bool.{true≢false};

@@ -1,4 +1,4 @@
-//! A grammar.
+//! Grammars, and the test whether a grammar is well-formed.
 ghost use Rattle.std.specs.Prelude.{◌≡◌, ◌<◌, ◌↔◌, List, length, IsTrue, IfOk, Contains, vec_len};
 ghost use Rattle.std.specs.BTreeMap.{get};
 ghost use Rattle.lalrpop_grammar.specs.grammars.WellFormed.{IsWellFormed, IsWellFormedEntry, IsWellFormedProduction, productions_of, HasKnownTerminals};
@@ -13,13 +13,13 @@ use lalrpop_collections::text::Text;
 use std::alloc::{AllocError, Global};
 use std::collections::BTreeMap;
 
-/// A mark of a nonterminal.
+/// An attribute of a nonterminal, for example `inline`.
 #[derive(Debug, Drop)]
 pub struct Attribute {
     pub id: Text,
 }
 
-/// What stands under a nonterminal's name.
+/// The entry of a nonterminal: its productions, its attributes and its span.
 #[derive(Debug, Drop)]
 pub struct NonterminalData {
     pub productions: Vec<Production>,
@@ -27,14 +27,14 @@ pub struct NonterminalData {
     pub span: Span,
 }
 
-/// Whether an action is the user's, or what inlining made of others.
+/// Whether an action is the user's, or was made from other actions by inlining.
 #[derive(Debug, Drop)]
 pub enum ActionFnDefnKind {
     User,
     Inline(InlineActionFnDefn),
 }
 
-/// An action.
+/// An action: whether it can fail, the type that it returns, and its kind.
 #[derive(Debug, Drop)]
 pub struct ActionFnDefn {
     pub fallible: bool,
@@ -42,7 +42,7 @@ pub struct ActionFnDefn {
     pub kind: ActionFnDefnKind,
 }
 
-/// Which tables are made.
+/// Which tables the user asks for: LALR(1) tables if `lalr` is `true`, and LR(1) tables otherwise.
 #[derive(Clone, Copy, Debug, PartialEq, Eq)]
 pub struct Algorithm {
     pub lalr: bool,
@@ -58,7 +58,7 @@ pub struct Grammar {
 }
 
 impl Attribute {
-    /// A copy of its own.
+    /// A copy of the attribute.
     pub fn clone(&self, alloc: Global) -> Result<Self, OutOfMemory>
         ensures copy { IfOk result (λ copy. copy ≡ self.now) }
     {
@@ -69,7 +69,7 @@ impl Attribute {
 }
 
 impl NonterminalData {
-    /// A copy of its own.
+    /// A copy of the entry.
     pub fn clone(&self, alloc: Global) -> Result<Self, OutOfMemory>
         ensures copy { IfOk result (IsSameEntry self.now) }
     {
@@ -105,7 +105,7 @@ fn clone_attributes(alloc: Global, attributes: &[Attribute]) -> Result<Vec<Attri
 }
 
 impl ActionFnDefnKind {
-    /// A copy of its own.
+    /// A copy of the kind.
     pub fn clone(&self, alloc: Global) -> Result<Self, OutOfMemory>
         ensures copy { IfOk result (λ copy. copy ≡ self.now) }
     {
@@ -117,7 +117,7 @@ impl ActionFnDefnKind {
 }
 
 impl ActionFnDefn {
-    /// A copy of its own.
+    /// A copy of the action.
     pub fn clone(&self, alloc: Global) -> Result<Self, OutOfMemory>
         ensures copy { IfOk result (λ copy. copy ≡ self.now) }
     {
@@ -165,7 +165,7 @@ impl Clone for NonterminalData {
 }
 
 impl Grammar {
-    /// A copy of its own.
+    /// A copy of the grammar.
     pub fn clone(&self, alloc: Global) -> Result<Self, OutOfMemory>
         ensures copy { IfOk result (IsSameGrammar self.now) }
     {
@@ -177,7 +177,7 @@ impl Grammar {
         })
     }
 
-    /// The productions of a name, none where it has no entry.
+    /// The productions of a nonterminal. There are none if it has no entry.
     pub fn productions_for(&self, nonterminal: &NonterminalString) -> &[Production]
         ensures { result.now ≡ productions_of self.now nonterminal.now }
     {
@@ -188,7 +188,9 @@ impl Grammar {
     }
 }
 
-/// Whether the calls that take a grammar may be made with it.
+/// Whether a grammar is well-formed, which each call with a grammar requires. Each production is
+/// under its own name, its terminals are those of the grammar, and its action exists. No two
+/// productions of a name are equal.
 pub fn is_well_formed(grammar: &Grammar) -> bool
     ensures { IsTrue result ↔ IsWellFormed grammar.now }
 {
@@ -223,7 +225,7 @@ fn is_well_formed_entry(
     true
 }
 
-// Whether a production of a name is well-formed by itself.
+// Whether a production of a name is well-formed, whatever the other productions are.
 fn is_well_formed_production(
     name: &NonterminalString,
     production: &Production,

@@ -1,4 +1,4 @@
-//! What the action of a production does into which alternatives of other nonterminals were inlined.
+//! The actions of productions into which alternatives of other nonterminals were inlined.
 ghost use Rattle.std.specs.Prelude.{◌≡◌, IfOk};
 
 use super::{ActionFn, Symbol, Symbols, clone_symbols};
@@ -9,13 +9,14 @@ use std::alloc::Global;
 /// A part of a right side into which alternatives were inlined.
 #[derive(Debug, Drop)]
 pub enum InlinedSymbol {
-    /// A symbol that stood there before.
+    /// A symbol that was there before the inlining.
     Original(Symbol),
-    /// The action and the right side of the alternative that stands in the place of a nonterminal.
+    /// The action and the right side of the alternative that replaces a nonterminal.
     Inlined(ActionFn, Symbols),
 }
 
-/// An action over the parts of a right side: an inlined part gives what its own action makes of it.
+/// An action that is applied to the parts of a right side. The value of an inlined part is the
+/// result of its own action.
 #[derive(Debug, Drop)]
 pub struct InlineActionFnDefn {
     pub action: ActionFn,
@@ -23,7 +24,7 @@ pub struct InlineActionFnDefn {
 }
 
 impl InlinedSymbol {
-    /// A copy of its own.
+    /// A copy of the part.
     pub fn clone(&self, alloc: Global) -> Result<Self, OutOfMemory>
         ensures copy { IfOk result (λ copy. copy ≡ self.now) }
     {
@@ -37,7 +38,7 @@ impl InlinedSymbol {
     }
 }
 
-/// A copy of some parts.
+/// A copy of the parts.
 pub fn clone_inlined_symbols(
     alloc: Global,
     symbols: &[InlinedSymbol],
@@ -52,7 +53,7 @@ pub fn clone_inlined_symbols(
 }
 
 impl InlineActionFnDefn {
-    /// A copy of its own.
+    /// A copy of the action.
     pub fn clone(&self, alloc: Global) -> Result<Self, OutOfMemory>
         ensures copy { IfOk result (λ copy. copy ≡ self.now) }
     {

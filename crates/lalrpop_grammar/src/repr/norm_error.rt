@@ -20,7 +20,7 @@ pub enum NormError {
     Memory,
 }
 
-/// What a call that may refuse a grammar answers.
+/// The result of a call that may refuse a grammar.
 pub type NormResult<T> = Result<T, NormError>;
 
 impl From<OutOfMemory> for NormError {

@@ -1,4 +1,4 @@
-//! The terminals of a grammar, in an order that numbers them.
+//! The terminals of a grammar, in the order of their bits.
 ghost use Rattle.std.specs.Prelude.{◌≡◌, ◌+◌, ◌<◌, ◌^◌, List, length, IfOk, IfSome, IfErr, IsNone, Contains, ℕ, slice_get, Some};
 ghost use Rattle.lalrpop_collections.specs.lists.Places.{AllDiffer};
 ghost use Rattle.lalrpop_grammar.specs.grammars.Refusals.{IsFirstRepeatedTerminal};
@@ -12,7 +12,7 @@ use std::collections::BTreeMap;
 use std::marker::Model;
 use thiserror::Error;
 
-/// Terminals without repeats.
+/// A list of terminals that all differ. The bit of a terminal is its place in the list.
 #[derive(Debug, Drop)]
 pub struct TerminalSet {
     all: Vec<TerminalString>,
@@ -31,7 +31,8 @@ impl Model for TerminalSet {
     ghost invariant = { λ s. ArePlaced s.all.items s.places };
 }
 
-/// Why a list is no set of terminals.
+/// Why a list of terminals makes no set. `Repeated` has the first terminal that is also at an
+/// earlier place.
 #[derive(Debug, Drop, PartialEq, Eq, Error)]
 pub enum TerminalSetError {
     #[error("a terminal is repeated: {0}")]
@@ -49,7 +50,7 @@ impl From<OutOfMemory> for TerminalSetError {
 }
 
 impl TerminalSetError {
-    /// A copy of its own.
+    /// A copy of the error.
     pub fn clone(&self, alloc: Global) -> Result<Self, OutOfMemory>
         ensures { IfOk result (λ copy. copy ≡ self.now) }
     {
@@ -63,6 +64,8 @@ impl TerminalSetError {
 }
 
 impl TerminalSet {
+    /// The set of the terminals of a list, in its order. Returns `Repeated` if a terminal is in the
+    /// list twice, and `Memory` if an allocation fails.
     pub fn new(alloc: Global, mut terminals: Vec<TerminalString>) -> Result<Self, TerminalSetError>
         ensures made { IfOk result (λ set. set ≡ terminals.items) }
         ensures distinct { IfOk result (λ set. AllDiffer set) }
@@ -79,7 +82,7 @@ impl TerminalSet {
         }
     }
 
-    /// A copy of its own.
+    /// A copy of the set.
     pub fn clone(&self, alloc: Global) -> Result<Self, OutOfMemory>
         ensures { IfOk result (λ copy. copy ≡ self.now) }
     {
@@ -99,7 +102,8 @@ impl TerminalSet {
         &self.all
     }
 
-    /// The place of a terminal in the list of all.
+    /// The bit of a terminal, which is its place in the list of all. Returns `None` if the terminal
+    /// is unknown.
     pub fn bit(&self, terminal: &TerminalString) -> Option<usize>
         ensures found { IfSome result (λ bit. slice_get self.now bit ≡ Some terminal.now) }
         ensures only { (bit : ℕ) → slice_get self.now bit ≡ Some terminal.now → result ≡ Some bit }
@@ -122,7 +126,8 @@ fn clone_terminals(
     Ok(copy)
 }
 
-// The places of terminals without repeats, or the first place whose terminal stands earlier too.
+// The places of terminals that all differ, or the first place whose terminal is also at an earlier
+// one.
 #[derive(Drop)]
 pub(crate) enum Indexed {
     Places(BTreeMap<TerminalString, usize>),

@@ -1,4 +1,4 @@
--- Nonterminals that are inlined.
+-- The inlining of nonterminals.
 pub mod InlineApart
 pub mod InlineArising
 pub mod InlineChoices

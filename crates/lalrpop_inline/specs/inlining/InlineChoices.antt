@@ -1,4 +1,5 @@
--- The choices that are left when a nonterminal is inlined: in a right side each of its occurrences gives way to any one of its alternatives, whatever the others give way to.
+-- The ways to inline a nonterminal into a right side. Each of its occurrences is replaced by any
+-- one of its alternatives, whatever replaces the others.
 use Rattle.std.specs.Prelude.{Bool, false, cond, List, [], ◌∷◌, ◌++◌, map}
 use Rattle.std.specs.List.{flat_map, list_any}
 use Rattle.std.specs.Str.{bytes_eq}
@@ -18,39 +19,41 @@ is_named b (Terminal t) = false
 abbrev pub mentions : NonterminalString → List Symbol → Bool
 mentions b symbols = list_any (is_named b) symbols
 
--- an alternative in the place of a nonterminal
+-- an alternative as a part, which replaces a nonterminal
 abbrev pub inlined : Production → InlinedSymbol
 inlined p = Inlined p.action p.symbols
 
--- what may stand in the place of a symbol: any of the alternatives where it is the nonterminal that is inlined, else the symbol itself
+-- the parts that may replace a symbol: the alternatives if it is the nonterminal that is inlined,
+-- else the symbol itself
 abbrev pub parts : NonterminalString → List Production → Symbol → List InlinedSymbol
 parts b alternatives x = cond (is_named b x) (map inlined alternatives) (Original x ∷ [])
 
--- lists behind another one
+-- the given list followed by each of the lists
 abbrev pub behind : List InlinedSymbol → List (List InlinedSymbol) → List (List InlinedSymbol)
 behind chosen cs = map (λ (c : List InlinedSymbol). chosen ++ c) cs
 
--- all lists with one of these in each place, each once; the leftmost place varies slowest
+-- one list for each choice of a part in the place of each symbol; the leftmost place varies slowest
 abbrev pub choices : NonterminalString → List Production → List Symbol → List (List InlinedSymbol)
 choices b alternatives [] = [] ∷ []
 choices b alternatives (x ∷ rest) = flat_map (λ (part : InlinedSymbol). behind (part ∷ []) (choices b alternatives rest)) (parts b alternatives x)
 
--- a list with each of the parts behind it, in turn
+-- the list followed by each of the parts, in turn
 abbrev pub followed : List InlinedSymbol → List InlinedSymbol → List (List InlinedSymbol)
 followed front parts = map (λ (part : InlinedSymbol). front ++ part ∷ []) parts
 
--- lists, each with each of the parts behind it; the list varies slowest
+-- each list followed by each of the parts; the list varies slowest
 abbrev pub extended : List InlinedSymbol → List (List InlinedSymbol) → List (List InlinedSymbol)
 extended parts fronts = flat_map (λ (front : List InlinedSymbol). followed front parts) fronts
 
--- lists, each with each of others behind it; the first varies slowest
+-- each list followed by each of the others; the first varies slowest
 abbrev pub completed : List (List InlinedSymbol) → List (List InlinedSymbol) → List (List InlinedSymbol)
 completed fronts cs = flat_map (λ (front : List InlinedSymbol). behind front cs) fronts
 
+-- the symbols of a part
 abbrev pub part_symbols : InlinedSymbol → List Symbol
 part_symbols (Original x) = x ∷ []
 part_symbols (Inlined action symbols) = symbols
 
--- the right side that parts make, laid out
+-- the right side that parts make: their symbols, one part after another
 abbrev pub laid_out : List InlinedSymbol → List Symbol
 laid_out parts = flat_map part_symbols parts

@@ -1,4 +1,4 @@
--- Inlining a nonterminal at the entries that mention it: which these are, and what is made of them.
+-- The entries that mention a nonterminal, and these entries with the nonterminal inlined.
 use Rattle.std.specs.Prelude.{cond, List, [], ◌∷◌, Option, None, Some, Contains}
 use Rattle.std.specs.BTreeMap.{is_at}
 use Rattle.std.specs.BTreeSet.{BTreeSet}
@@ -10,20 +10,20 @@ use Rattle.lalrpop_grammar.specs.declared.repr.grammar.Grammar.{Grammar}
 use Rattle.lalrpop_inline.specs.inlining.InlineOrder.{IsMarked, Mentions}
 use Rattle.lalrpop_inline.specs.inlining.InlineSteps.{Entry, View, entry_with, entry_in_front, replaced_all}
 
--- the names of a set, none where there is no set
+-- the names of a set, none if there is no set
 abbrev pub listed_names : Option (BTreeSet NonterminalString) → List NonterminalString
 listed_names None = []
 listed_names (Some set) = set.keys
 
--- the users that stand under a name
+-- the users that the map has under a name
 abbrev pub users_at : List (NonterminalString × BTreeSet NonterminalString) → NonterminalString → List NonterminalString
 users_at users c = listed_names (collection_at name_cmp users c)
 
--- the users of the left map stand under the same names in the right one
+-- the right map has all users of the left one under the same names
 abbrev pub KeepsUsers : List (NonterminalString × BTreeSet NonterminalString) → List (NonterminalString × BTreeSet NonterminalString) → Type 0
 KeepsUsers old new = (c a : NonterminalString) → Contains (users_at old c) a → Contains (users_at new c) a
 
--- under each marked nonterminal stand all that mention it
+-- the map has under each marked nonterminal all nonterminals that mention it
 abbrev pub HasUsers : Grammar → List (NonterminalString × BTreeSet NonterminalString) → Type 0
 HasUsers g users = (a c : NonterminalString) → IsMarked g c → Mentions g a c → Contains (users_at users c) a
 
@@ -32,12 +32,12 @@ abbrev pub first_replaced : NonterminalString → List Production → Nontermina
 first_replaced b alternatives e es defns =
     entry_in_front (entry_with e (replaced_all b alternatives e.1.productions defns).productions) (record { entries = es; defns = (replaced_all b alternatives e.1.productions defns).defns })
 
--- with the productions under one name replaced, where it has an entry
+-- the entries with the productions under one name replaced, if it has an entry
 abbrev pub replaced_at : NonterminalString → List Production → NonterminalString → List (NonterminalString × Entry) → List ActionFnDefn → View
 replaced_at b alternatives a [] defns = record { entries = []; defns = defns }
 replaced_at b alternatives a (e ∷ es) defns = cond (is_at (name_cmp a) e.0) (first_replaced b alternatives e es defns) (entry_in_front e (replaced_at b alternatives a es defns))
 
--- with the productions under several names replaced, name after name
+-- the view with the productions under several names replaced, name after name
 abbrev pub replaced_places : NonterminalString → List Production → List NonterminalString → View → View
 replaced_places b alternatives [] v = v
 replaced_places b alternatives (a ∷ places) v = replaced_places b alternatives places (replaced_at b alternatives a v.entries v.defns)

@@ -1,4 +1,5 @@
-//! The choices that are left when a nonterminal is inlined into a right side.
+//! The ways to inline a nonterminal into a right side: a choice of an alternative for each
+//! occurrence.
 ghost use Rattle.std.specs.Prelude.{◌≡◌, ◌++◌, map, IfOk, OnOk};
 ghost use Rattle.lalrpop_inline.specs.inlining.InlineChoices.{is_named, mentions, inlined, parts, followed, extended, choices, part_symbols, laid_out};
 
@@ -25,8 +26,8 @@ pub fn mentions(name: &NonterminalString, symbols: &[Symbol]) -> bool
     symbols.iter().any(|symbol| is_named(name, symbol))
 }
 
-/// All choices of an alternative for each occurrence of a nonterminal, the leftmost varying
-/// slowest.
+/// All choices of an alternative for each occurrence of a nonterminal. The choice for the leftmost
+/// occurrence varies slowest. The error is `OutOfMemory` if an allocation fails.
 pub fn choices(
     alloc: Global,
     name: &NonterminalString,
@@ -44,7 +45,7 @@ pub fn choices(
     Ok(made)
 }
 
-// What may stand in the place of a symbol.
+// The parts that may replace a symbol: the alternatives if it is the nonterminal, else the symbol.
 fn parts(
     alloc: Global,
     name: &NonterminalString,
@@ -61,7 +62,7 @@ fn parts(
     Ok(made)
 }
 
-// Each alternative in the place of the nonterminal.
+// A part for each alternative.
 fn all_inlined(
     alloc: Global,
     alternatives: &[Production],
@@ -75,7 +76,7 @@ fn all_inlined(
     Ok(made)
 }
 
-// Lists, each with each of the parts behind it.
+// Each list followed by each of the parts. The list varies slowest.
 fn extended(
     alloc: Global,
     fronts: Vec<Sequence<InlinedSymbol>>,
@@ -90,8 +91,8 @@ fn extended(
     Ok(made)
 }
 
-// Adds a list with each of the parts behind it. With the last part it is the list itself, so where
-// there is one part nothing is copied.
+// Adds the list followed by each of the parts. The list itself takes the last part, so a single
+// part needs no copy.
 fn extend(
     alloc: Global,
     mut front: Sequence<InlinedSymbol>,
@@ -113,7 +114,7 @@ fn extend(
     Ok(())
 }
 
-// An alternative in the place of the nonterminal.
+// An alternative as a part, which replaces the nonterminal.
 fn inlined(alloc: Global, alternative: &Production) -> Result<InlinedSymbol, OutOfMemory>
     ensures { IfOk result (λ part. part ≡ inlined alternative.now) }
 {
@@ -121,7 +122,7 @@ fn inlined(alloc: Global, alternative: &Production) -> Result<InlinedSymbol, Out
     Ok(InlinedSymbol::Inlined(alternative.action, symbols))
 }
 
-/// The right side that the parts of a choice make.
+/// The right side that the parts of a choice make: their symbols, one part after another.
 pub fn laid_out(alloc: Global, parts: &[InlinedSymbol]) -> Result<Symbols, OutOfMemory>
     ensures { IfOk result (λ symbols. symbols ≡ laid_out parts.now) }
 {

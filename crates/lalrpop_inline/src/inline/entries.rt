@@ -34,7 +34,7 @@ fn clone_productions(
     Ok(copy)
 }
 
-// Replaces the productions of an entry.
+// Inlines a nonterminal into the productions of an entry.
 fn replace_entry(
     alloc: Global,
     name: &NonterminalString,
@@ -52,7 +52,7 @@ fn replace_entry(
     Ok(())
 }
 
-// Replaces the productions of the entry at a place, if there is one.
+// Inlines a nonterminal into the productions of the entry at a place, if there is one.
 fn replace_at(
     alloc: Global,
     name: &NonterminalString,
@@ -74,7 +74,7 @@ fn replace_at(
     Ok(())
 }
 
-// Replaces the productions of the entries at some places, in the order of the places.
+// Inlines a nonterminal into the entries at some places, in the order of the places.
 fn replace_places(
     alloc: Global,
     name: &NonterminalString,
@@ -97,7 +97,9 @@ fn replace_places(
     Ok(())
 }
 
-/// The grammar with a nonterminal inlined into the entries that mention it, which the users name.
+/// The grammar with a nonterminal inlined into the entries that `users` has for it. The error is
+/// `TooManyActions` if an action would have a number above 4294967295, or `Memory` if an allocation
+/// fails.
 pub fn inline_nonterminal(
     alloc: Global,
     grammar: Grammar,

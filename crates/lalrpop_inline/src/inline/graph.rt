@@ -1,5 +1,5 @@
-//! The order in which marked nonterminals are inlined: that in which a depth first walk along what
-//! they mention leaves them.
+//! The order in which marked nonterminals are inlined. A depth first walk goes from a nonterminal
+//! to those that it mentions. It lists each marked nonterminal when it leaves it.
 mod depth_first;
 
 ghost use Rattle.std.specs.Prelude.{◌≡◌, ◌↔◌, true, IsTrue, IfOk, OnOk, IfErr, Contains};
@@ -18,14 +18,14 @@ use lalrpop_base::repr::norm_error::NormResult;
 use std::alloc::Global;
 use std::collections::BTreeSet;
 
-// Whether a mark is that of a nonterminal to be inlined.
+// Whether an attribute is the mark of a nonterminal to be inlined.
 fn is_inline(attribute: &Attribute) -> bool
     ensures { IsTrue result ↔ (attribute.now ≡ inline_mark) }
 {
     attribute.id.as_str() == "inline"
 }
 
-/// Whether there is the mark of a nonterminal to be inlined.
+/// Whether one of the attributes is the mark of a nonterminal to be inlined.
 pub fn is_marked(attributes: &[Attribute]) -> bool
     ensures { IsTrue result ↔ Contains attributes.now inline_mark }
 {
@@ -69,7 +69,7 @@ fn set_of(
     Ok(set)
 }
 
-/// The marked nonterminals in an order to inline them.
+/// The marked nonterminals in an order to inline them. The errors are those of `inline_order`.
 pub fn ordered(alloc: Global, grammar: &Grammar) -> NormResult<Vec<NonterminalString>>
     ensures order { IfOk result (λ order. IsInlineOrder grammar.now order.items) }
     ensures rising { OnOk result (IsOrdered name_cmp grammar.now.nonterminals) }

@@ -1,4 +1,4 @@
-//! Puts the alternatives of a nonterminal in the place of its occurrences.
+//! Replaces the occurrences of a nonterminal by its alternatives.
 ghost use Rattle.std.specs.Prelude.{◌≡◌, ◌+◌, ◌++◌, ◌∷◌, [], IfOk, OnOk, IfErr, length, slice_get};
 ghost use Rattle.std.specs.List.{list_any};
 ghost use Rattle.lalrpop_inline.specs.inlining.InlineSteps.{is_fallible, is_fallible_part, ret_type_of, choice_defn, choice_production, made_of, in_front, chosen, replaced, replaced_all};
@@ -24,7 +24,7 @@ fn is_fallible(defns: &[ActionFnDefn], action: ActionFn) -> bool
     }
 }
 
-// Whether what stands in a place can fail.
+// Whether a part can fail. An inlined alternative can if its action can.
 fn is_fallible_part(defns: &[ActionFnDefn], part: &InlinedSymbol) -> bool
     ensures { result ≡ is_fallible_part defns.now part.now }
 {
@@ -41,7 +41,7 @@ fn any_fallible(defns: &[ActionFnDefn], parts: &[InlinedSymbol]) -> bool
     parts.iter().any(|part| is_fallible_part(defns, part))
 }
 
-// The return type of an action.
+// The return type of an action, or an empty text if the action has no definition.
 fn ret_type_of(alloc: Global, defns: &[ActionFnDefn], action: ActionFn) -> Result<Text, OutOfMemory>
     ensures { IfOk result (λ text. text ≡ ret_type_of (slice_get defns.now action.0)) }
 {
@@ -51,7 +51,7 @@ fn ret_type_of(alloc: Global, defns: &[ActionFnDefn], action: ActionFn) -> Resul
     }
 }
 
-// The definition of the action of a choice.
+// The definition of the action of a choice. It can fail if the outer action or that of a part can.
 fn choice_defn(
     alloc: Global,
     defns: &[ActionFnDefn],
@@ -73,7 +73,7 @@ fn choice_defn(
     })
 }
 
-// The action with a number, where there is one.
+// The action with the number `count`. The error is `TooManyActions` if that is above 4294967295.
 fn action_after(count: usize) -> NormResult<ActionFn>
     ensures ok { IfOk result (λ action. action.0 ≡ count) }
     ensures err { IfErr result (λ e. IsPastLast (count + 1) e) }
@@ -84,7 +84,7 @@ fn action_after(count: usize) -> NormResult<ActionFn>
     }
 }
 
-// The production of a choice, whose action is the next one.
+// The production of a choice. Its action is new, and has its definition added to the list.
 fn add_choice(
     alloc: Global,
     outer: &Production,
@@ -108,7 +108,7 @@ fn add_choice(
     })
 }
 
-// Adds a production for each choice.
+// Adds a production for each choice, and the definition of its action.
 fn add_choices(
     alloc: Global,
     outer: &Production,
@@ -127,7 +127,8 @@ fn add_choices(
     Ok(())
 }
 
-// Adds what a production gives way to.
+// Adds the productions that replace a production: itself if it does not mention the nonterminal,
+// else one for each choice.
 fn replace(
     alloc: Global,
     name: &NonterminalString,
@@ -150,7 +151,9 @@ fn replace(
     }
 }
 
-/// What productions give way to where a nonterminal with these alternatives is inlined.
+/// The productions that replace the given ones if a nonterminal with these alternatives is inlined.
+/// The definitions of their new actions are added to the list. The error is `TooManyActions` if an
+/// action would have a number above 4294967295, or `Memory` if an allocation fails.
 pub fn replace_all(
     alloc: Global,
     name: &NonterminalString,

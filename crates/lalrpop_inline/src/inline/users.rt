@@ -1,4 +1,4 @@
-//! Which nonterminals mention those that are to be inlined.
+//! The nonterminals that mention those that are to be inlined.
 ghost use Rattle.std.specs.Prelude.{◌↔◌, IsTrue, OnOk, IfOk, Contains};
 ghost use Rattle.lalrpop_grammar.specs.declared.repr.NonterminalString.{NonterminalString};
 ghost use Rattle.lalrpop_grammar.specs.declared.repr.Symbol.TheVariants.{Nonterminal};
@@ -14,7 +14,7 @@ use lalrpop_base::repr::grammar::Grammar;
 use lalrpop_base::repr::{NonterminalString, Production, Symbol};
 use std::alloc::Global;
 
-/// The names of nonterminals that mention another one, by the name of that one.
+/// For the name of a nonterminal, the names of those that mention it.
 pub type Users = Multimap<NonterminalString, Set<NonterminalString>>;
 
 // Whether a nonterminal is marked.
@@ -27,7 +27,7 @@ fn has_mark(grammar: &Grammar, name: &NonterminalString) -> bool
     }
 }
 
-// Puts a user under a nonterminal, where that one is marked.
+// Puts a user under a nonterminal, if that one is marked.
 fn add_user(
     alloc: Global,
     grammar: &Grammar,
@@ -88,7 +88,8 @@ fn add_to_mentioned(
     Ok(())
 }
 
-/// For each marked nonterminal, those that mention it.
+/// For each marked nonterminal, the nonterminals that mention it. The error is `OutOfMemory` if an
+/// allocation fails.
 pub fn users_of(alloc: Global, grammar: &Grammar) -> Result<Users, OutOfMemory>
     ensures { IfOk result (HasUsers grammar.now) }
 {

@@ -1,4 +1,4 @@
--- Lanes traced back over LR(0) states, and the tokens that they find.
+-- Lanes that are traced back over LR(0) states, and the tokens that they find.
 pub mod HeldShifts
 pub mod LaneActions
 pub mod LaneAsked

@@ -1,4 +1,4 @@
--- The states of a lane table joined and copied.
+-- The states of a lane table, joined and copied.
 pub mod CopySearch
 pub mod LaneCopies
 pub mod LanePatches

@@ -1,4 +1,4 @@
--- Lookahead sets that a pass over states finds, put into the states one by one.
+-- Lookahead sets that a pass over states finds, and that are put into the states one by one.
 use Rattle.std.specs.Prelude.{◌≡◌, ℕ, List, [], ◌∷◌, length, slice_get, Some}
 use Rattle.std.specs.Borrow.{Bor}
 use Rattle.lalrpop_base.specs.Words.{Bits, Rules, AreNumbers}
@@ -12,7 +12,8 @@ use Rattle.lalrpop_numbers.specs.declared.numbers.Numbers.{Numbers}
 use Rattle.lalrpop_follow_sets.specs.declared.follow_sets.found.Found.{Found}
 use Rattle.lalrpop_construction.specs.declared.construction.numbered_state.NumberedState.{NumberedState}
 
--- the lookahead sets of the states are found, by the numbers of their grammar, and the state at the place is also given by these
+-- the pass found the lookahead sets of the states, by the numbers of the grammar, and the state by
+-- number is that of the state at the place
 pub record IsFoundAt (g : Rules) (start : NonterminalString) (states : List (State Bits)) (n : ℕ) (found : Found) (state : NumberedState) : Type 0 where
   pub numbers : Numbers
   pub of_grammar : AreNumbers g numbers

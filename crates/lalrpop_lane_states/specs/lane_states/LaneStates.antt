@@ -1,4 +1,5 @@
--- Lane tables of a grammar: its LR(0) states, whose reductions hold the tokens that tracing back over the states finds (Pager 1977).
+-- Lane tables of a grammar (Pager 1977): its LR(0) states, whose reductions hold the tokens that
+-- are found by tracing back over the states.
 use Rattle.std.specs.Prelude.{◌≡◌, ◌≤◌, ◌<◌, ◌↔◌, ◌++◌, ◌∷◌, ℕ, true, List, [], length, map, slice_get, Some, Contains}
 use Rattle.std.specs.declared.cmp.Ordering.{Ordering}
 use Rattle.std.specs.declared.cmp.Ordering.TheVariants.{Equal}
@@ -27,22 +28,24 @@ use Rattle.lalrpop_follow_sets.specs.lanes.LaneTokens.{IsResolved, LanesMeet}
 use Rattle.lalrpop_lane_states.specs.declared.lane_table.construct.LaneTableConstruct.{LaneTableConstruct}
 use Rattle.lalrpop_lanes.specs.declared.lane_table.table.LaneTable.{LaneTable}
 
--- the set has exactly the bits of the terminals, and that of the end
+-- the set has exactly the bits of the terminals and of Eof
 abbrev pub IsFull : List TerminalString → Bits → Type 0
 IsFull terminals set = (bit : ℕ) → (has set bit ≡ true) ↔ (bit ≤ length terminals)
 
--- each item of each state holds exactly the terminals and the end
+-- each item of each state holds exactly the terminals and Eof
 abbrev pub HaveFullItems : List TerminalString → List (State Bits) → Type 0
 HaveFullItems terminals states = (n : ℕ) (state : State Bits) (item : Dotted Bits) → slice_get states n ≡ Some state → Contains state.items.vec.items item → IsFull terminals item.lookahead
 
--- the LR(0) states of the grammar with all tokens on the items, and some on the reductions
+-- the states are the LR(0) states of the grammar with all tokens on the items, and any tokens on
+-- the reductions
 pub record AreLaneStates (g : Rules) (start : NonterminalString) (states : List (State Bits)) : Type 0 where
   pub bare : List (State Nil)
   pub lr0 : AreLr0States g start bare
   pub same : HaveSamePlaces bare states
   pub items : HaveFullItems g.terminals states
 
--- what follows of them, in the words of the definitions
+-- the properties of such states that the definitions name: they are coherent, closed and LR(0),
+-- there is one, and each reduces its finished items
 pub record AreLr0Tables (g : Rules) (start : NonterminalString) (states : List (State Bits)) : Type 0 where
   pub coherent : AreCoherent states
   pub some : 0 < length states
@@ -51,22 +54,22 @@ pub record AreLr0Tables (g : Rules) (start : NonterminalString) (states : List (
   pub reduces : (n : ℕ) → ReducesFinished (contents g.terminals states n)
 
 -- ---- promoted states
--- each reduction of the state holds exactly the terminals and the end
+-- each reduction of the state holds exactly the terminals and Eof
 abbrev pub HoldsAll : List TerminalString → State Bits → Type 0
 HoldsAll terminals state = (r : Bits × Bor Production) → Contains state.reductions.items r → IsFull terminals r.0
 
--- the states from a place on hold all tokens
+-- the reductions of the states from a place on hold all tokens
 abbrev pub HoldAllFrom : List TerminalString → ℕ → List (State Bits) → Type 0
 HoldAllFrom terminals from states = (n : ℕ) (state : State Bits) → from ≤ n → slice_get states n ≡ Some state → HoldsAll terminals state
 
--- an item, and a reduction, with the tokens
+-- an item with the tokens, and below, a reduction with the tokens
 abbrev pub promoted_item : Bits → Dotted Nil → Dotted Bits
 promoted_item all item = record { production = item.production; index = item.index; lookahead = all }
 
 abbrev pub promoted_reduction : Bits → Nil × Bor Production → Bits × Bor Production
 promoted_reduction all r = (all, r.1)
 
--- the state with the set as the lookahead of each item and of each reduction
+-- the new state is the old one with the set as the lookahead of each item and of each reduction
 pub record IsPromoted (all : Bits) (old : State Nil) (new : State Bits) : Type 0 where
   pub index : new.index ≡ old.index
   pub items : new.items.vec.items ≡ map (promoted_item all) old.items.vec.items
@@ -74,20 +77,21 @@ pub record IsPromoted (all : Bits) (old : State Nil) (new : State Bits) : Type 0
   pub gotos : new.gotos ≡ old.gotos
   pub reductions : new.reductions.items ≡ map (promoted_reduction all) old.reductions.items
 
--- ---- what is traced
+-- ---- traced actions
 module _ (g : Rules) (start : NonterminalString) (places : ℕ → Contents) (s : ℕ) where
-  -- a token of an action of the state: a shift's own, a reduction's lane tokens
+  -- the token is one of an action of the state: of a shift its terminal, of a reduction its lane
+  -- tokens
   abbrev pub IsTokenOf : CodeAction → Token → Type 0
   IsTokenOf (CodeShift t target) token = token ≡ TokenOf t
   IsTokenOf (CodeReduce p) token = IsLaneToken g.productions start places s p.now (length p.now.symbols) token
 
-  -- the bit of a token of the action
+  -- the bit is that of a token of the action
   pub record HasActionBit (action : CodeAction) (bit : ℕ) : Type 0 where
     pub token : Token
     pub number : IsBitOf g.terminals token bit
     pub of : IsTokenOf action token
 
-  -- the bit is one of the action at the place
+  -- the bit is that of a token of the action at the place
   pub record IsBitAt (actions : List CodeAction) (place bit : ℕ) : Type 0 where
     pub action : CodeAction
     pub there : slice_get actions place ≡ Some action
@@ -97,18 +101,20 @@ module _ (g : Rules) (start : NonterminalString) (places : ℕ → Contents) (s 
   abbrev pub AreTraced : List CodeAction → LaneTable → Type 0
   AreTraced actions table = (k bit : ℕ) → InColumn table k bit ↔ IsBitAt actions k bit
 
--- the state at the place is resolved, by the lanes over the states
+-- the new state at the place is resolved, by the lanes over the states
 abbrev pub IsResolvedAt : Rules → NonterminalString → List (State Bits) → ℕ → List (State Bits) → Type 0
 IsResolvedAt g start states n new = (state : State Bits) → slice_get new n ≡ Some state → IsResolved g start (places_in states) n state
 
--- ---- answers
--- LR(0) states whose reductions hold exactly their lane tokens, none with a conflict
+-- ---- results
+-- the states are LR(0) states whose reductions hold exactly their lane tokens, and none has a
+-- conflict
 pub record AreLaneTables (g : Rules) (start : NonterminalString) (states : List (State Bits)) : Type 0 where
   pub made : AreLaneStates g start states
   pub holds : HoldLaneTokens g.productions start (contents g.terminals states)
   pub free : HaveNoConflict g.terminals states
 
--- one of the states has two actions that share a token; the states before it are resolved, and the reductions of it and of those behind it hold all tokens
+-- one of the states has two actions that share a token; the states before it are resolved, and the
+-- reductions of this state and of those after it hold all tokens
 pub record HaveMeetingLanes (g : Rules) (start : NonterminalString) (states : List (State Bits)) : Type 0 where
   pub number : ℕ
   pub listed : number < length states
@@ -116,7 +122,8 @@ pub record HaveMeetingLanes (g : Rules) (start : NonterminalString) (states : Li
   pub before : (n : ℕ) → n < number → IsResolvedAt g start states n states
   pub from : HoldAllFrom g.terminals number states
 
--- tables of an LALR(1) grammar: its LR(0) states with their lane tokens, which pass the check and are faithful
+-- the tables are those of an LALR(1) grammar: its LR(0) states with their lane tokens, which pass
+-- the check and are faithful
 pub record AreLalrLaneTables (g : Rules) (start : NonterminalString) (tables : List (State Bits)) : Type 0 where
   pub lanes : AreLaneTables g start tables
   pub shape : AreLr0Tables g start tables
@@ -125,19 +132,21 @@ pub record AreLalrLaneTables (g : Rules) (start : NonterminalString) (tables : L
   pub faithful : AreFaithful g.productions start (contents g.terminals tables)
 
 -- ---- the construction
--- the grammar is well-formed, and LR(0) states are made of it and of the start symbol
+-- the construction is ready: its grammar is well-formed, and its LR(0) states are those of the
+-- grammar and the start symbol
 pub record IsReadyToConstruct (construct : LaneTableConstruct) : Type 0 where
   pub well_formed : IsWellFormed construct.grammar.now
   pub over : construct.lr.construction ≡ lr0_of construct.grammar.now construct.start
 
--- the columns of the table share no token, and the state's reductions took them
+-- no two columns of the table share a token, and the state's reductions took the columns
 pub record IsAttempted (actions : List CodeAction) (table : LaneTable) (old new : State Bits) : Type 0 where
   pub columns : List Bits
   pub of : AreColumns table columns
   pub disjoint : AreDisjoint columns
   pub applied : IsApplied actions columns old new
 
--- the state at the place became the other, with the same place and the same items, and no other state changed
+-- the state at the index became another one with the same place and the same items, and no other
+-- state changed
 pub record IsStep (index : ℕ) (old new : List (State Bits)) : Type 0 where
   pub before : State Bits
   pub after : State Bits

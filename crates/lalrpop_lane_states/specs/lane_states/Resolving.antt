@@ -1,4 +1,4 @@
--- States that are resolved one after the other while some are copied.
+-- States that are resolved one after the other, while some are copied.
 use Rattle.std.specs.Prelude.{◌≡◌, ◌≤◌, ◌<◌, ◌+◌, ◌⊎◌, ℕ, Bool, true, false, List, length, slice_get, Some}
 use Rattle.lalrpop_base.specs.Words.{Bits, Rules}
 use Rattle.lalrpop_states.specs.declared.lr1_core.state.Action.{Action}
@@ -15,7 +15,8 @@ use Rattle.lalrpop_state_graph.specs.graphs.StateGraph.{edges, IsGraphOf}
 use Rattle.lalrpop_lane_states.specs.declared.lane_table.construct.copying.Copying.{Copying}
 use Rattle.lalrpop_lanes.specs.declared.lane_table.table.LaneTable.{LaneTable}
 
--- the states are the LR(0) states of the grammar and copies of these; copies that were made and those that are left are so many; and the graph is that of the states
+-- the states are the LR(0) states of the grammar and copies of these; the copies made and those
+-- left add up to the limit; the graph is that of the states
 pub record IsResolving (g : Rules) (start : NonterminalString) (copies : ℕ) (copying : Copying) : Type 0 where
   pub handed : List (State Bits)
   pub made : AreLaneStates g start handed
@@ -24,29 +25,33 @@ pub record IsResolving (g : Rules) (start : NonterminalString) (copies : ℕ) (c
   pub counted : copying.copies_left + length copying.states.items ≡ copies + length handed
   pub graph : IsGraphOf (edges copying.states.items) copying.graph
 
--- the new states are copies of the old ones, of which each new one counts, and the graph is theirs
+-- the new states are the old ones and copies of them; each copy lowers the number of copies left;
+-- the graph is that of the new states
 pub record IsCopied (old new : Copying) : Type 0 where
   pub originals : List ℕ
   pub each : AreCopies false old.states.items originals new.states.items
   pub counted : new.copies_left + length new.states.items ≡ old.copies_left + length old.states.items
   pub graph : IsGraphOf (edges new.states.items) new.graph
 
--- ---- which states are resolved
+-- ---- resolved states
 -- no two reductions of the state with the number share a token, unless they are by one production
 abbrev pub IsApartAt : List (State Bits) → ℕ → Type 0
 IsApartAt states n = (state : State Bits) → slice_get states n ≡ Some state → AreApart state.reductions.items
 
--- the state with the number has the reductions that it had before
+-- the state with the number has the same reductions as before
 abbrev pub HasSameReductions : List (State Bits) → List (State Bits) → ℕ → Type 0
 HasSameReductions old new n = (before after : State Bits) → slice_get old n ≡ Some before → slice_get new n ≡ Some after → after.reductions.items ≡ before.reductions.items
 
--- a state was resolved or not: if it was, its reductions are apart; all others, and it too if it was not, have the reductions that they had; no state was lost
+-- a state was resolved or not. If it was, no two of its reductions by different productions share a
+-- token. All other states kept their reductions, and so did this one if it was not resolved. No
+-- state was lost
 pub record IsTried (index : ℕ) (resolved : Bool) (old new : List (State Bits)) : Type 0 where
   pub apart : resolved ≡ true → IsApartAt new index
   pub kept : (n : ℕ) → (resolved ≡ true → n ≡ index → ⊥) → HasSameReductions old new n
   pub longer : length old ≤ length new
 
--- the lanes of two actions of the state with the number share a token, over LR(0) states and copies of these
+-- the lanes of two actions of the state with the number share a token, over LR(0) states and copies
+-- of these
 pub record HasOverlap (g : Rules) (start : NonterminalString) (copies : ℕ) (n : ℕ) : Type 0 where
   pub states : List (State Bits)
   pub made : AreLr0Copies g start copies states
@@ -58,7 +63,9 @@ pub record HasOverlap (g : Rules) (start : NonterminalString) (copies : ℕ) (n 
   pub traced : AreTraced g start (places_in states) n actions table
   pub overlap : ColumnsOverlap table
 
--- states are resolved from the first number up to the last, copies too; before the first and from the last on they have the reductions that were handed in, and the last is none of them, or one with an overlap
+-- the states from the first number up to the last are resolved, copies too. The states before the
+-- first and from the last on have the reductions that were handed in. The last is the end of the
+-- list, or a state of which two actions share a token
 pub record AreResolvedUpTo (g : Rules) (start : NonterminalString) (copies : ℕ) (first last : ℕ) (handed states : List (State Bits)) : Type 0 where
   pub before : (n : ℕ) → n < first → HasSameReductions handed states n
   pub resolved : (n : ℕ) → first ≤ n → n < last → IsApartAt states n

@@ -30,11 +30,12 @@ reduce_action r = CodeReduce r.1
 abbrev pub asked_actions : List TerminalString → State Bits → List CodeAction
 asked_actions terminals state = flat_map conflict_actions (state_conflicts terminals state) ++ map reduce_action state.reductions.items
 
--- each action is asked for, and each that is asked for has one that ties with it: reductions by equal productions do
+-- each action is asked for. For each action that is asked for, one of the actions compares as
+-- equal, as reductions by equal productions do
 pub record AreActions (asked actions : List CodeAction) : Type 0 where
   pub of : (a : CodeAction) → Contains actions a → Contains asked a
   pub all : (a : CodeAction) → Contains asked a → (b : CodeAction) × Contains actions b × (action_order a b ≡ Equal)
 
--- the actions ascend, so none stands twice
+-- the actions ascend, so no action comes twice
 abbrev pub ActionsAscend : List CodeAction → Type 0
 ActionsAscend actions = IsStrictlySortedBy action_order actions

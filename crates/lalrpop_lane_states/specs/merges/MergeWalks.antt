@@ -15,35 +15,40 @@ join_to state successor = record { state = state; successor = successor }
 abbrev pub joins_to : StateIndex → List StateIndex → List Join
 joins_to state successors = map (join_to state) successors
 
--- the state of a join is one of the list and a copy of a state with a row, and the table leads from its original to the successor
+-- the state of a join is a state of the list and a copy of a state with a row, and the table leads
+-- from its original to the successor
 pub record IsJoin (merge : Merge) (join : Join) : Type 0 where
   pub walked : IsWalked merge join.state
   pub leads : LeadsTo merge join.state join.successor
 
--- the state of a join was joined to a copy of the successor, to which its edges were led, and the walk went on from this copy
+-- the join was made: the state was joined to a copy of the successor, and the walk went on from
+-- this copy. No edge of the state leads to the successor in the place of the copy
 abbrev pub IsJoinMade : Merge → Join → Type 0
 IsJoinMade merge join = (copy : StateIndex) × IsJoinedCopy join.state join.successor copy merge × IsVisited merge copy.0 × IsLedTo merge join.state join.successor copy
 
--- the join of the state to each successor of its original was made, or is pending
+-- for each successor of the state's original, the join of the state to it was made, or is pending
 pub record HasJoinedBut (pending : List Join) (merge : Merge) (n : ℕ) : Type 0 where
   pub original : ℕ
   pub there : slice_get merge.originals.items n ≡ Some original
   pub joined : (right : StateIndex) → IsSuccessor merge.table.now (index original) right → Contains pending (join_to (index n) right) ⊎ IsJoinMade merge (join_to (index n) right)
 
--- a walk has come so far: what is pending can be made, and each state newly walked from was joined to its successors but for what is pending
+-- a walk has come so far: the pending joins can be made, and each state that it visited was joined
+-- to its successors, up to pending joins
 pub record IsMergeWalk (old new : Merge) (pending : List Join) : Type 0 where
   pub advances : Advances old new
   pub fewer : unvisited new ≤ unvisited old
   pub joins : (join : Join) → Contains pending join → IsJoin new join
   pub joined : (n : ℕ) → IsVisited new n → IsVisited old n ⊎ HasJoinedBut pending new n
 
--- a walk came to a state: it is marked, its joins are pending if it is newly marked, and so is all that was pending
+-- a walk came to a state: the state is marked, all joins that were pending are still pending, and
+-- if the mark is new, so are the state's joins
 pub record ComesTo (state : StateIndex) (old new : Merge) (before after : List Join) : Type 0 where
   pub there : IsVisited new state.0
   pub joined : (n : ℕ) → IsVisited new n → IsVisited old n ⊎ HasJoinedBut after new n
   pub kept : (join : Join) → Contains before join → Contains after join
   pub added : (join : Join) → Contains after join → Contains before join ⊎ IsJoin new join
 
--- no more joins than so many are made from here on: those that are pending, and as many as there are states, or may be, for each state to which the walk may still come
+-- an upper bound of the joins that are still made: the pending ones, and for each state still to be
+-- visited or made as many as there may be states
 abbrev pub most_joins : Merge → List Join → ℕ
 most_joins merge pending = unvisited merge * (merge.copies_left + length merge.states.items) + length pending

@@ -1,4 +1,5 @@
--- Sets of states that were joined, each with the tokens of its states (Pager 1977, "A practical general method for constructing LR(k) parsers").
+-- Sets of states that were joined, each with the tokens of its states (Pager 1977, "A practical
+-- general method for constructing LR(k) parsers").
 use Rattle.std.specs.Prelude.{◌≡◌, ◌≤◌, ◌<◌, ◌⊎◌, ◌==◌, ℕ, cond, List, [], length, slice_get, unwrap_or, Option, Some, None, Contains}
 use Rattle.std.specs.BTreeMap.{get}
 use Rattle.std.specs.Map.{keys_of}
@@ -14,7 +15,7 @@ use Rattle.lalrpop_lane_states.specs.declared.lane_table.construct.state_set.Sta
 abbrev pub set_of : ContextSets → StateIndex → Option StateSet
 set_of sets state = get state_cmp sets.state_sets state
 
--- the columns of a set, none where there is no such set
+-- the columns of a set, and no columns if there is no such set
 abbrev pub columns_of : List (List Bits) → Option StateSet → List Bits
 columns_of contexts None = []
 columns_of contexts (Some set) = unwrap_or (slice_get contexts set.index) []
@@ -29,15 +30,15 @@ pub record HasSet (sets : ContextSets) (state : StateIndex) : Type 0 where
   pub is : set_of sets state ≡ Some set
   pub listed : set.index < length sets.contexts.items
 
--- each set's columns were there, or are the given ones
+-- the columns of each set were those of an old set, or are such columns
 abbrev pub HaveColumns : (List Bits → Type 0) → ContextSets → ContextSets → Type 0
 HaveColumns P old new = (k : ℕ) (columns : List Bits) → slice_get new.contexts.items k ≡ Some columns → (slice_get old.contexts.items k ≡ Some columns) ⊎ P columns
 
--- the columns are the union of two, which do not meet
+-- the columns are the union of two context sets, whose tokens do not meet
 abbrev pub IsJoint : List Bits → List Bits → List Bits → Type 0
 IsJoint a b columns = IsUnion a b columns × ¬ MeetInUnion a b
 
--- the sets of two states are one, with the tokens of both; states of one set stay so
+-- the sets of two states are one, with the tokens of both; states that were in one set still are
 pub record AreJoined (source target : StateIndex) (old new : ContextSets) : Type 0 where
   pub counted : length new.contexts.items ≡ length old.contexts.items
   pub same : set_of new source ≡ set_of new target
@@ -45,25 +46,25 @@ pub record AreJoined (source target : StateIndex) (old new : ContextSets) : Type
   pub has : (n : StateIndex) → HasSet old n → HasSet new n
   pub columns : HaveColumns (IsJoint (context_of old source) (context_of old target)) old new
 
--- a state has a set of its own, with the columns
+-- a state has a set of its own, with these columns; the sets of other states stay
 pub record IsMade (state : StateIndex) (context : List Bits) (old new : ContextSets) : Type 0 where
   pub has : HasSet new state
   pub own : context_of new state ≡ context
   pub others : (n : StateIndex) → (n ≡ state → ⊥) → set_of new n ≡ set_of old n
 
--- the columns are among those of the sets
+-- each set has columns that an old one had, or these columns
 pub record AddsColumns (context : List Bits) (old new : ContextSets) : Type 0 where
   pub counted : length old.contexts.items ≤ length new.contexts.items
   pub columns : HaveColumns (λ columns. columns ≡ context) old new
 
--- the set, or the new one in the place of the old one
+-- the new set in the place of the old one, and any other set itself
 abbrev pub replaced_set : StateSet → StateSet → StateSet → StateSet
 replaced_set old new set = cond (set.index == old.index) new set
 
 abbrev pub replaced_entry : StateSet → StateSet → StateIndex × StateSet → StateIndex × StateSet
 replaced_entry old new entry = (entry.0, replaced_set old new entry.1)
 
--- each state with a row has a set, and the sets have the rows
+-- each state with a row has a set, and each set has the columns of a row
 pub record OwnSets (rows : Rows) (sets : ContextSets) : Type 0 where
   pub has : (state : StateIndex) → Contains (keys_of rows) state → HasSet sets state
   pub columns : (k : ℕ) (columns : List Bits) → slice_get sets.contexts.items k ≡ Some columns → (state : StateIndex) × Contains rows (state, columns)

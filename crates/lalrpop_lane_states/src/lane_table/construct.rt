@@ -38,7 +38,8 @@ pub struct LaneTableConstruct<'grammar> {
 }
 
 impl<'grammar> LaneTableConstruct<'grammar> {
-    /// States are copied at most so often.
+    /// A construction that copies states at most `max_copies` times in all. `OutOfMemory` if an
+    /// allocation fails.
     #[tactic(auto, using(lalrpop_construction::proofs::theory::construction::Lookaheads::nothing_fits))]
     pub fn new(
         alloc: Global,
@@ -60,9 +61,9 @@ impl<'grammar> LaneTableConstruct<'grammar> {
         })
     }
 
-    /// The LR(0) states with the tokens of their lanes, with copies where two actions share a
-    /// token; or these with their conflicts, as they stand at the first state for which no copies
-    /// help.
+    /// The LR(0) states with the tokens of their lanes, and copies of states if two actions share a
+    /// token. If there are no tables, the error has the states as they are then, with their
+    /// conflicts. An allocation failure is an error, too.
     pub fn construct(self, alloc: Global) -> Lr1Result<'grammar>
         requires ready { IsReadyToConstruct self }
         ensures tables { IfOk result
@@ -88,8 +89,9 @@ impl<'grammar> LaneTableConstruct<'grammar> {
         Err(BuildError::Conflicts(TableConstructionError { states, conflicts }))
     }
 
-    /// As `construct`, but no conflict is listed where there are no tables; and whether the states
-    /// were tables at once, behind one pass over them.
+    /// Makes the same tables as `construct`. If there are none, it returns `None` and lists no
+    /// conflict. It also returns whether one pass over the states made the tables. `OutOfMemory` if
+    /// an allocation fails.
     pub fn construct_told(
         &self,
         alloc: Global,
@@ -120,8 +122,8 @@ impl<'grammar> LaneTableConstruct<'grammar> {
         Ok(Some((states, false)))
     }
 
-    // The states, resolved up to the first for which no copies help, and whether they are tables at
-    // once, behind one pass over them.
+    // Makes the states, and resolves them up to the first one that cannot be resolved. Also returns
+    // whether one pass over the states resolved all of them.
     fn resolved(&self, alloc: Global) -> Result<(Vec<Lr1State<'grammar>>, bool), OutOfMemory>
         requires ready { IsReadyToConstruct self.now }
         ensures copies { IfOk result (λ told. AreLr0Copies (rules_of self.now.grammar.now)

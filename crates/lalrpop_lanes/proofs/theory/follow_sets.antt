@@ -1,2 +1,2 @@
--- What follows nonterminals in states, by one pass.
+-- The tokens that follow a nonterminal in an item.
 pub mod Following

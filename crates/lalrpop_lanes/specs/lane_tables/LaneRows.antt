@@ -1,4 +1,4 @@
--- Rows of a lane table (Pager 1977), taken together from its cells.
+-- Rows of a lane table (Pager 1977), made from its cells.
 use Rattle.std.specs.Prelude.{◌≡◌, ◌<◌, ◌⊎◌, ◌↔◌, ℕ, true, false, List, length, slice_get, Option, Some, None, Contains}
 use Rattle.std.specs.Ordering.{is_eq}
 use Rattle.std.specs.BTreeMap.{is_at}
@@ -18,11 +18,11 @@ use Rattle.lalrpop_lanes.specs.declared.lane_table.table.rows.RowsError.TheVaria
 abbrev pub Cells : Type 0
 Cells = List ((StateIndex × ConflictIndex) × Bits)
 
--- a cell in one of the rows has the token in the column
+-- a cell in one of these rows has the token in the column
 abbrev pub HasIn : (StateIndex → Type 0) → Cells → ℕ → ℕ → Type 0
 HasIn P cells k bit = (row : StateIndex) × P row × ((set : Bits) × Contains cells ((row, column k), set) × (has set bit ≡ true))
 
--- the columns have the tokens of the rows, and no two share one
+-- the columns have exactly the tokens of these rows, and no two columns share a token
 pub record AreGathered (P : StateIndex → Type 0) (cells : Cells) (columns : List Bits) : Type 0 where
   pub tokens : (k bit : ℕ) → HasAt columns k bit ↔ HasIn P cells k bit
   pub disjoint : AreDisjoint columns
@@ -39,7 +39,7 @@ Rows = List (StateIndex × List Bits)
 abbrev pub row_at : Rows → StateIndex → Option (List Bits)
 row_at rows state = lookup (is_at (state_cmp state)) rows
 
--- the columns are the row, or as many as are asked for, without tokens, where there is none
+-- the columns are the row, if there is one, else they are empty columns of that count
 abbrev pub StandsFor : ℕ → Option (List Bits) → List Bits → Type 0
 StandsFor count None columns = (length columns ≡ count) × ((k : ℕ) (column : Bits) → slice_get columns k ≡ Some column → column ≡ no_bits)
 StandsFor count (Some row) columns = columns ≡ row
@@ -48,14 +48,15 @@ StandsFor count (Some row) columns = columns ≡ row
 abbrev pub KeepOthers : StateIndex → Rows → Rows → Type 0
 KeepOthers state old new = (q : StateIndex) → is_eq (state_cmp state q) ≡ false → row_at new q ≡ row_at old q
 
--- the state has a row now, without tokens where it had none
+-- the state has a row now; a new one is empty, and the rows of other states stay
 pub record MakesRow (count : ℕ) (state : StateIndex) (old new : Rows) : Type 0 where
   pub row : List Bits
   pub there : row_at new state ≡ Some row
   pub was : StandsFor count (row_at old state) row
   pub others : KeepOthers state old new
 
--- the tokens were joined to a column of the row of a state, and no other column shares one
+-- the tokens were joined to a column of the row of a state, which may be a new row, and no other
+-- column shares a token with them
 pub record JoinsRow (count : ℕ) (state : StateIndex) (index : ℕ) (tokens : Bits) (old new : Rows) : Type 0 where
   pub before : List Bits
   pub after : List Bits
@@ -65,7 +66,7 @@ pub record JoinsRow (count : ℕ) (state : StateIndex) (index : ℕ) (tokens : B
   pub apart : ¬ MeetsOther before index tokens
   pub others : KeepOthers state old new
 
--- another column of the row of a state shares a token
+-- another column of the row of a state shares a token with the tokens
 pub record MeetsRow (count : ℕ) (state : StateIndex) (index : ℕ) (tokens : Bits) (rows : Rows) : Type 0 where
   pub row : List Bits
   pub was : StandsFor count (row_at rows state) row
@@ -75,7 +76,7 @@ pub record MeetsRow (count : ℕ) (state : StateIndex) (index : ℕ) (tokens : B
 abbrev pub HasCells : Cells → StateIndex → Type 0
 HasCells cells state = (k : ℕ) × ((set : Bits) × Contains cells ((state, column k), set))
 
--- the rows are those of the states with cells, with the tokens of these
+-- the rows are those of the states with cells, with the tokens of these cells
 pub record AreRowsOf (count : ℕ) (cells : Cells) (rows : Rows) : Type 0 where
   pub each : (state : StateIndex) (row : List Bits) → StandsFor count (row_at rows state) row → (length row ≡ count) × AreGathered (ThisRow state) cells row
   pub has : (state : StateIndex) (row : List Bits) → row_at rows state ≡ Some row → HasCells cells state
@@ -89,13 +90,13 @@ Successors = List (StateIndex × SortedSet StateIndex)
 abbrev pub HasNext : Successors → StateIndex → StateIndex → Type 0
 HasNext successors left right = (set : SortedSet StateIndex) × Contains successors (left, set) × Contains set.keys right
 
--- each state with a successor has a row now, without tokens where it had none
+-- each state with a successor has a row now, which is empty if it is new; the other rows stay
 pub record AddsRows (count : ℕ) (successors : Successors) (old new : Rows) : Type 0 where
   pub kept : (state : StateIndex) (row : List Bits) → row_at old state ≡ Some row → row_at new state ≡ Some row
   pub from : (state : StateIndex) (row : List Bits) → row_at new state ≡ Some row → StandsFor count (row_at old state) row × ((row_at old state ≡ Some row) ⊎ ((right : StateIndex) × HasNext successors state right))
   pub all : (left right : StateIndex) → HasNext successors left right → (row : List Bits) × (row_at new left ≡ Some row)
 
--- two columns share a token in the row of the state, and in none of a smaller state
+-- the state of the error is the first one in whose row two columns share a token
 abbrev pub IsFirstOverlap : LaneTable → RowsError → Type 0
 IsFirstOverlap table (State s) = RowOverlaps table s × ((smaller : StateIndex) → smaller.0 < s.0 → ¬ RowOverlaps table smaller)
 IsFirstOverlap table Memory = Unit {0}

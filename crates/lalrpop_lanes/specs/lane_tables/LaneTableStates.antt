@@ -1,4 +1,4 @@
--- The states of a lane table: those that are reached, and edges that are closed.
+-- The states of a lane table: those that are successors, and edges that are closed.
 use Rattle.std.specs.Prelude.{◌<◌, ◌↔◌, ℕ, List, Contains}
 use Rattle.lalrpop_states.specs.declared.lr1_core.state.StateIndex.{StateIndex}
 use Rattle.lalrpop_lanes.specs.lane_tables.LaneTables.{HasCell, HasRow, IsSuccessor}

@@ -1,4 +1,5 @@
--- Lane tables (Pager 1977): for each state and each action that is traced the tokens found there, and the states that a trace goes through.
+-- Lane tables (Pager 1977): for each state and each action that is traced the tokens found there,
+-- and the states that a trace goes through.
 use Rattle.std.specs.Prelude.{◌≡◌, ◌⊎◌, ◌<◌, ◌↔◌, ℕ, true, List, length, Contains}
 use Rattle.std.specs.BTreeSet.{BTreeSet as SortedSet}
 use Rattle.lalrpop_base.specs.Words.{Bits, has}
@@ -11,15 +12,15 @@ use Rattle.lalrpop_lanes.specs.declared.lane_table.table.LaneTable.{LaneTable}
 abbrev pub column : ℕ → ConflictIndex
 column n = record { index = n }
 
--- in the row of a state the table has a cell for a column, with these tokens
+-- the table has a cell in the row of a state and in the column, with these tokens
 abbrev pub IsCell : LaneTable → StateIndex → ℕ → Bits → Type 0
 IsCell table row k set = Contains table.lookaheads.entries ((row, column k), set)
 
--- a cell, an empty one too
+-- the table has a cell there, which may be empty
 abbrev pub HasCell : LaneTable → StateIndex → ℕ → Type 0
 HasCell table row k = (set : Bits) × IsCell table row k set
 
--- a cell that has the token
+-- the table has a cell there with the token
 abbrev pub HasBit : LaneTable → StateIndex → ℕ → ℕ → Type 0
 HasBit table row k bit = (set : Bits) × IsCell table row k set × (has set bit ≡ true)
 
@@ -38,21 +39,22 @@ pub record AreSameTables (old new : LaneTable) : Type 0 where
   pub tokens : (row : StateIndex) (k bit : ℕ) → HasBit new row k bit ↔ HasBit old row k bit
   pub successors : (left right : StateIndex) → IsSuccessor new left right ↔ IsSuccessor old left right
 
--- a cell was made, or got the tokens
+-- a cell was made, or got the tokens; nothing else changed
 pub record AddsTokens (row : StateIndex) (k : ℕ) (set : Bits) (old new : LaneTable) : Type 0 where
   pub columns : new.conflicts ≡ old.conflicts
   pub cells : (r : StateIndex) (j : ℕ) → HasCell new r j ↔ (HasCell old r j ⊎ ((r ≡ row) × (j ≡ k)))
   pub tokens : (r : StateIndex) (j bit : ℕ) → HasBit new r j bit ↔ (HasBit old r j bit ⊎ ((r ≡ row) × (j ≡ k) × (has set bit ≡ true)))
   pub successors : (left right : StateIndex) → IsSuccessor new left right ↔ IsSuccessor old left right
 
--- a successor was added
+-- a successor was added; nothing else changed
 pub record AddsSuccessor (left right : StateIndex) (old new : LaneTable) : Type 0 where
   pub columns : new.conflicts ≡ old.conflicts
   pub cells : (row : StateIndex) (k : ℕ) → HasCell new row k ↔ HasCell old row k
   pub tokens : (row : StateIndex) (k bit : ℕ) → HasBit new row k bit ↔ HasBit old row k bit
   pub successors : (l r : StateIndex) → IsSuccessor new l r ↔ (IsSuccessor old l r ⊎ ((l ≡ left) × (r ≡ right)))
 
--- a table has the columns, cells, tokens and successors that it had before, and maybe more of these
+-- a table kept its columns, cells, tokens and successors, and maybe has more cells, tokens and
+-- successors
 pub record KeepsAll (old new : LaneTable) : Type 0 where
   pub columns : new.conflicts ≡ old.conflicts
   pub cells : (row : StateIndex) (k : ℕ) → HasCell old row k → HasCell new row k
@@ -96,15 +98,15 @@ pub record RowOverlaps (table : LaneTable) (row : StateIndex) : Type 0 where
   pub here : HasBit table row first bit
   pub there : HasBit table row second bit
 
--- each cell stands in a column of the table
+-- each cell is in a column of the table
 abbrev pub AreInRange : LaneTable → Type 0
 AreInRange table = (row : StateIndex) (k : ℕ) → HasCell table row k → k < table.conflicts
 
--- a state with a cell, an empty one too, that is nobody's successor
+-- a state has a cell, which may be empty, and is no state's successor
 abbrev pub IsBeachhead : LaneTable → StateIndex → Type 0
 IsBeachhead table state = ((k : ℕ) × HasCell table state k) × ((left : StateIndex) → IsSuccessor table left state → ⊥)
 
--- each state has a number below the count, and each successor a row
+-- each state of the table has a number below the count, and each successor has a row
 pub record IsClosed (count : ℕ) (table : LaneTable) : Type 0 where
   pub cells : (row : StateIndex) (k : ℕ) → HasCell table row k → row.0 < count
   pub numbers : (left right : StateIndex) → IsSuccessor table left right → (left.0 < count) × (right.0 < count)

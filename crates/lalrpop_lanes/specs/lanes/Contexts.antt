@@ -1,4 +1,4 @@
--- Context sets: for each action that is traced, the tokens on which it is to be taken (Pager 1977).
+-- Context sets (Pager 1977): for each action that is traced, the tokens on which it is taken.
 use Rattle.std.specs.Prelude.{◌≡◌, ◌==◌, ◌⊎◌, ℕ, true, cond, List, length, slice_get, option_map, Some}
 use Rattle.std.specs.Borrow.{Bor}
 use Rattle.lalrpop_collections.specs.lists.Bits.{Bits, has, join}
@@ -11,7 +11,7 @@ use Rattle.lalrpop_grammar.specs.declared.repr.Production.{Production}
 abbrev pub HasAt : List Bits → ℕ → ℕ → Type 0
 HasAt columns index bit = (set : Bits) × (slice_get columns index ≡ Some set) × (has set bit ≡ true)
 
--- a column other than the one shares a token with the set
+-- a column other than the one with the index shares a token with the set
 pub record MeetsOther (columns : List Bits) (index : ℕ) (tokens : Bits) : Type 0 where
   pub other : ℕ
   pub apart : other ≡ index → ⊥
@@ -19,17 +19,17 @@ pub record MeetsOther (columns : List Bits) (index : ℕ) (tokens : Bits) : Type
   pub there : HasAt columns other bit
   pub shared : has tokens bit ≡ true
 
--- the second columns are the first, with the tokens joined to the one
+-- the new columns are the old ones, with the tokens joined to the one with the index
 pub record IsJoinedIn (index : ℕ) (tokens : Bits) (old new : List Bits) : Type 0 where
   pub counted : length new ≡ length old
   pub joined : (k : ℕ) → slice_get new k ≡ option_map (λ (set : Bits). cond (k == index) (join set tokens) set) (slice_get old k)
 
--- the columns are those of both, joined one by one
+-- the columns of the union are those of both, joined one by one
 pub record IsUnion (a b union : List Bits) : Type 0 where
   pub counted : length union ≡ length a
   pub joined : (k : ℕ) (s t : Bits) → slice_get a k ≡ Some s → slice_get b k ≡ Some t → slice_get union k ≡ Some (join s t)
 
--- a column of the second shares a token with another column, of the first or of its own
+-- a column of the second shares a token with another column, of the first or of the second
 pub record MeetInUnion (a b : List Bits) : Type 0 where
   pub index : ℕ
   pub other : ℕ
@@ -55,7 +55,7 @@ pub record TookColumn (actions : List Action) (columns : List Bits) (old new : B
   pub action : IsReductionAt actions place old.1.now
   pub column : slice_get columns place ≡ Some new.0
 
--- the reductions took their columns, each in its place
+-- the reductions took the tokens of their columns, in their old order
 pub record TookColumns (actions : List Action) (columns : List Bits) (old new : List (Bits × Bor Production)) : Type 0 where
   pub counted : length new ≡ length old
   pub each : (k : ℕ) (r q : Bits × Bor Production) → slice_get old k ≡ Some r → slice_get new k ≡ Some q → TookColumn actions columns r q
@@ -68,7 +68,7 @@ Reduces action p = (lent : Bor Production) × (action ≡ Reduce lent) × (lent.
 abbrev pub AreReducedAmong : List Action → List (Bits × Bor Production) → Type 0
 AreReducedAmong actions reductions = (k : ℕ) (r : Bits × Bor Production) → slice_get reductions k ≡ Some r → (place : ℕ) × IsReductionAt actions place r.1.now
 
--- the state is the old one, whose reductions took their columns
+-- the new state is the old one, but its reductions took the tokens of their columns
 pub record IsApplied (actions : List Action) (columns : List Bits) (old new : State Bits) : Type 0 where
   pub index : new.index ≡ old.index
   pub items : new.items ≡ old.items

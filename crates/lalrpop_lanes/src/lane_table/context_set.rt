@@ -1,4 +1,4 @@
-//! Context sets: for each action that is traced, the tokens on which it is to be taken.
+//! Context sets: for each action that is traced, the tokens on which it is taken.
 ghost use Rattle.std.specs.Prelude.{◌≡◌, ◌≢◌, ◌<◌, ◌↔◌, ℕ, List, length, slice_get, Some, IfOk, OnErr, OnOk, IfErr, MatchBool, IsTrue, IsFalse};
 ghost use Rattle.lalrpop_base.specs.Words.{Bits, no_bits};
 ghost use Rattle.lalrpop_lanes.specs.lanes.Contexts.{MeetsOther, IsJoinedIn, IsUnion, MeetInUnion, IsApplied, AreAmong, AreReducedAmong, IsReductionAt};
@@ -16,14 +16,14 @@ use std::alloc::Global;
 use std::marker::Model;
 use thiserror::Error;
 
-/// The number of a column: the place of an action among those that are traced.
+/// The number of a column: the place of an action among those that are traced, from 0.
 #[derive(Clone, Copy, Debug, PartialEq, Eq, PartialOrd, Ord)]
 pub struct ConflictIndex {
     index: usize,
 }
 
 impl ConflictIndex {
-    /// The column with a number.
+    /// The column with the number `index`.
     pub fn new(index: usize) -> ConflictIndex
         ensures number { result.index ≡ index }
     {
@@ -31,7 +31,7 @@ impl ConflictIndex {
     }
 }
 
-/// Why tokens were not joined.
+/// Why tokens were not joined: two columns would share a token, or an allocation failed.
 #[derive(Clone, Copy, Debug, PartialEq, Eq, Error)]
 pub enum OverlappingLookahead {
     #[error("overlapping lookahead")]
@@ -48,7 +48,8 @@ impl From<OutOfMemory> for OverlappingLookahead {
     }
 }
 
-/// The tokens of each action. Clauses see it as its columns.
+/// The tokens of each action that is traced, as a column for each action. Clauses see the list of
+/// columns.
 #[derive(Debug, Drop)]
 pub struct ContextSet {
     values: Vec<TokenSet>,
@@ -69,7 +70,7 @@ impl Model for ContextSet {
 }
 
 impl ContextSet {
-    /// Columns without tokens.
+    /// `count` columns without tokens. `OutOfMemory` if an allocation fails.
     pub fn new(alloc: Global, count: usize) -> Result<ContextSet, OutOfMemory>
         ensures counted { IfOk result (λ set. length set ≡ count) }
         ensures empty { IfOk result
@@ -82,7 +83,8 @@ impl ContextSet {
         Ok(ContextSet { values })
     }
 
-    /// The columns of both, unless a column of the second would share a token with another one.
+    /// The columns of both, joined one by one. `Overlapping` if a column of the second shares a
+    /// token with another column of either, and `Memory` if an allocation fails.
     pub fn union(
         alloc: Global,
         first: &ContextSet,
@@ -101,8 +103,8 @@ impl ContextSet {
         Ok(union)
     }
 
-    /// Joins tokens to a column, unless another column has one of them; tells whether the column
-    /// grew.
+    /// Joins tokens to a column, and returns whether the column grew. `Overlapping` if another
+    /// column has one of the tokens, and `Memory` if an allocation fails.
     pub fn insert(
         &mut self,
         index: ConflictIndex,
@@ -125,7 +127,7 @@ impl ContextSet {
         Ok(grew)
     }
 
-    // Whether a column other than the one has one of the tokens.
+    // Whether a column other than that of `index` has one of the tokens.
     fn meets_other(&self, index: ConflictIndex, tokens: &TokenSet) -> bool
         ensures yes { IsTrue result → MeetsOther self.now index.index tokens.now }
         ensures no { IsFalse result → ¬ MeetsOther self.now index.index tokens.now }
@@ -138,8 +140,8 @@ impl ContextSet {
         false
     }
 
-    /// Gives each reduction of a state the tokens of its action, of which there is one for each
-    /// column.
+    /// Gives each reduction of a state the tokens of its action. `actions` has one action for each
+    /// column, in the order of the columns. `OutOfMemory` if an allocation fails.
     pub fn apply<'grammar>(
         &self,
         alloc: Global,
@@ -176,6 +178,7 @@ impl ContextSet {
         Ok(given)
     }
 
+    /// A copy of the columns. `OutOfMemory` if an allocation fails.
     pub fn clone(&self, alloc: Global) -> Result<ContextSet, OutOfMemory>
         ensures copy { IfOk result (λ copy. copy ≡ self.now) }
     {
@@ -187,7 +190,7 @@ impl ContextSet {
     }
 }
 
-/// Whether each reduction is among the actions.
+/// Whether the actions include each of the reductions.
 pub fn are_among<'grammar>(
     actions: &Set<Action<'grammar>>,
     reductions: &[(TokenSet, &'grammar Production)],
@@ -202,7 +205,7 @@ pub fn are_among<'grammar>(
     true
 }
 
-// Whether the reduction by a production is among the actions.
+// Whether the actions include the reduction by a production.
 fn has_reduction<'grammar>(actions: &Set<Action<'grammar>>, production: &Production) -> bool
     ensures { IsTrue result ↔ ((place : ℕ) × IsReductionAt actions.now.keys place production.now) }
 {
@@ -214,7 +217,7 @@ fn has_reduction<'grammar>(actions: &Set<Action<'grammar>>, production: &Product
     false
 }
 
-// The place of the reduction by a production that is among the actions.
+// The place of the reduction by a production among the actions, which include it.
 fn place_of_reduction<'grammar>(actions: &Set<Action<'grammar>>, production: &Production) -> usize
     requires { (place : ℕ) × IsReductionAt actions.now.keys place production.now }
     ensures { IsReductionAt actions.now.keys result production.now }

@@ -1,4 +1,4 @@
-//! Traces reductions back over the states, into a lane table.
+//! Traces actions back over the states, into a lane table.
 mod expanded;
 mod ground;
 mod trace_back;
@@ -27,7 +27,8 @@ use lalrpop_base::repr::{NonterminalString, TerminalString};
 use lalrpop_state_graph::state_graph::StateGraph;
 use std::alloc::Global;
 
-/// Traces over coherent states of a grammar, whose graph and first sets are at hand.
+/// Traces actions over coherent states of a grammar, with the graph of these states and the FIRST
+/// sets of the grammar. Each action has a column of the lane table.
 #[derive(Drop)]
 pub struct LaneTracer<'trace, 'grammar, L> {
     grammar: &'grammar Grammar,
@@ -39,7 +40,8 @@ pub struct LaneTracer<'trace, 'grammar, L> {
 }
 
 impl<'trace, 'grammar, L> LaneTracer<'trace, 'grammar, L> {
-    /// A tracer whose table has no rows yet, for a number of actions.
+    /// A tracer whose table has no rows yet. `conflicts` is the number of actions, which have a
+    /// column each.
     pub fn new(
         alloc: Global,
         grammar: &'grammar Grammar,
@@ -70,9 +72,9 @@ impl<'trace, 'grammar, L> LaneTracer<'trace, 'grammar, L> {
         }
     }
 
-    /// Traces an action of a state into a column: a shift has its terminal there, a reduction the
-    /// tokens of its lane. After want of memory the table has what it had, and maybe a part of the
-    /// lane.
+    /// Traces an action of a state into a column. A shift gets its terminal, in the row of the
+    /// state. A reduction gets the tokens of its lane. If an allocation fails, the result is
+    /// `OutOfMemory`. The table then keeps its old contents, and may have a part of the lane.
     pub fn start_trace(
         &mut self,
         alloc: Global,
@@ -115,7 +117,7 @@ impl<'trace, 'grammar, L> LaneTracer<'trace, 'grammar, L> {
         }
     }
 
-    /// The table with what was traced.
+    /// Ends the tracing, and returns the table.
     pub fn into_table(self) -> LaneTable<'grammar>
         ensures table { result ≡ self.entry.table }
     {
@@ -124,7 +126,7 @@ impl<'trace, 'grammar, L> LaneTracer<'trace, 'grammar, L> {
     }
 }
 
-// The terminal of a shift, if it is in the list.
+// The set of the terminal of a shift, or the empty set, if the terminal is not in the list.
 fn shifted(
     alloc: Global,
     terminals: &TerminalSet,

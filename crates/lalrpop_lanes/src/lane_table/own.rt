@@ -1,4 +1,5 @@
-//! Whether states and actions are of productions of a grammar, which a tracer of lanes needs.
+//! Tests whether all items of states, and actions, are of productions of a grammar. A tracer of
+//! lanes requires this.
 ghost use Rattle.std.specs.Prelude.{◌↔◌, Contains, IsTrue};
 ghost use Rattle.lalrpop_base.specs.Words.{EachItem, IsWellFormed, productions};
 ghost use Rattle.lalrpop_lanes.specs.lanes.LaneTraces.{HaveOwnItems, ReducesOwn};

@@ -1,5 +1,5 @@
-//! The lane table: a row for each state that a trace goes through, a column for each action that is
-//! traced.
+//! The lane table: a row for each state that a trace goes through, and a column for each action
+//! that is traced.
 mod beachheads;
 mod closed;
 pub mod rows;
@@ -23,7 +23,8 @@ use std::alloc::Global;
 use std::collections::BTreeMap;
 use std::fmt;
 
-/// The tokens that each state contributes to each action, and the states behind which these stand.
+/// The tokens that each state contributes to each action, and the edges over which the traces go
+/// back. A trace steps back from a successor to its state.
 #[derive(Drop)]
 pub struct LaneTable<'grammar> {
     grammar: &'grammar Grammar,
@@ -47,7 +48,7 @@ impl<'grammar> fmt::Debug for LaneTable<'grammar> {
 impl<'grammar> LaneTable<'grammar> {
     ghost use Rattle.lalrpop_lanes.specs.lane_tables.LaneTables.{AreSameTables, AddsTokens, AddsSuccessor, IsEmptyTable, AreInRange, AreColumns, ColumnsOverlap, IsRow, RowOverlaps, IsSuccessor};
 
-    /// A table without rows, for a number of actions.
+    /// A table without rows. `conflicts` is the number of actions, which have a column each.
     pub fn new(alloc: Global, grammar: &'grammar Grammar, conflicts: usize) -> LaneTable<'grammar>
         ensures empty { IsEmptyTable result }
         ensures columns { result.conflicts ≡ conflicts }
@@ -62,7 +63,8 @@ impl<'grammar> LaneTable<'grammar> {
         }
     }
 
-    /// Adds tokens to a cell, which is made if there is none.
+    /// Adds tokens to a cell, and makes the cell if there is none. `OutOfMemory` if an allocation
+    /// fails.
     pub fn add_lookahead(
         &mut self,
         state: StateIndex,
@@ -79,7 +81,7 @@ impl<'grammar> LaneTable<'grammar> {
         Ok(())
     }
 
-    /// Adds a successor of a state.
+    /// Adds a successor of a state. `OutOfMemory` if an allocation fails.
     pub fn add_successor(
         &mut self,
         state: StateIndex,
@@ -97,7 +99,8 @@ impl<'grammar> LaneTable<'grammar> {
         Ok(())
     }
 
-    /// The tokens of each action, joined over all rows, unless two actions share one.
+    /// The tokens of each action, joined over all rows. `Overlapping` if two actions share a token,
+    /// and `Memory` if an allocation fails.
     pub fn columns(&self, alloc: Global) -> Result<ContextSet, OverlappingLookahead>
         ensures columns { IfOk result (AreColumns self.now) }
         ensures disjoint { IfOk result AreDisjoint }
@@ -111,7 +114,7 @@ impl<'grammar> LaneTable<'grammar> {
         Ok(columns)
     }
 
-    /// The successors of a state that has an entry.
+    /// The successors of a state, or `None` if the table has no entry of successors for the state.
     pub fn successors(&self, state: StateIndex) -> Option<&Set<StateIndex>>
         ensures exactly { IfSome result (λ set. (right : State) →
             Contains set.now.keys right ↔ IsSuccessor self.now state right) }
@@ -122,7 +125,8 @@ impl<'grammar> LaneTable<'grammar> {
         self.successors.get(&state)
     }
 
-    /// The tokens of each action in the row of a state, unless two actions share one.
+    /// The tokens of each action in the row of a state. `Overlapping` if two actions share a token
+    /// there, and `Memory` if an allocation fails.
     pub fn context_set(
         &self,
         alloc: Global,
@@ -143,7 +147,7 @@ impl<'grammar> LaneTable<'grammar> {
     }
 }
 
-// Joins tokens to those of a cell, and tells whether it is new or has more now.
+// Joins tokens to those of a cell, and returns whether the cell is new or has more tokens now.
 fn join_at(
     alloc: Global,
     cells: &mut BTreeMap<(StateIndex, ConflictIndex), TokenSet>,

@@ -1,4 +1,5 @@
--- What an answer of the parse by a grammar's tables says: a tree, a refusal, the limit, or conflicts in the place of tables. Want of memory says nothing.
+-- The results of the parse by a grammar's tables: a tree, a refusal, the limit, or conflicts in the
+-- place of tables. Nothing is said of an allocation failure.
 use Rattle.std.specs.Prelude.{ℕ, List, Result, Ok, Err}
 use Rattle.lalrpop_base.specs.Words.{Bits, Outcome, Parsed, Refused as RefusedIn, Limit as CutOff, Tree, IsParseTree}
 use Rattle.lalrpop_grammar.specs.declared.lookahead.token.Token.{Token}
@@ -14,7 +15,7 @@ use Rattle.lalrpop_parser.specs.declared.interpret.error.InterpretError.{Interpr
 use Rattle.lalrpop_parser.specs.declared.interpret.error.InterpretError.TheVariants.{Refused as RefusedBy, Limit as LimitPassed, Memory as NoMemory}
 use Rattle.lalrpop_parser.specs.declared.interpret.tree.ParseTree.{ParseTree}
 
--- there were tables, by which a tree, a refusal or the limit was answered
+-- there were tables, and the result by them is a tree, a refusal or the limit
 abbrev pub HadTables : Result ParseTree ParseError → Type 0
 HadTables (Ok tree) = Unit {0}
 HadTables (Err (Conflicts error)) = ⊥
@@ -22,7 +23,7 @@ HadTables (Err (Refused token)) = Unit {0}
 HadTables (Err Limit) = Unit {0}
 HadTables (Err Memory) = ⊥
 
--- there were tables exactly where the fact holds
+-- there were tables exactly if the property holds
 abbrev pub HadTablesWhere : Type 0 → Result ParseTree ParseError → Type 0
 HadTablesWhere P (Ok tree) = P
 HadTablesWhere P (Err (Conflicts error)) = ¬ P
@@ -30,28 +31,29 @@ HadTablesWhere P (Err (Refused token)) = P
 HadTablesWhere P (Err Limit) = P
 HadTablesWhere P (Err Memory) = Unit {0}
 
--- something holds of the states and conflicts that are told
+-- the property holds of the states and conflicts of the error, if it has some
 abbrev pub IfConflicts : (TableConstructionError Bits → Type 0) → ParseError → Type 0
 IfConflicts P (Conflicts error) = P error
 IfConflicts P (Refused token) = Unit {0}
 IfConflicts P Limit = Unit {0}
 IfConflicts P Memory = Unit {0}
 
--- something holds of the token that is refused
+-- the property holds of the token that is refused, if one is
 abbrev pub IfRefusedAt : (Token → Type 0) → ParseError → Type 0
 IfRefusedAt P (Conflicts error) = Unit {0}
 IfRefusedAt P (Refused token) = P token
 IfRefusedAt P Limit = Unit {0}
 IfRefusedAt P Memory = Unit {0}
 
--- something holds where the limit is told
+-- the property holds if the error is the limit
 abbrev pub IfLimitTold : Type 0 → ParseError → Type 0
 IfLimitTold P (Conflicts error) = Unit {0}
 IfLimitTold P (Refused token) = Unit {0}
 IfLimitTold P Limit = P
 IfLimitTold P Memory = Unit {0}
 
--- something holds of the outcome that is told, of a refusal by some state; conflicts tell none
+-- the property holds of the outcome that is reported, for a refusal by some state; conflicts report
+-- none
 abbrev pub IsOutcomeTold : (Outcome → Type 0) → Result ParseTree ParseError → Type 0
 IsOutcomeTold R (Ok tree) = R (Parsed (tree_of tree))
 IsOutcomeTold R (Err (Conflicts error)) = Unit {0}
@@ -59,12 +61,13 @@ IsOutcomeTold R (Err (Refused token)) = (n : ℕ) × R (RefusedIn n token)
 IsOutcomeTold R (Err Limit) = R CutOff
 IsOutcomeTold R (Err Memory) = Unit {0}
 
--- each list with a parse tree has its answer: the tree, if its nodes are within the limit, and else the limit
+-- the result for a list with a parse tree is the tree if its nodes are within the limit, else the
+-- limit; nothing is said of conflicts and of an allocation failure
 abbrev pub TellsTrees : ℕ → List TerminalString → Result ParseTree ParseError → List Production → NonterminalString → Type 0
 TellsTrees limit w answer g start =
     (t : Tree) → IsParseTree g start w t → IsOutcomeTold (IsOutcomeFor t limit) answer
 
--- what the parser answers, without the state that refuses
+-- the result of the parser, without the state of a refusal
 abbrev pub told_by : {L : Type 0} → Result ParseTree (InterpretError L) → Result ParseTree ParseError
 told_by (Ok tree) = Ok tree
 told_by (Err (RefusedBy state token)) = Err (Refused token)

@@ -1,5 +1,5 @@
-//! The promise for any start symbol: by a grammar with a new one above it, exactly the parse trees
-//! of the old.
+//! The main contract for any start symbol: by a grammar with a new start symbol above the old one,
+//! exactly the parse trees of the old one.
 ghost use Rattle.std.specs.Prelude.{◌≡◌, IfOk, IfErr};
 ghost use Rattle.lalrpop_base.specs.Words.{HasNewStart, IsRefusedStart, IsFirstWrong, Tree, Node, beside, no_trees, IsWellFormed, productions};
 ghost use Rattle.lalrpop_grammar.specs.declared.repr.NonterminalString.{NonterminalString};
@@ -19,8 +19,8 @@ use lalrpop_tables::build::options::Options;
 use std::alloc::Global;
 use std::marker::Model;
 
-/// A grammar with a new start symbol above an old one. Clauses see it with the productions that it
-/// had before.
+/// A grammar with a new start symbol above an old one. Clauses see it together with its old
+/// productions.
 #[derive(Debug, Drop)]
 pub struct AugmentedGrammar {
     old_start: NonterminalString,
@@ -41,7 +41,9 @@ impl Model for AugmentedGrammar {
 }
 
 impl AugmentedGrammar {
-    /// The grammar with a new start symbol above one of its nonterminals.
+    /// The grammar with a new start symbol above one of its nonterminals. The error is
+    /// `TooManyActions` if the new production's action would have a number above 4294967295, or
+    /// `Memory` if an allocation fails.
     pub fn new(alloc: Global, grammar: Grammar, start: NonterminalString) -> NormResult<Self>
         requires { IsWellFormed grammar }
         ensures old_productions { IfOk result (λ made. made.old_productions ≡ productions grammar) }
@@ -58,7 +60,7 @@ impl AugmentedGrammar {
         })
     }
 
-    /// The grammar with the new start symbol, from which conflicts borrow.
+    /// The grammar with the new start symbol. The conflicts of an error borrow from it.
     pub fn grammar(&self) -> &Grammar
         ensures same { result.now ≡ self.now.grammar }
         ensures well_formed { IsWellFormed result.now }
@@ -82,8 +84,8 @@ impl AugmentedGrammar {
 }
 
 /// Builds the tables of an augmented grammar, and parses a list of terminals for the old start
-/// symbol by them, in at most so many steps. The node of the new start symbol takes one of them,
-/// and is no part of the tree.
+/// symbol by them, in at most `limit` steps. The node of the new start symbol takes one step, and
+/// is no part of the tree. The error says why there is no tree.
 pub fn parse_from_any<'grammar>(
     alloc: Global,
     augmented: &'grammar AugmentedGrammar,
@@ -91,27 +93,28 @@ pub fn parse_from_any<'grammar>(
     tokens: Vec<TerminalString>,
     limit: usize,
 ) -> Result<ParseTree, ParseError<'grammar>>
-    // There are tables exactly where the augmented grammar is accepted.
+    // There are tables exactly if the augmented grammar is accepted.
     ensures decides { HadTablesWhere
         (IsAccepted (Collapses augmented.now.grammar options.now)
         augmented.now.grammar augmented.now.start) result }
 
-    // By them, wherever the old start symbol stands: a tree is its parse tree with fewer nodes than
-    // the limit,
+    // The old start symbol may be on a right side. A tree is its parse tree with fewer nodes than
+    // the limit.
     ensures parses { IfOk result (λ tree. IsTreeBelow limit tokens.items (tree_of tree)
         augmented.now.old_productions augmented.now.old_start) }
-    // and a refusal names its first wrong token.
+    // A refusal names the first wrong token for the old start symbol.
     ensures refuses { IfErr result (IfRefusedAt (λ token.
         IsFirstWrong augmented.now.old_productions augmented.now.old_start tokens.items token)) }
-    // The limit is told where that many steps were made and there is another.
+    // If the limit is the result, `limit` steps were made and there is another.
     ensures limit { IfErr result (IfLimitTold (IsCutOffByTables
         (productions augmented.now.grammar) augmented.now.start tokens.items limit)) }
-    // A list with a parse tree has that tree as its answer, or the limit, and so it has one alone.
+    // By tables, a list with a parse tree gives this tree, the limit or an allocation failure. So
+    // it has no other one.
     ensures one_tree { TellsTreesBelow limit tokens.items result
         augmented.now.old_productions augmented.now.old_start }
 
-    // By which tables, whose start symbol is on no right side; and where there are none, by which
-    // conflicts.
+    // A tree, a refusal or the limit comes from a run by tables, whose start symbol is on no right
+    // side. If there are no tables, the error has the conflicts.
     ensures run { HadTables result → IsToldByTablesAbove
         augmented.now.grammar options.now augmented.now.start tokens.items limit result }
     ensures conflicts { IfErr result (IfConflicts (HasConflictsOf
@@ -127,7 +130,7 @@ pub fn parse_from_any<'grammar>(
     }
 }
 
-// The child of a node that has one.
+// The child of a node that has exactly one.
 fn only_child(tree: ParseTree) -> ParseTree
     requires { (a : NonterminalString) × (t : Tree) × (tree_of tree ≡ Node a (beside t no_trees)) }
     ensures { (a : NonterminalString) (t : Tree) →

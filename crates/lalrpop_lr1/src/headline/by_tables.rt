@@ -1,4 +1,5 @@
-//! The promise of tables at hand: by states that are faithful to a grammar, exactly its parse trees.
+//! The main contract for given tables: by states that are faithful to a grammar, exactly its parse
+//! trees.
 ghost use Rattle.std.specs.Prelude.{◌≡◌, ◌<◌, ◌≤◌, length, IfOk, IfErr};
 ghost use Rattle.lalrpop_base.specs.Words.{AreCoherent, AreFaithful, contents, IsOnNoRightSide, HasOutcome, IsFirstWrong, productions, beside, no_trees, leaves, nodes};
 ghost use Rattle.lalrpop_parser.specs.runs.Answers.{IsAnswer};
@@ -12,8 +13,9 @@ use lalrpop_base::repr::{NonterminalString, TerminalString};
 use lalrpop_parser::interpret::{InterpretError, ParseTree, interpret};
 use std::alloc::Global;
 
-/// Parses a list of terminals by tables of a grammar, in at most so many steps. Whoever made the
-/// tables, they serve where `check_tables` says yes.
+/// Parses a list of terminals by tables of a grammar, in at most `limit` steps. The tables may come
+/// from anywhere. They are faithful if `check_tables` returns `true`. The error says why there is
+/// no tree.
 pub fn parse_by_tables<'a, 'grammar>(
     alloc: Global,
     grammar: &Grammar,
@@ -27,23 +29,25 @@ pub fn parse_by_tables<'a, 'grammar>(
     requires faithful { AreFaithful (productions grammar.now) start.now
         (contents grammar.now.terminals states.now) }
 
-    // Where the start symbol is on no right side: a tree is a parse tree within the limit,
+    // If the start symbol is on no right side, a tree is a parse tree within the limit.
     ensures parses { IfOk result (λ tree. IsOnNoRightSide (productions grammar.now) start.now →
         IsTreeWithin limit tokens.items (tree_of tree) (productions grammar.now) start.now) }
-    // and a refusal names the first wrong token.
+    // Under the same condition a refusal names the first wrong token.
     ensures refuses { IfErr result (IfRefused (λ _ token.
         IsOnNoRightSide (productions grammar.now) start.now →
         IsFirstWrong (productions grammar.now) start.now tokens.items token) states.now) }
-    // The limit is told exactly where that many steps were made and there is another.
+    // The error is `Limit` exactly if `limit` steps were made and there is another, unless an
+    // allocation fails.
     ensures limit { IfErr result
         (IfLimit (IsCutOff (contents grammar.now.terminals states.now) tokens.items limit)) }
     ensures cut_off { IsCutOff (contents grammar.now.terminals states.now) tokens.items limit →
         IsLimit result }
-    // A list with a parse tree has that tree as its answer, or the limit, and so it has one alone.
+    // If the start symbol is on no right side, a list with a parse tree gives this tree, the limit
+    // or an allocation failure. So it has no other one.
     ensures one_tree { IsOnNoRightSide (productions grammar.now) start.now →
         AnswersTrees limit tokens.items states.now result (productions grammar.now) start.now }
 
-    // Whatever the start symbol, the answer is what the run by the states comes to.
+    // Whatever the start symbol, the result is the outcome of the run by the states.
     ensures run { IsAnswer
         (HasOutcome (contents grammar.now.terminals states.now) tokens.items limit) states.now
         result }

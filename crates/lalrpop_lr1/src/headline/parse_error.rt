@@ -1,4 +1,4 @@
-//! Why a parse by the tables of a grammar has no tree.
+//! The errors of a parse by the tables of a grammar: why there is no tree.
 ghost use Rattle.std.specs.Prelude.{◌≡◌};
 ghost use Rattle.lalrpop_lr1.specs.runs.ParseAnswers.{told_by};
 
@@ -8,7 +8,8 @@ use lalrpop_base::lr1_core::state::Lr1TableConstructionError;
 use lalrpop_parser::interpret::{InterpretError, ParseTree};
 use thiserror::Error;
 
-/// Why there is no tree: the grammar has conflicts in the place of tables, or as the parser says.
+/// Why there is no tree. `Conflicts` means that the grammar has conflicts, and so no tables. The
+/// others are the errors of the parser.
 #[derive(Debug, Drop, Error)]
 pub enum ParseError<'grammar> {
     #[error("{0}")]
@@ -21,7 +22,7 @@ pub enum ParseError<'grammar> {
     Memory,
 }
 
-// What the parser answers, without the state that refuses.
+// The result of the parser, without the state of a refusal.
 pub(super) fn told_by<'grammar>(
     answer: Result<ParseTree, InterpretError<'_, '_, TokenSet>>,
 ) -> Result<ParseTree, ParseError<'grammar>>

@@ -1,2 +1,2 @@
--- The states that a construction makes: kernels, transitions and reductions.
+-- Membership of values in lists, as a construction needs it.
 pub mod Contained

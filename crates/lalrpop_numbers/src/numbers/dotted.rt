@@ -16,7 +16,7 @@ use std::collections::BTreeSet;
 
 type Starts<'grammar> = BTreeSet<Lr0Item<'grammar>>;
 
-// Adds productions with the dot in front.
+// Adds productions, with the dot at the start.
 fn add_starts<'grammar>(
     productions: &'grammar [Production],
     starts: &mut Starts<'grammar>,
@@ -30,7 +30,7 @@ fn add_starts<'grammar>(
     Ok(())
 }
 
-// The productions of a grammar with the dot in front.
+// The productions of a grammar, with the dot at the start.
 fn starts_of<'grammar>(
     alloc: Global,
     grammar: &'grammar Grammar,
@@ -45,7 +45,7 @@ fn starts_of<'grammar>(
     Ok(starts)
 }
 
-// Puts a production behind, with the dot at each place.
+// Appends a production, with the dot at each place.
 fn push_dots<'grammar>(
     production: &'grammar Production,
     items: &mut Vec<Lr0Item<'grammar>>,
@@ -60,7 +60,7 @@ fn push_dots<'grammar>(
     Ok(())
 }
 
-// Each production with its dot at each place.
+// The list of the productions, each with its dot at each place.
 fn list_dots<'grammar>(
     alloc: Global,
     starts: Starts<'grammar>,
@@ -75,7 +75,8 @@ fn list_dots<'grammar>(
     Ok(items)
 }
 
-/// Productions are sorted with the dot in front alone: none is compared with itself.
+/// The dotted productions of a grammar, ascending. Only productions with the dot at the start are
+/// sorted, so that none is compared with itself.
 pub(super) fn dotted_productions<'grammar>(
     alloc: Global,
     grammar: &'grammar Grammar,

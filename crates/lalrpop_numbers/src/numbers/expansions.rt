@@ -1,4 +1,4 @@
-//! The productions of nonterminals, by number.
+//! The productions of the nonterminals, by number.
 ghost use Rattle.std.specs.Prelude.{◌≡◌, IfOk, OnOk, length};
 ghost use Rattle.lalrpop_numbers.specs.numbers.Numbering.{AddsStart, AreAllExpansions, AreEmpty, IsNumberOf, lists_of};
 ghost use Rattle.lalrpop_numbers.specs.numbers.Numbers.{SymbolsAscend};
@@ -9,7 +9,7 @@ use lalrpop_grammar::repr::{NonterminalString, Symbol};
 use lalrpop_states::lr1_core::item::Lr0Item;
 use std::alloc::Global;
 
-// As many lists as the count says.
+// A list of `count` empty lists.
 fn empty_lists(alloc: Global, count: usize) -> Result<Vec<Vec<usize>>, OutOfMemory>
     ensures { IfOk result (λ lists. AreEmpty count (lists_of lists.items)) }
 {
@@ -20,7 +20,7 @@ fn empty_lists(alloc: Global, count: usize) -> Result<Vec<Vec<usize>>, OutOfMemo
     Ok(lists)
 }
 
-// The number of a nonterminal, where it stands on a right side.
+// The number of a nonterminal, if it is on a right side.
 fn number_of_name(
     alloc: Global,
     symbols: &[Symbol],
@@ -33,7 +33,8 @@ fn number_of_name(
     Ok(number_of(symbols, &symbol))
 }
 
-// Puts the number of an item with its dot in front among those of its nonterminal.
+// Appends the number of an item to the list of its nonterminal, if its dot is at the start and the
+// nonterminal is one of the symbols.
 fn add_start<'grammar>(
     alloc: Global,
     symbols: &[Symbol],
@@ -56,7 +57,7 @@ fn add_start<'grammar>(
     Ok(())
 }
 
-/// The numbers of each symbol ascend.
+/// For each symbol, the numbers of its productions with the dot at the start, ascending.
 pub(super) fn expansions_of<'grammar>(
     alloc: Global,
     symbols: &[Symbol],

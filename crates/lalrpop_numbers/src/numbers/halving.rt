@@ -1,4 +1,4 @@
-//! A search by halving.
+//! A binary search.
 ghost use Rattle.std.specs.Prelude.{◌≡◌, Contains, IfSome, IsNone, Some, slice_get};
 ghost use Rattle.lalrpop_states.specs.Words.{Dotted};
 ghost use Rattle.lalrpop_states.specs.declared.lookahead.nil.Nil.{Nil};
@@ -8,8 +8,8 @@ use lalrpop_grammar::repr::Production;
 use lalrpop_states::lr1_core::item::Lr0Item;
 use std::cmp::Ordering;
 
-/// The place of one of the dotted productions of a production. They stand side by side, so the
-/// search ends at the first that is met.
+/// The place of some dotted production of a production. The dotted productions of one production
+/// are next to each other, so the search ends at the first one that it reaches.
 pub(super) fn place_of_production<'grammar>(
     items: &[Lr0Item<'grammar>],
     production: &Production,

@@ -1,4 +1,4 @@
-//! What stands behind the nonterminals behind dots.
+//! The symbols after the nonterminals after dots.
 ghost use Rattle.std.specs.Prelude.{◌≡◌, Contains, IfOk};
 ghost use Rattle.lalrpop_states.specs.Words.{Dotted};
 ghost use Rattle.lalrpop_grammar.specs.Words.{HasKnownTerminals};
@@ -13,15 +13,15 @@ use lalrpop_grammar::repr::terminals::TerminalSet;
 use lalrpop_states::lr1_core::item::Lr0Item;
 use std::alloc::Global;
 
-/// FIRST of what stands behind the nonterminal behind a dot, without `Eof`, and whether that is
-/// nullable.
+/// FIRST of the symbols after the nonterminal after a dot, without `Eof`, and whether these symbols
+/// are nullable.
 #[derive(Drop)]
 pub struct Rest {
     pub first: TokenSet,
     pub nullable: bool,
 }
 
-// The rest of a dotted production, if a nonterminal stands behind its dot.
+// The rest of a dotted production, if a nonterminal is after its dot.
 fn rest_of<'grammar>(
     alloc: Global,
     first_sets: &FirstSets<'grammar>,
@@ -43,7 +43,7 @@ fn rest_of<'grammar>(
     Ok(Some(Rest { first, nullable }))
 }
 
-/// For each dotted production its rest, if a nonterminal stands behind its dot.
+/// For each dotted production, its rest, if a nonterminal is after its dot.
 pub(super) fn rests_of<'grammar>(
     alloc: Global,
     first_sets: &FirstSets<'grammar>,

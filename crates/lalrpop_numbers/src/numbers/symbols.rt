@@ -1,4 +1,4 @@
-//! The symbols behind dots, ascending, and their numbers.
+//! The symbols after dots, ascending, and their numbers.
 ghost use Rattle.std.specs.Prelude.{◌≡◌, IfOk, OnOk, Contains};
 ghost use Rattle.lalrpop_numbers.specs.numbers.Numbering.{AddsThose, AreNumbersBehind, IsNumberOf};
 ghost use Rattle.lalrpop_numbers.specs.numbers.Numbers.{AreBehindDots, IsNumberBehind, SymbolsAscend};
@@ -11,7 +11,7 @@ use lalrpop_states::lr1_core::item::Lr0Item;
 use std::alloc::Global;
 use std::collections::BTreeSet;
 
-// Adds the symbol behind the dot, copied if it is new.
+// Adds the symbol after the dot. It is copied if it is new.
 fn add_symbol<'grammar>(
     alloc: Global,
     item: &Lr0Item<'grammar>,
@@ -30,7 +30,7 @@ fn add_symbol<'grammar>(
     Ok(())
 }
 
-// The symbols behind dots.
+// The symbols after dots.
 fn symbols_behind<'grammar>(
     alloc: Global,
     items: &[Lr0Item<'grammar>],
@@ -56,7 +56,7 @@ fn list_set(alloc: Global, set: BTreeSet<Symbol>) -> Result<Vec<Symbol>, OutOfMe
     Ok(symbols)
 }
 
-/// Of symbols that stand behind several dots one copy is made.
+/// The symbols after dots, ascending. A symbol that is after several dots is copied once.
 pub(super) fn list_symbols<'grammar>(
     alloc: Global,
     items: &[Lr0Item<'grammar>],
@@ -68,7 +68,7 @@ pub(super) fn list_symbols<'grammar>(
     list_set(alloc, set)
 }
 
-/// Found by halving.
+/// The number of a symbol, by binary search.
 pub fn number_of(symbols: &[Symbol], symbol: &Symbol) -> Option<usize>
     requires { SymbolsAscend symbols.now }
     ensures { IsNumberOf symbols.now symbol.now result }
@@ -79,7 +79,7 @@ pub fn number_of(symbols: &[Symbol], symbol: &Symbol) -> Option<usize>
     }
 }
 
-// The number of the symbol behind a dot.
+// The number of the symbol after a dot.
 #[tactic(auto, using(crate::proofs::theory::numbers::Numbering::behind_of))]
 fn number_behind<'grammar>(symbols: &[Symbol], item: &Lr0Item<'grammar>) -> Option<usize>
     requires ascend { SymbolsAscend symbols.now }
@@ -92,7 +92,7 @@ fn number_behind<'grammar>(symbols: &[Symbol], item: &Lr0Item<'grammar>) -> Opti
     }
 }
 
-/// For each dotted production the number of the symbol behind its dot.
+/// For each dotted production, the number of the symbol after its dot.
 pub(super) fn numbers_behind<'grammar>(
     alloc: Global,
     symbols: &[Symbol],

@@ -1,4 +1,4 @@
--- Parse trees, walked from the left.
+-- Parse trees, walked from left to right.
 pub mod DroppedTrees
 pub mod TreeLeaves
 pub mod TreeSteps

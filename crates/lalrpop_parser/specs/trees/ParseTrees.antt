@@ -1,23 +1,23 @@
--- What a parse tree is without where it lies in memory, and what it prints as.
+-- A parse tree of the code without its places in memory, and its text.
 use Rattle.std.specs.Prelude.{ℕ, Bool, true, false, List, [], ◌++◌, map, codes}
 use Rattle.lalrpop_base.specs.Words.{terminal_text, nonterminal_text, Tree, Leaf, Node, Trees, no_trees, beside, nodes, trees_of}
 use Rattle.lalrpop_parser.specs.declared.interpret.tree.ParseTree.{ParseTree, fold-ParseTree}
 use Rattle.lalrpop_parser.specs.declared.interpret.tree.ParseTree.TheOpen as Open
 
--- one node, with the trees of its children in their places
+-- a node with the trees of its children in their places
 abbrev pub tree_step : Open.ParseTree-F Tree → Tree
 tree_step (Open.Nonterminal name children) = Node name (trees_of children.items)
 tree_step (Open.Terminal t) = Leaf t
 
--- the tree that a value of the code is
+-- the tree that a value of the code represents
 abbrev pub tree_of : ParseTree → Tree
 tree_of = fold-ParseTree Tree tree_step
 
--- how many nodes trees have
+-- the number of nodes that trees have
 abbrev pub tree_nodes : List ParseTree → ℕ
 tree_nodes trees = nodes (trees_of (map tree_of trees))
 
--- what stands before a child
+-- the text before a child
 abbrev pub separator_text : Bool → List ℕ
 separator_text true = []
 separator_text false = codes ", "

@@ -1,4 +1,5 @@
--- The steps of a walk over a parse tree from the left, and what they make again: Knuth, "The Art of Computer Programming", volume 1, section 2.3.1.
+-- The steps of a walk over a parse tree from left to right, and the tree and the text that steps
+-- make: Knuth, "The Art of Computer Programming", volume 1, section 2.3.1.
 use Rattle.std.specs.Prelude.{◌≡◌, ℕ, Bool, true, false, List, [], ◌∷◌, ◌++◌, map, reverse, codes, Option, None, Some}
 use Rattle.std.specs.Borrow.{Bor}
 use Rattle.lalrpop_base.specs.Words.{terminal_text, nonterminal_text, Tree, Leaf, Node, Trees, no_trees, beside, trees_of}
@@ -17,13 +18,13 @@ pub data Step : Type 0 where
   meets_leaf : TerminalString → Step
   leaves_node : Step
 
--- the step that a value of the code is
+-- the step that a value of the code represents
 abbrev pub step_of : TreeStep → Step
 step_of (Enter name) = enters name.now
 step_of (Meet terminal) = meets_leaf terminal.now
 step_of Leave = leaves_node
 
--- the trees that values of the code are, beside one another
+-- the trees that values of the code represent, beside one another
 abbrev pub forest_of : List ParseTree → Trees
 forest_of trees = trees_of (map tree_of trees)
 
@@ -33,7 +34,8 @@ steps_over no_trees = []
 steps_over (beside (Leaf t) ts) = meets_leaf t ∷ steps_over ts
 steps_over (beside (Node a children) ts) = enters a ∷ (steps_over children ++ (leaves_node ∷ steps_over ts))
 
--- the steps over the trees that are left here, and then, for each node around, out of it and over those that are left beside it; the innermost node first
+-- the steps over the trees that are left here. Then, for each node around, the innermost first, the
+-- step out of it and the steps over the trees that are left beside it
 abbrev pub steps_left : Trees → List Trees → List Step
 steps_left here [] = steps_over here
 steps_left here (beside_node ∷ outer) = steps_over here ++ (leaves_node ∷ steps_left beside_node outer)
@@ -42,17 +44,19 @@ steps_left here (beside_node ∷ outer) = steps_over here ++ (leaves_node ∷ st
 abbrev pub around_of : TreeWalk → List Trees
 around_of walk = reverse (map (λ (trees : Bor (List ParseTree)). forest_of trees.now) walk.around.items)
 
--- the steps that a walk has still to make
+-- the steps that a walk has left
 abbrev pub steps_of : TreeWalk → List Step
 steps_of walk = steps_left (forest_of walk.here.now) (around_of walk)
 
--- a walk made a step, or was at its end
+-- the walk made a step, or had none left
 abbrev pub GivesStep : Option TreeStep → List Step → List Step → Type 0
 GivesStep None old new = old ≡ []
 GivesStep (Some step) old new = old ≡ step_of step ∷ new
 
--- ---- what steps make
--- the tree that steps make: in a node with its name and the trees that it has so far, within nodes around it, the innermost first. At the end it is the node that the steps are in
+-- ---- the tree that steps make
+-- the tree that steps make from inside a node, which has its name and the trees that it has so far.
+-- The nodes around it are listed, the innermost first. At the end the tree is the node that the
+-- steps are in
 abbrev pub tree_by : NonterminalString → List Tree → List (NonterminalString × List Tree) → List Step → Tree
 tree_by name made around [] = Node name (trees_of made)
 tree_by name made around (meets_leaf t ∷ steps) = tree_by name (made ++ Leaf t ∷ []) around steps
@@ -60,28 +64,29 @@ tree_by name made around (enters inner ∷ steps) = tree_by inner [] ((name, mad
 tree_by name made [] (leaves_node ∷ steps) = tree_by name made [] steps
 tree_by name made ((outer, before) ∷ around) (leaves_node ∷ steps) = tree_by outer (before ++ Node name (trees_of made) ∷ []) around steps
 
--- a node of the code that has not all its children yet
+-- a node of the code that does not have all its children yet
 abbrev pub open_node : OpenNode → NonterminalString × List Tree
 open_node node = (node.name, map tree_of node.children.items)
 
--- the tree that steps make in a node of the code, within others, the innermost of them last
+-- the tree that steps make from inside a node of the code, within others, the innermost of them
+-- last
 abbrev pub tree_within : OpenNode → List OpenNode → List Step → Tree
 tree_within node around steps = tree_by node.name (map tree_of node.children.items) (reverse (map open_node around)) steps
 
--- ---- what steps write
--- whether a tree that follows is the first child of its node
+-- ---- the text that steps write
+-- whether the tree after the step is the first child of its node
 abbrev pub is_entering : Step → Bool
 is_entering (enters name) = true
 is_entering (meets_leaf t) = false
 is_entering leaves_node = false
 
--- what a step writes
+-- the text of a step
 abbrev pub step_text : Bool → Step → List ℕ
 step_text is_first (enters name) = separator_text is_first ++ (codes "[" ++ (nonterminal_text name ++ codes ": "))
 step_text is_first (meets_leaf t) = separator_text is_first ++ terminal_text t
 step_text is_first leaves_node = codes "]"
 
--- what steps write
+-- the text of steps
 abbrev pub steps_text : Bool → List Step → List ℕ
 steps_text is_first [] = []
 steps_text is_first (step ∷ steps) = step_text is_first step ++ steps_text (is_entering step) steps

@@ -1,4 +1,4 @@
-//! Why there is no tree.
+//! The errors of the parser: why there is no tree.
 ghost use Rattle.std.specs.Prelude.{◌≡◌};
 ghost use Rattle.lalrpop_parser.specs.declared.interpret.error.InterpretError.TheVariants.{Memory};
 
@@ -9,8 +9,9 @@ use std::alloc::{AllocError, AllocFailed};
 use std::fmt;
 use thiserror::Error;
 
-/// A state had no step on a token or ended the parse there, too many steps were asked for, or a
-/// growth was refused.
+/// Why there is no tree. `Refused` has a state, and the token on which it has no action or ends the
+/// parse too early. `Limit` means that another step would pass the limit, and `Memory` that an
+/// allocation failed.
 #[derive(Drop, Error)]
 #[derive_where(Debug; L: fmt::Debug)]
 #[error_bound(L: fmt::Debug)]

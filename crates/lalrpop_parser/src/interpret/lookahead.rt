@@ -12,12 +12,12 @@ use lalrpop_base::lr1_core::state::State;
 use lalrpop_base::repr::Production;
 use lalrpop_base::repr::terminals::TerminalSet;
 
-/// A lookahead by which states parse.
+/// A lookahead by which the parser chooses reductions.
 pub trait LookaheadInterpret: Lookahead {
-    // Whether it holds a token, by the list that numbers the terminals.
+    // Whether a lookahead holds a token. The place of a terminal in the list is its bit.
     ghost holds: { List TerminalString → Self → Token → Bool };
 
-    /// The production of the first reduction of a state whose lookahead holds a token.
+    /// The production of the first reduction of the state whose lookahead holds the token.
     fn reduction<'grammar>(
         state: &State<'grammar, Self>,
         token: &Token,
@@ -27,7 +27,7 @@ pub trait LookaheadInterpret: Lookahead {
             (contents_of (holds terminals.now) state.now).reductions token.now };
 }
 
-// Without lookahead every token is held.
+// Without lookahead a reduction holds every token.
 impl LookaheadInterpret for Nil {
     ghost holds = { λ _ _ _. true };
 
@@ -60,7 +60,7 @@ impl LookaheadInterpret for TokenSet {
     }
 }
 
-// Whether a token is in a set, as a function of both.
+// Whether a token is in a set, as a function that clauses can name.
 fn holds(tokens: &TokenSet, token: &Token, terminals: &TerminalSet) -> bool
     ensures { result ≡ holds_token terminals.now tokens.now token.now }
 {

@@ -19,8 +19,8 @@ use lalrpop_base::repr::terminals::TerminalSet;
 use lalrpop_base::repr::{Production, TerminalString};
 use std::alloc::Global;
 
-/// The state on top of the stack and those below it, the trees over them, each newest last, and how
-/// many steps are left.
+/// The state on top of the stack, the states below it, the trees over them, and how many steps are
+/// left. Both lists have the newest last.
 #[derive(Drop)]
 pub(crate) struct Machine {
     state: StateIndex,
@@ -29,7 +29,8 @@ pub(crate) struct Machine {
     left: usize,
 }
 
-/// What became of a reduction.
+/// What became of an attempt to reduce. `Stuck` means that there is no reduction. After a reduction
+/// `GoesOn` means that there is a goto, and `Ended` that there is none.
 #[derive(Clone, Copy)]
 pub(crate) enum Progress {
     Stuck,
@@ -67,8 +68,8 @@ impl Machine {
         &states[self.state.0]
     }
 
-    // Gathers the newest trees under a nonterminal, pops their states, and tells the state that is
-    // then on top.
+    // Replaces the newest trees by a node of the nonterminal over them, and pops their states. The
+    // result is the state that is then on top.
     fn gather(&mut self, alloc: Global, production: &Production) -> Result<StateIndex, OutOfMemory>
         requires trees { length production.now.symbols ≤ length self.old.trees.items }
         requires states { length production.now.symbols ≤ length self.old.below.items }
@@ -91,7 +92,8 @@ impl Machine {
         Ok(self.below[self.below.len() - 1])
     }
 
-    // Reduces by a production, and goes on where the state that is then on top has a goto.
+    // Reduces by a production. The result is whether the state that is then on top has a goto,
+    // which is taken.
     fn reduce<'grammar, L: LookaheadInterpret>(
         &mut self,
         alloc: Global,
@@ -150,7 +152,7 @@ impl Machine {
         }
     }
 
-    // Puts a terminal and the state to which it leads on top.
+    // Pushes a terminal and the state to which it leads. The error is `Limit` if no step is left.
     fn push<'a, 'grammar, L>(
         &mut self,
         target: StateIndex,
@@ -169,7 +171,7 @@ impl Machine {
         Ok(())
     }
 
-    // Reduces before a terminal until it can be shifted, and shifts it.
+    // Reduces on a terminal until it can be shifted, and shifts it.
     fn shift<'a, 'grammar, L: LookaheadInterpret>(
         &mut self,
         alloc: Global,
@@ -202,7 +204,7 @@ impl Machine {
         }
     }
 
-    /// Shifts all terminals, and reduces before the end of the input until the parse ends.
+    /// Shifts all terminals, and then reduces on `Eof` until the parse ends.
     pub(crate) fn run<'a, 'grammar, L: LookaheadInterpret>(
         mut self,
         alloc: Global,
@@ -244,7 +246,7 @@ impl Machine {
         Ok(())
     }
 
-    /// Reduces before the end of the input until the parse ends.
+    /// Reduces on `Eof` until the parse ends.
     pub(crate) fn finish<'a, 'grammar, L: LookaheadInterpret>(
         mut self,
         alloc: Global,
@@ -271,7 +273,7 @@ impl Machine {
     }
 }
 
-// Where a state shifts a token, if it does.
+// The state to which a state leads by a shift of the token, if it has one.
 fn shift_target<'grammar, L>(state: &State<'grammar, L>, token: &Token) -> Option<StateIndex>
     ensures { result ≡ shift_on state.now token.now }
 {
@@ -294,7 +296,7 @@ fn into_terminal(token: Token) -> TerminalString
     }
 }
 
-// The tree of a list of one tree.
+// The tree of a list that has exactly one.
 fn only_tree(mut trees: Vec<ParseTree>) -> Option<ParseTree>
     ensures one { IfSome result (λ tree. trees_on trees.items ≡ tree_of tree ∷ []) }
     ensures other { IsNone result → (t : Tree) → trees_on trees.items ≡ t ∷ [] → ⊥ }

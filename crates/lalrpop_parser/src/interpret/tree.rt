@@ -1,4 +1,5 @@
-//! Parse trees. Nothing here recurses as deep as a tree: what goes over one keeps its own stack.
+//! Parse trees. A tree may be deep, so no function recurses over one. Only the comparison does so,
+//! if an allocation fails.
 mod comparison;
 mod copies;
 mod text;
@@ -17,14 +18,15 @@ use std::alloc::Global;
 use std::{fmt, mem};
 use text::show_tree;
 
-/// A tree of a parse: a nonterminal over its children, or a terminal.
+/// A parse tree: a nonterminal over its children, or a terminal.
 pub enum ParseTree {
     Nonterminal(NonterminalString, Vec<ParseTree>),
     Terminal(TerminalString),
 }
 
 impl ParseTree {
-    /// The leaves, read from the left.
+    /// The terminals at the leaves, from left to right. The error is `OutOfMemory` if an allocation
+    /// fails.
     pub fn terminals(&self, alloc: Global) -> Result<Vec<TerminalString>, OutOfMemory>
         ensures { IfOk result (λ list. list.items ≡ leaves (beside (tree_of self.now) no_trees)) }
     {
@@ -40,6 +42,7 @@ impl ParseTree {
         Ok(list)
     }
 
+    /// A copy of the tree. The error is `OutOfMemory` if an allocation fails.
     pub fn clone(&self, alloc: Global) -> Result<ParseTree, OutOfMemory>
         ensures { IfOk result (λ copy. tree_of copy ≡ tree_of self.now) }
     {
@@ -51,7 +54,7 @@ impl ParseTree {
 }
 
 impl Drop for ParseTree {
-    // Drops one node after the other, without recursion and without memory.
+    // Drops one node after the other, without recursion and without an allocation.
     #[tactic(auto, using(crate::proofs::theory::trees::DroppedTrees::one_fewer))]
     fn drop(mut self) {
         let mut rest = match self {
@@ -70,8 +73,8 @@ impl Drop for ParseTree {
 }
 
 impl ParseTree {
-    // Exchanges a tree for a node of it that has no children. All other nodes go to the trees beside
-    // it, so many of them as there were.
+    // Exchanges a tree for one of its nodes that has no children. All its other nodes go to the
+    // trees beside it. The number of nodes stays.
     fn go_down(&mut self, rest: &mut Vec<ParseTree>)
         ensures kept { tree_nodes (self.new ∷ rest.new.items)
             ≡ tree_nodes (self.old ∷ rest.old.items) }
@@ -80,8 +83,9 @@ impl ParseTree {
         while self.turn(rest) {}
     }
 
-    // Puts the trees beside it below the root, and the children beside it. Where both were there, the
-    // root and its first child change places. Whether they did: else the root has no children left.
+    // If the root has children, exchanges them and the trees beside the root. If there were such
+    // trees, the root then changes places with its first child, and the result is `true`. If it is
+    // `false`, the root has no children left.
     fn turn(&mut self, rest: &mut Vec<ParseTree>) -> bool
         ensures kept { tree_nodes (self.new ∷ rest.new.items)
             ≡ tree_nodes (self.old ∷ rest.old.items) }
@@ -103,7 +107,7 @@ impl ParseTree {
         true
     }
 
-    /// The children of a node. A terminal has no list of them.
+    /// The children of a nonterminal, or `None` for a terminal.
     pub fn into_children(self) -> Option<Vec<ParseTree>>
         ensures { (a : NonterminalString) (ts : Trees) → tree_of self ≡ Node a ts →
             IsSomeAnd result (λ children. trees_of (map tree_of children.items) ≡ ts) }
@@ -139,7 +143,7 @@ impl Eq for ParseTree {
     ghost laws = { on_equiv tree_of tree_equivalence };
 }
 
-// Puts children on a stack of trees, from the last to the first.
+// Pushes children on a stack of trees, from the last to the first.
 fn push_children<'a>(
     children: &'a Vec<ParseTree>,
     left: &mut Vec<&'a ParseTree>,

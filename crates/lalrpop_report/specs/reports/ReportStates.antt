@@ -14,21 +14,23 @@ use Rattle.lalrpop_states.specs.declared.lr1_core.state.Action.TheVariants.{Shif
 use Rattle.lalrpop_states.specs.declared.lr1_core.state.Conflict.{Conflict}
 use Rattle.lalrpop_report.specs.reports.ReportLines.{filled, longest, production_line, lookahead_line, item_lines, reduction_lines, shift_line, goto_line}
 
--- a reduction and a shift that conflict; the terminal is at least as wide as the nonterminal
+-- the lines of a conflict between a reduction and a shift. The terminal is padded to the length of
+-- the nonterminal, if that is longer
 abbrev pub shift_reduce_lines : Production → TerminalString → StateIndex → List ℕ
 shift_reduce_lines p t target = codes "    shift/reduce conflict\n        reduction " ++ (production_line p ++ (codes "        shift     "
     ++ (filled (max (length (terminal_text t)) (length (nonterminal_text p.nonterminal))) (terminal_text t) ++ (codes "    shift and goto " ++ (decimal target.0 ++ codes "\n")))))
 
--- two reductions that conflict
+-- the lines of a conflict between two reductions
 abbrev pub reduce_reduce_lines : Production → Production → List ℕ
 reduce_reduce_lines p other = codes "    reduce/reduce conflict\n        reduction " ++ (production_line p ++ (codes "        reduction " ++ production_line other))
 
--- the reduction of a conflict, and its other action
+-- the lines of the two actions of a conflict
 abbrev pub actions_lines : Production → Action → List ℕ
 actions_lines p (Shift t target) = shift_reduce_lines p t target
 actions_lines p (Reduce other) = reduce_reduce_lines p other.now
 
--- the shifts and the gotos of a state, each part behind an empty line, with all names in one width; the empty lines stand also where a part has no line
+-- the shifts and the gotos of a state, each part after an empty line, with all names in one width.
+-- The empty line is there even if the part has no line
 abbrev pub edges_lines : List (TerminalString × StateIndex) → List (NonterminalString × StateIndex) → List ℕ
 edges_lines shifts gotos =
     let width = max (longest (map (λ e. terminal_text e.0) shifts)) (longest (map (λ e. nonterminal_text e.0) gotos)) in
@@ -45,7 +47,7 @@ module _ {L : Type 0} (meaning : L → Bits) (terminals : List TerminalString) w
       let width = longest (map (λ (i : Dotted L). nonterminal_text i.production.nonterminal) items) in
       flat_map (item_lines meaning terminals width) items
 
-  -- the reductions behind an empty line; without reductions there is no line
+  -- an empty line and the reductions, or no line if there are none
   abbrev pub reductions_block : List (L × Bor Production) → List ℕ
   reductions_block [] = []
   reductions_block (r ∷ reductions) = codes "\n" ++ flat_map (reduction_lines meaning terminals) (r ∷ reductions)

@@ -1,4 +1,4 @@
-//! The blocks of conflicts.
+//! The blocks of conflicts in a report.
 ghost use Rattle.std.specs.Prelude.{◌≡◌, ◌++◌, OnOk, string_bytes, slice_get};
 ghost use Rattle.std.specs.List.{flat_map};
 ghost use Rattle.lalrpop_report.specs.reports.ReportStates.{shift_reduce_lines, reduce_reduce_lines, actions_lines, conflict_block, block_at};
@@ -11,7 +11,7 @@ use lalrpop_base::repr::terminals::TerminalSet;
 use lalrpop_base::repr::{Production, TerminalString};
 use std::alloc::Global;
 
-// Appends the lines of a reduction and a shift.
+// Appends the lines of a conflict between a reduction and a shift.
 fn push_shift_action(
     alloc: Global,
     text: &mut String,
@@ -34,7 +34,7 @@ fn push_shift_action(
     Ok(())
 }
 
-// Appends the lines of two reductions.
+// Appends the lines of a conflict between two reductions.
 fn push_reduce_action(
     text: &mut String,
     production: &Production,

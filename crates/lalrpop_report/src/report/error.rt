@@ -1,4 +1,4 @@
-//! Why a report was not written whole.
+//! The error of a report that was not written whole.
 ghost use Rattle.std.specs.Prelude.{◌≡◌};
 ghost use Rattle.lalrpop_report.specs.declared.report.error.ReportError.TheVariants.{Memory};
 
@@ -6,8 +6,9 @@ use lalrpop_base::memory::OutOfMemory;
 use std::io;
 use thiserror::Error;
 
-/// The sink answered an error or took nothing, a growth was refused, or there are no tables to
-/// report.
+/// Why a report was not written whole. `Write` has the error of the sink. `WriteZero` means that
+/// the sink took no byte, and `Memory` that an allocation failed. `NoTables` means that an
+/// allocation failed in the construction, so there are neither tables nor conflicts to report.
 #[derive(Debug, Drop, Error)]
 pub enum ReportError {
     #[error("cannot write: {0}")]

@@ -1,4 +1,4 @@
-//! Where a report goes: a sink of bytes that counts its faults.
+//! The sink that takes the bytes of a report, and counts its faults.
 ghost use Rattle.std.specs.Prelude.{◌≡◌, ℕ, Bool, List, ◌+◌, ◌-◌, ◌^◌, ◌<◌, ◌≤◌, length, None, Some, Option, IfOk, IfErr, OnOk, OnErr};
 ghost use Rattle.std.specs.Io.KnownBytes.{Appends};
 ghost use Rattle.lalrpop_report.specs.reports.ReportSinks.{PutTakes, PutCounts, PutIsLast, IsWriteFault, TellsLastFault, WroteBeginning, writer_of, faults_of};
@@ -8,17 +8,17 @@ use std::io;
 
 /// Takes bytes, and counts the calls that took none.
 pub trait Sink {
-    // The bytes that were taken, where they are known.
+    // The bytes that were taken, if they are known.
     ghost contents: { Self → Option (List ℕ) } = { λ _. None };
 
-    // How many calls of `put` answered an error or 0.
+    // How many calls of `put` returned an error or 0.
     ghost fault_count: { Self → ℕ };
 
-    // Whether the last of these calls answered 0, where that is known.
+    // Whether the last of these calls returned 0, if that is known.
     ghost last_was_zero: { Self → Option Bool } = { λ _. None };
 
-    /// Takes a beginning of the bytes. A call that answers an error or 0 takes nothing, and is a
-    /// fault.
+    /// Takes some bytes from the front of the list, and returns how many. A call that returns an
+    /// error or 0 takes nothing, and is a fault.
     fn put(&mut self, bytes: &[u8]) -> io::Result<usize>
         requires some { 0 < length bytes.now }
         requires below_max { fault_count self.old < 2 ^ 64 - 1 }
@@ -37,7 +37,7 @@ pub trait Sink {
 pub struct Counted<W: io::Write> {
     writer: W,
     faults: u64,
-    // whether the last fault was an answer of 0
+    // whether the last fault was a result of 0
     was_zero: bool,
 }
 
@@ -54,7 +54,7 @@ impl<W: io::Write> Counted<W> {
         }
     }
 
-    /// The writer.
+    /// The writer, without the count of faults.
     pub fn into_inner(self) -> W
         ensures { result ≡ writer_of self }
     {
@@ -95,7 +95,7 @@ impl<W: io::Write> Sink for Counted<W> {
     }
 }
 
-/// Puts a whole text, a part at a time. It stops at an error of any kind, and where the sink takes
+/// Puts a whole text, a part at a time. It stops at any error of the sink, and if the sink takes
 /// nothing.
 pub(crate) fn put_all<S: Sink>(out: &mut S, text: &[u8]) -> Result<(), ReportError>
     requires { S.fault_count out.old < 2 ^ 64 - 1 }

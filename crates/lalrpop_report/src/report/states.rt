@@ -1,4 +1,4 @@
-//! The block of a state.
+//! The block of a state in a report.
 ghost use Rattle.std.specs.Prelude.{◌≡◌, ◌++◌, OnOk, string_bytes, map, List, Some, slice_get};
 ghost use Rattle.std.specs.List.{flat_map};
 ghost use Rattle.lalrpop_base.specs.Words.{Dotted, nonterminal_text};
@@ -17,7 +17,7 @@ use lalrpop_base::repr::{NonterminalString, Production, TerminalString};
 use std::alloc::Global;
 use std::collections::BTreeMap;
 
-// The length of the longest nonterminal of items.
+// The length in bytes of the longest nonterminal of the items, or 0 if there are none.
 fn widest_nonterminal<L>(items: &[Item<'_, L>]) -> usize
     ensures { result ≡ longest
         (map (λ (i : Dotted L). nonterminal_text i.production.nonterminal) items.now) }
@@ -29,7 +29,7 @@ fn widest_nonterminal<L>(items: &[Item<'_, L>]) -> usize
     width
 }
 
-// The length of the longest key.
+// The length in bytes of the longest key, or 0 if there are none.
 fn widest_key<K: Ord + HasDisplayLen, V>(edges: &BTreeMap<K, V>) -> usize
     ensures { result ≡ longest (map (λ (e : K × V). K.shown e.0) edges.now.entries) }
 {
@@ -40,7 +40,7 @@ fn widest_key<K: Ord + HasDisplayLen, V>(edges: &BTreeMap<K, V>) -> usize
     width
 }
 
-// Appends the items of a state.
+// Appends the items of a state, their nonterminals padded to one width.
 fn push_items<L: LookaheadPrinter<String>>(
     text: &mut String,
     items: &[Item<'_, L>],
@@ -71,7 +71,7 @@ fn push_each_reduction<L: LookaheadPrinter<String>>(
     Ok(())
 }
 
-// Appends the reductions behind an empty line, if there are some.
+// Appends an empty line and the reductions, if there are some.
 fn push_reductions<L: LookaheadPrinter<String>>(
     text: &mut String,
     reductions: &[(L, &Production)],
@@ -119,7 +119,7 @@ fn push_gotos(
     Ok(())
 }
 
-// Appends the shifts and the gotos, each part behind an empty line.
+// Appends the shifts and the gotos, each part after an empty line, with all symbols in one width.
 fn push_edges(
     alloc: Global,
     text: &mut String,
@@ -137,7 +137,7 @@ fn push_edges(
     Ok(())
 }
 
-/// Appends the block of a state with the conflicts at places.
+/// Appends the block of a state, with the conflicts at the places of the list.
 pub(crate) fn push_state<L: LookaheadPrinter<String>>(
     alloc: Global,
     text: &mut String,

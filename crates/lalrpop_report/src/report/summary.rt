@@ -22,7 +22,7 @@ pub(crate) fn push_section_header(text: &mut String, title: &str) -> Result<(), 
     Ok(())
 }
 
-/// Appends what a report begins with.
+/// Appends the beginning of a report.
 pub(crate) fn push_opening(text: &mut String) -> Result<(), OutOfMemory>
     ensures { OnOk result (string_bytes text.new ≡ string_bytes text.old ++ opening) }
 {
@@ -72,21 +72,21 @@ fn is_reduce(action: &Action<'_>) -> bool
     }
 }
 
-// How many conflicts are with a shift.
+// How many conflicts are between a reduction and a shift.
 fn count_shifts<L>(conflicts: &[Conflict<'_, L>]) -> usize
     ensures { result ≡ count_by (λ (c : Conflict L). is_shift c.action) conflicts.now }
 {
     conflicts.iter().filter(|c| is_shift(&c.action)).count()
 }
 
-// How many conflicts are of two reductions.
+// How many conflicts are between two reductions.
 fn count_reduces<L>(conflicts: &[Conflict<'_, L>]) -> usize
     ensures { result ≡ count_by (λ (c : Conflict L). is_reduce c.action) conflicts.now }
 {
     conflicts.iter().filter(|c| is_reduce(&c.action)).count()
 }
 
-// The numbers of the states of conflicts.
+// The numbers of the states that have conflicts.
 fn numbers_of<L>(
     alloc: Global,
     conflicts: &[Conflict<'_, L>],
@@ -101,7 +101,7 @@ fn numbers_of<L>(
     Ok(numbers)
 }
 
-// Appends numbers, each behind a space.
+// Appends numbers, each after a space.
 fn push_numbers(text: &mut String, numbers: &BTreeSet<usize>) -> Result<(), OutOfMemory>
     ensures { OnOk result (string_bytes text.new ≡ string_bytes text.old ++ flat_map
         (λ n. codes " " ++ decimal n) numbers.now.keys) }
@@ -112,7 +112,7 @@ fn push_numbers(text: &mut String, numbers: &BTreeSet<usize>) -> Result<(), OutO
     Ok(())
 }
 
-// Appends the line of the states of conflicts.
+// Appends the line of the states that have conflicts.
 fn push_conflict_states<L>(
     alloc: Global,
     text: &mut String,
@@ -128,7 +128,7 @@ fn push_conflict_states<L>(
     Ok(())
 }
 
-/// Appends how many conflicts there are, and their states.
+/// Appends the number of conflicts, in all and of each kind, and the states that have some.
 pub(crate) fn push_conflicts_summary<L>(
     alloc: Global,
     text: &mut String,

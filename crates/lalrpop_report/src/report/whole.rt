@@ -17,10 +17,10 @@ use lalrpop_base::memory::OutOfMemory;
 use lalrpop_base::repr::terminals::TerminalSet;
 use std::alloc::Global;
 
-// The places of conflicts, by the numbers of their states.
+// For the number of a state, the places of its conflicts in the list.
 type Places = Multimap<usize, Vec<usize>>;
 
-// Where the conflicts of each state stand.
+// The places of the conflicts of each state.
 fn places_by_state<L>(alloc: Global, conflicts: &[Conflict<'_, L>]) -> Result<Places, OutOfMemory>
     ensures { IfOk result (λ places. ArePlacesOf conflicts.now conflicts.now places) }
 {
@@ -31,7 +31,7 @@ fn places_by_state<L>(alloc: Global, conflicts: &[Conflict<'_, L>]) -> Result<Pl
     Ok(places)
 }
 
-// The places for the number of a state.
+// The places for the number of a state. There are none if the map does not have the number.
 fn places_in(places: &Places, number: usize) -> &[usize]
     ensures { result.now ≡ places_of (collection_at nat_cmp places.now number) }
 {
@@ -132,7 +132,7 @@ fn failure_text<L: LookaheadPrinter<String>>(
     Ok(text)
 }
 
-// The text of the report of an error.
+// The text of the report of an error. The error is `NoTables` for an allocation failure.
 fn error_text<L: LookaheadPrinter<String>>(
     alloc: Global,
     terminals: &TerminalSet,
@@ -154,7 +154,8 @@ fn error_text<L: LookaheadPrinter<String>>(
     }
 }
 
-/// The text of the report of what a construction answers.
+/// The text of the report of the result of a construction. The error is `NoTables` if that result
+/// is an allocation failure, or `Memory` if an allocation fails here.
 pub fn report_text<L: LookaheadPrinter<String>>(
     alloc: Global,
     terminals: &TerminalSet,

@@ -1,4 +1,4 @@
-//! A graph that follows copies of its states.
+//! The update of a graph after states were copied.
 ghost use Rattle.std.specs.Prelude.{◌≡◌, ◌≤◌, [], ◌∷◌, false, length, take, OnOk};
 ghost use Rattle.std.specs.Map.{keys_of};
 ghost use Rattle.lalrpop_base.specs.Words.{AllDiffer, number_in, retargeted_all};
@@ -15,7 +15,8 @@ use lalrpop_base::repr::Symbol;
 use std::alloc::Global;
 use std::collections::BTreeMap;
 
-// Whether a transition leads to a copy.
+// Whether a transition leads to a copy. `originals` has the number of the original of each state.
+// A state that is no copy is its own original.
 fn lead_to_copies<K: Ord>(targets: &BTreeMap<K, StateIndex>, originals: &[usize]) -> bool
     ensures none { result ≡ false → retargeted_all (number_in originals.now) targets.now.entries ≡
         targets.now.entries }
@@ -47,8 +48,9 @@ fn leads_to_copies<L>(state: &State<'_, L>, originals: &[usize]) -> bool
 }
 
 impl StateGraph {
-    /// Brings the graph of some states up to date: of the new states the first, as many as there
-    /// were, lead to copies in some places, and the copies stand behind these.
+    /// Updates the graph after states were copied. `states` has the old states first, `count` in
+    /// number, and then the copies. Edges of old states may lead to copies now. `originals` has the
+    /// number of the original of each state. `OutOfMemory` if an allocation fails.
     pub fn follow_copies(
         &mut self,
         alloc: Global,
@@ -65,7 +67,7 @@ impl StateGraph {
         Ok(())
     }
 
-    // Brings the edges of the first states up to date.
+    // Updates the edges of the first `count` states.
     fn follow_states(
         &mut self,
         alloc: Global,
@@ -83,7 +85,7 @@ impl StateGraph {
         Ok(())
     }
 
-    // Brings the edges of a state up to date.
+    // Updates the edges of a state. If none leads to a copy, nothing changes.
     fn follow_state<L>(
         &mut self,
         alloc: Global,
@@ -101,7 +103,7 @@ impl StateGraph {
         self.follow_edges(alloc, source, state, originals)
     }
 
-    // Brings the edges of a state up to date, in order.
+    // Updates the edges of a state whose list of targets was emptied, in order.
     fn follow_edges<L>(
         &mut self,
         alloc: Global,
@@ -118,8 +120,8 @@ impl StateGraph {
         Ok(())
     }
 
-    // Puts the target of an edge behind the others of its source. If it is a copy, the edge leads
-    // to it, and to its original no more.
+    // Adds the target of an edge after the others of its source. If the target is a copy, the edge
+    // is moved from the edges to the original to those to the copy.
     fn follow_edge(
         &mut self,
         alloc: Global,

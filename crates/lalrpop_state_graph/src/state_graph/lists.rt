@@ -1,11 +1,11 @@
-//! Lists by number.
+//! A list of values for each number.
 ghost use Rattle.std.specs.Prelude.{◌≡◌, ◌<◌, length, OnOk};
 ghost use Rattle.lalrpop_state_graph.specs.graphs.StateGraph.{AreSameLists, IsChangedAt, IsListedAt, list_at, nothing};
 
 use lalrpop_base::memory::OutOfMemory;
 use std::alloc::Global;
 
-/// The values of a number, none where it has no list.
+/// The values of a number: none if it has no list.
 pub(super) fn list_of<X>(lists: &[Vec<X>], number: usize) -> &[X]
     ensures { result.now ≡ list_at lists.now number }
 {
@@ -15,7 +15,8 @@ pub(super) fn list_of<X>(lists: &[Vec<X>], number: usize) -> &[X]
     &[]
 }
 
-/// Puts a value behind the others of a number. Numbers up to it that have no list yet get one.
+/// Adds a value after the others of a number. Each number up to it gets a list, if it has none.
+/// `OutOfMemory` if an allocation fails.
 #[tactic(auto, using(crate::proofs::theory::graphs::StateGraphs::listed_more))]
 pub(super) fn push_at<X: Drop>(
     alloc: Global,
@@ -30,7 +31,7 @@ pub(super) fn push_at<X: Drop>(
     Ok(())
 }
 
-/// Leaves a number no value.
+/// Removes all values of a number.
 pub(super) fn clear_at<X: Drop>(lists: &mut Vec<Vec<X>>, number: usize)
     ensures { IsChangedAt number nothing lists.old.items lists.new.items }
 {
@@ -41,7 +42,7 @@ pub(super) fn clear_at<X: Drop>(lists: &mut Vec<Vec<X>>, number: usize)
     lists[number].clear();
 }
 
-// Gives each number up to the one a list, an empty one where it has none.
+// Gives an empty list to each number up to the given one that has none.
 fn grow<X: Drop>(alloc: Global, lists: &mut Vec<Vec<X>>, number: usize) -> Result<(), OutOfMemory>
     ensures same { AreSameLists lists.old.items lists.new.items }
     ensures there { OnOk result (number < length lists.new.items) }

@@ -1,4 +1,4 @@
-//! The neighbours of a state in a graph, newest edge first.
+//! Iterators over the neighbours of a state in a graph. The edge that was added last comes first.
 ghost use Rattle.std.specs.Iterator.{YieldsFirst, item_count};
 ghost use Rattle.lalrpop_state_graph.specs.graphs.Neighbours.{targets_left, sources_left};
 
@@ -6,7 +6,7 @@ use lalrpop_base::exact::equal;
 use lalrpop_base::lr1_core::state::StateIndex;
 use lalrpop_base::repr::Symbol;
 
-/// The targets of the edges of a state.
+/// An iterator over the targets of the edges of a state.
 #[derive(Drop)]
 pub struct Successors<'graph> {
     pub(crate) targets: &'graph [StateIndex],
@@ -26,7 +26,7 @@ impl<'graph> Iterator for Successors<'graph> {
     }
 }
 
-/// The sources of the edges over a symbol to a state.
+/// An iterator over the sources of the edges over a symbol to a state.
 #[derive(Drop)]
 pub struct Predecessors<'graph> {
     pub(crate) edges: &'graph [(Symbol, StateIndex)],

@@ -1,4 +1,4 @@
-//! Where the edges to states come from.
+//! The origins of the edges to a state: the symbol and source of each.
 ghost use Rattle.std.specs.Prelude.{◌≡◌, filter};
 ghost use Rattle.lalrpop_state_graph.specs.graphs.GraphCopies.{is_other as tells_other};
 ghost use Rattle.lalrpop_state_graph.specs.graphs.StateGraph.{IsChangedAt};
@@ -7,7 +7,7 @@ use lalrpop_base::exact::equal;
 use lalrpop_base::lr1_core::state::StateIndex;
 use lalrpop_base::repr::Symbol;
 
-// Whether it is another edge than that from the source over the symbol.
+// Whether the origin is not the source with the symbol.
 fn is_other(origin: &(Symbol, StateIndex), symbol: &Symbol, source: StateIndex) -> bool
     ensures { result ≡ tells_other symbol.now source origin.now }
 {
@@ -18,7 +18,7 @@ fn is_other(origin: &(Symbol, StateIndex), symbol: &Symbol, source: StateIndex) 
     !equal(&origin.0, symbol)
 }
 
-/// Removes the edge from a source over a symbol from those to the state with a number.
+/// Removes the edges from the source over the symbol from those to the state with the number.
 pub(super) fn remove_origin(
     lists: &mut Vec<Vec<(Symbol, StateIndex)>>,
     number: usize,

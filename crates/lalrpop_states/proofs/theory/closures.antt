@@ -1,2 +1,2 @@
--- Closures of kernels, and valid items.
+-- Closures of kernels.
 pub mod Closing

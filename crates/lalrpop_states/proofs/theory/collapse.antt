@@ -1,2 +1,2 @@
--- States merged where they have the same dotted productions.
+-- Merging of states that have the same dotted productions.
 pub mod Merging

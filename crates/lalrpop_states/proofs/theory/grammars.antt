@@ -1,3 +1,3 @@
--- Grammars, their names and tokens, derivations and parse trees.
+-- The order of items, and the bits of tokens.
 pub mod AscendingItems
 pub mod KnownTerminals

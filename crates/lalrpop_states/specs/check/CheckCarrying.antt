@@ -1,4 +1,4 @@
--- Tokens carried over the edges of states, as a worklist finds them.
+-- Tokens that closures and edges carry from state 0 to places, as a worklist algorithm finds them.
 use Rattle.std.specs.Prelude.{◌≡◌, ◌+◌, ◌≤◌, ◌⊎◌, ℕ, true, List, ◌∷◌, length, drop, slice_get, Contains, Option, Some, None}
 use Rattle.std.specs.Borrow.{Bor}
 use Rattle.std.specs.Map.{keys_of}
@@ -25,36 +25,39 @@ use Rattle.lalrpop_collections.specs.lists.Entries.{IsFound, IsFoundWith, Adds, 
 use Rattle.lalrpop_states.specs.declared.lr1_core.place.Place.{Place}
 use Rattle.lalrpop_states.specs.states.Items.{with_dot}
 
--- what is carried to each place
+-- a table of places, each with the bits of the tokens that are carried to it
 abbrev pub Carried : Type 0
 Carried = List (Place × Bits)
 
--- a dotted production of a state
+-- the place in a state with a production and the index of its dot
 abbrev pub at_place : ℕ → Production → ℕ → Place
 at_place n p dot = record { state = n; item = with_dot p dot }
 
--- the state to which a symbol leads from the state with the number
+-- the number of the state to which a symbol leads from a state, if there is a state and an edge
 abbrev pub target_from : Option (State Bits) → Symbol → Option ℕ
 target_from None x = None
 target_from (Some s) x = target_of s x
 
+-- the number of the state to which a symbol leads from the state with the number
 abbrev pub target_in : List (State Bits) → ℕ → Symbol → Option ℕ
 target_in states n x = target_from (slice_get states n) x
 
--- all such places take the tokens, and no other takes any; nothing else came into the queue, and what came there is weighed
+-- the tokens were added to all such places, and to no other;
+-- places that changed went into the queue, which has only places of the old queue and of the table;
+-- for each place that was queued, the table has a new entry or bit, so that the algorithm ends
 pub record Sends (Such : Place → Type 0) (tokens : Bits) (old new : Carried) (queue pushed : List Place) : Type 0 where
   pub adds : Adds Such tokens old new queue pushed
   pub found : (k : Place) → Contains pushed k → Contains queue k ⊎ Contains (keys_of new) k
   pub differ : AllDiffer (keys_of old) → AllDiffer (keys_of new)
   pub weighed : (n : ℕ) → IsBelow n tokens → AllBelow n old → burden n old + length pushed ≤ burden n new + length queue
 
--- a production among these, with the dot at the start, in the state
+-- the place is in the state, and is one of the productions with the dot at the start
 pub record IsBegunAt (n : ℕ) (ps : List Production) (k : Place) : Type 0 where
   pub state : k.state ≡ n
   pub start : k.item.index ≡ 0
   pub among : Contains ps k.item.production
 
--- what is led to over the symbol behind the dot
+-- the edge over the symbol after the dot leads from one place to the other
 pub record IsOver (states : List (State Bits)) (place k : Place) : Type 0 where
   pub symbol : Symbol
   pub behind : slice_get place.item.production.symbols place.item.index ≡ Some symbol
@@ -62,13 +65,15 @@ pub record IsOver (states : List (State Bits)) (place k : Place) : Type 0 where
   pub edge : target_in states place.state symbol ≡ Some to
   pub is : at_place to place.item.production (place.item.index + 1) ≡ k
 
--- what is led to without a symbol
+-- the second place is in the same state, and has a production of the nonterminal after the dot,
+-- with the dot at the start
 pub record IsInto (g : Grammar) (place k : Place) : Type 0 where
   pub name : NonterminalString
   pub behind : slice_get place.item.production.symbols place.item.index ≡ Some (Nonterminal name)
   pub begun : IsBegunAt place.state (productions_of g name) k
 
--- what a place gives: its own tokens over the symbol behind its dot, and what may follow there without a symbol
+-- a place gives its own tokens over the edge of the symbol after its dot;
+-- it gives FIRST of the symbols after the nonterminal to the productions of that nonterminal
 pub record Gives (g : Grammar) (states : List (State Bits)) (place : Place) (old new : Carried) (queue pushed : List Place) : Type 0 where
   pub tokens : Bits
   pub entry : Contains old (place, tokens)
@@ -80,44 +85,46 @@ pub record Gives (g : Grammar) (states : List (State Bits)) (place : Place) (old
   pub first : (name : NonterminalString) → slice_get place.item.production.symbols place.item.index ≡ Some (Nonterminal name) → IsFirstSetBefore (rules_of g) (drop (place.item.index + 1) place.item.production.symbols) tokens given
   pub fits : FitsTokens g.terminals tokens → FitsTokens g.terminals given
 
--- the state of the place is reached and lists it, and only what is carried is there
+-- the state of the place is reached and lists its item, and all the tokens are carried to the place
 pub record IsCarriedTo (g : Grammar) (start : NonterminalString) (states : List (State Bits)) (place : Place) (tokens : Bits) : Type 0 where
   pub reached : IsReached (contents g.terminals states) place.state
   pub listed : items_of (contents g.terminals states) place.state place.item.production place.item.index
   pub carried : (t : Token) → holds_token g.terminals tokens t ≡ true → IsCarried (productions g) start (contents g.terminals states) place.state place.item.production place.item.index t
   pub fits : FitsTokens g.terminals tokens
 
--- of each place
+-- the state of each place of the table is reached and lists the item of the place, and all the
+-- tokens of the place are carried to it
 abbrev pub AreCarriedTo : Grammar → NonterminalString → List (State Bits) → Carried → Type 0
 AreCarriedTo g start states table = (e : Place × Bits) → Contains table e → IsCarriedTo g start states e.0 e.1
 
--- the production is expanded with all tokens that it gets
+-- the production has an entry in the state, with the dot at the start and all tokens that it gets;
+-- these are FIRST of the symbols after it, and the given tokens if those symbols are nullable
 pub record HasBegun (g : Grammar) (table : Carried) (n : ℕ) (q : Production) (after : List Symbol) (tokens : Bits) : Type 0 where
   pub set : Bits
   pub entry : Contains table (at_place n q 0, set)
   pub begins : (t : Token) → Begins (rules_of g) after t → holds_token g.terminals set t ≡ true
   pub inherits : IsNullable (productions g) after → (t : Token) → holds_token g.terminals tokens t ≡ true → holds_token g.terminals set t ≡ true
 
--- what a place with these tokens leads to has them
+-- each place to which a place with these tokens leads has the tokens that it gets
 pub record IsSettled (g : Grammar) (states : List (State Bits)) (table : Carried) (place : Place) (tokens : Bits) : Type 0 where
   pub over : (k : Place) → IsOver states place k → IsFound table k tokens
   pub into : (q : Production) (after : List Symbol) → drop place.item.index place.item.production.symbols ≡ Nonterminal q.nonterminal ∷ after → Contains (productions g) q → HasBegun g table place.state q after tokens
 
--- the productions of the start symbol hold Eof
+-- the productions of the start symbol, with the dot at the start in state 0, hold Eof
 abbrev pub HasStarted : Grammar → NonterminalString → Carried → Type 0
 HasStarted g start table = (p : Production) → Contains (productions g) p → p.nonterminal ≡ start → IsFoundWith table (at_place 0 p 0) (length g.terminals)
 
--- all that is carried, and no more
+-- the table has all tokens that are carried to places, and no others
 pub record AreCarried (g : Grammar) (start : NonterminalString) (states : List (State Bits)) (table : Carried) : Type 0 where
   pub sound : AreCarriedTo g start states table
   pub started : HasStarted g start table
   pub settled : (e : Place × Bits) → Contains table e → IsSettled g states table e.0 e.1
   pub differ : AllDiffer (keys_of table)
 
--- a reduction of the state holds all that is carried to its finished item
+-- the reduction holds all tokens that the table has for its finished item in the state
 abbrev pub HoldsCarried : Carried → ℕ → Bits × Bor Production → Type 0
 HoldsCarried table n r = (set : Bits) → Contains table (at_place n r.1.now (length r.1.now.symbols), set) → (bit : ℕ) → has set bit ≡ true → has r.0 bit ≡ true
 
--- and all of them do
+-- each reduction of each state holds all tokens that the table has for its finished item
 abbrev pub AllHoldCarried : Carried → List (State Bits) → Type 0
 AllHoldCarried table states = (n : ℕ) (s : State Bits) → slice_get states n ≡ Some s → EachItem (HoldsCarried table n) s.reductions.items

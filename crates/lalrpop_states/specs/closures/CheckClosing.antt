@@ -1,4 +1,5 @@
--- The closure of dotted productions without tokens: closures of items of Aho, Sethi and Ullman, section 4.7.
+-- The closure of dotted productions without tokens.
+-- Source: the closure of LR(0) items of Aho, Sethi and Ullman, section 4.7.
 use Rattle.std.specs.Prelude.{◌≡◌, ◌↔◌, ◌<◌, ℕ, List, map, slice_get, Some, Contains}
 use Rattle.lalrpop_grammar.specs.closures.Closures.{InClosure}
 use Rattle.lalrpop_grammar.specs.grammars.WellFormed.{productions, productions_of}
@@ -11,25 +12,26 @@ use Rattle.lalrpop_grammar.specs.declared.repr.Symbol.TheVariants.{Nonterminal}
 use Rattle.lalrpop_grammar.specs.declared.repr.grammar.Grammar.{Grammar}
 use Rattle.lalrpop_states.specs.closures.Closure.{dotted_of}
 
--- the production is among these, and the dot is at its start
+-- the item has one of the productions, with the dot at the start
 pub record IsBegun (ps : List Production) (k : Dotted Nil) : Type 0 where
   pub start : k.index ≡ 0
   pub among : Contains ps k.production
 
--- a production of the nonterminal behind the dot of an item, with the dot at the start
+-- the second item has a production of the nonterminal after the dot of the first, with the dot at
+-- the start
 pub record IsExpansionOf (g : Grammar) (item k : Dotted Nil) : Type 0 where
   pub name : NonterminalString
   pub behind : slice_get item.production.symbols item.index ≡ Some (Nonterminal name)
   pub begun : IsBegun (productions_of g name) k
 
--- what is listed with a moved dot
+-- the dotted production is among the listed ones, and its dot is past the start
 abbrev pub IsMovedIn : List (Production × ℕ) → Production → ℕ → Type 0
 IsMovedIn items p dot = (0 < dot) × Contains items (p, dot)
 
--- the same of items
+-- the dotted production is that of a listed item, and its dot is past the start
 abbrev pub IsMovedOf : List (Dotted Bits) → Dotted Nil → Type 0
 IsMovedOf items k = IsMovedIn (map dotted_of items) k.production k.index
 
--- the keys are the closure of the kernel
+-- the keys are exactly the dotted productions of the closure of the kernel
 abbrev pub AreClosure : Grammar → (Production → ℕ → Type 0) → List (Dotted Nil) → Type 0
 AreClosure g kernel keys = (k : Dotted Nil) → Contains keys k ↔ InClosure (productions g) kernel k.production k.index

@@ -1,4 +1,4 @@
--- When a table has all that a kernel leads to without a symbol.
+-- The condition that a table has the whole closure of a kernel.
 use Rattle.std.specs.Prelude.{◌≡◌, true, List, ◌∷◌, drop, Contains}
 use Rattle.lalrpop_grammar.specs.closures.Closures.{InClosure}
 use Rattle.lalrpop_grammar.specs.grammars.Grammar.{IsFirst}
@@ -26,9 +26,11 @@ Begins g l (TokenOf t) = IsFirst g.productions l t
 abbrev pub AreOwn : Grammar → Type 0
 AreOwn g = (p : Production) → Contains (productions g) p → Contains (productions_of g p.nonterminal) p
 
--- what expanded items give is a parameter
+-- which tokens begin the symbols after a nonterminal, and which symbols let tokens pass, are
+-- parameters
 module _ (begins : Rules → List Symbol → Token → Type 0) (passes : Rules → List Symbol → Type 0) where
-  -- what an item with these tokens leads to is found with all the tokens that it gets
+  -- the table has the production with the dot at the start and all tokens that it gets from an item
+  -- with these tokens
   pub record HasGiven (g : Rules) (table : Found) (tokens : Bits) (q : Production) (after : List Symbol) : Type 0 where
     pub key : Dotted Nil
     pub production : key.production ≡ q
@@ -38,10 +40,12 @@ module _ (begins : Rules → List Symbol → Token → Type 0) (passes : Rules �
     pub first : (t : Token) → begins g after t → holds_token g.terminals set t ≡ true
     pub through : (t : Token) → passes g after → holds_token g.terminals tokens t ≡ true → holds_token g.terminals set t ≡ true
 
+  -- the table has each production of the nonterminal after the dot, with all tokens that it gets
   abbrev pub IsTokenSettled : Rules → Found → Dotted Nil → Bits → Type 0
   IsTokenSettled g table k tokens = (q : Production) (after : List Symbol) → drop k.index k.production.symbols ≡ Nonterminal q.nonterminal ∷ after → Contains g.productions q → HasGiven g table tokens q after
 
-  -- what is found is of the closure, with tokens that belong there, and so is all to which it leads
+  -- the table has the kernel, and its entries and tokens belong to the closure of the kernel;
+  -- the table also has each production to which an entry leads, with all tokens that it gets
   pub record IsTokenClosed (g : Rules) (kernel : List (Dotted Bits)) (table : Found) : Type 0 where
     pub all : (i : Dotted Bits) → Contains kernel i → (k : Dotted Nil) × (dotted_of k ≡ dotted_of i) × IsFound table k i.lookahead
     pub keys : (e : Dotted Nil × Bits) → Contains table e → InClosure g.productions (InKernel kernel) e.0.production e.0.index

@@ -15,44 +15,48 @@ use Rattle.lalrpop_grammar.specs.declared.repr.Symbol.{Symbol}
 use Rattle.lalrpop_grammar.specs.declared.repr.Symbol.TheVariants.{Nonterminal}
 use Rattle.lalrpop_states.specs.grammars.Ascending.{Ascend}
 
--- an item without its lookahead
+-- the dotted production of an item: its production and the index of its dot
 abbrev pub dotted_of : {L : Type 0} → Dotted L → Production × ℕ
 dotted_of {L} i = (i.production, i.index)
 
--- an item with what its lookahead stands for
+-- the item with the set of bits that its lookahead means
 abbrev pub meant : {L : Type 0} → (L → Bits) → Dotted L → Dotted Bits
 meant meaning i = record { production = i.production; index = i.index; lookahead = meaning i.lookahead }
 
--- what a lookahead stands for is a parameter, so that this serves each kind of lookahead
+-- the meaning of a lookahead is a parameter, so that these definitions apply to any lookahead
 module _ {L : Type 0} (meaning : L → Bits) where
-  -- an item of the grammar: its production is the grammar's, its dot is within, and its bits are those of tokens
+  -- the item is one of the grammar: it has a production of the grammar, the dot is within it, and
+  -- the bits of the lookahead are those of tokens
   pub record IsItemBy (g : Rules) (i : Dotted L) : Type 0 where
     pub production : Contains g.productions i.production
     pub dot : i.index ≤ length i.production.symbols
     pub tokens : FitsTokens g.terminals (meaning i.lookahead)
 
-  -- items of the grammar, no dotted production twice
+  -- the items are items of the grammar, with no dotted production twice
   pub record AreItemsBy (g : Rules) (items : List (Dotted L)) : Type 0 where
     pub each : (i : Dotted L) → Contains items i → IsItemBy g i
     pub differ : AllDiffer (map dotted_of items)
 
-  -- an item with the dotted production holds the token
+  -- one of the items has the dotted production and holds the token
   pub record HasItemTokenBy (terminals : List TerminalString) (items : List (Dotted L)) (p : Production) (dot : ℕ) (t : Token) : Type 0 where
     pub item : Dotted L
     pub there : Contains items item
     pub is : dotted_of item ≡ (p, dot)
     pub holds : holds_token terminals (meaning item.lookahead) t ≡ true
 
--- a set of tokens stands for itself
+-- a set of tokens means itself
 abbrev pub itself : Bits → Bits
 itself set = set
 
+-- the item with a set of tokens is one of the grammar
 abbrev pub IsItemOf : Rules → Dotted Bits → Type 0
 IsItemOf = IsItemBy itself
 
+-- the items with sets of tokens are items of the grammar, with no dotted production twice
 abbrev pub AreItems : Rules → List (Dotted Bits) → Type 0
 AreItems = AreItemsBy itself
 
+-- one of the items with sets of tokens has the dotted production and holds the token
 abbrev pub HasItemToken : List TerminalString → List (Dotted Bits) → Production → ℕ → Token → Type 0
 HasItemToken = HasItemTokenBy itself
 
@@ -60,7 +64,9 @@ HasItemToken = HasItemTokenBy itself
 abbrev pub InKernel : {L : Type 0} → List (Dotted L) → Production → ℕ → Type 0
 InKernel kernel p dot = Contains (map dotted_of kernel) (p, dot)
 
--- the items are exactly the closure of the kernel, with exactly the tokens of the closure (Aho, Sethi, Ullman, section 4.7), ascending; those that the kernel lacks have the dot at the start
+-- the items are exactly the closure of the kernel, with exactly its tokens, and they ascend;
+-- each item that is not in the kernel has its dot at the start;
+-- source: the closure of LR(1) items of Aho, Sethi and Ullman, section 4.7
 pub record IsClosureOf (g : Rules) (kernel items : List (Dotted Bits)) : Type 0 where
   pub are_items : AreItems g items
   pub ascend : Ascend items
@@ -68,13 +74,16 @@ pub record IsClosureOf (g : Rules) (kernel items : List (Dotted Bits)) : Type 0 
   pub exact : (p : Production) (dot : ℕ) → Contains (map dotted_of items) (p, dot) ↔ InClosure g.productions (InKernel kernel) p dot
   pub tokens : (p : Production) (dot : ℕ) (t : Token) → HasItemToken g.terminals items p dot t ↔ InTokenClosure g.productions (λ q n. Contains (map dotted_of items) (q, n)) (HasItemToken g.terminals kernel) p dot t
 
--- the tokens of a closure (Aho, Sethi, Ullman, section 4.7), where what begins the symbols behind a nonterminal, and which symbols let tokens pass, are parameters
+-- the token is one of a dotted production in a closure (Aho, Sethi and Ullman, section 4.7);
+-- it comes from the kernel, from the symbols after a nonterminal, or, if these let tokens pass,
+-- from the item that has the nonterminal;
+-- which tokens begin symbols, and which symbols let tokens pass, are parameters
 pub data InTokenClosureBy (begins : List Symbol → Token → Type 0) (passes : List Symbol → Type 0) (g : List Production) (items : Production → ℕ → Type 0) (kernel : Production → ℕ → Token → Type 0) : Production → ℕ → Token → Type 0 where
   own_token : {p : Production} {dot : ℕ} {t : Token} → kernel p dot t → InTokenClosureBy begins passes g items kernel p dot t
   from_rest : {p : Production} {dot : ℕ} {t : Token} (q : Production) (after : List Symbol) → items p dot → drop dot p.symbols ≡ Nonterminal q.nonterminal ∷ after → Contains g q → begins after t → InTokenClosureBy begins passes g items kernel q 0 t
   from_parent : {p : Production} {dot : ℕ} {t : Token} (q : Production) (after : List Symbol) → InTokenClosureBy begins passes g items kernel p dot t → drop dot p.symbols ≡ Nonterminal q.nonterminal ∷ after → Contains g q → passes after → InTokenClosureBy begins passes g items kernel q 0 t
 
--- the closure of a kernel with any lookahead
+-- the items are exactly the closure of the kernel, for any lookahead
 pub record IsClosureBy {L : Type 0} (meaning : L → Bits) (begins : Rules → List Symbol → Token → Type 0) (passes : Rules → List Symbol → Type 0) (g : Rules) (kernel items : List (Dotted L)) : Type 0 where
   pub are_items : AreItemsBy meaning g items
   pub ascend : Ascend items
@@ -82,12 +91,12 @@ pub record IsClosureBy {L : Type 0} (meaning : L → Bits) (begins : Rules → L
   pub exact : (p : Production) (dot : ℕ) → Contains (map dotted_of items) (p, dot) ↔ InClosure g.productions (InKernel kernel) p dot
   pub tokens : (p : Production) (dot : ℕ) (t : Token) → HasItemTokenBy meaning g.terminals items p dot t ↔ InTokenClosureBy (begins g) (passes g) g.productions (λ q n. Contains (map dotted_of items) (q, n)) (HasItemTokenBy meaning g.terminals kernel) p dot t
 
--- ---- what a closure finds
--- dotted productions with their tokens, as a closure finds them
+-- ---- tables of a closure
+-- a table of dotted productions, each with the bits of its tokens
 abbrev pub Found : Type 0
 Found = List (Dotted Nil × Bits)
 
--- a dotted production and its lookahead, as an item
+-- the item with a dotted production and a lookahead
 abbrev pub item_of : {L : Type 0} → Dotted Nil × L → Dotted L
 item_of e = record { production = e.0.production; index = e.0.index; lookahead = e.1 }
 

@@ -1,4 +1,4 @@
--- How many conflicts a state has, by what they are of.
+-- How many conflicts a state has: those of a shift and a reduction, and those of two reductions.
 use Rattle.std.specs.Prelude.{◌+◌, ℕ, List, [], ◌∷◌, Option, Some, None, count_by}
 use Rattle.lalrpop_collections.specs.lists.Bits.{has}
 use Rattle.lalrpop_grammar.specs.grammars.TerminalPlaces.{place_in}
@@ -10,12 +10,12 @@ use Rattle.lalrpop_states.specs.declared.lr1_core.state.StateIndex.{StateIndex}
 abbrev pub count_on_bit : List Reduction → ℕ → ℕ
 count_on_bit reductions bit = count_by (λ (r : Reduction). has r.0 bit) reductions
 
--- how many reductions hold the bit of a terminal; of one that has no bit there is none
+-- how many reductions hold the bit of a terminal: none if the terminal has no bit
 abbrev pub count_on_place : List Reduction → Option ℕ → ℕ
 count_on_place reductions None = 0
 count_on_place reductions (Some bit) = count_on_bit reductions bit
 
--- for each terminal that is shifted, how many reductions hold it; all together
+-- the sum, over the terminals that are shifted, of how many reductions hold the terminal
 abbrev pub shift_conflict_count : List TerminalString → List Reduction → List (TerminalString × StateIndex) → ℕ
 shift_conflict_count terminals reductions [] = 0
 shift_conflict_count terminals reductions (shift ∷ rest) = count_on_place reductions (place_in terminals shift.0) + shift_conflict_count terminals reductions rest
@@ -24,7 +24,7 @@ shift_conflict_count terminals reductions (shift ∷ rest) = count_on_place redu
 abbrev pub later_count : Reduction → List Reduction → ℕ
 later_count r later = count_by (λ (s : Reduction). share r.0 s.0) later
 
--- for each reduction, how many later ones share a token with it; all together
+-- the sum, over the reductions, of how many later ones share a token with the reduction
 abbrev pub reduce_conflict_count : List Reduction → ℕ
 reduce_conflict_count [] = 0
 reduce_conflict_count (r ∷ later) = later_count r later + reduce_conflict_count later

@@ -8,11 +8,11 @@ use Rattle.lalrpop_grammar.specs.Words.{IsLALR1}
 use Rattle.lalrpop_grammar.specs.declared.repr.NonterminalString.{NonterminalString}
 use Rattle.lalrpop_grammar.specs.declared.repr.Production.{Production}
 
--- what is said of an error is said of its states and conflicts; want of memory says nothing
+-- if the error has states and conflicts, they have the property; an allocation failure says nothing
 abbrev pub IfConflicts : {L : Type 0} → (TableConstructionError L → Type 0) → BuildError L → Type 0
 IfConflicts P (Conflicts error) = P error
 IfConflicts P Memory = Unit {0}
 
--- an error with conflicts comes of a grammar that is not LALR(1); want of memory says nothing
+-- if the error has conflicts, the grammar is not LALR(1); an allocation failure says nothing
 abbrev pub TellsNotLALR1 : List Production → NonterminalString → BuildError Bits → Type 0
 TellsNotLALR1 g start = IfConflicts (λ error. ¬ IsLALR1 g start)

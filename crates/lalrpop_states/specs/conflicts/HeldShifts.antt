@@ -1,4 +1,4 @@
--- The tokens that some reduction of a state holds, and the shifts of their terminals.
+-- The tokens that reductions of a state hold, and the shifts on these tokens.
 use Rattle.std.specs.Prelude.{◌≡◌, ◌∷◌, ◌<◌, ℕ, true, cond, List, [], Contains, slice_get, Some}
 use Rattle.lalrpop_grammar.specs.grammars.Tokens.{HasToken}
 use Rattle.lalrpop_collections.specs.lists.Bits.{Bits, has}
@@ -14,7 +14,7 @@ use Rattle.lalrpop_grammar.specs.declared.repr.TerminalString.{TerminalString}
 abbrev pub IsHeldBit : List Reduction → ℕ → Type 0
 IsHeldBit reductions bit = (r : Reduction) × Contains reductions r × (has r.0 bit ≡ true)
 
--- the shift, if the set holds its terminal
+-- a list with the shift, if the set holds its terminal, and otherwise an empty list
 abbrev pub held_shift : List TerminalString → Bits → TerminalString × StateIndex → List Action
 held_shift terminals held (t, target) = cond (holds_token terminals held (TokenOf t)) (Shift t target ∷ []) []
 
@@ -22,6 +22,6 @@ held_shift terminals held (t, target) = cond (holds_token terminals held (TokenO
 abbrev pub ShareNoBit : List Reduction → Type 0
 ShareNoBit reductions = (i j bit : ℕ) (r s : Reduction) → i < j → slice_get reductions i ≡ Some r → slice_get reductions j ≡ Some s → has r.0 bit ≡ true → has s.0 bit ≡ true → ⊥
 
--- the set holds the terminal of no shift
+-- none of the shifts is on a terminal that the set holds
 abbrev pub HoldsNoShift : List TerminalString → Bits → List (TerminalString × StateIndex) → Type 0
 HoldsNoShift terminals held shifts = (t : TerminalString) (target : StateIndex) → Contains shifts (t, target) → ¬ HasToken terminals held (TokenOf t)

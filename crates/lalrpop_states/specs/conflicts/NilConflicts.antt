@@ -14,16 +14,17 @@ use Rattle.lalrpop_states.specs.declared.lr1_core.state.State.{State}
 abbrev pub nil_conflict : StateIndex → Action → Nil × Bor Production → Conflict Nil
 nil_conflict index action reduction = record { state = index; lookahead = record {}; production = reduction.1; action = action }
 
--- each shift with each reduction
+-- the conflicts of each shift with each reduction
 abbrev pub nil_shift_conflicts : StateIndex → List (Nil × Bor Production) → List (TerminalString × StateIndex) → List (Conflict Nil)
 nil_shift_conflicts index reductions [] = []
 nil_shift_conflicts index reductions (e ∷ es) = map (nil_conflict index (Shift e.0 e.1)) reductions ++ nil_shift_conflicts index reductions es
 
--- each reduction after the first with the first
+-- the conflicts of each reduction after the first one with the first one
 abbrev pub nil_reduce_conflicts : StateIndex → List (Nil × Bor Production) → List (Conflict Nil)
 nil_reduce_conflicts index [] = []
 nil_reduce_conflicts index (first ∷ others) = map (nil_conflict index (Reduce first.1)) others
 
--- every shift with every reduction, then each reduction after the first with the first
+-- the conflicts of a state: those of each shift with each reduction, and then those of each
+-- reduction after the first one with the first one
 abbrev pub nil_conflicts : State Nil → List (Conflict Nil)
 nil_conflicts s = nil_shift_conflicts s.index s.reductions.items s.shifts.entries ++ nil_reduce_conflicts s.index s.reductions.items

@@ -11,7 +11,7 @@ use Rattle.lalrpop_states.specs.declared.lr1_core.state.State.{State}
 use Rattle.lalrpop_states.specs.declared.lr1_core.state.Conflict.{Conflict}
 use Rattle.lalrpop_states.specs.declared.lr1_core.state.Action.TheVariants.{Shift, Reduce}
 
--- a reduction: its tokens and its production
+-- a reduction: the bits of its tokens, and its production
 abbrev pub Reduction : Type 0
 Reduction = Bits × Bor Production
 
@@ -19,41 +19,43 @@ Reduction = Bits × Bor Production
 abbrev pub meet : Bits → Bits → Bits
 meet s t = bits_of (filter (λ b. has t b) (rising s))
 
--- whether a bit is in both sets
+-- whether some bit is in both sets
 abbrev pub share : Bits → Bits → Bool
 share s t = list_any (λ b. has t b) (rising s)
 
--- the reduction and the shift of a terminal, on that terminal
+-- the conflict of a reduction with the shift of a terminal, on that terminal
 abbrev pub shift_conflict : StateIndex → TerminalString → StateIndex → ℕ → Reduction → Conflict Bits
 shift_conflict state t target bit r = record { state = state; lookahead = with_bit no_bits bit; production = r.1; action = Shift t target }
 
--- the shift of the terminal with the bit, and each reduction that holds it
+-- the conflicts of the shift of the terminal with the bit, and each reduction that holds the bit
 abbrev pub conflicts_on_bit : StateIndex → TerminalString → StateIndex → List Reduction → ℕ → List (Conflict Bits)
 conflicts_on_bit state t target reductions bit = map (shift_conflict state t target bit) (filter (λ r. has r.0 bit) reductions)
 
--- of a terminal that has no bit there is none
+-- the conflicts of the shift of a terminal with each reduction that holds its bit;
+-- there is none if the terminal has no bit
 abbrev pub conflicts_on_place : StateIndex → TerminalString → StateIndex → List Reduction → Option ℕ → List (Conflict Bits)
 conflicts_on_place state t target reductions None = []
 conflicts_on_place state t target reductions (Some bit) = conflicts_on_bit state t target reductions bit
 
--- one shift and each reduction that holds its terminal
+-- the conflicts of one shift with each reduction that holds its terminal
 abbrev pub shift_conflicts : List TerminalString → StateIndex → List Reduction → TerminalString × StateIndex → List (Conflict Bits)
 shift_conflicts terminals state reductions (t, target) = conflicts_on_place state t target reductions (place_in terminals t)
 
--- two reductions, on all tokens that they share
+-- the conflict of two reductions, on all tokens that they share
 abbrev pub reduce_conflict : StateIndex → Reduction → Reduction → Conflict Bits
 reduce_conflict state r s = record { state = state; lookahead = meet r.0 s.0; production = r.1; action = Reduce s.1 }
 
--- a reduction, and each later one that shares a token with it
+-- the conflicts of a reduction with each later one that shares a token with it
 abbrev pub later_conflicts : StateIndex → Reduction → List Reduction → List (Conflict Bits)
 later_conflicts state r later = map (reduce_conflict state r) (filter (λ s. share r.0 s.0) later)
 
--- each reduction with each later one
+-- the conflicts of each reduction with each later one that shares a token with it
 abbrev pub reduce_conflicts : StateIndex → List Reduction → List (Conflict Bits)
 reduce_conflicts state [] = []
 reduce_conflicts state (r ∷ later) = later_conflicts state r later ++ reduce_conflicts state later
 
--- for each terminal that is shifted, ascending, each reduction that holds it; then each two reductions that share a token
+-- the conflicts of a state: first those of each shift, by rising terminal, with each reduction that
+-- holds its terminal, and then those of each two reductions that share a token
 abbrev pub state_conflicts : List TerminalString → State Bits → List (Conflict Bits)
 state_conflicts terminals state = flat_map (shift_conflicts terminals state.index state.reductions.items) state.shifts.entries ++ reduce_conflicts state.index state.reductions.items
 

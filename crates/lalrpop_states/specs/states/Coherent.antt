@@ -1,4 +1,4 @@
--- States that lead to one another as their items say.
+-- Coherent states: their numbers, edges and reductions agree with their items.
 use Rattle.std.specs.Prelude.{◌≡◌, ℕ, ◌-◌, ◌<◌, List, length, slice_get, Some}
 use Rattle.std.specs.Borrow.{Bor}
 use Rattle.lalrpop_collections.specs.lists.Each.{EachItem, EachEntry}
@@ -10,44 +10,47 @@ use Rattle.lalrpop_states.specs.declared.lr1_core.state.State.{State}
 use Rattle.lalrpop_states.specs.declared.lr1_core.coherent.SymbolRef.{SymbolRef}
 use Rattle.lalrpop_states.specs.declared.lr1_core.coherent.SymbolRef.TheVariants.{Nonterminal as NonterminalRef, Terminal as TerminalRef}
 
--- a borrowed symbol, as a symbol
+-- the symbol that a borrowed symbol means
 abbrev pub symbol_of : SymbolRef → Symbol
 symbol_of (NonterminalRef name) = Nonterminal name.now
 symbol_of (TerminalRef t) = Terminal t.now
 
 module _ {L : Type 0} where
-  -- the item is the production with the dot at the place
+  -- the item is the production with the dot at the index
   pub record IsAt (item : Dotted L) (production : Production) (index : ℕ) : Type 0 where
     pub same : item.production ≡ production
     pub dot : item.index ≡ index
 
-  -- the production with the dot at the place is among the items
+  -- one of the items is the production with the dot at the index
   abbrev pub HasItem : List (Dotted L) → Production → ℕ → Type 0
   HasItem items production index = (k : ℕ) × (item : Dotted L) × (slice_get items k ≡ Some item) × IsAt item production index
 
-  -- an item whose dot moved over the symbol, from an item of the source
+  -- the symbol is before the dot of the item, and the source has the item with the dot before it
   pub record IsShifted (source : List (Dotted L)) (symbol : Symbol) (item : Dotted L) : Type 0 where
     pub over : slice_get item.production.symbols (item.index - 1) ≡ Some symbol
     pub origin : HasItem source item.production (item.index - 1)
 
-  -- each item of the target whose dot moved came over the edge
+  -- each item of the target whose dot is past the start comes over the symbol from the source
   abbrev pub IsCoherentEdge : List (Dotted L) → Symbol → List (Dotted L) → Type 0
   IsCoherentEdge source symbol target = EachItem (λ (item : Dotted L). 0 < item.index → IsShifted source symbol item) target
 
-  -- the edge leads to a state in the list, whose items came over it
+  -- the edge leads to a state of the list, whose moved items come over the symbol from the source
   pub record IsCoherentStep (states : List (State L)) (source : List (Dotted L)) (symbol : Symbol) (target : ℕ) : Type 0 where
     pub to : State L
     pub there : slice_get states target ≡ Some to
     pub came : IsCoherentEdge source symbol to.items.vec.items
 
-  -- all dots stand at the start
+  -- all dots are at the start
   abbrev pub StartsAtZero : List (Dotted L) → Type 0
   StartsAtZero items = EachItem (λ (item : Dotted L). item.index ≡ 0) items
 
-  -- each reduction is a finished item
+  -- each reduction is by the production of a finished item
   abbrev pub AreFinished : List (Dotted L) → List (L × Bor Production) → Type 0
   AreFinished items reductions = EachItem (λ (r : L × Bor Production). HasItem items r.1.now (length r.1.now.symbols)) reductions
 
+  -- the state is coherent: its number is its place, and state 0 has all dots at the start;
+  -- its edges lead to states of the list whose moved items come from it;
+  -- its reductions are by the productions of finished items
   pub record IsCoherentState (states : List (State L)) (place : ℕ) (state : State L) : Type 0 where
     pub numbered : state.index.0 ≡ place
     pub start : place ≡ 0 → StartsAtZero state.items.vec.items
@@ -55,6 +58,6 @@ module _ {L : Type 0} where
     pub gotos : EachEntry (λ name target. IsCoherentStep states state.items.vec.items (Nonterminal name) target.0) state.gotos.entries
     pub finished : AreFinished state.items.vec.items state.reductions.items
 
-  -- the condition of every call that takes states
+  -- each state of the list is coherent, as many calls that take states require
   abbrev pub AreCoherent : List (State L) → Type 0
   AreCoherent states = (place : ℕ) (state : State L) → slice_get states place ≡ Some state → IsCoherentState states place state

@@ -1,4 +1,4 @@
--- The code's states, as the definitions speak of states.
+-- The contents of states of the code, to which the definitions of LR(1) parsing apply.
 use Rattle.std.specs.Prelude.{ℕ, ◌+◌, Bool, false, List, [], length, slice_get, map, Option, Some, None, option_map}
 use Rattle.std.specs.Borrow.{Bor}
 use Rattle.std.specs.BTreeMap.{get}
@@ -21,7 +21,8 @@ abbrev pub has_at : Bits → Option ℕ → Bool
 has_at set None = false
 has_at set (Some bit) = has set bit
 
--- whether the token is in the set: its bit is; a terminal without a place is in none
+-- whether the token is in the set, which has its bit;
+-- the bit of a terminal is its place in the list; a terminal that is not in the list is in no set
 abbrev pub holds_token : List TerminalString → Bits → Token → Bool
 holds_token terminals set Eof = has set (length terminals)
 holds_token terminals set Error = has set (length terminals + 1)
@@ -31,19 +32,21 @@ holds_token terminals set (Terminal t) = has_at set (place_in terminals t)
 abbrev pub number_of : StateIndex → ℕ
 number_of n = n.0
 
--- a state that holds nothing
+-- the contents of a state without items, edges and reductions
 abbrev pub no_contents : Contents
 no_contents = record { items = []; shift = λ t. None; goto = λ name. None; reductions = [] }
 
--- what a lookahead holds is a parameter, so that this serves each kind of lookahead
+-- which tokens a lookahead holds is a parameter, so that these definitions apply to any lookahead
 module _ {L : Type 0} (holds : L → Token → Bool) where
+  -- the dotted production of an item
   abbrev pub dotted_of : Dotted L → Production × ℕ
   dotted_of item = (item.production, item.index)
 
+  -- the reduction of the definitions that a reduction of the code means
   abbrev pub reduction_of : L × Bor Production → Reduction
   reduction_of r = record { production = r.1.now; holds = holds r.0 }
 
-  -- what a state of the code holds
+  -- the contents of a state of the code
   abbrev pub contents_of : State L → Contents
   contents_of state = record {
     items = map dotted_of state.items.vec.items;
@@ -52,16 +55,17 @@ module _ {L : Type 0} (holds : L → Token → Bool) where
     reductions = map reduction_of state.reductions.items;
   }
 
-  -- the same of a place that may have no state
+  -- the contents of a state, or empty contents if there is no state
   abbrev pub contents_at : Option (State L) → Contents
   contents_at None = no_contents
   contents_at (Some state) = contents_of state
 
-  -- what each number of a list of states stands for
+  -- the contents of the state with each number, in a list of states
   abbrev pub contents_in : List (State L) → ℕ → Contents
   contents_in states n = contents_at (slice_get states n)
 
--- the states of a table over sets of tokens, whose bits the terminals number
+-- the contents of the states of a table with sets of tokens;
+-- the bit of a terminal is its place in the list of terminals
 abbrev pub contents : List TerminalString → List (State Bits) → ℕ → Contents
 contents terminals states = contents_in (holds_token terminals) states
 

@@ -1,4 +1,4 @@
--- The edges of a state, one after another.
+-- The edges of a state, in order.
 use Rattle.std.specs.Prelude.{List, ◌++◌, map}
 use Rattle.lalrpop_states.specs.states.Coherent.{symbol_of}
 use Rattle.lalrpop_grammar.specs.declared.repr.NonterminalString.{NonterminalString}
@@ -20,10 +20,10 @@ shift_edge e = (Terminal e.0, e.1)
 abbrev pub goto_edge : NonterminalString × StateIndex → Edge
 goto_edge e = (Nonterminal e.0, e.1)
 
--- the edges of a list of shifts, and then of a list of gotos
+-- the edges of a list of shifts, and then those of a list of gotos
 abbrev pub state_edges : List (TerminalString × StateIndex) → List (NonterminalString × StateIndex) → List Edge
 state_edges shifts gotos = map shift_edge shifts ++ map goto_edge gotos
 
--- an edge whose symbol is borrowed, as an edge
+-- the edge that an edge with a borrowed symbol means
 abbrev pub seen_edge : SymbolRef × StateIndex → Edge
 seen_edge e = (symbol_of e.0, e.1)

@@ -1,20 +1,21 @@
--- A production with a dot, and a lookahead.
+-- Items: productions with a dot and a lookahead.
 use Rattle.std.specs.Prelude.{◌≡◌, ℕ, Bool, true, ◌==◌, ◌&&◌}
 use Rattle.std.proofs.Common.{ap, ◌∙◌, eqb-true}
 use Rattle.lalrpop_collections.specs.lists.Exact.{Exactly, both}
 use Rattle.lalrpop_states.specs.declared.lookahead.nil.Nil.{Nil}
 use Rattle.lalrpop_grammar.specs.declared.repr.Production.{Production}
 
+-- an item: a production, the number of its symbols before the dot, and a lookahead
 pub record Dotted (L : Type 0) : Type 0 where
   pub production : Production
   pub index : ℕ
   pub lookahead : L
 
--- the production with its dot at a place, without lookahead
+-- the production with the dot at an index, as an item without lookahead
 abbrev pub with_dot : Production → ℕ → Dotted Nil
 with_dot p dot = record { production = p; index = dot; lookahead = record {} }
 
--- items are equal where their parts are
+-- items with equal parts are the same
 pub dotted_exact : {L : Type 0} (E : Production → Production → Bool) (F : L → L → Bool) → Exactly E → Exactly F →
     (a b : Dotted L) → (E a.production b.production && ((a.index == b.index) && F a.lookahead b.lookahead)) ≡ true → a ≡ b
 dotted_exact {L} E F e f a b h =

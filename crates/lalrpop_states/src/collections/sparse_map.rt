@@ -1,4 +1,4 @@
-//! Values by small numbers, for a table that is filled and emptied often.
+//! Maps from small numbers to values, for tables that are filled and emptied often.
 ghost use Rattle.std.specs.Prelude.{◌≡◌, ◌≢◌, ◌<◌, ◌++◌, ◌∷◌, [], ℕ, IfOk, OnOk, IfSome, IsNone, Some, Contains, MatchBool, slice_get, IsPermutation};
 ghost use Rattle.std.specs.Map.{keys_of};
 ghost use Rattle.lalrpop_collections.specs.lists.Each.{Ordered};
@@ -13,9 +13,11 @@ use std::alloc::Global;
 use std::marker::Model;
 use std::mem::replace;
 
-/// A sparse set, with a value for each of its numbers. It takes a place for each number up to the
-/// greatest that it ever had; to empty it costs as much as it holds, and leaves the places as they
-/// are: one counts only where the entry that it names is that of the number.
+/// A map from numbers to values, as a sparse set of numbers with a value for each.
+///
+/// `places` has an index into `entries` for each number up to the greatest one that was ever a key.
+/// The index counts only if the entry there has the number. So `clear` leaves `places` as it is,
+/// and takes time linear in the number of entries.
 #[derive(Drop)]
 pub struct SparseMap<V> {
     places: Vec<usize>,
@@ -44,14 +46,14 @@ impl<V> SparseMap<V> {
         }
     }
 
-    /// The entries, in the order in which their numbers came.
+    /// The entries: numbers with their values, in the order in which the numbers were added.
     pub fn entries(&self) -> &[(usize, V)]
         ensures { result.now ≡ self.now }
     {
         &self.entries
     }
 
-    // The place of a number's entry, where it has one.
+    // The index of the entry of a number, if there is one.
     fn place_of(&self, number: usize) -> Option<usize>
         ensures found { IfSome result (λ place. (value : V) ×
             (slice_get self.now place ≡ Some (number, value))) }
@@ -67,7 +69,7 @@ impl<V> SparseMap<V> {
         None
     }
 
-    /// The value of a number, where it has one.
+    /// The value of a number, if it has one.
     pub fn get(&self, number: usize) -> Option<&V>
         ensures found { IfSome result (λ value. Contains self.now (number, value.now)) }
         ensures none { IsNone result → ¬ Contains (keys_of self.now) number }
@@ -79,7 +81,7 @@ impl<V> SparseMap<V> {
         }
     }
 
-    // Puts an entry behind the others.
+    // Adds an entry after the others.
     fn push(&mut self, number: usize, value: V) -> Result<(), OutOfMemory>
     where
         V: Drop,
@@ -96,7 +98,7 @@ impl<V> SparseMap<V> {
         Ok(())
     }
 
-    /// Takes all entries out.
+    /// Removes all entries.
     pub fn clear(&mut self)
     where
         V: Drop,
@@ -105,7 +107,8 @@ impl<V> SparseMap<V> {
         self.entries.clear();
     }
 
-    /// Takes all entries out, in the order in which their numbers came. Room for as many is left.
+    /// Removes all entries, and returns them in the order in which their numbers were added. The
+    /// map then has room for as many entries; `OutOfMemory` if allocating that room fails.
     pub fn take_all(&mut self, alloc: Global) -> Result<Vec<(usize, V)>, OutOfMemory>
         ensures same { IfOk result (λ list. list.items ≡ self.old) }
         ensures differ { IfOk result (λ list. AllDiffer (keys_of list.items)) }
@@ -115,7 +118,7 @@ impl<V> SparseMap<V> {
         Ok(replace(&mut self.entries, room))
     }
 
-    /// As `take_all`, by rising numbers.
+    /// Removes all entries, and returns them by rising number. Fails as `take_all` does.
     pub fn take_rising(&mut self, alloc: Global) -> Result<Vec<(usize, V)>, OutOfMemory>
         ensures same { IfOk result (λ list. IsPermutation self.old list.items) }
         ensures rising { IfOk result
@@ -128,7 +131,7 @@ impl<V> SparseMap<V> {
     }
 }
 
-// Joins tokens into others, and tells whether these changed.
+// Adds tokens to `into`, and returns whether `into` changed.
 fn join_own<L: Lookahead>(into: &mut L, tokens: L) -> Result<bool, OutOfMemory>
     ensures joined { OnOk result
         (L.meaning into.new ≡ joined (L.meaning into.old) (L.meaning tokens)) }
@@ -139,7 +142,8 @@ fn join_own<L: Lookahead>(into: &mut L, tokens: L) -> Result<bool, OutOfMemory>
 }
 
 impl<L: Lookahead> SparseMap<L> {
-    /// Joins tokens to those of a number, and tells whether the number is new or has more now.
+    /// Adds tokens to those of a number. Returns whether the number is new or has more tokens than
+    /// before; `OutOfMemory` if an allocation fails.
     pub fn join(&mut self, number: usize, tokens: L) -> Result<bool, OutOfMemory>
         ensures joined { IfOk result (λ told. IsJoinedAt number (L.meaning tokens) told
             (readings L.meaning self.old) (readings L.meaning self.new)) }
@@ -152,7 +156,7 @@ impl<L: Lookahead> SparseMap<L> {
         Ok(true)
     }
 
-    /// As `join`, of tokens that are not given away.
+    /// Does the same as `join` with borrowed tokens, which it copies if the number is new.
     pub fn join_copy(
         &mut self,
         alloc: Global,
@@ -172,7 +176,7 @@ impl<L: Lookahead> SparseMap<L> {
 }
 
 impl<T: Drop> SparseMap<Sequence<T>> {
-    /// Puts an item behind those of a number.
+    /// Adds an item after those of a number. `OutOfMemory` if an allocation fails.
     pub fn push_at(&mut self, alloc: Global, number: usize, item: T) -> Result<(), OutOfMemory>
         ensures pushed { OnOk result (IsPushedAt number item self.old self.new) }
         ensures differ { OnOk result (AllDiffer (keys_of self.new)) }

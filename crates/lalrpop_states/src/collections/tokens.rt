@@ -1,4 +1,4 @@
-//! Lookaheads by key, joined as they come.
+//! Maps from keys to lookaheads. Lookaheads that are added for one key are joined.
 ghost use Rattle.std.specs.Prelude.{◌≡◌, OnOk, IfOk, IsNone, IfSome, Contains, Some, option_copied};
 ghost use Rattle.std.specs.BTreeMap.{keys};
 ghost use Rattle.lalrpop_collections.specs.Words.{AllDiffer, Bits};
@@ -11,7 +11,8 @@ use lalrpop_grammar::lookahead::token_set::TokenSet;
 use std::alloc::Global;
 use std::collections::BTreeMap;
 
-/// Joins tokens to those of a key, and tells whether the key is new or has more now.
+/// Adds tokens to those of a key. Returns whether the key is new or has more tokens than before;
+/// `OutOfMemory` if an allocation fails.
 pub fn add_tokens<K: Ord + Exact + Drop, L: Lookahead>(
     alloc: Global,
     map: &mut BTreeMap<K, L>,
@@ -29,7 +30,7 @@ pub fn add_tokens<K: Ord + Exact + Drop, L: Lookahead>(
     Ok(true)
 }
 
-/// The lookahead of a key, where it has one.
+/// The lookahead of a key, if it has one.
 pub fn tokens_of<'map, K: Ord + Exact, L>(map: &'map BTreeMap<K, L>, key: &K) -> Option<&'map L>
     ensures found { IfSome result (λ lookahead. Contains map.now.entries (key.now, lookahead.now)) }
     ensures none { IsNone result → ¬ Contains (keys map.now) key.now }
@@ -37,7 +38,7 @@ pub fn tokens_of<'map, K: Ord + Exact, L>(map: &'map BTreeMap<K, L>, key: &K) ->
     map.get(key)
 }
 
-/// The tokens of a key, where it has some.
+/// The set of tokens of a key, if the map has the key.
 pub fn find_tokens<'map, K: Ord + Exact>(
     map: &'map BTreeMap<K, TokenSet>,
     key: &K,

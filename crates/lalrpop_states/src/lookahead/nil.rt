@@ -1,4 +1,4 @@
-//! No lookahead.
+//! The lookahead `Nil`, which holds no tokens.
 ghost use Rattle.std.specs.Prelude.{◌≡◌, ◌++◌, refl, ⊤, map, OnOk};
 ghost use Rattle.lalrpop_collections.specs.lists.Bits.{no_bits, join_self};
 ghost use Rattle.lalrpop_states.specs.conflicts.NilConflicts.{nil_conflict, nil_conflicts, nil_reduce_conflicts};
@@ -13,7 +13,7 @@ use lalrpop_grammar::repr::{Production, TerminalString};
 use std::alloc::Global;
 use std::fmt;
 
-/// The lookahead of an LR(0) item: none.
+/// The lookahead of an LR(0) item: it holds no tokens.
 #[derive(Clone, Copy, Debug, PartialEq, Eq, PartialOrd, Ord, Hash)]
 pub struct Nil;
 
@@ -85,7 +85,7 @@ impl Lookahead for Nil {
     ghost push_is_join = { λ _ _ _ _. join_self };
 }
 
-// A shift with each reduction.
+// Adds the conflicts of a shift with each reduction.
 fn push_shift_conflicts<'grammar>(
     alloc: Global,
     list: &mut Vec<Conflict<'grammar, Nil>>,
@@ -108,7 +108,7 @@ fn push_shift_conflicts<'grammar>(
     Ok(())
 }
 
-// Each reduction after the first with the first.
+// Adds the conflicts of each reduction after the first one with the first one.
 fn push_reduce_conflicts<'grammar>(
     list: &mut Vec<Conflict<'grammar, Nil>>,
     index: StateIndex,

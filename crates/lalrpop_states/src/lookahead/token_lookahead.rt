@@ -1,4 +1,4 @@
-//! Sets of tokens as lookaheads.
+//! Sets of tokens are lookaheads.
 ghost use Rattle.std.specs.Prelude.{◌≡◌};
 ghost use Rattle.lalrpop_collections.specs.lists.Bits.{bits_exact};
 ghost use Rattle.lalrpop_states.specs.conflicts.StateConflicts.{state_conflicts};

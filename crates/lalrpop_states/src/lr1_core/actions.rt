@@ -1,4 +1,4 @@
-//! What a state does on a token, and where its gotos lead.
+//! Look-ups in a state: its action on a token, and its goto over a nonterminal.
 ghost use Rattle.std.specs.Prelude.{◌≡◌, Bool, option_copied, option_map};
 ghost use Rattle.std.specs.BTreeMap.{get};
 ghost use Rattle.lalrpop_states.specs.states.ActionEntries.{action_on, table_entry, shift_of};
@@ -22,7 +22,7 @@ pub enum ActionEntry<'grammar> {
 }
 
 impl<'grammar, L> State<'grammar, L> {
-    /// The target of the goto of a nonterminal, if it has one, by one look-up.
+    /// The state to which the goto over a nonterminal leads, if there is one, by one look-up.
     pub fn goto(&self, name: &NonterminalString) -> Option<StateIndex>
         ensures target { result ≡ get name_cmp self.now.gotos name.now }
     {
@@ -31,8 +31,8 @@ impl<'grammar, L> State<'grammar, L> {
 }
 
 impl<'grammar> State<'grammar, TokenSet> {
-    /// What the state does on a token, if anything: as a run of the parser does, it shifts where it
-    /// can, even where a reduction holds the token too.
+    /// The action of the state on a token, if it has one. As in a run of the parser, a shift comes
+    /// before a reduction that holds the token too, and an earlier reduction before a later one.
     pub fn action(&self, token: &Token, terminals: &TerminalSet) -> Option<ActionEntry<'grammar>>
         ensures entry { option_map table_entry result ≡ action_on
             (contents_of (holds_token terminals.now) self.now) token.now }
@@ -44,7 +44,7 @@ impl<'grammar> State<'grammar, TokenSet> {
     }
 }
 
-// Where the shift of a token leads, if it has one.
+// The state to which the shift of a token leads, if there is one.
 fn shift_target<'grammar>(state: &Lr1State<'grammar>, token: &Token) -> Option<StateIndex>
     ensures target { (holds : Bits → Token → Bool) →
         option_map number_of result ≡ shift_of (contents_of holds state.now) token.now }
@@ -56,7 +56,7 @@ fn shift_target<'grammar>(state: &Lr1State<'grammar>, token: &Token) -> Option<S
     }
 }
 
-// The production of the first reduction that holds a token.
+// The production of the first reduction that holds a token, if there is one.
 fn first_reduction<'grammar>(
     state: &Lr1State<'grammar>,
     token: &Token,
@@ -73,7 +73,7 @@ fn first_reduction<'grammar>(
     None
 }
 
-// Whether a token is in a set, as a function of both.
+// Whether a token is in a set. The contract is an equation; that of `contains` is an equivalence.
 fn holds(tokens: &TokenSet, token: &Token, terminals: &TerminalSet) -> bool
     ensures { result ≡ holds_token terminals.now tokens.now token.now }
 {

@@ -1,4 +1,4 @@
-//! The conflicts of states.
+//! The conflicts of the states of a list.
 ghost use Rattle.std.specs.Prelude.{◌≡◌, ◌<◌, ◌^◌, ◌↔◌, ℕ, IfOk, IsTrue, MatchOption, SomeIff, length};
 ghost use Rattle.std.specs.List.{flat_map};
 ghost use Rattle.lalrpop_states.specs.conflicts.StateConflicts.{HasNoConflict};
@@ -20,7 +20,7 @@ use lalrpop_grammar::repr::{Production, TerminalString};
 use std::alloc::Global;
 use std::collections::BTreeMap;
 
-/// The conflicts of each state, states ascending.
+/// The conflicts of each state, in the order of the states. `OutOfMemory` if an allocation fails.
 pub fn conflicts_of<'grammar>(
     alloc: Global,
     states: &[Lr1State<'grammar>],
@@ -37,7 +37,8 @@ pub fn conflicts_of<'grammar>(
     Ok(conflicts)
 }
 
-/// How many conflicts the states have; none where their number is above the greatest `usize`.
+/// How many conflicts the states have. `None` if there are more than the greatest `usize`.
+/// Allocates nothing.
 pub fn conflict_count_of<'grammar>(
     states: &[Lr1State<'grammar>],
     terminals: &TerminalSet,
@@ -54,7 +55,7 @@ pub fn conflict_count_of<'grammar>(
     Some(count)
 }
 
-// The tokens that the reductions hold, where no two of them share one.
+// The tokens that the reductions hold, or `None` if two reductions share a token.
 fn distinct_tokens<'grammar>(
     alloc: Global,
     reductions: &[(TokenSet, &'grammar Production)],
@@ -74,7 +75,7 @@ fn distinct_tokens<'grammar>(
     Ok(Some(held))
 }
 
-/// Whether the set holds a terminal.
+/// Whether the set holds a terminal. `OutOfMemory` if an allocation fails: the terminal is copied.
 pub fn holds_terminal(
     alloc: Global,
     held: &TokenSet,
@@ -88,7 +89,7 @@ pub fn holds_terminal(
     Ok(held.contains(&token, terminals))
 }
 
-// Whether the set holds the terminal of no shift.
+// Whether none of the shifts is on a terminal that the set holds.
 fn holds_no_shift(
     alloc: Global,
     shifts: &BTreeMap<TerminalString, StateIndex>,
@@ -106,7 +107,8 @@ fn holds_no_shift(
     Ok(true)
 }
 
-/// Whether no two actions of a state share a token; no conflict is listed.
+/// Whether no two actions of a state share a token. Lists no conflict. `OutOfMemory` if an
+/// allocation fails.
 pub fn has_no_conflict<'grammar>(
     alloc: Global,
     state: &Lr1State<'grammar>,
@@ -125,7 +127,8 @@ pub fn has_no_conflict<'grammar>(
     Ok(free)
 }
 
-/// Whether no state has a conflict; the first that has one ends the search.
+/// Whether no state has a conflict. Stops at the first state that has one. `OutOfMemory` if an
+/// allocation fails.
 pub fn have_no_conflict<'grammar>(
     alloc: Global,
     states: &[Lr1State<'grammar>],

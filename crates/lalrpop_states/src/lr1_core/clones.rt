@@ -10,14 +10,15 @@ use lalrpop_grammar::repr::{Production, Symbol};
 use std::alloc::Global;
 
 impl<'grammar, L: Lookahead> Item<'grammar, L> {
-    /// A copy of its own.
+    /// An independent copy. `OutOfMemory` if an allocation fails.
     pub fn clone(&self, alloc: Global) -> Result<Self, OutOfMemory>
         ensures copy { IfOk result (λ copy. copy ≡ self.now) }
     {
         Ok(self.with_lookahead(self.lookahead.copy(alloc)?))
     }
 
-    /// The symbol behind the dot, and the item with the dot behind it.
+    /// The symbol after the dot, and the item with the dot moved over this symbol. `None` if the
+    /// dot is at the end; `OutOfMemory` if an allocation fails.
     pub fn shifted_item(
         &self,
         alloc: Global,
@@ -39,7 +40,7 @@ impl<'grammar, L: Lookahead> Item<'grammar, L> {
 }
 
 impl<'grammar, L: Lookahead> Items<'grammar, L> {
-    /// A copy of its own.
+    /// An independent copy. `OutOfMemory` if an allocation fails.
     pub fn clone(&self, alloc: Global) -> Result<Self, OutOfMemory>
         ensures copy { IfOk result (λ copy. copy.vec.items ≡ self.now.vec.items) }
     {
@@ -52,7 +53,7 @@ impl<'grammar, L: Lookahead> Items<'grammar, L> {
 }
 
 impl<'grammar, L: Lookahead> State<'grammar, L> {
-    /// A copy of its own.
+    /// An independent copy. `OutOfMemory` if an allocation fails.
     pub fn clone(&self, alloc: Global) -> Result<Self, OutOfMemory>
         ensures copy { IfOk result (IsSameState self.now) }
     {
@@ -66,6 +67,7 @@ impl<'grammar, L: Lookahead> State<'grammar, L> {
     }
 }
 
+// An independent copy of a list of reductions.
 fn clone_reductions<'grammar, L: Lookahead>(
     alloc: Global,
     reductions: &[(L, &'grammar Production)],
@@ -80,7 +82,7 @@ fn clone_reductions<'grammar, L: Lookahead>(
 }
 
 impl<'grammar> Action<'grammar> {
-    /// A copy of its own.
+    /// An independent copy. `OutOfMemory` if an allocation fails.
     pub fn clone(&self, alloc: Global) -> Result<Self, OutOfMemory>
         ensures copy { IfOk result (λ copy. copy ≡ self.now) }
     {
@@ -92,7 +94,7 @@ impl<'grammar> Action<'grammar> {
 }
 
 impl<'grammar, L: Lookahead> Conflict<'grammar, L> {
-    /// A copy of its own.
+    /// An independent copy. `OutOfMemory` if an allocation fails.
     pub fn clone(&self, alloc: Global) -> Result<Self, OutOfMemory>
         ensures copy { IfOk result (λ copy. copy ≡ self.now) }
     {

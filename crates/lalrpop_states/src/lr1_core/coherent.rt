@@ -1,4 +1,5 @@
-//! States that lead to one another as items say.
+//! The test whether states are coherent: whether their numbers, edges and reductions agree with
+//! their items.
 ghost use Rattle.std.specs.Prelude.{◌≡◌, ◌-◌, ◌<◌, ◌↔◌, ℕ, List, slice_get, Some, IsTrue, IfOk};
 ghost use Rattle.lalrpop_collections.specs.lists.Each.{EachEntry};
 ghost use Rattle.lalrpop_grammar.specs.grammars.Names.{symbol_text};
@@ -13,7 +14,12 @@ use std::alloc::Global;
 use std::collections::BTreeMap;
 use std::fmt;
 
-/// Whether the states lead to one another as their items say. The empty list does.
+/// Whether the states are coherent.
+///
+/// The index of each state is its place in the list, and the first state has all dots at the
+/// start. Each edge leads to a state of the list. The items there whose dot is past the start come
+/// from items of the source, by moving the dot over the symbol of the edge. Each reduction is by
+/// the production of a finished item. The empty list is coherent.
 pub fn are_coherent<'grammar, L>(states: &[State<'grammar, L>]) -> bool
     ensures { IsTrue result ↔ AreCoherent states.now }
 {
@@ -25,7 +31,7 @@ pub fn are_coherent<'grammar, L>(states: &[State<'grammar, L>]) -> bool
     true
 }
 
-// Whether one state is numbered by its place, and its edges, start and reductions are right.
+// Whether a state meets the conditions of `are_coherent`, if its place in the list is `place`.
 fn is_coherent_state<'grammar, L>(
     states: &[State<'grammar, L>],
     place: usize,
@@ -49,14 +55,14 @@ fn is_coherent_state<'grammar, L>(
     are_finished(items, &state.reductions)
 }
 
-// Whether all dots of the first state stand at the start.
+// Whether all dots are at the start, if the state is the first one.
 fn starts_right<'grammar, L>(place: usize, items: &[Item<'grammar, L>]) -> bool
     ensures { IsTrue result ↔ (place ≡ 0 → StartsAtZero items.now) }
 {
     place > 0 || starts_at_zero(items)
 }
 
-// Whether all dots stand at the start.
+// Whether all dots are at the start.
 fn starts_at_zero<'grammar, L>(items: &[Item<'grammar, L>]) -> bool
     ensures { IsTrue result ↔ StartsAtZero items.now }
 {
@@ -68,7 +74,7 @@ fn starts_at_zero<'grammar, L>(items: &[Item<'grammar, L>]) -> bool
     true
 }
 
-// Whether each reduction is a finished item.
+// Whether each reduction is by the production of a finished item of the list.
 fn are_finished<'grammar, L>(
     items: &[Item<'grammar, L>],
     reductions: &[(L, &'grammar Production)],
@@ -84,6 +90,7 @@ fn are_finished<'grammar, L>(
     true
 }
 
+// Whether each shift leads to a state of the list whose moved items come from the given items.
 fn have_coherent_shifts<'grammar, L>(
     states: &[State<'grammar, L>],
     items: &[Item<'grammar, L>],
@@ -101,6 +108,7 @@ fn have_coherent_shifts<'grammar, L>(
     true
 }
 
+// Whether each goto leads to a state of the list whose moved items come from the given items.
 fn have_coherent_gotos<'grammar, L>(
     states: &[State<'grammar, L>],
     items: &[Item<'grammar, L>],
@@ -118,7 +126,7 @@ fn have_coherent_gotos<'grammar, L>(
     true
 }
 
-/// A symbol that is borrowed, since a copy would take memory.
+/// A symbol whose name is borrowed, so that making one allocates nothing.
 #[derive(Clone, Copy, Debug, PartialEq, Eq)]
 pub enum SymbolRef<'a> {
     Nonterminal(&'a NonterminalString),
@@ -126,7 +134,7 @@ pub enum SymbolRef<'a> {
 }
 
 impl SymbolRef<'_> {
-    /// A copy of the symbol.
+    /// The symbol with a copy of the name. `OutOfMemory` if an allocation fails.
     pub fn to_symbol(self, alloc: Global) -> Result<Symbol, OutOfMemory>
         ensures { IfOk result (λ symbol. symbol ≡ symbol_of self.entry) }
     {
@@ -150,6 +158,7 @@ impl fmt::Display for SymbolRef<'_> {
     }
 }
 
+// Whether two symbols are equal.
 fn is_symbol(symbol: &Symbol, wanted: SymbolRef) -> bool
     ensures { IsTrue result ↔ (symbol.now ≡ symbol_of wanted.entry) }
 {
@@ -161,7 +170,7 @@ fn is_symbol(symbol: &Symbol, wanted: SymbolRef) -> bool
     }
 }
 
-// Whether an edge leads to a state whose items came over it.
+// Whether an edge leads to a state of the list whose moved items come from items of the source.
 fn is_coherent_step<'grammar, L>(
     states: &[State<'grammar, L>],
     source: &[Item<'grammar, L>],
@@ -178,7 +187,7 @@ fn is_coherent_step<'grammar, L>(
     is_coherent_edge(source, symbol, &to.items.vec)
 }
 
-// Whether the items have a production with the dot at a place.
+// Whether one of the items is the production with the dot at the index.
 fn has_item<'grammar, L>(items: &[Item<'grammar, L>], production: &Production, index: usize) -> bool
     ensures { IsTrue result ↔ HasItem items.now production.now index }
 {
@@ -190,14 +199,15 @@ fn has_item<'grammar, L>(items: &[Item<'grammar, L>], production: &Production, i
     false
 }
 
-// Whether an item is a production with the dot at a place.
+// Whether an item is the production with the dot at the index.
 fn is_at<'grammar, L>(item: &Item<'grammar, L>, production: &Production, index: usize) -> bool
     ensures { IsTrue result ↔ IsAt item.now production.now index }
 {
     item.index == index && equal(item.production, production)
 }
 
-// Whether each item whose dot moved has the symbol before its dot, and its origin in the source.
+// Whether each item of the target whose dot is past the start comes from an item of the source, by
+// moving the dot over the symbol.
 fn is_coherent_edge<'grammar, L>(
     source: &[Item<'grammar, L>],
     symbol: SymbolRef,
@@ -213,6 +223,7 @@ fn is_coherent_edge<'grammar, L>(
     true
 }
 
+// Whether an item has its dot at the start, or comes from an item of the source over the symbol.
 fn is_shifted<'grammar, L>(
     source: &[Item<'grammar, L>],
     symbol: SymbolRef,

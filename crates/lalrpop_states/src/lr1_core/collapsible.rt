@@ -1,4 +1,4 @@
-//! States that can be merged where they list the same dotted productions.
+//! The test whether states with the same dotted productions can be merged.
 ghost use Rattle.std.specs.Prelude.{◌≡◌, ◌↔◌, IsTrue};
 ghost use Rattle.lalrpop_collections.specs.lists.Each.{EachItem};
 ghost use Rattle.lalrpop_states.specs.collapse.Collapsible.{dots, dots_at, LeadAlike, LeadsAlike, IsAlikeTo, AreCollapsible};
@@ -9,16 +9,18 @@ use super::state::{State, StateIndex};
 use lalrpop_collections::exact::equal;
 use std::collections::BTreeMap;
 
-/// Whether coherent states with equal lists of dotted productions lead by the same symbols to
-/// states with equal lists. Lists are compared as they stand. Each two states are compared, since
-/// nothing is allocated.
+/// Whether the states are coherent, and whether states with the same list of dotted productions
+/// lead by the same symbol to states with the same list.
+///
+/// The order in a list counts. Each two states are compared, so that nothing is allocated. The time
+/// is quadratic in the number of states.
 pub fn are_collapsible<'grammar, L>(states: &[State<'grammar, L>]) -> bool
     ensures { IsTrue result ↔ AreCollapsible states.now }
 {
     are_coherent(states) && are_all_alike(states)
 }
 
-// Whether each state is alike to each.
+// Whether each two states lead alike if they list the same dotted productions.
 fn are_all_alike<'grammar, L>(states: &[State<'grammar, L>]) -> bool
     ensures { IsTrue result ↔ EachItem (λ a. EachItem (IsAlikeTo states.now a) states.now)
         states.now }
@@ -31,7 +33,7 @@ fn are_all_alike<'grammar, L>(states: &[State<'grammar, L>]) -> bool
     true
 }
 
-// Whether a state is alike to each.
+// Whether a state and each other one lead alike if they list the same dotted productions.
 fn is_alike_to_all<'grammar, L>(states: &[State<'grammar, L>], state: &State<'grammar, L>) -> bool
     ensures { IsTrue result ↔ EachItem (IsAlikeTo states.now state.now) states.now }
 {
@@ -57,7 +59,7 @@ fn are_alike<'grammar, L>(
     lead_alike(states, &a.shifts, &b.shifts) && lead_alike(states, &a.gotos, &b.gotos)
 }
 
-// Whether the keys of both lead to the same dotted productions.
+// Whether each key that both maps have leads to the same dotted productions in both.
 fn lead_alike<'grammar, K: Ord, L>(
     states: &[State<'grammar, L>],
     edges: &BTreeMap<K, StateIndex>,
@@ -73,7 +75,7 @@ fn lead_alike<'grammar, K: Ord, L>(
     true
 }
 
-// Whether a key leads to the same dotted productions as in the other edges, if they have it.
+// Whether a key leads to the same dotted productions as in the other map, if that has the key.
 fn leads_alike<'grammar, K: Ord, L>(
     states: &[State<'grammar, L>],
     key: &K,
@@ -88,14 +90,14 @@ fn leads_alike<'grammar, K: Ord, L>(
     }
 }
 
-// Whether two numbers have the same dotted productions.
+// Whether the states with two numbers have the same dotted productions.
 fn are_same_at<'grammar, L>(states: &[State<'grammar, L>], a: usize, b: usize) -> bool
     ensures { IsTrue result ↔ (dots_at states.now a ≡ dots_at states.now b) }
 {
     have_same_dots(items_at(states, a), items_at(states, b))
 }
 
-// The items of the state with a number, none where there is no such state.
+// The items of the state with a number, or none if there is no such state.
 fn items_at<'states, 'grammar, L>(
     states: &'states [State<'grammar, L>],
     number: usize,
@@ -109,7 +111,7 @@ fn items_at<'states, 'grammar, L>(
     }
 }
 
-// Whether two lists of items are of the same dotted productions.
+// Whether two lists of items have the same dotted productions in the same order.
 fn have_same_dots<'grammar, L>(a: &[Item<'grammar, L>], b: &[Item<'grammar, L>]) -> bool
     ensures { IsTrue result ↔ (dots a.now ≡ dots b.now) }
 {
@@ -124,7 +126,7 @@ fn have_same_dots<'grammar, L>(a: &[Item<'grammar, L>], b: &[Item<'grammar, L>])
     true
 }
 
-// Whether two items are of one dotted production.
+// Whether two items have the same dotted production.
 fn is_same_dot<'grammar, L>(a: &Item<'grammar, L>, b: &Item<'grammar, L>) -> bool
     ensures { IsTrue result ↔
         ((a.now.production ≡ b.now.production) × (a.now.index ≡ b.now.index)) }

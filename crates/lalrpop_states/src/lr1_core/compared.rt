@@ -1,4 +1,5 @@
-//! Items compare by production, then by dot, then by lookahead.
+//! The order of items: by production, then by the index of the dot, then by lookahead. Equality and
+//! hashing agree with it.
 ghost use Rattle.std.specs.Prelude.{◌≡◌, ◌==◌, ◌&&◌, ◌++◌};
 ghost use Rattle.std.specs.Ordering.{on, then_cmp, nat_cmp, eq_of_both, partial_ordering_then, as_partial_cmp};
 ghost use Rattle.std.specs.Cmp.Rules.{comparing, hashing};

@@ -11,8 +11,9 @@ use lalrpop_grammar::repr::{Production, TerminalString};
 use std::alloc::Global;
 use std::collections::BTreeMap;
 
-/// The conflicts of a state: for each terminal that is shifted, ascending, each reduction that
-/// holds it; then each two reductions that share a token.
+/// The conflicts of a state. First, for each shift, by rising terminal, there is a conflict with
+/// each reduction that holds the terminal. Then there is a conflict for each two reductions that
+/// share a token. `OutOfMemory` if an allocation fails.
 pub fn conflicts<'grammar>(
     alloc: Global,
     state: &Lr1State<'grammar>,
@@ -25,7 +26,7 @@ pub fn conflicts<'grammar>(
     Ok(list)
 }
 
-// The conflicts with a shift, then those of two reductions.
+// The conflicts of a shift and a reduction, and then those of two reductions.
 fn list_conflicts<'grammar>(
     alloc: Global,
     state: &Lr1State<'grammar>,
@@ -46,7 +47,7 @@ fn list_conflicts<'grammar>(
     Ok(list)
 }
 
-// Each shift with each reduction that holds its terminal.
+// Adds the conflicts of each shift with each reduction that holds its terminal.
 fn add_shift_conflicts<'grammar>(
     alloc: Global,
     list: &mut Vec<Lr1Conflict<'grammar>>,
@@ -65,7 +66,8 @@ fn add_shift_conflicts<'grammar>(
     Ok(())
 }
 
-// One shift with each reduction that holds the bit of its terminal, if it has one.
+// Adds the conflicts of a shift with each reduction that holds the bit of its terminal. Adds none
+// if the terminal has no bit.
 fn add_conflicts_on<'grammar>(
     alloc: Global,
     list: &mut Vec<Lr1Conflict<'grammar>>,
@@ -87,7 +89,7 @@ fn add_conflicts_on<'grammar>(
     Ok(())
 }
 
-// One shift with one reduction, if that holds the bit.
+// Adds the conflict of a shift with a reduction, if the reduction holds the bit.
 fn add_conflict_on<'grammar>(
     alloc: Global,
     list: &mut Vec<Lr1Conflict<'grammar>>,
@@ -112,7 +114,7 @@ fn add_conflict_on<'grammar>(
     Ok(())
 }
 
-// Each reduction with each later one that shares a token with it.
+// Adds the conflicts of each reduction with each later one that shares a token with it.
 fn add_reduce_conflicts<'grammar>(
     alloc: Global,
     list: &mut Vec<Lr1Conflict<'grammar>>,
@@ -129,7 +131,7 @@ fn add_reduce_conflicts<'grammar>(
     Ok(())
 }
 
-// One reduction with each later one that shares a token with it.
+// Adds the conflicts of a reduction with each later one that shares a token with it.
 fn add_later_conflicts<'grammar>(
     alloc: Global,
     list: &mut Vec<Lr1Conflict<'grammar>>,
@@ -146,7 +148,7 @@ fn add_later_conflicts<'grammar>(
     Ok(())
 }
 
-// Two reductions, if they share a token.
+// Adds the conflict of two reductions, if they share a token.
 fn add_conflict_of<'grammar>(
     alloc: Global,
     list: &mut Vec<Lr1Conflict<'grammar>>,

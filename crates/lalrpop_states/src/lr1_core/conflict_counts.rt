@@ -9,8 +9,8 @@ use lalrpop_grammar::repr::terminals::TerminalSet;
 use lalrpop_grammar::repr::{Production, TerminalString};
 use std::collections::BTreeMap;
 
-/// How many conflicts `conflicts` lists of the state, without the list and without any memory;
-/// `None` where the number is too large to tell.
+/// How many conflicts `conflicts` lists for the state. `None` if there are more than the greatest
+/// `usize`. Allocates nothing.
 pub fn conflict_count<'grammar>(
     state: &Lr1State<'grammar>,
     terminals: &TerminalSet,
@@ -23,7 +23,8 @@ pub fn conflict_count<'grammar>(
     shifts.checked_add(reduces)
 }
 
-// How many conflicts are with a shift.
+// How many conflicts are of a shift and a reduction. `None` if there are more than the greatest
+// `usize`.
 fn count_shift_conflicts<'grammar>(
     shifts: &BTreeMap<TerminalString, StateIndex>,
     reductions: &[(TokenSet, &'grammar Production)],
@@ -43,7 +44,7 @@ fn count_shift_conflicts<'grammar>(
     Some(count)
 }
 
-// How many reductions hold the bit of a terminal, if it has one.
+// How many reductions hold the bit of a terminal: none if the terminal has no bit.
 fn count_on_place<'grammar>(
     reductions: &[(TokenSet, &'grammar Production)],
     bit: Option<usize>,
@@ -66,7 +67,7 @@ fn count_on_bit<'grammar>(reductions: &[(TokenSet, &'grammar Production)], bit: 
         .count()
 }
 
-// How many conflicts are of two reductions.
+// How many conflicts are of two reductions. `None` if there are more than the greatest `usize`.
 fn count_reduce_conflicts<'grammar>(
     reductions: &[(TokenSet, &'grammar Production)],
 ) -> Option<usize>

@@ -1,4 +1,4 @@
-//! The edges of a state, one after another.
+//! An iterator over the edges of a state.
 ghost use Rattle.std.specs.Prelude.{◌≡◌, List};
 ghost use Rattle.std.specs.Iterator.{YieldsFirstBy, item_count};
 ghost use Rattle.lalrpop_states.specs.states.Edges.{Edge, seen_edge, state_edges};
@@ -9,7 +9,7 @@ use lalrpop_grammar::repr::{NonterminalString, TerminalString};
 use std::collections::btree_map;
 use std::marker::Model;
 
-/// The edges of a state that are still to come.
+/// An iterator over the edges of a state.
 #[derive(Drop)]
 pub struct Edges<'state> {
     shifts: btree_map::Iter<'state, TerminalString, StateIndex>,
@@ -26,7 +26,7 @@ impl<'state> Model for Edges<'state> {
 }
 
 impl<'grammar, L> State<'grammar, L> {
-    /// The shifts with their targets by rising terminal, then the gotos by rising name.
+    /// The edges of the state: the shifts by rising terminal, and then the gotos by rising name.
     pub fn edges(&self) -> Edges<'_>
         ensures edges { result ≡ state_edges self.now.shifts.entries self.now.gotos.entries }
     {

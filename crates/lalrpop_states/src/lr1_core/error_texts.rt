@@ -1,4 +1,4 @@
-//! What the errors of a construction print as.
+//! The texts of the errors of a construction.
 ghost use Rattle.std.specs.Prelude.{Some, length};
 ghost use Rattle.lalrpop_states.specs.conflicts.ErrorTexts.{build_error_text, conflicts_text};
 

@@ -1,4 +1,4 @@
-//! A production with a dot, and what may follow it.
+//! Items: productions with a dot and a lookahead.
 ghost use Rattle.std.specs.Prelude.{◌≡◌, ◌+◌, ◌-◌, ◌<◌, ◌≤◌, ◌==◌, ◌↔◌, ℕ, List, length, take, drop, IsTrue, IfOk, IfSome, IsNone, Some, None, slice_get, option_copied};
 ghost use Rattle.lalrpop_states.specs.states.Items.{Dotted};
 
@@ -10,7 +10,7 @@ use lalrpop_grammar::repr::{NonterminalString, Production, Symbol};
 use std::fmt;
 use std::marker::Model;
 
-/// A production, the place of the dot in it, and a lookahead.
+/// An item: a production, the number of its symbols before the dot, and a lookahead.
 #[derive(Drop)]
 pub struct Item<'grammar, L> {
     pub production: &'grammar Production,
@@ -30,8 +30,10 @@ impl<'grammar, L> Model for Item<'grammar, L> {
     ghost invariant = { λ i. i.index ≤ length i.production.now.symbols };
 }
 
+/// An item without lookahead.
 pub type Lr0Item<'grammar> = Item<'grammar, Nil>;
 
+/// An item whose lookahead is a set of tokens.
 pub type Lr1Item<'grammar> = Item<'grammar, TokenSet>;
 
 impl<'grammar, L> Item<'grammar, L> {
@@ -43,7 +45,7 @@ impl<'grammar, L> Item<'grammar, L> {
         &production.symbols.as_slice()[..self.index]
     }
 
-    /// The symbols behind the dot.
+    /// The symbols after the dot.
     pub fn rest(&self) -> &'grammar [Symbol]
         ensures { result.now ≡ drop self.now.index self.now.production.symbols }
     {
@@ -51,7 +53,7 @@ impl<'grammar, L> Item<'grammar, L> {
         &production.symbols.as_slice()[self.index..]
     }
 
-    /// The symbols before the dot, the one behind it and those that follow.
+    /// The symbols before the dot, the symbol after the dot, and the symbols after that one.
     pub fn symbol_sets(&self) -> SymbolSets<'grammar>
         ensures prefix { result.prefix.now ≡ take self.now.index self.now.production.symbols }
         ensures cursor { option_copied result.cursor ≡ slice_get self.now.production.symbols
@@ -72,7 +74,7 @@ impl<'grammar, L> Item<'grammar, L> {
         }
     }
 
-    /// The same production and dot with another lookahead.
+    /// The item with the same production and dot, and with the given lookahead.
     pub fn with_lookahead<M>(&self, lookahead: M) -> Item<'grammar, M>
         ensures production { result.production ≡ self.now.production }
         ensures index { result.index ≡ self.now.index }
@@ -85,7 +87,7 @@ impl<'grammar, L> Item<'grammar, L> {
         }
     }
 
-    /// Whether the nonterminal stands behind the dot.
+    /// Whether the symbol after the dot is the nonterminal.
     pub fn can_shift_nonterminal(&self, nonterminal: &NonterminalString) -> bool
         ensures { IsTrue result ↔ (slice_get self.now.production.symbols self.now.index ≡ Some
             (Symbol.Nonterminal nonterminal.now)) }
@@ -96,7 +98,7 @@ impl<'grammar, L> Item<'grammar, L> {
         }
     }
 
-    /// The symbol before the dot of an item whose dot moved.
+    /// The symbol before the dot. The dot must be past the start.
     pub fn shifted_symbol(&self) -> &'grammar Symbol
         requires { 0 < self.now.index }
         ensures { slice_get self.now.production.symbols (self.now.index - 1) ≡ Some result.now }
@@ -105,19 +107,21 @@ impl<'grammar, L> Item<'grammar, L> {
         &symbols[self.index - 1]
     }
 
+    /// Whether there is a symbol after the dot.
     pub fn can_shift(&self) -> bool
         ensures { IsTrue result ↔ (self.now.index < length self.now.production.symbols) }
     {
         self.index < self.production.symbols.len()
     }
 
+    /// Whether the item is finished: its dot is at the end.
     pub fn can_reduce(&self) -> bool
         ensures { IsTrue result ↔ (self.now.index ≡ length self.now.production.symbols) }
     {
         self.index == self.production.symbols.len()
     }
 
-    /// The symbol behind the dot, and those behind it.
+    /// The symbol after the dot, and the symbols after that one. `None` if the dot is at the end.
     pub fn shift_symbol(&self) -> Option<(&'grammar Symbol, &'grammar [Symbol])>
         ensures next { IfSome result
             (λ next. slice_get self.now.production.symbols self.now.index ≡ Some next.0.now) }
@@ -134,7 +138,7 @@ impl<'grammar, L> Item<'grammar, L> {
     }
 }
 
-// Whether a symbol is the nonterminal.
+// Whether the symbol is the nonterminal.
 fn is_nonterminal(symbol: &Symbol, nonterminal: &NonterminalString) -> bool
     ensures { IsTrue result ↔ (symbol.now ≡ Symbol.Nonterminal nonterminal.now) }
 {

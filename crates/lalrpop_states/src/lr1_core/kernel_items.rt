@@ -1,4 +1,4 @@
-//! Items as keys and in kernels: their `==` is exact.
+//! Items as keys and in kernels. Items for which `==` returns true are the same.
 ghost use Rattle.std.specs.Prelude.{◌≡◌};
 ghost use Rattle.lalrpop_states.specs.states.Items.{dotted_exact};
 ghost use Rattle.lalrpop_grammar.specs.contracts.repr.exact.ProductionExact.TheImpl.Laws.{exact-law as production_exact};

@@ -1,4 +1,4 @@
-//! Lists of items as kernels.
+//! Lists of items are kernels.
 ghost use Rattle.std.specs.Prelude.{◌≡◌};
 ghost use Rattle.lalrpop_collections.specs.lists.Exact.{list_exact};
 ghost use Rattle.lalrpop_states.specs.states.Items.{dotted_exact};

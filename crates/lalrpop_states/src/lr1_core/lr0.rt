@@ -15,11 +15,11 @@ pub type Lr0State<'grammar> = State<'grammar, Nil>;
 /// A conflict of a state without lookahead.
 pub type Lr0Conflict<'grammar> = Conflict<'grammar, Nil>;
 
-/// States without lookahead, and their conflicts.
+/// An error with states without lookahead and their conflicts.
 pub type Lr0TableConstructionError<'grammar> = TableConstructionError<'grammar, Nil>;
 
 impl<'grammar> Item<'grammar, Nil> {
-    /// The production with its dot at the index.
+    /// The item that is the production with the dot at the index.
     pub fn lr0(production: &'grammar Production, index: usize) -> Self
         requires { index ≤ length production.now.symbols }
         ensures { result ≡ record

@@ -1,4 +1,4 @@
-//! Places: dotted productions of states.
+//! Places: dotted productions in states.
 ghost use Rattle.std.specs.Prelude.{◌≡◌, ◌<◌, ◌-◌, ◌↔◌, IsTrue};
 ghost use Rattle.lalrpop_states.specs.check.CheckCarrying.{at_place};
 
@@ -7,7 +7,7 @@ use crate::lr1_core::item::{Item, Lr0Item};
 use lalrpop_collections::exact::Exact;
 use lalrpop_grammar::repr::NonterminalString;
 
-/// A dotted production of a state.
+/// A dotted production in the state with a number.
 #[derive(Drop, PartialEq, Eq, PartialOrd, Ord)]
 pub struct Place<'grammar> {
     pub state: usize,
@@ -24,6 +24,7 @@ impl<'grammar> Exact for Place<'grammar> {
 }
 
 impl<'grammar> Place<'grammar> {
+    /// An equal place.
     pub fn copy(&self) -> Place<'grammar>
         ensures { result ≡ self.now }
     {
@@ -33,13 +34,14 @@ impl<'grammar> Place<'grammar> {
         }
     }
 
+    /// Whether the dot is past the start.
     pub fn is_past_start(&self) -> bool
         ensures { IsTrue result ↔ (0 < self.now.item.index) }
     {
         self.item.index > 0
     }
 
-    /// The nonterminal of the production.
+    /// The nonterminal on the left side of the production.
     pub fn name(&self) -> &'grammar NonterminalString
         ensures { result.now ≡ self.now.item.production.nonterminal }
     {
@@ -47,7 +49,7 @@ impl<'grammar> Place<'grammar> {
         &production.nonterminal
     }
 
-    /// The same production in another state, with the dot one symbol before.
+    /// The place in the given state with the same production and the dot one symbol to the left.
     pub fn back_in(&self, state: usize) -> Place<'grammar>
         requires { 0 < self.now.item.index }
         ensures { result ≡ at_place state self.now.item.production (self.now.item.index - 1) }

@@ -10,7 +10,7 @@ use lalrpop_grammar::repr::{NonterminalString, Production, TerminalString};
 use std::collections::BTreeMap;
 use std::fmt::{self, Write};
 
-/// Writes a number in decimal digits, whatever the style.
+/// Writes a number in decimal digits. The style of the formatter has no effect.
 pub(super) fn write_decimal<W: fmt::Write>(f: &mut fmt::Formatter<W>, number: usize) -> fmt::Result
     ensures writes { WritesOnOk W.write_str_gives f.old result (decimal number) f.new }
     ensures styled { WritesStyledOnOk W.write_str_gives f.old result (decimal number) f.new }
@@ -20,7 +20,7 @@ pub(super) fn write_decimal<W: fmt::Write>(f: &mut fmt::Formatter<W>, number: us
     f.write_str(digits.as_str())
 }
 
-/// The number of a state.
+/// The number of a state: its index in the list of states.
 #[derive(Clone, Copy, PartialEq, Eq, PartialOrd, Ord, Hash)]
 pub struct StateIndex(pub usize);
 
@@ -50,7 +50,8 @@ pub struct Items<'grammar, L> {
     pub vec: Vec<Item<'grammar, L>>,
 }
 
-/// A state of a table.
+/// A state of a table: its number, its items, its shifts and gotos with their targets, and its
+/// reductions with their lookaheads.
 #[derive(Drop)]
 #[derive_where(Debug; L: fmt::Debug)]
 pub struct State<'grammar, L> {
@@ -61,18 +62,20 @@ pub struct State<'grammar, L> {
     pub gotos: BTreeMap<NonterminalString, StateIndex>,
 }
 
+/// The items of a state, with sets of tokens.
 pub type Lr1Items<'grammar> = Items<'grammar, TokenSet>;
 
+/// A state whose lookaheads are sets of tokens.
 pub type Lr1State<'grammar> = State<'grammar, TokenSet>;
 
-/// What a state does on a token.
+/// An action of a state: a shift of a terminal to a state, or a reduction by a production.
 #[derive(Debug, Drop, PartialEq, Eq, PartialOrd, Ord)]
 pub enum Action<'grammar> {
     Shift(TerminalString, StateIndex),
     Reduce(&'grammar Production),
 }
 
-/// Two actions on one lookahead.
+/// A conflict of a state: the reduction by the production and the action share the lookahead.
 #[derive(Debug, Drop, PartialEq, Eq)]
 pub struct Conflict<'grammar, L> {
     pub state: StateIndex,
@@ -81,9 +84,10 @@ pub struct Conflict<'grammar, L> {
     pub action: Action<'grammar>,
 }
 
+/// A conflict on a set of tokens.
 pub type Lr1Conflict<'grammar> = Conflict<'grammar, TokenSet>;
 
-/// The states of a table that has conflicts, and these.
+/// The states of a construction, and the conflicts that they have.
 #[derive(Drop)]
 #[derive_where(Debug; L: fmt::Debug)]
 pub struct TableConstructionError<'grammar, L> {
@@ -91,9 +95,10 @@ pub struct TableConstructionError<'grammar, L> {
     pub conflicts: Vec<Conflict<'grammar, L>>,
 }
 
+/// An error with states and conflicts over sets of tokens.
 pub type Lr1TableConstructionError<'grammar> = TableConstructionError<'grammar, TokenSet>;
 
-/// Why there is no table.
+/// The reason why there is no table: conflicts, or an allocation failure (`Memory`).
 #[derive(Drop)]
 #[derive_where(Debug; L: fmt::Debug)]
 pub enum BuildError<'grammar, L> {
@@ -101,8 +106,10 @@ pub enum BuildError<'grammar, L> {
     Memory,
 }
 
+/// The states of a table, or the reason why there is none.
 pub type LrResult<'grammar, L> = Result<Vec<State<'grammar, L>>, BuildError<'grammar, L>>;
 
+/// The states of a table with sets of tokens, or the reason why there is none.
 pub type Lr1Result<'grammar> = LrResult<'grammar, TokenSet>;
 
 impl<'grammar, L> From<OutOfMemory> for BuildError<'grammar, L> {

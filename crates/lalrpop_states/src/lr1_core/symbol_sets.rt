@@ -3,7 +3,7 @@ ghost use Rattle.std.specs.Prelude.{◌≡◌, [], None};
 
 use lalrpop_grammar::repr::Symbol;
 
-/// The symbols before the dot, the one behind it, and those that follow.
+/// The symbols before the dot, the symbol after the dot, and the symbols after that one.
 #[derive(Clone, Copy, Debug, PartialEq, Eq)]
 pub struct SymbolSets<'grammar> {
     pub prefix: &'grammar [Symbol],
@@ -12,7 +12,7 @@ pub struct SymbolSets<'grammar> {
 }
 
 impl<'grammar> SymbolSets<'grammar> {
-    /// No symbols at all.
+    /// A value without symbols.
     pub fn new() -> Self
         ensures prefix { result.prefix.now ≡ [] }
         ensures cursor { result.cursor ≡ None }

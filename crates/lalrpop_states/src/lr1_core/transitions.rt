@@ -1,4 +1,4 @@
-//! The transitions of a state: as they come, and in maps.
+//! The transitions of a state, as lists and as maps.
 ghost use Rattle.std.specs.Prelude.{IfOk, OnOk};
 ghost use Rattle.lalrpop_states.specs.construction.Transitions.{AreEdgesListed, IsEntryAdded, list_entries};
 
@@ -8,21 +8,22 @@ use lalrpop_grammar::repr::{NonterminalString, Symbol, TerminalString};
 use std::alloc::Global;
 use std::collections::BTreeMap;
 
-/// The transitions of a state.
+/// The transitions of a state, as maps.
 #[derive(Drop)]
 pub struct Transitions {
     pub shifts: BTreeMap<TerminalString, StateIndex>,
     pub gotos: BTreeMap<NonterminalString, StateIndex>,
 }
 
-/// Transitions, as they come.
+/// Transitions as lists, in the order in which they were added.
 #[derive(Drop)]
 pub struct TransitionLists {
     pub shifts: Vec<(TerminalString, StateIndex)>,
     pub gotos: Vec<(NonterminalString, StateIndex)>,
 }
 
-/// Puts a transition behind the others of its kind.
+/// Adds a transition after the others of its kind, which is shift or goto. `OutOfMemory` if an
+/// allocation fails.
 pub fn add_edge(
     symbol: Symbol,
     target: StateIndex,
@@ -42,7 +43,8 @@ pub fn add_edge(
     Ok(())
 }
 
-/// The transitions as maps. Of two over one symbol the later stands.
+/// The transitions as maps. If two are over the same symbol, the later one counts. `OutOfMemory` if
+/// an allocation fails.
 pub fn edge_maps(alloc: Global, lists: TransitionLists) -> Result<Transitions, OutOfMemory>
     ensures { IfOk result (AreEdgesListed lists) }
 {

@@ -1,4 +1,5 @@
-//! What the items of a state show of the stack and of what is to come.
+//! Summaries of the items of a state: symbols on top of the stack, symbols that are expected, and
+//! the nonterminal that will be produced.
 ghost use Rattle.std.specs.Prelude.{◌≡◌, ◌<◌, ◌↔◌, ℕ, length, map, slice_get, option_copied, IfOk, IfSome, IsNone, IsTrue, Some};
 ghost use Rattle.lalrpop_collections.specs.lists.Each.{EachItem};
 ghost use Rattle.lalrpop_states.specs.states.ViewFolds.{longer_of, shorter_of};
@@ -12,7 +13,8 @@ use lalrpop_grammar::repr::{NonterminalString, Symbol};
 use std::alloc::Global;
 
 impl<'grammar, L> State<'grammar, L> {
-    /// The last longest prefix of the items.
+    /// The longest list of symbols before a dot among the items, or the last of several longest
+    /// ones. The state must have an item.
     pub fn max_prefix(&self) -> &'grammar [Symbol]
         requires some { 0 < length self.now.items.vec.items }
         ensures longest { IsLastLongest (map prefix_of self.now.items.vec.items) result.now }
@@ -24,7 +26,8 @@ impl<'grammar, L> State<'grammar, L> {
         best
     }
 
-    /// The first shortest prefix of the items whose dot is past the start, else nothing.
+    /// The shortest list of symbols before the dot among the items whose dot is past the start, or
+    /// the first of several shortest ones. The list is empty if there is no such item.
     pub fn will_pop(&self) -> &'grammar [Symbol]
         ensures shortest { IsFirstShortestOrEmpty (map prefix_of (moved self.now.items.vec.items))
             result.now }
@@ -41,8 +44,8 @@ impl<'grammar, L> State<'grammar, L> {
         }
     }
 
-    /// The first shortest rest behind the dot of the items whose dot is past the start, else
-    /// nothing.
+    /// The shortest list of symbols after the dot among the items whose dot is past the start, or
+    /// the first of several shortest ones. The list is empty if there is no such item.
     pub fn will_push(&self) -> &'grammar [Symbol]
         ensures shortest { IsFirstShortestOrEmpty (map rest_of (moved self.now.items.vec.items))
             result.now }
@@ -59,7 +62,8 @@ impl<'grammar, L> State<'grammar, L> {
         }
     }
 
-    /// The nonterminal of the items whose dot is past the start, where it is one and the same.
+    /// The nonterminal that all items whose dot is past the start produce. `None` if they produce
+    /// several or there is no such item; `OutOfMemory` if an allocation fails.
     pub fn will_produce(&self, alloc: Global) -> Result<Option<NonterminalString>, OutOfMemory>
         ensures one { IfOk result (IsOneName (map name_of (moved self.now.items.vec.items))) }
     {
@@ -76,14 +80,15 @@ impl<'grammar, L> State<'grammar, L> {
     }
 }
 
-// The longer of two lists, the second where they are as long.
+// The longer of two lists, or the second if both have the same length.
 fn longer<'a>(best: &'a [Symbol], next: &'a [Symbol]) -> &'a [Symbol]
     ensures { result.now ≡ longer_of best.now next.now }
 {
     if next.len() < best.len() { best } else { next }
 }
 
-// The shorter of two lists, the first where they are as long.
+// The shorter of two lists, or the first if both have the same length. The result is the second
+// list if there is no first one.
 fn shorter<'a>(best: Option<&'a [Symbol]>, next: &'a [Symbol]) -> Option<&'a [Symbol]>
     ensures { option_copied result ≡ shorter_of (option_copied best.entry) next.now }
 {
@@ -99,7 +104,7 @@ fn shorter<'a>(best: Option<&'a [Symbol]>, next: &'a [Symbol]) -> Option<&'a [Sy
     }
 }
 
-// The first item whose dot is past the start.
+// The first item whose dot is past the start, if there is one.
 fn first_moved<'a, 'grammar, L>(items: &'a [Item<'grammar, L>]) -> Option<&'a Item<'grammar, L>>
     ensures found { IfSome result
         (λ item. (k : ℕ) × (slice_get items.now k ≡ Some item.now) × (0 < item.now.index)) }
@@ -113,7 +118,7 @@ fn first_moved<'a, 'grammar, L>(items: &'a [Item<'grammar, L>]) -> Option<&'a It
     None
 }
 
-// Whether all items whose dot is past the start produce one nonterminal.
+// Whether all items whose dot is past the start produce the nonterminal.
 fn have_name<'grammar, L>(items: &[Item<'grammar, L>], name: &NonterminalString) -> bool
     ensures { IsTrue result ↔ EachItem
         (λ item. 0 < item.index → item.production.nonterminal ≡ name.now) items.now }

@@ -1,4 +1,4 @@
--- What a construction of tables answers.
+-- The results of a construction of tables.
 pub mod ByLanes
 pub mod Lr1Answers
 pub mod TablesOrCount

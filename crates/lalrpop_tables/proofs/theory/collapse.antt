@@ -1,4 +1,4 @@
--- States merged where they have the same dotted productions.
+-- States of which those with the same dotted productions are merged.
 pub mod CollapseCanonical
 pub mod CollapseCoherent
 pub mod CollapseContents

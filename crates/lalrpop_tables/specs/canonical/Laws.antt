@@ -1,4 +1,5 @@
--- What the construction of states says with any lookahead, read with sets of tokens and without lookahead. Public functions state these laws.
+-- What the construction of states promises for any lookahead, stated with sets of tokens and
+-- without lookahead. Public functions state these laws.
 use Rattle.std.specs.Prelude.{ℕ, List}
 use Rattle.std.specs.BTreeMap.{IsOrdered}
 use Rattle.lalrpop_base.specs.Words.{Bits, AllDiffer, IsWellFormed, name_cmp, rules_of, productions_of}
@@ -15,33 +16,35 @@ use Rattle.lalrpop_construction.specs.canonical.CanonicalAnswers.{AreCanonicalTa
 use Rattle.lalrpop_construction.specs.contracts.construction.epsilon_moves.NilLookaheadBuild.TheImpl as nil_build
 use Rattle.lalrpop_construction.specs.contracts.construction.epsilon_moves.TokenSetLookaheadBuild.TheImpl as set_build
 
--- the grammar is well-formed, its names ascend in its map, and no terminal stands twice
+-- the grammar is well-formed, its names ascend in its map, and its terminals differ
 pub record IsKeptGrammar (g : Grammar) : Type 0 where
   pub well_formed : IsWellFormed g
   pub names : IsOrdered name_cmp g.nonterminals
   pub terminals : AllDiffer g.terminals
 
 -- ---- with sets of tokens
--- what the construction says of its states with sets of tokens, where Eof follows the start symbol
+-- the states are as the construction with sets of tokens promises, if Eof follows the start symbol
 abbrev pub AreSetTables : Grammar → NonterminalString → List (State Bits) → Type 0
 AreSetTables g start =
     AreTablesFor set_lookahead.ghosts.meaning set_build.ghosts.begins set_build.ghosts.passes
     set_lookahead.ghosts.lists_conflicts (canonical_of g start)
 
--- and of its error, after so many conflicts
+-- the error is as the construction with sets of tokens promises, with a stop after so many
+-- conflicts
 abbrev pub StopsWithSets : Grammar → NonterminalString → ℕ → BuildError Bits → Type 0
 StopsWithSets g start stop_after =
     StopsFor set_lookahead.ghosts.meaning set_build.ghosts.begins set_build.ghosts.passes
     set_lookahead.ghosts.lists_conflicts
     (record { construction = canonical_of g start; stop_after = stop_after })
 
--- such states are the tables of the canonical method
+-- states of the construction with sets of tokens are the tables of the canonical method
 abbrev pub SetTablesAreCanonical : Type 0
 SetTablesAreCanonical =
     (g : Grammar) (start : NonterminalString) → IsKeptGrammar g → (tables : List (State Bits)) →
     AreSetTables g start tables → AreCanonicalTables g start tables
 
--- such an error has the states and conflicts of a grammar for which there are no tables
+-- an error of the construction with sets of tokens has the states and conflicts of a grammar
+-- without tables
 abbrev pub SetErrorsAreCanonical : Type 0
 SetErrorsAreCanonical =
     (g : Grammar) (start : NonterminalString) (stop_after : ℕ) → IsKeptGrammar g →
@@ -54,47 +57,48 @@ abbrev pub lr0_of : Grammar → NonterminalString → Nil → Construction Nil
 lr0_of g start lookahead =
     record { rules = rules_of g; start = start; first = productions_of g start; lookahead = lookahead }
 
--- what it says of its states
+-- the states are as the construction without lookahead promises
 abbrev pub AreNilTables : Grammar → NonterminalString → Nil → List (State Nil) → Type 0
 AreNilTables g start lookahead =
     AreTablesFor nil_lookahead.ghosts.meaning nil_build.ghosts.begins nil_build.ghosts.passes
     nil_lookahead.ghosts.lists_conflicts (lr0_of g start lookahead)
 
--- and of its error, after so many conflicts
+-- the error is as the construction without lookahead promises, with a stop after so many conflicts
 abbrev pub StopsWithNil : Grammar → NonterminalString → Nil → ℕ → BuildError Nil → Type 0
 StopsWithNil g start lookahead stop_after =
     StopsFor nil_lookahead.ghosts.meaning nil_build.ghosts.begins nil_build.ghosts.passes
     nil_lookahead.ghosts.lists_conflicts
     (record { construction = lr0_of g start lookahead; stop_after = stop_after })
 
--- such states are the LR(0) states
+-- states of the construction without lookahead are the LR(0) states
 abbrev pub NilTablesAreLr0 : Type 0
 NilTablesAreLr0 =
     (g : Grammar) (start : NonterminalString) (lookahead : Nil) → IsKeptGrammar g →
     (tables : List (State Nil)) → AreNilTables g start lookahead tables →
     AreLr0States (rules_of g) start tables
 
--- and none has a conflict
+-- states of the construction without lookahead have no conflict
 abbrev pub NilTablesAreFree : Type 0
 NilTablesAreFree =
     (g : Grammar) (start : NonterminalString) (lookahead : Nil) (tables : List (State Nil)) →
     AreNilTables g start lookahead tables → HaveNoNilConflict tables
 
--- without early stop such an error has the LR(0) states
+-- without early stop, an error of the construction without lookahead has the LR(0) states
 abbrev pub NilErrorsHaveLr0 : Type 0
 NilErrorsHaveLr0 =
     (g : Grammar) (start : NonterminalString) (lookahead : Nil) → IsKeptGrammar g →
     (error : BuildError Nil) → StopsWithNil g start lookahead 0 error →
     HasLr0States (rules_of g) start error
 
--- with it, those that are made by then
+-- with early stop, an error of the construction without lookahead has the states that were made
+-- until the stop
 abbrev pub NilErrorsStop : Type 0
 NilErrorsStop =
     (g : Grammar) (start : NonterminalString) (lookahead : Nil) (stop_after : ℕ) →
     IsKeptGrammar g → (error : BuildError Nil) → StopsWithNil g start lookahead stop_after error →
     FailsAfterLr0 (rules_of g) start stop_after error
 
--- and their conflicts
+-- an error of the construction without lookahead lists the conflicts of its states
 abbrev pub NilErrorsListConflicts : Type 0
 NilErrorsListConflicts =
     (g : Grammar) (start : NonterminalString) (lookahead : Nil) (stop_after : ℕ)

@@ -1,4 +1,5 @@
--- States merged where they list the same dotted productions, as the code's states: the LALR tables that Aho, Sethi and Ullman, section 4.7, make of canonical ones.
+-- The code's states, of which those with the same dotted productions are merged: the LALR tables
+-- that Aho, Sethi and Ullman, section 4.7, make of canonical ones.
 use Rattle.std.specs.Prelude.{◌≡◌, ◌↔◌, ◌<◌, ℕ, List, map, length, slice_get, Some, Contains, IsTrue}
 use Rattle.std.specs.Borrow.{Bor}
 use Rattle.std.specs.BTreeMap.{BTreeMap, IsOrdered, get}
@@ -21,7 +22,7 @@ use Rattle.lalrpop_states.specs.grammars.Ascending.{production_order}
 use Rattle.lr1_theory.specs.renumbering.Renumbered.{number_in, retargeted}
 use Rattle.lalrpop_states.specs.conflicts.AllConflicts.{HaveNoConflict, AreAllConflicts}
 
--- the dotted productions of a state, as they stand
+-- the dotted productions of a state, in the order of its items
 abbrev pub dots_in : State Bits → List (Production × ℕ)
 dots_in s = dots s.items.vec.items
 
@@ -33,21 +34,24 @@ HoldsAt k bit s = (i : Dotted Bits) × (slice_get s.items.vec.items k ≡ Some i
 abbrev pub ReducesBy : Production → State Bits → Type 0
 ReducesBy p s = (r : Bits × Bor Production) × Contains s.reductions.items r × (r.1.now ≡ p)
 
--- and does so on the token with the bit
+-- the state reduces by the production on the token with the bit
 abbrev pub ReducesOn : Production → ℕ → State Bits → Type 0
 ReducesOn p bit s = (r : Bits × Bor Production) × Contains s.reductions.items r × (r.1.now ≡ p) × IsTrue (has r.0 bit)
 
--- the key leads to a state that has the target as its new number
+-- the key leads to a state whose new number is the target
 abbrev pub LeadsTo : {K : Type 0} → (K → K → Ordering) → (ℕ → ℕ) → BTreeMap K StateIndex → K → StateIndex → Type 0
 LeadsTo order new edges key target = (old : StateIndex) × (get order edges key ≡ Some old) × (target ≡ retargeted new old)
 
--- which states are merged is a parameter
+-- the parameter says which states are merged
 module _ (Member : State Bits → Type 0) where
-  -- one of them has the fact
+  -- one of the merged states has the property
   abbrev pub OfMember : (State Bits → Type 0) → Type 0
   OfMember P = (s : State Bits) × Member s × P s
 
-  -- the state is these merged, under the new numbers: their dotted productions, at each place with the tokens of all; the transitions of each, led to the new numbers; and one reduction for each production by which one of them reduces, with the tokens of all
+  -- the state is the merge of these states under the new numbers. It has their dotted productions,
+  -- with the tokens of all at each place. It has the transitions of each, to the new numbers of the
+  -- targets. It has one reduction for each production by which one of them reduces, with the tokens
+  -- of all
   pub record IsMerge (new : ℕ → ℕ) (number : ℕ) (merged : State Bits) : Type 0 where
     pub index : merged.index.0 ≡ number
     pub some : OfMember (λ _. Unit {0})
@@ -59,11 +63,12 @@ module _ (Member : State Bits → Type 0) where
     pub holds : (p : Production) (bit : ℕ) → ReducesOn p bit merged ↔ OfMember (ReducesOn p bit)
     pub ascend : IsStrictlySortedBy production_order (map (λ (r : Bits × Bor Production). r.1.now) merged.reductions.items)
 
--- a state of the list that has the new number
+-- the state is in the list, and its new number is the given one
 abbrev pub IsNumbered : (ℕ → ℕ) → List (State Bits) → ℕ → State Bits → Type 0
 IsNumbered new before number s = (n : ℕ) × (slice_get before n ≡ Some s) × (new n ≡ number)
 
--- the states of the second list are those of the first, merged where they list the same dotted productions, and numbered by their first appearance
+-- the second list has the states of the first, of which those with the same dotted productions are
+-- merged, numbered by their first appearance
 pub record IsCollapsed (before after : List (State Bits)) : Type 0 where
   pub numbers : List ℕ
   pub counted : length numbers ≡ length before
@@ -72,20 +77,21 @@ pub record IsCollapsed (before after : List (State Bits)) : Type 0 where
   pub one : (n m : ℕ) (a b : State Bits) → slice_get before n ≡ Some a → slice_get before m ≡ Some b → dots_in a ≡ dots_in b → number_in numbers n ≡ number_in numbers m
   pub each : (k : ℕ) (merged : State Bits) → slice_get after k ≡ Some merged → IsMerge (IsNumbered (number_in numbers) before k) (number_in numbers) k merged
 
--- the merged states have no conflict
+-- the tables are the merged states of a list, and have no conflict
 pub record AreCollapsedTables (terminals : List TerminalString) (before after : List (State Bits)) : Type 0 where
   pub collapsed : IsCollapsed before after
   pub free : HaveNoConflict terminals after
 
--- an error has the merged states and all their conflicts, of which there are some; want of memory says nothing
+-- an error has the merged states and all their conflicts, of which there is at least one; nothing
+-- is said of an allocation failure
 abbrev pub FailsByCollapse : List TerminalString → List (State Bits) → BuildError Bits → Type 0
 FailsByCollapse terminals before = IfConflicts (λ error. IsCollapsed before error.states.items × AreAllConflicts terminals error.states.items error.conflicts.items)
 
--- the shifts and gotos of the state ascend, no symbol twice
+-- the shifts and gotos of the state ascend, and no symbol is twice among either
 pub record IsOrderedState (s : State Bits) : Type 0 where
   pub shifts : IsOrdered terminal_ord.ghosts.cmp s.shifts
   pub gotos : IsOrdered name_cmp s.gotos
 
--- those of each state
+-- the shifts and gotos of each state ascend
 abbrev pub AreOrdered : List (State Bits) → Type 0
 AreOrdered states = EachItem IsOrderedState states

@@ -1,4 +1,4 @@
--- What the construction of tables answers, with the numbers of a table.
+-- The results of the construction of tables, under the numbers of tables.
 use Rattle.std.specs.Prelude.{◌≡◌, ◌<◌, ◌≤◌, ◌+◌, ℕ, List, length}
 use Rattle.lalrpop_base.specs.Words.{Bits, Rules, AreRenumbered, HaveNoConflict}
 use Rattle.lalrpop_construction.specs.Words.{Construction, AreTables, AreLr0States}
@@ -8,7 +8,7 @@ use Rattle.lalrpop_grammar.specs.declared.repr.NonterminalString.{NonterminalStr
 use Rattle.lalrpop_lane_states.specs.lane_states.LaneStates.{AreLaneTables, HaveFullItems}
 use Rattle.lalrpop_lane_states.specs.lane_states.Lr0Copies.{AreCopiedTables}
 
--- the tables that a construction makes, renumbered; there is a state, and none has a conflict
+-- the tables that a construction makes, renumbered; there is a state, and no state has a conflict
 pub record AreRenumberedTables (c : Construction Bits) (tables : List (State Bits)) : Type 0 where
   pub built : List (State Bits)
   pub made : AreTables c built
@@ -16,7 +16,8 @@ pub record AreRenumberedTables (c : Construction Bits) (tables : List (State Bit
   pub some : 0 < length tables
   pub free : HaveNoConflict c.rules.terminals tables
 
--- the lane tables of a grammar, renumbered; none has a conflict, each item holds all tokens, and there are as many as its LR(0) states
+-- the lane tables of a grammar, renumbered; no state has a conflict, each item holds all tokens,
+-- and there are as many states as LR(0) states
 pub record AreRenumberedLaneTables (g : Rules) (start : NonterminalString) (tables : List (State Bits)) : Type 0 where
   pub built : List (State Bits)
   pub lanes : AreLaneTables g start built
@@ -27,7 +28,8 @@ pub record AreRenumberedLaneTables (g : Rules) (start : NonterminalString) (tabl
   pub lr0 : AreLr0States g start bare
   pub counted : length tables ≡ length bare
 
--- LR(0) states of a grammar with at most so many copies, renumbered; none has a conflict, and each item holds all tokens
+-- LR(0) states of a grammar with at most so many copies, renumbered; no state has a conflict, and
+-- each item holds all tokens
 pub record AreRenumberedCopies (g : Rules) (start : NonterminalString) (copies : ℕ) (tables : List (State Bits)) : Type 0 where
   pub built : List (State Bits)
   pub copied : AreCopiedTables g start copies built

@@ -1,4 +1,4 @@
-//! A state joined to another with the same dotted productions.
+//! The join of a state with another that has the same dotted productions.
 ghost use Rattle.std.specs.Prelude.{◌≡◌, OnOk};
 ghost use Rattle.lalrpop_base.specs.Words.{joined_item, joined_at, joined_items, IsJoined};
 ghost use Rattle.lalrpop_states.specs.collapse.Merging.{Overlays};
@@ -19,7 +19,7 @@ fn join_item<'grammar>(
     Ok(())
 }
 
-// Adds the tokens of another item to the one at the place.
+// Adds the tokens of another item to the one at the place, if the list has that place.
 fn join_at<'grammar>(
     items: &mut [Lr1Item<'grammar>],
     place: usize,
@@ -33,7 +33,7 @@ fn join_at<'grammar>(
     Ok(())
 }
 
-// Adds the tokens of each item to the one at its place.
+// Adds the tokens of each item to the item at the same place.
 fn join_items<'grammar>(
     items: &mut [Lr1Item<'grammar>],
     others: &[Lr1Item<'grammar>],
@@ -46,7 +46,7 @@ fn join_items<'grammar>(
     Ok(())
 }
 
-// Adds the transitions of another state.
+// Adds the transitions of another state. They replace those by the same symbols.
 fn join_edges<K: Ord + Drop>(
     edges: &mut BTreeMap<K, StateIndex>,
     mut others: BTreeMap<K, StateIndex>,

@@ -24,7 +24,8 @@ fn bare_items<'grammar>(
     Ok(list)
 }
 
-/// The number of each state, by the first appearance of its dotted productions.
+/// The number of each state after the merge. States with the same dotted productions share a
+/// number. Numbers rise by first appearance.
 pub(super) fn merged_numbers<'grammar>(
     alloc: Global,
     states: &[Lr1State<'grammar>],

@@ -3,7 +3,7 @@ ghost use Rattle.lalrpop_tables.specs.collapse.Collapsed.{IsOrderedState, AreOrd
 
 use lalrpop_base::lr1_core::state::Lr1State;
 
-// A map's entries ascend; what reads the map learns it.
+// Changes nothing. Since both maps are read here, the proof knows that their keys ascend.
 fn read_order_of(state: &Lr1State)
     ensures { IsOrderedState state.now }
 {
@@ -11,7 +11,7 @@ fn read_order_of(state: &Lr1State)
     let _gotos = state.gotos.len();
 }
 
-/// Nothing is done: what a map's keys are in order is known where the map is read.
+/// Changes nothing. Since the maps of each state are read, the proof knows that their keys ascend.
 pub(super) fn read_order(states: &[Lr1State])
     ensures { AreOrdered states.now }
 {

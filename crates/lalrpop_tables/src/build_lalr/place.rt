@@ -1,4 +1,4 @@
-//! States placed by their numbers, each joined to those with the same number.
+//! States at the places of their numbers, each joined with those of the same number.
 ghost use Rattle.std.specs.Prelude.{IfOk, OnOk};
 ghost use Rattle.lalrpop_base.specs.Words.{Places, AreMoved, number_in};
 ghost use Rattle.lalrpop_states.specs.collapse.Merging.{ArePlaced};
@@ -9,7 +9,7 @@ use lalrpop_base::memory::OutOfMemory;
 use lalrpop_state_graph::renumber::renumber_state;
 use std::alloc::Global;
 
-// Joins a state to the one with its number, or puts it behind the others.
+// Joins a state with the one at its number, or appends it if there is none.
 fn place_state<'grammar>(
     state: Lr1State<'grammar>,
     merged: &mut Vec<Lr1State<'grammar>>,
@@ -24,7 +24,7 @@ fn place_state<'grammar>(
     Ok(())
 }
 
-/// The states, of which those with one number are joined.
+/// One state for each number: the join of the states with that number.
 pub(super) fn place_states<'grammar>(
     alloc: Global,
     states: Vec<Lr1State<'grammar>>,
@@ -38,7 +38,8 @@ pub(super) fn place_states<'grammar>(
     Ok(merged)
 }
 
-/// The states in their order, under the numbers.
+/// The states in their order. Their own numbers and those of their targets are replaced by new
+/// ones.
 pub(super) fn number_states<'grammar>(
     alloc: Global,
     states: Vec<Lr1State<'grammar>>,

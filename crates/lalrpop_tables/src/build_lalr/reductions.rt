@@ -15,7 +15,7 @@ type Reductions<'grammar> = Vec<(TokenSet, &'grammar Production)>;
 
 type TokensOf<'grammar> = Multimap<&'grammar Production, TokenSet>;
 
-// The tokens of each production.
+// The tokens of each production: the union over its reductions.
 fn tokens_of_productions<'grammar>(
     alloc: Global,
     reductions: Reductions<'grammar>,
@@ -29,7 +29,7 @@ fn tokens_of_productions<'grammar>(
     Ok(tokens_of)
 }
 
-// The productions with their tokens, ascending.
+// A reduction for each production, by ascending productions.
 fn list_reductions<'grammar>(
     alloc: Global,
     tokens_of: TokensOf<'grammar>,
@@ -43,7 +43,7 @@ fn list_reductions<'grammar>(
     Ok(list)
 }
 
-// One reduction for each production, ascending, with the tokens of all.
+// One reduction for each production, by ascending productions, with the union of its tokens.
 fn join_reductions<'grammar>(
     alloc: Global,
     reductions: Reductions<'grammar>,
@@ -54,7 +54,7 @@ fn join_reductions<'grammar>(
     list_reductions(alloc, tokens_of)
 }
 
-// A state with its reductions joined.
+// A state with one reduction for each production.
 fn reduce_state<'grammar>(
     alloc: Global,
     state: Lr1State<'grammar>,
@@ -77,7 +77,7 @@ fn reduce_state<'grammar>(
     })
 }
 
-/// The states with their reductions joined.
+/// The states, each with one reduction for each production.
 pub(super) fn reduce_states<'grammar>(
     alloc: Global,
     states: Vec<Lr1State<'grammar>>,

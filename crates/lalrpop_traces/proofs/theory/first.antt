@@ -1,2 +1,2 @@
--- FIRST, and how it is found.
+-- FIRST sets.
 pub mod FirstTokens

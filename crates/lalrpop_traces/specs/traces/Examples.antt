@@ -1,4 +1,5 @@
--- What a path of a trace graph spells. A path lists the numbers of its edges, innermost first.
+-- The example that a path of a trace graph spells. A path lists the numbers of its edges, the
+-- innermost first.
 use Rattle.std.specs.Prelude.{◌≡◌, ℕ, ◌-◌, ◌≤◌, List, [], ◌∷◌, ◌++◌, map, length, take, drop, slice_get, Option, Some, None, option_copied, Contains}
 use Rattle.lalrpop_grammar.specs.declared.repr.NonterminalString.{NonterminalString}
 use Rattle.lalrpop_grammar.specs.declared.repr.Production.{Production}
@@ -14,41 +15,44 @@ use Rattle.lalrpop_traces.specs.declared.trace.example.Reduction.{Reduction}
 use Rattle.lalrpop_traces.specs.declared.trace.example.ExampleSymbol.{ExampleSymbol}
 use Rattle.lalrpop_traces.specs.declared.trace.example.ExampleSymbol.TheVariants.{Symbol as SymbolOf, Epsilon}
 
--- the symbols that an edge pushes before its target, none where there is no edge
+-- the symbols of an edge before its target, none if there is no edge
 abbrev pub prefix_of : Option TraceGraphEdge → List Symbol
 prefix_of None = []
 prefix_of (Some e) = e.symbol_sets.prefix.now
 
--- the symbol of its target
+-- the symbol of an edge at its target, if there is one
 abbrev pub cursor_of : Option TraceGraphEdge → Option Symbol
 cursor_of None = None
 cursor_of (Some e) = option_copied e.symbol_sets.cursor
 
--- the symbols that it pushes behind its target
+-- the symbols of an edge after its target, none if there is no edge
 abbrev pub suffix_of : Option TraceGraphEdge → List Symbol
 suffix_of None = []
 suffix_of (Some e) = e.symbol_sets.suffix.now
 
--- the nonterminal to which a node reduces
+-- the nonterminal of a node
 abbrev pub name_of : TraceGraphNode → NonterminalString
 name_of (Nonterminal name) = name
 name_of (Item item) = item.production.nonterminal
 
--- the symbol at the place of an example, or the sign of a right side without symbols
+-- the cursor as a symbol of an example; without a cursor, `Epsilon` if the prefix is empty, else
+-- nothing
 abbrev pub place_of : Option Symbol → List Symbol → List ExampleSymbol
 place_of (Some x) prefix = SymbolOf x ∷ []
 place_of None [] = Epsilon ∷ []
 place_of None (x ∷ prefix) = []
 
+-- the cursor as a list, which is empty if there is none
 abbrev pub cursor_list : Option Symbol → List Symbol
 cursor_list None = []
 cursor_list (Some x) = x ∷ []
 
--- what an edge reduces
+-- the reduction of an edge from `start` to before `end`, none if there is no edge
 abbrev pub reduced_at : Option TraceGraphEdge → ℕ → ℕ → List Reduction
 reduced_at None start end = []
 reduced_at (Some e) start end = record { start = start; end = end; nonterminal = name_of e.from } ∷ []
 
+-- the nonterminal of the node from which an edge comes, if there is an edge
 abbrev pub reduced_name : Option TraceGraphEdge → Option NonterminalString
 reduced_name None = None
 reduced_name (Some e) = Some (name_of e.from)
@@ -62,17 +66,17 @@ module _ (graph : TraceGraph) where
   abbrev pub edge_of : ℕ → Option TraceGraphEdge
   edge_of k = slice_get graph.edges k
 
-  -- the prefixes, outermost first
+  -- the prefixes, the outermost first
   abbrev pub prefixes : List ℕ → List Symbol
   prefixes [] = []
   prefixes (k ∷ path) = prefixes path ++ prefix_of (edge_of k)
 
-  -- the suffixes, innermost first
+  -- the suffixes, the innermost first
   abbrev pub suffixes : List ℕ → List Symbol
   suffixes [] = []
   suffixes (k ∷ path) = suffix_of (edge_of k) ++ suffixes path
 
-  -- the innermost cursor, or the sign of a right side without symbols
+  -- the innermost cursor, or `Epsilon` for an empty right side
   abbrev pub place : List ℕ → List ExampleSymbol
   place [] = []
   place (k ∷ path) = place_of (cursor_of (edge_of k)) (prefix_of (edge_of k))
@@ -82,7 +86,7 @@ module _ (graph : TraceGraph) where
   innermost [] = []
   innermost (k ∷ path) = cursor_list (cursor_of (edge_of k))
 
-  -- what follows the place of the example: the innermost cursor, and the suffixes
+  -- the symbols from the place of the example on: the innermost cursor, and the suffixes
   abbrev pub following : List ℕ → List Symbol
   following path = innermost path ++ suffixes path
 
@@ -90,7 +94,8 @@ module _ (graph : TraceGraph) where
   abbrev pub spelled : List ℕ → List ExampleSymbol
   spelled path = map SymbolOf (prefixes path) ++ (place path ++ map SymbolOf (suffixes path))
 
-  -- the reductions of an example of so many symbols, innermost first, each from behind the prefixes to before the suffixes of the edges around it
+  -- the reductions of an example of so many symbols, the innermost first. Each reaches from after
+  -- the prefixes to before the suffixes of the edges around it
   abbrev pub reduced : ℕ → List ℕ → List Reduction
   reduced count [] = []
   reduced count (k ∷ path) = reduced_at (edge_of k) (length (prefixes path)) (count - length (suffixes path)) ++ reduced count path
@@ -109,13 +114,13 @@ pub record IsSameExample (example copy : Example) : Type 0 where
 
 -- ---- what an example derives
 
--- the symbols, where the sign of a right side without symbols reads as nothing
+-- the symbols without each `Epsilon`
 abbrev pub read : List ExampleSymbol → List Symbol
 read [] = []
 read (SymbolOf x ∷ symbols) = x ∷ read symbols
 read (Epsilon ∷ symbols) = read symbols
 
--- what stands from one place to before another
+-- the symbols from one place to before another
 abbrev pub between : List ExampleSymbol → ℕ → ℕ → List Symbol
 between symbols start end = read (take (end - start) (drop start symbols))
 
@@ -123,25 +128,29 @@ between symbols start end = read (take (end - start) (drop start symbols))
 abbrev pub IsRightSide : List Production → NonterminalString → List Symbol → Type 0
 IsRightSide productions name symbols = (p : Production) × Contains productions p × (p.nonterminal ≡ name) × (p.symbols ≡ symbols)
 
--- each reduction stands around the one before it; what it reduces, with that one's part replaced by its nonterminal, is a right side of its own nonterminal
+-- each reduction is around the one before it. Its symbols, with those of the inner one replaced by
+-- the inner nonterminal, are a right side of its own nonterminal
 abbrev pub ReduceAround : List Production → List ExampleSymbol → Reduction → List Reduction → Type 0
 ReduceAround productions symbols inner [] = Unit {0}
 ReduceAround productions symbols inner (r ∷ rs) =
     (r.start ≤ inner.start) × (inner.end ≤ r.end) × IsRightSide productions r.nonterminal (between symbols r.start inner.start ++ (NonterminalOf inner.nonterminal ∷ between symbols inner.end r.end)) × ReduceAround productions symbols r rs
 
--- the innermost reduction is of a right side of its nonterminal, and so is each around it
+-- the symbols of the innermost reduction are a right side of its nonterminal, and so on outwards
 abbrev pub ReduceAll : List Production → List ExampleSymbol → List Reduction → Type 0
 ReduceAll productions symbols [] = ⊥
 ReduceAll productions symbols (r ∷ rs) = (r.start ≤ r.end) × IsRightSide productions r.nonterminal (between symbols r.start r.end) × ReduceAround productions symbols r rs
 
--- for each reduction, what stands between its start and end, with the next inner one's part replaced by that one's nonterminal, is the right side of a production of its nonterminal
+-- the symbols of each reduction, with those of the next inner one replaced by the inner
+-- nonterminal, are a right side of its own nonterminal
 abbrev pub SpellsDerivation : List Production → Example → Type 0
 SpellsDerivation productions example = ReduceAll productions example.symbols.items example.reductions.items
 
--- an edge carries a right side of its source's nonterminal, and the nonterminal to which it leads, if it leads to one, is its cursor
+-- an edge carries a right side of its source's nonterminal. If it leads to a nonterminal, its
+-- cursor is that one
 pub record CarriesRightSide (productions : List Production) (e : TraceGraphEdge) : Type 0 where
   pub right_side : IsRightSide productions (name_of e.from) (e.symbol_sets.prefix.now ++ (cursor_list (option_copied e.symbol_sets.cursor) ++ e.symbol_sets.suffix.now))
   pub cursor : (name : NonterminalString) → e.to ≡ Nonterminal name → option_copied e.symbol_sets.cursor ≡ Some (NonterminalOf name)
 
+-- each of the edges carries a right side of its source's nonterminal
 abbrev pub CarryRightSides : List Production → List TraceGraphEdge → Type 0
 CarryRightSides productions edges = (k : ℕ) (e : TraceGraphEdge) → slice_get edges k ≡ Some e → CarriesRightSide productions e

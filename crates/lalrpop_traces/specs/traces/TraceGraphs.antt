@@ -1,4 +1,4 @@
--- The graph of a trace: its nodes, its edges, and those to each node.
+-- The graph of a trace: its nodes, its edges, and the edges to each node.
 use Rattle.std.specs.Prelude.{◌≡◌, ℕ, suc, List, [], ◌∷◌, ◌++◌, ◌⊎◌, map, cond, length, slice_get, Option, Some, None, Contains, option_copied}
 use Rattle.std.specs.BTreeMap.{BTreeMap}
 use Rattle.std.specs.declared.alloc.Global.{Global}
@@ -14,12 +14,13 @@ use Rattle.lalrpop_traces.specs.contracts.trace.node.TraceGraphNodePartialEq.The
 use Rattle.lalrpop_traces.specs.declared.trace.node.TraceGraphNode.{TraceGraphNode}
 use Rattle.lalrpop_traces.specs.declared.trace.trace_graph.TraceGraphEdge.{TraceGraphEdge}
 
--- a graph: its nodes in the order of their numbers, its edges in the order in which they were added
+-- a graph: its nodes in the order of their numbers, and its edges in the order in which they were
+-- added
 pub record Graph : Type 0 where
   pub nodes : List TraceGraphNode
   pub edges : List TraceGraphEdge
 
--- an edge as what it says: where it comes from, where it leads, and the symbols that it carries
+-- an edge as a value: the node from which it comes, the node to which it leads, and its symbols
 pub record PlainEdge : Type 0 where
   pub from : TraceGraphNode
   pub to : TraceGraphNode
@@ -27,12 +28,15 @@ pub record PlainEdge : Type 0 where
   pub cursor : Option Symbol
   pub suffix : List Symbol
 
+-- the value of an edge with these ends and labels
 abbrev pub plain_edge : TraceGraphNode → TraceGraphNode → SymbolSets → PlainEdge
 plain_edge from to labels = record { from = from; to = to; prefix = labels.prefix.now; cursor = option_copied labels.cursor; suffix = labels.suffix.now }
 
+-- the value of an edge
 abbrev pub plain : TraceGraphEdge → PlainEdge
 plain e = plain_edge e.from e.to e.symbol_sets
 
+-- the values of the edges of a graph
 abbrev pub plain_edges : Graph → List PlainEdge
 plain_edges graph = map plain graph.edges
 
@@ -40,21 +44,21 @@ plain_edges graph = map plain graph.edges
 abbrev pub HaveEnds : List TraceGraphNode → List TraceGraphEdge → Type 0
 HaveEnds nodes edges = (k : ℕ) (e : TraceGraphEdge) → slice_get edges k ≡ Some e → Contains nodes e.from × Contains nodes e.to
 
--- no node stands twice, no two edges say the same, and both ends of each edge are nodes
+-- no node is there twice, no two edges have one value, and both ends of each edge are nodes
 pub record IsGraph (graph : Graph) : Type 0 where
   pub nodes : AllDiffer graph.nodes
   pub edges : AllDiffer (plain_edges graph)
   pub ends : HaveEnds graph.nodes graph.edges
 
--- an edge comes from the node or leads to it
+-- an edge comes from the node, or leads to it
 abbrev pub IsEnd : List PlainEdge → TraceGraphNode → Type 0
 IsEnd edges n = (e : PlainEdge) × Contains edges e × ((e.from ≡ n) ⊎ (e.to ≡ n))
 
--- each value of the first list stands at its place in the second
+-- each value of the first list is at its place in the second
 abbrev pub KeepPlaces : {X : Type 0} → List X → List X → Type 0
 KeepPlaces {X} old new = (n : ℕ) (x : X) → slice_get old n ≡ Some x → slice_get new n ≡ Some x
 
--- two nodes were added in turn, each where it was none
+-- two nodes were added in turn, each if it was not there
 abbrev pub AddsBoth : List TraceGraphNode → List TraceGraphNode → TraceGraphNode → TraceGraphNode → Type 0
 AddsBoth old new from to = (middle : List TraceGraphNode) × AddsOnce old middle from × AddsOnce middle new to
 
@@ -62,7 +66,7 @@ AddsBoth old new from to = (middle : List TraceGraphNode) × AddsOnce old middle
 abbrev pub AddsNoOther : List TraceGraphNode → List TraceGraphNode → TraceGraphNode → TraceGraphNode → Type 0
 AddsNoOther old new from to = (n : TraceGraphNode) → Contains new n → Contains old n ⊎ ((n ≡ from) ⊎ (n ≡ to))
 
--- either an edge that says the same stood in the list, which stays, or the edge was put behind the others
+-- either an edge with the same value is in the list, which stays, or the edge was added at the end
 abbrev pub AddsEdge : List TraceGraphEdge → List TraceGraphEdge → TraceGraphEdge → Type 0
 AddsEdge old new e = (Contains (map plain old) (plain e) × (new ≡ old)) ⊎ ((¬ Contains (map plain old) (plain e)) × (new ≡ old ++ e ∷ []))
 
@@ -75,15 +79,16 @@ pub record IsKnownLabel (terminals : List TerminalString) (label : SymbolSets) :
 abbrev pub AreKnownEdges : List TerminalString → List TraceGraphEdge → Type 0
 AreKnownEdges terminals edges = (k : ℕ) (e : TraceGraphEdge) → slice_get edges k ≡ Some e → IsKnownLabel terminals e.symbol_sets
 
+-- the number of nodes of a graph
 abbrev pub node_count : Graph → ℕ
 node_count graph = length graph.nodes
 
--- the places of the edges to the node, if the first has the place n
+-- the places of the edges to the node, if the first edge of the list has the place n
 abbrev pub places_from : ℕ → TraceGraphNode → List TraceGraphEdge → List ℕ
 places_from n node [] = []
 places_from n node (e ∷ es) = cond (node_eq.ghosts.eq e.to node) (n ∷ places_from (suc n) node es) (places_from (suc n) node es)
 
--- the numbers of the edges to a node: their places, ascending
+-- the numbers of the edges to a node, which are their places, rising
 abbrev pub numbers_to : Graph → TraceGraphNode → List ℕ
 numbers_to graph node = places_from 0 node graph.edges
 
@@ -92,11 +97,11 @@ abbrev pub numbers_to_source : Graph → Option TraceGraphEdge → List ℕ
 numbers_to_source graph None = []
 numbers_to_source graph (Some e) = numbers_to graph e.from
 
--- the same by the number of the edge
+-- the numbers of the edges to the source of the edge with the number
 abbrev pub numbers_from : Graph → ℕ → List ℕ
 numbers_from graph edge = numbers_to_source graph (slice_get graph.edges edge)
 
--- the labels are of the same symbols
+-- the labels have the same symbols
 pub record SameLabels (a b : SymbolSets) : Type 0 where
   pub prefix : a.prefix.now ≡ b.prefix.now
   pub cursor : option_copied a.cursor ≡ option_copied b.cursor
@@ -106,7 +111,8 @@ pub record SameLabels (a b : SymbolSets) : Type 0 where
 abbrev pub IsFrom : TraceGraphNode → SymbolSets → TraceGraphEdge → Type 0
 IsFrom from labels e = (e.from ≡ from) × SameLabels e.symbol_sets labels
 
--- how a graph is kept: a map of the nodes' numbers, the edges, and a map of the places of the edges to each node
+-- the parts of a graph: a map of the numbers of the nodes, the edges, and a map of the places of
+-- the edges to each node
 pub record IsKept (numbers : BTreeMap TraceGraphNode ℕ) (nodes : List TraceGraphNode) (edges : List TraceGraphEdge) (incoming : List (TraceGraphNode × Vec ℕ Global)) : Type 0 where
   pub numbered : IsNumbering node_ord.ghosts.cmp numbers []
   pub places : (node : TraceGraphNode) → listed (collection_at node_ord.ghosts.cmp incoming node) ≡ places_from 0 node edges

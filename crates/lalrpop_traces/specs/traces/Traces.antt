@@ -1,4 +1,5 @@
--- Backtraces: the nonterminals that are met on the way back from an item, and the edges that the items on the way give.
+-- Backtraces: the nonterminals that are met on the way back from an item, and the edges that the
+-- items on the way give.
 use Rattle.std.specs.Prelude.{◌≡◌, ◌↔◌, ℕ, ◌+◌, List, take, drop, slice_get, Some, Contains}
 use Rattle.lalrpop_base.specs.Words.{Bits, IsNullable, Dotted, Rules, HasKnownTerminals}
 use Rattle.lalrpop_states.specs.declared.lookahead.nil.Nil.{Nil}
@@ -15,7 +16,8 @@ use Rattle.lalrpop_traces.specs.declared.trace.ground.Traced.TheVariants.{Shift,
 use Rattle.lalrpop_traces.specs.declared.trace.node.TraceGraphNode.{TraceGraphNode}
 use Rattle.lalrpop_traces.specs.declared.trace.node.TraceGraphNode.TheVariants.{Nonterminal as NameNode, Item as ItemNode}
 
--- what is traced back: a shift or a reduction, by an item in a state, among states over the productions of a grammar
+-- a backtrace of a shift or a reduction, by an item in a state, among states over the productions
+-- of a grammar
 pub record Backtrace : Type 0 where
   pub traced : Traced
   pub productions : List Production
@@ -23,11 +25,11 @@ pub record Backtrace : Type 0 where
   pub state : StateIndex
   pub item : Dotted Nil
 
--- how a shift is traced back
+-- the backtrace of a shift
 abbrev pub shift_traced : List Production → List (State Bits) → StateIndex → Dotted Nil → Backtrace
 shift_traced productions states state item = record { traced = Shift; productions = productions; states = states; state = state; item = item }
 
--- how a reduction is
+-- the backtrace of a reduction
 abbrev pub reduction_traced : List Production → List (State Bits) → StateIndex → Dotted Nil → Backtrace
 reduction_traced productions states state item = record { traced = Reduce; productions = productions; states = states; state = state; item = item }
 
@@ -35,24 +37,25 @@ reduction_traced productions states state item = record { traced = Reduce; produ
 abbrev pub Meeting : Type 0
 Meeting = StateIndex × NonterminalString
 
--- a production with its dot, without a lookahead
+-- a dotted production, without a lookahead
 abbrev pub dotted : Production → ℕ → Dotted Nil
 dotted p index = record { production = p; index = index; lookahead = record {} }
 
--- an edge that carries the symbols around the dot of a production
+-- an edge with the symbols around the dot of a production
 abbrev pub dot_edge : TraceGraphNode → TraceGraphNode → Production → ℕ → PlainEdge
 dot_edge from to p index = record { from = from; to = to; prefix = take index p.symbols; cursor = slice_get p.symbols index; suffix = drop (index + 1) p.symbols }
 
--- the edge to an item from its nonterminal
+-- the edge to an item from its own nonterminal
 abbrev pub own_edge : Production → ℕ → PlainEdge
 own_edge p index = dot_edge (NameNode p.nonterminal) (ItemNode (dotted p index)) p index
 
--- where a shift is traced, an item with its dot at the start goes on; where a reduction is, one goes on if what follows the symbol behind its dot derives the empty list
+-- the trace goes on from an item. If a shift is traced, the dot is at the start. If a reduction is
+-- traced, the symbols after the one after the dot derive the empty list
 abbrev pub GoesOnBy : Traced → List Production → Dotted Bits → Type 0
 GoesOnBy Shift productions item = item.index ≡ 0
 GoesOnBy Reduce productions item = IsNullable productions (drop (item.index + 1) item.production.symbols)
 
--- the item stands in the state
+-- the item is in the state
 abbrev pub StandsIn : List (State Bits) → StateIndex → Dotted Bits → Type 0
 StandsIn states n item = (state : State Bits) × (slice_get states n.0 ≡ Some state) × Contains state.items.vec.items item
 
@@ -66,34 +69,42 @@ abbrev pub HasOwnTerminals : Rules → Type 0
 HasOwnTerminals g = (p : Production) → Contains g.productions p → HasKnownTerminals g.terminals p.symbols
 
 module _ (b : Backtrace) where
-  -- the item stands in the state, with the nonterminal behind its dot
+  -- the item is in the state, with the nonterminal after its dot
   abbrev pub Takes : Meeting → Dotted Bits → Type 0
   Takes m item = StandsIn b.states m.0 item × (slice_get item.production.symbols item.index ≡ Some (Nonterminal m.1))
 
+  -- the trace goes on from the item
   abbrev pub GoesOn : Dotted Bits → Type 0
   GoesOn item = GoesOnBy b.traced b.productions item
 
-  -- the production's nonterminal, in a state from which the symbols before the dot lead to the state of the item
+  -- the nonterminal is that of the production, in a state from which the symbols before the dot
+  -- lead to the state of the item
   abbrev pub IsSource : Production → ℕ → StateIndex → Meeting → Type 0
   IsSource p index state m = (m.1 ≡ p.nonterminal) × LeadsTo (edges b.states) m.0 (take index p.symbols) state
 
-  -- met is the nonterminal of the traced item in each state from which its prefix leads to the traced state; and where an item takes a nonterminal that was met, and goes on, the nonterminal of the item in each state from which its prefix leads there
+  -- the nonterminal of the traced item is met in each state from which the symbols before its dot
+  -- lead to the traced state. Let an item take a nonterminal that was met, and let the trace go on
+  -- from it. Then its own nonterminal is met in each state from which the symbols before its dot
+  -- lead there
   pub data IsMet : Meeting → Type 0 where
     begins : {m : Meeting} → IsSource b.item.production b.item.index b.state m → IsMet m
     goes_on : {m n : Meeting} {item : Dotted Bits} → IsMet m → Takes m item → GoesOn item → IsSource item.production item.index m.0 n → IsMet n
 
-  -- an item that takes a nonterminal and goes on gives an edge from its own nonterminal to that one, and where a reduction is traced the edge to itself from its own; one that stops gives an edge from itself to the nonterminal
+  -- an item from which the trace goes on gives an edge from its own nonterminal to the one that it
+  -- takes. If a reduction is traced, it gives the edge to itself from its own nonterminal, too. Any
+  -- other item gives an edge from itself to the nonterminal that it takes
   pub data Gives (name : NonterminalString) (item : Dotted Bits) (e : PlainEdge) : Type 0 where
     onward : GoesOn item → e ≡ dot_edge (NameNode item.production.nonterminal) (NameNode name) item.production item.index → Gives name item e
     itself : GoesOn item → b.traced ≡ Reduce → e ≡ own_edge item.production item.index → Gives name item e
     stops : ¬ GoesOn item → e ≡ dot_edge (ItemNode (dotted item.production item.index)) (NameNode name) item.production item.index → Gives name item e
 
-  -- the edge to the traced item from its nonterminal, and those that the items give which take a nonterminal that was met
+  -- the edge is the one to the traced item from its own nonterminal, or is given by an item that
+  -- takes a nonterminal that was met
   pub data IsTraced (e : PlainEdge) : Type 0 where
     first : e ≡ own_edge b.item.production b.item.index → IsTraced e
     given : (m : Meeting) (item : Dotted Bits) → IsMet m → Takes m item → Gives m.1 item e → IsTraced e
 
--- the graph has exactly the edges of the backtrace, each once, and exactly the ends of these are its nodes
+-- the graph has exactly the edges of the backtrace, each once, and exactly their ends as its nodes
 pub record IsTraceOf (b : Backtrace) (graph : Graph) : Type 0 where
   pub exactly : (e : PlainEdge) → Contains (plain_edges graph) e ↔ IsTraced b e
   pub nodes : (n : TraceGraphNode) → Contains graph.nodes n ↔ IsEnd (plain_edges graph) n

@@ -1,4 +1,4 @@
-//! The paths back from an item to the first item, one by one.
+//! The paths from an item back to the first item that they meet, one by one.
 ghost use Rattle.std.specs.Prelude.{◌≡◌, ◌⊎◌, ◌+◌, ◌<◌, ◌≤◌, length, true, false, [], ◌∷◌, ◌++◌, IfSome, IsNone, IfOk, OnOk, OnErr, List, slice_get};
 ghost use Rattle.std.specs.Iterator.{at_most};
 ghost use Rattle.lalrpop_traces.specs.traces.Examples.{IsExampleOf, SpellsDerivation, CarryRightSides, path_of, following};
@@ -25,8 +25,9 @@ pub(crate) struct EnumeratorState {
     pub(crate) left: usize,
 }
 
-/// A walk backwards over the edges of a graph, newest first, which stands at a path from an item
-/// back to the first item, or at its end. On the way no nonterminal is passed twice.
+/// A walk backwards over the edges of a graph, the newest first. It has a current path from an item
+/// back to the first item, or is at its end. A path passes no nonterminal twice. The iterator gives
+/// the examples of the paths.
 #[derive(Drop)]
 pub struct PathEnumerator<'graph, 'grammar> {
     alloc: Global,
@@ -62,8 +63,8 @@ impl<'graph, 'grammar> PathEnumerator<'graph, 'grammar> {
         Ok(walk)
     }
 
-    /// Goes on to the next path, and tells whether there is one. After want of memory the walk is
-    /// at its end.
+    /// Goes on to the next path. The result is whether there is one. After an allocation failure
+    /// the walk is at its end.
     pub fn advance(&mut self) -> Result<bool, OutOfMemory>
         ensures graph { self.new.graph.now ≡ self.old.graph.now }
         ensures start { self.new.start ≡ self.old.start }
@@ -86,7 +87,7 @@ impl<'graph, 'grammar> PathEnumerator<'graph, 'grammar> {
         Ok(false)
     }
 
-    /// Whether there is a path.
+    /// Whether the walk has a current path.
     pub fn found_trace(&self) -> bool
         ensures ended { result ≡ false → IsEnded self.now }
         ensures standing { result ≡ true → IsEnded self.now → ⊥ }
@@ -94,7 +95,7 @@ impl<'graph, 'grammar> PathEnumerator<'graph, 'grammar> {
         !self.stack.is_empty()
     }
 
-    // Whether there is a path to pass over, and no refused growth to tell.
+    // Whether the walk has a current path, and no allocation failure to report.
     pub(crate) fn can_skip(&self) -> bool
         ensures ready { result ≡ true → self.now.refused ≡ false }
         ensures standing { result ≡ true → IsEnded self.now → ⊥ }
@@ -106,7 +107,7 @@ impl<'graph, 'grammar> PathEnumerator<'graph, 'grammar> {
         self.found_trace()
     }
 
-    // The next edge to the newest node that has one left.
+    // The next edge that is left. Nodes to which no edge is left are popped.
     fn next_edge(&mut self) -> Option<usize>
         ensures graph { self.new.graph.now ≡ self.old.graph.now }
         ensures refused { self.new.refused ≡ self.old.refused }
@@ -130,7 +131,7 @@ impl<'graph, 'grammar> PathEnumerator<'graph, 'grammar> {
         }
     }
 
-    // The number of the edge at the place of those left.
+    // The number of the edge to the newest node at the place `left`.
     fn number(&self) -> Option<usize>
         ensures { result ≡ slice_get
             (numbers_at self.now.graph.now self.now.start (frames self.now)) self.now.left }
@@ -141,8 +142,8 @@ impl<'graph, 'grammar> PathEnumerator<'graph, 'grammar> {
         }
     }
 
-    // Takes an edge, and tells whether it comes from an item. Past a nonterminal that was passed it
-    // does not go.
+    // Takes an edge. The result is whether the edge comes from an item, which completes a path. An
+    // edge from a nonterminal that was passed is not taken.
     fn take(&mut self, number: usize) -> Result<bool, OutOfMemory>
         ensures graph { self.new.graph.now ≡ self.old.graph.now }
         ensures refused { self.new.refused ≡ self.old.refused }
@@ -169,7 +170,7 @@ impl<'graph, 'grammar> PathEnumerator<'graph, 'grammar> {
         Ok(false)
     }
 
-    // Whether the source of an edge was passed, or as many nodes as there are.
+    // Whether the path has passed the source of an edge, or as many nodes as the graph has.
     fn passes(&self, number: usize) -> bool
         ensures room { result ≡ false → length (frames self.now) < node_count self.now.graph.now }
         ensures new { result ≡ false →
@@ -189,8 +190,8 @@ impl<'graph, 'grammar> PathEnumerator<'graph, 'grammar> {
         false
     }
 
-    // Puts an edge on the stack, with none left behind it. After want of memory the walk is at its
-    // end.
+    // Pushes an edge on the stack, with no edge left to its source. After an allocation failure the
+    // walk is at its end.
     fn enter(&mut self, number: usize) -> Result<(), OutOfMemory>
         ensures graph { self.new.graph.now ≡ self.old.graph.now }
         ensures refused { self.new.refused ≡ self.old.refused }
@@ -214,7 +215,7 @@ impl<'graph, 'grammar> PathEnumerator<'graph, 'grammar> {
         Ok(())
     }
 
-    /// Leaves nothing to come.
+    /// Ends the walk: no path is left.
     pub(crate) fn stop(&mut self)
         ensures graph { self.new.graph.now ≡ self.old.graph.now }
         ensures start { self.new.start ≡ self.old.start }
@@ -228,7 +229,8 @@ impl<'graph, 'grammar> PathEnumerator<'graph, 'grammar> {
         self.stack.clear();
     }
 
-    /// The tokens with which what follows the place of the path can begin.
+    /// FIRST of the symbols from the cursor of the path's example on. The error is `OutOfMemory` if
+    /// an allocation fails.
     pub fn first0(
         &self,
         alloc: Global,
@@ -241,7 +243,7 @@ impl<'graph, 'grammar> PathEnumerator<'graph, 'grammar> {
         first_of(alloc, first_sets, self.graph, &self.stack)
     }
 
-    /// The example that the path spells.
+    /// The example that the path spells. The error is `OutOfMemory` if an allocation fails.
     pub fn example(&self, alloc: Global) -> Result<Example, OutOfMemory>
         ensures spelled { IfOk result
             (IsExampleOf self.now.graph.now (path_of self.now.stack.items)) }
@@ -253,8 +255,8 @@ impl<'graph, 'grammar> PathEnumerator<'graph, 'grammar> {
         example_of(alloc, self.graph, &self.stack)
     }
 
-    /// The next example. A refused growth is told in the place of the first example that it kept
-    /// from being made.
+    /// The next example. An allocation failure is reported in the place of the first example that
+    /// it kept from being made.
     pub(crate) fn next_example(&mut self) -> Option<Result<Example, OutOfMemory>>
         ensures graph { self.new.graph.now ≡ self.old.graph.now }
         ensures next { GivesNext self.old result self.new }
@@ -278,7 +280,7 @@ impl<'graph, 'grammar> PathEnumerator<'graph, 'grammar> {
         Some(example)
     }
 
-    /// Goes on to the next path, and remembers a refused growth.
+    /// Goes on to the next path. An allocation failure is remembered, and reported later.
     pub(crate) fn skip_path(&mut self)
         requires ready { self.old.refused ≡ false }
         requires standing { IsEnded self.old → ⊥ }

@@ -1,4 +1,4 @@
-//! The paths that can go on with one of some tokens.
+//! The paths whose examples can go on with one of some tokens.
 ghost use Rattle.std.specs.Prelude.{◌≡◌, false, IsTrue, IsFalse, IfOk};
 ghost use Rattle.std.specs.Iterator.{at_most};
 ghost use Rattle.lalrpop_traces.specs.traces.TraceGraphs.{AreKnownEdges};
@@ -15,7 +15,7 @@ use lalrpop_base::lr1_core::item::Lr1Item;
 use lalrpop_base::memory::OutOfMemory;
 use std::alloc::Global;
 
-/// The examples whose first tokens meet a lookahead.
+/// The examples that can go on, from their cursor, with a token of a lookahead.
 #[derive(Drop)]
 pub struct FilteredPathEnumerator<'graph, 'grammar> {
     alloc: Global,
@@ -48,7 +48,7 @@ impl<'graph, 'grammar> FilteredPathEnumerator<'graph, 'grammar> {
         })
     }
 
-    // Whether the path can go on with a token of the lookahead.
+    // Whether the example of the current path can go on with a token of the lookahead.
     fn fits(&self) -> Result<bool, OutOfMemory>
         requires known { AreKnownEdges self.now.first_sets.now.terminals
             self.now.base.graph.now.edges }

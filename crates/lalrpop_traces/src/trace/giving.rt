@@ -1,4 +1,4 @@
-//! The edges that an item gives.
+//! The edges that a trace adds for an item.
 ghost use Rattle.std.specs.Prelude.{◌≡◌, ◌+◌, ◌↔◌, ◌∷◌, [], IsTrue, true, false, OnOk, IfOk, drop};
 ghost use Rattle.lalrpop_base.specs.Words.{IsNullable};
 ghost use Rattle.lalrpop_traces.specs.traces.Traces.{dotted, dot_edge, own_edge, GoesOn};
@@ -14,7 +14,7 @@ use lalrpop_base::memory::OutOfMemory;
 use lalrpop_base::repr::NonterminalString;
 use std::alloc::Global;
 
-/// Adds the edge to an item from its nonterminal.
+/// Adds the edge to an item from its own nonterminal.
 pub(crate) fn add_own<'grammar, L>(
     alloc: Global,
     graph: &mut TraceGraph<'grammar>,
@@ -27,7 +27,8 @@ pub(crate) fn add_own<'grammar, L>(
     add_dotted(graph, from, node_of(item), item)
 }
 
-/// Adds the edges of an item that shifts a nonterminal, and tells whether it goes on.
+/// Adds the edges of an item that shifts a nonterminal. The result is whether the trace goes on
+/// from it.
 pub(crate) fn add_shifting<'grammar>(
     alloc: Global,
     trace: &Trace<'_, '_, 'grammar>,
@@ -89,7 +90,8 @@ fn node_of<'grammar, L>(item: &Item<'grammar, L>) -> TraceGraphNode<'grammar>
     TraceGraphNode::Item(item.to_lr0())
 }
 
-// Whether nothing was read before the nonterminal behind the dot, or nothing need come behind it.
+// Whether the trace goes on from an item. If a shift is traced, the dot must be at the start. If a
+// reduction is traced, the symbols after the nonterminal after the dot must derive the empty list.
 fn goes_on<'grammar>(
     alloc: Global,
     trace: &Trace<'_, '_, 'grammar>,

@@ -1,4 +1,4 @@
-//! What a trace goes over.
+//! The states and sets that a trace reads.
 ghost use Rattle.lalrpop_state_graph.specs.Words.{edges, IsGraphOf};
 
 use lalrpop_base::first::FirstSets;
@@ -13,7 +13,7 @@ pub(crate) enum Traced {
     Reduce,
 }
 
-/// States with their graph, and the first sets of the grammar.
+/// States with their graph, and the FIRST sets of the grammar.
 #[derive(Drop)]
 pub(crate) struct Ground<'trace, 'grammar> {
     pub(crate) states: &'trace [Lr1State<'grammar>],

@@ -10,7 +10,7 @@ use lalrpop_base::repr::Symbol;
 use lalrpop_base::repr::terminals::TerminalSet;
 
 impl<'grammar> TraceGraph<'grammar> {
-    /// Whether each terminal of a cursor or a suffix is in the set.
+    /// Whether each terminal of the cursors and suffixes of the edges is in the set.
     pub fn is_known(&self, terminals: &TerminalSet) -> bool
         ensures { IsTrue result ↔ AreKnownEdges terminals.now self.now.edges }
     {
@@ -33,7 +33,7 @@ fn is_known_label(terminals: &TerminalSet, labels: SymbolSets) -> bool
     are_known(terminals, labels.suffix)
 }
 
-// Whether a symbol that is there and a terminal is in the set.
+// Whether the symbol is in the set, if there is one and it is a terminal.
 fn is_known_cursor(terminals: &TerminalSet, cursor: Option<&Symbol>) -> bool
     ensures { IsTrue result ↔ ((t : TerminalString) →
         option_copied cursor.entry ≡ Some (Symbol.Terminal t) →
@@ -45,7 +45,7 @@ fn is_known_cursor(terminals: &TerminalSet, cursor: Option<&Symbol>) -> bool
     }
 }
 
-// Whether a symbol that is a terminal is in the set.
+// Whether the symbol is in the set, if it is a terminal.
 fn is_known(terminals: &TerminalSet, symbol: &Symbol) -> bool
     ensures { IsTrue result ↔ HasKnownTerminals terminals.now (symbol.now ∷ []) }
 {

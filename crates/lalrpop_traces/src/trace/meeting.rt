@@ -1,4 +1,4 @@
-//! The nonterminals that a trace meets in each state, depth first, with its own stack.
+//! A depth first walk over the nonterminals that a trace meets in states, with a stack of its own.
 ghost use Rattle.std.specs.Prelude.{◌≡◌, ◌+◌, ◌∷◌, [], ◌++◌, Contains, OnOk, IfOk, length, map, drop, slice_get};
 ghost use Rattle.lalrpop_traces.specs.traces.Traces.{Backtrace, Meeting, Takes, IsTraceOf};
 ghost use Rattle.lalrpop_traces.specs.traces.TraceOrder.{come_to, take_up, take_up_each, items_at, IsInOrder};
@@ -14,23 +14,23 @@ use lalrpop_base::repr::NonterminalString;
 use std::alloc::Global;
 use std::collections::BTreeSet;
 
-/// What a trace has met.
+/// The graph that a trace has made so far, and the nonterminals that it has met in states.
 #[derive(Drop)]
 pub(crate) struct Met<'grammar> {
     pub(crate) trace_graph: TraceGraph<'grammar>,
     pub(crate) visited_set: BTreeSet<(StateIndex, NonterminalString)>,
 }
 
-/// What a trace has still to do: to come to a nonterminal in a state, or to take up the items of a
-/// state, from a place on, for a nonterminal that was met there.
+/// A task of a trace: to come to a nonterminal in a state, or to take the items of a state, from a
+/// place on, for a nonterminal that was met there.
 #[derive(Drop)]
 pub(crate) enum Task<'grammar> {
     Meet(StateIndex, &'grammar NonterminalString),
     MeetItems(StateIndex, &'grammar NonterminalString, usize),
 }
 
-/// Adds the edge of the item that is traced, and traces on from its nonterminal in each state where
-/// it began.
+/// Adds the edge of the traced item. Then traces on from the nonterminal of the item, in each state
+/// where the item began.
 pub(crate) fn trace_item<'grammar>(
     alloc: Global,
     trace: &Trace<'_, '_, 'grammar>,
@@ -56,7 +56,7 @@ pub(crate) fn trace_item<'grammar>(
     Ok(())
 }
 
-// Puts a nonterminal in each of the states on the stack, in the first of them on top.
+// Pushes the task to come to a nonterminal in each of the states. The first state is on top.
 fn push_sources<'grammar>(
     mut sources: Vec<StateIndex>,
     name: &'grammar NonterminalString,
@@ -73,7 +73,7 @@ fn push_sources<'grammar>(
     Ok(())
 }
 
-// Whether a nonterminal was not met in a state before. Now it is.
+// Marks a nonterminal as met in a state. The result is whether it was not met there before.
 fn is_new<'grammar>(
     alloc: Global,
     met: &mut Met<'grammar>,
@@ -88,7 +88,7 @@ fn is_new<'grammar>(
     Ok(fresh)
 }
 
-// Does a task that was on top of the stack, and puts there what comes of it.
+// Does a task that was on top of the stack, and pushes the tasks that follow from it.
 fn step<'grammar>(
     alloc: Global,
     trace: &Trace<'_, '_, 'grammar>,
@@ -115,8 +115,8 @@ fn step<'grammar>(
     }
 }
 
-// Takes up the next item of a state, from a place on, that shifts a nonterminal, and leaves those
-// behind it on the stack.
+// Takes the next item of a state, from a place on, that shifts a nonterminal. Before that, a task
+// for the items after it is pushed.
 fn meet_items<'grammar>(
     alloc: Global,
     trace: &Trace<'_, '_, 'grammar>,
@@ -147,8 +147,8 @@ fn meet_items<'grammar>(
     Ok(())
 }
 
-// Adds the edges of an item that shifts a nonterminal, and puts its own nonterminal in each of its
-// sources on the stack if it goes on.
+// Adds the edges of an item that shifts a nonterminal. If the trace goes on from the item, pushes
+// the tasks to come to its own nonterminal in each state where it began.
 fn meet_item<'grammar>(
     alloc: Global,
     trace: &Trace<'_, '_, 'grammar>,

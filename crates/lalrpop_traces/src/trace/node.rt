@@ -23,6 +23,7 @@ pub enum TraceGraphNode<'grammar> {
 }
 
 impl<'grammar> TraceGraphNode<'grammar> {
+    /// A copy of the node.
     pub fn clone(&self, alloc: Global) -> Result<Self, OutOfMemory>
         ensures { IfOk result (λ copy. copy ≡ self.now) }
     {

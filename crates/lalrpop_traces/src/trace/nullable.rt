@@ -26,7 +26,7 @@ pub(crate) fn is_nullable<'grammar>(
     Ok(true)
 }
 
-// Whether a symbol derives the empty list, by FIRST of that list.
+// Whether a symbol derives the empty list. `end` is FIRST of the empty list.
 fn is_nullable_symbol<'grammar>(
     alloc: Global,
     first_sets: &FirstSets<'grammar>,
@@ -43,7 +43,7 @@ fn is_nullable_symbol<'grammar>(
     }
 }
 
-// Whether FIRST of a nonterminal meets that of the empty list.
+// Whether FIRST of a nonterminal shares a token with FIRST of the empty list.
 fn meets_end<'grammar>(
     alloc: Global,
     first_sets: &FirstSets<'grammar>,

@@ -1,4 +1,4 @@
-//! What a path spells.
+//! The example that a path spells.
 ghost use Rattle.std.specs.Prelude.{◌≡◌, ◌≤◌, ◌++◌, List, map, length, slice_get, option_copied, Some, Contains, IfOk, OnOk};
 ghost use Rattle.lalrpop_base.specs.Words.{IsFirstSet, HasKnownTerminals};
 ghost use Rattle.lalrpop_traces.specs.traces.Examples.{IsExampleOf, path_of, prefixes, suffixes, place, place_of, reduced, reduced_at, cursor_list, innermost, following};
@@ -14,7 +14,7 @@ use lalrpop_base::memory::OutOfMemory;
 use lalrpop_base::repr::Symbol;
 use std::alloc::Global;
 
-/// The tokens with which the innermost cursor and what follows it can begin.
+/// FIRST of the innermost cursor and the symbols that follow it.
 pub(crate) fn first_of<'grammar>(
     alloc: Global,
     first_sets: &FirstSets<'grammar>,
@@ -30,7 +30,7 @@ pub(crate) fn first_of<'grammar>(
     Ok(set)
 }
 
-// The innermost cursor, and the suffixes, innermost first.
+// The innermost cursor, and the suffixes, the innermost first.
 fn symbols_behind<'grammar>(
     alloc: Global,
     graph: &TraceGraph<'grammar>,
@@ -71,7 +71,7 @@ fn innermost_cursor<'grammar>(
     Ok(symbols)
 }
 
-// A symbol that may be there, as a list.
+// The symbol as a list, which is empty if there is none.
 fn copy_cursor(alloc: Global, cursor: Option<&Symbol>) -> Result<Vec<Symbol>, OutOfMemory>
     ensures known { IfOk result (λ symbols. (terminals : List TerminalString) →
         ((t : TerminalString) →
@@ -88,7 +88,7 @@ fn copy_cursor(alloc: Global, cursor: Option<&Symbol>) -> Result<Vec<Symbol>, Ou
     Ok(symbols)
 }
 
-// Copies symbols behind a list.
+// Appends copies of symbols to a list.
 fn push_copies(alloc: Global, list: &[Symbol], symbols: &mut Vec<Symbol>) -> Result<(), OutOfMemory>
     ensures { OnOk result (symbols.new.items ≡ symbols.old.items ++ list.now) }
 {
@@ -121,7 +121,7 @@ pub(crate) fn example_of<'grammar>(
     })
 }
 
-// Copies symbols behind those of an example.
+// Appends copies of symbols to those of an example.
 fn push_symbols(
     alloc: Global,
     list: &[Symbol],
@@ -136,7 +136,7 @@ fn push_symbols(
     Ok(())
 }
 
-// The prefixes, outermost first.
+// Appends the prefixes, the outermost first.
 fn push_prefixes<'grammar>(
     alloc: Global,
     graph: &TraceGraph<'grammar>,
@@ -154,7 +154,7 @@ fn push_prefixes<'grammar>(
     Ok(())
 }
 
-// The innermost cursor, or the sign of a right side without symbols.
+// Appends the innermost cursor, or `Epsilon` for an empty right side.
 fn push_place<'grammar>(
     alloc: Global,
     graph: &TraceGraph<'grammar>,
@@ -172,7 +172,7 @@ fn push_place<'grammar>(
     Ok(())
 }
 
-// A cursor, or the sign of a right side without symbols.
+// Appends a cursor. If there is none, appends `Epsilon` if the prefix is empty.
 fn push_cursor(
     alloc: Global,
     cursor: Option<&Symbol>,
@@ -196,7 +196,7 @@ fn push_cursor(
     }
 }
 
-// The suffixes, innermost first.
+// Appends the suffixes, the innermost first.
 fn push_suffixes<'grammar>(
     alloc: Global,
     graph: &TraceGraph<'grammar>,
@@ -214,8 +214,8 @@ fn push_suffixes<'grammar>(
     Ok(())
 }
 
-// The reductions, innermost first, of an example of `count` symbols: so many stand before the
-// innermost cursor, and so many behind it.
+// The reductions of an example, the innermost first. `count` is the number of all its symbols. The
+// other numbers count its symbols before and after the innermost cursor.
 fn reductions_of<'grammar>(
     alloc: Global,
     graph: &TraceGraph<'grammar>,
@@ -250,7 +250,7 @@ fn reductions_of<'grammar>(
     Ok(reductions)
 }
 
-// What an edge reduces.
+// Appends the reduction of an edge, if there is such an edge.
 fn push_reduction<'grammar>(
     alloc: Global,
     graph: &TraceGraph<'grammar>,

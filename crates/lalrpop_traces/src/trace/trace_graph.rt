@@ -25,11 +25,12 @@ use std::collections::BTreeMap;
 use std::fmt;
 use std::marker::Model;
 
-/// The number of a node, by its first appearance.
+/// The number of a node. Nodes are numbered by their first appearance, from 0.
 #[derive(Clone, Copy, Debug, PartialEq, Eq, PartialOrd, Ord)]
 pub struct NodeIndex(pub usize);
 
-/// An edge, and the symbols around what its target stands for.
+/// An edge, with symbols around a dot. In a backtrace they are a right side of its source. If the
+/// target is a nonterminal there, it is the symbol after the dot.
 #[derive(Debug, Drop)]
 pub struct TraceGraphEdge<'grammar> {
     pub from: TraceGraphNode<'grammar>,
@@ -37,7 +38,7 @@ pub struct TraceGraphEdge<'grammar> {
     pub symbol_sets: SymbolSets<'grammar>,
 }
 
-/// Nodes, and edges between them, none twice. The edges to a node are kept by their numbers.
+/// Nodes, and edges between them, none twice. The numbers of the edges to each node are kept.
 #[derive(Drop)]
 pub struct TraceGraph<'grammar> {
     alloc: Global,
@@ -78,7 +79,8 @@ impl<'grammar> TraceGraph<'grammar> {
         }
     }
 
-    /// The number of an equal node, or the next number.
+    /// Adds a node, if there is no equal one, and returns the number of that node. The error is
+    /// `OutOfMemory` if an allocation fails.
     pub fn add_node(&mut self, node: TraceGraphNode<'grammar>) -> Result<NodeIndex, OutOfMemory>
         ensures graph { IsGraph self.new }
         ensures added { OnOk result (AddsOnce self.old.nodes self.new.nodes node.entry) }
@@ -96,8 +98,8 @@ impl<'grammar> TraceGraph<'grammar> {
         Ok(NodeIndex(index))
     }
 
-    /// Adds an edge where there is no equal one, and its nodes. After want of memory nodes may
-    /// stand, the edge does not.
+    /// Adds an edge, if there is no equal one, and its nodes. After an allocation failure the edge
+    /// is not there, but its nodes may be.
     pub fn add_edge(
         &mut self,
         from: TraceGraphNode<'grammar>,
@@ -129,7 +131,7 @@ impl<'grammar> TraceGraph<'grammar> {
         )
     }
 
-    // Puts an edge to a node behind the others.
+    // Adds an edge to the node `key` after the others.
     fn push_edge(
         &mut self,
         key: TraceGraphNode<'grammar>,
@@ -205,7 +207,8 @@ impl<'grammar> TraceGraph<'grammar> {
         self.edges.as_slice()
     }
 
-    /// The examples of the paths back from an item, the newest edges first.
+    /// The examples of the paths back from an item, the newest edges first. The error is
+    /// `OutOfMemory` if an allocation fails.
     pub fn lr0_examples<'graph>(
         &'graph self,
         alloc: Global,
@@ -224,12 +227,12 @@ impl<'grammar> TraceGraph<'grammar> {
             SpellsDerivation productions example) }
         ensures refused { IfOk result (λ walk. walk.refused ≡ false) }
     {
-        // A field is read, so that what is kept of a graph is known.
+        // A field is read, so that the proof knows the invariant of the graph.
         let _edges = &self.edges;
         PathEnumerator::new(alloc, self, item)
     }
 
-    /// Those examples that can go on with a token of the item's lookahead.
+    /// The examples of `lr0_examples` that can go on with a token of the item's lookahead.
     pub fn lr1_examples<'graph>(
         &'graph self,
         alloc: Global,
@@ -254,7 +257,7 @@ impl<'grammar> TraceGraph<'grammar> {
             SpellsDerivation productions example) }
         ensures refused { IfOk result (λ it. it.base.refused ≡ false) }
     {
-        // A field is read, so that what is kept of a graph is known.
+        // A field is read, so that the proof knows the invariant of the graph.
         let _edges = &self.edges;
         FilteredPathEnumerator::new(alloc, first_sets, self, item)
     }
@@ -279,7 +282,7 @@ impl<'grammar> TraceGraph<'grammar> {
         numbers.as_slice()
     }
 
-    /// The number of the edge to a node at a place among those to it.
+    /// The number at a place in the list `numbers_to` of a node.
     pub(crate) fn number_to(&self, node: &TraceGraphNode<'grammar>, place: usize) -> Option<usize>
         ensures { result ≡ slice_get (numbers_to self.now node.now) place }
     {
@@ -290,7 +293,7 @@ impl<'grammar> TraceGraph<'grammar> {
         None
     }
 
-    /// The same of the node from which an edge comes.
+    /// As `number_to`, for the node from which an edge comes.
     pub(crate) fn number_from(&self, edge: usize, place: usize) -> Option<usize>
         ensures { result ≡ slice_get (numbers_from self.now edge) place }
     {
@@ -337,7 +340,7 @@ impl<'grammar> TraceGraph<'grammar> {
         edges[a].from == edges[b].from
     }
 
-    /// The labels of an edge.
+    /// The labels of an edge, which are empty if there is no such edge.
     pub(crate) fn labels(&self, edge: usize) -> SymbolSets<'grammar>
         ensures there { (e : TraceGraphEdge) →
             slice_get self.now.edges edge ≡ Some e →
@@ -356,7 +359,7 @@ impl<'grammar> TraceGraph<'grammar> {
         edges[edge].symbol_sets
     }
 
-    /// The nonterminal to which an edge reduces.
+    /// The nonterminal of the node from which an edge comes, if there is such an edge.
     pub(crate) fn reduced_name(
         &self,
         alloc: Global,
@@ -375,7 +378,7 @@ impl<'grammar> TraceGraph<'grammar> {
     }
 }
 
-// Whether two labels are of the same symbols.
+// Whether two labels have the same symbols.
 fn same_labels<'grammar>(a: &SymbolSets<'grammar>, b: &SymbolSets<'grammar>) -> bool
     ensures { IsTrue result ↔ SameLabels a.now b.now }
 {

@@ -1,2 +1,2 @@
--- The check of tables.
+-- Theorems for the check of tables.
 pub mod CheckSending

@@ -1,2 +1,2 @@
--- Grammars, their names and tokens, derivations and parse trees.
+-- Dotted productions, and bits of tokens.
 pub mod Tables

@@ -1,4 +1,4 @@
--- Two grammars with their states, which the definitions hold of.
+-- Two grammars with states that meet the definitions.
 pub mod FiveStates
 pub mod FiveStatesRuns
 pub mod Instance

@@ -1,4 +1,5 @@
--- The states of a table under other numbers: state 0 first, then the states with a goto, then the others, each part in its old order.
+-- The states of a table under new numbers: state 0 is first, then come the states with a goto, and
+-- then the others. Each part keeps its order.
 use Rattle.std.specs.Prelude.{◌≡◌, ◌<◌, ◌≤◌, ◌↔◌, ◌==◌, ◌||◌, ℕ, Bool, not, List, map, length, slice_get, Some, unwrap_or}
 use Rattle.std.specs.BTreeMap.{btree_map_len}
 use Rattle.lalrpop_collections.specs.lists.Bits.{Bits}
@@ -9,15 +10,16 @@ use Rattle.lalrpop_states.specs.declared.lr1_core.state.State.{State}
 use Rattle.lalrpop_states.specs.declared.lr1_core.state.StateIndex.{StateIndex}
 use Rattle.lalrpop_grammar.specs.declared.repr.TerminalString.{TerminalString}
 
--- a target under its new number
+-- the new number of a target
 abbrev pub retargeted : (ℕ → ℕ) → StateIndex → StateIndex
 retargeted new target = record { 0 = new target.0 }
 
--- transitions with their targets under the new numbers
+-- transitions with the new numbers of their targets
 abbrev pub retargeted_all : {K : Type 0} → (ℕ → ℕ) → List (K × StateIndex) → List (K × StateIndex)
 retargeted_all {K} new es = map (λ (e : K × StateIndex). (e.0, retargeted new e.1)) es
 
--- the state under its new number, with its targets under theirs, and all else as it was
+-- the second state is the first one under its new number, with the new numbers of its targets;
+-- it is the same in all else
 pub record IsRenumberedState (new : ℕ → ℕ) (before after : State Bits) : Type 0 where
   pub index : after.index ≡ retargeted new before.index
   pub items : after.items ≡ before.items
@@ -25,11 +27,11 @@ pub record IsRenumberedState (new : ℕ → ℕ) (before after : State Bits) : T
   pub reductions : after.reductions ≡ before.reductions
   pub gotos : after.gotos.entries ≡ retargeted_all new before.gotos.entries
 
--- behind state 0, states of which both or neither have a goto keep their order
+-- after state 0, two states keep their order if both or neither of them have a goto
 abbrev pub KeepsOrder : (ℕ → ℕ) → List TerminalString → List (State Bits) → Type 0
 KeepsOrder new terminals states = (n m : ℕ) → 0 < n → n < m → m < length states → HasGoto (contents terminals states n) ↔ HasGoto (contents terminals states m) → new n < new m
 
--- the states of a table under other numbers
+-- the second list has the states of the first under new numbers, which put states with a goto first
 pub record AreRenumbered (terminals : List TerminalString) (before after : List (State Bits)) : Type 0 where
   pub new : ℕ → ℕ
   pub old : ℕ → ℕ
@@ -42,10 +44,10 @@ pub record AreRenumbered (terminals : List TerminalString) (before after : List 
   pub coherent : AreCoherent after
 
 -- ---- how the new numbers are found
--- whether a state stands among the first: state 0, or one with a goto
+-- whether a state is in the first part: it is state 0 or has a goto
 abbrev pub stands_first : State Bits → Bool
 stands_first state = (state.index.0 == 0) || not (btree_map_len state.gotos == 0)
 
--- the new number in a list by old numbers; a number outside the list stays
+-- the new number of an old one, in a list by old number; a number outside the list stays
 abbrev pub number_in : List ℕ → ℕ → ℕ
 number_in numbers n = unwrap_or (slice_get numbers n) n

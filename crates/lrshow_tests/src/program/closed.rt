@@ -1,4 +1,4 @@
-//! Outputs that close.
+//! Outputs that close while the program writes.
 use super::{CONFLICT, ONE_TERMINAL, USAGE, ran_by, words_of};
 use lalrpop_tables::build::Method;
 use lrshow_run::run::run;
@@ -8,7 +8,7 @@ use std::io::{ErrorKind, Write};
 use std::process::Abort;
 use std::test::Fail;
 
-/// What a writer does once it has taken some bytes.
+/// What a writer does after it has taken its bytes.
 #[derive(Clone, Copy, Debug, PartialEq, Eq)]
 enum Then {
     Fails,
@@ -16,7 +16,7 @@ enum Then {
     IsInterrupted,
 }
 
-/// A writer that takes a byte a call, and so many bytes in all.
+/// A writer that takes one byte in a call, and `left` bytes in all.
 #[derive(Drop)]
 struct Closing {
     left: usize,
@@ -44,8 +44,8 @@ impl Write for Closing {
     }
 }
 
-// Runs the program on a text, to an output that closes behind some bytes: where these are fewer than
-// `whole` it has to tell so.
+// Runs the program on a text, with an output that takes `left` bytes. If these are fewer than
+// `whole`, the program must report that it cannot write.
 fn closed_behind(
     rt: &impl Abort,
     alloc: Global,
@@ -72,7 +72,7 @@ fn closed_behind(
     Ok(())
 }
 
-// How many bytes the program writes on a text.
+// The number of bytes that the program writes for a text.
 fn written(
     rt: &impl Abort,
     alloc: Global,
@@ -87,7 +87,7 @@ fn written(
     Ok(wrote.len())
 }
 
-// Outputs that close behind each number of bytes up to the whole text, where there are tables.
+// Tries outputs that take each number of bytes up to the whole text, for a grammar with tables.
 fn each_closed_output(rt: &impl Abort, alloc: Global, line: &str) -> Result<(), Fail> {
     let words = words_of(alloc, line)?;
     let whole = written(rt, alloc, ONE_TERMINAL, line, 0)?;
@@ -99,7 +99,7 @@ fn each_closed_output(rt: &impl Abort, alloc: Global, line: &str) -> Result<(), 
     Ok(())
 }
 
-// Outputs that close behind each hundredth of the text, where there is a conflict.
+// Tries outputs that take each hundredth of the text, for a grammar with a conflict.
 fn each_hundredth(rt: &impl Abort, alloc: Global, line: &str) -> Result<(), Fail> {
     let words = words_of(alloc, line)?;
     let whole = written(rt, alloc, CONFLICT, line, 1)?;
@@ -130,13 +130,13 @@ fn conflicts_to_a_closed_output(rt: HostRuntime) -> Result<(), Fail> {
     Ok(())
 }
 
-// A page is too long for each of its bytes.
+// A page is too long to try each number of its bytes.
 #[test]
 fn page_to_a_closed_output(rt: HostRuntime) -> Result<(), Fail> {
     each_hundredth(&rt, rt.alloc(), "f S html")
 }
 
-// There is nobody left to be told.
+// If standard error fails, nothing can be reported.
 #[test]
 fn closed_error_output(rt: HostRuntime) -> Result<(), Fail> {
     let alloc = rt.alloc();

@@ -12,10 +12,10 @@ use lalrpop_base::memory::OutOfMemory;
 use lalrpop_lr1::trace::{FilteredPathEnumerator, PathEnumerator};
 use std::alloc::Global;
 
-// How many examples are shown of an item.
+// The greatest number of examples that are shown of an item.
 const MOST: usize = 3;
 
-/// Appends the first examples of a state's item that shifts.
+/// Appends the first examples of an item of a state that shifts.
 pub(crate) fn push_first<'grammar>(
     alloc: Global,
     text: &mut String,
@@ -34,8 +34,8 @@ pub(crate) fn push_first<'grammar>(
     Ok(())
 }
 
-/// Appends the first examples of a finished item in a state that go on with a token of its
-/// lookahead.
+/// Appends the first examples of a finished item in a state that can go on with a token of the
+/// lookahead of the item.
 pub(crate) fn push_meeting<'grammar>(
     alloc: Global,
     text: &mut String,
@@ -56,7 +56,7 @@ pub(crate) fn push_meeting<'grammar>(
     Ok(())
 }
 
-// Appends the first examples of a walk.
+// Appends the first examples of a walk, at most `MOST`.
 fn push_walk(text: &mut String, mut walk: PathEnumerator<'_, '_>) -> Result<(), OutOfMemory>
     requires { walk.refused ≡ false }
     ensures { OnOk result (string_bytes text.new ≡ string_bytes text.old ++ path_lines
@@ -73,7 +73,7 @@ fn push_walk(text: &mut String, mut walk: PathEnumerator<'_, '_>) -> Result<(), 
     Ok(())
 }
 
-// Appends the first examples of a filtered walk.
+// Appends the first examples of a filtered walk, at most `MOST`.
 fn push_filtered(
     text: &mut String,
     mut walk: FilteredPathEnumerator<'_, '_>,

@@ -1,4 +1,4 @@
-//! What examples are made over.
+//! The states and sets that examples are made from.
 ghost use Rattle.std.specs.Prelude.{◌≡◌, slice_get};
 ghost use Rattle.lalrpop_lr1.specs.Words.{items_at};
 
@@ -8,7 +8,7 @@ use lalrpop_base::lr1_core::state::{Lr1State, StateIndex};
 use lalrpop_base::repr::terminals::TerminalSet;
 use lalrpop_lr1::trace::Tracer;
 
-/// States, with the first sets and the terminals of their grammar, and what traces back over them.
+/// States, the FIRST sets and the terminals of their grammar, and the tracer over the states.
 #[derive(Drop)]
 pub(crate) struct Ground<'ground, 'grammar> {
     pub(crate) states: &'ground [Lr1State<'grammar>],
@@ -20,7 +20,7 @@ pub(crate) struct Ground<'ground, 'grammar> {
     ghost traced_rules: { tracer.now.ground.first_sets.now ≡ first_sets.now },
 }
 
-/// The items of a state, none where there is no such state.
+/// The items of a state. The list is empty if there is no such state.
 pub(crate) fn items_in<'a, 'grammar>(
     states: &'a [Lr1State<'grammar>],
     state: StateIndex,

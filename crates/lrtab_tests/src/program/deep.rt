@@ -1,11 +1,12 @@
-//! Runs with trees as deep as their million tokens are many.
+//! Runs with a million tokens, and trees as deep as that.
 use super::words_of;
 use lalrpop_tables::build::Method;
 use lrtab_run::run::run;
 use std::alloc::{AllocError, Global};
 use std::test::Fail;
 
-// What the program tells on a million tokens by the tables that a method makes of a grammar.
+// The standard output and the exit status for a million tokens, by the tables that a method makes
+// of a grammar.
 fn told_on_a_million(
     alloc: Global,
     method: Method,
@@ -23,7 +24,7 @@ fn told_on_a_million(
     Ok((out, status))
 }
 
-// Each token opens a node, and each node is closed.
+// Each token begins a node, so the tree has a million nested nodes and one more.
 #[test]
 fn a_tree_of_a_million_nodes(rt: HostRuntime) -> Result<(), Fail> {
     let alloc = rt.alloc();
@@ -45,7 +46,7 @@ fn a_tree_of_a_million_nodes(rt: HostRuntime) -> Result<(), Fail> {
     Ok(())
 }
 
-// The tree of the tokens that were read is dropped.
+// The deep tree of the tokens that were read is dropped.
 #[test]
 fn a_refusal_behind_a_million_tokens(rt: HostRuntime) -> Result<(), Fail> {
     let text = "T = S \"z\"\nS = S \"a\"\nS =\n";

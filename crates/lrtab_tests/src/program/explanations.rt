@@ -1,8 +1,9 @@
-//! Explanations, and outputs that close on them.
+//! Explanations, and outputs that close while an explanation is written.
 use super::{each_closed_output, ran_by};
 use lalrpop_tables::build::Method;
 use std::test::Fail;
 
+/// A grammar with a shift/reduce conflict, since its operator `->` is ambiguous.
 pub(super) const ARROW: &str = "Ty = \"int\"\nTy = \"bool\"\nTy = Ty \"->\" Ty\n";
 
 pub(super) const ARROW_EXPLAINED: &str = "conflict 1 in state 5 on \"->\"
@@ -12,6 +13,7 @@ pub(super) const ARROW_EXPLAINED: &str = "conflict 1 in state 5 on \"->\"
     Ty \"->\" Ty (*) \"->\" Ty
 ";
 
+/// A grammar with a reduce/reduce conflict, each of whose actions has one example.
 pub(super) const ONE_EXAMPLE: &str = "S = N \"p\"\nN = \"n\"\nN = \"n\"\n";
 
 pub(super) const ONE_EXAMPLE_EXPLAINED: &str = "conflict 1 in state 2 on \"p\"
@@ -21,6 +23,7 @@ pub(super) const ONE_EXAMPLE_EXPLAINED: &str = "conflict 1 in state 2 on \"p\"
     \"n\" (*) \"p\"
 ";
 
+/// The explanation of a grammar that has the production `S = "x"` twice. It has no examples.
 pub(super) const TWICE_EXPLAINED: &str = "conflict 1 in state 1 on Eof
   reduce S -> \"x\"
   reduce S -> \"x\"
@@ -33,7 +36,7 @@ fn explanation_to_a_closed_output(rt: HostRuntime) -> Result<(), Fail> {
     each_closed_output(&rt, rt.alloc(), Method::Lane, ARROW, line, whole, 1)
 }
 
-// Of 142 equal productions each two are in conflict.
+// Each two of 142 equal productions have a conflict.
 #[test]
 fn ten_thousand_conflicts(rt: HostRuntime) -> Result<(), Fail> {
     let alloc = rt.alloc();

@@ -1,8 +1,9 @@
-//! Reports, and outputs that close on them.
+//! Reports, and outputs that close while a report is written.
 use super::each_closed_output;
 use lalrpop_tables::build::Method;
 use std::test::Fail;
 
+/// The report of `S = "x"` by the canonical method.
 pub(super) const ONE_TERMINAL: &str = "Lalrpop Report File
 ========================================
 
@@ -36,6 +37,7 @@ State 1 {
 }
 ";
 
+/// The report of a grammar that has the production `S = "x"` twice, by the canonical method.
 pub(super) const AMBIGUOUS: &str = "Lalrpop Report File
 ========================================
 
@@ -87,7 +89,7 @@ State 1 {
 }
 ";
 
-/// The same by the lane way: each item has all tokens.
+/// The report of `S = "x"` by the lane method, in which each item has all tokens.
 pub(super) const ONE_TERMINAL_BY_LANES: &str = "Lalrpop Report File
 ========================================
 

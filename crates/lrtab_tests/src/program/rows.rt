@@ -1,6 +1,6 @@
-//! Rows of the program's table, each by both methods: a file, the words of the command line, what is
-//! printed and the status. With status 2 the text goes to the error output, and else to the
-//! standard output. The other output stays empty.
+//! Rows of the table of the program, each tried by both methods: a file, the arguments, the printed
+//! text and the exit status. With status 2 the text goes to standard error, and else to standard
+//! output. The other output stays empty.
 use super::explanations::{
     ARROW, ARROW_EXPLAINED, ONE_EXAMPLE, ONE_EXAMPLE_EXPLAINED, TWICE_EXPLAINED,
 };
@@ -11,7 +11,7 @@ use std::alloc::Global;
 use std::process::Abort;
 use std::test::Fail;
 
-/// The text of the file, the words, what is printed, and the status.
+/// The text of the file, the arguments, the printed text, and the exit status.
 type Row = (&'static str, &'static str, &'static str, u8);
 
 const ONE: &str = "S = \"x\"\n";
@@ -31,7 +31,7 @@ const UNMARKED: &str = "E = \"L\"\nE = \"&\" OPT E\nOPT =\nOPT = \"L\"\n";
 
 const BLANKS: &str = "\r\n\tS\t=  A \r\n\n A = \"x\"\r";
 
-// The tree of sixteen nodes: seven terminals, four T, four E and S.
+// A tree of sixteen nodes: seven terminals, four T, four E and S.
 const TREE: &str =
     "[S: [E: [E: [T: \"N\"]], \"-\", [T: \"(\", [E: [E: [T: \"N\"]], \"-\", [T: \"N\"]], \")\"]]]\n";
 
@@ -83,7 +83,8 @@ const FAULTY_LATER: &str = "inline S\nS = S\n\n= \"y\"\nS\n";
 
 const RING: &str = "inline A\nA = A \"x\"\n";
 
-// Words are looked at before the file, the file before its lines, and lines before rings.
+// The arguments are checked before the file, the file before its lines, and the lines before rings
+// of marked nonterminals.
 const FAULTS: [Row; 19] = [
     (ONE, "", USAGE, 2),
     (ONE, "f", USAGE, 2),
@@ -139,8 +140,8 @@ const TEXTS: [Row; 7] = [
     (ARROW, "f Ty report", ARROW_REPORT, 1),
 ];
 
-// A start symbol without an entry has one state, in which each part but the two empty lines is
-// missing.
+// The report for a start symbol without productions. It has one state, whose text is two empty
+// lines.
 const NO_ITEMS: &str = "Lalrpop Report File
 ========================================
 
@@ -158,7 +159,7 @@ State 0 {
 }
 ";
 
-// By the lane method each item has all tokens, and the reduction has the end alone.
+// With the lane method each item has all tokens, and the reduction has `Eof` alone.
 const ONE_BY_LANES: &str = "Lalrpop Report File
 ========================================
 
@@ -299,7 +300,7 @@ State 5 {
 }
 ";
 
-// Fails unless a run on a file, or without one, prints a text and has a status.
+// Fails unless a run on a file, or without one, prints a text and has an exit status.
 fn expect(
     rt: &impl Abort,
     alloc: Global,
@@ -324,7 +325,7 @@ fn expect(
     Ok(())
 }
 
-// Fails unless each row is met.
+// Fails unless each row has the expected result by the method.
 fn expect_all(rt: &impl Abort, alloc: Global, method: Method, rows: &[Row]) -> Result<(), Fail> {
     for (text, line, printed, status) in rows {
         expect(rt, alloc, method, Some(*text), (*line, *printed, *status))?;

@@ -1,4 +1,4 @@
-//! Words of questions: methods, options, symbols, tokens.
+//! Arguments of questions: methods, options, symbols and tokens. Arguments are numbered from 1.
 ghost use Rattle.std.specs.Prelude.{IfOk, IsTrue};
 ghost use Rattle.lalrpop_base.specs.Words.{HasKnownTerminals, IsKnown};
 
@@ -21,7 +21,7 @@ pub fn method_at(question: &Question<'_>, number: usize) -> Result<Method, Quest
     }
 }
 
-/// The options that the arguments from a number on name.
+/// The options that the arguments from a number on name. Any other argument is an error.
 pub fn options_from(
     question: &Question<'_>,
     number: usize,
@@ -39,7 +39,7 @@ pub fn options_from(
     Ok(options)
 }
 
-/// The options that words among the arguments from a number on name. Other words are passed over.
+/// The options that the arguments from a number on name. Other arguments are passed over.
 pub fn options_among(question: &Question<'_>, number: usize, method: Method) -> Options {
     let mut options = Options {
         method,
@@ -51,13 +51,13 @@ pub fn options_among(question: &Question<'_>, number: usize, method: Method) -> 
     options
 }
 
-/// Whether a word names an option.
+/// Whether an argument names an option.
 pub fn is_option(word: &str) -> bool {
     let mut options = Options::default();
     set_option(&mut options, word)
 }
 
-// Takes the option that a word names, and tells whether it is one.
+// Sets the option that an argument names, and returns whether it names one.
 fn set_option(options: &mut Options, word: &str) -> bool {
     if let Some(digits) = word.strip_prefix("max_copies=") {
         return set_number(&mut options.max_copies, digits);
@@ -68,7 +68,7 @@ fn set_option(options: &mut Options, word: &str) -> bool {
     word == "collapsed" || word == "count"
 }
 
-// Takes the number that digits stand for, and tells whether they are digits.
+// Sets the number that an argument gives, and returns whether it is a number.
 fn set_number(place: &mut usize, digits: &str) -> bool {
     match digits.parse::<usize>() {
         Ok(number) => {
@@ -79,8 +79,8 @@ fn set_number(place: &mut usize, digits: &str) -> bool {
     }
 }
 
-/// The symbols that words stand for, whose terminals are of the set. The first word is the argument
-/// with a number.
+/// The symbols that words name. It is an error if a word is no symbol, or if a terminal is not in
+/// the set. `number` is that of the first word, for the error.
 pub fn known_symbols(
     alloc: Global,
     words: &[&str],
@@ -98,7 +98,7 @@ pub fn known_symbols(
     Ok(symbols)
 }
 
-/// The symbol that the argument with a number stands for, whose terminal is of the set.
+/// The symbol that the argument with a number names. A terminal must be in the set.
 pub fn known_symbol(
     alloc: Global,
     question: &Question<'_>,
@@ -128,7 +128,7 @@ fn have_known_terminals(symbols: &[Symbol], terminals: &TerminalSet) -> bool
     true
 }
 
-// The token that the argument with a number stands for, which is of the set.
+// The token that the argument with a number names. A terminal must be in the set.
 fn known_token(
     alloc: Global,
     question: &Question<'_>,
@@ -147,7 +147,7 @@ fn known_token(
     }
 }
 
-/// The token that the argument with a number stands for, which need be no terminal of the grammar.
+/// The token that the argument with a number names. It need not be a terminal of the grammar.
 pub fn token_at(
     alloc: Global,
     question: &Question<'_>,
@@ -166,8 +166,8 @@ pub fn token_at(
     }
 }
 
-/// The set of the tokens that arguments name, from one number to before another. `All` is each
-/// terminal and `Eof`, and the option `collapsed` is none.
+/// The set of the tokens that the arguments `from..to` name. `All` adds each terminal and `Eof`.
+/// The option `collapsed` is passed over.
 pub fn tokens_between(
     alloc: Global,
     question: &Question<'_>,
@@ -188,8 +188,7 @@ pub fn tokens_between(
     Ok(tokens)
 }
 
-/// The number of the first argument, from one number to before another, that is a comma; else the
-/// latter.
+/// The number of the first of the arguments `from..to` that is a comma, or `to` if none is.
 pub fn piece_end(question: &Question<'_>, from: usize, to: usize) -> usize {
     for number in from..to {
         if let Ok(word) = question.argument(number)

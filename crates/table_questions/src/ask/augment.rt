@@ -1,4 +1,4 @@
-//! Questions of new start symbols.
+//! Questions on new start symbols.
 ghost use Rattle.lalrpop_base.specs.Words.{IsWellFormed};
 
 use super::refusal;
@@ -13,7 +13,7 @@ use lalrpop_tables::build::{Method, Options};
 use lalrpop_tables::lr1::build_states;
 use std::alloc::Global;
 
-/// The answer to a question of a new start symbol, where the call is one.
+/// The result of a question on a new start symbol. `None` if the call has another name.
 pub fn answer(
     alloc: Global,
     question: &Question<'_>,
@@ -37,7 +37,7 @@ fn on_no_right_side(
     Ok(format!(in alloc; "{answer}\n")?)
 }
 
-// A new start symbol, and what both methods make of the grammar for it.
+// A new start symbol, and the counts of the states that both methods make for it.
 fn augmented(
     alloc: Global,
     question: &Question<'_>,
@@ -54,7 +54,7 @@ fn augmented(
     }
 }
 
-// A start symbol, its productions, and the counts of its states.
+// The new start symbol, its productions, and the counts of its states by each method.
 fn shown(
     alloc: Global,
     grammar: &Grammar,
@@ -75,7 +75,7 @@ fn shown(
     Ok(text)
 }
 
-// Appends the counts of the states by a method.
+// Appends the counts of the states that a method makes.
 fn push_states(
     alloc: Global,
     text: &mut String,

@@ -1,4 +1,4 @@
-//! Changes of LR(1) states that words name.
+//! Changes of LR(1) states that arguments name.
 use super::arguments::{known_symbol, piece_end, tokens_between};
 use case_files::question::{Question, QuestionError};
 use lalrpop_base::lookahead::token_set::TokenSet;
@@ -8,8 +8,8 @@ use lalrpop_base::repr::terminals::TerminalSet;
 use std::alloc::Global;
 use std::collections::BTreeMap;
 
-/// Makes the changes that the arguments from a number on name, in turn. A comma stands between two
-/// of them.
+/// Makes the changes that the arguments from a number on name, one after the other. A comma is
+/// between two changes. A comma after the last one is an error.
 pub fn change_states(
     alloc: Global,
     question: &Question<'_>,
@@ -32,7 +32,7 @@ pub fn change_states(
     Ok(())
 }
 
-// Makes the change whose words stand from one number to before another.
+// Makes the change that the arguments `from..to` name.
 fn change(
     alloc: Global,
     question: &Question<'_>,
@@ -55,7 +55,7 @@ fn change(
     Ok(())
 }
 
-// The state that the argument with a number names.
+// The state whose number an argument gives.
 fn state_at<'states, 'grammar>(
     question: &Question<'_>,
     number: usize,
@@ -67,8 +67,8 @@ fn state_at<'states, 'grammar>(
     }
 }
 
-// Adds a state without anything, with the items of another, or with all of it. Answers the number
-// behind its words, as do the functions below.
+// Adds an empty state, one with the items of another, or a copy of another. It returns the number
+// of the argument after the change, as do the functions below.
 fn add(
     alloc: Global,
     question: &Question<'_>,
@@ -101,7 +101,7 @@ fn add(
     Ok(second.saturating_add(1))
 }
 
-// Leads a state by a symbol to a number, or takes the edge away.
+// Adds an edge from a state by a symbol to a state, or removes such an edge.
 fn change_edge(
     alloc: Global,
     question: &Question<'_>,
@@ -131,8 +131,8 @@ fn change_edge(
     Ok(fourth)
 }
 
-// Takes the reductions or the last item of a state away, or has its reductions or items stand
-// twice.
+// Removes the reductions or the last item of a state, or doubles its reductions or its items. It is
+// an error if there are none.
 fn change_list(
     alloc: Global,
     question: &Question<'_>,
@@ -163,7 +163,7 @@ fn change_list(
     Ok(second.saturating_add(1))
 }
 
-// Gives a reduction of a state other tokens.
+// Changes the tokens of a reduction of a state.
 fn change_tokens(
     alloc: Global,
     question: &Question<'_>,

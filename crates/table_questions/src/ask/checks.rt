@@ -1,4 +1,4 @@
-//! Questions of the checks of tables.
+//! Questions on the checks of tables.
 ghost use Rattle.lalrpop_base.specs.Words.{IsWellFormed};
 
 use super::changes::change_states;
@@ -17,7 +17,7 @@ use lalrpop_tables::check::check_tables;
 use lalrpop_tables::lane_table::build_lane_table_states;
 use std::alloc::Global;
 
-/// The answer to a question of checks, where the call is one.
+/// The result of a question on checks. `None` if the call has another name.
 pub fn answer(
     alloc: Global,
     question: &Question<'_>,
@@ -39,7 +39,7 @@ pub fn answer(
     }
 }
 
-// Whether states, which may be changed first, pass the check.
+// Whether the states of a construction pass the check. Arguments can change the states first.
 fn check(alloc: Global, question: &Question<'_>, grammar: &Grammar) -> Result<String, QuestionError>
     requires { IsWellFormed grammar.now }
 {
@@ -54,8 +54,8 @@ fn check(alloc: Global, question: &Question<'_>, grammar: &Grammar) -> Result<St
     }
 }
 
-// The start symbol that the check is asked for, and the number of the first argument behind it:
-// another than that of the tables where `for` stands before it.
+// The start symbol for the check, and the number of the first argument after it. It is the start
+// symbol of the tables, or another one if the third argument is `for`.
 fn start_asked(
     alloc: Global,
     question: &Question<'_>,
@@ -66,7 +66,7 @@ fn start_asked(
     Ok((start_of(alloc, question, 1)?, 3))
 }
 
-// Whether coherent states pass the check.
+// Whether the states pass the check. `None` if they are not coherent or if there are none.
 fn passes<'grammar>(
     alloc: Global,
     grammar: &'grammar Grammar,
@@ -84,8 +84,8 @@ fn passes<'grammar>(
     Ok(Some(check_tables(alloc, grammar, start, states)?))
 }
 
-/// The states that a way of construction makes, also those of an error. The way is the second
-/// argument.
+/// The states that a way of construction makes, also if they have conflicts. An error names the way
+/// as the second argument.
 pub fn states_by<'grammar>(
     alloc: Global,
     grammar: &'grammar Grammar,
@@ -109,7 +109,7 @@ pub fn states_by<'grammar>(
     states_of(built)
 }
 
-/// The states of a construction, also those of an error.
+/// The states of a construction, also if they have conflicts.
 pub fn states_of(built: Lr1Result<'_>) -> Result<Vec<Lr1State<'_>>, QuestionError> {
     match built {
         Ok(states) => Ok(states),

@@ -1,4 +1,4 @@
-//! Questions of context sets.
+//! Questions on context sets.
 ghost use Rattle.std.specs.Prelude.{◌≡◌, length, IfOk};
 ghost use Rattle.lalrpop_base.specs.Words.{IsWellFormed};
 
@@ -19,7 +19,7 @@ use lalrpop_tables::lane_table::context_set::{
 };
 use std::alloc::Global;
 
-/// The answer to a question of context sets, where the call is one.
+/// The result of a question on context sets. `None` if the call has another name.
 pub fn answer(
     alloc: Global,
     question: &Question<'_>,
@@ -34,7 +34,7 @@ pub fn answer(
     }
 }
 
-/// The actions of a state that has reductions: its shifts and these. No action where it has none.
+/// The shifts and reductions of a state that has reductions. There are none for other states.
 pub fn actions_of<'grammar, L>(
     alloc: Global,
     state: &State<'grammar, L>,
@@ -52,7 +52,7 @@ pub fn actions_of<'grammar, L>(
     Ok(actions)
 }
 
-// One set or two by their insertions, and then the union.
+// The results of insertions into one set, or into two sets and their union.
 fn context_sets(
     alloc: Global,
     question: &Question<'_>,
@@ -80,7 +80,7 @@ fn context_sets(
     Ok(text)
 }
 
-// The number of the first argument that is a slash, else the number behind all.
+// The number of the first argument that is a slash, or one more than the number of all arguments.
 fn bar_of(question: &Question<'_>) -> usize {
     let count = question.arguments.len();
     match question.arguments.iter().position(|word| *word == "/") {
@@ -89,7 +89,8 @@ fn bar_of(question: &Question<'_>) -> usize {
     }
 }
 
-// The set of so many columns with what arguments insert, from one number to before another.
+// The set of `count` columns with the tokens that the arguments `from..to` insert. A comma is
+// between two insertions.
 fn filled(
     alloc: Global,
     text: &mut String,
@@ -118,7 +119,8 @@ fn filled(
     Ok(set)
 }
 
-// Inserts the tokens that arguments name behind the number of a column.
+// Inserts tokens into a column. The first argument is the number of the column, and the others are
+// the tokens.
 fn insert(
     alloc: Global,
     text: &mut String,
@@ -145,7 +147,8 @@ fn insert(
     Ok(())
 }
 
-// A context set of the actions of a canonical state, given to its reductions.
+// Makes a context set of the actions of a canonical state, and applies it to the reductions of the
+// state.
 fn apply(alloc: Global, question: &Question<'_>, grammar: &Grammar) -> Result<String, QuestionError>
     requires { IsWellFormed grammar.now }
 {

@@ -1,4 +1,4 @@
-//! Questions of the entries of states: actions, gotos and edges, and how many are in conflict.
+//! Questions on the entries of states: actions, gotos and edges, and numbers of conflicts.
 ghost use Rattle.lalrpop_base.specs.Words.{IsWellFormed};
 
 use super::arguments::{method_at, options_from};
@@ -13,7 +13,7 @@ use lalrpop_base::repr::grammar::Grammar;
 use lalrpop_tables::lr1::build_states;
 use std::alloc::Global;
 
-/// The answer to a question of entries, where the call is one.
+/// The result of a question on entries. `None` if the call has another name.
 pub fn answer(
     alloc: Global,
     question: &Question<'_>,
@@ -28,7 +28,7 @@ pub fn answer(
     }
 }
 
-// The entries of the tables of a grammar, state by state.
+// The entries of the tables of a grammar, state by state, or the number of its conflicts.
 fn entries(
     alloc: Global,
     question: &Question<'_>,
@@ -50,7 +50,7 @@ fn entries(
     Ok(text)
 }
 
-// How many conflicts each canonical state of a grammar has.
+// The number of conflicts of each canonical state of a grammar.
 fn counts(
     alloc: Global,
     question: &Question<'_>,
@@ -86,7 +86,7 @@ fn push_entries(
     }
 }
 
-// Appends what the state does on each terminal, on the end and on the error.
+// Appends the actions of the state on each terminal, on `Eof` and on `Error`.
 fn push_actions(
     alloc: Global,
     text: &mut String,
@@ -109,7 +109,7 @@ fn push_actions(
     )
 }
 
-// Appends where the state leads by each nonterminal of the grammar.
+// Appends the state to which each nonterminal of the grammar leads.
 fn push_gotos(
     text: &mut String,
     grammar: &Grammar,

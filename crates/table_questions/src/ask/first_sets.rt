@@ -1,4 +1,4 @@
-//! Questions of first sets.
+//! Questions on FIRST sets.
 ghost use Rattle.lalrpop_base.specs.Words.{IsWellFormed};
 
 use super::arguments::{known_symbols, tokens_between};
@@ -11,7 +11,7 @@ use lalrpop_base::repr::grammar::Grammar;
 use lalrpop_base::repr::terminals::TerminalSet;
 use std::alloc::Global;
 
-/// The answer to a question of first sets, where the call is one.
+/// The result of a question on FIRST sets. `None` if the call has another name.
 pub fn answer(
     alloc: Global,
     question: &Question<'_>,
@@ -27,7 +27,7 @@ pub fn answer(
     }
 }
 
-// The first set of symbols.
+// The FIRST set of symbols.
 fn first0(
     alloc: Global,
     question: &Question<'_>,
@@ -41,7 +41,7 @@ fn first0(
     shown(alloc, &set, &grammar.terminals)
 }
 
-// The first set of symbols before tokens, which stand behind a comma.
+// The FIRST set of symbols and then a set of tokens. The arguments have the tokens after a comma.
 fn first1(
     alloc: Global,
     question: &Question<'_>,
@@ -80,7 +80,7 @@ fn nullable(
     Ok(format!(in alloc; "nullable {}\n", sets.is_nullable(&name))?)
 }
 
-// A set of tokens.
+// The text of a set of tokens.
 fn shown(alloc: Global, set: &TokenSet, terminals: &TerminalSet) -> Result<String, QuestionError> {
     let mut text = String::from_str(alloc, "tokens")?;
     push_tokens(&mut text, set, terminals)?;

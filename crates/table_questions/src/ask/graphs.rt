@@ -1,4 +1,4 @@
-//! Questions of the graph of LR(0) states.
+//! Questions on the graph of the LR(0) states.
 ghost use Rattle.std.specs.Prelude.{IfOk};
 ghost use Rattle.lalrpop_base.specs.Words.{IsWellFormed, rules_of};
 ghost use Rattle.lalrpop_tables.specs.Words.{AreLr0States};
@@ -16,7 +16,7 @@ use lalrpop_tables::build::build_lr0_states;
 use lalrpop_tables::state_graph::StateGraph;
 use std::alloc::Global;
 
-/// The answer to a question of the graph of LR(0) states, where the call is one.
+/// The result of a question on the graph of the LR(0) states. `None` if the call has another name.
 pub fn answer(
     alloc: Global,
     question: &Question<'_>,
@@ -35,7 +35,7 @@ pub fn answer(
     }
 }
 
-/// The LR(0) states of a grammar, whether they have conflicts or not.
+/// The LR(0) states of a grammar, also if they have conflicts.
 pub fn lr0_states<'grammar>(
     alloc: Global,
     grammar: &'grammar Grammar,
@@ -54,7 +54,7 @@ pub fn lr0_states<'grammar>(
     }
 }
 
-// The answer to a question of a graph.
+// The result of a question on a graph.
 fn graph_answer(
     alloc: Global,
     question: &Question<'_>,
@@ -97,7 +97,7 @@ fn push_graph(
     Ok(())
 }
 
-// The successors of a state, in order.
+// The successors of a state, in the order of the call.
 fn successors_of(
     alloc: Global,
     graph: &StateGraph,
@@ -110,7 +110,7 @@ fn successors_of(
     Ok(list)
 }
 
-// Appends the states from which a symbol leads to a state.
+// Appends the states from which the symbol of the third argument leads to a state.
 fn push_predecessors(
     alloc: Global,
     text: &mut String,

@@ -1,11 +1,12 @@
-//! Items that words name.
+//! Items that arguments name.
 use case_files::question::QuestionError;
 use lalrpop_base::lr1_core::item::{Item, Lr0Item};
 use lalrpop_base::repr::Production;
 use lalrpop_base::repr::grammar::Grammar;
 
-/// The item that an argument, or a part of it, names: the number of an action, a point and the
-/// place of the dot.
+/// The item that an argument, or a part of it, names. It has the form `2.1`: the number of an
+/// action, a point and the place of the dot. `argument` is the number of the argument, for the
+/// error.
 pub fn item_of<'grammar>(
     grammar: &'grammar Grammar,
     word: &str,
@@ -24,7 +25,7 @@ pub fn item_of<'grammar>(
     }
 }
 
-// The production whose action has a number.
+// The production whose action has a number. `None` if there is no such action.
 fn production_of(grammar: &Grammar, action: usize) -> Option<&Production> {
     for (_, entry) in grammar.nonterminals.iter() {
         let mut productions = entry.productions.iter();

@@ -1,4 +1,4 @@
-//! Questions of kernels, without lookahead.
+//! Questions on kernels without lookahead.
 use super::items::item_of;
 use case_files::question::{Question, QuestionError};
 use case_files::show::words::push_item;
@@ -13,7 +13,7 @@ use lalrpop_base::sequence::Sequence;
 use lalrpop_tables::build::Kernel;
 use std::alloc::Global;
 
-/// The answer to a question of kernels, where the call is one.
+/// The result of a question on kernels. `None` if the call has another name.
 pub fn answer(
     alloc: Global,
     question: &Question<'_>,
@@ -25,7 +25,8 @@ pub fn answer(
     }
 }
 
-// The numbers of kernels that are added, and those that are handed out between.
+// The numbers of the kernels that are added, and the kernels that `next` returns between the
+// additions.
 fn kernels(
     alloc: Global,
     question: &Question<'_>,
@@ -47,7 +48,7 @@ fn kernels(
     Ok(text)
 }
 
-// Appends the kernel that is handed out, if there is one.
+// Appends the kernel that `next` returned, or `none`.
 fn push_next(
     text: &mut String,
     next: Option<Kernel<'_, Nil>>,
@@ -65,7 +66,8 @@ fn push_next(
     Ok(())
 }
 
-// The kernel of the items that a word names, where all dots stand first or none does.
+// The kernel of the items that an argument names, between which `;` is. `None` if a part is no
+// item, or if some dots are at the start and others are not.
 fn kernel_of<'grammar>(
     alloc: Global,
     grammar: &'grammar Grammar,

@@ -1,4 +1,4 @@
-//! Questions of lane tables.
+//! Questions on lane tables.
 ghost use Rattle.std.specs.Prelude.{IfOk};
 ghost use Rattle.lalrpop_base.specs.Words.{IsWellFormed};
 ghost use Rattle.table_questions.specs.Traces.{AreReady, IsTracing};
@@ -28,7 +28,7 @@ use lalrpop_tables::lane_table::{have_own_items, reduces_own};
 use lalrpop_tables::state_graph::StateGraph;
 use std::alloc::Global;
 
-/// The answer to a question of lane tables, where the call is one.
+/// The result of a question on lane tables. `None` if the call has another name.
 pub fn answer(
     alloc: Global,
     question: &Question<'_>,
@@ -44,7 +44,8 @@ pub fn answer(
     }
 }
 
-// The table that tracing the actions of a state leaves.
+// The lane table after all actions of a state were traced, and the cells that each action gives
+// alone.
 fn traced_table(
     alloc: Global,
     question: &Question<'_>,
@@ -62,7 +63,7 @@ fn traced_table(
     Ok(text)
 }
 
-/// The actions of an LR(0) state that are traced.
+/// A grammar, its LR(0) states, and the actions of one of them that are traced.
 #[derive(Drop)]
 pub struct Traces<'grammar> {
     pub grammar: &'grammar Grammar,
@@ -72,7 +73,7 @@ pub struct Traces<'grammar> {
     pub actions: Set<Action<'grammar>>,
 }
 
-/// The actions of the state that the second argument names.
+/// The actions of the state whose number is the second argument.
 #[tactic(auto, using(crate::proofs::OwnItems::ready_traces))]
 pub fn traces_of<'grammar>(
     alloc: Global,
@@ -102,8 +103,8 @@ pub fn traces_of<'grammar>(
     })
 }
 
-// Appends the tokens of each action in the row of each state, as tracing that action alone leaves
-// them.
+// Appends the tokens of each action in the row of each state. Each action is traced into a table of
+// its own.
 fn push_cells(alloc: Global, text: &mut String, traces: &Traces<'_>) -> Result<(), QuestionError>
     requires { AreReady traces.now }
 {
@@ -117,7 +118,7 @@ fn push_cells(alloc: Global, text: &mut String, traces: &Traces<'_>) -> Result<(
     Ok(())
 }
 
-// Appends the tokens that tables, of one action each, have in the row of a state.
+// Appends the tokens in the row of a state of tables, each of which has one action traced.
 fn push_cells_of(
     alloc: Global,
     text: &mut String,
@@ -139,7 +140,7 @@ fn push_cells_of(
     Ok(())
 }
 
-// Appends the tokens of one action in the row of a state, if there are some.
+// Appends the tokens of one action in the row of a state, unless there are none.
 fn push_cell(
     text: &mut String,
     state: usize,
@@ -155,7 +156,7 @@ fn push_cell(
     Ok(())
 }
 
-/// The table that tracing the actions from one number to before another leaves.
+/// The lane table after the actions with the numbers `from..to` were traced.
 #[tactic(auto, using(crate::proofs::OwnItems::coherent_there, crate::proofs::OwnItems::own_there, crate::proofs::OwnItems::tracing_start))]
 pub fn traced<'grammar>(
     alloc: Global,
@@ -187,7 +188,8 @@ pub fn traced<'grammar>(
     Ok(tracer.into_table())
 }
 
-// Traces an action where its number is from one to before another.
+// Traces an action, if its number is in `from..to` and it does not reduce by a production of
+// another grammar.
 #[tactic(auto, using(crate::proofs::OwnItems::tracing_more, crate::proofs::OwnItems::action_own, crate::proofs::OwnItems::state_listed, crate::proofs::OwnItems::column_there))]
 fn trace<'grammar>(
     alloc: Global,
@@ -213,7 +215,7 @@ fn trace<'grammar>(
     tracer.start_trace(alloc, state, ConflictIndex::new(place), copy)
 }
 
-// What the calls of a table tell that has the cells and successors that arguments name.
+// The results of the calls of a table that has the cells and successors that arguments name.
 fn made_table(
     alloc: Global,
     question: &Question<'_>,
@@ -239,7 +241,8 @@ fn made_row(
     Ok(text)
 }
 
-// A table with the cells and successors that arguments name from the third on.
+// A table with the cells and successors that the arguments from the third on name. A comma is
+// between two of them.
 fn table_of<'grammar>(
     alloc: Global,
     question: &Question<'_>,
@@ -259,7 +262,7 @@ fn table_of<'grammar>(
     Ok(table)
 }
 
-// Adds a cell or a successor, by the arguments from one number to before another.
+// Adds the cell or the successor that the arguments `from..to` name.
 fn add(
     alloc: Global,
     table: &mut LaneTable<'_>,

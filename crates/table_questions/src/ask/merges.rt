@@ -1,4 +1,4 @@
-//! Questions of the merging of states.
+//! Questions on the merging of states.
 ghost use Rattle.std.specs.Prelude.{IfOk};
 ghost use Rattle.lalrpop_base.specs.Words.{IsWellFormed};
 ghost use Rattle.lalrpop_tables.specs.Words.{IsMerging};
@@ -18,7 +18,7 @@ use lalrpop_tables::lane_table::table::LaneTable;
 use lalrpop_tables::lane_table::table::rows::RowsError;
 use std::alloc::Global;
 
-/// The answer to a question of the merging of states, where the call is one.
+/// The result of a question on the merging of states. `None` if the call has another name.
 pub fn answer(
     alloc: Global,
     question: &Question<'_>,
@@ -32,7 +32,7 @@ pub fn answer(
     }
 }
 
-// The merging of the LR(0) states, of which none is copied yet, by the lane table of one of them.
+// The merging of the LR(0) states, of which none is a copy yet, by the lane table of one of them.
 fn merge(alloc: Global, question: &Question<'_>, grammar: &Grammar) -> Result<String, QuestionError>
     requires { IsWellFormed grammar.now }
 {
@@ -56,8 +56,7 @@ fn merge(alloc: Global, question: &Question<'_>, grammar: &Grammar) -> Result<St
     Ok(text)
 }
 
-// Appends how many states there are, and the reductions of the state that was traced and of all
-// copies.
+// Appends the number of states, and the reductions of the state that was traced and of all copies.
 fn push_merged(
     text: &mut String,
     states: &[Lr1State<'_>],
@@ -73,7 +72,7 @@ fn push_merged(
     Ok(())
 }
 
-// The merging of states by a table, before anything is merged.
+// The merging of states by a table, before any states are merged.
 fn merge_of<'table, 'grammar>(
     alloc: Global,
     question: &Question<'_>,
@@ -100,8 +99,8 @@ fn merge_of<'table, 'grammar>(
     Ok(merge)
 }
 
-// Walks from each state where lanes begin, up to the first that is refused, and tells whether none
-// is.
+// Starts at each beachhead that has a row, until a start is refused. Returns whether none was
+// refused.
 fn start_all(
     alloc: Global,
     text: &mut String,

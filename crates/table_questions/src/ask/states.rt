@@ -1,4 +1,4 @@
-//! Questions of states.
+//! Questions on states.
 ghost use Rattle.lalrpop_base.specs.Words.{IsWellFormed};
 
 use super::arguments::{method_at, options_from};
@@ -20,7 +20,7 @@ use lalrpop_tables::lane_table::build_lane_table_states;
 use lalrpop_tables::lr1::{build_states, build_states_or_count};
 use std::alloc::Global;
 
-/// The answer to a question of states, where the call is one.
+/// The result of a question on states. `None` if the call has another name.
 pub fn answer(
     alloc: Global,
     question: &Question<'_>,
@@ -91,7 +91,7 @@ fn lr1_states(
     Ok(text)
 }
 
-// The LR(1) states of a grammar by a method, or how many conflicts there are.
+// The LR(1) states of a grammar by a method, or the number of conflicts.
 fn states_or_count(
     alloc: Global,
     question: &Question<'_>,
@@ -132,7 +132,7 @@ fn lane_states(
     Ok(text)
 }
 
-/// The canonical states by their construction numbers, with or without conflicts.
+/// The canonical states in the order of their construction, also if they have conflicts.
 pub fn canonical_states<'grammar>(
     alloc: Global,
     grammar: &'grammar Grammar,
@@ -157,7 +157,7 @@ pub fn canonical_states<'grammar>(
     }
 }
 
-// The canonical states of a grammar, which may be changed first, merged.
+// The canonical states of a grammar, collapsed. Arguments can change the states first.
 fn collapsed_states(
     alloc: Global,
     question: &Question<'_>,
@@ -178,7 +178,8 @@ fn collapsed_states(
     Ok(text)
 }
 
-// Appends what a construction answers, or its counts alone where the question asks for these.
+// Appends the result of a construction, or only its counts if the question has the argument
+// `count`.
 fn push_answer<L: ShownLookahead>(
     text: &mut String,
     question: &Question<'_>,

@@ -1,4 +1,4 @@
-//! Questions of token sets.
+//! Questions on token sets.
 use super::arguments::{piece_end, token_at, tokens_between};
 use case_files::question::{Question, QuestionError};
 use case_files::show::words::push_tokens;
@@ -10,7 +10,7 @@ use std::alloc::Global;
 use std::cmp::Ordering;
 use std::hash::{DefaultHasher, Hash, Hasher};
 
-/// The answer to a question of token sets, where the call is one.
+/// The result of a question on token sets. `None` if the call has another name.
 pub fn answer(
     alloc: Global,
     question: &Question<'_>,
@@ -23,8 +23,9 @@ pub fn answer(
     }
 }
 
-// What the calls of one set report: its bits, whether it has tokens, also those of no terminal, and
-// what is left after the end of the input was taken out twice.
+// The results of calls on one set: its tokens and bits, whether it has the tokens after the comma,
+// and its tokens after `take_eof` was called twice. A token after the comma need not be a terminal
+// of the grammar.
 fn token_set(
     alloc: Global,
     question: &Question<'_>,
@@ -52,7 +53,7 @@ fn token_set(
     Ok(text)
 }
 
-// Appends whether a set for which room is reserved equals a new one with the same tokens, and
+// Appends whether a set for which room is reserved is equal to a new one with the same tokens, and
 // whether their hashes are equal.
 fn push_reserved(
     alloc: Global,
@@ -72,14 +73,14 @@ fn push_reserved(
     Ok(())
 }
 
-// What a hasher makes of a set.
+// The hash of a set.
 fn hash(set: &TokenSet) -> u64 {
     let mut hasher = DefaultHasher::new();
     set.hash(&mut hasher);
     hasher.finish()
 }
 
-// What the calls of two sets tell.
+// The results of calls on two sets, and of taking `Eof` out of the first.
 fn token_sets(
     alloc: Global,
     question: &Question<'_>,
@@ -100,7 +101,7 @@ fn token_sets(
     Ok(text)
 }
 
-// Appends how two sets stand to one another.
+// Appends the union, the intersection and the order of two sets, and whether they are disjoint.
 fn push_joined(
     alloc: Global,
     text: &mut String,

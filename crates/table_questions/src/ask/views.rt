@@ -1,4 +1,5 @@
-//! Questions of what states show of the stack.
+//! Questions on the views of states: the prefix that a state has read, and what it pops, pushes and
+//! produces.
 ghost use Rattle.lalrpop_base.specs.Words.{IsWellFormed};
 
 use super::checks::states_by;
@@ -10,7 +11,7 @@ use lalrpop_base::repr::grammar::Grammar;
 use lalrpop_tables::build::build_lr0_states;
 use std::alloc::Global;
 
-/// The answer to a question of views, where the call is one.
+/// The result of a question on views. `None` if the call has another name.
 pub fn answer(
     alloc: Global,
     question: &Question<'_>,
@@ -24,7 +25,8 @@ pub fn answer(
     }
 }
 
-// The views of the LR(0) states, or of the canonical ones.
+// The views of the canonical states if the second argument is `canonical`, and else of the LR(0)
+// states.
 fn views(alloc: Global, question: &Question<'_>, grammar: &Grammar) -> Result<String, QuestionError>
     requires { IsWellFormed grammar.now }
 {

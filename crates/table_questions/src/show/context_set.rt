@@ -1,5 +1,5 @@
-//! Context sets: the tokens of each column. A column is seen by what an insertion into a copy
-//! answers.
+//! Context sets: the tokens of each column. An insertion of a token into a copy shows whether a
+//! column has the token.
 ghost use Rattle.std.specs.Prelude.{◌≡◌, ◌<◌, length};
 
 use case_files::show::words::push_tokens;
@@ -10,7 +10,7 @@ use lalrpop_base::repr::terminals::TerminalSet;
 use lalrpop_tables::lane_table::context_set::{ConflictIndex, ContextSet, OverlappingLookahead};
 use std::alloc::Global;
 
-/// Appends the tokens of each column, with a bar between two.
+/// Appends the tokens of each of `count` columns, with a bar between two columns.
 pub fn push_columns(
     alloc: Global,
     text: &mut String,
@@ -49,7 +49,7 @@ pub fn column_of(
     Ok(tokens)
 }
 
-// The set of the token with a number: a terminal, the end, or an error.
+// The set of the token with a number: a terminal by its place, then `Eof`, then `Error`.
 fn one_token(
     alloc: Global,
     place: usize,
@@ -69,7 +69,8 @@ fn one_token(
     TokenSet::of(alloc, Token::Terminal(terminal), terminals)
 }
 
-// Whether a column has tokens: a copy neither grows by them nor refuses them.
+// Whether a column has the tokens: if they are inserted into a copy, the copy does not grow and
+// does not refuse them.
 fn has_tokens(
     alloc: Global,
     set: &ContextSet,

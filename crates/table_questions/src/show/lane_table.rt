@@ -1,4 +1,4 @@
-//! Lane tables, and the actions that their columns stand for.
+//! Lane tables, and the actions of their columns.
 use super::context_set::push_columns;
 use case_files::show::graph::push_state_set;
 use case_files::show::words::push_production;
@@ -11,7 +11,7 @@ use lalrpop_tables::lane_table::table::LaneTable;
 use lalrpop_tables::lane_table::table::rows::RowsError;
 use std::alloc::Global;
 
-/// Appends actions, each with its number.
+/// Appends the actions, each with its number from 0.
 pub fn push_actions(text: &mut String, actions: &Set<Action<'_>>) -> Result<(), OutOfMemory> {
     for (place, action) in actions.iter().enumerate() {
         match action {
@@ -28,8 +28,8 @@ pub fn push_actions(text: &mut String, actions: &Set<Action<'_>>) -> Result<(), 
     Ok(())
 }
 
-/// Appends what the calls of a lane table tell: successors, columns, rows, the states where lanes
-/// begin, and whether the table is closed over so many states.
+/// Appends the results of the calls of a lane table: the successors, columns, rows and beachheads,
+/// and whether the table is closed over `count` states.
 pub fn push_lane_table(
     alloc: Global,
     text: &mut String,
@@ -46,7 +46,7 @@ pub fn push_lane_table(
     Ok(())
 }
 
-// Appends the successors of each state that has some.
+// Appends the successors of each state that has successors.
 fn push_successors(
     text: &mut String,
     table: &LaneTable<'_>,
@@ -62,7 +62,7 @@ fn push_successors(
     Ok(())
 }
 
-// Appends the columns, joined over all rows.
+// Appends the columns, joined over all rows, or that they overlap.
 fn push_all_columns(
     alloc: Global,
     text: &mut String,
@@ -81,7 +81,7 @@ fn push_all_columns(
     }
 }
 
-// Appends the rows.
+// Appends the rows, or a state whose row overlaps.
 fn push_rows(
     alloc: Global,
     text: &mut String,

@@ -1,4 +1,5 @@
--- What is carried to a finished item is in its lookahead set, so reductions that hold these hold what is carried.
+-- A token that is carried to a finished item is in its lookahead set. So reductions that hold their
+-- lookahead sets hold the carried tokens.
 use Rattle.std.proofs.Common.{◌≡◌, ◌∙◌, ℕ, suc, Bool, true, List, length, refl, sym, ap, subst, arith, Option, Some, None}
 use Rattle.std.specs.Prelude.{slice_get, Contains}
 use Rattle.std.specs.Borrow.{Bor}
@@ -41,7 +42,7 @@ module _ (g : Grammar) (start : NonterminalString) (states : List (State Bits)) 
   abbrev any : Bits → Token → Bool
   any = λ lookahead t. true
 
-  -- the places are those of the states
+  -- the contents have the same places as the states
   pub here_there : AreSamePlaces here places
   here_there = places_same (holds_token g.terminals) any states states (place_itself states)
 

@@ -1,4 +1,4 @@
--- The check, whole.
+-- The check as a whole.
 use Rattle.std.proofs.Common.{◌↔◌, ◌<◌, ℕ, List, length}
 use Rattle.std.specs.Prelude.{Contains}
 use Rattle.std.specs.BTreeSet.{BTreeSet}

@@ -1,4 +1,4 @@
--- What is carried, from the table that the worklist leaves.
+-- The carried tokens are those of the table that the worklist leaves.
 use Rattle.std.proofs.Common.{◌≡◌, ◌≤◌, ◌+◌, ℕ, suc, List, ◌∷◌, length, drop, refl, sym, ◌∙◌, ap, subst, arith, true, Option, Some, None, ⊎_elim}
 use Rattle.std.specs.Prelude.{Contains, slice_get}
 use Rattle.std.specs.Borrow.{Bor}
@@ -19,7 +19,7 @@ use Rattle.lalrpop_states.proofs.theory.grammars.KnownTerminals.{token_bit, held
 use Rattle.lalrpop_collections.proofs.theory.lists.Members.{Contains-none, contains_map, place}
 use Rattle.lalrpop_collections.proofs.theory.lists.Places.{contains_at, same_some, filled}
 
--- each bit of a token is that of one
+-- each bit is that of a token
 token_at : (terminals : List TerminalString) → AllDiffer terminals → (bit : ℕ) → bit ≤ length terminals + 1 → (t : Token) × (token_bit terminals t ≡ Some bit)
 token_at terminals differ bit l =
     ⊎_elim (λ less. let f = filled terminals bit less in (TokenOf f.0, place_is terminals differ f.0 bit f.1))
@@ -49,7 +49,7 @@ module _ (g : Grammar) (start : NonterminalString) (states : List (State Bits)) 
       let r = (are.settled (at_place n parent at, f.0) f.1).into q after b c in
       (r.set, r.entry)
 
-  -- each item of a reached state has its place
+  -- each item of a reached state has an entry at its place
   has_place : {n : ℕ} → IsReached S n → (p : Production) (dot : ℕ) → items_of S n p dot → Has n p dot
   has_place at_zero p dot i = from_closure 0 (IsAtStart (productions g) start) (λ q d h. let b = are.started q h.1 h.2 in (b.set, subst (λ (k : ℕ). Contains table (at_place 0 q k, b.set)) (sym h.0) b.entry)) ((closed.first p dot).0 i)
   has_place (over_edge {n} m x r e) p dot i = from_closure m (IsMoved (items_of S n) x) (λ q d h.
@@ -57,7 +57,7 @@ module _ (g : Grammar) (start : NonterminalString) (states : List (State Bits)) 
       let a = moved_all n m q h.before x h.after f.0 f.1 e h.behind in
       (a.set, subst (λ (k : ℕ). Contains table (at_place m q k, a.set)) (sym h.moved) a.entry)) ((closed.next n m x e p dot).0 i)
 
-  -- and holds what is carried to it
+  -- the entry has each token that is carried to the place
   has_token : {n : ℕ} {p : Production} {dot : ℕ} {t : Token} → IsCarried (productions g) start S n p dot t → (s : Bits) × Contains table (at_place n p dot, s) × (holds_token g.terminals s t ≡ true)
   has_token (eof_at_start p among named) = let b = are.started p among named in (b.set, b.entry, b.there)
   has_token (over {n} {p} {dot} {t} m x after c e behind) =

@@ -54,7 +54,8 @@ burden_le n (e ∷ es) =
     let w = sum_by-cons f e es in
     omega arith
 
--- the tokens that may follow what an item leads to
+-- a token is in the given set if it begins the rest, or if the rest is nullable and the token is in
+-- the follow set
 given_cases : (g : Rules) (rest : List Symbol) (follow given : Bits) → IsFirstSetBefore g rest follow given → (t : Token) (bit : ℕ) → token_bit g.terminals t ≡ Some bit → (has given bit ≡ true) ↔ (Begins g rest t ⊎ (IsNullable g.productions rest × (has follow bit ≡ true)))
 given_cases g rest follow given first Eof bit e =
     let at : length g.terminals ≡ bit = same_some (length g.terminals) bit e in
@@ -86,7 +87,7 @@ module _ (g : Grammar) (start : NonterminalString) (states : List (State Bits)) 
   pub limit : ℕ
   limit = length (places_of 0 states) * (length g.terminals + 2 + 1)
 
-  -- what is carried is sound, and waits or is settled
+  -- the carried tokens are sound, and each place waits or is settled
   pub record IsCarrying (table : Carried) (queue : List Place) : Type 0 where
     pub sound : AreCarriedTo g start states table
     pub started : HasStarted g start table
@@ -122,7 +123,7 @@ module _ (g : Grammar) (start : NonterminalString) (states : List (State Bits)) 
   all_below : (table : Carried) → AreCarriedTo g start states table → AllBelow (length g.terminals + 2) table
   all_below table sound e c = below e.1 (sound e c).fits
 
-  -- ---- what is sent is sound
+  -- ---- sent tokens are sound
   sends_sound : (Such : Place → Type 0) (tokens : Bits) (old new : Carried) (queue pushed : List Place) → Sends Such tokens old new queue pushed → ((k : Place) → Such k → IsCarriedTo g start states k tokens) → AreCarriedTo g start states old → AreCarriedTo g start states new
   sends_sound Such tokens old new queue pushed s such sound e c = record {
     reached = elim (s.adds.keys e c) [ inl o ↦ (let f = key_entry old e.0 o in (sound (e.0, f.0) f.1).reached) | inr n ↦ (such e.0 n).reached ];
@@ -279,7 +280,7 @@ module _ (g : Grammar) (start : NonterminalString) (states : List (State Bits)) 
           let h = few new new_sound (v.into.differ (v.over.differ c.differ)) in
           omega arith
 
-    -- ---- its start
+    -- ---- the start of the loop
     abbrev eof : Bits
     eof = with_bit no_bits (length g.terminals)
 

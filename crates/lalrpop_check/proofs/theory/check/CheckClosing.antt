@@ -34,7 +34,7 @@ Begun-more ps p key a b c is at x y =
     ])
     a b c x y
 
--- the productions of the nonterminal behind a dot
+-- the productions of the nonterminal after a dot
 pub Expansions-over : (g : Grammar) (item : Key) (name : NonterminalString) (a b : Walk Key) → slice_get item.production.symbols item.index ≡ Some (Nonterminal name) → Visits (IsBegun (productions_of g name)) a b → Visits (IsExpansionOf g item) a b
 Expansions-over g item name a b behind x =
     Visits-same (IsBegun (productions_of g name)) (IsExpansionOf g item)
@@ -94,7 +94,7 @@ module _ (g : Grammar) (base : List Key) where
   abbrev InClosureOf : Key → Type 0
   InClosureOf k = InClosure (productions g) (Found base) k.production k.index
 
-  -- what was found so far, and the keys that are done
+  -- the items found so far, and those that are done
   pub record IsClosing (walk : Walk Key) : Type 0 where
     pub done : List Key
     pub at : IsTraversing (Contains base) (IsExpansionOf g) InClosureOf done walk
@@ -131,7 +131,7 @@ module _ (g : Grammar) (base : List Key) where
     pub Closing-smaller : IsWellFormed g → length room + length after.waiting.items - length after.visited.keys < length room + length before.waiting.items - length before.visited.keys
     Closing-smaller well = Traversing-smaller (Contains base) (IsExpansionOf g) InClosureOf room (λ k c. in_room k.production k.index c) h.done (h.done ++ key ∷ []) key before popped after same taken h.at v (stepped well)
 
-  -- when none waits
+  -- if no item waits
   module _ (own : AreOwn g) (walk : Walk Key) (none : walk.waiting.items ≡ []) (h : IsClosing walk) where
     complete : {p : Production} {dot : ℕ} → InClosure (productions g) (Found base) p dot → Contains walk.visited.keys (lr0 p dot)
     complete {p} {dot} (in_kernel c) = h.at.begun (lr0 p dot) c
@@ -142,7 +142,7 @@ module _ (g : Grammar) (base : List Key) where
     pub Closing-end : AreClosure g (Found base) walk.visited.keys
     Closing-end k = (h.at.reached k, complete)
 
--- where such keys were visited, the closure is that of these
+-- if exactly these items were visited at first, the closure is that of these
 pub Closure-of : (g : Grammar) (Such : Production → ℕ → Type 0) (none walk : Walk Key) (closed : List Key) → none.visited.keys ≡ [] → none.waiting.items ≡ [] → Visits (λ k. Such k.production k.index) none walk → AreClosure g (Found walk.visited.keys) closed → AreClosure g Such closed
 Closure-of g Such none walk closed no_visits no_waits v c k =
     let such = visited_such (λ i. Such i.production i.index) none walk no_visits no_waits v in (

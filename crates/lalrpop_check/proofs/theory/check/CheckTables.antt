@@ -1,4 +1,4 @@
--- What the check asks of each state is what the definitions ask of all.
+-- The conditions on each state are the conditions of the definitions on all states.
 use Rattle.std.proofs.Common.{◌≡◌, ◌↔◌, ◌<◌, ◌+◌, ℕ, zero, suc, ◌⊎◌, inl, inr, List, [], ◌∷◌, length, drop, refl, sym, ◌∙◌, ap, subst, arith, Bool, true, Option, Some, None, option_map}
 use Rattle.std.specs.Prelude.{Contains, slice_get}
 use Rattle.std.specs.Borrow.{Bor}
@@ -27,12 +27,12 @@ use Rattle.lalrpop_collections.proofs.theory.lists.Places.{contains_at, same_som
 use Rattle.lalrpop_construction.proofs.theory.conflicts.ConflictFree.{nowhere_conflict}
 use Rattle.lalrpop_construction.proofs.theory.construction.StateEdges.{leads_transition, no_leads}
 
--- where something is in a closure, something is in its kernel
+-- if a closure has an item, its kernel has one
 kernel_of : (g : List Production) (K : Production → ℕ → Type 0) {p : Production} {dot : ℕ} → InClosure g K p dot → (q : Production) × (d : ℕ) × K q d
 kernel_of g K {p} {dot} (in_kernel k) = (p, dot, k)
 kernel_of g K (expanded q after c b a) = kernel_of g K c
 
--- an item that is listed stands in the items
+-- a dotted production that is listed is one of the items
 pub item_at : (items : List (Dotted Bits)) (p : Production) (dot : ℕ) → Contains (dots items) (p, dot) → (i : Dotted Bits) × Contains items i × (i.production ≡ p) × (i.index ≡ dot)
 item_at items p dot c = let h = contains_of_map dotted_of items (p, dot) c in (h.0, h.1, ap (λ (d : Production × ℕ). d.0) h.2, ap (λ (d : Production × ℕ). d.1) h.2)
 
@@ -143,7 +143,7 @@ module _ (g : Grammar) (start : NonterminalString) (states : List (State Bits)) 
   is_target : (n m : ℕ) (x : Symbol) → leads (S n) x ≡ Some m → Contains targets m
   is_target n m x e = let h = from_here n m x e in (are_targets m).1 (record { from = h.state; place = n; there = h.at; leads = (x, sym (leads_here n h x) ∙ e) })
 
-  -- what moved into a target came over each of its edges
+  -- an item that moved into a target came over each of its edges
   moved_from : (n m : ℕ) (x : Symbol) → leads (S n) x ≡ Some m → (h : IsHere m) (p : Production) (dot : ℕ) → IsMovedIn (dots h.state.items.vec.items) p dot → IsMoved (items_of S n) x p dot
   moved_from n m x e h p zero c = let l = c.0 in absurd (omega arith)
   moved_from n m x e h p (suc dot) c =
@@ -151,7 +151,7 @@ module _ (g : Grammar) (start : NonterminalString) (states : List (State Bits)) 
       let item = (items_here m h p (suc dot)).1 c.1 in
       record { before = dot; after = drop (suc dot) p.symbols; moved = refl; item = edge.origin p dot item; behind = drop_split dot p.symbols x (edge.over p dot item) }
 
-  -- ---- from what is asked of each state
+  -- ---- from the conditions on each state
   module _ (right : AreRightStates g start listed targets states) where
     right_here : (n : ℕ) (h : IsHere n) → IsRightState g start listed targets n h.set.keys h.state
     right_here n h = right n h.state h.set h.at h.listed_at
@@ -246,7 +246,7 @@ module _ (g : Grammar) (start : NonterminalString) (states : List (State Bits)) 
     unfolding here_at
     Right-free n s e = (right_here n (here_at n s e)).free
 
-  -- ---- and to it
+  -- ---- to the conditions on each state
   module _ (closed : AreClosed (productions g) start S) (reductions : (n : ℕ) → ReducesFinished (S n)) (free : HaveNoConflict g.terminals states) where
     right_target : (m : ℕ) (h : IsHere m) → Contains targets m → IsRightTarget g h.state.items.vec.items h.set.keys
     unfolding here_at

@@ -1,4 +1,4 @@
--- Kernels by number that are expected of states stand for kernels of dotted productions.
+-- A kernel by number that is expected of a state is a kernel of dotted productions.
 use Rattle.std.proofs.Common.{◌≡◌, ◌∙◌, ℕ, zero, suc, ◌<◌, ◌≤◌, ◌+◌, List, length, map, sym, ap, subst, arith, Some}
 use Rattle.std.specs.Prelude.{◌↔◌, slice_get, Contains}
 use Rattle.std.proofs.lemmas.List.{length-map}
@@ -18,7 +18,7 @@ use Rattle.lalrpop_construction.proofs.theory.numbers.Numbers.{at_number, items_
 use Rattle.lalrpop_construction.proofs.theory.construction.Lookaheads.{nothing_fits}
 
 -- ---- numbers that rise
--- each of the first so many is less than the next
+-- each of the first n numbers is less than the next
 abbrev pub RiseBelow : List (Numbered Nil) → ℕ → Type 0
 RiseBelow xs n = (j : ℕ) (a b : Numbered Nil) → j + 1 < n → slice_get xs j ≡ Some a → slice_get xs (j + 1) ≡ Some b → a.number < b.number
 
@@ -53,7 +53,7 @@ module _ (c : Construction Nil) (n : Numbers) (numbers : AreNumbers c.rules n) (
   within : AreNumbered known kernel
   within e among = let i = m.each e among in slice_get_within known e.number i.item i.at
 
-  -- an item of the kernel is the grammar's, and its dot moved
+  -- an item of the kernel is of the grammar, and its dot moved
   record IsMovedItem (i : Dotted Nil) : Type 0 where
     own : IsItemBy no_tokens c.rules i
     past : 0 < i.index

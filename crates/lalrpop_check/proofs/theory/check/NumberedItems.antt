@@ -1,4 +1,4 @@
--- What stands behind the dot of an item, by its number.
+-- The symbol after the dot of an item, by its number.
 use Rattle.std.proofs.Common.{◌≡◌, ◌∙◌, ℕ, List, length, refl, sym, ap, arith, Option, Some, None}
 use Rattle.std.specs.Prelude.{slice_get}
 use Rattle.std.proofs.lemmas.Option.{slice_get_within}
@@ -8,14 +8,14 @@ use Rattle.lr1_theory.proofs.theory.grammars.Tables.{same_lr0}
 use Rattle.lalrpop_collections.proofs.theory.lists.Places.{filled, same_some}
 use Rattle.lalrpop_numbers.specs.declared.numbers.Numbers.{Numbers}
 
--- the parts of dotted productions that are one
+-- equal dotted productions have equal parts
 pub one_production : (p q : Production) (d e : ℕ) → with_dot p d ≡ with_dot q e → p ≡ q
 one_production p q d e same = ap (λ (i : Dotted Nil). i.production) same
 
 pub one_dot : (p q : Production) (d e : ℕ) → with_dot p d ≡ with_dot q e → d ≡ e
 one_dot p q d e same = ap (λ (i : Dotted Nil). i.index) same
 
--- a dotted production by its parts
+-- a dotted production is given by its parts
 pub by_parts : (i : Dotted Nil) → i ≡ with_dot i.production i.index
 by_parts i = same_lr0 i (with_dot i.production i.index) refl refl
 
@@ -23,7 +23,7 @@ module _ (g : Rules) (n : Numbers) (numbers : AreNumbers g n) where
   abbrev known : List (Dotted Nil)
   known = n.items.items
 
-  -- what stands behind the dot of a number
+  -- the entry of a number has the symbol after its dot
   pub record Behind (k : ℕ) (i : Dotted Nil) : Type 0 where
     pub number : Option ℕ
     pub at : slice_get n.behind.items k ≡ Some number
@@ -36,7 +36,7 @@ module _ (g : Rules) (n : Numbers) (numbers : AreNumbers g n) where
       let f = filled n.behind.items k (omega arith) in
       record { number = f.0; at = f.1; is = numbers.behind k i f.0 at f.1 }
 
-  -- a symbol behind the dot has a number
+  -- a symbol after the dot has a number
   pub record BehindSome (k : ℕ) (s : Symbol) : Type 0 where
     pub number : ℕ
     pub at : slice_get n.behind.items k ≡ Some (Some number)
@@ -49,7 +49,7 @@ module _ (g : Rules) (n : Numbers) (numbers : AreNumbers g n) where
       go None at_o is = let l = slice_get_within i.production.symbols i.index s there in absurd (omega (arith, is, l))
       go (Some x) at_o is = record { number = x; at = at_o; symbol = is.1 ∙ ap Some (same_some is.0 s (sym is.2 ∙ there)) }
 
-  -- a dot at the end has nothing behind it
+  -- a dot at the end has no symbol after it
   pub behind_none : (k : ℕ) (i : Dotted Nil) → slice_get known k ≡ Some i → i.index ≡ length i.production.symbols → slice_get n.behind.items k ≡ Some None
   behind_none k i at end = go (behind_of k i at).number (behind_of k i at).at (behind_of k i at).is
     where

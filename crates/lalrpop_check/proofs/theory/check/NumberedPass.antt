@@ -27,7 +27,7 @@ module _ (g : Grammar) (start : NonterminalString) (n : Numbers) (numbers : AreN
   items_within s k state at c = (state_at g n numbers start states list listed s state at).is.over.numbered.known k c
 
   module _ (coherent : AreCoherent states) (some : 0 < length states) (lead : AllLeadOn n list) (none : IsTarget states 0 → ⊥) (reached : AreReachedByNumber list) (free : HaveNoConflict g.terminals states) where
-    -- they are closed
+    -- the states are closed
     pub passed_closed : AreClosed (productions g) start (contents g.terminals states)
     passed_closed =
         Right-closed g start states coherent (map keys_of_state states) (listed_all states) (targets g n numbers start states list listed coherent free lead reached none) (are_targets g n numbers start states list listed coherent free lead reached none)
@@ -36,7 +36,7 @@ module _ (g : Grammar) (start : NonterminalString) (n : Numbers) (numbers : AreN
     pub passed_places : AreClosed (productions g) start (places_in states)
     passed_places = closed_there (productions g) start (contents g.terminals states) (places_in states) (here_there g start states) passed_closed
 
-    -- and pass, where reductions hold the unions that are found
+    -- the states pass the check, if reductions hold the unions that are found
     pub passed : IsWellFormed g → AllDiffer g.terminals → (found : Found) → FindsLookaheads (rules_of g) start n (places_in states) (length states) found → HoldUnions found states list → PassCheck g start states
     passed well differ found finds held =
         Pass-all g start states coherent (map keys_of_state states) (listed_all states) (targets g n numbers start states list listed coherent free lead reached none) (are_targets g n numbers start states list listed coherent free lead reached none)

@@ -1,4 +1,4 @@
--- States by number that list closures, and lead on, are what the check asks of states.
+-- States by number that list closures and lead on meet the conditions of the check.
 use Rattle.std.proofs.Common.{◌≡◌, ◌∙◌, ℕ, zero, suc, Bool, ◌<◌, ◌≤◌, ◌+◌, ◌-◌, List, [], ◌∷◌, length, map, refl, sym, ap, subst, arith, inl, inr, true, Option, Some, None, option_map, ⊎_elim}
 use Rattle.std.specs.Prelude.{◌↔◌, slice_get, Contains}
 use Rattle.std.specs.Borrow.{Bor}
@@ -50,7 +50,7 @@ unfolding positive
 from_positive zero m c = absurd (Contains-none m c)
 from_positive (suc n) m c = elim (contains-cons (suc n) (positive n) m c) [ inl e ↦ (omega (arith, e), omega (arith, e)) | inr rest ↦ let r = from_positive n m rest in (r.0, omega (arith, r.1)) ]
 
--- where symbols lead is read of the state
+-- the target of a symbol in the contents is that in the state
 lead_target : (h : Bits → Token → Bool) (s : State Bits) (x : Symbol) → leads (contents_of h s) x ≡ target_of s x
 lead_target h s (Terminal t) = refl
 lead_target h s (Nonterminal a) = refl
@@ -114,7 +114,7 @@ module _ (g : Grammar) (n : Numbers) (numbers : AreNumbers (rules_of g) n) (star
         let there = contains_map dotted_of old.items.vec.items i.0 (contains_at old.items.vec.items i.0 f.0 i.1) in
         subst (λ (d : ℕ). Contains olds (p, d)) (one_dot (i.0).production p (i.0).index dot same) (subst (λ (q : Production). Contains olds (q, (i.0).index)) (one_production (i.0).production p (i.0).index dot same) there)
 
-    -- the closure
+    -- the state has the closure of its kernel
     closure_over : (K : Production → ℕ → Type 0) → ((p : Production) (dot : ℕ) → InKernel h.kernel p dot → K p dot) → ((p : Production) (dot : ℕ) → K p dot → InKernel h.kernel p dot) → AreClosure g K (keys_of_state old).keys
     closure_over K to back k = (
       λ c. InClosure-more (productions g) (InKernel h.kernel) K to ((h.closed k.production k.index).0 ((keys_list old k).0 c)),
@@ -125,7 +125,7 @@ module _ (g : Grammar) (n : Numbers) (numbers : AreNumbers (rules_of g) n) (star
     pub first_closed : s ≡ 0 → AreClosure g (IsAtStart (productions g) start) (keys_of_state old).keys
     first_closed first = closure_over (IsAtStart (productions g) start) (λ p dot. (h.is.first first p dot).0) (λ p dot. (h.is.first first p dot).1)
 
-    -- another one is the closure of what was moved
+    -- another state is the closure of its moved items
     pub moved_closed : 0 < s → IsRightTarget g old.items.vec.items (keys_of_state old).keys
     moved_closed other = record {
       some =
@@ -149,7 +149,7 @@ module _ (g : Grammar) (n : Numbers) (numbers : AreNumbers (rules_of g) n) (star
         back p zero m = absurd (let l = m.0 in omega arith)
         back p (suc d) m = past_in_kernel (productions g) (InKernel h.kernel) d refl ((h.closed p (suc d)).0 m.1)
 
-    -- finished items are reduced
+    -- each finished item is reduced
     pub finished_reduced : (i : Dotted Bits) → Contains old.items.vec.items i → i.index ≡ length i.production.symbols → Contains (reduced old.reductions.items) i.production
     finished_reduced i c end =
         let k = number_of_item i c in
@@ -161,7 +161,7 @@ module _ (g : Grammar) (n : Numbers) (numbers : AreNumbers (rules_of g) n) (star
         subst (Contains (reduced old.reductions.items)) (one_production (r.0).1.now i.production (length (r.0).1.now.symbols) i.index same)
         (contains_map (λ (q : Bits × Bor Production). q.1.now) old.reductions.items r.0 (contains_at old.reductions.items r.0 f.0 r.1))
 
-    -- once each
+    -- each finished item is reduced once
     pub reduced_once : AllDiffer (reduced old.reductions.items)
     reduced_once i j p l at_i at_j =
         let by : Bits × Bor Production → Production = λ q. q.1.now in
@@ -199,7 +199,7 @@ module _ (g : Grammar) (n : Numbers) (numbers : AreNumbers (rules_of g) n) (star
         let f = filled list s (omega (arith, l, c)) in
         (f.0, f.1)
 
-    -- an edge by number is one
+    -- an edge by number is an edge of the state
     pub edge_of : (s : ℕ) (state : NumberedState) (x m : ℕ) → slice_get list s ≡ Some state → Contains state.edges.items (x, m) → (y : Symbol) × (leads (places_in states s) y ≡ Some m)
     edge_of s state x m at c =
         let o = state_at s state at in
@@ -220,7 +220,7 @@ module _ (g : Grammar) (n : Numbers) (numbers : AreNumbers (rules_of g) n) (star
     pub all_reached : AreReachedByNumber list → AreAllReached (places_in states) (length states)
     all_reached reached s l = let c = listed.counted in reached_of (reached s (omega (arith, l, c)))
 
-    -- the dotted productions are the grammar's
+    -- the dotted productions of the states are of the grammar
     pub of_grammar : AreOfGrammar (productions g) (places_in states)
     of_grammar s q dot c = go (slice_get states s) refl c
       where
@@ -231,11 +231,11 @@ module _ (g : Grammar) (n : Numbers) (numbers : AreNumbers (rules_of g) n) (star
             let k = listed_as s old f.0 (listed.each s old f.0 at f.1) q dot d in
             numbers.items.each (with_dot q dot) (contains_at known (with_dot q dot) k.number k.at)
 
-    -- these are states by number
+    -- the list has the states by number
     pub numbered_states : AreNumberedStates n states list
     numbered_states = Listed-numbered (rules_of g) start n states list listed
 
-    -- ---- what is asked of each
+    -- ---- the conditions on each state
     module _ (coherent : AreCoherent states) (free : HaveNoConflict g.terminals states) (lead : AllLeadOn n list) (reached : AreReachedByNumber list) (none : IsTarget states 0 → ⊥) where
       abbrev pub sets : List (BTreeSet (Dotted Nil))
       sets = map keys_of_state states

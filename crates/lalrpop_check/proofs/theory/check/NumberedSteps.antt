@@ -19,7 +19,7 @@ use Rattle.lalrpop_construction.specs.declared.construction.numbered_state.Numbe
 use Rattle.lalrpop_follow_sets.proofs.theory.follow_sets.FollowBits.{held_at}
 use Rattle.lalrpop_construction.proofs.theory.states.ItemNumbers.{items_at_by, same_dots}
 
--- what is said of a value says less
+-- if a fact about a value implies another, so it is with an option
 pub if_some : {X : Type 0} (o : Option X) (P Q : X → Type 0) → ((x : X) → P x → Q x) → IfSome o P → IfSome o Q
 if_some None P Q weaker h = h
 if_some (Some x) P Q weaker h = weaker x h
@@ -34,7 +34,7 @@ Listed-more g start n done old list state before is = record {
   ];
 }
 
--- a state whose items have the numbers of a closure lists that
+-- a state lists a closure if its items have the numbers of the closure
 pub Listed-closure : (g : Rules) (known : List (Dotted Nil)) (kernel : List (Dotted Nil)) (list : List (Numbered Nil)) (old : State Bits) → AreNumbered known list → ((p : Production) (dot : ℕ) → InKernel (items_by known list) p dot ↔ InClosure g.productions (InKernel kernel) p dot) →
     AreItemsAt known (map number_in list) old.items.vec.items → ListsClosure g kernel old
 Listed-closure g known kernel list old within exact at p dot =
@@ -43,7 +43,7 @@ Listed-closure g known kernel list old within exact at p dot =
       λ h. same_dots known (map number_in list) (items_by known list) old.items.vec.items own at p dot ((exact p dot).1 h),
     )
 
--- they are states by number
+-- the listed states are the states by number
 pub Listed-numbered : (g : Rules) (start : NonterminalString) (n : Numbers) (states : List (State Bits)) (list : List NumberedState) → AreListedByNumber g start n states list → AreNumberedStates n states list
 Listed-numbered g start n states list listed = record {
   counted = listed.counted;
@@ -59,7 +59,7 @@ Listed-numbered g start n states list listed = record {
 pub Targets-none : (marks : List Bool) → MarksTargets [] marks marks
 Targets-none marks = record { counted = refl; from = λ m at. inl at }
 
--- a state that is marked
+-- the target is marked
 pub Target-marked : (target : ℕ) (old new : List Bool) → new ≡ set old target true → MarksTarget target old new
 Target-marked target old new marks = record {
   counted = ap length marks ∙ length-set old target true;
@@ -69,7 +69,7 @@ Target-marked target old new marks = record {
   ];
 }
 
--- a state that there is not
+-- there is no such target
 pub Target-none : (target : ℕ) (old : List Bool) → MarksTarget target old old
 Target-none target old = record { counted = refl; from = λ m at. inl at }
 
@@ -86,14 +86,14 @@ Targets-more done edge base old new before marks = record {
   ];
 }
 
--- what is marked by the edges of a state that is reached, is reached
+-- if a state is reached, the states that its edges mark are reached
 pub Reached-more : (list : List NumberedState) (s : ℕ) (state : NumberedState) (old new : List Bool) → slice_get list s ≡ Some state → IsReachedByNumber list s → AreMarkedReached list old → MarksTargets state.edges.items old new → AreMarkedReached list new
 Reached-more list s state old new at reached before marks m marked = elim (marks.from m marked) [
   | inl was ↦ before m was
   | inr t ↦ over_transition s t.0 m reached (subst (λ (o : Option NumberedState). Contains (listed_transitions o) (t.0, m)) (sym at) t.1)
 ]
 
--- marks that are all false
+-- marks that are all false are as many as the count says
 pub Marks-counted : (marks : List Bool) (count : ℕ) → marks ≡ replicate count false → length marks ≡ count
 Marks-counted marks count none = ap length none ∙ length-replicate count false
 

@@ -1,4 +1,4 @@
-//! Whether the symbols behind dots lead to states that list the moved items.
+//! Tests whether the symbols after dots lead to states that list the moved items.
 ghost use Rattle.std.specs.Prelude.{◌≡◌, ◌<◌, ℕ, length, slice_get, Some, Contains, IsTrue};
 ghost use Rattle.lalrpop_base.specs.Words.{Rules, AreNumbers};
 ghost use Rattle.lalrpop_check.specs.check.ByNumber.{AllLeadOn, LeadOn, LeadsOn};
@@ -9,7 +9,7 @@ use lalrpop_base::numbers::Numbers;
 use lalrpop_construction::construction::numbered_state::NumberedState;
 use lalrpop_follow_sets::follow_sets::edges::place_of;
 
-// Whether halving finds a number.
+// Whether binary search finds a number. The search may miss a number if the list does not rise.
 fn has_number(list: &[usize], number: usize) -> bool
     ensures { IsTrue result → Contains list.now number }
 {
@@ -26,7 +26,8 @@ fn has_number(list: &[usize], number: usize) -> bool
     low < list.len() && list[low] == number
 }
 
-// Whether the symbol behind the dot of an item leads to a state that lists the moved item.
+// Whether the symbol after the dot of an item leads to a state that lists the moved item. A dot at
+// the end passes.
 fn leads_on(
     numbers: &Numbers<'_>,
     states: &[NumberedState],
@@ -51,7 +52,8 @@ fn leads_on(
     has_number(&states[target].items, item + 1)
 }
 
-// Whether those of all items of a state do.
+// Whether the symbols after the dots of all items of a state lead to states that list the moved
+// items.
 fn lead_on(numbers: &Numbers<'_>, states: &[NumberedState], state: &NumberedState) -> bool
     requires numbers { (g : Rules) × AreNumbers g numbers.now }
     requires ascend { EdgesAscend state.now.edges.items }
@@ -68,7 +70,8 @@ fn lead_on(numbers: &Numbers<'_>, states: &[NumberedState], state: &NumberedStat
     true
 }
 
-/// Whether those of all items of all states do.
+/// Whether the symbols after the dots of all items of all states lead to states that list the moved
+/// items.
 pub(super) fn all_lead_on(numbers: &Numbers<'_>, states: &[NumberedState]) -> bool
     requires numbers { (g : Rules) × AreNumbers g numbers.now }
     requires ascend { (s : ℕ) (state : ByNumbers) →

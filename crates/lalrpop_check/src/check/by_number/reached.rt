@@ -1,4 +1,4 @@
-//! Whether states are reached from the first, to which no edge leads.
+//! Tests whether all states are reached from the first, and no edge leads to the first.
 ghost use Rattle.std.specs.Prelude.{◌≡◌, ◌<◌, ◌⊎◌, length, slice_get, Some, true, IfOk, IsFalse, IsTrue};
 ghost use Rattle.lalrpop_base.specs.Words.{LeadsBy, IsTarget};
 ghost use Rattle.lalrpop_check.specs.check.ByNumber.{AreReachedByNumber, MarksTarget, MarksTargets};
@@ -22,7 +22,7 @@ fn leads_to_first<K: Ord>(edges: &BTreeMap<K, StateIndex>) -> bool
     false
 }
 
-/// Whether an edge of some state leads to the first.
+/// Whether an edge of some state leads to the first state.
 pub(super) fn lead_to_first<'grammar>(states: &[Lr1State<'grammar>]) -> bool
     ensures { IsFalse result → ¬ IsTarget states.now 0 }
 {
@@ -37,7 +37,7 @@ pub(super) fn lead_to_first<'grammar>(states: &[Lr1State<'grammar>]) -> bool
     false
 }
 
-// Marks a state, if there is one with the number.
+// Marks the state with the number `target`, if there is one.
 fn mark_target(target: usize, marks: &mut Vec<bool>)
     ensures { MarksTarget target marks.old.items marks.new.items }
 {
@@ -67,7 +67,8 @@ fn is_marked(place: usize, marks: &[bool]) -> bool
     marks[place]
 }
 
-/// Whether an earlier state that is reached leads to each but the first.
+/// Whether each state but the first is the target of an earlier state. Then all states are reached
+/// from the first.
 pub(super) fn are_reached(alloc: Global, states: &[NumberedState]) -> Result<bool, OutOfMemory>
     ensures { IfOk result (λ yes. IsTrue yes → AreReachedByNumber states.now) }
 {

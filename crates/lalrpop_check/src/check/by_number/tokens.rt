@@ -1,4 +1,4 @@
-//! Whether reductions hold the tokens of their lookahead sets.
+//! Tests whether reductions hold the tokens of their lookahead sets.
 ghost use Rattle.std.specs.Prelude.{◌≡◌, ◌<◌, ℕ, length, slice_get, Some, Contains, IfOk, IsTrue};
 ghost use Rattle.lalrpop_base.specs.Words.{Bits, has};
 ghost use Rattle.lalrpop_states.specs.declared.lr1_core.state.State.{State};

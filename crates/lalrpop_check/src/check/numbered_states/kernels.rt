@@ -11,13 +11,13 @@ use lalrpop_construction::construction::numbered_state::NumberedState;
 use lalrpop_follow_sets::follow_sets::edges::place_of;
 use std::alloc::Global;
 
-/// For each state the kernel that is expected of it, by number: what the first state that leads
-/// there moves over the edge. Any numbers may be expected.
+/// For each state the kernel that is expected of it, by number. The first state that leads to it
+/// gives the kernel: its items that move over the edge. The lists may have any numbers.
 #[derive(Drop)]
 pub(super) struct Kernels {
-    /// None where no state leads there yet.
+    /// Empty if no state leads there yet.
     lists: Vec<Vec<Numbered<Nil>>>,
-    /// How many states there were up to the one that led there first, and 0 for none.
+    /// The number, counted from 1, of the first state that led there, and 0 if there is none.
     from: Vec<usize>,
 }
 
@@ -43,7 +43,7 @@ fn rise(kernel: &[Numbered<Nil>]) -> bool
     true
 }
 
-// Whether the dots of items moved, and there are some, whose numbers rise.
+// Whether there are items, their numbers rise, and the dots of all of them moved.
 fn are_moved(numbers: &Numbers<'_>, kernel: &[Numbered<Nil>]) -> bool
     ensures { IsTrue result → AreMovedKernel numbers.now kernel.now }
 {
@@ -59,7 +59,7 @@ fn are_moved(numbers: &Numbers<'_>, kernel: &[Numbered<Nil>]) -> bool
 }
 
 impl Kernels {
-    /// None is expected.
+    /// No kernel is expected of any of `count` states.
     pub(super) fn new(alloc: Global, count: usize) -> Result<Kernels, OutOfMemory> {
         let mut lists = Vec::with_capacity(alloc, count)?;
         for _state in 0..count {
@@ -69,7 +69,8 @@ impl Kernels {
         Ok(Kernels { lists, from })
     }
 
-    /// The kernel that is expected of a state, where it is one.
+    /// The kernel that is expected of a state. `None` if the numbers listed for the state are no
+    /// kernel of moved items.
     pub(super) fn kernel(&self, numbers: &Numbers<'_>, state: usize) -> Option<&[Numbered<Nil>]>
         ensures { IfSome result (λ kernel. AreMovedKernel numbers.now kernel.now) }
     {
@@ -84,7 +85,7 @@ impl Kernels {
         }
     }
 
-    // Adds a moved item to what is expected of a state, if no earlier one led there.
+    // Adds a moved item to the kernel that is expected of a target, if no earlier state led there.
     fn add(&mut self, count: usize, target: usize, item: usize) -> Result<(), OutOfMemory> {
         if target >= self.from.len() || target >= self.lists.len() {
             return Ok(());
@@ -101,7 +102,7 @@ impl Kernels {
         Ok(())
     }
 
-    // Adds what a state moves from an item.
+    // Adds the item that a state moves from an item, if the item's dot is not at the end.
     fn add_move(
         &mut self,
         numbers: &Numbers<'_>,
@@ -124,7 +125,8 @@ impl Kernels {
         self.add(count, target, item + 1)
     }
 
-    /// Adds what a state moves over its edges. The count is that of the states up to this one.
+    /// Adds the items that a state moves over its edges. `count` is the number of states up to this
+    /// one.
     pub(super) fn add_moves(
         &mut self,
         numbers: &Numbers<'_>,

@@ -19,7 +19,7 @@ use lalrpop_construction::construction::numbered_state::{NumberedState, finished
 use lalrpop_construction::construction::workspace::Workspace;
 use std::alloc::Global;
 
-// Adds the symbol behind the dot of an item.
+// Adds the symbol after the dot of an item, if there is one.
 fn add_symbol(
     numbers: &Numbers<'_>,
     item: usize,
@@ -34,7 +34,7 @@ fn add_symbol(
     Ok(())
 }
 
-// The symbols behind the dots of items, by rising number.
+// The symbols after the dots of items, by rising number.
 fn symbols_behind(
     alloc: Global,
     numbers: &Numbers<'_>,
@@ -51,8 +51,8 @@ fn symbols_behind(
     symbols.take_rising(alloc)
 }
 
-// A state by number, where its items are these, its transitions are over the symbols behind their
-// dots, and its reductions are the finished ones.
+// The state by number. Its items must have these numbers, its transitions must be over the symbols
+// after their dots, and its reductions must be by the finished ones. Else the result is `None`.
 fn state_over<'grammar>(
     alloc: Global,
     numbers: &Numbers<'grammar>,
@@ -88,7 +88,8 @@ fn state_over<'grammar>(
     }))
 }
 
-// The kernel that is expected of a state: of the first the productions of the start symbol.
+// The kernel that is expected of a state. For the first state these are the productions of the
+// start symbol.
 #[tactic(auto, using(crate::proofs::theory::check::ExpectedKernels::moved_kernel, crate::proofs::theory::check::NumberedSteps::if_some))]
 fn kernel_of<'list>(
     _lr: &Lr<'_, Nil>,
@@ -109,7 +110,7 @@ fn kernel_of<'list>(
     }
 }
 
-// A state by number, where it lists the closure of the kernel.
+// The state by number, if it lists the closure of the kernel, else `None`.
 fn listed_state<'grammar>(
     alloc: Global,
     lr: &Lr<'grammar, Nil>,
@@ -135,7 +136,8 @@ fn listed_state<'grammar>(
     state_over(alloc, numbers, items, &symbols, state)
 }
 
-/// The states by number, where each lists the closure of its kernel and reduces its finished items.
+/// The states by number. Each must list the closure of its kernel, lead by the symbols after its
+/// dots, and reduce its finished items. Else the result is `None`.
 pub(crate) fn listed_by_number<'grammar>(
     alloc: Global,
     lr: &Lr<'grammar, Nil>,

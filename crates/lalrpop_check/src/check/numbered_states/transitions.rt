@@ -1,4 +1,4 @@
-//! Items, transitions and reductions that have the numbers which are expected of them.
+//! Tests whether items, transitions and reductions have the numbers that are expected of them.
 ghost use Rattle.std.specs.Prelude.{◌≡◌, slice_get, Some, IfOk, IfSome, IsTrue, OnOk};
 ghost use Rattle.lalrpop_base.specs.Words.{with_dot};
 ghost use Rattle.lalrpop_construction.specs.states.NumberedStates.{AddsGotos, AddsShifts, AreItemsAt, AreReducedNumbers, HasKeys, IsKeyAt};
@@ -14,7 +14,7 @@ use lalrpop_base::repr::{NonterminalString, Production, Symbol, TerminalString};
 use std::alloc::Global;
 use std::collections::BTreeMap;
 
-// Whether a number is that of a production with its dot at a place. Dots are compared first.
+// Whether a number is that of a production with the dot at a place. Dots are compared first.
 fn is_number_of(numbers: &Numbers<'_>, number: usize, production: &Production, dot: usize) -> bool
     ensures { IsTrue result →
         slice_get numbers.now.items.items number ≡ Some (with_dot production.now dot) }
@@ -26,7 +26,7 @@ fn is_number_of(numbers: &Numbers<'_>, number: usize, production: &Production, d
     met.index == dot && equal(met.production, production)
 }
 
-/// Whether the items have the numbers, one by one.
+/// Whether the items have the expected numbers, one by one.
 pub(super) fn are_items<'grammar>(
     numbers: &Numbers<'grammar>,
     expected: &[usize],
@@ -45,7 +45,7 @@ pub(super) fn are_items<'grammar>(
     true
 }
 
-/// Whether the finished items of the reductions have the numbers, one by one.
+/// Whether the finished items of the reductions have the expected numbers, one by one.
 pub(super) fn are_reductions<'grammar>(
     numbers: &Numbers<'grammar>,
     expected: &[usize],
@@ -104,8 +104,8 @@ fn expected_at(expected: &[(usize, Nil)], place: usize) -> Option<usize>
     }
 }
 
-/// Puts the gotos of a state behind the others, as far as they have the numbers that are expected,
-/// and tells whether all have.
+/// Appends the gotos of a state to `edges`, up to the first goto that does not have the expected
+/// number. Returns whether all gotos have their expected numbers.
 pub(super) fn take_gotos(
     symbols: &[Symbol],
     expected: &[(usize, Nil)],
@@ -129,7 +129,7 @@ pub(super) fn take_gotos(
     Ok(true)
 }
 
-/// The same of the shifts.
+/// Does the same as `take_gotos` for the shifts of a state.
 pub(super) fn take_shifts(
     symbols: &[Symbol],
     expected: &[(usize, Nil)],

@@ -1,4 +1,4 @@
--- Entries of a map with lookaheads, as entries with what these mean.
+-- Entries of a map with lookaheads, as entries with the meanings of the lookaheads.
 use Rattle.std.proofs.Common.{◌≡◌, ◌≢◌, List, [], ◌∷◌, ◌++◌, refl, sym, ◌∙◌, ap, subst, Bool, true, false, Result, Ok, Err, IfOk}
 use Rattle.std.specs.Prelude.{MatchBool, OnOk}
 use Rattle.std.specs.Map.{keys_of}
@@ -7,12 +7,12 @@ use Rattle.lalrpop_collections.specs.Words.{Bits, join, AllDiffer, IsJoinedAt, r
 use Rattle.lalrpop_collections.specs.lists.Entries.IsJoinedAt.{fresh as join_fresh, known as join_known}
 use Rattle.lalrpop_collections.proofs.theory.lists.Updates.{IsInserted, IsReplaced}
 
--- what holds, where a call went well
+-- a fact holds of a call that succeeded
 pub on_ok : {T E A : Type 0} (r : Result T E) → A → OnOk r A
 on_ok (Ok x) a = a
 on_ok (Err e) a = tt
 
--- what holds of a call that went well and of its answer, together
+-- a fact of a call that succeeded, and a fact of its result, give a third one
 pub where_ok : {E A : Type 0} {B C : Bool → Type 0} (r : Result Bool E) → OnOk r A → IfOk r B → ((told : Bool) → A → B told → C told) → IfOk r C
 where_ok (Ok told) a b f = f told a b
 where_ok (Err e) a b f = tt
@@ -37,11 +37,11 @@ module _ {L : Type 0} (meaning : L → Bits) where
     read_midst : (front back es : List (K × L)) (e : K × L) → es ≡ front ++ e ∷ back → readings meaning es ≡ readings meaning front ++ (e.0, meaning e.1) ∷ readings meaning back
     read_midst front back es e same = ap (readings meaning) same ∙ map-append read front (e ∷ back)
 
-    -- an entry more
+    -- one entry more
     pub joined_fresh : (k : K) (tokens : L) (old new : List (K × L)) → IsInserted k tokens old new → IsJoinedAt k (meaning tokens) true (readings meaning old) (readings meaning new)
     joined_fresh k tokens old new i = join_fresh (readings meaning i.front) (readings meaning i.back) (ap (readings meaning) i.before ∙ map-append read i.front i.back) (read_midst i.front i.back new (k, tokens) i.after) refl
 
-    -- a lookahead in the place of another, to which it was joined
+    -- a lookahead is replaced by the one to which another was joined
     pub joined_known : ((a b : L) → meaning a ≡ meaning b → a ≡ b) → (told : Bool) (k : K) (tokens s w : L) (old new : List (K × L)) → meaning w ≡ join (meaning s) (meaning tokens) → MatchBool told (w ≢ s) (w ≡ s) → IsReplaced k s w old new → IsJoinedAt k (meaning tokens) told (readings meaning old) (readings meaning new)
     joined_known same told k tokens s w old new e t i =
         join_known (readings meaning i.front) (readings meaning i.back) (meaning s) (read_midst i.front i.back old (k, s) i.before)

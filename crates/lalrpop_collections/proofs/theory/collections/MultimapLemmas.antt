@@ -17,7 +17,7 @@ tied_at {cmp = cmp} total k q tie (e ∷ es) =
     ap (λ o. cond (is_eq o) (Some e.1) (lookup (is_at (cmp q)) es)) (sym (total.congr k q e.0 tie))
     ∙ ap (λ r. cond (is_eq (cmp k e.0)) (Some e.1) r) (tied_at total k q tie es)
 
--- maps that have the same collection at one key, and equal ones elsewhere, are the same
+-- maps with the same collection at one key, and equal ones elsewhere, are the same
 pub everywhere : {K C : Type 0} {cmp : K → K → Ordering} → IsTotalOrder cmp → (Same : C → C → Type 0) → ((c : C) → Same c c) → (old new : List (K × C)) (key : K) →
     ((q : K) → is_eq (cmp key q) ≡ false → collection_at cmp new q ≡ collection_at cmp old q) → SameAt Same (collection_at cmp old key) (collection_at cmp new key) → AreSame cmp Same old new
 everywhere {C = C} {cmp = cmp} total Same itself old new key kept here q =
@@ -28,7 +28,7 @@ everywhere {C = C} {cmp = cmp} total Same itself old new key kept here q =
     (λ apart. subst (λ (o : Option C). SameAt Same (collection_at cmp old q) o) (sym (kept q apart)) (at_itself Same itself (collection_at cmp old q)))
     (cases_Bool (is_eq (cmp key q)))
 
--- what is told of the key is told of the maps
+-- if a result says whether the collection of the key changed, it says whether the map changed
 pub told_everywhere : {K C E : Type 0} {cmp : K → K → Ordering} → IsTotalOrder cmp → (Same : C → C → Type 0) → ((c : C) → Same c c) → (old new : List (K × C)) (key : K) (r : Result Bool E) →
     ((q : K) → is_eq (cmp key q) ≡ false → collection_at cmp new q ≡ collection_at cmp old q) →
     IfOk r (λ changed. MatchBool changed (¬ SameAt Same (collection_at cmp old key) (collection_at cmp new key)) (SameAt Same (collection_at cmp old key) (collection_at cmp new key))) →
@@ -45,12 +45,12 @@ err_everywhere {cmp = cmp} total Same itself old new key (Ok b) kept here = tt
 err_everywhere {cmp = cmp} total Same itself old new key (Err e) kept here = everywhere total Same itself old new key kept here
 
 module _ {C I : Type 0} (IsNone : C → Type 0) (Pushes : C → I → C → Type 0) where
-  -- a push after the others
+  -- one push more after the others
   pub all_and_one : (old next new : C) (values : List I) (value : I) → PushesAll IsNone Pushes old values next → Pushes next value new → PushesAll IsNone Pushes old (values ++ value ∷ []) new
   all_and_one old next new [] value same pushed = (new, subst (λ (c : C). Pushes c value new) same pushed, refl)
   all_and_one old next new (v ∷ values) value all pushed = (all.0, all.1, all_and_one all.0 next new values value all.2 pushed)
 
-  -- a push into what was collected collects one value more
+  -- a push into a collection of values collects one value more
   pub collected_and_one : (values : List I) (value : I) (old new : Option C) → IsCollected IsNone Pushes values old → PushesAt IsNone Pushes old value new → IsCollected IsNone Pushes (values ++ value ∷ []) new
   collected_and_one values value None None collected pushed = absurd pushed
   collected_and_one values value (Some old) None collected pushed = absurd pushed
@@ -59,7 +59,7 @@ module _ {C I : Type 0} (IsNone : C → Type 0) (Pushes : C → I → C → Type
   collected_and_one (v ∷ values) value None (Some new) collected pushed = cc
   collected_and_one (v ∷ values) value (Some old) (Some new) collected pushed = (collected.0, collected.1, all_and_one collected.0 old new (v ∷ values) value collected.2 pushed)
 
--- the values of a key, where a pair of the key came last
+-- a last pair with the key adds its value to the values of the key
 values_at-tied : {K I : Type 0} (cmp : K → K → Ordering) (q key : K) (value : I) → is_eq (cmp q key) ≡ true → (pairs : List (K × I)) → values_at cmp q (pairs ++ (key, value) ∷ []) ≡ values_at cmp q pairs ++ value ∷ []
 values_at-tied cmp q key value tied [] = rw tied refl
 values_at-tied cmp q key value tied (p ∷ pairs) =
@@ -69,7 +69,7 @@ values_at-tied cmp q key value tied (p ∷ pairs) =
       | false ↦ values_at-tied cmp q key value tied pairs
     ]
 
--- and where a pair of another key did
+-- a last pair with another key leaves the values of the key as they were
 values_at-apart : {K I : Type 0} (cmp : K → K → Ordering) (q key : K) (value : I) → is_eq (cmp q key) ≡ false → (pairs : List (K × I)) → values_at cmp q (pairs ++ (key, value) ∷ []) ≡ values_at cmp q pairs
 values_at-apart cmp q key value apart [] = rw apart refl
 values_at-apart cmp q key value apart (p ∷ pairs) =
@@ -82,7 +82,7 @@ values_at-apart cmp q key value apart (p ∷ pairs) =
 apart_back : {K : Type 0} {cmp : K → K → Ordering} → IsTotalOrder cmp → (q k : K) → is_eq (cmp q k) ≡ false → is_eq (cmp k q) ≡ false
 apart_back {cmp = cmp} total q k apart = ((eq_by_cmp_equiv total).symm k q) ∙ apart
 
--- a pair more, pushed into what the earlier ones made
+-- one more pair is pushed into the map that the earlier ones made
 pub pairs_and_one : {K C I : Type 0} {cmp : K → K → Ordering} (IsNone : C → Type 0) (Pushes : C → I → C → Type 0) → IsTotalOrder cmp → (pairs : List (K × I)) (key : K) (value : I) (old new : List (K × C)) →
     ((q : K) → IsCollected IsNone Pushes (values_at cmp q pairs) (collection_at cmp old q)) →
     PushesAt IsNone Pushes (collection_at cmp old key) value (collection_at cmp new key) →

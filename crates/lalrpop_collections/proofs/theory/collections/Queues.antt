@@ -1,4 +1,4 @@
--- The marks of a queue tell which numbers wait.
+-- The marks of a queue say which numbers wait.
 use Rattle.std.proofs.Common.{cond, ◌≡◌, ℕ, ◌+◌, ◌<◌, ◌≤◌, ◌==◌, ◌||◌, inl, inr, List, [], ◌∷◌, ◌++◌, length, refl, sym, ap, subst, ◌∙◌, arith, Bool, true, false, get_or, set, eq-eqb, get_or-set_other, get_or-set_same}
 use Rattle.std.specs.Prelude.{Contains}
 use Rattle.std.specs.List.{IsDistinct, AllByRecursion}
@@ -25,7 +25,7 @@ or_turned true false = refl
 or_turned false true = refl
 or_turned false false = refl
 
--- a mark stands below the limit
+-- a mark is below the limit
 mark_within : (marks : List Bool) (k : ℕ) → get_or marks k false ≡ true → k < length marks
 mark_within marks k h = elim (cases_lt k (length marks)) [
   | inl less ↦ less
@@ -39,7 +39,7 @@ waits_within numbers marks m k h = mark_within marks k (sym (m.marked k) ∙ h)
 pub Marked-few : (numbers : List ℕ) (marks : List Bool) → IsMarked numbers marks → length numbers ≤ length marks
 Marked-few numbers marks m = length-le_from_distinct_below numbers (length marks) m.once (λ q h. waits_within numbers marks m q h)
 
--- one number more waits behind the others
+-- one number more waits after the others
 pub waits-push : (numbers : List ℕ) (n k : ℕ) → waits (numbers ++ n ∷ []) k ≡ ((k == n) || waits numbers k)
 waits-push numbers n k = list_any-append (λ x. k == x) numbers (n ∷ []) ∙ ap (λ b. waits numbers k || b) (or_false (k == n)) ∙ or_turned (waits numbers k) (k == n)
 
@@ -55,7 +55,7 @@ Marked-added numbers more marks n is m within free = rw is (record {
       | inr apart ↦ ap (λ b. b || waits numbers k) (ne_eqb k n apart) ∙ m.marked k ∙ sym (get_or-set_other marks n k true false apart)
     ]
 
--- the first number waits no longer
+-- the first number no longer waits
 none_of : (n : ℕ) (numbers : List ℕ) → AllByRecursion (λ y. (n == y) ≡ false) numbers → waits numbers n ≡ false
 none_of n [] h = refl
 none_of n (x ∷ numbers) h = ap (λ b. b || waits numbers n) h.0 ∙ none_of n numbers h.1
@@ -86,7 +86,7 @@ pub Marked-none : (numbers : List ℕ) (marks : List Bool) → numbers ≡ [] �
 unfolding IsDistinct
 Marked-none numbers marks is none = rw is (record { marked = λ k. sym (none k); once = tt })
 
--- ---- a number that waits with the others
+-- ---- a number that is added to those that wait
 pub waits-with : (numbers : List ℕ) (n k : ℕ) → waits (waiting_with n numbers) k ≡ ((k == n) || waits numbers k)
 waits-with numbers n k = by (waits numbers n) refl
   where
@@ -97,7 +97,7 @@ waits-with numbers n k = by (waits numbers n) refl
       | inr apart ↦ ap (λ b. b || waits numbers k) (sym (ne_eqb k n apart))
     ]
 
--- who waits is in the list
+-- a number that waits is in the list
 waits_here : (x n : ℕ) (numbers : List ℕ) → (waits numbers n ≡ true → Contains numbers n) → (b : Bool) → (n == x) ≡ b → (b || waits numbers n) ≡ true → Contains (x ∷ numbers) n
 waits_here x n numbers later true e h = elim (cases_eq n x) [
   | inl same ↦ subst (Contains (x ∷ numbers)) (sym same) (contains_head x numbers)
@@ -109,11 +109,11 @@ pub waits_among : (numbers : List ℕ) (n : ℕ) → waits numbers n ≡ true �
 waits_among [] n h = absurd (false≢true h)
 waits_among (x ∷ numbers) n h = waits_here x n numbers (waits_among numbers n) (n == x) refl h
 
--- a mark that is read within the marks
+-- the mark that is read within the marks is the mark of the number
 pub mark_read : (marks : List Bool) (n : ℕ) (b : Bool) → n < length marks → b ≡ get_or marks n b → get_or marks n false ≡ b
 mark_read marks n b within is = get_or_default marks n false b within ∙ sym is
 
--- the marks tell whether a number comes behind the others
+-- the marks say whether a number is added after the others
 pub with_waiting : (numbers : List ℕ) (marks : List Bool) (n : ℕ) → IsMarked numbers marks → get_or marks n false ≡ true → waiting_with n numbers ≡ numbers
 with_waiting numbers marks n m h = ap (λ (b : Bool). cond b numbers (numbers ++ n ∷ [])) (m.marked n ∙ h)
 
@@ -124,14 +124,14 @@ with_new numbers marks n m h = ap (λ (b : Bool). cond b numbers (numbers ++ n �
 pub no_mark : (marks : List Bool) → marks ≡ [] → (k : ℕ) → get_or marks k false ≡ false
 no_mark marks none k = ap (λ (ms : List Bool). get_or ms k false) none
 
--- the numbers below one more wait
+-- the numbers below n + 1 wait
 pub waits_below : (numbers more : List ℕ) (n : ℕ) → more ≡ waiting_with n numbers → ((k : ℕ) → k < n → waits numbers k ≡ true) → (k : ℕ) → k < n + 1 → waits more k ≡ true
 waits_below numbers more n is before k l = ap (λ (ns : List ℕ). waits ns k) is ∙ waits-with numbers n k ∙ elim (cases_eq k n) [
   | inl same ↦ or_left (k == n) (waits numbers k) (eq-eqb k n same)
   | inr apart ↦ or_right (k == n) (waits numbers k) (before k (omega (arith, l, apart)))
 ]
 
--- ---- one number more, or the first taken, by what is in the list
+-- ---- the lists after one number more, or without the first number
 pub with_here : (numbers : List ℕ) (n : ℕ) → Contains (waiting_with n numbers) n
 with_here numbers n = waits_among (waiting_with n numbers) n (waits-with numbers n n ∙ or_left (n == n) (waits numbers n) (eq-eqb n n refl))
 
@@ -155,7 +155,7 @@ left_kept numbers rest n k is apart c = elim (contains-cons n rest k (subst (λ 
   | inr later ↦ later
 ]
 
--- a number that has something new waits behind the others, or waited
+-- a number with something new waits after the others, or waited already
 pub put_with : (n : ℕ) (numbers more : List ℕ) → more ≡ waiting_with n numbers → IsPut n true numbers more
 put_with n numbers more is = by (waits numbers n) refl is
   where

@@ -1,4 +1,5 @@
--- Sparse sets: what the places tell of the entries, how both change, and the entries put in order.
+-- Sparse sets: the facts on entries that places give, the changes of both, and the entries in
+-- order.
 use Rattle.std.proofs.Common.{◌≡◌, ◌≢◌, ℕ, zero, suc, ◌<◌, ◌≤◌, ◌⊎◌, inl, inr, List, [], ◌∷◌, ◌++◌, length, get_or, set, take, take_all, swap, refl, sym, ◌∙◌, ap, subst, arith, Some, IsPermutation}
 use Rattle.std.specs.Prelude.{Contains, slice_get}
 use Rattle.std.specs.List.Sorted.{IsNonDecreasingBy}
@@ -56,14 +57,14 @@ module _ {V : Type 0} where
   put_keys (x ∷ es) zero k s w h = ap (λ (e : ℕ × V). e.0 ∷ keys_of es) (sym (same_some x (k, s) h))
   put_keys (x ∷ es) (suc i) k s w h = ap (λ (ks : List ℕ). x.0 ∷ ks) (put_keys es i k s w h)
 
-  -- a value of an entry that was read and changed
+  -- an entry gets a changed value
   pub changed_replaced : (es : List (ℕ × V)) (i k : ℕ) (s w : V) (e : ℕ × V) → slice_get es i ≡ Some (k, s) → e ≡ get_or es i e → IsReplaced k e.1 w es (set es i (e.0, w))
   changed_replaced es i k s w e h is = subst (λ (x : ℕ × V). IsReplaced k x.1 w es (set es i (x.0, w))) (sym (is ∙ get_or_from_slice_get es i (k, s) e h)) (put_replaced es i k s w h)
 
   pub pushed_inserted : (old new : List (ℕ × V)) (k : ℕ) (v : V) → new ≡ old ++ (k, v) ∷ [] → IsInserted k v old new
   pushed_inserted old new k v e = record { front = old; back = []; before = sym (append-nil old); after = e }
 
-  -- ---- entries that their numbers name
+  -- ---- entries with their places
   module _ (places : List ℕ) (es : List (ℕ × V)) (placed : ArePlaced places es) where
     pub placed_differ : AllDiffer (keys_of es)
     placed_differ i j k l at_i at_j =
@@ -77,7 +78,7 @@ module _ {V : Type 0} where
         let same : (k, s) ≡ e = sym (is ∙ get_or_from_slice_get es i (k, s) e h) in
         subst (λ (x : ℕ × V). AllDiffer (keys_of (set es i (x.0, w)))) same (subst AllDiffer (sym (put_keys es i k s w h)) placed_differ)
 
-    -- where an entry with the number is
+    -- the place of the entry with the number
     its_place : (k : ℕ) → Contains (keys_of es) k → (i : ℕ) × (v : V) × (slice_get es i ≡ Some (k, v)) × (slice_get places k ≡ Some i)
     its_place k c =
         let p = contains_place (keys_of es) k c in
@@ -101,7 +102,7 @@ module _ {V : Type 0} where
         let one : (k, p.1) ≡ e = same_some (k, p.1) e (sym p.2 ∙ ap (slice_get es) same ∙ there) in
         other (sym (ap (λ (x : ℕ × V). x.0) one))
 
-    -- the place of a number without entry is of no matter
+    -- the place of a number without entry may change
     pub placed_kept : (k n : ℕ) → ¬ Contains (keys_of es) k → ArePlaced (set places k n) es
     placed_kept k n none i e h =
         let other : e.0 ≢ k = λ same. none (subst (Contains (keys_of es)) same (contains_at (keys_of es) e.0 i (key_of es i e h))) in
@@ -113,7 +114,7 @@ module _ {V : Type 0} where
       | inr new ↦ subst (λ (x : ℕ × V). slice_get (set places k n) x.0 ≡ Some i) new.1 (put_here n places k l ∙ ap Some (is ∙ sym new.0))
     ]
 
-    -- room for more numbers
+    -- there may be places for more numbers
     pub placed_resized : (n : ℕ) → length places ≤ n → (more : List ℕ) → ArePlaced (take n places ++ more) es
     placed_resized n l more = subst (λ (ps : List ℕ). ArePlaced (ps ++ more) es) (sym (take_all n places l)) placed_longer
       where
@@ -127,7 +128,7 @@ either_way ks h i j d p q e =
     let not_above : j < i → ⊥ = λ less. apart_from_differ ks h j i d less p (sym e) in
     omega arith
 
--- where a swap of a and b took the element at m from
+-- a swap of a and b took the element at m from k
 abbrev From : ℕ → ℕ → ℕ → ℕ → Type 0
 From a b m k = ((m ≡ a) × (k ≡ b)) ⊎ (((m ≡ b) × (k ≡ a)) ⊎ ((m ≢ a) × (m ≢ b) × (k ≡ m)))
 
@@ -158,7 +159,7 @@ module _ {V : Type 0} (old new : List (ℕ × V)) where
       let apart : x.0 ≢ y.0 = λ same. differ_reordered moved h i j x.0 l (key_of new i x at_i) (key_of new j y at_j ∙ ap Some (sym same)) in
       omega arith
 
--- numbers that rise differ
+-- numbers that ascend differ
 pub rising_differ : {V : Type 0} (entries : List (ℕ × V)) → Ordered (λ (d e : ℕ × V). d.0 < e.0) entries → AllDiffer (keys_of entries)
 rising_differ {V} entries rise i j k l at_i at_j =
     let f : ℕ × V → ℕ = λ (e : ℕ × V). e.0 in

@@ -1,4 +1,4 @@
--- A walk goes to a key, and to many, until none waits.
+-- A walk visits a key, and many keys, until none waits.
 use Rattle.std.proofs.Common.{◌≡◌, ◌+◌, ◌-◌, ◌<◌, ◌≤◌, ◌⊎◌, inl, inr, suc, List, [], ◌∷◌, ◌++◌, length, sym, ◌∙◌, ap, subst, arith, length-append, refl}
 use Rattle.std.specs.Prelude.{Contains}
 use Rattle.std.proofs.lemmas.List.Elements.{Contains-append_left, Contains-push_cases, Contains-push}
@@ -10,7 +10,7 @@ use Rattle.lalrpop_collections.proofs.theory.lists.Places.{apart_from_differ, co
 
 -- ---- one key
 module _ {K : Type 0} (key : K) (old new : Walk K) (added : IsAdded key old.visited.keys new.visited.keys) (differ : AllDiffer new.visited.keys) where
-  -- it is new
+  -- the key is new
   pub Visits-new : length new.visited.keys ≡ length old.visited.keys + 1 → new.waiting.items ≡ old.waiting.items ++ key ∷ [] → Visits (λ k. key ≡ k) old new
   Visits-new more pushed =
       let here : Contains new.waiting.items key = subst (λ (ks : List K). Contains ks key) (sym pushed) (Contains-push old.waiting.items key) in
@@ -27,7 +27,7 @@ module _ {K : Type 0} (key : K) (old new : Walk K) (added : IsAdded key old.visi
         weighed = let l : length new.waiting.items ≡ length old.waiting.items + 1 = ap length pushed ∙ length-append old.waiting.items (key ∷ []) in omega arith;
       }
 
-  -- it was visited before
+  -- the key was visited before
   pub Visits-known : Contains old.visited.keys key → length new.visited.keys ≡ length old.visited.keys → new.waiting ≡ old.waiting → Visits (λ k. key ≡ k) old new
   Visits-known before same waiting =
       let items : new.waiting.items ≡ old.waiting.items = ap (λ (q : _). q.items) waiting in
@@ -79,7 +79,7 @@ module _ {K : Type 0} where
     weighed = x.weighed;
   }
 
-  -- the same once more, where it was visited
+  -- keys that were all visited are visited again
   pub Visits-again : (Such : K → Type 0) (a b c : Walk K) → Visits Such a b → ((k : K) → Contains b.visited.keys k → Contains c.visited.keys k) → Visits Such c c
   Visits-again Such a b c x kept = record {
     kept = λ k h. h;
@@ -91,7 +91,7 @@ module _ {K : Type 0} where
     weighed = refl;
   }
 
-  -- a walk that goes to keys first
+  -- a walk that begins with some keys
   module _ (Such : K → Type 0) (none walk : Walk K) (no_visits : none.visited.keys ≡ []) (no_waits : none.waiting.items ≡ []) (v : Visits Such none walk) where
     nowhere : (k : K) → Contains none.visited.keys k → ⊥
     nowhere k c = Contains-none k (subst (λ (ks : List K). Contains ks k) no_visits c)
@@ -107,9 +107,11 @@ module _ {K : Type 0} where
     }
 
 -- ---- the loop
--- where it begins, what leads to what, and what can be reached
+-- the keys with which a walk begins, the keys to which a key leads, and the keys that can be
+-- reached
 module _ {K : Type 0} (Begun : K → Type 0) (Leads : K → K → Type 0) (Reach : K → Type 0) where
-  -- each key that was visited is reached, and waits or is done; what is done led to keys that were visited
+  -- each key that was visited is reached, and waits or is done. A key that is done leads only to
+  -- keys that were visited
   pub record IsTraversing (done : List K) (walk : Walk K) : Type 0 where
     pub begun : (k : K) → Begun k → Contains walk.visited.keys k
     pub split : (k : K) → Contains walk.visited.keys k → Contains done k ⊎ Contains walk.waiting.items k
@@ -130,7 +132,7 @@ module _ {K : Type 0} (Begun : K → Type 0) (Leads : K → K → Type 0) (Reach
     differ = all.differ;
   }
 
-  -- the next key is taken
+  -- the next key is taken out and its keys are visited
   module _ (done : List K) (key : K) (before popped after : Walk K) (same : popped.visited.keys ≡ before.visited.keys) (taken : before.waiting.items ≡ key ∷ popped.waiting.items) (h : IsTraversing done before) where
     pub next_visited : Contains before.visited.keys key
     next_visited = h.came key (subst (λ (ks : List K). Contains ks key) (sym taken) (contains_head key popped.waiting.items))
@@ -168,12 +170,12 @@ module _ {K : Type 0} (Begun : K → Type 0) (Leads : K → K → Type 0) (Reach
         differ = v.differ (subst AllDiffer (sym same) h.differ);
       }
 
-  -- what is visited is of a list
+  -- all keys that can be reached are in a list
   module _ (room : List K) (within : (k : K) → Reach k → Contains room k) where
     few : (done : List K) (walk : Walk K) → IsTraversing done walk → length walk.visited.keys ≤ length room
     few done walk h = pigeonhole walk.visited.keys room (apart_from_differ walk.visited.keys h.differ) (λ k c. within k (h.reached k c))
 
-    -- so that the walk ends
+    -- a measure falls with each key, so the walk ends
     pub Traversing-smaller : (done more : List K) (key : K) (before popped after : Walk K) → popped.visited.keys ≡ before.visited.keys → before.waiting.items ≡ key ∷ popped.waiting.items → IsTraversing done before → Visits (Leads key) popped after → IsTraversing more after →
         length room + length after.waiting.items - length after.visited.keys < length room + length before.waiting.items - length before.visited.keys
     Traversing-smaller done more key before popped after same taken h v g =
@@ -184,6 +186,6 @@ module _ {K : Type 0} (Begun : K → Type 0) (Leads : K → K → Type 0) (Reach
         let t : length before.waiting.items ≡ suc (length popped.waiting.items) = ap length taken in
         omega arith
 
-  -- when none waits, what was visited is done
+  -- if no key waits, all visited keys are done
   pub Traversing-end : (done : List K) (walk : Walk K) → walk.waiting.items ≡ [] → IsTraversing done walk → (k : K) → Contains walk.visited.keys k → Contains done k
   Traversing-end done walk none h k c = elim (h.split k c) [ inl d ↦ d | inr w ↦ absurd (Contains-none k (subst (λ (ks : List K). Contains ks k) none w)) ]

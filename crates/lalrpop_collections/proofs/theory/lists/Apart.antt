@@ -5,7 +5,7 @@ use Rattle.std.proofs.lemmas.List.Elements.{Contains-append_cases}
 use Rattle.lalrpop_collections.specs.Words.{AllDiffer}
 use Rattle.lalrpop_collections.proofs.theory.lists.Lists.{contains_head, contains_place, contains_tail, place_contains, same_some, some≢none}
 
--- no element stands twice, one element at a time
+-- no element is repeated, one element at a time
 abbrev pub Apart : {A : Type 0} → List A → Type 0
 Apart [] = Unit {0}
 Apart (x ∷ xs) = (Contains xs x → ⊥) × Apart xs

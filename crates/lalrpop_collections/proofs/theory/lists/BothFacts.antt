@@ -1,4 +1,4 @@
--- Two facts of what a result holds.
+-- Two facts of one result.
 use Rattle.std.specs.Prelude.{IfOk, IfErr, MatchResult}
 use Rattle.std.specs.declared.result.Result.{Result}
 use Rattle.std.specs.declared.result.Result.TheVariants.{Ok, Err}
@@ -12,7 +12,7 @@ pub MatchResult-both : {T E : Type 0} (r : Result T E) (P : T → Type 0) (Q : E
 MatchResult-both (Ok x) P Q p q = p
 MatchResult-both (Err e) P Q p q = q
 
--- what an error says under a premise
+-- a premise of a fact on the error of a result becomes a part of the fact
 pub IfErr-given : {T E Z : Type 0} (r : Result T E) (P : E → Type 0) → (Z → IfErr r P) → IfErr r (λ e. Z → P e)
 IfErr-given (Ok x) P h = tt
 IfErr-given (Err e) P h = h

@@ -1,11 +1,12 @@
--- A shorter way to bound the kernels: all lists of at most n elements of a list. It needs no order and no numbering.
+-- A bound on the number of kernels, by the list of all lists of at most n elements. It needs no
+-- order and no numbering.
 use Rattle.std.proofs.Common.{◌≢◌, ℕ, zero, suc, ◌≤◌, inl, inr, List, [], ◌∷◌, length, map, sym, subst, arith}
 use Rattle.std.specs.Prelude.{Contains, AllPairs}
 use Rattle.std.specs.List.{flat_map}
 use Rattle.std.proofs.lemmas.List.Elements.{Contains-append_left, Contains-append_right}
 use Rattle.lalrpop_collections.proofs.theory.lists.Members.{Contains-none, contains_head, contains_tail, contains-cons, contains_map, pigeonhole}
 
--- all lists of at most n elements of all
+-- all lists of at most n elements of a list
 pub lists : {X : Type 0} → List X → ℕ → List (List X)
 lists all zero = [] ∷ []
 lists all (suc n) = [] ∷ flat_map (λ x. map (λ xs. x ∷ xs) (lists all n)) all
@@ -27,6 +28,7 @@ in_lists all (suc n) (x ∷ xs) l h =
     let f = in_flat_map (λ x. map (λ xs. x ∷ xs) (lists all n)) all x (x ∷ xs) (h x (contains_head x xs)) (contains_map (λ xs. x ∷ xs) (lists all n) xs c) in
     contains_tail [] (flat_map (λ x. map (λ xs. x ∷ xs) (lists all n)) all) (x ∷ xs) f
 
--- Kernels that differ, each without repeats and of elements of all, are no more than these lists.
+-- If kernels differ, and each has only elements of a list, without repeats, there are no more
+-- kernels than such lists.
 pub kernels_few : {X : Type 0} (all : List X) (known : List (List X)) → AllPairs (λ a b. a ≢ b) known → ((k : List X) → Contains known k → AllPairs (λ a b. a ≢ b) k) → ((k : List X) (x : X) → Contains known k → Contains k x → Contains all x) → length known ≤ length (lists all (length all))
 kernels_few all known a s h = pigeonhole known (lists all (length all)) a (λ k c. in_lists all (length all) k (pigeonhole k all (s k c) (λ x d. h k x c d)) (λ x d. h k x c d))

@@ -1,4 +1,4 @@
--- Facts of each item, one item at a time.
+-- Facts that hold of each item, proved one item at a time.
 use Rattle.std.proofs.Common.{◌≡◌, ℕ, zero, suc, ◌+◌, ◌<◌, ◌≤◌, List, ◌∷◌, length, get_or, refl, sym, ◌∙◌, ap, subst, arith, ⊎_elim, inl, inr, ◌⊎◌, [], ◌++◌, append_assoc, append-nil}
 use Rattle.std.specs.Prelude.{slice_get, Some, unwrap_or, Contains}
 use Rattle.std.proofs.lemmas.Option.{slice_get_within, slice_get_read}
@@ -36,11 +36,11 @@ module _ {X : Type 0} (P : X → Type 0) where
   pub each_tail : (x : X) (xs ys : List X) → ys ≡ x ∷ xs → EachItem P ys → EachItem P xs
   each_tail x xs ys e each k y at = each (suc k) y (rw e at)
 
--- what is read at a place is what stands there
+-- the value that is read at a place is the value there
 pub same_at : {X : Type 0} (xs : List X) (i : ℕ) (x y : X) → i < length xs → x ≡ get_or xs i x → slice_get xs i ≡ Some y → y ≡ x
 same_at xs i x y l is at = ap (λ o. unwrap_or o x) (sym at ∙ slice_get_read xs (length xs) i x refl l is)
 
--- ---- a walk over a list: it holds of what was passed
+-- ---- a loop over a list: a property holds of the items so far
 pub record HoldsSoFar {X : Type 0} (P : List X → Type 0) (left all : List X) : Type 0 where
   pub done : List X
   pub whole : done ++ left ≡ all

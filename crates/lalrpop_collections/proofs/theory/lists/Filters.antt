@@ -1,4 +1,4 @@
--- What a filter keeps: the elements that pass the test.
+-- A filter keeps the elements that pass its test.
 use Rattle.std.proofs.Common.{◌≡◌, ◌∙◌, inl, inr, Bool, true, false, cond, filter, List, [], ◌∷◌, refl, sym, ap, subst}
 use Rattle.std.specs.Prelude.{Contains}
 use Rattle.lalrpop_collections.proofs.theory.lists.Members.{Contains-none, contains_head, contains_tail, contains-cons}
@@ -14,7 +14,7 @@ of_kept p (x ∷ xs) y c = elim (contains-cons x (filter p xs) y (kept_cases (p 
   | inr later ↦ contains_tail x xs y (of_kept p xs y later)
 ]
 
--- what is kept passes the test
+-- each element that is kept passes the test
 kept_at : {X : Type 0} (p : X → Bool) (x : X) (xs : List X) (y : X) → (Contains xs y → p y ≡ true) → (b : Bool) → p x ≡ b → Contains (cond b (x ∷ xs) xs) y → p y ≡ true
 kept_at p x xs y later true e c = elim (contains-cons x xs y c) [ inl here ↦ subst (λ z. p z ≡ true) here e | inr d ↦ later d ]
 kept_at p x xs y later false e c = later c
@@ -23,7 +23,7 @@ pub kept_holds : {X : Type 0} (p : X → Bool) (xs : List X) (y : X) → Contain
 kept_holds p [] y c = absurd (Contains-none y c)
 kept_holds p (x ∷ xs) y c = kept_at p x (filter p xs) y (kept_holds p xs y) (p x) refl c
 
--- and what passes it is kept
+-- each element that passes the test is kept
 kept_later : {X : Type 0} (b : Bool) (x : X) (xs : List X) (y : X) → Contains xs y → Contains (cond b (x ∷ xs) xs) y
 kept_later true x xs y c = contains_tail x xs y c
 kept_later false x xs y c = c

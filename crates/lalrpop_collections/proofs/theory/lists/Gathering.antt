@@ -1,4 +1,4 @@
--- Tokens that are gathered by key: one part more, and none.
+-- Tokens that are gathered by key: one part more, and no part.
 use Rattle.std.proofs.Common.{◌≡◌, Bool, inl, inr, List, [], ◌∷◌, ◌++◌, sym, subst, append-nil, append_assoc, cond, refl}
 use Rattle.std.specs.Prelude.{Contains}
 use Rattle.std.specs.Map.{keys_of}

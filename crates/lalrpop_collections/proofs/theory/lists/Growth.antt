@@ -1,4 +1,4 @@
--- How a table of tokens grows, by one key and by many.
+-- The growth of a table of tokens, by one key and by many.
 use Rattle.std.proofs.Common.{◌≡◌, ◌≢◌, ◌≤◌, ◌+◌, ℕ, ◌⊎◌, inl, inr, List, [], ◌∷◌, ◌++◌, length, sym, ◌∙◌, ap, subst, arith, length-append, Bool, true, false, cond, refl, map, take, ◌<◌}
 use Rattle.std.specs.Prelude.{Contains, MatchBool, get_or}
 use Rattle.std.specs.Map.{keys_of}
@@ -46,7 +46,7 @@ module _ {K : Type 0} where
     changed = λ e h. elim (y.changed e h) [ inl p ↦ inl p | inr o ↦ elim (x.changed e o) [ inl p ↦ inl (y.stays e.0 p) | inr q ↦ inr q ] ];
   }
 
-  -- keys stay, and a new one is in the queue
+  -- each key of the old table is in the new one
   pub known_kept : (a b : List (K × Bits)) (s t : List K) → Grows a b s t → (k : K) → Contains (keys_of a) k → Contains (keys_of b) k
   known_kept a b s t g k c = let e = key_entry a k c in let f = g.kept (k, e.0) e.1 in entry_key b (k, f.set) f.entry
 
@@ -90,7 +90,7 @@ module _ {K : Type 0} (key : K) (tokens : Bits) where
     | inr out ↦ inl (entry_key old e (subst (λ (xs : Joined). Contains xs e) (sym before) (around front back (key, s) e out)))
   ]
 
-  -- the key waits where it has something new
+  -- the key waits if it has anything new
   put_there : (told : Bool) (queue pushed : List K) → IsPut key told queue pushed → told ≡ true → Contains pushed key
   put_there told queue pushed (came e) t = subst (λ (xs : List K). Contains xs key) (sym (e ∙ ap (λ b. cond b (queue ++ key ∷ []) queue) t)) (Contains-append_right queue (key ∷ []) key (contains_head key []))
   put_there told queue pushed (waited c e) t = subst (λ (xs : List K). Contains xs key) (sym e) c
@@ -207,7 +207,7 @@ module _ {K : Type 0} where
     there = λ k h. elim (cases k h) [ inl p ↦ found_kept b c y.grows.kept k tokens (x.there k p) | inr q ↦ y.there k q ];
   }
 
-  -- the same keys by other words
+  -- an equivalent description of the keys
   pub Adds-same : (A B : K → Type 0) (tokens : Bits) → ((k : K) → A k → B k) → ((k : K) → B k → A k) → (a b : List (K × Bits)) (s t : List K) → Adds A tokens a b s t → Adds B tokens a b s t
   Adds-same A B tokens to back a b s t x = record {
     grows = x.grows;
@@ -216,6 +216,6 @@ module _ {K : Type 0} where
     there = λ k h. x.there k (back k h);
   }
 
--- ---- one item more of a list
+-- ---- one more item of a list
 pub mapped_more : {X Y : Type 0} (f : X → Y) (xs : List X) (i : ℕ) (x : X) → i < length xs → x ≡ get_or xs i x → map f (take (i + 1) xs) ≡ map f (take i xs) ++ f x ∷ []
 mapped_more f xs i x l e = ap (map f) (take_more xs i x l ∙ ap (λ y. take i xs ++ y ∷ []) (sym e)) ∙ map-append f (take i xs) (x ∷ [])

@@ -1,4 +1,4 @@
--- A search by halving in a list in order finds what is there.
+-- A binary search in an ordered list finds each value of the list.
 use Rattle.std.proofs.Common.{◌≡◌, inl, inr, ℕ, ◌<◌, ◌≤◌, List, length, get_or, refl, sym, ap, subst, arith, ◌∙◌}
 use Rattle.std.specs.Prelude.{slice_get, Some, Contains}
 use Rattle.std.specs.declared.cmp.Ordering.{Ordering}

@@ -1,4 +1,4 @@
--- Tokens that go to a key one after the other, as if both went at once.
+-- Tokens that are added to a key twice, as if all were added at once.
 use Rattle.std.proofs.Common.{◌≡◌, ◌≢◌, ◌||◌, suc, inl, inr, Bool, true, false, List, [], ◌∷◌, ◌++◌, refl, sym, ◌∙◌, ap, subst, arith}
 use Rattle.std.specs.Prelude.{Contains, MatchBool}
 use Rattle.std.specs.Map.{keys_of}
@@ -14,7 +14,7 @@ use Rattle.lalrpop_collections.proofs.theory.sets.BitSets.{join_left, join_right
 join_both : (s a b : Bits) → join (join s a) b ≡ join s (join a b)
 join_both s a b = same_bits _ _ (λ q. grind (arith, has-join))
 
--- what grew with the first does not come back with the second
+-- if the first join makes another set, the second does not lead back to the first set
 grown_stays : (s a b : Bits) → join s a ≢ s → join (join s a) b ≢ s
 grown_stays s a b grew same = grew (join_within s a (λ bit h. sym (ap (λ t. has t bit) same) ∙ join_left (join s a) b bit (join_right s a bit h)))
 
@@ -24,7 +24,7 @@ told_both true second s a b grew told = λ same. grown_stays s a b grew (join_bo
 told_both false true s a b same grew = λ back. grew (join_both s a b ∙ back ∙ sym same)
 told_both false false s a b same again = sym (join_both s a b) ∙ again ∙ same
 
--- ---- a key that stands once
+-- ---- a key that is in a list once
 module _ {X : Type 0} where
   differ_tail : (x : X) (xs : List X) → AllDiffer (x ∷ xs) → AllDiffer xs
   differ_tail x xs d i j y l = d (suc i) (suc j) y (omega (arith, l))
@@ -46,7 +46,7 @@ module _ {K X : Type 0} (k : K) where
   midst_key : (front back : List (K × X)) (x : X) → Contains (keys_of (front ++ (k, x) ∷ back)) k
   midst_key front back x = contains_map (λ (e : K × X). e.0) (front ++ (k, x) ∷ back) (k, x) (at_midst front back (k, x))
 
-  -- it stands at one place, with one value
+  -- the key is at one place, with one value
   same_midst : (front front' back back' : List (K × X)) (x y : X) → AllDiffer (keys_of (front ++ (k, x) ∷ back)) → front ++ (k, x) ∷ back ≡ front' ++ (k, y) ∷ back' → (front ≡ front') × (x ≡ y) × (back ≡ back')
   same_midst [] [] back back' x y d e =
       let head : entry x ≡ entry y = cc in
@@ -63,7 +63,7 @@ module _ {K X : Type 0} (k : K) where
       let rest = same_midst front front' back back' x y (differ_tail z.0 (keys_of (front ++ (k, x) ∷ back)) d) tail in
       (ap (λ (u : K × X). u ∷ front) head ∙ ap (λ (us : List (K × X)). w ∷ us) rest.0, rest.1, rest.2)
 
--- ---- tokens that go to a key twice
+-- ---- tokens that are added to a key twice
 module _ {K : Type 0} (k : K) (a b : Bits) where
   -- a key that has tokens is not new
   not_fresh : (mid new : List (K × Bits)) (front back : List (K × Bits)) → mid ≡ front ++ back → new ≡ front ++ (k, b) ∷ back → Contains (keys_of mid) k → AllDiffer (keys_of new) → ⊥

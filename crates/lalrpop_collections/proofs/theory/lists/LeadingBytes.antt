@@ -1,4 +1,4 @@
--- Texts whose leading numbers differ are ordered as these.
+-- Texts whose leading numbers differ are ordered as these numbers are.
 use Rattle.std.proofs.Common.{◌≡◌, ◌≢◌, ℕ, zero, suc, ◌<◌, ◌+◌, ◌*◌, List, [], ◌∷◌, refl, sym, ◌∙◌, ap, inl, inr, arith, slice_index, subst, ◌≤◌, length, Bool, true, false, ◌==◌, eqb-true, eq-eqb}
 use Rattle.std.specs.declared.cmp.Ordering.{Ordering}
 use Rattle.std.specs.declared.cmp.Ordering.TheVariants.{Less, Equal, Greater}
@@ -11,7 +11,7 @@ use Rattle.std.proofs.lemmas.Bool.{cases_order, lt-ltb, false≢true, false_from
 use Rattle.lalrpop_collections.specs.lists.LeadingBytes.{AreBytes, written_on, leading_number}
 use Rattle.lalrpop_collections.proofs.theory.lists.RisingOrder.{cmp_turned, less_is}
 
--- the first places of two lists hold the same
+-- the first k numbers of two lists are the same
 abbrev AgreeBelow : ℕ → List ℕ → List ℕ → Type 0
 AgreeBelow k xs ys = (j : ℕ) → j < k → slice_index xs j ≡ slice_index ys j
 
@@ -71,7 +71,7 @@ ordered_by_number xs ys bx by o is unequal = elim (cases_order (leading_number x
   ]
 ]
 
--- ---- texts with one leading number agree on the leading bytes
+-- ---- texts with the same leading number agree on the leading bytes
 pub greater_is : (a b : ℕ) → b < a → nat_cmp a b ≡ Greater
 greater_is a b l = nat_cmp_total.antisymm a b ∙ ap ordering_reverse (less_is b a l)
 
@@ -115,7 +115,8 @@ by_lengths (suc n) (x ∷ xs) (y ∷ ys) same lx ly =
     ∙ ap (λ (o : Ordering). ordering_then o (slice_cmp nat_cmp xs ys)) (sym (tied_itself nat_cmp_total x))
     ∙ ap (λ (z : ℕ). ordering_then (nat_cmp x z) (slice_cmp nat_cmp xs ys)) first
 
--- where no byte stands behind the leading ones, the lengths tell texts apart
+-- if texts with the same leading number have no byte after the leading ones, they are ordered by
+-- their lengths
 pub ordered_by_length : (xs ys : List ℕ) → AreBytes xs → AreBytes ys → leading_number xs ≡ leading_number ys → length xs ≤ 8 → length ys ≤ 8
     → nat_cmp (length xs) (length ys) ≡ slice_cmp nat_cmp xs ys
 ordered_by_length xs ys bx by is lx ly = by_lengths 8 xs ys (agree_below xs ys bx by is) lx ly

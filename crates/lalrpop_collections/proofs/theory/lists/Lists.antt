@@ -1,29 +1,30 @@
--- Lists, as the theory takes them apart: where a dot stands, how joined lists of terminals part, what stands where.
+-- Lists, as the theory takes them apart: the symbols before and after a dot, the last element, and
+-- the elements at places.
 use Rattle.std.proofs.Common.{◌≡◌, ℕ, zero, suc, ◌<◌, ◌⊎◌, inl, inr, List, [], ◌∷◌, ◌++◌, take, drop, length, sym, subst, refl, ap, ap₂, Option, Some, None, unwrap_or, arith, map, ◌∙◌}
 use Rattle.std.specs.Prelude.{Contains, slice_index_or, slice_get, option_map}
 use mathlib.Core.List.{head-eq_of_cons-eq, tail-eq_of_cons-eq, nil≢cons, cons≢nil}
 use Rattle.std.proofs.lemmas.Option.{slice_get-map}
 
--- behind x stands what is left after one more
+-- if x is after a dot, the rest is after the next dot
 pub drop_past : {A : Type 0} (n : ℕ) (xs : List A) {x : A} {after : List A} → drop n xs ≡ x ∷ after → drop (suc n) xs ≡ after
 drop_past zero [] e = absurd (nil≢cons e)
 drop_past zero (y ∷ xs) e = tail-eq_of_cons-eq e
 drop_past (suc n) [] e = absurd (nil≢cons e)
 drop_past (suc n) (y ∷ xs) e = drop_past n xs e
 
--- and what stands before it grows by x
+-- if x is after a dot, the next dot has x more before it
 pub take_past : {A : Type 0} (n : ℕ) (xs : List A) {x : A} {after : List A} → drop n xs ≡ x ∷ after → take (suc n) xs ≡ take n xs ++ x ∷ []
 take_past zero [] e = absurd (nil≢cons e)
 take_past zero (y ∷ xs) e = ap (λ z. z ∷ []) (head-eq_of_cons-eq e)
 take_past (suc n) [] e = absurd (nil≢cons e)
 take_past (suc n) (y ∷ xs) e = ap (λ zs. y ∷ zs) (take_past n xs e)
 
--- nothing stands behind all symbols
+-- nothing is after the dot at the end
 pub drop_all : {A : Type 0} (xs : List A) → drop (length xs) xs ≡ []
 drop_all [] = refl
 drop_all (x ∷ xs) = drop_all xs
 
--- and all stand before
+-- all elements are before the dot at the end
 pub take_all : {A : Type 0} (xs : List A) → take (length xs) xs ≡ xs
 take_all [] = refl
 take_all (x ∷ xs) = ap (λ ys. x ∷ ys) (take_all xs)
@@ -33,7 +34,7 @@ pub data Ended {A : Type 0} : List A → Type 0 where
   nothing : Ended []
   last : (l : List A) (x : A) → Ended (l ++ x ∷ [])
 
--- each list is empty or ended
+-- each list is empty, or has a last element
 pub ended : {A : Type 0} (l : List A) → Ended l
 ended [] = nothing
 ended {A} (x ∷ l) = go (ended l)
@@ -42,7 +43,7 @@ ended {A} (x ∷ l) = go (ended l)
     go nothing = last [] x
     go (last k y) = last (x ∷ k) y
 
--- equal ended lists have equal beginnings and ends
+-- equal lists with a last element have equal beginnings and equal last elements
 pub same_last : {A : Type 0} (xs ys : List A) {x y : A} → xs ++ x ∷ [] ≡ ys ++ y ∷ [] → (xs ≡ ys) × (x ≡ y)
 same_last [] [] e = (refl, head-eq_of_cons-eq e)
 same_last [] (z ∷ []) e = absurd (nil≢cons (tail-eq_of_cons-eq e))
@@ -53,42 +54,42 @@ same_last (z ∷ xs) (w ∷ ys) e =
     let r = same_last xs ys (tail-eq_of_cons-eq e) in
     (ap₂ (λ a l. a ∷ l) (head-eq_of_cons-eq e) r.0, r.1)
 
--- an ended list is not empty
+-- a list with a last element is not empty
 pub nil≢more : {A : Type 0} (v l : List A) (x : A) → [] ≡ v ++ (l ++ x ∷ []) → ⊥
 nil≢more [] [] x e = nil≢cons e
 nil≢more [] (y ∷ l) x e = nil≢cons e
 nil≢more (y ∷ v) l x e = nil≢cons e
 
--- one element more is one more in length
+-- one more element makes a list longer by one
 pub length-more : {A : Type 0} (l : List A) (x : A) → length (l ++ x ∷ []) ≡ suc (length l)
 length-more [] x = refl
 length-more (y ∷ l) x = ap suc (length-more l x)
 
--- a list grows by its last elements
+-- a list is made by adding elements at its end
 pub data Grown {A : Type 0} : List A → Type 0 where
   from_nothing : Grown []
   more : {l : List A} (x : A) → Grown l → Grown (l ++ x ∷ [])
 
--- also where a head is put before it
+-- a list that is made so, with a head put before it, is made so too
 pub grown-cons : {A : Type 0} (x : A) {l : List A} → Grown l → Grown (x ∷ l)
 grown-cons x from_nothing = more x from_nothing
 grown-cons x (more y k) = more y (grown-cons x k)
 
--- each list is grown so
+-- each list is made so
 pub grown : {A : Type 0} (l : List A) → Grown l
 grown [] = from_nothing
 grown (x ∷ l) = grown-cons x (grown l)
 
--- what an option holds is one value
+-- an option has at most one value
 pub same_some : {A : Type 0} {a b : A} → Some a ≡ Some b → a ≡ b
 same_some {a = a} e = ap (λ o. unwrap_or o a) e
 
--- an option that holds a value
+-- an option has a value
 abbrev pub IsSome' : {A : Type 0} → Option A → Type 0
 IsSome' None = ⊥
 IsSome' (Some a) = Unit {0}
 
--- an option does not both hold a value and hold none
+-- an option does not both have a value and have none
 pub some≢none : {A : Type 0} {a : A} → Some a ≡ None → ⊥
 some≢none e = subst IsSome' e tt
 
@@ -108,11 +109,11 @@ contains-nil h = let l : h.0 < 0 = h.1 in omega arith
 pub contains_head : {A : Type 0} (x : A) (xs : List A) → Contains (x ∷ xs) x
 contains_head x xs = (zero, omega arith, refl)
 
--- and so is each element of the tail
+-- each element of the tail is an element
 pub contains_tail : {A : Type 0} (y : A) (ys : List A) (x : A) → Contains ys x → Contains (y ∷ ys) x
 contains_tail y ys x h = (suc h.0, omega (arith, h.1), h.2)
 
--- an element stands at a place
+-- an element is at a place
 pub contains_place : {A : Type 0} (xs : List A) (x : A) → Contains xs x → (k : ℕ) × (slice_get xs k ≡ Some x)
 contains_place [] x h = absurd (contains-nil h)
 contains_place (y ∷ ys) x h = elim (contains-cons y ys x h) [
@@ -120,7 +121,7 @@ contains_place (y ∷ ys) x h = elim (contains-cons y ys x h) [
   | inr k ↦ let r = contains_place ys x k in (suc r.0, r.1)
 ]
 
--- and what stands at a place is an element
+-- the value at a place is an element
 pub place_contains : {A : Type 0} (xs : List A) (k : ℕ) (x : A) → slice_get xs k ≡ Some x → Contains xs x
 place_contains [] k x e = absurd (some≢none (sym e))
 place_contains (y ∷ ys) zero x e = (zero, omega arith, same_some e)

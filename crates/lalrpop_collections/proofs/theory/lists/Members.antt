@@ -90,7 +90,7 @@ slice_get-cases (y ∷ xs) x (suc k) l e = slice_get-cases xs x k (omega (arith,
 pub place : {X : Type 0} (xs : List X) (x : X) → Contains xs x → (k : ℕ) × (k < length xs) × (slice_get xs k ≡ Some x)
 place xs x h = (h.0, h.1, slice_get-cases xs x h.0 h.1 h.2)
 
--- ---- a key goes into a set
+-- ---- a key is put into a set
 module _ {K : Type 0} (cmp : K → K → Ordering) where
   kept_at : (x : K) (xs : List K) (k i : K) (o : Ordering) → Contains (x ∷ xs) i → (Contains xs i → Contains (insert_key cmp xs k) i) → Contains (match_ordering o (k ∷ x ∷ xs) (x ∷ xs) (x ∷ insert_key cmp xs k)) i
   kept_at x xs k i Less c h = contains_tail k (x ∷ xs) i c
@@ -120,7 +120,7 @@ module _ {K : Type 0} (cmp : K → K → Ordering) (exact : CmpEqualImpliesEq cm
   insert_key-has [] k = contains_head k []
   insert_key-has (x ∷ xs) k = put_at x xs k (cmp k x) refl (insert_key-has xs k)
 
--- ---- lists in order
+-- ---- ordered lists
 pub less-apart : {K : Type 0} (cmp : K → K → Ordering) → IsTotalOrder cmp → (x y : K) → cmp x y ≡ Less → x ≡ y → ⊥
 less-apart {K} cmp o x y h e =
     let P : K → Type 0 = λ z. cmp z y ≡ Less in
@@ -142,7 +142,7 @@ Contains-from_reverse xs x c = rw reverse-reverse at (Contains-reverse (reverse 
 pub Contains-range : (n p : ℕ) → p < n → Contains (range_with_len 0 n) p
 Contains-range n p l = (p, rw length-range_with_len l, get_or-range_with_len 0 n p p l ∙ zero-add p)
 
--- what a list of lists has stands in one of them
+-- an element of a joined list of lists is an element of one of them
 pub of_flat : {X Y : Type 0} (f : X → List Y) (xs : List X) (y : Y) → Contains (flat_map f xs) y → (x : X) × Contains xs x × Contains (f x) y
 of_flat f [] y c = absurd (Contains-none y c)
 of_flat f (x ∷ xs) y c = elim (Contains-append_cases (f x) (flat_map f xs) y c) [

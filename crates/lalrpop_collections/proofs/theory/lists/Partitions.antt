@@ -1,4 +1,5 @@
--- Lists in two parts: where each element goes, that no two go to one place, and that each place is taken.
+-- Lists in two parts: each element has a new place, no two have the same one, and each place is
+-- taken.
 use Rattle.std.proofs.Common.{◌≡◌, ℕ, zero, suc, ◌+◌, ◌-◌, ◌<◌, ◌≤◌, inl, inr, Bool, true, false, not, cond, List, [], ◌∷◌, ◌++◌, length, take, refl, sym, ◌∙◌, ap, subst, arith, Some, length-append}
 use Rattle.std.specs.Prelude.{slice_get}
 use Rattle.std.specs.List.{filter}
@@ -9,7 +10,7 @@ use Rattle.std.proofs.lemmas.Option.{slice_get_within, slice_get_past, slice_get
 use Rattle.lalrpop_collections.specs.Words.{rank, fails, parted, parted_place, new_place, ArePlaces}
 use Rattle.lalrpop_collections.proofs.theory.lists.Places.{same_some, slice_get-longer, slice_get-append_before, slice_get-push_at, slice_get-append_behind}
 
--- ---- how many of the first elements pass
+-- ---- the number of the first elements that pass
 module _ {X : Type 0} (p : X → Bool) where
   counted_first : (x : X) (xs : List X) → length (filter p (x ∷ xs)) ≡ cond (p x) 1 0 + length (filter p xs)
   counted_first x xs = go (p x)
@@ -50,7 +51,7 @@ module _ {X : Type 0} (p : X → Bool) where
       let m = rank_more xs i (length xs) l in
       omega arith
 
-  -- among those that pass an element stands behind those that pass before it
+  -- among the elements that pass, an element comes after those that pass before it
   pub ranked_place : (xs : List X) (k : ℕ) (x : X) → slice_get xs k ≡ Some x → p x ≡ true → slice_get (filter p xs) (rank p xs k) ≡ Some x
   ranked_place [] k x at h = cc
   ranked_place (y ∷ xs) zero x at h =
@@ -62,7 +63,7 @@ module _ {X : Type 0} (p : X → Bool) where
       go later true = later
       go later false = later
 
-  -- the element that stands at a place among those that pass
+  -- the element at a place among those that pass
   pub record Picked (xs : List X) (i : ℕ) : Type 0 where
     pub place : ℕ
     pub element : X
@@ -89,7 +90,7 @@ module _ {X : Type 0} (p : X → Bool) where
   picked [] i l = absurd (omega arith)
   picked (x ∷ xs) i l = let a = counted_first x xs in picked_at x xs i (p x) refl (omega arith) (picked xs)
 
--- ---- where each element goes
+-- ---- the new place of each element
 module _ {X : Type 0} (p : X → Bool) (xs : List X) where
   passed : (x : X) → p x ≡ false → fails p x ≡ true
   passed x h = ap not h
@@ -124,18 +125,18 @@ module _ {X : Type 0} (p : X → Bool) (xs : List X) where
     | inr past ↦ absurd (let m = past.0 in omega arith)
   ]
 
-  -- those that pass stand before the others
+  -- the elements that pass come before the others
   pub front_before_back : (j k : ℕ) (x y : X) → slice_get xs j ≡ Some x → slice_get xs k ≡ Some y → p x ≡ true → p y ≡ false → new_place p xs j < new_place p xs k
   front_before_back j k x y at_j at_k t f = let a = front_place j x at_j t in let b = back_place k y at_k f in let l = rank_below p xs j x at_j t in omega arith
 
-  -- and each part keeps its order
+  -- each part keeps its order
   pub parts_keep_order : (j k : ℕ) (x y : X) → slice_get xs j ≡ Some x → slice_get xs k ≡ Some y → p x ≡ p y → j < k → new_place p xs j < new_place p xs k
   parts_keep_order j k x y at_j at_k same l = elim (cases_Bool (p x)) [
     | inl t ↦ let a = front_place j x at_j t in let b = front_place k y at_k (sym same ∙ t) in let m = rank_less p xs j k x at_j t l in omega arith
     | inr f ↦ let a = back_place j x at_j f in let b = back_place k y at_k (sym same ∙ f) in let m = rank_less (fails p) xs j k x at_j (passed x f) l in omega arith
   ]
 
-  -- no two go to one place
+  -- no two elements have the same new place
   apart_inside : (j k : ℕ) (x y : X) → slice_get xs j ≡ Some x → slice_get xs k ≡ Some y → j < k → new_place p xs j ≡ new_place p xs k → ⊥
   apart_inside j k x y at_j at_k l e = go (p x) (p y) refl refl
     where
@@ -160,7 +161,7 @@ module _ {X : Type 0} (p : X → Bool) (xs : List X) where
     | inr l ↦ elim l [ inl less ↦ absurd (apart j k less e) | inr more ↦ absurd (apart k j more (sym e)) ]
   ]
 
-  -- and each place is taken
+  -- each place is taken
   pub place_taken : (i : ℕ) → (k : ℕ) × (new_place p xs k ≡ i)
   place_taken i = elim (cases_lt i (length (filter p xs))) [
     | inl front ↦
@@ -184,7 +185,7 @@ module _ {X : Type 0} (p : X → Bool) (xs : List X) where
           let at = back_place r.place r.element r.there (failed r.element (p r.element) refl r.passes) in
           (r.place, omega arith)
 
-  -- ---- the new places, one after another
+  -- ---- the new places, in turn
   pub front_more : (i : ℕ) (x : X) → slice_get xs i ≡ Some x → (old new : ℕ) → old ≡ rank p xs i → new ≡ cond (p x) (old + 1) old → new ≡ rank p xs (i + 1)
   front_more i x at old new e f = f ∙ counted_on (p x) old ∙ ap (λ n. n + cond (p x) 1 0) e ∙ sym (rank_next p xs i x at)
     where

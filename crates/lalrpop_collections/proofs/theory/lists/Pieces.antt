@@ -26,7 +26,7 @@ pub six_pieces : (start t1 t2 t3 t4 t5 t6 a b c d e f : List ℕ) → t1 ≡ sta
 six_pieces start t1 t2 t3 t4 t5 t6 a b c d e f p q r s t u =
     two_pieces start t1 t6 a _ p (two_pieces t1 t2 t6 b _ q (two_pieces t2 t3 t6 c _ r (two_pieces t3 t4 t6 d _ s (two_pieces t4 t5 t6 e f t u))))
 
--- a text that grew by the text of one item more
+-- a text that grows by the text of one more item
 pub one_more : {X : Type 0} (f : X → List ℕ) (xs : List X) (i : ℕ) (x : X) (start now next : List ℕ) → i < length xs → x ≡ get_or xs i x → now ≡ start ++ flat_map f (take i xs) → next ≡ now ++ f x →
     next ≡ start ++ flat_map f (take (i + 1) xs)
 one_more f xs i x start now next inside same so_far grew =

@@ -1,4 +1,4 @@
--- Lists whose values differ, and a value more.
+-- Lists whose values differ, and lists with one more value.
 use Rattle.std.proofs.Common.{◌≡◌, ◌≢◌, ℕ, zero, suc, ◌+◌, ◌<◌, ◌≤◌, ◌⊎◌, inl, inr, List, [], ◌∷◌, ◌++◌, length, get_or, refl, sym, ◌∙◌, ap, subst, arith, ⊎_elim, length-append, drop, set}
 use Rattle.std.specs.Prelude.{slice_get, Some, Contains, unwrap_or, AllPairs}
 use Rattle.std.proofs.lemmas.Option.{slice_get_within, get_or_from_slice_get, slice_get-get_or, slice_get_read}
@@ -22,14 +22,14 @@ slice_get-drop zero xs k = let e : k ≡ 0 + k = omega arith in ap (slice_get xs
 slice_get-drop (suc n) [] k = refl
 slice_get-drop (suc n) (x ∷ xs) k = let e : suc (n + k) ≡ suc n + k = omega arith in slice_get-drop n xs k ∙ ap (slice_get (x ∷ xs)) e
 
--- what stands in a list stands there in a longer one
+-- a value at a place of a list is at that place of a longer one
 pub slice_get-longer : {X : Type 0} (xs ys : List X) (k : ℕ) (x : X) → slice_get xs k ≡ Some x → slice_get (xs ++ ys) k ≡ Some x
 slice_get-longer xs ys k x h = slice_get-append_before xs ys k (slice_get_within xs k x h) ∙ h
 
 pub same_some : {X : Type 0} (x y : X) → Some x ≡ Some y → x ≡ y
 same_some x y e = ap (λ o. unwrap_or o x) e
 
--- a place in a list with one value more
+-- a place in a list with one more value
 pub push_cases : {X : Type 0} (xs : List X) (x : X) (k : ℕ) (y : X) → slice_get (xs ++ x ∷ []) k ≡ Some y → (slice_get xs k ≡ Some y) ⊎ ((k ≡ length xs) × (x ≡ y))
 push_cases xs x k y h =
     let within : k < length (xs ++ x ∷ []) = slice_get_within (xs ++ x ∷ []) k y h in
@@ -48,7 +48,7 @@ differ_from_apart xs a i j x l at_i at_j =
 pub apart_from_differ : {X : Type 0} (xs : List X) → AllDiffer xs → AllPairs (λ a b. a ≢ b) xs
 apart_from_differ xs h i j d l m e = h i j (get_or xs i d) l (slice_get-get_or xs i d (omega arith)) (slice_get-get_or xs j d m ∙ ap Some (sym e))
 
--- ---- a value in the midst of others
+-- ---- a value between others
 module _ {X : Type 0} (front back : List X) (x : X) where
   pub midst : (y : X) → Contains (front ++ x ∷ back) y → (x ≡ y) ⊎ Contains (front ++ back) y
   midst y c = elim (Contains-append_cases front (x ∷ back) y c) [
@@ -65,7 +65,7 @@ module _ {X : Type 0} (front back : List X) (x : X) where
   pub at_midst : Contains (front ++ x ∷ back) x
   at_midst = Contains-append_right front (x ∷ back) x (contains_head x back)
 
--- a value more that stands nowhere before
+-- a value that is not in a list of different values may be added at its end
 pub differ_push : {X : Type 0} (xs : List X) (x : X) → AllDiffer xs → ¬ Contains xs x → AllDiffer (xs ++ x ∷ [])
 differ_push xs x d out i j y l at_i at_j = elim (push_cases xs x j y at_j) [
   | inl in_j ↦ elim (push_cases xs x i y at_i) [
@@ -78,7 +78,7 @@ differ_push xs x d out i j y l at_i at_j = elim (push_cases xs x j y at_j) [
   ]
 ]
 
--- a value that is put into a place leaves the others
+-- a value that is put at a place leaves the other places as they are
 pub put_other : {X : Type 0} (xs : List X) (i j : ℕ) (v : X) → (j ≡ i → ⊥) → slice_get (set xs i v) j ≡ slice_get xs j
 put_other [] i j v apart = refl
 put_other (x ∷ xs) zero zero v apart = absurd (apart refl)
@@ -86,7 +86,7 @@ put_other (x ∷ xs) zero (suc j) v apart = refl
 put_other (x ∷ xs) (suc i) zero v apart = refl
 put_other (x ∷ xs) (suc i) (suc j) v apart = put_other xs i j v (λ e. apart (ap suc e))
 
--- what is read at a place stands there
+-- the value that is read at a place is at that place
 pub slice_get_at : {X : Type 0} (xs : List X) (i : ℕ) (x : X) → i < length xs → x ≡ get_or xs i x → slice_get xs i ≡ Some x
 slice_get_at xs i x l e = slice_get_read xs (length xs) i x refl l e
 
@@ -97,7 +97,7 @@ places_apart zero (suc j) = inl (omega arith)
 places_apart (suc i) zero = inr (inl (omega arith))
 places_apart (suc i) (suc j) = elim (places_apart i j) [ inl l ↦ inl (omega arith) | inr r ↦ elim r [ inl l ↦ inr (inl (omega arith)) | inr e ↦ inr (inr (ap suc e)) ] ]
 
--- a value that differs from all others stands at one place
+-- a value is at one place only, if all values differ
 pub one_place : {X : Type 0} (xs : List X) → AllDiffer xs → (i j : ℕ) (x : X) → slice_get xs i ≡ Some x → slice_get xs j ≡ Some x → i ≡ j
 one_place xs differ i j x at_i at_j = elim (places_apart i j) [
   | inl l ↦ absurd (differ i j x l at_i at_j)
@@ -110,7 +110,7 @@ filled [] n l = absurd (omega arith)
 filled (x ∷ xs) zero l = (x, refl)
 filled (x ∷ xs) (suc n) l = filled xs n (omega arith)
 
--- what stands past a list in a longer one was added
+-- a value after the end of a list, in a longer list, was added
 past : {X : Type 0} (old added : List X) (n : ℕ) (x : X) → length old ≤ n → slice_get (old ++ added) n ≡ Some x → Contains added x
 past [] added n x l at = contains_at added x n at
 past (y ∷ old) added zero x l at = absurd (omega arith)

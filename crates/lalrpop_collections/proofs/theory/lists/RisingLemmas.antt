@@ -1,11 +1,11 @@
--- Rising lists filtered.
+-- Ascending lists that are filtered.
 use Rattle.std.proofs.Common.{◌≡◌, ◌≢◌, ℕ, zero, suc, ◌<◌, ◌≤◌, ⊎_elim, ◌==◌, Bool, true, false, ◌||◌, ◌&&◌, List, [], ◌∷◌, length, slice_index, refl, sym, ◌∙◌, ap, arith, eqb-true}
 use Rattle.std.specs.Prelude.{cond}
 use Rattle.std.specs.List.{list_any, filter}
 use Rattle.std.proofs.lemmas.Bool.{cases_Bool}
 use Rattle.lalrpop_collections.specs.Words.{Bits, has, rising, bits_of, IsRising, has-bits_of, has-rising}
 
--- the list rises, from a number on
+-- the list ascends strictly, and its numbers are not below a first one
 abbrev pub RisesFrom : ℕ → List ℕ → Type 0
 RisesFrom b [] = Unit {0}
 RisesFrom b (x ∷ xs) = (b ≤ x) × RisesFrom (suc x) xs
@@ -29,7 +29,7 @@ rises_lower a b (x ∷ xs) l up = (omega (arith, up.0), up.1)
 abbrev pub among : ℕ → List ℕ → Bool
 among q xs = list_any (λ b. q == b) xs
 
--- what passes a test rises as the whole does
+-- the elements that pass a test ascend as the whole list does
 pub filter_rises : (p : ℕ → Bool) (b : ℕ) (xs : List ℕ) → RisesFrom b xs → RisesFrom b (filter p xs)
 filter_rises p b [] up = tt
 filter_rises p b (x ∷ xs) up = elim (p x) as (λ t. RisesFrom b (cond t (x ∷ filter p xs) (filter p xs))) [
@@ -66,7 +66,7 @@ not_among q (x ∷ xs) out =
     let head : (q == x) ≡ false = ⊎_elim (λ t. absurd (out 0 (omega arith) (sym (eqb-true q x t)))) (λ f. f) (cases_Bool (q == x)) in
     ap (λ t. t || among q xs) head ∙ not_among q xs (λ k l. out (suc k) (omega arith))
 
--- a list that rises has no number below its start
+-- a list that ascends from a number on has no number below it
 pub below_start : (b q : ℕ) (xs : List ℕ) → RisesFrom b xs → q < b → among q xs ≡ false
 below_start b q xs up l = not_among q xs (λ k w e. absurd (omega (arith, rises_above b xs up k w)))
 

@@ -1,4 +1,4 @@
--- Two rising lists are ordered by the least number that is in one of them alone.
+-- Two ascending lists are ordered by the least number that exactly one of them has.
 use Rattle.std.proofs.Common.{◌≡◌, ℕ, suc, ◌<◌, ◌≤◌, ⊎_elim, ◌==◌, Bool, true, false, ◌||◌, List, [], ◌∷◌, refl, sym, ◌∙◌, ap, subst, arith, eqb-true, eq-eqb, ne_eqb}
 use Rattle.std.specs.declared.cmp.Ordering.TheVariants.{Less, Greater}
 use Rattle.std.specs.Ordering.{nat_cmp, ordering_then, ordering_reverse}
@@ -24,7 +24,7 @@ from_head b x xs up = (omega arith, up.1)
 not_below : (b q : ℕ) (xs : List ℕ) → RisesFrom b xs → among q xs ≡ true → b ≤ q
 not_below b q xs up t = ⊎_elim (λ l. absurd (clash (among q xs) t (below_start b q xs up l))) (λ l. l) (cases_lt q b)
 
--- the lists differ first at d, which the first has
+-- the least number that exactly one list has is d, and the first list has it
 module _ (d : ℕ) where
   pub record Differ (xs ys : List ℕ) : Type 0 where
     pub same : (q : ℕ) → q < d → among q xs ≡ among q ys
@@ -68,7 +68,7 @@ module _ (d : ℕ) where
   lesser_heads : (x y : ℕ) (xs ys : List ℕ) → x < y → slice_cmp nat_cmp (x ∷ xs) (y ∷ ys) ≡ Less
   lesser_heads x y xs ys l = ap (λ o. ordering_then o (slice_cmp nat_cmp xs ys)) (less_is x y l)
 
-  -- where the second goes on behind d, the first is less
+  -- if the second list has a number above d, the first one is less
   pub goes_on : (b : ℕ) (xs ys : List ℕ) → RisesFrom b xs → RisesFrom b ys → Differ xs ys → (e : ℕ) → d < e → among e ys ≡ true → slice_cmp nat_cmp xs ys ≡ Less
   goes_on b [] ys up ups h e l t = absurd (true≢false (sym h.here))
   goes_on b (x ∷ xs) [] up ups h e l t = absurd (true≢false (sym t))
@@ -81,7 +81,7 @@ module _ (d : ℕ) where
       (⊎_elim (λ less. lesser_heads x y xs ys less) (λ more. absurd (no_greater_head x y xs ys (from_head b x xs up) h more)))
       (cases_order x y)
 
-  -- where the second ends, it is a prefix, and less
+  -- if the second list has no number above d, it is a prefix, and less
   pub ends : (b : ℕ) (xs ys : List ℕ) → RisesFrom b xs → RisesFrom b ys → Differ xs ys → ((e : ℕ) → d < e → among e ys ≡ false) → slice_cmp nat_cmp xs ys ≡ Greater
   ends b [] ys up ups h none = absurd (true≢false (sym h.here))
   ends b (x ∷ xs) [] up ups h none = refl
@@ -95,7 +95,7 @@ module _ (d : ℕ) where
       (λ more. absurd (no_greater_head x y xs ys (from_head b x xs up) h more)))
       (cases_order x y)
 
--- two bit vectors are ordered by the greater numbers of the one without their least difference
+-- two bit vectors are ordered by the numbers above the least difference, in the one without it
 module _ (xs ys : List ℕ) (d : ℕ) where
   differ : IsLeastApart (has_bit xs) (has_bit ys) d → has_bit xs d ≡ true → Differ d (members_from xs 0) (members_from ys 0)
   differ h t = record {
@@ -110,7 +110,7 @@ module _ (xs ys : List ℕ) (d : ℕ) where
   pub order_greater : IsLeastApart (has_bit xs) (has_bit ys) d → has_bit xs d ≡ true → ((e : ℕ) → d < e → has_bit ys e ≡ false) → slice_cmp nat_cmp (members_from xs 0) (members_from ys 0) ≡ Greater
   order_greater h t none = ends d 0 (members_from xs 0) (members_from ys 0) (members_rise xs) (members_rise ys) (differ h t) (λ e l. among-members ys e ∙ none e l)
 
--- the least difference is that of the two turned round, and one of the two has it
+-- the least difference stays if the two are swapped, and one of the two has it
 pub turned : (xs ys : List ℕ) (d : ℕ) → IsLeastApart (has_bit xs) (has_bit ys) d → IsLeastApart (has_bit ys) (has_bit xs) d
 turned xs ys d h = record { apart = λ e. h.apart (sym e); same = λ k l. sym (h.same k l) }
 

@@ -30,7 +30,7 @@ joined_itself from to sets e =
     let same : join (set_at sets to) (set_at sets from) ≡ set_at sets to = ap (λ k. join (set_at sets to) (set_at sets k)) e ∙ join_itself (set_at sets to) in
     record { joined = sym (ap (set sets to) same ∙ set-get_or sets to no_bits); told = same }
 
--- a set that was taken out for the join, and put back
+-- a set that is taken out for the join, and put back
 module _ (from to : ℕ) (sets : List Bits) (out taken there joined : Bits) (apart : from ≡ to → ⊥) (listed : from < length sets) (end : to < length sets) where
   pub joined_apart : (grew : Bool) → taken ≡ get_or sets from taken → there ≡ get_or (set sets from out) to there → joined ≡ join there taken → MatchBool grew (joined ≢ there) (joined ≡ there) →
       IsJoinedInto grew from to sets (set (set (set sets from out) to joined) from taken)
@@ -96,7 +96,7 @@ module _ (from : ℕ) (ends : List ℕ) where
     end : get_or ends few 0 < length mid
     end = omega (arith, in_range, s.counted)
 
-    -- what the set that is sent has when it is, it had at first
+    -- a bit that the sender has when it is sent was there at first
     sender : (bit : ℕ) → HoldsBit mid from bit → HoldsBit old from bit
     sender bit h = elim (s.came from bit h) [ inl there ↦ there | inr sent ↦ sent.1 ]
 
@@ -148,7 +148,8 @@ module _ (from : ℕ) (ends : List ℕ) where
 
 -- ---- the whole
 module _ (base : List Bits) (edges : List (Vec ℕ Global)) where
-  -- the sets so far: between the first ones and the least, and of a number that does not wait the ends of its edges have all
+  -- the sets so far are between the first ones and the least ones. The ends of the edges from a
+  -- number that does not wait have all bits of its set
   pub record SpreadSoFar (sets : List Bits) (waiting : Waiting) : Type 0 where
     pub counted : length sets ≡ length base
     pub limit : waiting.limit ≡ length base
@@ -195,8 +196,8 @@ module _ (base : List Bits) (edges : List (Vec ℕ Global)) where
       back (held n bit h) = so.kept n bit h
       back (sent_on from to bit edge k) = so.settled from to bit (λ w. Contains-none from (subst (λ (xs : List ℕ). Contains xs from) empty w)) edge (back k)
 
-  -- ---- how long it can go on
-  -- above each bit of the sets
+  -- ---- a bound on the number of steps
+  -- a number above each bit of the sets
   above : ℕ
   above = sum_by (λ (s : Bits). sum_by suc (rising s)) base
 
@@ -220,7 +221,7 @@ module _ (base : List Bits) (edges : List (Vec ℕ Global)) where
       let most : size sets ≤ length sets * above = sum_by-le (λ (s : Bits). length (rising s)) above sets (λ k d l. rising_small (get_or sets k d) above (λ q h. spread_below (so.only k q (ap (λ (s : Bits). has s q) (get_or_default sets k no_bits d l) ∙ h)))) in
       subst (λ n. size sets ≤ n * above) so.counted most
 
-  -- the bits that can still come, and the numbers that wait
+  -- the number of bits that can still be added, plus that of the numbers that wait
   pub left_to_spread : List Bits → Waiting → ℕ
   left_to_spread sets waiting = (length base * above - size sets) + length waiting.numbers
 

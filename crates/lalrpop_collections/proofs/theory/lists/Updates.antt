@@ -1,4 +1,4 @@
--- An insert into the entries of a map, as a list with the key in its midst.
+-- An insert into the entries of a map, as a list with the key between others.
 use Rattle.std.proofs.Common.{◌≡◌, List, [], ◌∷◌, ◌++◌, refl, sym, ap, ◌∙◌, Option, Some, None, Bool, true, cond, ℕ, zero, suc, IsSome, option_map, slice_get}
 use Rattle.std.specs.declared.cmp.Ordering.{Ordering}
 use Rattle.std.specs.declared.cmp.Ordering.TheVariants.{Less, Equal, Greater}
@@ -67,7 +67,7 @@ module _ {K V : Type 0} where
     set_replaced k v w [] h = cc
     set_replaced k v w (e ∷ es) h = set_at k v w e es (cmp k e.0) refl h (set_replaced k v w es)
 
--- `==` that is exact, and agrees with the order, makes the order exact
+-- if `==` is exact and agrees with the order, the order is exact
 pub exact_order : {K : Type 0} (E : K → K → Bool) (R : K → K → Ordering) → ((x y : K) → E x y ≡ true → x ≡ y) → ((x y : K) → E x y ≡ is_eq (R x y)) → CmpEqualImpliesEq R
 exact_order E R exact ties x y h = exact x y (ties x y ∙ ap is_eq h)
 
@@ -82,7 +82,7 @@ module _ {K V : Type 0} (k : K) (v : V) where
   pub pushed_known : (vs ws : List V) (old new : List (K × List V)) → ws ≡ vs ++ v ∷ [] → IsReplaced k vs ws old new → IsPushedAt k v old new
   pushed_known vs ws old new e i = push_known i.front i.back vs i.before (i.after ∙ ap (λ (xs : List V). i.front ++ (k, xs) ∷ i.back) e)
 
--- ---- what a look-up finds
+-- ---- results of a look-up
 none_some : {V : Type 0} (o : Option V) → o ≡ None → IsSome o → ⊥
 none_some None e s = cc
 none_some (Some v) e s = cc
@@ -93,7 +93,7 @@ module _ {K V : Type 0} where
   key_stands (x ∷ es) zero e h = ap (λ (o : Option (K × V)). option_map (λ (y : K × V). y.0) o) h
   key_stands (x ∷ es) (suc i) e h = key_stands es i e h
 
-  -- where keys differ, a key has one value
+  -- if keys differ, a key has one value
   pub one_value : (es : List (K × V)) → AllDiffer (keys_of es) → (k : K) (v w : V) → Contains es (k, v) → Contains es (k, w) → v ≡ w
   one_value es differ k v w c d =
       let i = place es (k, v) c in
@@ -102,11 +102,11 @@ module _ {K V : Type 0} where
       ap (λ (x : K × V). x.1) (same_some (k, v) (k, w) (sym i.2 ∙ ap (slice_get es) e ∙ j.2))
 
 module _ {K V : Type 0} where
-  -- what a look-up finds stands in the map
+  -- the value that a look-up finds is in the map
   pub looked_found : (E : K → K → Bool) (R : K → K → Ordering) → ((x y : K) → E x y ≡ true → x ≡ y) → ((x y : K) → E x y ≡ is_eq (R x y)) → (es : List (K × V)) (k : K) (v : V) → lookup (is_at (R k)) es ≡ Some v → Contains es (k, v)
   looked_found E R exact ties es k v h = Contains-from_lookup {eq = eq_by_cmp R} (λ x y e. exact x y (ties x y ∙ e)) k v es h
 
-  -- and where it finds nothing, the key is not there
+  -- if a look-up finds nothing, the map does not have the key
   pub looked_none : (R : K → K → Ordering) → IsTotalOrder R → (es : List (K × V)) (k : K) → lookup (is_at (R k)) es ≡ None → ¬ Contains (keys_of es) k
   looked_none R total es k e c = none_some (lookup (is_at (R k)) es) e (IsSome-lookup_from_Contains (eq_by_cmp_equiv total) k es c)
 

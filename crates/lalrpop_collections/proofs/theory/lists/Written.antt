@@ -1,4 +1,4 @@
--- Texts that are written piece by piece, whatever the style.
+-- Texts that are written piece by piece, in any style.
 use Rattle.std.proofs.Common.{◌≡◌, ℕ, List, [], ◌∷◌, ◌++◌, refl, sym, ap, subst, ◌∙◌, append_assoc}
 use Rattle.std.specs.Fmt.{HasWrittenStyled, WritesInCalls}
 use Rattle.std.specs.Fmt.InlineText.{IsIntact, AppendsIfIntact, inline_text}
@@ -28,12 +28,12 @@ module _ {W : Type 0} (took : W → List ℕ → W → Type 0) where
     flush = q.flush;
   }
 
--- what a text of fixed size holds after some calls
+-- a text of fixed size after some calls has the pieces of these
 inline_calls : {n : ℕ} (t : InlineText n) (parts : List (List ℕ)) (u : InlineText n) → IsIntact t → FoldsTo AppendsIfIntact t parts u → inline_text u ≡ inline_text t ++ concat parts
 inline_calls t [] u intact p = ap inline_text (sym p) ∙ sym (append-nil (inline_text t))
 inline_calls t (x ∷ parts) u intact p = let one = p.1 intact in
     inline_calls p.0 parts u one.0 p.2 ∙ ap (λ s. s ++ concat parts) one.1 ∙ append_assoc (inline_text t) x (concat parts)
 
--- what an empty text of fixed size holds once a text has been written to it
+-- an empty text of fixed size, after a text is written to it, is that text
 pub inline_written : {n : ℕ} (t : InlineText n) (bs : List ℕ) (u : InlineText n) → IsIntact t → inline_text t ≡ [] → WritesInCalls AppendsIfIntact t bs u → inline_text u ≡ bs
 inline_written t bs u intact empty p = inline_calls t p.parts u intact p.calls ∙ ap (λ s. s ++ concat p.parts) empty ∙ p.whole

@@ -1,4 +1,4 @@
--- How many bits a set has.
+-- The number of bits of a set.
 use Rattle.std.proofs.Common.{◌≡◌, ◌≢◌, ℕ, zero, suc, ◌+◌, ◌<◌, ◌≤◌, ◌⊎◌, inl, inr, ◌==◌, Bool, true, false, cond, ◌||◌, List, [], ◌∷◌, length, refl, sym, ◌∙◌, ap, arith, eq-eqb}
 use Rattle.std.specs.Ordering.{nat_cmp}
 use Rattle.std.specs.Cmp.{nat_cmp_total}
@@ -24,7 +24,7 @@ count-with_bit s b = count-len (with_bit s b) ∙ finite.len-insert nat_cmp_tota
 count-there : (s : Bits) (b : ℕ) → has s b ≡ false → count (with_bit s b) ≡ count s + 1
 count-there s b out = count-with_bit s b ∙ cond-false (has s b) (count s) (count s + 1) out
 
--- the set and the bits of a list
+-- the set with the bits of a list added
 abbrev adds : Bits → List ℕ → Bits
 adds s [] = s
 adds s (b ∷ bs) = with_bit (adds s bs) b

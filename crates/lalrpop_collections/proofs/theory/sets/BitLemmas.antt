@@ -1,4 +1,4 @@
--- Rising lists and the sets of their numbers.
+-- Ascending lists and the sets of their numbers.
 use Rattle.std.proofs.Common.{◌≡◌, ℕ, ◌+◌, ⊎_elim, ◌==◌, true, ◌||◌, List, [], ◌∷◌, map, length, refl, sym, ◌∙◌, ap, arith, eqb-true}
 use Rattle.std.specs.declared.cmp.Ordering.TheVariants.{Less}
 use Rattle.std.specs.Ordering.{nat_cmp}
@@ -11,7 +11,7 @@ use Rattle.std.proofs.lemmas.Bool.{cases_Bool}
 use Rattle.std.proofs.lemmas.Map.Keys.{sorted_from_strictly_increasing}
 use Rattle.lalrpop_collections.specs.Words.{Bits, has, rising, no_bits, with_bit, bits_of, IsRising, has-with_bit, same_bits}
 
--- a bit that is in the set changes nothing
+-- adding a bit that is in the set changes nothing
 pub with_bit-there : (s : Bits) (x : ℕ) → has s x ≡ true → with_bit s x ≡ s
 with_bit-there s x there = same_bits _ _ (λ q. has-with_bit s x q ∙ absorbed q)
   where
@@ -38,7 +38,7 @@ firsts : (xs : List ℕ) → map (λ e. e.0) (marked xs) ≡ xs
 firsts [] = refl
 firsts (x ∷ xs) = ap (λ ys. x ∷ ys) (firsts xs)
 
--- a list that rises is the list of its set
+-- an ascending list is the list of its set
 pub rising-bits_of : (xs : List ℕ) → IsRising xs → rising (bits_of xs) ≡ xs
 rising-bits_of xs up =
     ap (λ (es : List (ℕ × Unit {0})). map (λ e. e.0) es) (entries-bits_of xs (sorted_from_strictly_increasing xs (λ k l. up k (k + 1) (omega arith) l))) ∙ firsts xs

@@ -30,12 +30,12 @@ join_cases s t bit h = or_cases (has s bit) (has t bit) (sym (has-join s t bit) 
 pub join_turned : (s t : Bits) → join s t ≡ join t s
 join_turned s t = same_bits (join s t) (join t s) (λ bit. has-join s t bit ∙ or_comm (has s bit) (has t bit) ∙ sym (has-join t s bit))
 
--- what is there already changes nothing
+-- joining bits that are already there changes nothing
 pub join_within : (s t : Bits) → ((bit : ℕ) → has t bit ≡ true → has s bit ≡ true) → join s t ≡ s
 join_within s t within = same_bits (join s t) s (λ bit. has-join s t bit ∙ or_absorbs (has s bit) (has t bit) (within bit))
 
 -- ---- a set of one bit
--- it has that bit alone
+-- a set of one bit has that bit alone
 pub one_bit : (n b : ℕ) → has (with_bit no_bits n) b ≡ true → b ≡ n
 one_bit n b h = elim (or_cases (b == n) (has no_bits b) (sym (has-with_bit no_bits n b) ∙ h)) [
   | inl e ↦ eqb-true b n e

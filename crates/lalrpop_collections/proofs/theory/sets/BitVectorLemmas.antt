@@ -22,7 +22,7 @@ pub has_bit-is : (words : List ℕ) (n : ℕ) → has_bit words n ≡ (bit_at (s
 unfolding has_bit
 has_bit-is words n = refl
 
--- behind the last word there is no number
+-- after the last word there is no number
 pub has_bit-past : (words : List ℕ) (n : ℕ) → 64 * length words ≤ n → has_bit words n ≡ false
 unfolding has_bit
 has_bit-past words n l =
@@ -52,7 +52,7 @@ and_test (suc zero) (suc zero) l m = refl
 and_test (suc (suc x)) y l m = absurd (omega arith)
 and_test x (suc (suc y)) l m = absurd (omega arith)
 
--- the numbers of joined words are those of either
+-- the numbers of joined words are those that either has
 pub has_bit-or : (xs ys zs : List ℕ) → ((k : ℕ) → slice_index zs k ≡ bit_or (slice_index xs k) (slice_index ys k)) → (n : ℕ) → has_bit zs n ≡ (has_bit xs n || has_bit ys n)
 unfolding has_bit
 has_bit-or xs ys zs joined n =
@@ -61,7 +61,7 @@ has_bit-or xs ys zs joined n =
     let i = n % 64 in
     ap (λ (w : ℕ). bit_at w i == 1) (joined (n / 64)) ∙ ap (λ (b : ℕ). b == 1) (bit_at_or x y i) ∙ or_test (bit_at x i) (bit_at y i) (bit_at-lt x i) (bit_at-lt y i)
 
--- the numbers of met words are those of both
+-- the numbers of met words are those that both have
 pub has_bit-and : (xs ys zs : List ℕ) → ((k : ℕ) → slice_index zs k ≡ bit_and (slice_index xs k) (slice_index ys k)) → (n : ℕ) → has_bit zs n ≡ (has_bit xs n && has_bit ys n)
 unfolding has_bit
 has_bit-and xs ys zs met n =
@@ -78,7 +78,7 @@ one_bit (suc zero) (suc zero) l m e = refl
 one_bit (suc (suc x)) y l m e = absurd (omega arith)
 one_bit x (suc (suc y)) l m e = absurd (omega arith)
 
--- where the numbers are the same, so is each word
+-- if the numbers are the same, each word is
 pub same_word_at : (xs ys : List ℕ) → AreWords xs → AreWords ys → ((n : ℕ) → has_bit xs n ≡ has_bit ys n) → (k : ℕ) → slice_index xs k ≡ slice_index ys k
 same_word_at xs ys low_x low_y same k =
     let x = slice_index xs k in
@@ -91,7 +91,7 @@ no_longer xs ys is same = ⊎_elim
     (λ l. l)
     (cases_lt (length xs) (length ys))
 
--- bit vectors with equal words at each place are one list
+-- bit vectors with equal words at each place are equal
 pub same_lists : (xs ys : List ℕ) → IsBitVector xs → IsBitVector ys → ((k : ℕ) → slice_index xs k ≡ slice_index ys k) → xs ≡ ys
 same_lists xs ys is_x is_y same =
     let less = no_longer xs ys is_y same in
@@ -104,7 +104,7 @@ lowest words k some low =
     let t = bit_at-trailing_zeros w64 (slice_index words k) (omega arith) low in
     (t.0, has_bit-at words k (trailing_zeros w64 (slice_index words k)) t.0 ∙ ap (λ (b : ℕ). b == 1) t.1)
 
--- a word 0 has no number
+-- a word that is 0 has no number
 pub none_in : (words : List ℕ) (k n : ℕ) → slice_index words k ≡ 0 → 64 * k ≤ n → n < 64 * k + 64 → has_bit words n ≡ false
 unfolding has_bit
 none_in words k n none from to =
@@ -144,7 +144,7 @@ has-bits_of_words words q =
     has-bits_of (filter (has_bit words) all) q ∙ filter_any q (has_bit words) all
     ∙ absorbed (among q all) (has_bit words q) (λ h. there 0 (64 * length words - 0) q (omega arith) (omega (arith, has_bit-within words q h)))
 
--- its numbers in order are those of its set
+-- the set of a bit vector, as an ascending list, has the numbers of the bit vector in order
 pub rising-bits_of_words : (words : List ℕ) → rising (bits_of_words words) ≡ members_from words 0
 unfolding bits_of_words members_from
 rising-bits_of_words words =
@@ -196,27 +196,27 @@ unfolding members_from
 members-few words first = omega (arith, length-filter-le (has_bit words) first (64 * length words - first))
 
 -- ---- sets
--- sets of equal numbers are one
+-- bit vectors with equal numbers have equal sets
 pub same_sets : (xs ys : List ℕ) → ((n : ℕ) → has_bit xs n ≡ has_bit ys n) → bits_of_words xs ≡ bits_of_words ys
 same_sets xs ys same = same_bits _ _ (λ q. has-bits_of_words xs q ∙ same q ∙ sym (has-bits_of_words ys q))
 
--- a set has one bit vector
+-- a set has at most one bit vector
 pub same_vectors : (xs ys : List ℕ) → IsBitVector xs → IsBitVector ys → bits_of_words xs ≡ bits_of_words ys → xs ≡ ys
 same_vectors xs ys is_x is_y same =
     same_lists xs ys is_x is_y (same_word_at xs ys is_x.each is_y.each (λ n. sym (has-bits_of_words xs n) ∙ ap (λ (s : Bits). has s n) same ∙ has-bits_of_words ys n))
 
--- words that differ make sets that differ
+-- words that differ have sets that differ
 pub other_sets : (xs ys : List ℕ) → AreWords xs → AreWords ys → (k : ℕ) → slice_index xs k ≢ slice_index ys k → bits_of_words xs ≢ bits_of_words ys
 other_sets xs ys low_x low_y k apart same =
     apart (same_word_at xs ys low_x low_y (λ n. sym (has-bits_of_words xs n) ∙ ap (λ (s : Bits). has s n) same ∙ has-bits_of_words ys n) k)
 
--- the words of a join
+-- the words of a join have the union of the sets
 pub joined_sets : (xs ys zs : List ℕ) → ((k : ℕ) → slice_index zs k ≡ bit_or (slice_index xs k) (slice_index ys k)) → bits_of_words zs ≡ join (bits_of_words xs) (bits_of_words ys)
 joined_sets xs ys zs joined = same_bits _ _ (λ q.
     has-bits_of_words zs q ∙ has_bit-or xs ys zs joined q
     ∙ ap (λ b. b || has_bit ys q) (sym (has-bits_of_words xs q)) ∙ ap (λ b. has (bits_of_words xs) q || b) (sym (has-bits_of_words ys q)) ∙ sym (has-join (bits_of_words xs) (bits_of_words ys) q))
 
--- the numbers of a bit vector rise
+-- the numbers of a bit vector ascend
 pub members_rise : (words : List ℕ) → RisesFrom 0 (members_from words 0)
 unfolding members_from
 members_rise words = filter_rises (has_bit words) 0 (numbers_from 0 (64 * length words - 0)) (rises 0 (64 * length words - 0))

@@ -1,4 +1,4 @@
--- The sets of bits below a number: how many of the bits a set has, and a list of all such sets.
+-- The sets of bits below a number: the number of bits of a set, and a list of all such sets.
 use Rattle.std.proofs.Common.{◌≡◌, ◌≢◌, ℕ, zero, suc, ◌<◌, ◌≤◌, List, [], ◌∷◌, ◌++◌, map, refl, sym, ap, subst, ◌∙◌, arith, Bool, true, false, cond, eqb-true, eq-eqb, ⊎_elim}
 use Rattle.std.specs.Prelude.{Contains, ◌||◌, ◌==◌}
 use Rattle.std.proofs.lemmas.List.Elements.{Contains-append_left, Contains-append_right}
@@ -21,7 +21,7 @@ one_le : (a b : Bool) → (a ≡ true → b ≡ true) → one_if a ≤ one_if b
 one_le true b h = rw (h refl) (omega arith)
 one_le false b h = omega arith
 
--- more bits count more
+-- a larger set has a greater count
 pub count_le : (m : ℕ) (s t : Bits) → ((q : ℕ) → has s q ≡ true → has t q ≡ true) → count m s ≤ count m t
 unfolding count
 count_le zero s t h = omega arith
@@ -32,7 +32,7 @@ one_same true b h l = sym (h refl)
 one_same false true h l = absurd (omega arith)
 one_same false false h l = refl
 
--- and where they count no more, they are the same below the number
+-- if the count of a larger set is no greater, both sets are the same below the number
 count_same : (m : ℕ) (s t : Bits) → ((q : ℕ) → has s q ≡ true → has t q ≡ true) → count m t ≤ count m s → (q : ℕ) → q < m → has s q ≡ has t q
 unfolding count
 count_same zero s t h l q b = absurd (omega arith)
@@ -58,7 +58,7 @@ join_same m s t a b most = same_bits s (join s t) (λ q.
     (λ high. has_none m s a q high (has s q) refl ∙ sym (has_none m (join s t) (join_below m s t a b) q high (has (join s t) q) refl))
     (cases_lt q m))
 
--- a join that is another set counts more
+-- a join that is another set has a greater count
 pub join_counts : (m : ℕ) (s t : Bits) → IsBelow m s → IsBelow m t → join s t ≢ s → count m s < count m (join s t)
 join_counts m s t a b other =
     ⊎_elim (λ less. less)
@@ -121,7 +121,7 @@ unfolding part
 has_part zero s q l = absurd (omega arith)
 has_part (suc m) s q l = has_part_at m s q (has s m) refl (has_part m s q) l (part_high m s q)
 
--- a set of bits below the number is the whole of its part, and so in the list
+-- a set of bits below the number is equal to its part below it, and so is in the list
 pub among_subsets : (m : ℕ) (s : Bits) → IsBelow m s → Contains (subsets m) s
 among_subsets m s below =
     let whole : part m s ≡ s = same_bits (part m s) s (λ q. ⊎_elim (λ low. has_part m s q low) (λ high. part_high m s q high ∙ sym (has_none m s below q high (has s q) refl)) (cases_lt q m)) in

@@ -1,4 +1,4 @@
--- The bit vectors of token sets, as they are joined, cut and changed.
+-- The bit vectors of token sets, after joins, meets and changes.
 use Rattle.std.proofs.Common.{◌≡◌, ◌≢◌, ℕ, ◌+◌, ◌/◌, ◌^◌, ◌<◌, ⊎_elim, ◌==◌, Bool, true, false, ◌||◌, ◌&&◌, not, List, [], length, slice_index, refl, sym, ◌∙◌, ap, subst, arith, bit_and, bit_or, max, MatchBool}
 use Rattle.std.proofs.lemmas.Nat.{le_or_l, le_or_r, or_lt}
 use Rattle.std.proofs.lemmas.Bool.{cases_Bool, cases_eq, true≢false, false_from_ne_true}
@@ -10,7 +10,7 @@ use Rattle.lalrpop_collections.specs.Words.{Bits, has, rising, no_bits, with_bit
 use Rattle.lalrpop_collections.specs.lists.BitVectors.{has_bit, members_from, bits_of_words, IsBitVector, AreWords}
 use Rattle.lalrpop_collections.proofs.theory.sets.BitVectorLemmas.{has-bits_of_words, rising-bits_of_words, has_bit-same, has_bit-and, joined_sets, same_sets, same_vectors, other_sets}
 
--- no words are the empty set
+-- the bit vector without words is the empty set
 pub no_words : bits_of_words [] ≡ no_bits
 unfolding bits_of_words members_from
 no_words = refl
@@ -18,7 +18,7 @@ no_words = refl
 pub no_words_vector : IsBitVector []
 no_words_vector = record { trimmed = λ k e. absurd (omega arith); each = λ k. omega arith; few = omega arith }
 
--- ---- a set with a number more
+-- ---- a set with one more number
 module _ (xs ps zs : List ℕ) (x : Bits) (bit : ℕ) (view : bits_of_words xs ≡ x) (same : (k : ℕ) → slice_index ps k ≡ slice_index xs k) (put : (q : ℕ) → has_bit zs q ≡ ((q == bit) || has_bit ps q)) where
   pub inserted_set : bits_of_words zs ≡ with_bit x bit
   inserted_set = same_bits _ _ (λ q.
@@ -79,7 +79,7 @@ met_set xs ys ms zs x y view_x view_y met same q =
     ∙ ap (λ b. b && has_bit ys q) (sym (has-bits_of_words xs q) ∙ ap (λ (s : Bits). has s q) view_x)
     ∙ ap (λ b. has x q && b) (sym (has-bits_of_words ys q) ∙ ap (λ (s : Bits). has s q) view_y)
 
--- a set as its bit vector has it
+-- a set has the numbers of its bit vector
 pub seen_at : (words : List ℕ) (s : Bits) (q : ℕ) → bits_of_words words ≡ s → has_bit words q ≡ has s q
 seen_at words s q view = sym (has-bits_of_words words q) ∙ ap (λ (t : Bits). has t q) view
 

@@ -12,7 +12,7 @@ use Rattle.lalrpop_collections.proofs.theory.sets.BitVectorLemmas.{has_bit-at, h
 is_one : (b : ℕ) → (b == 1) ≡ true → b ≡ 1
 is_one b t = eqb-true b 1 t
 
--- ---- a word that was shifted to a number
+-- ---- a word that is shifted by the bit of a number
 module _ (words : List ℕ) (first rest : ℕ) (is : rest ≡ slice_index words (first / 64) / 2 ^ (first % 64)) where
   pub shifted : (i : ℕ) → first % 64 + i < 64 → has_bit words (first + i) ≡ (bit_at rest i == 1)
   shifted i l =
@@ -63,7 +63,7 @@ module _ (words : List ℕ) (first rest : ℕ) (is : rest ≡ slice_index words 
       let bits : bit_at rest (suc i) ≡ 0 = bit_at-suc rest i ∙ ap (λ (w : ℕ). bit_at w i) none ∙ bit_at-zero i in
       ap (has_bit words) (sym m) ∙ shifted (suc i) (omega arith) ∙ ap (λ (b : ℕ). b == 1) bits
 
--- ---- two words that share a bit, or none
+-- ---- two words that share a bit, or no bit
 pub shared_bit : (xs ys : List ℕ) (k : ℕ) → bit_and (slice_index xs k) (slice_index ys k) ≢ 0 → slice_index xs k < 2 ^ 64 → (n : ℕ) × (has_bit xs n ≡ true) × (has_bit ys n ≡ true)
 shared_bit xs ys k some low =
     let x = slice_index xs k in
@@ -85,7 +85,7 @@ apart_words xs ys n none here there =
     let zero_bit : min (bit_at x i) (bit_at y i) ≡ 0 = sym (bit_at_and x y i) ∙ ap (λ (w : ℕ). bit_at w i) none ∙ bit_at-zero i in
     omega (arith, one, other, zero_bit)
 
--- ---- a word that has a bit more than another, or none
+-- ---- a word with a bit that another does not have, or without such a bit
 pub bit_more : (xs ys : List ℕ) (k : ℕ) → bit_and (slice_index xs k) (bit_not w64 (slice_index ys k)) ≢ 0 → slice_index xs k < 2 ^ 64 → slice_index ys k < 2 ^ 64 →
     (n : ℕ) × (has_bit xs n ≡ true) × (has_bit ys n ≡ false)
 bit_more xs ys k some low_x low_y =
@@ -193,7 +193,6 @@ module _ (words : List ℕ) (number : ℕ) (within : number / 64 < length words)
       kept true b e = ap not e
       kept false b e = refl
 
--- ---- words 0 at the end come and go
 -- ---- the words of the numbers below a count
 module _ (words : List ℕ) (count : ℕ) (full : (k : ℕ) → k < count / 64 → slice_index words k ≡ 2 ^ 64 - 1) (part : slice_index words (count / 64) ≡ 2 ^ (count % 64) - 1) (past : (k : ℕ) → count / 64 < k → slice_index words k ≡ 0) where
   pub below_bit : (q : ℕ) → has_bit words q ≡ nat_lt q count
@@ -248,7 +247,7 @@ module _ (xs ys : List ℕ) (k x y : ℕ) (is_x : x ≡ slice_index xs k) (is_y 
             (cases_lt q (64 * k));
       }
 
--- ---- the least number from one on, in a later word
+-- ---- the least number that is not below a first one, in a later word
 pub later_least : (words : List ℕ) (first k : ℕ) → first ≤ 64 * k → ((n : ℕ) → first ≤ n → n < 64 * k → has_bit words n ≡ false) → slice_index words k ≢ 0 → slice_index words k < 2 ^ 64 → IsLeastFrom words first (64 * k + trailing_zeros w64 (slice_index words k))
 later_least words first k below before some low = record {
   above = omega arith;
@@ -288,7 +287,7 @@ module _ (count : ℕ) (low : count ≤ 2 ^ 63) where
         few = omega arith;
       }
 
-  -- one word more, of the numbers that are left
+  -- one more word, which has the numbers that are left
   module _ (words : List ℕ) (last : ℕ) (is : last ≡ 2 ^ (count % 64) - 1) (some : count % 64 ≢ 0) (more : List ℕ) (made : more ≡ words ++ last ∷ []) (full : words ≡ replicate (count / 64) (2 ^ 64 - 1)) where
     longer : length more ≡ count / 64 + 1
     longer = ap length made ∙ length_push words last ∙ ap (λ (n : ℕ). n + 1) (whole words full)

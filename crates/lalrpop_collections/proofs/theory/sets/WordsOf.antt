@@ -1,4 +1,4 @@
--- The words of a list of numbers: those of the bit vector that has just these numbers.
+-- The words of a list of numbers: those of the bit vector that has exactly these numbers.
 use Rattle.std.proofs.Common.{◌≡◌, ◌≢◌, ℕ, zero, suc, ◌+◌, ◌/◌, ◌%◌, ◌^◌, ◌<◌, ⊎_elim, ◌==◌, true, ◌||◌, List, [], ◌∷◌, length, slice_index, refl, sym, ◌∙◌, ap, arith, eq-eqb, ne_eqb, bit_or, max}
 use Rattle.std.specs.Int.{bit_at}
 use Rattle.std.specs.Int.Bits.{or_zero_l}
@@ -11,7 +11,7 @@ use Rattle.lalrpop_collections.proofs.theory.lists.RisingLemmas.{among}
 use Rattle.lalrpop_collections.proofs.theory.sets.BitVectorLemmas.{has_bit-is, has_bit-past, has_bit-within, same_lists, same_word_at, rising-bits_of_words, among-members}
 use Rattle.lalrpop_collections.proofs.theory.sets.TokenSetLemmas.{no_words_vector}
 
--- ---- a word that is joined to that at a place
+-- ---- a word that is joined to the word at a place
 joined_at : (place word : ℕ) (ws : List ℕ) → slice_index (word_joined place word ws) place ≡ bit_or (slice_index ws place) word
 joined_at zero word [] = sym (or_zero_l word)
 joined_at zero word (w ∷ ws) = refl
@@ -34,7 +34,7 @@ joined_length zero word (w ∷ ws) = omega arith
 joined_length (suc place) word [] = omega (arith, joined_length place word [])
 joined_length (suc place) word (w ∷ ws) = omega (arith, joined_length place word ws)
 
--- it stays a bit vector
+-- the words stay a bit vector
 module _ (place word : ℕ) (ws : List ℕ) (is : IsBitVector ws) (some : word ≢ 0) (small : word < 2 ^ 64) (low : place < 2 ^ 57) where
   joined_vector : IsBitVector (word_joined place word ws)
   joined_vector = record {
@@ -66,7 +66,7 @@ module _ (ws : List ℕ) (n : ℕ) where
   abbrev made : List ℕ
   made = word_joined place word ws
 
-  -- in the word of the number
+  -- the word of the number
   in_word : (q : ℕ) → q / 64 ≡ place → has_bit made q ≡ (max (bit_at (slice_index ws (q / 64)) (q % 64)) (bit_at word (q % 64)) == 1)
   in_word q same =
       let old = slice_index ws (q / 64) in
@@ -114,6 +114,6 @@ words_of-members words is =
 words_of-rising : (words : List ℕ) → IsBitVector words → words_of (rising (bits_of_words words)) ≡ words
 words_of-rising words is = ap words_of (rising-bits_of_words words) ∙ words_of-members words is
 
--- so are those of its set
+-- the words of a set of a bit vector are its own
 pub words_of_set : (words : List ℕ) (s : Bits) → bits_of_words words ≡ s → IsBitVector words → words ≡ words_of (rising s)
 words_of_set words s view is = sym (words_of-rising words is) ∙ ap (λ (t : Bits). words_of (rising t)) view

@@ -1,4 +1,4 @@
--- Kernels that are numbered in the order of their first appearance, and one more.
+-- Kernels that are numbered in the order of their first appearance, and one more kernel.
 use Rattle.std.proofs.Common.{◌≡◌, ℕ, zero, suc, ◌+◌, ◌-◌, ◌<◌, ◌≤◌, ◌==◌, Bool, true, false, cond, List, [], ◌∷◌, ◌++◌, length, drop, refl, sym, ◌∙◌, ap, arith, ⊎_elim, length-append, eq-eqb}
 use Rattle.std.specs.Prelude.{Option, slice_get, Some, None, Contains, unwrap_or}
 use Rattle.std.specs.declared.cmp.Ordering.{Ordering}
@@ -14,7 +14,7 @@ use Rattle.std.proofs.lemmas.List.{drop-append-le}
 use Rattle.lalrpop_collections.specs.Words.{Exactly, AllDiffer, key_numbered, keys_below, by_number, IsNumbering, AddsOnce}
 use Rattle.lalrpop_collections.proofs.theory.lists.Members.{slice_get-cases}
 
--- ---- an entry more
+-- ---- one more entry
 module _ {K : Type 0} (cmp : K → K → Ordering) (k : K) (v : ℕ) where
   beside : (n : ℕ) → (v == n) ≡ false → (e : K × ℕ) (es : List (K × ℕ)) (o : Ordering) → cond (is_eq o) (Some e.1) (lookup (is_at (cmp k)) es) ≡ None →
       (lookup (is_at (cmp k)) es ≡ None → key_numbered n (insert_entry cmp es k v) ≡ key_numbered n es) →
@@ -23,7 +23,7 @@ module _ {K : Type 0} (cmp : K → K → Ordering) (k : K) (v : ℕ) where
   beside n other e es Equal absent later = cc
   beside n other e es Greater absent later = ap (λ r. cond (e.1 == n) (Some e.0) r) (later absent)
 
-  -- keys of other numbers stay
+  -- the keys with other numbers stay
   pub key_numbered-other : (n : ℕ) → (v == n) ≡ false → (es : List (K × ℕ)) → lookup (is_at (cmp k)) es ≡ None → key_numbered n (insert_entry cmp es k v) ≡ key_numbered n es
   key_numbered-other n other [] absent = ap (λ b. cond b (Some k) None) other
   key_numbered-other n other (e ∷ es) absent = beside n other e es (cmp k e.0) absent (λ h. key_numbered-other n other es h)
@@ -53,7 +53,7 @@ module _ {K : Type 0} (cmp : K → K → Ordering) (k : K) (v : ℕ) where
       ap (λ xs. xs ++ option_to_list (key_numbered n (insert_entry cmp es k v))) (keys_below-other n (omega arith) es absent)
       ∙ ap (λ o. keys_below n es ++ option_to_list o) (key_numbered-other n other es absent)
 
-  -- the new key is the last where it has the next number
+  -- if the new key has the next number, it is the last one
   pub by_number-new : (es fs : List (K × ℕ)) → v ≡ length es → fs ≡ insert_entry cmp es k v → length fs ≡ length es + 1 → lookup (is_at (cmp k)) es ≡ None → key_numbered v es ≡ None → by_number fs ≡ by_number es ++ k ∷ []
   by_number-new es fs next made longer absent free =
       let up : length fs ≡ suc v = omega arith in
@@ -84,14 +84,14 @@ module _ {K : Type 0} {cmp : K → K → Ordering} {numbers : BTreeMap K ℕ} {p
       let found : get cmp numbers k ≡ Some there.0 = numbering.numbered k there.0 (slice_get-cases (by_number numbers.entries) k there.0 there.1 there.2) in
       cc
 
-  -- no kernel stands at two places
+  -- no kernel is at two places
   pub all_differ : IsNumbering cmp numbers pending → AllDiffer (by_number numbers.entries)
   all_differ numbering i j x less at_i at_j =
       let same : Some i ≡ Some j = sym (numbering.numbered x i at_i) ∙ numbering.numbered x j at_j in
       let equal : i ≡ j = ap (λ o. unwrap_or o i) same in
       omega arith
 
-  -- a kernel with a number is in the list, and stays there once
+  -- a kernel with a number is in the list, and is not added again
   pub adds_known : IsNumbering cmp numbers pending → (k : K) (n : ℕ) → get cmp numbers k ≡ Some n → AddsOnce (by_number numbers.entries) (by_number numbers.entries) k
   adds_known numbering k n found = record {
     known = λ _. refl;
@@ -106,12 +106,12 @@ module _ {K : Type 0} (cmp : K → K → Ordering) (k : K) (v : ℕ) where
   longer_by_one e es Equal absent later = cc
   longer_by_one e es Greater absent later = omega (arith, later absent)
 
-  -- a new key is an entry more
+  -- a new key makes one more entry
   pub length-insert_entry : (es : List (K × ℕ)) → lookup (is_at (cmp k)) es ≡ None → length (insert_entry cmp es k v) ≡ length es + 1
   length-insert_entry [] absent = refl
   length-insert_entry (e ∷ es) absent = longer_by_one e es (cmp k e.0) absent (λ h. length-insert_entry es h)
 
--- the map is the numbering and the kernel with the next number
+-- the new map is the old one with the kernel under the next number
 pub record IsNext {K : Type 0} (cmp : K → K → Ordering) (old new : BTreeMap K ℕ) (k : K) (v : ℕ) : Type 0 where
   pub next : v ≡ length old.entries
   pub absent : get cmp old k ≡ None
@@ -172,7 +172,7 @@ module _ {K : Type 0} {cmp : K → K → Ordering} {old new : BTreeMap K ℕ} {p
       let at_end = step.next in
       ap (λ es. key_numbered n es) step.made ∙ key_numbered-other cmp k v n (ne_eqb v n (λ same. omega arith)) old.entries step.absent ∙ numbering.outside n (omega arith)
 
-  -- the numbering with the kernel, which waits behind the others
+  -- the numbering with the kernel, which waits after the others
   pub next_numbering : ((x y : K) → cmp x y ≡ Equal → x ≡ y) → IsNumbering cmp old pending → IsNext cmp old new k v → IsNumbering cmp new (pending ++ k ∷ [])
   next_numbering exact numbering step =
       let list : List K = by_number old.entries in
@@ -193,18 +193,18 @@ module _ {K : Type 0} {cmp : K → K → Ordering} {old new : BTreeMap K ℕ} {p
             ∙ ap (λ xs. drop (length new.entries - length (pending ++ k ∷ [])) xs) (sym grown);
       }
 
-  -- a kernel without a number goes to the end of the list
+  -- a kernel without a number is added at the end of the list
   pub adds_fresh : IsNumbering cmp old pending → IsNext cmp old new k v → AddsOnce (by_number old.entries) (by_number new.entries) k
   adds_fresh numbering step = record {
     known = λ there. absurd (is_fresh numbering k step.absent there);
     fresh = λ _. list_grows numbering step;
   }
 
-  -- and stands there at its number
+  -- the new kernel is at the place that its number says
   pub at_number : IsNumbering cmp old pending → IsNext cmp old new k v → slice_get (by_number new.entries) v ≡ Some k
   at_number numbering step =
       ap (λ xs. slice_get xs v) (list_grows numbering step) ∙ ap (λ n. slice_get (by_number old.entries ++ k ∷ []) n) (step.next ∙ sym numbering.whole) ∙ slice_get-push_at (by_number old.entries) k
 
--- keys that tie are equal where `==` is exact and answers as the order does
+-- keys that tie are equal if `==` is exact and agrees with the order
 pub exact_by_cmp : {K : Type 0} (E : K → K → Bool) (cmp : K → K → Ordering) → Exactly E → ((x y : K) → E x y ≡ is_eq (cmp x y)) → (x y : K) → cmp x y ≡ Equal → x ≡ y
 exact_by_cmp E cmp exact ties x y tie = exact x y (ties x y ∙ ap is_eq tie)

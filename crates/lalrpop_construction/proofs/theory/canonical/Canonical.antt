@@ -17,7 +17,7 @@ use Rattle.lalrpop_collections.proofs.theory.lists.Members.{contains_head, conta
 use Rattle.lalrpop_construction.proofs.theory.construction.Shifting.{of_dotted, begun_in, Shifts-from}
 use Rattle.lalrpop_collections.proofs.theory.sets.BitSets.{one_bit, own_bit}
 
--- ---- a closure of more is more
+-- ---- a larger kernel has a larger closure
 module _ (g : List Production) where
   pub InClosure-more : (A B : Production → ℕ → Type 0) → ((p : Production) (dot : ℕ) → A p dot → B p dot) → {p : Production} {dot : ℕ} → InClosure g A p dot → InClosure g B p dot
   InClosure-more A B more {p} {dot} (in_kernel k) = in_kernel (more p dot k)

@@ -1,4 +1,5 @@
--- What the construction says with sets of tokens, where Eof follows the start symbol: the tables of the canonical method, or the canonical conflicts.
+-- The results of the construction with sets of tokens, if Eof follows the start symbol: the tables
+-- of the canonical method, or the canonical conflicts.
 use Rattle.std.proofs.Common.{◌≡◌, ◌∙◌, ℕ, List, true}
 use Rattle.lalrpop_base.specs.Words.{Bits, AllDiffer, rules_of, IsWellFormed, contents, productions, AreOwn, Begins, AreAllConflicts, IsClosureOf}
 use Rattle.lalrpop_construction.specs.Words.{AreCanonicalStates, tokens_of}
@@ -32,7 +33,8 @@ module _ (g : Grammar) (start : NonterminalString) (well : IsWellFormed g) (own 
         built = made;
       }
 
-  -- canonical states with all their conflicts, of which there are some
+  -- states of the canonical construction with all their conflicts, of which there are some, are
+  -- those of a grammar without tables
   pub Canonical-lacks : (states : List (State Bits)) (conflicts : List (Conflict Bits)) → AreStatesOf (canonical_of g start) states → AreAllConflicts g.terminals states conflicts → LacksTables g start states conflicts
   Canonical-lacks states conflicts made all =
       let canonical : AreCanonicalStates (rules_of g) start states = are_canonical g start well own differ states made in

@@ -44,7 +44,8 @@ order_of order total exact = record {
 pub productions_ordered : IsOrder production_ord.ghosts.cmp
 productions_ordered = order_of production_ord.ghosts.cmp production_ord.Laws.total-law (exact_order production_eq.ghosts.eq production_ord.ghosts.cmp production_exactly.Laws.exact-law production_ord.Laws.matches_eq-law)
 
--- what a state has whose list of conflicts is that of the definitions: shifts in order over known terminals, and reductions on bits of tokens
+-- the shifts of the state are in order over known terminals, and its reductions are on bits of
+-- tokens, so that its list of conflicts is that of the definitions
 pub record IsListable (terminals : List TerminalString) (state : State Bits) : Type 0 where
   pub ordered : IsOrdered terminal_order state.shifts
   pub known : (t : TerminalString) → Contains (keys state.shifts) t → Contains terminals t
@@ -70,7 +71,7 @@ reductions_fit g items rs a e r c =
     let f = finished_in items (seen_reduction r) (subst (λ (xs : List (Bits × Production)). Contains xs (seen_reduction r)) e (contains_map seen_reduction rs r c)) in
     subst (FitsTokens g.terminals) f.2 (a.each f.0 f.1).tokens
 
--- ---- the terminals that states shift over symbols behind their dots are known
+-- ---- states shift only known terminals, if they shift the symbols after their dots
 pub shifts_known : (g : Grammar) → IsWellFormed g → (state : State Bits) → IsOrdered terminal_order state.shifts → AreItems (rules_of g) state.items.vec.items → LeadsOverDots (contents_of (holds_token g.terminals) state) →
     (t : TerminalString) → Contains (keys state.shifts) t → Contains g.terminals t
 shifts_known g well state ordered a edges t c =
@@ -80,7 +81,7 @@ shifts_known g well state ordered a edges t c =
     let among : Contains (productions g) b.production = subst (Contains (productions g)) same (a.each i.0 i.1).production in
     known_symbols g b.production well among b.dot t (split_drop b.dot b.production.symbols (Terminal t) b.after b.behind)
 
--- ---- the list of each state
+-- ---- the list of conflicts of each state
 module _ (g : Grammar) (start : NonterminalString) (states : List (State Bits)) (tokens : ℕ → Production → ℕ → Token → Type 0) (differ : AllDiffer g.terminals)
     (canonical : AreCanonical (productions g) start (contents g.terminals states) tokens) (ascend : (n : ℕ) → ReducesInOrder production_ord.ghosts.cmp (contents g.terminals states n))
     (numbered : AreNumberedFrom 0 states) (listable : (n : ℕ) (state : State Bits) → slice_get states n ≡ Some state → IsListable g.terminals state) where
@@ -119,7 +120,7 @@ module _ (g : Grammar) (start : NonterminalString) (states : List (State Bits)) 
   pub conflicts_are_canonical : (conflicts : List (Conflict Bits)) → conflicts ≡ all → AreCanonicalConflictsOf g start states conflicts
   conflicts_are_canonical conflicts e = subst (AreCanonicalConflictsOf g start states) (sym e) (record { each = each; only = within; ascend = Listed-ascend g.terminals 0 states numbered; lead = lead })
 
--- ---- the list of the construction's states
+-- ---- the list of conflicts of the states of the construction
 pub canonical_failure : (g : Grammar) (start : NonterminalString) (states : List (State Bits)) (conflicts : List (Conflict Bits)) (tokens : ℕ → Production → ℕ → Token → Type 0) → IsWellFormed g → AllDiffer g.terminals →
     AreStatesOf (canonical_of g start) states → ((n : ℕ) (state : State Bits) → slice_get states n ≡ Some state → IsOrdered terminal_order state.shifts) →
     AreCanonical (productions g) start (contents g.terminals states) tokens → ((n : ℕ) → ReducesInOrder production_ord.ghosts.cmp (contents g.terminals states n)) →

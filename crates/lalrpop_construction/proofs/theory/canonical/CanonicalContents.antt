@@ -1,4 +1,4 @@
--- The states of the construction, as the definitions speak of states, are the canonical ones.
+-- The states of the construction are canonical, by their contents.
 use Rattle.std.proofs.Common.{◌≡◌, ◌↔◌, ℕ, suc, Bool, true, List, length, map, refl, sym, ◌∙◌, ap, subst, Option, Some, None}
 use Rattle.std.specs.Prelude.{Contains, slice_get}
 use Rattle.lalrpop_base.specs.Words.{Bits, no_bits, with_bit, InTokenClosure, IsAtStart, IsAtStartWith, IsMovedWith, items_of, TokenKernelsDiffer}
@@ -43,7 +43,7 @@ module _ (g : Grammar) (start : NonterminalString) (well : IsWellFormed g) (own 
   begins : (p : Production) (dot : ℕ) → InKernel first p dot ↔ IsAtStart (productions g) start p dot
   begins = start_items g well own start eof
 
-  -- ---- the places that have a state
+  -- ---- the numbers that have a state
   closure_of : (n : ℕ) (s : State Bits) (at : slice_get states n ≡ Some s) → Closes (made.built.each n s at).kernel s.items.vec.items
   closure_of n s at = (made.built.each n s at).built.closure
 
@@ -92,7 +92,7 @@ module _ (g : Grammar) (start : NonterminalString) (well : IsWellFormed g) (own 
         InTokenClosure-more (productions g) I A K (λ q d u h. (begin q d u).1 h),
       )))
 
-  -- ---- the tokens of the others
+  -- ---- the tokens of the other states
   goes_with : (n m : ℕ) (x : Symbol) → leads (now n) x ≡ Some m → (p : Production) (dot : ℕ) (t : Token) → (tokens_of g.terminals states m p dot t ≡ true) ↔ InTokenClosure (productions g) (items_of now m) (IsMovedWith (λ q d u. tokens_of g.terminals states n q d u ≡ true) x) p dot t
   goes_with n m x e p dot t =
       let s = step n m x e in
@@ -111,7 +111,7 @@ module _ (g : Grammar) (start : NonterminalString) (well : IsWellFormed g) (own 
         InTokenClosure-more (productions g) I (IsMovedWith B x) K (λ q d u h. (moved q d u).1 (moved_with_along B A x (λ r k v. (exact r k v).0) q d u h)),
       ))))
 
-  -- ---- no kernel twice
+  -- ---- no two states have the same kernel
   moved_kernel : (n m : ℕ) (x : Symbol) (s : Step n x m) → IsMovedKernel (rules_of g) s.kernel
   moved_kernel n m x s =
       let items = s.source.items.vec.items in
@@ -138,7 +138,7 @@ module _ (g : Grammar) (start : NonterminalString) (well : IsWellFormed g) (own 
       (λ p d t. then_both (kernel_tokens (rules_of g) s.kernel at_n s.closure p d t) (then_both (turned_both (test_exact g.terminals at_n p (suc d) t)) (then_both (same_tests p d t) (then_both (test_exact g.terminals at_m p (suc d) t) (turned_both (kernel_tokens (rules_of g) u.kernel at_m u.closure p d t)))))) in
       one_place made.built.kernels made.built.differ n m s.kernel s.numbered (u.numbered ∙ ap Some (sym same))
 
-  -- ---- all of it
+  -- ---- the states are canonical
   pub are_canonical : AreCanonicalStates (rules_of g) start states
   are_canonical = record {
     canonical = record {

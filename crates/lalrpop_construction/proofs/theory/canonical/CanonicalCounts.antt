@@ -1,4 +1,4 @@
--- Canonical states with their conflicts counted.
+-- The number of conflicts of canonical states.
 use Rattle.std.proofs.Common.{◌≡◌, ◌≢◌, ℕ, ◌<◌, List, [], length, refl, sym, ◌∙◌, ap, subst, arith}
 use Rattle.std.specs.List.{flat_map}
 use Rattle.lalrpop_base.specs.Words.{AllDiffer, Bits, IsWellFormed, state_conflicts, AreOwn, Begins, HaveNoConflict}

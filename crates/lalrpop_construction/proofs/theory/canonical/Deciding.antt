@@ -1,4 +1,4 @@
--- States without a conflict are faithful, so that the grammar is LR(1).
+-- If states of the construction have no conflict, they are faithful, and the grammar is LR(1).
 use Rattle.std.proofs.Common.{◌≡◌, ℕ, true, List, refl, arith, Option, Some, None}
 use Rattle.std.specs.Prelude.{slice_get}
 use Rattle.lalrpop_base.specs.Words.{Bits, contents, contents_at, holds_token, Dotted, AllDiffer, Contents, AreFaithful, productions, rules_of, IsWellFormed}
@@ -27,7 +27,7 @@ module _ (g : Grammar) (start : NonterminalString) (well : IsWellFormed g) (own 
   pub free_faithful : HaveNoConflict g.terminals states → AreFaithful (productions g) start now
   free_faithful free = no_conflict_faithful (productions g) start now (λ n p dot t. tokens_of g.terminals states n p dot t ≡ true) canonical.canonical (λ u n live after. free_at free n (slice_get states n) refl)
 
--- states of all kernels are states of the first kernels
+-- states that are built from all kernels are built from the first kernels
 pub whole_partly : (C : List (Dotted Bits) → List (Dotted Bits) → Type 0) (first : List (Dotted Bits)) (states : List (State Bits)) → AreBuiltBy C first states → ArePartlyBuiltBy C first states
 whole_partly C first states b = record {
   kernels = b.kernels;
@@ -38,7 +38,7 @@ whole_partly C first states b = record {
   led = b.led;
 }
 
--- ---- what the answers say
+-- ---- the results of the construction
 module _ (g : Grammar) (start : NonterminalString) (well : IsWellFormed g) (own : AreOwn g) (differ : AllDiffer g.terminals) where
   pub tables_canonical : (tables : List (State Bits)) → AreTables (canonical_of g start) tables → AreCanonicalStates (rules_of g) start tables
   tables_canonical tables t = are_canonical g start well own differ tables t.made

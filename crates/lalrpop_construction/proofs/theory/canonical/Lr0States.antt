@@ -21,7 +21,7 @@ use Rattle.lalrpop_construction.proofs.theory.construction.SameKernels.{Shifts-a
 use Rattle.lalrpop_construction.proofs.theory.construction.Shifting.{of_dotted}
 use Rattle.lr1_theory.proofs.theory.grammars.Tables.{same_lr0}
 
--- no lookahead: it stands for no token, and nothing begins a rest or passes it
+-- the meaning of no lookahead, which has no token
 abbrev pub nothing : Nil → Bits
 nothing lookahead = no_bits
 
@@ -40,7 +40,7 @@ Closes = IsClosureBy nothing never stopped
 pub exactly : (g : Rules) (kernel items : List (Dotted Nil)) → Closes g kernel items → IsExactClosure g kernel items
 exactly g kernel items c = record { exact = c.exact; ascend = c.ascend; begun = c.begun }
 
--- ---- kernels of moved items with the same dotted productions are one
+-- ---- kernels of moved items with the same dotted productions are the same
 item_over : (x : Symbol) (a b is : List (Dotted Nil)) → Shifts x is a → ((p : Production) (d : ℕ) → InKernel a p (suc d) → InKernel b p (suc d)) → (i : Dotted Nil) → Contains a i → Contains b i
 item_over x a b is s more i c =
     let d = Shifts-past x is a s i c in

@@ -1,4 +1,5 @@
--- Canonical states as their construction makes them, and under other numbers, can be merged.
+-- Canonical states meet the condition of a collapse, as the construction makes them and under other
+-- numbers.
 use Rattle.std.proofs.Common.{List, sym, subst}
 use Rattle.std.specs.Prelude.{Contains}
 use Rattle.std.specs.Borrow.{Bor}

@@ -1,4 +1,5 @@
--- What is said of the tables and errors of a grammar is said of another one with the same canonical construction.
+-- Tables and errors of a grammar are also those of another grammar with the same canonical
+-- construction.
 use Rattle.std.proofs.Common.{◌≡◌, ℕ, List, sym, subst, Some}
 use Rattle.lalrpop_base.specs.Words.{Bits, AreCanonicalConflicts, contents, AreFaithful, state_after, IsLR1}
 use Rattle.lalrpop_grammar.specs.contracts.repr.ProductionOrd.TheImpl as production_ord

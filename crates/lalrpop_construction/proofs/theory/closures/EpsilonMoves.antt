@@ -1,4 +1,5 @@
--- What items give: the productions of a name, and their tokens without lookahead and with sets of tokens.
+-- The items that a closure adds for an item: productions of a nonterminal, with their tokens,
+-- without lookahead and with sets of tokens.
 use Rattle.std.proofs.Common.{◌≡◌, ◌↔◌, ℕ, ◌+◌, ◌⊎◌, inl, inr, List, length, map, sym, ◌∙◌, subst, arith, true, Some, refl}
 use Rattle.std.specs.Prelude.{Contains}
 use Rattle.std.proofs.lemmas.Bool.{false≢true}
@@ -15,7 +16,7 @@ use Rattle.lalrpop_collections.proofs.theory.lists.Members.{contains_map}
 use Rattle.lalrpop_collections.proofs.theory.lists.Places.{same_some}
 use Rattle.lalrpop_construction.proofs.theory.construction.Shifting.{begun_in, begun_differ}
 
--- ---- the productions of a name
+-- ---- the productions of a nonterminal
 pub Begun-all : {L : Type 0} (g : Grammar) (well : IsWellFormed g) (own : AreOwn g) (name : NonterminalString) (lookahead : L) (items : List (Dotted L)) → items ≡ map (begun lookahead) (productions_of g name) → AreBegunWith (rules_of g) name lookahead items
 Begun-all {L} g well own name lookahead items e = subst (AreBegunWith (rules_of g) name lookahead) (sym e) (record {
   each = λ i c.

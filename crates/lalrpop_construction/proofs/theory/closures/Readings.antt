@@ -1,4 +1,4 @@
--- Lookaheads and what they stand for: entries that are joined, and closures.
+-- Lookaheads and their meanings: entries that are joined, and closures.
 use Rattle.std.proofs.Common.{◌≡◌, ◌≢◌, ℕ, inl, inr, List, [], ◌∷◌, ◌++◌, map, refl, sym, ◌∙◌, ap, subst, Bool, true, false, Result, Ok, Err, IfOk}
 use Rattle.std.specs.Prelude.{Contains, MatchBool, OnOk}
 use Rattle.std.specs.Map.{keys_of}
@@ -62,7 +62,7 @@ module _ {L : Type 0} (meaning : L → Bits) where
     abbrev Reached : List (Production × ℕ) → Production → ℕ → Type 0
     Reached ds = InClosure g.productions (λ q n. Contains ds (q, n))
 
-    -- a closure of what lookaheads stand for is one of the lookaheads
+    -- a closure with the meanings of lookaheads is one with the lookaheads
     pub Meant-closure : Ascend items → IsClosureBy itself begins passes g (map (meant meaning) kernel) (map (meant meaning) items) → IsClosureBy meaning begins passes g kernel items
     Meant-closure ascend c =
         let ds = dotted_meant items in

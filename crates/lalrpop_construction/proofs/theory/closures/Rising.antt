@@ -1,4 +1,4 @@
--- Entries that were put by rising numbers: they gather what they did, and are items by number.
+-- Entries that were sorted by number gather the same as before, and are items by number.
 use Rattle.std.proofs.Common.{ℕ, ◌<◌, List, map, sym, ◌∙◌, subst}
 use Rattle.std.specs.Prelude.{slice_get, IsPermutation}
 use Rattle.std.specs.Map.{keys_of}

@@ -1,4 +1,4 @@
--- What an item by its number gives to the nonterminal behind its dot.
+-- The tokens that an item by number gives to the nonterminal after its dot.
 use Rattle.std.proofs.Common.{◌≡◌, ◌≢◌, ◌↔◌, ◌⊎◌, inl, inr, Bool, ℕ, zero, suc, ◌+◌, ◌<◌, List, [], ◌∷◌, length, drop, refl, sym, ◌∙◌, ap, subst, arith, Some, None, true, false, map, take, ◌++◌, option_map, Vec, Global}
 use Rattle.std.specs.Prelude.{Contains, slice_get, get_or}
 use Rattle.std.proofs.lemmas.List.{map-append, take_more}
@@ -24,11 +24,11 @@ use Rattle.lalrpop_construction.proofs.theory.numbers.Numbers.{at_number, behind
 use Rattle.lalrpop_collections.proofs.theory.lists.Places.{contains_at, filled, same_some, slice_get_at}
 use Rattle.lalrpop_construction.proofs.theory.closures.Sharing.{Shares-nothing, Shares-one}
 
--- what is read at a number is the dotted production with that number
+-- the element that is read at a number is the dotted production with that number
 pub read_item : (items : List (Dotted Nil)) (k : ℕ) (i : Dotted Nil) → k < length items → i ≡ get_or items k i → i ≡ dotted_at items k
 read_item items k i l e = sym (at_number items k i (slice_get_at items k i l e))
 
--- the terminals behind a dotted production of a grammar are known
+-- the terminals after the symbol after a dot are known
 pub rest_known : (grammar : Grammar) (rules : Rules) (n : Numbers) → AreNumbers rules n → rules_of grammar ≡ rules → IsWellFormed grammar → (k : ℕ) → k < length n.items.items → (rest : List Symbol) →
     rest ≡ drop ((dotted_at n.items.items k).index + 1) (dotted_at n.items.items k).production.symbols → HasKnownTerminals rules.terminals rest
 rest_known grammar rules n numbers same well k l rest is =
@@ -51,26 +51,26 @@ module _ (begins : Rules → List Symbol → Token → Type 0) (passes : Rules �
   pub Finished-shares : item.index ≡ length item.production.symbols → (table : Shared) (queue : List ℕ) → Shares begins passes g n (item ∷ []) table table queue queue
   Finished-shares end = gives_nothing (λ name at. let l = slice_get_within item.production.symbols item.index (Nonterminal name) at in absurd (omega arith))
 
-  -- nor does one with a terminal behind its dot
+  -- an item with a terminal after its dot gives nothing
   pub Terminal-shares : (x : Symbol) → slice_get item.production.symbols item.index ≡ Some x → ((name : NonterminalString) → x ≢ Nonterminal name) → (table : Shared) (queue : List ℕ) → Shares begins passes g n (item ∷ []) table table queue queue
   Terminal-shares x at other = gives_nothing (λ name behind. absurd (other name (same_some x (Nonterminal name) (sym at ∙ behind))))
 
-  -- nor does one without a rest, since no nonterminal stands behind its dot
+  -- an item without a rest gives nothing, since no nonterminal is after its dot
   pub Restless-shares : number < length n.items.items → slice_get n.rests.items number ≡ Some None → (table : Shared) (queue : List ℕ) → Shares begins passes g n (item ∷ []) table table queue queue
   Restless-shares known at = gives_nothing (λ name behind.
       absurd (((numbers.rests).each number (dotted_at n.items.items number) None (stands_at n.items.items number known) at) name (drop (suc item.index) item.production.symbols) (drop_split item.index item.production.symbols (Nonterminal name) behind)))
 
-  -- the rest with the number is that of the symbols behind the nonterminal
+  -- the rest with the number of an item is that of the symbols after the nonterminal
   pub rest_is : number < length n.items.items → (rest : Rest) → slice_get n.rests.items number ≡ Some (Some rest) → (remainder : List Symbol) → remainder ≡ drop (item.index + 1) item.production.symbols → IsRest g remainder rest
   rest_is known rest at remainder is =
       let r = (numbers.rests).each number (dotted_at n.items.items number) (Some rest) (stands_at n.items.items number known) at in
       subst (λ (xs : List Symbol). IsRest g xs rest) (sym (rest_from item.index item.production.symbols remainder is ∙ drop_past item.index item.production.symbols r.2)) r.3
 
-  -- nor does one with a nonterminal without productions
+  -- an item gives nothing to a nonterminal without productions
   pub Barren-shares : (name : NonterminalString) → slice_get item.production.symbols item.index ≡ Some (Nonterminal name) → HasNoProduction g name → (table : Shared) (queue : List ℕ) → Shares begins passes g n (item ∷ []) table table queue queue
   Barren-shares name at none = gives_nothing (λ other behind q among named. none q among (named ∙ same_nonterminal (same_some (Nonterminal other) (Nonterminal name) (sym behind ∙ at))))
 
-  -- what may follow a nonterminal behind the dot goes to it
+  -- the tokens that may follow the nonterminal after the dot are added to those of the nonterminal
   Given-shares : (x : ℕ) (name : NonterminalString) (rest : List Symbol) → number < length n.items.items → slice_get n.behind.items number ≡ Some (Some x) → slice_get item.production.symbols item.index ≡ Some (Nonterminal name) → rest ≡ drop (item.index + 1) item.production.symbols →
       {L : Type 0} (meaning : L → Bits) (lookahead given : L) → meaning lookahead ≡ tokens → IsGiven meaning begins passes g rest lookahead given →
       (old new : Shared) (queue pushed : List ℕ) → IsQueued x (meaning given) old new queue pushed → Shares begins passes g n (item ∷ []) old new queue pushed
@@ -87,7 +87,7 @@ module _ (begins : Rules → List Symbol → Token → Type 0) (passes : Rules �
   put_nowhere x queue pushed (came e) = e
   put_nowhere x queue pushed (waited there e) = e
 
-  -- so what the nonterminal behind the dot is given is shared, whether it has productions or not
+  -- an item shares the tokens that it gives, whether the nonterminal has productions or not
   pub Gave-shares : (x : ℕ) (name : NonterminalString) (rest : List Symbol) → number < length n.items.items → slice_get n.behind.items number ≡ Some (Some x) → slice_get item.production.symbols item.index ≡ Some (Nonterminal name) → rest ≡ drop (item.index + 1) item.production.symbols →
       {L : Type 0} (meaning : L → Bits) (lookahead : L) → meaning lookahead ≡ tokens → (told : Bool) (old new : Shared) (queue pushed : List ℕ) →
       IsGivenAt meaning begins passes g name rest lookahead x told old new → IsPut x told queue pushed → Shares begins passes g n (item ∷ []) old new queue pushed
@@ -98,13 +98,13 @@ module _ (begins : Rules → List Symbol → Token → Type 0) (passes : Rules �
       let shares = Barren-shares name next none old queue in
       subst (λ (t : Shared). Shares begins passes g n (item ∷ []) old t queue pushed) (sym same) (subst (λ (p : List ℕ). Shares begins passes g n (item ∷ []) old old queue p) (sym stays) shares)
 
--- what is read within a list is read whatever stands for what is missing
+-- the element that is read at an index within a list does not depend on the default
 pub read_within : (xs : List ℕ) (i : ℕ) → i < length xs → get_or xs i 0 ≡ get_or xs i (get_or xs i 0)
 read_within [] i l = absurd (omega arith)
 read_within (x ∷ xs) zero l = refl
 read_within (x ∷ xs) (suc i) l = read_within xs i (omega arith)
 
--- ---- the numbers of a nonterminal, with the dot in front
+-- ---- the numbers of the productions of a nonterminal, with the dot at the start
 module _ (g : Rules) (n : Numbers) (numbers : AreNumbers g n) where
   pub number_known : (x : ℕ) → x < length n.symbols.items → x < length n.expansions.items
   number_known x l = let e = numbers.expanded in omega arith

@@ -1,4 +1,4 @@
--- A closure by nonterminals: what items give, and the loop until nothing waits.
+-- A closure by nonterminals: the tokens that items give, and the loop until the queue is empty.
 use Rattle.std.proofs.Common.{◌≡◌, ◌↔◌, ℕ, ◌+◌, ◌-◌, ◌*◌, ◌<◌, ◌≤◌, ◌⊎◌, inl, inr, List, [], ◌∷◌, ◌++◌, length, drop, refl, sym, ◌∙◌, ap, subst, arith, true}
 use Rattle.std.specs.Prelude.{Contains}
 use Rattle.std.specs.Map.{keys_of}
@@ -29,7 +29,7 @@ use Rattle.lalrpop_grammar.proofs.theory.grammars.Grammars.{same_front, same_aft
 one_name : (n : Numbers) (x : ℕ) (a b : NonterminalString) → IsNamed n x a → IsNamed n x b → a ≡ b
 one_name n x a b p q = let e = same_some _ _ (sym p ∙ q) in cc
 
--- ---- it comes to an end
+-- ---- the loop ends
 module _ (g : Rules) (n : Numbers) where
   shared_le : (table : Shared) → burden (length g.terminals + 2) table ≤ length table * (length g.terminals + 3)
   shared_le [] = omega arith
@@ -47,12 +47,12 @@ module _ (g : Rules) (n : Numbers) where
       let p = mul-le (length table) (length g.terminals + 3) m (length g.terminals + 3) (omega (arith, few, length-map table (λ (e : ℕ × Bits). e.0), length-range_with_len 0 m)) (omega arith) in
       omega arith
 
-  -- what is left to do
+  -- a bound of the number of steps that are left
   abbrev pub work : Shared → List ℕ → ℕ
   work table queue = length n.symbols.items * (length g.terminals + 3) + length queue - burden (length g.terminals + 2) table
 
 module _ (begins : Rules → List Symbol → Token → Type 0) (passes : Rules → List Symbol → Type 0) (g : Rules) (n : Numbers) where
-  -- ---- what is shared stays shared
+  -- ---- tokens that are shared stay shared
   pub shared_kept : (a b : Shared) → ((e : ℕ × Bits) → Contains a e → IsFound b e.0 e.1) → (i : Dotted Bits) → IsShared begins passes g n a i → IsShared begins passes g n b i
   shared_kept a b kept i s q after behind among =
       let h = s q after behind among in
@@ -71,7 +71,7 @@ module _ (begins : Rules → List Symbol → Token → Type 0) (passes : Rules �
     weighed = λ fit all. (all, omega arith);
   }
 
-  -- ---- an item gives to the nonterminal behind its dot
+  -- ---- an item gives tokens to the nonterminal after its dot
   module _ (i : Dotted Bits) (x : ℕ) (name : NonterminalString) (after : List Symbol) (named : IsNamed n x name) (behind : drop i.index i.production.symbols ≡ Nonterminal name ∷ after)
       (given : Bits) (is : (t : Token) → (holds_token g.terminals given t ≡ true) ↔ MayFollow begins passes g n i after t) (fits : FitsTokens g.terminals i.lookahead → FitsTokens g.terminals given)
       (old new : Shared) (queue pushed : List ℕ) (q : IsQueued x given old new queue pushed) where
@@ -119,7 +119,7 @@ module _ (begins : Rules → List Symbol → Token → Type 0) (passes : Rules �
           (all_below f all, queued_weighed x given old new queue pushed q (length g.terminals + 2) (below f) all);
     }
 
-  -- ---- some items give, and then others
+  -- ---- some items give tokens, and then others do
   module _ (firsts seconds : List (Dotted Bits)) where
     left_one : (x : ℕ) → StandsBehindOne n firsts x → StandsBehindOne n (firsts ++ seconds) x
     left_one x s = record { item = s.item; among = Contains-append_left firsts seconds s.item s.among; after = s.after; behind = s.behind }
@@ -164,7 +164,7 @@ module _ (begins : Rules → List Symbol → Token → Type 0) (passes : Rules �
     abbrev pub ReachedWith : Production → ℕ → Token → Type 0
     ReachedWith = InTokenClosureBy (begins g) (passes g) g.productions Reached (HasItemToken g.terminals kernel)
 
-    -- what items of the closure give belongs to it
+    -- the tokens that items of the closure give belong to the closure
     module _ (items : List (Dotted Bits)) (reached : (i : Dotted Bits) → Contains items i → Reached i.production i.index) (x : ℕ) (q : Production) (named : IsNamed n x q.nonterminal) (among : Contains g.productions q) where
       stood : (i : Dotted Bits) (after : List Symbol) → StandsBehind n i x after → drop i.index i.production.symbols ≡ Nonterminal q.nonterminal ∷ after
       stood i after s = s.behind ∙ ap (λ (a : NonterminalString). Nonterminal a ∷ after) (one_name n x s.name q.nonterminal s.named named)

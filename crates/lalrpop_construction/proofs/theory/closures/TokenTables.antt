@@ -1,4 +1,4 @@
--- What the construction makes with sets of tokens: closures with FIRST, and conflicts of tokens.
+-- The construction with sets of tokens: closures with FIRST, and conflicts on tokens.
 use Rattle.std.proofs.Common.{◌≡◌, ℕ, List, ◌∷◌, sym}
 use Rattle.std.specs.Prelude.{Contains, drop}
 use Rattle.lalrpop_base.specs.Words.{Bits, InTokenClosure, with_token, begins_rest, inherits, IsNullable, Dotted, state_conflicts, Rules}
@@ -12,7 +12,7 @@ use Rattle.lalrpop_construction.specs.Words.{Construction, AreStatesOf, AreState
 use Rattle.lalrpop_base.specs.Words.{IsBuiltOfBy}
 use Rattle.lalrpop_construction.proofs.theory.conflicts.GrownConflicts.{All-listed, free_states}
 
--- symbols let tokens pass where they are nullable
+-- symbols let tokens pass if they are nullable
 abbrev pub Passes : Rules → List Symbol → Type 0
 Passes g rest = IsNullable g.productions rest
 
@@ -46,7 +46,7 @@ closed g kernel items c = record {
 }
 
 -- ---- the states
--- a state of a kernel is one by whatever each closure is
+-- a state that is built by closures is also built by a weaker condition of closures
 pub built_of_by : {L : Type 0} (C D : List (Dotted L) → List (Dotted L) → Type 0) → ((kernel items : List (Dotted L)) → C kernel items → D kernel items) → (kernels : List (List (Dotted L))) (n : ℕ) (state : State L) → IsBuiltOfBy C kernels n state → IsBuiltOfBy D kernels n state
 built_of_by C D grows kernels n state e = record {
   kernel = e.kernel;
@@ -75,7 +75,7 @@ states_of c states s = record {
   coherent = s.coherent;
 }
 
--- ---- what is made of them
+-- ---- the tables and errors
 pub Tables-of : (c : Construction Bits) (states : List (State Bits)) → AreTablesFor itself Begins Passes Lists c states → AreTables c states
 Tables-of c states t = record { made = states_of c states t.made; free = free_states c.rules.terminals states (sym (All-listed state_conflicts c.rules.terminals t.free)) }
 

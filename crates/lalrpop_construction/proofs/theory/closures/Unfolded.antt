@@ -1,4 +1,5 @@
--- A closure by nonterminals, item by item: the kernel, and all productions of the nonterminals with the dot in front.
+-- A closure by nonterminals, item by item: the items of the kernel, and all productions of the
+-- nonterminals with the dot at the start.
 use Rattle.std.proofs.Common.{◌≡◌, ℕ, zero, suc, ◌<◌, ◌⊎◌, inl, inr, List, [], ◌∷◌, ◌++◌, length, map, drop, refl, sym, ◌∙◌, ap, subst, arith, true, Some, option_map, Vec, Global}
 use Rattle.std.specs.Prelude.{Contains, slice_get, get_or}
 use Rattle.std.proofs.lemmas.List.Elements.{Contains-append_left, Contains-append_right, Contains-append_cases}
@@ -37,7 +38,7 @@ ascend_differ {L} items ascend i j x l at_i at_j =
       | inr further ↦ let e = ap (λ (d : Production × ℕ). d.1) same in let m = further.1 in absurd (omega arith)
     ]
 
--- the list at a place
+-- the list at an index within the lists
 pub list_stands : {A : Type 0} (vs : List (Vec ℕ A)) (x : ℕ) → x < length vs → slice_get (map (λ (v : Vec ℕ A). v.items) vs) x ≡ Some (list_at vs x)
 list_stands [] x l = absurd (omega arith)
 list_stands (v ∷ vs) zero l = refl
@@ -53,7 +54,7 @@ pub items_unfolded : {L : Type 0} (meaning : L → Bits) (items : List (Dotted N
 items_unfolded meaning items [] = refl
 items_unfolded meaning items (e ∷ es) = ap (λ (is : List (Dotted Bits)). meant meaning (item_by items (numbered_of e)) ∷ is) (items_unfolded meaning items es)
 
--- items ascend whatever their lookaheads stand for
+-- items ascend with the meanings of their lookaheads
 meant_ascend : {L : Type 0} (meaning : L → Bits) (items : List (Dotted L)) → Ascend items → Ascend (map (meant meaning) items)
 meant_ascend meaning items ascend i j x y l at_i at_j =
     let a = some_of_map (meant meaning) (slice_get items i) x (sym (slice_get-map (meant meaning) items i) ∙ at_i) in
@@ -96,7 +97,7 @@ module _ {L : Type 0} (meaning : L → Bits) (begins : Rules → List Symbol →
         fits = (are_items.each (item_by n.items.items e) (contains_map (item_by n.items.items) list e c)).tokens;
       }
 
-  -- what the numbers of a nonterminal are
+  -- the numbers of a nonterminal are those of its productions
   expansions_at : (x : ℕ) → x < length n.symbols.items → (s : Symbol) × (slice_get n.symbols.items x ≡ Some s) × AreExpansions n.items.items s (list_at n.expansions.items x)
   expansions_at x l =
       let s = filled n.symbols.items x l in
@@ -171,7 +172,7 @@ module _ {L : Type 0} (meaning : L → Bits) (begins : Rules → List Symbol →
         let h = gathers.found f c in
         record { set = h.set; entry = contains_map decoded table (f.0, h.set) h.entry; all = h.all }
 
-    -- what a part gives to a production of the nonterminal behind its dot is found
+    -- the tokens that a part gives to a production of the nonterminal after its dot are found
     module _ (q : Production) (after : List Symbol) (among : Contains g.productions q) where
       owed : (f : ℕ × Bits) → IsPart f → drop (front f).index (front f).production.symbols ≡ Nonterminal q.nonterminal ∷ after → (x : ℕ) × IsNamed n x q.nonterminal × HasShare begins passes g n shared (front f) x after
       owed f p behind = p.gives q after behind among

@@ -1,4 +1,5 @@
--- What is valid for a prefix is the closure of the start, or of what was moved over the prefix's last symbol.
+-- The dotted productions that are valid for a prefix are the closure of the start, or that of the
+-- dotted productions that are moved over the last symbol of the prefix.
 use Rattle.std.proofs.Common.{◌≡◌, ◌+◌, ℕ, List, [], ◌∷◌, ◌++◌, length, refl, sym, ◌∙◌, ap, subst, arith, length-append}
 use Rattle.lalrpop_base.specs.Words.{InClosure, in_kernel, expanded, InTokenClosure, with_token, begins_rest, inherits, IsAtStart, IsAtStartWith, IsMoved}
 use Rattle.lalrpop_base.specs.Words.{IsMovedWith, Valid, starts, shifts, expands, ValidToken, at_start, kept, begins_behind, passed_on}
@@ -13,7 +14,7 @@ longer≢nil u x e =
     omega arith
 
 module _ (g : List Production) (start : NonterminalString) where
-  -- ---- for the empty prefix
+  -- ---- the empty prefix
   pub valid_of_start : {p : Production} {dot : ℕ} → InClosure g (IsAtStart g start) p dot → Valid g start [] p dot
   valid_of_start {p} (in_kernel k) = subst (Valid g start [] p) (sym k.0) (starts p k.1 k.2)
   valid_of_start (expanded q after c b h) = expands q after (valid_of_start c) b h
@@ -34,7 +35,7 @@ module _ (g : List Production) (start : NonterminalString) where
   start_of_token (begins_behind {u} {p} {dot} q after v b h f) z = begins_rest q after (subst (λ w. Valid g start w p dot) z v) b h f
   start_of_token (passed_on q after v b h n) z = inherits q after (start_of_token v z) b h n
 
-  -- ---- for a longer one
+  -- ---- a longer prefix
   module _ (u : List Symbol) (x : Symbol) where
     pub valid_of_moved : {p : Production} {dot : ℕ} → InClosure g (IsMoved (Valid g start u) x) p dot → Valid g start (u ++ x ∷ []) p dot
     valid_of_moved {p} (in_kernel i) = subst (Valid g start (u ++ x ∷ []) p) (sym i.moved) (shifts x i.after i.item i.behind)
@@ -60,7 +61,7 @@ module _ (g : List Production) (start : NonterminalString) where
     moved_of_token (begins_behind {u = w} {p} {dot} q after v b h f) z = begins_rest q after (subst (λ l. Valid g start l p dot) z v) b h f
     moved_of_token (passed_on q after v b h n) z = inherits q after (moved_of_token v z) b h n
 
-  -- ---- closures of more are more
+  -- ---- a larger kernel has a larger closure
   pub tokens_along : (I J : Production → ℕ → Type 0) (A B : Production → ℕ → Token → Type 0) → ((p : Production) (dot : ℕ) → I p dot → J p dot) → ((p : Production) (dot : ℕ) (t : Token) → A p dot t → B p dot t) →
       {p : Production} {dot : ℕ} {t : Token} → InTokenClosure g I A p dot t → InTokenClosure g J B p dot t
   tokens_along I J A B f k {p} {dot} {t} (with_token c) = with_token (k p dot t c)

@@ -1,4 +1,4 @@
--- A state of the code has no conflict exactly where what it holds has none.
+-- A state of the code has no conflict exactly if its contents have none.
 use Rattle.std.proofs.Common.{◌≡◌, ℕ, suc, ◌<◌, true, List, [], ◌∷◌, ◌++◌, refl, sym, ◌∙◌, ap, subst, Some, option_map}
 use Rattle.std.specs.Prelude.{Contains, slice_get}
 use Rattle.std.specs.Borrow.{Bor}
@@ -23,7 +23,7 @@ use Rattle.lalrpop_construction.proofs.theory.construction.StateEdges.{leads_tra
 abbrev CodeReduction : Type 0
 CodeReduction = Bits × Bor Production
 
--- a place that has no state has no conflict
+-- a number without a state has no conflict
 pub nowhere_conflict : HoldsNoConflict no_contents
 nowhere_conflict = record { shifts = λ x n r e. cc; reductions = λ i j r q t l at. cc }
 
@@ -65,7 +65,7 @@ module _ (terminals : List TerminalString) (s : State Bits) where
         (bit_held terminals r.0 t.0 bit t.1 h) (bit_held terminals q.0 t.0 bit t.1 k);
   }
 
--- where no state has a conflict, none is listed
+-- no conflict is listed if no state has one
 pub none_listed : (terminals : List TerminalString) (states : List (State Bits)) → ((n : ℕ) (s : State Bits) → slice_get states n ≡ Some s → HasNoConflict terminals s) → flat_map (state_conflicts terminals) states ≡ []
 none_listed terminals [] none = refl
 none_listed terminals (s ∷ states) none =

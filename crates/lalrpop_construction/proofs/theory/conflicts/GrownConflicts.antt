@@ -1,4 +1,4 @@
--- The conflicts of states, one state more, and the states as an answer.
+-- The conflicts of states, with one more state, and the states as a result.
 use Rattle.std.proofs.Common.{◌≡◌, zero, suc, List, [], ◌∷◌, ◌++◌, map, refl, sym, ◌∙◌, ap, subst}
 use Rattle.std.specs.List.{flat_map}
 use Rattle.std.proofs.lemmas.List.{append-nil}
@@ -14,11 +14,11 @@ use Rattle.lalrpop_construction.proofs.theory.construction.Coherence.{Built-cohe
 use Rattle.lalrpop_construction.proofs.theory.construction.Shifting.{begun_zero}
 
 module _ {L : Type 0} (lists : State L → List TerminalString → List (Conflict L) → Type 0) (terminals : List TerminalString) where
-  -- the conflicts of the states, and those of the next
+  -- the list has the conflicts of the states, and those of the next state
   pub Listed-more : (states grown : List (State L)) (state : State L) (old new : List (Conflict L)) → ListsAll lists terminals states old → (own : List (Conflict L)) × lists state terminals own × (new ≡ old ++ own) → grown ≡ states ++ state ∷ [] → ListsAll lists terminals grown new
   Listed-more states grown state old new a o e = more state o.0 a o.1 e o.2
 
--- where each state's conflicts are one list, so are all of them
+-- if the conflicts of each state are one list, so are those of all states
 module _ {L : Type 0} (own : List TerminalString → State L → List (Conflict L)) (terminals : List TerminalString) where
   pub All-listed : {states : List (State L)} {list : List (Conflict L)} → ListsAll (λ s ts cs. cs ≡ own ts s) terminals states list → list ≡ flat_map (own terminals) states
   All-listed none = refl

@@ -1,4 +1,5 @@
--- The list of a state's conflicts that the code makes is that of the definitions: it goes through the shifted terminals, ascending, and then through the reductions.
+-- The list of conflicts of a state that the code makes is that of the definitions. The code goes
+-- through the shifted terminals, ascending, and then through the reductions.
 use Rattle.std.proofs.Common.{◌≡◌, ◌↔◌, ℕ, ◌+◌, ◌<◌, List, [], ◌∷◌, length, map, get_or, refl, sym, ◌∙◌, ap, subst, arith, Bool, true, false, cond, ◌&&◌, Option, Some}
 use Rattle.std.specs.Prelude.{Contains, option_map, IfSome}
 use Rattle.std.specs.declared.cmp.Ordering.TheVariants.{Less}
@@ -37,7 +38,7 @@ use Rattle.lalrpop_construction.proofs.theory.grammars.ItemTokens.{token_with}
 abbrev pub CodeReduction : Type 0
 CodeReduction = Bits × Bor Production
 
--- both sets have the bits that both share
+-- both sets have the bits of their meet
 both_bits : (s t : Bits) (b : ℕ) → has (meet s t) b ≡ true → (has s b ≡ true) × (has t b ≡ true)
 both_bits s t b h = both (has s b) (has t b) (sym (filter_bits (λ c. has t c) s b) ∙ h)
 
@@ -66,7 +67,7 @@ module _ (shifts : BTreeMap TerminalString StateIndex) (ordered : IsOrdered term
   )
 
 module _ (terminals : List TerminalString) (differ : AllDiffer terminals) where
-  -- what holds a reduction's tokens
+  -- whether a set holds a token
   abbrev Held : Bits → Token → Bool
   Held = holds_token terminals
 
@@ -77,13 +78,13 @@ module _ (terminals : List TerminalString) (differ : AllDiffer terminals) where
   terminal_below : (t : TerminalString) (bit : ℕ) → place_in terminals t ≡ Some bit → bit < length terminals
   terminal_below t bit e = slice_get_within terminals bit t (place_there terminals t bit e)
 
-  -- the token with a terminal's bit is that terminal
+  -- the token with the bit of a terminal is that terminal
   bit_of_terminal : (s : Token) (t : TerminalString) (bit : ℕ) → token_bit terminals s ≡ Some bit → place_in terminals t ≡ Some bit → s ≡ TokenOf t
   bit_of_terminal Eof t bit e f = let l = terminal_below t bit f in let m : length terminals ≡ bit = same_some (length terminals) bit e in absurd (omega arith)
   bit_of_terminal Error t bit e f = let l = terminal_below t bit f in let m : length terminals + 1 ≡ bit = same_some (length terminals + 1) bit e in absurd (omega arith)
   bit_of_terminal (TokenOf u) t bit e f = ap TokenOf (same_some u t (sym (place_there terminals u bit e) ∙ place_there terminals t bit f))
 
-  -- the set of a terminal's bit holds that terminal alone
+  -- the set of the bit of a terminal holds that terminal alone
   holds_one : (t : TerminalString) (bit : ℕ) → place_in terminals t ≡ Some bit → (s : Token) → (Held (with_bit no_bits bit) s ≡ true) ↔ (s ≡ TokenOf t)
   holds_one t bit e s = (
     λ h.
@@ -92,7 +93,7 @@ module _ (terminals : List TerminalString) (differ : AllDiffer terminals) where
     λ same. subst (λ (u : Token). Held (with_bit no_bits bit) u ≡ true) (sym same) (bit_held terminals (with_bit no_bits bit) (TokenOf t) bit e (own_bit bit)),
   )
 
-  -- a token is held by what two sets share exactly where both hold it
+  -- the meet of two sets holds a token exactly if both hold it
   holds_both : (a b : Bits) (s : Token) → (Held (meet a b) s ≡ true) ↔ ((Held a s ≡ true) × (Held b s ≡ true))
   holds_both a b s = (
     λ h.

@@ -1,4 +1,5 @@
--- The conflicts of states that stand at the places of their numbers, in one list: those of each state, and the order of the states.
+-- The list of conflicts of states whose numbers are their indices: the conflicts of each state, and
+-- the order of the states.
 use Rattle.std.proofs.Common.{◌≡◌, ℕ, zero, suc, ◌+◌, ◌≤◌, inl, inr, List, [], ◌∷◌, ◌++◌, refl, ◌∙◌, ap, subst, arith, Bool, true, false, cond, ◌==◌, eq-eqb, eqb-true, Option, Some, None}
 use Rattle.std.specs.Prelude.{Contains, slice_get}
 use Rattle.std.specs.List.{filter, flat_map}
@@ -23,7 +24,7 @@ kept_none : {X : Type 0} (p : X → Bool) (xs : List X) → ((x : X) → Contain
 kept_none p [] h = refl
 kept_none p (x ∷ xs) h = ap (λ b. cond b (x ∷ filter p xs) (filter p xs)) (h x (contains_head x xs)) ∙ kept_none p xs (λ y c. h y (contains_tail x xs y c))
 
--- a conflict of the state, whose shift is one of the entries
+-- the conflict is one of the state with the number, and its shift is one of the entries
 pub record IsOf (number : StateIndex) (es : List (TerminalString × StateIndex)) (c : Conflict Bits) : Type 0 where
   pub state : c.state ≡ number
   pub shift : (t : TerminalString) (target : StateIndex) → c.action ≡ Shift t target → Contains es (t, target)
@@ -31,7 +32,7 @@ pub record IsOf (number : StateIndex) (es : List (TerminalString × StateIndex))
 of_more : (number : StateIndex) (e : TerminalString × StateIndex) (es : List (TerminalString × StateIndex)) (c : Conflict Bits) → IsOf number es c → IsOf number (e ∷ es) c
 of_more number e es c h = record { state = h.state; shift = λ t target a. contains_tail e es (t, target) (h.shift t target a) }
 
--- states that stand at their numbers, from k on
+-- the numbers of the states are their indices plus k
 abbrev pub AreNumberedFrom : ℕ → List (State Bits) → Type 0
 AreNumberedFrom k states = (j : ℕ) (s : State Bits) → slice_get states j ≡ Some s → s.index.0 ≡ k + j
 
@@ -73,7 +74,7 @@ module _ (terminals : List TerminalString) where
     | inr r ↦ reductions_of state.index state.reductions.items state.shifts.entries c r
   ]
 
-  -- ---- the conflicts of all
+  -- ---- the conflicts of all states
   abbrev all_of : List (State Bits) → List (Conflict Bits)
   all_of states = flat_map (state_conflicts terminals) states
 

@@ -1,4 +1,5 @@
--- The states that a construction makes of kernels, with any lookahead, are closed: state 0 of the start, each target of what was moved.
+-- The states that a construction makes from kernels, with any lookahead, are closed: state 0 is the
+-- closure of the start, and each target that of the moved items.
 use Rattle.std.proofs.Common.{◌≡◌, ◌↔◌, ℕ, suc, ◌<◌, ◌⊎◌, Bool, List, length, map, refl, sym, ◌∙◌, ap, subst, arith, Option, Some, None}
 use Rattle.std.specs.Prelude.{Contains, slice_get}
 use Rattle.std.proofs.lemmas.Option.{slice_get_within}
@@ -15,20 +16,20 @@ use Rattle.lalrpop_construction.proofs.theory.construction.SameKernels.{past_in_
 use Rattle.lalrpop_construction.proofs.theory.construction.StateEdges.{leads_transition, leads_over_dots, nowhere_leads, no_leads, all_reached}
 use Rattle.lalrpop_collections.proofs.theory.lists.BothFacts.{turned_both, then_both}
 
--- a closure of exactly the kernel, ascending
+-- the items are exactly the closure of the kernel, ascending, with any lookaheads
 pub record IsExactClosure {L : Type 0} (g : Rules) (kernel items : List (Dotted L)) : Type 0 where
   pub exact : (p : Production) (dot : ℕ) → Contains (map dotted_of items) (p, dot) ↔ InClosure g.productions (InKernel kernel) p dot
   pub ascend : Ascend items
   pub begun : (i : Dotted L) → Contains items i → (i.index ≡ 0) ⊎ InKernel kernel i.production i.index
 
--- what stands past the start in it is of the kernel
+-- the kernel has exactly the dotted productions of its closure whose dot is past the start
 pub kernel_items : {L : Type 0} (g : Rules) (kernel items : List (Dotted L)) → IsExactClosure g kernel items → (p : Production) (d : ℕ) → InKernel kernel p (suc d) ↔ Contains (map dotted_of items) (p, suc d)
 kernel_items g kernel items c p d = (
   λ k. (c.exact p (suc d)).1 (in_kernel k),
   λ h. past_in_kernel g.productions (InKernel kernel) d refl ((c.exact p (suc d)).0 h),
 )
 
--- a closure with sets of tokens is one
+-- a closure with sets of tokens is an exact closure
 pub exactly_of : (g : Rules) (kernel items : List (Dotted Bits)) → IsClosureOf g kernel items → IsExactClosure g kernel items
 exactly_of g kernel items c = record { exact = c.exact; ascend = c.ascend; begun = c.begun }
 
@@ -96,7 +97,7 @@ module _ {L : Type 0} (holds : L → Token → Bool) (g : Rules) (start : Nonter
         InClosure-more g.productions (IsAtStart g.productions start) (InKernel first) (λ q d h. (begins q d).1 h),
       ))
 
-  -- ---- the others
+  -- ---- the other states
   goes : (n m : ℕ) (x : Symbol) → leads (now n) x ≡ Some m → (p : Production) (dot : ℕ) → items_of now m p dot ↔ InClosure g.productions (IsMoved (items_of now n) x) p dot
   goes n m x e p dot =
       let s = step_of n m x e in
@@ -130,7 +131,7 @@ module _ {L : Type 0} (holds : L → Token → Bool) (g : Rules) (start : Nonter
   pub source_reached : (n m : ℕ) (x : Symbol) → leads (now n) x ≡ Some m → IsReached now n
   source_reached n m x e = let s = step_of n m x e in reached n (slice_get_within states n s.source s.at)
 
-  -- ---- no kernel stands twice, where kernels of moved items with the same dotted productions are one
+  -- ---- kernels differ, if kernels of moved items with the same dotted productions are the same
   module _ (same : (x y : Symbol) (a b is js : List (Dotted L)) → Shifts x is a → Shifts y js b → Ascend is → Ascend js → ((p : Production) (d : ℕ) → InKernel a p (suc d) ↔ InKernel b p (suc d)) → a ≡ b) where
     pub kernels_differ : KernelsDiffer now
     kernels_differ k l n m x y e f items =

@@ -1,4 +1,4 @@
--- The states that are built of kernels are coherent.
+-- The states that are built from kernels are coherent.
 use Rattle.std.proofs.Common.{◌≡◌, ℕ, ◌+◌, ◌-◌, ◌<◌, ◌⊎◌, inl, inr, List, [], ◌∷◌, length, get_or, map, refl, sym, ◌∙◌, ap, subst, arith, ⊎_elim, Bool, true, false, cond, Some, eqb-true, option_map}
 use Rattle.std.specs.Prelude.{Contains, slice_get, ◌==◌}
 use Rattle.std.proofs.lemmas.Option.{slice_get_within, slice_get-get_or, slice_get-map}
@@ -42,7 +42,7 @@ module _ {L : Type 0} where
     differ = r.differ;
   }
 
-  -- items and a symbol have one kernel
+  -- items and a symbol have exactly one kernel
   pub one_kernel : (x : Symbol) (items a b : List (Dotted L)) → Shifts x items a → Shifts x items b → a ≡ b
   one_kernel x items a b none none = refl
   one_kernel x items a b (moves {i} {items = is} {kernel = ks} h s) (moves {kernel = ls} k t) = ap (λ (js : List (Dotted L)). shifted i ∷ js) (one_kernel x is ks ls s t)
@@ -59,7 +59,7 @@ module _ {L : Type 0} where
       let same : l.kernel ≡ k.0 = one_kernel group.0 items l.kernel k.0 (m.each group.0 l.kernel l.group) (m.each group.0 k.0 group.1) in
       (group.0, edge.0, edge.1, one_place new.list (r.differ differ) edge.0.0 n k.0 (l.numbered ∙ ap Some same) k.1)
 
-  -- ---- and is coherent with the others
+  -- ---- a state is coherent with the others
   has_item : (items : List (Dotted L)) (i : Dotted L) (p : Production) (n : ℕ) → Contains items i → i.production ≡ p → i.index ≡ n → HasItem items p n
   has_item items i p n c e f = let at = place items i c in (at.0, i, at.2, record { same = e; dot = f })
 

@@ -1,4 +1,4 @@
--- The kernels that items move to, one item more, and the edges to them, one edge more.
+-- The kernels to which items move, with one more item, and the edges to them, with one more edge.
 use Rattle.std.proofs.Common.{◌≡◌, ℕ, suc, ◌⊎◌, inl, inr, List, [], ◌∷◌, ◌++◌, length, refl, sym, ◌∙◌, ap, subst, arith, append_assoc, append-nil, Bool, true, false, true≢false, cond, IfSome, IsSome, None, Option, Some}
 use Rattle.std.specs.Prelude.{Contains, slice_get, ◌==◌}
 use Rattle.std.specs.Map.{keys_of}
@@ -28,7 +28,7 @@ differ_tail x xs d i j y l at_i at_j = d (suc i) (suc j) y (omega arith) at_i at
 pub differ_head : {X : Type 0} (x : X) (xs : List X) → AllDiffer (x ∷ xs) → (y : X) → Contains xs y → x ≡ y → ⊥
 differ_head x xs d y c e = let at = place xs y c in d 0 (suc at.0) y (omega arith) (ap Some e) at.2
 
--- ---- an entry more
+-- ---- one more entry
 abbrev Gotos : Type 0
 Gotos = List (NonterminalString × StateIndex)
 
@@ -57,7 +57,7 @@ entry_from (Terminal t) target old new e (Terminal u) n h = elim (Contains-push_
   | inr is ↦ inr (ap (λ (p : TerminalString × StateIndex). Terminal p.0) (sym is), ap (λ (p : TerminalString × StateIndex). p.1) (sym is))
 ]
 
--- empty lists have none
+-- empty lists have no entry
 pub no_entry : (entries : Entries) → entries.shifts ≡ [] → entries.gotos ≡ [] → (x : Symbol) (n : StateIndex) → HasEntry entries x n → ⊥
 no_entry entries s t (Nonterminal a) n h = Contains-none (a, n) (subst (λ (es : Gotos). Contains es (a, n)) t h)
 no_entry entries s t (Terminal a) n h = Contains-none (a, n) (subst (λ (es : ShiftList). Contains es (a, n)) s h)
@@ -87,7 +87,7 @@ abbrev Group : Type 0 → Type 0
 Group L = Symbol × List (Dotted L)
 
 module _ {L : Type 0} where
-  -- ---- one item more
+  -- ---- one more item
   pub Shifts-over : (x : Symbol) (i : Dotted L) (items kernel : List (Dotted L)) → IsBehind x i → Shifts x items kernel → Shifts x (items ++ i ∷ []) (kernel ++ shifted i ∷ [])
   Shifts-over x i items kernel b none = moves b none
   Shifts-over x i items kernel b (moves {items = is} {kernel = ks} c s) = moves c (Shifts-over x i is ks b s)
@@ -101,7 +101,7 @@ module _ {L : Type 0} where
   key_in : (groups : Groups L) (g : Group L) → Contains groups g → Contains (keys_of groups) g.0
   key_in groups g c = contains_map (λ (g : Group L). g.0) groups g c
 
-  -- the key in the midst stands nowhere else
+  -- the key of a group in the middle is not that of another group
   midst_differs : (front back : Groups L) (g h : Group L) → AllDiffer (keys_of (front ++ g ∷ back)) → Contains (front ++ back) h → g.0 ≡ h.0 → ⊥
   midst_differs [] back g h d c e = differ_head g.0 (keys_of back) d h.0 (key_in back h c) e
   midst_differs (f ∷ front) back g h d c e = elim (contains-cons f (front ++ back) h c) [
@@ -116,7 +116,7 @@ module _ {L : Type 0} where
     not_behind : (x : Symbol) → (y ≡ x → ⊥) → ¬ IsBehind x i
     not_behind x other b = other (same_some y x (sym behind ∙ b))
 
-    -- each kernel of the old groups and of the new, where all but that of y stay
+    -- each new group has its kernel, if all old groups but that of y stay
     over_each : (front back : Groups L) (kernel : List (Dotted L)) (old new : Groups L) → new ≡ front ++ (y, kernel ++ shifted i ∷ []) ∷ back → AllDiffer (keys_of new) → Shifts y items kernel → ((h : Group L) → Contains (front ++ back) h → Shifts h.0 items h.1) →
         (x : Symbol) (ks : List (Dotted L)) → Contains new (x, ks) → Shifts x (items ++ i ∷ []) ks
     over_each front back kernel old new after d s each x ks c = elim (midst front back (y, kernel ++ shifted i ∷ []) (x, ks) (subst (λ (gs : Groups L). Contains gs (x, ks)) after c)) [
@@ -128,14 +128,14 @@ module _ {L : Type 0} where
     over_other front back g new after key old x none_new =
         Shifts-other x i items [] (not_behind x (λ e. none_new g.1 (subst (λ (gs : Groups L). Contains gs (x, g.1)) (sym after) (subst (λ (s : Symbol). Contains (front ++ g ∷ back) (s, g.1)) (key ∙ e) (at_midst front back g))))) (old x none_new)
 
-    -- a symbol with a group stands behind a dot: y behind that of the new item
+    -- a symbol with a group is after a dot: y is after that of the new item
     over_some : (front back : Groups L) (g : Group L) (new : Groups L) → new ≡ front ++ g ∷ back → g.0 ≡ y → ((h : Group L) → Contains (front ++ back) h → IsBehindOne h.0 items) → (x : Symbol) (ks : List (Dotted L)) → Contains new (x, ks) → IsBehindOne x (items ++ i ∷ [])
     over_some front back g new after key each x ks c = elim (midst front back g (x, ks) (subst (λ (gs : Groups L). Contains gs (x, ks)) after c)) [
       | inl same ↦ record { item = i; among = Contains-push items i; behind = subst (λ (s : Symbol). IsBehind s i) (sym key ∙ ap (λ (h : Group L). h.0) same) behind }
       | inr other ↦ behind_longer items i x (each (x, ks) other)
     ]
 
-    -- each symbol that had a group has one, and so has y
+    -- each symbol that had a group has one, and y has one
     over_has : (old new : Groups L) → AreMoves items old → ((h : Group L) → Contains old h → (ks : List (Dotted L)) × Contains new (h.0, ks)) → (ks : List (Dotted L)) → Contains new (y, ks) → (x : Symbol) (j : Dotted L) → Contains (items ++ i ∷ []) j → IsBehind x j → (ks : List (Dotted L)) × Contains new (x, ks)
     over_has old new m kept ks there x j c b = elim (Contains-push_cases items i j c) [
       | inl had ↦ let g = m.has x j had b in kept (x, g.0) g.1
@@ -187,7 +187,7 @@ module _ {L : Type 0} where
   pub Moves-none : AreMoves {L = L} [] []
   Moves-none = record { each = λ x ks c. absurd (Contains-none (x, ks) c); other = λ x n. none; some = λ x ks c. absurd (Contains-none (x, ks) c); has = λ x i c b. absurd (Contains-none i c); differ = λ i j x l at. cc }
 
-  -- ---- one edge more
+  -- ---- one more edge
   -- the entries lead to the kernels of the first groups
   pub record AreSomeEdges (groups first : Groups L) (old new : Kernels (List (Dotted L))) (entries : Entries) : Type 0 where
     pub leads : (x : Symbol) (target : StateIndex) → HasEntry entries x target → LeadsTo groups new.list x target
@@ -247,7 +247,7 @@ module _ {L : Type 0} where
     ascend = made.shifts.1;
   }
 
-  -- ---- one reduction more
+  -- ---- one more reduction
   reductions_at : (b : Bool) (r : L × Production) (xs ys : List (L × Production)) → cond b (r ∷ (xs ++ ys)) (xs ++ ys) ≡ cond b (r ∷ xs) xs ++ ys
   reductions_at true r xs ys = refl
   reductions_at false r xs ys = refl

@@ -1,4 +1,4 @@
--- The loop that makes the states, over kernels by number: how it begins, and one state more.
+-- The loop that makes the states, over kernels by number: its beginning, and one more state.
 use Rattle.std.proofs.Common.{◌≡◌, ◌∙◌, ℕ, ◌+◌, ◌-◌, ◌<◌, List, [], ◌∷◌, ◌++◌, get_or, length, length-append, map, refl, sym, ap, subst, arith}
 use Rattle.std.specs.Prelude.{slice_get, Some}
 use Rattle.std.proofs.lemmas.Option.{slice_get_within}
@@ -17,7 +17,7 @@ one_differs x i j y less at_i at_j =
     let within : j < length (x ∷ []) = slice_get_within (x ∷ []) j y at_j in
     absurd (omega arith)
 
--- kernels with the same list, of which as many were handed out
+-- kernels are the same if the list is the same and as many were handed out
 pub same_kernels : {K : Type 0} (kernels : Kernels K) (list : List K) (handed : ℕ) → kernels.list ≡ list → kernels.handed ≡ handed → kernels ≡ record { list = list; handed = handed }
 same_kernels {K} kernels list handed p q = ap (λ (ks : List K). of ks kernels.handed) p ∙ ap (of list) q
   where
@@ -39,19 +39,19 @@ module _ {L : Type 0} (meaning : L → Bits) (C : List (Dotted L) → List (Dott
     counted : middle.handed ≡ old.handed + 1
     counted = ap (λ (k : Kernels (List (Numbered L))). k.handed) handed
 
-    -- the state of the next kernel
+    -- the states are built so far after the state of the next kernel is added
     pub Building-grown : (state : State L) → IsBuiltBy C (kernels_by items new).list (items_by items kernel) (length states) state → LeadsToAdded (kernels_by items middle) (kernels_by items new) state → Building meaning C g first (kernels_by items new) (states ++ state ∷ [])
     Building-grown state built led =
         Building-step meaning C g first (kernels_by items old) (kernels_by items middle) (kernels_by items new) states (items_by items kernel) state building (numbered_by items old.list old.handed kernel next) (ap (λ (k : Kernels (List (Numbered L))). map (items_by items) k.list) handed) counted extends built led
 
--- where one more was handed out, fewer are left
+-- fewer kernels are left after one more was handed out
 pub Fewer-left : {L : Type 0} (meaning : L → Bits) (C : List (Dotted L) → List (Dotted L) → Type 0) (g : Rules) (first : List (Dotted L)) → ((a b : L) → meaning a ≡ meaning b → a ≡ b) → (kernels : Kernels (List (Dotted L))) (states : List (State L)) → Building meaning C g first kernels states → (before : ℕ) → kernels.handed ≡ before + 1 → kernels_limit g - kernels.handed < kernels_limit g - before
 Fewer-left meaning C g first told kernels states b before one =
     let few = kernels_few_by meaning told g kernels.list b.differ b.of in
     let within = b.fewer in
     omega (arith, few, within, one)
 
--- what was put behind a list is what stands last
+-- the element that was added to a list is the last one
 pub last_added : {X : Type 0} (old new : List X) (x y : X) (k : ℕ) → new ≡ old ++ x ∷ [] → k ≡ length new → y ≡ get_or new (k - 1) y → new ≡ old ++ y ∷ []
 last_added {X} old new x y k e n at =
     let longer : length new ≡ length old + 1 = ap length e ∙ length-append old (x ∷ []) in

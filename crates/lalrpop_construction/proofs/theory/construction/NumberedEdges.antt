@@ -1,4 +1,4 @@
--- The edges of a state over numbers: a kernel more, which is numbered once.
+-- The edges of a state by numbers, with one more kernel, which gets one number.
 use Rattle.std.proofs.Common.{◌≡◌, ◌⊎◌, ℕ, inl, inr, List, [], ◌∷◌, ◌++◌, map, sym, ◌∙◌, ap, subst, Some, option_map, append_assoc}
 use Rattle.std.specs.Prelude.{Contains, slice_get}
 use Rattle.std.proofs.lemmas.List.{map-append}
@@ -11,7 +11,7 @@ use Rattle.lalrpop_collections.proofs.theory.lists.Members.{contains-cons, conta
 use Rattle.lalrpop_construction.proofs.theory.numbers.Numbers.{lists_differ}
 
 module _ {L : Type 0} (items : List (Dotted Nil)) where
-  -- a kernel that was added, or was there, by the items that it stands for
+  -- a kernel by number was added, or was there; the same is true of its items
   pub either_by : (old new : List (List (Numbered L))) (kernel : List (Numbered L)) → (new ≡ old) ⊎ (new ≡ old ++ kernel ∷ []) → (map (items_by items) new ≡ map (items_by items) old) ⊎ (map (items_by items) new ≡ map (items_by items) old ++ items_by items kernel ∷ [])
   either_by old new kernel either = elim either [
     | inl same ↦ inl (ap (map (items_by items)) same)
@@ -27,7 +27,7 @@ module _ {L : Type 0} (items : List (Dotted Nil)) where
     ]
   ]
 
-  -- the kernel at a number, as items
+  -- the kernel with a number, as items
   pub numbered_by : (list : List (List (Numbered L))) (k : ℕ) (kernel : List (Numbered L)) → slice_get list k ≡ Some kernel → slice_get (map (items_by items) list) k ≡ Some (items_by items kernel)
   numbered_by list k kernel at = slice_get-map (items_by items) list k ∙ ap (λ o. option_map (items_by items) o) at
 

@@ -31,14 +31,14 @@ symbol_is (y ∷ ys) (suc k) x h = symbol_is ys k x h
 one_symbol : (symbols : List Symbol) → AllDiffer symbols → (a b : ℕ) → a < length symbols → b < length symbols → symbol_at symbols a ≡ symbol_at symbols b → a ≡ b
 one_symbol symbols differ a b l m e = one_place symbols differ a b (symbol_at symbols b) (symbol_stands symbols a l ∙ ap Some e) (symbol_stands symbols b m)
 
--- ---- numbers of items, and one more
+-- ---- numbers of items, with one more item
 pub one_numbered : {L : Type 0} (items : List (Dotted Nil)) (e : Numbered L) → e.number < length items → AreNumbered items (e ∷ [])
 one_numbered {L} items e l d c = elim (contains-cons e [] d c) [ inl same ↦ subst (λ (f : Numbered L). f.number < length items) same l | inr none ↦ absurd (Contains-none d none) ]
 
 pub more_numbered : {L : Type 0} (items : List (Dotted Nil)) (list : List (Numbered L)) (e : Numbered L) → AreNumbered items list → e.number < length items → AreNumbered items (list ++ e ∷ [])
 more_numbered items list e a l d c = elim (Contains-append_cases list (e ∷ []) d c) [ inl had ↦ a d had | inr last ↦ one_numbered items e l d last ]
 
--- a group, as the symbol and the items
+-- the symbol and the items of a group that is given by number
 abbrev pub group_by : {L : Type 0} → Numbers → ℕ × List (Numbered L) → Symbol × List (Dotted L)
 group_by n h = (symbol_at n.symbols.items h.0, items_by n.items.items h.1)
 
@@ -59,7 +59,7 @@ module _ {L : Type 0} (g : Rules) (n : Numbers) (numbers : AreNumbers g n) where
       let same : b.0 ≡ a.0 = one_symbol n.symbols.items numbers.differ b.0 a.0 (key_known groups of b.0 (contains_at ks b.0 j b.1)) (key_known groups of a.0 (contains_at ks a.0 i a.1)) (b.2 ∙ sym a.2) in
       differ i j a.0 l a.1 (b.1 ∙ ap Some same))
 
-  -- ---- an item goes to the group of a symbol
+  -- ---- an item is added to the group of a symbol
   midst_by : (front back : NumberedGroups L) (h : ℕ × List (Numbered L)) (all : NumberedGroups L) → all ≡ front ++ h ∷ back → groups_by n all ≡ groups_by n front ++ group_by n h ∷ groups_by n back
   midst_by front back h all e = ap (groups_by n) e ∙ map-append (group_by n) front (h ∷ back)
 
@@ -79,7 +79,7 @@ module _ {L : Type 0} (g : Rules) (n : Numbers) (numbers : AreNumbers g n) where
       | inr out ↦ of h (subst (λ (gs : NumberedGroups L). Contains gs h) (sym before) (around front back (x, vs) h out))
     ]
 
-  -- ---- an item moves over the symbol behind its dot
+  -- ---- an item moves over the symbol after its dot
   module _ (e : Numbered L) (e_known : e.number < length n.items.items) where
     abbrev pub next : Numbered L
     next = record { number = e.number + 1; lookahead = e.lookahead }

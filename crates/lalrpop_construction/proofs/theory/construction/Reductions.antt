@@ -76,7 +76,7 @@ module _ {L : Type 0} where
   reductions_ordered [] a = ordered-nil Stands
   reductions_ordered (i ∷ items) a = ordered_at i items (i.index == length i.production.symbols) refl a (reductions_ordered items (ordered-tail Precedes i items a))
 
-  -- ---- as the definitions speak of reductions
+  -- ---- the contents of reductions
   module _ (holds : L → Token → Bool) where
     abbrev pub meant : L × Production → Reduction
     meant r = record { production = r.1; holds = holds r.0 }
@@ -126,11 +126,11 @@ module _ {L : Type 0} where
           once = λ i j r q l at_i at_j same. less_apart r.production q.production (reduces_in_order i j r q l at_i at_j) same;
         }
 
--- ---- where there is no state
+-- ---- a number without a state
 pub no_reduction : (r : Reduction) → Contains no_contents.reductions r → ⊥
 no_reduction r c = let l = c.1 in absurd (omega arith)
 
--- nothing is reduced
+-- a number without a state has no reduction and no finished dotted production
 pub nothing_reduced : ReducesFinished no_contents
 nothing_reduced = record {
   finished = λ p. (λ h. absurd (no_reduction h.0 h.1), λ c. let l = c.1 in absurd (omega arith));

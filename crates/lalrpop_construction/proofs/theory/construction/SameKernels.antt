@@ -1,4 +1,4 @@
--- Kernels with the same dotted productions and tokens are one, since their items stand in one order.
+-- Kernels with the same dotted productions and tokens are the same, since their items ascend.
 use Rattle.std.proofs.Common.{◌≡◌, ◌↔◌, ℕ, suc, ◌+◌, inl, inr, true, List, map, refl, sym, ◌∙◌, ap, subst, arith}
 use Rattle.std.specs.Prelude.{Contains}
 use Rattle.lalrpop_base.specs.Words.{Bits, InClosure, in_kernel, expanded, InTokenClosure, with_token, begins_rest, inherits, holds_token, Dotted, AllDiffer, Rules}
@@ -34,7 +34,7 @@ module _ {L : Type 0} where
       let e : i.index ≡ f.item.index + 1 = ap (λ (j : Dotted L). j.index) (sym f.is) in
       (f.item.index, omega arith)
 
--- ---- what stands past the start in a closure is of its kernel
+-- ---- the items of a closure whose dot is past the start are those of its kernel
 module _ (g : List Production) where
   pub past_in_kernel : (K : Production → ℕ → Type 0) {p : Production} {dot : ℕ} (d : ℕ) → dot ≡ suc d → InClosure g K p dot → K p dot
   past_in_kernel K d e (in_kernel k) = k
@@ -53,7 +53,7 @@ module _ (g : Rules) (kernel items : List (Dotted Bits)) (c : IsClosureOf g kern
   )
 
 -- ---- kernels
--- a kernel of moved items
+-- the kernel is one of moved items
 pub record IsMovedKernel (g : Rules) (kernel : List (Dotted Bits)) : Type 0 where
   pub of : AreItems g kernel
   pub ascend : Ascend kernel

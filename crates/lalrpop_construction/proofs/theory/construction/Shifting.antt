@@ -1,4 +1,4 @@
--- What a kernel has that items move to, and the kernel of the start.
+-- The items of a kernel to which items move, and the kernel of the start.
 use Rattle.std.proofs.Common.{◌≡◌, ℕ, zero, suc, ◌+◌, inl, inr, List, [], ◌∷◌, map, refl, sym, ◌∙◌, ap, subst, arith, Option, Some, None}
 use Rattle.std.specs.Prelude.{Contains, slice_get}
 use Rattle.std.specs.Map.{lookup}
@@ -96,7 +96,7 @@ listed_differ g name None w e = λ i j x l at_i at_j. cc
 listed_differ g name (Some entry) w e = let at = place_from_lookup (is_at (name_cmp name)) g.nonterminals.entries entry e in (w at.0 at.1 entry at.2).differ
 
 module _ {L : Type 0} where
-  -- no production of a name stands twice
+  -- no production of a nonterminal is in the kernel of the start twice
   pub begun_differ : (g : Grammar) (start : NonterminalString) (s : L) → IsWellFormed g → AllDiffer (map dotted_of (map (begun s) (productions_of g start)))
   begun_differ g start s w i j x l at_i at_j =
       let ps = productions_of g start in

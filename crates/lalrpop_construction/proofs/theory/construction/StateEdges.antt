@@ -1,4 +1,5 @@
--- The shifts and gotos of a state of the construction: they are the symbols behind its dots, and each state is reached over them.
+-- The shifts and gotos of a state of the construction are over the symbols after its dots, and each
+-- state is reached over them.
 use Rattle.std.proofs.Common.{◌≡◌, ℕ, zero, suc, ◌<◌, List, length, drop, refl, sym, ◌∙◌, ap, subst, arith, Option, Some, None, IsSome, Bool, option_map}
 use Rattle.std.specs.Prelude.{Contains, slice_get, IfSome}
 use Rattle.std.specs.BTreeMap.{BTreeMap, get}
@@ -23,7 +24,7 @@ use Rattle.lalrpop_collections.proofs.theory.lists.Members.{contains_map}
 use Rattle.lalrpop_collections.proofs.theory.lists.Places.{one_place}
 use Rattle.lalrpop_construction.proofs.theory.construction.Shifting.{of_dotted}
 
--- ---- where a state leads
+-- ---- the targets of a state
 pub entry_of : {K : Type 0} {R : K → K → Ordering} → IsTotalOrder R → CmpEqualImpliesEq R → (m : BTreeMap K StateIndex) (key : K) (n : ℕ) → option_map number_of (get R m key) ≡ Some n → (target : StateIndex) × (target.0 ≡ n) × Contains m.entries (key, target)
 entry_of {R = R} total exact m key n e =
     let found = some_of_map number_of (get R m key) n e in
@@ -50,7 +51,7 @@ pub transition_leads : {L : Type 0} (holds : L → Token → Bool) (s : State L)
 transition_leads holds s (Nonterminal a) target h = found_of name_ord.Laws.total-law names_ordered s.gotos a target h
 transition_leads holds s (Terminal t) target h = found_of terminal_ord.Laws.total-law terminals_ordered s.shifts t target h
 
--- ---- the symbols behind the dots
+-- ---- the symbols after the dots
 module _ {L : Type 0} (holds : L → Token → Bool) (Closes : List (Dotted L) → List (Dotted L) → Type 0) (list : List (List (Dotted L))) (kernel : List (Dotted L)) (number : ℕ) (s : State L) (built : IsBuiltBy Closes list kernel number s) where
   behind_of : (x : Symbol) (i : Dotted L) → Contains s.items.vec.items i → IsBehind x i → IsBehindDot (contents_of holds s) x
   behind_of x i c b = record {
@@ -82,7 +83,7 @@ no_leads (Terminal t) m e = cc
 no_item : (p : Production) (dot : ℕ) → Contains no_contents.items (p, dot) → ⊥
 no_item p dot c = let l = c.1 in absurd (omega arith)
 
--- where there is no state, no edge is
+-- a number without a state has no edge
 pub nowhere_leads : LeadsOverDots no_contents
 nowhere_leads x = (λ h. absurd (no_leads x h.0 h.1), λ b. absurd (no_item b.production b.dot b.item))
 

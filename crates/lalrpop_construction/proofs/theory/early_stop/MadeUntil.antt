@@ -1,4 +1,5 @@
--- The loop that makes states until enough conflicts are listed, and what its states and conflicts are as an answer.
+-- The loop that makes states until enough conflicts are listed, and its states and conflicts as a
+-- result.
 use Rattle.std.proofs.Common.{◌≡◌, ℕ, ◌+◌, ◌-◌, ◌<◌, inl, inr, List, [], ◌∷◌, ◌++◌, length, take, refl, sym, ◌∙◌, ap, subst, arith, length-append}
 use Rattle.std.proofs.Math.Seq.{take-append_seam}
 use Rattle.std.proofs.lemmas.Bool.{cases_lt}
@@ -42,7 +43,7 @@ module _ {L : Type 0} (meaning : L → Bits) (C : List (Dotted L) → List (Dott
   below : (n : ℕ) → 0 < stop_after → ¬ AreEnough stop_after n → n < stop_after
   below n positive few = elim (cases_lt n stop_after) [ inl less ↦ less | inr enough ↦ absurd (few (positive, enough)) ]
 
-  -- it stops since the conflicts are enough
+  -- the loop stops because there are enough conflicts
   pub Made-enough : (kernels : Kernels (List (Dotted L))) (states grown : List (State L)) (state : State L) (old new : List (Conflict L)) → Building meaning C g first kernels grown → grown ≡ states ++ state ∷ [] → ListsAll lists g.terminals states old → ListsAll lists g.terminals grown new →
       ¬ AreEnough stop_after (length old) → AreEnough stop_after (length new) → AreMadeUntilBy C lists g.terminals first stop_after grown new
   Made-enough kernels states grown state old new b e o n few enough = record {
@@ -56,7 +57,7 @@ module _ {L : Type 0} (meaning : L → Bits) (C : List (Dotted L) → List (Dott
     whole = λ not_enough. absurd (not_enough enough);
   }
 
-  -- the conflicts of the states before the last are no more than all of them
+  -- the states before the last one have no more conflicts than all states
   listed_before : {states : List (State L)} {conflicts : List (Conflict L)} → ListsAll lists g.terminals states conflicts → length conflicts < stop_after → ListFewer lists g.terminals (take (length states - 1) states) stop_after
   listed_before none l = record { listed = []; all = none; fewer = omega arith }
   listed_before (more {before} {all} {old} {new} state here h e s n) l =
@@ -67,7 +68,7 @@ module _ {L : Type 0} (meaning : L → Bits) (C : List (Dotted L) → List (Dott
         fewer = omega arith;
       }
 
-  -- or since no kernel is left
+  -- the loop stops because no kernel is left
   pub Made-all : (kernels : Kernels (List (Dotted L))) (states : List (State L)) (conflicts : List (Conflict L)) → Building meaning C g first kernels states → kernels.handed ≡ length kernels.list → ListsAll lists g.terminals states conflicts → ¬ AreEnough stop_after (length conflicts) →
       AreMadeUntilBy C lists g.terminals first stop_after states conflicts
   Made-all kernels states conflicts b all listed few = record {
@@ -77,7 +78,7 @@ module _ {L : Type 0} (meaning : L → Bits) (C : List (Dotted L) → List (Dott
     whole = λ _. Building-all meaning C g first kernels states b all;
   }
 
--- ---- the answer
+-- ---- the result
 module _ {L : Type 0} (meaning : L → Bits) (begins : Rules → List Symbol → Token → Type 0) (passes : Rules → List Symbol → Type 0) (lists : State L → List TerminalString → List (Conflict L) → Type 0) (s : Settings L) (states : List (State L)) (conflicts : List (Conflict L)) (m : AreMadeFor meaning begins passes lists s states conflicts) where
   whole : ¬ AreEnough s.stop_after (length conflicts) → AreStatesFor meaning begins passes lists s.construction states
   whole few = States-of meaning begins passes lists s.construction states (m.whole few)
@@ -103,7 +104,7 @@ module _ {L : Type 0} (meaning : L → Bits) (begins : Rules → List Symbol →
   )
   made_stopped Memory f = tt
 
--- where it does not stop early, an error has all states and conflicts
+-- an error has all states and conflicts if there is no early stop
 pub Stops-fail : {L : Type 0} (meaning : L → Bits) (begins : Rules → List Symbol → Token → Type 0) (passes : Rules → List Symbol → Type 0) (lists : State L → List TerminalString → List (Conflict L) → Type 0) (s : Settings L) (error : BuildError L) → s.stop_after ≡ 0 → StopsFor meaning begins passes lists s error → FailsFor meaning begins passes lists s.construction error
 Stops-fail meaning begins passes lists s (Conflicts error) unset f = made_failure meaning begins passes lists s error.states.items error.conflicts.items f.0 unset (Conflicts error) (refl, refl, f.1)
 Stops-fail meaning begins passes lists s Memory unset f = tt

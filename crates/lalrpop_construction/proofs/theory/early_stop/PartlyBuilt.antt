@@ -1,4 +1,5 @@
--- States that a construction has made of kernels, wherever it stops: each is reached from the first, and no two are the same.
+-- The states that a construction has made from kernels when it stops. Each is reached from the
+-- first, and no two are the same.
 use Rattle.std.proofs.Common.{◌≡◌, ◌↔◌, ℕ, zero, suc, ◌<◌, List, [], ◌∷◌, ◌++◌, map, sym, ◌∙◌, ap, subst, arith, Some}
 use Rattle.std.specs.Prelude.{Contains, slice_get}
 use Rattle.std.proofs.lemmas.Option.{slice_get_within}
@@ -13,18 +14,18 @@ use Rattle.lalrpop_construction.proofs.theory.construction.ClosedStates.{IsExact
 use Rattle.lalrpop_construction.proofs.theory.construction.SameKernels.{Shifts-past}
 
 module _ {L : Type 0} (Closes : List (Dotted L) → List (Dotted L) → Type 0) (first : List (Dotted L)) (states : List (State L)) (b : ArePartlyBuiltBy Closes first states) where
-  -- the kernel of the first state is the first
+  -- the kernel of the first state is the first kernel
   pub first_kernel : (s : State L) (at : slice_get states 0 ≡ Some s) → (b.each 0 s at).kernel ≡ first
   first_kernel s at = let built = b.each 0 s at in same_some built.kernel first (sym built.numbered ∙ b.start)
 
-  -- that of a state to which a transition leads is what was moved
+  -- the kernel of a state to which a transition leads has the moved items
   pub over_kernel : (n m : ℕ) (s t : State L) (x : Symbol) (target : StateIndex) (at : slice_get states n ≡ Some s) (at_m : slice_get states m ≡ Some t) (h : HasTransition x target s) → target.0 ≡ m → ((b.each n s at).built.leads x target h).kernel ≡ (b.each m t at_m).kernel
   over_kernel n m s t x target at at_m h e =
       let l = (b.each n s at).built.leads x target h in
       let k = b.each m t at_m in
       same_some l.kernel k.kernel (sym l.numbered ∙ ap (slice_get b.kernels) e ∙ k.numbered)
 
-  -- what the first state is, and with a state each to which it leads, each state is
+  -- each state has a property of the first state that transitions keep
   module _ (Is : List Symbol → State L → Type 0) (begins : (s : State L) → slice_get states 0 ≡ Some s → Is [] s)
       (goes_on : (n m : ℕ) (s t : State L) (x : Symbol) (target : StateIndex) (u : List Symbol) → slice_get states n ≡ Some s → slice_get states m ≡ Some t → HasTransition x target s → target.0 ≡ m → Is u s → Is (u ++ x ∷ []) t) where
     each_below : (bound n : ℕ) → n < bound → (s : State L) → slice_get states n ≡ Some s → (u : List Symbol) × Is u s
@@ -39,8 +40,8 @@ module _ {L : Type 0} (Closes : List (Dotted L) → List (Dotted L) → Type 0) 
     pub each_is : (n : ℕ) (s : State L) → slice_get states n ≡ Some s → (u : List Symbol) × Is u s
     each_is n s at = each_below (suc n) n (omega arith) s at
 
-  -- ---- kernels behind the first
-  -- a kernel of what was moved from the items of a state
+  -- ---- kernels after the first
+  -- the kernel has items that were moved from the items of a state
   pub record IsMovedFrom (kernel : List (Dotted L)) : Type 0 where
     pub place : ℕ
     pub state : State L
@@ -71,7 +72,7 @@ module _ {L : Type 0} (Closes : List (Dotted L) → List (Dotted L) → Type 0) 
       let e : dotted_of i ≡ (i.production, suc d.0) = ap (λ (k : ℕ). (i.production, k)) d.1 in
       (i.production, d.0, subst (Contains (map dotted_of kernel)) e (contains_map dotted_of kernel i c))
 
-  -- ---- no two are the same, where the kernels of states that are the same are one
+  -- ---- no two states are the same, if the kernels of states that are the same are the same
   module _ (g : Rules) (closes : (kernel items : List (Dotted L)) → Closes kernel items → IsExactClosure g kernel items) (starts : (p : Production) (d : ℕ) → InKernel first p (suc d) → ⊥)
       (Same : State L → State L → Type 0) (items : (s t : State L) → Same s t → (p : Production) (dot : ℕ) → HasDotted s p dot ↔ HasDotted t p dot)
       (one : (n m : ℕ) (s t : State L) (at : slice_get states n ≡ Some s) (at_m : slice_get states m ≡ Some t) → 0 < n → 0 < m → Same s t → (b.each n s at).kernel ≡ (b.each m t at_m).kernel) where

@@ -1,4 +1,4 @@
--- What an error under early stop says, where the lookaheads are sets of tokens.
+-- The errors under early stop, with sets of tokens as lookaheads.
 use Rattle.std.proofs.Common.{◌≡◌, ◌≢◌, ℕ, ◌<◌, ◌≤◌, ◌⊎◌, inl, inr, List, [], length, ◌∙◌, subst, arith}
 use Rattle.std.specs.List.{flat_map}
 use Rattle.std.proofs.lemmas.Bool.{cases_lt}

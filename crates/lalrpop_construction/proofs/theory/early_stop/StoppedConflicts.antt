@@ -1,4 +1,5 @@
--- Where some state of a live prefix has a conflict, the grammar is not LR(1); so an answer decides, wherever the construction stops.
+-- If some state of a live prefix has a conflict, the grammar is not LR(1). So the result of the
+-- construction decides, even if it stops early.
 use Rattle.std.proofs.Common.{◌≡◌, ℕ, List, [], length, refl, ◌∙◌, ap, subst, true, Some}
 use Rattle.std.specs.Prelude.{Contains}
 use Rattle.std.specs.List.{flat_map}
@@ -19,7 +20,7 @@ use Rattle.lalrpop_construction.proofs.theory.construction.Reductions.{reduction
 use Rattle.lalrpop_construction.proofs.theory.construction.StateEdges.{leads_over_dots}
 use Rattle.lalrpop_construction.proofs.theory.early_stop.StoppedStates.{begun_kernel, some_canonical_states}
 
--- an action that is a shift
+-- the action is a shift
 abbrev IsShift : Action → Type 0
 IsShift (Shift x) = Unit {0}
 IsShift (Reduce p) = ⊥
@@ -54,7 +55,7 @@ module _ (g : Grammar) (start : NonterminalString) (list : List (List (Dotted Bi
         (reduces_finished (holds_token g.terminals) s built.finished built.closure.ascend).once i j r q l at_i at_j same;
   })
 
--- a listed conflict tells that the grammar is not LR(1)
+-- the grammar is not LR(1) if a conflict is listed
 pub conflict_not_lr1 : (g : Grammar) (start : NonterminalString) → IsWellFormed g → AreOwn g → AllDiffer g.terminals → (states : List (State Bits)) → ArePartlyBuilt (rules_of g) (begun_kernel g start) states → (flat_map (state_conflicts g.terminals) states ≡ [] → ⊥) → ¬ IsLR1 (productions g) start
 conflict_not_lr1 g start well own differ states b some lr =
     let canonical = some_canonical_states g start well own states b differ in

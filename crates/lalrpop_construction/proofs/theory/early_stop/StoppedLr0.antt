@@ -1,4 +1,5 @@
--- The states that a construction without lookahead has made, wherever it stops, are those of live prefixes, and no two are the same.
+-- The states that a construction without lookahead has made when it stops are those of live
+-- prefixes, and no two are the same.
 use Rattle.std.proofs.Common.{◌≡◌, ◌≢◌, ◌↔◌, ◌⊎◌, ℕ, suc, ◌<◌, ◌≤◌, inl, inr, List, [], ◌∷◌, ◌++◌, length, map, drop, refl, sym, subst, arith, Some}
 use Rattle.std.specs.Prelude.{Contains, slice_get}
 use Rattle.std.proofs.lemmas.Bool.{cases_lt}
@@ -22,7 +23,7 @@ use Rattle.lalrpop_construction.proofs.theory.construction.Shifting.{begun_zero}
 use Rattle.lalrpop_construction.proofs.theory.closures.ValidClosures.{valid_of_start, start_of_valid, valid_of_moved, moved_of_valid, moved_along}
 use Rattle.lalrpop_collections.proofs.theory.lists.BothFacts.{then_both, turned_both, both_ways}
 
--- ---- a closure of the start, or of what was moved
+-- ---- a closure of the start, or of moved items
 module _ (g : Rules) (start : NonterminalString) (items kernel : List (Dotted Nil)) (closure : IsExactClosure g kernel items) where
   items_are : (A V : Production → ℕ → Type 0) → ((p : Production) (dot : ℕ) → InKernel kernel p dot ↔ A p dot) → ((p : Production) (dot : ℕ) → InClosure g.productions A p dot ↔ V p dot) → (p : Production) (dot : ℕ) → Contains (map dotted_of items) (p, dot) ↔ V p dot
   items_are A V kernel_is valid p dot = (
@@ -71,7 +72,7 @@ module _ (g : Grammar) (start : NonterminalString) (lookahead : Nil) (well : IsW
         items = items_are (rules_of g) start t.items.vec.items l.kernel closure (IsMoved (Valid (productions g) start u) x) (Valid (productions g) start (u ++ x ∷ [])) items valid;
       }
 
-  -- ---- so each is that of a live prefix, and no two are the same
+  -- ---- each state is that of a live prefix, and no two are the same
   one : (n m : ℕ) (s t : State Nil) (at : slice_get states n ≡ Some s) (at_m : slice_get states m ≡ Some t) → 0 < n → 0 < m → ((p : Production) (dot : ℕ) → HasDotted s p dot ↔ HasDotted t p dot) → (b.each n s at).kernel ≡ (b.each m t at_m).kernel
   one n m s t at at_m l k h =
       let f = moved_from Made first states b n s at l in
@@ -87,7 +88,7 @@ module _ (g : Grammar) (start : NonterminalString) (lookahead : Nil) (well : IsW
         (λ s t. (p : Production) (dot : ℕ) → HasDotted s p dot ↔ HasDotted t p dot) (λ s t h. h) one;
   }
 
--- ---- what an error says
+-- ---- the errors
 module _ (g : Grammar) (start : NonterminalString) (lookahead : Nil) (well : IsWellFormed g) (own : AreOwn g) (stop_after : ℕ) where
   abbrev pub settings : Settings Nil
   settings = record { construction = construction g start lookahead well own; stop_after = stop_after }

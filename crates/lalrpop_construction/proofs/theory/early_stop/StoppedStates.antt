@@ -1,4 +1,5 @@
--- The states that a construction has made, wherever it stops, are those of live prefixes, and no two are the same.
+-- The states that a construction has made when it stops are those of live prefixes, and no two are
+-- the same.
 use Rattle.std.proofs.Common.{◌≡◌, ◌↔◌, ℕ, suc, ◌<◌, inl, inr, List, [], ◌∷◌, ◌++◌, length, map, drop, refl, sym, subst, arith, Some}
 use Rattle.std.specs.Prelude.{Contains, slice_get}
 use Rattle.lalrpop_base.specs.Words.{Bits, no_bits, with_bit, InClosure, InTokenClosure, IsAtStart, IsAtStartWith, IsMoved, IsMovedWith, Dotted, AllDiffer}
@@ -23,7 +24,7 @@ eof_of g = with_bit no_bits (length g.terminals)
 abbrev pub begun_kernel : Grammar → NonterminalString → List (Dotted Bits)
 begun_kernel g start = map (begun (eof_of g)) (productions_of g start)
 
--- ---- a closure of the start, and of what was moved
+-- ---- a closure of the start, and of moved items
 module _ (g : Grammar) (start : NonterminalString) (items kernel : List (Dotted Bits)) (closure : IsClosureOf (rules_of g) kernel items) where
   abbrev ps : List Production
   ps = productions g
@@ -94,7 +95,7 @@ module _ (g : Grammar) (start : NonterminalString) (well : IsWellFormed g) (own 
         tokens = with_tokens g start t.items.vec.items l.kernel closure (IsMoved (Valid (productions g) start u) x) (IsMovedWith (ValidToken (productions g) start u) x) (Valid (productions g) start (u ++ x ∷ [])) (ValidToken (productions g) start (u ++ x ∷ [])) items tokens valid valid_tokens;
       }
 
-  -- ---- so each is that of a live prefix, and no two are the same
+  -- ---- each state is that of a live prefix, and no two are the same
   module _ (differ : AllDiffer g.terminals) where
     moved_kernel : (kernel : List (Dotted Bits)) → IsMovedFrom Made first states b kernel → IsMovedKernel (rules_of g) kernel
     moved_kernel kernel f =

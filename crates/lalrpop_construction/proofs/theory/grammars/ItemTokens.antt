@@ -1,4 +1,5 @@
--- The tokens that items hold, as a test and as a fact, and what items and tokens determine.
+-- The tokens that items hold, as a test and as a proposition. Items are determined by their dotted
+-- productions, and sets of tokens by their tokens.
 use Rattle.std.proofs.Common.{◌≡◌, ◌↔◌, ℕ, ◌+◌, ◌≤◌, inl, inr, Bool, true, List, [], ◌∷◌, length, map, sym, ◌∙◌, ap, subst, arith, Option, Some, option_map, ◌==◌, ◌&&◌, eqb-true, eq-eqb}
 use Rattle.std.specs.Prelude.{Contains, slice_get}
 use Rattle.std.specs.List.{list_any}
@@ -18,7 +19,7 @@ use Rattle.lalrpop_states.proofs.theory.grammars.KnownTerminals.{token_bit, held
 use Rattle.lalrpop_collections.proofs.theory.lists.Members.{contains_head, contains_tail, place}
 use Rattle.lalrpop_collections.proofs.theory.lists.Places.{same_some, filled, one_place}
 
--- ---- a test that passes at one of a list
+-- ---- a test that passes for one element of a list
 pub passes_one : {X : Type 0} (f : X → Bool) (xs : List X) → list_any f xs ≡ true → (x : X) × Contains xs x × (f x ≡ true)
 passes_one f [] h = cc
 passes_one f (x ∷ xs) h = elim (or_cases (f x) (list_any f xs) h) [
@@ -66,7 +67,7 @@ one_item items differ i j c d e =
 
 -- ---- sets of tokens with the same tokens
 module _ (terminals : List TerminalString) (differ : AllDiffer terminals) where
-  -- each bit that fits is that of a token
+  -- each bit within the bounds is that of a token
   pub token_with : (bit : ℕ) → bit ≤ length terminals + 1 → (t : Token) × (token_bit terminals t ≡ Some bit)
   token_with bit l = elim (cases_lt bit (length terminals)) [
     | inl within ↦ let t = filled terminals bit within in (TokenOf t.0, place_is terminals differ t.0 bit t.1)

@@ -1,4 +1,4 @@
--- Items by number: what the numbers of a grammar tell of its items.
+-- Items by number, and properties of the numbers of a grammar.
 use Rattle.std.proofs.Common.{◌≡◌, ◌∙◌, ℕ, zero, suc, ◌+◌, ◌<◌, List, [], ◌∷◌, length, map, refl, sym, ap, subst, arith, inl, inr, drop}
 use Rattle.std.specs.Prelude.{◌↔◌, slice_get, Option, Some, None, Contains}
 use Rattle.std.proofs.lemmas.Option.{slice_get_within, slice_get-map}
@@ -25,7 +25,7 @@ stands_at (j ∷ items) (suc k) l = stands_at items k (omega arith)
 
 -- ---- numbers of dotted productions that ascend
 module _ (items : List (Dotted Nil)) (ascend : Ascend items) where
-  -- a lesser number is that of an item that stands before
+  -- a lesser number is that of a lesser dotted production
   pub numbers_precede : (a b : ℕ) → a < b → b < length items → Precedes (dotted_at items a) (dotted_at items b)
   numbers_precede a b l m = ascend a b (dotted_at items a) (dotted_at items b) l (stands_at items a (omega arith)) (stands_at items b m)
 
@@ -34,19 +34,19 @@ module _ (items : List (Dotted Nil)) (ascend : Ascend items) where
       let before : Precedes (dotted_at items b) (dotted_at items b) = subst (λ (i : Dotted Nil). Precedes i (dotted_at items b)) e (numbers_precede a b l m) in
       precedes_asymmetric (dotted_at items b) (dotted_at items b) before before
 
-  -- a dotted production has one number
+  -- a dotted production has at most one number
   pub one_number : (a b : ℕ) → a < length items → b < length items → dotted_at items a ≡ dotted_at items b → a ≡ b
   one_number a b l m e = elim (places_apart a b) [
     | inl before ↦ absurd (apart a b before m e)
     | inr other ↦ elim other [ inl behind ↦ absurd (apart b a behind l (sym e)) | inr same ↦ same ]
   ]
 
-  -- no dotted production stands at two numbers
+  -- the dotted productions differ
   pub dotted_differ : AllDiffer items
   dotted_differ i j x l at_i at_j = let before = ascend i j x x l at_i at_j in precedes_asymmetric x x before before
 
   module _ {L : Type 0} where
-    -- numbers of one item are the same
+    -- items by number are the same if their items are
     pub same_number : (d e : Numbered L) → d.number < length items → e.number < length items → item_by items d ≡ item_by items e → d ≡ e
     same_number d e l m h =
         let bare : Dotted L → Dotted Nil = λ i. record { production = i.production; index = i.index; lookahead = record {} } in
@@ -55,7 +55,7 @@ module _ (items : List (Dotted Nil)) (ascend : Ascend items) where
         let make : ℕ → L → Numbered L = λ n t. record { number = n; lookahead = t } in
         ap (λ n. make n d.lookahead) number ∙ ap (make e.number) lookahead
 
-    -- numbers of the same items are the same
+    -- lists of items by number are the same if their items are
     pub same_numbers : (xs ys : List (Numbered L)) → AreNumbered items xs → AreNumbered items ys → items_by items xs ≡ items_by items ys → xs ≡ ys
     same_numbers [] [] a b h = refl
     same_numbers [] (y ∷ ys) a b h = cc
@@ -67,7 +67,7 @@ module _ (items : List (Dotted Nil)) (ascend : Ascend items) where
         let others : xs ≡ ys = same_numbers xs ys (λ e c. a e (contains_tail x xs e c)) (λ e c. b e (contains_tail y ys e c)) rest in
         ap (λ (z : Numbered L). z ∷ xs) first ∙ ap (λ (l : List (Numbered L)). y ∷ l) others
 
-    -- lists of numbers that differ are those of lists of items that differ
+    -- lists of items by number that differ have lists of items that differ
     pub lists_differ : (lists : List (List (Numbered L))) → ((xs : List (Numbered L)) → Contains lists xs → AreNumbered items xs) → AllDiffer lists → AllDiffer (map (items_by items) lists)
     lists_differ lists a differ i j x l at_i at_j =
         let d = some_of_map (items_by items) (slice_get lists i) x (sym (slice_get-map (items_by items) lists i) ∙ at_i) in
@@ -75,7 +75,7 @@ module _ (items : List (Dotted Nil)) (ascend : Ascend items) where
         let same : e.0 ≡ d.0 = same_numbers e.0 d.0 (a e.0 (contains_at lists e.0 j e.1)) (a d.0 (contains_at lists d.0 i d.1)) (e.2 ∙ sym d.2) in
         differ i j d.0 l d.1 (e.1 ∙ ap Some same)
 
-    -- items whose numbers rise ascend
+    -- items ascend if their numbers do
     pub items_ascend : (xs : List (Numbered L)) → AreNumbered items xs → Ordered (λ (d e : Numbered L). d.number < e.number) xs → Ascend (items_by items xs)
     items_ascend xs a rise i j x y l at_i at_j =
         let d = some_of_map (item_by items) (slice_get xs i) x (sym (slice_get-map (item_by items) xs i) ∙ at_i) in
@@ -83,12 +83,12 @@ module _ (items : List (Dotted Nil)) (ascend : Ascend items) where
         let before : Precedes (item_by items d.0) (item_by items e.0) = numbers_precede d.0.number e.0.number (rise i j d.0 e.0 l d.1 e.1) (a e.0 (contains_at xs e.0 j e.1)) in
         subst (λ (z : Dotted L). Precedes x z) e.2 (subst (λ (z : Dotted L). Precedes z (item_by items e.0)) d.2 before)
 
--- ---- what stands behind the dot
+-- ---- the symbol after the dot
 module _ (g : Rules) (n : Numbers) (numbers : AreNumbers g n) where
   abbrev item : ℕ → Dotted Nil
   item = dotted_at n.items.items
 
-  -- a number with something, or nothing, behind the dot is one of a dotted production
+  -- a number with an entry for the symbol after its dot is that of a dotted production
   pub within : (k : ℕ) (x : Option ℕ) → slice_get n.behind.items k ≡ Some x → k < length n.items.items
   within k x at =
       let l = slice_get_within n.behind.items k x at in
@@ -98,20 +98,20 @@ module _ (g : Rules) (n : Numbers) (numbers : AreNumbers g n) where
   is_behind : (k : ℕ) (x : Option ℕ) → slice_get n.behind.items k ≡ Some x → IsNumberBehind n.symbols.items (item k) x
   is_behind k x at = numbers.behind k (item k) x (stands_at n.items.items k (within k x at)) at
 
-  -- the number of the item with its dot moved is the next one
+  -- the next number is that of a dotted production if there is a symbol after the dot
   pub next_within : (k x : ℕ) → slice_get n.behind.items k ≡ Some (Some x) → k + 1 < length n.items.items
   next_within k x at =
       let b = is_behind k (Some x) at in
       slice_get_within n.items.items (k + 1) (shifted (item k)) (numbers.next k (item k) (stands_at n.items.items k (within k (Some x) at)) (slice_get_within (item k).production.symbols (item k).index b.0 b.2))
 
   module _ {L : Type 0} (e : Numbered L) where
-    -- the symbol behind the dot is that with the number behind
+    -- the symbol after the dot is the one whose number is listed for the item
     pub behind_is : (x : ℕ) (s : Symbol) → slice_get n.behind.items e.number ≡ Some (Some x) → IsBehind s (item_by n.items.items e) ↔ (slice_get n.symbols.items x ≡ Some s)
     behind_is x s at =
         let b = is_behind e.number (Some x) at in
         (λ h. b.1 ∙ sym b.2 ∙ h, λ h. b.2 ∙ sym b.1 ∙ h)
 
-    -- where no number stands behind, the item is finished
+    -- an item is finished if no number of a symbol is listed for it
     pub finished : slice_get n.behind.items e.number ≡ Some None → (item_by n.items.items e).index ≡ length (item_by n.items.items e).production.symbols
     finished at = is_behind e.number None at
 

@@ -1,4 +1,4 @@
--- What may follow a nonterminal by the rest behind it.
+-- The tokens that may follow a nonterminal, by the rest after it.
 use Rattle.std.proofs.Common.{◌≡◌, ◌↔◌, ◌⊎◌, ◌||◌, inl, inr, Bool, true, false, ℕ, ◌<◌, List, length, Some, refl, ap, sym, ◌∙◌, subst, arith}
 use Rattle.std.specs.Prelude.{Contains, IsTrue, slice_get}
 use Rattle.std.proofs.lemmas.Bool.{or_cases}
@@ -11,18 +11,18 @@ use Rattle.lalrpop_construction.proofs.theory.closures.EpsilonMoves.{First-holds
 use Rattle.lalrpop_collections.proofs.theory.lists.Places.{same_some}
 
 module _ (g : Rules) (symbols : List Symbol) (rest : Rest) (is : IsRest g symbols rest) where
-  -- a bit of the rest is that of a terminal with which the symbols can begin
+  -- a bit of the rest is that of a terminal in FIRST of the symbols
   first_bit : (bit : ℕ) (t : TerminalString) → slice_get g.terminals bit ≡ Some t → IsTrue (has rest.first bit) ↔ IsFirst g.productions symbols t
   first_bit bit t at = (
     λ h. let f = (is.first bit).0 h in subst (λ (s : TerminalString). IsFirst g.productions symbols s) (same_some f.0 t (sym f.1 ∙ at)) f.2,
     λ f. (is.first bit).1 (t, at, f),
   )
 
-  -- and so below the count of terminals
+  -- a bit of the rest is less than the number of terminals
   first_below : (bit : ℕ) → IsTrue (has rest.first bit) → bit < length g.terminals
   first_below bit h = let f = (is.first bit).0 h in slice_get_within g.terminals bit f.0 f.1
 
-  -- where the symbols are nullable, what follows them is joined
+  -- if the symbols are nullable, the tokens are those of the rest and those that follow the symbols
   pub before_joined : IsTrue rest.nullable → (follow set : Bits) → set ≡ join rest.first follow → IsFirstSetBefore g symbols follow set
   before_joined nullable follow set e = record {
     begins = λ bit t at. (
@@ -48,7 +48,7 @@ module _ (g : Rules) (symbols : List Symbol) (rest : Rest) (is : IsRest g symbol
         λ h. elim h [ inl f ↦ is_join bit ∙ ap (λ (b : Bool). b || has follow bit) f | inr k ↦ is_join bit ∙ ap (λ (b : Bool). has rest.first bit || b) k ∙ second (has rest.first bit) ],
       )
 
-  -- where they are not, it stays out
+  -- if the symbols are not nullable, the tokens are those of the rest alone
   pub before_alone : (IsTrue rest.nullable → ⊥) → (follow : Bits) → IsFirstSetBefore g symbols follow rest.first
   before_alone not follow = record {
     begins = λ bit t at. (
@@ -61,7 +61,8 @@ module _ (g : Rules) (symbols : List Symbol) (rest : Rest) (is : IsRest g symbol
     );
   }
 
-  -- so the rest tells what may follow a nonterminal before the symbols: the union where they are nullable, and the rest alone where they are not
+  -- the tokens that may follow a nonterminal before the symbols are those of the rest and, if the
+  -- symbols are nullable, those that follow the symbols
   pub rest_gives : ((p : Production) → Contains g.productions p → HasKnownTerminals g.terminals p.symbols) → HasKnownTerminals g.terminals symbols → (follow set : Bits) →
       (IsTrue rest.nullable × (set ≡ join rest.first follow)) ⊎ ((IsTrue rest.nullable → ⊥) × (set ≡ rest.first)) → IsGiven (λ (s : Bits). s) Begins (λ (r : Rules) (xs : List Symbol). IsNullable r.productions xs) g symbols follow set
   rest_gives known symbols_known follow set which = record {

@@ -1,4 +1,4 @@
--- The transitions of a state by the numbers of their symbols, as they come: which there are, and in which order.
+-- The transitions of a state by the numbers of their symbols, and the order of these numbers.
 use Rattle.std.proofs.Common.{◌≡◌, ◌∙◌, ◌<◌, ℕ, inl, inr, length, List, [], ◌∷◌, ◌++◌, sym, ap, subst, Some, option_map, append_assoc, append-nil, refl, arith}
 use Rattle.std.specs.Prelude.{Contains, slice_get}
 use Rattle.std.specs.Map.{keys_of}
@@ -15,7 +15,7 @@ use Rattle.lalrpop_construction.specs.states.NumberedStates.{AddsGotos, AddsShif
 use Rattle.lalrpop_states.specs.declared.lr1_core.transitions.TransitionLists.{TransitionLists}
 use Rattle.lalrpop_states.specs.declared.lr1_core.transitions.Transitions.{Transitions}
 
--- ---- which there are
+-- ---- the transitions
 pub ListedBy-none : (symbols : List Symbol) (list : List (ℕ × ℕ)) (entries : Entries) → list ≡ [] → entries.shifts ≡ [] → entries.gotos ≡ [] → AreListedBy symbols list entries
 ListedBy-none symbols list entries none s t = record {
   named = λ x m c. absurd (Contains-none (x, m) (subst (λ (es : List (ℕ × ℕ)). Contains es (x, m)) none c));
@@ -23,7 +23,7 @@ ListedBy-none symbols list entries none s t = record {
   back = λ x y target at h. absurd (no_entry entries s t y target h);
 }
 
--- one transition more
+-- the list has the transitions after one more transition
 pub ListedBy-more : (symbols : List Symbol) → AllDiffer symbols → (x m : ℕ) (s : Symbol) → slice_get symbols x ≡ Some s → (list : List (ℕ × ℕ)) (old new : Entries) → AreListedBy symbols list old → IsEntryAdded s (record { 0 = m }) old new → AreListedBy symbols (list ++ (x, m) ∷ []) new
 ListedBy-more symbols differ x m s at list old new before adds =
     let target : StateIndex = record { 0 = m } in
@@ -47,14 +47,14 @@ ListedBy-more symbols differ x m s at list old new before adds =
       ];
     }
 
--- no goto, and no shift
+-- an unchanged list has no gotos or shifts more
 pub Gotos-none : (symbols : List Symbol) (list : List (ℕ × ℕ)) → AddsGotos symbols list list []
 Gotos-none symbols list differ entries before = subst (λ (gotos : List (NonterminalString × StateIndex)). AreListedBy symbols list (record { shifts = entries.shifts; gotos = gotos })) (sym (append-nil entries.gotos)) before
 
 pub Shifts-none : (symbols : List Symbol) (list : List (ℕ × ℕ)) → AddsShifts symbols list list []
 Shifts-none symbols list differ entries before = subst (λ (shifts : List (TerminalString × StateIndex)). AreListedBy symbols list (record { shifts = shifts; gotos = entries.gotos })) (sym (append-nil entries.shifts)) before
 
--- a goto more, and a shift more
+-- the list has one goto more, or one shift more
 pub Gotos-more : (symbols : List Symbol) (old middle new : List (ℕ × ℕ)) (done : List (NonterminalString × StateIndex)) (a : NonterminalString) (x m : ℕ) → slice_get symbols x ≡ Some (Nonterminal a) → new ≡ middle ++ (x, m) ∷ [] → AddsGotos symbols old middle done → AddsGotos symbols old new (done ++ (a, record { 0 = m }) ∷ [])
 Gotos-more symbols old middle new done a x m at push before differ entries was =
     let first : Entries = record { shifts = entries.shifts; gotos = entries.gotos ++ done } in
@@ -67,7 +67,7 @@ Shifts-more symbols old middle new done t x m at push before differ entries was 
     let second : Entries = record { shifts = entries.shifts ++ (done ++ (t, record { 0 = m }) ∷ []); gotos = entries.gotos } in
     subst (λ (es : List (ℕ × ℕ)). AreListedBy symbols es second) (sym push) (ListedBy-more symbols differ x m (Terminal t) at middle first second (before differ entries was) (sym (append_assoc entries.shifts done ((t, record { 0 = m }) ∷ [])), refl))
 
--- of some entries these were taken, and the rest is left
+-- some of the entries were added, and the rest is left
 pub record IsPartly {X : Type 0} (Adds : List X → Type 0) (rest all : List X) : Type 0 where
   pub done : List X
   pub whole : done ++ rest ≡ all
@@ -83,7 +83,7 @@ Partly-more {X} Adds More e before rest all next p step = record {
 pub Partly-all : {X : Type 0} (Adds : List X → Type 0) (rest all : List X) → rest ≡ [] → IsPartly Adds rest all → Adds all
 Partly-all {X} Adds rest all none p = subst Adds (sym (append-nil p.done) ∙ ap (λ (es : List X). p.done ++ es) (sym none) ∙ p.whole) p.adds
 
--- ---- their order
+-- ---- the order of the numbers
 pub Keys-none : {V : Type 0} (list : List (ℕ × ℕ)) (others : List (ℕ × V)) → list ≡ [] → HasKeys list others
 Keys-none list others none k e at = let there : slice_get [] k ≡ Some e = ap (λ (es : List (ℕ × ℕ)). slice_get es k) (sym none) ∙ at in cc
 
@@ -96,14 +96,14 @@ Keys-more list others x m here before k e at = elim (push_cases list (x, m) k e 
 pub Keys-of : {V : Type 0} (list : List (ℕ × ℕ)) (others : List (ℕ × V)) → keys_of list ≡ keys_of others → HasKeys list others
 Keys-of {V} list others same k e at = some_of_map (λ (g : ℕ × V). g.0) (slice_get others k) e.0 (sym (slice_get-map (λ (g : ℕ × V). g.0) others k) ∙ ap (λ (ks : List ℕ). slice_get ks k) (sym same) ∙ slice_get-map (λ (g : ℕ × ℕ). g.0) list k ∙ ap (option_map (λ (g : ℕ × ℕ). g.0)) at)
 
--- they rise where the others do
+-- the numbers ascend if those of the other list do
 pub Keys-ascend : {V : Type 0} (list : List (ℕ × ℕ)) (others : List (ℕ × V)) → HasKeys list others → NumbersAscend others → EdgesAscend list
 Keys-ascend list others keys rise i j d e l at_i at_j =
     let a = keys i d at_i in
     let b = keys j e at_j in
     subst (λ (k : ℕ). k < e.0) a.2 (subst (λ (k : ℕ). (a.0).0 < k) b.2 (rise i j a.0 b.0 l a.1 b.1))
 
--- and then each number leads to one state
+-- each number leads to one state if the numbers ascend
 pub one_target : (list : List (ℕ × ℕ)) → EdgesAscend list → (x m k : ℕ) → Contains list (x, m) → Contains list (x, k) → m ≡ k
 one_target list ascend x m k a b =
     let p = place list (x, m) a in
@@ -116,7 +116,7 @@ one_target list ascend x m k a b =
       ]
     ]
 
--- those of lists are those of the maps that these make
+-- the transitions of lists are those of the maps that are made from the lists
 pub EdgesBy-all : (symbols : List Symbol) (list : List (ℕ × ℕ)) (lists : TransitionLists) (edges : Transitions) → AreListedBy symbols list (list_entries lists) → AreEdgesListed lists edges → EdgesAscend list → AreEdgesBy symbols list (edge_entries edges)
 EdgesBy-all symbols list lists edges listed made ascend = record {
   listed = record {

@@ -1,4 +1,4 @@
--- The finished ones of items by number.
+-- The finished items among items by number.
 use Rattle.std.proofs.Common.{◌≡◌, ◌∙◌, ◌⊎◌, inl, inr, ℕ, List, [], ◌∷◌, ◌++◌, length, refl, sym, ap, subst, append-nil, Option, Some, None}
 use Rattle.std.specs.Prelude.{slice_get, Contains}
 use Rattle.std.proofs.lemmas.Grind.{flat_map-append}
@@ -9,14 +9,14 @@ use Rattle.lalrpop_collections.proofs.theory.lists.Places.{differ_push, slice_ge
 use Rattle.lalrpop_construction.specs.states.NumberedStates.{HasFinished, finished_at, finished_in, finished_only}
 use Rattle.lalrpop_numbers.specs.declared.numbers.Numbers.{Numbers}
 
--- each is there, and no other, once where the items differ
+-- the list has each finished item and no other, and has it once if the items differ
 pub record AreFinishedOf (n : Numbers) (items finished : List ℕ) : Type 0 where
   pub is : finished ≡ finished_in n items
   pub all : HasFinished n items finished
   pub from : (k : ℕ) → Contains finished k → Contains items k
   pub once : AllDiffer items → AllDiffer finished
 
--- of no items
+-- no item is finished if there is none
 pub Finished-none : (n : Numbers) (finished : List ℕ) → finished ≡ [] → AreFinishedOf n [] finished
 Finished-none n finished none = subst (AreFinishedOf n []) (sym none) (record {
   is = refl;
@@ -25,7 +25,7 @@ Finished-none n finished none = subst (AreFinishedOf n []) (sym none) (record {
   once = λ d. d;
 })
 
--- one item more
+-- the list has the finished items after one more item
 pub Finished-more : (n : Numbers) (done : List ℕ) (item : ℕ) (old new : List ℕ) → AreFinishedOf n done old → new ≡ old ++ finished_at n item → AreFinishedOf n (done ++ item ∷ []) new
 Finished-more n done item old new before adds = elim (either (slice_get n.behind.items item) refl) [
   | inl same ↦ record {

@@ -1,4 +1,4 @@
--- A kernel that is inserted last, where `==` is exact: it is added once, and all kernels differ still.
+-- A kernel that is inserted last, if `==` is exact: it is added once, and all kernels still differ.
 use Rattle.std.proofs.Common.{◌≡◌, ◌∙◌, ◌⊎◌, ◌≤◌, ℕ, ◌+◌, inl, inr, Bool, true, false, List, [], ◌∷◌, ◌++◌, length, length-append, if◌then◌else◌, refl, sym, ap, subst, arith}
 use Rattle.std.specs.Prelude.{Contains, slice_get, Some}
 use Rattle.std.specs.List.{list_any}
@@ -9,7 +9,7 @@ use Rattle.indexmap.specs.IndexSet.{insert_key}
 use Rattle.lalrpop_base.specs.Words.{AddsOnce, AllDiffer, Exactly}
 use Rattle.lalrpop_collections.proofs.theory.lists.Places.{differ_push}
 
--- the values before and after, and where an equal value stands after
+-- the values before and after an insertion, and the index of an equal value after it
 module _ {X : Type 0} (E : X → X → Bool) (exact : Exactly E) (old new : List X) (x : X) (n : ℕ) (keys : new ≡ insert_key E old x) (stored : (k : X) × (slice_get new n ≡ Some k) × (E x k ≡ true)) where
   pub inserted_stands : slice_get new n ≡ Some x
   inserted_stands = stored.1 ∙ ap Some (sym (exact x stored.0 stored.2))
@@ -20,7 +20,7 @@ module _ {X : Type 0} (E : X → X → Bool) (exact : Exactly E) (old new : List
   chosen : (b : Bool) → list_any (E x) old ≡ b → new ≡ (if b then old else old ++ x ∷ [])
   chosen b e = keys ∙ ap (λ (c : Bool). if c then old else old ++ x ∷ []) e
 
-  -- it was there and nothing changes, or it was not and stands last
+  -- the value was there and nothing changed, or it was not there and is the last one
   had_or_last : (b : Bool) → list_any (E x) old ≡ b → (Contains old x × (new ≡ old)) ⊎ ((¬ Contains old x) × (new ≡ old ++ x ∷ []))
   had_or_last true e = inl (Contains-from_any exact x old e, chosen true e)
   had_or_last false e = inr (λ c. true≢false (sym (list_any_at (E x) old c.0 x c.1 (ap (E x) c.2 ∙ itself)) ∙ e), chosen false e)

@@ -1,4 +1,4 @@
--- The numbers of the items of states, as they are made.
+-- The numbers of the items of states, as the construction makes them.
 use Rattle.std.proofs.Common.{◌≡◌, ◌∙◌, ℕ, List, length, map, sym, ap, subst, arith, Some, ◌<◌}
 use Rattle.std.specs.Prelude.{slice_get, option_map, Contains}
 use Rattle.std.proofs.lemmas.List.{length-map}
@@ -18,7 +18,7 @@ use Rattle.lalrpop_numbers.specs.numbers.Numbers as numbers
 use Rattle.lalrpop_construction.specs.states.NumberedStates.{AreItemsAt, number_in}
 use Rattle.lalrpop_numbers.specs.declared.numbers.numbered.Numbered.{Numbered}
 
--- items by number have the numbers that they are made of
+-- items that are made from items by number have the numbers of these
 pub items_at_by : {L : Type 0} (known : List (Dotted Nil)) (list : List (Numbered L)) → numbers.AreNumbered known list → AreItemsAt known (map number_in list) (items_by known list)
 items_at_by {L} known list within = record {
   counted = length-map list number_in ∙ sym (length-map list (item_by known));
@@ -37,7 +37,7 @@ module _ {L : Type 0} (known : List (Dotted Nil)) (list : List (Numbered L)) whe
   dots_at : (n : ℕ) (e : Numbered L) → slice_get list n ≡ Some e → slice_get (map dotted_of (items_by known list)) n ≡ Some (dotted_of (dotted_at known e.number))
   dots_at n e at = slice_get-map dotted_of (items_by known list) n ∙ ap (option_map dotted_of) (slice_get-map (item_by known) list n ∙ ap (option_map (item_by known)) at)
 
-  -- and differ where these do
+  -- the numbers differ if the dotted productions do
   pub numbers_differ : AllDiffer (map dotted_of (items_by known list)) → AllDiffer (map number_in list)
   numbers_differ differ i j k l at_i at_j =
       let (d, there, is) = some_of_map number_in (slice_get list i) k (sym (slice_get-map number_in list i) ∙ at_i) in
@@ -54,7 +54,7 @@ same_dots known ks is js a b p dot c =
     let one : with_dot j.production j.index ≡ with_dot i.production i.index = same_some (with_dot j.production j.index) (with_dot i.production i.index) (sym (b.each n k j at_j at_k) ∙ a.each n k i at at_k) in
     subst (Contains (map dotted_of js)) (ap (λ (d : Dotted Nil). dotted_of d) one ∙ same) (contains_map dotted_of js j (contains_at js j n at_j))
 
--- items that have the numbers one by one are numbered by these
+-- the numbers are those of the dotted productions of the items if the items have them one by one
 pub Items-numbered : {L : Type 0} (known : List (Dotted Nil)) → Ascend known → (numbers : List ℕ) (items : List (Dotted L)) → AreItemsAt known numbers items → AreNumbered known items numbers
 Items-numbered known ascend numbers items at = record {
   known = λ k c.

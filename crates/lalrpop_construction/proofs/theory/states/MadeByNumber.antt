@@ -18,11 +18,11 @@ use Rattle.lalrpop_numbers.specs.declared.numbers.Numbers.{Numbers}
 use Rattle.lalrpop_construction.specs.declared.construction.numbered_state.NumberedState.{NumberedState}
 
 module _ {L : Type 0} (g : Rules) (n : Numbers) (numbers : AreNumbers g n) where
-  -- the number of a finished item, and its reduction
+  -- the number is that of the finished item of the reduction
   abbrev IsFinishedBy : ℕ → L × Production → Type 0
   IsFinishedBy k r = slice_get n.items.items k ≡ Some (with_dot r.1 (length r.1.symbols))
 
-  -- one item in front
+  -- the lists agree after one more item in front
   zip_step : (k : ℕ) (i : Dotted L) (ks : List ℕ) (rs : List (L × Production)) (o : Option ℕ) → slice_get n.behind.items k ≡ Some o → IsNumberBehind n.symbols.items (with_dot i.production i.index) o → slice_get n.items.items k ≡ Some (with_dot i.production i.index) → AllZip IsFinishedBy ks rs →
       AllZip IsFinishedBy (finished_at n k ++ ks) (cond (i.index == length i.production.symbols) ((i.lookahead, i.production) ∷ rs) rs)
   zip_step k i ks rs None at end known z =
@@ -34,7 +34,7 @@ module _ {L : Type 0} (g : Rules) (n : Numbers) (numbers : AreNumbers g n) where
       subst (λ (own : List ℕ). AllZip IsFinishedBy (own ++ ks) (cond (i.index == length i.production.symbols) ((i.lookahead, i.production) ∷ rs) rs)) (sym (ap (λ (behind : Option (Option ℕ)). finished_only behind k) at))
       (subst (λ (b : Bool). AllZip IsFinishedBy ks (cond b ((i.lookahead, i.production) ∷ rs) rs)) (sym (ne_eqb i.index (length i.production.symbols) (λ e. absurd (omega (arith, within, e))))) z)
 
-  -- the finished ones of items by number, and the reductions of the items
+  -- the finished items by number are those of the reductions of the items, one by one
   Finished-zip : (ks : List ℕ) (items : List (Dotted L)) → AreItemsAt n.items.items ks items → AllZip IsFinishedBy (finished_in n ks) (reductions_of items)
   Finished-zip [] [] at = tt
   Finished-zip [] (i ∷ items) at = absurd (let e = at.counted in omega arith)
@@ -61,7 +61,7 @@ module _ {L : Type 0} (g : Rules) (n : Numbers) (numbers : AreNumbers g n) where
         let t = leads_transition any old s m l in
         subst (λ (k : ℕ). Contains state.edges.items (x, k)) t.1 (edges.listed.back x s t.0 at t.2)
 
-    -- a state with its items and transitions by number
+    -- a state by numbers is the state if it has its items and transitions
     pub Numbered-state : AreItemsAt n.items.items state.items.items old.items.vec.items → AreEdgesBy n.symbols.items state.edges.items (state_entries old) → IsNumberedState n (contents_of any old) state
     Numbered-state items edges =
         let all = Items-numbered n.items.items numbers.items.ascend state.items.items old.items.vec.items items in
@@ -76,7 +76,7 @@ module _ {L : Type 0} (g : Rules) (n : Numbers) (numbers : AreNumbers g n) where
           ascend = edges.ascend;
         }
 
-    -- and with its reductions, where these are those of the finished items
+    -- a state by numbers also has the reductions if they are its finished items
     pub Numbered-as : IsMadeByNumber n state.items.items state.edges.items old → state.reductions.items ≡ finished_in n state.items.items → IsNumberedAs n old state
     Numbered-as made same =
         let zip : AllZip IsFinishedBy state.reductions.items (map seen_reduction old.reductions.items) =
@@ -90,7 +90,7 @@ module _ {L : Type 0} (g : Rules) (n : Numbers) (numbers : AreNumbers g n) where
           };
         }
 
--- a state more
+-- the list has the states by numbers after one more state
 pub As-more : {L : Type 0} (n : Numbers) (states : List (State L)) (old : State L) (list : List NumberedState) (state : NumberedState) → AreNumberedAs n states list → IsNumberedAs n old state → AreNumberedAs n (states ++ old ∷ []) (list ++ state ∷ [])
 As-more {L} n states old list state before is = record {
   counted = push_counted states old list state before.counted;

@@ -7,12 +7,12 @@ use Rattle.lalrpop_collections.proofs.theory.lists.Lists.{contains_map, contains
 use Rattle.lalrpop_construction.specs.states.NumberedStates.{HasDots}
 
 -- ---- the items of a state
--- these are the numbers of the items that have any
+-- the list has the numbers of those items that have numbers
 pub record AreNumbered {L : Type 0} (items : List (Dotted Nil)) (done : List (Dotted L)) (list : List ℕ) : Type 0 where
   pub known : (k : ℕ) → Contains list k → k < length items
   pub numbered : (k : ℕ) (i : Dotted Nil) → slice_get items k ≡ Some i → Contains list k ↔ HasDots done i
 
--- a state has an item with the dots where its contents do
+-- items have a dotted production exactly if the list of their dotted productions does
 pub dots_in : {L : Type 0} (items : List (Dotted L)) (i : Dotted Nil) → HasDots items i ↔ Contains {X = Production × ℕ} (map (λ (j : Dotted L). (j.production, j.index)) items) (i.production, i.index)
 dots_in {L} items i =
     let parts : Dotted L → Production × ℕ = λ j. (j.production, j.index) in

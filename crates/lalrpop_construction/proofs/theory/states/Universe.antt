@@ -1,4 +1,4 @@
--- All kernels that a grammar can have are no more than the sublists of all its items.
+-- A grammar has at most as many kernels as sublists of all its items.
 use Rattle.std.proofs.Common.{◌≡◌, ℕ, ◌+◌, ◌≤◌, List, [], ◌∷◌, length, map, refl, sym, subst, ◌∙◌, ap, arith, option_map, Some}
 use Rattle.std.specs.Prelude.{Contains, slice_get}
 use Rattle.std.specs.List.{flat_map, range_with_len}
@@ -39,13 +39,13 @@ among_items g i of =
     in_flat_map (of_production sets) g.productions i.production i of.production
     (in_flat_map (at_dot sets i.production) (range_with_len 0 (length i.production.symbols + 1)) i.index i dot here)
 
--- items whose dotted productions differ do so themselves
+-- items differ if their dotted productions do
 items_differ : (items : List (Dotted Bits)) → AllDiffer (map dotted_of items) → AllDiffer items
 items_differ items d i j x l at_i at_j =
     let f : Dotted Bits → Production × ℕ = dotted_of in
     d i j (f x) l (slice_get-map f items i ∙ ap (option_map f) at_i) (slice_get-map f items j ∙ ap (option_map f) at_j)
 
--- more kernels a grammar can't have
+-- a bound of the number of kernels of a grammar
 pub kernels_limit : Rules → ℕ
 kernels_limit g = length (lists (all_items g) (length (all_items g)))
 
@@ -54,7 +54,7 @@ unfolding kernels_limit
 kernels_bounded g known d h =
     kernels_few (all_items g) known (apart_from_differ known d) (λ k c. apart_from_differ k (items_differ k (h k c).differ)) (λ k i c m. among_items g i ((h k c).each i m))
 
--- ---- with any lookahead whose values are told apart by what they stand for
+-- ---- any lookahead whose values are the same if their meanings are
 module _ {L : Type 0} (meaning : L → Bits) (told : (a b : L) → meaning a ≡ meaning b → a ≡ b) where
   same_item : (i j : Dotted L) → meant meaning i ≡ meant meaning j → i ≡ j
   same_item i j e =

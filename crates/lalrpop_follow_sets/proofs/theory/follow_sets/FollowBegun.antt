@@ -1,4 +1,5 @@
--- What follows nonterminals in states at once: the bits of rests, and of the end behind the start symbol.
+-- The tokens that follow nonterminals in states at once: the bits of rests, and of Eof after the
+-- start symbol.
 use Rattle.std.proofs.Common.{◌≡◌, ◌∙◌, ◌⊎◌, inl, inr, ℕ, ◌+◌, ◌<◌, ◌≤◌, ◌↔◌, true, List, [], ◌∷◌, ◌++◌, drop, length, get_or, set, refl, sym, ap, subst, arith}
 use Rattle.std.specs.Prelude.{slice_get, Option, Some, None, Contains}
 use Rattle.std.proofs.lemmas.Bool.{cases_lt}
@@ -35,15 +36,15 @@ module _ (pass : Pass) (is : IsPass pass) (s k : ℕ) (held : Contains (items_at
   abbrev item : Dotted Nil
   item = dotted_at items k
 
-  -- the item stands at its number
+  -- the item is at its number
   at : slice_get items k ≡ Some item
   at = stands_at items k (item_known pass is s k held)
 
-  -- a rest, or none, stands at the number of the item
+  -- the list of rests has an entry at the number of the item
   pub rest_listed : k < length pass.rests.now
   rest_listed = let l = item_known pass is s k held in let e = is.rests.counted in omega arith
 
-  -- something, or nothing, stands behind the item
+  -- the list of symbols after dots has an entry at the number of the item
   pub behind_listed : k < length pass.numbers.now.behind.items
   behind_listed = let l = item_known pass is s k held in let e = is.numbers.counted in omega arith
 
@@ -54,14 +55,14 @@ module _ (pass : Pass) (is : IsPass pass) (s k : ℕ) (held : Contains (items_at
       let l = slice_get_within r.item.production.symbols r.item.index (Nonterminal r.name) (split_drop r.item.index r.item.production.symbols (Nonterminal r.name) r.after r.behind) in
       omega arith)
 
-  -- nor does one without a nonterminal behind its dot
+  -- an item without a nonterminal after its dot gives no bit
   pub other_gives : slice_get pass.rests.now k ≡ Some None → (sets : List Bits) → TakesBits (IsRestBit pass s k) sets sets
   other_gives none = takes_none (IsRestBit pass s k) (λ n bit r. is.rests.each k r.item None r.numbered none r.name r.after r.behind)
 
   module _ (behind : Option ℕ) (x : ℕ) (read_behind : behind ≡ get_or pass.numbers.now.behind.items k behind) (some_behind : behind ≡ Some x)
       (found : Option Rest) (rest : Rest) (read_rest : found ≡ get_or pass.rests.now k found) (some_rest : get_or pass.rests.now k found ≡ Some rest)
       (state : NumberedState) (edges : List (ℕ × ℕ)) (read_state : state ≡ get_or pass.numbered.now s state) (read_edges : edges ≡ (get_or pass.numbered.now s state).edges.items) where
-    -- the number of the symbol behind the dot
+    -- the number of the symbol after the dot
     at_behind : slice_get pass.numbers.now.behind.items k ≡ Some (Some x)
     at_behind = slice_get_at pass.numbers.now.behind.items k behind behind_listed read_behind ∙ ap Some some_behind
 
@@ -73,11 +74,11 @@ module _ (pass : Pass) (is : IsPass pass) (s k : ℕ) (held : Contains (items_at
     all_edges : edges ≡ transitions_at pass.numbered.now s
     all_edges = transitions_read pass is s (state_of_item pass is s k held) state edges read_state read_edges
 
-    -- a nonterminal stands behind the dot, and its rest is known
+    -- a nonterminal is after the dot, and its rest is known
     told : (a : NonterminalString) × (after : List Symbol) × HasRest item a after × IsRest (rules_of pass.grammar.now) after rest
     told = is.rests.each k item (Some rest) at at_rest
 
-    -- the number behind the dot is that of the nonterminal
+    -- the number after the dot is that of the nonterminal
     symbol_there : slice_get pass.numbers.now.symbols.items x ≡ Some (Nonterminal told.0)
     symbol_there =
         let b = is.numbers.behind k item (Some x) at at_behind in
@@ -90,7 +91,7 @@ module _ (pass : Pass) (is : IsPass pass) (s k : ℕ) (held : Contains (items_at
         let edge = (is.closed.edges s (Nonterminal told.0)).1 (record { production = item.production; dot = item.index; after = told.1; item = there; behind = told.2 }) in
         (edge.0, subst (λ (es : List (ℕ × ℕ)). Contains es (x, edge.0)) (sym all_edges) ((transition_leads pass is s x edge.0 (Nonterminal told.0) symbol_there).1 edge.1))
 
-    -- so it is never the case that there is none
+    -- so the search for this transition never finds none
     pub no_place_gives : ((target : ℕ) → ¬ Contains edges (x, target)) → (sets : List Bits) → TakesBits (IsRestBit pass s k) sets sets
     no_place_gives none = absurd (none leads_on.0 leads_on.1)
 
@@ -111,7 +112,7 @@ module _ (pass : Pass) (is : IsPass pass) (s k : ℕ) (held : Contains (items_at
       pub node_listed : first + p < length (nodes_of pass)
       node_listed = let l = node_within pass is (first + p) s told.0 node_there in let e = nodes_counted pass is in omega arith
 
-      -- FIRST of the rest is what it gives to the node of the transition
+      -- the rest gives its FIRST set to the node of the transition
       pub rest_gives : (sets : List Bits) → length sets ≡ length (nodes_of pass) → (there after : Bits) → there ≡ get_or sets (first + p) there → after ≡ join there rest.first → TakesBits (IsRestBit pass s k) sets (set sets (first + p) after)
       rest_gives sets counted there after reads joined =
           let n : ℕ = first + p in
@@ -190,18 +191,18 @@ module _ (pass : Pass) where
     λ r. (r.0, (let l = state_of_item pass is r.0 r.1.0 r.1.1 in let e = is.numbered.counted in omega arith), r.1),
   ))
 
--- ---- the end behind the start symbol
--- the bit is that of the end, and the node one of the first
+-- ---- Eof after the start symbol
+-- the bit is that of Eof, and the node is one of the first
 abbrev pub EndBelow : Pass → ℕ → ℕ → ℕ → Type 0
 EndBelow pass count n bit = (n < count) × IsEndBit pass n bit
 
--- before the first node there is no end
+-- before the first node no set gets Eof
 pub ends_none : (pass : Pass) (sets : List Bits) → TakesBits (EndBelow pass 0) sets sets
 ends_none pass = takes_none (EndBelow pass 0) (λ n bit r. let l = r.0 in absurd (omega arith))
 
 module _ (pass : Pass) (is : IsPass pass) where
   module _ (node : ℕ) (old mid : List Bits) (pair : ℕ × ℕ) (at : slice_get pass.nodes.now.pairs.items node ≡ Some pair) (counted : length old ≡ length (nodes_of pass)) (before : TakesBits (EndBelow pass node) old mid) where
-    -- a node of the start symbol
+    -- a node of the start symbol gets Eof
     pub ends_here : pair.1 ≡ pass.start.now.number → (there after : Bits) → there ≡ get_or mid node there → after ≡ with_bit there (length pass.grammar.now.terminals) → TakesBits (EndBelow pass (node + 1)) old (set mid node after)
     ends_here same there after read added =
         let end : ℕ = length pass.grammar.now.terminals in
@@ -221,7 +222,7 @@ module _ (pass : Pass) (is : IsPass pass) where
           ],
         )) old (set mid node after) (takes_then (EndBelow pass node) (λ n bit. (n ≡ node) × (bit ≡ end)) old mid (set mid node after) before taken)
 
-    -- a node of another
+    -- a node of another nonterminal gets no bit
     pub ends_past : (pair.1 ≡ pass.start.now.number → ⊥) → TakesBits (EndBelow pass (node + 1)) old mid
     ends_past other = takes_same (EndBelow pass node) (EndBelow pass (node + 1)) (λ n bit. (
       λ r. ((let l = r.0 in omega arith), r.1),
@@ -236,19 +237,19 @@ module _ (pass : Pass) (is : IsPass pass) where
       ],
     )) old mid before
 
-  -- behind the last node there is each end
+  -- after the last node each set of the start symbol has Eof
   pub ends_all : (count : ℕ) → length pass.nodes.now.pairs.items ≤ count → (old new : List Bits) → TakesBits (EndBelow pass count) old new → TakesBits (IsEndBit pass) old new
   ends_all count all = takes_same (EndBelow pass count) (IsEndBit pass) (λ n bit. (
     λ r. r.1,
     λ r. ((let l = node_within pass is n r.0 pass.name.now r.1 in omega arith), r),
   ))
 
--- ---- all that follows at once
+-- ---- all tokens that follow at once
 module _ (pass : Pass) (is : IsPass pass) (n s : ℕ) (a : NonterminalString) (node : IsFollowNode (nodes_of pass) n s a) (bit : ℕ) where
   abbrev AtOnce : Type 0
   AtOnce = HasBitAtOnce (rules_of pass.grammar.now) pass.name.now (places_in pass.states.now) (nodes_of pass) s a bit
 
-  -- a bit of a rest is that of a token
+  -- a bit of a rest is that of a token which follows at once
   rest_token : IsSomeRestBit pass n bit → AtOnce
   rest_token h =
       let from = h.0 in
@@ -259,13 +260,13 @@ module _ (pass : Pass) (is : IsPass pass) (n s : ℕ) (a : NonterminalString) (n
       let follows : FollowsAtOnce (rules_of pass.grammar.now).productions pass.name.now (places_in pass.states.now) from r.name (TokenOf r.first.0) = is_first_behind from r.name r.item.production r.item.index r.after r.first.0 there r.behind r.first.2 in
       (TokenOf r.first.0, r.first.1, subst (λ (p : ℕ × NonterminalString). FollowsAtOnce (rules_of pass.grammar.now).productions pass.name.now (places_in pass.states.now) p.0 p.1 (TokenOf r.first.0)) same follows)
 
-  -- and that of the end is
+  -- the bit of Eof is that of a token which follows at once
   end_token : IsEndBit pass n bit → AtOnce
   end_token h =
       let same : (h.0, pass.name.now) ≡ (s, a) = same_some (h.0, pass.name.now) (s, a) (sym h.1 ∙ node) in
       (Eof, h.2, subst (λ (p : ℕ × NonterminalString). FollowsAtOnce (rules_of pass.grammar.now).productions pass.name.now (places_in pass.states.now) p.0 p.1 Eof) same (ends_input h.0))
 
--- what follows at once is of a rest, or of the end
+-- a token that follows at once is of a rest, or is Eof
 token_bit : (pass : Pass) → IsPass pass → (n s : ℕ) (a : NonterminalString) (t : Token) (bit : ℕ) → IsFollowNode (nodes_of pass) n s a → IsBitOf (rules_of pass.grammar.now).terminals t bit →
     FollowsAtOnce (rules_of pass.grammar.now).productions pass.name.now (places_in pass.states.now) s a t → IsSomeRestBit pass n bit ⊎ IsEndBit pass n bit
 token_bit pass is n s a t bit node number (is_first_behind _ _ q dot after u there behind first) =
@@ -289,7 +290,7 @@ token_bit pass is n s a t bit node number (is_first_behind _ _ q dot after u the
     )
 token_bit pass is n s a t bit node number (ends_input _) = inr (s, node, number)
 
--- the bits of rests and of the end are all that follows at once
+-- the bits of rests and of Eof are those of all tokens that follow at once
 pub begun_is : (pass : Pass) → IsPass pass → (count : ℕ) → count ≡ length pass.nodes.now.pairs.items → (empty mid new : List Bits) → AreEmptySets count empty → TakesBits (IsSomeRestBit pass) empty mid → TakesBits (IsEndBit pass) mid new → AreBegun pass new
 begun_is pass is count whole empty mid new none rests ends = record {
   counted = ends.counted ∙ rests.counted ∙ none.counted ∙ whole ∙ sym (nodes_counted pass is);

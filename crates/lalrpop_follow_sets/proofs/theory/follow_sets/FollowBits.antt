@@ -1,4 +1,4 @@
--- The bits of sets in a list: a set more, and a set that is changed.
+-- The bits of sets in a list: one set more, and a set that is changed.
 use Rattle.std.proofs.Common.{◌≡◌, ◌∙◌, ◌⊎◌, inl, inr, ℕ, zero, suc, ◌+◌, ◌<◌, ◌↔◌, true, List, [], ◌∷◌, ◌++◌, length, get_or, set, refl, sym, ap, arith, eqb-true, eq-eqb}
 use Rattle.std.specs.Prelude.{slice_get, Some, ◌==◌}
 use Rattle.std.proofs.lemmas.Bool.{cases_eq, or_cases, or_left, or_right, true≢false}
@@ -13,14 +13,14 @@ use Rattle.lalrpop_follow_sets.specs.follow_sets.FollowWalks.{AreEmptySets, Take
 pub no_bit : (bits : Bits) (bit : ℕ) → bits ≡ no_bits → has bits bit ≡ true → ⊥
 no_bit bits bit empty h = true≢false (sym h ∙ ap (λ (s : Bits). has s bit) empty ∙ has-no_bits bit)
 
--- the bits of two joined sets are those of either
+-- a bit is in two joined sets if it is in one of them
 pub join_bits : (a b : Bits) (bit : ℕ) → (has (join a b) bit ≡ true) ↔ ((has a bit ≡ true) ⊎ (has b bit ≡ true))
 join_bits a b bit = (
   λ h. or_cases (has a bit) (has b bit) (sym (has-join a b bit) ∙ h),
   λ h. has-join a b bit ∙ elim h [ inl l ↦ or_left (has a bit) (has b bit) l | inr r ↦ or_right (has a bit) (has b bit) r ],
 )
 
--- the bits of a set with a bit more
+-- a bit is in a set with one bit more if it is in the set, or is this bit
 pub with_bit_bits : (a : Bits) (b bit : ℕ) → (has (with_bit a b) bit ≡ true) ↔ ((has a bit ≡ true) ⊎ (bit ≡ b))
 with_bit_bits a b bit = (
   λ h. elim (or_cases (bit == b) (has a bit) (sym (has-with_bit a b bit) ∙ h)) [ inl e ↦ inr (eqb-true bit b e) | inr there ↦ inl there ],
@@ -28,19 +28,19 @@ with_bit_bits a b bit = (
 )
 
 -- ---- sets in a list
--- a set in the list holds what it has
+-- a place of a list holds the bits of the set there
 pub held_at : (sets : List Bits) (n bit : ℕ) (bits : Bits) → slice_get sets n ≡ Some bits → HoldsBit sets n bit ↔ (has bits bit ≡ true)
 held_at sets n bit bits at =
     let same : set_at sets n ≡ bits = get_or_from_slice_get sets n bits no_bits at in
     (λ h. ap (λ (s : Bits). has s bit) (sym same) ∙ h, λ h. ap (λ (s : Bits). has s bit) same ∙ h)
 
--- nothing is held behind the last set
+-- no bits are held after the last set
 pub held_within : (sets : List Bits) (n bit : ℕ) → HoldsBit sets n bit → n < length sets
 held_within [] n bit h = absurd (no_bit no_bits bit refl h)
 held_within (s ∷ sets) zero bit h = omega arith
 held_within (s ∷ sets) (suc n) bit h = let l = held_within sets n bit h in omega arith
 
--- a set more changes none before it
+-- one set more changes no set before it
 pub held_before : (sets : List Bits) (bits : Bits) (n bit : ℕ) → n < length sets → HoldsBit (sets ++ bits ∷ []) n bit ↔ HoldsBit sets n bit
 held_before sets bits n bit l =
     let found = filled sets n l in
@@ -48,7 +48,7 @@ held_before sets bits n bit l =
     let new = held_at (sets ++ bits ∷ []) n bit found.0 (slice_get-longer sets (bits ∷ []) n found.0 found.1) in
     (λ h. old.1 (new.0 h), λ h. new.1 (old.0 h))
 
--- the last one holds what it has
+-- the last place holds the bits of the last set
 pub held_last : (sets : List Bits) (bits : Bits) (n bit : ℕ) → n ≡ length sets → HoldsBit (sets ++ bits ∷ []) n bit ↔ (has bits bit ≡ true)
 held_last sets bits n bit e = held_at (sets ++ bits ∷ []) n bit bits (ap (slice_get (sets ++ bits ∷ [])) e ∙ slice_get-push_at sets bits)
 
@@ -72,7 +72,7 @@ empty_more count sets bits empty before = record {
 }
 
 -- ---- bits that are taken
--- where there is none, nothing changes
+-- if there is no such bit, no set changes
 pub takes_none : (Such : ℕ → ℕ → Type 0) → ((n bit : ℕ) → ¬ Such n bit) → (sets : List Bits) → TakesBits Such sets sets
 takes_none Such none sets = record { counted = refl; bits = λ n bit. (λ h. inl h, λ h. elim h [ inl old ↦ old | inr s ↦ absurd (none n bit s) ]) }
 
@@ -92,7 +92,7 @@ takes_then A B old mid new a b = record {
   );
 }
 
--- the same bits, said otherwise
+-- equivalent conditions take the same bits
 pub takes_same : (A B : ℕ → ℕ → Type 0) → ((n bit : ℕ) → A n bit ↔ B n bit) → (old new : List Bits) → TakesBits A old new → TakesBits B old new
 takes_same A B same old new a = record {
   counted = a.counted;
@@ -102,7 +102,7 @@ takes_same A B same old new a = record {
   );
 }
 
--- one set is changed, by more bits
+-- one set of the list gets more bits
 pub takes_at : (old : List Bits) (n : ℕ) → n < length old → (there after : Bits) → there ≡ get_or old n there → (More : ℕ → Type 0) → ((bit : ℕ) → (has after bit ≡ true) ↔ ((has there bit ≡ true) ⊎ More bit)) →
     TakesBits (λ m bit. (m ≡ n) × More bit) old (set old n after)
 takes_at old n within there after read More more =

@@ -1,4 +1,4 @@
--- What a pass finds: the unions of its least sets are the lookahead sets of finished items.
+-- The result of a pass: the unions of its least sets are the lookahead sets of finished items.
 use Rattle.std.proofs.Common.{◌≡◌, ◌↔◌, ℕ, ◌<◌, List, length, sym, ◌∙◌, ap, subst, arith, Some, true}
 use Rattle.std.specs.Prelude.{Contains, slice_get}
 use Rattle.std.specs.declared.alloc.Global.{Global}
@@ -38,7 +38,7 @@ module _ (pass : Pass) (fits : IsPass pass) where
         omega arith
 
     module _ (follow : List Bits) (counted : length follow ≡ length sets) (least : (n bit : ℕ) → HoldsBit follow n bit ↔ IsSpread sets edges n bit) (lookback : List (Vec (ℕ × ℕ) Global)) (ends : AreLookbacks pass lookback) where
-      -- what stands with a finished item is a node
+      -- the number that is paired with a finished item is that of a node
       entry_within : (s k m : ℕ) → Contains (entries_at lookback s) (k, m) → m < length follow
       entry_within s k m there =
           let e = (ends.entries s k m).0 there in
@@ -58,7 +58,7 @@ module _ (pass : Pass) (fits : IsPass pass) where
         λ h. (union bit).1 (h.0, (ends.entries s k h.0).1 (h.1, p, h.2, (fits.own s p (length p.symbols) item).0, (h.3, number)), h.4),
       )
 
-      -- so that is the lookahead set of the production
+      -- the union over the entries of a finished item is the lookahead set of its production
       found_lookahead : (s k : ℕ) (p : Production) → Contains (places s).items (p, length p.symbols) → slice_get pass.numbers.now.items.items k ≡ Some (with_dot p (length p.symbols)) →
           (set : Bits) → ((bit : ℕ) → (has set bit ≡ true) ↔ IsInUnion follow (entries_at lookback s) k bit) → HasLookaheadBits g pass.name.now places s set p
       found_lookahead s k p item number set union =
@@ -66,7 +66,7 @@ module _ (pass : Pass) (fits : IsPass pass) where
           union_lookahead g pass.name.now places nodes sets edges (follow_graph pass fits sets edges begun includes) follow least s p set
           (lookback_nodes places (length pass.states.now) say g pass.name.now nodes (begun_nodes pass fits) s p item) (entries_union s k p item number set union)
 
-      -- so what the pass finds are lookahead sets
+      -- the pass finds lookahead sets
       pub finds_lookaheads : (found : Found) → found.follow.items ≡ follow → found.lookback.items ≡ lookback → AreTokensOfSymbols g.terminals pass.numbers.now.symbols.items found.tokens.items →
           FindsLookaheads g pass.name.now pass.numbers.now places (length pass.states.now) found
       finds_lookaheads found same_follow same_lookback tokens =

@@ -1,4 +1,4 @@
--- The least sets of a follow graph are the follow sets, and their unions the lookahead sets.
+-- The least sets of a follow graph are the follow sets, and their unions are the lookahead sets.
 use Rattle.std.proofs.Common.{◌↔◌, ℕ, ◌<◌, ◌≤◌, take, List, length, refl, sym, ◌∙◌, ap, subst, arith, Some, zero, suc, [], ◌∷◌}
 use Rattle.std.specs.Prelude.{Contains}
 use Rattle.std.specs.declared.alloc.Global.{Global}
@@ -29,7 +29,7 @@ module _ (g : Rules) (start : NonterminalString) (states : ℕ → Contents) (no
   abbrev FollowsBit : ℕ → NonterminalString → ℕ → Type 0
   FollowsBit s a bit = (t : Token) × IsBitOf g.terminals t bit × InFollow g.productions start states s a t
 
-  -- what is spread at a node follows
+  -- the bits that are spread to a node are those of tokens in its follow set
   spread_follows : {n bit : ℕ} → IsSpread sets edges n bit → (s : ℕ) (a : NonterminalString) → IsFollowNode nodes n s a → FollowsBit s a bit
   spread_follows (held n bit h) s a node =
       let b = (graph.begun n s a node bit).0 h in
@@ -39,7 +39,7 @@ module _ (g : Rules) (start : NonterminalString) (states : ℕ → Contents) (no
       let f = spread_follows k o.0 o.1 o.2 in
       (f.0, f.1, included (graph.edges_include m n o.0 s o.1 a o.2 node edge) f.2)
 
-  -- and what follows is spread there
+  -- the bits of tokens in the follow set of a node are spread to it
   follow_spread : {s : ℕ} {a : NonterminalString} {t : Token} → InFollow g.productions start states s a t → (bit : ℕ) → IsBitOf g.terminals t bit → (n : ℕ) → IsFollowNode nodes n s a → IsSpread sets edges n bit
   follow_spread (at_once {s} {a} {t} h) bit number n node = held n bit ((graph.begun n s a node bit).1 (t, number, h))
   follow_spread (included {r} {s} {a} {b} {t} i f) bit number n node =
@@ -59,9 +59,10 @@ module _ (g : Rules) (start : NonterminalString) (states : ℕ → Contents) (no
         (union bit).1 (o.0, l.from, o.1, l.leads, (least o.0 bit).1 (follow_spread l.follows bit f.1 o.0 o.1)),
   )
 
--- ---- nodes where items begin
+-- ---- nodes of items with the dot at the start
 module _ (states : ℕ → Contents) (count : ℕ) (say : LeadAsItemsSay states count) where
-  -- an item came over what stands before its dot, from the same item with its dot in front
+  -- if the symbols before an item's dot lead from a state to the item's state, that state has the
+  -- same item with the dot at the start
   pub origin_item : (r : ℕ) (q : Production) (dot s : ℕ) → dot ≤ length q.symbols → Contains (states s).items (q, dot) → LeadsOver states r (take dot q.symbols) s → Contains (states r).items (q, 0)
   origin_item r q zero s within item leads_over = subst (λ (n : ℕ). Contains (states n).items (q, 0)) (same_some (sym (sym (ap (state_from states r) (take_none q.symbols)) ∙ leads_over))) item
   origin_item r q (suc dot) s within item leads_over =
@@ -69,11 +70,11 @@ module _ (states : ℕ → Contents) (count : ℕ) (say : LeadAsItemsSay states 
       let last = state_from-last states r (take dot q.symbols) x.0 s (sym (ap (state_from states r) (take_past dot q.symbols x.2)) ∙ leads_over) in
       origin_item r q dot last.0 (omega (arith, within)) ((say.edges last.0 s x.0 last.2).origin q dot item) last.1
 
-  -- so a finished item has its nodes
+  -- a finished item has its nodes
   pub lookback_nodes : (g : Rules) (start : NonterminalString) (nodes : List (ℕ × NonterminalString)) → HaveBegunNodes states nodes → (s : ℕ) (p : Production) → Contains (states s).items (p, length p.symbols) → HasLookbackNodes g start states nodes s p
   lookback_nodes g start nodes begun s p item r leads_over = begun r p (origin_item r p (length p.symbols) s (omega arith) item (ap (state_from states r) (take_all p.symbols) ∙ leads_over))
 
-  -- and whatever a node includes is a node
+  -- each follow set that a node includes has a node
   pub included_node : (productions : List Production) (nodes : List (ℕ × NonterminalString)) → HaveBegunNodes states nodes → (s r : ℕ) (a b : NonterminalString) → IncludesFollow productions states s a r b → (m : ℕ) × IsFollowNode nodes m r b
   included_node productions nodes begun s r a b i =
       let m = begun r i.parent (origin_item r i.parent i.dot s (within i.dot (i.parent).symbols i.behind) i.item i.leads) in

@@ -21,13 +21,13 @@ use Rattle.lalrpop_collections.proofs.theory.lists.Places.{contains_at, filled, 
 use Rattle.lalrpop_construction.proofs.theory.construction.StateEdges.{no_leads}
 
 -- ---- the nonterminal with a number
--- where a nonterminal has the number, it is that
+-- if a nonterminal has the number, it is the one at the number
 name_here : (symbols : List Symbol) (start : NonterminalString) (x : ℕ) (a : NonterminalString) → slice_get symbols x ≡ Some (Nonterminal a) → name_at symbols start x ≡ a
 name_here [] start x a at = cc
 name_here (s ∷ symbols) start zero a at = ap (name_or start) (same_some s (Nonterminal a) at)
 name_here (s ∷ symbols) start (suc x) a at = name_here symbols start x a at
 
--- behind the last symbol it is the start symbol
+-- after the last symbol the one at the number is the start symbol
 name_past : (symbols : List Symbol) (start : NonterminalString) (x : ℕ) → length symbols ≤ x → name_at symbols start x ≡ start
 name_past [] start x l = refl
 name_past (s ∷ symbols) start zero l = absurd (omega arith)
@@ -43,14 +43,14 @@ module _ (pass : Pass) (is : IsPass pass) where
   abbrev name : ℕ → NonterminalString
   name x = name_at symbols pass.name.now x
 
-  -- the number of the start symbol stands for it
+  -- the number of the start symbol is that of its nonterminal
   start_named : name pass.start.now.number ≡ pass.name.now
   start_named = elim is.start.number [
     | inl at ↦ name_here symbols pass.name.now pass.start.now.number pass.name.now at
     | inr out ↦ name_past symbols pass.name.now pass.start.now.number (let e = out.0 in omega arith)
   ]
 
-  -- the nonterminal for which a number stands is the one with the number
+  -- the nonterminal of a node is the one at the number of the node's symbol
   named : (x : ℕ) (a : NonterminalString) → IsNodeName pass x a → name x ≡ a
   named x a h = elim h [
     | inl at ↦ name_here symbols pass.name.now x a at
@@ -58,7 +58,7 @@ module _ (pass : Pass) (is : IsPass pass) where
   ]
 
   -- ---- from numbers to a nonterminal, and back
-  -- a pair of numbers is the node of the nonterminal for which its number stands
+  -- a pair of numbers is the node of the nonterminal with the number
   pub node_of_pair : (n s x : ℕ) (a : NonterminalString) → slice_get pairs n ≡ Some (s, x) → IsNodeName pass x a → IsFollowNode (nodes_of pass) n s a
   node_of_pair n s x a at is_name =
       let pair : ℕ × ℕ → ℕ × NonterminalString = λ (p : ℕ × ℕ). (p.0, name p.1) in
@@ -88,11 +88,11 @@ module _ (pass : Pass) (is : IsPass pass) where
   pub node_within : (n s : ℕ) (a : NonterminalString) → IsFollowNode (nodes_of pass) n s a → n < length pairs
   node_within n s a at = let p = pair_of_node n s a at in slice_get_within pairs n (s, p.0) p.1
 
-  -- a number stands for one nonterminal
+  -- a number is of one nonterminal
   pub one_name : (x : ℕ) (a b : NonterminalString) → IsNodeName pass x a → IsNodeName pass x b → a ≡ b
   one_name x a b at_a at_b = sym (named x a at_a) ∙ named x b at_b
 
-  -- the start symbol, where it has a number, has that of the start
+  -- if the start symbol has a number among the symbols, this is the number of the start
   start_or : (x : ℕ) (a : NonterminalString) → slice_get symbols x ≡ Some (Nonterminal a) → a ≡ pass.name.now → x ≡ pass.start.now.number
   start_or x a at same =
       let here : slice_get symbols x ≡ Some (Nonterminal pass.name.now) = at ∙ ap (λ (b : NonterminalString). Some (Nonterminal b)) same in
@@ -101,7 +101,7 @@ module _ (pass : Pass) (is : IsPass pass) where
         | inr out ↦ absurd (out.1 (contains_at symbols (Nonterminal pass.name.now) x here))
       ]
 
-  -- and a nonterminal has one number
+  -- a nonterminal has one number
   pub one_number : (x y : ℕ) (a : NonterminalString) → IsNodeName pass x a → IsNodeName pass y a → x ≡ y
   one_number x y a at_x at_y = elim at_x [
     | inl here ↦ elim at_y [
@@ -144,21 +144,21 @@ module _ (pass : Pass) (is : IsPass pass) where
       (p.0, node_of_pair p.0 0 pass.start.now.number pass.name.now p.2 (inr (refl, refl)))
 
   -- ---- states by number
-  -- each state has one by number
+  -- each state has its state by number
   pub state_by_number : (s : ℕ) → s < length pass.states.now → (state : NumberedState) × (slice_get pass.numbered.now s ≡ Some state) × IsNumberedState pass.numbers.now (places_in pass.states.now s) state
   state_by_number s l =
       let found = filled pass.numbered.now s (let e = is.numbered.counted in omega arith) in
       (found.0, found.1, is.numbered.each s found.0 found.1)
 
-  -- what is read of a state by number
+  -- the state by number that is read is in the list at its number
   read_there : (s : ℕ) → s < length pass.states.now → (state : NumberedState) → state ≡ get_or pass.numbered.now s state → slice_get pass.numbered.now s ≡ Some state
   read_there s l state read = slice_get_at pass.numbered.now s state (let e = is.numbered.counted in omega arith) read
 
-  -- its transitions are those of the state with the number
+  -- the transitions that are read are those of the state with the number
   pub transitions_read : (s : ℕ) → s < length pass.states.now → (state : NumberedState) (edges : List (ℕ × ℕ)) → state ≡ get_or pass.numbered.now s state → edges ≡ (get_or pass.numbered.now s state).edges.items → edges ≡ transitions_at pass.numbered.now s
   transitions_read s l state edges read value = value ∙ ap (λ (n : NumberedState). n.edges.items) (sym read) ∙ sym (ap listed_transitions (read_there s l state read))
 
-  -- and so are its items
+  -- the items that are read are those of the state with the number
   pub items_read : (s : ℕ) → s < length pass.states.now → (state : NumberedState) (items : List ℕ) → state ≡ get_or pass.numbered.now s state → items ≡ (get_or pass.numbered.now s state).items.items → items ≡ items_at pass.numbered.now s
   items_read s l state items read value = value ∙ ap (λ (n : NumberedState). n.items.items) (sym read) ∙ sym (ap listed_items (read_there s l state read))
 
@@ -166,36 +166,36 @@ module _ (pass : Pass) (is : IsPass pass) where
   pub ascend_read : (s : ℕ) → s < length pass.states.now → (state : NumberedState) (edges : List (ℕ × ℕ)) → state ≡ get_or pass.numbered.now s state → edges ≡ (get_or pass.numbered.now s state).edges.items → EdgesAscend edges
   ascend_read s l state edges read value = subst EdgesAscend (sym (value ∙ ap (λ (n : NumberedState). n.edges.items) (sym read))) (is.numbered.each s state (read_there s l state read)).ascend
 
-  -- behind the last state there is no transition
+  -- after the last state there is no transition
   no_transitions : (s : ℕ) → length pass.states.now ≤ s → transitions_at pass.numbered.now s ≡ []
   no_transitions s l = ap listed_transitions (slice_get_past pass.numbered.now s (let e = is.numbered.counted in omega arith))
 
-  -- nor an item
+  -- after the last state there is no item
   no_items : (s : ℕ) → length pass.states.now ≤ s → items_at pass.numbered.now s ≡ []
   no_items s l = ap listed_items (slice_get_past pass.numbered.now s (let e = is.numbered.counted in omega arith))
 
-  -- what has a transition is a state
+  -- a number with a transition is that of a state
   pub state_of_transition : (s : ℕ) (e : ℕ × ℕ) → Contains (transitions_at pass.numbered.now s) e → s < length pass.states.now
   state_of_transition s e c = elim (cases_lt s (length pass.states.now)) [
     | inl l ↦ l
     | inr l ↦ absurd (Contains-none e (subst (λ (es : List (ℕ × ℕ)). Contains es e) (no_transitions s l) c))
   ]
 
-  -- what has an item is a state
+  -- a number with an item is that of a state
   pub state_of_item : (s k : ℕ) → Contains (items_at pass.numbered.now s) k → s < length pass.states.now
   state_of_item s k c = elim (cases_lt s (length pass.states.now)) [
     | inl l ↦ l
     | inr l ↦ absurd (Contains-none k (subst (λ (ks : List ℕ). Contains ks k) (no_items s l) c))
   ]
 
-  -- the state of a node is one
+  -- the state of a node is a state of the list
   pub state_of_node : (n s : ℕ) (a : NonterminalString) → IsFollowNode (nodes_of pass) n s a → s < length pass.states.now
   state_of_node n s a at = elim (node_cases n s a at) [
     | inl start ↦ let e = start.0 in let l = is.some in omega arith
     | inr found ↦ let t = found.2 in state_of_transition s (found.0, t.target) (contains_at (transitions_at pass.numbered.now s) (found.0, t.target) t.place t.edge)
   ]
 
-  -- a transition by number is where the symbol leads
+  -- a transition by number leads where the symbol leads
   pub transition_leads : (s x target : ℕ) (y : Symbol) → slice_get symbols x ≡ Some y → Contains (transitions_at pass.numbered.now s) (x, target) ↔ (leads (places_in pass.states.now s) y ≡ Some target)
   transition_leads s x target y at = elim (cases_lt s (length pass.states.now)) [
     | inl l ↦
@@ -211,20 +211,20 @@ module _ (pass : Pass) (is : IsPass pass) where
       past_contents : (s : ℕ) → length pass.states.now ≤ s → places_in pass.states.now s ≡ no_contents
       past_contents s l = ap (contents_at (λ (lookahead : Bits) (t : Token). true)) (slice_get_past pass.states.now s l)
 
-  -- a number of an item is one of a dotted production
+  -- the number of an item is that of a dotted production
   pub item_known : (s k : ℕ) → Contains (items_at pass.numbered.now s) k → k < length pass.numbers.now.items.items
   item_known s k c =
       let found = state_by_number s (state_of_item s k c) in
       found.2.known k (subst (λ (ks : List ℕ). Contains ks k) (ap listed_items found.1) c)
 
-  -- an item by number is one of the state's
+  -- an item by number is an item of the state
   pub item_listed : (s k : ℕ) (i : Dotted Nil) → slice_get pass.numbers.now.items.items k ≡ Some i → s < length pass.states.now → Contains (items_at pass.numbered.now s) k ↔ Contains (places_in pass.states.now s).items (i.production, i.index)
   item_listed s k i at l =
       let found = state_by_number s l in
       subst (λ (ks : List ℕ). Contains ks k ↔ Contains (places_in pass.states.now s).items (i.production, i.index)) (sym (ap listed_items found.1)) (found.2.items k i at)
 
-  -- ---- what a node's nonterminal expands to
-  -- the numbers that stand with the number of its symbol
+  -- ---- the expansions of a node's nonterminal
+  -- the expansions at the number of the node's symbol are those of the node's nonterminal
   pub fronts_listed : (x : ℕ) (a : NonterminalString) (v : Vec ℕ Global) → IsNodeName pass x a → slice_get pass.numbers.now.expansions.items x ≡ Some v → AreExpansions pass.numbers.now.items.items (Nonterminal a) v.items
   fronts_listed x a v is_name at =
       let items : Vec ℕ Global → List ℕ = λ (w : Vec ℕ Global). w.items in
@@ -242,7 +242,7 @@ module _ (pass : Pass) (is : IsPass pass) where
         ]
       ]
 
-  -- those of the start symbol, where its number is that of no symbol
+  -- the expansions of the start symbol, if its number is that of no symbol
   pub fronts_of_start : (x : ℕ) (a : NonterminalString) → IsNodeName pass x a → length pass.numbers.now.expansions.items ≤ x → AreExpansions pass.numbers.now.items.items (Nonterminal a) pass.start.now.fronts.items
   fronts_of_start x a is_name past = elim is_name [
     | inl here ↦

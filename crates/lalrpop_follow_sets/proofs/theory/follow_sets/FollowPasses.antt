@@ -24,7 +24,7 @@ use Rattle.lalrpop_follow_sets.proofs.theory.follow_sets.FollowSets.{within}
 use Rattle.lalrpop_collections.proofs.theory.lists.Places.{same_some}
 use Rattle.lalrpop_collections.proofs.theory.lists.Lists.{contains_place, place_contains}
 
--- a symbol behind a dot of a production of the grammar has a number
+-- a symbol after a dot of a production of the grammar has a number
 pub numbered_behind : (g : Rules) (n : Numbers) → AreNumbers g n → (q : Production) (dot : ℕ) (s : Symbol) (after : List Symbol) → Contains g.productions q → drop dot q.symbols ≡ s ∷ after → (x : ℕ) × (slice_get n.symbols.items x ≡ Some s)
 numbered_behind g n numbers q dot s after own behind =
     contains_place n.symbols.items s ((numbers.symbols s).1 (record { item = with_dot q dot; among = numbers.items.all q dot own (within dot q.symbols behind); behind = split_drop dot q.symbols s after behind }))
@@ -53,7 +53,7 @@ module _ (pass : Pass) (fits : IsPass pass) where
       let k = contains_place (transitions_at pass.numbered.now s) (x, m) ((transition_leads pass fits s x m (Nonterminal a) number).1 leads) in
       (get_or pass.nodes.now.firsts.items s 0 + k.0, transition_node pass fits s k.0 x m a k.1 number)
 
-  -- and a node is the start symbol in state 0, or has a transition
+  -- a node is the start symbol in state 0, or has a transition
   node_is : (n s : ℕ) (a : NonterminalString) → IsFollowNode nodes n s a → ((s ≡ 0) × (a ≡ pass.name.now)) ⊎ ((m : ℕ) × ((places s).goto a ≡ Some m))
   node_is n s a node = elim (node_cases pass fits n s a node) [
     | inl first ↦ inl first
@@ -62,7 +62,7 @@ module _ (pass : Pass) (fits : IsPass pass) where
         inr (e.target, (transition_leads pass fits s t.0 e.target (Nonterminal a) t.1).0 (place_contains (transitions_at pass.numbered.now s) e.place (t.0, e.target) e.edge))
   ]
 
-  -- a nonterminal behind a dot has a transition and a node
+  -- a nonterminal after a dot has a transition and a node
   behind_node : (s : ℕ) (a : NonterminalString) → IsBehindDot (places s) (Nonterminal a) → (m : ℕ) × (n : ℕ) × ((places s).goto a ≡ Some m) × IsFollowNode nodes n s a
   behind_node s a b =
       let edge = (fits.closed.edges s (Nonterminal a)).1 b in
@@ -70,7 +70,7 @@ module _ (pass : Pass) (fits : IsPass pass) where
       let n = goto_node s edge.0 a x.0 edge.1 x.1 in
       (edge.0, n.0, edge.1, n.1)
 
-  -- each item with its dot in front has a node for its nonterminal
+  -- each item with the dot at the start has a node for its nonterminal
   pub begun_nodes : HaveBegunNodes places nodes
   begun_nodes r q item = elim (front_begun g.productions pass.name.now places fits.closed (item_reached r q 0 item) q item) [
     | inl first ↦
@@ -79,7 +79,8 @@ module _ (pass : Pass) (fits : IsPass pass) where
     | inr behind ↦ let n = behind_node r q.nonterminal behind in (n.1, n.3)
   ]
 
-  -- and the productions of a node are such items of its state
+  -- the productions of a node's nonterminal, with the dot at the start, are items of the node's
+  -- state
   pub node_items : (n s : ℕ) (q : Production) → IsFollowNode nodes n s q.nonterminal → Contains g.productions q → items_of places s q 0
   node_items n s q node own = elim (node_is n s q.nonterminal node) [
     | inl first ↦ subst (λ (k : ℕ). items_of places k q 0) (sym first.0) (front_started g.productions pass.name.now places fits.closed q own first.1)
@@ -94,7 +95,8 @@ module _ (pass : Pass) (fits : IsPass pass) where
       let e = same_some (s, a) (r, b) (sym here ∙ there) in
       (ap (λ (p : ℕ × NonterminalString). p.0) e, ap (λ (p : ℕ × NonterminalString). p.1) e)
 
-  -- what a walk over a production of a node goes through includes the follow set of that node
+  -- if a walk over a production of a node goes through another node, the other node includes the
+  -- follow set of the first
   through_includes : (m r s n : ℕ) (a : NonterminalString) (q : Production) → IsFollowNode nodes m r q.nonterminal → Contains g.productions q → IsFollowNode nodes n s a → GoesThrough pass r q n → IncludesFollow g.productions places s a r q.nonterminal
   through_includes m r s n a q of own node t =
       let same = same_node n t.state s t.name a t.node node in
@@ -109,13 +111,13 @@ module _ (pass : Pass) (fits : IsPass pass) where
         own = refl;
       }))
 
-  -- and a walk goes through what includes it
+  -- a walk goes through each node that includes the follow set
   includes_through : (n s r : ℕ) (a b : NonterminalString) → IsFollowNode nodes n s a → (i : IncludesFollow g.productions places s a r b) → GoesThrough pass r i.parent n
   includes_through n s r a b node i =
       let edge = (fits.closed.edges s (Nonterminal a)).1 (record { production = i.parent; dot = i.dot; after = i.after; item = i.item; behind = i.behind }) in
       record { dot = i.dot; state = s; name = a; after = i.after; target = edge.0; behind = i.behind; nullable = i.nullable; leads = i.leads; edge = edge.1; node = node }
 
-  -- so the sets and the edges are the follow graph
+  -- the sets and the edges are the follow graph
   pub follow_graph : (sets : List Bits) (edges : List (Vec ℕ Global)) → AreBegun pass sets → AreIncludes pass edges → IsFollowGraph g pass.name.now places nodes sets edges
   follow_graph sets edges begun includes = record {
     counted = includes.counted;

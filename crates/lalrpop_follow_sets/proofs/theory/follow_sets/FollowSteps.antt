@@ -1,4 +1,4 @@
--- A step of a walk over a right side: over the symbol behind a dot, from a state to a state.
+-- A step of a walk over a right side: over the symbol after a dot, from a state to a state.
 use Rattle.std.proofs.Common.{◌≡◌, ◌∙◌, ◌↔◌, inl, inr, ℕ, ◌+◌, ◌<◌, List, [], ◌∷◌, ◌++◌, length, get_or, refl, sym, ap, subst, arith, false}
 use Rattle.std.specs.Prelude.{slice_get, Option, Some, None, Contains, IsTrue}
 use Rattle.std.proofs.lemmas.Option.{get_or_from_slice_get}
@@ -22,7 +22,7 @@ use Rattle.lalrpop_collections.proofs.theory.lists.Places.{contains_at, same_som
 use Rattle.lalrpop_grammar.proofs.theory.grammars.Grammars.{same_after}
 use Rattle.std.proofs.lemmas.List.Elements.{Contains-append_left, Contains-append_right, Contains-push_cases}
 
--- a list took one value behind the others
+-- one value was appended to a list
 pub those_pushed : {X : Type 0} (Such : X → Type 0) (old : List X) (key : X) → Such key → ((x : X) → Such x → key ≡ x) → AddsThose Such old (old ++ key ∷ [])
 those_pushed {X} Such old key is only x = (
   λ c. elim (Contains-push_cases old key x c) [
@@ -35,51 +35,51 @@ those_pushed {X} Such old key is only x = (
   ],
 )
 
--- what is nothing where it is not something
+-- an option without a value is none
 no_some : {X : Type 0} (o : Option X) → ((x : X) → o ≡ Some x → ⊥) → o ≡ None
 no_some None h = refl
 no_some (Some x) h = absurd (h x refl)
 
 -- ---- whether a rest is nullable
--- what the rest tells, where a nonterminal stands behind the dot
+-- if a nonterminal is after the dot, the flag of its rest says whether this is nullable
 pub rest_tells : (pass : Pass) (i : Dotted Nil) (rest : Rest) → IsRestOf (rules_of pass.grammar.now) i (Some rest) → IsTrue rest.nullable ↔ HasNullableRest pass i
 rest_tells pass i rest (a, after, has, is) = (
   λ t. (a, after, has, (is.nullable).0 t),
   λ h. (is.nullable).1 (subst (IsNullable (rules_of pass.grammar.now).productions) (same_after h.0 a h.1 after (sym h.2 ∙ has)) h.3),
 )
 
--- and where none does
+-- if no nonterminal is after the dot, no rest is nullable
 pub no_rest_tells : (pass : Pass) (i : Dotted Nil) → IsRestOf (rules_of pass.grammar.now) i None → IsTrue false ↔ HasNullableRest pass i
 no_rest_tells pass i none = (λ t. cc, λ h. absurd (none h.0 h.1 h.2))
 
 -- ---- a step
--- a value that is read within a list is read whatever stands for what is missing
+-- an entry within a list is the same whatever the default is
 read_or : (xs : List ℕ) (i r d : ℕ) → i < length xs → r ≡ get_or xs i r → r ≡ get_or xs i d
 read_or xs i r d l e = sym (get_or_from_slice_get xs i r d (slice_get_at xs i r l e))
 
 module _ (pass : Pass) (ok : IsPass pass) (state k x : ℕ) (i : Dotted Nil) (at : slice_get pass.numbers.now.items.items k ≡ Some i) (behind : slice_get pass.numbers.now.behind.items k ≡ Some (Some x)) where
-  -- the symbol behind the dot
+  -- the symbol after the dot
   symbol : IsNumberBehind pass.numbers.now.symbols.items i (Some x)
   symbol = ok.numbers.behind k i (Some x) at behind
 
-  -- the symbol, without what is known of it
+  -- the symbol alone
   abbrev s : Symbol
   s = symbol.0
 
-  -- a symbol that stands behind the dot is this one
+  -- a symbol after the dot is this one
   is_behind : (t : Symbol) → slice_get i.production.symbols i.index ≡ Some t → s ≡ t
   is_behind t at_t = same_some s t (sym symbol.2 ∙ at_t)
 
-  -- and so is a nonterminal with a rest
+  -- a nonterminal with a rest after the dot is this symbol
   name_behind : (a : NonterminalString) (after : List Symbol) → HasRest i a after → s ≡ Nonterminal a
   name_behind a after h = is_behind (Nonterminal a) (split_drop i.index i.production.symbols (Nonterminal a) after h)
 
   module _ (listed : state < length pass.states.now) (here : NumberedState) (read : here ≡ get_or pass.numbered.now state here) where
-    -- the state that is read stands with its number
+    -- the state that is read is the one at its number
     there : slice_get pass.numbered.now state ≡ Some here
     there = slice_get_at pass.numbered.now state here (let e = ok.numbered.counted in omega arith) read
 
-    -- and has the transitions of the state, by number
+    -- the state that is read has the transitions of the state, by number
     numbered : IsNumberedState pass.numbers.now (places_in pass.states.now state) here
     numbered = ok.numbered.each state here there
 
@@ -89,7 +89,7 @@ module _ (pass : Pass) (ok : IsPass pass) (state k x : ℕ) (i : Dotted Nil) (at
 
     module _ (edges : List (ℕ × ℕ)) (is : edges ≡ here.edges.items) where
       module _ (none : (target : ℕ) → ¬ Contains edges (x, target)) where
-        -- nor has the state a transition over the symbol
+        -- the state that is read has no transition over the symbol
         out : (target : ℕ) → Contains here.edges.items (x, target) → ⊥
         out target c = none target (subst (λ (l : List (ℕ × ℕ)). Contains l (x, target)) (sym is) c)
 
@@ -98,20 +98,20 @@ module _ (pass : Pass) (ok : IsPass pass) (state k x : ℕ) (i : Dotted Nil) (at
         none_over t at_t = subst (λ (u : Symbol). leads (places_in pass.states.now state) u ≡ None) (is_behind t at_t)
             (no_some (leads (places_in pass.states.now state) s) (λ m e. out m ((numbered.edges x m s symbol.1).1 e)))
 
-        -- and no step goes through a node
+        -- without a transition no step goes through a node
         pub none_through : (ends : List ℕ) → AddsThose (StepsThrough pass state i) ends ends
         none_through ends = those_none (StepsThrough pass state i) ends (λ n st. absurd (out st.target (by_transition n st)))
 
       module _ (place target : ℕ) (found : slice_get edges place ≡ Some (x, target)) where
-        -- the transition stands among those of the state
+        -- the transition is at the place among those of the state
         found_here : slice_get here.edges.items place ≡ Some (x, target)
         found_here = ap (λ (l : List (ℕ × ℕ)). slice_get l place) (sym is) ∙ found
 
-        -- and the symbol leads to its target
+        -- the symbol leads to the target of the transition
         leads_there : leads (places_in pass.states.now state) s ≡ Some target
         leads_there = (numbered.edges x target s symbol.1).0 (contains_at here.edges.items (x, target) place found_here)
 
-        -- a transition leads to its target
+        -- the symbol leads to the target
         pub some_over : IsGoneOver pass state i (Some target)
         some_over t at_t = subst (λ (u : Symbol). leads (places_in pass.states.now state) u ≡ Some target) (is_behind t at_t) leads_there
 
@@ -136,7 +136,7 @@ module _ (pass : Pass) (ok : IsPass pass) (state k x : ℕ) (i : Dotted Nil) (at
           pub node_number : first + place < length pass.nodes.now.pairs.items
           node_number = node_within pass ok (first + place) state h.0 node
 
-          -- and the node is the only one through which the step goes
+          -- the node of the transition is the only one through which the step goes
           pub pushed_through : (ends after : List ℕ) → after ≡ ends ++ (first + place) ∷ [] → AddsThose (StepsThrough pass state i) ends after
           pushed_through ends after pushed = subst (AddsThose (StepsThrough pass state i) ends) (sym pushed) (those_pushed (StepsThrough pass state i) ends (first + place) (record {
             name = h.0;
@@ -150,6 +150,6 @@ module _ (pass : Pass) (ok : IsPass pass) (state k x : ℕ) (i : Dotted Nil) (at
               let e : st.name ≡ h.0 = same_nonterminal (sym (name_behind st.name st.after st.behind) ∙ is_name) in
               one_node pass ok (first + place) n state h.0 node (subst (IsFollowNode (nodes_of pass) n state) e st.node)))
 
-  -- a rest that is not nullable is passed by
+  -- if the rest is not nullable, the step goes through no node
   pub kept_through : (HasNullableRest pass i → ⊥) → (ends : List ℕ) → AddsThose (StepsThrough pass state i) ends ends
   kept_through none ends = those_none (StepsThrough pass state i) ends (λ n st. absurd (none (st.name, st.after, st.behind, st.nullable)))

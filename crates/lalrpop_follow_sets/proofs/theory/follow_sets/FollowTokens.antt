@@ -1,4 +1,4 @@
--- The tokens of symbols, and whether sets share one.
+-- The tokens of symbols, and whether sets share a token.
 use Rattle.std.proofs.Common.{◌≡◌, ◌∙◌, ◌⊎◌, inl, inr, ℕ, ◌+◌, ◌<◌, ◌≤◌, ◌↔◌, true, false, List, [], ◌∷◌, ◌++◌, length, refl, sym, ap, subst, arith, IfSome, IsNone}
 use Rattle.std.specs.Prelude.{slice_get, Option, Some, None, Contains, IsTrue, is_some}
 use Rattle.std.proofs.lemmas.Bool.{cases_lt}
@@ -16,7 +16,7 @@ use Rattle.lalrpop_collections.proofs.theory.lists.Members.{Contains-none}
 use Rattle.lalrpop_collections.proofs.theory.lists.Places.{contains_at, push_cases}
 
 -- ---- the token of a symbol
--- a set of a terminal alone has its token
+-- the set of a terminal alone has the token of this terminal
 pub token_there : (terminals : List TerminalString) (s : Symbol) (t : TerminalString) (bits : Bits) → s ≡ Terminal t → (b : ℕ) → slice_get terminals b ≡ Some t → ((k : ℕ) → slice_get terminals k ≡ Some t → bits ≡ with_bit no_bits k) →
     (bit : ℕ) → IsTrue (has bits bit) ↔ HasTokenOf terminals s bit
 token_there terminals s t bits is b at made bit = (
@@ -37,16 +37,16 @@ token_none terminals s bits empty none bit = (λ h. absurd (no_bit bits bit empt
 pub no_terminal : (s : Symbol) (a : NonterminalString) → s ≡ Nonterminal a → (t : TerminalString) → s ≡ Terminal t → ⊥
 no_terminal s a is t e = cc
 
--- nor is there one of a terminal that is not in the list
+-- the empty set has the token of a terminal that is not in the list
 pub token_absent : (terminals : List TerminalString) (s : Symbol) (t : TerminalString) (bits : Bits) → s ≡ Terminal t → ¬ Contains terminals t → bits ≡ no_bits → (bit : ℕ) → IsTrue (has bits bit) ↔ HasTokenOf terminals s bit
 token_absent terminals s t bits is absent empty = token_none terminals s bits empty (λ u e c. absent (subst (Contains terminals) (same_terminal {t = u} {u = t} (sym e ∙ is)) c))
 
--- something was found
+-- if an option is some, its value has the property
 pub found_some : (o : Option ℕ) (P : ℕ → Type 0) → IfSome o P → is_some o ≡ true → (b : ℕ) × P b
 found_some None P h e = cc
 found_some (Some b) P h e = (b, h)
 
--- nothing was found
+-- if an option is not some, it is none
 pub found_none : (o : Option ℕ) → is_some o ≡ false → IsNone o
 found_none None e = refl
 found_none (Some b) e = cc
@@ -99,13 +99,13 @@ some_of_more tokens edges e old bits at before bit = (
 abbrev pub IsUsed : Bits → List Bits → ℕ → ℕ → Type 0
 IsUsed first sets k bit = (has first bit ≡ true) ⊎ ((j : ℕ) × (j < k) × HoldsBit sets j bit)
 
--- no bit is in two of the sets before the place, and these are the bits of all of them
+-- no bit is in two of the sets before the place, and the bits seen are those of all of these sets
 pub record ShareNoneBefore (first : Bits) (sets : List Bits) (k : ℕ) (seen : Bits) : Type 0 where
   pub used : (bit : ℕ) → (has seen bit ≡ true) ↔ IsUsed first sets k bit
   pub apart : (j bit : ℕ) → j < k → HoldsBit sets j bit → ¬ IsUsed first sets j bit
 
 module _ (first : Bits) (sets : List Bits) where
-  -- before the first place none is shared
+  -- before the first place no bit is shared
   pub share_begin : ShareNoneBefore first sets 0 first
   share_begin = record {
     used = λ bit. (λ h. inl h, λ h. elim h [ inl there ↦ there | inr other ↦ absurd (let l = other.1 in omega arith) ]);
@@ -124,7 +124,7 @@ module _ (first : Bits) (sets : List Bits) where
       | inr other ↦ with_other other.0 k bit other.1 other.2 ((held bit).1 here)
     ]
 
-    -- where none is, there is one set more
+    -- if no bit that was seen is in the set, one set more shares none
     pub share_more : ((bit : ℕ) → has seen bit ≡ true → has bits bit ≡ true → ⊥) → ShareNoneBefore first sets (k + 1) (join seen bits)
     share_more none = record {
       used = λ bit. (
@@ -148,7 +148,7 @@ module _ (first : Bits) (sets : List Bits) where
       ];
     }
 
-  -- at the end none is shared
+  -- at the end no bit is shared
   pub share_none : (k : ℕ) (seen : Bits) → length sets ≤ k → ShareNoneBefore first sets k seen → ShareBits first sets → ⊥
   share_none k seen end before (with_first j bit f h) = before.apart j bit (let l = held_within sets j bit h in omega arith) h (inl f)
   share_none k seen end before (with_other i j bit less g h) = before.apart j bit (let l = held_within sets j bit h in omega arith) h (inr (i, less, g))

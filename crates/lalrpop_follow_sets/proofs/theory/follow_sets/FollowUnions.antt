@@ -10,7 +10,7 @@ use Rattle.lalrpop_follow_sets.proofs.theory.follow_sets.FollowBits.{held_at, jo
 use Rattle.lalrpop_collections.proofs.theory.lists.Members.{Contains-none}
 use Rattle.lalrpop_collections.proofs.theory.lists.Places.{same_some}
 
--- ---- a set that is joined to those of an item
+-- ---- one set that is joined to those of an item
 module _ (found : Bits) (item : ℕ) (numbers : List ℕ) where
   -- the bit goes to a number before the place that is the item's
   abbrev pub GoesBefore : ℕ → ℕ → ℕ → Type 0
@@ -21,7 +21,7 @@ module _ (found : Bits) (item : ℕ) (numbers : List ℕ) where
   goes_begin old = takes_none (GoesBefore 0) (λ n bit s. let l = s.0 in absurd (omega arith)) old
 
   module _ (old mid : List Bits) (k : ℕ) (listed : k < length numbers) (counted : length old ≡ length numbers) (before : TakesBits (GoesBefore k) old mid) where
-    -- the next number is the item's
+    -- the number at the place is the item's
     pub goes_there : get_or numbers k 0 ≡ item → (there after : Bits) → there ≡ get_or mid k there → after ≡ join there found → TakesBits (GoesBefore (k + 1)) old (set mid k after)
     goes_there same there after read joined =
         let within : k < length mid = let e = before.counted in omega arith in
@@ -39,7 +39,7 @@ module _ (found : Bits) (item : ℕ) (numbers : List ℕ) where
           ],
         )) old (set mid k after) (takes_then (GoesBefore k) (λ n bit. (n ≡ k) × (has found bit ≡ true)) old mid (set mid k after) before taken)
 
-    -- it is another's
+    -- the number at the place is another's
     pub goes_past : (get_or numbers k 0 ≡ item → ⊥) → TakesBits (GoesBefore (k + 1)) old mid
     goes_past other = takes_same (GoesBefore k) (GoesBefore (k + 1)) (λ n bit. (
       λ s. ((let l = s.0 in omega arith), s.1, s.2),
@@ -51,7 +51,7 @@ module _ (found : Bits) (item : ℕ) (numbers : List ℕ) where
       ],
     )) old mid before
 
-  -- at the end it was joined to all of them
+  -- at the end the set is joined to all sets of the item
   pub goes_end : (old new : List Bits) (k : ℕ) → length numbers ≤ k → TakesBits (GoesBefore k) old new → JoinsUnions found item numbers old new
   goes_end old new k end taken = record {
     counted = taken.counted;

@@ -1,4 +1,5 @@
--- Walks over right sides: what is passed before a dot, one symbol more, and where a walk ends.
+-- Walks over right sides: the nodes that are passed before a dot, one symbol more, and the end of a
+-- walk.
 use Rattle.std.proofs.Common.{◌≡◌, ◌∙◌, inl, inr, ℕ, zero, suc, ◌+◌, ◌<◌, List, [], ◌∷◌, ◌++◌, length, get_or, refl, sym, ap, subst, arith, take, drop, true}
 use Rattle.std.specs.Prelude.{slice_get, Option, Some, None}
 use Rattle.std.proofs.lemmas.Option.{slice_get_within}
@@ -18,7 +19,7 @@ use Rattle.lalrpop_numbers.proofs.theory.numbers.DottedProductions.{those_both, 
 use Rattle.lalrpop_follow_sets.proofs.theory.follow_sets.FollowSets.{take_none}
 use Rattle.lalrpop_collections.proofs.theory.lists.Places.{places_apart, same_some, slice_get_at}
 
--- a walk that leads nowhere at a symbol leads nowhere over more symbols
+-- if a walk leads nowhere at a symbol, it leads nowhere over more symbols
 pub dead_end : (states : ℕ → Contents) (u : List Symbol) (n dot m d : ℕ) (x : Symbol) → state_from states n (take dot u) ≡ Some m → slice_get u dot ≡ Some x → leads (states m) x ≡ None → dot < d → state_from states n (take d u) ≡ None
 dead_end states [] n dot m d x l at none less = cc
 dead_end states (y ∷ u) n zero m zero x l at none less = absurd (omega arith)
@@ -32,19 +33,19 @@ dead_end states (y ∷ u) n (suc dot) m (suc d) x l at none less = go (leads (st
     go None e h = refl
     go (Some k) e h = h k e
 
--- what one dot has behind it stands there alone
+-- a production with a dot determines the production
 same_production : (q r : Production) (dot : ℕ) → Some (with_dot q dot) ≡ Some (with_dot r dot) → q ≡ r
 same_production q r dot e = ap (λ (i : Dotted Nil). i.production) (same_some (with_dot q dot) (with_dot r dot) e)
 
--- a number is that of one production with its dot in front
+-- a number is that of one production with the dot at the start
 pub one_front : (pass : Pass) (k : ℕ) (q r : Production) → IsFrontOf pass k q → IsFrontOf pass k r → q ≡ r
 one_front pass k q r a b = same_production q r 0 (sym a ∙ b)
 
--- a walk goes through a node before the dot
+-- a walk goes through the node before the dot
 abbrev pub GoesBefore : Pass → ℕ → Production → ℕ → ℕ → Type 0
 GoesBefore pass from q dot n = (g : GoesThrough pass from q n) × (g.dot < dot)
 
--- a walk from a state has come to a dot: where it is, and what it has passed
+-- a walk from a state has come to a dot: its place, and the nodes that it has passed
 pub record IsWalking (pass : Pass) (from front : ℕ) (old : List ℕ) (state item : ℕ) (ends : List ℕ) : Type 0 where
   pub production : Production
   pub dot : ℕ
@@ -54,7 +55,7 @@ pub record IsWalking (pass : Pass) (from front : ℕ) (old : List ℕ) (state it
   pub listed : state < length pass.states.now
   pub passed : AddsThose (GoesBefore pass from production dot) old ends
 
--- it begins in front
+-- the walk begins with the dot at the start
 pub walk_begins : (pass : Pass) (from front : ℕ) (q : Production) (old : List ℕ) → IsFrontOf pass front q → from < length pass.states.now → IsWalking pass from front old from front old
 walk_begins pass from front q old begun listed = record {
   production = q;
@@ -71,33 +72,33 @@ module _ (pass : Pass) (ok : IsPass pass) (from front : ℕ) (old : List ℕ) (s
   abbrev q : Production
   q = w.production
 
-  -- the states in which it goes
+  -- the states through which the walk goes
   abbrev states : ℕ → Contents
   states = places_in pass.states.now
 
-  -- what is read behind the item's number stands behind the dot
+  -- the number that is read for the item is that of the symbol after its dot
   is_behind : (read : Option ℕ) → read ≡ get_or pass.numbers.now.behind.items item read → IsNumberBehind pass.numbers.now.symbols.items (with_dot q w.dot) read
   is_behind read is =
       let l = slice_get_within pass.numbers.now.items.items item (with_dot q w.dot) w.numbered in
       let e = ok.numbers.counted in
       ok.numbers.behind item (with_dot q w.dot) read w.numbered (slice_get_at pass.numbers.now.behind.items item read (omega arith) is)
 
-  -- a number that is read stands there
+  -- a number that is read is in the list, at the item's number
   pub number_behind : (read : Option ℕ) → read ≡ get_or pass.numbers.now.behind.items item read → (x : ℕ) → read ≡ Some x → slice_get pass.numbers.now.behind.items item ≡ Some (Some x)
   number_behind read is x some =
       let l = slice_get_within pass.numbers.now.items.items item (with_dot q w.dot) w.numbered in
       let e = ok.numbers.counted in
       slice_get_at pass.numbers.now.behind.items item read (omega arith) is ∙ ap Some some
 
-  -- its symbol stands behind the dot
+  -- the symbol with this number is after the dot
   pub symbol_there : (read : Option ℕ) → read ≡ get_or pass.numbers.now.behind.items item read → (x : ℕ) → read ≡ Some x → (s : Symbol) × (slice_get q.symbols w.dot ≡ Some s)
   symbol_there read is x some = let b = subst (IsNumberBehind pass.numbers.now.symbols.items (with_dot q w.dot)) some (is_behind read is) in (b.0, b.2)
 
-  -- and where none is read, the dot is at the end
+  -- if no number is read, the dot is at the end
   pub none_there : (read : Option ℕ) → read ≡ get_or pass.numbers.now.behind.items item read → read ≡ None → w.dot ≡ length q.symbols
   none_there read is none = subst (IsNumberBehind pass.numbers.now.symbols.items (with_dot q w.dot)) none (is_behind read is)
 
-  -- at its dot a walk goes through a node as a step there does
+  -- at its dot a walk goes through a node as a step does there
   step_at : (n : ℕ) (g : GoesThrough pass from q n) → g.dot ≡ w.dot → StepsThrough pass state (with_dot q w.dot) n
   step_at n g e =
       let same : g.state ≡ state = same_some g.state state (sym g.leads ∙ ap (λ (d : ℕ). state_from states from (take d q.symbols)) e ∙ w.over) in
@@ -111,7 +112,7 @@ module _ (pass : Pass) (ok : IsPass pass) (from front : ℕ) (old : List ℕ) (s
         node = g.node ∙ ap (λ (r : ℕ). Some (r, g.name)) same;
       }
 
-  -- and the other way round
+  -- a step at the dot goes through a node as the walk does
   walk_at : (n : ℕ) → StepsThrough pass state (with_dot q w.dot) n → (g : GoesThrough pass from q n) × (g.dot ≡ w.dot)
   walk_at n s = (
     record {
@@ -130,7 +131,7 @@ module _ (pass : Pass) (ok : IsPass pass) (from front : ℕ) (old : List ℕ) (s
   )
 
   module _ (x : Symbol) (behind : slice_get q.symbols w.dot ≡ Some x) (after : List ℕ) (stepped : AddsThose (StepsThrough pass state (with_dot q w.dot)) ends after) where
-    -- one symbol more
+    -- the walk goes over one symbol more
     pub walk_more : (target : ℕ) → IsGoneOver pass state (with_dot q w.dot) (Some target) → IsWalking pass from front old target (item + 1) after
     walk_more target gone = record {
       production = q;
@@ -157,11 +158,11 @@ module _ (pass : Pass) (ok : IsPass pass) (from front : ℕ) (old : List ℕ) (s
         one_more d = omega arith
 
     module _ (gone : IsGoneOver pass state (with_dot q w.dot) None) where
-      -- the right side leads nowhere where this symbol does not
+      -- the right side leads nowhere if this symbol leads nowhere
       pub walk_stops : state_from states from q.symbols ≡ None
       walk_stops = ap (state_from states from) (sym (take_all q.symbols)) ∙ dead_end states q.symbols from w.dot state (length q.symbols) x w.over behind (gone x behind) (slice_get_within q.symbols w.dot x behind)
 
-      -- and nothing behind is passed
+      -- no node after the dot is passed
       pub stopped_through : AddsThose (GoesThrough pass from q) old after
       stopped_through = those_both (GoesBefore pass from q w.dot) (StepsThrough pass state (with_dot q w.dot)) (GoesThrough pass from q) old ends after (λ n. (
         λ g. elim (places_apart g.dot w.dot) [
@@ -175,7 +176,7 @@ module _ (pass : Pass) (ok : IsPass pass) (from front : ℕ) (old : List ℕ) (s
       )) w.passed stepped
 
   module _ (end : w.dot ≡ length q.symbols) where
-    -- at the end all is passed
+    -- at the end all nodes are passed
     pub ended_through : AddsThose (GoesThrough pass from q) old ends
     ended_through n = (
       λ c. elim ((w.passed n).0 c) [ inl was ↦ inl was | inr g ↦ inr g.0 ],
@@ -185,6 +186,6 @@ module _ (pass : Pass) (ok : IsPass pass) (from front : ℕ) (old : List ℕ) (s
       ],
     )
 
-    -- and the item is finished
+    -- at the end the item is finished
     pub walk_ends : IsEndOfWalk pass from q (Some (state, item))
     walk_ends = (ap (state_from states from) (sym (take_all q.symbols) ∙ ap (λ (d : ℕ). take d q.symbols) (sym end)) ∙ w.over, w.listed, w.numbered ∙ ap (λ (d : ℕ). Some (with_dot q d)) end)

@@ -1,4 +1,4 @@
--- Walks from the productions of a nonterminal: one front more, and all fronts of a node.
+-- Walks over the productions of a nonterminal: one production more, and all productions of a node.
 use Rattle.std.proofs.Common.{◌≡◌, ◌∙◌, ◌↔◌, ◌⊎◌, inl, inr, ℕ, ◌+◌, ◌<◌, ◌≤◌, List, [], ◌∷◌, ◌++◌, length, length-append, refl, sym, ap, subst, arith, option_map}
 use Rattle.std.specs.Prelude.{slice_get, Option, Some, None, Contains}
 use Rattle.std.proofs.lemmas.Bool.{cases_lt}
@@ -26,9 +26,9 @@ use Rattle.lalrpop_collections.proofs.theory.lists.Places.{contains_at, push_cas
 abbrev Entries : Type 0
 Entries = Vec (ℕ × ℕ) Global
 
--- ---- fronts
+-- ---- productions with the dot at the start
 module _ (pass : Pass) (Such : Production → Type 0) where
-  -- a front more
+  -- one production more
   pub front_more : (done : List ℕ) (k : ℕ) (q : Production) → IsFrontOf pass k q → SomeFront pass (done ++ k ∷ []) Such ↔ (SomeFront pass done Such ⊎ Such q)
   front_more done k q front = (
     λ f. elim (Contains-push_cases done k f.0 f.2) [
@@ -41,12 +41,13 @@ module _ (pass : Pass) (Such : Production → Type 0) where
     ],
   )
 
--- walks over productions from a state: through which nodes they went, and where they ended
+-- walks over productions from a state: the nodes through which they went, and the states in which
+-- they ended
 pub record WalksOver (pass : Pass) (node from : ℕ) (fronts old new : List ℕ) (before after : List Entries) : Type 0 where
   pub through : AddsThose (λ n. SomeFront pass fronts (λ q. GoesThrough pass from q n)) old new
   pub noted : NotesEnds node (λ s k. SomeFront pass fronts (λ q. EndsAt pass from q s k)) before after
 
--- a walk more
+-- one walk more
 pub walks_more : (pass : Pass) (node from : ℕ) (done : List ℕ) (front : ℕ) (q : Production) (old middle new : List ℕ) (before between after : List Entries) → IsFrontOf pass front q → WalksOver pass node from done old middle before between →
     AddsThose (GoesThrough pass from q) middle new → NotesEnds node (EndsAt pass from q) between after → WalksOver pass node from (done ++ front ∷ []) old new before after
 walks_more pass node from done front q old middle new before between after is walks through noted = record {
@@ -56,7 +57,7 @@ walks_more pass node from done front q old middle new before between after is wa
       (λ s k. front_more pass (λ p. EndsAt pass from p s k) done front q is) walks.noted noted;
 }
 
--- walks from the first few nodes
+-- the walks from the first few nodes
 pub record WalksFrom (pass : Pass) (count : ℕ) (edges : List (Vec ℕ Global)) (lookback : List Entries) : Type 0 where
   pub counted : length edges ≡ count
   pub ends : (m n : ℕ) → Contains (edge_ends edges m) n ↔ ((m < count) × SomeOfNode pass m (λ r q. GoesThrough pass r q n))
@@ -64,14 +65,15 @@ pub record WalksFrom (pass : Pass) (count : ℕ) (edges : List (Vec ℕ Global))
   pub entries : (s k m : ℕ) → Contains (entries_at lookback s) (k, m) ↔ ((m < count) × SomeOfNode pass m (λ r q. EndsAt pass r q s k))
 
 module _ (pass : Pass) (ok : IsPass pass) where
-  -- ---- the fronts of a node
-  -- each number of an expansion is that of a production with its dot in front
+  -- ---- the productions of a node
+  -- each number of an expansion is that of a production with the dot at the start
   pub expansion_front : (a : NonterminalString) (fronts : List ℕ) → AreExpansions pass.numbers.now.items.items (Nonterminal a) fronts → (k : ℕ) → Contains fronts k → (q : Production) × IsFrontOf pass k q × (q.nonterminal ≡ a)
   expansion_front a fronts expansions k c =
       let i = (expansions k).0 c in
       ((i.0).production, i.1 ∙ ap (λ (dot : ℕ). Some (with_dot (i.0).production dot)) i.2, same_nonterminal (sym i.3))
 
-  -- what a front is such as, a production of the node's nonterminal is
+  -- some production of the node's nonterminal is such exactly if one of the numbers is that of such
+  -- a production
   pub front_node : (m r : ℕ) (a : NonterminalString) (fronts : List ℕ) → IsFollowNode (nodes_of pass) m r a → AreExpansions pass.numbers.now.items.items (Nonterminal a) fronts → (Such : ℕ → Production → Type 0) → SomeFront pass fronts (Such r) ↔ SomeOfNode pass m Such
   front_node m r a fronts node expansions Such = (
     λ f.
@@ -97,7 +99,7 @@ module _ (pass : Pass) (ok : IsPass pass) where
       (named.0, subst (λ (y : ℕ). IsNodeName pass y named.0) same p.2, named.1)
 
   -- ---- all nodes
-  -- no node
+  -- before the first node there are no walks
   pub from_none : (lookback : List Entries) → AreEmptyLists (length pass.states.now) lookback → WalksFrom pass 0 [] lookback
   from_none lookback empty = record {
     counted = refl;
@@ -106,7 +108,7 @@ module _ (pass : Pass) (ok : IsPass pass) where
     entries = λ s k m. (λ c. absurd (empty.empty s (k, m) c), λ e. absurd (let l = e.0 in omega arith));
   }
 
-  -- a node more
+  -- one node more
   pub from_more : (node r : ℕ) (a : NonterminalString) (fronts : List ℕ) (edges : List (Vec ℕ Global)) (ends : Vec ℕ Global) (before after : List Entries) → IsFollowNode (nodes_of pass) node r a → AreExpansions pass.numbers.now.items.items (Nonterminal a) fronts →
       WalksFrom pass node edges before → WalksOver pass node r fronts [] ends.items before after → WalksFrom pass (node + 1) (edges ++ ends ∷ []) after
   from_more node r a fronts edges ends before after is expansions walks over = record {
@@ -157,14 +159,14 @@ module _ (pass : Pass) (ok : IsPass pass) where
       kept m n None at c = absurd (Contains-none n c)
       kept m n (Some v) at c = subst (λ (o : Option (Vec ℕ Global)). Contains (listed_ends o) n) (sym (slice_get-longer edges (ends ∷ []) m v at)) c
 
-  -- walks from all nodes give the edges
+  -- the walks from all nodes give the edges
   pub all_includes : (edges : List (Vec ℕ Global)) (lookback : List Entries) → WalksFrom pass (length pass.nodes.now.pairs.items) edges lookback → AreIncludes pass edges
   all_includes edges lookback walks = record {
     counted = walks.counted ∙ sym (nodes_counted pass ok);
     ends = λ m n. (λ c. ((walks.ends m n).0 c).1, λ o. (walks.ends m n).1 (node_within pass ok m o.0 (o.1).nonterminal o.2, o));
   }
 
-  -- and end where they are noted
+  -- the walks from all nodes end at the entries of the lists
   pub all_lookbacks : (edges : List (Vec ℕ Global)) (lookback : List Entries) → WalksFrom pass (length pass.nodes.now.pairs.items) edges lookback → AreLookbacks pass lookback
   all_lookbacks edges lookback walks = record {
     counted = walks.listed;

@@ -1,4 +1,4 @@
--- Where walks end: lists of finished items with nodes, and an entry more.
+-- The ends of walks: lists of finished items with nodes, and one entry more.
 use Rattle.std.proofs.Common.{◌≡◌, ◌∙◌, ◌↔◌, ◌⊎◌, inl, inr, ℕ, ◌+◌, ◌<◌, List, [], ◌∷◌, ◌++◌, length, length-append, get_or, refl, sym, ap, subst, arith, slice_set}
 use Rattle.std.specs.Prelude.{slice_get, Option, Some, None, Contains}
 use Rattle.std.specs.declared.alloc.Global.{Global}
@@ -19,11 +19,11 @@ abbrev Entries : Type 0
 Entries = Vec (ℕ × ℕ) Global
 
 -- ---- empty lists
--- no lists
+-- no lists are empty lists
 pub empty_none : AreEmptyLists 0 []
 empty_none = record { counted = refl; empty = λ s e c. Contains-none e c }
 
--- an empty list more
+-- one empty list more
 pub empty_more : (count : ℕ) (lookback : List Entries) (none : Entries) → none.items ≡ [] → AreEmptyLists count lookback → AreEmptyLists (count + 1) (lookback ++ none ∷ [])
 empty_more count lookback none is before = record {
   counted = length-append lookback (none ∷ []) ∙ ap (λ n. n + 1) before.counted;
@@ -38,7 +38,7 @@ empty_more count lookback none is before = record {
     ]
 
 -- ---- entries of a node
--- a list took an entry
+-- one list got an entry
 pub note_one : (node item state : ℕ) (old : List Entries) (before after : Entries) → state < length old → before ≡ get_or old state before → after.items ≡ before.items ++ (item, node) ∷ [] → NotesEnds node (λ s k. (s ≡ state) × (k ≡ item)) old (slice_set old state after)
 note_one node item state old before after listed was more = record {
   counted = set_length old state after;
@@ -73,7 +73,7 @@ note_one node item state old before after listed was more = record {
         pair : (i m : ℕ) (e : ℕ × ℕ) → (e.1 ≡ m) × (e.0 ≡ i) → (i, m) ≡ e
         pair i m e such = ap (λ (j : ℕ). (j, m)) (sym such.1) ∙ ap (λ (j : ℕ). (e.0, j)) (sym such.0)
 
--- the same said in other words
+-- equivalent conditions note the same entries
 pub note_as : (node : ℕ) (P Q : ℕ → ℕ → Type 0) (old new : List Entries) → ((s k : ℕ) → P s k ↔ Q s k) → NotesEnds node P old new → NotesEnds node Q old new
 note_as node P Q old new same notes = record {
   counted = notes.counted;
@@ -83,7 +83,7 @@ note_as node P Q old new same notes = record {
   );
 }
 
--- entries came one after the other
+-- entries of one kind, and then of another
 pub note_both : (node : ℕ) (P Q R : ℕ → ℕ → Type 0) (old middle new : List Entries) → ((s k : ℕ) → R s k ↔ (P s k ⊎ Q s k)) → NotesEnds node P old middle → NotesEnds node Q middle new → NotesEnds node R old new
 note_both node P Q R old middle new either first second = record {
   counted = second.counted ∙ first.counted;
@@ -104,7 +104,7 @@ note_both node P Q R old middle new either first second = record {
 
 -- ---- ends of walks
 module _ (pass : Pass) (ok : IsPass pass) (from : ℕ) (q : Production) where
-  -- a walk that leads to a state ends there alone, in one finished item
+  -- a walk that leads to a state ends in this state alone, at one finished item
   pub ends_there : (state item : ℕ) → IsEndOfWalk pass from q (Some (state, item)) → (s k : ℕ) → ((s ≡ state) × (k ≡ item)) ↔ EndsAt pass from q s k
   ends_there state item end s k = (
     λ e. (end.0 ∙ ap Some (sym e.0), ap (slice_get pass.numbers.now.items.items) e.1 ∙ end.2),

@@ -1,4 +1,4 @@
--- The nodes of transitions, and that of the start symbol in state 0.
+-- The nodes of transitions, and the node of the start symbol in state 0.
 use Rattle.std.proofs.Common.{◌≡◌, ◌∙◌, ◌⊎◌, inl, inr, ℕ, ◌+◌, ◌<◌, List, [], ◌∷◌, ◌++◌, length, sym, ap, subst, arith, true}
 use Rattle.std.specs.Prelude.{slice_get, get_or, Option, Some, None, Contains, IfSome}
 use Rattle.std.specs.Option.{is_some}
@@ -13,7 +13,7 @@ use Rattle.lalrpop_follow_sets.specs.declared.follow_sets.nodes.Nodes.{Nodes}
 use Rattle.lalrpop_construction.specs.declared.construction.numbered_state.NumberedState.{NumberedState}
 use Rattle.lalrpop_collections.proofs.theory.lists.Places.{contains_at, push_cases, slice_get-longer}
 
--- what is told of a value that is there
+-- if an option is some, its value has the property
 pub of_some : {X : Type 0} (P : X → Type 0) (o : Option X) → is_some o ≡ true → IfSome o P → (x : X) × P x
 of_some P (Some x) is h = (x, h)
 of_some P None is h = cc
@@ -22,7 +22,7 @@ module _ (symbols : List Symbol) (first : ℕ) (states : List NumberedState) (no
   abbrev pairs : List (ℕ × ℕ)
   pairs = nodes.pairs.items
 
-  -- where state 0 has a transition over it, nothing is added
+  -- if state 0 has a transition over the start symbol, no node is added
   pub Nodes-same : (place target : ℕ) → slice_get (transitions_at states 0) place ≡ Some (first, target) → IsNonterminalOrCount symbols first → first < length symbols → AreNodes symbols first states nodes
   Nodes-same place target edge is known = record {
     counted = made.counted;
@@ -35,15 +35,15 @@ module _ (symbols : List Symbol) (first : ℕ) (states : List NumberedState) (no
     differ = made.differ;
   }
 
-  -- where it has none, the start symbol comes last
+  -- if state 0 has none, the node of the start symbol comes last
   module _ (none : (target : ℕ) → Contains (transitions_at states 0) (first, target) → ⊥) (new : Nodes) (same : new.firsts.items ≡ nodes.firsts.items) (more : new.pairs.items ≡ pairs ++ (0, first) ∷ []) where
-    -- the nodes of transitions stay where they are
+    -- the nodes of transitions stay at their places
     longer : (s place x target : ℕ) (a : NonterminalString) → slice_get (transitions_at states s) place ≡ Some (x, target) → slice_get symbols x ≡ Some (Nonterminal a) → slice_get new.pairs.items (get_or new.firsts.items s 0 + place) ≡ Some (s, x)
     longer s place x target a edge symbol =
         let at = get_or nodes.firsts.items s 0 + place in
         ap (λ (fs : List ℕ). slice_get new.pairs.items (get_or fs s 0 + place)) same ∙ ap (λ (ps : List (ℕ × ℕ)). slice_get ps at) more ∙ slice_get-longer pairs ((0, first) ∷ []) at (s, x) (made.here s place x target a edge symbol)
 
-    -- a node is one of those, or the new one
+    -- a node is one of those of transitions, or the new one
     cases : (node : ℕ) (p : ℕ × ℕ) → slice_get new.pairs.items node ≡ Some p → (slice_get pairs node ≡ Some p) ⊎ ((node ≡ length pairs) × ((0, first) ≡ p))
     cases node p at = push_cases pairs (0, first) node p (ap (λ (ps : List (ℕ × ℕ)). slice_get ps node) (sym more) ∙ at)
 
@@ -53,7 +53,7 @@ module _ (symbols : List Symbol) (first : ℕ) (states : List NumberedState) (no
       | inr end ↦ inl (ap (λ (p : ℕ × ℕ). p.0) (sym end.1), ap (λ (p : ℕ × ℕ). p.1) (sym end.1))
     ]
 
-    -- the new one is none of the others
+    -- the new node differs from the others
     differ : AllDiffer new.pairs.items
     differ i j p l at_i at_j = elim (cases i p at_i) [
       | inl was ↦ elim (cases j p at_j) [

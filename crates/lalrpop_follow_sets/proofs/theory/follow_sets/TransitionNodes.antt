@@ -13,13 +13,13 @@ use Rattle.lalrpop_construction.specs.declared.construction.numbered_state.Numbe
 use Rattle.lalrpop_follow_sets.proofs.theory.states.NonterminalEdges.{Listed-at, pair_at, pairs_differ}
 use Rattle.lalrpop_collections.proofs.theory.lists.Places.{push_cases, slice_get-longer, slice_get-push_at, slice_get-append_behind}
 
--- a transition is one of a state
+-- a transition is at the place among those of a state
 pub record IsEdgeOf (o : Option NumberedState) (place : ℕ) (e : ℕ × ℕ) : Type 0 where
   pub state : NumberedState
   pub is : o ≡ Some state
   pub edge : slice_get state.edges.items place ≡ Some e
 
--- each that is listed is
+-- each transition that is listed is one of the state
 pub Edge-of : (o : Option NumberedState) (place : ℕ) (e : ℕ × ℕ) → slice_get (listed_transitions o) place ≡ Some e → IsEdgeOf o place e
 Edge-of None place e at = cc
 Edge-of (Some state) place e at = record { state = state; is = refl; edge = at }
@@ -28,7 +28,8 @@ Edge-of (Some state) place e at = record { state = state; is = refl; edge = at }
 pub edges_are : (states : List NumberedState) (s : ℕ) (state : NumberedState) → slice_get states s ≡ Some state → transitions_at states s ≡ state.edges.items
 edges_are states s state at = ap listed_transitions at
 
--- a place in two lists is one in the first, or one in the second behind it
+-- a place in two lists is a place in the first, or one in the second that is counted from the end
+-- of the first
 append_at : {X : Type 0} (xs ys : List X) (k : ℕ) (x : X) → slice_get (xs ++ ys) k ≡ Some x → (slice_get xs k ≡ Some x) ⊎ ((j : ℕ) × (k ≡ length xs + j) × (slice_get ys j ≡ Some x))
 append_at [] ys k x at = inr (k, omega arith, at)
 append_at (y ∷ xs) ys zero x at = inl at
@@ -44,7 +45,7 @@ pub record HaveNodes (symbols : List Symbol) (states : List NumberedState) (firs
   pub from : (node s x : ℕ) → slice_get pairs node ≡ Some (s, x) → IsTransitionNode symbols states firsts node s x
   pub differ : AllDiffer pairs
 
--- no states have none
+-- no states have no nodes
 pub Have-none : (symbols : List Symbol) → HaveNodes symbols [] [] []
 Have-none symbols = record {
   counted = refl;
@@ -66,7 +67,7 @@ module _ (symbols : List Symbol) (ascend : SymbolsAscend symbols) (done : List N
   abbrev more : List ℕ
   more = firsts ++ length pairs ∷ []
 
-  -- the states before have the first nodes that they had, and the new one has the next
+  -- the states before keep their first nodes, and the new state has the next one
   first_kept : (s : ℕ) → s < number → get_or more s 0 ≡ get_or firsts s 0
   first_kept s l = let c = before.counted in get_or_append_left firsts (length pairs ∷ []) 0 s (omega arith)
 
@@ -142,7 +143,7 @@ module _ (symbols : List Symbol) (ascend : SymbolsAscend symbols) (done : List N
     ]
   ]
 
-  -- a state more
+  -- the nodes of one state more
   pub Have-more : HaveNodes symbols states more (pairs ++ added)
   Have-more = record {
     counted = length-append firsts (length pairs ∷ []) ∙ ap (λ (n : ℕ). n + 1) before.counted ∙ sym (length-append done (state ∷ []));

@@ -1,4 +1,5 @@
--- What reads the dotted productions and the edges of states alone says the same of states that differ in lookaheads.
+-- If two lists of states differ in lookaheads alone, definitions that read only dotted productions
+-- and edges say the same of both.
 use Rattle.std.proofs.Common.{◌≡◌, ℕ, Bool, List, [], ◌∷◌, length, map, refl, sym, ◌∙◌, ap, subst, arith, Option, Some, None, option_map}
 use Rattle.std.specs.Prelude.{Contains, slice_get}
 use Rattle.std.specs.Borrow.{Bor}
@@ -55,7 +56,7 @@ module _ (g : List Production) (start : NonterminalString) (a b : ℕ → Conten
   pub lane_there : (s : ℕ) (p : Production) (dot : ℕ) (t : Token) → IsLaneToken g start a s p dot t → IsLaneToken g start b s p dot t
   lane_there s p dot t k = (k.0, record { production = (k.1).production; index = (k.1).index; traced = traced_there (k.1).traced; gives = gives_there (k.1).gives })
 
--- ---- what is after a prefix
+-- ---- the states after a prefix
 onward_same : (o : Option ℕ) (f h : ℕ → Option ℕ) → ((m : ℕ) → f m ≡ h m) → onward o f ≡ onward o h
 onward_same None f h e = refl
 onward_same (Some m) f h e = e m
@@ -78,7 +79,7 @@ module _ (a b : Contents) (same : IsSamePlace a b) where
       let c : Contains (map produced b.reductions) p = subst (Contains (map produced b.reductions)) h.2 (subst (λ (ps : List Production). Contains ps (h.0).production) (sym same.reduced) (contains_map produced a.reductions h.0 h.1)) in
       contains_of_map produced b.reductions p c
 
-  -- the reduction at a place
+  -- the reduction at a place has the same production in both
   stands_there : (k : ℕ) (r : Reduction) → slice_get b.reductions k ≡ Some r → (q : Reduction) × (slice_get a.reductions k ≡ Some q) × (q.production ≡ r.production)
   stands_there k r at = some_of_map produced (slice_get a.reductions k) r.production (sym (slice_get-map produced a.reductions k) ∙ ap (λ (ps : List Production). slice_get ps k) (sym same.reduced) ∙ slice_get-map produced b.reductions k ∙ ap (option_map produced) at)
 
@@ -178,6 +179,6 @@ module _ {K L : Type 0} (old_holds : K → Token → Bool) (new_holds : L → To
     pub places_same : AreSamePlaces (contents_in old_holds old) (contents_in new_holds new)
     places_same n = place_at n (slice_get old n) (slice_get new n) refl refl
 
--- states have the places of themselves
+-- states have the same places as themselves
 pub place_itself : {L : Type 0} (states : List (State L)) → HaveSamePlaces states states
 place_itself {L} states = record { counted = refl; each = λ n before after at_old at_new. let e : after ≡ before = same_some after before (sym at_new ∙ at_old) in subst (λ (s : State L). HasSamePlace s after) e (record { index = refl; dots = refl; shifts = refl; gotos = refl; reduced = refl }) }

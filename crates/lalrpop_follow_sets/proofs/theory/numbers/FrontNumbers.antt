@@ -1,4 +1,5 @@
--- The numbers of the productions of a nonterminal with the dot in front, one item after the other.
+-- The numbers of the productions of a nonterminal with the dot at the start, one item after the
+-- other.
 use Rattle.std.proofs.Common.{◌≡◌, ◌∙◌, inl, inr, ℕ, List, [], ◌∷◌, ◌++◌, length, sym, ap, subst}
 use Rattle.std.specs.Prelude.{slice_get, Some, Contains}
 use Rattle.std.proofs.lemmas.List.Elements.{Contains-append_left, Contains-append_right, Contains-append_cases}
@@ -8,7 +9,7 @@ use Rattle.lalrpop_grammar.specs.declared.repr.Symbol.TheVariants.{Nonterminal}
 use Rattle.lalrpop_collections.proofs.theory.lists.Members.{contains-cons, contains_head, Contains-none}
 use Rattle.lalrpop_collections.proofs.theory.lists.Places.{push_cases, slice_get-longer, slice_get-push_at}
 
--- no items have none
+-- no items have no such numbers
 pub Fronts-none : (a : NonterminalString) → AreExpansions [] (Nonterminal a) []
 Fronts-none a k = (λ c. absurd (Contains-none k c), λ i. absurd (no_item i.0 i.1))
   where
@@ -32,7 +33,7 @@ module _ (done : List (Dotted Nil)) (i : Dotted Nil) (a : NonterminalString) (ol
     ],
   )
 
-  -- one item more that is not
+  -- one item more that is no such production
   pub Fronts-same : (i.index ≡ 0 → i.production.nonterminal ≡ a → ⊥) → AreExpansions (done ++ i ∷ []) (Nonterminal a) old
   Fronts-same other k = (
     λ c. let j = (before k).0 c in (j.0, slice_get-longer done (i ∷ []) k j.0 j.1, j.2, j.3),

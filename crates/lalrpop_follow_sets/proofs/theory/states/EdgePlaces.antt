@@ -1,4 +1,4 @@
--- What stands at which place of transitions that ascend by their symbols.
+-- Which transition is at which place, if transitions ascend by their symbols.
 use Rattle.std.proofs.Common.{◌≡◌, inl, inr, ℕ, ◌+◌, ◌<◌, ◌≤◌, List, length, get_or, sym, ap, arith, ◌∙◌, Some}
 use Rattle.std.specs.Prelude.{slice_get, Contains}
 use Rattle.std.proofs.lemmas.Option.{slice_get-get_or}
@@ -16,7 +16,7 @@ module _ (edges : List (ℕ × ℕ)) (ascend : EdgesAscend edges) (middle : ℕ)
   here : (k x m : ℕ) → k ≡ middle → slice_get edges k ≡ Some (x, m) → read.0 ≡ x
   here k x m e at = ap (λ (p : ℕ × ℕ). p.0) (same_some read (x, m) (sym at_middle ∙ ap (slice_get edges) (sym e) ∙ at))
 
-  -- up to the place no symbol is greater than there
+  -- up to the place no symbol is greater than the one at the place
   pub rises_to : (k x m : ℕ) → k < middle + 1 → slice_get edges k ≡ Some (x, m) → x ≤ read.0
   rises_to k x m l at = elim (places_apart k middle) [
     | inl less ↦ let before : x < read.0 = ascend k middle (x, m) read less at at_middle in omega arith
@@ -26,7 +26,7 @@ module _ (edges : List (ℕ × ℕ)) (ascend : EdgesAscend edges) (middle : ℕ)
     ]
   ]
 
-  -- and from the place on none is less
+  -- from the place on no symbol is less than the one at the place
   pub rises_from : (k x m : ℕ) → middle ≤ k → slice_get edges k ≡ Some (x, m) → read.0 ≤ x
   rises_from k x m l at = elim (places_apart middle k) [
     | inl less ↦ let behind : read.0 < x = ascend middle k read (x, m) less at_middle at in omega arith
@@ -48,7 +48,8 @@ module _ (edges : List (ℕ × ℕ)) (low symbol : ℕ) (below : (k x m : ℕ) �
       let less : symbol < symbol = below p.0 symbol target (omega (arith, p.1)) p.2 in
       absurd (omega arith)
 
-  -- nor over one that is not at the first place where symbols are not less
+  -- there is no transition over a symbol that is not at the first place from which on no symbol is
+  -- less
   pub none_between : EdgesAscend edges → low < length edges → ((k x m : ℕ) → low ≤ k → slice_get edges k ≡ Some (x, m) → symbol ≤ x) → ((get_or edges low (0, 0)).0 ≡ symbol → ⊥) → (target : ℕ) → Contains edges (symbol, target) → ⊥
   none_between ascend within above other target c =
       let p = place edges (symbol, target) c in

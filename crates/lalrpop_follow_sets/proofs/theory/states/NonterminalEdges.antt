@@ -1,4 +1,4 @@
--- The transitions of a state over nonterminals stand before its others.
+-- The transitions of a state over nonterminals come before its others.
 use Rattle.std.proofs.Common.{◌≡◌, ◌∙◌, ℕ, zero, suc, ◌+◌, ◌<◌, ◌≤◌, List, [], ◌∷◌, ◌++◌, length, refl, sym, ap, subst, arith, append_assoc, append-nil, drop}
 use Rattle.std.specs.Prelude.{slice_get, get_or, Option, Some, None, Contains}
 use Rattle.std.specs.declared.cmp.Ordering.TheVariants.{Less, Greater}
@@ -14,7 +14,7 @@ use Rattle.lalrpop_construction.specs.states.NumberedStates.{EdgesAscend}
 use Rattle.lalrpop_collections.proofs.theory.lists.Places.{contains_at, filled, same_some}
 use Rattle.lalrpop_collections.proofs.theory.lists.SortedPlaces.{Sorted-places}
 
--- no terminal is less than a nonterminal
+-- a symbol that is less than a nonterminal is a nonterminal
 no_terminal : (s : Symbol) (a : NonterminalString) → symbol_order s (Nonterminal a) ≡ Less → (b : NonterminalString) × (s ≡ Nonterminal b)
 no_terminal (Nonterminal b) a less = (b, refl)
 no_terminal (Terminal t) a less =
@@ -22,7 +22,7 @@ no_terminal (Terminal t) a less =
     let same : Less ≡ Greater = sym less ∙ greater in
     cc
 
--- a symbol before a nonterminal is one
+-- a symbol with a smaller number than a nonterminal is a nonterminal
 pub nonterminal_before : (symbols : List Symbol) → SymbolsAscend symbols → (y x : ℕ) (a : NonterminalString) → y < x → slice_get symbols x ≡ Some (Nonterminal a) → (b : NonterminalString) × (slice_get symbols y ≡ Some (Nonterminal b))
 nonterminal_before symbols ascend y x a l at =
     let within : x < length symbols = slice_get_within symbols x (Nonterminal a) at in
@@ -31,7 +31,7 @@ nonterminal_before symbols ascend y x a l at =
     (b.0, s.1 ∙ ap Some b.1)
 
 module _ (symbols : List Symbol) (s : ℕ) where
-  -- a nonterminal is put in front
+  -- the pair of a nonterminal is put at the start
   pub pair_of : (o : Option Symbol) (x : ℕ) (a : NonterminalString) (pairs : List (ℕ × ℕ)) → o ≡ Some (Nonterminal a) → as_pair s x o pairs ≡ (s, x) ∷ pairs
   pair_of (Some (Nonterminal b)) x a pairs e = refl
   pair_of (Some (Terminal t)) x a pairs e = cc
@@ -43,7 +43,7 @@ module _ (symbols : List Symbol) (s : ℕ) where
   none_of (Some (Terminal u)) x t pairs e other = refl
   none_of None x t pairs e other = refl
 
-  -- a transition whose number stands in the list
+  -- a transition of the list whose pair this is
   pub record IsListed (edges : List (ℕ × ℕ)) (place : ℕ) (p : ℕ × ℕ) : Type 0 where
     pub state : p.0 ≡ s
     pub target : ℕ
@@ -63,7 +63,7 @@ module _ (symbols : List Symbol) (s : ℕ) where
   listed_first (Some (Terminal t)) x m es pairs place p is later at = cc
   listed_first None x m es pairs place p is later at = cc
 
-  -- each pair stands at the place of its transition
+  -- each pair is at the place of its transition
   pub Listed-at : (edges : List (ℕ × ℕ)) (place : ℕ) (p : ℕ × ℕ) → slice_get (nonterminals_of symbols s edges) place ≡ Some p → IsListed edges place p
   Listed-at [] place p at = cc
   Listed-at ((x, m) ∷ es) place p at = listed_first (slice_get symbols x) x m es (nonterminals_of symbols s es) place p refl (λ j h. Listed-at es j p h) at
@@ -88,8 +88,8 @@ module _ (symbols : List Symbol) (s : ℕ) where
       let less : p.1 < p.1 = up i j (p.1, first.target) (p.1, second.target) l first.edge second.edge in
       absurd (omega arith)
 
--- ---- reading on
--- what is read is the number of a symbol
+-- ---- one transition after the other
+-- the number that is read is that of a symbol
 pub read_known : (symbols : List Symbol) (edges : List (ℕ × ℕ)) (i : ℕ) → i < length edges → ((x target : ℕ) → Contains edges (x, target) → x < length symbols) → (get_or edges i (0, 0)).0 < length symbols
 read_known symbols edges i within known =
     let e : ℕ × ℕ = get_or edges i (0, 0) in
@@ -102,7 +102,7 @@ module _ (symbols : List Symbol) (s : ℕ) (edges : List (ℕ × ℕ)) (i : ℕ)
   abbrev later : List (ℕ × ℕ)
   later = nonterminals_of symbols s (drop (i + 1) edges)
 
-  -- what is left begins with the next transition
+  -- the pairs that are left begin with that of the next transition
   rest_is : nonterminals_of symbols s (drop i edges) ≡ as_pair s read.0 (slice_get symbols read.0) later
   rest_is = ap (nonterminals_of symbols s) (drop-cons edges i (0, 0) within ∙ ap (λ (n : ℕ). read ∷ drop n edges) next)
     where
@@ -121,6 +121,6 @@ module _ (symbols : List Symbol) (s : ℕ) (edges : List (ℕ × ℕ)) (i : ℕ)
       other : (a : NonterminalString) → Terminal t ≡ Nonterminal a → ⊥
       other a e = cc
 
--- there is no next one
+-- after the last transition no pair is left
 pub no_more : (symbols : List Symbol) (s : ℕ) (edges : List (ℕ × ℕ)) (i : ℕ) → length edges ≤ i → (pairs old : List (ℕ × ℕ)) → pairs ++ nonterminals_of symbols s (drop i edges) ≡ old → pairs ≡ old
 no_more symbols s edges i end pairs old before = sym (append-nil pairs) ∙ ap (λ (l : List (ℕ × ℕ)). pairs ++ nonterminals_of symbols s l) (sym (drop_all i edges end)) ∙ before

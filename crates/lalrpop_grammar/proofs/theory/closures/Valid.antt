@@ -1,4 +1,5 @@
--- What follows from a dotted production or a token being valid for a prefix: how the prefix ends, and what the start symbol derives: by induction on what is valid.
+-- Consequences of the validity of a dotted production or a token: how the prefix ends, and what the
+-- start symbol derives. The proofs are by induction on validity.
 use Rattle.std.proofs.Common.{◌≡◌, ℕ, suc, ◌⊎◌, inl, inr, List, [], ◌∷◌, ◌++◌, take, drop, length, append_assoc, append-nil, sym, subst, refl, ap, ◌∙◌, ◌+◌, arith}
 use Rattle.std.specs.Prelude.{Contains}
 use Rattle.lalrpop_grammar.proofs.Types.{NonterminalString, Production, Symbol, Token}
@@ -8,7 +9,7 @@ use Rattle.lalrpop_grammar.specs.Words.{IsAwaited, IsLive, Action, Shift, Reduce
 use Rattle.lalrpop_collections.proofs.theory.lists.Lists.{drop_past, take_past}
 use Rattle.lalrpop_grammar.proofs.theory.grammars.Derivations.{Derives-from, Derives-to, Derives-trans, Derives-production}
 
--- what has a valid token is valid
+-- a dotted production with a valid token is valid
 pub valid : {g : List Production} {start : NonterminalString} {u : List Symbol} {p : Production} {dot : ℕ} {t : Token} → ValidToken g start u p dot t → Valid g start u p dot
 valid (at_start p h e) = starts p h e
 valid (kept x after v e) = shifts x after (valid v) e
@@ -21,17 +22,18 @@ of_grammar (starts p h e) = h
 of_grammar (shifts x after v e) = of_grammar v
 of_grammar (expands q after v e h) = h
 
--- also with its tokens
+-- a valid token stays valid for an equal prefix
 pub ValidToken-at : {g : List Production} {start : NonterminalString} {u v : List Symbol} {p : Production} {dot : ℕ} {t : Token} → u ≡ v → ValidToken g start u p dot t → ValidToken g start v p dot t
 ValidToken-at {g} {start} {p = p} {dot = dot} {t = t} e h = subst (λ u. ValidToken g start u p dot t) e h
 
--- a valid dotted production back at its start: the prefix ends with what stands before the dot
+-- a valid dotted production with the dot moved back to its start. The prefix ends with the symbols
+-- before the dot
 pub record Unshifted (g : List Production) (start : NonterminalString) (u : List Symbol) (p : Production) (dot : ℕ) : Type 0 where
   pub prefix : List Symbol
   pub ends : u ≡ prefix ++ take dot p.symbols
   pub valid : Valid g start prefix p 0
 
--- each can be taken back
+-- the dot of each valid dotted production can be moved back
 pub unshifted : {g : List Production} {start : NonterminalString} {u : List Symbol} {p : Production} {dot : ℕ} → Valid g start u p dot → Unshifted g start u p dot
 unshifted (starts p h e) = record { prefix = []; ends = refl; valid = starts p h e }
 unshifted (expands {u} q after v e h) = record { prefix = u; ends = sym (append-nil u); valid = expands q after v e h }
@@ -43,12 +45,13 @@ unshifted (shifts {u} {p} {dot} x after v e) =
       valid = r.valid;
     }
 
--- a dot at the start comes of the start symbol, or of an expansion
+-- a valid dotted production with the dot at the start is that of the start symbol, or its
+-- nonterminal is awaited
 pub at_the_start : {g : List Production} {start : NonterminalString} {u : List Symbol} {p : Production} → Valid g start u p 0 → ((u ≡ []) × (p.nonterminal ≡ start)) ⊎ IsAwaited g start u (Nonterminal p.nonterminal)
 at_the_start (starts p h e) = inl (refl, e)
 at_the_start (expands {p = p} {dot = dot} q after v e h) = inr (record { production = p; dot = dot; after = after; valid = v; behind = e })
 
--- what is awaited makes the longer prefix live
+-- a prefix with an awaited symbol at its end is live
 pub awaited_live : {g : List Production} {start : NonterminalString} {u : List Symbol} {x : Symbol} → IsAwaited g start u x → IsLive g start (u ++ x ∷ [])
 awaited_live {x = x} a = inr (a.production, suc a.dot, shifts x a.after a.valid a.behind)
 
@@ -59,14 +62,15 @@ shifts_all p (x ∷ l) {u} {dot} after v e =
     let r = shifts_all p l after (kept x (l ++ after) v e) (drop_past dot p.symbols e) in
     (r.0, omega (arith, r.1), ValidToken-at (append_assoc u (x ∷ []) l) r.2)
 
--- and over all of them
+-- the dot moves over all symbols
 pub shifted_whole : {g : List Production} {start : NonterminalString} {u : List Symbol} (p : Production) {t : Token} → ValidToken g start u p 0 t → ValidToken g start (u ++ p.symbols) p (length p.symbols) t
 shifted_whole {g} {start} {u} p {t} v =
     let r = shifts_all p p.symbols [] v (sym (append-nil p.symbols)) in
     let e : r.0 ≡ length p.symbols = omega (arith, r.1) in
     subst (λ n. ValidToken g start (u ++ p.symbols) p n t) e r.2
 
--- each live prefix is the beginning of a list that the start symbol derives: with the rest of any of its dotted productions
+-- each live prefix is the beginning of a list that the start symbol derives: the symbols after the
+-- dot of any of its dotted productions can follow it
 pub extends : {g : List Production} {start : NonterminalString} {u : List Symbol} {p : Production} {dot : ℕ} → Valid g start u p dot → (rest : List Symbol) × Derives g (Nonterminal start ∷ []) (u ++ (drop dot p.symbols ++ rest))
 extends {g} (starts p h e) = ([], Derives-from (ap (λ a. Nonterminal a ∷ []) e) (Derives-to (sym (append-nil p.symbols)) (Derives-production p h)))
 extends (shifts {u} {p} {dot} x after v e) =

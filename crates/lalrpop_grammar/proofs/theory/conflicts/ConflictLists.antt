@@ -1,4 +1,5 @@
--- A list made by going through the shifted terminals and the reductions of a state is the list of its conflicts: from the order in which it is made.
+-- A list that is made by going through the shifted terminals and the reductions of a state is the
+-- list of its conflicts. The proof is from the order in which the list is made.
 use Rattle.std.proofs.Common.{◌≡◌, ◌↔◌, ◌<◌, inl, inr, ℕ, zero, suc, true, List, [], ◌∷◌, ◌++◌, sym, subst, refl, ap, ◌∙◌, Some, arith}
 use Rattle.std.specs.Prelude.{Contains, slice_get}
 use Rattle.std.specs.declared.cmp.Ordering.{Ordering}
@@ -13,7 +14,7 @@ use Rattle.lalrpop_grammar.specs.Words.{shift_first, IsReduceConflict, LaterPart
 use Rattle.lalrpop_grammar.specs.states.States.{Reduction}
 use Rattle.lalrpop_collections.proofs.theory.lists.Lists.{same_some, some≢none, contains-cons, contains-nil, contains_head, contains_tail, contains_place, place_contains}
 
--- a list with a head that precedes the others, which are ordered, is ordered
+-- a list is ordered if its head precedes the others and these are ordered
 pub ordered-cons : {A : Type 0} (precedes : A → A → Type 0) (x : A) (xs : List A) → ((y : A) → Contains xs y → precedes x y) → Ordered precedes xs → Ordered precedes (x ∷ xs)
 ordered-cons precedes x xs h k i zero a b l e f = let z : ⊥ = omega (arith, l) in absurd z
 ordered-cons precedes x xs h k zero (suc j) a b l e f = subst (λ z. precedes z b) (same_some e) (h b (place_contains xs j b f))
@@ -23,7 +24,7 @@ ordered-cons precedes x xs h k (suc i) (suc j) a b l e f = k i j a b (omega (ari
 pub ordered-head : {A : Type 0} (precedes : A → A → Type 0) (x : A) (xs : List A) → Ordered precedes (x ∷ xs) → (y : A) → Contains xs y → precedes x y
 ordered-head precedes x xs h y c = let k = contains_place xs y c in h zero (suc k.0) x y (omega arith) refl k.1
 
--- and these are ordered
+-- the tail of an ordered list is ordered
 pub ordered-tail : {A : Type 0} (precedes : A → A → Type 0) (x : A) (xs : List A) → Ordered precedes (x ∷ xs) → Ordered precedes xs
 ordered-tail precedes x xs h i j a b l e f = h (suc i) (suc j) a b (omega (arith, l)) e f
 
@@ -31,7 +32,7 @@ ordered-tail precedes x xs h i j a b l e f = h (suc i) (suc j) a b (omega (arith
 pub ordered-nil : {A : Type 0} (precedes : A → A → Type 0) → Ordered precedes []
 ordered-nil precedes i j a b l e f = absurd (some≢none (sym e))
 
--- ordered lists joined are ordered, where the first's elements precede the second's
+-- two ordered lists, joined, are ordered if the elements of the first precede those of the second
 pub ordered-append : {A : Type 0} (precedes : A → A → Type 0) (xs ys : List A) → Ordered precedes xs → Ordered precedes ys → ((x y : A) → Contains xs x → Contains ys y → precedes x y) → Ordered precedes (xs ++ ys)
 ordered-append precedes [] ys h k c = k
 ordered-append {A} precedes (x ∷ xs) ys h k c = ordered-cons precedes x (xs ++ ys) first (ordered-append precedes xs ys (ordered-tail precedes x xs h) k (λ a b i j. c a b (contains_tail x xs a i) j))
@@ -39,7 +40,7 @@ ordered-append {A} precedes (x ∷ xs) ys h k c = ordered-cons precedes x (xs ++
     first : (y : A) → Contains (xs ++ ys) y → precedes x y
     first y i = elim (Contains-append_cases xs ys y i) [ inl j ↦ ordered-head precedes x xs h y j | inr j ↦ c x y (contains_head x xs) j ]
 
--- each of a shift's conflicts is with a reduction
+-- each conflict of a shift is with a reduction
 pub shift_from : {t : TerminalString} {rs : List Reduction} {cs : List ConflictContents} → ShiftPart t rs cs → (c : ConflictContents) → Contains cs c → (r : Reduction) × Contains rs r × IsShiftConflict t r c
 shift_from no_more c i = absurd (contains-nil i)
 shift_from {t} (in_conflict {rs} {cs} r d h p) c i = elim (contains-cons d cs c i) [
@@ -48,7 +49,7 @@ shift_from {t} (in_conflict {rs} {cs} r d h p) c i = elim (contains-cons d cs c 
 ]
 shift_from (apart {rs} r n p) c i = let x = shift_from p c i in (x.0, contains_tail r rs x.0 x.1, x.2)
 
--- and each reduction that holds the terminal has one
+-- each reduction that holds the terminal has a conflict with its shift
 pub shift_to : {t : TerminalString} {rs : List Reduction} {cs : List ConflictContents} → ShiftPart t rs cs → (r : Reduction) → Contains rs r → r.holds (TokenOf t) ≡ true → (c : ConflictContents) × Contains cs c × IsShiftConflict t r c
 shift_to no_more r i h = absurd (contains-nil i)
 shift_to {t} (in_conflict {rs} {cs} q c x p) r i h = elim (contains-cons q rs r i) [
@@ -60,7 +61,7 @@ shift_to {t} (apart {rs} q n p) r i h = elim (contains-cons q rs r i) [
   | inr k ↦ shift_to p r k h
 ]
 
--- the same of all shifted terminals
+-- each conflict of a list of shifted terminals is one of a terminal and a reduction
 pub shifts_from : {rs : List Reduction} {ts : List TerminalString} {cs : List ConflictContents} → ShiftParts rs ts cs → (c : ConflictContents) → Contains cs c → (t : TerminalString) × Contains ts t × ((r : Reduction) × Contains rs r × IsShiftConflict t r c)
 shifts_from no_shifts c i = absurd (contains-nil i)
 shifts_from (shift_first {ts} {cs} {ds} t p ps) c i = elim (Contains-append_cases cs ds c i) [
@@ -84,7 +85,7 @@ later_from {r} (with_later {rs} {cs} q d h p) c i = elim (contains-cons d cs c i
 ]
 later_from (shares_none {rs} q n p) c i = let x = later_from p c i in (x.0, contains_tail q rs x.0 x.1, x.2)
 
--- and each later one that shares a token has one
+-- each later reduction that shares a token with a reduction has a conflict with it
 pub later_to : {r : Reduction} {rs : List Reduction} {cs : List ConflictContents} → LaterPart r rs cs → (q : Reduction) → Contains rs q → (t : Token) → r.holds t ≡ true → q.holds t ≡ true → (c : ConflictContents) × Contains cs c × IsReduceConflict r q c
 later_to no_later q i t h k = absurd (contains-nil i)
 later_to {r} (with_later {rs} {cs} z c x p) q i t h k = elim (contains-cons z rs q i) [
@@ -96,7 +97,7 @@ later_to {r} (shares_none {rs} z n p) q i t h k = elim (contains-cons z rs q i) 
   | inr j ↦ later_to p q j t h k
 ]
 
--- a reduction that stands before another
+-- a reduction is before another in a list
 pub record Stand (rs : List Reduction) (r q : Reduction) : Type 0 where
   pub i : ℕ
   pub j : ℕ
@@ -107,7 +108,7 @@ pub record Stand (rs : List Reduction) (r q : Reduction) : Type 0 where
 stand-cons : (z : Reduction) (rs : List Reduction) (r q : Reduction) → Stand rs r q → Stand (z ∷ rs) r q
 stand-cons z rs r q s = record { i = suc s.i; j = suc s.j; less = omega (arith, s.less); first = s.first; second = s.second }
 
--- each conflict of two reductions is of one and a later one
+-- each conflict of two reductions is one of a reduction and a later one
 pub reduces_from : {rs : List Reduction} {cs : List ConflictContents} → ReduceParts rs cs → (c : ConflictContents) → Contains cs c → (r q : Reduction) × Stand rs r q × IsReduceConflict r q c
 reduces_from no_reductions c i = absurd (contains-nil i)
 reduces_from (reduce_first {rs} {cs} {ds} r p ps) c i = elim (Contains-append_cases cs ds c i) [
@@ -118,7 +119,7 @@ reduces_from (reduce_first {rs} {cs} {ds} r p ps) c i = elim (Contains-append_ca
   | inr k ↦ let x = reduces_from ps c k in (x.0, x.1, stand-cons r rs x.0 x.1 x.2, x.3)
 ]
 
--- and each two that share a token have one
+-- each two reductions that share a token have a conflict
 pub reduces_to : {rs : List Reduction} {cs : List ConflictContents} → ReduceParts rs cs → (i j : ℕ) (r q : Reduction) → i < j → slice_get rs i ≡ Some r → slice_get rs j ≡ Some q → (t : Token) → r.holds t ≡ true → q.holds t ≡ true → (c : ConflictContents) × Contains cs c × IsReduceConflict r q c
 reduces_to no_reductions i j r q l e f t h k = absurd (some≢none (sym e))
 reduces_to (reduce_first {rs} {cs} {ds} z p ps) i zero r q l e f t h k = let x : ⊥ = omega (arith, l) in absurd x
@@ -130,7 +131,8 @@ reduces_to (reduce_first {rs} {cs} {ds} z p ps) (suc i) (suc j) r q l e f t h k 
     let x = reduces_to ps i j r q (omega (arith, l)) e f t h k in
     (x.0, Contains-append_right cs ds x.0 x.1, x.2)
 
--- a reduction at a place holds each token on which its production can be reduced by, where reductions do not repeat
+-- if reductions do not repeat, a reduction at a place holds each token on which its production can
+-- be reduced by
 holds_at : (s : Contents) → HasNoRepeat s.reductions → (i : ℕ) (r : Reduction) (t : Token) → slice_get s.reductions i ≡ Some r → Allows s t (Reduce r.production) → r.holds t ≡ true
 holds_at s once i r t e a =
     let place = contains_place s.reductions a.0 a.1 in
@@ -152,7 +154,7 @@ module _ (terminals : TerminalString → TerminalString → Ordering) (s : Conte
   abbrev Before : Reduction → Reduction → Type 0
   Before r q = StandsBefore s.reductions r.production q.production
 
-  -- conflicts precede one another as what they say does
+  -- conflicts precede one another as their productions and actions do
   precede : (c d : ConflictContents) (p q : Production) (a b : Action) → c.production ≡ p → d.production ≡ q → c.action ≡ a → d.action ≡ b → ActionPrecedes (IsLess terminals) (StandsBefore s.reductions) p q a b → Precedes c d
   precede c d p q a b e f h k l =
       subst (λ z. ActionPrecedes (IsLess terminals) (StandsBefore s.reductions) c.production d.production c.action z) (sym k)
@@ -171,7 +173,7 @@ module _ (terminals : TerminalString → TerminalString → Ordering) (s : Conte
           precede c d r.production (y.0).production (Shift t) (Shift t) x.production (y.2).production x.action (y.2).action (inr (refl, ordered-head Before r rs o y.0 y.1))
   shift_ordered (apart {rs} r n p) o = shift_ordered p (ordered-tail Before r rs o)
 
-  -- and those of all shifts
+  -- the conflicts of all shifts are in order
   shifts_ordered : {rs : List Reduction} {ts : List TerminalString} {cs : List ConflictContents} → ShiftParts rs ts cs → Ordered Before rs → Ordered (IsLess terminals) ts → Ordered Precedes cs
   shifts_ordered no_shifts o a = ordered-nil Precedes
   shifts_ordered {rs} (shift_first {ts} {cs} {ds} t p ps) o a = ordered-append Precedes cs ds (shift_ordered p o) (shifts_ordered ps o (ordered-tail (IsLess terminals) t ts a)) across
@@ -193,7 +195,7 @@ module _ (terminals : TerminalString → TerminalString → Ordering) (s : Conte
           precede c d r.production r.production (Reduce q.production) (Reduce (y.0).production) x.production (y.2).production x.action (y.2).action (inr (refl, ordered-head Before q rs o y.0 y.1))
   later_ordered (shares_none {rs} q n p) o = later_ordered p (ordered-tail Before q rs o)
 
-  -- and those of all reductions
+  -- the conflicts of all reductions with later ones are in order
   reduces_ordered : {rs : List Reduction} {cs : List ConflictContents} → ReduceParts rs cs → Ordered Before rs → Ordered Precedes cs
   reduces_ordered no_reductions o = ordered-nil Precedes
   reduces_ordered (reduce_first {rs} {cs} {ds} r p ps) o = ordered-append Precedes cs ds (later_ordered p (ordered-tail Before r rs o)) (reduces_ordered ps (ordered-tail Before r rs o)) across
@@ -205,18 +207,18 @@ module _ (terminals : TerminalString → TerminalString → Ordering) (s : Conte
           precede c d r.production (y.0).production (Reduce (x.0).production) (Reduce (y.1).production) (x.2).production (y.3).production (x.2).action (y.3).action
           (inl (ordered-head Before r rs o y.0 (place_contains rs (y.2).i y.0 (y.2).first)))
 
-  -- the reductions of the state stand in their order
+  -- the reductions of the state are in their order
   in_order : Ordered Before s.reductions
   in_order i j r q l e f = record { i = i; j = j; r = r; s = q; before = l; first = e; second = f; by_p = refl; by_q = refl }
 
-  -- what a conflict's production and action are in conflict on
+  -- the tokens on which the production and the action of a conflict are in conflict
   along : (c : ConflictContents) (p : Production) (a : Action) (t : Token) → c.production ≡ p → c.action ≡ a → IsInConflict (StandsBefore s.reductions) (Allows s) p a t ↔ IsInConflict (StandsBefore s.reductions) (Allows s) c.production c.action t
   along c p a t e f = (
     λ h. subst (λ z. IsInConflict (StandsBefore s.reductions) (Allows s) c.production z t) (sym f) (subst (λ z. IsInConflict (StandsBefore s.reductions) (Allows s) z a t) (sym e) h),
     λ h. subst (λ z. IsInConflict (StandsBefore s.reductions) (Allows s) z a t) e (subst (λ z. IsInConflict (StandsBefore s.reductions) (Allows s) c.production z t) f h),
   )
 
-  -- each listed conflict of a shift is one
+  -- each listed conflict of a shift is a conflict of the state
   shift_is : (t : TerminalString) → ((n : ℕ) × (s.shift t ≡ Some n)) → (r : Reduction) → Contains s.reductions r → (c : ConflictContents) → IsShiftConflict t r c → IsConflict (StandsBefore s.reductions) (Allows s) c
   shift_is t n r i c h = record {
     some = (TokenOf t, (h.exact (TokenOf t)).1 refl);
@@ -226,7 +228,7 @@ module _ (terminals : TerminalString → TerminalString → Ordering) (s : Conte
     );
   }
 
-  -- and so is each of two reductions
+  -- each listed conflict of two reductions is a conflict of the state
   reduce_is : HasNoRepeat s.reductions → (r q : Reduction) → Stand s.reductions r q → (c : ConflictContents) → IsReduceConflict r q c → IsConflict (StandsBefore s.reductions) (Allows s) c
   reduce_is once r q p c h = record {
     some = ((h.some).0, (h.exact (h.some).0).1 ((h.some).1, (h.some).2));
@@ -244,7 +246,7 @@ module _ (terminals : TerminalString → TerminalString → Ordering) (s : Conte
     );
   }
 
-  -- so the list made of both parts is that of the state's conflicts
+  -- the list that is made of both parts is the list of the state's conflicts
   pub conflict_list : HasNoRepeat s.reductions → (ts : List TerminalString) → Ordered (IsLess terminals) ts → ((t : TerminalString) → Contains ts t ↔ ((n : ℕ) × (s.shift t ≡ Some n))) → (cs ds : List ConflictContents) → ShiftParts s.reductions ts cs → ReduceParts s.reductions ds → AreConflictsOf terminals s (cs ++ ds)
   conflict_list once ts ascending shifted cs ds p d = record {
     each = λ c i. elim (Contains-append_cases cs ds c i) [

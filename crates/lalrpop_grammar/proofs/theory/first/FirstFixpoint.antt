@@ -1,4 +1,4 @@
--- The first sets are the sets by which every production is settled.
+-- FIRST sets are right sets by which every production is settled.
 use Rattle.std.proofs.Common.{◌≡◌, ◌≢◌, ℕ, zero, suc, ◌+◌, ◌-◌, ◌*◌, ◌<◌, ◌≤◌, ◌⊎◌, ◌||◌, inl, inr, List, [], ◌∷◌, length, refl, sym, ap, subst, ◌∙◌, arith, Some, Bool, true, false, cond}
 use Rattle.std.specs.Prelude.{slice_get, Contains}
 use Rattle.std.specs.List.{AllZip, zip, flat_map}
@@ -73,7 +73,7 @@ module _ (terminals : List TerminalString) (g : List Production) (table : Table)
   }
 
 -- ---- a grammar whose productions are numbered
--- a production stands under some name
+-- a production is under some name
 production_at : (entries : List (NonterminalString × NonterminalData)) (p : Production) → Contains (flat_map (λ (e : NonterminalString × NonterminalData). e.1.productions.items) entries) p
     → (k : ℕ) × (e : NonterminalString × NonterminalData) × (slice_get entries k ≡ Some e) × Contains e.1.productions.items p
 production_at [] p h = let none : h.0 < 0 = h.1 in absurd (omega arith)
@@ -82,7 +82,7 @@ production_at (e ∷ entries) p h = elim (Contains-append_cases e.1.productions.
   | inr later ↦ let r = production_at entries p later in (suc r.0, r.1, r.2, r.3)
 ]
 
--- the place of the name of an entry is below their number
+-- the place of the name of an entry is below the number of entries
 place_within : (entries : List (NonterminalString × NonterminalData)) (k : ℕ) (e : NonterminalString × NonterminalData) → slice_get entries k ≡ Some e → place (keys_of entries) e.0 < length (keys_of entries)
 place_within [] k e at = absurd cc
 place_within (x ∷ entries) zero e at = here (is_at (name_cmp e.0) x.0) (let same : x ≡ e = same_some at in ap (λ y. is_at (name_cmp e.0) (y).0) same ∙ name_self e.0)
@@ -109,7 +109,7 @@ Ready-all g well p h =
       named = subst (λ a. place (keys_of g.nonterminals.entries) a < length (keys_of g.nonterminals.entries)) (sym good.named) (place_within g.nonterminals.entries r.0 r.1 r.2);
     }
 
--- what stands at a place of the one list, and at the same place of the other
+-- the value at a place of one list is related to the value at the same place of the other
 at_left : {X Y : Type 0} (R : X → Y → Type 0) (xs : List X) (ys : List Y) (k : ℕ) (x : X) → AllZip R xs ys → slice_get xs k ≡ Some x → (y : Y) × (slice_get ys k ≡ Some y) × R x y
 at_left R [] ys k x z at = absurd cc
 at_left R (a ∷ xs) [] k x z at = absurd z
@@ -136,11 +136,11 @@ Bits-below terminals names l ns z b h =
     bit_below terminals names r.0 (Bit b) b r.2 refl
 
 -- ---- sets that grow while some productions wait
--- the set of the name has what the sets give for the production
+-- a production is settled if the set of its name has all that the sets give for the production
 abbrev pub IsSettled : ℕ → List Bits → NumberedProduction → Type 0
 IsSettled end sets p = (bit : ℕ) → GivesByNumber end sets p.symbols bit → has (set_at sets p.name) bit ≡ true
 
--- the sets hold only what they should, and productions that do not wait are settled
+-- the sets have only right bits, and productions that do not wait are settled
 pub record Growing (terminals : List TerminalString) (g : List Production) (names : List NonterminalString) (numbered : List NumberedProduction) (waiting : Waiting) (sets : List Bits) : Type 0 where
   pub count : length sets ≡ length names
   pub limit : waiting.limit ≡ length numbered
@@ -149,7 +149,8 @@ pub record Growing (terminals : List TerminalString) (g : List Production) (name
   pub fits : (n bit : ℕ) → has (set_at sets n) bit ≡ true → bit ≤ length terminals
   pub settled : (k : ℕ) (p : NumberedProduction) → slice_get numbered k ≡ Some p → waits waiting.numbers k ≡ false → IsSettled (length terminals) sets p
 
--- what can still grow, times the places in the queue and one, and how many wait
+-- a measure that falls with each turn: the number of bits that can still be added, times one more
+-- than the number of productions, plus the number of productions that wait
 abbrev pub left_to_grow : ℕ → List NumberedProduction → Waiting → List Bits → ℕ
 left_to_grow end numbered waiting sets = (length sets * (end + 1) - weight sets) * (length numbered + 1) + length waiting.numbers
 
@@ -186,7 +187,7 @@ module _ (terminals : List TerminalString) (g : List Production) (names : List N
             let settled = h.settled in_g.0 r.0 r.1 (ap (λ l. waits l in_g.0) none) bit (by_number terminals names sets h.count p.symbols (r.0).symbols bit (r.2).symbols given) in
             ap (λ s. has s bit) (set_of-zip names sets p.nonterminal h.count) ∙ ap (λ n. has (set_at sets n) bit) (sym (r.2).named) ∙ settled
 
-    -- a production that waits can be added
+    -- the bits of a numbered production are those of terminals
     pub Growing-bits : (k : ℕ) (p : NumberedProduction) → slice_get numbered k ≡ Some p → HasBitsBelow (length terminals) p.symbols
     Growing-bits k p at = let r = at_right (IsNumberedProduction terminals names) g numbered k p numbers at in Bits-below terminals names (r.0).symbols p.symbols (r.2).symbols
 
@@ -204,7 +205,7 @@ module _ (terminals : List TerminalString) (g : List Production) (names : List N
       count : length new ≡ length names
       count = Added-long (length terminals) p t.grew old new t.added ∙ h.count
 
-      -- what stood behind the first still waits
+      -- the productions after the first one still wait
       rest_waits : (j : ℕ) → waits rest.numbers j ≡ true → waits after.numbers j ≡ true
       rest_waits j w = elim (cases_Bool t.grew) [
         | inl e ↦ (t.queued e).kept j w
@@ -217,7 +218,7 @@ module _ (terminals : List TerminalString) (g : List Production) (names : List N
         | inr e ↦ ap (λ l. waits l j) first ∙ ap (λ b. b || waits rest.numbers j) (ne_eqb j k apart) ∙ e
       ]
 
-      -- what is given by the new sets for a production that does not wait was given before
+      -- all that the new sets give for a production that does not wait was given before
       given_before : (j : ℕ) (q : NumberedProduction) → slice_get numbered j ≡ Some q → waits after.numbers j ≡ false → (bit : ℕ) → GivesByNumber (length terminals) new q.symbols bit → GivesByNumber (length terminals) old q.symbols bit
       given_before j q place w bit given = elim (cases_Bool t.grew) [
         | inl e ↦ Added-without (length terminals) p t.grew old new t.added q.symbols (λ c. false≢true (sym w ∙ (t.queued e).all j (are.all j p.name q place c (subst (λ n. p.name < n) (sym counted) named)))) bit given
@@ -233,7 +234,7 @@ module _ (terminals : List TerminalString) (g : List Production) (names : List N
         | inr apart ↦ Added-kept (length terminals) p t.grew old new t.added within q.name bit (h.settled j q place (not_before j apart w) bit (given_before j q place w bit given))
       ]
 
-      -- the production by name
+      -- the production with its names and terminals
       source : (x : Production) × (slice_get g k ≡ Some x) × IsNumberedProduction terminals names x p
       source = at_right (IsNumberedProduction terminals names) g numbered k p numbers at
 
@@ -290,7 +291,7 @@ module _ (terminals : List TerminalString) (g : List Production) (names : List N
       pub Growing-turn : Growing terminals g names numbered after new
       Growing-turn = record { count = count; limit = limit_after ∙ h.limit; few = few; right = right; fits = fits; settled = settled }
 
-      -- ---- it ends
+      -- ---- the measure falls
       fall_by : (d e m a b : ℕ) → e < d → a < m → e * m + a < d * m + b
       fall_by d e m a b less few =
           let more : suc e * m ≤ d * m = mul-le (suc e) m d m (omega arith) (omega arith) in

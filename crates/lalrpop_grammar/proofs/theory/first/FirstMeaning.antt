@@ -1,4 +1,4 @@
--- What a table gives for a list, against what the list derives.
+-- The bits that a table gives for a list, compared with what the list derives.
 use Rattle.std.proofs.Common.{◌≡◌, ◌≢◌, ℕ, zero, suc, ◌<◌, ◌≤◌, ◌⊎◌, ◌↔◌, inl, inr, List, [], ◌∷◌, length, refl, sym, ap, subst, ◌∙◌, arith, Some, true, false, not, ◌&&◌, ◌==◌}
 use Rattle.std.specs.Prelude.{slice_get}
 use Rattle.std.proofs.lemmas.Bool.{false≢true, or_cases, or_left, or_right, cases_lt, and_parts, and_from, eqb-false, ne_eqb, not-true, not_from_false}
@@ -12,18 +12,19 @@ use Rattle.lalrpop_grammar.specs.first.FirstTables.{Gives}
 use Rattle.lalrpop_grammar.proofs.theory.grammars.Forests.{nullable-cons, first-cons, first-nil, forest-terminal, derives_forest}
 use Rattle.lalrpop_collections.proofs.theory.lists.Lists.{same_some}
 
--- ---- what a right table gives is right
--- Eof has no terminal's bit
+-- ---- the bits that a right table gives are right
+-- no terminal has the bit of Eof
 pub at_end : (terminals : List TerminalString) (bit : ℕ) (t : TerminalString) → slice_get terminals bit ≡ Some t → bit ≡ length terminals → ⊥
 at_end terminals bit t at e = let within : bit < length terminals = slice_get_within terminals bit t at in omega arith
 
--- each lower bit is a terminal's
+-- each lower bit is that of a terminal
 pub terminal_at : (terminals : List TerminalString) (bit : ℕ) → bit < length terminals → (t : TerminalString) × (slice_get terminals bit ≡ Some t)
 terminal_at [] bit l = absurd (omega arith)
 terminal_at (t ∷ ts) zero l = (t, refl)
 terminal_at (t ∷ ts) (suc bit) l = terminal_at ts bit (omega arith)
 
--- Eof of a nullable list, or a terminal that is in its FIRST
+-- a bit is right for a list if it is Eof and the list is nullable, or if it is a terminal in FIRST
+-- of the list
 abbrev Meant : List TerminalString → List Production → List Symbol → ℕ → Type 0
 Meant terminals g l bit = ((bit ≡ length terminals) × IsNullable g l) ⊎ ((t : TerminalString) × (slice_get terminals bit ≡ Some t) × IsFirst g l t)
 
@@ -58,7 +59,7 @@ Gives-fits terminals g table right l bit h = elim (Gives-right terminals g table
   | inr r ↦ let within : bit < length terminals = slice_get_within terminals bit r.0 r.1 in omega arith
 ]
 
--- ---- by first sets of the names, a list has its own
+-- ---- from the FIRST sets of the names, a list gets its own
 not_nullable : (g : List Production) (t : TerminalString) (l : List Symbol) → IsNullable g (Terminal t ∷ l) → ⊥
 not_nullable g t l d = let r = forest-terminal (derives_forest d) in cons≢nil (sym r.1)
 
@@ -94,7 +95,7 @@ First-set g table l set sets given =
       fits = λ bit h. Gives-fits g.terminals g.productions table right l bit ((given bit).0 h);
     }
 
--- ---- what follows, in the place of Eof
+-- ---- the tokens that follow, instead of Eof
 without_end : (first mid : Bits) (n : ℕ) → ((bit : ℕ) → has mid bit ≡ (has first bit && not (bit == n))) → (bit : ℕ) → (has mid bit ≡ true) ↔ ((has first bit ≡ true) × (bit ≢ n))
 without_end first mid n left bit = (
   λ h. let r = and_parts (has first bit) (not (bit == n)) (sym (left bit) ∙ h) in (r.0, eqb-false bit n (not-true _ r.1)),

@@ -19,7 +19,7 @@ use Rattle.lalrpop_grammar.proofs.theory.grammars.NameOrders.{is_equal}
 pub name_total : IsTotalOrder name_cmp
 name_total = on_texts (λ (a : NonterminalString). a.text)
 
--- the order tells all names apart
+-- two names that tie in the order are equal
 abbrev made : List ℕ → NonterminalString
 made t = record { text = t }
 
@@ -29,7 +29,7 @@ name_same a b e = ap made (exact_bytes a.text b.text (is_equal (name_cmp a b) e)
 pub name_self : (a : NonterminalString) → is_at (name_cmp a) a ≡ true
 name_self a = IsEquivalence.refl (eq_by_cmp_equiv name_total) a
 
--- the name of an entry has one
+-- the name of an entry has an entry
 pub has_own : {X : Type 0} (m : List (NonterminalString × X)) (k : ℕ) (a : NonterminalString) (x : X) → slice_get m k ≡ Some (a, x) → IsSome (lookup (is_at (name_cmp a)) m)
 has_own [] k a x at = absurd cc
 has_own {X} (e ∷ m) zero a x at =
@@ -41,7 +41,7 @@ has_own {X} (e ∷ m) (suc k) a x at = later (is_at (name_cmp a) e.0) (has_own m
     later true h = refl
     later false h = h
 
--- ---- a map is copied in order: what goes in last goes to the end
+-- ---- a map is copied in order, so that the last entry is put at the end
 
 above : (a b : NonterminalString) → name_cmp a b ≡ Less → name_cmp b a ≡ Greater
 above a b e = name_total.antisymm b a ∙ ap ordering_reverse e
@@ -56,7 +56,7 @@ insert_last (e ∷ es) k v rest up =
     let far : name_cmp k e.0 ≡ Greater = above e.0 k (last_key es k v rest e (sorted_head name_cmp e.0 (keys_of (es ++ (k, v) ∷ rest)) up)) in
     rw far (ap (λ ts. e ∷ ts) (insert_last es k v rest (sorted_tail name_cmp e.0 (keys_of (es ++ (k, v) ∷ rest)) up)))
 
--- a copy of the entries so far, with what is left of them
+-- a copy of the entries so far, and the rest of the entries
 pub copied : {X : Type 0} (es rest whole new : List (NonterminalString × X)) (k : NonterminalString) (v : X) → es ++ (k, v) ∷ rest ≡ whole → IsStrictlySortedBy name_cmp (keys_of whole) → new ≡ insert_entry name_cmp es k v → new ++ rest ≡ whole
 copied {X} es rest whole new k v e up is =
     let sorted : IsStrictlySortedBy name_cmp (keys_of (es ++ (k, v) ∷ rest)) = rw e up in

@@ -1,4 +1,4 @@
--- Names by their places, and what sets by number give.
+-- Names by their places, and the bits that sets by number give.
 use Rattle.std.proofs.Common.{◌≡◌, ℕ, suc, ◌+◌, ◌<◌, inl, inr, List, [], ◌∷◌, ◌++◌, length, refl, sym, ap, ◌∙◌, arith, Option, Some, None, Bool, true, false, cond, unwrap_or, get_or, take, length-append}
 use Rattle.std.specs.Prelude.{slice_get}
 use Rattle.std.specs.List.{AllZip, zip}
@@ -21,7 +21,7 @@ keys_numbered : (n : ℕ) (names : List NonterminalString) → keys_of (numbers_
 keys_numbered n [] = refl
 keys_numbered n (a ∷ names) = ap (λ ks. a ∷ ks) (keys_numbered (suc n) names)
 
--- one name more, which goes to the end
+-- one more name, which is put at the end
 pub Numbers-more : (whole : List NonterminalString) (es new : List (NonterminalString × ℕ)) (a : NonterminalString) (rest : List NonterminalString) (n : ℕ) → IsStrictlySortedBy name_cmp whole → n ≡ length es → es ++ numbers_from n (a ∷ rest) ≡ numbers_from 0 whole
     → new ≡ insert_entry name_cmp es a n → new ++ numbers_from (length new) rest ≡ numbers_from 0 whole
 Numbers-more whole es new a rest n up long so_far is =
@@ -77,7 +77,7 @@ set_of-zip (b ∷ names) (s ∷ sets) a e = either (is_at (name_cmp a) b) (set_o
     either true h = refl
     either false h = h
 
--- ---- what the sets give is what their table gives
+-- ---- sets by number give the same as their table does
 module _ (terminals : List TerminalString) (names : List NonterminalString) (sets : List Bits) (long : length sets ≡ length names) where
   abbrev end : ℕ
   end = length terminals

@@ -1,4 +1,5 @@
--- Sets that each production keeps, and that hold only what they should, say FIRST of each list and whether it is nullable: by induction on forests.
+-- If no production adds anything to sets, and the sets are right, they give FIRST of each list and
+-- say whether it is nullable. The proof is by induction on forests.
 use Rattle.std.proofs.Common.{◌≡◌, ◌↔◌, inl, inr, List, [], ◌∷◌, sym, subst, refl, ap}
 use mathlib.Core.List.{head-eq_of_cons-eq, nil≢cons, cons≢nil}
 use Rattle.lalrpop_grammar.proofs.Types.{NonterminalString, Production, Symbol, TerminalString}
@@ -8,7 +9,7 @@ use Rattle.lalrpop_grammar.proofs.theory.grammars.SymbolLists.{same_terminal, no
 use Rattle.lalrpop_grammar.proofs.theory.grammars.Forests.{Forest, empty, leaf, node, derives_forest, nil_parts, nullable-cons, first-cons}
 
 module _ (g : List Production) (null : NonterminalString → Type 0) (first : NonterminalString → TerminalString → Type 0) (sets : AreFirstSets g null first) where
-  -- what derives the empty list is nullable by the sets
+  -- a list that derives the empty list is nullable by the sets
   forest_null : {l m : List Symbol} → Forest g l m → m ≡ [] → NullableBy null l
   forest_null empty e = tt
   forest_null (leaf x f) e = absurd (cons≢nil e)
@@ -16,7 +17,7 @@ module _ (g : List Production) (null : NonterminalString → Type 0) (first : No
       let parts = nil_parts m n (sym e) in
       (sets.null_closed p h (forest_null d parts.0), forest_null f parts.1)
 
-  -- what derives a list that begins with t has it in FIRST by the sets
+  -- a list that derives a list with t at its front has t in FIRST by the sets
   forest_first : {l m : List Symbol} → Forest g l m → (t : TerminalString) (rest : List Symbol) → m ≡ Terminal t ∷ rest → FirstBy null first l t
   forest_first empty t rest e = nil≢cons e
   forest_first (leaf (Terminal x) f) t rest e = same_terminal (sym (head-eq_of_cons-eq e))
@@ -24,7 +25,7 @@ module _ (g : List Production) (null : NonterminalString → Type 0) (first : No
   forest_first (node p {m = []} {n = n} h d f) t rest e = inr (sets.null_closed p h (forest_null d refl), forest_first f t rest e)
   forest_first (node p {m = x ∷ m} {n = n} h d f) t rest e = inl (sets.first_closed p t h (forest_first d t m (ap (λ y. y ∷ m) (head-eq_of_cons-eq e))))
 
-  -- what the sets say of a list is its FIRST, and whether it is nullable
+  -- a list is nullable by the sets exactly if it is nullable
   pub nullable_by : (l : List Symbol) → NullableBy null l ↔ IsNullable g l
   nullable_by l = (to l, λ d. forest_null (derives_forest d) refl)
     where
@@ -33,7 +34,7 @@ module _ (g : List Production) (null : NonterminalString → Type 0) (first : No
       to (Terminal t ∷ l) h = absurd h
       to (Nonterminal a ∷ l) h = (nullable-cons (Nonterminal a) l).1 (sets.null_right a h.0, to l h.1)
 
-  -- and so is what they say of FIRST
+  -- a terminal is in FIRST of a list by the sets exactly if it is in FIRST of the list
   pub first_by : (l : List Symbol) (t : TerminalString) → FirstBy null first l t ↔ IsFirst g l t
   first_by l t = (to l, λ h. forest_first (derives_forest h.1) t h.0 refl)
     where

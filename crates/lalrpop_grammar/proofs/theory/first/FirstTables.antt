@@ -1,4 +1,4 @@
--- What sets give for a list, symbol by symbol.
+-- The bits that sets give for a list, symbol by symbol.
 use Rattle.std.proofs.Common.{◌≡◌, ◌≢◌, ℕ, ◌+◌, ◌<◌, ◌≤◌, ◌⊎◌, ◌↔◌, inl, inr, List, [], ◌∷◌, length, refl, sym, ap, subst, ◌∙◌, Some, Bool, true, false, not, ◌&&◌, ◌||◌, ◌==◌, get_or, drop, eq-eqb, eqb-true}
 use Rattle.std.specs.Prelude.{slice_get}
 use Rattle.std.proofs.lemmas.Bool.{false≢true, or_cases, or_left, or_right, cases_Bool, and_parts, and_from, not-true, not_from_false, eqb-false, ne_eqb}
@@ -31,7 +31,7 @@ Set-joined told end found old mid new out joined is rest =
       members = λ bit. rest bit ∙ ap (λ b. b && not (bit == end)) (members bit);
     }
 
--- where there is no set, the empty one is joined
+-- if there is no set, the empty one is joined
 pub Set-absent : (end : ℕ) (found old : Bits) → has old end ≡ false → found ≡ no_bits → IsSetJoined false end found old old
 Set-absent end found old out is =
     let none : (bit : ℕ) → has found bit ≡ false = λ bit. ap (λ s. has s bit) is ∙ has-no_bits bit in
@@ -40,25 +40,25 @@ Set-absent end found old out is =
       members = λ bit. end_is_out old end bit out ∙ sym (ap (λ b. b && not (bit == end)) (ap (λ b. has old bit || b) (none bit) ∙ or_false (has old bit)));
     }
 
--- ---- a list of symbols, up to a place; G is what is given for a list
+-- ---- a list of symbols, up to a place. G says which bits are given for a list
 pub record FirstSoFar {S : Type 0} (G : List S → ℕ → Type 0) (end : ℕ) (l : List S) (set : Bits) (index : ℕ) : Type 0 where
   pub apart : has set end ≡ false
   pub right : (bit : ℕ) → has set bit ≡ true → G l bit
   pub onward : (bit : ℕ) → G (drop index l) bit → G l bit
   pub all : (bit : ℕ) → G l bit → (has set bit ≡ true) ⊎ G (drop index l) bit
 
--- what is given for a list that begins with a name, by the set of the name
+-- the bits that are given for a list with a name at its front, by the set of the name
 abbrev pub GivesAtName : {S : Type 0} → (List S → ℕ → Type 0) → ℕ → Bits → List S → ℕ → Type 0
 GivesAtName G end found rest bit = ((has found bit ≡ true) × (bit ≢ end)) ⊎ ((has found end ≡ true) × G rest bit)
 
--- the bit that a set got
+-- a bit that a set got
 in_with : (set new : Bits) (b bit : ℕ) → new ≡ with_bit set b → has new bit ≡ true → (bit ≡ b) ⊎ (has set bit ≡ true)
 in_with set new b bit e h = elim (or_cases (bit == b) (has set bit) (sym (ap (λ s. has s bit) e ∙ has-with_bit set b bit) ∙ h)) [ inl t ↦ inl (eqb-true bit b t) | inr t ↦ inr t ]
 
 with_in : (set new : Bits) (b bit : ℕ) → new ≡ with_bit set b → (bit ≡ b) ⊎ (has set bit ≡ true) → has new bit ≡ true
 with_in set new b bit e h = ap (λ s. has s bit) e ∙ has-with_bit set b bit ∙ elim h [ inl t ↦ or_left (bit == b) (has set bit) (eq-eqb bit b t) | inr t ↦ or_right (bit == b) (has set bit) t ]
 
--- the set with what was joined to it
+-- a bit of a set to which another was joined
 in_joined : (told : Bool) (end : ℕ) (found set new : Bits) (bit : ℕ) → IsSetJoined told end found set new → has new bit ≡ true → ((has set bit ≡ true) ⊎ (has found bit ≡ true)) × (bit ≢ end)
 in_joined told end found set new bit j h =
     let parts = and_parts (has set bit || has found bit) (not (bit == end)) (sym (j.members bit) ∙ h) in
@@ -78,7 +78,7 @@ module _ {S : Type 0} (G : List S → ℕ → Type 0) (end : ℕ) (l : List S) (
         all = λ bit g. inr g;
       }
 
-  -- the rest gives one bit alone
+  -- the rest of the list gives one bit only
   pub First-one : (new : Bits) (index b : ℕ) → FirstSoFar G end l set index → ((bit : ℕ) → G (drop index l) bit ↔ (bit ≡ b)) → new ≡ with_bit set b → (bit : ℕ) → (has new bit ≡ true) ↔ G l bit
   First-one new index b h only e bit = (
     λ t. elim (in_with set new b bit e t) [ inl same ↦ h.onward bit ((only bit).1 same) | inr there ↦ h.right bit there ],
@@ -95,7 +95,7 @@ module _ {S : Type 0} (G : List S → ℕ → Type 0) (end : ℕ) (l : List S) (
     comes : (bit : ℕ) → has found bit ≡ true → bit ≢ end → has new bit ≡ true
     comes bit f apart = joined_in told end found set new bit j (or_right (has set bit) (has found bit) f) apart
 
-    -- a name that is nullable is passed
+    -- after a nullable name the list goes on
     pub First-passed : told ≡ true → rest ≡ drop (index + 1) l → FirstSoFar G end l new (index + 1)
     First-passed t e = record {
       apart = elim (cases_Bool (has new end)) [ inl k ↦ absurd ((in_joined told end found set new end j k).1 refl) | inr k ↦ k ];
@@ -107,7 +107,7 @@ module _ {S : Type 0} (G : List S → ℕ → Type 0) (end : ℕ) (l : List S) (
       ];
     }
 
-    -- at another the list ends
+    -- after a name that is not nullable the list ends
     pub First-stopped : told ≡ false → (bit : ℕ) → (has new bit ≡ true) ↔ G l bit
     First-stopped t bit = (
       λ k. right_joined bit k,
@@ -117,7 +117,7 @@ module _ {S : Type 0} (G : List S → ℕ → Type 0) (end : ℕ) (l : List S) (
       ],
     )
 
--- ---- what is given for the rest of a list, by its first symbol
+-- ---- the bits that are given for the rest of a list, by its first symbol
 head_at : {S : Type 0} (l : List S) (index : ℕ) (x : S) → index < length l → x ≡ get_or l index x → drop index l ≡ x ∷ drop (index + 1) l
 head_at {S} l index x i e = drop_more l index x i ∙ ap (λ (y : S). y ∷ drop (index + 1) l) (sym e)
 

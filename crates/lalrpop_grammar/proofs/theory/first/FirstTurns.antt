@@ -1,4 +1,4 @@
--- What a turn of the worklist leaves as it was, and what it adds.
+-- The effects of a turn of the worklist: the bits that stay, and the bits that are added.
 use Rattle.std.proofs.Common.{◌≡◌, ◌≢◌, ℕ, suc, ◌+◌, ◌*◌, ◌<◌, ◌≤◌, ◌⊎◌, inl, inr, List, [], ◌∷◌, length, sym, ap, subst, ◌∙◌, arith, Bool, true, false, ◌||◌, get_or, set, get_or-set_other, get_or-set_same, length-set}
 use Rattle.std.specs.Prelude.{Contains, MatchBool, All, sum_by}
 use Rattle.std.proofs.lemmas.Bool.{false≢true, or_cases, or_left, or_right, cases_eq}
@@ -11,7 +11,7 @@ use Rattle.lalrpop_collections.specs.Words.{Bits, has, rising, no_bits, join, ha
 use Rattle.lalrpop_grammar.specs.Words.{IsAdded, GivesByNumber, set_at}
 use Rattle.lalrpop_collections.proofs.theory.sets.BitCounts.{join_larger, rising_small}
 
--- ---- a list without a name is given the same whatever the set of the name is
+-- ---- for a list without a name, the set of the name does not matter
 pub without : (end : ℕ) (sets : List Bits) (n : ℕ) (s : Bits) (l : List NumberedSymbol) → (Contains l (Name n) → ⊥) → (bit : ℕ) → GivesByNumber end (set sets n s) l bit → GivesByNumber end sets l bit
 without end sets n s [] none bit g = g
 without end sets n s (Bit b ∷ l) none bit g = g
@@ -34,7 +34,7 @@ module _ (end : ℕ) (p : NumberedProduction) (grew : Bool) (old new : List Bits
   other : (n : ℕ) → n ≢ p.name → set_at new n ≡ set_at old n
   other n apart = ap (λ (sets : List Bits). set_at sets n) added.joined ∙ get_or-set_other old p.name n (join (set_at old p.name) added.given) no_bits apart
 
-  -- lists without the name are given no more
+  -- for a list without the name, no more bits are given
   pub Added-without : (l : List NumberedSymbol) → (Contains l (Name p.name) → ⊥) → (bit : ℕ) → GivesByNumber end new l bit → GivesByNumber end old l bit
   Added-without l none bit g = without end old p.name (join (set_at old p.name) added.given) l none bit (subst (λ (sets : List Bits). GivesByNumber end sets l bit) added.joined g)
 
@@ -59,11 +59,11 @@ module _ (end : ℕ) (p : NumberedProduction) (grew : Bool) (old new : List Bits
       | inr apart ↦ ap (λ s. has s bit) (other n apart) ∙ h
     ]
 
-    -- what the production gives is there
+    -- the set of the name has the bits that the production gives
     pub Added-there : (bit : ℕ) → GivesByNumber end old p.symbols bit → has (set_at new p.name) bit ≡ true
     Added-there bit g = own_has bit ∙ or_right (has (set_at old p.name) bit) (has added.given bit) ((added.gives bit).1 g)
 
-    -- and nothing else
+    -- nothing else is added
     pub Added-only : (n bit : ℕ) → has (set_at new n) bit ≡ true → (has (set_at old n) bit ≡ true) ⊎ ((n ≡ p.name) × GivesByNumber end old p.symbols bit)
     Added-only n bit h = elim (cases_eq n p.name) [
       | inl same ↦ elim (or_cases (has (set_at old p.name) bit) (has added.given bit) (sym (ap (λ j. has (set_at new j) bit) same ∙ own_has bit) ∙ h)) [

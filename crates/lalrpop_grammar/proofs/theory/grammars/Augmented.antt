@@ -1,4 +1,6 @@
--- Under a new start symbol the parse trees, sentences and beginnings are those of the old, and it stands on no right side: from its one production, which nothing else mentions.
+-- From a new start symbol the parse trees, sentences and beginnings are those from the old one, and
+-- the new one is on no right side. The proof is from its one production, which no other production
+-- mentions.
 use Rattle.std.proofs.Common.{◌≡◌, ◌↔◌, ◌≤◌, ℕ, suc, ◌⊎◌, inl, inr, List, [], ◌∷◌, ◌++◌, append-nil, sym, subst, refl, ap, ap₂, ◌∙◌, arith}
 use Rattle.std.specs.Prelude.{Contains}
 use mathlib.Core.List.{head-eq_of_cons-eq, tail-eq_of_cons-eq, nil≢cons, cons≢nil}
@@ -16,15 +18,15 @@ use Rattle.lalrpop_grammar.proofs.theory.runs.Sentences.{tree_parsed}
 use Rattle.lalrpop_grammar.proofs.theory.runs.Refusals.{refused_wrong}
 
 module _ (g h : List Production) (start f : NonterminalString) (aug : IsAugmented g h start f) where
-  -- the old productions are kept, and the added one is there
+  -- the old productions are kept
   kept : (p : Production) → Contains g p → Contains h p
   kept p c = (aug.more p).1 (inl c)
 
-  -- and the added one is there
+  -- the added production is there
   added_there : Contains h aug.added
   added_there = (aug.more aug.added).1 (inr refl)
 
-  -- the new name stands on no right side
+  -- the new name is on no right side
   pub alone : IsOnNoRightSide h f
   alone p c k = elim ((aug.more p).0 c) [
     | inl i ↦ aug.fresh.1 p i k
@@ -50,13 +52,13 @@ module _ (g h : List Production) (start f : NonterminalString) (aug : IsAugmente
           let is_f : a ≡ f = sym (of.0).name ∙ ap (λ (q : Production). q.nonterminal) e ∙ aug.name in
           absurd (free (subst (λ b. Contains (Nonterminal a ∷ roots ts) (Nonterminal b)) is_f (contains_head (Nonterminal a) (roots ts))))
 
-  -- and trees of the old grammar are trees of the new one
+  -- trees of the old grammar are trees of the new one
   larger : (ts : Trees) → AreOfGrammar g ts → AreOfGrammar h ts
   larger no_trees of = tt
   larger (beside (Leaf t) ts) of = larger ts of
   larger (beside (Node a children) ts) of = (record { production = (of.0).production; of_grammar = kept (of.0).production (of.0).of_grammar; name = (of.0).name; symbols = (of.0).symbols }, larger children of.1, larger ts of.2)
 
-  -- the parse trees from the new name are a node over one from the start symbol
+  -- a node over a parse tree from the old start symbol is a parse tree from the new name
   pub from_old : (w : List TerminalString) (t : Tree) → IsParseTree g start w t → IsParseTree h f w (Node f (beside t no_trees))
   from_old w t p = record {
     from_start = refl;
@@ -64,7 +66,7 @@ module _ (g h : List Production) (start f : NonterminalString) (aug : IsAugmente
     of_list = append-nil (leaves (beside t no_trees)) ∙ p.of_list;
   }
 
-  -- and each of its parse trees is such a node
+  -- each parse tree from the new name is such a node
   pub to_old : (w : List TerminalString) (t : Tree) → IsParseTree h f w t → (s : Tree) × (t ≡ Node f (beside s no_trees)) × IsParseTree g start w s
   to_old w (Leaf x) p = absurd (not_both (sym p.from_start))
   to_old w (Node a children) p = go children (of.0).symbols (of.1) p.of_list
@@ -98,11 +100,11 @@ module _ (g h : List Production) (start f : NonterminalString) (aug : IsAugmente
           )
       go (beside s (beside v us)) e o l = absurd (cons≢nil (tail-eq_of_cons-eq (sym e ∙ start_symbols)))
 
-  -- which has one node more
+  -- a node over one tree has one more node than the tree
   pub one_more : (t : Tree) → nodes (beside (Node f (beside t no_trees)) no_trees) ≡ suc (nodes (beside t no_trees))
   one_more t = omega arith
 
-  -- what the old grammar derives, the new one does
+  -- the new grammar derives what the old one does
   derives_new : {l m : List Symbol} → Derives g l m → Derives h l m
   derives_new as_it_is = as_it_is
   derives_new (replace a b p c d) = replace a b p (kept p c) (derives_new d)
@@ -118,7 +120,7 @@ module _ (g h : List Production) (start f : NonterminalString) (aug : IsAugmente
         absurd (free (subst (λ b. Contains (Nonterminal p.nonterminal ∷ l) (Nonterminal b)) is_f (contains_head (Nonterminal p.nonterminal) l)))
   ]
 
-  -- what the new name derives is itself, or what the old start symbol derives
+  -- the new name derives only itself, and what the old start symbol derives
   derived_old : {l m : List Symbol} → Forest h l m → l ≡ Nonterminal f ∷ [] → (m ≡ Nonterminal f ∷ []) ⊎ Derives g (Nonterminal start ∷ []) m
   derived_old empty e = absurd (nil≢cons e)
   derived_old (leaf x k) e = inl (ap₂ (λ y n. y ∷ n) (head-eq_of_cons-eq e) (forest-nil (Forest-from (tail-eq_of_cons-eq e) k)))
@@ -133,17 +135,17 @@ module _ (g h : List Production) (start f : NonterminalString) (aug : IsAugmente
             inr (Derives-to (sym (append-nil m) ∙ ap (λ z. m ++ z) (sym nothing)) (forest_derives old))
       ]
 
-  -- what the old start symbol derives, the new name does
+  -- the new name derives what the old start symbol does
   derived_new : {m : List Symbol} → Derives g (Nonterminal start ∷ []) m → Derives h (Nonterminal f ∷ []) m
   derived_new d =
       Derives-trans (Derives-from (ap (λ a. Nonterminal a ∷ []) aug.name) (Derives-to aug.symbols (Derives-production aug.added added_there))) (derives_new d)
 
-  -- the new name is no list of terminals
+  -- a list of terminals is not the beginning of the list of the new name, unless it is empty
   not_terminals : (w : List TerminalString) (rest : List Symbol) → symbols_of w ++ rest ≡ Nonterminal f ∷ [] → w ≡ []
   not_terminals [] rest e = refl
   not_terminals (t ∷ w) rest e = absurd (not_both (sym (head-eq_of_cons-eq e)))
 
-  -- the sentences are those of the old start symbol
+  -- the sentences are those from the old start symbol
   pub same_sentences : (w : List TerminalString) → IsSentence h f w ↔ IsSentence g start w
   same_sentences w = (λ d. go (derived_old (derives_forest d) refl), derived_new)
     where
@@ -155,7 +157,7 @@ module _ (g h : List Production) (start f : NonterminalString) (aug : IsAugmente
       go (inl e) = absurd (nothing w e)
       go (inr d) = d
 
-  -- and so are the beginnings
+  -- the beginnings are those from the old start symbol
   pub same_beginnings : (w : List TerminalString) → IsBeginning h f w ↔ IsBeginning g start w
   same_beginnings w = (λ b. go b.0 (derived_old (derives_forest b.1) refl), λ b. (b.0, derived_new b.1))
     where
@@ -163,12 +165,12 @@ module _ (g h : List Production) (start f : NonterminalString) (aug : IsAugmente
       go rest (inl e) = subst (IsBeginning g start) (sym (not_terminals w rest e)) (Nonterminal start ∷ [], as_it_is)
       go rest (inr d) = (rest, d)
 
-  -- and the first wrong token
+  -- the first wrong token is that for the old start symbol
   pub same_wrong : (w : List TerminalString) (t : Token) → IsFirstWrong h f w t → IsFirstWrong g start w t
   same_wrong w _ (at_terminal before t after e b n) = at_terminal before t after e ((same_beginnings before).0 b) (λ c. n ((same_beginnings (before ++ t ∷ [])).1 c))
   same_wrong w _ (at_end b n) = at_end ((same_beginnings w).0 b) (λ d. n ((same_sentences w).1 d))
 
-  -- its parse trees are those that are a node over one from the old start symbol
+  -- the parse trees from the new name are the nodes over a parse tree from the old start symbol
   pub augmented_trees : (w : List TerminalString) (t : Tree) → IsParseTree h f w t ↔ ((s : Tree) × (t ≡ Node f (beside s no_trees)) × (nodes (beside t no_trees) ≡ suc (nodes (beside s no_trees))) × IsParseTree g start w s)
   augmented_trees w t = (
     λ p.
@@ -177,7 +179,8 @@ module _ (g h : List Production) (start f : NonterminalString) (aug : IsAugmente
     λ r. subst (λ (u : Tree). IsParseTree h f w u) (sym r.1) (from_old w r.0 r.3),
   )
 
-  -- so over faithful states the answers are nodes over parse trees from the old start symbol
+  -- over faithful states the trees that a run returns are nodes over parse trees from the old start
+  -- symbol
   pub augmented_answers : (states : ℕ → Contents) → AreFaithful h f states → (w : List TerminalString) (t : Tree) (limit : ℕ) → HasOutcome states w limit (Parsed t) ↔ ((s : Tree) × (t ≡ Node f (beside s no_trees)) × IsParseTree g start w s × (suc (nodes (beside s no_trees)) ≤ limit))
   augmented_answers states faithful w t limit = (
     λ o.
@@ -188,6 +191,6 @@ module _ (g h : List Production) (start f : NonterminalString) (aug : IsAugmente
         tree_parsed h f states faithful alone w t limit ((augmented_trees w t).1 (r.0, r.1, count, r.2)) (subst (λ n. n ≤ limit) (sym count) r.3),
   )
 
-  -- and refusals name the first wrong token
+  -- over faithful states refusals name the first wrong token for the old start symbol
   pub augmented_refusals : (states : ℕ → Contents) → AreFaithful h f states → (w : List TerminalString) (limit s : ℕ) (t : Token) → HasOutcome states w limit (Refused s t) → IsFirstWrong g start w t
   augmented_refusals states faithful w limit s t o = same_wrong w t (refused_wrong h f states faithful alone w limit s t o)

@@ -22,7 +22,7 @@ GrammarEntry = NonterminalString × NonterminalData
 abbrev listed : GrammarEntry → List Production
 listed e = e.1.productions.items
 
--- ---- the productions of a name are the grammar's
+-- ---- the productions of a name are those of the grammar
 among_at : (test : NonterminalString → Bool) (b : Bool) (e : GrammarEntry) (es : List GrammarEntry) (p : Production) →
     Contains (listed_productions (cond b (Some e.1) (lookup test es))) p → (Contains (listed_productions (lookup test es)) p → Contains (flat_map listed es) p) → Contains (listed e ++ flat_map listed es) p
 among_at test true e es p c later = Contains-append_left (listed e) (flat_map listed es) p c
@@ -35,7 +35,7 @@ among test (e ∷ es) p c = among_at test (test e.0) e es p c (among test es p)
 pub productions_among : (g : Grammar) (name : NonterminalString) (p : Production) → Contains (productions_of g name) p → Contains (productions g) p
 productions_among g name p c = among (is_at (name_cmp name)) g.nonterminals.entries p c
 
--- ---- their terminals are known
+-- ---- the terminals of productions are known
 entries_head : (terminals : List TerminalString) (actions : ℕ) (e : GrammarEntry) (es : List GrammarEntry) → AreWellFormedEntries terminals actions (e ∷ es) → IsWellFormedEntry terminals actions e.0 (listed e)
 entries_head terminals actions e es w = w 0 e.0 e.1 refl
 
@@ -52,7 +52,7 @@ known_in terminals actions (e ∷ es) p w c = elim (Contains-append_cases (liste
 pub known_symbols : (g : Grammar) (p : Production) → IsWellFormed g → Contains (productions g) p → HasKnownTerminals g.terminals p.symbols
 known_symbols g p w c = known_in g.terminals _ g.nonterminals.entries p w c
 
--- of rules that are those of a well-formed grammar
+-- the terminals of a production are known by rules that are those of a well-formed grammar
 pub known_by_rules : (g : Grammar) (rules : Rules) → rules_of g ≡ rules → IsWellFormed g → (p : Production) → Contains rules.productions p → HasKnownTerminals rules.terminals p.symbols
 known_by_rules g rules is well p among =
     subst (λ (r : Rules). HasKnownTerminals r.terminals p.symbols) is (known_symbols g p well (subst (λ (r : Rules). Contains r.productions p) (sym is) among))
@@ -60,15 +60,15 @@ known_by_rules g rules is well p among =
 pub known_rest : (terminals : List TerminalString) (n : ℕ) (symbols rest : List Symbol) → HasKnownTerminals terminals symbols → rest ≡ drop n symbols → HasKnownTerminals terminals rest
 known_rest terminals n symbols rest h e k t at = h (n + k) t (sym (slice_get-drop n symbols k) ∙ ap (λ (xs : List Symbol). slice_get xs k) (sym e) ∙ at)
 
--- ---- a name has just its own productions
+-- ---- a name has exactly its own productions
 same_name : (a b : NonterminalString) → a.text ≡ b.text → a ≡ b
 same_name a b e = let make : List ℕ → NonterminalString = λ t. record { text = t } in ap make e
 
--- the nonterminals in front of equal lists are equal
+-- the nonterminals at the front of equal lists are equal
 pub same_front : (a b : NonterminalString) (v w : List Symbol) → Nonterminal a ∷ v ≡ Nonterminal b ∷ w → a ≡ b
 same_front a b v w e = cc
 
--- and so is what stands behind them
+-- the symbols after the nonterminals at the front of equal lists are equal
 pub same_after : (a b : NonterminalString) (v w : List Symbol) → Nonterminal a ∷ v ≡ Nonterminal b ∷ w → v ≡ w
 same_after a b v w e = cc
 

@@ -1,4 +1,4 @@
--- The orders of names, terminals and symbols tell all of them apart.
+-- Names, terminals and symbols that tie in their orders are equal.
 use Rattle.std.specs.declared.cmp.Ordering.{Ordering}
 use Rattle.std.specs.Cmp.{IsTotalOrder}
 use Rattle.std.proofs.lemmas.Map.Lookups.{CmpEqualImpliesEq}
@@ -17,7 +17,7 @@ use Rattle.std.specs.declared.cmp.Ordering.TheVariants.{Less, Equal, Greater}
 use Rattle.std.specs.Ordering.{is_eq}
 use Rattle.std.proofs.Common.{◌≡◌, true, refl}
 
--- an order that is told to be equal is
+-- an ordering that `is_eq` accepts is Equal
 pub is_equal : (o : Ordering) → is_eq o ≡ true → o ≡ Equal
 is_equal Less e = cc
 is_equal Equal e = refl

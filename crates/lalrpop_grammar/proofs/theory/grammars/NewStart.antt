@@ -1,4 +1,5 @@
--- A new start symbol: what one entry more adds to a grammar, and that the names which are longer than all others are unused.
+-- A new start symbol: one more entry of a grammar, and names that are longer than all others and so
+-- are unused.
 use Rattle.std.proofs.Common.{◌≡◌, ℕ, zero, suc, ◌+◌, ◌-◌, ◌<◌, ◌≤◌, ◌⊎◌, inl, inr, List, [], ◌∷◌, length, Option, Some, None, Bool, true, false, cond, IsSome, refl, sym, subst, ap, ◌∙◌, arith}
 use Rattle.std.specs.Prelude.{slice_get, Contains, vec_len}
 use Rattle.std.specs.declared.cmp.Ordering.{Ordering}
@@ -16,14 +17,14 @@ use Rattle.lalrpop_grammar.proofs.theory.first.FirstNames.{name_same, has_own}
 use Rattle.lalrpop_collections.proofs.theory.lists.Lists.{same_some, some≢none, contains-cons, contains-nil, contains_head, contains_tail, contains_place, place_contains, length-more}
 use Rattle.lalrpop_grammar.proofs.theory.grammars.SymbolLists.{not_both}
 
--- a number below another or it
+-- a number below the next one is below the number or equal to it
 pub below : (a b : ℕ) → a < suc b → (a < b) ⊎ (a ≡ b)
 below zero zero h = inr refl
 below zero (suc b) h = inl (omega arith)
 below (suc a) zero h = absurd (omega (arith, h))
 below (suc a) (suc b) h = elim (below a b (omega (arith, h))) [ inl l ↦ inl (omega (arith, l)) | inr e ↦ inr (ap suc e) ]
 
--- ---- an entry more in a map
+-- ---- one more entry in a map
 module _ {K X : Type 0} (cmp : K → K → Ordering) (k : K) (v : X) where
   abbrev Absent : List (K × X) → Type 0
   Absent es = lookup (is_at (cmp k)) es ≡ None
@@ -31,7 +32,7 @@ module _ {K X : Type 0} (cmp : K → K → Ordering) (k : K) (v : X) where
   abbrev IsOfOne : List (K × X) → (K × X) → Type 0
   IsOfOne es x = (x ≡ (k, v)) ⊎ Contains es x
 
-  -- where the key was absent, an entry is the new one or was there
+  -- if the key was absent, an entry is the new one or was there before
   pub inserted_cases : (es : List (K × X)) → Absent es → (x : K × X) → Contains (insert_entry cmp es k v) x → IsOfOne es x
   inserted_cases [] none x c = elim (contains-cons (k, v) [] x c) [ inl h ↦ inl (sym h) | inr h ↦ absurd (contains-nil h) ]
   inserted_cases (e ∷ es) none x c = go (cmp k e.0) none c (λ n d. inserted_cases es n x d)
@@ -45,7 +46,7 @@ module _ {K X : Type 0} (cmp : K → K → Ordering) (k : K) (v : X) where
         | inr h ↦ elim (rest n h) [ inl z ↦ inl z | inr z ↦ inr (contains_tail e es x z) ]
       ]
 
-  -- and both are
+  -- if the key was absent, the new entry and the old ones are there
   pub inserted_there : (es : List (K × X)) → Absent es → (x : K × X) → IsOfOne es x → Contains (insert_entry cmp es k v) x
   inserted_there [] none x c = elim c [ inl h ↦ subst (λ y. Contains ((k, v) ∷ []) y) (sym h) (contains_head (k, v) []) | inr h ↦ absurd (contains-nil h) ]
   inserted_there (e ∷ es) none x c = go (cmp k e.0) none c (λ n d. inserted_there es n x d)
@@ -83,7 +84,8 @@ listed_from (x ∷ es) p c = elim (Contains-append_cases x.1.productions.items (
   | inr h ↦ let r = listed_from es p h in (r.0, contains_tail x es r.0 r.1, r.2)
 ]
 
--- a name on no right side of entries is on none of the first and of the others, and the other way round
+-- a name is on no right side of entries exactly if it is on no right side of the first entry and of
+-- the others
 module _ (a : NonterminalString) where
   pub sides_cons : (name : NonterminalString) (entry : NonterminalData) (rest whole : List Entry) → whole ≡ (name, entry) ∷ rest → IsOnNoRightSide entry.productions.items a → IsOnNoRightSide (listed rest) a → IsOnNoRightSide (listed whole) a
   sides_cons name entry rest whole e here later p c d =
@@ -155,7 +157,7 @@ module _ (g h : Grammar) (start f : NonterminalString) (well : IsWellFormed g) (
       let long : length f.text ≡ suc (suc new.name.more) + length start.text = ap (λ (a : NonterminalString). length a.text) new.name.name ∙ longer (suc (suc new.name.more)) start in
       absurd (omega (arith, same, long))
 
-  -- its productions are those of the definitions
+  -- the productions are those that the definition of an augmented grammar asks for
   pub is_augmented : IsAugmented (productions g) (productions h) start f
   is_augmented = record {
     added = added;
@@ -209,7 +211,7 @@ module _ (g h : Grammar) (start f : NonterminalString) (well : IsWellFormed g) (
       past i zero x less e = absurd (omega (arith, less))
       past i (suc j) x less e = some≢none (sym e)
 
-  -- and it is well-formed
+  -- the new grammar is well-formed
   pub well_formed : IsWellFormed h
   well_formed k a entry at = go (inserted_cases name_cmp f new.entry old absent (a, entry) (subst (λ es. Contains es (a, entry)) new.entries (place_contains h.nonterminals.entries k (a, entry) at)))
     where
@@ -234,7 +236,7 @@ abbrev keys_size : List Entry → ℕ
 keys_size [] = 0
 keys_size (e ∷ es) = length e.0.text + keys_size es
 
--- the length of all names together, on the left and on right sides
+-- the sum of the lengths of all names, on left and on right sides
 abbrev pub names_size : Grammar → ℕ
 names_size g = keys_size g.nonterminals.entries + productions_size (productions g)
 
@@ -285,7 +287,7 @@ Tried-more g start f next so_far used is = record {
   ];
 }
 
--- and each is longer than the one before, up to the longest
+-- each name that is tried is longer than the one before it, so that a measure falls
 pub Tried-falls : (g : Grammar) (f next : NonterminalString) → (IsUnused g f → ⊥) → next ≡ underscored 1 f → suc (names_size g) - length next.text < suc (names_size g) - length f.text
 Tried-falls g f next used is =
     let long : length next.text ≡ suc (length f.text) = ap (λ (a : NonterminalString). length a.text) is in

@@ -1,4 +1,5 @@
--- A list of terminals is a sentence exactly where it has a parse tree: since a forest whose leaves are terminals is one of parse trees.
+-- A list of terminals is a sentence exactly if it has a parse tree. The proof is that a forest
+-- whose leaves are terminals is one of parse trees.
 use Rattle.std.proofs.Common.{◌≡◌, ◌↔◌, List, [], ◌∷◌, ◌++◌, sym, refl, ap, ap₂, ◌∙◌}
 use mathlib.Core.List.{head-eq_of_cons-eq, tail-eq_of_cons-eq, nil≢cons, cons≢nil}
 use Rattle.lalrpop_grammar.proofs.Types.{NonterminalString, Production, Symbol, TerminalString}
@@ -40,11 +41,11 @@ forest_parsed (node p {m = m} {n = n} h d f) w e =
       spells = ap₂ (λ u v. u ++ v) q.spells r.spells ∙ sym s.joined;
     }
 
--- what a list of symbols derives, as trees
+-- a derivation of a list of terminals gives trees
 pub derives_parsed : {g : List Production} {l : List Symbol} (w : List TerminalString) → Derives g l (symbols_of w) → Parsed g l w
 derives_parsed w d = forest_parsed (derives_forest d) w refl
 
--- and the other way round
+-- trees give a derivation of the list of their leaves
 pub parsed_derives : {g : List Production} {l : List Symbol} (w : List TerminalString) → Parsed g l w → Derives g l (symbols_of w)
 parsed_derives w r = Derives-from r.over (Derives-to (ap symbols_of r.spells) (roots_derive r.trees r.of_grammar))
 

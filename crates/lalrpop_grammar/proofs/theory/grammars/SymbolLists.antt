@@ -1,16 +1,17 @@
--- Lists of symbols and of terminals: how joined lists of terminals part, and where a terminal is.
+-- Lists of symbols and of terminals: the parts of joined lists of terminals, and the place of a
+-- terminal.
 use Rattle.std.proofs.Common.{List, ap, ap₂, refl, subst, sym, ◌++◌, [], ◌∷◌, ◌≡◌}
 use mathlib.Core.List.{cons≢nil, head-eq_of_cons-eq, tail-eq_of_cons-eq}
 use Rattle.lalrpop_grammar.proofs.Types.{NonterminalString, Symbol, TerminalString}
 use Rattle.lalrpop_grammar.specs.declared.repr.Symbol.TheVariants.{Nonterminal, Terminal}
 use Rattle.lalrpop_grammar.specs.Words.{symbols_of}
 
--- a symbol is a terminal or a nonterminal, and shows which one
+-- the terminal of a symbol, and the given one if the symbol is a nonterminal
 abbrev pub terminal_of : TerminalString → Symbol → TerminalString
 terminal_of t (Nonterminal a) = t
 terminal_of t (Terminal u) = u
 
--- equal symbols show equal terminals
+-- equal symbols have equal terminals
 pub same_terminal : {t u : TerminalString} → Terminal t ≡ Terminal u → t ≡ u
 same_terminal {t} e = ap (terminal_of t) e
 
@@ -18,7 +19,7 @@ abbrev pub nonterminal_of : NonterminalString → Symbol → NonterminalString
 nonterminal_of a (Nonterminal b) = b
 nonterminal_of a (Terminal u) = a
 
--- and equal nonterminals
+-- equal symbols have equal nonterminals
 pub same_nonterminal : {a b : NonterminalString} → Nonterminal a ≡ Nonterminal b → a ≡ b
 same_nonterminal {a} e = ap (nonterminal_of a) e
 
@@ -26,11 +27,11 @@ abbrev pub IsTerminal : Symbol → Type 0
 IsTerminal (Nonterminal a) = ⊥
 IsTerminal (Terminal t) = Unit {0}
 
--- no symbol is both
+-- no symbol is both a terminal and a nonterminal
 pub not_both : {a : NonterminalString} {t : TerminalString} → Nonterminal a ≡ Terminal t → ⊥
 not_both e = subst IsTerminal (sym e) tt
 
--- where a joined list is one of terminals, both parts are
+-- two lists of symbols that make a list of terminals are themselves lists of terminals
 pub record TerminalParts (m n : List Symbol) (w : List TerminalString) : Type 0 where
   pub first : List TerminalString
   pub second : List TerminalString
@@ -38,7 +39,7 @@ pub record TerminalParts (m n : List Symbol) (w : List TerminalString) : Type 0 
   pub left : m ≡ symbols_of first
   pub right : n ≡ symbols_of second
 
--- they are
+-- if two lists of symbols make a list of terminals, both are lists of terminals
 pub terminal_parts : (m n : List Symbol) (w : List TerminalString) → m ++ n ≡ symbols_of w → TerminalParts m n w
 terminal_parts [] n w e = record { first = []; second = w; joined = refl; left = refl; right = e }
 terminal_parts (x ∷ m) n [] e = absurd (cons≢nil e)
@@ -57,12 +58,13 @@ pub symbols_of-append : (v w : List TerminalString) → symbols_of (v ++ w) ≡ 
 symbols_of-append [] w = refl
 symbols_of-append (t ∷ v) w = ap (λ l. Terminal t ∷ l) (symbols_of-append v w)
 
--- where a terminal stands behind others in a joined list: inside the first part, or behind it
+-- the place of a terminal after other terminals in a joined list: inside the first part, or after
+-- it
 pub data Place (m n : List Symbol) (v : List TerminalString) (t : TerminalString) (after : List Symbol) : Type 0 where
   inside : (k : List Symbol) → m ≡ symbols_of v ++ Terminal t ∷ k → Place m n v t after
   behind : (first second : List TerminalString) → v ≡ first ++ second → m ≡ symbols_of first → n ≡ symbols_of second ++ Terminal t ∷ after → Place m n v t after
 
--- it stands in one of the two places
+-- the terminal is at one of the two places
 pub place : (m n : List Symbol) (v : List TerminalString) (t : TerminalString) (after : List Symbol) → m ++ n ≡ symbols_of v ++ Terminal t ∷ after → Place m n v t after
 place [] n v t after e = behind [] v refl refl e
 place (x ∷ m) n [] t after e = inside m (ap (λ y. y ∷ m) (head-eq_of_cons-eq e))

@@ -12,7 +12,7 @@ use Rattle.lalrpop_grammar.specs.contracts.repr.exact.TerminalStringExact.TheImp
 use Rattle.lalrpop_collections.specs.Words.{AllDiffer, DifferBelow, IsFirstRepeat}
 use Rattle.lalrpop_grammar.specs.Words.{HasPlaces}
 
--- terminals that tie in order are one
+-- terminals that tie in the order are equal
 pub tied_terminals : (x y : TerminalString) → is_at (terminal.ghosts.cmp x) y ≡ true → x ≡ y
 tied_terminals x y e = exact-law x y (order.matches_eq-law x y ∙ e)
 
@@ -43,7 +43,7 @@ has_places_more xs i x k m n key at old new updates = record {
       (cases_lt p i);
 }
 
--- what has its places in a map has no repeats
+-- terminals whose places are in a map do not repeat
 pub places_differ : (xs : List TerminalString) (n : ℕ) (m : BTreeMap TerminalString ℕ) → HasPlaces xs n m → DifferBelow n xs
 places_differ xs n m h i j x l w a b = omega (arith, some_same i j (get terminal.ghosts.cmp m x) (h.complete x i (omega arith) a) (h.complete x j w b))
 
@@ -54,7 +54,7 @@ some_of : {X : Type 0} (o : Option X) → is_some o ≡ true → (x : X) × (o �
 some_of None h = cc
 some_of (Some x) h = (x, refl)
 
--- a terminal that has a place already is the first repeat
+-- a terminal that already has a place is the first repeat
 pub first_repeat : (xs : List TerminalString) (i : ℕ) (x : TerminalString) (m : BTreeMap TerminalString ℕ) → HasPlaces xs i m → slice_get xs i ≡ Some x →
     is_some (get terminal.ghosts.cmp m x) ≡ true → IsFirstRepeat xs i x
 first_repeat xs i x m h at known =
@@ -63,7 +63,7 @@ first_repeat xs i x m h at known =
     record { there = at; before = (place.0, before.0, before.1); differ = places_differ xs i m h }
 
 module _ (xs : List TerminalString) (m : BTreeMap TerminalString ℕ) (h : HasPlaces xs (length xs) m) (t : TerminalString) where
-  -- what the map answers of a terminal
+  -- the map has the place of a terminal
   pub place_found : (o : Option ℕ) → o ≡ get terminal.ghosts.cmp m t → IfSome o (λ p. slice_get xs p ≡ Some t)
   place_found None e = tt
   place_found (Some p) e = (h.sound t p (sym e)).1

@@ -1,4 +1,5 @@
--- Over faithful states each terminal with which the input so far is a beginning is shifted: by reading a forest of a derivation from the left up to that terminal.
+-- Over faithful states each terminal with which the input so far is a beginning is shifted. The
+-- proof reads a forest of a derivation from the left up to that terminal.
 use Rattle.std.proofs.Common.{◌≡◌, ℕ, suc, ◌+◌, List, [], ◌∷◌, ◌++◌, drop, append_assoc, append-nil, sym, refl, ap, ◌∙◌, Some}
 use Rattle.std.specs.Prelude.{Contains}
 use mathlib.Core.List.{head-eq_of_cons-eq, tail-eq_of_cons-eq, nil≢cons}
@@ -14,13 +15,13 @@ use Rattle.lalrpop_grammar.proofs.theory.grammars.Parses.{Parsed, forest_parsed}
 use Rattle.lalrpop_grammar.proofs.theory.runs.Steps.{Reaches-append, Reaches-from}
 use Rattle.lalrpop_grammar.proofs.theory.runs.Reading.{leads_on, reads, node_read, IsRead, IsNodeRead}
 
--- what follows in the input is among the tokens of a production before it
+-- the token that follows in the input is one of the tokens of a production before it
 pub token_behind : {g : List Production} {start : NonterminalString} {u : List Symbol} {p : Production} {dot : ℕ} (second : List TerminalString) (t : TerminalString) (rest : List TerminalString) (after : List Symbol) (q : Production) (l : List Symbol) → Valid g start u p dot → drop dot p.symbols ≡ Nonterminal q.nonterminal ∷ l → Contains g q → Derives g l (symbols_of second ++ Terminal t ∷ after) → ValidToken g start u q 0 (next_token (second ++ t ∷ rest))
 token_behind [] t rest after q l v k h d = begins_behind q l v k h (after, d)
 token_behind (x ∷ second) t rest after q l v k h d = begins_behind q l v k h (symbols_of second ++ Terminal t ∷ after, d)
 
 module _ (g : List Production) (start : NonterminalString) (states : ℕ → Contents) (faithful : AreFaithful g start states) where
-  -- from a configuration a run comes to where t stands next and is shifted
+  -- a run from a configuration comes to a configuration in which t is the next token and is shifted
   pub record ComesTo (c : Configuration) (t : TerminalString) (rest : List TerminalString) : Type 0 where
     pub steps : ℕ
     pub at : Configuration
@@ -29,11 +30,12 @@ module _ (g : List Production) (start : NonterminalString) (states : ℕ → Con
     pub target : ℕ
     pub shift : (states at.state).shift t ≡ Some target
 
-  -- also from where a run leads there
+  -- a run comes there also from an earlier configuration
   pub comes_from : {n : ℕ} {c d : Configuration} {t : TerminalString} {rest : List TerminalString} → Reaches states n c d → ComesTo d t rest → ComesTo c t rest
   comes_from {n} r k = record { steps = n + k.steps; at = k.at; run = Reaches-append r k.run; next = k.next; target = k.target; shift = k.shift }
 
-  -- read from the left up to a terminal t, what stands behind a dot brings the run to a shift of t
+  -- reading a forest from the left up to a terminal t brings the run to a shift of t, if the roots
+  -- of the forest are after a dot
   pub reads_to : {l n : List Symbol} → Forest g l n → (v : List TerminalString) (t : TerminalString) (after : List Symbol) → n ≡ symbols_of v ++ Terminal t ∷ after → (rest : List TerminalString) (u : List Symbol) (p : Production) (dot : ℕ) → Valid g start u p dot → drop dot p.symbols ≡ l → (s : ℕ) (below : List ℕ) (trees : List Tree) → state_after states u ≡ Some s → ComesTo (record { state = s; below = below; trees = trees; rest = v ++ t ∷ rest }) t rest
   reads_to empty [] t after e rest u p dot v k s below trees at = absurd (nil≢cons e)
   reads_to empty (x ∷ w) t after e rest u p dot v k s below trees at = absurd (nil≢cons e)

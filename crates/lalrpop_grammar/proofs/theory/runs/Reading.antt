@@ -1,4 +1,5 @@
--- Over faithful states a tree is read from the left, in as many steps as it has nodes: by induction on the tree, from what a state right for its prefix allows.
+-- Over faithful states a tree is read from the left, in as many steps as it has nodes. The proof is
+-- by induction on the tree, from the actions that a right state allows.
 use Rattle.std.proofs.Common.{◌≡◌, ℕ, suc, ◌+◌, inr, List, [], ◌∷◌, ◌++◌, drop, length, append_assoc, append-nil, sym, subst, refl, ap, ◌∙◌, Option, Some, None, arith}
 use Rattle.std.specs.Prelude.{Contains}
 use Rattle.lalrpop_grammar.proofs.Types.{NonterminalString, Production, Symbol, TerminalString, Token}
@@ -26,7 +27,7 @@ roots_derive {g} (beside (Node a children) ts) h =
     (Derives-to (sym (symbols_of-append (leaves children) (leaves ts)))
     (Derives-append (Derives-from (sym n.symbols) (roots_derive children h.1)) (roots_derive ts h.2))))
 
--- a child's production has among its tokens what follows in the input
+-- the token that follows in the input is one of the tokens of a child's production
 pub child_token : {g : List Production} {start : NonterminalString} {u : List Symbol} {p : Production} {dot : ℕ} (q : Production) (ts : Trees) (rest : List TerminalString) → AreOfGrammar g ts → ValidToken g start u p dot (next_token rest) → drop dot p.symbols ≡ Nonterminal q.nonterminal ∷ roots ts → Contains g q → ValidToken g start u q 0 (next_token (leaves ts ++ rest))
 child_token {g} {start} {u} q ts rest of v e h = go (leaves ts) (roots_derive ts of)
   where
@@ -41,14 +42,14 @@ module _ (g : List Production) (start : NonterminalString) (states : ℕ → Con
       let r = faithful u l in
       subst (λ k. IsRightFor g start u (states k)) (same_some (sym r.after ∙ e)) r.right
 
-  -- a symbol that is awaited leads on
+  -- a state has an edge over each symbol that is awaited
   pub leads_on : (u : List Symbol) (n : ℕ) (x : Symbol) → IsAwaited g start u x → state_after states u ≡ Some n → (m : ℕ) × (leads (states n) x ≡ Some m) × (state_after states (u ++ x ∷ []) ≡ Some m)
   leads_on u n x a e =
       let r = right_at u n (inr (a.production, a.dot, a.valid)) e in
       let m = (edges_awaited r.contents x).1 a in
       (m.0, m.1, state_from-more states 0 u x e m.1)
 
-  -- where a production can be reduced by, the state does so
+  -- if a production can be reduced by, the state reduces by it
   pub reduces_by : (u : List Symbol) (p : Production) (c : Configuration) → ValidToken g start u p (length p.symbols) (next_token c.rest) → state_after states u ≡ Some c.state → move states c ≡ received states p (drop (length p.symbols) (c.state ∷ c.below)) (reduced p c.trees) c.rest
   reduces_by u p c v e = go c.rest v
     where
@@ -77,7 +78,8 @@ module _ (g : List Production) (start : NonterminalString) (states : ℕ → Con
           no_shift None e' = ap (reduces states c) (first (TokenOf t) k)
           no_shift (Some n) e' = absurd (subst IsReduce (r.one (TokenOf t) tt (Reduce p) (Shift t) (r.every (TokenOf t) (Reduce p) k) (refl, (n, e'))) tt)
 
-  -- trees are read: from a state after u, with their leaves in the input, to the state after u and their roots, with them on the stack
+  -- trees are read by a run from a state after u, with their leaves in the input. The run leads to
+  -- the state after u and their roots, and leaves the trees on the stack
   pub record IsRead (u : List Symbol) (ts : Trees) (s : ℕ) (below : List ℕ) (trees : List Tree) (rest : List TerminalString) : Type 0 where
     pub state : ℕ
     pub under : List ℕ
@@ -85,13 +87,14 @@ module _ (g : List Production) (start : NonterminalString) (states : ℕ → Con
     pub after : state_after states (u ++ roots ts) ≡ Some state
     pub back : drop (length (roots ts)) (state ∷ under) ≡ s ∷ below
 
-  -- a node is read: with its children, and then itself
+  -- a node is read if a run leads over its leaves, and has the node on the stack
   pub record IsNodeRead (u : List Symbol) (a : NonterminalString) (children : Trees) (s : ℕ) (below : List ℕ) (trees : List Tree) (rest : List TerminalString) : Type 0 where
     pub state : ℕ
     pub run : Reaches states (suc (nodes children)) (record { state = s; below = below; trees = trees; rest = leaves children ++ rest }) (record { state = state; below = s ∷ below; trees = Node a children ∷ trees; rest = rest })
     pub after : state_after states (u ++ Nonterminal a ∷ []) ≡ Some state
 
-  -- once the children are read, the node is, if it is awaited and the next token is one of its production's
+  -- if the children are read, the node is read too, provided that it is awaited and the next token
+  -- is one of its production's
   pub node_read : (u : List Symbol) (a : NonterminalString) (children : Trees) (n : IsNode g a children) (s : ℕ) (below : List ℕ) (trees : List Tree) (rest : List TerminalString) → ValidToken g start u n.production 0 (next_token rest) → IsRead u children s below trees rest → IsAwaited g start u (Nonterminal a) → state_after states u ≡ Some s → IsNodeRead u a children s below trees rest
   node_read u a children n s below trees rest w c awaited at =
       let q : Production = n.production in
@@ -112,7 +115,8 @@ module _ (g : List Production) (start : NonterminalString) (states : ℕ → Con
         after = m.2;
       }
 
-  -- behind the dot of a dotted production with the next token among its tokens, trees of the grammar are read
+  -- trees of the grammar are read if their roots are after the dot of a dotted production that has
+  -- the next token
   pub reads : (ts : Trees) → AreOfGrammar g ts → (u : List Symbol) (p : Production) (dot : ℕ) (rest : List TerminalString) → ValidToken g start u p dot (next_token rest) → drop dot p.symbols ≡ roots ts → (s : ℕ) (below : List ℕ) (trees : List Tree) → state_after states u ≡ Some s → IsRead u ts s below trees rest
   reads no_trees of u p dot rest v e s below trees at = record { state = s; under = below; run = here; after = ap (state_after states) (append-nil u) ∙ at; back = refl }
   reads (beside (Leaf t) ts) of u p dot rest v e s below trees at =

@@ -1,4 +1,5 @@
--- Over faithful states, with the start symbol on no right side, a refusal names the first wrong token: since the run would shift a right one, and ends with a tree on a sentence.
+-- Over faithful states, with the start symbol on no right side, a refusal names the first wrong
+-- token. The proof is that a run would shift a right token, and ends with a tree on a sentence.
 use Rattle.std.proofs.Common.{◌≡◌, ℕ, suc, ◌≤◌, inl, inr, List, [], ◌∷◌, ◌++◌, drop, length, append-nil, sym, subst, refl, ap, ◌∙◌, Option, Some, None, arith}
 use Rattle.lalrpop_grammar.proofs.Types.{NonterminalString, Production, Symbol, TerminalString, Token}
 use Rattle.lalrpop_grammar.specs.declared.repr.Symbol.TheVariants.{Nonterminal}
@@ -14,7 +15,7 @@ use Rattle.lalrpop_grammar.proofs.theory.runs.Runs.{Did, shifted, reduced_by, st
 use Rattle.lalrpop_grammar.proofs.theory.runs.Sentences.{tree_run}
 use Rattle.lalrpop_grammar.proofs.theory.runs.Beginnings.{ComesTo, beginning_shifted}
 
--- the input only shrinks
+-- a step makes the input no longer
 pub step_shrinks : (states : ℕ → Contents) (c d : Configuration) → move states c ≡ Goes d → length d.rest ≤ length c.rest
 step_shrinks states c d e = go (move states c) (did states c) e
   where
@@ -34,19 +35,19 @@ step_shrinks states c d e = go (move states c) (did states c) e
     go _ (reduced_by p h) x = after_reduction p (drop (length p.symbols) (c.state ∷ c.below)) _ x
     go _ (stood h k) x = absurd (subst IsGoing (sym x) tt)
 
--- over a run too
+-- a run makes the input no longer
 pub run_shrinks : {states : ℕ → Contents} {n : ℕ} {c d : Configuration} → Reaches states n c d → length d.rest ≤ length c.rest
 run_shrinks here = omega arith
 run_shrinks {states} (further {c = c} {d} {e} h r) = omega (arith, step_shrinks states c d h, run_shrinks r)
 
--- a run that halts passes through whatever another run reaches
+-- a run that halts passes through each configuration that another run reaches
 pub passes : {states : ℕ → Contents} {n m : ℕ} {b c d : Configuration} → Reaches states n b c → Halts states c → Reaches states m b d → (k : ℕ) × Reaches states k d c
 passes {n = n} r h here = (n, r)
 passes {states} (here {c}) h (further {d = d} e s) = absurd (goes_on_from states c d e h)
 passes {states} (further {n} {d = c} {e = z} e r) h (further {d = d} f s) = passes (subst (λ x. Reaches states n x z) (same_goes (sym e ∙ f)) r) h s
 
 module _ (g : List Production) (start : NonterminalString) (states : ℕ → Contents) (faithful : AreFaithful g start states) where
-  -- what the trees of a stack spell is a beginning
+  -- the leaves of the trees on a stack are a beginning
   pub stack_begins : {u : List Symbol} {s : ℕ} {below : List ℕ} {trees : List Tree} → Stacked g states u s below trees → IsBeginning g start (spelled trees)
   stack_begins {u} {trees = trees} st = go (stacked_live g start states faithful st)
     where
@@ -54,14 +55,14 @@ module _ (g : List Production) (start : NonterminalString) (states : ℕ → Con
       go (inl e) = (Nonterminal start ∷ [], Derives-to (ap (λ ts. symbols_of (spelled ts) ++ Nonterminal start ∷ []) (sym (stacked_empty st e))) as_it_is)
       go (inr v) = let x = extends v.2 in (drop v.1 (v.0).symbols ++ x.0, Derives-trans x.1 (Derives-right (drop v.1 (v.0).symbols ++ x.0) (stacked_derives st)))
 
-  -- a run that halts without a parse stands at a token that is not right
+  -- a run that halts without a parse has a next token that is not right
   pub halts_not_right : IsOnNoRightSide g start → (w : List TerminalString) (n : ℕ) (c : Configuration) → Reaches states n (begin w) c → Halts states c → ((t : Tree) → c.rest ≡ [] → move states c ≡ Ends (t ∷ []) → ⊥) → IsRightNext g start (spelled c.trees) c.rest → ⊥
   halts_not_right alone w n c r h no_parse right = go c.rest refl right
     where
       tr : Tracks g states w c
       tr = run_tracks g start states faithful w r (begin_tracks g start states faithful w)
 
-      -- where a run shifts it, it goes past it
+      -- a run that shifts the token goes past it
       past : (t : TerminalString) (rest : List TerminalString) → c.rest ≡ t ∷ rest → ComesTo g start states faithful (begin (spelled c.trees ++ t ∷ rest)) t rest → ⊥
       past t rest e k =
           let input : spelled c.trees ++ t ∷ rest ≡ w = ap (λ l. spelled c.trees ++ l) (sym e) ∙ tr.input in
@@ -92,7 +93,7 @@ module _ (g : List Production) (start : NonterminalString) (states : ℕ → Con
           let same : c ≡ x.2.last = (together r x.2.run h (ends_halts states x.2.last x.2.ends)).1 in
           no_parse t.0 e (ap (move states) same ∙ x.2.ends)
 
-  -- so it stands at the first wrong token
+  -- if a run halts without a parse, the next token is the first wrong one
   pub halts_wrong : IsOnNoRightSide g start → (w : List TerminalString) (n : ℕ) (c : Configuration) → Reaches states n (begin w) c → Halts states c → ((t : Tree) → c.rest ≡ [] → move states c ≡ Ends (t ∷ []) → ⊥) → IsFirstWrong g start w (next_token c.rest)
   halts_wrong alone w n c r h no_parse = go c.rest refl
     where

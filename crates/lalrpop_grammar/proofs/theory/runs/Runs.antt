@@ -1,4 +1,6 @@
--- Over faithful states each configuration of a run stands at a live prefix that derives what was read, so that what it answers is a parse tree and what it shifts continues a beginning: by induction on the run.
+-- Over faithful states each configuration of a run is at a live prefix that derives the input read
+-- so far. So a tree that the run returns is a parse tree, and a terminal that it shifts continues a
+-- beginning. The proof is by induction on the run.
 use Rattle.std.proofs.Common.{◌≡◌, ℕ, suc, ◌≤◌, inl, inr, Bool, true, false, cond, List, [], ◌∷◌, ◌++◌, drop, length, append_assoc, append-nil, sym, subst, refl, ap, ◌∙◌, Option, Some, None, arith}
 use mathlib.Core.List.{head-eq_of_cons-eq}
 use Rattle.lalrpop_grammar.proofs.Types.{NonterminalString, Production, Symbol, TerminalString, Token}
@@ -27,7 +29,7 @@ reduction_holds (r ∷ rs) t p e = go (r.holds t) refl e (reduction_holds rs t p
     go true h k more = (r, (0, omega arith, refl), same_some k, h)
     go false h k more = let m = more k in (m.0, (suc m.1.0, omega (arith, m.1.1), m.1.2), m.2, m.3)
 
--- what a move came of
+-- the action that made a move
 pub data Did (states : ℕ → Contents) (c : Configuration) : Move → Type 0 where
   shifted : (t : TerminalString) (rest : List TerminalString) (n : ℕ) → c.rest ≡ t ∷ rest → (states c.state).shift t ≡ Some n → Did states c (Goes (record { state = n; below = c.state ∷ c.below; trees = Leaf t ∷ c.trees; rest = rest }))
   reduced_by : (p : Production) → reduction_on (states c.state).reductions (next_token c.rest) ≡ Some p → Did states c (received states p (drop (length p.symbols) (c.state ∷ c.below)) (reduced p c.trees) c.rest)
@@ -43,7 +45,7 @@ abbrev pub token_terminal : TerminalString → Token → TerminalString
 token_terminal t (TokenOf u) = u
 token_terminal t _ = t
 
--- each move came of one of these
+-- each move is made by one of these actions
 pub did : (states : ℕ → Contents) (c : Configuration) → Did states c (move states c)
 did states c = at_rest c.rest refl
   where
@@ -63,21 +65,23 @@ did states c = at_rest c.rest refl
         (λ u k. absurd (subst IsTokenOf (sym k ∙ ap next_token e) tt))
     at_rest (t ∷ rest) e = at_shift t rest e ((states c.state).shift t) refl
 
--- a configuration in a run on w: its stack is one for a prefix, and its trees spell what was read
+-- a configuration of a run on w: its stack is one for a prefix, and the leaves of its trees are the
+-- input read so far
 pub record Tracks (g : List Production) (states : ℕ → Contents) (w : List TerminalString) (c : Configuration) : Type 0 where
   pub prefix : List Symbol
   pub stack : Stacked g states prefix c.state c.below c.trees
   pub input : spelled c.trees ++ c.rest ≡ w
 
 module _ (g : List Production) (start : NonterminalString) (states : ℕ → Contents) (faithful : AreFaithful g start states) where
-  -- what a reduction finds: a dotted production at its end, its symbols on the stack, and what it leaves
+  -- the facts of a reduction: its dotted production has the dot at its end, its symbols are on the
+  -- stack, and the rest of the stack is left
   pub record Found (c : Configuration) (p : Production) : Type 0 where
     pub prefix : List Symbol
     pub valid : Valid g start prefix p 0
     pub popped : Popped g states prefix p.symbols c.state c.below c.trees
     pub move_is : received states p (drop (length p.symbols) (c.state ∷ c.below)) (reduced p c.trees) c.rest ≡ goes_on ((states popped.state).goto p.nonterminal) popped.state popped.under (Node p.nonterminal popped.taken ∷ popped.kept) c.rest
 
-  -- each reduction finds them
+  -- each reduction has these facts
   pub found : (w : List TerminalString) (c : Configuration) (p : Production) → Tracks g states w c → reduction_on (states c.state).reductions (next_token c.rest) ≡ Some p → Found c p
   found w c p tr e =
       let h = reduction_holds (states c.state).reductions (next_token c.rest) p e in
@@ -94,11 +98,11 @@ module _ (g : List Production) (start : NonterminalString) (states : ℕ → Con
             ∙ ap (λ ts. received states p (k.state ∷ k.under) ts c.rest) (reduced_is p k.taken k.kept k.symbols);
       }
 
-  -- the node that a reduction makes is one of the grammar
+  -- the node that a reduction makes is a node of the grammar
   pub made : (c : Configuration) (p : Production) (f : Found c p) → AreOfGrammar g (beside (Node p.nonterminal f.popped.taken) no_trees)
   made c p f = (record { production = p; of_grammar = of_grammar f.valid; name = refl; symbols = f.popped.symbols }, f.popped.of_grammar, tt)
 
-  -- a step keeps to it
+  -- a step keeps these facts of a configuration
   pub step_tracks : (w : List TerminalString) (c d : Configuration) → Tracks g states w c → move states c ≡ Goes d → Tracks g states w d
   step_tracks w c d tr e = go (move states c) (did states c) e
     where
@@ -123,16 +127,16 @@ module _ (g : List Production) (start : NonterminalString) (states : ℕ → Con
           after_reduction p f ((states f.popped.state).goto p.nonterminal) refl (sym f.move_is ∙ x)
       go _ (stood h k) x = absurd (subst IsGoing (sym x) tt)
 
-  -- so does a run
+  -- a run keeps these facts of a configuration
   pub run_tracks : (w : List TerminalString) {n : ℕ} {c d : Configuration} → Reaches states n c d → Tracks g states w c → Tracks g states w d
   run_tracks w here tr = tr
   run_tracks w (further {c = c} {d} e r) tr = run_tracks w r (step_tracks w c d tr e)
 
-  -- and where a run begins, it holds
+  -- the configuration in which a run begins has these facts
   pub begin_tracks : (w : List TerminalString) → Tracks g states w (begin w)
   begin_tracks w = record { prefix = []; stack = bottom; input = refl }
 
-  -- a final step leaves one tree, from the start symbol, over what was read
+  -- a final step leaves one tree, from the start symbol, over the input read so far
   pub record IsLast (w : List TerminalString) (c : Configuration) (trees : List Tree) : Type 0 where
     pub tree : Tree
     pub alone : trees ≡ tree ∷ []
@@ -140,7 +144,7 @@ module _ (g : List Production) (start : NonterminalString) (states : ℕ → Con
     pub of_grammar : AreOfGrammar g (beside tree no_trees)
     pub input : leaves (beside tree no_trees) ++ c.rest ≡ w
 
-  -- each final step does
+  -- each final step leaves such a tree
   pub ends_last : (w : List TerminalString) (c : Configuration) (trees : List Tree) → Tracks g states w c → move states c ≡ Ends trees → IsLast w c trees
   ends_last w c trees tr e = go (move states c) (did states c) e
     where
@@ -170,7 +174,7 @@ module _ (g : List Production) (start : NonterminalString) (states : ℕ → Con
           after_reduction p f ((states f.popped.state).goto p.nonterminal) refl (sym f.move_is ∙ x)
       go _ (stood h k) x = absurd (subst IsEnding (sym x) tt)
 
-  -- a tree that a run answers is a parse tree of the list
+  -- a tree that a run returns is a parse tree of the list
   pub answered_is_tree : (w : List TerminalString) (t : Tree) (limit : ℕ) → HasOutcome states w limit (Parsed t) → IsParseTree g start w t
   answered_is_tree w _ limit (parsed n c trees t l r e p) =
       let z : IsLast w c trees = ends_last w c trees (run_tracks w r (begin_tracks w)) e in
@@ -181,7 +185,7 @@ module _ (g : List Production) (start : NonterminalString) (states : ℕ → Con
         of_list = ap (λ u. leaves (beside u no_trees)) (sym same) ∙ sym (append-nil (leaves (beside z.tree no_trees))) ∙ ap (λ l. leaves (beside z.tree no_trees) ++ l) (sym p.1) ∙ z.input;
       }
 
-  -- and its nodes are no more than the limit
+  -- a tree that a run returns has no more nodes than the limit
   pub answered_within : IsOnNoRightSide g start → (w : List TerminalString) (t : Tree) (limit : ℕ) → HasOutcome states w limit (Parsed t) → nodes (beside t no_trees) ≤ limit
   answered_within alone w t limit o = go o (answered_is_tree w t limit o)
     where
@@ -191,7 +195,7 @@ module _ (g : List Production) (start : NonterminalString) (states : ℕ → Con
           let y = together r x.2.run (ends_halts states c e) (ends_halts states x.2.last x.2.ends) in
           omega (arith, y.0, x.1, l)
 
-  -- a terminal is shifted only where the input with it is a beginning
+  -- a terminal is shifted only if the input with it is a beginning
   pub shift_begins : (w : List TerminalString) (c : Configuration) (t : TerminalString) (n : ℕ) → Tracks g states w c → (states c.state).shift t ≡ Some n → IsBeginning g start (spelled c.trees ++ t ∷ [])
   shift_begins w c t n tr h =
       let r : IsRightFor g start tr.prefix (states c.state) = right_at g start states faithful tr.prefix c.state (stacked_live g start states faithful tr.stack) (stacked_after tr.stack) in

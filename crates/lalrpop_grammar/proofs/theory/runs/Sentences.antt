@@ -1,4 +1,6 @@
--- Over faithful states, with the start symbol on no right side, the run of a sentence ends with its tree, in as many steps as that has nodes; so a list has at most one parse tree: from how trees are read.
+-- Over faithful states, with the start symbol on no right side, the run of a sentence ends with its
+-- tree, in as many steps as the tree has nodes. So a list has at most one parse tree. The proofs
+-- are from the way in which trees are read.
 use Rattle.std.proofs.Common.{◌≡◌, ℕ, zero, suc, ◌≤◌, inl, List, [], ◌∷◌, drop, length, sym, refl, ap, ◌∙◌, Option, Some, None, arith}
 use Rattle.std.specs.Prelude.{Contains}
 use mathlib.Core.List.{head-eq_of_cons-eq, nil≢cons}
@@ -13,7 +15,7 @@ use Rattle.lalrpop_grammar.proofs.theory.runs.Steps.{onto, reduced_is, Reaches-f
 use Rattle.lalrpop_grammar.proofs.theory.runs.Reading.{right_at, reduces_by, IsRead, reads}
 use Rattle.lalrpop_grammar.proofs.theory.states.RightStates.{edges_awaited}
 
--- what stands behind a dot is one of the symbols
+-- a symbol after a dot is one of the symbols
 pub contains_behind : {A : Type 0} (n : ℕ) (xs : List A) (x : A) (after : List A) → drop n xs ≡ x ∷ after → Contains xs x
 contains_behind zero [] x after e = absurd (nil≢cons e)
 contains_behind zero (y ∷ xs) x after e = (0, omega arith, head-eq_of_cons-eq e)
@@ -41,7 +43,7 @@ module _ (g : List Production) (start : NonterminalString) (states : ℕ → Con
           let a = (edges_awaited r.contents (Nonterminal start)).0 (n, e) in
           absurd (alone a.production (of_grammar a.valid) (contains_behind a.dot a.production.symbols (Nonterminal start) a.after a.behind))
 
-  -- the run of a list with a parse tree ends with it, and counts a step for each node
+  -- the run of a list with a parse tree ends with the tree, and has a step for each node
   pub tree_run : (w : List TerminalString) (t : Tree) → IsParseTree g start w t → (n : ℕ) × (nodes (beside t no_trees) ≡ suc n) × EndsWith states w t n
   tree_run w (Leaf t) h = absurd (not_both (sym h.from_start))
   tree_run w (Node a children) h =
@@ -76,7 +78,7 @@ module _ (g : List Production) (start : NonterminalString) (states : ℕ → Con
       let same : r.2.last ≡ s.2.last = (together r.2.run s.2.run (ends_halts states r.2.last r.2.ends) (ends_halts states s.2.last s.2.ends)).1 in
       head-eq_of_cons-eq (same_ends (sym r.2.ends ∙ ap (move states) same ∙ s.2.ends))
 
-  -- a list with a parse tree is answered by it, where the limit allows its nodes
+  -- the run of a list with a parse tree returns the tree, if the limit allows its nodes
   pub tree_parsed : (w : List TerminalString) (t : Tree) (limit : ℕ) → IsParseTree g start w t → nodes (beside t no_trees) ≤ limit → HasOutcome states w limit (Parsed t)
   tree_parsed w t limit h l =
       let r = tree_run w t h in

@@ -1,4 +1,5 @@
--- What a state with the right dotted productions leads over and reduces by, and which tokens can stand next: from the definitions of valid and of states.
+-- The edges and reductions of a state with the right dotted productions, and the tokens that can be
+-- next. The proofs are from the definitions of valid and of states.
 use Rattle.std.proofs.Common.{◌≡◌, ◌↔◌, ℕ, inl, inr, List, length, sym, subst, ap, ◌∙◌, Some, refl}
 use Rattle.std.specs.Prelude.{Contains, slice_get}
 use Rattle.std.proofs.lemmas.Bool.{cases_order}
@@ -11,37 +12,38 @@ use Rattle.lalrpop_grammar.specs.conflicts.Conflicts.{HasNoConflict}
 use Rattle.lalrpop_collections.proofs.theory.lists.Lists.{same_some, contains_place, place_contains}
 use Rattle.lalrpop_grammar.proofs.theory.closures.Valid.{action_live}
 
--- where the dotted productions are those valid for a prefix, the symbols behind the dots are those awaited
+-- if the dotted productions are those valid for a prefix, the symbols after the dots are those
+-- awaited
 pub awaited_edges : {g : List Production} {start : NonterminalString} {u : List Symbol} {s : Contents} → ((p : Production) (dot : ℕ) → Contains s.items (p, dot) ↔ Valid g start u p dot) → LeadsOverDots s → (x : Symbol) → ((n : ℕ) × (leads s x ≡ Some n)) ↔ IsAwaited g start u x
 awaited_edges items edges x = (
   λ e. let b = (edges x).0 e in record { production = b.production; dot = b.dot; after = b.after; valid = (items b.production b.dot).0 b.item; behind = b.behind },
   λ a. (edges x).1 (record { production = a.production; dot = a.dot; after = a.after; item = (items a.production a.dot).1 a.valid; behind = a.behind }),
 )
 
--- its shifts and gotos are exactly the symbols that are awaited
+-- the shifts and gotos are exactly the symbols that are awaited
 pub edges_awaited : {g : List Production} {start : NonterminalString} {u : List Symbol} {s : Contents} → HasRightItems g start u s → (x : Symbol) → ((n : ℕ) × (leads s x ≡ Some n)) ↔ IsAwaited g start u x
 edges_awaited h x = awaited_edges h.items h.edges x
 
--- its reductions are exactly the productions whose dot is at the end
+-- the reductions are exactly the productions whose dot is at the end
 pub reductions_valid : {g : List Production} {start : NonterminalString} {u : List Symbol} {s : Contents} → HasRightItems g start u s → (p : Production) → ((r : Reduction) × Contains s.reductions r × (r.production ≡ p)) ↔ Valid g start u p (length p.symbols)
 reductions_valid h p = (
   λ r. (h.items p (length p.symbols)).0 ((h.reductions.finished p).0 r),
   λ v. (h.reductions.finished p).1 ((h.items p (length p.symbols)).1 v),
 )
 
--- a valid token can stand next
+-- a valid token can be next
 pub token_stands : {g : List Production} {start : NonterminalString} {u : List Symbol} {p : Production} {dot : ℕ} {t : Token} → ValidToken g start u p dot t → CanStandNext t
 token_stands (at_start p h e) = tt
 token_stands (kept x after v e) = token_stands v
 token_stands (begins_behind q after v e h f) = tt
 token_stands (passed_on q after v e h n) = token_stands v
 
--- and so can the token of a valid action
+-- the token of a valid action can be next
 pub action_stands : (g : List Production) (start : NonterminalString) (u : List Symbol) (t : Token) (a : Action) → IsValidAction g start u t a → CanStandNext t
 action_stands g start u t (Shift x) h = subst CanStandNext (sym h.0) tt
 action_stands g start u t (Reduce p) h = token_stands h
 
--- the terminal of a token, else the one given
+-- the terminal of a token, and otherwise the given one
 abbrev pub terminal_in : TerminalString → Token → TerminalString
 terminal_in t (TokenOf u) = u
 terminal_in t _ = t
@@ -78,7 +80,7 @@ same_reduce p q e = ap production_of e
     production_of (Reduce k) = k
     production_of (Shift y) = p
 
--- where no two actions are allowed on one token, and reductions do not repeat, there is no conflict
+-- if no two actions are allowed on one token, and reductions do not repeat, there is no conflict
 pub one_no_conflict : (s : Contents) → HasNoRepeat s.reductions → ((t : Token) (a b : Action) → Allows s t a → Allows s t b → a ≡ b) → HasNoConflict s
 one_no_conflict s once one = record {
   shifts = λ x n r e c h. shift≢reduce x r.production (one (TokenOf x) (Shift x) (Reduce r.production) (refl, (n, e)) (r, c, refl, h));

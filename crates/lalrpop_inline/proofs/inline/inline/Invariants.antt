@@ -4,7 +4,8 @@ use Rattle.lalrpop_inline.proofs.theory.inlining.InlineStages.{Stage}
 use Rattle.lalrpop_inline.proofs.theory.inlining.InlineUsers.{MentionedBefore}
 use Rattle.lalrpop_inline.proofs.inline.inline.Given as goal
 
--- with those that are left inlined, the grammar is the old one with all inlined; what mentions one of those that are left did so at first
+-- with those that are left inlined, the grammar is the old one with all inlined. What mentions one
+-- of those that are left mentioned it at first
 abbrev pub invariant-loop-name : goal.invariant-loop-name
 invariant-loop-name l = record {
   view : inlined_by (drop l.name-index l.name-items) (view_of l.inlined) ≡ inlined_by l.name-items (view_of l.fn.grammar);

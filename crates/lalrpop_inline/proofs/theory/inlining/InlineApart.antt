@@ -1,4 +1,5 @@
--- No production that inlining makes stands twice: what stood already has an old action, and each new one has an action of its own.
+-- No production of an inlined grammar is there twice. An old production has an old action, and each
+-- new one has an action of its own.
 use Rattle.std.proofs.Common.{ℕ, zero, suc, ◌≤◌, ◌<◌, inl, inr, Bool, true, false, cond, List, [], ◌∷◌, ◌++◌, length, refl, sym, subst, arith, length-append}
 use Rattle.std.specs.Prelude.{Contains}
 use Rattle.std.proofs.lemmas.List.Elements.{Contains-append_cases}
@@ -11,7 +12,7 @@ use Rattle.lalrpop_inline.proofs.theory.inlining.InlineSteps.{more_longer, repla
 use Rattle.lalrpop_inline.proofs.theory.inlining.InlineArising.{chosen_sound, Arises, kept, made, replaced_by_sound, replaced_all_sound}
 use Rattle.lalrpop_collections.proofs.theory.lists.Apart.{Apart, Apart-append}
 
--- of choices
+-- the productions of choices differ
 chosen_apart : (p : Production) (cs : List (List InlinedSymbol)) (defns : List ActionFnDefn) → Apart (chosen p cs defns).productions
 chosen_apart p [] defns = tt
 chosen_apart p (c ∷ cs) defns =
@@ -25,7 +26,7 @@ module _ (b : NonterminalString) (alternatives : List Production) (old : ℕ) wh
   replaced_apart true p defns = chosen_apart p (choices b alternatives p.symbols) defns
   replaced_apart false p defns = (λ k. contains-nil k, tt)
 
-  -- what arises first, and what arises later from other productions, differ
+  -- a production that arises from the first one differs from one that arises later from the others
   never_both : (p : Production) (ps : List Production) (low middle high : ℕ) (q : Production) → old ≤ low → low ≤ middle → ((x : Production) → Contains (p ∷ ps) x → x.action.0 < old) → (Contains ps p → ⊥)
       → Arises b alternatives (p ∷ []) low middle q → Arises b alternatives ps middle high q → ⊥
   never_both p ps low middle high q l m is_old differs (kept c h) (kept d k) = elim (contains-cons p [] q c) [
@@ -39,7 +40,7 @@ module _ (b : NonterminalString) (alternatives : List Production) (old : ℕ) wh
   never_both p ps low middle high q l m is_old differs (made o c h r) (kept d k) = let few : q.action.0 < old = is_old q (contains_tail p ps q d) in omega (arith, r.from)
   never_both p ps low middle high q l m is_old differs (made o c h r) (made o' d k s) = omega (arith, r.below, s.from)
 
-  -- of all productions
+  -- the productions that replace all productions differ
   pub replaced_all_apart : (ps : List Production) (defns : List ActionFnDefn) → old ≤ length defns → ((x : Production) → Contains ps x → x.action.0 < old) → Apart ps → Apart (replaced_all b alternatives ps defns).productions
   replaced_all_apart [] defns l is_old h = tt
   replaced_all_apart (p ∷ ps) defns l is_old h =

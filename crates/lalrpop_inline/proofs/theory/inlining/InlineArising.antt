@@ -1,4 +1,4 @@
--- What the productions that inlining makes arise from, and how their actions are numbered.
+-- The productions from which those of an inlined grammar arise, and the numbers of their actions.
 use Rattle.std.proofs.Common.{◌≡◌, ℕ, ◌+◌, ◌≤◌, ◌<◌, inl, inr, Bool, true, false, ◌||◌, cond, List, [], ◌∷◌, ◌++◌, map, length, refl, sym, ◌∙◌, ap, subst, arith, length-append}
 use Rattle.std.specs.Prelude.{Contains}
 use Rattle.std.proofs.lemmas.List.Elements.{Contains-append_left, Contains-append_right, Contains-append_cases}
@@ -11,7 +11,7 @@ use Rattle.lalrpop_inline.specs.Words.{is_named, mentions, inlined, choices, lai
 use Rattle.lalrpop_inline.proofs.theory.inlining.InlineForests.{choice_cons, first_part, which_part}
 use Rattle.lalrpop_inline.proofs.theory.inlining.InlineSteps.{more_longer, chosen_more, replaced_more, replaced_all_more}
 
--- a production of a choice, with a number from low up to high
+-- a production of one of the choices, with an action from `low` to below `high`
 pub record IsChosen (p : Production) (cs : List (List InlinedSymbol)) (low high : ℕ) (q : Production) : Type 0 where
   pub choice : List InlinedSymbol
   pub among : Contains cs choice
@@ -20,7 +20,7 @@ pub record IsChosen (p : Production) (cs : List (List InlinedSymbol)) (low high 
   pub from : low ≤ q.action.0
   pub below : q.action.0 < high
 
--- each production of the choices is one
+-- each production that is made for the choices is such a one
 pub chosen_sound : (p : Production) (cs : List (List InlinedSymbol)) (defns : List ActionFnDefn) (q : Production) → Contains (chosen p cs defns).productions q → IsChosen p cs (length defns) (length (chosen p cs defns).defns) q
 chosen_sound p [] defns q k = absurd (contains-nil k)
 chosen_sound p (c ∷ cs) defns q k =
@@ -43,14 +43,14 @@ chosen_sound p (c ∷ cs) defns q k =
           record { choice = r.choice; among = contains_tail c cs r.choice r.among; name = r.name; symbols = r.symbols; from = omega (arith, r.from); below = r.below }
     ]
 
--- a production of a name and with a right side
+-- the list has a production of the name with the right side that the choice makes
 pub record HasMade (ps : List Production) (p : Production) (c : List InlinedSymbol) : Type 0 where
   pub made : Production
   pub there : Contains ps made
   pub name : made.nonterminal ≡ p.nonterminal
   pub symbols : made.symbols ≡ laid_out c
 
--- each choice has one
+-- each choice has a production
 pub chosen_complete : (p : Production) (cs : List (List InlinedSymbol)) (defns : List ActionFnDefn) (c : List InlinedSymbol) → Contains cs c → HasMade (chosen p cs defns).productions p c
 chosen_complete p [] defns c k = absurd (contains-nil k)
 chosen_complete p (d ∷ cs) defns c k =
@@ -91,12 +91,12 @@ module _ (b : NonterminalString) (alternatives : List Production) where
         | inr e ↦ ap laid_out (sym f.joined) ∙ ap (λ (y : InlinedSymbol). laid_out (y ∷ f.rest)) (sym e.1) ∙ ap (λ (s : List Symbol). x ∷ s) (only_choice l f.rest r.1 f.others)
       ]
 
-  -- a production stands as it was, or was made of a choice
+  -- the production is an old one, or was made for a choice
   pub data Arises (ps : List Production) (low high : ℕ) (q : Production) : Type 0 where
     kept : Contains ps q → mentions b q.symbols ≡ false → Arises ps low high q
     made : (p : Production) → Contains ps p → mentions b p.symbols ≡ true → IsChosen p (choices b alternatives p.symbols) low high q → Arises ps low high q
 
-  -- among more productions, with wider bounds
+  -- a production also arises from more productions, with wider bounds
   pub arises_wider : (ps qs : List Production) (low high under over : ℕ) (q : Production) → ((p : Production) → Contains ps p → Contains qs p) → under ≤ low → high ≤ over → Arises ps low high q → Arises qs under over q
   arises_wider ps qs low high under over q more l m (kept c h) = kept (more q c) h
   arises_wider ps qs low high under over q more l m (made p c h k) =
@@ -115,7 +115,7 @@ module _ (b : NonterminalString) (alternatives : List Production) where
   replaced_by_complete true p defns c h k = chosen_complete p (choices b alternatives p.symbols) defns c k
   replaced_by_complete false p defns c h k = record { made = p; there = contains_head p []; name = refl; symbols = sym (only_choice p.symbols c h k) }
 
-  -- what productions give way to arises from them
+  -- the productions that replace others arise from them
   pub replaced_all_sound : (ps : List Production) (defns : List ActionFnDefn) (q : Production) → Contains (replaced_all b alternatives ps defns).productions q → Arises ps (length defns) (length (replaced_all b alternatives ps defns).defns) q
   replaced_all_sound [] defns q k = absurd (contains-nil k)
   replaced_all_sound (p ∷ ps) defns q k =

@@ -4,11 +4,11 @@ use Rattle.std.specs.List.{flat_map}
 use Rattle.lalrpop_grammar.specs.declared.repr.inlined.InlinedSymbol.{InlinedSymbol}
 use Rattle.lalrpop_inline.specs.Words.{behind, completed, extended, followed}
 
--- each part in front of each choice
+-- each choice after each part
 abbrev pub with_parts : List InlinedSymbol → List (List InlinedSymbol) → List (List InlinedSymbol)
 with_parts ps cs = flat_map (λ (part : InlinedSymbol). behind (part ∷ []) cs) ps
 
--- a part chosen, and then the rest
+-- choices after parts and one more are choices after that one, after the parts
 pub behind_part : (chosen : List InlinedSymbol) (part : InlinedSymbol) (cs : List (List InlinedSymbol)) → behind (chosen ++ part ∷ []) cs ≡ behind chosen (behind (part ∷ []) cs)
 behind_part chosen part [] = refl
 behind_part chosen part (c ∷ cs) = ap₂ (λ (x : List InlinedSymbol) (xs : List (List InlinedSymbol)). x ∷ xs) (append_assoc chosen (part ∷ []) c) (behind_part chosen part cs)
@@ -17,35 +17,35 @@ pub behind-append : (chosen : List InlinedSymbol) (cs ds : List (List InlinedSym
 behind-append chosen [] ds = refl
 behind-append chosen (c ∷ cs) ds = ap (λ (xs : List (List InlinedSymbol)). (chosen ++ c) ∷ xs) (behind-append chosen cs ds)
 
--- behind nothing
+-- choices after no part stay
 pub behind-nil : (cs : List (List InlinedSymbol)) → behind [] cs ≡ cs
 behind-nil [] = refl
 behind-nil (c ∷ cs) = ap (λ (xs : List (List InlinedSymbol)). c ∷ xs) (behind-nil cs)
 
--- lists with the first choices behind them
+-- the completion of two lists of fronts is that of the first and that of the second
 pub completed-append : (fronts more cs : List (List InlinedSymbol)) → completed (fronts ++ more) cs ≡ completed fronts cs ++ completed more cs
 completed-append [] more cs = refl
 completed-append (front ∷ fronts) more cs = ap (λ (xs : List (List InlinedSymbol)). behind front cs ++ xs) (completed-append fronts more cs) ∙ sym (append_assoc (behind front cs) (completed fronts cs) (completed more cs))
 
--- a list with parts behind it, and then the rest
+-- the completion of a front that is followed by parts
 followed_by : (front : List InlinedSymbol) (ps : List InlinedSymbol) (cs : List (List InlinedSymbol)) → completed (followed front ps) cs ≡ behind front (with_parts ps cs)
 followed_by front [] cs = refl
 followed_by front (p ∷ ps) cs =
     ap₂ (λ (x y : List (List InlinedSymbol)). x ++ y) (behind_part front p cs) (followed_by front ps cs)
     ∙ sym (behind-append front (behind (p ∷ []) cs) (with_parts ps cs))
 
--- each list takes a part, and then the rest
+-- the completion of fronts that are extended by parts
 pub completed_step : (fronts : List (List InlinedSymbol)) (ps : List InlinedSymbol) (cs : List (List InlinedSymbol)) → completed (extended ps fronts) cs ≡ completed fronts (with_parts ps cs)
 completed_step [] ps cs = refl
 completed_step (front ∷ fronts) ps cs =
     completed-append (followed front ps) (extended ps fronts) cs
     ∙ ap₂ (λ (x y : List (List InlinedSymbol)). x ++ y) (followed_by front ps cs) (completed_step fronts ps cs)
 
--- no list is left to be put behind
+-- a completion by no parts changes nothing
 pub completed-nil : (fronts : List (List InlinedSymbol)) → completed fronts ([] ∷ []) ≡ fronts
 completed-nil [] = refl
 completed-nil (front ∷ fronts) = ap₂ (λ (x : List InlinedSymbol) (xs : List (List InlinedSymbol)). x ∷ xs) (append-nil front) (completed-nil fronts)
 
--- and at first there is nothing in front
+-- the completion of no parts is the choices
 pub completed-one : (cs : List (List InlinedSymbol)) → completed ([] ∷ []) cs ≡ cs
 completed-one cs = append-nil (behind [] cs) ∙ behind-nil cs

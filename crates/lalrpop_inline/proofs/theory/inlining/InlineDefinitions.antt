@@ -1,4 +1,5 @@
--- What inlining makes is laid out by its definitions, which say whether it can fail; later definitions change nothing of that.
+-- The productions of an inlined grammar are laid out by the definitions of their actions, which say
+-- whether these can fail. Later definitions change nothing of that.
 use Rattle.std.proofs.Common.{◌≡◌, ℕ, zero, suc, ◌+◌, ◌≤◌, ◌<◌, ◌⊎◌, inl, inr, Bool, true, false, ◌||◌, cond, List, [], ◌∷◌, ◌++◌, length, Some, refl, sym, ◌∙◌, ap, ap₂, subst, arith, length-append}
 use Rattle.std.specs.Prelude.{Contains, slice_get}
 use Rattle.std.specs.List.{list_any, flat_map}
@@ -14,7 +15,7 @@ use Rattle.lalrpop_inline.specs.Words.{made_of, chosen, replaced, replaced_all, 
 use Rattle.lalrpop_inline.proofs.theory.inlining.InlineForests.{first_part, which_part}
 use Rattle.lalrpop_inline.proofs.theory.inlining.InlineSteps.{IsMore, more_longer, chosen_more, replaced_more, replaced_all_more, replaced_entries_more}
 
--- what stands in a list stands in a longer one
+-- an element of a list is at the same place in a longer one
 get_more : (xs ys : List ActionFnDefn) (k : ℕ) → k < length xs → slice_get (xs ++ ys) k ≡ slice_get xs k
 get_more [] ys k l = absurd (omega arith)
 get_more (x ∷ xs) ys zero l = refl
@@ -37,7 +38,7 @@ module _ (defns all : List ActionFnDefn) (longer : IsMore defns all) where
   same_flags (Inlined a s ∷ parts) below =
       ap₂ (λ (p q : Bool). p || q) (same_flag a (below a s (contains_head (Inlined a s) parts))) (same_flags parts (λ b t c. below b t (contains_tail (Inlined a s) parts (Inlined b t) c)))
 
-  -- later definitions change nothing
+  -- a production stays laid out with later definitions
   pub laid_out_more : (p : Production) → p.action.0 < length defns → IsLaidOut defns p → IsLaidOut all p
   laid_out_more p l is = record {
     outer = is.outer;
@@ -55,7 +56,7 @@ module _ (defns all : List ActionFnDefn) (longer : IsMore defns all) where
 PartsBelow : ℕ → List InlinedSymbol → Type 0
 PartsBelow n parts = (a : ActionFn) (s : List Symbol) → Contains parts (Inlined a s) → a.0 < n
 
--- the production of a choice
+-- the production of a choice is laid out
 head_laid_out : (p : Production) (c : List InlinedSymbol) (old : ℕ) (defns : List ActionFnDefn) → old ≤ length defns → p.action.0 < old → PartsBelow old c → IsLaidOut (defns ++ choice_defn defns p.action c ∷ []) (choice_production (length defns) p c)
 unfolding PartsBelow
 head_laid_out p c old defns l outer below =
@@ -106,7 +107,7 @@ module _ (b : NonterminalString) (alternatives : List Production) (old : ℕ) (f
         | inr h ↦ parts_below l f.rest f.others a s h
       ]
 
-  -- what a production gives way to is itself or is laid out
+  -- a production that replaces another one is that one, or is laid out
   replaced_by_laid_out : (m : Bool) (p : Production) (defns : List ActionFnDefn) → old ≤ length defns → p.action.0 < old → (q : Production) → Contains (cond m (chosen p (choices b alternatives p.symbols) defns) (made_of (p ∷ []) defns)).productions q
       → (p ≡ q) ⊎ IsLaidOut (cond m (chosen p (choices b alternatives p.symbols) defns) (made_of (p ∷ []) defns)).defns q
   replaced_by_laid_out true p defns l outer q k = inr (chosen_laid_out p (choices b alternatives p.symbols) old defns l outer (parts_below p.symbols) q k)
@@ -139,7 +140,7 @@ module _ (b : NonterminalString) (alternatives : List Production) (old : ℕ) (f
       in_range : (ds : List ActionFnDefn) (q : Production) → IsLaidOut ds q → q.action.0 < length ds
       in_range ds q is = some_within ds q.action.0 is.defn is.defined
 
-  -- each production of the entries stood there before, or is laid out
+  -- each production of the entries was there before, or is laid out
   pub entries_laid_out : (es : List (NonterminalString × Entry)) (defns : List ActionFnDefn) → old ≤ length defns → ((e : NonterminalString × Entry) (p : Production) → Contains es e → Contains e.1.productions p → p.action.0 < old)
       → (q : Production) → Contains (productions_in (replaced_entries b alternatives es defns)) q → Contains (flat_map (λ (e : NonterminalString × Entry). e.1.productions) es) q ⊎ IsLaidOut (replaced_entries b alternatives es defns).defns q
   entries_laid_out [] defns l below q k = absurd (contains-nil k)

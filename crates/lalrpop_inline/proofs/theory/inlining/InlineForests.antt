@@ -1,4 +1,5 @@
--- Inlining a nonterminal that does not mention itself keeps the terminal lists of every nonterminal: by induction on derivations one way and on forests the other.
+-- If a nonterminal that does not mention itself is inlined, every nonterminal keeps its terminal
+-- lists. The proof goes by induction on derivations one way, and on forests the other way.
 use Rattle.std.proofs.Common.{◌≡◌, ◌↔◌, ◌⊎◌, inl, inr, Bool, true, false, cond, List, [], ◌∷◌, ◌++◌, map, refl, sym, ◌∙◌, ap, append-nil}
 use Rattle.std.specs.Prelude.{Contains}
 use Rattle.std.proofs.lemmas.Bool.{cases_Bool}
@@ -23,7 +24,7 @@ module _ (b : NonterminalString) (alternatives : List Production) where
   choice_cons x l part c h k =
       in_flat_map (λ (p : InlinedSymbol). behind (p ∷ []) (choices b alternatives l)) (parts b alternatives x) part (part ∷ c) h (contains_map (λ (d : List InlinedSymbol). (part ∷ []) ++ d) (choices b alternatives l) c k)
 
-  -- a choice for a list that is not empty
+  -- a choice for a list that is not empty, as a part and a choice for the rest
   pub record FirstPart (x : Symbol) (l : List Symbol) (c : List InlinedSymbol) : Type 0 where
     pub part : InlinedSymbol
     pub rest : List InlinedSymbol
@@ -31,19 +32,19 @@ module _ (b : NonterminalString) (alternatives : List Production) where
     pub among : Contains (parts b alternatives x) part
     pub others : Contains (choices b alternatives l) rest
 
-  -- has a part and a choice for the rest
+  -- each choice for a list that is not empty is such a one
   pub first_part : (x : Symbol) (l : List Symbol) (c : List InlinedSymbol) → Contains (choices b alternatives (x ∷ l)) c → FirstPart x l c
   first_part x l c h =
       let r = of_flat (λ (p : InlinedSymbol). behind (p ∷ []) (choices b alternatives l)) (parts b alternatives x) c h in
       let s = contains_of_map (λ (d : List InlinedSymbol). (r.0 ∷ []) ++ d) (choices b alternatives l) c r.2 in
       record { part = r.0; rest = s.0; joined = s.2; among = r.1; others = s.1 }
 
-  -- the part of a symbol that is not the nonterminal
+  -- the part of a symbol that is not the nonterminal is the symbol itself
   original_part : (m : Bool) (x : Symbol) → m ≡ false → Contains (cond m (map inlined alternatives) (Original x ∷ [])) (Original x)
   original_part true x h = cc
   original_part false x h = contains_head (Original x) []
 
-  -- a part of the nonterminal
+  -- each alternative is a part of the nonterminal
   inlined_part : (m : Bool) (x : Symbol) (r : Production) → m ≡ true → Contains alternatives r → Contains (cond m (map inlined alternatives) (Original x ∷ [])) (inlined r)
   inlined_part true x r h c = contains_map inlined alternatives r c
   inlined_part false x r h c = cc
@@ -53,7 +54,8 @@ module _ (b : NonterminalString) (alternatives : List Production) where
   which_part true x part c = inl (refl, contains_of_map inlined alternatives part c)
   which_part false x part c = elim (contains-cons (Original x) [] part c) [ inl e ↦ inr (refl, e) | inr n ↦ absurd (contains-nil n) ]
 
-  -- the productions g with the nonterminal inlined are h: each of h is of g or a choice, each choice is there, and the nonterminal's own are the alternatives
+  -- the productions h are g with the nonterminal inlined. Each of h is of g or of a choice, each
+  -- choice is there, and the nonterminal's own productions are the alternatives
   pub record IsReplaced (g h : List Production) : Type 0 where
     pub own : (r : Production) → Contains alternatives r → Contains g r × (r.nonterminal ≡ b)
     pub only : (r : Production) → Contains h r → r.nonterminal ≡ b → Contains alternatives r
@@ -77,7 +79,7 @@ module _ (b : NonterminalString) (alternatives : List Production) where
         let r = first_part x l c k in
         Derives-to (ap (λ (s : List Symbol). s ++ laid_out r.rest) (append-nil _) ∙ ap laid_out r.joined) (Derives-append (part_derives x r.part r.among) (choice_derives l r.rest r.others))
 
-    -- what the new productions derive, the old ones do
+    -- the old productions derive what the new ones derive
     derives_old : {l m : List Symbol} → Derives h l m → Derives g l m
     derives_old as_it_is = as_it_is
     derives_old (replace before after p k d) =
@@ -110,7 +112,7 @@ module _ (b : NonterminalString) (alternatives : List Production) where
               record { choice = Original x ∷ r.choice; among = choice_cons x l (Original x) r.choice (original_part (is_named b x) x other) r.among; forest = node p k f r.forest }
         ]
 
-    -- what the old productions derive of terminals, the new ones do
+    -- the new productions derive the terminals that the old ones derive
     forest_new : {l m : List Symbol} (w : List TerminalString) → Forest g l m → m ≡ symbols_of w → Forest h l m
     forest_new w empty e = empty
     forest_new [] (leaf x f) e = absurd (cons≢nil e)

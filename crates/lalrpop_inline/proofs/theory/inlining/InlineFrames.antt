@@ -1,4 +1,5 @@
--- A walk with its frames: it passes over what is not pending, comes into a nonterminal, leaves it, and is at its end where no frame is left.
+-- A walk with its frames. It passes over what is not pending, enters a nonterminal, leaves it, and
+-- is at its end if no frame is left.
 use Rattle.std.proofs.Common.{◌≡◌, ◌↔◌, ℕ, ◌+◌, ◌<◌, ◌⊎◌, inl, inr, true, false, List, [], ◌∷◌, ◌++◌, take, length, get_or, Option, None, Some, refl, sym, ◌∙◌, ap, subst}
 use Rattle.std.specs.Prelude.{Contains}
 use Rattle.std.specs.BTreeMap.{is_at}
@@ -18,7 +19,7 @@ use Rattle.lalrpop_inline.proofs.theory.inlining.InlineWalks.{mentioned_names, n
 use Rattle.lalrpop_grammar.proofs.theory.first.FirstNames.{name_same, name_self}
 
 module _ (g : Grammar) where
-  -- a frame stays one as more are left
+  -- a frame stays one if more nonterminals were left
   grown_frame : (order later : List NonterminalString) (next : Option NonterminalString) (f : Frame) → IsFrame g order next f → IsFrame g (order ++ later) next f
   grown_frame order later next f is = record {
     marked = is.marked;
@@ -36,7 +37,7 @@ module _ (g : Grammar) where
   grown_frames order later next [] h = tt
   grown_frames order later next (f ∷ older) h = (grown_frame order later next f h.0, h.1, grown_frames order later (Some f.name) older h.2)
 
-  -- what a frame mentions next was left
+  -- a frame whose next nonterminal was left has no next one yet
   listed_frame : (order : List NonterminalString) (name : NonterminalString) (f : Frame) → IsFrame g order (Some name) f → IsFrame g (order ++ name ∷ []) None f
   listed_frame order name f is = record {
     marked = is.marked;
@@ -54,7 +55,7 @@ module _ (g : Grammar) where
   listed_frames order name [] h = tt
   listed_frames order name (f ∷ older) h = (listed_frame order name f h.0, h.1, grown_frames order (name ∷ []) (Some f.name) older h.2)
 
-  -- the nonterminals of frames lead to what the newest mentions next
+  -- the nonterminals of frames lead to the next one of the newest frame
   leads_on : (order : List NonterminalString) (fs : List Frame) (a c : NonterminalString) → AreFrames g order (Some c) fs → Contains (names_on fs) a → Leads g a c
   leads_on order [] a c h k = absurd (contains-nil k)
   leads_on order (f ∷ older) a c h k = elim (contains-cons f.name (names_on older) a k) [
@@ -62,7 +63,7 @@ module _ (g : Grammar) where
     | inr l ↦ more (leads_on order older a f.name h.2 l) h.0.marked (h.0.on c refl)
   ]
 
-  -- and to what it mentions that is still to be visited
+  -- they lead to each one that the newest frame mentions and that is still to be visited
   pub lead_to : (w : Walk) (f : Frame) (older : List Frame) → HasFrames g w None (f ∷ older) → (c : NonterminalString) → Contains f.others.items c → LeadTo g w c
   lead_to w f older has c k a h =
       let is : IsFrame g w.order.items None f = has.frames.0 in
@@ -72,7 +73,7 @@ module _ (g : Grammar) where
         | inr l ↦ more (leads_on w.order.items older a f.name has.frames.2 l) is.marked mentioned
       ]
 
-  -- what is marked, and where the walk neither is nor is to come, was left
+  -- a marked nonterminal that is not pending, and that the walk is not in, was left
   pub marked_left : (w : Walk) (c : NonterminalString) → IsWalk g w → contains name_cmp w.pending c ≡ false → contains name_cmp w.visiting c ≡ false → IsMarked g c → Contains w.order.items c
   marked_left w c is pending visiting marked = go ((is.marked c).0 marked)
     where
@@ -81,11 +82,11 @@ module _ (g : Grammar) where
       go (inr (inl h)) = absurd (true≢false (sym h ∙ visiting))
       go (inr (inr k)) = k
 
-  -- one is taken from those to be visited; the others are still mentioned
+  -- if one is taken from those to be visited, the others are still mentioned
   still_mentioned : (order : List NonterminalString) (f new : Frame) (c : NonterminalString) → IsFrame g order None f → new.name ≡ f.name → f.others.items ≡ new.others.items ++ c ∷ [] → (d : NonterminalString) → Contains new.others.items d → Mentions g new.name d
   still_mentioned order f new c is same parted d k = subst (λ (b : NonterminalString). Mentions g b d) (sym same) (is.others d (subst (λ (l : List NonterminalString). Contains l d) (sym parted) (Contains-append_left new.others.items (c ∷ []) d k)))
 
-  -- one that was not pending, and where the walk is not, was visited
+  -- a nonterminal that is not pending, and that the walk is not in, was visited
   pub visited : (w : Walk) (f new : Frame) (c : NonterminalString) → IsWalk g w → IsFrame g w.order.items None f → new.name ≡ f.name → f.others.items ≡ new.others.items ++ c ∷ []
       → contains name_cmp w.pending c ≡ false → contains name_cmp w.visiting c ≡ false → IsFrame g w.order.items None new
   visited w f new c walk is same parted pending visiting = record {
@@ -102,7 +103,7 @@ module _ (g : Grammar) where
       ]
       go d marked (inr r) = inr r
 
-  -- one that is pending is the next
+  -- a pending nonterminal is the next one
   pub found : (w : Walk) (f new : Frame) (c : NonterminalString) → IsFrame g w.order.items None f → new.name ≡ f.name → f.others.items ≡ new.others.items ++ c ∷ [] → contains name_cmp w.pending c ≡ true → HasNext g w new (Some c)
   found w f new c is same parted pending = record {
     frame = record {
@@ -123,7 +124,7 @@ module _ (g : Grammar) where
       go d (inr (inl e)) = absurd (none-some d e)
       go d (inr (inr k)) = inr (inr k)
 
-  -- the newest frame goes on to what it mentions next
+  -- the newest frame goes on to its next nonterminal
   pub gone_on : (w : Walk) (f new : Frame) (older : List Frame) (next : Option NonterminalString) → HasFrames g w None (f ∷ older) → new.name ≡ f.name → IsFrame g w.order.items next new → HasFrames g w next (new ∷ older)
   gone_on w f new older next has same is = record {
     frames = (
@@ -134,7 +135,7 @@ module _ (g : Grammar) where
     visiting = λ a. subst (λ (b : NonterminalString). (contains name_cmp w.visiting a ≡ true) ↔ Contains (b ∷ names_on older) a) (sym same) (has.visiting a);
   }
 
-  -- the walk comes into a pending nonterminal
+  -- the walk enters a pending nonterminal
   pub entered_walk : (w m : Walk) (f : Frame) (fs : List Frame) → IsWalk g w → contains name_cmp w.pending f.name ≡ true → HasFrames g w (Some f.name) fs → Sets f.name false w.pending m.pending → Sets f.name true w.visiting m.visiting → m.order.items ≡ w.order.items
       → f.others.items ≡ mentioned_in (productions_of g f.name) → IsWalked g w m (f ∷ fs)
   entered_walk w m f fs is was has out into same all = record {
@@ -167,7 +168,7 @@ module _ (g : Grammar) where
     pending = λ a h. (still_there f.name a w.pending m.pending out h).0;
   }
 
-  -- the walk leaves the nonterminal of a frame that has nothing to be visited
+  -- the walk leaves the nonterminal of a frame with none to be visited
   pub left_walk : (m n : Walk) (f : Frame) (fs : List Frame) → IsWalk g m → HasFrames g m None (f ∷ fs) → f.others.items ≡ [] → ((a : NonterminalString) → contains name_cmp n.pending a ≡ contains name_cmp m.pending a)
       → Sets f.name false m.visiting n.visiting → n.order.items ≡ m.order.items ++ f.name ∷ [] → IsWalked g m n fs
   left_walk m n f fs is has none same out grown = record {
@@ -198,14 +199,14 @@ module _ (g : Grammar) where
       go c (inr (inl e)) = absurd (none-some c e)
       go c (inr (inr k)) = k
 
-  -- and what is not pending does not become so
+  -- a nonterminal that is not pending does not become so
   pub still_taken : (old new : Walk) (fs : List Frame) (a : NonterminalString) → IsWalked g old new fs → contains name_cmp old.pending a ≡ false → contains name_cmp new.pending a ≡ false
   still_taken old new fs a step h = elim (cases_Bool (contains name_cmp new.pending a)) [
     | inl t ↦ absurd (true≢false (sym (step.pending a t) ∙ h))
     | inr t ↦ t
   ]
 
-  -- the walk is in none, and names are not pending
+  -- the walk is in no nonterminal, and the names are not pending
   pub record HasLeft (w : Walk) (names : List NonterminalString) : Type 0 where
     pub walk : IsWalk g w
     pub outside : HasFrames g w None []

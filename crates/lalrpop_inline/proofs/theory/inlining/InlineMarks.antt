@@ -16,7 +16,7 @@ use mathlib.Core.Bool.{true≢false}
 use Rattle.lalrpop_inline.proofs.theory.inlining.InlineWalks.{Sets, set_at, set_off}
 use Rattle.lalrpop_grammar.proofs.theory.first.FirstNames.{name_same, name_self}
 
--- names are those of the marked ones among entries
+-- the names are those of the marked entries
 abbrev pub AreMarkedOf : List (NonterminalString × NonterminalData) → List NonterminalString → Type 0
 AreMarkedOf es names = (a : NonterminalString) → Contains names a ↔ ((d : NonterminalData) × Contains es (a, d) × Contains d.attributes.items inline_mark)
 

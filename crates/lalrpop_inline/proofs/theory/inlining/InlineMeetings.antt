@@ -1,4 +1,4 @@
--- To what a walk comes back at a step, it comes back before the step.
+-- If a walk comes back to a nonterminal after a step, it does so before the step.
 use Rattle.std.proofs.Common.{ℕ, ◌≡◌, inl, inr, Bool, true, false, List, [], ◌∷◌, ◌++◌, reverse, sym, ◌∙◌, ap, subst, refl}
 use Rattle.std.specs.Prelude.{Contains}
 use Rattle.std.specs.BTreeSet.{contains}
@@ -14,31 +14,31 @@ use Rattle.lalrpop_inline.specs.declared.inline.graph.depth_first.Walk.{Walk}
 use Rattle.lalrpop_inline.specs.Words.{IsPastLast, IsWalk, names_on, AreMarkedAmong, ComesBack, ComesBackFrom, GoesPast, IsEntered, IsInside, IsNewest, IsPassed, LeadsBack, Leaves, NamesBy, through, here, inside, later, mentions_back, no_more, past_over, passing}
 use Rattle.lalrpop_inline.proofs.theory.inlining.InlineFrames.{marked_left}
 
--- the newest of others is the first of them turned round
+-- the last one of a list is the first one of the reversed list
 pub turned : (others more : List NonterminalString) (c : NonterminalString) → others ≡ more ++ c ∷ [] → reverse others ≡ c ∷ reverse more
 turned others more c parted = ap (λ (l : List NonterminalString). reverse l) parted ∙ reverse-append more (c ∷ [])
 
--- a refusal names by the one what it names by the other
+-- if one property implies the other, it does so of the name in an error
 pub named_by : (P Q : NonterminalString → Type 0) (e : NormError) → ((a : NonterminalString) → P a → Q a) → NamesBy P e → NamesBy Q e
 named_by P Q (Cycle span name) h k = h name k
 named_by P Q TooManyActions h k = tt
 named_by P Q Memory h k = tt
 
--- more actions than numbers are refused without a name
+-- the error for too many actions has no name
 pub past_named : (P : NonterminalString → Type 0) (actions : ℕ) (e : NormError) → IsPastLast actions e → NamesBy P e
 past_named P actions (Cycle span name) h = absurd h
 past_named P actions TooManyActions h = tt
 past_named P actions Memory h = tt
 
 module _ (g : Grammar) where
-  -- the walk passes over what is not pending and where it is not
+  -- the walk passes over a nonterminal that is not pending and that it is not in
   pub passed : (w : Walk) (path : List NonterminalString) (c : NonterminalString) → IsWalk g w → IsInside w path → contains name_cmp w.pending c ≡ false → contains name_cmp w.visiting c ≡ false → IsPassed g path w.order.items c
   passed w path c is within pending visiting = record {
     outside = λ k. true≢false (sym ((within c).1 k) ∙ visiting);
     done = λ marked. marked_left g w c is pending visiting marked;
   }
 
-  -- the walk comes into what is pending
+  -- the walk enters a pending nonterminal
   pub new : (w : Walk) (path : List NonterminalString) (c : NonterminalString) → IsWalk g w → IsInside w path → contains name_cmp w.pending c ≡ true → IsEntered g path w.order.items c
   new w path c is within pending = record {
     marked = (is.marked c).1 (inl pending);
@@ -46,7 +46,7 @@ module _ (g : Grammar) where
     new = (is.pending c pending).1;
   }
 
-  -- a walk that is in none passes over what is not pending
+  -- a walk that is in no nonterminal passes over one that is not pending
   pub passes_first : (w : Walk) (a : NonterminalString) (rest : List NonterminalString) (b : NonterminalString) → IsWalk g w → IsInside w [] → contains name_cmp w.pending a ≡ false → ComesBack g [] rest w.order.items b → ComesBack g [] (a ∷ rest) w.order.items b
   passes_first w a rest b is within pending h = passing (passed w [] a is within pending (outside (contains name_cmp w.visiting a) refl)) h
     where
@@ -57,23 +57,23 @@ module _ (g : Grammar) where
   pub past_none : (path left from : List NonterminalString) → GoesPast g path left from from
   past_none path left from = record { back = λ b h. h; leaves = λ after h. h }
 
-  -- one more is passed
+  -- one nonterminal more is passed
   pub past_one : (path left from others more : List NonterminalString) (c : NonterminalString) → others ≡ more ++ c ∷ [] → IsPassed g path left c → GoesPast g path left from (reverse others) → GoesPast g path left from (reverse more)
   past_one path left from others more c parted is so_far = record {
     back = λ b h. so_far.back b (subst (λ (l : List NonterminalString). ComesBack g path l left b) (sym (turned others more c parted)) (passing is h));
     leaves = λ after h. so_far.leaves after (subst (λ (l : List NonterminalString). Leaves g path l left after) (sym (turned others more c parted)) (past_over is h));
   }
 
-  -- one more is the next
+  -- one nonterminal more is the next
   pub past_next : (path left from others more : List NonterminalString) (c : NonterminalString) → others ≡ more ++ c ∷ [] → GoesPast g path left from (reverse others) → GoesPast g path left from (c ∷ reverse more)
   past_next path left from others more c parted so_far = subst (GoesPast g path left from) (turned others more c parted) so_far
 
-  -- the walk comes back to what it is in
+  -- the walk comes back to a nonterminal that it is in
   pub back_to : (w : Walk) (path left from others more : List NonterminalString) (c copy : NonterminalString) → IsInside w path → others ≡ more ++ c ∷ [] → copy ≡ c → contains name_cmp w.visiting c ≡ true → GoesPast g path left from (reverse others) → ComesBack g path from left copy
   back_to w path left from others more c copy within parted same visiting so_far =
       subst (ComesBack g path from left) (sym same) (so_far.back c (subst (λ (l : List NonterminalString). ComesBack g path l left c) (sym (turned others more c parted)) (here ((within c).0 visiting))))
 
-  -- a frame comes into the next
+  -- a frame enters the next nonterminal
   pub back_into : (f on : Frame) (older gs : List Frame) (a : NonterminalString) (left : List NonterminalString) → on.name ≡ f.name → IsNewest g a (on ∷ older) gs → IsEntered g (f.name ∷ names_on older) left a
       → GoesPast g (f.name ∷ names_on older) left (reverse f.others.items) (a ∷ reverse on.others.items) → LeadsBack g (f ∷ older) left gs left
   back_into f on older gs a left same (x, pushed, named, all) is past rest b h = go (subst (λ (l : List Frame). ComesBackFrom g rest l left b) pushed h)
@@ -113,7 +113,7 @@ module _ (g : Grammar) where
       go (inl k) = inl (past.back b (inside is (come k)))
       go (inr (within, m, k)) = beyond within (leave within m) k
 
-  -- the first frame comes into a nonterminal
+  -- the first frame enters a nonterminal
   pub back_first : (gs : List Frame) (a : NonterminalString) (rest left : List NonterminalString) (b : NonterminalString) → IsNewest g a [] gs → IsEntered g [] left a → ComesBackFrom g rest gs left b → ComesBack g [] (a ∷ rest) left b
   back_first gs a rest left b (x, pushed, named, all) is h = go (subst (λ (l : List Frame). ComesBackFrom g rest l left b) pushed h)
     where
@@ -129,7 +129,7 @@ module _ (g : Grammar) where
           later is (subst (λ (p : List NonterminalString). Leaves g p (mentions_back g a) left within) same_path (subst (λ (ms : List NonterminalString). Leaves g (x.name ∷ []) ms left within) turned_all m))
           (subst (λ (y : NonterminalString). ComesBack g [] rest (within ++ y ∷ []) b) named k)
 
-  -- a frame that has no more is left
+  -- a frame with none to be visited is left
   pub back_out : (f on : Frame) (older : List Frame) (left after : List NonterminalString) → on.name ≡ f.name → on.others.items ≡ [] → after ≡ left ++ on.name ∷ [] → GoesPast g (f.name ∷ names_on older) left (reverse f.others.items) (reverse on.others.items)
       → LeadsBack g (f ∷ older) left older after
   back_out f on older left after same none grown past rest b h =

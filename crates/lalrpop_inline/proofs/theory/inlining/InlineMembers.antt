@@ -10,16 +10,16 @@ use Rattle.lalrpop_base.specs.Words.{name_exact}
 use Rattle.lalrpop_collections.proofs.theory.lists.Lists.{contains-cons, contains-nil, contains_head, contains_tail}
 use Rattle.lalrpop_inline.specs.Words.{is_named, mentions}
 
--- a symbol that passes is the nonterminal
+-- a symbol for which the test is true is the nonterminal
 pub named_exactly : (b : NonterminalString) (x : Symbol) → is_named b x ≡ true → x ≡ Nonterminal b
 named_exactly b (Nonterminal a) h = ap Nonterminal (name_exact a b h)
 named_exactly b (Terminal t) h = absurd (true≢false (sym h))
 
--- and the nonterminal passes
+-- the test is true for the nonterminal
 pub names_itself : (b : NonterminalString) → is_named b (Nonterminal b) ≡ true
 names_itself b = (bytes_eq-Decides b.text b.text).1 refl
 
--- what is mentioned stands there
+-- a nonterminal that is mentioned is among the symbols
 pub mentioned_stands : (b : NonterminalString) (l : List Symbol) → mentions b l ≡ true → Contains l (Nonterminal b)
 mentioned_stands b [] h = absurd (true≢false (sym h))
 mentioned_stands b (x ∷ l) h = elim (or_cases (is_named b x) (mentions b l) h) [
@@ -31,7 +31,7 @@ pub or_false : (x y : Bool) → (x || y) ≡ false → (x ≡ false) × (y ≡ f
 or_false true y h = cc
 or_false false y h = (refl, h)
 
--- where a nonterminal is not mentioned no symbol is named so
+-- if a nonterminal is not mentioned, no symbol is named so
 pub unmentioned : (b : NonterminalString) (l : List Symbol) (x : Symbol) → Contains l x → mentions b l ≡ false → is_named b x ≡ false
 unmentioned b [] x c h = absurd (contains-nil c)
 unmentioned b (y ∷ l) x c h =

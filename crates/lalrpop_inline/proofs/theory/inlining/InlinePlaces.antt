@@ -1,4 +1,5 @@
--- Entries replaced at rising places, one after another: where the places are all that mention the nonterminal, this is what replacing every entry makes.
+-- Entries replaced at rising places, one after another. If the places are all that mention the
+-- nonterminal, this is the same as replacing every entry.
 use Rattle.std.proofs.Common.{◌≡◌, inl, inr, Bool, true, false, cond, List, [], ◌∷◌, map, length, None, Some, refl, sym, ◌∙◌, ap, ap₂, subst, arith}
 use Rattle.std.specs.Prelude.{Contains}
 use Rattle.std.specs.declared.cmp.Ordering.{Ordering}
@@ -31,7 +32,7 @@ view_made es defns = record { entries = es; defns = defns }
 abbrev entry_of : List Production → List Attribute → Span → Entry
 entry_of ps marks s = record { productions = ps; attributes = marks; span = s }
 
--- what holds of all keys holds of each entry's
+-- what holds of all keys holds of the key of each entry
 of_each : {K X : Type 0} (P : K → Type 0) (es : List (K × X)) (e : K × X) → AllByRecursion P (keys_of es) → Contains es e → P e.0
 of_each P [] e all c = absurd (contains-nil c)
 of_each {K} {X} P (x ∷ es) e all c = elim (contains-cons x es e c) [
@@ -50,7 +51,7 @@ all_of : {K : Type 0} (P Q : K → Type 0) (ks : List K) → ((k : K) → P k �
 all_of P Q [] f all = tt
 all_of P Q (k ∷ ks) f all = (f k all.0, all_of P Q ks f all.1)
 
--- by cases of an order
+-- the cases of an order
 by_order : {A : Type 0} (o : Ordering) → (o ≡ Less → A) → (o ≡ Equal → A) → (o ≡ Greater → A) → A
 by_order Less l e g = l refl
 by_order Equal l e g = e refl
@@ -68,7 +69,7 @@ past_name k a h = ap is_eq (name_order.total-law.antisymm a k ∙ ap ordering_re
 abbrev pub AreCovered : NonterminalString → List (NonterminalString × Entry) → List NonterminalString → Type 0
 AreCovered b es places = (e : NonterminalString × Entry) (p : Production) → Contains es e → Contains e.1.productions p → mentions b p.symbols ≡ true → Contains places e.0
 
--- no names are sorted
+-- the empty list of names is sorted
 pub none_sorted : IsStrictlySortedBy name_cmp []
 unfolding IsStrictlySortedBy
 none_sorted = tt
@@ -150,14 +151,14 @@ module _ (b : NonterminalString) (alternatives : List Production) where
       by true is rest = cc
       by false is rest = ap (entry_in_front (entry_view e)) (rest is)
 
-  -- there is no entry at a place
+  -- without an entry at a place nothing is replaced
   place_missing : (a : NonterminalString) (es : List (NonterminalString × Entry)) (defns : List ActionFnDefn) → AllByRecursion (λ k. is_at (name_cmp a) k ≡ false) (keys_of es) → replaced_at b alternatives a es defns ≡ view_made es defns
   place_missing a [] defns none = refl
   place_missing a (e ∷ es) defns none =
       ap (λ (at : Bool). cond at (first_replaced b alternatives e es defns) (entry_in_front e (replaced_at b alternatives a es defns))) none.0
       ∙ ap (entry_in_front e) (place_missing a es defns none.1)
 
-  -- places above the first entry leave it
+  -- places above the first entry leave it as it is
   places_past : (places : List NonterminalString) (e : NonterminalString × Entry) (v : View) → AllByRecursion (λ a. name_cmp e.0 a ≡ Less) places → replaced_places b alternatives places (entry_in_front e v) ≡ entry_in_front e (replaced_places b alternatives places v)
   places_past [] e v above = refl
   places_past (a ∷ places) e v above =
@@ -168,7 +169,7 @@ module _ (b : NonterminalString) (alternatives : List Production) where
   abbrev Rest : List (NonterminalString × Entry) → Type 0
   Rest es = (defns : List ActionFnDefn) (places : List NonterminalString) → IsStrictlySortedBy name_cmp places → AreCovered b es places → replaced_places b alternatives places (view_made es defns) ≡ replaced_entries b alternatives es defns
 
-  -- the first entry is below all places, and stays
+  -- a first entry below all places stays
   first_left : (e : NonterminalString × Entry) (es : List (NonterminalString × Entry)) → Rest es → (defns : List ActionFnDefn) (places : List NonterminalString) → IsStrictlySortedBy name_cmp places → AllByRecursion (λ a. name_cmp e.0 a ≡ Less) places → AreCovered b (e ∷ es) places →
       replaced_places b alternatives places (view_made (e ∷ es) defns) ≡ replaced_entries b alternatives (e ∷ es) defns
   first_left e es rest defns places sorted above covered =
@@ -181,7 +182,7 @@ module _ (b : NonterminalString) (alternatives : List Production) where
       ∙ ap (entry_in_front e) (rest defns places sorted (λ x p c d h. covered x p (contains_tail e es x c) d h))
       ∙ ap (λ (m : Made). entry_in_front (entry_with e m.productions) (replaced_entries b alternatives es m.defns)) (sym stays)
 
-  -- the first entry is at the first place
+  -- a first entry at the first place is replaced
   first_at : (e : NonterminalString × Entry) (es : List (NonterminalString × Entry)) → Rest es → AllByRecursion (λ k. name_cmp e.0 k ≡ Less) (keys_of es) →
       (defns : List ActionFnDefn) (a : NonterminalString) (places : List NonterminalString) → IsStrictlySortedBy name_cmp (a ∷ places) → AreCovered b (e ∷ es) (a ∷ places) → name_cmp a e.0 ≡ Equal →
       replaced_places b alternatives (a ∷ places) (view_made (e ∷ es) defns) ≡ replaced_entries b alternatives (e ∷ es) defns
@@ -233,7 +234,7 @@ module _ (b : NonterminalString) (alternatives : List Production) where
       nothing (k ∷ ks) = nothing ks
   all_places (e ∷ es) ordered defns places sorted covered = one_entry e es (all_places es (sorted_tail name_cmp e.0 (keys_of es) ordered)) (sorted_head name_cmp e.0 (keys_of es) ordered) defns places sorted covered
 
--- there was no number for an action at a place
+-- there is no number for an action at a place
 pub place_past : (b : NonterminalString) (alternatives : List Production) (a : NonterminalString) (places all : List NonterminalString) (v d : View) (e : NormError) → all ≡ a ∷ places → replaced_places b alternatives all v ≡ d →
     IsPastLast (length (replaced_at b alternatives a v.entries v.defns).defns) e → IsPastLast (length d.defns) e
 place_past b alternatives a places all v d e parted so_far past =

@@ -1,4 +1,4 @@
--- Where there is an order, no marked nonterminals mention each other in a ring.
+-- If there is an order, no marked nonterminals mention each other in a ring.
 use Rattle.std.proofs.Common.{◌≡◌, inl, inr, List, [], ◌∷◌, ◌++◌, sym, ◌∙◌, ap, subst, append_assoc, true}
 use Rattle.std.specs.Prelude.{Contains}
 use Rattle.std.proofs.lemmas.List.Elements.{Contains-append_left}
@@ -12,7 +12,7 @@ use Rattle.lalrpop_inline.specs.declared.inline.graph.depth_first.Walk.{Walk}
 use Rattle.lalrpop_inline.specs.Words.{LeadTo, IsMarked, Leads, one, more, IsInlineOrder, IsOnRing, HasSpan}
 use Rattle.lalrpop_collections.proofs.theory.lists.Apart.{Apart, apart_from}
 
--- where an element stands
+-- the place of an element
 pub record Place (l : List NonterminalString) (a : NonterminalString) : Type 0 where
   pub before : List NonterminalString
   pub after : List NonterminalString
@@ -36,7 +36,7 @@ not_before (x ∷ before) after a h c = elim (contains-cons x before a c) [
     in_middle [] after a = contains_head a after
     in_middle (x ∷ before) after a = contains_tail x (before ++ a ∷ after) a (in_middle before after a)
 
--- what leads to another one is marked
+-- a nonterminal that leads to another one is marked
 pub first_marked : (g : Grammar) (a c : NonterminalString) → Leads g a c → IsMarked g a
 first_marked g a c (one marked mentions) = marked
 first_marked g a c (more {b} lead marked mentions) = first_marked g a b lead
@@ -48,7 +48,7 @@ met g w name copy span h same spans lead =
     subst (λ (a : NonterminalString). IsOnRing g a × HasSpan (get name_cmp g.nonterminals a) span) (sym same) (ring, spans (first_marked g name name ring))
 
 module _ (g : Grammar) (order : List NonterminalString) (is : IsInlineOrder g order) where
-  -- what a nonterminal leads to stands before it
+  -- a marked nonterminal to which another one leads comes before that one
   leads_before : (a c : NonterminalString) → Leads g a c → IsMarked g c → (before after : List NonterminalString) → order ≡ before ++ a ∷ after → Contains before c
   leads_before a c (one marked mentions) is_marked before after e = is.behind before after a c e mentions is_marked
   leads_before a c (more {b} lead marked mentions) is_marked before after e =

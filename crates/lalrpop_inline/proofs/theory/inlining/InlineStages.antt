@@ -1,4 +1,5 @@
--- Inlining nonterminals in their order: at each stage the next one mentions none that is marked, and those that were inlined are mentioned nowhere.
+-- Inlining of nonterminals in their order. At each stage the next one mentions no marked one, and
+-- those that were inlined are mentioned nowhere.
 use Rattle.std.proofs.Common.{◌≡◌, ◌↔◌, inl, inr, ℕ, zero, suc, ◌+◌, ◌≤◌, ◌<◌, get_or, drop, arith, false, List, [], ◌∷◌, ◌++◌, map, length, refl, sym, ◌∙◌, ap, subst}
 use Rattle.std.specs.Prelude.{Contains}
 use Rattle.std.specs.List.{flat_map}
@@ -29,7 +30,8 @@ inlined_by_more (b ∷ order) v =
     more_twice v.defns (inlined_of b v).defns (inlined_by order (inlined_of b v)).defns (replaced_entries_more b (alternatives_in v b) v.entries v.defns) (inlined_by_more order (inlined_of b v))
 
 module _ (Marked : NonterminalString → Type 0) (terminals : List TerminalString) where
-  -- some marked nonterminals are left to be inlined: only these are mentioned, and each only mentions those before it
+  -- some marked nonterminals are left to be inlined. No other marked one is mentioned, and each of
+  -- these mentions only those before it
   pub record Stage (rest : List NonterminalString) (v : View) : Type 0 where
     pub proper : IsProper terminals v
     pub behind : (before after : List NonterminalString) (a c : NonterminalString) (p : Production) → rest ≡ before ++ a ∷ after → Contains (productions_in v) p → p.nonterminal ≡ a → Contains p.symbols (Nonterminal c) → Marked c → Contains before c
@@ -131,7 +133,7 @@ proper_view g ordered well = record {
       subst (λ (x : NonterminalString × Entry). IsWellFormedEntry g.terminals (length g.action_fn_defns.items) x.0 x.1.productions) r.2 counted;
 }
 
--- and a grammar with a proper view is well-formed
+-- a grammar with a proper view is well-formed
 pub well_formed_view : (h : Grammar) → IsProper h.terminals (view_of h) → IsWellFormed h
 well_formed_view h proper k name entry at =
     subst (λ (n : ℕ). IsWellFormedEntry h.terminals n name entry.productions.items) (sym h.action_fn_defns.ok.0)
@@ -207,7 +209,7 @@ pub one_inlined : (order : List NonterminalString) (i : ℕ) (name : Nonterminal
 one_inlined order i name v w d less is so_far step =
     ap (inlined_by (drop (i + 1) order)) step ∙ ap (λ (l : List NonterminalString). inlined_by l v) (sym (next_one order i name less is)) ∙ so_far
 
--- there was no number for an action
+-- there is no number for an action
 pub inlined_past : (order : List NonterminalString) (i : ℕ) (name : NonterminalString) (v d : View) (e : NormError) → i < length order → name ≡ get_or order i name → inlined_by (drop i order) v ≡ d → IsPastLast (length (inlined_of name v).defns) e → IsPastLast (length d.defns) e
 inlined_past order i name v d e less is so_far past =
     let whole : inlined_by (drop (i + 1) order) (inlined_of name v) ≡ d = one_inlined order i name v (inlined_of name v) d less is so_far refl in
@@ -219,7 +221,7 @@ inlined_past order i name v d e less is so_far past =
 pub all_inlined : (order : List NonterminalString) (i : ℕ) (v d : View) → length order ≤ i → inlined_by (drop i order) v ≡ d → v ≡ d
 all_inlined order i v d l e = ap (λ (os : List NonterminalString). inlined_by os v) (sym (drop_end order i l)) ∙ e
 
--- too many actions are a refusal
+-- the error for too many actions is a refusal of the grammar
 pub refusal_past : (g : Grammar) (order : List NonterminalString) (e : NormError) → IsInlineOrder g order → IsPastLast (length (inlined_by order (view_of g)).defns) e → IsRefusalOf g e
 refusal_past g order (Cycle span name) is h = absurd h
 refusal_past g order TooManyActions is h = record { order = order; in_order = is; past = h }

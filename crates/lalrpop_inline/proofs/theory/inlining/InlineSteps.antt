@@ -8,7 +8,7 @@ use Rattle.lalrpop_grammar.specs.declared.repr.norm_error.NormError.{NormError}
 use Rattle.lalrpop_grammar.specs.declared.repr.norm_error.NormError.TheVariants.{Cycle, TooManyActions, Memory}
 use Rattle.lalrpop_inline.specs.Words.{mentions, choices, choice_defn, Made, made_of, in_front, chosen, replaced, replaced_all, Entry, replaced_entries, IsPastLast}
 
--- definitions behind definitions
+-- the second definitions are the first with more after them
 abbrev pub IsMore : List ActionFnDefn → List ActionFnDefn → Type 0
 IsMore defns all = (more : List ActionFnDefn) × (all ≡ defns ++ more)
 
@@ -21,7 +21,7 @@ more_twice a b c m n = (m.0 ++ n.0, n.1 ∙ ap (λ (xs : List ActionFnDefn). xs 
 pub more_longer : (a b : List ActionFnDefn) → IsMore a b → length a ≤ length b
 more_longer a b m = omega (arith, ap length m.1, length-append a m.0)
 
--- the definitions of all steps are behind the old ones
+-- the definitions after a step are the old ones with more after them
 pub chosen_more : (p : Production) (cs : List (List InlinedSymbol)) (defns : List ActionFnDefn) → IsMore defns (chosen p cs defns).defns
 chosen_more p [] defns = more_none defns
 chosen_more p (c ∷ cs) defns =
@@ -54,7 +54,7 @@ past_more m n (Cycle span name) l h = h
 past_more m n TooManyActions l h = let g : 2 ^ 32 < m = h in omega arith
 past_more m n Memory l h = h
 
--- there was no number for a choice
+-- there is no number for a choice
 pub choice_past : (p : Production) (c : List InlinedSymbol) (cs all : List (List InlinedSymbol)) (made : List Production) (defns : List ActionFnDefn) (d : Made) (e : NormError) → all ≡ c ∷ cs →
     in_front made (chosen p all defns) ≡ d → IsPastLast (length defns + 1) e → IsPastLast (length d.defns) e
 choice_past p c cs all made defns d e parted so_far past =
@@ -63,12 +63,12 @@ choice_past p c cs all made defns d e parted so_far past =
     past_more (length defns + 1) (length d.defns) e (omega (arith, ap length whole, more_longer grown (chosen p cs grown).defns (chosen_more p cs grown), length-append defns (choice_defn defns p.action c ∷ []))) past
 
 module _ (b : NonterminalString) (alternatives : List Production) where
-  -- what a production that mentions the nonterminal gives way to
+  -- a production that mentions the nonterminal is replaced by one for each choice
   pub replaced_by_choices : (p : Production) (all : List (List InlinedSymbol)) (defns : List ActionFnDefn) → mentions b p.symbols ≡ true → all ≡ choices b alternatives p.symbols → chosen p all defns ≡ replaced b alternatives p defns
   replaced_by_choices p all defns m e =
       ap (λ (xs : List (List InlinedSymbol)). chosen p xs defns) e ∙ ap (λ (x : Bool). cond x (chosen p (choices b alternatives p.symbols) defns) (made_of (p ∷ []) defns)) (sym m)
 
-  -- there was no number for a choice of a production
+  -- there is no number for a choice of a production
   pub production_past : (p : Production) (ps all : List Production) (made : List Production) (defns : List ActionFnDefn) (d : Made) (e : NormError) → all ≡ p ∷ ps →
       in_front made (replaced_all b alternatives all defns) ≡ d → IsPastLast (length (replaced b alternatives p defns).defns) e → IsPastLast (length d.defns) e
   production_past p ps all made defns d e parted so_far past =

@@ -1,4 +1,5 @@
--- The users of marked nonterminals: how they are gathered, and why those of the given grammar are enough at each stage.
+-- The users of marked nonterminals: how they are collected, and why those of the given grammar are
+-- enough at each stage.
 use Rattle.std.proofs.Common.{◌≡◌, inl, inr, ℕ, ◌+◌, ◌<◌, false, take, drop, length, get_or, List, [], ◌∷◌, ◌++◌, Option, None, Some, refl, sym, ◌∙◌, ap, subst}
 use Rattle.std.specs.Prelude.{Contains}
 use Rattle.std.specs.declared.cmp.Ordering.{Ordering}
@@ -40,7 +41,7 @@ inserted_there (x ∷ ks) k = by (name_cmp k x) refl (inserted_there ks k)
     by Equal e later = subst (Contains (x ∷ ks)) (sym (name_same k x (ap is_eq e))) (contains_head x ks)
     by Greater e later = contains_tail x (insert_key name_cmp ks k) k later
 
--- and keeps the others
+-- a set that takes a name keeps the others
 inserted_kept : (ks : List NonterminalString) (k a : NonterminalString) → Contains ks a → Contains (insert_key name_cmp ks k) a
 inserted_kept [] k a c = absurd (contains-nil c)
 inserted_kept (x ∷ ks) k a c = by (name_cmp k x) (inserted_kept ks k a)
@@ -92,7 +93,7 @@ earlier_or_here {A} xs i x y less is c B earlier here = elim (Contains-push_case
   | inr e ↦ here (is ∙ e)
 ]
 
--- a user stands under the marked nonterminals among symbols
+-- the user is under the marked nonterminals among the symbols
 abbrev pub IsUnderSymbols : Grammar → UserMap → List Symbol → NonterminalString → Type 0
 IsUnderSymbols g users symbols user = (c : NonterminalString) → IsMarked g c → Contains symbols (Nonterminal c) → Contains (users_at users c) user
 
@@ -111,7 +112,7 @@ pub symbol_passed : (g : Grammar) (symbols : List Symbol) (i : ℕ) (x : Symbol)
 symbol_passed g symbols i x user old new less is other were same c marked there =
     earlier_or_here symbols i x (Nonterminal c) less is there (Contains (users_at new c) user) (λ d. subst (λ (m : UserMap). Contains (users_at m c) user) (sym same) (were c marked d)) (λ e. absurd (other c e))
 
--- and under those that productions mention
+-- the user is under the marked nonterminals that the productions mention
 abbrev pub IsUnderMentioned : Grammar → UserMap → List Production → NonterminalString → Type 0
 IsUnderMentioned g users ps user = (c : NonterminalString) (p : Production) → IsMarked g c → Contains ps p → Contains p.symbols (Nonterminal c) → Contains (users_at users c) user
 
@@ -122,7 +123,7 @@ production_added g ps i p symbols user old new less is own were kept added c q m
     earlier_or_here ps i p q less is there (Contains (users_at new c) user) (λ d. kept c user (were c q marked d m))
     (λ e. added c marked (subst (λ (l : List Symbol). Contains l (Nonterminal c)) (ap (λ (r : Production). r.symbols) (sym e) ∙ sym own) m))
 
--- each marked nonterminal that entries mention has their names under it
+-- each marked nonterminal has under it the names of the entries that mention it
 abbrev pub AreUsersOf : Grammar → List (NonterminalString × NonterminalData) → UserMap → Type 0
 AreUsersOf g es users = (a c : NonterminalString) (d : NonterminalData) (p : Production) → Contains es (a, d) → IsMarked g c → Contains d.productions.items p → Contains p.symbols (Nonterminal c) → Contains (users_at users c) a
 
@@ -159,7 +160,7 @@ covered_entries h name places ordered covered e p there stands m =
     let listed : Contains (productions_of h (r.0).0) p = subst (λ (o : Option NonterminalData). Contains (listed_productions o) p) (sym found) own in
     subst (λ (x : NonterminalString × Entry). Contains places x.0) r.2 (covered (r.0).0 (p, listed, mentioned_stands name p.symbols m))
 
--- replacing at places that cover what mentions the nonterminal inlines it
+-- if the places cover what mentions the nonterminal, replacing at them inlines it
 pub inlined_at : (h : Grammar) (name : NonterminalString) (alternatives : List Production) (places : List NonterminalString) → IsOrdered name_cmp h.nonterminals → IsStrictlySortedBy name_cmp places → ((a : NonterminalString) → Mentions h a name → Contains places a) → alternatives ≡ productions_of h name →
     replaced_places name alternatives places (view_of h) ≡ inlined_of name (view_of h)
 inlined_at h name alternatives places ordered sorted covered given =
@@ -174,13 +175,13 @@ users_found users name set found = ap listed_names (sym found)
 abbrev pub MentionedBefore : Grammar → List NonterminalString → View → Type 0
 MentionedBefore g rest v = (c : NonterminalString) (p : Production) → Contains rest c → Contains (productions_in v) p → Contains p.symbols (Nonterminal c) → Mentions g p.nonterminal c
 
--- so it is at first
+-- this holds at first
 pub first_mentioned : (g : Grammar) (order : List NonterminalString) → IsOrdered name_cmp g.nonterminals → IsWellFormed g → IsInlineOrder g order → MentionedBefore g order (view_of g)
 first_mentioned g order ordered well is c p there k m =
     let stage : Stage (IsMarked g) g.terminals order (view_of g) = first_stage g order ordered well is in
     (p, subst (λ (ps : List Production). Contains ps p) (alternatives_view g p.nonterminal) (alternatives_all g.terminals (view_of g) stage.proper p.nonterminal p k refl), m)
 
--- and still when one is inlined
+-- it still holds after one is inlined
 step_mentioned : (Marked : NonterminalString → Type 0) (terminals : List TerminalString) (g : Grammar) (b : NonterminalString) (rest : List NonterminalString) (v : View) → Stage Marked terminals (b ∷ rest) v → MentionedBefore g (b ∷ rest) v → MentionedBefore g rest (inlined_of b v)
 step_mentioned Marked terminals g b rest v s before c p there k m =
     let later : Contains (b ∷ rest) c = contains_tail b rest c there in

@@ -1,4 +1,5 @@
--- Grammars with a nonterminal inlined: the entries keep their names, are well-formed, and every nonterminal keeps its terminal lists.
+-- Grammars with a nonterminal inlined. The entries keep their names and are well-formed, and every
+-- nonterminal keeps its terminal lists.
 use Rattle.std.proofs.Common.{◌≡◌, ◌↔◌, ℕ, ◌≤◌, ◌⊎◌, inl, inr, true, false, List, [], ◌∷◌, map, length, Option, None, Some, refl, sym, ◌∙◌, ap, subst, arith}
 use Rattle.std.specs.Prelude.{Contains}
 use Rattle.std.specs.List.Sorted.{IsStrictlySortedBy}
@@ -34,11 +35,11 @@ pub record IsProper (terminals : List TerminalString) (v : View) : Type 0 where
   pub ordered : IsStrictlySortedBy name_cmp (keys_of v.entries)
   pub each : (e : NonterminalString × Entry) → Contains v.entries e → IsWellFormedEntry terminals (length v.defns) e.0 e.1.productions
 
--- a production of a view stands in an entry
+-- a production of a view is in an entry
 pub listed_entry : (v : View) (p : Production) → Contains (productions_in v) p → (e : NonterminalString × Entry) × Contains v.entries e × Contains e.1.productions p
 listed_entry v p c = of_flat (λ (e : NonterminalString × Entry). e.1.productions) v.entries p c
 
--- and what stands in an entry is one
+-- a production of an entry is one of the view
 pub entry_listed : (v : View) (e : NonterminalString × Entry) (p : Production) → Contains v.entries e → Contains e.1.productions p → Contains (productions_in v) p
 entry_listed v e p c d = in_flat_map (λ (e : NonterminalString × Entry). e.1.productions) v.entries e p c d
 
@@ -55,11 +56,11 @@ module _ (terminals : List TerminalString) (v : View) (proper : IsProper termina
       let same : b ≡ k = name_exact b k (sym (is_eq-slice_cmp b.text k.text) ∙ tied) in
       (entry_listed v (k, entry) r there c, (proper_production (k, entry) r there c).named ∙ sym same)
 
-  -- the alternatives of a name are its productions
+  -- an alternative of a name is one of its productions
   pub alternatives_own : (b : NonterminalString) (r : Production) → Contains (alternatives_in v b) r → Contains (productions_in v) r × (r.nonterminal ≡ b)
   alternatives_own b r c = found_own b (lookup (is_at (name_cmp b)) v.entries) r refl c
 
-  -- all of them
+  -- a production of a name is one of its alternatives
   pub alternatives_all : (b : NonterminalString) (r : Production) → Contains (productions_in v) r → r.nonterminal ≡ b → Contains (alternatives_in v b) r
   alternatives_all b r c n =
       let (e, there, stands) = listed_entry v r c in
@@ -69,7 +70,7 @@ module _ (terminals : List TerminalString) (v : View) (proper : IsProper termina
       subst (λ (a : NonterminalString). Contains (alternatives_in v a) r) same (subst (λ (o : Option Entry). Contains (listed o) r) (sym found) stands)
 
 module _ (b : NonterminalString) (alternatives : List Production) where
-  -- where an entry with productions replaced comes from
+  -- the entry from which one with replaced productions comes
   pub record EntryFrom (es : List (NonterminalString × Entry)) (defns : List ActionFnDefn) (new : NonterminalString × Entry) : Type 0 where
     pub entry : NonterminalString × Entry
     pub before : List ActionFnDefn
@@ -110,7 +111,7 @@ module _ (b : NonterminalString) (alternatives : List Production) where
             }
       ]
 
-  -- and what an entry becomes
+  -- the entry that an entry becomes
   pub record EntryTo (es : List (NonterminalString × Entry)) (defns : List ActionFnDefn) (entry : NonterminalString × Entry) : Type 0 where
     pub new : NonterminalString × Entry
     pub before : List ActionFnDefn
@@ -132,7 +133,7 @@ module _ (b : NonterminalString) (alternatives : List Production) where
   same_keys [] defns = refl
   same_keys (e ∷ es) defns = ap (λ (ks : List NonterminalString). e.0 ∷ ks) (same_keys es (replaced_all b alternatives e.1.productions defns).defns)
 
-  -- where a symbol of a choice comes from
+  -- a symbol of a choice comes from the right side or from an alternative
   pub symbol_from : (l : List Symbol) (c : List InlinedSymbol) (y : Symbol) → Contains (choices b alternatives l) c → Contains (laid_out c) y → (Contains l y × (is_named b y ≡ false)) ⊎ ((r : Production) × Contains alternatives r × Contains r.symbols y)
   symbol_from [] c y k d = elim (contains-cons [] [] c k) [ inl e ↦ absurd (contains-nil (subst (λ (z : List InlinedSymbol). Contains (laid_out z) y) (sym e) d)) | inr n ↦ absurd (contains-nil n) ]
   symbol_from (x ∷ l) c y k d =
@@ -149,9 +150,9 @@ module _ (b : NonterminalString) (alternatives : List Production) where
         | inr h ↦ elim (symbol_from l f.rest y f.others h) [ inl s ↦ inl (contains_tail x l y s.0, s.1) | inr r ↦ inr r ]
       ]
 
--- one nonterminal inlined that does not mention itself
+-- one nonterminal is inlined that does not mention itself
 module _ (terminals : List TerminalString) (v : View) (proper : IsProper terminals v) (b : NonterminalString) (alone : (r : Production) → Contains (alternatives_in v b) r → mentions b r.symbols ≡ false) where
-  -- a production of the new grammar, with where it comes from
+  -- a production of the new grammar, and the one from which it comes
   record Comes (e : NonterminalString × Entry) (p : Production) : Type 0 where
     pub from : EntryFrom b (alternatives_in v b) v.entries v.defns e
     pub arises : Arises b (alternatives_in v b) from.entry.1.productions (length v.defns) (length (inlined_of b v).defns) p
@@ -162,7 +163,7 @@ module _ (terminals : List TerminalString) (v : View) (proper : IsProper termina
       let a = replaced_all_sound b (alternatives_in v b) f.entry.1.productions f.before p (subst (λ (ps : List Production). Contains ps p) f.productions d) in
       record { from = f; arises = arises_wider b (alternatives_in v b) f.entry.1.productions f.entry.1.productions (length f.before) (length (replaced_all b (alternatives_in v b) f.entry.1.productions f.before).defns) (length v.defns) (length (inlined_of b v).defns) p (λ x k. k) f.low f.high a }
 
-  -- the grammar with the nonterminal inlined has its choices in the place of what mentioned it
+  -- the new grammar has choices in the place of the productions that mentioned the nonterminal
   pub is_replaced : IsReplaced b (alternatives_in v b) (productions_in v) (productions_in (inlined_of b v))
   is_replaced = record { own = alternatives_own terminals v proper b; only = only; sound = sound; complete = complete }
     where
@@ -240,7 +241,7 @@ module _ (terminals : List TerminalString) (v : View) (proper : IsProper termina
         };
   }
 
-  -- what the new grammar mentions, but for the nonterminal, the old one mentioned
+  -- a nonterminal that the new grammar mentions is another one, and the old grammar mentioned it
   pub step_mentions : (p : Production) (c : NonterminalString) → Contains (productions_in (inlined_of b v)) p → Contains p.symbols (Nonterminal c) →
       (q : Production) × Contains (productions_in v) q × ((q.nonterminal ≡ p.nonterminal) ⊎ (q.nonterminal ≡ b)) × Contains q.symbols (Nonterminal c) × (is_named b (Nonterminal c) ≡ false)
   step_mentions p c k m =

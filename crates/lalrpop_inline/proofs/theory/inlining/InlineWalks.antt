@@ -1,4 +1,4 @@
--- A walk comes into a nonterminal, along what it mentions, and leaves it.
+-- A walk enters a nonterminal, goes along those that it mentions, and leaves it.
 use Rattle.std.proofs.Common.{◌≡◌, ◌↔◌, ◌⊎◌, inl, inr, Bool, true, false, cond, List, [], ◌∷◌, ◌++◌, sym, ◌∙◌, ap, subst, append_assoc}
 use Rattle.std.specs.Prelude.{Contains}
 use Rattle.std.specs.List.{flat_map}
@@ -18,7 +18,7 @@ use Rattle.lalrpop_grammar.proofs.theory.first.FirstNames.{name_same, name_self}
 use Rattle.lalrpop_collections.proofs.theory.lists.Members.{of_flat}
 use Rattle.lalrpop_collections.proofs.theory.lists.Bounded.{in_flat_map}
 
--- what is mentioned
+-- a mentioned name is in a production
 pub mentioned_names : (ps : List Production) (c : NonterminalString) → Contains (mentioned_in ps) c → (p : Production) × Contains ps p × Contains p.symbols (Nonterminal c)
 mentioned_names ps c k =
     let p = of_flat (λ (q : Production). flat_map names_of q.symbols) ps c k in
@@ -34,7 +34,7 @@ names_mentioned ps c p k m =
     let inner : Contains (flat_map names_of p.symbols) c = in_flat_map names_of p.symbols (Nonterminal c) c m (contains_head c []) in
     in_flat_map (λ (q : Production). flat_map names_of q.symbols) ps p c k inner
 
--- a set with a name taken out, or put in
+-- a set with a name put in, or taken out
 abbrev pub Sets : NonterminalString → Bool → BTreeSet NonterminalString → BTreeSet NonterminalString → Type 0
 Sets name value old new = (a : NonterminalString) → contains name_cmp new a ≡ cond (is_at (name_cmp name) a) value (contains name_cmp old a)
 
@@ -44,7 +44,7 @@ set_at value name a old new s t = s a ∙ ap (λ (m : Bool). cond m value (conta
 pub set_off : (value : Bool) (name a : NonterminalString) (old new : BTreeSet NonterminalString) → Sets name value old new → is_at (name_cmp name) a ≡ false → contains name_cmp new a ≡ contains name_cmp old a
 set_off value name a old new s t = s a ∙ ap (λ (m : Bool). cond m value (contains name_cmp old a)) t
 
--- what is true after a name was taken out was true before, and is not the name
+-- a name that is in a set after another one was taken out was in it before, and is not that one
 pub still_there : (name a : NonterminalString) (old new : BTreeSet NonterminalString) → Sets name false old new → contains name_cmp new a ≡ true → (contains name_cmp old a ≡ true) × (is_at (name_cmp name) a ≡ false)
 still_there name a old new s h = elim (cases_Bool (is_at (name_cmp name) a)) [
   | inl t ↦ absurd (true≢false (sym h ∙ set_at false name a old new s t))
@@ -52,7 +52,7 @@ still_there name a old new s h = elim (cases_Bool (is_at (name_cmp name) a)) [
 ]
 
 module _ (g : Grammar) where
-  -- the walk comes into a pending nonterminal
+  -- the walk enters a pending nonterminal
   pub entered : (w m : Walk) (name : NonterminalString) → IsWalk g w → contains name_cmp w.pending name ≡ true → Sets name false w.pending m.pending → Sets name true w.visiting m.visiting → m.order.items ≡ w.order.items → IsWalk g m
   entered w m name is was out into same = record {
     marked = λ a. (λ h. forward a ((is.marked a).0 h), back a);
@@ -143,7 +143,7 @@ module _ (g : Grammar) where
           let r = same_last m.order.items (before ++ a ∷ k) (e ∙ sym (append_assoc before (a ∷ k) (y ∷ []))) in
           is.behind before k a c r.0 mentioned marked
 
-  -- nothing was walked yet
+  -- nothing was visited yet
   pub nothing_walked : (w : Walk) (names : List NonterminalString) → ((a : NonterminalString) → Contains names a ↔ IsMarked g a) → ((a : NonterminalString) → (contains name_cmp w.pending a ≡ true) ↔ Contains names a) → ((a : NonterminalString) → contains name_cmp w.visiting a ≡ false) → w.order.items ≡ [] → IsWalk g w
   nothing_walked w names found pending visiting none = record {
     marked = λ a. (λ h. inl ((pending a).1 ((found a).1 h)), go a);

@@ -1,4 +1,4 @@
-//! A depth first walk along what marked nonterminals mention, with its own stack.
+//! A depth first walk from marked nonterminals to those that they mention, with a stack of its own.
 ghost use Rattle.std.specs.Prelude.{◌≡◌, ◌≤◌, ◌+◌, ◌*◌, ◌++◌, [], ◌∷◌, true, false, List, None, Some, reverse, IfOk, OnOk, IfErr, Contains, length};
 ghost use Rattle.std.specs.BTreeMap.{get};
 ghost use Rattle.std.specs.List.{flat_map};
@@ -16,8 +16,8 @@ use lalrpop_base::repr::{NonterminalString, Production, Span, Symbol};
 use std::alloc::Global;
 use std::collections::BTreeSet;
 
-/// How far a walk has come: the nonterminals to which it has not come, those that it is in, and
-/// those that it has left, in this order.
+/// The progress of a walk. `pending` has the marked nonterminals that it has not reached, and
+/// `visiting` those that it is in. `order` has those that it has left, in that order.
 #[derive(Drop)]
 pub struct Walk {
     pub pending: BTreeSet<NonterminalString>,
@@ -25,8 +25,8 @@ pub struct Walk {
     pub order: Vec<NonterminalString>,
 }
 
-/// A nonterminal that a walk is in, and what it mentions that is still to be visited, the next one
-/// last.
+/// A nonterminal that a walk is in, and the nonterminals that it mentions and that are still to be
+/// visited. The next one to visit is the last.
 #[derive(Drop)]
 pub struct Frame {
     pub name: NonterminalString,
@@ -49,7 +49,7 @@ fn push_names(
     Ok(())
 }
 
-// The nonterminals that productions mention, as often as they stand there.
+// The nonterminals that productions mention, once for each mention, in the order of the mentions.
 fn mentioned(
     alloc: Global,
     productions: &[Production],
@@ -63,7 +63,7 @@ fn mentioned(
     Ok(names)
 }
 
-// The span of a nonterminal's entry.
+// The span of a nonterminal's entry, or `Span(0, 0)` if it has no entry.
 fn span_of(grammar: &Grammar, name: &NonterminalString) -> Span
     ensures { IsMarked grammar.now name.now →
         HasSpan (get name_cmp grammar.now.nonterminals name.now) result }
@@ -74,7 +74,7 @@ fn span_of(grammar: &Grammar, name: &NonterminalString) -> Span
     }
 }
 
-// What comes of a nonterminal that is not pending: where the walk is in it, a refusal.
+// Reports a cycle if the walk is in the nonterminal. The nonterminal is not pending.
 fn meet(alloc: Global, grammar: &Grammar, name: &NonterminalString, walk: &Walk) -> NormResult<()>
     ensures left { OnOk result (contains name_cmp walk.now.visiting name.now ≡ false) }
     ensures refused { IfErr result
@@ -90,8 +90,8 @@ fn meet(alloc: Global, grammar: &Grammar, name: &NonterminalString, walk: &Walk)
     Ok(())
 }
 
-// The next pending one of those that the nonterminal of a frame mentions. Those in front of it are
-// visited.
+// The next pending one of the nonterminals that the frame mentions. Those before it are taken from
+// the frame. If the walk is in one of them, there is a cycle.
 fn next_pending(
     alloc: Global,
     grammar: &Grammar,
@@ -123,7 +123,7 @@ fn next_pending(
     Ok(None)
 }
 
-// Comes into a pending nonterminal.
+// Begins to visit a pending nonterminal, and adds a frame for it.
 fn enter(
     alloc: Global,
     grammar: &Grammar,
@@ -150,8 +150,8 @@ fn enter(
     Ok(())
 }
 
-// Comes into the next pending one of those that the nonterminal of the newest frame mentions, or
-// leaves that nonterminal and lists it.
+// Begins to visit the next pending nonterminal that the frame mentions. If there is none, the walk
+// leaves the nonterminal of the frame and lists it. The frame was the newest one.
 fn step(
     alloc: Global,
     grammar: &Grammar,
@@ -182,7 +182,8 @@ fn step(
     Ok(())
 }
 
-/// Walks along what a nonterminal mentions, and lists it behind that.
+/// Visits a nonterminal, if it is pending, and what it leads to. Each nonterminal is listed when
+/// the walk leaves it.
 pub(super) fn walk_from(
     alloc: Global,
     grammar: &Grammar,

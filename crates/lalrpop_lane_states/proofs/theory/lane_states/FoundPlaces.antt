@@ -1,4 +1,5 @@
--- What a pass found is of all states with the same places: only the tokens of reductions differ.
+-- The results of a pass are of all states with the same places: only the tokens of reductions
+-- differ.
 use Rattle.std.proofs.Common.{◌≡◌, ◌↔◌, ℕ, List, length, map, sym, ◌∙◌, ap, subst, Some, option_map}
 use Rattle.std.specs.Prelude.{Contains, slice_get}
 use Rattle.std.specs.Borrow.{Bor}
@@ -19,18 +20,18 @@ use Rattle.lalrpop_lane_states.proofs.theory.lane_states.LaneCoherent.{old_at}
 use Rattle.lalrpop_follow_sets.proofs.theory.lane_states.LanePlaces.{AreSamePlaces, IsSamePlace, lane_there, places_same, same_turned}
 
 -- ---- lookahead sets
--- a token of a lookahead set is one where the places are the same
+-- a token of a lookahead set is one over all states with the same places
 lookahead_there : (g : List Production) (start : NonterminalString) (a b : ℕ → Contents) → AreSamePlaces a b → (s : ℕ) (p : Production) (t : Token) → IsLookahead g start a s p t → IsLookahead g start b s p t
 lookahead_there g start a b same s p t l = (lane_lookahead g start b s p t).0 (lane_there g start a b same s p (length p.symbols) t ((lane_lookahead g start a s p t).1 l))
 
--- so its bits are
+-- a set has the bits of a lookahead set over all states with the same places
 bits_there : (g : Rules) (start : NonterminalString) (a b : ℕ → Contents) → AreSamePlaces a b → (s : ℕ) (set : Bits) (p : Production) → HasLookaheadBits g start a s set p → HasLookaheadBits g start b s set p
 bits_there g start a b same s set p h bit = (
   λ x. let t = (h bit).0 x in (t.0, t.1, lookahead_there g.productions start a b same s p t.0 t.2),
   λ t. (h bit).1 (t.0, t.1, lookahead_there g.productions start b a (same_turned a b same) s p t.0 t.2),
 )
 
--- what is found stays
+-- the results of a pass stay
 pub finds_on : (g : Rules) (start : NonterminalString) (n : Numbers) (a b : ℕ → Contents) → AreSamePlaces a b → (before after : ℕ) → before ≡ after → (found : Found) → FindsLookaheads g start n a before found → FindsLookaheads g start n b after found
 finds_on g start n a b same before after counted found h = record {
   counted = h.counted ∙ counted;
@@ -39,8 +40,8 @@ finds_on g start n a b same before after counted found h = record {
   tokens = h.tokens;
 }
 
--- ---- states by numbers
--- a state by numbers is one of each with its place
+-- ---- states by number
+-- a state by number is that of each state with the same place
 state_there : (n : Numbers) (a b : Contents) → IsSamePlace a b → (state : NumberedState) → IsNumberedState n a state → IsNumberedState n b state
 state_there n a b same state h = record {
   known = h.known;
@@ -53,7 +54,7 @@ state_there n a b same state h = record {
   ascend = h.ascend;
 }
 
--- and so are the numbers of its reductions
+-- the numbers of its reductions are those of each state with the same place
 reduced_there : (items : List (Dotted Nil)) (before after : State Bits) → HasSamePlace before after → (numbers : List ℕ) → AreReducedNumbers items before.reductions.items numbers → AreReducedNumbers items after.reductions.items numbers
 reduced_there items before after same numbers h =
     let old : List (Bits × Bor Production) = before.reductions.items in
@@ -65,11 +66,11 @@ reduced_there items before after same numbers h =
           h.each j k q.0 q.1 at_k ∙ ap (λ (p : Production). Some (with_dot p (length p.symbols))) q.2;
     }
   where
-    -- as many reductions
+    -- there are as many reductions
     by_counted : (old new : List (Bits × Bor Production)) → map by new ≡ map by old → length new ≡ length old
     by_counted old new e = sym (length-map new by) ∙ ap length e ∙ length-map old by
 
--- the numbers stay
+-- the states by number stay
 pub numbered_on : (n : Numbers) (old new : List (State Bits)) → HaveSamePlaces old new → (list : List NumberedState) → AreNumberedStates n old list → AreNumberedStates n new list
 numbered_on n old new same list h = record {
   counted = h.counted ∙ sym same.counted;

@@ -1,4 +1,5 @@
--- A state whose reductions took the lookahead sets found is resolved; where two of these share a token, or one has that of a shift, two actions of the state meet.
+-- A state whose reductions took the lookahead sets found is resolved. If two of these sets share a
+-- token, or one of them has the terminal of a shift, two actions of the state share a token.
 use Rattle.std.proofs.Common.{◌≡◌, ◌↔◌, ℕ, Bool, true, List, length, map, refl, sym, ◌∙◌, ap, subst, arith, Some, slice_set}
 use Rattle.std.specs.Prelude.{Contains, slice_get}
 use Rattle.std.specs.BTreeMap.{BTreeMap}
@@ -31,12 +32,12 @@ use Rattle.lalrpop_collections.proofs.theory.lists.Places.{filled, same_some}
 use Rattle.lalrpop_construction.proofs.theory.construction.StateEdges.{transition_leads}
 use Rattle.lalrpop_collections.proofs.theory.lists.Lists.{contains_place, place_contains}
 
--- an action of a state is one wherever the places are the same
+-- an action of a state is an action of each state with the same place
 action_there : (g : List Production) (start : NonterminalString) (a b : ℕ → Contents) → AreSamePlaces a b → (n : ℕ) (t : Token) (action : Action) → IsLaneAction g start a n t action → IsLaneAction g start b n t action
 action_there g start a b same n t (Shift x) h = (h.0, ((h.1).0, (same n).edges (Terminal x) ∙ (h.1).1))
 action_there g start a b same n t (Reduce p) h = (subst (λ (ds : List (Production × ℕ)). Contains ds (p, length p.symbols)) (sym (same n).items) h.0, lane_there g start a b same n p (length p.symbols) t h.1)
 
--- so two actions that meet do so there
+-- two actions that share a token share it in each state with the same place
 meet_there : (g : List Production) (start : NonterminalString) (a b : ℕ → Contents) → AreSamePlaces a b → (n : ℕ) → LanesMeet g start a n → LanesMeet g start b n
 meet_there g start a b same n m = record {
   first = m.first;
@@ -62,7 +63,7 @@ module _ (g : Rules) (start : NonterminalString) (states : List (State Bits)) (m
   pub sets_counted : length sets ≡ length reductions
   sets_counted = unions.counted ∙ (fits.reduced state at).counted
 
-  -- where the reductions take their sets, nothing else changes
+  -- if the reductions take their sets, nothing else changes
   pub found_step : (new : State Bits) → new.index ≡ state.index → new.items ≡ state.items → new.shifts ≡ state.shifts → new.gotos ≡ state.gotos → new.reductions.items ≡ with_sets sets reductions → IsStep n states (slice_set states n new)
   found_step new number items shifts gotos took =
       set_step n states (slice_set states n new) state new at refl
@@ -73,7 +74,7 @@ module _ (g : Rules) (start : NonterminalString) (states : List (State Bits)) (m
   finished : (r : CodeReduction) → Contains reductions r → Contains (places n).items (r.1.now, length r.1.now.symbols)
   finished r among = reduced_item g start states made any n state r at among
 
-  -- and that is its lookahead set
+  -- the set at the place of a reduction is its lookahead set
   set_lookahead : (j : ℕ) (set : Bits) (r : CodeReduction) → slice_get sets j ≡ Some set → slice_get reductions j ≡ Some r → HasLookaheadBits g start places n set r.1.now
   set_lookahead j set r at_set at_r =
       let l = slice_get_within sets j set at_set in
@@ -96,26 +97,26 @@ module _ (g : Rules) (start : NonterminalString) (states : List (State Bits)) (m
         let x = numbered_behind g fits.numbers fits.of_grammar b.production b.dot (Terminal t) b.after own b.behind in
         (tokens bit).1 (x.0, edge.0.0, (fits.numbered.edges x.0 edge.0.0 (Terminal t) x.1).1 here, (fits.finds.tokens.each x.0 bit (Terminal t) x.1).1 (t, refl, place_there g.terminals t bit place))
 
-    -- ---- no two share a token
+    -- ---- no two sets share a token
     module _ (none : ShareBits shifted sets → ⊥) (new : State Bits) (shifts : new.shifts ≡ state.shifts) (took : new.reductions.items ≡ with_sets sets reductions) where
-      -- what a reduction took
+      -- the set that a reduction took
       took_at : (j : ℕ) (r : CodeReduction) → slice_get new.reductions.items j ≡ Some r → TookSet sets reductions j r
       took_at j r at_j = took_set sets reductions j r (ap (λ (rs : List CodeReduction). slice_get rs j) (sym took) ∙ at_j)
 
-      -- each holds its lookahead set
+      -- each reduction holds its lookahead set
       holds_lookahead : (r : CodeReduction) → Contains new.reductions.items r → HasLookaheadBits g start places n r.0 r.1.now
       holds_lookahead r among =
           let j = contains_place new.reductions.items r among in
           let t = took_at j.0 r j.1 in
           subst (λ (q : CodeReduction). HasLookaheadBits g start places n q.0 q.1.now) (sym t.same) (set_lookahead j.0 t.set t.old t.found t.there)
 
-      -- what a reduction holds, the set at its place does
+      -- a token that a reduction holds is in the set at its place
       held : (j bit : ℕ) (r : CodeReduction) → slice_get new.reductions.items j ≡ Some r → has r.0 bit ≡ true → HoldsBit sets j bit
       held j bit r at_j h =
           let t = took_at j r at_j in
           (held_at sets j bit t.set t.found).1 (subst (λ (q : CodeReduction). has q.0 bit ≡ true) t.same h)
 
-      -- so there is no conflict
+      -- the state has no conflict
       free : HasNoConflict g.terminals new
       free = record {
         shifts = λ k j bit t target r at_k place at_j h.
@@ -128,13 +129,13 @@ module _ (g : Rules) (start : NonterminalString) (states : List (State Bits)) (m
       pub found_resolved : IsResolved g start places n new
       found_resolved = lookaheads_resolved g start places n new (record { holds = holds_lookahead; free = free })
 
-      -- so it is resolved where it is written
+      -- the state is resolved after it is written
       pub found_written : IsResolvedAt g start states n (slice_set states n new)
       found_written other there =
           let same : new ≡ other = same_some new other (sym (set_here states n new (slice_get_within states n state at)) ∙ there) in
           subst (IsResolved g start places n) same found_resolved
 
-    -- ---- two share a token
+    -- ---- two sets share a token
     -- a bit of a set is that of a token in the lookahead set of the reduction
     record HoldsToken (j bit : ℕ) : Type 0 where
       pub reduction : CodeReduction
@@ -142,7 +143,7 @@ module _ (g : Rules) (start : NonterminalString) (states : List (State Bits)) (m
       pub item : Contains (places n).items (reduction.1.now, length reduction.1.now.symbols)
       pub among : (t : Token) × IsBitOf g.terminals t bit × IsLookahead g.productions start places n reduction.1.now t
 
-    -- each bit of a set is
+    -- each bit of a set is that of such a token
     holds_token_at : (j bit : ℕ) → HoldsBit sets j bit → HoldsToken j bit
     holds_token_at j bit h =
         let l = held_within sets j bit h in
@@ -155,7 +156,7 @@ module _ (g : Rules) (start : NonterminalString) (states : List (State Bits)) (m
           among = (set_lookahead j set.0 r.0 set.1 r.1 bit).0 ((held_at sets j bit set.0 set.1).0 h);
         }
 
-    -- the two actions
+    -- the two actions that share a token
     meet_here : ShareBits shifted sets → LanesMeet g.productions start places n
     meet_here (with_first j bit h k) =
         let e = (tokens bit).0 h in
@@ -172,6 +173,6 @@ module _ (g : Rules) (start : NonterminalString) (states : List (State Bits)) (m
         reductions_meet g.productions start places n a.reduction.1.now b.reduction.1.now (a.among).0 (reduced_once g start states made any n state at i j a.reduction b.reduction l a.there b.there)
         a.item b.item (a.among).2 (subst (IsLookahead g.productions start places n b.reduction.1.now) one (b.among).2)
 
-    -- also with the tokens of the states
+    -- the two actions share the token over the contents of the states, too
     pub found_meet : ShareBits shifted sets → LanesMeet g.productions start (contents g.terminals states) n
     found_meet share = meet_there g.productions start places (contents g.terminals states) (places_same any _ states states (place_itself states)) n (meet_here share)

@@ -1,4 +1,4 @@
--- Reductions that took sets, each that at its place.
+-- Reductions that took sets, each the set at its place.
 use Rattle.std.proofs.Common.{◌≡◌, ℕ, zero, suc, List, [], ◌∷◌, length, map, refl, sym, ap, arith, Some}
 use Rattle.std.specs.Prelude.{slice_get}
 use Rattle.std.specs.Borrow.{Bor}

@@ -1,4 +1,5 @@
--- What the construction of lane tables answers: tables that hold their lane tokens, or states of which one has two actions that meet.
+-- The results of the construction of lane tables: tables that hold their lane tokens, or states of
+-- which one has two actions that share a token.
 use Rattle.std.proofs.Common.{◌≡◌, ◌↔◌, ℕ, suc, ◌<◌, ◌≤◌, Bool, true, false, List, length, refl, sym, subst, arith, Option, Some, None, MatchBool}
 use Rattle.std.specs.Prelude.{Contains, MatchOption, slice_get}
 use Rattle.std.specs.Borrow.{Bor}
@@ -87,7 +88,7 @@ module _ (g : Grammar) (start : NonterminalString) (well : IsWellFormed g) (diff
     pub lane_tables : AreLaneTables (rules_of g) start states
     lane_tables = record { made = made; holds = hold_lanes; free = λ n state at. (done n state at).free }
 
-  -- ---- where the start symbol stands on no right side
+  -- ---- the start symbol is on no right side
   module _ (alone : IsOnNoRightSide (productions g) start) where
     free_at : HaveNoConflict g.terminals states → (n : ℕ) (o : Option (State Bits)) → slice_get states n ≡ o → HoldsNoConflict (contents_at holds o)
     free_at free n None at = nowhere_conflict
@@ -113,7 +114,7 @@ module _ (g : Grammar) (start : NonterminalString) (well : IsWellFormed g) (diff
           faithful = lanes_faithful (productions g) start here lr0 alone lalr tables.holds;
         }
 
-    -- two actions that meet are LALR actions of a prefix of the state
+    -- an action of a state with a lane token is an LALR action of a prefix of the state
     lalr_action : (n : ℕ) (u : List Symbol) → state_after here u ≡ Some n → HasRightItems (productions g) start u (here n) → (t : Token) (a : Action) → IsLaneAction (productions g) start here n t a → IsLalrAction (productions g) start u t a
     lalr_action n u at right t (Shift x) h = (h.0, (edges_awaited right (Terminal x)).0 h.1)
     lalr_action n u at right t (Reduce p) h = (lane_tokens (productions g) start here (here_lr0 (rules_of g) start states made holds) alone u n p (length p.symbols) t at ((right.items p (length p.symbols)).0 h.0)).0 h.1

@@ -11,7 +11,8 @@ use Rattle.lalrpop_construction.specs.Words.{dot_of, by, HasSamePlace, HaveSameP
 use Rattle.lalrpop_state_graph.specs.Words.{Edge, edges_of, edges_from, edges, shift_edges, goto_edges}
 use Rattle.lalrpop_collections.proofs.theory.lists.Places.{filled}
 
--- what stands in the second list stands in the first, where their images are one
+-- if two lists have the same images, each member of the second has a member with its image at the
+-- same place of the first
 pub stands : {X Y Z : Type 0} (f : X → Z) (h : Y → Z) (xs : List X) (ys : List Y) → map h ys ≡ map f xs → (k : ℕ) (y : Y) → slice_get ys k ≡ Some y → (x : X) × (slice_get xs k ≡ Some x) × (f x ≡ h y)
 stands f h xs ys same k y at = some_of_map f (slice_get xs k) (h y) (sym (slice_get-map f xs k) ∙ ap (λ zs. slice_get zs k) (sym same) ∙ slice_get-map h ys k ∙ ap (option_map h) at)
 

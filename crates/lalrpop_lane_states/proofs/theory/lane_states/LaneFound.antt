@@ -1,4 +1,4 @@
--- What a pass over the states of lane tables asks for.
+-- The conditions of a pass over the states of lane tables.
 use Rattle.std.proofs.Common.{◌≡◌, ℕ, zero, suc, ◌<◌, ◌≤◌, List, [], ◌∷◌, drop, length, refl, arith, Option, Some, None, Bool, true}
 use Rattle.std.specs.Prelude.{Contains, slice_get}
 use Rattle.std.proofs.lemmas.Option.{slice_get_within}
@@ -18,7 +18,7 @@ use Rattle.lalrpop_follow_sets.specs.declared.follow_sets.found.Found.{Found}
 use Rattle.lalrpop_construction.specs.declared.construction.numbered_state.NumberedState.{NumberedState}
 use Rattle.lalrpop_lane_states.proofs.theory.lane_states.LaneShape.{here_closed, right_at}
 
--- a dot with something behind it is before the end
+-- a dot with a symbol after it is before the end
 before_end : {A : Type 0} (dot : ℕ) (xs : List A) {x : A} {after : List A} → drop dot xs ≡ x ∷ after → dot < length xs
 before_end zero [] e = cc
 before_end zero (y ∷ xs) e = omega arith
@@ -60,7 +60,7 @@ module _ (g : Rules) (start : NonterminalString) (states : List (State Bits)) (m
           (of_grammar v, valid_within v)
 
   module _ (n : Numbers) (numbers : AreNumbers g n) where
-    -- what is found is so at each state
+    -- a pass finds the lookahead sets of each state
     pub found_at : (found : Found) (list : List NumberedState) → FindsLookaheads g start n places (length states) found → AreNumberedStates n states list → (s : ℕ) (state : NumberedState) → slice_get list s ≡ Some state → IsFoundAt g start states s found state
     found_at found list finds numbered s state at = record {
       numbers = n;

@@ -1,4 +1,4 @@
--- States are resolved one after the other; the lanes stay what they were, since only reductions change.
+-- States are resolved one after the other. The lanes stay the same, since only reductions change.
 use Rattle.std.proofs.Common.{◌≡◌, ◌⊎◌, inl, inr, ℕ, ◌+◌, ◌<◌, true, List, length, refl, sym, ◌∙◌, ap, subst, arith, Some, slice_set}
 use Rattle.std.specs.Prelude.{Contains, slice_get}
 use Rattle.std.proofs.lemmas.Option.{slice_get_within}
@@ -21,7 +21,7 @@ use Rattle.lalrpop_follow_sets.proofs.theory.lane_states.LanePlaces.{AreSamePlac
 use Rattle.lalrpop_states.proofs.theory.collapse.Merging.{set_here, set_elsewhere, set_length}
 use Rattle.lalrpop_collections.proofs.theory.lists.Places.{same_some, places_apart}
 
--- places of places
+-- states with the same places, from a first list to a second and on to a third
 pub place_on : {K L M : Type 0} (a : State K) (b : State L) (c : State M) → HasSamePlace a b → HasSamePlace b c → HasSamePlace a c
 place_on a b c p q = record { index = q.index ∙ p.index; dots = q.dots ∙ p.dots; shifts = q.shifts ∙ p.shifts; gotos = q.gotos ∙ p.gotos; reduced = q.reduced ∙ p.reduced }
 
@@ -46,7 +46,7 @@ step_places index old new s = record {
   ];
 }
 
--- the one state was written
+-- one state was written
 pub set_step : (index : ℕ) (old new : List (State Bits)) (before after : State Bits) → slice_get old index ≡ Some before → new ≡ slice_set old index after → HasSamePlace before after → after.items ≡ before.items → IsStep index old new
 set_step index old new before after was written same items = record {
   before = before;
@@ -59,11 +59,11 @@ set_step index old new before after was written same items = record {
   items = items;
 }
 
--- nothing changed
+-- a step may change nothing
 pub idle_step : (index : ℕ) (states : List (State Bits)) (state : State Bits) → slice_get states index ≡ Some state → IsStep index states states
 idle_step index states state at = record { before = state; after = state; was = at; is = at; counted = refl; others = λ k other. refl; same = record { index = refl; dots = refl; shifts = refl; gotos = refl; reduced = refl }; items = refl }
 
--- ---- what stays
+-- ---- properties that a step keeps
 step_items : (terminals : List TerminalString) (index : ℕ) (old new : List (State Bits)) → IsStep index old new → HaveFullItems terminals old → HaveFullItems terminals new
 step_items terminals index old new s full n state item at among = elim (apart_or n index) [
   | inl same ↦
@@ -99,7 +99,8 @@ bits_on g start a b same n state h = record {
   free = h.free;
 }
 
--- what the loop keeps: the states below the index are resolved, and those from it on hold all tokens; what a pass found is of these states
+-- the invariant of the loop: the states below the index are resolved, and those from it on hold all
+-- tokens; the results of the pass are of these states
 pub record AreResolvedTo (g : Rules) (start : NonterminalString) (n : Numbers) (found : Found) (list : List NumberedState) (count index : ℕ) (states : List (State Bits)) : Type 0 where
   pub lanes : AreLaneStates g start states
   pub finds : FindsLookaheads g start n (places_in states) (length states) found

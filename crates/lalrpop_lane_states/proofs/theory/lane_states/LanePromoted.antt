@@ -45,14 +45,14 @@ promoted_places all old new z = record {
   each = λ n before after at_old at_new. promoted_place all before after (zip_at (IsPromoted all) old new z n before after at_old at_new);
 }
 
--- each reduction holds all tokens
+-- each reduction of a promoted state holds all tokens
 pub promoted_full : (terminals : List TerminalString) (all : Bits) → IsFull terminals all → (old : List (State Nil)) (new : List (State Bits)) → AllZip (IsPromoted all) old new → (n : ℕ) (state : State Bits) → slice_get new n ≡ Some state → HoldsAll terminals state
 promoted_full terminals all full old new z n state at r among =
     let (before, at_old, p) = zip_old (IsPromoted all) old new z n state at in
     let (q, there, same) = contains_of_map (promoted_reduction all) before.reductions.items r (subst (λ (rs : List (Bits × Bor Production)). Contains rs r) p.reductions among) in
     subst (λ (x : Bits × Bor Production). IsFull terminals x.0) same full
 
--- and each item
+-- each item of a promoted state holds all tokens
 promoted_items : (terminals : List TerminalString) (all : Bits) → IsFull terminals all → (old : List (State Nil)) (new : List (State Bits)) → AllZip (IsPromoted all) old new → HaveFullItems terminals new
 promoted_items terminals all full old new z n state item at among =
     let (before, at_old, p) = zip_old (IsPromoted all) old new z n state at in
@@ -66,7 +66,7 @@ full_set terminals all is bit = (λ h. leb-true bit (length terminals) (sym (is 
 pub promoted_lanes : (g : Rules) (start : NonterminalString) (all : Bits) → IsFull g.terminals all → (old : List (State Nil)) (new : List (State Bits)) → AreLr0States g start old → AllZip (IsPromoted all) old new → AreLaneStates g start new
 promoted_lanes g start all full old new lr0 z = record { bare = old; lr0 = lr0; same = promoted_places all old new z; items = promoted_items g.terminals all full old new z }
 
--- promoted states are by numbers what those before are
+-- a promoted state has the same state by number as the old one
 promoted_number : (n : Numbers) (all : Bits) (old : State Nil) (new : State Bits) (state : NumberedState) → IsPromoted all old new → IsNumberedState n (contents_of (λ (lookahead : Nil) (t : Token). true) old) state → IsNumberedState n (contents_of (λ (lookahead : Bits) (t : Token). true) new) state
 promoted_number n all old new state p is =
     let place = promoted_place all old new p in

@@ -25,7 +25,7 @@ one_token terminals (TokenOf x) Eof bit a b = let l = slice_get_within terminals
 one_token terminals (TokenOf x) Error bit a b = let l = slice_get_within terminals bit x a in absurd (omega arith)
 one_token terminals (TokenOf x) (TokenOf y) bit a b = ap TokenOf (same_some x y (sym a ∙ b))
 
--- productions that are the same place by place
+-- lists with the same production at each place have the same productions
 pub by_all : (rs qs : List CodeReduction) → length qs ≡ length rs → ((k : ℕ) (r q : CodeReduction) → slice_get rs k ≡ Some r → slice_get qs k ≡ Some q → q.1.now ≡ r.1.now) → map by qs ≡ map by rs
 by_all [] [] counted same = refl
 by_all [] (q ∷ qs) counted same = absurd (omega arith)
@@ -43,6 +43,6 @@ applied_same actions columns old new applied = record {
   reduced = by_all old.reductions.items new.reductions.items applied.counted (λ k r q at_r at_q. ap (λ (b : Bor Production). b.now) (applied.each k r q at_r at_q).same);
 }
 
--- reductions that are one lend one production
+-- equal reduction actions have one production
 pub lent_same : (p q : Bor Production) → Reduce p ≡ Reduce q → p ≡ q
 lent_same p q e = cc

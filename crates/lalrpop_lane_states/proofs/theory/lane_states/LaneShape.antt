@@ -1,4 +1,4 @@
--- What follows of being the LR(0) states of a grammar with some tokens.
+-- Properties of the LR(0) states of a grammar with some tokens.
 use Rattle.std.proofs.Common.{◌≡◌, ℕ, ◌<◌, Bool, List, length, refl, sym, ◌∙◌, ap, subst, arith, Option, Some, None, option_map, true}
 use Rattle.std.specs.Prelude.{Contains, slice_get}
 use Rattle.std.specs.Borrow.{Bor}
@@ -19,7 +19,7 @@ use Rattle.lalrpop_construction.proofs.theory.construction.Reductions.{nothing_r
 use Rattle.lalrpop_lane_states.proofs.theory.lane_states.LaneCoherent.{coherent_there}
 use Rattle.lalrpop_follow_sets.proofs.theory.lane_states.LanePlaces.{AreSamePlaces, places_same, after_same, lr0_there, closed_there, reduces_there}
 
--- the state is that of a live prefix, and right for it but for tokens
+-- the state is that of a live prefix, and right for it, apart from tokens
 pub record IsRightAt (g : Rules) (start : NonterminalString) (states : ℕ → Contents) (n : ℕ) : Type 0 where
   pub prefix : List Symbol
   pub live : IsLive g.productions start prefix
@@ -58,13 +58,13 @@ module _ (g : Rules) (start : NonterminalString) (states : List (State Bits)) (m
         let after : state_after here live.prefix ≡ Some n = after_same (lr0_contents made.bare) here bare_same live.prefix ∙ live.after in
         record { prefix = live.prefix; live = live.live; after = after; right = items_at g.productions start here here_lr0 live.prefix n live.live after }
 
-    -- each finished production that the state lists is the grammar's
+    -- each production of an item that the state lists is one of the grammar
     pub item_own : (n : ℕ) (state : State Bits) (p : Production) (dot : ℕ) → slice_get states n ≡ Some state → Contains (contents_of holds state).items (p, dot) → Contains g.productions p
     item_own n state p dot at c =
         let r = right_at n (slice_get_within states n state at) in
         of_grammar ((r.right.items p dot).0 (subst (λ (s : Contents). Contains s.items (p, dot)) (sym (ap (contents_at holds) at)) c))
 
-    -- and a state that reduces is reached
+    -- a state that reduces is reached
     pub reducing_reached : (n : ℕ) (r : Reduction) → Contains (here n).reductions r → IsReached here n
     reducing_reached n r c = by_case (slice_get states n) refl c
       where
@@ -74,13 +74,13 @@ module _ (g : Rules) (start : NonterminalString) (states : List (State Bits)) (m
             let a = right_at n (slice_get_within states n s e) in
             reached_at g.productions start here here_closed (grown a.prefix) n a.after
 
-    -- a reduction of the code's state, among its finished productions
+    -- a reduction of the code's state is by one of its finished productions
     pub reduced_item : (n : ℕ) (state : State Bits) (r : Bits × Bor Production) → slice_get states n ≡ Some state → Contains state.reductions.items r → Contains (here n).items (r.1.now, length r.1.now.symbols)
     reduced_item n state r at among =
         let c : Contains (here n).reductions (reduction_of holds r) = subst (λ (s : Contents). Contains s.reductions (reduction_of holds r)) (sym (ap (contents_at holds) at)) (contains_map (reduction_of holds) state.reductions.items r among) in
         ((here_reduces n).finished r.1.now).0 (reduction_of holds r, c, refl)
 
-    -- no two of its reductions are by one production
+    -- no two reductions of a state are by one production
     pub reduced_once : (n : ℕ) (state : State Bits) → slice_get states n ≡ Some state → (i j : ℕ) (r q : Bits × Bor Production) → i < j → slice_get state.reductions.items i ≡ Some r → slice_get state.reductions.items j ≡ Some q → r.1.now ≡ q.1.now → ⊥
     reduced_once n state at i j r q l at_i at_j e =
         let once = (subst ReducesFinished (ap (contents_at holds) at) (here_reduces n)).once in

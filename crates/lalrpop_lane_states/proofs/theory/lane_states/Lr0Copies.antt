@@ -1,4 +1,4 @@
--- What follows of being the LR(0) states of a grammar and copies of these.
+-- Properties of the LR(0) states of a grammar and copies of these.
 use Rattle.std.proofs.Common.{◌≡◌, ℕ, ◌<◌, ◌≤◌, inl, inr, false, List, [], map, length, Option, None, Some, refl, sym, ap, subst, ◌∙◌, arith}
 use Rattle.std.specs.Prelude.{slice_get, Contains}
 use Rattle.std.specs.Borrow.{Bor}
@@ -24,7 +24,8 @@ use Rattle.lalrpop_construction.proofs.theory.conflicts.GrownConflicts.{free_sta
 use Rattle.lalrpop_lane_states.proofs.theory.lane_states.Resolving.{no_copies, own_numbers}
 use Rattle.lalrpop_collections.proofs.theory.lists.Lists.{contains_place, place_contains}
 
--- a state with the same dotted productions, which reduces by the same productions, reduces its finished items, too
+-- a state with the same dotted productions, which reduces by the same productions, reduces its
+-- finished items, too
 reduces_alike : (a b : Contents) → b.items ≡ a.items → map produced b.reductions ≡ map produced a.reductions → ReducesFinished a → ReducesFinished b
 reduces_alike a b items reduced h =
     let mixed : Contents = record a { items = b.items; reductions = b.reductions } in
@@ -39,7 +40,7 @@ module _ (g : Rules) (start : NonterminalString) (handed : List (State Bits)) (m
   pub copied_coherent : AreCoherent states
   copied_coherent = copies_coherent false handed originals states c
 
-  -- there are no fewer than were handed in
+  -- there are no fewer states than were handed in
   pub copied_longer : length handed ≤ length states
   copied_longer = elim (cases_lt (length states) (length handed)) [
     | inl l ↦ absurd (let w = slice_get_within originals (length states) (length states) (c.own (length states) l) in let k = c.counted in omega arith)
@@ -64,7 +65,7 @@ module _ (g : Rules) (start : NonterminalString) (handed : List (State Bits)) (m
       let h = asked_of g.terminals state (Reduce p) (asked.of (Reduce p) among) in
       subst (λ (b : Bor Production). Contains g.productions b.now) h.2 (reduced_own n state h.0 at h.1)
 
-  -- ---- in the words of the definitions
+  -- ---- in the terms of the definitions
   abbrev at_option : Option (State Bits) → Contents
   at_option o = contents_at (holds_token g.terminals) o
 
@@ -95,7 +96,7 @@ module _ (g : Rules) (start : NonterminalString) (copies : ℕ) (states : List (
         free = tables.free;
       }
 
-  -- states without a conflict are tables, and others are not
+  -- such states without a conflict are tables
   pub copied_free : AreLr0Copies g start copies states → HaveNoConflict g.terminals states → AreCopiedTables g start copies states
   copied_free made free = record { made = made; closed = copied_closed g start made.handed made.made made.originals states made.each; free = free }
 

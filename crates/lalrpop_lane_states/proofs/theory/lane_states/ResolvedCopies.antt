@@ -1,4 +1,4 @@
--- Which states are resolved, and which have the reductions that they had.
+-- Which states are resolved, and which keep their reductions.
 use Rattle.std.proofs.Common.{◌≡◌, ℕ, ◌+◌, Result, Ok, Err, IfOk, ◌<◌, ◌≤◌, inl, inr, Bool, true, false, List, length, Some, refl, slice_set, sym, ap, subst, ◌∙◌, arith}
 use Rattle.std.specs.Prelude.{slice_get}
 use Rattle.std.proofs.lemmas.Bool.{cases_lt}
@@ -80,7 +80,8 @@ overlap_if g start copies n h (Ok answer) = λ e. h
 overlap_if g start copies n h (Err e) = tt
 
 -- ---- all states
--- states from the first number on are resolved up to the place, and the others have the reductions that were handed in
+-- the states from the first number up to the place are resolved, and the others have the reductions
+-- that were handed in
 pub record AreResolvedBelow (first index : ℕ) (handed states : List (State Bits)) : Type 0 where
   pub reached : first ≤ index
   pub before : (n : ℕ) → n < first → HasSameReductions handed states n

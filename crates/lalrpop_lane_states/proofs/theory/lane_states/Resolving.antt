@@ -84,7 +84,7 @@ module _ (handed : List (State Bits)) (first second : List ℕ) (middle states :
   }
 
 -- ---- nothing is copied
--- so many numbers from the one on
+-- `count` numbers, counted up from n
 abbrev pub own_numbers_from : ℕ → ℕ → List ℕ
 own_numbers_from n zero = []
 own_numbers_from n (suc count) = n ∷ own_numbers_from (suc n) count
@@ -98,7 +98,7 @@ own_counted : (n count : ℕ) → length (own_numbers_from n count) ≡ count
 own_counted n zero = refl
 own_counted n (suc count) = ap suc (own_counted (suc n) count)
 
--- each number at its own place
+-- the numbers of the states, in order: each state is its own original
 abbrev pub own_numbers : List (State Bits) → List ℕ
 own_numbers states = own_numbers_from 0 (length states)
 
@@ -114,9 +114,9 @@ copied_none copying coherent graph = record {
   graph = graph;
 }
 
--- ---- what is resolved stays what it was
+-- ---- states that are resolved stay LR(0) states and copies
 module _ (g : Rules) (start : NonterminalString) (copies : ℕ) where
-  -- copies of what is resolved
+  -- copies of such states are such states
   pub resolving_copied : (old new : Copying) → IsResolving g start copies old → IsCopied old new → IsResolving g start copies new
   resolving_copied old new r c = record {
     handed = r.handed;
@@ -142,7 +142,7 @@ module _ (g : Rules) (start : NonterminalString) (copies : ℕ) where
         graph = subst (IsGraphOf (edges new.states.items)) (sym graph) (graph_on old.states.items new.states.items old.graph (step_places n old.states.items new.states.items step) r.graph);
       }
 
-  -- or stayed as it was
+  -- all states stayed
   pub resolving_same : (old new : Copying) → IsResolving g start copies old → new.graph ≡ old.graph → new.copies_left ≡ old.copies_left → new.states.items ≡ old.states.items → IsResolving g start copies new
   resolving_same old new r graph left same = record {
     handed = r.handed;
@@ -166,8 +166,9 @@ module _ (g : Rules) (start : NonterminalString) (copies : ℕ) where
   copied_answers old before (Ok answer) c = resolving_copied old answer.0 before c
   copied_answers old before (Err e) c = tt
 
--- ---- the reductions of the state that the lanes belong to
--- are among the actions behind the walks as before these, since copies have the same reductions
+-- ---- the reductions of the inconsistent state
+-- the actions include these reductions after the walks as before, since copies have the same
+-- reductions
 pub patchable_on : (actions : List Action) (old new : Merge) → AreCopies true old.states.items old.originals.items old.states.items → IsMerging old → Advances old new → IsPatchable actions old → IsPatchable actions new
 patchable_on actions old new begun ready on p = record {
   counted = ap (λ (t : Bor LaneTable). t.now.conflicts) on.table ∙ p.counted;
@@ -179,7 +180,8 @@ patchable_on actions old new begun ready on p = record {
       λ k r at_k. p.among c.0 was k r (ap (λ rs. slice_get rs k) (sym c.2.reductions) ∙ at_k);
 }
 
--- and before the walks by what was handed in
+-- the actions include these reductions before the walks, if they include those of the state that
+-- was handed in
 pub patchable_from : (actions : List Action) (merge : Merge) (table : LaneTable) (state : StateIndex) (states : Vec (State Bits) Global) → merge.table.now ≡ table → merge.inconsistent_state ≡ state → merge.states ≡ states → table.conflicts ≡ length actions →
     ((before : State Bits) → slice_get states.items state.0 ≡ Some before → AreAmong actions before) → IsPatchable actions merge
 patchable_from actions merge table state states same_table same_state same_states counted among = record {
@@ -187,7 +189,7 @@ patchable_from actions merge table state states same_table same_state same_state
   among = λ before at. among before (ap (λ (s : StateIndex). slice_get states.items s.0) (sym same_state) ∙ ap (λ (xs : Vec (State Bits) Global). slice_get xs.items merge.inconsistent_state.0) (sym same_states) ∙ at);
 }
 
--- the states and the graph behind a merge
+-- the states and the graph after a merge
 pub merged_copied : (old new : Copying) (before merge : Merge) (count : ℕ) → before.states ≡ old.states → before.copies_left ≡ old.copies_left → AreCopies false before.states.items merge.originals.items merge.states.items →
     merge.copies_left + length merge.states.items ≡ before.copies_left + length before.states.items → new.states ≡ merge.states → new.copies_left ≡ merge.copies_left → length old.states.items ≡ count → IsGraphOf (edges old.states.items) old.graph →
     FollowsCopies count merge.originals.items merge.states.items merge.states.items old.graph new.graph → IsCopied old new

@@ -1,4 +1,5 @@
--- A lane table stays closed when it takes an action: each state of a lane is listed, and has a cell or a successor.
+-- A lane table stays closed when it takes an action: each state of a lane is listed, and has a cell
+-- or a successor.
 use Rattle.std.proofs.Common.{◌≡◌, ℕ, ◌<◌, ◌⊎◌, inl, inr, List, length, refl, sym, subst}
 use Rattle.std.specs.Prelude.{Contains}
 use Rattle.lalrpop_base.specs.Words.{LeadsBack, IsTracedTo, itself, back, IsLaneSuccessor, Contents, Rules}
@@ -25,7 +26,7 @@ module _ {L : Type 0} (states : List (State L)) (g : List Production) where
   listed_on itself listed = listed
   listed_on (back b t) listed = listed_on t (listed_back b listed)
 
--- ---- each state of a lane is where it starts, or where it gives something, or has a successor
+-- ---- each state of a lane is its first, or has a cell of the lane, or has a successor
 module _ (g : Rules) (start : NonterminalString) (states : ℕ → Contents) (s : ℕ) (p : Production) where
   abbrev pub IsOnLane : ℕ → Type 0
   IsOnLane n = (n ≡ s) ⊎ (GivesAt g start states s p n ⊎ ((right : ℕ) × IsLaneSuccessor g.productions states s p (length p.symbols) n right))

@@ -1,4 +1,5 @@
--- The shifts whose terminals some reduction holds, and all reductions, are the actions that are asked for.
+-- The actions that are asked for are the shifts whose terminals some reduction holds, and all
+-- reductions.
 use Rattle.std.proofs.Common.{◌≡◌, ◌∙◌, ◌↔◌, inl, inr, ℕ, Bool, true, false, cond, List, [], ◌∷◌, ◌++◌, map, refl, sym, ap, subst, append-nil}
 use Rattle.std.specs.Prelude.{Contains, IsTrue}
 use Rattle.std.specs.Borrow.{Bor}
@@ -18,7 +19,7 @@ use Rattle.lalrpop_lane_states.proofs.theory.lanes.LaneAsked.{asked_of, IsAskedO
 use Rattle.lalrpop_collections.proofs.theory.lists.Members.{contains-cons, contains_head, Contains-none, of_flat}
 
 -- ---- one shift
--- a test that does not answer true answers false
+-- a test that is not true is false
 not_true : (b : Bool) → (b ≡ true → ⊥) → b ≡ false
 not_true true none = absurd (none refl)
 not_true false none = refl
@@ -30,13 +31,13 @@ module _ (terminals : List TerminalString) (differ : AllDiffer terminals) (held 
       let out = not_true (holds_token terminals held (TokenOf t)) (λ e. none ((holds_has terminals differ held (TokenOf t)).0 e)) in
       subst (λ (xs : List Action). AreActions xs keys) (sym (ap (λ (b : Bool). asked ++ cond b (Shift t target ∷ []) []) out ∙ append-nil asked)) h
 
-  -- one whose terminal is held is taken
+  -- a shift whose terminal is held is added
   pub shift_taken : HasToken terminals held (TokenOf t) → (asked keys : List Action) → AreActions (asked ++ Shift t target ∷ []) keys → AreActions (asked ++ held_shift terminals held (t, target)) keys
   shift_taken some asked keys h =
       let yes = (holds_has terminals differ held (TokenOf t)).1 some in
       subst (λ (xs : List Action). AreActions xs keys) (sym (ap (λ (b : Bool). asked ++ cond b (Shift t target ∷ []) []) yes)) h
 
--- ---- all that is asked for
+-- ---- all actions that are asked for
 module _ (terminals : List TerminalString) (state : State Bits) (held : Bits) (of : (bit : ℕ) → IsTrue (has held bit) ↔ IsHeldBit state.reductions.items bit) where
   abbrev entries : List (TerminalString × StateIndex)
   entries = state.shifts.entries
@@ -54,7 +55,7 @@ module _ (terminals : List TerminalString) (state : State Bits) (held : Bits) (o
       ]
   shift_at t target among a false e c = absurd (Contains-none a c)
 
-  -- what is gathered is asked for
+  -- each gathered action is asked for
   is_asked : (a : Action) → Contains gathered a → Contains (asked_actions terminals state) a
   is_asked a c = elim (Contains-append_cases (flat_map (held_shift terminals held) entries) (map reduce_action state.reductions.items) a c) [
     | inl s ↦ let e = of_flat (held_shift terminals held) entries a s in shift_at (e.0).0 (e.0).1 e.1 a (holds_token terminals held (TokenOf (e.0).0)) refl e.2
@@ -71,6 +72,6 @@ module _ (terminals : List TerminalString) (state : State Bits) (held : Bits) (o
       Contains-append_right (flat_map (held_shift terminals held) entries) (map reduce_action state.reductions.items) (Reduce p)
       (subst (λ (q : Bor Production). Contains (map reduce_action state.reductions.items) (Reduce q)) h.2 (contains_map reduce_action state.reductions.items h.0 h.1))
 
-  -- and the other way round
+  -- the actions that are gathered are those that are asked for
   pub gathered_asked : (keys : List Action) → AreActions gathered keys → AreActions (asked_actions terminals state) keys
   gathered_asked keys h = record { of = λ a c. is_asked a (h.of a c); all = λ a c. h.all a (gathered_of a (asked_of terminals state a c)) }

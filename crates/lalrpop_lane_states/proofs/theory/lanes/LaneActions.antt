@@ -1,4 +1,4 @@
--- The actions of a state: what goes into their set, and where they stand in it.
+-- The actions of a state: the set that has them, and their places in it.
 use Rattle.std.proofs.Common.{◌≡◌, inl, inr, List, [], ◌∷◌, ◌++◌, refl, sym, subst}
 use Rattle.std.specs.Prelude.{Contains}
 use Rattle.std.specs.BTreeSet.{insert_key}
@@ -12,7 +12,7 @@ use Rattle.lalrpop_lane_states.proofs.Types.{Action}
 use Rattle.lalrpop_lane_states.specs.Words.{action_order, AreActions}
 use Rattle.lalrpop_collections.proofs.theory.lists.Members.{Contains-none, contains_head, contains_tail, insert_key-kept, insert_key-from}
 
--- ---- a key goes into a set
+-- ---- a key is added to a set
 module _ {K : Type 0} (cmp : K → K → Ordering) where
   module _ (total : IsTotalOrder cmp) where
     there_at : (x : K) (xs : List K) (k : K) (o : Ordering) → cmp k x ≡ o → ((b : K) × Contains (insert_key cmp xs k) b × (cmp k b ≡ Equal)) → (b : K) × Contains (match_ordering o (k ∷ x ∷ xs) (x ∷ xs) (x ∷ insert_key cmp xs k)) b × (cmp k b ≡ Equal)
@@ -46,6 +46,6 @@ one_action asked keys new a inserted h = record {
   ];
 }
 
--- the same actions asked for in other words
+-- equal lists ask for the same actions
 pub asked_same : (asked other keys : List Action) → asked ≡ other → AreActions asked keys → AreActions other keys
 asked_same asked other keys same h = subst (λ (zs : List Action). AreActions zs keys) same h

@@ -1,4 +1,5 @@
--- The actions that are asked for are the shifts of a state whose terminals some reduction holds, and its reductions; and where each stands among them.
+-- The actions that are asked for are the shifts of a state whose terminals some reduction holds,
+-- and its reductions. Also, the place of each among the actions.
 use Rattle.std.proofs.Common.{◌≡◌, ℕ, inl, inr, Bool, List, [], ◌∷◌, map, length, ◌<◌, refl, sym, ◌∙◌, ap, subst, arith, Option, Some, None}
 use Rattle.std.specs.Prelude.{Contains}
 use Rattle.std.specs.Borrow.{Bor}
@@ -22,7 +23,8 @@ use Rattle.lalrpop_collections.proofs.theory.lists.Members.{Contains-none, conta
 abbrev pub CodeReduction : Type 0
 CodeReduction = Bits × Bor Production
 
--- ---- what is asked for: a shift of the state whose terminal some reduction holds, or a reduction of the state
+-- ---- an action that is asked for: a shift of the state whose terminal some reduction holds, or a
+-- reduction of the state
 abbrev pub IsAskedOf : List TerminalString → State Bits → Action → Type 0
 IsAskedOf terminals state (Shift t target) = Contains state.shifts.entries (t, target) × ((bit : ℕ) × (place_in terminals t ≡ Some bit) × IsHeldBit state.reductions.items bit)
 IsAskedOf terminals state (Reduce p) = (r : CodeReduction) × Contains state.reductions.items r × (r.1 ≡ p)
@@ -65,7 +67,7 @@ module _ (terminals : List TerminalString) (state : State Bits) where
     | inr later ↦ elim (contains-cons c.action [] a later) [ inl e ↦ subst (IsAskedOf terminals state) e h.1 | inr none ↦ absurd (Contains-none a none) ]
   ]
 
-  -- each action that is asked for is such
+  -- each action that is asked for is such a shift or reduction
   pub asked_of : (a : Action) → Contains (asked_actions terminals state) a → IsAskedOf terminals state a
   asked_of a i = elim (Contains-append_cases (flat_map conflict_actions (state_conflicts terminals state)) (map reduce_action reductions) a i) [
     | inl s ↦ let c = of_flat conflict_actions (state_conflicts terminals state) a s in of_pair c.0 a (conflict_of c.0 c.1) c.2
@@ -76,7 +78,7 @@ module _ (terminals : List TerminalString) (state : State Bits) where
   pub reduction_asked : (r : CodeReduction) → Contains reductions r → Contains (asked_actions terminals state) (Reduce r.1)
   reduction_asked r among = Contains-append_right (flat_map conflict_actions (state_conflicts terminals state)) (map reduce_action reductions) (Reduce r.1) (contains_map reduce_action reductions r among)
 
-  -- so is each shift whose terminal some reduction holds
+  -- each shift whose terminal some reduction holds is asked for
   pub shift_asked : (t : TerminalString) (target : StateIndex) (bit : ℕ) → Contains state.shifts.entries (t, target) → place_in terminals t ≡ Some bit → IsHeldBit reductions bit → Contains (asked_actions terminals state) (Shift t target)
   shift_asked t target bit among e held =
       let holds : CodeReduction → Bool = λ q. has q.0 bit in
@@ -88,8 +90,8 @@ module _ (terminals : List TerminalString) (state : State Bits) where
       Contains-append_left (flat_map conflict_actions (state_conflicts terminals state)) (map reduce_action reductions) (Shift t target)
       (in_flat_map conflict_actions (state_conflicts terminals state) c (Shift t target) listed (contains_tail (Reduce held.0.1) (Shift t target ∷ []) (Shift t target) (contains_head (Shift t target) [])))
 
--- ---- what ties
--- what ties with a reduction is one by an equal production
+-- ---- actions that compare as equal
+-- an action that compares as equal to a reduction is a reduction by an equal production
 pub tied_reduce : (p : Bor Production) (b : Action) → action_order (Reduce p) b ≡ Equal → (lent : Bor Production) × (b ≡ Reduce lent) × (lent.now ≡ p.now)
 tied_reduce p (Shift t target) e = cc
 tied_reduce p (Reduce q) e = (q, refl, sym (production_exact p.now q.now e))
@@ -106,6 +108,6 @@ module _ (terminals : List TerminalString) (state : State Bits) (actions : List 
   pub among_asked : AreAmong actions state
   among_asked k r at_k = place_asked r (place_contains state.reductions.items k r at_k)
 
-  -- so there is one where there is a reduction
+  -- if the state has a reduction, there is an action
   pub asked_some : (r : CodeReduction) → Contains state.reductions.items r → 0 < length actions
   asked_some r among = let k = (place_asked r among).1.action in let w = slice_get_within actions _ _ k in omega arith

@@ -14,7 +14,7 @@ use Rattle.lalrpop_lanes.specs.declared.lane_table.table.LaneTable.{LaneTable}
 use Rattle.lalrpop_lane_states.proofs.theory.lane_tables.LaneClosed.{more_closed, none_closed, own_row}
 use Rattle.lalrpop_collections.proofs.theory.lists.Places.{push_cases, slice_get-push_at, slice_get-longer}
 
--- what the loop keeps: the actions done are traced, and the table is closed
+-- the invariant of the loop: the actions done are traced, and the table is closed
 pub record IsTracing (construct : LaneTableConstruct) (states : List (State Bits)) (s : StateIndex) (actions : List Action) (place : ℕ) (tracer : LaneTracer Bits) (left : List Action) : Type 0 where
   pub ready : IsReadyToTrace tracer
   pub grammar : tracer.grammar.now ≡ construct.grammar.now
@@ -82,7 +82,7 @@ module _ (g : Rules) (start : NonterminalString) (places : ℕ → Contents) (s 
 abbrev pub IsOver : LaneTracer Bits → LaneTracer Bits → Type 0
 IsOver old new = (new.grammar.now ≡ old.grammar.now) × (new.start ≡ old.start) × (new.states.now ≡ old.states.now) × (new.table.conflicts ≡ old.table.conflicts)
 
--- what a tracer over other names of the same traces
+-- a trace of a tracer is that of one with equal parts
 takes_over : (g h : Grammar) (start first : NonterminalString) (xs states : List (State Bits)) (s : StateIndex) (k : ℕ) (action : Action) (old new : LaneTable) → h ≡ g → first ≡ start → states ≡ xs → TakesAction (rules_of h) first (places_in states) s k action old new → TakesAction (rules_of g) start (places_in xs) s k action old new
 takes_over g h start first xs states s k action old new same_g same_start same_states t =
     subst (λ z. TakesAction (rules_of z) start (places_in xs) s k action old new) same_g

@@ -32,7 +32,7 @@ apart_all old state successor place ready past each n at other = elim (cases_lt 
   | inr from ↦ each n from (let l = slice_get_within old.originals.items n successor.0 at in omega (arith, l, past)) at other
 ]
 
--- ---- why there is no copy
+-- ---- no copy was found
 pub none_apart : (copy : Option StateIndex) (state successor : StateIndex) (old new : Merge) → copy ≡ None → IsApartIfNone state successor old new copy → (n : ℕ) → CannotJoin old state successor n
 none_apart copy state successor old new none h = (subst (λ (o : Option StateIndex). IsApartIfNone state successor old new o) none h).0
 

@@ -1,4 +1,5 @@
--- Copies of states stay copies as further ones are made and edges are changed, and they are coherent.
+-- Copies of states stay copies as further copies are made and edges are changed, and they are
+-- coherent.
 use Rattle.std.proofs.Common.{◌≡◌, ℕ, ◌+◌, ◌<◌, ◌≤◌, inl, inr, ◌==◌, Bool, true, false, cond, List, [], ◌∷◌, ◌++◌, length, map, Option, None, Some, slice_set, refl, sym, ap, subst, ◌∙◌, arith, suc, eqb-true, length-append}
 use Rattle.std.specs.Prelude.{slice_get, unwrap_or, option_map, Contains}
 use Rattle.std.specs.Borrow.{Bor}
@@ -25,7 +26,7 @@ use Rattle.lalrpop_state_graph.proofs.theory.graphs.GraphCopies.{number_at}
 number_past : (xs : List ℕ) (n : ℕ) → length xs ≤ n → number_in xs n ≡ n
 number_past xs n l = ap (λ x. unwrap_or x n) (slice_get_past xs n l)
 
--- functions that agree on a list
+-- two functions that agree on a list map it alike
 map_alike : {X Y : Type 0} (f g : X → Y) (xs : List X) → ((k : ℕ) (x : X) → slice_get xs k ≡ Some x → f x ≡ g x) → map f xs ≡ map g xs
 map_alike f g [] h = refl
 map_alike f g (x ∷ xs) h = ap (λ y. y ∷ map f xs) (h 0 x refl) ∙ ap (λ ys. g x ∷ ys) (map_alike f g xs (λ k y at. h (suc k) y at))
@@ -38,7 +39,7 @@ module _ (exact : Bool) (handed : List (State Bits)) (originals : List ℕ) (sta
   abbrev original : ℕ → ℕ
   original = number_in originals
 
-  -- what leads to a state that was handed in stands in the list
+  -- a number whose original was handed in is that of a state in the list
   within : (m : ℕ) (to : State Bits) → slice_get handed (original m) ≡ Some to → m < length states
   within m to at = elim (cases_lt m (length states)) [
     | inl l ↦ l
@@ -78,7 +79,7 @@ module _ (exact : Bool) (handed : List (State Bits)) (originals : List ℕ) (sta
   steps symbol source target es fs e same h k entry at =
       subst (λ is. IsCoherentStep states is (symbol entry.0) entry.1.0) (sym e) (step (symbol entry.0) entry.1.0 source (h k (entry.0, retargeted original entry.1) (moved_entry es fs same k entry at)))
 
-  -- and each edge leads into the list
+  -- each edge leads into the list
   leads_within : {K : Type 0} (symbol : K → Symbol) (source : List (Dotted Bits)) (es fs : List (K × StateIndex)) → retargeted_all original fs ≡ es → EachEntry (λ k m. IsCoherentStep handed source (symbol k) m.0) es → (k : ℕ) (e : K × StateIndex) → slice_get fs k ≡ Some e → e.1.0 < length states
   leads_within symbol source es fs same h k e at = let s = h k (e.0, retargeted original e.1) (moved_entry es fs same k e at) in within e.1.0 s.to s.there
 
@@ -100,7 +101,7 @@ module _ (exact : Bool) (handed : List (State Bits)) (originals : List ℕ) (sta
         finished = finished_copy o.0.items.vec.items state.items.vec.items o.0.reductions.items state.reductions.items items (same_productions exact o.0.reductions.items state.reductions.items o.2.reductions) h.finished;
       }
 
-  -- ---- in the words of the definitions
+  -- ---- in the terms of the definitions
   module _ (terminals : List TerminalString) where
     abbrev here : ℕ → Contents
     here = contents terminals states

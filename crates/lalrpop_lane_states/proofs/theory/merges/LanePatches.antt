@@ -68,7 +68,8 @@ module _ (actions : List Action) (old : Merge) where
     | inr past ↦ inr (λ e. let none = past.1 in cc)
   ]
 
-  -- all reduce by the same productions as the inconsistent state
+  -- the reductions of all copies are among the actions, as they are by the same productions as
+  -- those of the inconsistent state
   pub targets_among : IsMerging old → ((state : State Bits) → slice_get old.states.items old.inconsistent_state.0 ≡ Some state → AreAmong actions state) → AreTargetsAmong actions old
   targets_among ready here k state target at =
       let c = ready.copies in
@@ -138,7 +139,7 @@ module _ (actions : List Action) (old : Merge) where
     pub patched_all : length old.states.items ≤ n → (k : ℕ) → IsResolvedCopy now k
     patched_all l k state target at = p.resolved k state (let w = slice_get_within now.states.items k state at in let e = p.counted in omega arith) (from_now k target) at
 
-    -- nothing changed
+    -- nothing changed but the states
     module _ (next : Merge) (same : next ≡ record now { states = next.states }) where
       next_same : next ≡ record old { states = next.states }
       next_same = same ∙ ap (λ (m : Merge). record m { states = next.states }) p.same

@@ -53,7 +53,8 @@ target_was : {K : Type 0} (originals : List ℕ) (a b m : ℕ) (before after : L
 target_was originals a b m before after same of own h = let w = target_from a b m before after same h in (w.0, w.1, w.2, replaced_own originals a b m w.1.1.0 of own w.3)
 
 -- ---- edges
--- the edges of one state are led to a copy: no edge comes to lead to a state that is its own original
+-- the edges of one state are led to a copy: no edge comes to lead to a state that is its own
+-- original
 pub linked_edges : (originals : List ℕ) (states : List (State Bits)) (n a b : ℕ) (before after : State Bits) → slice_get states n ≡ Some before → slice_get originals b ≡ Some a → after.shifts.entries ≡ retargeted_all (replaced a b) before.shifts.entries → after.gotos.entries ≡ retargeted_all (replaced a b) before.gotos.entries →
     (k m : ℕ) → slice_get originals m ≡ Some m → HasEdge (slice_set states n after) k m → HasEdge states k m
 linked_edges originals states n a b before after at of shifts gotos k m own h = elim (cases_eq k n) [
@@ -70,7 +71,7 @@ linked_edges originals states n a b before after at of shifts gotos k m own h = 
   | inr other ↦ (h.0, sym (set_elsewhere states n k after other) ∙ h.1, h.2)
 ]
 
--- no edge leads to the successor then
+-- after that no edge of the state leads to the successor
 pub linked_led : (state successor copy : StateIndex) (old new : Merge) → IsLinked state.0 successor.0 copy.0 old.states.items new.states.items → IsLedTo new state successor copy
 linked_led state successor copy old new link other h =
     let apart : copy.0 ≡ successor.0 → ⊥ = λ e. other (ap index e) in
@@ -81,7 +82,7 @@ linked_led state successor copy old new link other h =
       | inr goto ↦ target_other successor.0 copy.0 link.source.gotos.entries link.target.gotos.entries link.gotos apart goto
     ]
 
--- a state that was joined to its successor itself
+-- a state that was joined to its successor itself is linked to it
 pub linked_itself : (n a : ℕ) (before after : List (State Bits)) → n < length before → after ≡ before → IsLinked n a a before after
 linked_itself n a before after listed same =
     let f = filled before n listed in
@@ -95,7 +96,7 @@ linked_itself n a before after listed same =
       gotos = sym (all_itself a f.0.gotos.entries);
     }
 
--- or to a copy that was made before
+-- a state that was joined to a copy is linked to the copy
 pub linked_copy : (n a b : ℕ) (before mid after : List (State Bits)) → n < length before → ((k : ℕ) (state : State Bits) → slice_get before k ≡ Some state → slice_get mid k ≡ Some state) → IsRelinked n a b mid after → IsLinked n a b before after
 linked_copy n a b before mid after listed kept r =
     let f = filled before n listed in

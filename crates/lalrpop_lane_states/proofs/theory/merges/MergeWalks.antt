@@ -1,4 +1,5 @@
--- A walk with pending joins: it comes to a state, a join is made, and it is at its end where none is pending.
+-- A walk with pending joins: it comes to a state, it makes a join, and it ends if no join is
+-- pending.
 use Rattle.std.proofs.Common.{◌≡◌, ◌∙◌, ◌↔◌, ℕ, suc, ◌+◌, ◌*◌, ◌<◌, ◌≤◌, ◌⊎◌, inl, inr, false, List, [], ◌∷◌, ◌++◌, length, map, reverse, Some, sym, ap, subst, arith, length-append}
 use Rattle.std.specs.Prelude.{slice_get, Contains}
 use Rattle.std.specs.Borrow.{Bor}
@@ -25,7 +26,7 @@ use Rattle.lalrpop_collections.proofs.theory.lists.Places.{same_some}
 use Rattle.lalrpop_lane_states.proofs.theory.merges.LinkedStates.{linked_led}
 use Rattle.lalrpop_state_graph.proofs.theory.graphs.StateGraphs.{state_total}
 
--- ---- what was joined stays so
+-- ---- a join that was made stays
 module _ (now new : Merge) (ready : IsMerging now) (a : Advances now new) (n original : ℕ) (right : StateIndex) (there : slice_get now.originals.items n ≡ Some original) (e : IsSuccessor now.table.now (index original) right) where
   pub done_on : IsJoinMade now (join_to (index n) right) → IsJoinMade new (join_to (index n) right)
   done_on done =
@@ -40,7 +41,7 @@ module _ (old now new : Merge) (rest after : List Join) (w : IsMergeWalk old now
   join_on : (join : Join) → IsJoin now join → IsJoin new join
   join_on join is = record { walked = walked_on now new a join.state is.walked; leads = leads_on now new a join.state join.successor is.walked is.leads }
 
-  -- what was pending was made, or is still
+  -- each pending join was made, or is still pending
   module _ (made : (join : Join) → Contains rest join → Contains after join ⊎ IsJoinMade new join) where
     but_on : (n : ℕ) → HasJoinedBut rest now n → HasJoinedBut after new n
     but_on n h = record {
@@ -65,7 +66,7 @@ module _ (old now new : Merge) (rest after : List Join) (w : IsMergeWalk old now
       ];
     }
 
--- the first state is come to
+-- the walk comes to its first state
 pub walk_begins : (old new : Merge) (state : StateIndex) (before after : List Join) → before ≡ [] → Advances old new → unvisited new ≤ unvisited old → ComesTo state old new before after → IsMergeWalk old new after
 walk_begins old new state before after none a less c = record {
   advances = a;
@@ -74,11 +75,11 @@ walk_begins old new state before after none a less c = record {
   joined = c.joined;
 }
 
--- the join that is pending behind the others can be made
+-- the last of the pending joins can be made
 pub last_join : (old now : Merge) (join : Join) (pending before : List Join) → IsMergeWalk old now pending → pending ≡ before ++ join ∷ [] → IsJoin now join
 last_join old now join pending before w split = w.joins join (subst (λ (l : List Join). Contains l join) (sym split) (Contains-push before join))
 
--- it is made, and its copy is come to
+-- the last join is made, and the walk comes to its copy
 pub walk_joins : (old now mid new : Merge) (join : Join) (copy : StateIndex) (pending before after : List Join) → IsMergeWalk old now pending → pending ≡ before ++ join ∷ [] → Advances now mid → HaveNoNewMarks now mid → unvisited mid ≤ unvisited now → IsJoinedCopy join.state join.successor copy mid → IsLinked join.state.0 join.successor.0 copy.0 now.states.items mid.states.items →
     Advances mid new → unvisited new ≤ unvisited mid → ComesTo copy mid new before after → IsMergeWalk old new after
 walk_joins old now mid new join copy pending before after w split a marks less is link b fewer c =
@@ -95,7 +96,7 @@ walk_joins old now mid new join copy pending before after w split a marks less i
     (λ other p. elim (c.added other p) [ inl was ↦ inl (subst (λ (l : List Join). Contains l other) (sym split) (Contains-append_left before (join ∷ []) other was)) | inr is ↦ inr is ])
     (λ n h. elim (c.joined n h) [ inl was ↦ inl (marks n was) | inr j ↦ inr j ])
 
--- none is pending
+-- the walk ends if no join is pending
 pub walk_ends : (old new : Merge) (state : StateIndex) (pending : List Join) → IsMergeWalk old new pending → length pending ≡ 0 → IsVisited new state.0 → HasWalked state old new
 walk_ends old new state pending w none there = record {
   there = there;
@@ -110,7 +111,7 @@ walk_ends old new state pending w none there = record {
 }
 
 -- ---- one walk after the other
--- what was joined stays so
+-- a state that was joined to its successors stays so
 pub joined_on : (now new : Merge) → IsMerging now → Advances now new → (n : ℕ) → HasJoined now n → HasJoined new n
 joined_on now new ready a n h = record {
   original = h.original;
@@ -123,7 +124,7 @@ joined_on now new ready a n h = record {
 pub walked_none : (merge : Merge) → HaveWalked [] merge merge
 walked_none merge = record { there = λ state c. absurd (Contains-none state c); joined = λ n h. inl h }
 
--- a walk from a further state
+-- one walk more, from a further state
 pub walked_more : (old now new : Merge) (done : List StateIndex) (state : StateIndex) → Advances old now → HaveWalked done old now → Advances now new → HasWalked state now new → HaveWalked (done ++ state ∷ []) old new
 walked_more old now new done state a h b w = record {
   there = λ s c. elim (Contains-push_cases done state s c) [
@@ -136,7 +137,7 @@ walked_more old now new done state a h b w = record {
   ];
 }
 
--- ---- a state is newly come to
+-- ---- the walk comes to a new state
 module _ (merge : Merge) (ready : IsMerging merge) (state : StateIndex) (w : IsWalked merge state) (original : ℕ) (at : slice_get merge.originals.items state.0 ≡ Some original) (successors : List StateIndex)
     (exactly : (right : StateIndex) → Contains successors right ↔ IsSuccessor merge.table.now (index original) right) where
   abbrev joins : List Join
@@ -153,7 +154,7 @@ module _ (merge : Merge) (ready : IsMerging merge) (state : StateIndex) (w : IsW
         leads = λ o here. subst (λ k. IsSuccessor merge.table.now (index k) right) (same_some original o (sym at ∙ here)) ((exactly right).0 there);
       })
 
-  -- it is marked, and its joins are put behind those pending
+  -- the state is marked, and its joins are appended to those that are pending
   pub comes_newly : (before after : List Join) → after ≡ before ++ joins → ComesTo state merge begun before after
   comes_newly before after pushed = record {
     there = mark_there merge state ready w;
@@ -170,7 +171,7 @@ module _ (merge : Merge) (ready : IsMerging merge) (state : StateIndex) (w : IsW
     added = λ join c. elim (Contains-append_cases before joins join (subst (λ (l : List Join). Contains l join) pushed c)) [ inl was ↦ inl was | inr own ↦ inr (own_join join own) ];
   }
 
-  -- it has no more successors than there are states
+  -- the state has no more successors than there are states
   pub few : IsStrictlySortedBy state_cmp successors → length successors ≤ length merge.states.items
   few rises =
       let count = length merge.states.items in
@@ -194,7 +195,7 @@ module _ (merge : Merge) (ready : IsMerging merge) (state : StateIndex) (w : IsW
       let own : length joins ≡ length successors = length-reverse (joins_to state successors) ∙ length-map successors (join_to state) in
       omega arith
 
--- a join is made, and its copy is come to
+-- the join is made, and the walk comes to its copy
 pub falls_joining : (now mid new : Merge) (join : Join) (pending before after : List Join) → pending ≡ before ++ join ∷ [] → Advances now mid → unvisited mid ≤ unvisited now → most_joins new after ≤ most_joins mid before → most_joins new after < most_joins now pending
 falls_joining now mid new join pending before after split a less falls =
     let same : mid.copies_left + length mid.states.items ≡ now.copies_left + length now.states.items = a.counted in

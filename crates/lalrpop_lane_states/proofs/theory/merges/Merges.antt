@@ -1,4 +1,4 @@
--- What each step of a merging keeps.
+-- The facts that each step of a merge keeps.
 use Rattle.std.proofs.Common.{◌≡◌, ℕ, zero, suc, ◌+◌, ◌<◌, ◌⊎◌, inl, inr, Bool, true, false, List, [], ◌∷◌, ◌++◌, length, Some, Result, Ok, Err, IfOk, OnErr, OnOk, MatchBool, slice_set, refl, sym, ap, subst, ◌∙◌, arith, length-append}
 use Rattle.std.specs.Prelude.{slice_get, IsTrue, Contains, ◌↔◌}
 use Rattle.std.specs.Borrow.{Bor}
@@ -54,7 +54,7 @@ unset-set (false ∷ marks) zero e = omega arith
 unset-set (true ∷ marks) (suc n) e = unset-set marks n e
 unset-set (false ∷ marks) (suc n) e = let h = unset-set marks n e in omega arith
 
--- a mark that is not set is no set one
+-- a new mark that is not set adds no set mark
 pub unmarked_push : (marks : List Bool) (n : ℕ) → slice_get (marks ++ false ∷ []) n ≡ Some true → slice_get marks n ≡ Some true
 unmarked_push marks n h = elim (push_cases marks false n true h) [ inl was ↦ was | inr last ↦ absurd (true≢false (sym last.1)) ]
 
@@ -132,7 +132,7 @@ leads_on old new a state successor w leads o at =
     let same : w.original ≡ o = same_some w.original o (sym (a.originals state.0 w.original w.there) ∙ at) in
     subst (λ n. IsSuccessor new.table.now (index n) successor) same (subst (λ (t : Bor LaneTable). IsSuccessor t.now (index w.original) successor) (sym a.table) (leads w.original w.there))
 
--- a successor is a state of the table, and its own original
+-- a successor is a state of the table, and is its own original
 module _ (merge : Merge) (ready : IsMerging merge) (state successor : StateIndex) (w : IsWalked merge state) (leads : LeadsTo merge state successor) where
   pub successor_row : HasRow merge.table.now successor
   successor_row = ready.closed (index w.original) successor (leads w.original w.there)
@@ -146,7 +146,7 @@ module _ (merge : Merge) (ready : IsMerging merge) (state successor : StateIndex
 pub row_walked : (merge : Merge) → IsMerging merge → (state : StateIndex) → HasRow merge.table.now state → IsWalked merge state
 row_walked merge ready state row = record { original = state.0; there = ready.rows state row; row = row }
 
--- a copy of a state with a row
+-- a copy of a state with a row can be walked from
 pub copy_walked : (merge : Merge) (successor copy : StateIndex) → HasRow merge.table.now successor → slice_get merge.originals.items copy.0 ≡ Some successor.0 → IsWalked merge copy
 copy_walked merge successor copy row at = record { original = successor.0; there = at; row = row }
 
@@ -165,7 +165,7 @@ walked_context merge ready s w =
 pub contexts_counted : (merge : Merge) → IsMerging merge → (s t : StateIndex) → IsWalked merge s → IsWalked merge t → length (context_of merge.context_sets s) ≡ length (context_of merge.context_sets t)
 contexts_counted merge ready s t w v = (walked_context merge ready s w).counted ∙ sym (walked_context merge ready t v).counted
 
--- what a state was joined to stays
+-- a join that was made stays
 module _ (old new : Merge) (ready : IsMerging old) (a : Advances old new) where
   listed : (n o : ℕ) → slice_get old.originals.items n ≡ Some o → n < length old.states.items
   listed n o at = let l = slice_get_within old.originals.items n o at in let e = ready.copies.counted in omega arith
@@ -173,7 +173,7 @@ module _ (old new : Merge) (ready : IsMerging old) (a : Advances old new) where
   pub copy_on : (n o : ℕ) (right copy : StateIndex) → slice_get old.originals.items n ≡ Some o → IsJoinedCopy (index n) right copy old → IsJoinedCopy (index n) right copy new
   copy_on n o right copy at j = record { original = a.originals copy.0 right.0 j.original; together = a.sets n copy.0 (listed n o at) (listed copy.0 right.0 j.original) j.together }
 
-  -- and no edge comes to lead to the successor
+  -- no edge comes to lead to the successor
   pub led_on : (n o : ℕ) (right copy : StateIndex) → slice_get old.originals.items n ≡ Some o → slice_get old.originals.items right.0 ≡ Some right.0 → IsLedTo old (index n) right copy → IsLedTo new (index n) right copy
   led_on n o right copy at own led other h = led other (a.edges n right.0 (listed n o at) own h)
 
@@ -222,7 +222,7 @@ module _ (old : Merge) (ready : IsMerging old) (sets : ContextSets) where
     union_united true j = j.same
     union_united false j = (j.0, meeting_overlaps old.table.now (context_of old.context_sets source) (context_of old.context_sets target) (walked_context old ready source w) (walked_context old ready target v) j.0, ap (λ (s : ContextSets). record old { context_sets = s }) j.1)
 
--- the states of one set are a state and a copy
+-- if the sets of a state and a copy are one, the state is joined to the copy
 pub united_copy : (b : Bool) (state successor copy : StateIndex) (old new : Merge) → slice_get new.originals.items copy.0 ≡ Some successor.0 → AreUnited b state copy old new → IsTrue b → IsJoinedCopy state successor copy new
 united_copy true state successor copy old new original u h = record { original = original; together = u }
 united_copy false state successor copy old new original u h = absurd (true≢false (sym h))

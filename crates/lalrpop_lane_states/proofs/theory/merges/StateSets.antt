@@ -1,4 +1,4 @@
--- Sets of states, joined and made.
+-- Sets of states that are joined, and sets that are made.
 use Rattle.std.proofs.Common.{◌≡◌, ◌<◌, inl, inr, ◌==◌, Bool, true, false, cond, List, [], ◌∷◌, ◌++◌, length, map, Some, slice_set, refl, sym, ap, subst, ◌∙◌, arith, eq-eqb, length-append}
 use Rattle.std.specs.Prelude.{slice_get, unwrap_or, option_map, Contains}
 use Rattle.std.specs.BTreeMap.{is_at, Updates}
@@ -22,7 +22,7 @@ use Rattle.lalrpop_collections.proofs.theory.lists.Members.{Contains-none}
 use Rattle.lalrpop_states.proofs.theory.collapse.Merging.{set_here, set_elsewhere, set_length}
 use Rattle.lalrpop_collections.proofs.theory.lists.Places.{same_some, slice_get-push_at}
 
--- a set whose number was read gives its columns
+-- if the columns of a state's set are read, these are the columns of the state
 pub columns_at : (sets : ContextSets) (state : StateIndex) (set : StateSet) (columns : List Bits) → set_of sets state ≡ Some set → slice_get sets.contexts.items set.index ≡ Some columns → context_of sets state ≡ columns
 columns_at sets state set columns is at = ap (columns_of sets.contexts.items) is ∙ ap (λ o. unwrap_or o []) at
 

@@ -88,8 +88,8 @@ fn add_reductions<'grammar>(
     Ok(())
 }
 
-/// The actions of the state's conflicts, and all its reductions. No conflict is listed: besides
-/// reductions these have the shifts of terminals that some reduction holds.
+/// The actions of a state that are traced: its reductions, and the shifts of terminals that some
+/// reduction holds. So these are the actions of the state's conflicts, and all its reductions.
 pub(super) fn actions_of<'grammar>(
     alloc: Global,
     state: &Lr1State<'grammar>,

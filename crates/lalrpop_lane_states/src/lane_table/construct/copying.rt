@@ -1,4 +1,4 @@
-//! States that are resolved with copies of some of them.
+//! The loop that resolves states, and copies some of them.
 ghost use Rattle.std.specs.Prelude.{◌≡◌, ◌<◌, ◌+◌, ℕ, false, length, IfOk};
 ghost use Rattle.lalrpop_base.specs.Words.{rules_of};
 ghost use Rattle.lalrpop_lane_states.specs.lane_states.LaneStates.{AreLaneStates, IsReadyToConstruct};
@@ -14,7 +14,7 @@ use lalrpop_base::memory::OutOfMemory;
 use lalrpop_state_graph::state_graph::StateGraph;
 use std::alloc::Global;
 
-/// States while they are resolved, their graph, and how often one may still be copied.
+/// States while they are resolved, their graph, and the number of copies that may still be made.
 #[derive(Drop)]
 pub(super) struct Copying<'grammar> {
     pub(super) states: Vec<Lr1State<'grammar>>,
@@ -23,8 +23,8 @@ pub(super) struct Copying<'grammar> {
 }
 
 impl<'grammar> LaneTableConstruct<'grammar> {
-    /// Resolves the states by rising index from a place on, copies too, up to the first that cannot
-    /// be resolved.
+    /// Resolves the states from the index `first` on, by rising index, copies too. Ends at the
+    /// first state that cannot be resolved.
     pub(super) fn resolve_copied(
         &self,
         alloc: Global,
@@ -57,8 +57,8 @@ impl<'grammar> LaneTableConstruct<'grammar> {
         Ok(copying.states)
     }
 
-    // Resolves one state, with copies where two of its actions share a token, and tells whether it
-    // could be.
+    // Resolves one state, with copies if two of its actions share a token. Returns whether the
+    // state was resolved.
     fn resolve_one(
         &self,
         alloc: Global,

@@ -1,4 +1,4 @@
-//! Reductions that take the lookahead sets found for them.
+//! Reductions that take the lookahead sets that a pass found for them.
 ghost use Rattle.std.specs.Prelude.{◌≡◌, ◌<◌, length, IfOk, MatchBool};
 ghost use Rattle.lalrpop_base.specs.Words.{contents, productions, rules_of};
 ghost use Rattle.lalrpop_lane_states.specs.lane_states.FoundLookaheads.{IsFoundAt, with_sets};
@@ -32,8 +32,8 @@ fn put_sets<'grammar>(
 }
 
 impl<'grammar> LaneTableConstruct<'grammar> {
-    /// Gives the reductions of a state the lookahead sets found, and tells whether no two of its
-    /// actions share a token; else the state stays.
+    /// Gives the reductions of a state their lookahead sets, if no two of its actions share a
+    /// token, and returns whether this is so. Else the state stays as it is.
     pub(super) fn resolve_state(
         &self,
         alloc: Global,

@@ -1,5 +1,5 @@
-//! The merging of states: those of a lane table are joined along its successors where their tokens
-//! agree, and copied where they do not.
+//! The merging of states along the successors of a lane table. States are joined if their tokens
+//! agree, and else copied.
 mod context_sets;
 mod copies;
 mod walk;
@@ -47,8 +47,8 @@ impl From<OutOfMemory> for MergeError {
     }
 }
 
-/// The states of a table while those of a lane table are merged. The number of a copy stands behind
-/// those of all states before it.
+/// The states of a table while those of a lane table are merged. A copy gets the next number after
+/// all states before it.
 #[derive(Drop)]
 pub struct Merge<'table, 'grammar> {
     table: &'table LaneTable<'grammar>,
@@ -62,7 +62,9 @@ pub struct Merge<'table, 'grammar> {
 }
 
 impl<'table, 'grammar> Merge<'table, 'grammar> {
-    /// Nothing is merged yet: each state with a row has a set of its own.
+    /// The beginning of a merge: nothing is joined, and each state with a row has a set of its own.
+    /// `copies_left` is the number of copies that may be made. `OutOfMemory` if an allocation
+    /// fails.
     pub fn new(
         alloc: Global,
         table: &'table LaneTable<'grammar>,
@@ -109,8 +111,8 @@ impl<'table, 'grammar> Merge<'table, 'grammar> {
         self.table.has_row(state)
     }
 
-    /// Whether there is an action for each column, and each reduction of the inconsistent state is
-    /// among them.
+    /// Whether there is one action for each column, and the actions include each reduction of the
+    /// inconsistent state.
     pub fn is_patchable(&self, actions: &Set<Action<'grammar>>) -> bool
         requires { IsMerging self.now }
         ensures { IsTrue result ↔ IsPatchable actions.now.keys self.now }
@@ -121,8 +123,8 @@ impl<'table, 'grammar> Merge<'table, 'grammar> {
         are_among(actions, &self.states[self.inconsistent_state.0].reductions)
     }
 
-    /// Walks from a state with a row, which was not joined to others yet. After an error the copies
-    /// that were made stay, as do changed edges.
+    /// Walks from a state with a row, unless it was visited before. After an error the copies made
+    /// so far stay, and so do changed edges.
     pub fn start(&mut self, alloc: Global, beachhead_state: StateIndex) -> Result<(), MergeError>
         requires ready { IsMerging self.old }
         requires row { HasRow self.old.table.now beachhead_state }
@@ -135,7 +137,7 @@ impl<'table, 'grammar> Merge<'table, 'grammar> {
     }
 
     /// Gives each reduction of the inconsistent state, and of its copies, the tokens of its action
-    /// in the set of its state. After want of memory some of these states are patched.
+    /// in the set of its state. After an allocation failure some of these states are patched.
     pub fn patch_target_starts(
         &mut self,
         alloc: Global,
@@ -164,14 +166,15 @@ impl<'table, 'grammar> Merge<'table, 'grammar> {
         Ok(())
     }
 
-    /// How often a state may still be copied.
+    /// The number of copies that may still be made.
     pub fn copies_left(&self) -> usize
         ensures { result ≡ self.now.copies_left }
     {
         self.copies_left
     }
 
-    /// Makes the graph of so many states that were handed in that of the states as they stand.
+    /// Updates the graph of the first `count` states, which were handed in, to the graph of all
+    /// states as they are now.
     pub(super) fn update_graph(
         &self,
         alloc: Global,
@@ -186,7 +189,7 @@ impl<'table, 'grammar> Merge<'table, 'grammar> {
         Ok(())
     }
 
-    /// The states, copies behind all others.
+    /// The states. Copies come after all others.
     pub fn into_states(self) -> Vec<Lr1State<'grammar>>
         ensures states { result ≡ self.entry.states }
         ensures copying { (exact : Bool) (handed : List (State Bits)) (terminals : List Terminal) →

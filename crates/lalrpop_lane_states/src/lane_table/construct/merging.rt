@@ -1,4 +1,4 @@
-//! States that are merged along the lanes of one state, and copied where their tokens overlap.
+//! States that are merged along the lanes of one state, and copied if their tokens overlap.
 ghost use Rattle.std.specs.Prelude.{◌≡◌, ◌↔◌, ◌+◌, true, false, List, length, slice_get, Some, Contains, IfOk, IsTrue, OnOk};
 ghost use Rattle.std.specs.Map.{keys_of};
 ghost use Rattle.lalrpop_base.specs.Words.{AreCoherent, Bits};
@@ -21,8 +21,8 @@ use lalrpop_lanes::lane_table::table::LaneTable;
 use lalrpop_lanes::lane_table::table::rows::RowsError;
 use std::alloc::Global;
 
-/// Merges states along the lanes of a state, with copies where their tokens overlap, and tells
-/// whether no two actions of the state, and of its copies, share a token then.
+/// Merges states along the lanes of a state, with copies if their tokens overlap. Returns whether
+/// no two reductions of the state, or of a copy of it, share a token now.
 #[tactic(auto, using(crate::proofs::theory::lane_states::Resolving::copied_none, crate::proofs::theory::lane_states::ResolvedCopies::tried_same))]
 pub(super) fn merge_along<'grammar>(
     alloc: Global,
@@ -49,7 +49,7 @@ pub(super) fn merge_along<'grammar>(
     }
 }
 
-// Merges states whose rows are given.
+// Merges states, by the rows of the lane table.
 fn merge_states<'grammar>(
     alloc: Global,
     table: &LaneTable<'grammar>,
@@ -91,8 +91,8 @@ fn merge_states<'grammar>(
     Ok((copying, resolved))
 }
 
-// Walks from the beachheads and, where no tokens overlap, gives the reductions theirs; tells
-// whether none does.
+// Walks from the beachheads. If no walk fails, the reductions of the inconsistent state and of its
+// copies get their tokens. Returns whether no walk failed.
 fn walk_and_patch<'grammar>(
     alloc: Global,
     merge: &mut Merge<'_, 'grammar>,

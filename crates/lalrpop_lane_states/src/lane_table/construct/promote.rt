@@ -12,7 +12,7 @@ use lalrpop_base::memory::OutOfMemory;
 use lalrpop_base::repr::Production;
 use std::alloc::Global;
 
-// The items with the tokens.
+// The items, each with the tokens `all`.
 fn promote_items<'grammar>(
     alloc: Global,
     items: &[Lr0Item<'grammar>],
@@ -27,7 +27,7 @@ fn promote_items<'grammar>(
     Ok(list)
 }
 
-// The reductions with the tokens.
+// The reductions, each with the tokens `all`.
 fn promote_reductions<'grammar>(
     alloc: Global,
     reductions: &[(Nil, &'grammar Production)],
@@ -42,7 +42,7 @@ fn promote_reductions<'grammar>(
     Ok(list)
 }
 
-// A state with the tokens.
+// A state whose items and reductions have the tokens `all`.
 fn promote_state<'grammar>(
     alloc: Global,
     state: Lr0State<'grammar>,
@@ -68,7 +68,7 @@ fn promote_state<'grammar>(
     })
 }
 
-/// The states with the tokens.
+/// The states, whose items and reductions have the tokens `all`.
 pub(super) fn promote_states<'grammar>(
     alloc: Global,
     states: Vec<Lr0State<'grammar>>,

@@ -11,8 +11,8 @@ use lalrpop_lanes::lane_table::context_set::OverlappingLookahead;
 use lalrpop_lanes::lane_table::table::LaneTable;
 use std::alloc::Global;
 
-/// Gives each reduction its column, and tells whether no two columns share a token; else the state
-/// stays.
+/// Gives each reduction its column, if no two columns share a token, and returns whether this is
+/// so. Else the state stays as it is.
 pub(super) fn attempt_lalr<'grammar>(
     alloc: Global,
     state: &mut Lr1State<'grammar>,

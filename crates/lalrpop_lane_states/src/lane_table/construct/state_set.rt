@@ -8,7 +8,7 @@ pub struct StateSet {
 }
 
 impl StateSet {
-    /// The set with a number.
+    /// The set with the number `index`.
     pub fn new(index: usize) -> StateSet
         ensures { result.index ≡ index }
     {

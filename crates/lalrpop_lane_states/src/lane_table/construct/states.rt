@@ -1,4 +1,4 @@
-//! All states of a construction, promoted and then resolved.
+//! All LR(0) states of a construction: they get all tokens, and are then resolved.
 ghost use Rattle.std.specs.Prelude.{IfOk, OnOk, MatchOption};
 ghost use Rattle.lalrpop_base.specs.Words.{rules_of, AreNumbers};
 ghost use Rattle.lalrpop_lane_states.specs.lane_states.LaneStates.{AreLaneStates, AreLaneTables, HaveMeetingLanes, HoldAllFrom, IsReadyToConstruct};
@@ -16,7 +16,7 @@ use lalrpop_follow_sets::follow_sets::Found;
 use std::alloc::Global;
 
 impl<'grammar> LaneTableConstruct<'grammar> {
-    /// The LR(0) states with all tokens, and each by numbers.
+    /// The LR(0) states with all tokens, and the same states by number.
     pub(super) fn promoted_states(
         &self,
         alloc: Global,
@@ -38,9 +38,9 @@ impl<'grammar> LaneTableConstruct<'grammar> {
         Ok((states, list))
     }
 
-    /// Resolves the states by rising index, with the lookahead sets that one pass over them finds,
-    /// up to the first of which two actions share a token: the index of that one, if there is such
-    /// a state.
+    /// Resolves the states by rising index, with the lookahead sets that one pass over them finds.
+    /// Ends at the first state of which two actions share a token, and returns its index. `None` if
+    /// there is no such state.
     pub(super) fn resolve_states(
         &self,
         alloc: Global,

@@ -19,7 +19,7 @@ use lalrpop_state_graph::state_graph::StateGraph;
 use std::alloc::Global;
 
 impl<'grammar> LaneTableConstruct<'grammar> {
-    /// The lane table of the actions of a state, a column for each.
+    /// The lane table of the actions of a state, with a column for each action.
     pub(super) fn build_lane_table(
         &self,
         alloc: Global,

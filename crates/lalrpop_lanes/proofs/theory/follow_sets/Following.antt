@@ -1,4 +1,4 @@
--- What can stand behind the nonterminal in an item, as a set of tokens.
+-- The tokens that can follow the nonterminal in an item, as a set.
 use Rattle.std.proofs.Common.{◌≡◌, ℕ, ◌<◌, ◌≤◌, ◌⊎◌, inl, inr, ◌↔◌, List, length, sym, ◌∙◌, ap, subst, arith, Bool, true, false, not, ◌&&◌, ◌||◌, eq-eqb, eqb-true}
 use Rattle.std.specs.Prelude.{◌==◌}
 use mathlib.Core.Bool.{true≢false}
@@ -14,7 +14,7 @@ use Rattle.lalrpop_lanes.proofs.theory.lanes.Gains.{Gains-none, Gains-tokens, Ga
 use Rattle.lalrpop_collections.proofs.theory.lists.Places.{filled}
 use Rattle.lalrpop_collections.proofs.theory.collections.Walks.{Visits-same, Visits-none}
 
--- ---- the end alone
+-- ---- Eof alone
 pub only_bit : (n bit : ℕ) → has (with_bit no_bits n) bit ≡ true ↔ (bit ≡ n)
 only_bit n bit = (
   λ h. elim (cases_Bool (bit == n)) [
@@ -37,7 +37,7 @@ end_gained g start name state k set old new is only added =
 pub no_end : (g : Rules) (start name : NonterminalString) (state k : ℕ) (table : LaneTable) → (name ≡ start → ⊥) → Gains k (IsEnd start name state) (IsEndBit g start name state) Nothing table table
 no_end g start name state k table other = Gains-none k (IsEnd start name state) (IsEndBit g start name state) Nothing table (λ row h. other h.fact) (λ row bit h. other h.fact.0) (λ l r h. h)
 
--- ---- what follows
+-- ---- tokens that follow
 module _ (g : Rules) {L : Type 0} (name : NonterminalString) (item : Dotted L) where
   pub no_follow : (state k : ℕ) (table : LaneTable) → (IsParent name item → ⊥) → Gains k (IsHere state (IsParent name item)) (λ row bit. IsHere state (IsFollowBit g name item bit) row) Nothing table table
   no_follow state k table other = Gains-none k (IsHere state (IsParent name item)) (λ row bit. IsHere state (IsFollowBit g name item bit) row) Nothing table (λ row h. other h.fact) (λ row bit h. other h.fact.parent) (λ l r h. h)

@@ -1,4 +1,4 @@
--- Columns that the cells of a lane table are joined to, one by one.
+-- Columns to which the cells of a lane table are joined, one by one.
 use Rattle.std.proofs.Common.{◌≡◌, ◌==◌, eqb-true, eq-eqb, ℕ, ◌<◌, ◌⊎◌, inl, inr, ⊎_elim, true, false, List, [], ◌∷◌, ◌++◌, length, refl, sym, ap, subst, ◌∙◌, append_assoc, append-nil}
 use Rattle.std.specs.Prelude.{Contains, slice_get, Some}
 use Rattle.std.proofs.lemmas.List.Elements.{Contains-append_left, Contains-append_cases, Contains-push}
@@ -30,7 +30,7 @@ gathered_none P columns empty = record {
   disjoint = λ i j bit h. absurd (has_nothing columns empty i bit h);
 }
 
--- a cell more
+-- one cell more
 pub in_more : (P : StateIndex → Type 0) (cells : Cells) (e : Cell × Bits) (k bit : ℕ) → HasIn P cells k bit → HasIn P (cells ++ e ∷ []) k bit
 in_more P cells e k bit h = (h.0, h.1, (h.2.0, Contains-append_left cells (e ∷ []) _ h.2.1, h.2.2))
 
@@ -44,7 +44,7 @@ module _ (P : StateIndex → Type 0) (cells : Cells) (columns : List Bits) (g : 
   abbrev Last : Cell × Bits
   Last = ((row, index), set)
 
-  -- the row is not one of them
+  -- the row is none of those that are gathered
   pub gathered_past : (P row → ⊥) → AreGathered P (cells ++ Last ∷ []) columns
   gathered_past out = record {
     tokens = λ k bit. (

@@ -244,7 +244,7 @@ module _ (table : LaneTable) (rows new : Rows) (are : AreRowsOf table.conflicts 
         h,
   )
 
--- a row that is there
+-- a state that has a row keeps it
 made_at : (count : ℕ) (state : StateIndex) (rows : Rows) (o : Option (List Bits)) → row_at rows state ≡ o → is_some o ≡ true → MakesRow count state rows rows
 made_at count state rows None e h = cc
 made_at count state rows (Some row) e h = record { row = row; there = e; was = subst (λ (o : Option (List Bits)). StandsFor count o row) (sym e) refl; others = λ q apart. refl }

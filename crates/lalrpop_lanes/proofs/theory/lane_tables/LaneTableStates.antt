@@ -1,4 +1,4 @@
--- What a walk over a lane table finds of its states.
+-- The results of loops over a lane table, for its states.
 use Rattle.std.proofs.Common.{◌≡◌, ℕ, ◌<◌, ◌⊎◌, inl, inr, ⊎_elim, Bool, true, false, not, length, arith, List, [], ◌∷◌, ◌++◌, refl, sym, ap, subst}
 use Rattle.std.specs.Prelude.{Contains, ◌↔◌}
 use Rattle.std.specs.BTreeSet.{BTreeSet as SortedSet, insert_key}
@@ -86,7 +86,7 @@ EachSoFar {X} Good done = (x : X) → Contains done x → Good x
 pub each_more : {X : Type 0} (Good : X → Type 0) (e : X) → Good e → (done : List X) → EachSoFar Good done → EachSoFar Good (done ++ e ∷ [])
 each_more Good e good done each x c = ⊎_elim (λ was. each x was) (λ same. subst Good same good) (either done e x c)
 
--- ---- what walks over a table find
+-- ---- conditions on the entries of a table
 -- the cell's state has a number below the count
 abbrev pub IsBelow : ℕ → Cell × Bits → Type 0
 IsBelow count e = e.0.0.0 < count

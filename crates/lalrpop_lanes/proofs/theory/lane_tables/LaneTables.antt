@@ -1,4 +1,4 @@
--- A cell or a successor more in a lane table.
+-- One cell or one successor more in a lane table.
 use Rattle.std.proofs.Common.{◌≡◌, ℕ, ◌<◌, ◌⊎◌, inl, inr, ⊎_elim, Bool, true, false, List, [], ◌∷◌, ◌++◌, refl, sym, ap, subst, ◌∙◌, arith}
 use Rattle.std.specs.Prelude.{◌≢◌, MatchBool, IfOk, OnErr, Result, Ok, Err, IfSome, IsSome, IsNone, option_copied, Contains, Option, Some, None, ◌↔◌}
 use Rattle.std.specs.declared.cmp.Ordering.{Ordering}
@@ -150,11 +150,11 @@ same_tables old new c l s = record {
   );
 }
 
--- no cell of a table stands past its columns
+-- no cell of a table is past its columns
 pub in_range_of : (table : LaneTable) → AreInRange table
 in_range_of table row k h = table.in_range row (column k) h.0 h.1
 
--- tokens that go to a cell below the count, or nowhere, leave each cell below it
+-- if tokens go to a cell below the count, or nowhere, all cells stay below it
 pub still_below : (count : ℕ) (cell : Cell) (tokens : Bits) (old new : List (Cell × Bits)) (result : Result Bool OutOfMemory) → IfOk result (λ told. IsJoinedAt cell tokens told old new) → OnErr result (new ≡ old) → cell.1.index < count → AreBelow count old → AreBelow count new
 still_below count cell tokens old new (Ok told) joined err within below row col set h = ⊎_elim
     (λ was. below row col was.0 was.1)

@@ -1,4 +1,5 @@
--- Columns of tokens: what joining to one changes, unions, and what reductions take.
+-- Columns of tokens: tokens that are joined to one of them, unions, and the columns that reductions
+-- take.
 use Rattle.std.proofs.Common.{◌≡◌, ◌==◌, ℕ, ◌+◌, ◌<◌, ◌≤◌, ◌⊎◌, inl, inr, ⊎_elim, true, cond, List, [], ◌∷◌, ◌++◌, length, Option, None, Some, refl, sym, ap, subst, ◌∙◌, arith, eq-eqb, eqb-true, drop, zero, suc, length-append}
 use Rattle.std.specs.Prelude.{slice_get, option_map, Contains}
 use Rattle.std.specs.Borrow.{Bor}
@@ -11,7 +12,7 @@ use Rattle.lalrpop_states.specs.declared.lr1_core.state.Action.TheVariants.{Redu
 use Rattle.lalrpop_collections.proofs.theory.lists.Members.{place}
 use Rattle.lalrpop_collections.proofs.theory.lists.Places.{same_some, contains_at, filled, places_apart, push_cases}
 
--- no column below n but the one shares a token with the set
+-- no column below n, other than the one with the index, shares a token with the set
 abbrev pub AreApartUntil : List Bits → ℕ → Bits → ℕ → Type 0
 AreApartUntil columns index tokens n = (k bit : ℕ) → k < n → (k ≡ index → ⊥) → HasAt columns k bit → has tokens bit ≡ true → ⊥
 
@@ -79,7 +80,7 @@ module _ (index : ℕ) (tokens : Bits) (old new : List Bits) (j : IsJoinedIn ind
       (had_or_joined k bit there))
       (had_or_joined i bit here)
 
--- ---- the columns of two, joined as far as n
+-- ---- the columns of two context sets, joined as far as n
 pub record IsUnionUntil (a b union : List Bits) (n : ℕ) : Type 0 where
   pub counted : length union ≡ length a
   pub joined : (k : ℕ) (s t : Bits) → k < n → slice_get a k ≡ Some s → slice_get b k ≡ Some t → slice_get union k ≡ Some (join s t)
@@ -171,7 +172,8 @@ pub record TookUntil (actions : List Action) (columns : List Bits) (old new : Li
   pub counted : length new ≡ n
   pub each : (k : ℕ) (r q : Bits × Bor Production) → slice_get old k ≡ Some r → slice_get new k ≡ Some q → TookColumn actions columns r q
 
--- the actions before the place do not reduce by the production, and the rest is that from there on
+-- the actions before the place n do not reduce by the production, and the rest is the list from
+-- this place on
 pub record IsNotBefore (actions rest : List Action) (n : ℕ) (p : Production) : Type 0 where
   pub is : rest ≡ drop n actions
   pub before : (k : ℕ) → k < n → IsReductionAt actions k p → ⊥

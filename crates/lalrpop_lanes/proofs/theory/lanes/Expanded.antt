@@ -1,4 +1,5 @@
--- From the starts of the productions of one nonterminal in a state a trace steps back alike: what it did once adds nothing more.
+-- A trace steps back alike from the starts of the productions of one nonterminal in a state. So a
+-- second such step adds nothing more.
 use Rattle.std.proofs.Common.{◌≡◌, ℕ, inl, inr, List, [], ◌∷◌, drop, sym, ◌∙◌, ap, subst, arith}
 use Rattle.std.specs.Prelude.{Contains}
 use Rattle.lalrpop_base.specs.Words.{LeadsBack, to_parent, behind_parent, of_start, Contents, IsBehindDot, Rules, rules_of}
@@ -19,7 +20,7 @@ use Rattle.lalrpop_collections.proofs.theory.lists.Members.{Contains-none}
 use Rattle.lalrpop_lanes.proofs.theory.lanes.Unshifting.{back_cases}
 use Rattle.lalrpop_collections.proofs.theory.collections.Walks.{Visits-again, Visits-same}
 
--- both places stand at the start of a production, in one state and of one nonterminal
+-- the two places are at the start of productions of one nonterminal, in one state
 pub record AreAlike (p q : Place) : Type 0 where
   pub state : p.state ≡ q.state
   pub name : p.item.production.nonterminal ≡ q.item.production.nonterminal
@@ -93,7 +94,7 @@ module _ {L : Type 0} (ground : Ground L) where
         visits = Visits-same (Led p) (Led q) (led_alike p q a) (led_alike q p b) walk walk h.visits;
       }
 
-  -- ---- tables and walks that keep what they have
+  -- ---- tables and walks that keep their contents
   module _ (k : ℕ) (a b : LaneTable) (t u : Walk Place) (tables : KeepsAll a b) (walks : (q : Place) → Contains t.visited.keys q → Contains u.visited.keys q) where
     pub Expanded-kept : (keys : List (ℕ × NonterminalString)) → AreExpanded ground k a t keys → AreExpanded ground k b u keys
     Expanded-kept keys h = λ p begun c. let x = h p begun c in record { gains = Gains-again k (Cell p) (Bit p) (Successor p) a a b x.gains tables; visits = Visits-again (Led p) t t u x.visits walks }
@@ -106,14 +107,14 @@ module _ {L : Type 0} (ground : Ground L) where
     abbrev key : ℕ × NonterminalString
     key = (place.state, place.item.production.nonterminal)
 
-    -- it was among them
+    -- the nonterminal was in the list already
     pub Expanded-known : Contains old key → (table : LaneTable) (walk : Walk Place) → AreExpanded ground k table walk old → AreExpanded ground k table walk new
     Expanded-known before table walk h = λ p at c. elim (added.from (p.state, p.item.production.nonterminal) c) [
       | inl o ↦ h p at o
       | inr e ↦ h p at (subst (Contains old) e before)
     ]
 
-    -- the place was stepped back from
+    -- the trace stepped back from the place
     pub Expanded-new : (a b : LaneTable) (t u : Walk Place) → GainsOf ground place k a b → VisitsOf ground place t u → AreExpanded ground k a t old → AreExpanded ground k b u new
     Expanded-new a b t u gains visits h = λ p at c. elim (added.from (p.state, p.item.production.nonterminal) c) [
       | inl o ↦ Expanded-kept k a b t u (GainsSome-all k (Cell place) (Bit place) (Successor place) a b gains).kept visits.kept old h p at o

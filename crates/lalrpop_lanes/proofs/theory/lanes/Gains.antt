@@ -1,4 +1,4 @@
--- A table gains what several steps add.
+-- A table gains the additions of several steps.
 use Rattle.std.proofs.Common.{◌≡◌, ℕ, ◌⊎◌, inl, inr, sym, ◌∙◌, ap, refl, true}
 use Rattle.std.specs.Prelude.{◌↔◌}
 use Rattle.lalrpop_base.specs.Words.{Bits, has}
@@ -9,7 +9,7 @@ use Rattle.lalrpop_lanes.specs.declared.lane_table.table.LaneTable.{LaneTable}
 pub same_index : (a b : StateIndex) → a.0 ≡ b.0 → a ≡ b
 same_index a b e = let make : ℕ → StateIndex = λ n. record { 0 = n } in ap make e
 
--- nothing more, or more of the same
+-- if there is no more, or more of the same, two conditions stay equivalent
 no_more : {A B : Type 0} → (B → ⊥) → A ↔ (A ⊎ B)
 no_more none = (λ a. inl a, λ h. elim h [ inl a ↦ a | inr b ↦ absurd (none b) ])
 
@@ -33,7 +33,7 @@ Gains-none k Cell Bit Successor table no_cell no_bit no_successor = record {
   successors = λ left right. no_more (λ h. no_successor left.0 right.0 h);
 }
 
--- a successor
+-- an added successor is gained
 pub Gains-successor : (left right : StateIndex) (old new : LaneTable) → AddsSuccessor left right old new → (k : ℕ) → Gains k Nowhere Nothing (IsPair left.0 right.0) old new
 Gains-successor left right old new added k = record {
   columns = added.columns;
@@ -42,7 +42,7 @@ Gains-successor left right old new added k = record {
   successors = λ l r. as_well (added.successors l r) (λ h. record { left = ap (λ (n : StateIndex). n.0) (sym h.0); right = ap (λ (n : StateIndex). n.0) (sym h.1) }) (λ h. (same_index l left (sym h.left), same_index r right (sym h.right)));
 }
 
--- tokens
+-- added tokens are gained
 pub Gains-tokens : (state : StateIndex) (k : ℕ) (set : Bits) (old new : LaneTable) → AddsTokens state k set old new → Gains k (λ row. state.0 ≡ row) (λ row bit. (state.0 ≡ row) × (has set bit ≡ true)) Nothing old new
 Gains-tokens state k set old new added = record {
   columns = added.columns;
@@ -51,7 +51,7 @@ Gains-tokens state k set old new added = record {
   successors = λ l r. with_none (added.successors l r) (λ h. h);
 }
 
--- one after the other
+-- two gains, one after the other
 module _ (k : ℕ) (A B C : ℕ → Type 0) (D E F G H I : ℕ → ℕ → Type 0) where
   pub Gains-then : ((row : ℕ) → A row → C row) → ((row : ℕ) → B row → C row) → ((row : ℕ) → C row → A row ⊎ B row) → ((row bit : ℕ) → D row bit → F row bit) → ((row bit : ℕ) → E row bit → F row bit) → ((row bit : ℕ) → F row bit → D row bit ⊎ E row bit) →
       ((l r : ℕ) → G l r → I l r) → ((l r : ℕ) → H l r → I l r) → ((l r : ℕ) → I l r → G l r ⊎ H l r) → (a b c : LaneTable) → Gains k A D G a b → Gains k B E H b c → Gains k C F I a c
@@ -62,7 +62,7 @@ module _ (k : ℕ) (A B C : ℕ → Type 0) (D E F G H I : ℕ → ℕ → Type 
     successors = λ l r. in_turn (x.successors l r) (y.successors l r) (sl l.0 r.0) (sr l.0 r.0) (sc l.0 r.0);
   }
 
--- the same in other words
+-- a gain under equivalent conditions
 module _ (k : ℕ) (A C : ℕ → Type 0) (D F G I : ℕ → ℕ → Type 0) where
   pub Gains-same : ((row : ℕ) → A row ↔ C row) → ((row bit : ℕ) → D row bit ↔ F row bit) → ((l r : ℕ) → G l r ↔ I l r) → (a b : LaneTable) → Gains k A D G a b → Gains k C F I a b
   Gains-same cell bit successor a b x = record {

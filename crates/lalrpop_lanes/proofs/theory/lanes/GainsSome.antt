@@ -1,16 +1,16 @@
--- A table that keeps what it had gains some of what steps add.
+-- A table keeps its old contents, and gains some of the additions of steps.
 use Rattle.std.proofs.Common.{ℕ, inl, inr, ◌∙◌, refl, Result, Ok, Err, OnErr}
 use Rattle.lalrpop_lanes.proofs.Types.{StateIndex}
 use Rattle.lalrpop_lanes.specs.Words.{AddsSuccessor, AreSameTables, Gains, GainsSome, IsPair, KeepsAll, Nothing, Nowhere}
 use Rattle.lalrpop_lanes.specs.declared.lane_table.table.LaneTable.{LaneTable}
 use Rattle.lalrpop_lanes.proofs.theory.lanes.Gains.{Gains-successor}
 
--- what holds anyway holds after an error
+-- a fact that holds anyway holds after an error
 pub on_err : {T E P : Type 0} (r : Result T E) → P → OnErr r P
 on_err (Ok x) p = tt
 on_err (Err e) p = p
 
--- ---- what is kept
+-- ---- kept contents
 pub same_kept : (old new : LaneTable) → AreSameTables old new → KeepsAll old new
 same_kept old new same = record {
   columns = same.columns;
@@ -30,9 +30,9 @@ kept_on a b c x y = record {
   successors = λ left right h. y.successors left right (x.successors left right h);
 }
 
--- ---- what is gained
+-- ---- gained contents
 module _ (k : ℕ) (Cell : ℕ → Type 0) (Bit Successor : ℕ → ℕ → Type 0) where
-  -- nothing
+  -- a table that stays the same gains a part
   pub GainsSome-same : (old new : LaneTable) → AreSameTables old new → GainsSome k Cell Bit Successor old new
   GainsSome-same old new same = record {
     kept = same_kept old new same;
@@ -49,7 +49,7 @@ module _ (k : ℕ) (Cell : ℕ → Type 0) (Bit Successor : ℕ → ℕ → Type
     successors = λ left right n. inl n;
   }
 
-  -- all
+  -- a whole gain is a part
   pub GainsSome-all : (old new : LaneTable) → Gains k Cell Bit Successor old new → GainsSome k Cell Bit Successor old new
   GainsSome-all old new g = record {
     kept = record {
@@ -63,7 +63,7 @@ module _ (k : ℕ) (Cell : ℕ → Type 0) (Bit Successor : ℕ → ℕ → Type
     successors = λ left right n. (g.successors left right).0 n;
   }
 
-  -- one after the other
+  -- two parts, one after the other
   pub GainsSome-then : (a b c : LaneTable) → GainsSome k Cell Bit Successor a b → GainsSome k Cell Bit Successor b c → GainsSome k Cell Bit Successor a c
   GainsSome-then a b c x y = record {
     kept = kept_on a b c x.kept y.kept;
@@ -72,7 +72,7 @@ module _ (k : ℕ) (Cell : ℕ → Type 0) (Bit Successor : ℕ → ℕ → Type
     successors = λ left right h. elim (y.successors left right h) [ inl o ↦ x.successors left right o | inr n ↦ inr n ];
   }
 
-  -- the same once more, where it is there
+  -- once a table has a gain, the same gain adds nothing
   pub Gains-again : (a b c : LaneTable) → Gains k Cell Bit Successor a b → KeepsAll b c → Gains k Cell Bit Successor c c
   Gains-again a b c x kept = record {
     columns = refl;
@@ -88,7 +88,7 @@ GainsSome-refused left right old new same k = GainsSome-same k Nowhere Nothing (
 pub GainsSome-successor : (left right : StateIndex) (old new : LaneTable) → AddsSuccessor left right old new → (k : ℕ) → GainsSome k Nowhere Nothing (IsPair left.0 right.0) old new
 GainsSome-successor left right old new added k = GainsSome-all k Nowhere Nothing (IsPair left.0 right.0) old new (Gains-successor left right old new added k)
 
--- of what is more
+-- a part of some additions is a part of more additions
 module _ (k : ℕ) (A C : ℕ → Type 0) (D F G I : ℕ → ℕ → Type 0) where
   pub GainsSome-wider : ((row : ℕ) → A row → C row) → ((row bit : ℕ) → D row bit → F row bit) → ((l r : ℕ) → G l r → I l r) → (old new : LaneTable) → GainsSome k A D G old new → GainsSome k C F I old new
   GainsSome-wider cell bit successor old new x = record {
@@ -98,7 +98,7 @@ module _ (k : ℕ) (A C : ℕ → Type 0) (D F G I : ℕ → ℕ → Type 0) whe
     successors = λ left right h. elim (x.successors left right h) [ inl o ↦ inl o | inr n ↦ inr (successor left.0 right.0 n) ];
   }
 
--- a step that was made whole, and a part of the next one
+-- a whole step, and then a part of the next one
 module _ (k : ℕ) (A B C : ℕ → Type 0) (D E F G H I : ℕ → ℕ → Type 0) where
   pub GainsSome-last : ((row : ℕ) → A row → C row) → ((row : ℕ) → B row → C row) → ((row bit : ℕ) → D row bit → F row bit) → ((row bit : ℕ) → E row bit → F row bit) → ((l r : ℕ) → G l r → I l r) → ((l r : ℕ) → H l r → I l r) →
       (a b c : LaneTable) → Gains k A D G a b → GainsSome k B E H b c → GainsSome k C F I a c

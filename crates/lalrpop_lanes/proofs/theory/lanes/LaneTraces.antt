@@ -1,4 +1,5 @@
--- The loop that traces a place back: each place to which it leads is visited once, and gives what it gives.
+-- The loop that traces a place back: it visits each place to which the lane leads once, and adds
+-- the contribution of this place.
 use Rattle.std.proofs.Common.{◌≡◌, ℕ, ◌+◌, ◌-◌, ◌<◌, ◌≤◌, inl, inr, ◌↔◌, List, [], ◌∷◌, ◌++◌, length, map, refl, sym, ◌∙◌, subst, arith}
 use Rattle.std.specs.Prelude.{Contains}
 use Rattle.std.specs.List.{flat_map, range_with_len}
@@ -27,7 +28,7 @@ use Rattle.lalrpop_collections.proofs.theory.collections.Walks.{All-wait, IsTrav
 use Rattle.lalrpop_lanes.proofs.theory.lanes.Unepsilon.{parent_item}
 use Rattle.lalrpop_lanes.proofs.theory.lanes.Unshifting.{back_cases}
 
--- a step more at the end of a trace
+-- one step more at the end of a trace
 pub traced_on : {g : List Production} {states : ℕ → Contents} {s r n : ℕ} {p q k : Production} {dot e d : ℕ} → IsTracedTo g states s p dot r q e → LeadsBack g states r q e n k d → IsTracedTo g states s p dot n k d
 traced_on itself b = back b itself
 traced_on (back a t) b = back a (traced_on t b)
@@ -39,7 +40,7 @@ module _ {L : Type 0} (ground : Ground L) (first : Place) where
   abbrev pub S : ℕ → Contents
   S = places_in ground.states.now
 
-  -- a dotted production of the grammar and a state of the list
+  -- the place is a dotted production of the grammar in a state of the list
   pub record IsKnownPlace (n : ℕ) (p : Production) (dot : ℕ) : Type 0 where
     pub listed : n < length ground.states.now
     pub own : Contains (productions ground.grammar.now) p
@@ -65,7 +66,7 @@ module _ {L : Type 0} (ground : Ground L) (first : Place) where
   abbrev Step : ℕ → ℕ → Place → Type 0
   Step l r p = GivesSuccessor R ground.start.now S p l r
 
-  -- of the places that were visited those that are done gave what they give
+  -- of the visited places, those that are done added their contributions
   abbrev pub IsAt : List Place → Walk Place → Type 0
   IsAt = IsTraversing (λ p. first ≡ p) (LeadsTo R ground.start.now S) (IsReached ground first)
 
@@ -140,7 +141,7 @@ module _ {L : Type 0} (ground : Ground L) (first : Place) (on : IsGround ground)
     pub place_listed : place.state < length ground.states.now
     place_listed = (reached_known place (h.walking.reached place there)).listed
 
-    -- what the places so far gave, and a part of what the next one gives, where its step is refused
+    -- the places so far were gained; if the step of the next one fails, a part of it was gained
     pub Tracing-part : GainsSomeOf ground place k now next → GainsSomeOfAll ground first k old next
     Tracing-part part = GainsSome-last k (λ row. Some_of (Cell ground first row) h.done) (λ row. Cell ground first row place) (λ row. Reaches ground first (Cell ground first row)) (λ row bit. Some_of (Bit ground first row bit) h.done) (λ row bit. Bit ground first row bit place) (λ row bit. Reaches ground first (Bit ground first row bit)) (λ l r. Some_of (Step ground first l r) h.done) (λ l r. Step ground first l r place) (λ l r. Reaches ground first (Step ground first l r))
         (λ row. all_reached (Cell ground first row)) (λ row c. (place, h.walking.reached place there, c)) (λ row bit. all_reached (Bit ground first row bit)) (λ row bit b. (place, h.walking.reached place there, b)) (λ l r. all_reached (Step ground first l r)) (λ l r s. (place, h.walking.reached place there, s)) old now next h.gains part
@@ -166,7 +167,7 @@ module _ {L : Type 0} (ground : Ground L) (first : Place) (on : IsGround ground)
       length (all_places ground first) + length after.waiting.items - length after.visited.keys < length (all_places ground first) + length before.waiting.items - length before.visited.keys
   Tracing-smaller k place old now next before popped after same taken h v g = Traversing-smaller (λ p. first ≡ p) Leads (IsReached ground first) (all_places ground first) (λ p t. in_all p (reached_known p t)) h.done g.done place before popped after same taken h.walking v g.walking
 
-  -- ---- when none waits
+  -- ---- if no place waits
   module _ (k : ℕ) (old new : LaneTable) (walk : Walk Place) (none : walk.waiting.items ≡ []) (h : IsTracing ground first k old new walk) where
     finished : (p : Place) → Contains walk.visited.keys p → Contains h.done p
     finished = Traversing-end (λ p. first ≡ p) Leads (IsReached ground first) h.done walk none h.walking

@@ -1,4 +1,5 @@
--- The lane of a reduction, or a part of it: the cell where it starts, and what the places give to which it leads back.
+-- The lane of a reduction, or a part of it: the cell where it starts, and the contributions of the
+-- places to which it leads.
 use Rattle.std.proofs.Common.{◌≡◌, ℕ, suc, ◌⊎◌, inl, inr, length, refl, sym, ◌∙◌, ap, subst, true}
 use mathlib.Core.Bool.{true≢false}
 use Rattle.lalrpop_base.specs.Words.{Bits, has, no_bits, has-no_bits, IsTracedTo, IsLaneSuccessor, Contents, Rules, rules_of, at_place}
@@ -71,7 +72,7 @@ module _ {L : Type 0} (ground : Ground L) (s : StateIndex) (p : Production) wher
   step_lane : (l r : ℕ) → IsLaneSuccessor R.productions S s.0 p (length p.symbols) l r → Reaches ground first (Step l r)
   step_lane l r h = (at_place r h.production (suc h.index), h.traced, record { here = refl; index = h.index; moved = refl; symbol = h.symbol; after = h.after; edge = h.edge; behind = h.behind })
 
-  -- nothing of it
+  -- a table that stays the same took a part of the lane
   pub nothing_taken : (k : ℕ) (old new : LaneTable) → AreSameTables old new → TakesPartOfLane R ground.start.now S s p k old new
   nothing_taken k old new same = record {
     kept = same_kept old new same;
@@ -99,7 +100,7 @@ module _ {L : Type 0} (ground : Ground L) (s : StateIndex) (p : Production) wher
           successors = λ left right. as_well (g.successors left right) (lane_step left.0 right.0) (step_lane left.0 right.0);
         }
 
-    -- the first cell, and a part of the rest
+    -- the first cell was added, and a part of the rest
     pub part_taken : (place : Place) → place ≡ first → GainsSomeOfAll ground place k middle new → TakesPartOfLane R ground.start.now S s p k old new
     part_taken place is gained =
         let g = GainsSome-last k (λ row. s.0 ≡ row) (λ row. Reaches ground first (Cell row)) (λ row. (s.0 ≡ row) ⊎ Reaches ground first (Cell row)) (λ row bit. (s.0 ≡ row) × (has set bit ≡ true)) (λ row bit. Reaches ground first (Bit row bit)) (λ row bit. Reaches ground first (Bit row bit)) Nothing (λ l r. Reaches ground first (Step l r)) (λ l r. Reaches ground first (Step l r))

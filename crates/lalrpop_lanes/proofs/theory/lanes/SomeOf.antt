@@ -1,4 +1,4 @@
--- One of a list is of a kind: the list grows by one.
+-- One member of a list is of a kind: the list grows by one.
 use Rattle.std.proofs.Common.{◌≡◌, ◌⊎◌, inl, inr, List, [], ◌∷◌, ◌++◌, subst}
 use Rattle.std.proofs.lemmas.List.Elements.{Contains-append_left, Contains-push_cases, Contains-push}
 use Rattle.lalrpop_lanes.specs.Words.{Some_of}

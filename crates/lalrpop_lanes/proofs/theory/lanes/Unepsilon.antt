@@ -1,4 +1,5 @@
--- Steps back to the items of a state that expand to a nonterminal, and what a place at its production's start gives.
+-- Steps back to the items of a state with a nonterminal after the dot, and the contribution of a
+-- place whose dot is at the start.
 use Rattle.std.proofs.Common.{◌≡◌, ℕ, suc, ◌+◌, ◌⊎◌, inl, inr, List, [], ◌∷◌, ◌++◌, drop, refl, sym, ◌∙◌, ap, subst, arith, true, Some, Option}
 use Rattle.std.specs.Prelude.{Contains, slice_get}
 use Rattle.lalrpop_base.specs.Words.{contents_at, IsFirst, IsNullable, Dotted, LeadsBack, to_parent, behind_parent, of_start, Contents, IsBehindDot, IsBitOf, Rules, rules_of}
@@ -25,9 +26,9 @@ use Rattle.lalrpop_lanes.proofs.theory.lanes.SomeOf.{some_none, some_kept, some_
 use Rattle.lalrpop_lanes.proofs.theory.lanes.Unshifting.{back_cases}
 use Rattle.lalrpop_collections.proofs.theory.collections.Walks.{Visits-none, Visits-then, Visits-same}
 
--- ---- what gives
+-- ---- the ways in which a place gives a token
 module _ (g : List Production) (start : NonterminalString) (states : ℕ → Contents) where
-  -- a terminal behind a parent
+  -- a terminal begins the symbols after the nonterminal in an item
   pub record IsBehindParent (s : ℕ) (p : Production) (t : Token) : Type 0 where
     pub production : Production
     pub dot : ℕ
@@ -53,7 +54,7 @@ module _ (g : Rules) {L : Type 0} (name : NonterminalString) (state k : ℕ) whe
   abbrev Passed : Place → Dotted L → Type 0
   Passed p item = IsPassedOn g name state item p
 
-  -- what the items gave
+  -- the items so far gave their tokens and places
   pub record IsFollowing (items : List (Dotted L)) (old new : LaneTable) (start now : Walk Place) : Type 0 where
     pub gains : Gains k (λ row. Some_of (Cell row) items) (λ row bit. Some_of (Bit row bit) items) Nothing old new
     pub visits : Visits (λ p. Some_of (Passed p) items) start now
@@ -87,7 +88,7 @@ module _ {L : Type 0} (states : List (State L)) (n : ℕ) (s : State L) (there :
   contents_here : places_in states n ≡ Here
   contents_here = ap (λ (o : Option (State L)). contents_at (λ (lookahead : L) (t : Token). true) o) there
 
-  -- an item with the nonterminal behind its dot
+  -- the item has the nonterminal after its dot
   pub record HasParent (a : NonterminalString) (q : Production) (dot : ℕ) (after : List Symbol) : Type 0 where
     pub item : Dotted L
     pub among : Contains s.items.vec.items item
@@ -242,7 +243,8 @@ module _ {L : Type 0} (ground : Ground L) (place : Place) (s : State L) (there :
         let v = subst (λ (x : NonterminalString). Visits (λ p. Some_of (λ (i : Dotted L). IsPassedOn R x place.state i p) items) start now) is h.visits in
         Visits-same (λ p. Some_of (λ (i : Dotted L). IsPassedOn R a place.state i p) items) (LeadsTo R ground.start.now S place) led_parent led_cases start now v
 
-  -- the end was added, and what the items so far gave, and a part of what the next one gives, where it is refused
+  -- Eof was added, and the items so far were gained; if the step of the next one fails, a part of
+  -- it was gained
   module _ (k : ℕ) (name : NonterminalString) (is : name ≡ a) (old middle now new : LaneTable) (start walk : Walk Place) (done : List (Dotted L)) (item : Dotted L) (among : (i : Dotted L) → Contains done i → Contains items i) (this : Contains items item) where
     pub Unepsilon-part : Gains k (IsEnd ground.start.now name place.state) (IsEndBit R ground.start.now name place.state) Nothing old middle → IsFollowing R name place.state k done middle now start walk →
         GainsSome k (IsHere place.state (IsParent name item)) (λ row bit. IsHere place.state (IsFollowBit R name item bit) row) Nothing now new → GainsSomeOf ground place k old new

@@ -1,4 +1,5 @@
--- Steps back over the edges of one symbol, and what a place past its production's start gives.
+-- Steps back over the edges of one symbol, and the contribution of a place whose dot is past the
+-- start.
 use Rattle.std.proofs.Common.{◌≡◌, ℕ, suc, ◌-◌, ◌<◌, ◌⊎◌, inl, inr, ◌↔◌, List, [], ◌∷◌, ◌++◌, reverse, drop, refl, sym, ◌∙◌, ap, subst, arith, Some, append_assoc, append-nil}
 use Rattle.std.specs.Prelude.{Contains, slice_get}
 use Rattle.std.proofs.lemmas.List.Elements.{Contains-append_right, Contains-push_cases}
@@ -26,9 +27,9 @@ use Rattle.lalrpop_lanes.proofs.theory.lanes.SomeOf.{some_none, some_kept, some_
 use Rattle.lalrpop_state_graph.proofs.theory.graphs.Stepping.{source_edge, edge_source}
 use Rattle.lalrpop_collections.proofs.theory.collections.Walks.{Visits-none, Visits-then, Visits-same}
 
--- ---- what leads back, and what gives
+-- ---- the ways in which a place leads back
 module _ (g : List Production) (states : ℕ → Contents) where
-  -- over an edge
+  -- a place leads back over an edge
   pub record IsOverEdge (s : ℕ) (p : Production) (i r : ℕ) (q : Production) (e : ℕ) : Type 0 where
     pub same : q ≡ p
     pub moved : i ≡ suc e
@@ -37,7 +38,7 @@ module _ (g : List Production) (states : ℕ → Contents) where
     pub edge : leads (states r) symbol ≡ Some s
     pub behind : drop e p.symbols ≡ symbol ∷ after
 
-  -- to a parent
+  -- a place leads back to an item with its nonterminal after the dot
   pub record IsToParent (s : ℕ) (p : Production) (i r : ℕ) (q : Production) (e : ℕ) : Type 0 where
     pub begun : i ≡ 0
     pub here : r ≡ s
@@ -65,7 +66,7 @@ module _ {L : Type 0} (ground : Ground L) (place : Place) (x : Symbol) where
   abbrev IsStep : ℕ → ℕ → StateIndex → Type 0
   IsStep l r q = IsPair q.0 place.state l r
 
-  -- what the sources so far gave
+  -- the sources so far gave their successors and places
   pub record IsUnshifting (left all : List StateIndex) (old new : LaneTable) (start now : Walk Place) : Type 0 where
     pub done : List StateIndex
     pub whole : done ++ left ≡ all
@@ -103,7 +104,7 @@ module _ {L : Type 0} (ground : Ground L) (place : Place) (x : Symbol) where
     in_range = λ r. in_range (h.in_range r);
   }
 
-  -- a source that is left
+  -- a source that is left has an edge over the symbol to the place
   pub left_edge : (before left all : List StateIndex) (q : StateIndex) (a b : LaneTable) (t u : Walk Place) → IsGround ground → all ≡ reverse (sources_over ground.state_graph.now x (record { 0 = place.state })) → before ≡ q ∷ left → IsUnshifting before all a b t u → Contains (edges ground.states.now) (edge q x (record { 0 = place.state }))
   left_edge before left all q a b t u on is first h =
       let there : Contains all q = subst (λ (xs : List StateIndex). Contains xs q) h.whole (Contains-append_right h.done before q (subst (λ (xs : List StateIndex). Contains xs q) (sym first) (contains_head q left))) in
@@ -132,13 +133,13 @@ module _ {L : Type 0} (ground : Ground L) (place : Place) (x : Symbol) where
       behind = behind;
     }
 
-    -- the sources so far gave a part, and so does the next one, where its step is refused
+    -- the sources so far were gained; if the step of the next one fails, a part of it was gained
     pub Unshifting-part : (before all : List StateIndex) (q : StateIndex) (a b c : LaneTable) (t u : Walk Place) → leads (S q.0) x ≡ Some place.state → ((k : ℕ) → GainsSome k Nowhere Nothing (IsPair q.0 place.state) b c) → IsUnshifting before all a b t u → (k : ℕ) → GainsSomeOf ground place k a c
     Unshifting-part before all q a b c t u edge part h k = GainsSome-last k Nowhere Nowhere (GivesCell (rules_of ground.grammar.now) ground.start.now S place) Nothing Nothing (GivesBit (rules_of ground.grammar.now) ground.start.now S place) (λ l r. Some_of (IsStep l r) h.done) (IsPair q.0 place.state) (GivesSuccessor (rules_of ground.grammar.now) ground.start.now S place)
         (λ row n. absurd n) (λ row n. absurd n) (λ row bit n. absurd n) (λ row bit n. absurd n) (λ l r m. step_gives m.0 (h.leading m.0 m.1) l r m.2) (step_gives q edge) a b c (h.gains k) (part k)
 
     module _ (left all : List StateIndex) (old new : LaneTable) (start now : Walk Place) (none : left ≡ []) (is : all ≡ reverse (sources_over ground.state_graph.now x (record { 0 = place.state }))) (h : IsUnshifting left all old new start now) where
-      -- each state from which the symbol leads is done
+      -- each state from which the symbol leads to the place is done
       reached : (l : ℕ) (e : ℕ) (y : Symbol) (after : List Symbol) → place.item.index ≡ suc e → leads (S l) y ≡ Some place.state → drop e place.item.production.symbols ≡ y ∷ after → Contains h.done (record { 0 = l })
       reached l e y after i edge b =
           let same : e ≡ dot = omega (arith, i, next) in

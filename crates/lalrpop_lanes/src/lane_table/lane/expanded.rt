@@ -1,5 +1,5 @@
-//! Nonterminals that are expanded in states: from the starts of their productions a trace steps back
-//! alike.
+//! Nonterminals that are expanded in states. A trace steps back alike from the starts of all
+//! productions of one nonterminal in a state.
 ghost use Rattle.std.specs.Prelude.{◌≡◌, ◌==◌, ◌&&◌};
 ghost use Rattle.std.specs.Ordering.{on, then_cmp, nat_cmp, eq_of_both, as_partial_cmp};
 ghost use Rattle.std.specs.Cmp.Rules.{comparing};

@@ -1,4 +1,4 @@
-//! What a trace goes over.
+//! The data that a trace reads.
 
 use lalrpop_base::first::FirstSets;
 use lalrpop_base::lr1_core::state::State;
@@ -6,7 +6,7 @@ use lalrpop_base::repr::NonterminalString;
 use lalrpop_base::repr::grammar::Grammar;
 use lalrpop_state_graph::state_graph::StateGraph;
 
-/// States of a grammar with their graph, and the first sets of the grammar.
+/// States of a grammar with their graph, and the FIRST sets of the grammar.
 #[derive(Drop)]
 pub(crate) struct Ground<'trace, 'grammar, L> {
     pub(crate) grammar: &'grammar Grammar,

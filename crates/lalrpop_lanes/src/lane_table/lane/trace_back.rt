@@ -1,4 +1,4 @@
-//! Traces a place back, over edges and without symbols.
+//! Traces a place back, over edges and to the items that expand to a nonterminal.
 ghost use Rattle.std.specs.Prelude.{◌≡◌, ◌<◌, OnErr, OnOk, Contains, length};
 ghost use Rattle.lalrpop_base.specs.Words.{productions, rules_of};
 ghost use Rattle.lalrpop_lanes.specs.lanes.LaneSteps.{AreExpanded, GainsAll, GainsOf, GainsSomeOf, GainsSomeOfAll, IsEndPlace, IsGround, VisitsOf};
@@ -23,7 +23,8 @@ use lalrpop_base::repr::Production;
 use std::alloc::Global;
 use std::collections::BTreeSet;
 
-// Steps back from a place: from the starts of a nonterminal's productions in a state only once.
+// Steps back from a place. From the starts of the productions of one nonterminal in a state it
+// steps back only once.
 fn step<'grammar, L>(
     alloc: Global,
     ground: &Ground<'_, 'grammar, L>,
@@ -57,7 +58,8 @@ fn step<'grammar, L>(
     Ok(())
 }
 
-// Traces the end of a production back: what the places give to which it leads goes into the table.
+// Traces the end of a production back. The cells and successors of all places to which it leads are
+// added to the table.
 fn trace_back<'grammar, L>(
     alloc: Global,
     ground: &Ground<'_, 'grammar, L>,
@@ -93,7 +95,7 @@ fn trace_back<'grammar, L>(
 }
 
 /// Takes the lane of a reduction from a state into a column. The cell of the state itself is made
-/// first.
+/// first, and may stay empty.
 pub(crate) fn take_lane<'grammar, L>(
     alloc: Global,
     ground: &Ground<'_, 'grammar, L>,

@@ -1,4 +1,5 @@
-//! Steps back without a symbol, from the start of a production.
+//! Steps back without a symbol, from the start of a production to items with its nonterminal after
+//! the dot.
 ghost use Rattle.std.specs.Prelude.{◌≡◌, ◌<◌, OnErr, OnOk, Contains, length};
 ghost use Rattle.lalrpop_base.specs.Words.{productions, rules_of, Visits};
 ghost use Rattle.lalrpop_lanes.specs.lanes.LaneSteps.{Gains, GainsOf, GainsSome, GainsSomeOf, IsEnd, IsEndBit, IsFollowBit, IsGround, IsHere, IsParent, IsPassedOn, IsPlaceIf, Nothing, VisitsOf};
@@ -17,7 +18,7 @@ use lalrpop_base::memory::OutOfMemory;
 use lalrpop_base::repr::NonterminalString;
 use std::alloc::Global;
 
-// The end stands behind the start symbol.
+// Adds `Eof` to the cell of the state, if the nonterminal is the start symbol.
 fn add_end<'grammar, L>(
     alloc: Global,
     ground: &Ground<'_, 'grammar, L>,
@@ -41,7 +42,7 @@ fn add_end<'grammar, L>(
     Ok(())
 }
 
-// Goes to an item of a state, if so.
+// Goes to an item of a state, if the rest of the item is nullable.
 fn pass_on<'grammar, L>(
     nullable: bool,
     state: usize,
@@ -59,7 +60,8 @@ fn pass_on<'grammar, L>(
     Ok(())
 }
 
-// Adds what can stand behind the nonterminal in an item, and goes there if that is nullable.
+// Steps back to an item, if the nonterminal is after its dot. Adds FIRST of the symbols after the
+// nonterminal to the cell of the state. Goes to the item if these symbols are nullable.
 fn follow<'grammar, L>(
     alloc: Global,
     ground: &Ground<'_, 'grammar, L>,
@@ -97,8 +99,9 @@ fn follow<'grammar, L>(
     Ok(())
 }
 
-/// Steps back from a place at the start of its production to the items of its state that expand to
-/// it.
+/// Steps back from a place at the start of its production to the items of its state with the
+/// production's nonterminal after the dot. Adds the tokens that follow the nonterminal in these
+/// items to the table.
 pub(crate) fn unepsilon<'grammar, L>(
     alloc: Global,
     ground: &Ground<'_, 'grammar, L>,

@@ -1,4 +1,4 @@
-//! Steps back over edges, from a dot past the start.
+//! Steps back over edges, from a place with a symbol before the dot.
 ghost use Rattle.std.specs.Prelude.{◌≡◌, ◌<◌, ◌-◌, ℕ, Some, OnErr, OnOk, Contains, length};
 ghost use Rattle.lalrpop_base.specs.Words.{leads, at_place, Visits};
 ghost use Rattle.lalrpop_lanes.specs.lanes.LaneSteps.{Gains, GainsOf, GainsSome, GainsSomeOf, IsGround, IsPair, Nothing, Nowhere, VisitsOf};
@@ -14,7 +14,8 @@ use lalrpop_base::lr1_core::state::{State, StateIndex};
 use lalrpop_base::memory::OutOfMemory;
 use lalrpop_base::repr::Symbol;
 
-// Nothing is done: that a map's keys are in order is known where the map is read.
+// Changes nothing. It reads the maps of the source, since only a read shows that their keys are in
+// order.
 fn read_edge<'grammar, L>(
     states: &[State<'grammar, L>],
     source: StateIndex,
@@ -30,7 +31,8 @@ fn read_edge<'grammar, L>(
     let _gotos = state.gotos.len();
 }
 
-// Steps back from a place over the edge from a source.
+// Steps back from a place over the edge from a source. The state of the place becomes a successor
+// of the source.
 fn step_back<'grammar>(
     place: &Place<'grammar>,
     source: StateIndex,

@@ -1,4 +1,4 @@
-//! The states where lanes begin.
+//! The beachheads of a lane table: the states in which lanes begin.
 ghost use Rattle.std.specs.Prelude.{◌↔◌, Contains, IfOk, OnOk};
 ghost use Rattle.lalrpop_states.specs.declared.lr1_core.state.StateIndex.{StateIndex as State};
 ghost use Rattle.lalrpop_state_graph.specs.graphs.StateGraph.{AddsStates};
@@ -13,7 +13,8 @@ use std::alloc::Global;
 use std::collections::BTreeSet;
 
 impl<'grammar> LaneTable<'grammar> {
-    /// The states with cells that are nobody's successors.
+    /// The states that have a cell and are no state's successor: lanes begin in these.
+    /// `OutOfMemory` if an allocation fails.
     pub fn beachhead_states(&self, alloc: Global) -> Result<Set<StateIndex>, OutOfMemory>
         ensures { IfOk result
             (λ states. (state : State) → Contains states.keys state ↔ IsBeachhead self.now state) }

@@ -10,7 +10,7 @@ use lalrpop_base::collections::Set;
 use lalrpop_base::lr1_core::state::StateIndex;
 
 impl<'grammar> LaneTable<'grammar> {
-    /// Whether each state has a number below the count, and each successor a row.
+    /// Whether all states of the table have numbers below `count`, and each successor has a row.
     pub fn is_closed(&self, count: usize) -> bool
         ensures { IsTrue result ↔ IsClosed count self.now }
     {
@@ -29,7 +29,8 @@ impl<'grammar> LaneTable<'grammar> {
         true
     }
 
-    // Whether all edges are closed.
+    // Whether all edges are closed: both states have numbers below `count`, and the successor has a
+    // row.
     fn has_closed_edges(&self, count: usize) -> bool
         ensures { IsTrue result ↔ ((left right : State) →
             IsSuccessor self.now left right →
@@ -67,7 +68,7 @@ impl<'grammar> LaneTable<'grammar> {
         self.has_row(successor)
     }
 
-    /// Whether a state has a cell, an empty one too, or a successor.
+    /// Whether a state has a cell, which may be empty, or a successor.
     pub fn has_row(&self, state: StateIndex) -> bool
         ensures { IsTrue result ↔ HasRow self.now state }
     {
@@ -80,7 +81,7 @@ impl<'grammar> LaneTable<'grammar> {
         }
     }
 
-    /// How many actions are traced.
+    /// The number of columns, one for each action that is traced.
     pub fn column_count(&self) -> usize
         ensures { result ≡ self.now.conflicts }
     {

@@ -19,7 +19,7 @@ use std::alloc::Global;
 use std::collections::BTreeMap;
 use thiserror::Error;
 
-/// Why there are no rows.
+/// Why there are no rows: two actions share a token in the row of a state, or an allocation failed.
 #[derive(Clone, Copy, Debug, PartialEq, Eq, Error)]
 pub enum RowsError {
     #[error("overlapping lookahead in the row of state {0}")]
@@ -37,8 +37,8 @@ impl From<OutOfMemory> for RowsError {
 }
 
 impl<'grammar> LaneTable<'grammar> {
-    /// The row of each state that has a cell or a successor, or the first state in whose row two
-    /// actions share a token.
+    /// The row of each state that has a cell or a successor. The error `State` has the first state
+    /// in whose row two actions share a token. The error is `Memory` if an allocation fails.
     pub fn rows(&self, alloc: Global) -> Result<Map<StateIndex, ContextSet>, RowsError>
         ensures states { IfOk result (λ rows. (state : Number) →
             Contains (keys_of rows.entries) state ↔ HasRow self.now state) }
@@ -88,7 +88,7 @@ impl<'grammar> LaneTable<'grammar> {
     }
 }
 
-// Adds a row without tokens where there is none.
+// Adds a row without tokens for a state that has no row.
 #[tactic(auto, using(crate::proofs::theory::lane_tables::LaneRows::made_already))]
 fn make_row(
     alloc: Global,

@@ -1,4 +1,4 @@
--- What a grammar with a new start symbol tells of the old one.
+-- What a grammar with a new start symbol says of the old one.
 use Rattle.std.proofs.Common.{◌≡◌, ℕ, ◌<◌, Bool, true, false, cond, not, List, [], ◌∷◌, ◌++◌, map, Some, None, refl, sym, subst, ap, ◌∙◌, arith}
 use Rattle.std.specs.Prelude.{Contains, Ok, Err}
 use Rattle.std.specs.declared.cmp.Ordering.{Ordering}
@@ -24,7 +24,7 @@ use Rattle.lalrpop_lr1.specs.declared.headline.parse_error.ParseError.{ParseErro
 use Rattle.lalrpop_lr1.specs.declared.headline.parse_error.ParseError.TheVariants.{Conflicts, Refused, Limit, Memory}
 use Rattle.lalrpop_parser.specs.declared.interpret.tree.ParseTree.{ParseTree}
 
--- ---- without the new start symbol's production the old ones are left
+-- ---- without the production of the new start symbol the old ones are left
 module _ (f : NonterminalString) (entry : NonterminalData) (p : Production) (one : entry.productions.items ≡ p ∷ []) (named : p.nonterminal ≡ f) where
   own_left_out : (ps : List Production) → productions_but f (entry.productions.items ++ ps) ≡ productions_but f ps
   own_left_out ps = ap (λ (qs : List Production). productions_but f (qs ++ ps)) one ∙ here (is_at (name_cmp f) p.nonterminal) (ap (is_at (name_cmp f)) named ∙ name_self f)
@@ -61,7 +61,7 @@ old_again g h start f well new =
     inserted_left_out f new.entry (start_production g start f) new.added.productions refl g.nonterminals.entries new.name.unused.0 ∙
     others_stay f (productions g) (is_augmented g h start f well new).fresh.0
 
--- so the old grammar is what is seen
+-- so clauses see the old grammar
 pub is_above_old : (g h : Grammar) (start old_start f : NonterminalString) → IsWellFormed g → HasNewStart g start h f → IsWellFormed h → old_start ≡ start → IsAboveOld (seen_over old_start h f)
 is_above_old g h start old_start f well new well_formed same = record {
   well_formed = well_formed;
@@ -69,11 +69,11 @@ is_above_old g h start old_start f well new well_formed same = record {
       (subst (λ (ps : List Production). IsAugmented ps (productions h) start f) (sym (old_again g h start f well new)) (is_augmented g h start f well new));
 }
 
--- ---- a fact of a grammar and its start symbol under other names
+-- ---- a property of a grammar and its start symbol under other names
 pub carried : (P : Grammar → NonterminalString → Type 0) {g h : Grammar} {f k : NonterminalString} → g ≡ h → f ≡ k → P g f → P h k
 carried P {h = h} {f = f} left right known = subst (P h) right (subst (λ (x : Grammar). P x f) left known)
 
--- ---- the last child of a node with one
+-- ---- the last child of a node with one child
 pub last_of_one : (a b : NonterminalString) (t : Tree) (children before : List ParseTree) (last : ParseTree) → Node b (trees_of (map tree_of children)) ≡ Node a (beside t no_trees) → children ≡ before ++ last ∷ [] → tree_of last ≡ t
 last_of_one a b t children before last is split = go before (sym (ap (λ (l : List ParseTree). Node b (trees_of (map tree_of l))) split) ∙ is)
   where
@@ -82,12 +82,12 @@ last_of_one a b t children before last is split = go before (sym (ap (λ (l : Li
     go (x ∷ []) e = cc
     go (x ∷ y ∷ more) e = cc
 
--- ---- what an answer for the new start symbol is for the old
+-- ---- what a result for the new start symbol is for the old one
 module _ (g h : List Production) (start f : NonterminalString) (aug : IsAugmented g h start f) (w : List TerminalString) (limit : ℕ) where
   pub is_alone : IsOnNoRightSide h f
   is_alone = alone g h start f aug
 
-  -- a tree is a node over one
+  -- a tree has one child below its root
   pub has_child : (t : Tree) → (IsOnNoRightSide h f → IsTreeWithin limit w t h f) → (a : NonterminalString) × (s : Tree) × t ≡ Node a (beside s no_trees)
   has_child t told = let over = (augmented_trees g h start f aug w t).0 (told is_alone).parse in (f, over.0, over.1)
 
@@ -128,7 +128,7 @@ module _ (g h : List Production) (start f : NonterminalString) (aug : IsAugmente
   refused_old Limit told = tt
   refused_old Memory told = tt
 
--- ---- and what the run tells
+-- ---- what the run says
 module _ (h : Grammar) (options : Options) (f : NonterminalString) (w : List TerminalString) (limit : ℕ) (is_alone : IsOnNoRightSide (productions h) f) where
   pub run_of_child : (tree child : ParseTree) → tree_of tree ≡ Node f (beside (tree_of child) no_trees) → IsToldByTables h options f w limit (Ok tree) → IsToldByTablesAbove h options f w limit (Ok child)
   run_of_child tree child is run = record {

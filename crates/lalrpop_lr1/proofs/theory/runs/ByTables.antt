@@ -1,4 +1,4 @@
--- What an answer by tables of a grammar says of that grammar.
+-- What a result by tables of a grammar says of that grammar.
 use Rattle.std.proofs.Common.{◌≡◌, ℕ, ◌<◌, List, length, sym, subst}
 use Rattle.std.specs.Prelude.{Result, Ok, Err, IfOk, IfErr}
 use Rattle.lalrpop_base.specs.Words.{AreCoherent, AreFaithful, Bits, contents, Contents, IsFirstWrong, IsOnNoRightSide, productions}
@@ -10,7 +10,8 @@ use Rattle.lalrpop_parser.specs.declared.interpret.error.InterpretError.{Interpr
 use Rattle.lalrpop_parser.specs.declared.interpret.error.InterpretError.TheVariants.{Refused, Limit, Memory}
 use Rattle.lalrpop_parser.specs.declared.interpret.tree.ParseTree.{ParseTree}
 
--- ---- tables that a construction made are what the parser needs, also under other names of the states and the start symbol
+-- ---- tables that a construction made are what the parser needs, also under other names of the
+-- states and the start symbol
 module _ (collapsed : Type 0) (method : Method) (copies : ℕ) (g : Grammar) (start name : NonterminalString) (named : name ≡ start) (tables states : List (State Bits)) (same : states ≡ tables)
     (made : AreTablesOf collapsed method copies g start tables) where
   pub made_states : AreTablesOf collapsed method copies g start states
@@ -25,7 +26,7 @@ module _ (collapsed : Type 0) (method : Method) (copies : ℕ) (g : Grammar) (st
   pub are_faithful : AreFaithful (productions g) name (contents g.terminals states)
   are_faithful = subst (λ (s : NonterminalString). AreFaithful (productions g) s (contents g.terminals states)) (sym named) made_states.faithful
 
--- ---- of the one grammar to which the states are known to be faithful
+-- ---- for the one grammar to which the states are known to be faithful
 module _ {L : Type 0} (g : List Production) (start : NonterminalString) (table : ℕ → Contents) (faithful : AreFaithful g start table) (states : List (State L)) (w : List TerminalString) where
   pub parsed_by : (limit : ℕ) (answer : Result ParseTree (InterpretError L)) → IfOk answer (λ tree. ForEachGrammar table (IsTreeWithin limit w (tree_of tree))) →
       IfOk answer (λ tree. IsOnNoRightSide g start → IsTreeWithin limit w (tree_of tree) g start)

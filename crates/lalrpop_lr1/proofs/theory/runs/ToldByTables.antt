@@ -1,4 +1,4 @@
--- What an answer tells by the tables that a construction made of a grammar.
+-- What a result says of the tables that a construction made of a grammar.
 use Rattle.std.proofs.Common.{◌≡◌, ℕ, ◌≤◌, List, sym, subst}
 use Rattle.std.specs.Prelude.{Result, Ok, Err, IfOk, IfErr}
 use Rattle.lalrpop_base.specs.Words.{Bits, contents, IsOnNoRightSide, Outcome, HasOutcome, IsFirstWrong, beside, no_trees, leaves, nodes, productions}
@@ -14,7 +14,7 @@ use Rattle.lalrpop_parser.specs.declared.interpret.error.InterpretError.{Interpr
 use Rattle.lalrpop_parser.specs.declared.interpret.error.InterpretError.TheVariants.{Refused as RefusedBy, Limit as LimitPassed, Memory as NoMemory}
 use Rattle.lalrpop_parser.specs.declared.interpret.tree.ParseTree.{ParseTree}
 
--- ---- without the state that refuses the same is told
+-- ---- the same without the state of a refusal
 outcome_told : (R : Outcome → Type 0) (states : List (State Bits)) (answer : Result ParseTree (InterpretError Bits)) → IsAnswer R states answer → IsOutcomeTold R (told_by answer)
 outcome_told R states (Ok tree) h = h
 outcome_told R states (Err (RefusedBy state token)) h = (h.0, h.2)
@@ -45,7 +45,7 @@ had_tables P p (Err (RefusedBy state token)) = p
 had_tables P p (Err LimitPassed) = p
 had_tables P p (Err NoMemory) = tt
 
--- ---- and of the grammar that they are tables of, under the start symbol's own name
+-- ---- the same of the grammar of these tables, under the start symbol's own name
 module _ (g : Grammar) (options : Options) (start name : NonterminalString) (named : name ≡ start) (tables states : List (State Bits)) (same : states ≡ tables) (made : AreTablesOf (Collapses g options) options.method options.max_copies g start tables) where
   here : AreTablesOf (Collapses g options) options.method options.max_copies g start states
   here = made_states (Collapses g options) options.method options.max_copies g start name named tables states same made

@@ -1,4 +1,4 @@
--- Where `==` tells values apart, it is decided whether a kernel is in a list.
+-- If `==` is exact, it is decided whether a kernel is in a list.
 use Rattle.std.proofs.Common.{◌≡◌, ◌≢◌, ℕ, ◌⊎◌, inl, inr, List, [], ◌∷◌, ◌++◌, refl, sym, ◌∙◌, ap, subst, Bool, true, false}
 use Rattle.std.specs.Prelude.{Contains}
 use Rattle.std.proofs.lemmas.Bool.{cases_eq}
@@ -79,6 +79,6 @@ module _ {X : Type 0} (same : Decided X) where
     ]
   ]
 
-  -- a value is added once, or the list stays
+  -- a value is added at the end, or the list stays as it is
   pub added_or_not : (old new : List X) (x : X) → AddsOnce old new x → (new ≡ old) ⊎ (new ≡ old ++ x ∷ [])
   added_or_not old new x a = elim (contained old x) [ inl c ↦ inl (a.known c) | inr out ↦ inr (a.fresh out) ]

@@ -1,4 +1,4 @@
--- The dotted productions of a grammar, listed: productions ascend, and of each all dots.
+-- The list of the dotted productions of a grammar: productions ascend, and each has all its dots.
 use Rattle.std.proofs.Common.{◌≡◌, ◌∙◌, ◌⊎◌, inl, inr, ℕ, zero, suc, ◌+◌, ◌<◌, ◌≤◌, List, [], ◌∷◌, ◌++◌, length, map, refl, sym, ap, subst, arith}
 use Rattle.std.specs.Prelude.{◌↔◌, slice_get, Some, Contains}
 use Rattle.std.specs.List.{flat_map}
@@ -23,7 +23,7 @@ use Rattle.lalrpop_collections.proofs.theory.lists.Bounded.{in_flat_map}
 use Rattle.lalrpop_collections.proofs.theory.lists.Members.{contains-cons, contains_head, Contains-none, contains_tail, place, of_flat}
 use Rattle.lalrpop_collections.proofs.theory.lists.Places.{contains_at, same_some, slice_get-longer, slice_get_at}
 
--- ---- values put into a list
+-- ---- values added to a list
 module _ {X : Type 0} where
   pub those_none : (Such : X → Type 0) (old : List X) → ((x : X) → Such x → Contains old x) → AddsThose Such old old
   those_none Such old known x = (λ c. inl c, λ e. elim e [ inl c ↦ c | inr s ↦ known x s ])
@@ -46,7 +46,7 @@ module _ {X : Type 0} where
     ],
   )
 
--- ---- productions with the dot in front, put into a set
+-- ---- productions with the dot at the start, added to a set
 pub starts_none : (ks : List (Dotted Nil)) → AddsThose (IsStartOf []) ks ks
 starts_none ks = those_none (IsStartOf []) ks (λ i s. absurd (Contains-none i.production s.0))
 
@@ -111,7 +111,7 @@ dots_move p k i at l =
     let short : k < length p.symbols = subst (λ (z : Dotted Nil). z.index < length z.production.symbols) (sym a.1) l in
     dot_there p (k + 1) (omega arith) ∙ ap (λ (z : Dotted Nil). Some (shifted z)) a.1
 
--- ---- lists behind one another
+-- ---- one list after another
 next_place : {A : Type 0} (x : A) (xs : List A) (k : ℕ) → slice_get (x ∷ xs) (suc k + 1) ≡ slice_get xs (k + 1)
 next_place x xs k = let e : suc k + 1 ≡ suc (k + 1) = omega arith in ap (slice_get (x ∷ xs)) e
 

@@ -1,4 +1,4 @@
--- The symbols behind dots, their numbers, and the numbers of productions by nonterminal.
+-- The symbols after dots, their numbers, and the numbers of productions by nonterminal.
 use Rattle.std.proofs.Common.{◌≡◌, ◌∙◌, ◌⊎◌, inl, inr, ℕ, zero, suc, ◌+◌, ◌<◌, List, [], ◌∷◌, ◌++◌, length, length-append, get_or, refl, sym, ap, subst, arith, slice_set}
 use Rattle.std.specs.Prelude.{◌↔◌, slice_get, Option, Some, None, Contains}
 use Rattle.std.specs.declared.alloc.Global.{Global}
@@ -20,7 +20,7 @@ use Rattle.lalrpop_grammar.proofs.theory.grammars.NameOrders.{symbol_total}
 use Rattle.lalrpop_collections.proofs.theory.lists.Zipped.{push_both, push_counted}
 use Rattle.lalrpop_collections.proofs.theory.lists.Places.{differ_from_apart, filled, one_place, places_apart, push_cases, same_some, slice_get-longer, slice_get-push_at, slice_get_at}
 
--- ---- symbols behind dots, put into a set
+-- ---- symbols after dots, added to a set
 pub behind_new : (i : Dotted Nil) (s : Symbol) (old new : List Symbol) → IsBehind s i → IsAdded s old new → AddsThose (λ t. IsBehind t i) old new
 behind_new i s old new at added = those_one (λ t. IsBehind t i) s old new added at (λ t at_t. same_some s t (sym at ∙ at_t))
 
@@ -40,12 +40,12 @@ dots_more done i old new before added s = (
 pub symbols_differ : (symbols : List Symbol) → SymbolsAscend symbols → AllDiffer symbols
 symbols_differ symbols ascend = differ_from_apart symbols (apart-from_sorted symbol_order symbol_total symbols ascend)
 
--- what a search tells of the symbol behind a dot
+-- the result of a search is the number of the symbol after a dot
 pub behind_of : (symbols : List Symbol) (i : Dotted Nil) (s : Symbol) (number : Option ℕ) → IsBehind s i → ((t : Symbol) → IsBehind t i → Contains symbols t) → IsNumberOf symbols s number → IsNumberBehind symbols i number
 behind_of symbols i s None at known is = absurd (is (known s at))
 behind_of symbols i s (Some x) at known is = (s, is, at)
 
--- ---- numbers of symbols behind dots
+-- ---- numbers of symbols after dots
 pub numbers_more : (symbols : List Symbol) (done : List (Dotted Nil)) (behind : List (Option ℕ)) (i : Dotted Nil) (x : Option ℕ) → AreNumbersBehind symbols done behind → IsNumberBehind symbols i x → AreNumbersBehind symbols (done ++ i ∷ []) (behind ++ x ∷ [])
 numbers_more symbols done behind i x before is = record {
   counted = push_counted done i behind x before.counted;
@@ -87,7 +87,7 @@ pushed number P before after p is k = subst (λ (l : List ℕ). Contains l k ↔
   ],
 )
 
--- the number went to the list of the nonterminal
+-- the number is added to the list of the nonterminal
 module _ (symbols : List Symbol) (ascend : SymbolsAscend symbols) (i : Dotted Nil) (front : i.index ≡ 0) (number n : ℕ) (found : slice_get symbols n ≡ Some (Nonterminal i.production.nonterminal)) (old : List (Vec ℕ Global)) (counted : length old ≡ length symbols) (before after : Vec ℕ Global) (was : before ≡ get_or old n before) (more : after.items ≡ before.items ++ number ∷ []) where
   pub start_put : AddsStart symbols i number (lists_of old) (lists_of (slice_set old n after))
   start_put = record {
@@ -119,7 +119,7 @@ module _ (symbols : List Symbol) (ascend : SymbolsAscend symbols) (i : Dotted Ni
           let same : b ≡ a = sym v.2 ∙ ap (λ (z : Vec ℕ Global). z.items) vectors ∙ w.2 in
           subst (AddsThose (λ k. (k ≡ number) × IsStartFrom s i) b) same (those_none (λ k. (k ≡ number) × IsStartFrom s i) b (λ k e. absurd (apart (one_place symbols (symbols_differ symbols ascend) x n s at_s (found ∙ ap Some (sym e.1.1))))))
 
--- an item more
+-- one more item
 pub expansions_more : (symbols : List Symbol) (done : List (Dotted Nil)) (i : Dotted Nil) (old new : List (List ℕ)) → AreAllExpansions symbols done old → AddsStart symbols i (length done) old new → AreAllExpansions symbols (done ++ i ∷ []) new
 expansions_more symbols done i old new before added = record {
   counted = added.counted ∙ before.counted;

@@ -1,4 +1,5 @@
--- The places of the dotted productions of one production among others that ascend: they stand side by side.
+-- The places of the dotted productions of one production, in an ascending list: they are next to
+-- each other.
 use Rattle.std.proofs.Common.{◌≡◌, ◌∙◌, inl, inr, ℕ, zero, suc, ◌+◌, ◌-◌, ◌<◌, ◌≤◌, List, length, sym, ap, subst, arith}
 use Rattle.std.specs.Prelude.{slice_get, Some}
 use Rattle.std.specs.Ordering.{ordering_reverse}
@@ -12,17 +13,17 @@ use Rattle.lalrpop_collections.proofs.theory.lists.Members.{place}
 use Rattle.lalrpop_states.proofs.theory.grammars.AscendingItems.{items_differ}
 use Rattle.lalrpop_collections.proofs.theory.lists.Places.{contains_at, one_place, places_apart, same_some}
 
--- an item stands before none of a lesser production
+-- an item is before no item of a lesser production
 before_no_lesser : (a b : Dotted Nil) → Precedes a b → production_order b.production a.production ≡ Less → ⊥
 before_no_lesser a b (inl before) less = less_asymmetric a.production b.production before less
 before_no_lesser a b (inr same) less = less_apart b.production a.production less (sym same.0)
 
--- ---- on which side of an item those of a production stand
+-- ---- the side of an item on which the items of a production are
 module _ (items : List (Dotted Nil)) (ascend : Ascend items) (middle : ℕ) (met : Dotted Nil) (there : slice_get items middle ≡ Some met) (p : Production) where
   of_one : (k : ℕ) (i : Dotted Nil) → slice_get items k ≡ Some i → i.production ≡ p → middle ≡ k → met.production ≡ p
   of_one k i at is e = ap (λ (j : Dotted Nil). j.production) (same_some met i (sym there ∙ ap (slice_get items) e ∙ at)) ∙ is
 
-  -- behind it, where its own production is less
+  -- an item of production p is after the given item, if the production of the latter is less
   pub stands_behind : production_order met.production p ≡ Less → (k : ℕ) (i : Dotted Nil) → slice_get items k ≡ Some i → i.production ≡ p → middle < k
   stands_behind less k i at is = elim (places_apart middle k) [
     | inl behind ↦ behind
@@ -32,7 +33,7 @@ module _ (items : List (Dotted Nil)) (ascend : Ascend items) (middle : ℕ) (met
     ]
   ]
 
-  -- before it, where its own production is greater
+  -- an item of production p is before the given item, if the production of the latter is greater
   pub stands_before : production_order met.production p ≡ Greater → (k : ℕ) (i : Dotted Nil) → slice_get items k ≡ Some i → i.production ≡ p → k < middle
   stands_before greater k i at is =
       let less : production_order p met.production ≡ Less = production_total.antisymm p met.production ∙ ap ordering_reverse greater in
@@ -44,7 +45,7 @@ module _ (items : List (Dotted Nil)) (ascend : Ascend items) (middle : ℕ) (met
         ]
       ]
 
--- ---- the dotted productions of a production, one behind the other
+-- ---- the dotted productions of one production, one after the other
 moves_on : (items : List (Dotted Nil)) → MovesToNext items → (p : Production) (k : ℕ) → slice_get items k ≡ Some (with_dot p 0) → (dot : ℕ) → dot ≤ length p.symbols → slice_get items (k + dot) ≡ Some (with_dot p dot)
 moves_on items next p k front zero l = let place : k + 0 ≡ k = omega arith in ap (slice_get items) place ∙ front
 moves_on items next p k front (suc dot) l =
@@ -55,7 +56,7 @@ moves_on items next p k front (suc dot) l =
     ∙ ap (λ (n : ℕ). Some (with_dot p n)) moved
 
 module _ (g : Rules) (items : List (Dotted Nil)) (of : AreItemsOf g items) (next : MovesToNext items) (middle : ℕ) (met : Dotted Nil) (there : slice_get items middle ≡ Some met) where
-  -- the first of them stands as far before one as the dot of that one stands behind the front
+  -- the first of them is as many places before an item as the item has symbols before its dot
   from_front : (k : ℕ) × (k + met.index ≡ middle) × ((dot : ℕ) → dot ≤ length met.production.symbols → slice_get items (k + dot) ≡ Some (with_dot met.production dot))
   from_front =
       let p = met.production in
@@ -67,7 +68,7 @@ module _ (g : Rules) (items : List (Dotted Nil)) (of : AreItemsOf g items) (next
   pub dot_within : met.index ≤ middle
   dot_within = let front = from_front in omega (arith, front.1)
 
-  -- an item of the production of another stands as far from it as their dots stand apart
+  -- the places of two items of one production differ by as much as their dots
   pub stands_beside : (item : Dotted Nil) → met.production ≡ item.production → item.index ≤ length item.production.symbols → slice_get items (middle - met.index + item.index) ≡ Some item
   stands_beside item same l =
       let front = from_front in

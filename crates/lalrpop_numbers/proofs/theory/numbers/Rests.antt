@@ -1,4 +1,4 @@
--- What stands behind the nonterminal behind a dot.
+-- The symbols after the nonterminal after a dot.
 use Rattle.std.proofs.Common.{◌≡◌, ◌∙◌, inl, inr, ℕ, ◌+◌, ◌<◌, ◌≤◌, Bool, true, false, List, [], ◌∷◌, ◌++◌, drop, length, refl, sym, ap, subst, arith, eqb-true, eq-eqb}
 use Rattle.std.specs.Prelude.{slice_get, Option, Some, not, ◌&&◌, ◌==◌}
 use Rattle.std.proofs.lemmas.Bool.{cases_lt, true≢false}
@@ -16,7 +16,7 @@ use Rattle.lalrpop_collections.proofs.theory.lists.Places.{contains_at, filled, 
 use Rattle.lalrpop_collections.proofs.theory.lists.Zipped.{push_both, push_counted}
 
 -- ---- the rest of one dotted production
--- nothing is behind a terminal
+-- a dotted production with a terminal after its dot has no rest
 pub no_rest : (i : Dotted Nil) (s : Symbol) (t : TerminalString) → slice_get i.production.symbols i.index ≡ Some s → s ≡ Terminal t → (a : NonterminalString) (after : List Symbol) → ¬ HasRest i a after
 no_rest i s t at is a after behind =
     let there : slice_get i.production.symbols i.index ≡ Some (Nonterminal a) = split_drop i.index i.production.symbols (Nonterminal a) after behind in
@@ -25,18 +25,18 @@ no_rest i s t at is a after behind =
     apart : s ≡ Nonterminal a → ⊥
     apart e = cc
 
--- what follows a nonterminal behind the dot is its rest
+-- the symbols after a nonterminal after the dot make the rest
 pub rest_behind : (i : Dotted Nil) (s : Symbol) (a : NonterminalString) (after : List Symbol) → slice_get i.production.symbols i.index ≡ Some s → s ≡ Nonterminal a → after ≡ drop (i.index + 1) i.production.symbols → HasRest i a after
 rest_behind i s a after at is rest =
     drop_split i.index i.production.symbols (Nonterminal a) (at ∙ ap Some is) ∙ ap (λ (xs : List Symbol). Nonterminal a ∷ xs) (sym (rest_from i.index i.production.symbols after rest))
 
--- a conjunction of two that hold
+-- a conjunction of two true values is true
 and_true : (a b : Bool) → a ≡ true → b ≡ true → (a && b) ≡ true
 and_true true true g h = refl
 and_true true false g h = cc
 and_true false b g h = cc
 
--- FIRST without its end, and whether that was there
+-- FIRST of the symbols without Eof, and whether Eof was in it
 pub rest_is : (g : Rules) (after : List Symbol) (old new : Bits) (nullable : Bool) (end : ℕ) → end ≡ length g.terminals → IsFirstSet g after old → nullable ≡ has old end → ((bit : ℕ) → has new bit ≡ (has old bit && not (bit == end))) →
     IsRest g after (record { first = new; nullable = nullable })
 rest_is g after old new nullable end is first was left = record {
@@ -64,12 +64,12 @@ rest_is g after old new nullable end is first was left = record {
     other bit l true e = let same = eqb-true bit end e in absurd (omega (arith, is, l, same))
     other bit l false e = refl
 
--- ---- the rests, one more
+-- ---- the rests, and one more
 -- no items have no rests
 pub rests_none : (g : Rules) → AreRests g [] []
 rests_none g = record { counted = refl; each = λ k i rest at. absurd (Contains-none i (contains_at [] i k at)) }
 
--- one item more has its rest
+-- one more item has its rest
 pub rests_more : (g : Rules) (items : List (Dotted Nil)) (rests : List (Option Rest)) (i : Dotted Nil) (rest : Option Rest) → AreRests g items rests → IsRestOf g i rest → AreRests g (items ++ i ∷ []) (rests ++ rest ∷ [])
 rests_more g items rests i rest before is = record {
   counted = push_counted items i rests rest before.counted;

@@ -1,4 +1,4 @@
--- From the outcome of a run, what an answer says of a grammar to which the states are faithful.
+-- From the outcome of a run, what the result says of a grammar to which the states are faithful.
 use Rattle.std.proofs.Common.{◌≡◌, ℕ, zero, suc, ◌<◌, ◌≤◌, ◌⊎◌, inl, inr, List, [], ◌∷◌, ◌+◌, true, refl, sym, ap, subst, ◌∙◌, arith}
 use Rattle.std.specs.Prelude.{Result, Ok, Err, IfOk, IfErr}
 use Rattle.lalrpop_base.specs.Words.{Configuration, begin, Stands, Ends, move, Reaches, here, Outcome, Parsed, Refused, Limit, HasOutcome, cut_off}
@@ -43,13 +43,13 @@ stop_in o (Stop p) = p
 pub stop_same : {o p : Outcome} → Stop o ≡ Stop p → o ≡ p
 stop_same {o} e = ap (stop_in o) e
 
--- a run that is cut off has told the limit
+-- a run whose outcome is the limit is cut off
 was_cut_off : {table : ℕ → Contents} {w : List TerminalString} {limit : ℕ} {o : Outcome} → HasOutcome table w limit o → o ≡ Limit → IsCutOff table w limit
 was_cut_off (cut_off c r another) e = record { last = c; reached = r; another = another }
 was_cut_off _ e = cc
 
 module _ {L : Type 0} (table : ℕ → Contents) (states : List (State L)) (w : List TerminalString) (limit : ℕ) where
-  -- two outcomes of one run
+  -- two outcomes of one run are the same
   same_outcome : (o p : Outcome) → HasOutcome table w limit o → HasOutcome table w limit p → o ≡ p
   same_outcome = one_outcome table w limit
 
@@ -72,7 +72,7 @@ module _ {L : Type 0} (table : ℕ → Contents) (states : List (State L)) (w : 
   }
   tree_parses (Err e) h = tt
 
-  -- a list with a parse tree of more nodes than the limit
+  -- a list with a parse tree of more nodes than the limit is cut off
   cut_off_before : (g : List Production) (start : NonterminalString) → AreFaithful g start table → IsOnNoRightSide g start → (t : Tree) → IsParseTree g start w t → limit < nodes (beside t no_trees) → HasOutcome table w limit Limit
   cut_off_before g start faithful alone t parse l = go (came table limit (begin w))
     where
@@ -107,7 +107,7 @@ module _ {L : Type 0} (table : ℕ → Contents) (states : List (State L)) (w : 
   answer_beyond t l k (Err LimitPassed) h = l
   answer_beyond t l k (Err Memory) h = tt
 
-  -- a list with a parse tree has its answer
+  -- each list with a parse tree has its result
   pub answers_trees : (answer : Result ParseTree (InterpretError L)) → IsAnswer (HasOutcome table w limit) states answer → ForEachGrammar table (AnswersTrees limit w states answer)
   answers_trees answer h g start faithful alone t parse = elim (less_or_not limit (nodes (beside t no_trees))) [
     | inl l ↦ answer_beyond t l (cut_off_before g start faithful alone t parse l) answer h
@@ -126,7 +126,7 @@ module _ {L : Type 0} (table : ℕ → Contents) (states : List (State L)) (w : 
   refusal_prompt (Err LimitPassed) h = tt
   refusal_prompt (Err Memory) h = tt
 
-  -- the same of the stack that is left without the end of the input
+  -- a stop of a run without the end of the input is an outcome of the whole run
   pub stop_is_outcome : (o : Outcome) → HasPartialOutcome table (begin w) limit (Stop o) → HasOutcome table w limit o
   stop_is_outcome o h = go (Stop o) o h refl
     where

@@ -1,4 +1,4 @@
--- The stack that is left before the end of the input, where the states are faithful to a grammar.
+-- The stack that is left when all terminals are read, if the states are faithful to a grammar.
 use Rattle.std.proofs.Common.{◌≡◌, ℕ, List, [], ◌∷◌, ◌++◌, map, refl, sym, ap, subst, ◌∙◌, append_assoc, append-nil}
 use Rattle.std.specs.Prelude.{Result, Ok, Err, IfOk}
 use Rattle.std.specs.declared.vec.Vec.{Vec}
@@ -18,7 +18,7 @@ use Rattle.lalrpop_parser.specs.declared.interpret.error.InterpretError.TheVaria
 use Rattle.lalrpop_parser.proofs.theory.runs.FaithfulAnswers.{stop_same, stop_is_outcome}
 use Rattle.lalrpop_parser.proofs.theory.runs.Outcomes.{reads_reaches}
 
--- with a beginning each shorter list is one
+-- if a list is a beginning, so is each shorter one
 shorter_beginning : (g : List Production) (start : NonterminalString) (before : List TerminalString) (t : TerminalString) (after : List TerminalString) → IsBeginning g start (before ++ t ∷ after) → IsBeginning g start (before ++ t ∷ [])
 shorter_beginning g start before t after h =
     let whole : symbols_of (before ++ t ∷ after) ++ h.0 ≡ symbols_of (before ++ t ∷ []) ++ (symbols_of after ++ h.0) =
@@ -32,14 +32,14 @@ abbrev token_in : Token → Outcome → Token
 token_in t (Refused s u) = u
 token_in t _ = t
 
--- what stops while terminals are left is refused at one of them
+-- a run that stops while terminals are left is refused at one of them
 stop_terminal : {table : ℕ → Contents} {b : Configuration} {limit : ℕ} {o : Outcome} → StopsReading table b limit o → (s : ℕ) (token : Token) → o ≡ Refused s token → token ≡ Eof → ⊥
 stop_terminal (stuck n c t rest l r i e) s token same k = let h : TokenOf t ≡ token = ap (token_in Eof) same in cc
 stop_terminal (early_end n c trees t rest l r i e) s token same k = let h : TokenOf t ≡ token = ap (token_in Eof) same in cc
 stop_terminal (cut_off c t rest r i e) s token same k = cc
 
 module _ {L : Type 0} (table : ℕ → Contents) (states : List (State L)) (w : List TerminalString) (limit : ℕ) where
-  -- where a stack is left, all was a beginning
+  -- if a stack is left, the whole list is a beginning
   stack_beginning : (g : List Production) (start : NonterminalString) → AreFaithful g start table → (n : ℕ) (c : Configuration) → Reaches table n (begin w) c → c.rest ≡ [] → IsBeginning g start w
   stack_beginning g start faithful n c r e =
       let tr : Tracks g table w c = run_tracks g start table faithful w r (begin_tracks g start table faithful w) in

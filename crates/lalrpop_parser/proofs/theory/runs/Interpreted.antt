@@ -1,4 +1,4 @@
--- What the parts of a run say of the whole of it.
+-- What the parts of a run say of the whole run.
 use Rattle.std.proofs.Common.{Bool, ◌≡◌, ℕ, ◌+◌, ◌≤◌, List, [], ◌∷◌, ◌++◌, length, map, reverse, refl, sym, ap, subst, ◌∙◌, arith}
 use Rattle.std.specs.Prelude.{Result, Ok, Err, IfOk}
 use Rattle.std.proofs.lemmas.List.{reverse-reverse}
@@ -33,12 +33,12 @@ nothing_read {states} m w rest e = record {
   counted = omega arith;
 }
 
--- what was read from the start was read from the beginning of a run
+-- what was read from a machine at its start was read from the beginning of a run
 pub read_from_start : {states : ℕ → Contents} (m new : Machine) (w rest : List TerminalString) (limit left : ℕ) → IsAtStart m → left ≡ limit → HasRead states (configuration m w) left new rest → HasRead states (begin w) limit new rest
 read_from_start {states} m new w rest limit left start e r =
     subst (λ c. HasRead states c limit new rest) (begins m w start) (subst (λ n. HasRead states (configuration m w) n new rest) e r)
 
--- what is told of each tree
+-- what holds of each tree holds of the tree in a result
 if_ok : {E : Type 0} {P Q : ParseTree → Type 0} → ((t : ParseTree) → P t → Q t) → (answer : Result ParseTree E) → IfOk answer P → IfOk answer Q
 if_ok f (Ok tree) h = f tree h
 if_ok f (Err e) h = tt
@@ -48,34 +48,35 @@ module _ {L : Type 0} (holds : L → Token → Bool) (states : List (State L)) (
   pub read_stacked : (m new : Machine) (w rest : List TerminalString) (left : ℕ) → IsStacked (contents_in holds states) m → HasRead (contents_in holds states) (configuration m w) left new rest → IsStacked (contents_in holds states) new
   read_stacked m new w rest left st r = run_keeps (contents_in holds states) (length states) (lead holds states coherent) (reads_reaches r.reads) st
 
-  -- a stop while terminals are left tells the outcome
+  -- a stop while terminals are left is the outcome
   pub stop_answer : (m : Machine) (w : List TerminalString) (limit : ℕ) → IsAtStart m → m.left ≡ limit → (e : InterpretError L) → IsFailure (StopsReading (contents_in holds states) (configuration m w) m.left) states e → IsFailure (HasOutcome (contents_in holds states) w limit) states e
   stop_answer m w limit start size e h =
       failure_follows (StopsReading (contents_in holds states) (configuration m w) m.left) (HasOutcome (contents_in holds states) w limit) states
       (λ o k. whole_outcome {k = 0} here (let whole : 0 + m.left ≡ limit = omega (arith, size) in whole) (subst (λ c. HasOutcomeFrom (contents_in holds states) c m.left o) (begins m w start) (stop_outcome k)))
       e h
 
-  -- and the partial one
+  -- it is the outcome of a run without the end of the input, too
   pub stop_partial : (m : Machine) (w : List TerminalString) (limit : ℕ) → IsAtStart m → m.left ≡ limit → (e : InterpretError L) → IsFailure (StopsReading (contents_in holds states) (configuration m w) m.left) states e → IsFailure (λ o. HasPartialOutcome (contents_in holds states) (begin w) limit (Stop o)) states e
   stop_partial m w limit start size e h =
       failure_follows (StopsReading (contents_in holds states) (configuration m w) m.left) (λ o. HasPartialOutcome (contents_in holds states) (begin w) limit (Stop o)) states
       (λ o k. stopped o (subst (λ c. StopsReading (contents_in holds states) c limit o) (begins m w start) (subst (λ n. StopsReading (contents_in holds states) (configuration m w) n o) size k)))
       e h
 
-  -- the end of a run tells the outcome of the whole
+  -- the end of a run is the outcome of the whole run
   pub last_answer : (m : Machine) (w : List TerminalString) (limit : ℕ) → HasRead (contents_in holds states) (begin w) limit m [] → (answer : Result ParseTree (InterpretError L)) → IsAnswer (HasOutcomeFrom (contents_in holds states) (configuration m []) m.left) states answer → IsAnswer (HasOutcome (contents_in holds states) w limit) states answer
   last_answer m w limit r (Ok tree) h = whole_outcome (reads_reaches r.reads) r.counted h
   last_answer m w limit r (Err e) h =
       failure_follows (HasOutcomeFrom (contents_in holds states) (configuration m []) m.left) (HasOutcome (contents_in holds states) w limit) states
       (λ o k. whole_outcome (reads_reaches r.reads) r.counted k) e h
 
-  -- a tree that is answered is a parse
+  -- a tree in a result is a parse
   pub answer_built : (w : List TerminalString) (limit : ℕ) (answer : Result ParseTree (InterpretError L)) → IsAnswer (HasOutcome (contents_in holds states) w limit) states answer → IfOk answer (λ tree. IsBuilt (reduced_productions states) (contents_in holds states) w limit (tree_of tree))
   answer_built w limit (Ok tree) h =
       parsed_built (reduced_productions states) (contents_in holds states) (length states) (lead holds states coherent) (reduces_by holds states) w limit h
   answer_built w limit (Err e) h = tt
 
-  -- so its inner nodes are given by productions, its leaves are the list, and it has a node for each step
+  -- so its inner nodes are given by productions, its leaves are the list, and it has a node for
+  -- each step
   pub tree_of_productions : (w : List TerminalString) (limit : ℕ) (answer : Result ParseTree (InterpretError L)) → IsAnswer (HasOutcome (contents_in holds states) w limit) states answer → IfOk answer (λ tree. AreOfGrammar (reduced_productions states) (beside (tree_of tree) no_trees))
   tree_of_productions w limit answer h = if_ok (λ tree built. built.of_grammar) answer (answer_built w limit answer h)
 
@@ -88,11 +89,11 @@ module _ {L : Type 0} (holds : L → Token → Bool) (states : List (State L)) (
   pub tree_within : (w : List TerminalString) (limit : ℕ) (answer : Result ParseTree (InterpretError L)) → IsAnswer (HasOutcome (contents_in holds states) w limit) states answer → IfOk answer (λ tree. nodes (beside (tree_of tree) no_trees) ≤ limit)
   tree_within w limit answer h = if_ok (λ tree built. built.within) answer (answer_built w limit answer h)
 
--- an answer with as many steps left as the limit
+-- a result for as many steps as the limit is one for the limit
 pub answer_at : {L : Type 0} (table : ℕ → Contents) (states : List (State L)) (w : List TerminalString) (left limit : ℕ) → left ≡ limit → (answer : Result ParseTree (InterpretError L)) → IsAnswer (HasOutcome table w left) states answer → IsAnswer (HasOutcome table w limit) states answer
 answer_at table states w left limit e answer h = subst (λ n. IsAnswer (HasOutcome table w n) states answer) e h
 
--- the stack as it is handed out
+-- the stack that is returned, as numbers
 pub stack_is : (below : List StateIndex) (s : StateIndex) → reverse (s.0 ∷ numbers below) ≡ map number_of (below ++ s ∷ [])
 stack_is below s = ap reverse (sym (numbers_more below s)) ∙ reverse-reverse (map number_of (below ++ s ∷ []))
 

@@ -28,7 +28,7 @@ use Rattle.lalrpop_parser.proofs.theory.runs.Popping.{numbers_more}
 use Rattle.lalrpop_parser.proofs.theory.runs.Stacks.{Found, found, on_stack, stack_length, step_keeps}
 use Rattle.lalrpop_grammar.proofs.theory.runs.Steps.{Reaches-append}
 
--- a state that lies newest last has its number among those that lie newest first
+-- a state of a list with the newest last has its number in the list with the newest first
 number_there : (xs : List StateIndex) (k : ℕ) (x : StateIndex) → slice_get xs k ≡ Some x → (j : ℕ) × (slice_get (numbers xs) j ≡ Some x.0)
 number_there xs k x e =
     let all = map number_of xs in
@@ -41,7 +41,7 @@ number_there xs k x e =
     (j, slice_get_read (reverse all) (length (reverse all)) j x.0 refl (omega arith) (sym (get_or-reverse all j x.0 (omega arith) ∙ ap (λ i. get_or all i x.0) back ∙ there)))
 
 module _ {L : Type 0} (holds : L → Token → Bool) (states : List (State L)) where
-  -- what the top state holds
+  -- the contents of the top state
   pub top_is : (m : Machine) (top : State L) → slice_get states m.state.0 ≡ Some top → contents_in holds states m.state.0 ≡ contents_of holds top
   top_is m top there = ap (contents_at holds) there
 
@@ -69,7 +69,7 @@ module _ {L : Type 0} (holds : L → Token → Bool) (states : List (State L)) w
               on_stack (contents_in holds states) (length states) (lead coherent) some st j x.0 (subst (λ l. slice_get l j ≡ Some x.0) (numbers_more m.below.items m.state) at);
         }
 
-  -- a shift is the step that the top state has before a terminal
+  -- a shift is the step that the top state has on a terminal
   pub shift_goes : (m new : Machine) (top : State L) (t : TerminalString) (target : StateIndex) (rest : List TerminalString) → slice_get states m.state.0 ≡ Some top → get terminal_ord.ghosts.cmp top.shifts t ≡ Some target → IsShifted m target.0 t new →
       move (contents_in holds states) (configuration m (t ∷ rest)) ≡ Goes (configuration new rest)
   shift_goes m new top t target rest there e s =
@@ -96,13 +96,14 @@ module _ {L : Type 0} (holds : L → Token → Bool) (states : List (State L)) w
       ap (λ (k : Contents). shifts_or (contents_in holds states) (configuration m (t ∷ rest)) t rest (k.shift t)) (top_is m top there)
       ∙ ap (λ o. shifts_or (contents_in holds states) (configuration m (t ∷ rest)) t rest (option_map number_of o)) e
 
--- a machine before the end of the input to which steps led from a configuration, and what is left of the steps
+-- the machine was reached from the configuration and has no input left; it has left what remains of
+-- the steps
 pub record HasReached (states : ℕ → Contents) (b : Configuration) (left : ℕ) (m : Machine) : Type 0 where
   pub steps : ℕ
   pub reached : Reaches states steps b (configuration m [])
   pub counted : steps + m.left ≡ left
 
--- one more step before the end
+-- one more step without input
 pub reaches_on : {states : ℕ → Contents} {b : Configuration} {left : ℕ} (m new : Machine) → HasReached states b left m → move states (configuration m []) ≡ Goes (configuration new []) → suc new.left ≡ m.left → HasReached states b left new
 reaches_on m new r e counted = record {
   steps = r.steps + 1;
@@ -110,7 +111,7 @@ reaches_on m new r e counted = record {
   counted = let k : r.steps + m.left ≡ _ = r.counted in omega (arith, k);
 }
 
--- how a run ends before the end of the input
+-- how a run ends without input
 module _ {states : ℕ → Contents} {b : Configuration} {left : ℕ} (m : Machine) (r : HasReached states b left m) where
   pub ends_stuck : move states (configuration m []) ≡ Stands → HasOutcomeFrom states b left (Refused m.state.0 Eof)
   ends_stuck e = stuck_from r.steps (configuration m []) (let k : r.steps + m.left ≡ left = r.counted in omega (arith, k)) r.reached e
@@ -126,7 +127,7 @@ module _ {states : ℕ → Contents} {b : Configuration} {left : ℕ} (m : Machi
       let all : r.steps ≡ left = let k : r.steps + m.left ≡ left = r.counted in omega (arith, k) in
       cut_off_from (configuration m []) (subst (λ n. Reaches states n b (configuration m [])) all r.reached) e
 
--- one more step before a terminal
+-- one more step on a terminal
 pub reads_on : {states : ℕ → Contents} {b : Configuration} {left : ℕ} (m new : Machine) (t : TerminalString) (rest after : List TerminalString) →
     HasRead states b left m (t ∷ rest) → move states (configuration m (t ∷ rest)) ≡ Goes (configuration new after) → suc new.left ≡ m.left → HasRead states b left new after
 reads_on m new t rest after r e counted = record {
@@ -160,13 +161,13 @@ halted_stops m t rest token list r same k (RefusedBy state u) h = absurd h
 halted_stops {states} m t rest token list r same k LimitPassed h = stops_cut_off m t rest r (λ e. h.0 (ap (reduction_move states (configuration m (t ∷ rest))) same ∙ sym k ∙ e)) h.1
 halted_stops m t rest token list r same k Memory h = tt
 
--- before the end
+-- a reduction for which no step is left ends the run on Eof
 pub halted_ends : {L : Type 0} {states : ℕ → Contents} {b : Configuration} {left : ℕ} (m : Machine) (list : List (State L)) → HasReached states b left m → (e : InterpretError L) → IsHalted states m Eof [] e → IsFailure (HasOutcomeFrom states b left) list e
 halted_ends m list r (RefusedBy state u) h = absurd h
 halted_ends m list r LimitPassed h = ends_cut_off m r h.0 h.1
 halted_ends m list r Memory h = tt
 
--- a reduction that goes on before a terminal
+-- a reduction on a terminal that goes on is a step
 pub reduces_on : {states : ℕ → Contents} {b : Configuration} {left : ℕ} (m new : Machine) (t : TerminalString) (rest : List TerminalString) (token : Token) → HasRead states b left m (t ∷ rest) →
     token ≡ TokenOf t → move states (configuration m (t ∷ rest)) ≡ reduction_move states (configuration m (t ∷ rest)) (TokenOf t) → IsProgress states m token (t ∷ rest) new GoesOn → HasRead states b left new (t ∷ rest)
 reduces_on {states} m new t rest token r same k h =
@@ -180,7 +181,7 @@ pub if_err : {T E : Type 0} (P Q : E → Type 0) → ((e : E) → P e → Q e) �
 if_err P Q f (Ok v) h = tt
 if_err P Q f (Err e) h = f e h
 
--- a machine holds a stack after a reduction before a terminal
+-- a machine has a stack after a reduction on a terminal
 pub reduces_stacked : {L : Type 0} (holds : L → Token → Bool) (states : List (State L)) → AreCoherent states → (m new : Machine) (t : TerminalString) (token : Token) → IsStacked (contents_in holds states) m →
     token ≡ TokenOf t → move (contents_in holds states) (configuration m (t ∷ [])) ≡ reduction_move (contents_in holds states) (configuration m (t ∷ [])) (TokenOf t) →
     IsProgress (contents_in holds states) m token (t ∷ []) new GoesOn → IsStacked (contents_in holds states) new
@@ -188,7 +189,7 @@ reduces_stacked holds states coherent m new t token st same k h =
     step_keeps (contents_in holds states) (length states) (lead holds states coherent) (configuration m (t ∷ [])) (configuration new (t ∷ []))
     (k ∙ ap (reduction_move (contents_in holds states) (configuration m (t ∷ []))) (sym same) ∙ h.0) st
 
--- a reduction that is none or the last one stops the run before a terminal
+-- a missing reduction, or a last one, stops the run on a terminal
 pub refused_stops : {states : ℕ → Contents} {b : Configuration} {left : ℕ} (m new : Machine) (t : TerminalString) (rest : List TerminalString) (token : Token) → HasRead states b left m (t ∷ rest) →
     token ≡ TokenOf t → move states (configuration m (t ∷ rest)) ≡ reduction_move states (configuration m (t ∷ rest)) (TokenOf t) →
     (p : Progress) → (p ≡ Stuck) ⊎ (p ≡ Ended) → IsProgress states m token (t ∷ rest) new p → StopsReading states b left (Refused m.state.0 token)
@@ -198,7 +199,7 @@ refused_stops m new t rest token r same k GoesOn is h = absurd (⊎_elim (λ e. 
 refused_stops {states} {b} {left} m new t rest token r same k Ended is h =
     subst (λ u. StopsReading states b left (Refused m.state.0 u)) (sym same) (stops_early m t rest r (trees_on new.trees.items) (k ∙ ap (reduction_move states (configuration m (t ∷ rest))) (sym same) ∙ h.0) h.1)
 
--- what was read goes on by what is read from there
+-- a run goes on by what is read from where it is
 pub read_on : {states : ℕ → Contents} {b : Configuration} {left : ℕ} (m new : Machine) (all rest : List TerminalString) (t : TerminalString) →
     HasRead states b left m all → all ≡ t ∷ rest → HasRead states (configuration m (t ∷ rest)) m.left new rest → HasRead states b left new rest
 read_on {states} {b} {left} m new all rest t r e s = record {
@@ -207,14 +208,14 @@ read_on {states} {b} {left} m new all rest t r e s = record {
   counted = let k : r.steps + m.left ≡ left = r.counted in let h : s.steps + new.left ≡ m.left = s.counted in omega (arith, k, h);
 }
 
--- and stops where that stops
+-- a run stops if it stops from where it is
 pub fail_later : {L : Type 0} {states : ℕ → Contents} {b : Configuration} {left : ℕ} (list : List (State L)) (m : Machine) (all rest : List TerminalString) (t : TerminalString) →
     HasRead states b left m all → all ≡ t ∷ rest → (error : InterpretError L) → IsFailure (StopsReading states (configuration m (t ∷ rest)) m.left) list error → IsFailure (StopsReading states b left) list error
 fail_later {states} {b} {left} list m all rest t r e error h =
     failure_follows (StopsReading states (configuration m (t ∷ rest)) m.left) (StopsReading states b left) list
     (λ o k. stop_later (subst (λ l. Reads states r.steps b (configuration m l)) e r.reads) r.counted k) error h
 
--- one tree is a parse, and any others are none
+-- if one tree is left it is a parse, and if others are left there is none
 pub ended_answer : {L : Type 0} {states : ℕ → Contents} {b : Configuration} {left : ℕ} (list : List (State L)) (m : Machine) (state : Bor (State L)) (trees : List Tree) → HasReached states b left m →
     slice_get list m.state.0 ≡ Some state.now → move states (configuration m []) ≡ Ends trees → 0 < m.left →
     (o : Option ParseTree) → IfSome o (λ tree. trees ≡ tree_of tree ∷ []) → (IsNone o → (t : Tree) → trees ≡ t ∷ [] → ⊥) →
@@ -235,7 +236,7 @@ pub raised_partial : {A L : Type 0} (R : PartialOutcome → Type 0) (list : List
 raised_partial R list error h (Ok v) k = absurd k
 raised_partial R list error h (Err e) k = subst (IsFailure (λ o. R (Stop o)) list) (sym k) h
 
--- what became of a reduction, under other names of its token and its outcome
+-- the progress of a reduction, under other names of its token and its outcome
 pub progressed : (states : ℕ → Contents) (old new : Machine) (token u : Token) (rest : List TerminalString) (p q : Progress) → token ≡ u → p ≡ q → IsProgress states old token rest new p → IsProgress states old u rest new q
 progressed states old new token u rest p q same is h =
     subst (λ (x : Progress). IsProgress states old u rest new x) is (subst (λ (v : Token). IsProgress states old v rest new p) same h)

@@ -1,4 +1,4 @@
--- Runs put together, and the outcomes of what is left of them.
+-- Runs put together, and the outcomes of the rest of runs.
 use Rattle.std.proofs.Common.{◌≡◌, ℕ, ◌+◌, List, [], ◌∷◌, sym, subst, ap, ◌∙◌, arith}
 use Rattle.lalrpop_parser.proofs.Types.{State, TerminalString}
 use Rattle.lalrpop_base.specs.Words.{Contents, Tree, Configuration, next_token, Reaches, here, further, begin, Outcome, Refused, Limit, IsParse, HasOutcome}
@@ -13,12 +13,12 @@ pub Reads-append : {states : ℕ → Contents} {n m : ℕ} {c d e : Configuratio
 Reads-append {states} {m = m} {e = e} (read {c}) s = subst (λ k. Reads states k c e) (omega arith) s
 Reads-append {states} {m = m} {e = e} (before {n} {c} t rest i h r) s = subst (λ k. Reads states k c e) (omega arith) (before t rest i h (Reads-append r s))
 
--- steps before terminals are steps
+-- steps on terminals are steps
 pub reads_reaches : {states : ℕ → Contents} {n : ℕ} {c d : Configuration} → Reads states n c d → Reaches states n c d
 reads_reaches read = here
 reads_reaches (before t rest i h r) = further h (reads_reaches r)
 
--- where nothing is left, nothing is a parse before a terminal
+-- no parse has a terminal left
 not_used_up : (trees : List Tree) (input : List TerminalString) (t : TerminalString) (rest : List TerminalString) → input ≡ t ∷ rest → (u : Tree) → IsParse trees input u → ⊥
 not_used_up trees input t rest e u p = let h : t ∷ rest ≡ [] = sym e ∙ p.1 in cc
 
@@ -29,7 +29,7 @@ stop_outcome {states} {b} {left} (early_end n c trees t rest l r i e) =
     subst (λ u. HasOutcomeFrom states b left (Refused c.state u)) (ap next_token i) (other_end_from n c trees l (reads_reaches r) e (not_used_up trees c.rest t rest i))
 stop_outcome (cut_off c t rest r i e) = cut_off_from c (reads_reaches r) e
 
--- a stop after some steps
+-- a stop after some steps is one of the whole run
 pub stop_later : {states : ℕ → Contents} {b c : Configuration} {k left whole : ℕ} {o : Outcome} → Reads states k b c → k + left ≡ whole → StopsReading states c left o → StopsReading states b whole o
 stop_later {k = k} r e (stuck n c t rest l s i h) = stuck (k + n) c t rest (omega arith) (Reads-append r s) i h
 stop_later {k = k} r e (early_end n c trees t rest l s i h) = early_end (k + n) c trees t rest (omega arith) (Reads-append r s) i h
@@ -42,7 +42,7 @@ whole_outcome {k = k} r e (stuck_from n c l s h) = stuck_at (k + n) c (omega ari
 whole_outcome {k = k} r e (other_end_from n c trees l s h p) = other_end (k + n) c trees (omega arith) (Reaches-append r s) h p
 whole_outcome {states} {w} r e (cut_off_from c s h) = cut_off_at c (subst (λ n. Reaches states n (begin w) c) e (Reaches-append r s)) h
 
--- an error tells whatever follows from what it tells
+-- what follows from the outcome of an error holds of the error
 pub failure_follows : {L : Type 0} (R Q : Outcome → Type 0) (states : List (State L)) → ((o : Outcome) → R o → Q o) → (e : InterpretError L) → IsFailure R states e → IsFailure Q states e
 failure_follows R Q states f (RefusedBy state token) h = (h.0, h.1, f (Refused h.0 token) h.2)
 failure_follows R Q states f LimitPassed h = f Limit h

@@ -1,4 +1,5 @@
--- What a run over coherent states answers: trees built of productions, over the input, with a node for each step.
+-- The result of a run over coherent states: trees built of productions, over the input, with a node
+-- for each step.
 use Rattle.std.proofs.Common.{◌≡◌, ℕ, Bool, zero, suc, ◌+◌, ◌<◌, ◌≤◌, List, [], ◌∷◌, ◌++◌, map, append_assoc, append-nil, sym, subst, refl, ap, ap₂, ◌∙◌, Option, Some, None, arith}
 use Rattle.std.specs.Prelude.{Contains, slice_get}
 use Rattle.std.specs.List.{flat_map}
@@ -50,14 +51,16 @@ of_onto g (beside (Node a children) ts) trees h =
     let r = of_onto g ts (Node a children ∷ trees) h in
     ((r.1.0, r.1.1, r.0), r.1.2)
 
--- a configuration after n steps of a run on w: its trees are built of productions, spell what was read, and have n nodes
+-- a configuration after n steps of a run on w: its trees are built of productions, spell what was
+-- read, and have n nodes
 record Tracks (g : List Production) (states : ℕ → Contents) (w : List TerminalString) (n : ℕ) (c : Configuration) : Type 0 where
   stack : IsStackOf states c
   input : spelled c.trees ++ c.rest ≡ w
   steps : counted c.trees ≡ n
   of_grammar : AreOfGrammar g (trees_of c.trees)
 
--- what a parse is
+-- a parse is built of productions, has the list as its leaves, and has a node for each step, within
+-- the limit
 pub record IsBuilt (g : List Production) (states : ℕ → Contents) (w : List TerminalString) (limit : ℕ) (t : Tree) : Type 0 where
   pub of_grammar : AreOfGrammar g (beside t no_trees)
   pub of_list : leaves (beside t no_trees) ≡ w
@@ -65,7 +68,7 @@ pub record IsBuilt (g : List Production) (states : ℕ → Contents) (w : List T
   pub within : nodes (beside t no_trees) ≤ limit
 
 module _ (g : List Production) (states : ℕ → Contents) (count : ℕ) (lead : LeadAsItemsSay states count) (of : (n : ℕ) (r : Reduction) → Contains (states n).reductions r → Contains g r.production) where
-  -- what a reduction gathers
+  -- the trees after a reduction: they spell the input, and have a node more than there were steps
   record Gathered (w : List TerminalString) (n : ℕ) (c : Configuration) (trees : List Tree) : Type 0 where
     input : spelled trees ++ c.rest ≡ w
     steps : counted trees ≡ suc n
@@ -137,7 +140,7 @@ module _ (g : List Production) (states : ℕ → Contents) (count : ℕ) (lead :
   begin_tracks : (w : List TerminalString) → Tracks g states w 0 (begin w)
   begin_tracks w = record { stack = bottom; input = refl; steps = refl; of_grammar = tt }
 
-  -- what the last step leaves
+  -- the trees that the last step leaves
   ends_gathered : (w : List TerminalString) (n : ℕ) (c : Configuration) (trees : List Tree) → Tracks g states w n c → move states c ≡ Ends trees → Gathered w n c trees
   ends_gathered w n c trees tr e = go c.rest e
     where
@@ -160,7 +163,8 @@ module _ (g : List Production) (states : ℕ → Contents) (count : ℕ) (lead :
       go [] k = by_reduction Eof (reduction_on (states c.state).reductions Eof) refl k
       go (t ∷ rest) k = at_shift t rest ((states c.state).shift t) k
 
-  -- a tree that is answered is built of productions, its leaves are the list, and it has a node for each step
+  -- a tree of an outcome is built of productions, has the list as its leaves, and has a node for
+  -- each step
   pub parsed_built : (w : List TerminalString) (limit : ℕ) {t : Tree} → HasOutcome states w limit (Parsed t) → IsBuilt g states w limit t
   parsed_built w limit (parsed n c trees t l r e p) =
       let tr : Tracks g states w (0 + n) c = run_tracks w 0 r (begin_tracks w) in
@@ -175,7 +179,7 @@ module _ (g : List Production) (states : ℕ → Contents) (count : ℕ) (lead :
         within = omega (arith, exact, l);
       }
 
--- what stands in a part stands in the whole
+-- an element of a part is one of the whole
 in_front : {A : Type 0} (xs ys : List A) (k : ℕ) (y : A) → slice_get xs k ≡ Some y → (j : ℕ) × (slice_get (xs ++ ys) j ≡ Some y)
 in_front [] ys k y e = cc
 in_front (x ∷ xs) ys zero y e = (0, e)

@@ -1,4 +1,4 @@
--- Stacks that lie newest last are popped from their end.
+-- Stacks with the newest last are popped from their end.
 use Rattle.std.proofs.Common.{◌≡◌, ℕ, zero, suc, ◌+◌, ◌-◌, ◌<◌, ◌≤◌, Bool, List, [], ◌∷◌, ◌++◌, take, drop, length, map, reverse, get_or, Some, None, refl, sym, ap, ap₂, ◌∙◌, arith, length-append}
 use Rattle.std.specs.Prelude.{slice_get, option_map}
 use Rattle.std.specs.BTreeMap.{get}
@@ -11,7 +11,7 @@ use Rattle.lalrpop_parser.specs.Words.{numbers, trees_on, tree_of}
 use Rattle.lalrpop_parser.specs.declared.interpret.tree.ParseTree.{ParseTree}
 use Rattle.lalrpop_collections.proofs.theory.lists.Lists.{Ended, nothing, last, ended}
 
--- a list from its last element back is that of its last n elements and then that of the others
+-- a list read from its last element is the last n elements and then the others
 record IsSplit {A : Type 0} (n : ℕ) (xs : List A) : Type 0 where
   whole : reverse xs ≡ reverse (drop (length xs - n) xs) ++ reverse (take (length xs - n) xs)
   front : length (reverse (drop (length xs - n) xs)) ≡ n
@@ -22,7 +22,7 @@ split n xs l = record {
   front = length-reverse (drop (length xs - n) xs) ∙ length-drop (length xs - n) xs ∙ (let e : length xs - (length xs - n) ≡ n = omega arith in e);
 }
 
--- the newest n, oldest first
+-- the newest n elements, the oldest first
 pub newest : {A : Type 0} (n : ℕ) (xs : List A) → n ≤ length xs → reverse (take n (reverse xs)) ≡ drop (length xs - n) xs
 newest n xs l =
     let s = split n xs l in
@@ -33,7 +33,7 @@ newest n xs l =
     ∙ ap reverse (take-append_seam front back)
     ∙ reverse-reverse (drop (length xs - n) xs)
 
--- what is left without the newest n
+-- the list without its newest n elements
 pub without : {A : Type 0} (n : ℕ) (xs : List A) → n ≤ length xs → drop n (reverse xs) ≡ reverse (take (length xs - n) xs)
 without n xs l =
     let s = split n xs l in
@@ -50,7 +50,7 @@ numbers_more xs x = ap reverse (map-append number_of xs (x ∷ [])) ∙ reverse_
 pub trees_more : (xs : List ParseTree) (x : ParseTree) → trees_on (xs ++ x ∷ []) ≡ tree_of x ∷ trees_on xs
 trees_more xs x = ap reverse (map-append tree_of xs (x ∷ [])) ∙ reverse_more (map tree_of xs) (tree_of x)
 
--- the newest trees go under the new one
+-- the newest trees go below the new one
 pub reduced_trees : (p : Production) (trees after : List ParseTree) (made : ParseTree) → length p.symbols ≤ length trees →
     tree_of made ≡ Node p.nonterminal (trees_of (map tree_of (drop (length trees - length p.symbols) trees))) →
     after ≡ take (length trees - length p.symbols) trees ++ made ∷ [] → reduced p (trees_on trees) ≡ trees_on after
@@ -68,7 +68,7 @@ reduced_trees p trees after made l is e =
     ∙ sym (trees_more (take (length trees - n) trees) made)
     ∙ ap trees_on (sym e)
 
--- the states below the newest n
+-- the states below the newest n states
 pub numbers_left : (n : ℕ) (below : List StateIndex) (s : StateIndex) → n ≤ length below → drop n (s.0 ∷ numbers below) ≡ numbers (take (length below + 1 - n) (below ++ s ∷ []))
 numbers_left n below s l =
     let stack = below ++ s ∷ [] in
@@ -85,7 +85,7 @@ get_last : {A : Type 0} (xs : List A) (x d : A) → get_or (xs ++ x ∷ []) (len
 get_last [] x d = refl
 get_last (y ∷ xs) x d = get_last xs x d
 
--- the state on top, and those under it
+-- the state on top, and those below it
 pub topped : (stack : List StateIndex) (top : StateIndex) → 0 < length stack → top ≡ get_or stack (length stack - 1) top → (under : List ℕ) × (numbers stack ≡ top.0 ∷ under)
 topped stack top some at = go (ended stack) some at
   where
@@ -104,7 +104,7 @@ received_by holds states p number under state stack trees rest e there =
     ap (λ l. received (contents_in holds states) p l trees rest) e
     ∙ ap (λ o. goes_on ((contents_at holds o).goto p.nonterminal) number under trees rest) there
 
--- what stands in a beginning stands in the list
+-- an element of the front of a list is one of the list
 pub stands_in : {A : Type 0} (m : ℕ) (xs : List A) (j : ℕ) (x : A) → slice_get (take m xs) j ≡ Some x → slice_get xs j ≡ Some x
 stands_in zero xs j x e = cc
 stands_in (suc m) [] j x e = e

@@ -1,4 +1,5 @@
--- Over states that lead to one another as their items say, no reduction meets a stack that is too short.
+-- Over states that lead to one another as their items say, no reduction meets a stack that is too
+-- short.
 use Rattle.std.proofs.Common.{◌≡◌, ℕ, zero, suc, ◌<◌, ◌≤◌, Bool, true, false, cond, List, [], ◌∷◌, ◌++◌, take, drop, length, sym, subst, refl, ap, ◌∙◌, Option, Some, None, unwrap_or, arith}
 use Rattle.std.specs.Prelude.{Contains, slice_get}
 use Rattle.lalrpop_parser.proofs.Types.{Production, Symbol, TerminalString, Token}
@@ -21,7 +22,7 @@ abbrev pub onto : Trees → List Tree → List Tree
 onto no_trees trees = trees
 onto (beside t ts) trees = onto ts (t ∷ trees)
 
--- trees, and then one more
+-- trees, with one more at the end
 abbrev pub then_tree : Trees → Tree → Trees
 then_tree no_trees t = beside t no_trees
 then_tree (beside u ts) t = beside u (then_tree ts t)
@@ -34,7 +35,7 @@ roots-then : (ts : Trees) (t : Tree) → roots (then_tree ts t) ≡ roots ts ++ 
 roots-then no_trees t = refl
 roots-then (beside u ts) t = ap (λ l. root u ∷ l) (roots-then ts t)
 
--- the symbol at a place is the next one of a longer beginning
+-- the symbol at a place is the next one of a longer front
 take_next : {A : Type 0} (n : ℕ) (xs : List A) (x : A) → slice_get xs n ≡ Some x → take (suc n) xs ≡ take n xs ++ x ∷ []
 take_next n [] x e = cc
 take_next zero (y ∷ xs) x e = ap (λ z. z ∷ []) (ap (λ o. unwrap_or o y) e)
@@ -57,7 +58,7 @@ pub record Popped (states : ℕ → Contents) (l : List Symbol) (n s : ℕ) (bel
   pub fits : n ≤ length below
 
 module _ (states : ℕ → Contents) (count : ℕ) (lead : LeadAsItemsSay states count) where
-  -- under a state with a dotted production lie the symbols before the dot
+  -- below a state with a dotted production are the symbols before the dot
   pub pop : {s : ℕ} {below : List ℕ} {trees : List Tree} → IsStack states s below trees → (p : Production) (d : ℕ) → Contains (states s).items (p, d) → Popped states (take d p.symbols) d s below trees
   pop {s} {below} {trees} st p zero h = record { state = s; under = below; kept = trees; taken = no_trees; stack = st; back = refl; joined = refl; symbols = refl; fits = omega arith }
   pop bottom p (suc d) h = absurd (let e : suc d ≡ 0 = lead.start p (suc d) h in omega arith)
@@ -92,7 +93,7 @@ module _ (states : ℕ → Contents) (count : ℕ) (lead : LeadAsItemsSay states
       omega (arith, within)
   on_stack some (above t m st e) (suc k) n h = on_stack some st k n h
 
--- the first reduction that holds a token is one of them
+-- the first reduction that holds a token is in the list
 pub first_is : (rs : List Reduction) (t : Token) (p : Production) → reduction_on rs t ≡ Some p → (r : Reduction) × Contains rs r × (r.production ≡ p)
 first_is [] t p e = cc
 first_is (r ∷ rs) t p e = go (r.holds t) e (first_is rs t p)
@@ -101,7 +102,7 @@ first_is (r ∷ rs) t p e = go (r.holds t) e (first_is rs t p)
     go true k more = (r, (0, omega arith, refl), ap (λ o. unwrap_or o p) k)
     go false k more = let m = more k in (m.0, (suc m.1.0, omega (arith, m.1.1), m.1.2), m.2)
 
--- what a reduction finds: its symbols on the stack, and what it leaves
+-- for a reduction by a production: its symbols on the stack, a reduction of the state, and the move
 pub record Found (states : ℕ → Contents) (c : Configuration) (p : Production) : Type 0 where
   pub popped : Popped states p.symbols (length p.symbols) c.state c.below c.trees
   pub by : (r : Reduction) × Contains (states c.state).reductions r × (r.production ≡ p)
@@ -125,7 +126,7 @@ module _ (states : ℕ → Contents) (count : ℕ) (lead : LeadAsItemsSay states
             ∙ ap (λ ts. received states p (k.state ∷ k.under) ts c.rest) (reduced_is p k.taken k.kept k.symbols);
       }
 
-  -- a reduction leaves a stack
+  -- after a reduction there is a stack
   pub reduction_keeps : (c d : Configuration) (p : Production) → Found states c p → received states p (drop (length p.symbols) (c.state ∷ c.below)) (reduced p c.trees) c.rest ≡ Goes d → IsStackOf states d
   reduction_keeps c d p f e = go ((states f.popped.state).goto p.nonterminal) refl (sym f.move_is ∙ e)
     where
@@ -137,7 +138,7 @@ module _ (states : ℕ → Contents) (count : ℕ) (lead : LeadAsItemsSay states
   by_reduction c d t st None h e = cc
   by_reduction c d t st (Some p) h e = reduction_keeps c d p (found c t p st h) e
 
-  -- a step leaves a stack
+  -- after a step there is a stack
   pub step_keeps : (c d : Configuration) → move states c ≡ Goes d → IsStackOf states c → IsStackOf states d
   step_keeps c d e st = go c.rest e
     where

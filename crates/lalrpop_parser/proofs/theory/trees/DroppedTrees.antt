@@ -1,4 +1,4 @@
--- Trees that are dropped: how many nodes are left.
+-- Trees that are dropped: the number of nodes that are left.
 use Rattle.std.proofs.Common.{◌≡◌, ◌+◌, ◌<◌, ℕ, suc, List, [], ◌∷◌, ◌++◌, Vec, Global, map, refl, ap, ◌∙◌, arith}
 use Rattle.lalrpop_base.specs.Words.{Tree, Leaf, Node, Trees, beside, trees_of, nodes}
 use Rattle.lalrpop_parser.proofs.Types.{NonterminalString}
@@ -12,7 +12,7 @@ use Rattle.lalrpop_parser.proofs.interpret.tree.ParseTree.TheLaws.{the_size}
 use Rattle.lalrpop_parser.proofs.theory.trees.TreeViews.{tree_of_roll}
 use Rattle.lalrpop_parser.proofs.theory.runs.Parses.{nodes_cons}
 
--- trees have the nodes of the first and those of the others
+-- the nodes of trees are those of the first and those of the others
 pub tree_nodes_cons : (x : ParseTree) (xs : List ParseTree) → tree_nodes (x ∷ xs) ≡ tree_nodes (x ∷ []) + tree_nodes xs
 tree_nodes_cons x xs = nodes_cons (tree_of x) (trees_of (map tree_of xs))
 
@@ -20,14 +20,14 @@ some_node : (t : Tree) (ts : Trees) → 0 < nodes (beside t ts)
 some_node (Leaf x) ts = omega arith
 some_node (Node a children) ts = omega arith
 
--- no nodes are in no trees alone
+-- only a list without trees has no nodes
 pub no_nodes : (xs : List ParseTree) → tree_nodes xs ≡ 0 → xs ≡ []
 no_nodes [] none = refl
 no_nodes (x ∷ xs) none =
     let some : 0 < tree_nodes (x ∷ xs) = some_node (tree_of x) (trees_of (map tree_of xs)) in
     absurd (omega (arith, some, none))
 
--- a node and its children are one more than the children
+-- a node with its children has one node more than the children
 pub nodes_below : (x : ParseTree) (a : NonterminalString) (children xs : List ParseTree) → tree_of x ≡ Node a (trees_of (map tree_of children)) → tree_nodes (x ∷ xs) ≡ suc (tree_nodes children + tree_nodes xs)
 nodes_below x a children xs is = ap (λ (t : Tree). nodes (beside t (trees_of (map tree_of xs)))) is
 
@@ -42,7 +42,7 @@ last_first (y ∷ front) x =
     let u : tree_nodes (y ∷ front) ≡ tree_nodes (y ∷ []) + tree_nodes front = tree_nodes_cons y front in
     omega (arith, h, l, r, s, u)
 
--- a tree is popped, and a node of it or of the others is dropped
+-- if a tree is popped and a node of it or of the others is dropped, there are fewer nodes
 pub one_fewer : (rest front after : List ParseTree) (x bare : ParseTree) → rest ≡ front ++ x ∷ [] → tree_nodes (bare ∷ after) ≡ tree_nodes (x ∷ front) → tree_nodes (bare ∷ []) ≡ 1 → tree_nodes after < tree_nodes rest
 one_fewer rest front after x bare popped kept one =
     let whole : tree_nodes rest ≡ tree_nodes (x ∷ front) = ap tree_nodes popped ∙ last_first front x in
@@ -60,7 +60,7 @@ bare_node x a children is one =
 one_more : (n m : ℕ) → n ≡ m + 1 → 0 < n
 one_more n m e = omega (arith, e)
 
--- each tree has a depth
+-- each tree has a depth of at least 1
 pub some_depth : (x : ParseTree) → 0 < the_size x
 unfolding denote.Hole.Rolled.depth Rattle.lalrpop_parser.specs.declared.interpret.tree.ParseTree.TheBlock.the_depth
 some_depth x = one_more (the_size x) _ (depth_is _ _ _ _ x)

@@ -1,4 +1,4 @@
--- Leaves of the trees on a stack, whose last tree is read first.
+-- The leaves of the trees on a stack, of which the last is read first.
 use Rattle.std.proofs.Common.{◌≡◌, ◌+◌, ◌<◌, suc, List, [], ◌∷◌, ◌++◌, reverse, refl, ap, sym, ◌∙◌, arith, append_assoc}
 use Rattle.std.proofs.lemmas.List.{reverse-append, reverse-reverse}
 use Rattle.lalrpop_base.specs.Words.{Tree, Leaf, Node, trees_of, nodes, leaves}
@@ -22,18 +22,18 @@ nodes_reverse (t ∷ ts) =
     let s : nodes (trees_of (t ∷ ts)) ≡ nodes (trees_of (t ∷ [])) + nodes (trees_of ts) = nodes_append (t ∷ []) ts in
     omega (arith, h, e, s)
 
--- a tree goes from the end of one list to the end of the other, which is read backwards
+-- a tree moves from the end of one list to the end of the other, which is read backwards
 pub over_to : (stack front : List Tree) (t : Tree) → (stack ++ t ∷ []) ++ reverse front ≡ stack ++ reverse (front ++ t ∷ [])
 over_to stack front t = append_assoc stack (t ∷ []) (reverse front) ∙ ap (λ l. stack ++ l) (sym (reverse-append front (t ∷ [])))
 
--- a leaf is taken from the stack
+-- the leaves if a leaf is taken from the stack
 pub leaf_read : (front : List Tree) (x : TerminalString) → leaves (trees_of (reverse (front ++ Leaf x ∷ []))) ≡ x ∷ leaves (trees_of (reverse front))
 leaf_read front x = ap (λ l. leaves (trees_of l)) (reverse-append front (Leaf x ∷ []))
 
 pub leaf_fewer : (front : List Tree) (x : TerminalString) → nodes (trees_of front) < nodes (trees_of (front ++ Leaf x ∷ []))
 leaf_fewer front x = let h : nodes (trees_of (front ++ Leaf x ∷ [])) ≡ nodes (trees_of front) + nodes (trees_of (Leaf x ∷ [])) = nodes_append front (Leaf x ∷ []) in omega (arith, h)
 
--- a node is taken from the stack, and its children are put on it
+-- the leaves stay if a node is taken from the stack and its children are pushed
 pub node_read : (front : List Tree) (a : NonterminalString) (children : List Tree) → leaves (trees_of (reverse (front ++ Node a (trees_of children) ∷ []))) ≡ leaves (trees_of (reverse (front ++ reverse children)))
 node_read front a children =
     ap (λ l. leaves (trees_of l)) (reverse-append front (Node a (trees_of children) ∷ []))

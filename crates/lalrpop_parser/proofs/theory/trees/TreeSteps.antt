@@ -1,4 +1,4 @@
--- Steps over trees: how a walk makes them, what tree they make again, and what they write.
+-- Steps over trees: how a walk makes them, and the tree and the text that they make.
 use Rattle.std.proofs.Common.{◌≡◌, ◌↔◌, ℕ, Bool, true, false, List, [], ◌∷◌, ◌++◌, codes, refl, ap, sym, ◌∙◌, append-nil, append_assoc}
 use Rattle.lalrpop_base.specs.Words.{Tree, Leaf, Node, Trees, no_trees, beside, trees_of, terminal_text, nonterminal_text}
 use Rattle.lalrpop_parser.proofs.Types.{NonterminalString, TerminalString}
@@ -6,18 +6,18 @@ use Rattle.lalrpop_parser.specs.Words.{Step, enters, meets_leaf, leaves_node, st
 use Rattle.lalrpop_parser.proofs.theory.trees.TreeViews.{listed, listed-trees, trees-listed, children_of}
 
 -- ---- the next step
--- to a leaf
+-- the step to a leaf
 pub meets_first : (t : TerminalString) (here : Trees) (around : List Trees) → steps_left (beside (Leaf t) here) around ≡ meets_leaf t ∷ steps_left here around
 meets_first t here [] = refl
 meets_first t here (r ∷ outer) = refl
 
--- into a node
+-- the step into a node
 pub enters_first : (a : NonterminalString) (children here : Trees) (around : List Trees) → steps_left (beside (Node a children) here) around ≡ enters a ∷ steps_left children (here ∷ around)
 enters_first a children here [] = refl
 enters_first a children here (r ∷ outer) = ap (λ l. enters a ∷ l) (append_assoc (steps_over children) (leaves_node ∷ steps_over here) (leaves_node ∷ steps_left r outer))
 
--- ---- what steps make
--- the trees of a list are made behind those that were there
+-- ---- the tree that steps make
+-- the trees of a list are made after those that were there
 pub made_over : (ts : Trees) (a : NonterminalString) (made : List Tree) (around : List (NonterminalString × List Tree)) (steps : List Step) → tree_by a made around (steps_over ts ++ steps) ≡ tree_by a (made ++ listed ts) around steps
 made_over no_trees a made around steps = ap (λ l. tree_by a l around steps) (sym (append-nil made))
 made_over (beside (Leaf t) ts) a made around steps =
@@ -37,19 +37,19 @@ made_whole ts a =
     ∙ made_over ts a [] [] []
     ∙ ap (λ l. Node a l) (trees-listed ts)
 
--- and trees with the same steps are the same
+-- trees with the same steps are the same
 pub same_trees : (ts us : Trees) (a : NonterminalString) → steps_over ts ≡ steps_over us → ts ≡ us
 same_trees ts us a same = ap children_of (sym (made_whole ts a) ∙ ap (λ l. tree_by a [] [] l) same ∙ made_whole us a)
 
--- lists of trees have the same steps exactly where they are the same
+-- lists of trees have the same steps exactly if they are the same
 pub same_steps : (ts us : List Tree) → (steps_over (trees_of ts) ≡ steps_over (trees_of us)) ↔ (ts ≡ us)
 same_steps ts us = (
   λ h. sym (listed-trees ts) ∙ ap listed (same_trees (trees_of ts) (trees_of us) (record { text = [] }) h) ∙ listed-trees us,
   λ h. ap (λ (l : List Tree). steps_over (trees_of l)) h,
 )
 
--- ---- what steps write
--- whether a tree that follows is the first
+-- ---- the text that steps write
+-- whether a tree that comes after some trees is the first one
 abbrev pub is_first_behind : Bool → Trees → Bool
 is_first_behind is_first no_trees = is_first
 is_first_behind is_first (beside t ts) = false
@@ -58,7 +58,7 @@ others_follow : (ts : Trees) → is_first_behind false ts ≡ false
 others_follow no_trees = refl
 others_follow (beside t ts) = refl
 
--- four texts in a row, and one behind them
+-- four texts in a row, and one more after them
 in_a_row : (s b n c r : List ℕ) → (s ++ (b ++ (n ++ c))) ++ r ≡ s ++ (b ++ (n ++ (c ++ r)))
 in_a_row s b n c r =
     append_assoc s (b ++ (n ++ c)) r
@@ -68,7 +68,7 @@ in_a_row s b n c r =
 three_in_a_row : (m e t r : List ℕ) → (m ++ (e ++ t)) ++ r ≡ m ++ (e ++ (t ++ r))
 three_in_a_row m e t r = append_assoc m (e ++ t) r ∙ ap (λ l. m ++ l) (append_assoc e t r)
 
--- the steps over trees write their text, and then the other steps go on
+-- the steps over trees write the text of these, and then the other steps go on
 pub written_over : (ts : Trees) (is_first : Bool) (steps : List Step) → steps_text is_first (steps_over ts ++ steps) ≡ trees_text is_first ts ++ steps_text (is_first_behind is_first ts) steps
 written_over no_trees is_first steps = refl
 written_over (beside (Leaf t) ts) is_first steps =
@@ -96,7 +96,7 @@ written_over (beside (Node a children) ts) is_first steps =
     ∙ ap (λ l. s ++ (b ++ (n ++ l))) (sym (append_assoc c (m ++ (e ++ t)) r))
     ∙ sym (in_a_row s b n (c ++ (m ++ (e ++ t))) r)
 
--- the steps over the children of a node write them
+-- the steps over the children of a node write their text
 pub written_whole : (ts : Trees) → steps_text true (steps_over ts) ≡ trees_text true ts
 written_whole ts =
     ap (steps_text true) (sym (append-nil (steps_over ts)))

@@ -1,4 +1,4 @@
--- Trees of the code, and the trees that they are.
+-- Trees of the code, and the trees that they represent.
 use Rattle.std.proofs.Common.{◌≡◌, ◌↔◌, Bool, true, List, [], ◌∷◌, ◌++◌, map, refl, ap, ap₂, sym, ◌∙◌, append-nil}
 use Rattle.lalrpop_states.proofs.theory.states.HeldTokens.{same_test}
 use Rattle.lalrpop_base.specs.Words.{Tree, Leaf, Node, Trees, no_trees, beside, trees_of, leaves}
@@ -9,7 +9,7 @@ use Rattle.lalrpop_parser.specs.declared.interpret.tree.ParseTree.TheOpen as Ope
 use Rattle.lalrpop_parser.specs.declared.interpret.tree.ParseTree.TheViews.{roll-ParseTree}
 use Rattle.lalrpop_parser.specs.declared.interpret.tree.ParseTree.TheFolds.{fold-roll-ParseTree}
 
--- one node, with the trees of its children
+-- a node with the trees of its children
 abbrev pub tree_from : Open.ParseTree-F ParseTree → Tree
 tree_from (Open.Nonterminal name children) = Node name (trees_of (map tree_of children.items))
 tree_from (Open.Terminal t) = Leaf t
@@ -40,13 +40,13 @@ abbrev pub children_of : Tree → Trees
 children_of (Leaf t) = no_trees
 children_of (Node a children) = children
 
--- two nodes of one name are the same exactly where their children are
+-- two nodes of one name are the same exactly if their children are
 pub same_nodes : (a b : NonterminalString) (ts us : List Tree) → a ≡ b → (Node a (trees_of ts) ≡ Node b (trees_of us)) ↔ (ts ≡ us)
 same_nodes a b ts us e = (
   λ h. sym (listed-trees ts) ∙ ap (λ t. listed (children_of t)) h ∙ listed-trees us,
   λ h. ap₂ (λ x l. Node x (trees_of l)) e h,
 )
 
--- a test that tells whether trees are the same is that of equality
+-- a test that is true exactly for equal trees is the test of equality
 pub same_as_equal : (b : Bool) (t u : Tree) → (b ≡ true) ↔ (t ≡ u) → b ≡ equal_tree t u
 same_as_equal b t u h = same_test b (equal_tree t u) (λ k. tree_same t u (h.0 k), λ k. h.1 (tree_exact t u k))

@@ -23,8 +23,8 @@ pub(super) fn are_equal(tree: &ParseTree, other: &ParseTree) -> bool
     }
 }
 
-// Whether two lists of trees are the same. Where there is no memory to walk over them, they are
-// compared by recursion.
+// Whether two lists of trees are the same. If an allocation for the walks fails, they are compared
+// by recursion.
 fn have_equal(alloc: Global, trees: &Vec<ParseTree>, others: &Vec<ParseTree>) -> bool
     ensures { IsTrue result ↔ (map tree_of trees.now.items ≡ map tree_of others.now.items) }
 {
@@ -52,7 +52,7 @@ fn have_same_steps(
     Ok(other.next()?.is_none())
 }
 
-// Whether the next step of a walk is this one.
+// Makes the next step of a walk. The result is whether it is the given one.
 fn makes(walk: &mut TreeWalk<'_>, step: &TreeStep<'_>) -> Result<bool, OutOfMemory>
     ensures same { IfOk result
         (λ made. IsTrue made → steps_of walk.old ≡ step_of step.now ∷ steps_of walk.new) }

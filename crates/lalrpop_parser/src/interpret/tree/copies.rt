@@ -11,7 +11,7 @@ use lalrpop_base::repr::NonterminalString;
 use std::alloc::Global;
 use std::mem;
 
-/// A node that has not all its children yet.
+/// A node that does not have all its children yet.
 #[derive(Drop)]
 pub(super) struct OpenNode {
     name: NonterminalString,
@@ -46,7 +46,7 @@ fn open(alloc: Global, name: &NonterminalString) -> Result<OpenNode, OutOfMemory
     })
 }
 
-// Makes a step of the original in the copy.
+// Makes a step of the walk over the original in the copy.
 fn copy_step(
     alloc: Global,
     step: &TreeStep<'_>,
@@ -68,7 +68,7 @@ fn copy_step(
     Ok(())
 }
 
-// Puts a node below the innermost one around it.
+// Closes the innermost node: it becomes the last child of the node around it.
 fn close(node: &mut OpenNode, around: &mut Vec<OpenNode>) -> Result<(), OutOfMemory>
     ensures { (steps : List Step) →
         OnOk result (tree_within node.old around.old.items (leaves_node ∷ steps)

@@ -9,7 +9,7 @@ use super::walk::{TreeStep, TreeWalk};
 use std::alloc::Global;
 use std::fmt;
 
-/// Writes a tree. Where there is no memory to walk over it, that is an error.
+/// Writes a tree. An allocation failure is an error of the formatter.
 pub(super) fn show_tree<W: fmt::Write>(tree: &ParseTree, f: &mut fmt::Formatter<W>) -> fmt::Result
     ensures { WritesOnOk W.write_str_gives f.old result (tree_text tree.now) f.new }
 {
@@ -41,7 +41,7 @@ fn show_children<W: fmt::Write>(
     Ok(())
 }
 
-// The next step of a walk. Want of memory is an error of the text.
+// The next step of a walk. An allocation failure is an error of the formatter.
 fn next_step<'tree>(walk: &mut TreeWalk<'tree>) -> Result<Option<TreeStep<'tree>>, fmt::Error>
     ensures { IfOk result (λ step. GivesStep step (steps_of walk.old) (steps_of walk.new)) }
 {
@@ -51,7 +51,7 @@ fn next_step<'tree>(walk: &mut TreeWalk<'tree>) -> Result<Option<TreeStep<'tree>
     }
 }
 
-// Writes what a step writes.
+// Writes the text of a step.
 fn show_step<W: fmt::Write>(
     is_first: bool,
     step: &TreeStep<'_>,

@@ -1,4 +1,4 @@
-//! A walk over trees from the left, with its own stack.
+//! A walk over trees from left to right, with a stack of its own.
 ghost use Rattle.std.specs.Prelude.{◌≡◌, ◌∷◌, [], IfOk};
 ghost use Rattle.lalrpop_base.specs.Words.{beside};
 ghost use Rattle.lalrpop_parser.specs.trees.ParseTrees.{tree_of};
@@ -16,12 +16,12 @@ pub(super) enum TreeStep<'tree> {
     Enter(&'tree NonterminalString),
     /// Meets a leaf.
     Meet(&'tree TerminalString),
-    /// Leaves the node that it entered last and has not left.
+    /// Leaves the innermost node that it is in.
     Leave,
 }
 
-/// How far a walk has come: the trees that are left in the innermost node that it is in, and those
-/// that are left in each node around, the outermost first.
+/// The progress of a walk. `here` has the trees that are left in the innermost node. `around` has
+/// those that are left in each node around it, the outermost first.
 #[derive(Drop)]
 pub(super) struct TreeWalk<'tree> {
     here: &'tree [ParseTree],
@@ -38,7 +38,7 @@ impl<'tree> TreeWalk<'tree> {
         }
     }
 
-    /// The next step, or none at the end.
+    /// The next step, or `None` at the end. The error is `OutOfMemory` if an allocation fails.
     pub(super) fn next(&mut self) -> Result<Option<TreeStep<'tree>>, OutOfMemory>
         ensures { IfOk result (λ step. GivesStep step (steps_of self.old) (steps_of self.new)) }
     {
@@ -52,7 +52,7 @@ impl<'tree> TreeWalk<'tree> {
         }
     }
 
-    // The step to a tree, behind which the trees stand that are left here.
+    // Makes the step to a tree. `here` has the trees after it.
     fn come_to(&mut self, tree: &'tree ParseTree) -> Result<TreeStep<'tree>, OutOfMemory>
         ensures { IfOk result (λ step. steps_left
             (beside (tree_of tree.now) (forest_of self.old.here.now)) (around_of self.old)
@@ -68,7 +68,8 @@ impl<'tree> TreeWalk<'tree> {
         }
     }
 
-    // The step out of a node in which no trees are left.
+    // Makes the step out of the innermost node, which has no trees left. `None` if there is no such
+    // node.
     fn leave(&mut self) -> Option<TreeStep<'tree>>
         requires { self.old.here.now ≡ [] }
         ensures { GivesStep result (steps_of self.old) (steps_of self.new) }

@@ -1,4 +1,4 @@
--- The numbers of a list, ascending, each once, as the keys of a set.
+-- The numbers of a list, rising, each once, as the keys of a set.
 use Rattle.std.proofs.Common.{◌≡◌, ℕ, ◌==◌, ◌||◌, Bool, true, false, cond, List, [], ◌∷◌, ◌++◌, refl, sym, ap, ◌∙◌, arith}
 use Rattle.std.specs.List.{list_any}
 use Rattle.std.specs.Ordering.{nat_cmp, eq_by_cmp}
@@ -38,7 +38,7 @@ one_number_more old new numbers k had updates ordered = record {
   ordered = ordered;
 }
 
--- the keys of the set are the numbers of the list, ascending
+-- the keys of the set are the numbers of the list, rising, each once
 pub keys_ascend : (set : BTreeSet ℕ) (numbers : List ℕ) → HasNumbers set numbers → set.keys ≡ ascending numbers
 keys_ascend set numbers held =
     sym (rising-bits_of set.keys (λ i j less inside. below_from_sorted set.keys i j 0 held.ordered less inside))

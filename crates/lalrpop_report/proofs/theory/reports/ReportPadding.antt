@@ -1,4 +1,4 @@
--- What a text in a width is: the text, and spaces on its right.
+-- A text that is padded to a width: the text, and spaces on its right.
 use Rattle.std.proofs.Common.{◌≡◌, ℕ, zero, suc, ◌-◌, ◌<◌, ◌≤◌, ◌^◌, ◌++◌, ◌==◌, true, false, cond, List, [], ◌∷◌, length, replicate, refl, ap, arith, ⊎_elim, eqb-true}
 use Rattle.std.proofs.lemmas.Bool.{cases_Bool}
 use borrow.Author.Tests.{ne_eqb}

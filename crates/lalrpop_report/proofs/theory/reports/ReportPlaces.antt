@@ -11,7 +11,7 @@ use Rattle.lalrpop_base.specs.Words.{collection_at, PushesAt}
 use Rattle.lalrpop_report.proofs.Types.{Conflict}
 use Rattle.lalrpop_report.specs.Words.{conflicts_in, places_of, ArePlacesOf}
 
--- a push lists a place behind the others
+-- a push lists a place after the others
 abbrev Pushed : {A : Type 0} → Option (Vec ℕ A) → ℕ → Option (Vec ℕ A) → Type 0
 Pushed {A} = PushesAt (λ (v : Vec ℕ A). v.items ≡ []) (λ (v : Vec ℕ A) (place : ℕ) (w : Vec ℕ A). w.items ≡ v.items ++ place ∷ [])
 

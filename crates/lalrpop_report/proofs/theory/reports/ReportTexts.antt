@@ -13,7 +13,7 @@ use Rattle.std.proofs.Output.{contents_after_writes}
 pub no_rising : rising no_bits ≡ []
 no_rising = rising-bits_of [] (λ i j l inside. omega arith)
 
--- where there are tokens, there is a line
+-- if there are tokens, there is a line
 pub some_line : (tokens : List Token) → tokens ≢ [] → tokens_line tokens ≡ codes "        lookahead" ++ (tokens_text tokens ++ codes "\n")
 some_line [] some = absurd (some refl)
 some_line (t ∷ tokens) some = refl
@@ -22,16 +22,16 @@ mapped_nil : {A B : Type 0} (f : A → B) (xs : List A) → map f xs ≡ [] → 
 mapped_nil f [] none = refl
 mapped_nil f (x ∷ xs) none = cc
 
--- a list of tokens has as many as the set has bits
+-- if a set has a bit, its list of tokens is not empty
 pub some_tokens : (terminals : List TerminalString) (set : Bits) → rising set ≢ [] → tokens_in terminals set ≢ []
 some_tokens terminals set some none = some (mapped_nil (token_of terminals) (rising set) none)
 
--- what holds on success holds where there was one
+-- what holds after a success holds if there was one
 pub on_ok : {T E P : Type 0} → (r : Result T E) → is_ok r ≡ true → OnOk r P → P
 on_ok (Ok x) good holds = holds
 on_ok (Err e) good holds = absurd (true≢false (sym good))
 
--- a text that grew by what was written
+-- the text has grown by what was written
 pub text_after : {A T E : Type 0} (r : Result T E) (old new : String A) (written : List ℕ) → is_ok r ≡ true →
     OnOk r (WritesInCalls (λ (s : String A) (bytes : List ℕ) (t : String A). string_bytes t ≡ string_bytes s ++ bytes) old written new) → string_bytes new ≡ string_bytes old ++ written
 text_after r old new written good wrote = contents_after_writes _ string_bytes (λ s bytes t e. e) old written new (on_ok r good wrote)
@@ -41,7 +41,7 @@ pub no_line : (terminals : List TerminalString) (bits : List ℕ) (told : Bool) 
 no_line terminals [] told some none = refl
 no_line terminals (b ∷ bits) told some none = absurd (true≢false (sym (some (λ e. cc)) ∙ none))
 
--- the blocks of the conflicts at the places of a list are those of the list
+-- the blocks of the conflicts at some places are those of the conflicts
 pub blocks_at_places : {C : Type 0} (block : C → List ℕ) (at : Option C → List ℕ) (conflicts : List C) (places : List ℕ) (own : List C) → ((c : C) → at (Some c) ≡ block c) →
     map (slice_get conflicts) places ≡ map (λ (c : C). Some c) own → flat_map (λ place. at (slice_get conflicts place)) places ≡ flat_map block own
 blocks_at_places block at conflicts [] [] each same = refl

@@ -1,4 +1,4 @@
--- Graphs that follow the copies of states.
+-- The update of a graph after states were copied.
 use Rattle.std.proofs.Common.{◌≡◌, ℕ, suc, ◌+◌, ◌<◌, ◌≤◌, inl, inr, true, false, List, [], ◌∷◌, ◌++◌, map, filter, take, drop, length, get_or, refl, sym, ◌∙◌, ap, subst, arith, cond, append_assoc, append-nil}
 use Rattle.std.specs.Prelude.{◌==◌, Contains, slice_get, Some, unwrap_or}
 use Rattle.std.specs.Map.{keys_of}
@@ -24,7 +24,7 @@ use Rattle.lalrpop_collections.proofs.theory.lists.Places.{same_some, slice_get_
 use Rattle.lalrpop_state_graph.proofs.theory.graphs.StateGraphs.{edges_more, map_cond, targets_append}
 use Rattle.lalrpop_state_graph.proofs.theory.graphs.MovedOrigins.{HaveApartSymbols, all_followed, followed_append}
 
--- the number at a place
+-- the number at an index of the list
 pub number_at : (xs : List ℕ) (n o : ℕ) → slice_get xs n ≡ Some o → number_in xs n ≡ o
 number_at xs n o at = ap (λ x. unwrap_or x n) at
 
@@ -70,7 +70,7 @@ module _ (originals : List ℕ) where
       let clash : Nonterminal (k.0).0 ≡ Terminal (h.0).0 = ap (λ (d : Edge). d.symbol) k.2 ∙ is ∙ sym (ap (λ (d : Edge). d.symbol) h.2) in
       cc)
 
-  -- no edge comes from the state
+  -- a state has no targets if no edge comes from it
   none_from : (n : StateIndex) (es : List Edge) → ((e : Edge) → Contains es e → e.source.0 ≡ n.0 → ⊥) → targets_from n es ≡ []
   none_from n [] none = refl
   none_from n (e ∷ es) none =
@@ -80,11 +80,11 @@ module _ (originals : List ℕ) where
   of_source : {L : Type 0} (n : StateIndex) (state : State L) (e : Edge) → Contains (edges_of n state) e → e.source.0 ≡ n.0
   of_source n state e c = ap (λ (k : StateIndex). k.0) ((of_state n state e c).0)
 
-  -- each edge led where it leads
+  -- a graph needs no update for a state without edges to copies
   pub state_unmoved : {L : Type 0} (source : StateIndex) (state : State L) (graph : StateGraph) → retargeted_all (number_in originals) state.shifts.entries ≡ state.shifts.entries → retargeted_all (number_in originals) state.gotos.entries ≡ state.gotos.entries → FollowsEdges originals source (edges_of source state) graph graph
   state_unmoved source state graph shifts gotos front back among g = subst (λ (es : List Edge). IsGraphOf (front ++ (es ++ back)) graph) (retraced_of source state state shifts gotos) g
 
-  -- the state has no targets, and then those of its edges
+  -- the targets of the state are removed, and then those of its edges are added
   module _ {L : Type 0} (source : StateIndex) (state : State L) (old b : StateGraph) (cleared : Vec (Vec StateIndex Global) Global) (shifts : AllDiffer (keys_of state.shifts.entries)) (gotos : AllDiffer (keys_of state.gotos.entries))
       (gone : IsChangedAt source.0 nothing old.successors.items cleared.items) (follows : FollowsInTurn originals (edges_of source state) (record old { successors = cleared }) b) where
     abbrev es : List Edge
@@ -132,7 +132,7 @@ module _ (originals : List ℕ) where
     state_followed front back among graph = record { targets = targets front back among graph; sources = sources front back among graph }
 
 -- ---- the states one after the other
--- the edges of the states up to a number as they are, and of those behind it as they were
+-- the new edges of the states below a number, and the old edges of the other states
 abbrev pub partway : List (State Bits) → List (State Bits) → ℕ → List Edge
 partway handed states i = edges (take i states) ++ edges_from i (drop i handed)
 
@@ -191,7 +191,7 @@ module _ (handed states : List (State Bits)) (originals : List ℕ) (copies : Ar
       ap (λ (xs : List (State Bits)). edges (take i states) ++ edges_from i xs) (drop_all i handed past) ∙ append-nil (edges (take i states))
       ) g
 
--- ---- one edge that follows
+-- ---- the update of one edge
 pub edge_stays : (originals : List ℕ) (e : Edge) (old : StateGraph) (listed : Vec (Vec StateIndex Global) Global) → IsListedAt e.source.0 e.target old.successors.items listed.items → number_in originals e.target.0 ≡ e.target.0 → FollowsInTurn originals (e ∷ []) old (record old { successors = listed })
 edge_stays originals e old listed more same = record {
   targets = λ n. more n.0 ∙ ap (λ ts. targets_of old n ++ ts) (map_cond target_of (e.source.0 == n.0) e);
@@ -208,7 +208,7 @@ edge_moves originals e was old listed gone come is differs more left came = reco
       ∙ sym (ap (λ b. cond b (origins_of old n) (moved (number_in originals e.target.0) e n.0 (origins_of old n))) (ne_eqb (number_in originals e.target.0) e.target.0 (λ same. differs (is ∙ same))));
 }
 
--- ---- edges that follow in turn
+-- ---- the update of edges in turn
 module _ (originals : List ℕ) where
   followed_on : (es fs : List Edge) (a b c : StateGraph) → FollowsInTurn originals es a b → FollowsInTurn originals fs b c → FollowsInTurn originals (es ++ fs) a c
   followed_on es fs a b c g h = record {
@@ -216,7 +216,7 @@ module _ (originals : List ℕ) where
     sources = λ n. h.sources n ∙ ap (followed_all originals fs n.0) (g.sources n) ∙ sym (followed_append originals es fs n.0 (origins_of a n));
   }
 
-  -- some edges followed, and with those that are left they are all
+  -- some edges were updated, and with those that are left they are all edges
   pub record IsFollowing (left all : List Edge) (old new : StateGraph) : Type 0 where
     pub done : List Edge
     pub followed_ones : FollowsInTurn originals done old new
@@ -241,7 +241,7 @@ module _ (originals : List ℕ) where
       ap (retargeted_all (number_in originals)) first ∙ ap (λ (n : ℕ). (k, index n) ∷ retargeted_all (number_in originals) rest) same
       ∙ ap (λ (es : List (K × StateIndex)). (k, t) ∷ es) others ∙ sym first
 
--- the copies stand behind the states
+-- there are at least as many states with the copies as before
 pub copies_longer : (handed states : List (State Bits)) (originals : List ℕ) → AreCopies false handed originals states → length handed ≤ length states
 copies_longer handed states originals c = elim (cases_lt (length states) (length handed)) [
   | inl l ↦ absurd (let w = slice_get_within originals (length states) (length states) (c.own (length states) l) in let k = c.counted in omega arith)

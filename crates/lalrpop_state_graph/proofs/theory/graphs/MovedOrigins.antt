@@ -1,4 +1,4 @@
--- The origins of edges that lead to copies one after the other.
+-- The origins of edges that are moved to copies one after the other.
 use Rattle.std.proofs.Common.{◌≡◌, ℕ, ◌<◌, ◌≤◌, inl, inr, Bool, true, false, not, List, [], ◌∷◌, ◌++◌, map, filter, length, get_or, refl, slice_set, sym, ◌∙◌, ap, cond, append_assoc, append-nil, IsTrue}
 use Rattle.std.specs.Prelude.{◌==◌, ◌↔◌, ◌&&◌, Contains}
 use Rattle.std.specs.declared.alloc.Global.{Global}
@@ -35,7 +35,7 @@ changed_past {X} f lists number none past n = elim (cases_Bool (number == n)) [
   | inr other ↦ ap (λ b. cond b (f (list_at lists n)) (list_at lists n)) (sym other)
 ]
 
--- ---- which origin is another one
+-- ---- whether an origin is another one
 pub other_source : (x : Symbol) (source : StateIndex) (o : Origin) → ((o.1).0 ≡ source.0 → ⊥) → is_other x source o ≡ true
 other_source x source o apart = ap (λ b. not (b && symbol_eq.ghosts.eq o.0 x)) (ne_eqb (o.1).0 source.0 apart)
 
@@ -56,7 +56,7 @@ other_told x source o true same told = sym (not_other x source o same (told.0 re
 other_told x source o false same told = sym (other_symbol x source o (λ is. true≢false (sym (told.1 is))))
 
 -- ---- the origins of edges in turn
--- the one origin of an edge, if it leads to the state
+-- a list with the origin of an edge, if the edge leads to the state, and otherwise an empty list
 abbrev pub its : ℕ → Edge → List Origin
 its n e = cond (e.target.0 == n) (origin_of e ∷ []) []
 
@@ -69,7 +69,7 @@ origins_cons n e es = elim (cases_Bool (e.target.0 == n.0)) [
 origins_midst : (n : StateIndex) (front : List Edge) (e : Edge) (back : List Edge) → origins n (front ++ e ∷ back) ≡ origins n front ++ (its n.0 e ++ origins n back)
 origins_midst n front e back = origins_append n front (e ∷ back) ∙ ap (λ os. origins n front ++ os) (origins_cons n e back)
 
--- none of the edges has the origin of the one
+-- none of the edges has the origin of the given edge
 abbrev pub HaveOthers : Edge → List Edge → Type 0
 HaveOthers e es = (f : Edge) → Contains es f → f.source.0 ≡ e.source.0 → f.symbol ≡ e.symbol → ⊥
 
@@ -98,19 +98,19 @@ others_stay e n (f ∷ es) apart =
     ∙ ap (λ os. its n.0 f ++ os) (others_stay e n es (λ g c. apart g (contains_tail f es g c)))
     ∙ sym (origins_cons n f es)
 
--- no edge leads to the state
+-- a state has no origins if no edge leads to it
 no_origins : (n : StateIndex) (es : List Edge) → ((f : Edge) → Contains es f → f.target.0 ≡ n.0 → ⊥) → origins n es ≡ []
 no_origins n [] none = refl
 no_origins n (f ∷ es) none =
     origins_cons n f es ∙ ap (λ b. cond b (origin_of f ∷ []) [] ++ origins n es) (ne_eqb f.target.0 n.0 (none f (contains_head f es)))
     ∙ no_origins n es (λ g c. none g (contains_tail f es g c))
 
--- each edge has another symbol
+-- the symbols of the edges differ
 abbrev pub HaveApartSymbols : List Edge → Type 0
 HaveApartSymbols [] = Unit {0}
 HaveApartSymbols (e ∷ es) = ((f : Edge) → Contains es f → f.symbol ≡ e.symbol → ⊥) × HaveApartSymbols es
 
--- ---- one edge leads to its target
+-- ---- one edge is moved to its target
 module _ (originals : List ℕ) where
   -- each edge leads to a state that is no copy
   abbrev pub LeadToOwn : List Edge → Type 0
@@ -133,7 +133,7 @@ module _ (originals : List ℕ) where
         ∙ others_stay e n back apart_back
         )
 
-    -- the edge went, and leads elsewhere
+    -- the origins of the state from which the edge is moved are right
     went : (was ≡ e.target.0 → ⊥) → (was == n.0) ≡ true → moved was e n.0 (origins n (front ++ retraced originals e ∷ back)) ≡ origins n (front ++ e ∷ back)
     went differs here =
         let elsewhere : (e.target.0 == n.0) ≡ false = ne_eqb e.target.0 n.0 (λ is. differs (eqb-true was n.0 here ∙ sym is)) in
@@ -145,7 +145,8 @@ module _ (originals : List ℕ) where
         ∙ ap (λ b. origins n front ++ (cond b (origin_of e ∷ []) [] ++ origins n back)) (sym elsewhere)
         ∙ sym (origins_midst n front e back)
 
-    -- no edge behind it leads there, if it does
+    -- the origin of the edge may be before those of the edges after it: none of them leads to the
+    -- state if the edge does
     its_place : (was ≡ e.target.0 → ⊥) → (origins n front ++ origins n back) ++ its n.0 e ≡ origins n front ++ (its n.0 e ++ origins n back)
     its_place differs = elim (cases_Bool (e.target.0 == n.0)) [
       | inl here ↦
@@ -160,7 +161,7 @@ module _ (originals : List ℕ) where
           ∙ ap (λ b. origins n front ++ (cond b (origin_of e ∷ []) [] ++ origins n back)) (sym other)
     ]
 
-    -- the edge was not there, and came if it leads there
+    -- the origins of any other state are right: the edge is added if it leads there
     came : (was ≡ e.target.0 → ⊥) → (was == n.0) ≡ false → moved was e n.0 (origins n (front ++ retraced originals e ∷ back)) ≡ origins n (front ++ e ∷ back)
     came differs away =
         let old = origins n (front ++ retraced originals e ∷ back) in
@@ -204,7 +205,7 @@ module _ (originals : List ℕ) where
       ]) behind own_rest n
       ∙ ap (origins n) (append_assoc front (e ∷ []) (es ++ back))
 
-  -- some edges and then others
+  -- moving two lists of edges is moving one and then the other
   pub followed_append : (es fs : List Edge) (n : ℕ) (os : List Origin) → followed_all originals (es ++ fs) n os ≡ followed_all originals fs n (followed_all originals es n os)
   followed_append [] fs n os = refl
   followed_append (e ∷ es) fs n os = followed_append es fs n (followed originals e n os)

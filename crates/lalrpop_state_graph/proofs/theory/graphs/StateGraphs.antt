@@ -1,4 +1,4 @@
--- Edges that are added to a graph, and iterators over them.
+-- Adding edges to a graph, and iterators over edges.
 use Rattle.std.proofs.Common.{◌≡◌, ℕ, zero, suc, ◌+◌, ◌<◌, ◌≤◌, inl, inr, Bool, true, false, List, [], ◌∷◌, ◌++◌, map, reverse, take, length, get_or, refl, slice_set, sym, ◌∙◌, ap, subst, arith, ⊎_elim, cond, append_assoc, append-nil}
 use Rattle.std.specs.Prelude.{◌==◌, slice_get}
 use Rattle.std.specs.declared.alloc.Global.{Global}
@@ -29,7 +29,7 @@ state_total = record {
 }
 
 -- ---- lists by number
--- a list without values behind the others
+-- an empty list after the others changes no values
 same_behind : {X : Type 0} (lists : List (Vec X Global)) (none : Vec X Global) → none.items ≡ [] → (n : ℕ) → list_at (lists ++ none ∷ []) n ≡ list_at lists n
 same_behind [] none e zero = e
 same_behind [] none e (suc n) = refl
@@ -45,7 +45,7 @@ list_there lists number list within is = ap listed (slice_get_at lists number li
 pub list_past : {X : Type 0} (lists : List (Vec X Global)) (number : ℕ) → length lists ≤ number → list_at lists number ≡ []
 list_past lists number past = ap listed (slice_get_past lists number past)
 
--- a list in the place of another
+-- a list is put in the place of another
 pub list_changed : {X : Type 0} (lists : List (Vec X Global)) (number : ℕ) (after : Vec X Global) → number < length lists → (n : ℕ) → list_at (slice_set lists number after) n ≡ cond (number == n) after.items (list_at lists n)
 list_changed {X} lists number after within n = elim (cases_Bool (number == n)) [
   | inl here ↦
@@ -56,7 +56,7 @@ list_changed {X} lists number after within n = elim (cases_Bool (number == n)) [
       ∙ ap (λ b. cond b after.items (list_at lists n)) (sym other)
 ]
 
--- a value behind the others of a list
+-- a value is added after the others of a list
 pub listed_more : {X : Type 0} (old grown : List (Vec X Global)) (number : ℕ) (before after : Vec X Global) (x : X) → AreSameLists old grown → number < length grown → before ≡ get_or grown number before → after.items ≡ before.items ++ x ∷ [] → IsListedAt number x old (slice_set grown number after)
 listed_more {X} old grown number before after x same within is more n = list_changed grown number after within n ∙ elim (cases_Bool (number == n)) [
   | inl here ↦
@@ -73,7 +73,7 @@ map_cond f true x = refl
 map_cond f false x = refl
 
 -- ---- edges in turn
--- the edges of a state, shifts and gotos apart
+-- the edges of a state are its shifts and then its gotos
 pub edges_listed : (n : StateIndex) (shifts : List (TerminalString × StateIndex)) (gotos : List (NonterminalString × StateIndex)) → map (edge_from n) (state_edges shifts gotos) ≡ shift_edges n shifts ++ goto_edges n gotos
 edges_listed n [] [] = refl
 edges_listed n [] (e ∷ gotos) = ap (λ es. edge n (Nonterminal e.0) e.1 ∷ es) (edges_listed n [] gotos)
@@ -103,7 +103,7 @@ graph_on es fs a b g h = record {
   sources = λ n. h.sources n ∙ ap (λ xs. xs ++ origins n fs) (g.sources n) ∙ sym (origins_append n es fs);
 }
 
--- some edges were added, and with those that are left they are all
+-- some edges were added, and with those that are left they are all edges
 pub record IsAdding (left all : List Edge) (old new : StateGraph) : Type 0 where
   pub done : List Edge
   pub grown : IsGrown done old new
@@ -122,7 +122,7 @@ adding_more e f before left all old new next first same a g = record {
 pub adding_end : (left all : List Edge) (old new : StateGraph) → left ≡ [] → IsAdding left all old new → IsGrown all old new
 adding_end left all old new none a = let P : List Edge → Type 0 = λ es. IsGrown es old new in subst P (sym (append-nil a.done) ∙ ap (λ es. a.done ++ es) (sym none) ∙ a.whole) a.grown
 
--- ---- the newest first
+-- ---- the last edge comes first
 pub reverse_last : {X : Type 0} (xs rest : List X) (x : X) → xs ≡ rest ++ x ∷ [] → reverse xs ≡ x ∷ reverse rest
 reverse_last xs rest x e = ap reverse e ∙ reverse-append rest (x ∷ [])
 
@@ -141,7 +141,7 @@ other_symbol x all rest e is other =
     ⊎_elim (λ yes. absurd (other (symbol_exactly.Laws.exact-law e.0 x yes))) (λ no. with_symbol_last x rest e false no ∙ append-nil (with_symbol x rest)) (cases_Bool (symbol_eq.ghosts.eq e.0 x))
     )
 
--- ---- the edges of one state more
+-- ---- the edges of one more state
 edges_push : {L : Type 0} (n : ℕ) (states : List (State L)) (state : State L) → edges_from n (states ++ state ∷ []) ≡ edges_from n states ++ edges_of (record { 0 = n + length states }) state
 edges_push n [] state = append-nil (edges_of (record { 0 = n }) state) ∙ ap (λ k. edges_of (record { 0 = k }) state) (omega arith)
 edges_push n (s ∷ states) state =

@@ -1,4 +1,4 @@
--- Numbers of states, and equal numbers.
+-- Equality of the numbers of states.
 use Rattle.std.proofs.Common.{ap, eq-eqb, eqb-true, false, true, ℕ, ◌==◌, ◌≡◌}
 use Rattle.lalrpop_state_graph.proofs.Types.{StateIndex}
 

@@ -1,4 +1,4 @@
--- States gathered into a set, and steps back.
+-- Gathering states into a set, and steps back over a symbol.
 use Rattle.std.proofs.Common.{◌≡◌, ℕ, suc, ◌+◌, arith, ◌⊎◌, inl, inr, List, [], ◌∷◌, ◌++◌, reverse, refl, sym, ◌∙◌, ap, subst, append_assoc, append-nil, map, Bool, true, length, eq-eqb}
 use Rattle.std.specs.Prelude.{Contains, ◌↔◌, ◌==◌, filter}
 use Rattle.std.specs.List.Sorted.{IsStrictlySortedBy, IsPermutation, IsSorted}
@@ -24,7 +24,8 @@ use Rattle.lalrpop_collections.proofs.theory.lists.Lists.{contains_of_map}
 use Rattle.lalrpop_collections.proofs.theory.lists.Filters.{is_kept, kept_holds, of_kept}
 use Rattle.lalrpop_state_graph.proofs.theory.graphs.StateNumbers.{same_state}
 
--- a state of all is in the set or left, exactly if it is in the set so far or left now
+-- the states in the set now and those that are left are exactly those in the set at the start and
+-- those of the whole list
 pub record IsAddingStates (left all start now : List StateIndex) : Type 0 where
   pub kept : (r : StateIndex) → Contains start r ⊎ Contains all r → Contains now r ⊎ Contains left r
   pub only : (r : StateIndex) → Contains now r ⊎ Contains left r → Contains start r ⊎ Contains all r
@@ -47,7 +48,7 @@ one_more_state before left all start now next x first is a = record {
   ]);
 }
 
--- where none is left, the states were added
+-- if no state is left, all states were added
 pub all_added : (left all states start now : List StateIndex) → left ≡ [] → all ≡ reverse states → IsAddingStates left all start now → AddsStates states start now
 all_added left all states start now none is a r = (
   λ c. elim (a.only r (inl c)) [ inl d ↦ inl d | inr d ↦ inr (Contains-from_reverse states r (rw is at d)) ],
@@ -83,11 +84,11 @@ stepping_all graph x left all now none i r = (
   λ h. elim (i.kept h.0 r h.1 h.2) [ inl d ↦ d | inr d ↦ absurd (Contains-none h.0 (rw none at d)) ],
 )
 
--- and the same of a list with the same states
+-- a list with the same states as a step back is a step back
 pub step_moved : (graph : StateGraph) (x : Symbol) (all now list : List StateIndex) → HaveSameStates now list → IsStepBack graph x all now → IsStepBack graph x all list
 step_moved graph x all now list same step r = (λ c. (step r).0 ((same r).0 c), λ h. (same r).1 ((step r).1 h))
 
--- ---- states in order, none twice
+-- ---- states in order, each once
 abbrev state_eq : StateIndex → StateIndex → Bool
 state_eq = index_eq.ghosts.eq
 
@@ -99,11 +100,11 @@ ordered_same states sorted list moved kept r =
       λ c. rw is (Contains-dedup index_equality.laws-law same_state sorted r (Contains-permutation states sorted r moved c)),
     )
 
--- and ascend
+-- sorted states without repeats ascend
 pub ordered_ascending : (sorted list : List StateIndex) → IsSorted state_cmp sorted → IsFiltered (DiffersFromLast state_eq) [] sorted list → IsStrictlySortedBy state_cmp list
 ordered_ascending sorted list ascend kept = rw (dedup_is state_eq sorted list kept) (IsStrictlySortedBy-dedup state_total (λ x y. sym (unsigned_tied x.0 y.0)) sorted ascend)
 
--- states are moved from an iterator to a list: what is there and what is left are all
+-- states are moved from an iterator to a list: the moved ones and those that are left are all
 pub record IsMoving (count : ℕ) (left all now : List StateIndex) : Type 0 where
   pub whole : now ++ left ≡ all
   pub counted : count ≡ length left
@@ -124,11 +125,11 @@ pub moving_end : (m : ℕ) (left all now : List StateIndex) → m ≡ 0 → IsMo
 moving_end m left all now none moving =
     sym (append-nil now) ∙ ap (λ (xs : List StateIndex). now ++ xs) (sym (nil_from_length left (sym moving.counted ∙ none))) ∙ moving.whole
 
--- ---- the sources that a graph of edges has
+-- ---- the sources in a graph of edges
 filtered : {X Y : Type 0} (f : X → Y) (p : X → Bool) (xs : List X) (x : X) → Contains xs x → p x ≡ true → Contains (map f (filter p xs)) (f x)
 filtered f p xs x c h = contains_map f (filter p xs) x (is_kept p xs x h c)
 
--- an element that passed
+-- the value comes from an element that passed the test
 record Passed {X Y : Type 0} (f : X → Y) (p : X → Bool) (xs : List X) (y : Y) : Type 0 where
   from : X
   among : Contains xs from
@@ -157,7 +158,7 @@ edge_source graph es x s r g c =
     let P : List (Symbol × StateIndex) → Type 0 = λ os. Contains os (x, r) in
     filtered (λ (e : Symbol × StateIndex). e.1) (λ (e : Symbol × StateIndex). symbol_eq.ghosts.eq e.0 x) (origins_of graph s) (x, r) (subst P (sym (g.sources s)) first) (symbol_equality.laws-law.refl x)
 
--- the states from which some symbols lead to a state, and what is before these symbols
+-- the states from which the last symbols lead to a state, and the symbols before these
 pub record IsTracing (graph : StateGraph) (left all : List Symbol) (state : StateIndex) (found : List StateIndex) : Type 0 where
   pub taken : List Symbol
   pub whole : left ++ taken ≡ all
@@ -183,7 +184,7 @@ tracing_start graph symbols state none found nothing pushed =
       );
     }
 
--- the first edge of a way
+-- the first edge of a path, and the state to which it leads
 record FirstEdge (es : List Edge) (r : StateIndex) (x : Symbol) (symbols : List Symbol) (s : StateIndex) : Type 0 where
   middle : StateIndex
   along : Contains es (edge r x middle)

@@ -1,4 +1,4 @@
--- The edges of states are where their shifts and gotos lead.
+-- The edges of states agree with their shifts and gotos.
 use Rattle.std.proofs.Common.{◌≡◌, ℕ, zero, suc, ◌+◌, ◌<◌, inl, inr, List, [], ◌∷◌, length, refl, sym, ◌∙◌, ap, subst, arith, true, Option, Some, None}
 use Rattle.std.specs.Prelude.{Contains, slice_get, option_map}
 use Rattle.std.specs.BTreeMap.{BTreeMap, get, IsOrdered}
@@ -18,7 +18,7 @@ use Rattle.lalrpop_state_graph.specs.Words.{Edge, edge, edges, edges_of, edges_f
 use Rattle.lalrpop_construction.proofs.theory.construction.StateEdges.{leads_transition}
 use Rattle.lalrpop_collections.proofs.theory.lists.Members.{Contains-none, contains_map, place}
 
--- the value of an entry
+-- an ordered map has the target of an entry at its key
 entry_leads : {K : Type 0} {R : K → K → Ordering} → IsTotalOrder R → (m : BTreeMap K StateIndex) (key : K) (target : StateIndex) → IsOrdered R m → Contains m.entries (key, target) → option_map number_of (get R m key) ≡ Some target.0
 entry_leads total m key target ordered c =
     let at = place m.entries (key, target) c in
@@ -36,7 +36,7 @@ module _ {L : Type 0} where
         subst (λ (d : Edge). (d.source ≡ n) × HasTransition d.symbol d.target s) f.2 (refl, f.1)
   ]
 
-  -- the state that has an edge
+  -- the edge has a source among the states
   pub record HasSource (k : ℕ) (states : List (State L)) (e : Edge) : Type 0 where
     pub number : ℕ
     pub state : State L
@@ -83,12 +83,12 @@ module _ {L : Type 0} where
       let number : suc k + n ≡ k + suc n = omega arith in
       subst (λ (m : ℕ). Contains (edges_from k (q ∷ ss)) (edge (record { 0 = m }) x target)) number (Contains-append_right (edges_of (record { 0 = k }) q) (edges_from (suc k) ss) (edge (record { 0 = suc k + n }) x target) (edge_from (suc k) n ss s x target at h))
 
-  -- ---- where the symbols lead
+  -- ---- the targets of symbols
   state_leads : (o : Option (State L)) (s : State L) (x : Symbol) (target : StateIndex) → o ≡ Some s → IsOrdered terminal_ord.ghosts.cmp s.shifts → IsOrdered name_cmp s.gotos → HasTransition x target s → leads (contents_at (λ (lookahead : L) (t : Token). true) o) x ≡ Some target.0
   state_leads o s (Terminal t) target at shifts gotos h = ap (λ (p : Option (State L)). leads (contents_at (λ (lookahead : L) (t : Token). true) p) (Terminal t)) at ∙ entry_leads terminal_ord.Laws.total-law s.shifts t target shifts h
   state_leads o s (Nonterminal a) target at shifts gotos h = ap (λ (p : Option (State L)). leads (contents_at (λ (lookahead : L) (t : Token). true) p) (Nonterminal a)) at ∙ entry_leads name_ord.Laws.total-law s.gotos a target gotos h
 
-  -- an edge of a state whose transitions ascend
+  -- the symbol of an edge leads to its target, if the transitions of the source ascend
   pub edge_leads : (states : List (State L)) (r s : StateIndex) (x : Symbol) (state : State L) → slice_get states r.0 ≡ Some state → IsOrdered terminal_ord.ghosts.cmp state.shifts → IsOrdered name_cmp state.gotos → Contains (edges states) (edge r x s) → leads (places_in states r.0) x ≡ Some s.0
   edge_leads states r s x state at shifts gotos c =
       let h = source_of_edge states r s x c in
@@ -106,7 +106,7 @@ module _ {L : Type 0} where
       let make : ℕ → StateIndex = λ n. record { 0 = n } in
       (state, refl, subst (λ (q : StateIndex). HasTransition x q state) (ap make t.1) t.2)
 
-  -- where a symbol leads is an edge
+  -- a symbol that leads from a state to another is an edge
   pub leads_edge : (states : List (State L)) (r s : ℕ) (x : Symbol) → leads (places_in states r) x ≡ Some s → Contains (edges states) (edge (record { 0 = r }) x (record { 0 = s }))
   leads_edge states r s x e =
       let t = lead_transition (slice_get states r) x s e in

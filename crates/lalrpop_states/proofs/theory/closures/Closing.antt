@@ -1,4 +1,4 @@
--- A table with all that a kernel leads to without a symbol is its closure.
+-- A table that is token-closed for a kernel is the closure of the kernel.
 use Rattle.std.proofs.Common.{◌≡◌, ◌↔◌, ℕ, zero, suc, ◌+◌, List, [], ◌∷◌, map, drop, sym, ◌∙◌, ap, subst, arith, true, Some}
 use Rattle.std.specs.Prelude.{Contains, slice_get}
 use Rattle.lalrpop_collections.specs.Words.{Bits}
@@ -36,9 +36,9 @@ module _ (begins : Rules → List Symbol → Token → Type 0) (passes : Rules �
     abbrev ReachedWith : Production → ℕ → Token → Type 0
     ReachedWith = InTokenClosureBy (begins g) (passes g) g.productions Reached (HasItemToken g.terminals kernel)
 
-    -- ---- its end
+    -- ---- a table that is closed
     module _ (table : Found) (end : IsTokenClosed begins passes g kernel table) where
-      -- an entry of the dotted production
+      -- a dotted production of the table has an entry
       listed : (p : Production) (dot : ℕ) → InKernel (map item_of table) p dot → (e : Entry) × Contains table e × (dotted_of e.0 ≡ (p, dot))
       listed p dot h =
           let i = contains_of_map dotted_of (map item_of table) (p, dot) h in
@@ -99,6 +99,6 @@ module _ (begins : Rules → List Symbol → Token → Type 0) (passes : Rules �
         all_held,
       )
 
--- ---- what stands behind the nonterminal
+-- ---- the symbols after the nonterminal
 pub rest_from : (n : ℕ) (xs rest : List Symbol) → rest ≡ drop (n + 1) xs → rest ≡ drop (suc n) xs
 rest_from n xs rest e = let s : n + 1 ≡ suc n = omega arith in e ∙ ap (λ k. drop k xs) s

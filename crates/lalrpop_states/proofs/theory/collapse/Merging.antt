@@ -1,4 +1,4 @@
--- States placed by their numbers: a state more.
+-- Placing one more state at its number.
 use Rattle.std.proofs.Common.{◌≡◌, ℕ, zero, suc, ◌<◌, ◌≤◌, List, [], ◌∷◌, ◌++◌, length, refl, sym, ap, ◌∙◌, arith, append_assoc, Some, slice_set}
 use Rattle.std.specs.Prelude.{slice_get}
 use Rattle.std.proofs.lemmas.List.{set-get_or}
@@ -7,11 +7,11 @@ use Rattle.lalrpop_collections.specs.Words.{Bits}
 use Rattle.lalrpop_states.specs.Words.{IsJoined, Places, pushed, joined}
 use Rattle.lalrpop_states.proofs.Types.{State}
 
--- ---- what a loop over a list has taken, and what is left
+-- ---- the elements that a loop over a list has taken, and those that are left
 pub taken : {X : Type 0} (all rest yielded left : List X) (x : X) → yielded ++ rest ≡ all → rest ≡ x ∷ left → (yielded ++ x ∷ []) ++ left ≡ all
 taken all rest yielded left x e f = append_assoc yielded (x ∷ []) left ∙ ap (λ ys. yielded ++ ys) (sym f) ∙ e
 
--- ---- a value set in a list
+-- ---- setting a value in a list
 pub set_here : {X : Type 0} (xs : List X) (k : ℕ) (x : X) → k < length xs → slice_get (slice_set xs k x) k ≡ Some x
 set_here [] k x l = absurd (omega arith)
 set_here (y ∷ xs) zero x l = refl
@@ -29,7 +29,7 @@ set_length [] k x = refl
 set_length (y ∷ xs) zero x = refl
 set_length (y ∷ xs) (suc k) x = ap suc (set_length xs k x)
 
--- what stood there was written
+-- setting an element to the value that it has changes nothing
 set_same : {X : Type 0} (xs : List X) (k : ℕ) (x : X) → slice_get xs k ≡ Some x → slice_set xs k x ≡ xs
 set_same xs k x at = ap (slice_set xs k) (sym (get_or_from_slice_get xs k x x at)) ∙ set-get_or xs k x
 

@@ -1,4 +1,5 @@
--- The numbers of conflicts, one shift or reduction at a time, and that they are the lengths of the lists.
+-- The numbers of conflicts, one shift or reduction at a time. The numbers are the lengths of the
+-- lists of conflicts.
 use Rattle.std.proofs.Common.{◌≡◌, ℕ, ◌+◌, ◌-◌, Bool, true, false, List, [], ◌∷◌, map, length, refl, sym, ◌∙◌, ap, arith, take, drop, get_or, ◌==◌, eqb-true}
 use Rattle.std.specs.Prelude.{Option, Some, None, count_by, slice_get, IfSome}
 use Rattle.std.specs.List.{filter, flat_map}
@@ -13,13 +14,13 @@ use Rattle.lalrpop_states.specs.conflicts.StateConflicts.{Reduction}
 use Rattle.lalrpop_states.proofs.Types.{State, StateIndex, TerminalString}
 use Rattle.lalrpop_states.proofs.theory.conflicts.ConflictLemmas.{shared, share_none, bit_is_place}
 
--- an answer that is true where a bit is in both sets, and false where none is
+-- a result is `share` if true means that a bit is in both sets, and false that none is
 pub share_is : (s t : Bits) (answer : Bool) → (answer ≡ true → (b : ℕ) × (has s b ≡ true) × (has t b ≡ true)) → (answer ≡ false → (b : ℕ) → has s b ≡ true → has t b ≡ true → ⊥) →
     answer ≡ share s t
 share_is s t true both apart = let some = both refl in sym (shared s t some.0 some.1 some.2)
 share_is s t false both apart = sym (share_none s t (apart refl))
 
--- one shift, then the rest
+-- the number of conflicts after one more shift
 pub shifts_more : (terminals : List TerminalString) (rs : List Reduction) (count held total : ℕ) (before rest : List (TerminalString × StateIndex)) (t : TerminalString) (target : StateIndex) (bit : Option ℕ) →
     before ≡ (t, target) ∷ rest → IfSome bit (λ b. slice_get terminals b ≡ Some t) → ((b : ℕ) → slice_get terminals b ≡ Some t → bit ≡ Some b) → held ≡ count_on_place rs bit →
     count + shift_conflict_count terminals rs before ≡ total → count + held + shift_conflict_count terminals rs rest ≡ total
@@ -31,7 +32,7 @@ shifts_more terminals rs count held total before rest t target bit is found only
 all_behind : (rs : List Reduction) (n : ℕ) → take (length rs - n) (drop n rs) ≡ drop n rs
 all_behind rs n = let long = length-drop n rs in take_all (length rs - n) (drop n rs) (omega (arith, long))
 
--- one reduction, then the rest
+-- the number of conflicts after one more reduction
 pub reductions_more : (rs : List Reduction) (r : Reduction) (place count later total : ℕ) → slice_get rs place ≡ Some r → later ≡ later_count r (take (length rs - (place + 1)) (drop (place + 1) rs)) →
     count + reduce_conflict_count (drop place rs) ≡ total → count + later + reduce_conflict_count (drop (place + 1) rs) ≡ total
 reductions_more rs r place count later total at here so_far =
@@ -71,7 +72,7 @@ all_counted terminals state first second is_first is_second =
     let reduces = reduce_lengths state.index state.reductions.items ∙ ap reduce_conflict_count (sym is_second) in
     length-append (flat_map (shift_conflicts terminals state.index state.reductions.items) state.shifts.entries) (reduce_conflicts state.index state.reductions.items) ∙ omega (arith, shifts, reduces)
 
--- no reduction holds the bit of a terminal where there is none
+-- no reduction holds the bit of a terminal if there is no reduction
 none_on_place : (bit : Option ℕ) → count_on_place [] bit ≡ 0
 none_on_place None = refl
 none_on_place (Some bit) = refl

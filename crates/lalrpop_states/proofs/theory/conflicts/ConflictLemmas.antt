@@ -21,7 +21,7 @@ use Rattle.lalrpop_grammar.specs.contracts.repr.exact.TerminalStringExact.TheImp
 use Rattle.lalrpop_states.specs.conflicts.StateConflicts.{Reduction, HasNoConflict}
 use Rattle.lalrpop_collections.proofs.theory.lists.RisingLemmas.{filter_bits}
 
--- the bit that a set of terminals answers is the place
+-- the bit that a set of terminals returns is the place of the terminal
 same_terminal : (x y : TerminalString) → terminal.ghosts.eq x y ≡ true → x ≡ y
 same_terminal x y e = exact-law x y e
 
@@ -97,7 +97,7 @@ later_one state r s list new both some meets grown =
     grown ∙ ap (λ l. list ++ one l ∷ []) (meet_is r.0 s.0 both meets)
     ∙ sym (ap (λ t. list ++ map (reduce_conflict state r) (cond t (s ∷ []) [])) (shared r.0 s.0 some.0 some.1 some.2))
 
--- one shift, then the rest
+-- the list of conflicts after one more shift
 pub shift_more : (terminals : List TerminalString) (state : StateIndex) (rs : List Reduction) (list new start : List (Conflict Bits)) (whole before rest : List (TerminalString × StateIndex)) (e : TerminalString × StateIndex) →
     before ≡ e ∷ rest → list ++ flat_map (shift_conflicts terminals state rs) before ≡ start ++ flat_map (shift_conflicts terminals state rs) whole → new ≡ list ++ shift_conflicts terminals state rs e →
     new ++ flat_map (shift_conflicts terminals state rs) rest ≡ start ++ flat_map (shift_conflicts terminals state rs) whole
@@ -154,7 +154,7 @@ module _ (state : StateIndex) where
       (kept_none (reduce_conflict state x) (λ t. share x.0 t.0) rs (λ j s at. share_none x.0 s.0 (λ b here holds. out 0 (suc j) b x s (omega arith) refl at here holds)))
       ∙ no_reduced rs (λ i j bit r s l at there here holds. out (suc i) (suc j) bit r s (omega arith) at there here holds)
 
--- the list is empty exactly where the state has no conflict
+-- the list is empty exactly if the state has no conflict
 pub none_exactly : (terminals : List TerminalString) (state : State Bits) → (state_conflicts terminals state ≡ []) ↔ HasNoConflict terminals state
 none_exactly terminals state = (
   λ e. let parts = both_empty (flat_map (shift_conflicts terminals state.index state.reductions.items) state.shifts.entries) (reduce_conflicts state.index state.reductions.items) e in record {

@@ -1,4 +1,5 @@
--- A state has no conflict where no two reductions hold one token and none holds the terminal of a shift.
+-- A state has no conflict if no two reductions hold the same token and no reduction holds the
+-- terminal of a shift.
 use Rattle.std.proofs.Common.{◌≡◌, ◌∙◌, ◌↔◌, ℕ, true, inl, inr, List, [], ◌∷◌, ◌++◌, length, sym, subst, ap, arith}
 use Rattle.std.specs.Prelude.{Contains, IsTrue, slice_get}
 use Rattle.std.proofs.lemmas.Option.{slice_get_within}
@@ -13,12 +14,12 @@ use Rattle.lalrpop_collections.proofs.theory.lists.Members.{contains-cons, place
 use Rattle.lalrpop_collections.proofs.theory.lists.Places.{push_cases, slice_get-longer, slice_get-push_at}
 use Rattle.lalrpop_collections.proofs.theory.lists.Lists.{contains_place, place_contains}
 
--- ---- reductions, one more
--- none share no bit
+-- ---- one more reduction
+-- an empty list of reductions shares no bit
 pub share_none : ShareNoBit []
 share_none i j bit r s l at there h k = cc
 
--- one more, which holds none of the bits of those before it
+-- reductions share no bit after one is added that holds none of their bits
 pub share_none_more : (rs : List Reduction) (r : Reduction) → ShareNoBit rs → ((bit : ℕ) → IsHeldBit rs bit → has r.0 bit ≡ true → ⊥) → ShareNoBit (rs ++ r ∷ [])
 share_none_more rs r before none i j bit p q l at there h k = elim (push_cases rs r j q there) [
   | inl early ↦ elim (push_cases rs r i p at) [
@@ -31,7 +32,7 @@ share_none_more rs r before none i j bit p q l at there h k = elim (push_cases r
   ]
 ]
 
--- one that holds a bit of those before it shares it
+-- reductions share a bit if one holds a bit of those before it
 pub share_one : (rs front back : List Reduction) (r : Reduction) → rs ≡ front ++ r ∷ [] ++ back → (bit : ℕ) → IsHeldBit front bit → has r.0 bit ≡ true → ¬ ShareNoBit rs
 share_one rs front back r is bit held h free =
     let f = place front held.0 held.1 in
@@ -39,8 +40,8 @@ share_one rs front back r is bit held h free =
     let there = slice_get-longer (front ++ r ∷ []) back (length front) r (slice_get-push_at front r) in
     free f.0 (length front) bit held.0 r f.1 (ap (λ (xs : List Reduction). slice_get xs f.0) is ∙ at) (ap (λ (xs : List Reduction). slice_get xs (length front)) is ∙ there) held.2 h
 
--- ---- shifts, one less
--- a terminal that is held is that of a shift behind the first, where that one's is not held
+-- ---- one shift less
+-- a shift whose terminal is held is after the first one, if the terminal of the first is not held
 pub shift_behind : (terminals : List TerminalString) (held : Bits) (x : TerminalString × StateIndex) (before rest : List (TerminalString × StateIndex)) → before ≡ x ∷ rest → ¬ HasToken terminals held (TokenOf x.0) →
     (t : TerminalString) (target : StateIndex) → HasToken terminals held (TokenOf t) → Contains before (t, target) → Contains rest (t, target)
 shift_behind terminals held x before rest is none t target some c = elim (contains-cons x rest (t, target) (subst (λ (xs : List (TerminalString × StateIndex)). Contains xs (t, target)) is c)) [

@@ -1,4 +1,4 @@
--- The tokens that reductions hold: a reduction more.
+-- The tokens that reductions hold, with one more reduction.
 use Rattle.std.proofs.Common.{◌≡◌, ◌∙◌, ◌↔◌, inl, inr, ℕ, true, List, [], ◌∷◌, ◌++◌, sym, ap, subst}
 use Rattle.std.specs.Prelude.{IsTrue}
 use Rattle.std.proofs.lemmas.Bool.{true≢false}
@@ -13,7 +13,7 @@ use Rattle.lalrpop_collections.proofs.theory.sets.BitSets.{join_cases, join_left
 pub held_none : (bits : Bits) → bits ≡ no_bits → (bit : ℕ) → IsTrue (has bits bit) ↔ IsHeldBit [] bit
 held_none bits empty bit = (λ h. absurd (true≢false (sym h ∙ ap (λ (s : Bits). has s bit) empty ∙ has-no_bits bit)), λ h. absurd (Contains-none h.0 h.1))
 
--- one reduction more adds its tokens
+-- one more reduction adds its tokens
 pub held_more : (rs : List Reduction) (r : Reduction) (old : Bits) → ((bit : ℕ) → IsTrue (has old bit) ↔ IsHeldBit rs bit) → (bit : ℕ) → IsTrue (has (join old r.0) bit) ↔ IsHeldBit (rs ++ r ∷ []) bit
 held_more rs r old before bit = (
   λ h. elim (join_cases old r.0 bit h) [

@@ -1,4 +1,4 @@
--- Lists in which each element stands before those behind it, and items in their order.
+-- Lists in which each element is less than those after it, and items in their order.
 use Rattle.std.proofs.Common.{◌≡◌, ℕ, ◌<◌, inl, inr, List, map, get_or, refl, sym, ◌∙◌, ap, subst, arith, Bool, true, false, cond}
 use Rattle.std.specs.Prelude.{slice_get, nat_lt, ◌==◌}
 use Rattle.std.specs.declared.cmp.Ordering.{Ordering}
@@ -45,7 +45,7 @@ module _ {L : Type 0} where
   precedes_asymmetric a b (inr h) (inl k) = less_apart b.production a.production k (sym h.0)
   precedes_asymmetric a b (inr h) (inr k) = omega (arith, h.1, k.1)
 
--- ---- a map from dotted productions has them in that order
+-- ---- a map from dotted productions has its keys in that order
 abbrev key_order : Dotted Nil → Dotted Nil → Ordering
 key_order = then_cmp (on (λ (i : Dotted Nil). i.production) production_order) (then_cmp (on (λ (i : Dotted Nil). i.index) nat_cmp) (on (λ (i : Dotted Nil). i.lookahead) nil_ord.ghosts.cmp))
 

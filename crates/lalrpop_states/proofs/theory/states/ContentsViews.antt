@@ -1,4 +1,4 @@
--- What coherent states of the code are, in the words of the definitions.
+-- Coherent states of the code, by their contents.
 use Rattle.std.proofs.Common.{◌≡◌, ℕ, suc, ◌-◌, ◌<◌, Bool, List, length, map, Option, Some, None, refl, sym, ap, subst, ◌∙◌, arith}
 use Rattle.std.specs.Prelude.{Contains, slice_get, option_map, unwrap_or, IfSome}
 use Rattle.std.specs.BTreeMap.{BTreeMap, get}
@@ -22,19 +22,20 @@ use Rattle.lalrpop_states.proofs.Types.{Production, State, StateIndex, Symbol, T
 use Rattle.lalrpop_grammar.specs.declared.repr.Symbol.TheVariants.{Nonterminal, Terminal}
 use Rattle.lalrpop_collections.proofs.theory.lists.Lists.{contains_place, place_contains, contains_map, contains_of_map, some_of_map}
 
--- an edge leads to a state in the list, whose items came over it
+-- an edge leads to a state of the list, whose moved items come over it
 pub record IsEdge (states : ℕ → Contents) (count n : ℕ) (x : Symbol) (m : ℕ) : Type 0 where
   pub within : m < count
   pub over : (p : Production) (d : ℕ) → Contains (states m).items (p, suc d) → slice_get p.symbols d ≡ Some x
   pub origin : (p : Production) (d : ℕ) → Contains (states m).items (p, suc d) → Contains (states n).items (p, d)
 
--- coherent states: all dots of state 0 stand at the start, items came over edges, and reductions are finished items
+-- contents of coherent states: all dots of state 0 are at the start, moved items come over edges,
+-- and reductions are finished items
 pub record LeadAsItemsSay (states : ℕ → Contents) (count : ℕ) : Type 0 where
   pub start : (p : Production) (d : ℕ) → Contains (states 0).items (p, d) → d ≡ 0
   pub edges : (n m : ℕ) (x : Symbol) → leads (states n) x ≡ Some m → IsEdge states count n x m
   pub finished : (n : ℕ) (r : Reduction) → Contains (states n).reductions r → Contains (states n).items (r.production, length r.production.symbols)
 
--- where `==` is exact and the order ties with it, the order is exact
+-- an order is exact if `==` is exact and the order agrees with it
 exact_order : {K : Type 0} (E : K → K → Bool) (R : K → K → Ordering) → Exactly E → Ties E R → CmpEqualImpliesEq R
 exact_order E R exact ties x y e = exact x y (ties x y ∙ ap is_eq e)
 
@@ -44,7 +45,7 @@ terminals_ordered = exact_order terminal_eq.ghosts.eq terminal_ord.ghosts.cmp te
 pub names_ordered : CmpEqualImpliesEq name_ord.ghosts.cmp
 names_ordered = exact_order name_eq.ghosts.eq name_ord.ghosts.cmp name_exact name_ord.Laws.matches_eq-law
 
--- what each entry of a map has, the value at a key has
+-- a property of each entry of a map is one of the value at a key
 entry_at : {K : Type 0} {R : K → K → Ordering} → IsTotalOrder R → CmpEqualImpliesEq R → (P : K → StateIndex → Type 0) (m : BTreeMap K StateIndex) (key : K) (n : ℕ) →
     EachEntry P m.entries → option_map number_of (get R m key) ≡ Some n → (target : StateIndex) × (target.0 ≡ n) × P key target
 entry_at {R = R} total exact P m key n each e =
@@ -69,7 +70,7 @@ module _ {L : Type 0} (holds : L → Token → Bool) where
   contents_there : (states : List (State L)) (n : ℕ) (state : State L) → slice_get states n ≡ Some state → contents_in holds states n ≡ contents_of holds state
   contents_there states n state e = ap (contents_at holds) e
 
-  -- a step of the code's states is an edge
+  -- a coherent step of states of the code is an edge of their contents
   step_edge : (states : List (State L)) (n : ℕ) (state : State L) (x : Symbol) (m : ℕ) → slice_get states n ≡ Some state → IsCoherentStep states state.items.vec.items x m → IsEdge (contents_in holds states) (length states) n x m
   step_edge states n state x m e step =
       let items : (p : Production) (d : ℕ) → Contains (contents_in holds states m).items (p, suc d) → Contains (contents_of holds step.to).items (p, suc d) =
@@ -89,7 +90,7 @@ module _ {L : Type 0} (holds : L → Token → Bool) where
             subst (λ (c : Contents). Contains c.items (p, d)) (sym (contents_there states n state e)) (has_item state.items.vec.items p d source);
       }
 
-  -- coherent states lead to one another as their items say
+  -- the contents of coherent states lead to one another as their items say
   pub lead_as_items_say : (states : List (State L)) → AreCoherent states → LeadAsItemsSay (contents_in holds states) (length states)
   lead_as_items_say states coherent = record {
     start = λ p d. started (slice_get states 0) refl p d;

@@ -1,4 +1,4 @@
--- Lists of dotted productions, one more.
+-- Lists of dotted productions that are compared one by one.
 use Rattle.std.proofs.Common.{◌≡◌, ℕ, zero, suc, ◌+◌, ◌<◌, List, [], ◌∷◌, length, get_or, refl, sym, ◌∙◌, ap, arith, ⊎_elim}
 use Rattle.std.specs.Prelude.{slice_get, Some}
 use Rattle.std.proofs.lemmas.Bool.{cases_lt}
@@ -6,7 +6,7 @@ use Rattle.lalrpop_collections.proofs.theory.lists.EachLemmas.{same_at}
 use Rattle.lalrpop_states.specs.Words.{dots, Dotted}
 use Rattle.lalrpop_states.proofs.Types.{Production}
 
--- items that agree at each place below a number
+-- the lists have the same dotted production at each index below a number
 abbrev pub AgreeBelow : {L : Type 0} → List (Dotted L) → List (Dotted L) → ℕ → Type 0
 AgreeBelow {L} a b n = (k : ℕ) (x y : Dotted L) → k < n → slice_get a k ≡ Some x → slice_get b k ≡ Some y → (x.production ≡ y.production) × (x.index ≡ y.index)
 
@@ -30,7 +30,7 @@ module _ {L : Type 0} where
       let rest : dots xs ≡ dots ys = dots_agree xs ys (omega arith) (λ k p q less. e (suc k) p q (omega arith)) in
       ap (λ (d : Production × ℕ). d ∷ dots xs) first ∙ ap (λ (ds : List (Production × ℕ)). dot_of y ∷ ds) rest
 
-  -- one place more
+  -- the lists agree below one index more
   pub agree_more : (a b : List (Dotted L)) (i : ℕ) (x y : Dotted L) → i < length a → x ≡ get_or a i x → i < length b → y ≡ get_or b i y → (x.production ≡ y.production) × (x.index ≡ y.index) → AgreeBelow a b i → AgreeBelow a b (i + 1)
   agree_more a b i x y la is_a lb is_b same below k u v less at_u at_v =
       ⊎_elim (λ before. below k u v before at_u at_v)

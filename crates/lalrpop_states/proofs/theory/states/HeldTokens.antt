@@ -1,4 +1,4 @@
--- Whether a set holds a token, as a test and as a fact.
+-- Whether a set holds a token, as a test and as a proposition.
 use Rattle.std.proofs.Common.{◌≡◌, ◌↔◌, ℕ, ◌+◌, ◌<◌, Bool, true, false, cond, List, length, get_or, Option, Some, None, refl, sym, ap, subst, ◌∙◌, arith}
 use Rattle.std.specs.Prelude.{slice_get, nat_lt}
 use Rattle.std.proofs.lemmas.Option.{slice_get_read, slice_get_within, get_or_from_slice_get}
@@ -16,7 +16,7 @@ use Rattle.lalrpop_states.proofs.Types.{TerminalString, Token}
 use Rattle.lalrpop_grammar.specs.declared.lookahead.token.Token.TheVariants.{Eof, Error, Terminal}
 
 module _ (terminals : List TerminalString) where
-  -- at the place of a terminal it stands
+  -- the terminal is at its place in the list
   pub place_there : (t : TerminalString) (k : ℕ) → place_in terminals t ≡ Some k → slice_get terminals k ≡ Some t
   place_there t k e =
       let (within, same, before) = position-Some (λ x. terminal_eq.ghosts.eq x t) terminals k t e in
@@ -28,7 +28,7 @@ module _ (terminals : List TerminalString) where
       let within : k < length terminals = slice_get_within terminals k t e in
       absurd (differ j k t less (slice_get_read terminals (length terminals) j t refl (omega arith) (sym (terminal_exact.Laws.exact-law (get_or terminals j t) t h))) e)
 
-  -- where no two are equal, a terminal is at its place alone
+  -- if no two terminals are equal, an index of a terminal is its place
   pub place_is : AllDiffer terminals → (t : TerminalString) (k : ℕ) → slice_get terminals k ≡ Some t → place_in terminals t ≡ Some k
   place_is differ t k e =
       let within : k < length terminals = slice_get_within terminals k t e in
@@ -42,7 +42,7 @@ module _ (terminals : List TerminalString) where
   held set t None e h = cc
   held set t (Some bit) e h = (bit, place_there t bit e, h)
 
-  -- the set holds the token exactly where it has its bit
+  -- the test says that the set holds the token exactly if the set has it
   pub holds_has : AllDiffer terminals → (set : Bits) (token : Token) → (holds_token terminals set token ≡ true) ↔ HasToken terminals set token
   holds_has differ set Eof = (λ h. (length terminals, refl, h), λ (bit, e, h). subst (λ b. has set b ≡ true) e h)
   holds_has differ set Error = (λ h. (length terminals + 1, refl, h), λ (bit, e, h). subst (λ b. has set b ≡ true) e h)
@@ -51,7 +51,7 @@ module _ (terminals : List TerminalString) where
     λ (bit, e, h). subst (λ o. has_at set o ≡ true) (sym (place_is differ t bit e)) h,
   )
 
--- a test that answers true exactly where another does is that one
+-- two tests are the same if one is true exactly if the other is
 pub same_test : (a b : Bool) → (a ≡ true) ↔ (b ≡ true) → a ≡ b
 same_test true true h = refl
 same_test true false h = sym (h.0 refl)

@@ -1,4 +1,4 @@
--- The first shortest and last longest lists, list after list.
+-- The first shortest and the last longest lists, as loops find them.
 use Rattle.std.proofs.Common.{◌≡◌, ℕ, zero, suc, ◌<◌, ◌≤◌, ◌⊎◌, inl, inr, ⊎_elim, Bool, true, false, List, [], ◌∷◌, ◌++◌, map, length, refl, sym, ◌∙◌, ap, subst, arith, append_assoc, drop, get_or}
 use Rattle.std.specs.Prelude.{cond, nat_lt, slice_get, Option, Some, None, unwrap_or}
 use Rattle.std.proofs.lemmas.List.{append-nil, drop_all}
@@ -9,7 +9,7 @@ use Rattle.lalrpop_collections.specs.Words.{EachItem}
 use Rattle.lalrpop_states.proofs.Types.{NonterminalString, Symbol}
 
 module _ {X : Type 0} where
-  -- what stands in a list with one more at its end
+  -- an element of a list with one more at its end is an element of the list, or the last one
   pub get_pushed : (xs : List X) (x : X) (k : ℕ) (y : X) → slice_get (xs ++ x ∷ []) k ≡ Some y → ((k < length xs) × (slice_get xs k ≡ Some y)) ⊎ ((k ≡ length xs) × (x ≡ y))
   get_pushed [] x zero y at = inr (refl, ap (λ o. unwrap_or o x) at)
   get_pushed [] x (suc k) y at = cc
@@ -30,7 +30,7 @@ module _ {X : Type 0} where
   get_below (z ∷ xs) zero y at = omega arith
   get_below (z ∷ xs) (suc k) y at = omega (arith, get_below xs k y at)
 
--- what the fold keeps of the lists so far
+-- the best list so far is the first shortest of the lists, or none if there are no lists
 abbrev IsBestSoFar : {X : Type 0} → List (List X) → Option (List X) → Type 0
 IsBestSoFar lists None = lists ≡ []
 IsBestSoFar lists (Some best) = IsFirstShortest lists best
@@ -93,7 +93,7 @@ module _ {L : Type 0} where
         | false ↦ shortest_lists view best items
       ]
 
-  -- what the fold over the items gives is the first shortest list
+  -- the fold over the items gives the first shortest list
   pub shortest_is : (view : Dotted L → List Symbol) (items : List (Dotted L)) → IsFirstShortestOrEmpty (map view (moved items)) (unwrap_or (shortest_from view None items) [])
   shortest_is view items =
       subst (λ (o : Option (List Symbol)). IsFirstShortestOrEmpty (map view (moved items)) (unwrap_or o [])) (sym (shortest_lists view None items))
@@ -141,7 +141,7 @@ module _ {L : Type 0} where
       subst (λ (ls : List (List Symbol)). IsLastLongest ls (longest_from (longer_of best (prefix_of item)) items)) (append_assoc done (prefix_of item ∷ []) (map prefix_of items))
       (longest_all (done ++ prefix_of item ∷ []) (longer_of best (prefix_of item)) items (longest_more done best (prefix_of item) h))
 
-  -- what the fold over the items gives is the last longest prefix
+  -- the fold over the items gives the last longest prefix
   pub longest_is : (first : Dotted L) (items : List (Dotted L)) → IsLastLongest (map prefix_of (first ∷ items)) (longest_from (prefix_of first) (first ∷ items))
   longest_is first items =
       subst (λ (b : List Symbol). IsLastLongest (map prefix_of (first ∷ items)) (longest_from b items)) (sym (longer_itself (prefix_of first)))
@@ -152,7 +152,7 @@ first_of [] l = absurd (omega arith)
 first_of (x ∷ xs) l = (x, refl)
 
 module _ {L : Type 0} where
-  -- the fold at its end
+  -- the fold after the last item
   pub shortest_end : (view : Dotted L → List Symbol) (items : List (Dotted L)) (i : ℕ) (best : Option (List Symbol)) → length items ≤ i →
       shortest_from view best (drop i items) ≡ shortest_from view None items → IsFirstShortestOrEmpty (map view (moved items)) (unwrap_or best [])
   shortest_end view items i best l h =
@@ -199,7 +199,7 @@ module _ {L : Type 0} where
   listed_here first item items e true h = (0, ap (λ i. Some (name_of i)) e)
   listed_here first item items e false h = cc
 
-  -- and the name of each such item is listed
+  -- the name of each item whose dot is past the start is listed
   name_into : (items : List (Dotted L)) (j : ℕ) (item : Dotted L) → slice_get items j ≡ Some item → has_moved item ≡ true → Listed items item
   name_into [] j item at past = cc
   name_into (first ∷ items) zero item at past =

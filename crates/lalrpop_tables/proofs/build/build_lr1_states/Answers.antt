@@ -19,7 +19,7 @@ returns-clause-tables c =
     let g = c.args.grammar.now in
     let start = c.args.start in
     let method = c.args.options.now.method in
-    -- by the lane way there were no tables, so the grammar is not LALR(1)
+    -- there were no lane tables, so the grammar is not LALR(1)
     let none : (tables : List (State Bits)) → method ≡ Lane → IsOnNoRightSide (productions g) start → IsLALR1 (productions g) start → AreLaneTables (rules_of g) start tables = λ tables lane alone lalr. absurd (not_there _ c.in_default.is (c.in_ok-by_lanes.ensures.lalr lane alone lalr)) in
     let made = subst (λ start. IfOk c.build_canonical_states.result (λ tables. AreCanonicalTables g start tables.items)) (ap (λ (k : Construction Nil). k.start) c.in_ok-by_lanes.ensures.over) c.build_canonical_states.ensures.tables in
     IfOk-weaker c.build_canonical_states.result _ _ (λ tables t. Fallback-answer g start tables.items method c.args.options.now.max_copies (none tables.items) t) made

@@ -19,7 +19,7 @@ returns c =
     let g = c.args.grammar.now in
     let start = c.args.start in
     let method = c.args.options.now.method in
-    -- by the lane way there were no tables, so the grammar is not LALR(1)
+    -- there were no lane tables, so the grammar is not LALR(1)
     let none : (tables : List (State Bits)) → method ≡ Lane → IsOnNoRightSide (productions g) start → IsLALR1 (productions g) start → AreLaneTables (rules_of g) start tables = λ tables lane alone lalr. absurd (not_there _ c.in_default.is (c.in_ok-by_lanes.ensures.lalr lane alone lalr)) in
     let made = subst (λ start. IfOk c.canonical_states_or_count.result (AreCanonicalTablesOrCount g start)) (ap (λ (k : Construction Nil). k.start) c.in_ok-by_lanes.ensures.over) c.canonical_states_or_count.ensures in
     record { answer = IfOk-weaker c.canonical_states_or_count.result _ _ (Fallback-or-count g start method c.args.options.now.max_copies none) made }

@@ -1,4 +1,4 @@
--- Lane tables that are answered for LR(1) states.
+-- Lane tables as the result of a construction of LR(1) states.
 use Rattle.std.proofs.Common.{◌≡◌, ℕ, true, refl, List, Option, None, Some, sym, subst}
 use Rattle.std.specs.Prelude.{IfOk, IfSome, IsSomeAnd, MatchOption, is_some}
 use Rattle.std.specs.declared.result.Result.{Result}
@@ -11,24 +11,24 @@ use Rattle.lalrpop_lane_states.specs.Words.{AreCopiedTables, AreLaneTables, AreL
 use Rattle.lalrpop_construction.specs.declared.options.Method.TheVariants.{Lane}
 use Rattle.lalrpop_tables.proofs.theory.answers.Lr1Answers.{Lane-answer}
 
--- the lane tables of an LALR(1) grammar whose start symbol stands on no right side pass the check
+-- the lane tables of an LALR(1) grammar whose start symbol is on no right side pass the check
 pub Lanes-pass : (g : Grammar) (start : NonterminalString) (tables : List (State Bits)) → AreLalrLaneTables (rules_of g) start tables → PassCheck g start tables
 Lanes-pass g start tables lalr = record { closed = lalr.checked.closed; reductions = lalr.checked.reductions; carried = lalr.checked.carried; no_conflict = lalr.lanes.free }
 
 module _ {T E : Type 0} (items : T → List (State Bits)) (checked : List (State Bits)) (Said : List (State Bits) → Type 0) (said : Said checked) where
-  -- what is said of the tables that were checked is said of those that were kept
+  -- what holds of the tables that were checked holds of those that were kept
   pub Kept-said : (r : Result (Option T) E) → IfOk r (λ answer. IfSome answer (λ kept. items kept ≡ checked)) → IfOk r (λ answer. IfSome answer (λ kept. Said (items kept)))
   Kept-said (Ok (Some kept)) same = subst Said (sym same) said
   Kept-said (Ok None) same = tt
   Kept-said (Err e) same = tt
 
-  -- and where they pass, there are such
+  -- if the tables pass the check, some were kept, and it holds of these
   pub Passing-said : (r : Result (Option T) E) → IfOk r (λ answer. is_some answer ≡ true) → IfOk r (λ answer. IfSome answer (λ kept. items kept ≡ checked)) → IfOk r (λ answer. IsSomeAnd answer (λ kept. Said (items kept)))
   Passing-said (Ok (Some kept)) passing same = subst Said (sym same) said
   Passing-said (Ok None) passing same = cc
   Passing-said (Err e) passing same = tt
 
--- ---- what is said of an answer that is there, or is not
+-- ---- a result that is there or not
 module _ {X : Type 0} where
   pub there_told : (o : Option X) (x : X) (A : Type 0) (B : X → Type 0) → o ≡ Some x → MatchOption o A B → B x
   there_told None x A B e h = cc
@@ -47,11 +47,11 @@ module _ {X : Type 0} where
   pub nothing_told : (o : Option X) (B : X → Type 0) → o ≡ None → IsSomeAnd o B → ⊥
   nothing_told o B e h = absurd (subst (λ (p : Option X). IsSomeAnd p B) e h)
 
--- what is said of a grammar and a start symbol is said of equal ones
+-- what holds of a grammar and a start symbol holds of equal ones
 pub said_of : (Told : Grammar → NonterminalString → Type 0) (h g : Grammar) (first start : NonterminalString) → h ≡ g → first ≡ start → Told h first → Told g start
 said_of Told h g first start same is told = subst (Told g) is (subst (λ g. Told g first) same told)
 
--- ---- what is said of lane tables that are answered
+-- ---- what holds of lane tables that are returned
 pub Lanes-answer : {T E : Type 0} (items : T → List (State Bits)) (g : Grammar) (start : NonterminalString) (copies : ℕ) (r : Result (Option T) E) → IfOk r (λ answer. IfSome answer (λ tables. AreCopiedTables (rules_of g) start copies (items tables))) →
     IfOk r (λ answer. IfSome answer (λ tables. AreFaithful (productions g) start (contents g.terminals (items tables)))) → (IsOnNoRightSide (productions g) start → IsLALR1 (productions g) start → IfOk r (λ answer. IsSomeAnd answer (λ tables. AreLaneTables (rules_of g) start (items tables)))) →
     IfOk r (λ answer. IfSome answer (λ tables. AreBuiltTablesOf ⊥ Lane copies g start (items tables)))

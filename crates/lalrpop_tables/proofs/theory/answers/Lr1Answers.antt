@@ -1,4 +1,4 @@
--- The answers of a construction of LR(1) tables, put together from what its parts say.
+-- The results of a construction of LR(1) tables, from the results of its parts.
 use Rattle.std.proofs.Common.{◌≡◌, ℕ, ◌<◌, inl, inr, List, length, refl}
 use Rattle.std.specs.Prelude.{IfOk, IfErr, MatchResult}
 use Rattle.std.specs.declared.result.Result.{Result}
@@ -40,7 +40,8 @@ module _ (g : Grammar) (start : NonterminalString) (tables : List (State Bits)) 
     lanes = λ _. lanes;
   }
 
-  -- canonical tables, by either method; by the lane way only where there are no lane tables of an LALR(1) grammar
+  -- canonical tables are a result by either method; by the lane method only if there are no lane
+  -- tables of an LALR(1) grammar
   pub Fallback-answer : (method : Method) (copies : ℕ) → (method ≡ Lane → IsOnNoRightSide (productions g) start → IsLALR1 (productions g) start → AreLaneTables (rules_of g) start tables) → AreCanonicalTables g start tables → AreBuiltTablesOf ⊥ method copies g start tables
   Fallback-answer method copies lanes t = record {
     coherent = t.coherent;
@@ -71,7 +72,7 @@ module _ (g : Grammar) (start : NonterminalString) (tables : List (State Bits)) 
     lanes = λ e. cc;
   }
 
-  -- ---- said of another condition that holds where the first does
+  -- ---- the same under an equivalent condition
   pub Tables-where : {Built Copies Lanes Merged : List (State Bits) → Type 0} (c d : Type 0) (method : Method) → (c → d) → (d → c) → AreTablesBy Built Copies Lanes Merged c method g start tables → AreTablesBy Built Copies Lanes Merged d method g start tables
   Tables-where c d method to from t = record {
     coherent = t.coherent;
@@ -104,7 +105,7 @@ Answer-renumbered collapsed method copies g start built tables r t = record {
 }
 
 -- ---- errors
--- an error of the canonical construction is one where nothing is collapsed
+-- an error of the canonical construction is one without a collapse
 pub Canonical-fails : (g : Grammar) (start : NonterminalString) (stop_after : ℕ) (error : BuildError Bits) → FailsByConflicts stop_after g start error → FailsOn ⊥ stop_after g start error
 Canonical-fails g start stop_after (Conflicts error) f = record {
   not_lr1 = λ _. f.not_lr1;
@@ -153,14 +154,14 @@ module _ (g : Grammar) (start : NonterminalString) (stop_after : ℕ) where
   Failure-collapsed collapsed is (Conflicts error) f = merged_error collapsed is error (inl (f.stopped (λ c. c))) (λ lalr. f.not_lr1 (λ c. c) (lalr_lr1 (productions g) start lalr))
   Failure-collapsed collapsed is Memory f = tt
 
--- states are collapsed exactly by the canonical method
+-- an error without a collapse is one by either method
 pub Failure_by_method : (g : Grammar) (start : NonterminalString) (stop_after : ℕ) (method : Method) (error : BuildError Bits) → FailsOn ⊥ stop_after g start error → FailsOn (method ≡ Canonical) stop_after g start error
 Failure_by_method g start stop_after Canonical error f = Failure-collapsed g start stop_after (Canonical ≡ Canonical) refl error f
 Failure_by_method g start stop_after Lane error f = Failure-where g start stop_after ⊥ (Lane ≡ Canonical) (λ x. absurd x) (λ e. cc) error f
 
--- ---- what a part's answer says
+-- ---- the result of a part
 module _ {T : Type 0} (items : T → List (State Bits)) (g : Grammar) (start : NonterminalString) (stop_after : ℕ) (method : Method) (by : method ≡ Canonical) (copies : ℕ) (before : List (State Bits)) (t : AreBuiltTablesOf ⊥ method copies g start before) where
-  -- of a collapse of canonical states
+  -- the result of the collapse of canonical states is one of the construction
   pub Collapse-answers : (r : Result T (BuildError Bits)) → MatchResult r (λ x. AreCollapsedTables g.terminals before (items x)) (FailsByCollapse g.terminals before) → MatchResult r (λ x. AreCoherent (items x)) HasCoherentStates → IfOk r (λ x. 0 < length (items x)) → MatchResult r (λ x. AreLalrTables g start (items x)) (TellsNotLALR1 (productions g) start) →
       IfOk r (λ x. AreBuiltTablesOf (method ≡ Canonical) method copies g start (items x))
   Collapse-answers (Ok x) merged coherent some lalr = Merged-answer g start (items x) (method ≡ Canonical) by method by copies before (t.built (λ c. c) by) merged coherent some lalr

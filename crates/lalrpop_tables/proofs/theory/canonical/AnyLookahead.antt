@@ -1,4 +1,5 @@
--- The laws that lead from what the construction says with any lookahead to canonical states and to LR(0) states.
+-- The laws that lead from a construction with any lookahead to canonical states and to LR(0)
+-- states.
 use Rattle.std.proofs.Common.{ℕ, List, refl}
 use Rattle.lalrpop_base.specs.Words.{Bits, rules_of, AreOwn}
 use Rattle.lalrpop_construction.specs.Words.{AreLr0States, HasLr0States, FailsAfterLr0}

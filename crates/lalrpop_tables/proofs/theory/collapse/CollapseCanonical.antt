@@ -1,4 +1,5 @@
--- Canonical states can be collapsed: those with the same dotted productions lead by the same symbols to the same dotted productions.
+-- Canonical states can be collapsed: those with the same dotted productions lead by the same
+-- symbols to the same dotted productions.
 use Rattle.std.proofs.Common.{◌≡◌, ℕ, ◌+◌, List, [], ◌∷◌, refl, sym, ◌∙◌, ap, subst, arith, Some}
 use Rattle.std.specs.Prelude.{Contains, slice_get, IfSome}
 use Rattle.std.specs.BTreeMap.{BTreeMap, get}
@@ -59,7 +60,7 @@ module _ {L : Type 0} where
       same_moves x is js ms ns (same_tail (dot_of i) (dot_of j) (dots is) (dots js) same) s t
 
 module _ (g : Grammar) (start : NonterminalString) (states : List (State Bits)) (made : AreStatesOf (canonical_of g start) states) where
-  -- ---- where a transition leads
+  -- ---- the target of a transition
   record IsTarget (s : State Bits) (x : Symbol) (target : StateIndex) : Type 0 where
     pub kernel : List (Dotted Bits)
     pub shifts : Shifts x s.items.vec.items kernel
@@ -77,7 +78,7 @@ module _ (g : Grammar) (start : NonterminalString) (states : List (State Bits)) 
       let kernels : b.kernel ≡ over.kernel = same_some b.kernel over.kernel (sym b.numbered ∙ over.numbered) in
       record { kernel = over.kernel; shifts = over.shifts; to = to.0; there = to.1; closure = subst (λ (k : List (Dotted Bits)). IsClosureOf (rules_of g) k to.0.items.vec.items) kernels b.built.closure }
 
-  -- closures of the same dotted productions list the same
+  -- closures of the same dotted productions have the same dotted productions
   closures_over : (ks ls xs ys : List (Dotted Bits)) → dots ks ≡ dots ls → IsClosureOf (rules_of g) ks xs → IsClosureOf (rules_of g) ls ys → (d : Dot) → Contains (dots xs) d → Contains (dots ys) d
   closures_over ks ls xs ys same a b d h =
       (b.exact d.0 d.1).1 (InClosure-more (productions g) (InKernel ks) (InKernel ls) (λ p n k. subst (λ (ds : List Dot). Contains ds (p, n)) same k) ((a.exact d.0 d.1).0 h))
@@ -92,7 +93,7 @@ module _ (g : Grammar) (start : NonterminalString) (states : List (State Bits)) 
       let kernels = same_moves x s.items.vec.items u.items.vec.items t.kernel v.kernel same t.shifts v.shifts in
       ap dots_of t.there ∙ same_closures t.kernel v.kernel t.to.items.vec.items v.to.items.vec.items kernels t.closure v.closure ∙ ap dots_of (sym v.there)
 
-  -- what a map gives at a key is an entry of it
+  -- the target that a map has at a key is one of its entries
   entry_of : {K : Type 0} {R : K → K → Ordering} → IsTotalOrder R → CmpEqualImpliesEq R → (edges : BTreeMap K StateIndex) (key : K) (target : StateIndex) → get R edges key ≡ Some target → Contains edges.entries (key, target)
   entry_of {R = R} total exact edges key target e = subst (λ o. IfSome o (λ v. Contains edges.entries (key, v))) e (IfSome-get total exact edges key)
 

@@ -1,4 +1,4 @@
--- Merged states are coherent where those are of which they are made.
+-- Merged states are coherent if the states that were merged are.
 use Rattle.std.proofs.Common.{◌≡◌, ℕ, ◌<◌, List, length, refl, sym, ◌∙◌, ap, subst, arith, Some}
 use Rattle.std.specs.Prelude.{Contains, slice_get, IfSome}
 use Rattle.std.specs.BTreeMap.{BTreeMap, get}
@@ -19,7 +19,7 @@ use Rattle.lalrpop_tables.proofs.theory.collapse.CollapseDots.{item_at, has_item
 use Rattle.lalrpop_collections.proofs.theory.lists.Members.{place}
 use Rattle.lalrpop_collections.proofs.theory.lists.Places.{contains_at, filled}
 
--- what a map gives at a key is an entry of it
+-- the target that a map has at a key is one of its entries
 entry_at : {K : Type 0} {R : K → K → Ordering} → IsTotalOrder R → CmpEqualImpliesEq R → (m : BTreeMap K StateIndex) (key : K) (target : StateIndex) → get R m key ≡ Some target → (k : ℕ) × (slice_get m.entries k ≡ Some (key, target))
 entry_at {R = R} total exact m key target e =
     let there = subst (λ o. IfSome o (λ v. Contains m.entries (key, v))) e (IfSome-get total exact m key) in
@@ -27,7 +27,7 @@ entry_at {R = R} total exact m key target e =
     (at.0, at.2)
 
 module _ (before after : List (State Bits)) (coherent : AreCoherent before) (c : IsCollapsed before after) (ordered : AreOrdered after) where
-  -- a step of a state is one of the merged state
+  -- a coherent step of a state is one of the merged state
   step_over : (s merged : State Bits) (x : Symbol) (old target : StateIndex) → dots_in s ≡ dots_in merged → IsCoherentStep before s.items.vec.items x old.0 → target ≡ retargeted (group before after c) old → IsCoherentStep after merged.items.vec.items x target.0
   step_over s merged x old target same step e =
       let to = merged_of before after c old.0 step.to step.there in

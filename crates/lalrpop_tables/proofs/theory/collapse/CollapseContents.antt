@@ -1,4 +1,5 @@
--- Canonical states and what they are merged into, as the definitions speak of states: a collapse.
+-- Canonical states and the states into which they are merged are a collapse, as the definitions
+-- speak of states.
 use Rattle.std.proofs.Common.{◌≡◌, ◌↔◌, ℕ, ◌<◌, inl, inr, Bool, true, List, length, map, refl, sym, ◌∙◌, ap, subst, Option, Some, None, option_map, get_or}
 use Rattle.std.specs.Prelude.{Contains, slice_get}
 use Rattle.std.specs.Borrow.{Bor}
@@ -138,7 +139,7 @@ module _ (g : Grammar) (start : NonterminalString) (before after : List (State B
   edge_at k m x (Some merged) there e = edge_from k m x merged there e
 
   -- ---- reductions
-  -- what stands in the code's list of reductions for a reduction
+  -- each reduction has an entry in the code's list of reductions
   reduced_of : (s : State Bits) (r : Reduction) → Contains (contents_of holds s).reductions r → (q : CodeReduction) × Contains s.reductions.items q × (reduction_of holds q ≡ r)
   reduced_of s r h = contains_of_map (reduction_of holds) s.reductions.items r h
 
@@ -155,7 +156,7 @@ module _ (g : Grammar) (start : NonterminalString) (before after : List (State B
         λ h. (reduces_by s p).0 ((f.finished p).1 h),
       )
 
-  -- reductions of a merged state stand in order
+  -- the reductions of a merged state rise by their productions
   in_order : (k : ℕ) (merged : State Bits) → slice_get after k ≡ Some merged → (i j : ℕ) (r q : CodeReduction) → i < j → slice_get merged.reductions.items i ≡ Some r → slice_get merged.reductions.items j ≡ Some q → production_order r.1.now q.1.now ≡ Less
   in_order k merged there i j r q l at_i at_j =
       let ps = map production_in merged.reductions.items in
@@ -166,7 +167,7 @@ module _ (g : Grammar) (start : NonterminalString) (before after : List (State B
       subst (λ (p : Production). production_order r.1.now p ≡ Less) (get_or_from_slice_get ps j (production_in q) d second)
       (subst (λ (p : Production). production_order p (get_or ps j d) ≡ Less) (get_or_from_slice_get ps i (production_in r) d first) less)
 
-  -- so each production stands once
+  -- so each production is in one reduction
   one_reduction : (k : ℕ) (merged : State Bits) → slice_get after k ≡ Some merged → (r q : CodeReduction) → Contains merged.reductions.items r → Contains merged.reductions.items q → r.1.now ≡ q.1.now → r ≡ q
   one_reduction k merged there r q cr cq same =
       let i = place merged.reductions.items r cr in
@@ -237,7 +238,7 @@ module _ (g : Grammar) (start : NonterminalString) (before after : List (State B
       let q = reduced_of merged r h in
       subst (λ (x : Reduction). (x.holds t ≡ true) ↔ HoldsInGroup number old k x.production t) q.2 (held_from k merged there q.0 q.1 t, held_in k merged there q.0 q.1 t)
 
-  -- ---- all of it
+  -- ---- the whole
   pub is_collapse : IsCollapse number old now
   is_collapse = record {
     first = first_group before after c ordered.some;

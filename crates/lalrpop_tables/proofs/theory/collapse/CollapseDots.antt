@@ -13,7 +13,7 @@ use Rattle.lalrpop_collections.proofs.theory.lists.Places.{filled}
 
 -- ---- items with the same dotted productions
 module _ {L : Type 0} where
-  -- an item of one list stands at its place in the other
+  -- an item of one list has one at its place in the other, with the same dotted production
   pub item_at : (xs ys : List (Dotted L)) → dots xs ≡ dots ys → (k : ℕ) (i : Dotted L) → slice_get xs k ≡ Some i → (j : Dotted L) × (slice_get ys k ≡ Some j) × (j.production ≡ i.production) × (j.index ≡ i.index)
   item_at xs ys same k i at =
       let here : slice_get (map dotted_of ys) k ≡ Some (i.production, i.index) = ap (λ (ds : List (Production × ℕ)). slice_get ds k) (sym same) ∙ slice_get-map dotted_of xs k ∙ ap (option_map dotted_of) at in
@@ -29,13 +29,13 @@ module _ {L : Type 0} where
     origin = subst (λ (q : Production). HasItem ys q (j.index - 1)) (sym p) (subst (λ (m : ℕ). HasItem ys i.production (m - 1)) (sym n) (has_item_over xs ys same i.production (i.index - 1) s.origin));
   }
 
-  -- what came over an edge came over one with the same dotted productions at its ends
+  -- an edge stays coherent if the dotted productions at its ends stay
   pub edge_over : (xs ys cs ds : List (Dotted L)) (x : Symbol) → dots xs ≡ dots ys → dots cs ≡ dots ds → IsCoherentEdge xs x cs → IsCoherentEdge ys x ds
   edge_over xs ys cs ds x source target came k j at moved =
       let i = item_at ds cs (sym target) k j at in
       shifted_over xs ys x i.0 j source (sym i.2) (sym i.3) (came k i.0 i.1 (let e = i.3 in omega arith))
 
--- ---- dotted productions that ascend are one list where they are the same
+-- ---- two lists of rising dotted productions are equal if they have the same members
 abbrev StandsBefore : Production × ℕ → Production × ℕ → Type 0
 StandsBefore d e = Precedes (with_dot d.0 d.1) (with_dot e.0 e.1)
 
@@ -61,7 +61,7 @@ module _ (before after : List (State Bits)) (c : IsCollapsed before after) where
       let m = filled c.numbers n (omega arith) in
       (m.0, m.1, ap (λ o. unwrap_or o n) m.1)
 
-  -- and the merged state with that number lists what it lists
+  -- the merged state with that number has the same dotted productions
   pub merged_of : (n : ℕ) (s : State Bits) → slice_get before n ≡ Some s → (to : State Bits) × (slice_get after (group n) ≡ Some to) × (dots_in s ≡ dots_in to)
   merged_of n s at =
       let m = numbered n (slice_get_within before n s at) in

@@ -1,4 +1,5 @@
--- Canonical states merged have no conflict exactly where the grammar is LALR(1), and are then faithful to it.
+-- Merged canonical states have no conflict exactly if the grammar is LALR(1). Then they are
+-- faithful to it.
 use Rattle.std.proofs.Common.{◌≡◌, ℕ, List, refl, sym, ◌∙◌, ap, subst, true, Option, Some, None}
 use Rattle.std.specs.Prelude.{slice_get, MatchResult}
 use Rattle.std.specs.declared.result.Result.{Result}
@@ -53,8 +54,8 @@ module _ (g : Grammar) (start : NonterminalString) (differ : AllDiffer g.termina
   pub free_tables : HaveNoConflict g.terminals after → AreLalrTables g start after
   free_tables free = record { lalr = free_lalr free; faithful = lalr_faithful (productions g) start is lr0 lalr_tokens (free_lalr free) }
 
-  -- ---- where the grammar is LALR(1)
-  -- a prefix leads to the merged state of where it led
+  -- ---- if the grammar is LALR(1)
+  -- a prefix leads to the merged state of the state to which it led
   grouped : {u : List Symbol} → Grown u → (n : ℕ) → state_after was u ≡ Some n → state_after is u ≡ Some (group n)
   grouped from_nothing n e = ap (λ (k : ℕ). Some k) (sym (is_collapse g start before after ordered c).first ∙ ap group (same_some 0 n e))
   grouped (more {l = u} x k) n e =
@@ -78,7 +79,7 @@ module _ (g : Grammar) (start : NonterminalString) (differ : AllDiffer g.termina
   pub conflicts_not_lalr : (conflicts : List (Conflict Bits)) → AreAllConflicts g.terminals after conflicts → ¬ IsLALR1 (productions g) start
   conflicts_not_lalr conflicts all lalr = all.some (all.all ∙ none_listed g.terminals after (lalr_free lalr))
 
--- ---- what the answer of a collapse says
+-- ---- what the result of a collapse says
 error_tells : (g : Grammar) (start : NonterminalString) → AllDiffer g.terminals → (before : List (State Bits)) → AreOrderedCanonical g start before → (error : BuildError Bits) → FailsByCollapse g.terminals before error → TellsNotLALR1 (productions g) start error
 error_tells g start differ before built (Conflicts error) f = conflicts_not_lalr g start differ before error.states.items built f.0 error.conflicts.items f.1
 error_tells g start differ before built Memory f = tt

@@ -1,4 +1,4 @@
--- What the answer of a collapse says, from what it is.
+-- What the result of a collapse says of its states.
 use Rattle.std.proofs.Common.{[], sym, subst, ◌≡◌, ◌<◌, List, length}
 use Rattle.std.specs.Prelude.{MatchResult, IfOk, IfErr}
 use Rattle.std.specs.declared.result.Result.{Result}
@@ -27,7 +27,7 @@ module _ {T : Type 0} (items : T → List (State Bits)) (terminals : List Termin
   Collapse-some some (Ok t) m = Collapsed-some before (items t) m.collapsed some
   Collapse-some some (Err e) m = tt
 
--- ---- the states that a collapse answers, with or without conflicts
+-- ---- the states that a collapse returns, with or without conflicts
 ordered_error : (after : List (State Bits)) (conflicts : List (Conflict Bits)) → AreOrdered after → (error : BuildError Bits) → FailWith after conflicts error → HasOrderedStates error
 ordered_error after conflicts ordered (Conflicts error) f = subst AreOrdered (sym f.0) ordered
 ordered_error after conflicts ordered Memory f = tt

@@ -1,4 +1,5 @@
--- Collapsible states under the numbers of their dotted productions: those with one number can be joined.
+-- Collapsible states under the numbers of their dotted productions: states with one number can be
+-- joined.
 use Rattle.std.proofs.Common.{◌≡◌, ℕ, suc, ◌<◌, List, [], ◌∷◌, length, map, refl, sym, ap, ◌∙◌, subst, arith, Option, Some, None, option_map}
 use Rattle.std.specs.Prelude.{slice_get, unwrap_or}
 use Rattle.std.specs.BTreeMap.{BTreeMap, get, is_at}

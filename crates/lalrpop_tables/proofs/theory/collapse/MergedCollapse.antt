@@ -1,4 +1,5 @@
--- States numbered, placed and with their reductions joined are the collapse of those that they were.
+-- States that were numbered and placed, and whose reductions were joined, are the collapse of the
+-- states before.
 use Rattle.std.proofs.Common.{◌≡◌, ℕ, List, [], map, sym, ap, ◌∙◌, subst, arith, Some}
 use Rattle.std.specs.Prelude.{◌↔◌, Contains, slice_get}
 use Rattle.std.specs.Borrow.{Bor}
@@ -31,7 +32,7 @@ module _ (before moved merged after : List (State Bits)) (numbers : List ℕ) (c
   are_merged : AreMerged moved merged
   are_merged = Placed-merged placed (Numbered-merge before moved numbers collapsible named under_new)
 
-  -- the states with a number are those that were numbered so
+  -- a fact of a state with the number is one of a state that got the number
   members : (k : ℕ) (P Q : State Bits → Type 0) → ((s t : State Bits) → IsRenumberedState new s t → P s ↔ Q t) → OfMember (HasNumber moved k) Q ↔ OfMember (IsNumbered new before k) P
   members k P Q same = (
     λ o.

@@ -1,4 +1,4 @@
--- Numbers by first appearance, a value more.
+-- Numbers by first appearance, with one value more.
 use Rattle.std.proofs.Common.{◌≡◌, ℕ, zero, suc, ◌+◌, ◌<◌, ◌⊎◌, inl, inr, List, [], ◌∷◌, ◌++◌, length, map, refl, sym, ap, ◌∙◌, subst, arith, Option, Some, None, option_map, length-append}
 use Rattle.std.specs.Prelude.{slice_get}
 use Rattle.std.proofs.lemmas.Option.{slice_get_within, slice_get-map}
@@ -7,7 +7,8 @@ use Rattle.lalrpop_tables.proofs.Types.{Nil, Production}
 use Rattle.lalrpop_collections.proofs.theory.lists.Places.{same_some, slice_get-longer, slice_get-push_at, push_cases, one_place}
 
 module _ {X : Type 0} where
-  -- the numbers of the values are their places in the list, which has each once, in the order of their first appearance
+  -- the numbers of the values are their places in the list, which has each value once, by first
+  -- appearance
   pub record AreListed (xs : List X) (numbers : List ℕ) (list : List X) : Type 0 where
     pub counted : length numbers ≡ length xs
     pub found : (n m : ℕ) → slice_get numbers n ≡ Some m → (x : X) × (slice_get xs n ≡ Some x) × (slice_get list m ≡ Some x)
@@ -112,7 +113,7 @@ module _ {X : Type 0} where
     first = a.first;
   }
 
--- ---- values under a map that tells all of them apart
+-- ---- values under a map that keeps different values different
 pub mapped_numbers : {X Y : Type 0} (f : X → Y) → ((x y : X) → f x ≡ f y → x ≡ y) → (xs : List X) (numbers : List ℕ) → AreFirstNumbers (map f xs) numbers → AreFirstNumbers xs numbers
 mapped_numbers {X} {Y} f apart xs numbers a = record {
   counted = a.counted ∙ length_map xs;
@@ -139,6 +140,6 @@ dotted_bare (d ∷ ds) = ap (λ xs. d ∷ xs) (dotted_bare ds)
 pub bare_apart : (ds es : List (Production × ℕ)) → map bare ds ≡ map bare es → ds ≡ es
 bare_apart ds es e = sym (dotted_bare ds) ∙ ap (map (λ (i : Dotted Nil). (i.production, i.index))) e ∙ dotted_bare es
 
--- nothing is nothing
+-- all values without tokens are equal
 pub no_lookahead : (x y : Nil) → x ≡ y
 no_lookahead x y = refl

@@ -74,7 +74,7 @@ overlaid_own : {X : Type 0} (o p : Option X) (x : X) → ((y : X) → o ≡ Some
 overlaid_own None p x same e = e
 overlaid_own (Some y) p x same e = ap Some (sym (same y refl))
 
--- where both have a key, it has one target
+-- at a key that both maps have, they have the same target
 abbrev pub Agree : {K : Type 0} → (K → K → Ordering) → BTreeMap K StateIndex → BTreeMap K StateIndex → Type 0
 Agree {K} order a b = (key : K) (x y : StateIndex) → get order a key ≡ Some x → get order b key ≡ Some y → x ≡ y
 
@@ -84,7 +84,8 @@ pub record CanJoin (a b : State Bits) : Type 0 where
   pub shifts : Agree terminal_ord.ghosts.cmp a.shifts b.shifts
   pub gotos : Agree name_cmp a.gotos b.gotos
 
--- the state is these merged: as in the collapse, but with the numbers that they have, and the reductions of all
+-- the state is the merge of the members, as in the collapse. But it has the numbers that they have,
+-- and the reductions of all
 pub record Merges (Member : State Bits → Type 0) (number : ℕ) (merged : State Bits) : Type 0 where
   pub index : merged.index.0 ≡ number
   pub some : OfMember Member (λ _. Unit {0})
@@ -107,7 +108,7 @@ module _ (Member Wider : State Bits → Type 0) (state : State Bits) (wider : (s
     ],
   )
 
-  -- a state more
+  -- a state more is joined
   pub Merges-more : (number : ℕ) (merged united : State Bits) → Merges Member number merged → IsJoined merged state united → ((s : State Bits) → Member s → CanJoin s state) → Merges Wider number united
   Merges-more number merged united m j can =
       let first = m.some in
@@ -138,7 +139,7 @@ module _ (Member Wider : State Bits → Type 0) (state : State Bits) (wider : (s
             (λ h. subst (λ (rs : List Reduction). Contains rs r) (sym j.reductions) (Contains-append_right merged.reductions.items state.reductions.items r h));
       }
 
--- the same states
+-- the same members have the same merge
 pub Merges-same : (Member Other : State Bits → Type 0) (number : ℕ) (merged : State Bits) → ((s : State Bits) → Member s → Other s) → ((s : State Bits) → Other s → Member s) → Merges Member number merged → Merges Other number merged
 Merges-same Member Other number merged to from m = record {
   index = m.index;
@@ -153,7 +154,7 @@ Merges-same Member Other number merged to from m = record {
     both : (P : State Bits → Type 0) → P merged ↔ OfMember Member P → P merged ↔ OfMember Other P
     both P b = (λ p. let o = b.0 p in (o.0, to o.0 o.1, o.2), λ o. b.1 (o.0, from o.0 o.1, o.2))
 
--- one state is itself merged
+-- a state is the merge of itself
 pub Merges-one : (Member : State Bits → Type 0) (number : ℕ) (state : State Bits) → state.index.0 ≡ number → Member state → ((s : State Bits) → Member s → s ≡ state) → Merges Member number state
 Merges-one Member number state e there only = record {
   index = e;
@@ -173,7 +174,7 @@ Merges-one Member number state e there only = record {
 abbrev pub HasNumber : List (State Bits) → ℕ → State Bits → Type 0
 HasNumber states number s = (n : ℕ) × (slice_get states n ≡ Some s) × (s.index.0 ≡ number)
 
--- states with one number can be joined, and a number comes after all lower ones
+-- states with one number can be joined, and each number appears after all lower ones
 pub record CanMerge (states : List (State Bits)) : Type 0 where
   pub alike : (n m : ℕ) (a b : State Bits) → slice_get states n ≡ Some a → slice_get states m ≡ Some b → a.index.0 ≡ b.index.0 → CanJoin a b
   pub first : (n earlier : ℕ) (s : State Bits) → slice_get states n ≡ Some s → earlier < s.index.0 → (k : ℕ) × (t : State Bits) × (k < n) × (slice_get states k ≡ Some t) × (t.index.0 ≡ earlier)
@@ -267,7 +268,7 @@ module _ (before : List (State Bits)) (state : State Bits) where
 nothing_merged : AreMerged [] []
 nothing_merged = record { below = λ n s at. cc; each = λ k m at. cc }
 
--- states placed one after the other are merged
+-- states that were placed one after the other are merged
 pub Placed-merged : {states merged : List (State Bits)} → ArePlaced states merged → CanMerge states → AreMerged states merged
 Placed-merged none c = nothing_merged
 Placed-merged (pushed {before} {merged} {all} {new} state placed past e f) c =

@@ -1,4 +1,4 @@
--- Reductions joined by their productions, one more, and listed.
+-- Reductions joined by their productions, one at a time, and listed.
 use Rattle.std.proofs.Common.{◌≡◌, ℕ, ◌⊎◌, inl, inr, List, [], ◌∷◌, ◌++◌, map, refl, sym, ap, ◌∙◌, subst, Option, Some, None, Bool, true, false, ◌||◌, IsTrue, option_map}
 use Rattle.std.specs.Prelude.{Contains, slice_get}
 use Rattle.std.specs.Borrow.{Bor}
@@ -72,7 +72,7 @@ module _ (given : List Reduction) (r : Reduction) where
   has_some : (p : Production) (bit : ℕ) → HasReductionOn p bit given → HasReduction p given
   has_some p bit h = (h.0, h.1, h.2)
 
-  -- at its production
+  -- the tokens of the production of the reduction
   pushed_at : (p : Production) → r.1.now ≡ p → (o n : Option Bits) → AreTokensOf p given o → PushesAt (λ (s : Bits). s ≡ no_bits) (λ (a item b : Bits). b ≡ join a item) o r.0 n → AreTokensOf p more n
   pushed_at p e None None a h = absurd h
   pushed_at p e (Some s) None a h = absurd h
@@ -110,7 +110,7 @@ module _ (given : List Reduction) (r : Reduction) where
       same : (bit : ℕ) → has t bit ≡ (has s bit || has r.0 bit)
       same bit = ap (λ (x : Bits). has x bit) h ∙ has-join s r.0 bit
 
-  -- elsewhere
+  -- the tokens of any other production
   other_at : (p : Production) → (r.1.now ≡ p → ⊥) → (o : Option Bits) → AreTokensOf p given o → AreTokensOf p more o
   other_at p other None a = λ h. elim (from p h) [ inl old ↦ a old | inr e ↦ other e ]
   other_at p other (Some s) a = (

@@ -18,7 +18,7 @@ abbrev TokenTests : Type 0
 TokenTests = Production → ℕ → Token → Bool
 
 module _ (new old : ℕ → ℕ) (before after : ℕ → Contents) (r : IsRenumbering new old before after) where
-  -- ---- what a number stands for is what its old number stood for
+  -- ---- a state under a new number is the one under its old number
   items_at : (n : ℕ) → (after n).items ≡ (before (old n)).items
   items_at n = ap (λ (k : ℕ). (after k).items) (sym (r.back n)) ∙ r.items (old n)
 
@@ -35,7 +35,7 @@ module _ (new old : ℕ → ℕ) (before after : ℕ → Contents) (r : IsRenumb
   old_of None m e = cc
   old_of (Some l) m e = let same : new l ≡ m = cc in (l, refl, same)
 
-  -- an edge was one between the old numbers
+  -- an edge between new numbers is one between the old ones
   edge_before : (n : ℕ) (x : Symbol) (m : ℕ) → leads (after n) x ≡ Some m → (l : ℕ) × (leads (before (old n)) x ≡ Some l) × (new l ≡ m)
   edge_before n x m e = old_of (leads (before (old n)) x) m (sym (leads_at n x) ∙ e)
 
@@ -59,7 +59,7 @@ module _ (new old : ℕ → ℕ) (before after : ℕ → Contents) (r : IsRenumb
     once = subst HasNoRepeat (sym (reductions_at n)) h.once;
   }
 
-  -- a state that is reached was
+  -- a state that was reached is reached under its new number
   pub reached_after : {n : ℕ} → IsReached before n → IsReached after (new n)
   reached_after at_zero = subst (IsReached after) (sym r.fixes) at_zero
   reached_after (over_edge {n} m x h e) = over_edge (new m) x (reached_after h) (r.commutes n x ∙ ap (renumbered new) e)

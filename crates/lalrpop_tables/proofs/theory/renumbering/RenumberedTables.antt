@@ -1,4 +1,5 @@
--- Renumbered tables have a state and no conflict, as before, and stay faithful; lane tables stay as many as the LR(0) states, or as many as these and their copies.
+-- Renumbered tables have a state and no conflict, as before, and stay faithful. Their number stays:
+-- it is that of the LR(0) states, or at most that and the copies.
 use Rattle.std.proofs.Common.{◌≡◌, ◌⊎◌, ◌<◌, ℕ, inl, inr, ⊎_elim, List, length, sym, ◌∙◌, ap, subst, arith, Some}
 use Rattle.std.specs.Prelude.{Contains, slice_get}
 use Rattle.std.proofs.lemmas.Bool.{cases_lt}
@@ -18,7 +19,7 @@ use Rattle.lr1_theory.proofs.theory.renumbering.Renumbered.{entry_from}
 use Rattle.std.specs.Borrow.{Bor}
 use Rattle.lalrpop_tables.proofs.theory.renumbering.RenumberedCanonical.{Canonical-renumbered}
 
--- a state under another number has no conflict where it had none
+-- a state has no conflict under another number if it had none
 no_conflict_after : (new : ℕ → ℕ) (terminals : List TerminalString) (before after : State Bits) → IsRenumberedState new before after → HasNoConflict terminals before → HasNoConflict terminals after
 no_conflict_after new terminals before after r h = record {
   shifts = λ k j bit t target q at place there.

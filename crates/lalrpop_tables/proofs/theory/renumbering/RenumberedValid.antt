@@ -1,4 +1,4 @@
--- States of live prefixes are that under other numbers too.
+-- States of live prefixes are such under other numbers, too.
 use Rattle.std.proofs.Common.{◌≡◌, ◌↔◌, ℕ, ◌<◌, inl, inr, List, [], sym, ◌∙◌, ap, subst, arith, Some}
 use Rattle.std.specs.Prelude.{Contains, slice_get, map}
 use Rattle.std.proofs.lemmas.Bool.{cases_lt}
@@ -9,7 +9,7 @@ use Rattle.lalrpop_states.specs.closures.Closure.{dotted_of}
 use Rattle.lalrpop_tables.proofs.theory.renumbering.RenumberedTables.{state_before}
 use Rattle.lalrpop_collections.proofs.theory.lists.BothFacts.{turned_both}
 
--- a state with the same items is one of the same prefixes
+-- a state with the same items is one of the same prefix
 same_prefix : (g : Rules) (start : NonterminalString) (u : List Symbol) (before after : State Bits) → after.items ≡ before.items → IsStateFor g start u before → IsStateFor g start u after
 same_prefix g start u before after same f = record {
   live = f.live;

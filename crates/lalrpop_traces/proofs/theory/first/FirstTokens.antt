@@ -1,4 +1,4 @@
--- First sets by their tokens; that their contracts leave one set alone, and carry joins to joins.
+-- FIRST sets by their tokens: the contract of a FIRST set determines the set.
 use Rattle.std.proofs.Common.{◌≡◌, ℕ, inl, inr, List, length, sym, subst, arith, true}
 use Rattle.std.proofs.lemmas.Bool.{cases_lt}
 use Rattle.lalrpop_traces.proofs.Types.{Symbol}
@@ -6,11 +6,7 @@ use Rattle.lalrpop_base.specs.Words.{Bits, has, same_bits, Rules, IsFirstSet}
 use Rattle.lalrpop_states.proofs.theory.states.HeldTokens.{same_test}
 use Rattle.lalrpop_grammar.proofs.theory.first.FirstMeaning.{terminal_at}
 
--- ---- what known symbols derive is known
-
--- ---- by tokens
-
--- ---- the contracts leave one set alone
+-- two FIRST sets of one list are the same
 pub First-same : (g : Rules) (l : List Symbol) (s t : Bits) → IsFirstSet g l s → IsFirstSet g l t → s ≡ t
 First-same g l s t a b = same_bits s t (λ q. same_test (has s q) (has t q) (half s t a b q, half t s b a q))
   where
@@ -22,5 +18,3 @@ First-same g l s t a b = same_bits s t (λ q. same_test (has s q) (has t q) (hal
           let end : length g.terminals ≡ q = omega arith in
           subst (λ k. has t k ≡ true) end (b.ends.1 (a.ends.0 (subst (λ k. has s k ≡ true) (sym end) h)))
     ]
-
--- ---- before the join of two sets stands the join of what stands before each

@@ -22,7 +22,7 @@ module _ {X : Type 0} (P Q : X → Bool) (implies : (x : X) → Q x ≡ true →
   step_less x false true a b h l = omega (arith, l)
   step_less x false false a b h l = l
 
-  -- and fewer, where an element passes the weaker one alone
+  -- it passes fewer, if an element passes the weaker test alone
   pub count_less : (xs : List X) (y : X) → Contains xs y → P y ≡ true → Q y ≡ false → length (filter Q xs) < length (filter P xs)
   count_less [] y c p q = absurd (Contains-none y c)
   count_less (x ∷ xs) y c p q = elim (contains-cons x xs y c) [

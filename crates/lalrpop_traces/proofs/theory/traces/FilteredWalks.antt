@@ -1,4 +1,4 @@
--- Which paths a filtered walk passes over.
+-- The paths that a filtered walk passes over.
 use Rattle.std.proofs.Common.{◌≡◌, ℕ, ◌⊎◌, inl, inr, true, false, List, [], ◌∷◌, ◌++◌, refl, sym, ◌∙◌, ap, subst, append_assoc, append-nil}
 use Rattle.std.specs.Prelude.{IsTrue, Option, Some, None, Ok, Err}
 use Rattle.std.specs.declared.result.Result.{Result}
@@ -18,7 +18,7 @@ standing : (stack : List EnumeratorState) (rest : List (List ℕ)) → (stack �
 standing [] rest h = absurd (h refl)
 standing (s ∷ stack) rest h = refl
 
--- what meets one filter meets the same again
+-- a path that meets the lookahead later meets the same lookahead before
 same_meets : (old new : FilteredPathEnumerator) → IsSameFilter old new → (path : List ℕ) → Meets new path → Meets old path
 same_meets old new same path m = (
   m.0,
@@ -31,7 +31,7 @@ same_meets old new same path m = (
 same_again : (a b c : FilteredPathEnumerator) → IsSameFilter a b → IsSameFilter b c → IsSameFilter a c
 same_again a b c h k = record { graph = k.graph ∙ h.graph; first_sets = k.first_sets ∙ h.first_sets; lookahead = k.lookahead ∙ h.lookahead }
 
--- one path more is passed over
+-- one more path is passed over
 pub skipped_more : (old mid new : FilteredPathEnumerator) → HasSkipped old mid → IsSameFilter mid new → mid.base.refused ≡ false → (IsEnded mid.base → ⊥) → ¬ Meets mid (path_of mid.base.stack.items) → GoesTo (remaining mid.base) new.base → HasSkipped old new
 skipped_more old mid new h same told stands none to =
     let path = path_of mid.base.stack.items in
@@ -59,7 +59,7 @@ skipped_more old mid new h same told stands none to =
     meets_same : (old new : FilteredPathEnumerator) → IsSameFilter old new → (path : List ℕ) → Meets old path → Meets new path
     meets_same old new same path m = same_meets new old (back old new same) path m
 
--- the path at which the walk stands meets the lookahead
+-- the current path of the walk meets the lookahead
 pub gives_standing : (old mid new : FilteredPathEnumerator) (r : Option (Result Example OutOfMemory)) → HasSkipped old mid → IsSameFilter mid new → (IsEnded mid.base → ⊥) → Meets mid (path_of mid.base.stack.items) → GivesNext mid.base r new.base → IsSameFilter old new × GivesNextMeeting old r new
 gives_standing old mid new None h same stands meets g =
     absurd (nil≢cons (sym g.1 ∙ standing mid.base.stack.items (remaining mid.base) stands))
@@ -79,7 +79,7 @@ gives_standing old mid new (Some (Ok example)) h same stands meets g =
       },
     )
 
--- no path is left, or a refused growth is to be told
+-- no path is left, or an allocation failure is to be reported
 pub gives_last : (old mid new : FilteredPathEnumerator) (r : Option (Result Example OutOfMemory)) → HasSkipped old mid → IsSameFilter mid new → (mid.base.refused ≡ true) ⊎ IsEnded mid.base → GivesNext mid.base r new.base → IsSameFilter old new × GivesNextMeeting old r new
 gives_last old mid new (Some (Err e)) h same neither g = (same_again old mid new h.same same, g)
 gives_last old mid new None h same neither g = (

@@ -1,4 +1,4 @@
--- Symbols behind others, all of whose terminals are in a list.
+-- Symbols after others, all of whose terminals are in a list.
 use Rattle.std.proofs.Common.{◌≡◌, ℕ, true, List, [], ◌∷◌, ◌++◌, refl, sym, ◌∙◌, ap, subst, zero, suc}
 use mathlib.Core.Bool.{true≢false}
 use Rattle.std.specs.Prelude.{Contains, IfSome, Option, Some, None, IsNone, is_some, slice_get}
@@ -25,7 +25,7 @@ pub known_cursor : (terminals : List TerminalString) (x : Symbol) → ((t : Term
 known_cursor terminals x h zero t e = h t e
 known_cursor terminals x h (suc k) t e = cc
 
--- where the bit of a terminal is there, the terminal is in the list
+-- if a terminal has a bit, it is in the list
 pub known_there : (terminals : List TerminalString) (x : Symbol) (u : TerminalString) (o : Option ℕ) → x ≡ Terminal u → IfSome o (λ bit. slice_get terminals bit ≡ Some u) → is_some o ≡ true → HasKnownTerminals terminals (x ∷ [])
 known_there terminals x u None is found h k t e = absurd (true≢false (sym h))
 known_there terminals x u (Some n) is found h zero t e =

@@ -1,4 +1,4 @@
--- What a trace can still do becomes less.
+-- The work that a trace has left falls.
 use Rattle.std.proofs.Common.{◌≡◌, inl, inr, ℕ, zero, suc, ◌<◌, ◌≤◌, ◌+◌, ◌*◌, Bool, true, false, List, [], ◌∷◌, ◌++◌, map, length, refl, sym, ◌∙◌, ap, subst, arith}
 use Rattle.std.specs.Prelude.{Contains, not, slice_get, Option}
 use Rattle.std.specs.List.{flat_map, range_with_len, sum_by}
@@ -51,24 +51,24 @@ module _ (b : Backtrace) where
     unmet_less : (m : Meeting) → Contains (meetings b) m → contains meeting_cmp old m ≡ false → contains meeting_cmp new m ≡ true → unmet b new < unmet b old
     unmet_less m c was now = count_less (λ q. not (contains meeting_cmp old q)) (λ q. not (contains meeting_cmp new q)) (λ q. still_unmet (contains meeting_cmp old q) (contains meeting_cmp new q) (kept q)) (meetings b) m c (ap not was) (ap not now)
 
-  -- a name of the states in one of them
+  -- a name of the states, in one of the states, is among the meetings
   among_meetings : (state : StateIndex) (name : NonterminalString) → state.0 < length b.states → Contains (names_in b) name → Contains (meetings b) (state, name)
   among_meetings state name l c =
       in_flat_map (λ n. map (λ a. (record { 0 = n }, a)) (names_in b)) (range_with_len 0 (length b.states)) state.0 (state, name) (Contains-range (length b.states) state.0 l) (contains_map (λ (a : NonterminalString). (state, a)) (names_in b) name c)
 
-  -- the name of an item of a state
+  -- the name of an item of a state is one of the names
   pub named_item : (state : StateIndex) (item : Dotted Bits) → StandsIn b.states state item → Contains (names_in b) item.production.nonterminal
   named_item state item stands =
       contains_tail b.item.production.nonterminal (flat_map names_of b.states) item.production.nonterminal
       (in_flat_map names_of b.states stands.0 item.production.nonterminal (contains_at b.states stands.0 state.0 stands.1) (contains_map (λ (i : Dotted Bits). i.production.nonterminal) stands.0.items.vec.items item stands.2))
 
-  -- and that of the traced item
+  -- so is the name of the traced item
   pub named_first : Contains (names_in b) b.item.production.nonterminal
   named_first = contains_head b.item.production.nonterminal (flat_map names_of b.states)
 
   -- ---- states in which an item can begin
 
-  -- they are states of the list, where the state of the item is one
+  -- they are states of the list if the state of the item is one
   source_within : {r s : StateIndex} {symbols : List Symbol} → LeadsTo (edges b.states) r symbols s → s.0 < length b.states → r.0 < length b.states
   source_within nowhere l = l
   source_within (over {r = r} {m = m} {x = x} c rest) l = let from = source_of_edge b.states r m x c in slice_get_within b.states r.0 from.0 from.1
@@ -83,19 +83,19 @@ module _ (b : Backtrace) where
 
   -- ---- work
 
-  -- as much for each of the items
+  -- each of the items has the same number of steps
   items_steps : (m : Meeting) (items : List (Dotted Bits)) → sum_by (duty_steps b) (take_up_each m items) ≡ length items * item_steps b
   items_steps m [] = omega arith
   items_steps m (i ∷ items) = omega (arith, sum_by-cons (duty_steps b) (take_up m i) (take_up_each m items), items_steps m items, suc-mul (length items) (item_steps b))
 
-  -- one step for each of the sources
+  -- each of the sources has one step
   sources_steps : (p : Production) (sources : List StateIndex) → sum_by (duty_steps b) (come_to_each p sources) ≡ length sources
   sources_steps p [] = refl
   sources_steps p (n ∷ sources) = omega (arith, sum_by-cons (duty_steps b) (come_to (n, p.nonterminal)) (come_to_each p sources), sources_steps p sources)
 
   module _ (old new : Met) (duties : List Duty) where
     module _ (fresh : Bool) (m : Meeting) (inserted : IsInsertedPair fresh m old.visited_set new.visited_set) where
-      -- a nonterminal was come to
+      -- the work falls if a nonterminal is come to
       pub come_work : work b new duties < work b old (come_to m ∷ duties)
       come_work =
           let many : ℕ = length (names_in b) * item_steps b in
@@ -103,7 +103,7 @@ module _ (b : Backtrace) where
           let less : unmet b new.visited_set * many ≤ unmet b old.visited_set * many = mul-le-mul_right many le in
           omega (arith, less, sum_by-cons (duty_steps b) (come_to m) duties)
 
-      -- and met: the items of the state are left
+      -- it falls if the nonterminal is met, and the items of the state are left
       pub met_work : fresh ≡ true → Contains (names_in b) m.1 → work b new (take_up_each m (items_at (slice_get b.states m.0.0)) ++ duties) < work b old (come_to m ∷ duties)
       met_work is named = elim (cases_lt m.0.0 (length b.states)) [
         | inl within ↦
@@ -118,12 +118,12 @@ module _ (b : Backtrace) where
       ]
 
     module _ (m : Meeting) (item : Dotted Bits) (same : new.visited_set ≡ old.visited_set) where
-      -- an item was taken up
+      -- it falls by the steps of an item if that is taken
       pub item_work : work b new duties + item_steps b ≡ work b old (take_up m item ∷ duties)
       item_work =
           let unmet_same : unmet b new.visited_set * (length (names_in b) * item_steps b) ≡ unmet b old.visited_set * (length (names_in b) * item_steps b) = ap (λ (s : BTreeSet Meeting). unmet b s * (length (names_in b) * item_steps b)) same in
           omega (arith, unmet_same, sum_by-cons (duty_steps b) (take_up m item) duties)
 
-      -- and goes on
+      -- the sources of an item from which the trace goes on have less work than the item
       pub sources_work : (sources : List StateIndex) → AreSources b item.production item.index m.0 sources → m.0.0 < length b.states → work b new (come_to_each item.production sources ++ duties) + length sources < work b old (take_up m item ∷ duties)
       sources_work sources are l = omega (arith, item_work, sum_by-append (duty_steps b) (come_to_each item.production sources) duties, sources_steps item.production sources, few_sources item.production item.index m.0 sources are l)

@@ -11,7 +11,7 @@ use Rattle.lalrpop_traces.specs.declared.trace.trace_graph.TraceGraph.{TraceGrap
 use Rattle.lalrpop_collections.proofs.theory.lists.Members.{of_flat, Contains-reverse, Contains-from_reverse}
 use Rattle.lalrpop_collections.proofs.theory.lists.Bounded.{in_flat_map}
 
--- what stands in a list that is made by a test
+-- an element of a list that is made by a test
 one_if : (b : Bool) (path p : List ℕ) → Contains (cond b (path ∷ []) []) p → (b ≡ true) × (p ≡ path)
 one_if true path p c = elim (contains-cons path [] p c) [ inl e ↦ (refl, sym e) | inr n ↦ absurd (contains-nil n) ]
 one_if false path p c = absurd (contains-nil c)
@@ -39,7 +39,7 @@ first_if : (b : Bool) (path : List ℕ) (more : List (List ℕ)) → b ≡ true 
 first_if b path more e = let P : Bool → Type 0 = λ x. Contains (cond x (path ∷ []) more) path in subst P (sym e) (contains_head path [])
 
 module _ (g : TraceGraph) where
-  -- these edges go on after an edge to the first item, past no node of those before
+  -- the edges go on after an edge to the first item, and pass no node that was passed before
   abbrev pub GoesOn : List ℕ → ℕ → List ℕ → Type 0
   GoesOn taken k [] = is_item (source g k) ≡ true
   GoesOn taken k (j ∷ rest) = (is_item (source g k) ≡ false) × (comes_again g k taken ≡ false) × Contains (numbers_from g k) j × GoesOn (k ∷ taken) j rest
@@ -55,7 +55,7 @@ module _ (g : TraceGraph) where
         (r.0 ∷ s.0, s.1 ∙ reverse_more r.0 (k ∷ taken) s.0, (h.0, h.1, Contains-from_reverse (numbers_from g k) r.0 r.1, s.2))
   ]
 
-  -- and each that goes on so, past no more nonterminals than are counted, is listed
+  -- each path that goes on so, and passes no more nonterminals than are counted, is listed
   pub over_has : (n : ℕ) (taken : List ℕ) (k : ℕ) (rest : List ℕ) → length rest ≤ n → GoesOn taken k rest → Contains (over g n taken k) (reverse (k ∷ taken) ++ rest)
   over_has zero taken k [] l h = subst (Contains (over g zero taken k)) (sym (append-nil (reverse (k ∷ taken)))) (first_if (is_item (source g k)) (reverse (k ∷ taken)) [] h)
   over_has (suc n) taken k [] l h = subst (Contains (over g (suc n) taken k)) (sym (append-nil (reverse (k ∷ taken)))) (first_if (is_item (source g k)) (reverse (k ∷ taken)) _ h)

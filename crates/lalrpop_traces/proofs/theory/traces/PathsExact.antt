@@ -1,4 +1,5 @@
--- The paths that are listed are the example paths, each once. The number of nodes cuts nothing: a path that passes no node twice passes no more than there are.
+-- The paths that are listed are the example paths, each once. The number of nodes cuts nothing off:
+-- a path that passes no node twice passes no more than there are.
 use Rattle.std.proofs.Common.{◌≡◌, ℕ, suc, ◌≤◌, ◌↔◌, inl, inr, Bool, true, false, ◌||◌, cond, List, [], ◌∷◌, length, map, reverse, refl, sym, ◌∙◌, ap, subst, arith}
 use Rattle.std.specs.Prelude.{Contains, Option, Some, None, Ok, Err, IfOk}
 use Rattle.std.specs.declared.result.Result.{Result}
@@ -22,17 +23,17 @@ use Rattle.lalrpop_traces.specs.declared.trace.trace_graph.TraceGraph.{TraceGrap
 use Rattle.lalrpop_traces.specs.declared.trace.trace_graph.TraceGraphEdge.{TraceGraphEdge}
 use Rattle.lalrpop_collections.proofs.theory.lists.Bounded.{in_flat_map}
 
--- equal nodes pass the test
+-- the test is true for equal nodes
 ones : (eq : (a : TraceGraphNode) → node_eq.ghosts.eq a a ≡ true) (a : TraceGraphNode) (x y : Option TraceGraphNode) → x ≡ Some a → y ≡ Some a → are_one x y ≡ true
 ones eq a x y e f = subst (λ (z : Option TraceGraphNode). are_one z y ≡ true) (sym e) (subst (λ (z : Option TraceGraphNode). are_one (Some a) z ≡ true) (sym f) (eq a))
 
--- and only these
+-- it is true only for equal nodes
 one : Exactly node_eq.ghosts.eq → (x y : Option TraceGraphNode) → are_one x y ≡ true → x ≡ y
 one exact None y h = absurd (true≢false (sym h))
 one exact (Some a) None h = absurd (true≢false (sym h))
 one exact (Some a) (Some b) h = ap Some (exact a b h)
 
--- an edge that leads somewhere comes from somewhere
+-- an edge with a target has a source
 has_source : (o : Option TraceGraphEdge) (a : TraceGraphNode) → target_of o ≡ Some a → (e : TraceGraphEdge) × (o ≡ Some e)
 has_source None a e = absurd (some≢none (sym e))
 has_source (Some e) a h = (e, refl)
@@ -48,7 +49,7 @@ behind n node edges k c =
     let h = place_sound n node edges at.0 k at.1 in
     omega (arith, h.2)
 
--- none stands twice
+-- none is there twice
 places_apart : (n : ℕ) (node : TraceGraphNode) (edges : List TraceGraphEdge) → Apart (places_from n node edges)
 places_apart n node [] = tt
 places_apart n node (e ∷ edges) = apart_by (node_eq.ghosts.eq e.to node) n (places_from (suc n) node edges) (λ k c. behind (suc n) node edges k c) (places_apart (suc n) node edges)
@@ -57,7 +58,7 @@ places_apart n node (e ∷ edges) = apart_by (node_eq.ghosts.eq e.to node) n (pl
     apart_by true n rest h a = (λ c. omega (arith, h n c), a)
     apart_by false n rest h a = a
 
--- they are those of the edges that lead to it
+-- they are the numbers of the edges that lead to the node
 leads_to : (g : TraceGraph) (a : TraceGraphNode) (k : ℕ) → Contains (numbers_to g a) k → target g k ≡ Some a
 leads_to g a k c =
     let at = contains_place (numbers_to g a) k c in
@@ -72,7 +73,8 @@ to_leads g a k t =
     let h = place_complete 0 a g.edges k s.0 s.1 to in
     place_contains (numbers_to g a) h.0 k (h.1 ∙ ap (λ (m : ℕ). Some m) (omega arith))
 
--- what a graph is asked for: its nodes, equality of nodes as a test, and the numbers of the edges to each node
+-- what the proof needs of a graph: its nodes, the test of equal nodes, and the numbers of the edges
+-- to each node
 record IsListed (g : TraceGraph) (nodes : List TraceGraphNode) : Type 0 where
   exact : Exactly node_eq.ghosts.eq
   same : (a : TraceGraphNode) → node_eq.ghosts.eq a a ≡ true
@@ -92,7 +94,7 @@ listed_graph g ok = record {
 }
 
 module _ (g : TraceGraph) (nodes : List TraceGraphNode) (listed : IsListed g nodes) where
-  -- an edge to the source of another leads to it
+  -- an edge is among those to the source of another one if it leads to that
   leads_from : (k j : ℕ) → Contains (numbers_from g k) j → target g j ≡ source g k
   leads_from k j c =
       let s = numbers_there g (edge_of g k) j c in
@@ -110,7 +112,7 @@ module _ (g : TraceGraph) (nodes : List TraceGraphNode) (listed : IsListed g nod
       at None = tt
       at (Some e) = apart_from (numbers_to g e.from) (listed.once e.from)
 
-  -- a node from which none of the edges comes that were taken
+  -- none of the edges that were taken comes from a node
   again_none : (k : ℕ) (taken : List ℕ) (a : TraceGraphNode) → source g k ≡ Some a → comes_again g k taken ≡ false → Contains (map (source g) taken) (source g k) → ⊥
   again_none k [] a s h c = contains-nil c
   again_none k (j ∷ taken) a s h c = elim (contains-cons (source g j) (map (source g) taken) (source g k) c) [
@@ -142,7 +144,7 @@ module _ (g : TraceGraph) (nodes : List TraceGraphNode) (listed : IsListed g nod
   goes here taken k [] t h = (t, h)
   goes here taken k (j ∷ rest) t h = (t, h.0, goes (source g k) (k ∷ taken) j rest (leads_from k j h.2) h.3)
 
-  -- past nodes of the graph, none twice, and none of those before
+  -- it passes nodes of the graph, none twice, and none that was passed before
   passes : (taken : List ℕ) (k : ℕ) (rest : List ℕ) → GoesOn g taken k rest → Apart (passed g (k ∷ rest)) × ((x : Option TraceGraphNode) → Contains (passed g (k ∷ rest)) x → Contains (map (source g) taken) x → ⊥)
   passes taken k [] h = (tt, λ x c d. contains-nil c)
   passes taken k (j ∷ rest) h =
@@ -155,7 +157,7 @@ module _ (g : TraceGraph) (nodes : List TraceGraphNode) (listed : IsListed g nod
         ],
       )
 
-  -- the other way round
+  -- a path backwards is such edges
   goes_on : (here : TraceGraphNode) (taken : List ℕ) (k : ℕ) (rest : List ℕ) → GoesBack g (Some here) (k ∷ rest) → Apart (passed g (k ∷ rest)) → ((x : Option TraceGraphNode) → Contains (passed g (k ∷ rest)) x → Contains (map (source g) taken) x → ⊥) → GoesOn g taken k rest
   goes_on here taken k [] b a d = b.1
   goes_on here taken k (j ∷ rest) b a d =
@@ -176,7 +178,7 @@ module _ (g : TraceGraph) (nodes : List TraceGraphNode) (listed : IsListed g nod
       first_target here j [] b = b.0
       first_target here j (i ∷ rest) b = b.0
 
-  -- ---- the number of nodes cuts nothing
+  -- ---- the number of nodes cuts nothing off
   passed_length : (k : ℕ) (rest : List ℕ) → length (passed g (k ∷ rest)) ≡ length rest
   passed_length k [] = refl
   passed_length k (j ∷ rest) = ap suc (passed_length j rest)
@@ -230,7 +232,7 @@ module _ (g : TraceGraph) (nodes : List TraceGraphNode) (listed : IsListed g nod
 pub paths_exact : (g : TraceGraph) → IsGraph g → (start : TraceGraphNode) (p : List ℕ) → Contains (paths g start) p ↔ IsPath g start p
 paths_exact g ok start p = (listed_path g g.nodes (listed_graph g ok) start p, path_listed g g.nodes (listed_graph g ok) start p)
 
--- and none twice
+-- the list has no path twice
 pub paths_once : (g : TraceGraph) → IsGraph g → (start : TraceGraphNode) → AllDiffer (paths g start)
 paths_once g ok start = only_once g g.nodes (listed_graph g ok) start
 

@@ -1,4 +1,4 @@
--- What a walk over a trace graph has left, edge by edge.
+-- The paths that a walk over a trace graph has left, edge by edge.
 use Rattle.std.proofs.Common.{◌≡◌, inl, inr, get_or, ℕ, zero, suc, ◌-◌, ◌<◌, Bool, true, false, ◌||◌, cond, List, [], ◌∷◌, ◌++◌, length, take, reverse, refl, sym, ◌∙◌, ap, subst, arith, append_assoc, append-nil}
 use Rattle.std.specs.Prelude.{Contains, slice_get, Some, None}
 use Rattle.std.specs.List.{flat_map}
@@ -64,7 +64,7 @@ path_reverse [] = refl
 path_reverse (x ∷ xs) =
     ap (path_of) (reverse-append (x ∷ []) xs) ∙ map-append (λ (s : EnumeratorState). s.number) (reverse xs) (x ∷ []) ∙ ap (λ ks. ks ++ x.number ∷ []) (path_reverse xs) ∙ sym (reverse-append (x.number ∷ []) (path_of xs))
 
--- the path of a stack, by its newest edges first
+-- the path of a stack, from its newest edges
 path_back : (stack fs : List EnumeratorState) → reverse stack ≡ fs → reverse (path_of fs) ≡ path_of stack
 path_back stack fs e = ap (λ (xs : List EnumeratorState). reverse (path_of xs)) (sym e) ∙ ap reverse (path_reverse stack) ∙ reverse-reverse (path_of stack)
 
@@ -112,6 +112,6 @@ again_among g k all states i d same l e =
 pub taken_paths : (g : TraceGraph) (start : TraceGraphNode) (fs : List EnumeratorState) (after left k : ℕ) → left ≡ suc after → slice_get (numbers_at g start fs) after ≡ Some k → over g (node_count g - length fs) (path_of fs) k ++ left_over g start fs after ≡ left_over g start fs left
 taken_paths g start fs after left k e at = sym (ap (λ (m : ℕ). left_over g start fs m) e ∙ left_taken g start fs after k at)
 
--- a number behind all edges
+-- if there is no edge at the place, the paths that are left stay
 pub none_paths : (g : TraceGraph) (start : TraceGraphNode) (fs : List EnumeratorState) (after left : ℕ) → left ≡ suc after → slice_get (numbers_at g start fs) after ≡ None → left_over g start fs after ≡ left_over g start fs left
 none_paths g start fs after left e at = sym (ap (λ (m : ℕ). left_over g start fs m) e ∙ left_none g start fs after at)

@@ -19,7 +19,7 @@ use Rattle.lalrpop_traces.specs.declared.trace.node.TraceGraphNode.TheVariants.{
 use Rattle.lalrpop_traces.specs.declared.trace.trace_graph.TraceGraph.{TraceGraph}
 use Rattle.lalrpop_traces.specs.declared.trace.trace_graph.TraceGraphEdge.{TraceGraphEdge}
 
--- ---- what symbols read
+-- ---- reading symbols
 read_symbols : (xs : List Symbol) → read (map SymbolOf xs) ≡ xs
 read_symbols [] = refl
 read_symbols (x ∷ xs) = ap (λ ys. x ∷ ys) (read_symbols xs)
@@ -48,7 +48,7 @@ take_front [] [] = refl
 take_front [] (x ∷ back) = refl
 take_front (y ∷ mid) back = ap (λ ys. y ∷ ys) (take_front mid back)
 
--- what stands in the midst
+-- the symbols of the middle part
 between_is : (all front mid back : List ExampleSymbol) (start end : ℕ) → all ≡ front ++ (mid ++ back) → start ≡ length front → end ≡ length front + length mid → between all start end ≡ read mid
 between_is all front mid back start end e s t =
     let d : end - start ≡ length mid = omega arith in
@@ -58,7 +58,7 @@ between_is all front mid back start end e s t =
     ∙ ap (λ xs. read (take (length mid) xs)) (drop_front front (mid ++ back))
     ∙ ap read (take_front mid back)
 
--- ---- an edge's symbols around what is within it
+-- ---- the symbols of an edge around the part within
 module _ (a p s d : List Symbol) (middle : List ExampleSymbol) where
   abbrev whole : List ExampleSymbol
   whole = map SymbolOf (a ++ p) ++ (middle ++ map SymbolOf (s ++ d))
@@ -82,13 +82,13 @@ module _ (a p s d : List Symbol) (middle : List ExampleSymbol) where
   whole_length all e =
       omega (arith, ap length e, length-append (map SymbolOf (a ++ p)) (middle ++ map SymbolOf (s ++ d)), length-append middle (map SymbolOf (s ++ d)), length_symbols (a ++ p), length_symbols (s ++ d), length-append a p, length-append s d)
 
-  -- what stands before the part within
+  -- the symbols before the part within
   before_part : (all : List ExampleSymbol) (start end : ℕ) → all ≡ whole → start ≡ length a → end ≡ length (a ++ p) → between all start end ≡ p
   before_part all start end e f h =
       between_is all (map SymbolOf a) (map SymbolOf p) (middle ++ map SymbolOf (s ++ d)) start end (e ∙ front_form) (omega (arith, f, length_symbols a)) (omega (arith, h, length-append a p, length_symbols a, length_symbols p))
       ∙ read_symbols p
 
-  -- what stands behind it
+  -- the symbols after the part within
   behind_part : (all : List ExampleSymbol) (start end : ℕ) → all ≡ whole → start ≡ length all - length (s ++ d) → end ≡ length all - length d → between all start end ≡ s
   behind_part all start end e f h =
       let n = whole_length all e in
@@ -97,7 +97,7 @@ module _ (a p s d : List Symbol) (middle : List ExampleSymbol) where
       (omega (arith, h, n, m, length-append a p, length_symbols (a ++ p), length_symbols s))
       ∙ read_symbols s
 
-  -- what stands there with the part within
+  -- the symbols with the part within
   whole_part : (all : List ExampleSymbol) (start end : ℕ) → all ≡ whole → start ≡ length a → end ≡ length all - length d → between all start end ≡ p ++ (read middle ++ s)
   whole_part all start end e f h =
       let n = whole_length all e in
@@ -108,12 +108,12 @@ module _ (a p s d : List Symbol) (middle : List ExampleSymbol) where
       ∙ ap (λ xs. xs ++ read (middle ++ map SymbolOf s)) (read_symbols p)
       ∙ ap (λ xs. p ++ xs) (read_append middle (map SymbolOf s) ∙ ap (λ xs. read middle ++ xs) (read_symbols s))
 
--- an edge that leads somewhere
+-- an edge with a target is there
 led : (o : Option TraceGraphEdge) (a : TraceGraphNode) → target_of o ≡ Some a → (e : TraceGraphEdge) × (o ≡ Some e) × (e.to ≡ a)
 led None a h = absurd (some≢none (sym h))
 led (Some e) a h = (e, refl, same_some h)
 
--- a node that is no item
+-- a node that is not an item is a nonterminal
 nonterminal : (x : TraceGraphNode) → is_item (Some x) ≡ false → x ≡ Nonterminal (name_of x)
 nonterminal (Nonterminal name) h = refl
 nonterminal (Item item) h = absurd (true≢false h)
@@ -124,14 +124,14 @@ module _ (g : TraceGraph) (productions : List Production) (carry : CarryRightSid
       let P : Option TraceGraphEdge → Type 0 = λ o. IsRightSide productions (name_of e.from) (prefix_of o ++ (cursor_list (cursor_of o) ++ suffix_of o)) in
       subst P (sym at) (carry k e at).right_side
 
-  -- where an edge comes from a nonterminal, the next one leads to it
+  -- if an edge comes from a nonterminal, the next one leads to it
   next_back : (here : TraceGraphNode) (k j : ℕ) (rest : List ℕ) (e : TraceGraphEdge) → edge_of g k ≡ Some e → GoesBack g (Some here) (k ∷ (j ∷ rest)) → GoesBack g (Some (Nonterminal (name_of e.from))) (j ∷ rest)
   next_back here k j rest e at b =
       let from : source g k ≡ Some e.from = ap source_of at in
       let named = nonterminal e.from (subst (λ (o : Option TraceGraphNode). is_item o ≡ false) from b.1) in
       subst (λ (o : Option TraceGraphNode). GoesBack g o (j ∷ rest)) (from ∙ ap Some named) b.2
 
-  -- the reduction of an edge, with what is behind it
+  -- the reduction of an edge, with the outer edges after it
   abbrev reduction : List ℕ → TraceGraphEdge → Reduction
   reduction rest e = record { start = length (prefixes g rest); end = length all - length (suffixes g rest); nonterminal = name_of e.from }
 

@@ -21,7 +21,7 @@ module _ (g : TraceGraph) where
   prefixes_last : (path : List EnumeratorState) (s : EnumeratorState) → prefixes g (path_of (path ++ s ∷ [])) ≡ prefix_of (edge_of g s.number) ++ prefixes g (path_of path)
   prefixes_last path s = ap (prefixes g) (map-append (λ (t : EnumeratorState). t.number) path (s ∷ [])) ∙ prefixes_behind (path_of path) s.number
 
-  -- symbols that were pushed, with those that are left
+  -- symbols that were pushed, and those that are left
   pushed : (start new : List ExampleSymbol) (p rest whole : List Symbol) (all : List ExampleSymbol) → new ≡ start ++ map SymbolOf p → whole ≡ p ++ rest → start ++ map SymbolOf whole ≡ all → new ++ map SymbolOf rest ≡ all
   pushed start new p rest whole all is split so_far =
       ap (λ xs. xs ++ map SymbolOf rest) is ∙ append_assoc start (map SymbolOf p) (map SymbolOf rest) ∙ ap (λ xs. start ++ xs) (sym (map-append SymbolOf p rest)) ∙ ap (λ xs. start ++ map SymbolOf xs) (sym split) ∙ so_far
@@ -40,7 +40,7 @@ module _ (g : TraceGraph) where
   pub suffixes_done : (left : List EnumeratorState) (symbols all : List ExampleSymbol) → length left ≡ 0 → symbols ++ map SymbolOf (suffixes g (path_of left)) ≡ all → symbols ≡ all
   suffixes_done left symbols all e h = sym (append-nil symbols) ∙ ap (λ (p : List EnumeratorState). symbols ++ map SymbolOf (suffixes g (path_of p))) (sym (none left e)) ∙ h
 
-  -- the prefixes of a path, and those of the edges around its innermost one
+  -- the prefixes of a path are those of the edges around the innermost one, and that of this one
   pub before_splits : (left outer : List EnumeratorState) (s : EnumeratorState) (p : List Symbol) (before : ℕ) → left ≡ s ∷ outer → p ≡ prefix_of (edge_of g s.number) → before ≡ length (prefixes g (path_of left)) → before ≡ length (prefixes g (path_of outer)) + length p
   before_splits left outer s p before e same is =
       is ∙ ap (λ (path : List EnumeratorState). length (prefixes g (path_of path))) e ∙ length-append (prefixes g (path_of outer)) (prefix_of (edge_of g s.number)) ∙ ap (λ (xs : List Symbol). length (prefixes g (path_of outer)) + length xs) (sym same)
@@ -59,7 +59,7 @@ module _ (g : TraceGraph) where
   pub reduced_done : (count : ℕ) (left : List EnumeratorState) (made all : List Reduction) → length left ≡ 0 → made ++ reduced g count (path_of left) ≡ all → made ≡ all
   reduced_done count left made all e h = sym (append-nil made) ∙ ap (λ (path : List EnumeratorState). made ++ reduced g count (path_of path)) (sym (none left e)) ∙ h
 
-  -- the symbols that follow, edge by edge
+  -- the symbols from the place of an example on, edge by edge
   pub following_step : (left outer : List EnumeratorState) (s : EnumeratorState) (start new p all : List Symbol) → left ≡ s ∷ outer → new ≡ start ++ p → p ≡ suffix_of (edge_of g s.number) → start ++ suffixes g (path_of left) ≡ all → new ++ suffixes g (path_of outer) ≡ all
   following_step left outer s start new p all e is same so_far =
       ap (λ xs. xs ++ suffixes g (path_of outer)) is ∙ append_assoc start p (suffixes g (path_of outer)) ∙ ap (λ xs. start ++ (xs ++ suffixes g (path_of outer))) same ∙ ap (λ (path : List EnumeratorState). start ++ suffixes g (path_of path)) (sym e) ∙ so_far

@@ -1,4 +1,4 @@
--- The graph of a trace: what is kept of it, with a node or an edge more.
+-- The graph of a trace: its parts, with a node or an edge more.
 use Rattle.std.proofs.Common.{◌≡◌, ℕ, zero, suc, ◌+◌, ◌-◌, ◌≤◌, inl, inr, Bool, true, false, cond, List, [], ◌∷◌, ◌++◌, map, length, refl, sym, ◌∙◌, ap, subst, arith, ⊎_elim, append-nil, IsTrue, ◌↔◌, Result, Ok, Err}
 use Rattle.std.specs.Prelude.{slice_get, OnOk, OnErr, ◌⊎◌, Option, Some, None, Contains, is_some, ◌&&◌, option_copied}
 use Rattle.std.specs.Borrow.{Bor}
@@ -36,11 +36,11 @@ use Rattle.lalrpop_traces.specs.declared.trace.node.TraceGraphNode.{TraceGraphNo
 use Rattle.lalrpop_traces.specs.declared.trace.trace_graph.TraceGraphEdge.{TraceGraphEdge}
 
 -- ---- nodes
--- nodes that tie in order are one
+-- nodes that compare as equal are equal
 pub tied_nodes : (x y : TraceGraphNode) → node_ord.ghosts.cmp x y ≡ Equal → x ≡ y
 tied_nodes = exact_by_cmp node_eq.ghosts.eq node_ord.ghosts.cmp node_exactly.Laws.exact-law node_ord.Laws.matches_eq-law
 
--- what a map of numbers has is numbered
+-- if a map has a number for a node, there is such a number
 numbered_some : {K : Type 0} (o : Option K) → IsTrue (is_some o) → (k : K) × (o ≡ Some k)
 numbered_some None h = absurd (true≢false (sym h))
 numbered_some (Some k) h = (k, refl)
@@ -49,7 +49,7 @@ module _ {numbers : BTreeMap TraceGraphNode ℕ} {edges : List TraceGraphEdge} {
   pub kept_graph : IsGraph (record { nodes = by_number numbers.entries; edges = edges })
   kept_graph = record { nodes = all_differ kept.numbered; edges = kept.differ; ends = kept.ends }
 
-  -- a node has a number where it is in the list
+  -- a node has a number exactly if it is in the list
   pub kept_node : (node : TraceGraphNode) → IsTrue (is_some (get node_ord.ghosts.cmp numbers node)) ↔ Contains (by_number numbers.entries) node
   kept_node node = (
     λ h. let n = numbered_some (get node_ord.ghosts.cmp numbers node) h in contains_at (by_number numbers.entries) node n.0 (kept.numbered.found node n.0 n.1),
@@ -112,7 +112,7 @@ pushed_listed (Some o) None x p = absurd p
 pushed_listed (Some o) (Some n) x p = p
 pushed_listed None (Some n) x p = p.2 ∙ ap (λ xs. xs ++ x ∷ []) p.1
 
--- the places of the edges to each node, once the place of one more was pushed
+-- the places of the edges to each node, after the place of one more edge was pushed
 pub places_kept : (old new : List (TraceGraphNode × Vec ℕ Global)) (key : TraceGraphNode) (n : ℕ) (edges : List TraceGraphEdge) (e : TraceGraphEdge) → key ≡ e.to → n ≡ length edges →
     PushesAt (λ (v : Vec ℕ Global). v.items ≡ []) (λ (v : Vec ℕ Global) (i : ℕ) (w : Vec ℕ Global). w.items ≡ v.items ++ i ∷ []) (collection_at node_ord.ghosts.cmp old key) n (collection_at node_ord.ghosts.cmp new key) →
     ((q : TraceGraphNode) → is_eq (node_ord.ghosts.cmp key q) ≡ false → collection_at node_ord.ghosts.cmp new q ≡ collection_at node_ord.ghosts.cmp old q) →
@@ -187,7 +187,7 @@ cursor_same (Some x) (Some y) h = ap (λ s. symbol_eq.ghosts.eq x.now s) (sym (s
 abbrev labels_eq : SymbolSets → SymbolSets → Bool
 labels_eq a b = pointwise symbol_eq.ghosts.eq a.prefix.now b.prefix.now && (option_eq (λ (x y : Bor Symbol). symbol_eq.ghosts.eq x.now y.now) a.cursor b.cursor && pointwise symbol_eq.ghosts.eq a.suffix.now b.suffix.now)
 
--- labels are equal where they are of the same symbols
+-- labels are equal exactly if they have the same symbols
 pub labels_same : (a b : SymbolSets) (r : Bool) → r ≡ labels_eq a b → IsTrue r ↔ SameLabels a b
 labels_same a b r is = (
   λ h.
@@ -208,14 +208,14 @@ plain_same from to a b same =
     ∙ ap (λ (o : Option Symbol). let e : PlainEdge = record { from = from; to = to; prefix = b.prefix.now; cursor = o; suffix = a.suffix.now } in e) same.cursor
     ∙ ap (λ (xs : List Symbol). let e : PlainEdge = record { from = from; to = to; prefix = b.prefix.now; cursor = option_copied b.cursor; suffix = xs } in e) same.suffix
 
--- an edge to the node that comes from another with the labels says what the edge of these says
+-- an edge to the node, from the other node and with the labels, has the value of these
 pub from_plain : (from to : TraceGraphNode) (labels : SymbolSets) (e : TraceGraphEdge) → e.to ≡ to → IsFrom from labels e → plain e ≡ plain_edge from to labels
 from_plain from to labels e is_to is = ap (λ (f : TraceGraphNode). plain_edge f e.to e.symbol_sets) is.0 ∙ ap (λ (t : TraceGraphNode). plain_edge from t e.symbol_sets) is_to ∙ plain_same from to e.symbol_sets labels is.1
 
 pub plain_from : (from to : TraceGraphNode) (labels : SymbolSets) (e : TraceGraphEdge) → plain e ≡ plain_edge from to labels → IsFrom from labels e
 plain_from from to labels e is = (ap (λ (p : PlainEdge). p.from) is, record { prefix = ap (λ (p : PlainEdge). p.prefix) is; cursor = ap (λ (p : PlainEdge). p.cursor) is; suffix = ap (λ (p : PlainEdge). p.suffix) is })
 
--- what an edge of the list says is at its place
+-- the value of an edge in the list is at a place of the list
 pub plain_place : (edges : List TraceGraphEdge) (p : PlainEdge) → Contains (map plain edges) p → (k : ℕ) × (e : TraceGraphEdge) × (slice_get edges k ≡ Some e) × (plain e ≡ p)
 plain_place edges p c = let at = place (map plain edges) p c in plain_at edges at.0 p at.2 where
   plain_at : (es : List TraceGraphEdge) (k : ℕ) (p : PlainEdge) → slice_get (map plain es) k ≡ Some p → (k : ℕ) × (e : TraceGraphEdge) × (slice_get es k ≡ Some e) × (plain e ≡ p)
@@ -226,7 +226,7 @@ plain_place edges p c = let at = place (map plain edges) p c in plain_at edges a
 pub plain_there : (edges : List TraceGraphEdge) (k : ℕ) (e : TraceGraphEdge) → slice_get edges k ≡ Some e → Contains (map plain edges) (plain e)
 plain_there edges k e at = contains_map plain edges e (contains_at edges e k at)
 
--- ---- what is kept, with the same entries
+-- ---- the parts of a graph, with the same entries
 pub kept_same : {old new : BTreeMap TraceGraphNode ℕ} {edges : List TraceGraphEdge} {incoming : List (TraceGraphNode × Vec ℕ Global)} → new.entries ≡ old.entries → IsKept old (by_number old.entries) edges incoming → IsKept new (by_number new.entries) edges incoming
 kept_same {old} {new} {edges} {incoming} same kept =
     let lookup_same : (k : TraceGraphNode) → get node_ord.ghosts.cmp new k ≡ get node_ord.ghosts.cmp old k = λ k. ap (λ es. lookup (is_at (node_ord.ghosts.cmp k)) es) same in
@@ -283,7 +283,7 @@ kept_pushed {numbers} {nodes} {edges} {now} {old} {new} key n e is_key is_n is_n
       ends = ends_push nodes edges e kept.ends from to;
     })
 
--- what follows from the answer of a call that succeeded
+-- what follows from a clause of a call that succeeded
 pub on_ok : {A E : Type 0} (r : Result A E) {P Q : Type 0} → OnOk r P → (P → Q) → OnOk r Q
 on_ok (Ok a) h f = f h
 on_ok (Err e) h f = tt
@@ -297,7 +297,7 @@ adds_both old middle newer new from to a b is_from is_to same first second =
 pub decided_node : Decided TraceGraphNode
 decided_node = decided node_eq.ghosts.eq node_exactly.Laws.exact-law (λ x. node_equality.Laws.laws-law.refl x)
 
--- a node more is no other than the one that was added
+-- each node is an old one, or the one that was added
 node_more : (old new : List TraceGraphNode) (a node : TraceGraphNode) → a ≡ node → AddsOnce old new a → (n : TraceGraphNode) → Contains new n → Contains old n ⊎ (n ≡ node)
 node_more old new a node is added n c = elim (added_or_not decided_node old new a added) [
   | inl same ↦ inl (let P : List TraceGraphNode → Type 0 = λ xs. Contains xs n in subst P same c)
@@ -313,12 +313,12 @@ no_other_second old middle new from to a b is_from first is_to second n c = elim
 pub no_other_same : (old middle new : List TraceGraphNode) (from to : TraceGraphNode) → AddsNoOther old middle from to → new ≡ middle → AddsNoOther old new from to
 no_other_same old middle new from to none same n c = none n (let P : List TraceGraphNode → Type 0 = λ xs. Contains xs n in subst P same c)
 
--- an edge more, or a refused one, leaves the nodes
+-- the nodes stay if an edge is added or an allocation fails
 pub nodes_stay : {A E : Type 0} (r : Result A E) (old new : Graph) (edges : List TraceGraphEdge) → OnOk r (new ≡ record { nodes = old.nodes; edges = edges }) → OnErr r (new ≡ old) → new.nodes ≡ old.nodes
 nodes_stay (Ok a) old new edges pushed err = ap (λ (g : Graph). g.nodes) pushed
 nodes_stay (Err e) old new edges pushed err = ap (λ (g : Graph). g.nodes) err
 
--- an edge was put behind those among which none said the same
+-- an edge was added after edges of which none has its value
 pub adds_edge : (old middle new : List TraceGraphEdge) (e : TraceGraphEdge) → middle ≡ old → new ≡ middle ++ e ∷ [] → ¬ Contains (map plain middle) (plain e) → AddsEdge old new e
 adds_edge old middle new e same grown out = inr (λ c. out (let P : List TraceGraphEdge → Type 0 = λ es. Contains (map plain es) (plain e) in subst P (sym same) c), grown ∙ ap (λ es. es ++ e ∷ []) same)
 

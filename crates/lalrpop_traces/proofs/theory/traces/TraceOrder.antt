@@ -24,7 +24,7 @@ use Rattle.lalrpop_traces.proofs.theory.traces.TraceGraphs.{plain_push, decided_
 
 -- ---- values added in turn
 
--- some and then others
+-- some are added, and then others
 turn_append : {X : Type 0} {old xs middle : List X} (ys new : List X) → AddsInTurn old xs middle → AddsInTurn middle ys new → AddsInTurn old (xs ++ ys) new
 turn_append ys new all_added second = second
 turn_append ys new (left_out c first) second = left_out c (turn_append ys new first second)
@@ -44,7 +44,7 @@ module _ {X : Type 0} (same : Decided X) where
       let P : List X → Type 0 = λ xs. AddsInTurn old (x ∷ []) xs in
       elim (contained same old x) [ inl c ↦ subst P (sym (once.known c)) (left_out c all_added) | inr out ↦ subst P (sym (once.fresh out)) (put_behind out all_added) ]
 
--- an edge, and its ends
+-- an edge is added, and its ends
 pub order_one : (old new : Graph) (e : TraceGraphEdge) (p : PlainEdge) → AddsEdge old.edges new.edges e → AddsBoth old.nodes new.nodes e.from e.to → plain e ≡ p → AddsInOrder old new (p ∷ [])
 order_one old new e p edge both is =
     let P : PlainEdge → Type 0 = λ q. AddsInOrder old new (q ∷ []) in
@@ -69,7 +69,7 @@ order_append old middle new xs ys one two =
 
 -- ---- steps of a walk
 
--- what was met before edges were added
+-- what was met stays as edges are added
 same_met : (old new : Met) → new.visited_set ≡ old.visited_set → (list : List Meeting) → AreMet list old → AreMet list new
 same_met old new same list are =
     let P : BTreeSet Meeting → Type 0 = λ s. (m : Meeting) → Contains list m ↔ (contains meeting_cmp s m ≡ true) in
@@ -79,7 +79,7 @@ module _ (b : Backtrace) where
   pub walks_none : (duties : List Duty) (met : Met) → WalksOn b duties duties met met
   walks_none duties met list are = record { after = list; are_met = are; given = []; added = order_none met.trace_graph; walk = λ es w. w }
 
-  -- one way and then another
+  -- two ways after each other are one way
   pub walks_then : (one two three : List Duty) (a c d : Met) → WalksOn b one two a c → WalksOn b two three c d → WalksOn b one three a d
   walks_then one two three a c d first second list are =
       let f = first list are in
@@ -98,7 +98,7 @@ module _ (b : Backtrace) where
     -- ---- a nonterminal in a state
 
     module _ (old middle : Met) (fresh : Bool) (m : Meeting) (inserted : IsInsertedPair fresh m old.visited_set middle.visited_set) (same : middle.trace_graph ≡ old.trace_graph) where
-      -- that was met before
+      -- the nonterminal was met before
       pub walks_known : fresh ≡ false → WalksOn b (come_to m ∷ duties) duties old middle
       walks_known is list are =
           let was : HasMet old m = was_there (contains meeting_cmp old.visited_set m) (sym inserted.was ∙ is) in
@@ -116,7 +116,7 @@ module _ (b : Backtrace) where
           was_there true h = refl
           was_there false h = absurd (true≢false h)
 
-      -- that was not
+      -- the nonterminal was not met before
       pub walks_met : fresh ≡ true → WalksOn b (come_to m ∷ duties) (take_up_each m (items_at (slice_get b.states m.0.0)) ++ duties) old middle
       walks_met is list are =
           let out : ¬ Contains list m = λ c. true≢false (sym is ∙ inserted.was ∙ ap not ((are m).0 c)) in
@@ -160,9 +160,9 @@ module _ (b : Backtrace) where
           walk = λ es w. goes_on sources es at on are_sources w refl;
         }
 
-  -- ---- the whole of it
+  -- ---- the whole
 
-  -- the states that a step back finds
+  -- the states that a step back finds are the sources
   pub are_sources : (p : Production) (index : ℕ) (state : StateIndex) (found : List StateIndex) (prefix : List Symbol) → prefix ≡ take index p.symbols → IsStrictlySortedBy state_cmp found → ((r : StateIndex) → Contains found r ↔ LeadsTo (edges b.states) r prefix state) → AreSources b p index state found
   are_sources p index state found prefix is_prefix ascending exactly =
       let P : List Symbol → Type 0 = λ xs. (r : StateIndex) → Contains found r ↔ LeadsTo (edges b.states) r xs state in

@@ -1,4 +1,4 @@
--- A backtrace has one list of edges, and one of nodes, that are in order.
+-- A backtrace has only one list of edges, and one of nodes, that are in order.
 use Rattle.std.proofs.Common.{◌≡◌, ◌≢◌, ◌↔◌, ◌⊎◌, inl, inr, ℕ, ◌<◌, List, [], ◌∷◌, ◌++◌, refl, sym, ◌∙◌, ap, subst, arith}
 use Rattle.std.specs.Prelude.{slice_get, Some, Contains, nat_lt, ◌==◌}
 use Rattle.std.specs.List.{AllByRecursion}
@@ -155,7 +155,7 @@ module _ (b : Backtrace) where
       let tail : duties ≡ rest = cc in
       moved met m n item kind rest duties es meeting same tail (inr (inr (record { sources = sources; later = later; at = at; on = on; are = are; walk = w; is = is })))
 
-  -- a walk gives one list of edges
+  -- two lists of edges of a walk are the same
   walks_one : {met : List Meeting} {ds : List Duty} {xs : List PlainEdge} (ys : List PlainEdge) → Walks b met ds xs → Walks b met ds ys → xs ≡ ys
   walks_one ys (ends {met = met}) w = at_end met [] ys w refl
   walks_one ys (known {met = met} {m = m} {duties = duties} c v) w = elim (comes m duties met (come_to m ∷ duties) ys w refl) [ inl h ↦ walks_one ys v h.1 | inr h ↦ absurd (h.0 c) ]

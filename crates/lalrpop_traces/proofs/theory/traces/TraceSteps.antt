@@ -19,14 +19,14 @@ use Rattle.lalrpop_collections.proofs.theory.lists.Lists.{contains_of_map}
 
 module _ (b : Backtrace) where
   -- ---- duties of a stack
-  -- a task more on top
+  -- the duties with one more task on top
   pub duties_push : (tasks : List Task) (task : Task) → duties_left b (tasks ++ task ∷ []) ≡ duties_of b task ++ duties_left b tasks
   duties_push tasks task = ap (λ (ts : List Task). flat_map (duties_of b) ts) (reverse-append tasks (task ∷ []))
 
   duties_pushed : (before after : List Task) (task : Task) (duties : List Duty) → after ≡ before ++ task ∷ [] → duties_of b task ≡ duties → duties_left b after ≡ duties ++ duties_left b before
   duties_pushed before after task duties is_after is_task = ap (λ (ts : List Task). duties_left b ts) is_after ∙ duties_push before task ∙ ap (λ (ds : List Duty). ds ++ duties_left b before) is_task
 
-  -- one more of the sources, from the last on
+  -- the duties with one more of the sources, from the last on
   pub duties_source : (name : NonterminalString) (before after : List Task) (task : Task) (sources left : List StateIndex) (source : StateIndex) → after ≡ before ++ task ∷ [] → duties_of b task ≡ come_to (source, name) ∷ [] → sources ≡ left ++ source ∷ []
       → map (λ n. come_to (n, name)) sources ++ duties_left b before ≡ map (λ n. come_to (n, name)) left ++ duties_left b after
   duties_source name before after task sources left source is_after is_task is_sources =
@@ -44,7 +44,7 @@ module _ (b : Backtrace) where
     | inr k ↦ named q k
   ]
 
-  -- what is taken up comes to none
+  -- duties to take items come to no nonterminal
   pub named_pushed : (m : Meeting) (items : List (Dotted Bits)) (tasks pushed : List Task) (task : Task) → pushed ≡ tasks ++ task ∷ [] → duties_of b task ≡ take_up_each m items → AreNamed b (duties_left b tasks) → AreNamed b (duties_left b pushed)
   named_pushed m items tasks pushed task is_pushed duties named = subst (AreNamed b) (sym (duties_pushed tasks pushed task (take_up_each m items) is_pushed duties)) (named_taken m items (duties_left b tasks) named)
 
@@ -54,7 +54,7 @@ module _ (b : Backtrace) where
   named_tail : (d : Duty) (duties : List Duty) → AreNamed b (d ∷ duties) → AreNamed b duties
   named_tail d duties named q c = named q (contains_tail d duties (come_to q) c)
 
-  -- sources come to the nonterminal of the production
+  -- the duties of sources come to the nonterminal of the production
   pub named_sources : (p : Production) (sources : List StateIndex) (duties : List Duty) → Contains (names_in b) p.nonterminal → AreNamed b duties → AreNamed b (come_to_each p sources ++ duties)
   named_sources p sources duties among named q c = elim (Contains-append_cases (come_to_each p sources) duties (come_to q) c) [
     | inl k ↦
@@ -66,7 +66,7 @@ module _ (b : Backtrace) where
   ]
 
   -- ---- items that shift another symbol, or none
-  -- the walk passes over those from one place on up to another, which leaves no more to be done
+  -- the walk passes over the items from one place up to another, and has no more work then
   pub record IsPassed (m : Meeting) (items : List (Dotted Bits)) (duties : List Duty) (met : Met) (next place : ℕ) : Type 0 where
     pub walks : WalksOn b (take_up_each m (drop next items) ++ duties) (take_up_each m (drop place items) ++ duties) met met
     pub no_more : work b met (take_up_each m (drop place items) ++ duties) ≤ work b met (take_up_each m (drop next items) ++ duties)
@@ -91,7 +91,7 @@ module _ (b : Backtrace) where
   -- ---- steps
   module _ (tasks : List Task) where
     module _ (old middle : Met) (fresh : Bool) (m : Meeting) (inserted : IsInsertedPair fresh m old.visited_set middle.visited_set) (same : middle.trace_graph ≡ old.trace_graph) (named : AreNamed b (come_to m ∷ duties_left b tasks)) where
-      -- to a nonterminal that was met before
+      -- a step to a nonterminal that was met before
       pub step_known : fresh ≡ false → IsStep b old middle (come_to m ∷ duties_left b tasks) (length tasks + 1) tasks
       step_known is = record {
         walks = walks_known b (duties_left b tasks) old middle fresh m inserted same is;
@@ -99,7 +99,7 @@ module _ (b : Backtrace) where
         fewer = let less = come_work b old middle (duties_left b tasks) fresh m inserted in omega (arith, less);
       }
 
-      -- to one that was not
+      -- a step to a nonterminal that was not met before
       pub step_met : fresh ≡ true → (task : Task) (after : List Task) → duties_of b task ≡ take_up_each m (items_at (slice_get b.states m.0.0)) → after ≡ tasks ++ task ∷ [] → IsStep b old middle (come_to m ∷ duties_left b tasks) (length tasks + 1) after
       step_met is task after duties is_after =
           let items = items_at (slice_get b.states m.0.0) in
@@ -114,7 +114,7 @@ module _ (b : Backtrace) where
           }
 
     module _ (m : Meeting) (items : List (Dotted Bits)) (next place : ℕ) (old : Met) (passed : IsPassed m items (duties_left b tasks) old next place) where
-      -- past the last item of a state
+      -- a step past the last item of a state
       pub step_end : length items ≤ place → AreNamed b (duties_left b tasks) → IsStep b old old (take_up_each m (drop next items) ++ duties_left b tasks) (length tasks + 1) tasks
       step_end past named =
           let none : drop place items ≡ [] = drop_all place items past in
@@ -123,7 +123,7 @@ module _ (b : Backtrace) where
           let no_more = subst Q none passed.no_more in
           record { walks = subst P none passed.walks; named = named; fewer = omega (arith, no_more) }
 
-      -- to one of them: those behind it are put on the stack
+      -- a step to one of the items; a task for those after it is pushed
       pub step_item : (new : Met) (task : Task) (pushed after : List Task) (item : Dotted Bits) → place < length items → item ≡ get_or items place item → pushed ≡ tasks ++ task ∷ [] → duties_of b task ≡ take_up_each m (drop (place + 1) items)
           → IsStep b old new (take_up m item ∷ duties_left b pushed) (length pushed) after → IsStep b old new (take_up_each m (drop next items) ++ duties_left b tasks) (length tasks + 1) after
       step_item new task pushed after item within is is_pushed duties step =
@@ -141,7 +141,7 @@ module _ (b : Backtrace) where
 
     module _ (m : Meeting) (item : Dotted Bits) (named : AreNamed b (duties_left b tasks)) where
       module _ (old new : Met) (same : new.visited_set ≡ old.visited_set) (takes : Takes b m item) where
-        -- over an item that stops
+        -- a step over an item at which the trace stops
         pub step_stop : ¬ GoesOn b item → AddsInOrder old.trace_graph new.trace_graph (stop_edge m.1 item ∷ []) → IsStep b old new (take_up m item ∷ duties_left b tasks) (length tasks) tasks
         step_stop out added = record {
           walks = walks_stop b (duties_left b tasks) m item old new same takes.1 out added;
@@ -149,7 +149,7 @@ module _ (b : Backtrace) where
           fewer = omega (arith, item_work b old new (duties_left b tasks) m item same);
         }
 
-        -- to the sources of one that goes on
+        -- a step to the sources of an item from which the trace goes on
         pub step_on : GoesOn b item → AddsInOrder old.trace_graph new.trace_graph (onward_edges b.traced m.1 item) → (sources : List StateIndex) → AreSources b item.production item.index m.0 sources → (after : List Task)
             → duties_left b after ≡ come_to_each item.production sources ++ duties_left b tasks → length after ≡ length tasks + length sources → IsStep b old new (take_up m item ∷ duties_left b tasks) (length tasks) after
         step_on on added sources are after left count =

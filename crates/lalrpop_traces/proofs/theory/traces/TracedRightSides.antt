@@ -1,4 +1,5 @@
--- The edges of a backtrace carry right sides of their sources' nonterminals, so their terminals are the grammar's.
+-- The edges of a backtrace carry right sides of their sources' nonterminals, so their terminals are
+-- the grammar's.
 use Rattle.std.proofs.Common.{◌≡◌, ℕ, zero, suc, ◌+◌, ◌<◌, ◌≤◌, List, [], ◌∷◌, ◌++◌, length, get_or, take, drop, refl, sym, ◌∙◌, ap, subst, arith, ⊎_elim}
 use Rattle.std.specs.Prelude.{Contains, Option, Some, None, option_copied, slice_get}
 use Rattle.std.proofs.lemmas.List.{take-append-drop, drop_all}
@@ -15,7 +16,7 @@ use Rattle.lalrpop_traces.specs.declared.trace.node.TraceGraphNode.{TraceGraphNo
 use Rattle.lalrpop_traces.specs.declared.trace.node.TraceGraphNode.TheVariants.{Nonterminal as NameNode, Item as ItemNode}
 use Rattle.lalrpop_traces.specs.declared.trace.trace_graph.TraceGraphEdge.{TraceGraphEdge}
 
--- a list is what stands before a place, at it and behind it
+-- a list is the elements before a place, the one at it and those after it
 around : (xs : List Symbol) (i : ℕ) → take i xs ++ (cursor_list (slice_get xs i) ++ drop (i + 1) xs) ≡ xs
 around xs i =
     let one : suc i ≡ i + 1 = omega arith in
@@ -31,7 +32,7 @@ around xs i =
     ∙ take-append-drop i xs)
     (slice_get_cases xs i).1
 
--- what an edge carries that says the same as one around the dot of a production
+-- the value of an edge carries a right side of its source's nonterminal
 record Carries (productions : List Production) (e : PlainEdge) : Type 0 where
   right_side : IsRightSide productions (name_of e.from) (e.prefix ++ (cursor_list e.cursor ++ e.suffix))
   cursor : (name : NonterminalString) → e.to ≡ NameNode name → e.cursor ≡ Some (NonterminalOf name)

@@ -1,4 +1,5 @@
--- The edges that a walk gives from the sources of the traced item on are exactly those of the backtrace.
+-- The edges that a walk gives from the sources of the traced item on are exactly those of the
+-- backtrace.
 use Rattle.std.proofs.Common.{◌≡◌, ◌≢◌, ◌⊎◌, inl, inr, ℕ, List, [], ◌∷◌, ◌++◌, refl, sym, ap, subst}
 use Rattle.std.specs.Prelude.{slice_get, Option, None, Some, Contains}
 use Rattle.std.proofs.lemmas.List.Elements.{Contains-append_left, Contains-append_right, Contains-append_cases, Contains-push, Contains-push_cases}
@@ -20,13 +21,13 @@ use Rattle.lalrpop_collections.proofs.theory.lists.Lists.{contains_of_map, conta
 use Rattle.lalrpop_collections.proofs.theory.lists.Bounded.{in_flat_map}
 
 -- ---- values added in turn
--- those before stay
+-- the old values stay
 turn_keeps : {X : Type 0} {old xs new : List X} → AddsInTurn old xs new → (x : X) → Contains old x → Contains new x
 turn_keeps all_added x c = c
 turn_keeps (left_out k rest) x c = turn_keeps rest x c
 turn_keeps (put_behind {old = old} {x = y} out rest) x c = turn_keeps rest x (Contains-append_left old (y ∷ []) x c)
 
--- each of the added ones is there
+-- each of the added values is there
 turn_adds : {X : Type 0} {old xs new : List X} → AddsInTurn old xs new → (x : X) → Contains xs x → Contains new x
 turn_adds all_added x c = absurd (Contains-none x c)
 turn_adds (left_out {old = old} {xs = xs} {x = y} k rest) x c = elim (contains-cons y xs x c) [
@@ -38,7 +39,7 @@ turn_adds (put_behind {old = old} {xs = xs} {x = y} out rest) x c = elim (contai
   | inr d ↦ turn_adds rest x d
 ]
 
--- and no other
+-- no other value is there
 turn_only : {X : Type 0} {old xs new : List X} → AddsInTurn old xs new → (x : X) → Contains new x → Contains old x ⊎ Contains xs x
 turn_only all_added x c = inl c
 turn_only (left_out {xs = xs} {x = y} k rest) x c = elim (turn_only rest x c) [ inl d ↦ inl d | inr d ↦ inr (contains_tail y xs x d) ]
@@ -47,7 +48,7 @@ turn_only (put_behind {old = old} {xs = xs} {x = y} out rest) x c = elim (turn_o
   | inr d ↦ inr (contains_tail y xs x d)
 ]
 
--- none twice
+-- no value is there twice
 turn_differs : {X : Type 0} {old xs new : List X} → AddsInTurn old xs new → AllDiffer old → AllDiffer new
 turn_differs all_added differ = differ
 turn_differs (left_out k rest) differ = turn_differs rest differ
@@ -82,7 +83,7 @@ stands_there : (states : List (State Bits)) (state : StateIndex) (item : Dotted 
 stands_there states state item stands = subst (λ (o : Option (State Bits)). Contains (items_at o) item) (sym stands.1) stands.2
 
 module _ (b : Backtrace) where
-  -- ---- what an item that goes on gives
+  -- ---- the edges of an item from which the trace goes on
   onward_given : (traced : Traced) (name : NonterminalString) (item : Dotted Bits) → b.traced ≡ traced → GoesOn b item → (e : PlainEdge) → Contains (onward_edges traced name item) e → Gives b name item e
   onward_given Shift name item is on e c = elim (contains-cons _ [] e c) [ inl h ↦ onward on (sym h) | inr none ↦ absurd (Contains-none e none) ]
   onward_given Reduce name item is on e c = elim (contains-cons _ (own_edge item.production item.index ∷ []) e c) [
@@ -98,7 +99,8 @@ module _ (b : Backtrace) where
   onward_there traced name item is on e (gives_stop out h) = absurd (out on)
 
   -- ---- a walk gives no edges but those of the backtrace
-  -- a duty that the backtrace has: what is come to is met, and what is taken up stands in a state, for a nonterminal that was met there
+  -- a duty of the backtrace: a nonterminal to come to is met, and an item to take is in a state,
+  -- for a nonterminal that was met there
   abbrev IsOwed : Duty → Type 0
   IsOwed (come_to m) = IsMet b m
   IsOwed (take_up m item) = IsMet b m × StandsIn b.states m.0 item
@@ -106,7 +108,7 @@ module _ (b : Backtrace) where
   abbrev AreOwed : List Duty → Type 0
   AreOwed duties = (d : Duty) → Contains duties d → IsOwed d
 
-  -- each source is come to, and nothing else
+  -- the duties come to each source, and to nothing else
   source_there : (p : Production) (index : ℕ) (state : StateIndex) (sources : List StateIndex) → AreSources b p index state sources → (m : Meeting) → IsSource b p index state m → Contains (come_to_each p sources) (come_to m)
   source_there p index state sources are m source =
       let P : Meeting → Type 0 = λ q. Contains (come_to_each p sources) (come_to q) in
@@ -148,20 +150,22 @@ module _ (b : Backtrace) where
         | inr k ↦ gives_traced w (owed_both (come_to_each item.production sources) duties (owed_sources item.production item.index m.0 sources are (λ n source. met_on {m = m} {item = item} own.0 takes on source)) (λ d i. owed d (contains_tail (take_up m item) duties d i))) e k
       ]
 
-  -- ---- and it gives each of them
-  -- the edges that the item gives where it takes the nonterminal are there, and what it leads to was met
+  -- ---- a walk gives each edge of the backtrace
+  -- the edges that the item gives for the nonterminal are there, and the nonterminals to which it
+  -- leads were met
   record IsDone (met : List Meeting) (es : List PlainEdge) (m : Meeting) (item : Dotted Bits) : Type 0 where
     gives : (e : PlainEdge) → Gives b m.1 item e → Contains es e
     leads : (n : Meeting) → GoesOn b item → IsSource b item.production item.index m.0 n → Contains met n
 
-  -- this is so of each item that takes it
+  -- this holds of each item that takes the nonterminal
   abbrev IsFinished : List Meeting → List PlainEdge → Meeting → Type 0
   IsFinished met es m = (item : Dotted Bits) → Takes b m item → IsDone met es m item
 
   done_on : (met : List Meeting) (xs ys : List PlainEdge) (m : Meeting) (item : Dotted Bits) → IsDone met ys m item → IsDone met (xs ++ ys) m item
   done_on met xs ys m item done = record { gives = λ e g. Contains-append_right xs ys e (done.gives e g); leads = done.leads }
 
-  -- what a walk has met at its end: what it had met, what its duties come to, and what these lead to. The items that it takes up are done, and so are all those of what it met besides
+  -- what a walk has met at its end: what it had met, what its duties come to, and what these lead
+  -- to. The items that it takes are done. So are all items of what it has met besides
   record Completes (met : List Meeting) (duties : List Duty) (es : List PlainEdge) : Type 0 where
     after : List Meeting
     kept : (m : Meeting) → Contains met m → Contains after m
@@ -179,7 +183,7 @@ module _ (b : Backtrace) where
   }
 
   module _ (met : List Meeting) (duties : List Duty) (n : Meeting) where
-    -- a nonterminal is come to that was met
+    -- a duty comes to a nonterminal that was met
     completes_known : (es : List PlainEdge) → Contains met n → Completes met duties es → Completes met (come_to n ∷ duties) es
     completes_known es k later = record {
       after = later.after;
@@ -192,7 +196,7 @@ module _ (b : Backtrace) where
       finished = later.finished;
     }
 
-    -- one that was not
+    -- a duty comes to a nonterminal that was not met
     completes_met : (es : List PlainEdge) → Completes (n ∷ met) (take_up_each n (items_at (slice_get b.states n.0.0)) ++ duties) es → Completes met (come_to n ∷ duties) es
     completes_met es later =
         let items = items_at (slice_get b.states n.0.0) in
@@ -217,7 +221,7 @@ module _ (b : Backtrace) where
         }
 
     module _ (kind : Dotted Bits) where
-      -- an item is taken up that takes another nonterminal, or none
+      -- an item is taken that has another symbol after its dot, or none
       completes_past : (es : List PlainEdge) → slice_get kind.production.symbols kind.index ≢ Some (Nonterminal n.1) → Completes met duties es → Completes met (take_up n kind ∷ duties) es
       completes_past es other later = record {
         after = later.after;
@@ -235,7 +239,7 @@ module _ (b : Backtrace) where
         finished = later.finished;
       }
 
-      -- one that is done with what the duties behind it lead to
+      -- an item is taken that is done after the later duties
       completes_item : (later_duties : List Duty) (others es : List PlainEdge) (later : Completes met later_duties others) → ((m : Meeting) (item : Dotted Bits) → IsDone later.after others m item → IsDone later.after es m item) → ((d : Duty) → Contains duties d → Contains later_duties d) → IsDone later.after es n kind → Completes met (take_up n kind ∷ duties) es
       completes_item later_duties others es later on among done = record {
         after = later.after;
@@ -253,7 +257,7 @@ module _ (b : Backtrace) where
         finished = λ m c. elim (later.finished m c) [ inl before ↦ inl before | inr fin ↦ inr (λ item takes. on m item (fin item takes)) ];
       }
 
-      -- it stops
+      -- the trace stops at the item
       completes_stop : (es : List PlainEdge) → ¬ GoesOn b kind → Completes met duties es → Completes met (take_up n kind ∷ duties) (stop_edge n.1 kind ∷ es)
       completes_stop es out later =
           let edge = stop_edge n.1 kind in
@@ -264,7 +268,7 @@ module _ (b : Backtrace) where
           stop_is e (itself on reduces h) = absurd (out on)
           stop_is e (gives_stop o h) = sym h
 
-      -- or goes on
+      -- the trace goes on from the item
       completes_on : (sources : List StateIndex) (others es : List PlainEdge) → GoesOn b kind → AreSources b kind.production kind.index n.0 sources → es ≡ onward_edges b.traced n.1 kind ++ others → Completes met (come_to_each kind.production sources ++ duties) others → Completes met (take_up n kind ∷ duties) es
       completes_on sources others es goes are is later =
           let own = onward_edges b.traced n.1 kind in
@@ -284,7 +288,7 @@ module _ (b : Backtrace) where
   completes (stops {met = met} {m = n} {item = item} {duties = duties} {es = es} at out w) = completes_stop met duties n item es out (completes w)
   completes (goes_on {met = met} {m = n} {item = item} {duties = duties} {es = es} sources others at on are w is) = completes_on met duties n item sources others es on are is (completes w)
 
-  -- ---- the whole of it
+  -- ---- the whole
   module _ (graph : Graph) (order : IsInOrder b graph) where
     all : List PlainEdge
     all = own_edge b.item.production b.item.index ∷ order.given

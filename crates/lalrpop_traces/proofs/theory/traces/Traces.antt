@@ -1,4 +1,4 @@
--- Edges of a trace, and nonterminals that it meets.
+-- The edges of a trace, and the nonterminals that it meets.
 use Rattle.std.proofs.Common.{◌≡◌, ℕ, true, List, take, Result, Ok, Err, refl, sym, ◌∙◌, ap, eqb-true}
 use Rattle.std.specs.Prelude.{OnOk, slice_get, Option, option_copied, drop, ◌+◌}
 use Rattle.std.specs.Ordering.{is_eq, ordering_then, nat_cmp}
@@ -16,11 +16,11 @@ use Rattle.lalrpop_traces.specs.declared.trace.node.TraceGraphNode.{TraceGraphNo
 
 -- ---- edges
 
--- an edge with the same ends
+-- edges with the same ends are the same
 pub dot_same : (from to from_is to_is : TraceGraphNode) (p : Production) (index : ℕ) → from ≡ from_is → to ≡ to_is → dot_edge from to p index ≡ dot_edge from_is to_is p index
 dot_same from to from_is to_is p index f t = ap (λ (x : TraceGraphNode). dot_edge x to p index) f ∙ ap (λ (x : TraceGraphNode). dot_edge from_is x p index) t
 
--- an edge with the labels of a dot
+-- the value of an edge with the labels of a dot
 pub plain_dot : (from to : TraceGraphNode) (labels : SymbolSets) (p : Production) (index : ℕ) → labels.prefix.now ≡ take index p.symbols → option_copied labels.cursor ≡ slice_get p.symbols index → labels.suffix.now ≡ drop (index + 1) p.symbols → plain_edge from to labels ≡ dot_edge from to p index
 plain_dot from to labels p index before at behind =
     ap (λ (xs : List Symbol). let e : PlainEdge = record { from = from; to = to; prefix = xs; cursor = option_copied labels.cursor; suffix = labels.suffix.now } in e) before
@@ -34,7 +34,7 @@ both_equal Less y h = absurd (true≢false (sym h))
 both_equal Equal y h = (refl, h)
 both_equal Greater y h = absurd (true≢false (sym h))
 
--- those that tie in order are one
+-- meetings that compare as equal are equal
 pub tied_meetings : (m q : Meeting) → is_eq (meeting_cmp m q) ≡ true → m ≡ q
 tied_meetings m q h =
     let parts = both_equal (nat_cmp m.0.0 q.0.0) (name_cmp m.1 q.1) h in

@@ -18,7 +18,7 @@ total_more w (x ∷ ks) zero k at = omega (arith, ap w (ap (λ o. unwrap_or o x)
 total_more w (x ∷ ks) (suc n) k at = omega (arith, total_more w ks n k at)
 
 module _ (g : TraceGraph) (start : TraceGraphNode) (n : ℕ) where
-  -- what is left at the nodes below
+  -- the weight that is left at the nodes below
   below : List EnumeratorState → ℕ
   below [] = 0
   below (s ∷ fs) = suc (load_of g start n fs s.left)
@@ -28,11 +28,11 @@ module _ (g : TraceGraph) (start : TraceGraphNode) (n : ℕ) where
   load_split [] left = ap (λ m. total (weight g m) (take left (numbers_at g start []))) (let e : n ≡ n - 0 = omega arith in e) ∙ omega arith
   load_split (s ∷ fs) left = refl
 
-  -- an edge that is taken leaves its weight less
+  -- the weight that is left falls by that of an edge that is taken
   pub taken : (fs : List EnumeratorState) (left k : ℕ) → slice_get (numbers_at g start fs) left ≡ Some k → load_of g start n fs left + weight g (n - length fs) k ≡ load_of g start n fs (suc left)
   taken fs left k at = omega (arith, load_split fs left, load_split fs (suc left), total_more (weight g (n - length fs)) (numbers_at g start fs) left k at)
 
-  -- a nonterminal is entered with all its edges
+  -- a nonterminal is entered, with all its edges left
   pub entered : (s : EnumeratorState) (fs : List EnumeratorState) → length fs < n → load_of g start n (s ∷ fs) (length (numbers_from g s.number)) < load_of g start n fs s.left + weight g (n - length fs) s.number
   entered s fs room =
       let e : n - length fs ≡ suc (n - suc (length fs)) = omega (arith, room) in
@@ -40,7 +40,7 @@ module _ (g : TraceGraph) (start : TraceGraphNode) (n : ℕ) where
       let t : total (weight g (n - suc (length fs))) (take (length (numbers_from g s.number)) (numbers_from g s.number)) ≡ total (weight g (n - suc (length fs))) (numbers_from g s.number) = ap (total (weight g (n - suc (length fs)))) (take_all (length (numbers_from g s.number)) (numbers_from g s.number) (omega arith)) in
       omega (arith, w, t)
 
--- a walk that entered a nonterminal has less left than before with the edge to it
+-- a walk that entered a nonterminal has less weight left than before it took the edge to it
 pub entered_load : (old : PathEnumerator) (graph : TraceGraph) (start : TraceGraphNode) (fs : List EnumeratorState) (left number : ℕ) → graph ≡ old.graph.now → start ≡ old.start → fs ≡ record { number = number; left = old.left } ∷ frames old → left ≡ length (numbers_from graph number) → length (frames old) < node_count old.graph.now → load_of graph start (node_count graph) fs left < load old + edge_weight old number
 entered_load old graph start fs left number same_graph same_start same_frames count room =
     let s : EnumeratorState = record { number = number; left = old.left } in
@@ -52,17 +52,17 @@ entered_load old graph start fs left number same_graph same_start same_frames co
     ∙ ap (λ (m : ℕ). load_of g old.start (node_count g) (s ∷ frames old) m) (count ∙ ap (λ (h : TraceGraph). length (numbers_from h number)) same_graph) in
     omega (arith, is, entered g old.start (node_count g) s (frames old) room)
 
--- a walk that took an edge has its weight less left
+-- a walk that took an edge has less weight left by that of the edge
 pub taken_load : (g : TraceGraph) (start : TraceGraphNode) (n : ℕ) (fs : List EnumeratorState) (after left most k : ℕ) → left ≡ suc after → load_of g start n fs left ≤ most → slice_get (numbers_at g start fs) after ≡ Some k → load_of g start n fs after + weight g (n - length fs) k ≤ most
 taken_load g start n fs after left most k e h at = omega (arith, taken g start n fs after k at, ap (load_of g start n fs) e, h)
 
--- a number behind all edges weighs nothing
+-- if there is no edge at the place, the weight that is left stays
 pub none_load : (g : TraceGraph) (start : TraceGraphNode) (n : ℕ) (fs : List EnumeratorState) (after left : ℕ) → left ≡ suc after → slice_get (numbers_at g start fs) after ≡ None → load_of g start n fs after ≡ load_of g start n fs left
 none_load g start n fs after left e at =
     let w = weight g (n - length fs) in
     load_split g start n fs after ∙ ap (λ (ks : List ℕ). total w ks + below g start n fs) (sym (take_none (numbers_at g start fs) after at)) ∙ sym (load_split g start n fs (suc after)) ∙ ap (load_of g start n fs) (sym e)
 
--- the edges at the node to which the newest edge led
+-- the numbers of the edges to the newest node
 at_newest : (g : TraceGraph) (start : TraceGraphNode) (stack newest_first : List EnumeratorState) (s : EnumeratorState) → stack ≡ reverse newest_first → slice_get stack (length stack - 1) ≡ Some s → numbers_at g start newest_first ≡ numbers_from g s.number
 at_newest g start stack [] s e at = absurd (omega (arith, slice_get_within stack (length stack - 1) s at, ap length e))
 at_newest g start stack (y ∷ ys) s e at =
@@ -86,13 +86,14 @@ standing_long : (stack : List EnumeratorState) → (stack ≡ [] → ⊥) → 0 
 standing_long [] standing = absurd (standing refl)
 standing_long (s ∷ stack) standing = omega arith
 
--- a walk at a path has an example and one more answer to give
+-- a walk with a current path has its example and one more result to give
 pub standing_bound : (walk : PathEnumerator) → (IsEnded walk → ⊥) → 2 ≤ bound walk
 standing_bound walk standing =
     let long : 0 < length (frames walk) = omega (arith, standing_long walk.stack.items standing, length-reverse walk.stack.items) in
     omega (arith, standing_at walk.stack.items (load walk) standing, load_some walk.graph.now walk.start (node_count walk.graph.now) (frames walk) walk.left long)
 
--- a walk at its end with a refused growth to tell has one answer to give
+-- a walk at its end with an allocation failure to report has fewer results to give than one with a
+-- current path
 pub refused_less : (stack : List EnumeratorState) (n most : ℕ) → stack ≡ [] → 2 ≤ most → cond true 1 0 + bound_of stack n < most
 refused_less [] n most e l = omega (arith, l)
 refused_less (s ∷ stack) n most e l = absurd (omega (arith, ap length e))

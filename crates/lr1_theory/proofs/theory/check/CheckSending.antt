@@ -1,4 +1,4 @@
--- Tokens are sent to places: to one, and to many.
+-- Sending tokens to places: to one place, and to many.
 use Rattle.std.proofs.Common.{◌≡◌, ◌≢◌, ◌+◌, ℕ, ◌⊎◌, inl, inr, List, [], ◌∷◌, ◌++◌, length, refl, sym, ◌∙◌, ap, subst, arith, Bool, true, false, not, ⊎_elim, ◌↔◌, drop, Some, None}
 use Rattle.std.specs.Prelude.{Contains, MatchBool, IsTrue, slice_get}
 use Rattle.std.proofs.lemmas.List.Elements.{Contains-append_left, Contains-push_cases, Contains-push}
@@ -29,7 +29,7 @@ module _ (key : Place) (tokens : Bits) where
     weighed = queued_weighed key tokens old new queue pushed s;
   }
 
--- ---- many
+-- ---- many places
 pub Sends-none : (Such : Place → Type 0) (tokens : Bits) (table : Carried) (queue : List Place) → ((k : Place) → Such k → ⊥) → Sends Such tokens table table queue queue
 Sends-none Such tokens table queue none = record { adds = Adds-none Such tokens table queue none; found = λ k c. inl c; differ = λ d. d; weighed = λ n f each. omega arith }
 
@@ -50,13 +50,13 @@ Sends-then A B C tokens left right cases a b c s t u x y = record {
 pub Sends-same : (A B : Place → Type 0) (tokens : Bits) → ((k : Place) → A k → B k) → ((k : Place) → B k → A k) → (a b : Carried) (s t : List Place) → Sends A tokens a b s t → Sends B tokens a b s t
 Sends-same A B tokens to back a b s t x = record { adds = Adds-same A B tokens to back a b s t x.adds; found = x.found; differ = x.differ; weighed = x.weighed }
 
--- places are equal where their parts are
+-- places with equal parts are the same
 pub same_place : (a b : Place) → a.state ≡ b.state → a.item.production ≡ b.item.production → a.item.index ≡ b.item.index → a ≡ b
 same_place a b n p i =
     let make : ℕ → Production → ℕ → Place = λ n p i. record { state = n; item = record { production = p; index = i; lookahead = record {} } } in
     ap (λ n. make n a.item.production a.item.index) n ∙ ap (λ p. make b.state p a.item.index) p ∙ ap (λ i. make b.state b.item.production i) i
 
--- the productions of a list, one more
+-- sending tokens to the productions of a list, one more at a time
 pub Begun-none : (n : ℕ) (tokens : Bits) (table : Carried) (queue : List Place) → Sends (IsBegunAt n []) tokens table table queue queue
 Begun-none n tokens table queue = Sends-none (IsBegunAt n []) tokens table queue (λ k b. Contains-none k.item.production b.among)
 
@@ -126,7 +126,7 @@ module _ (g : Grammar) (states : List (State Bits)) (place : Place) (tokens : Bi
     fits = fits;
   }
 
--- ---- a set that did not grow has all that was joined to it
+-- ---- a set that did not grow has all bits that were joined to it
 same_tests : (a b : Bool) → (a ≡ true → b ≡ true) → (b ≡ true → a ≡ true) → a ≡ b
 same_tests true b f g = sym (f refl)
 same_tests false true f g = g refl

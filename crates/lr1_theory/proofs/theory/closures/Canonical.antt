@@ -1,4 +1,6 @@
--- Canonical states hold exactly the valid tokens, so that they are faithful exactly where the grammar is LR(1); and a valid token is one with which what was read can go on: by induction on the prefix and on what is valid.
+-- Canonical states hold exactly the valid tokens. So they are faithful exactly if the grammar is
+-- LR(1). A sentence can go on with a valid token after the prefix.
+-- The proofs are by induction on the prefix and on the derivation that an item is valid.
 use Rattle.std.proofs.Common.{◌↔◌, Some, ◌≡◌, ℕ, suc, List, [], ◌∷◌, ◌++◌, drop, length, append_assoc, append-nil, sym, subst, refl, ap, ◌∙◌}
 use Rattle.lr1_theory.proofs.Types.{NonterminalString, Production, Symbol, TerminalString, Token}
 use Rattle.lalrpop_grammar.specs.declared.repr.Symbol.TheVariants.{Nonterminal, Terminal}
@@ -13,12 +15,13 @@ use Rattle.lalrpop_grammar.proofs.theory.grammars.Derivations.{Derives-from, Der
 use Rattle.lalrpop_grammar.proofs.theory.closures.Valid.{extends, valid}
 use Rattle.lalrpop_grammar.specs.conflicts.Conflicts.{HasNoConflict}
 
--- a list that begins with a token: with its terminal, or, for Eof, the empty one
+-- the list begins with the token: with its terminal, or, for Eof, the list is empty
 pub data BeginsWith : Token → List Symbol → Type 0 where
   ends_here : BeginsWith Eof []
   goes_on_with : (t : TerminalString) (rest : List Symbol) → BeginsWith (TokenOf t) (Terminal t ∷ rest)
 
--- the start symbol derives the prefix, what stands behind the dot, and a list that begins with the token
+-- the start symbol derives the prefix, then the symbols after the dot, and then a list that begins
+-- with the token
 pub token_follows : {g : List Production} {start : NonterminalString} {u : List Symbol} {p : Production} {dot : ℕ} {t : Token} → ValidToken g start u p dot t → (rest : List Symbol) × BeginsWith t rest × Derives g (Nonterminal start ∷ []) (u ++ (drop dot p.symbols ++ rest))
 token_follows (at_start p h e) = ([], ends_here, Derives-from (ap (λ a. Nonterminal a ∷ []) e) (Derives-to (sym (append-nil p.symbols)) (Derives-production p h)))
 token_follows (kept {u} {p} {dot} x after v e) =
@@ -40,11 +43,12 @@ token_follows (passed_on {u} {p} {dot} q after v e h n) =
     )
 
 module _ (g : List Production) (start : NonterminalString) (states : ℕ → Contents) (tokens : ℕ → Production → ℕ → Token → Type 0) (canonical : AreCanonical g start states tokens) where
-  -- the dotted productions of a state are those valid for each prefix that leads to it
+  -- the dotted productions of a state are exactly those that are valid for a prefix that leads to
+  -- the state
   items_at : (u : List Symbol) (n : ℕ) → state_after states u ≡ Some n → (p : Production) (dot : ℕ) → items_of states n p dot ↔ Valid g start u p dot
   items_at = items_valid g start states canonical.closed
 
-  -- the tokens of a state are valid for each prefix that leads to it
+  -- the tokens of a state are valid for a prefix that leads to it
   pub tokens_valid : {u : List Symbol} → Grown u → (n : ℕ) → state_after states u ≡ Some n → (p : Production) (dot : ℕ) (t : Token) → tokens n p dot t → ValidToken g start u p dot t
   tokens_valid from_nothing n e p dot t h = go ((canonical.first p dot t).0 (subst (λ k. tokens k p dot t) (sym (same_some e)) h))
     where
@@ -61,19 +65,19 @@ module _ (g : List Production) (start : NonterminalString) (states : ℕ → Con
       go m before (begins_rest {p = r} {dot = d} q after i b h' f) = begins_behind q after ((items_at (u ++ x ∷ []) n e r d).0 i) b h' f
       go m before (inherits q after c b h' k') = passed_on q after (go m before c) b h' k'
 
-  -- the tokens of a state to which a prefix leads are the closure of some kernel's
+  -- the tokens of the state are those of the closure of some kernel
   pub record IsTokenClosed (n : ℕ) : Type 1 where
     pub kernel : Production → ℕ → Token → Type 0
     pub closure : (p : Production) (dot : ℕ) (t : Token) → tokens n p dot t ↔ InTokenClosure g (items_of states n) kernel p dot t
 
-  -- so it is for each of them
+  -- the tokens of each state after a prefix are those of the closure of some kernel
   pub token_closed : {u : List Symbol} → Grown u → (n : ℕ) → state_after states u ≡ Some n → IsTokenClosed n
   token_closed from_nothing n at = subst IsTokenClosed (same_some at) (record { kernel = IsAtStartWith g start; closure = canonical.first })
   token_closed (more {l = u} x k) n at =
       let m = state_from-last states 0 u x n at in
       record { kernel = IsMovedWith (tokens m.0) x; closure = canonical.next m.0 n x m.2 }
 
-  -- and the other way round
+  -- a state to which a prefix leads holds each token that is valid for the prefix
   pub valid_token_held : {u : List Symbol} {p : Production} {dot : ℕ} {t : Token} → ValidToken g start u p dot t → (n : ℕ) → state_after states u ≡ Some n → tokens n p dot t
   valid_token_held (at_start p h e) n at = subst (λ k. tokens k p 0 Eof) (same_some at) ((canonical.first p 0 Eof).1 (with_token ((refl, h, e), refl)))
   valid_token_held (kept {u} {p} {dot} {t} x after v e) n at =
@@ -85,15 +89,15 @@ module _ (g : List Production) (start : NonterminalString) (states : ℕ → Con
       let c = token_closed (grown u) n at in
       (c.closure q 0 t).1 (inherits q after ((c.closure p dot t).0 (valid_token_held v n at)) e h k)
 
-  -- each dotted production has exactly its valid tokens
+  -- each dotted production of a state after a prefix has exactly its valid tokens
   pub tokens_exact : (u : List Symbol) (n : ℕ) → state_after states u ≡ Some n → (p : Production) (dot : ℕ) (t : Token) → tokens n p dot t ↔ ValidToken g start u p dot t
   tokens_exact u n at p dot t = (tokens_valid (grown u) n at p dot t, λ v. valid_token_held v n at)
 
-  -- the state after a prefix is right for it but for tokens
+  -- the state after a prefix has the right items for it
   pub right_at : (u : List Symbol) (n : ℕ) → state_after states u ≡ Some n → HasRightItems g start u (states n)
   right_at = right_items g start states canonical.closed canonical.reductions
 
-  -- what a state allows is exactly what is valid
+  -- the state after a prefix allows exactly the valid actions
   pub allows_valid : (u : List Symbol) (n : ℕ) → state_after states u ≡ Some n → (t : Token) (a : Action) → Allows (states n) t a ↔ IsValidAction g start u t a
   allows_valid u n at t (Shift x) = (
     λ h. (h.0, (edges_awaited (right_at u n at) (Terminal x)).0 h.1),
@@ -108,7 +112,7 @@ module _ (g : List Production) (start : NonterminalString) (states : ℕ → Con
         (f.0, f.1, f.2, (canonical.holds n f.0 t f.1).1 (subst (λ (q : Production). tokens n q (length q.symbols) t) (sym f.2) ((tokens_exact u n at p (length p.symbols) t).1 v))),
   )
 
-  -- where the grammar is LR(1), canonical states are faithful
+  -- canonical states are faithful if the grammar is LR(1)
   pub canonical_faithful : IsLR1 g start → AreFaithful g start states
   canonical_faithful lr u live =
       let s = live_state g start states canonical.closed u live in
@@ -122,7 +126,7 @@ module _ (g : List Production) (start : NonterminalString) (states : ℕ → Con
         };
       }
 
-  -- without a conflict in the state after a live prefix they are faithful
+  -- canonical states are faithful if no state after a live prefix has a conflict
   pub no_conflict_faithful : ((u : List Symbol) (n : ℕ) → IsLive g start u → state_after states u ≡ Some n → HasNoConflict (states n)) → AreFaithful g start states
   no_conflict_faithful none u live =
       let s = live_state g start states canonical.closed u live in
@@ -136,6 +140,6 @@ module _ (g : List Production) (start : NonterminalString) (states : ℕ → Con
         };
       }
 
-  -- and where the grammar is LR(1) there is none
+  -- no state after a live prefix has a conflict if the grammar is LR(1)
   pub lr1_no_state_conflict : IsLR1 g start → (u : List Symbol) (n : ℕ) → IsLive g start u → state_after states u ≡ Some n → HasNoConflict (states n)
   lr1_no_state_conflict lr u n live at = one_no_conflict (states n) (canonical.reductions n).once (λ t a b h k. lr u t a b ((allows_valid u n at t a).0 h) ((allows_valid u n at t b).0 k))

@@ -1,4 +1,6 @@
--- States built by closures have exactly the valid dotted productions, and the valid tokens are carried over their edges, so that checked tables are faithful: by induction on the prefix and on what is valid.
+-- Closed states have exactly the valid dotted productions, and the valid tokens are carried over
+-- their edges. So checked tables are faithful.
+-- The proofs are by induction on the prefix and on the derivation that an item is valid.
 use Rattle.std.proofs.Common.{◌≡◌, ℕ, suc, inl, inr, ◌↔◌, List, [], ◌∷◌, ◌++◌, drop, length, sym, subst, refl, ap, ◌∙◌, Option, Some, None}
 use Rattle.std.specs.Prelude.{Contains}
 use Rattle.lr1_theory.proofs.Types.{NonterminalString, Production, Symbol, Token}
@@ -13,7 +15,7 @@ use Rattle.lalrpop_grammar.proofs.theory.closures.Valid.{valid, awaited_live}
 use Rattle.lalrpop_grammar.proofs.theory.states.RightStates.{awaited_edges, edges_awaited, reductions_valid, no_conflict_one}
 use Rattle.lalrpop_grammar.proofs.theory.runs.Steps.{state_from-more}
 
--- the state after one symbol more comes of the state before it
+-- the last symbol of a list leads to the state after the list from the state before that symbol
 pub state_from-last : (states : ℕ → Contents) (start : ℕ) (u : List Symbol) (x : Symbol) (n : ℕ) → state_from states start (u ++ x ∷ []) ≡ Some n → (m : ℕ) × (state_from states start u ≡ Some m) × (leads (states m) x ≡ Some n)
 state_from-last states start [] x n e = (start, refl, go (leads (states start) x) e)
   where
@@ -27,7 +29,7 @@ state_from-last states start (y ∷ u) x n e = go (leads (states start) y) e (λ
     go (Some m) k more' = more' m k
 
 module _ (g : List Production) (start : NonterminalString) (states : ℕ → Contents) (closed : AreClosed g start states) where
-  -- what a state holds is valid for each prefix that leads to it
+  -- a dotted production of a state is valid for a prefix that leads to the state
   pub holds_valid : {u : List Symbol} → Grown u → (n : ℕ) → state_after states u ≡ Some n → (p : Production) (dot : ℕ) → items_of states n p dot → Valid g start u p dot
   holds_valid from_nothing n e p dot h = go ((closed.first p dot).0 (subst (λ k. items_of states k p dot) (sym (same_some e)) h))
     where
@@ -42,7 +44,7 @@ module _ (g : List Production) (start : NonterminalString) (states : ℕ → Con
       go m before {q} (in_kernel i) = subst (Valid g start (u ++ x ∷ []) q) (sym i.moved) (shifts x i.after (before q i.before i.item) i.behind)
       go m before (expanded q after c b h') = expands q after (go m before c) b h'
 
-  -- a state holds what its own dotted productions expand to
+  -- a state holds the productions of each nonterminal after a dot, with the dot at the start
   pub holds_expanded : {u : List Symbol} → Grown u → (n : ℕ) → state_after states u ≡ Some n → (p q : Production) (dot : ℕ) (after : List Symbol) → items_of states n p dot → drop dot p.symbols ≡ Nonterminal q.nonterminal ∷ after → Contains g q → items_of states n q 0
   holds_expanded from_nothing n e p q dot after h b c =
       subst (λ k. items_of states k q 0) (same_some e) ((closed.first q 0).1 (expanded q after ((closed.first p dot).0 (subst (λ k. items_of states k p dot) (sym (same_some e)) h)) b c))
@@ -50,7 +52,7 @@ module _ (g : List Production) (start : NonterminalString) (states : ℕ → Con
       let m = state_from-last states 0 u x n e in
       (closed.next m.0 n x m.2 q 0).1 (expanded q after ((closed.next m.0 n x m.2 p dot).0 h) b c)
 
-  -- what is valid for a prefix is held by a state to which it leads
+  -- if a dotted production is valid for a prefix, the prefix leads to a state that holds it
   pub valid_held : {u : List Symbol} {p : Production} {dot : ℕ} → Valid g start u p dot → (n : ℕ) × (state_after states u ≡ Some n) × items_of states n p dot
   valid_held (starts p h e) = (0, refl, (closed.first p 0).1 (in_kernel (refl, h, e)))
   valid_held (shifts {u} {p} {dot} x after v e) =
@@ -61,28 +63,28 @@ module _ (g : List Production) (start : NonterminalString) (states : ℕ → Con
       let r = valid_held v in
       (r.0, r.1, holds_expanded (grown u) r.0 r.1 p q dot after r.2 e h)
 
-  -- so its dotted productions are exactly those valid for the prefix
+  -- the dotted productions of the state after a prefix are exactly those that are valid for it
   pub items_valid : (u : List Symbol) (n : ℕ) → state_after states u ≡ Some n → (p : Production) (dot : ℕ) → items_of states n p dot ↔ Valid g start u p dot
   items_valid u n e p dot = (
     holds_valid (grown u) n e p dot,
     λ v. let r = valid_held v in subst (λ k. items_of states k p dot) (same_some (sym r.1 ∙ e)) r.2,
   )
 
-  -- a list of symbols leads to a reached state
+  -- a state to which a list of symbols leads is reached
   pub reached_at : {u : List Symbol} → Grown u → (n : ℕ) → state_after states u ≡ Some n → IsReached states n
   reached_at from_nothing n e = subst (IsReached states) (same_some e) at_zero
   reached_at (more {l = u} x k) n e =
       let m = state_from-last states 0 u x n e in
       over_edge n x (reached_at k m.0 m.1) m.2
 
-  -- and each reached state is one after a live prefix
+  -- a live prefix leads to each reached state
   pub reached_live : {n : ℕ} → IsReached states n → (u : List Symbol) × IsLive g start u × (state_after states u ≡ Some n)
   reached_live at_zero = ([], inl refl, refl)
   reached_live (over_edge {n} m x r e) =
       let v = reached_live r in
       (v.0 ++ x ∷ [], awaited_live ((awaited_edges (items_valid v.0 n v.2) (closed.edges n) x).0 (m, e)), state_from-more states 0 v.0 x v.2 e)
 
-  -- so the reached states are those after live prefixes
+  -- the reached states are exactly those after live prefixes
   pub reached_states : (n : ℕ) → IsReached states n ↔ ((u : List Symbol) × IsLive g start u × (state_after states u ≡ Some n))
   reached_states n = (reached_live, λ v. reached_at (grown v.0) n v.2)
 
@@ -91,17 +93,18 @@ module _ (g : List Production) (start : NonterminalString) (states : ℕ → Con
   live_state u (inl e) = (0, ap (state_after states) e)
   live_state u (inr v) = let r = valid_held v.2 in (r.0, r.1)
 
-  -- where reductions are the finished dotted productions, the state after a prefix is right for it but for tokens
+  -- if reductions are the finished dotted productions, the state after a prefix has the right items
   pub right_items : ((n : ℕ) → ReducesFinished (states n)) → (u : List Symbol) (n : ℕ) → state_after states u ≡ Some n → HasRightItems g start u (states n)
   right_items reductions u n e = record { items = items_valid u n e; edges = closed.edges n; reductions = reductions n }
 
-  -- so each live prefix has such a state
+  -- if reductions are the finished dotted productions, each live prefix leads to a state with the
+  -- right items
   pub have_right_items : ((n : ℕ) → ReducesFinished (states n)) → HaveRightItems g start states
   have_right_items reductions u live =
       let s = live_state u live in
       record { number = s.0; after = s.1; right = right_items reductions u s.0 s.1 }
 
-  -- the valid tokens are carried
+  -- the valid tokens are carried to the dotted productions of the state after the prefix
   pub token_carried : {u : List Symbol} {p : Production} {dot : ℕ} {t : Token} → ValidToken g start u p dot t → (n : ℕ) → state_after states u ≡ Some n → IsCarried g start states n p dot t
   token_carried {p = p} {t = t} (at_start _ h e) n at = subst (λ k. IsCarried g start states k p 0 t) (same_some at) (eof_at_start p h e)
   token_carried (kept {u} {p} {dot} x after v e) n at =

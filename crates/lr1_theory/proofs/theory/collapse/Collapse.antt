@@ -1,4 +1,5 @@
--- Canonical states merged where they have the same dotted productions are LR(0) states that hold their LALR tokens: each is after the prefixes of those merged into it.
+-- If canonical states with the same dotted productions are merged, they are LR(0) states that hold
+-- their LALR tokens. A prefix leads to the merged state of the state to which it led.
 use Rattle.std.proofs.Common.{◌≡◌, ℕ, List, length, sym, subst, ap, ◌∙◌, Some}
 use Rattle.lr1_theory.proofs.Types.{NonterminalString, Production, Symbol, Token}
 use Rattle.lalrpop_grammar.specs.Words.{HaveSameItems, IsLalrToken, Contents, state_after, IsBehindDot, LeadsOverDots, HasRightItems, items_of, IsReached}
@@ -12,14 +13,14 @@ use Rattle.lr1_theory.proofs.theory.states.Lr0.{held_alike}
 use Rattle.lr1_theory.proofs.theory.closures.Canonical.{right_at, tokens_exact}
 
 module _ (g : List Production) (start : NonterminalString) (before : ℕ → Contents) (tokens : ℕ → Production → ℕ → Token → Type 0) (canonical : AreCanonical g start before tokens) (group : ℕ → ℕ) (after : ℕ → Contents) (collapse : IsCollapse group before after) where
-  -- a prefix leads to the merged state of where it led
+  -- a prefix leads to the merged state of the state to which it led
   grouped : {u : List Symbol} → Grown u → (n : ℕ) → state_after before u ≡ Some n → state_after after u ≡ Some (group n)
   grouped from_nothing n e = ap (λ k. Some k) (sym collapse.first ∙ ap group (same_some e))
   grouped (more {l = u} x k) n e =
       let m = state_from-last before 0 u x n e in
       state_from-more after 0 u x (grouped k m.0 m.1) (collapse.edges m.0 n x (reached_at g start before canonical.closed k m.0 m.1) m.2)
 
-  -- the symbols behind the dots of a merged state are those that lead on
+  -- the symbols that lead from a merged state are exactly those after its dots
   edges_at : (n : ℕ) → IsReached before n → LeadsOverDots (after (group n))
   edges_at n r x = (
     λ h. to (collapse.only (group n) h.0 x h.1),
@@ -39,7 +40,7 @@ module _ (g : List Production) (start : NonterminalString) (before : ℕ → Con
             behind = b.behind;
           }
 
-  -- a merged state is right, but for tokens, for each prefix of each state merged into it
+  -- a merged state has the right items for each prefix that led to a state that is merged into it
   right_grouped : (u : List Symbol) (n : ℕ) → state_after before u ≡ Some n → HasRightItems g start u (after (group n))
   right_grouped u n at =
       let r = reached_at g start before canonical.closed (grown u) n at in
@@ -52,7 +53,7 @@ module _ (g : List Production) (start : NonterminalString) (before : ℕ → Con
         reductions = collapse.reductions (group n);
       }
 
-  -- prefixes with the same dotted productions lead to one merged state
+  -- prefixes with the same valid dotted productions lead to the same merged state
   same_group : (u v : List Symbol) (n m : ℕ) → state_after before u ≡ Some n → state_after before v ≡ Some m → HaveSameItems g start u v → group n ≡ group m
   same_group u v n m e f same =
       collapse.one n m (reached_at g start before canonical.closed (grown u) n e) (reached_at g start before canonical.closed (grown v) m f) (held_alike g start before canonical.closed u v n m e f same)
@@ -73,7 +74,7 @@ module _ (g : List Production) (start : NonterminalString) (before : ℕ → Con
         (v.0, v.1, grouped (grown v.0) l.state v.2 ∙ ap (λ k. Some k) l.same);
   }
 
-  -- what a reduction holds in a merged state is an LALR token
+  -- a token that a reduction holds in a merged state is an LALR token
   group_lalr : (u : List Symbol) (n : ℕ) → state_after before u ≡ Some n → (p : Production) (t : Token) → HoldsInGroup group before (group n) p t → IsLalrToken g start u p (length p.symbols) t
   group_lalr u n at p t h =
       let v = reached_live g start before canonical.closed h.reached in
@@ -89,7 +90,7 @@ module _ (g : List Production) (start : NonterminalString) (before : ℕ → Con
         valid = (tokens_exact g start before tokens canonical v.0 h.state v.2 p (length p.symbols) t).0 k;
       }
 
-  -- and each LALR token is held
+  -- a reduction of a merged state holds each of its LALR tokens
   lalr_group : (u : List Symbol) (n : ℕ) → state_after before u ≡ Some n → (p : Production) (t : Token) → IsLalrToken g start u p (length p.symbols) t → HoldsInGroup group before (group n) p t
   lalr_group u n at p t l =
       let s = live_state g start before canonical.closed l.prefix l.live in
@@ -105,7 +106,7 @@ module _ (g : List Production) (start : NonterminalString) (before : ℕ → Con
         holds = (canonical.holds s.0 f.0 t f.1).1 (subst (λ (q : Production). tokens s.0 q (length q.symbols) t) (sym f.2) k);
       }
 
-  -- so they hold their LALR tokens
+  -- the merged states hold their LALR tokens
   pub collapsed_tokens : HoldLalrTokens g start after
   collapsed_tokens u k live at r c t =
       let s = live_state g start before canonical.closed u live in

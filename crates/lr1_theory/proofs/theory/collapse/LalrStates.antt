@@ -1,4 +1,5 @@
--- LR(0) states whose reductions hold their LALR tokens are faithful exactly where the grammar is LALR(1): from what such a state allows.
+-- LR(0) states whose reductions hold their LALR tokens are faithful exactly if the grammar is
+-- LALR(1). The proofs use the actions that such a state allows.
 use Rattle.std.proofs.Common.{◌≡◌, ◌↔◌, ℕ, List, sym, subst, ◌∙◌, length, Some}
 use Rattle.lr1_theory.proofs.Types.{NonterminalString, Production, Symbol, Token}
 use Rattle.lalrpop_grammar.specs.declared.repr.Symbol.TheVariants.{Terminal}
@@ -16,7 +17,7 @@ module _ (g : List Production) (start : NonterminalString) where
   action_lalr u live t (Reduce p) v = record { prefix = u; live = live; same = λ q d. (λ h. h, λ h. h); valid = v }
 
 module _ (g : List Production) (start : NonterminalString) (states : ℕ → Contents) (lr0 : AreLr0 g start states) where
-  -- what a state then allows are exactly the LALR actions
+  -- if the states hold their LALR tokens, the state after a prefix allows exactly the LALR actions
   pub allows_lalr : HoldLalrTokens g start states → (u : List Symbol) (n : ℕ) → IsLive g start u → state_after states u ≡ Some n → HasRightItems g start u (states n) → (t : Token) (a : Action) → Allows (states n) t a ↔ IsLalrAction g start u t a
   allows_lalr holds u n live at h t (Shift x) = (λ v. (v.0, (edges_awaited h (Terminal x)).0 v.1), λ v. (v.0, (edges_awaited h (Terminal x)).1 v.1))
   allows_lalr holds u n live at h t (Reduce p) = (
@@ -26,7 +27,7 @@ module _ (g : List Production) (start : NonterminalString) (states : ℕ → Con
         (f.0, f.1, f.2, (holds u n live at f.0 f.1 t).1 (subst (λ (q : Production). IsLalrToken g start u q (length q.symbols) t) (sym f.2) l)),
   )
 
-  -- so they are faithful where the grammar is LALR(1)
+  -- if the grammar is LALR(1), the states are faithful
   pub lalr_faithful : HoldLalrTokens g start states → IsLALR1 g start → AreFaithful g start states
   lalr_faithful holds lalr u live =
       let s = lr0.each u live in
@@ -41,12 +42,12 @@ module _ (g : List Production) (start : NonterminalString) (states : ℕ → Con
         };
       }
 
-  -- the token of an LALR action can stand next
+  -- the token of an LALR action can be the next token
   lalr_stands : (u : List Symbol) (t : Token) (a : Action) → IsLalrAction g start u t a → CanStandNext t
   lalr_stands u t (Shift x) h = subst CanStandNext (sym h.0) tt
   lalr_stands u t (Reduce p) h = token_stands h.valid
 
-  -- and faithful only there
+  -- if the states are faithful, the grammar is LALR(1)
   pub faithful_lalr : HoldLalrTokens g start states → AreFaithful g start states → IsLALR1 g start
   faithful_lalr holds f u live t a b j k =
       let s = lr0.each u live in
@@ -56,13 +57,13 @@ module _ (g : List Production) (start : NonterminalString) (states : ℕ → Con
       (subst (λ n. Allows (states n) t a) (sym e) ((allows_lalr holds u s.number live s.after s.right t a).1 j))
       (subst (λ n. Allows (states n) t b) (sym e) ((allows_lalr holds u s.number live s.after s.right t b).1 k))
 
-  -- without a conflict in the state after a live prefix the grammar is LALR(1)
+  -- if no state after a live prefix has a conflict, the grammar is LALR(1)
   pub no_conflict_lalr : HoldLalrTokens g start states → ((u : List Symbol) (n : ℕ) → IsLive g start u → state_after states u ≡ Some n → HasNoConflict (states n)) → IsLALR1 g start
   no_conflict_lalr holds none u live t a b j k =
       let s = lr0.each u live in
       no_conflict_one (states s.number) (none u s.number live s.after) t a b ((allows_lalr holds u s.number live s.after s.right t a).1 j) ((allows_lalr holds u s.number live s.after s.right t b).1 k)
 
-  -- and where it is there is none
+  -- if the grammar is LALR(1), no state after a live prefix has a conflict
   pub lalr_no_conflict : HoldLalrTokens g start states → IsLALR1 g start → (u : List Symbol) (n : ℕ) → IsLive g start u → state_after states u ≡ Some n → HasNoConflict (states n)
   lalr_no_conflict holds lalr u n live at =
       let s = lr0.each u live in

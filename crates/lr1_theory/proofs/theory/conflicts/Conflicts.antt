@@ -1,4 +1,6 @@
--- A grammar is LR(1) exactly where no live prefix has a canonical conflict; a prefix has one list of them; and that is the list of the canonical state after it: from the orders of terminals and productions.
+-- A grammar is LR(1) exactly if no live prefix has a canonical conflict. A prefix has exactly one
+-- list of canonical conflicts, which is that of the canonical state after it.
+-- The proofs use the orders of terminals and productions.
 use Rattle.std.proofs.Common.{◌≡◌, ◌↔◌, inl, inr, ℕ, true, List, [], sym, subst, refl, ap, ◌∙◌, Some}
 use Rattle.std.specs.Prelude.{Contains, slice_get}
 use Rattle.std.specs.declared.cmp.Ordering.{Ordering}
@@ -18,27 +20,27 @@ use Rattle.lalrpop_collections.proofs.theory.lists.Ascending.{ascending_same}
 use Rattle.lr1_theory.proofs.theory.closures.Canonical.{allows_valid}
 use Rattle.lalrpop_states.proofs.theory.states.HeldTokens.{same_test}
 
--- an answer that is Less
+-- the ordering is Less
 abbrev IsLessAnswer : Ordering → Type 0
 IsLessAnswer Less = Unit {0}
 IsLessAnswer Equal = ⊥
 IsLessAnswer Greater = ⊥
 
--- nothing is less than what is less than it
+-- if x is less than y, then y is not less than x
 pub less_asymmetric : {X : Type 0} (order : X → X → Ordering) → IsOrder order → (x y : X) → IsLess order x y → IsLess order y x → ⊥
 less_asymmetric order o x y l m = subst IsLessAnswer (sym m ∙ o.turned_back x y l) tt
 
--- an action that is a reduction
+-- the action is a reduction
 abbrev IsReduce : Action → Type 0
 IsReduce (Reduce q) = Unit {0}
 IsReduce (Shift x) = ⊥
 
--- the production of a reduction, else the one given
+-- the production of the action if it is a reduction, and otherwise the given one
 abbrev production_of : Production → Action → Production
 production_of p (Reduce q) = q
 production_of p (Shift x) = p
 
--- without a conflict a grammar is LR(1)
+-- a grammar without a canonical conflict is LR(1)
 pub no_conflict_lr1 : (order : Production → Production → Ordering) → IsOrder order → (g : List Production) (start : NonterminalString) → HasNoCanonicalConflict order g start → IsLR1 g start
 no_conflict_lr1 order o g start none u t (Shift x) (Shift y) h k = ap (λ s. Shift (terminal_in x s)) (sym h.0 ∙ k.0)
 no_conflict_lr1 order o g start none u t (Shift x) (Reduce p) h k = absurd (none u (action_live t (Reduce p) k) p (Shift x) t (h.0, h, k))
@@ -50,20 +52,20 @@ no_conflict_lr1 order o g start none u t (Reduce p) (Reduce q) h k = go (order p
     go Equal e = ap Reduce (o.ties p q e)
     go Greater e = absurd (none u (action_live t (Reduce p) h) q (Reduce p) t (o.turned p q e, k, h))
 
--- and the other way round
+-- an LR(1) grammar has no canonical conflict
 pub lr1_no_conflict : (order : Production → Production → Ordering) → IsOrder order → (g : List Production) (start : NonterminalString) → IsLR1 g start → HasNoCanonicalConflict order g start
 lr1_no_conflict order o g start lr u live p (Shift x) t h = subst IsReduce (lr u t (Reduce p) (Shift x) h.2 h.1) tt
 lr1_no_conflict order o g start lr u live p (Reduce q) t h =
     let less : IsLess order p p = ap (order p) (ap (production_of p) (lr u t (Reduce p) (Reduce q) h.1 h.2)) ∙ h.0 in
     less_asymmetric order o p p less less
 
--- of a conflict each production and each action is taken on a token
+-- the reduction and the action of a conflict on a token are both taken on it
 taken : (before : Production → Production → Type 0) (takes : Token → Action → Type 0) (p : Production) (a : Action) (t : Token) → IsInConflict before takes p a t → takes t (Reduce p) × takes t a
 taken before takes p (Shift x) t h = (h.2, h.1)
 taken before takes p (Reduce q) t h = (h.1, h.2)
 
 module _ (below : TerminalString → TerminalString → Type 0) (before : Production → Production → Type 0) (takes : Token → Action → Type 0) where
-  -- what stands before another does not stand behind it
+  -- if a conflict precedes another, the other does not precede it
   precedes_asymmetric : ((x y : TerminalString) → below x y → below y x → ⊥) → ((p q : Production) → before p q → before q p → ⊥) → (p q : Production) (a b : Action) → ActionPrecedes below before p q a b → ActionPrecedes below before q p b a → ⊥
   precedes_asymmetric terminals productions p q (Shift x) (Shift y) (inl h) (inl k) = terminals x y h k
   precedes_asymmetric terminals productions p q (Shift x) (Shift y) (inl h) (inr k) = let l : below x x = subst (below x) k.0 h in terminals x x l l
@@ -76,7 +78,7 @@ module _ (below : TerminalString → TerminalString → Type 0) (before : Produc
   precedes_asymmetric terminals productions p q (Reduce a) (Reduce b) (inr h) (inl k) = let l : before q q = subst (before q) h.0 k in productions q q l l
   precedes_asymmetric terminals productions p q (Reduce a) (Reduce b) (inr h) (inr k) = productions a b h.1 k.1
 
-  -- conflicts of one production and one action are one
+  -- conflicts of the same production and the same action are the same
   same_conflict : (c d : ConflictContents) → IsConflict before takes c → IsConflict before takes d → c.production ≡ d.production → c.action ≡ d.action → c ≡ d
   same_conflict c d h k e f = λ i. record { production = e i; action = f i; lookahead = λ t. tests t i }
     where
@@ -92,14 +94,14 @@ module _ (below : TerminalString → TerminalString → Type 0) (before : Produc
         λ x. (h.exact t).1 ((moved t).1 ((k.exact t).0 x)),
       )
 
-  -- what one list of all conflicts has, another has
+  -- a conflict in one list of all conflicts is in any other such list
   listed_in : (cs ds : List ConflictContents) → AreConflicts below before takes cs → AreConflicts below before takes ds → (c : ConflictContents) → Contains cs c → Contains ds c
   listed_in cs ds h k c i =
       let is = h.each c i in
       let d = k.all c.production c.action (is.some).0 ((is.exact (is.some).0).0 (is.some).1) in
       subst (Contains ds) (same_conflict d.0 c (k.each d.0 d.1) is d.2 d.3) d.1
 
-  -- there is one list of all conflicts
+  -- there is at most one list of all conflicts
   pub one_list : ((x y : TerminalString) → below x y → below y x → ⊥) → ((p q : Production) → before p q → before q p → ⊥) → (cs ds : List ConflictContents) → AreConflicts below before takes cs → AreConflicts below before takes ds → cs ≡ ds
   one_list terminals productions cs ds h k =
       ascending_same
@@ -107,7 +109,7 @@ module _ (below : TerminalString → TerminalString → Type 0) (before : Produc
       (λ c d. precedes_asymmetric terminals productions c.production d.production c.action d.action)
       cs ds h.ascending k.ascending (listed_in cs ds h k) (listed_in ds cs k h)
 
--- the conflicts of two that take the same, and have the reductions that they take in the same order
+-- two tables that take the same actions, and have the reductions that they take in the same order
 module _ (below : TerminalString → TerminalString → Type 0) (before after : Production → Production → Type 0) (takes gives : Token → Action → Type 0) (alike : (t : Token) (a : Action) → takes t a ↔ gives t a)
     (ordered : (t s : Token) (p q : Production) → takes t (Reduce p) → takes s (Reduce q) → before p q ↔ after p q) where
   -- the same tokens are in conflict
@@ -121,7 +123,7 @@ module _ (below : TerminalString → TerminalString → Type 0) (before after : 
     λ h. let i = (alike t (Reduce p)).1 h.1 in let j = (alike t (Reduce q)).1 h.2 in ((ordered t t p q i j).1 h.0, i, j),
   )
 
-  -- conflicts precede one another alike
+  -- conflicts precede one another in the same order
   precede_alike : (t s : Token) (p q : Production) (a b : Action) → takes t (Reduce p) × takes t a → takes s (Reduce q) × takes s b → ActionPrecedes below before p q a b → ActionPrecedes below after p q a b
   precede_alike t s p q (Shift x) (Shift y) h k (inl l) = inl l
   precede_alike t s p q (Shift x) (Shift y) h k (inr l) = inr (l.0, (ordered t s p q h.0 k.0).0 l.1)
@@ -130,7 +132,7 @@ module _ (below : TerminalString → TerminalString → Type 0) (before after : 
   precede_alike t s p q (Reduce a) (Reduce b) h k (inl l) = inl ((ordered t s p q h.0 k.0).0 l)
   precede_alike t s p q (Reduce a) (Reduce b) h k (inr l) = inr (l.0, (ordered t s a b h.1 k.1).0 l.1)
 
-  -- so their lists are the same
+  -- both have the same list of conflicts
   pub conflicts_alike : (cs : List ConflictContents) → AreConflicts below before takes cs → AreConflicts below after gives cs
   conflicts_alike cs h = record {
     each = λ c i.
@@ -149,13 +151,13 @@ module _ (below : TerminalString → TerminalString → Type 0) (before after : 
         (h.ascending i j c d l e f);
   }
 
--- a prefix has one list of canonical conflicts
+-- a prefix has at most one list of canonical conflicts
 pub one_list_of_conflicts :
     (terminals : TerminalString → TerminalString → Ordering) (productions : Production → Production → Ordering) → IsOrder terminals → IsOrder productions → (g : List Production) (start : NonterminalString) (u : List Symbol) (cs ds : List ConflictContents) →
     AreCanonicalConflicts terminals productions g start u cs → AreCanonicalConflicts terminals productions g start u ds → cs ≡ ds
 one_list_of_conflicts terminals productions o m g start u = one_list (IsLess terminals) (IsLess productions) (IsValidAction g start u) (less_asymmetric terminals o) (less_asymmetric productions m)
 
--- of ascending reductions one stands before another exactly where its production is less
+-- a reduction in an ascending list is before another exactly if its production is less
 stands_less :
     (order : Production → Production → Ordering) → IsOrder order → (s : Contents) → ReducesInOrder order s → (t v : Token) (p q : Production) → Allows s t (Reduce p) → Allows s v (Reduce q) →
     StandsBefore s.reductions p q ↔ IsLess order p q
@@ -196,7 +198,7 @@ state_conflicts terminals productions o g start states tokens canonical u n at a
     alike : (t : Token) (a : Action) → Allows (states n) t a ↔ IsValidAction g start u t a
     alike = allows_valid g start states tokens canonical u n at
 
--- no conflict is listed of a state exactly where it has none
+-- the list of conflicts of a state is empty exactly if the state has none
 pub empty_list : (terminals : TerminalString → TerminalString → Ordering) (s : Contents) → HasNoRepeat s.reductions → AreConflictsOf terminals s [] ↔ HasNoConflict s
 empty_list terminals s once = (to, from)
   where
@@ -211,7 +213,7 @@ empty_list terminals s once = (to, from)
           )).1);
     }
 
-    -- the reduction by a production stands at one place
+    -- reductions by the same production are the same
     same_place : (i j : ℕ) (r q : Reduction) → slice_get s.reductions i ≡ Some r → slice_get s.reductions j ≡ Some q → r.production ≡ q.production → r ≡ q
     same_place i j r q e f k = elim (cases_order i j) [
       | inl same ↦ same_some (sym e ∙ ap (slice_get s.reductions) same ∙ f)

@@ -1,4 +1,5 @@
--- The grammar S = A B; A = "x"; B = () | "y" and its five states pass the check, so that they are faithful: by going through the rows.
+-- The five states of the grammar S = A B; A = "x"; B = () | "y" are closed. The proofs go through
+-- the rows.
 use Rattle.std.proofs.Common.{◌≡◌, ◌↔◌, ℕ, zero, suc, Bool, true, false, List, [], ◌∷◌, drop, sym, subst, refl, ap, Some, arith}
 use Rattle.std.specs.Prelude.{Contains}
 use Rattle.lr1_theory.proofs.Types.{NonterminalString, Production, Symbol, TerminalString, Token}
@@ -73,12 +74,12 @@ rows (suc (suc (suc (suc (suc n))))) = record { items = []; shifts = []; gotos =
 abbrev pub states : ℕ → Contents
 states n = state_of (rows n)
 
--- the first byte of a name, which tells the three apart
+-- the first byte of a name, which differs for the three names
 abbrev first_byte : List ℕ → ℕ
 first_byte [] = 0
 first_byte (c ∷ w) = c
 
--- equal names begin alike
+-- equal names have equal first bytes
 bytes : {a b : NonterminalString} → a ≡ b → first_byte a.text ≡ first_byte b.text
 bytes e = ap (λ (a : NonterminalString). first_byte a.text) e
 
@@ -94,15 +95,15 @@ S≢B e = let h : 83 ≡ 66 = bytes e in omega (arith, h)
 pub A≢B : A ≡ B → ⊥
 A≢B e = let h : 65 ≡ 66 = bytes e in omega (arith, h)
 
--- 0 is no number above it
+-- 0 is not a number above 0
 zero≢more : (n : ℕ) → 0 ≡ suc n → ⊥
 zero≢more n e = omega (arith, e)
 
--- and 1 is not 2
+-- 1 is not 2
 one≢two : ◌≡◌ {A = ℕ} 1 2 → ⊥
 one≢two e = omega (arith, e)
 
--- the symbols behind the dots of each row lead on, and no others
+-- the symbols that lead from each row are exactly those after its dots
 pub edges : (n : ℕ) → LeadsOverDots (states n)
 edges zero = row_edges (rows 0) ((at (PA, 0) (1, omega arith, refl) [] refl, tt), (at (PS, 0) (0, omega arith, refl) (Nonterminal B ∷ []) refl, tt)) ((1, refl), ((2, refl), tt))
   where
@@ -117,7 +118,7 @@ edges (suc (suc (suc zero))) = row_edges (rows 3) (tt, tt) (tt, tt)
 edges (suc (suc (suc (suc zero)))) = row_edges (rows 4) (tt, tt) (tt, tt)
 edges (suc (suc (suc (suc (suc n))))) = row_edges (rows (suc (suc (suc (suc (suc n)))))) (tt, tt) tt
 
--- each row's reductions are its finished dotted productions
+-- the reductions of each row are its finished dotted productions
 pub reductions : (n : ℕ) → ReducesFinished (states n)
 reductions zero = row_reductions (rows 0) tt ((λ e. absurd (zero≢more 1 e)), ((λ e. absurd (zero≢more 0 e)), tt)) none_repeats
 reductions (suc zero) =
@@ -142,7 +143,7 @@ first =
         (each_at (λ q. q.nonterminal ≡ S → Contains (rows 0).items (q, 0)) g
         ((λ e. (0, omega arith, refl)), ((λ e. absurd (S≢A (sym e))), ((λ e. absurd (S≢B (sym e))), ((λ e. absurd (S≢B (sym e))), tt)))) p k.1 k.2)
 
--- each target is the closure of what was moved to it
+-- each target is the closure of the dotted productions that were moved to it
 pub next : (n m : ℕ) (z : Symbol) → leads (states n) z ≡ Some m → (p : Production) (dot : ℕ) → items_of states m p dot ↔ InClosure g (IsMoved (items_of states n) z) p dot
 next zero m z e = edge_at (rows 0) (λ z m. (p : Production) (dot : ℕ) → items_of states m p dot ↔ InClosure g (IsMoved (items_of states 0) z) p dot) ((over_x, tt), (over_A, tt)) z m e
   where

@@ -1,4 +1,5 @@
--- The grammar S = "x" and its two states meet the definitions: they pass the check, so they are faithful: by cases on what is listed.
+-- The grammar S = "x" and its two states meet the definitions. The states pass the check, so that
+-- they are faithful. The proofs are by cases on the listed items.
 use Rattle.std.proofs.Common.{◌≡◌, ◌↔◌, ℕ, zero, suc, Bool, true, false, cond, List, [], ◌∷◌, drop, sym, subst, refl, ap, ◌∙◌, length, Option, Some, None, arith, ◌<◌}
 use Rattle.std.specs.Prelude.{Contains, slice_get, eqb}
 use Rattle.std.proofs.lemmas.Bool.{eqb-true}
@@ -36,7 +37,7 @@ is_x [] = false
 is_x (c ∷ []) = eqb c 120
 is_x (c ∷ d ∷ w) = false
 
--- what x gives, and no other terminal
+-- the target of a shift of x, and none for another terminal
 abbrev pub only : TerminalString → Option ℕ
 only (Literal w) = cond (is_x w) (Some 1) None
 only (Bare w) = None
@@ -52,13 +53,13 @@ at_eof (TokenOf t) = false
 abbrev pub reduction : Reduction
 reduction = record { production = P; holds = at_eof }
 
--- state 0 shifts x to state 1, which reduces on Eof; there are no others
+-- the states: state 0 shifts x to state 1, which reduces on Eof
 abbrev pub states : ℕ → Contents
 states zero = record { items = (P, 0) ∷ []; shift = only; goto = λ a. None; reductions = [] }
 states (suc zero) = record { items = (P, 1) ∷ []; shift = λ t. None; goto = λ a. None; reductions = reduction ∷ [] }
 states (suc (suc n)) = record { items = []; shift = λ t. None; goto = λ a. None; reductions = [] }
 
--- only x leads on, to state 1
+-- x is the only terminal that is shifted, to state 1
 pub only_x : (t : TerminalString) (m : ℕ) → only t ≡ Some m → (x ≡ t) × (1 ≡ m)
 only_x (Literal []) m e = absurd (some≢none (sym e))
 only_x (Literal (c ∷ [])) m e = go (eqb c 120) refl e
@@ -70,7 +71,7 @@ only_x (Literal (c ∷ d ∷ w)) m e = absurd (some≢none (sym e))
 only_x (Bare w) m e = absurd (some≢none (sym e))
 only_x Error m e = absurd (some≢none (sym e))
 
--- only the edge by x from state 0 to state 1 is there
+-- the edge over x from state 0 to state 1 is the only one
 pub leads_is : (n m : ℕ) (y : Symbol) → leads (states n) y ≡ Some m → (0 ≡ n) × (Terminal x ≡ y) × (1 ≡ m)
 leads_is zero m (Nonterminal a) e = absurd (some≢none (sym e))
 leads_is zero m (Terminal t) e = let o = only_x t m e in (refl, ap Terminal o.0, o.1)
@@ -79,23 +80,23 @@ leads_is (suc zero) m (Terminal t) e = absurd (some≢none (sym e))
 leads_is (suc (suc n)) m (Nonterminal a) e = absurd (some≢none (sym e))
 leads_is (suc (suc n)) m (Terminal t) e = absurd (some≢none (sym e))
 
--- what stands behind a dot of an item
+-- the symbols after the dot of an item
 abbrev behind_of : Production × ℕ → List Symbol
 behind_of z = drop z.1 (z.0).symbols
 
--- the closure of the start holds the start alone
+-- the closure of the start has the start item alone
 only_first : {p : Production} {dot : ℕ} → InClosure g (IsAtStart g S) p dot → ◌≡◌ {A = Production × ℕ} (P, 0) (p, dot)
 only_first (in_kernel k) = λ i. (only_one P _ k.1 i, sym k.0 i)
 only_first (expanded q after c e h) = absurd (not_both (sym (head-eq_of_cons-eq (ap behind_of (only_first c) ∙ e))))
 
--- and what is moved over a symbol from state 0 has nothing behind it
+-- the closure of the items that are moved from state 0 has one item, with its dot at the end
 only_moved : (y : Symbol) {p : Production} {dot : ℕ} → InClosure g (IsMoved (items_of states 0) y) p dot → ◌≡◌ {A = Production × ℕ} (P, 1) (p, dot)
 only_moved y {p} (in_kernel k) =
     let e = only_one (P, 0) (p, k.before) k.item in
     (λ i. ((e i).0, suc (e i).1)) ∙ (λ i. (p, sym k.moved i))
 only_moved y (expanded q after c e h) = absurd (nil≢cons (ap behind_of (only_moved y c) ∙ e))
 
--- the symbols behind the dots of each state are those that lead on
+-- the symbols that lead from each state are exactly those after its dots
 edges : (n : ℕ) → LeadsOverDots (states n)
 edges n y = (λ h. to n h.0 (leads_is n h.0 y h.1), from n)
   where
@@ -130,18 +131,18 @@ closed = record {
     next : (n m : ℕ) (y : Symbol) → 0 ≡ n → Terminal x ≡ y → 1 ≡ m → (p : Production) (dot : ℕ) → items_of states m p dot ↔ InClosure g (IsMoved (items_of states n) y) p dot
     next n m y e k l p dot = subst (λ i. items_of states m p dot ↔ InClosure g (IsMoved (items_of states i) y) p dot) e (subst (λ i. items_of states i p dot ↔ InClosure g (IsMoved (items_of states 0) y) p dot) l (moved y k p dot))
 
--- the start symbol stands on no right side
+-- the start symbol is on no right side
 pub alone : IsOnNoRightSide g S
 alone p h c = not_both (sym (only_one (Terminal x) (Nonterminal S) (subst (λ (q : Production). Contains q.symbols (Nonterminal S)) (sym (only_one P p h)) c)))
 
--- the dot of the production stands at its end in state 1 alone
+-- the dot of the production is not at its end in state 0
 whole_dot : (p : Production) → ◌≡◌ {A = Production × ℕ} (P, 0) (p, length p.symbols) → ⊥
 whole_dot p e =
     let a : 0 ≡ length p.symbols = ap (λ (z : Production × ℕ). z.1) e in
     let b : 1 ≡ length p.symbols = ap (λ (z : Production × ℕ). length (z.0).symbols) e in
     omega (arith, a, b)
 
--- each state's reductions are its finished dotted productions
+-- the reductions of each state are its finished dotted productions
 pub reductions : (n : ℕ) → ReducesFinished (states n)
 reductions zero = record { finished = λ p. (λ h. absurd (contains-nil h.1), λ c. absurd (whole_dot p (only_one (P, 0) (p, length p.symbols) c))); once = λ i j a b l e f k. some≢none (sym e) }
 reductions (suc zero) = record {
@@ -155,7 +156,7 @@ reductions (suc zero) = record {
 }
 reductions (suc (suc n)) = record { finished = λ p. (λ h. absurd (contains-nil h.1), λ c. absurd (contains-nil c)); once = λ i j a b l e f k. some≢none (sym e) }
 
--- no nonterminal stands behind a dot of the production
+-- no nonterminal is after a dot of the production
 pub no_nonterminal : (p : Production) (dot : ℕ) (a : NonterminalString) (after : List Symbol) → P ≡ p → drop dot p.symbols ≡ Nonterminal a ∷ after → ⊥
 no_nonterminal p dot a after e k = go dot (ap (λ (q : Production). drop dot q.symbols) e ∙ k)
   where
@@ -196,6 +197,6 @@ checked = record { closed = closed; reductions = reductions; carried = carried; 
     carried (suc zero) r t h c = ap (λ s. r.holds s) (sym (only_eof c).1) ∙ ap (λ (q : Reduction). q.holds Eof) (sym (only_one reduction r h))
     carried (suc (suc n)) r t h c = absurd (contains-nil h)
 
--- so they are faithful
+-- the states are faithful
 pub faithful : AreFaithful g S states
 faithful = checked_faithful g S states checked

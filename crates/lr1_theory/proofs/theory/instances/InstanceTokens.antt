@@ -1,4 +1,5 @@
--- The states of S = "x" are canonical and LR(0) states that hold their lane tokens, so that the grammar is LR(1) and LALR(1): by cases on what is listed, and by the theory.
+-- The states of S = "x" are canonical, and they are LR(0) states that hold their lane tokens. So
+-- the grammar is LR(1) and LALR(1). The proofs are by cases on the listed items, and by the theory.
 use Rattle.std.proofs.Common.{◌≡◌, ◌↔◌, ℕ, zero, suc, Bool, true, false, cond, true≢false, List, [], ◌∷◌, sym, subst, refl, ap, ◌∙◌, length, inr}
 use Rattle.std.specs.Prelude.{Contains, eqb}
 use Rattle.std.proofs.lemmas.Bool.{eqb-true}
@@ -20,11 +21,11 @@ use Rattle.lr1_theory.proofs.theory.collapse.LalrStates.{faithful_lalr}
 use Rattle.lr1_theory.proofs.theory.instances.Instance.{S, x, P, g, is_x, at_eof, reduction, states, leads_is, closed, alone, reductions, no_nonterminal, faithful}
 use Rattle.lalrpop_grammar.proofs.theory.first.FirstUses.{only_one}
 
--- both of two tests
+-- whether both of two tests are true
 abbrev pub both : Bool → Bool → Bool
 both b c = cond b c false
 
--- where both are true, each is
+-- each of two tests is true if both are
 both_true : (b c : Bool) → both b c ≡ true → (b ≡ true) × (c ≡ true)
 both_true true c e = (refl, e)
 both_true false c e = absurd (true≢false (sym e))
@@ -35,7 +36,7 @@ is_S [] = false
 is_S (c ∷ []) = eqb c 83
 is_S (c ∷ d ∷ w) = false
 
--- whether a right side is that of the production
+-- whether the symbols are the right side of the production
 abbrev pub is_right : List Symbol → Bool
 is_right [] = false
 is_right (Nonterminal a ∷ l) = false
@@ -48,19 +49,19 @@ is_right (Terminal (Literal w) ∷ y ∷ l) = false
 abbrev pub is_P : Production → Bool
 is_P q = both (is_S (q.nonterminal).text) (both (is_right q.symbols) (both (eqb (q.action).0 0) (both (eqb (q.span).0 0) (eqb (q.span).1 7))))
 
--- a text that is "S"
+-- a text that passes the test is "S"
 S_text : (w : List ℕ) → is_S w ≡ true → 83 ∷ [] ≡ w
 S_text [] e = absurd (true≢false (sym e))
 S_text (c ∷ []) e = ap (λ d. d ∷ []) (sym (eqb-true c 83 e))
 S_text (c ∷ d ∷ w) e = absurd (true≢false (sym e))
 
--- a text that is "x"
+-- a text that passes the test is "x"
 x_text : (w : List ℕ) → is_x w ≡ true → 120 ∷ [] ≡ w
 x_text [] e = absurd (true≢false (sym e))
 x_text (c ∷ []) e = ap (λ d. d ∷ []) (sym (eqb-true c 120 e))
 x_text (c ∷ d ∷ w) e = absurd (true≢false (sym e))
 
--- a right side that is that of the production
+-- symbols that pass the test are the right side of the production
 right_symbols : (l : List Symbol) → is_right l ≡ true → Terminal x ∷ [] ≡ l
 right_symbols [] e = absurd (true≢false (sym e))
 right_symbols (Nonterminal a ∷ l) e = absurd (true≢false (sym e))
@@ -69,7 +70,7 @@ right_symbols (Terminal (Bare w) ∷ l) e = absurd (true≢false (sym e))
 right_symbols (Terminal (Literal w) ∷ []) e = ap (λ v. Terminal (Literal v) ∷ []) (x_text w e)
 right_symbols (Terminal (Literal w) ∷ y ∷ l) e = absurd (true≢false (sym e))
 
--- a production that is that of the grammar
+-- a production that passes the test is that of the grammar
 is_P_true : (q : Production) → is_P q ≡ true → P ≡ q
 is_P_true q e =
     let a = both_true (is_S (q.nonterminal).text) (both (is_right q.symbols) (both (eqb (q.action).0 0) (both (eqb (q.span).0 0) (eqb (q.span).1 7)))) e in
@@ -83,36 +84,37 @@ is_P_true q e =
     let to : 7 ≡ (q.span).1 = sym (eqb-true (q.span).1 7 d.1) in
     λ i. record { nonterminal = record { text = name i }; symbols = symbols i; action = record { 0 = action i }; span = record { 0 = from i; 1 = to i } }
 
--- a token that is Eof
+-- a token that passes the test is Eof
 eof_true : (t : Token) → at_eof t ≡ true → Eof ≡ t
 eof_true Eof e = refl
 eof_true ErrorToken e = absurd (true≢false (sym e))
 eof_true (TokenOf t) e = absurd (true≢false (sym e))
 
--- the one dotted production of states 0 and 1, with Eof
+-- whether a state has the dotted production with the token: states 0 and 1 have one each, with Eof
 abbrev pub tokens : ℕ → Production → ℕ → Token → Bool
 tokens zero p dot t = both (is_P p) (both (eqb dot 0) (at_eof t))
 tokens (suc zero) p dot t = both (is_P p) (both (eqb dot 1) (at_eof t))
 tokens (suc (suc n)) p dot t = false
 
--- what these tests say
+-- a dotted production and token that pass the tests are the one of the state, with Eof
 pub token_is : (k : ℕ) (p : Production) (dot : ℕ) (t : Token) → both (is_P p) (both (eqb dot k) (at_eof t)) ≡ true → (P ≡ p) × (k ≡ dot) × (Eof ≡ t)
 token_is k p dot t e =
     let a = both_true (is_P p) (both (eqb dot k) (at_eof t)) e in
     let b = both_true (eqb dot k) (at_eof t) a.1 in
     (is_P_true p a.0, sym (eqb-true dot k b.0), eof_true t b.1)
 
--- a fact of the one dotted production and Eof holds of what equals them
+-- a property of the one dotted production with Eof is one of a dotted production and token that
+-- equal them
 along : (Q : Production → ℕ → Token → Type 0) (k : ℕ) (p : Production) (dot : ℕ) (t : Token) → (P ≡ p) × (k ≡ dot) × (Eof ≡ t) → Q P k Eof → Q p dot t
 along Q k p dot t e h = subst (λ s. Q p dot s) e.2 (subst (λ d. Q p d Eof) e.1 (subst (λ q. Q q k Eof) e.0 h))
 
--- what the token closure of state 0 holds
+-- the tokens of the closure of state 0 are Eof alone, on its one dotted production
 first_token : {p : Production} {dot : ℕ} {t : Token} → InTokenClosure g (items_of states 0) (IsAtStartWith g S) p dot t → (P ≡ p) × (0 ≡ dot) × (Eof ≡ t)
 first_token (with_token k) = (only_one P _ k.0.1, sym k.0.0, sym k.1)
 first_token (begins_rest {p} {dot} q after i e h f) = absurd (no_nonterminal p dot q.nonterminal after (ap (λ (z : Production × ℕ). z.0) (only_one (P, 0) (p, dot) i)) e)
 first_token (inherits {p} {dot} q after c e h n) = absurd (no_nonterminal p dot q.nonterminal after (first_token c).0 e)
 
--- and that of state 1
+-- the tokens of the closure of state 1 are Eof alone, on its one dotted production
 moved_token : (y : Symbol) {p : Production} {dot : ℕ} {t : Token} → InTokenClosure g (items_of states 1) (IsMovedWith (λ q d s. tokens 0 q d s ≡ true) y) p dot t → (P ≡ p) × (1 ≡ dot) × (Eof ≡ t)
 moved_token y {p} {dot} {t} (with_token k) = let e = token_is 0 p k.before t k.token in (e.0, ap suc e.1 ∙ sym k.moved, e.2)
 moved_token y (begins_rest {p} {dot} q after i e h f) = absurd (no_nonterminal p dot q.nonterminal after (ap (λ (z : Production × ℕ). z.0) (only_one (P, 1) (p, dot) i)) e)
@@ -152,15 +154,15 @@ canonical = record {
 pub lr1 : IsLR1 g S
 lr1 = faithful_lr1 g S states faithful
 
--- there is one target, so kernels do not repeat
+-- kernels do not repeat, since there is one target
 pub kernels : KernelsDiffer states
 kernels k l n m y z e f same = sym (leads_is k n y e).2 ∙ (leads_is l m z f).2
 
--- with tokens neither
+-- kernels with tokens do not repeat
 pub token_kernels : TokenKernelsDiffer states (λ n p dot t. tokens n p dot t ≡ true)
 token_kernels k l n m y z e f same tokens = sym (leads_is k n y e).2 ∙ (leads_is l m z f).2
 
--- so the states are LR(0) states
+-- the states are LR(0) states
 pub lr0 : AreLr0 g S states
 lr0 = closed_lr0 g S states closed reductions kernels (λ n m y e. subst (IsReached states) (leads_is n m y e).0 at_zero)
 
@@ -171,17 +173,17 @@ valid_eof (kept y after v e) = valid_eof v
 valid_eof (begins_behind {p = p} {dot = dot} q after v e h f) = absurd (no_nonterminal p dot q.nonterminal after (only_one P p (of_grammar v)) e)
 valid_eof (passed_on {p = p} {dot = dot} q after v e h n) = absurd (no_nonterminal p dot q.nonterminal after (valid_eof v).0 e)
 
--- it is valid behind the production's symbol
+-- Eof is valid after the symbol of the production
 whole_valid : ValidToken g S (Terminal x ∷ []) P 1 Eof
 whole_valid = kept (Terminal x) [] (at_start P (contains_head P []) refl) refl
 
--- and wherever something is valid
+-- Eof is valid with each valid dotted production
 valid_ends : {u : List Symbol} {p : Production} {dot : ℕ} → Valid g S u p dot → ValidToken g S u p dot Eof
 valid_ends (starts p h e) = at_start p h e
 valid_ends (shifts y after v e) = kept y after (valid_ends v) e
 valid_ends (expands {p = p} {dot = dot} q after v e h) = absurd (no_nonterminal p dot q.nonterminal after (only_one P p (of_grammar v)) e)
 
--- each reduction holds what tracing finds
+-- each reduction holds the tokens that tracing finds
 pub lane_tokens_held : HoldLaneTokens g S states
 lane_tokens_held zero r h t = absurd (contains-nil h)
 lane_tokens_held (suc zero) r h t = subst (λ (q : Reduction). (q.holds t ≡ true) ↔ IsLaneToken g S states 1 q.production (length (q.production).symbols) t) (only_one reduction r h) (there, back)
@@ -196,7 +198,7 @@ lane_tokens_held (suc zero) r h t = subst (λ (q : Reduction). (q.holds t ≡ tr
     back l = subst (λ s. at_eof s ≡ true) (valid_eof (found.0 l).valid).1 refl
 lane_tokens_held (suc (suc n)) r h t = absurd (contains-nil h)
 
--- and that are the LALR tokens
+-- each reduction holds its LALR tokens
 pub lalr_tokens_held : HoldLalrTokens g S states
 lalr_tokens_held u zero live at r h t = absurd (contains-nil h)
 lalr_tokens_held u (suc zero) live at r h t = subst (λ (q : Reduction). (q.holds t ≡ true) ↔ IsLalrToken g S u q.production (length (q.production).symbols) t) (only_one reduction r h) (there, back)
@@ -210,6 +212,6 @@ lalr_tokens_held u (suc zero) live at r h t = subst (λ (q : Reduction). (q.hold
     back l = subst (λ s. at_eof s ≡ true) (valid_eof l.valid).1 refl
 lalr_tokens_held u (suc (suc n)) live at r h t = absurd (contains-nil h)
 
--- so the grammar is LALR(1)
+-- the grammar is LALR(1)
 pub lalr1 : IsLALR1 g S
 lalr1 = faithful_lalr g S states lr0 lalr_tokens_held faithful

@@ -1,4 +1,6 @@
--- Tracing backwards over LR(0) states finds exactly the LALR tokens, with the start symbol on no right side: by induction on what is valid one way, and on the steps back the other.
+-- Tracing back over LR(0) states finds exactly the LALR tokens, if the start symbol is on no right
+-- side. One direction is by induction on the derivation that an item is valid, and the other on the
+-- steps back.
 use Rattle.std.proofs.Common.{◌≡◌, ℕ, suc, inl, inr, ◌↔◌, List, [], ◌∷◌, ◌++◌, drop, length, sym, subst, refl, ap, ◌∙◌, Some}
 use Rattle.lr1_theory.proofs.Types.{NonterminalString, Production, Symbol, Token}
 use Rattle.lalrpop_grammar.specs.declared.repr.Symbol.TheVariants.{Nonterminal, Terminal}
@@ -12,38 +14,38 @@ use Rattle.lalrpop_grammar.proofs.theory.states.RightStates.{edges_awaited, redu
 use Rattle.lalrpop_grammar.proofs.theory.runs.Steps.{state_from-more}
 use Rattle.lalrpop_grammar.proofs.theory.runs.Sentences.{contains_behind}
 
--- a moved dot comes of a shift over the prefix's last symbol
+-- the dotted production is valid for the prefix without its last symbol, which is after the dot
 pub record Shifted (g : List Production) (start : NonterminalString) (u : List Symbol) (x : Symbol) (p : Production) (dot : ℕ) : Type 0 where
   pub after : List Symbol
   pub valid : Valid g start u p dot
   pub behind : drop dot p.symbols ≡ x ∷ after
 
--- each moved dot does
+-- a valid dotted production whose dot is past the start was shifted over the last symbol
 pub unshift : {g : List Production} {start : NonterminalString} {w : List Symbol} {p : Production} {dot : ℕ} (u : List Symbol) (x : Symbol) → w ≡ u ++ x ∷ [] → Valid g start w p (suc dot) → Shifted g start u x p dot
 unshift {g} {start} {dot = dot} u x e (shifts {u = v} {p = p} y after h k) =
     let same = same_last v u e in
     record { after = after; valid = subst (λ l. Valid g start l p dot) same.0 h; behind = k ∙ ap (λ z. z ∷ after) same.1 }
 
--- what a step back leads to, the pair leads to
+-- a lane token after a step back is a lane token before it
 pub traced_back : (g : List Production) (start : NonterminalString) (states : ℕ → Contents) {s r : ℕ} {p q : Production} {dot e : ℕ} {t : Token} → LeadsBack g states s p dot r q e → IsLaneToken g start states r q e t → IsLaneToken g start states s p dot t
 traced_back g start states b k = (k.0, record { production = (k.1).production; index = (k.1).index; traced = back b (k.1).traced; gives = (k.1).gives })
 
--- and what a pair gives is found there
+-- a token that a pair gives is a lane token of it
 pub given_there : (g : List Production) (start : NonterminalString) (states : ℕ → Contents) {s : ℕ} {p : Production} {dot : ℕ} {t : Token} → Gives g start states s p dot t → IsLaneToken g start states s p dot t
 given_there g start states {s} {p} {dot} h = (s, record { production = p; index = dot; traced = itself; gives = h })
 
 module _ (g : List Production) (start : NonterminalString) (states : ℕ → Contents) (lr0 : AreLr0 g start states) where
-  -- the state after a live prefix is right for it but for tokens
+  -- the state after a live prefix has the right items for it
   pub items_at : (u : List Symbol) (n : ℕ) → IsLive g start u → state_after states u ≡ Some n → HasRightItems g start u (states n)
   items_at u n l e =
       let r = lr0.each u l in
       subst (λ k. HasRightItems g start u (states k)) (same_some (sym r.after ∙ e)) r.right
 
-  -- a prefix for which something is valid is live
+  -- a prefix is live if a dotted production is valid for it
   pub valid_live : {u : List Symbol} {p : Production} {dot : ℕ} → Valid g start u p dot → IsLive g start u
   valid_live {p = p} {dot = dot} v = inr (p, dot, v)
 
-  -- each valid token is found
+  -- tracing back finds each valid token
   pub token_traced : {u : List Symbol} {p : Production} {dot : ℕ} {t : Token} → ValidToken g start u p dot t → (s : ℕ) → state_after states u ≡ Some s → IsLaneToken g start states s p dot t
   token_traced (at_start p h e) s at = given_there g start states (of_start s p e)
   token_traced (kept {u} {p} {dot} x after v e) s at =
@@ -57,13 +59,13 @@ module _ (g : List Production) (start : NonterminalString) (states : ℕ → Con
   token_traced (passed_on {u} {p} {dot} q after v e h n) s at =
       traced_back g start states (to_parent s q p dot after (((items_at u s (valid_live (valid v)) at).items p dot).1 (valid v)) e n) (token_traced v s at)
 
-  -- a token found is valid for some prefix of the state
+  -- the token is valid for some prefix that leads to the state
   pub record IsSomewhere (s : ℕ) (p : Production) (dot : ℕ) (t : Token) : Type 0 where
     pub prefix : List Symbol
     pub after : state_after states prefix ≡ Some s
     pub token : ValidToken g start prefix p dot t
 
-  -- what a pair gives is valid there: Eof is given in state 0 alone, after the empty prefix
+  -- a token that a pair gives is valid there; Eof is given in state 0 alone, after the empty prefix
   given_token : IsOnNoRightSide g start → {s : ℕ} {p : Production} {dot : ℕ} {t : Token} → Gives g start states s p dot t → (u : List Symbol) → state_after states u ≡ Some s → Valid g start u p dot → IsSomewhere s p dot t
   given_token alone (behind_parent s p q dot after t h e f) u at v =
       let r = items_at u s (valid_live v) at in
@@ -73,7 +75,7 @@ module _ (g : List Production) (start : NonterminalString) (states : ℕ → Con
     | inr a ↦ absurd (alone a.production (of_grammar a.valid) (contains_behind a.dot a.production.symbols (Nonterminal start) a.after (a.behind ∙ ap (λ b. Nonterminal b ∷ a.after) e)))
   ]
 
-  -- and so is what it leads back to
+  -- a token that is given by a pair to which a pair leads back is valid for that pair
   pub traced_token : IsOnNoRightSide g start → {s n : ℕ} {p k : Production} {dot d : ℕ} {t : Token} → IsTracedTo g states s p dot n k d → Gives g start states n k d t → (u : List Symbol) → state_after states u ≡ Some s → Valid g start u p dot → IsSomewhere s p dot t
   traced_token alone itself given u at v = given_token alone given u at v
   traced_token alone (back (to_parent s p q dot after h e n) k) given u at v =
@@ -90,7 +92,7 @@ module _ (g : List Production) (start : NonterminalString) (states : ℕ → Con
       let y = traced_token alone k given o.0 o.2 z.valid in
       record { prefix = y.prefix ++ x ∷ []; after = state_from-more states 0 y.prefix x y.after h; token = kept x after y.token e }
 
-  -- so it finds exactly the LALR tokens
+  -- tracing back finds exactly the LALR tokens
   pub lane_tokens : IsOnNoRightSide g start → (u : List Symbol) (s : ℕ) (p : Production) (dot : ℕ) (t : Token) → state_after states u ≡ Some s → Valid g start u p dot → IsLaneToken g start states s p dot t ↔ IsLalrToken g start u p dot t
   lane_tokens alone u s p dot t at v = (
     λ k.
@@ -110,7 +112,7 @@ module _ (g : List Production) (start : NonterminalString) (states : ℕ → Con
         token_traced l.valid s (r.after ∙ ap (λ n. Some n) (sym (lr0.shared u l.prefix s r.number (valid_live v) l.live l.same at r.after))),
   )
 
-  -- where the grammar is LALR(1), LR(0) states whose reductions hold these are faithful
+  -- LR(0) states whose reductions hold their lane tokens are faithful if the grammar is LALR(1)
   pub lanes_faithful : IsOnNoRightSide g start → IsLALR1 g start → HoldLaneTokens g start states → AreFaithful g start states
   lanes_faithful alone lalr holds u live =
       let s = lr0.each u live in

@@ -1,4 +1,4 @@
--- States in their new order and under the numbers of their places are a renumbering.
+-- States in their new order, under the numbers that are their new places, are a renumbering.
 use Rattle.std.proofs.Common.{◌≡◌, ℕ, ◌<◌, ◌≤◌, inl, inr, Bool, true, false, cond, not, ◌||◌, ◌==◌, List, [], ◌∷◌, length, map, refl, sym, ◌∙◌, ap, subst, arith, Option, Some, None, eq-eqb, eqb-true}
 use Rattle.std.specs.Prelude.{slice_get, unwrap_or, option_map}
 use Rattle.std.specs.BTreeMap.{btree_map_len, is_at}
@@ -23,7 +23,7 @@ use Rattle.lalrpop_grammar.proofs.theory.grammars.NameOrders.{terminal_order}
 use Rattle.lalrpop_collections.proofs.theory.lists.Partitions.{front_place, past_place, parted_length, stands_there, front_before_back, parts_keep_order, places_differ, place_taken}
 use Rattle.lalrpop_collections.proofs.theory.lists.Places.{same_some, filled}
 
--- where there is no state no symbol leads on
+-- no symbol leads from a number without a state
 pub no_lead : (terminals : List TerminalString) (x : Symbol) → leads (contents_at (holds_token terminals) None) x ≡ None
 no_lead terminals (Terminal t) = refl
 no_lead terminals (Nonterminal a) = refl
@@ -37,12 +37,12 @@ module _ (new : ℕ → ℕ) where
   led_after : {K : Type 0} (test : K → Bool) (before after : List (K × StateIndex)) → after ≡ retargeted_all new before → option_map number_of (lookup test after) ≡ renumbered new (option_map number_of (lookup test before))
   led_after test before after e = ap (λ es. option_map number_of (lookup test es)) e ∙ ap (option_map number_of) (lookup-map_values (retargeted new) test before) ∙ numbers_after (lookup test before)
 
-  -- a state of a table leads under the new numbers to where it led
+  -- under its new number a state leads to the new numbers of its old targets
   pub leads_after : (terminals : List TerminalString) (before after : State Bits) → IsRenumberedState new before after → (x : Symbol) → leads (contents_of (holds_token terminals) after) x ≡ renumbered new (leads (contents_of (holds_token terminals) before) x)
   leads_after terminals before after r (Terminal t) = led_after (is_at (terminal_order t)) before.shifts.entries after.shifts.entries r.shifts
   leads_after terminals before after r (Nonterminal a) = led_after (is_at (name_cmp a)) before.gotos.entries after.gotos.entries r.gotos
 
-  -- each entry comes from one
+  -- each entry under new numbers comes from an old entry
   pub entry_from : {K : Type 0} (before after : List (K × StateIndex)) → after ≡ retargeted_all new before → (k : ℕ) (e : K × StateIndex) → slice_get after k ≡ Some e → (d : K × StateIndex) × (slice_get before k ≡ Some d) × (d.0 ≡ e.0) × (retargeted new d.1 ≡ e.1)
   entry_from {K} before after same k e at =
       let f : K × StateIndex → K × StateIndex = λ d. (d.0, retargeted new d.1) in
@@ -81,7 +81,7 @@ module _ (terminals : List TerminalString) (state : State Bits) where
       turned true e = cc
       turned false e = refl
 
--- ---- the whole
+-- ---- all states
 module _ (terminals : List TerminalString) (before after : List (State Bits)) (numbers : List ℕ) (coherent : AreCoherent before) (places : ArePlaces stands_first before (length before) numbers) (moved : AreMoved (number_in numbers) (parted stands_first before) after) where
   abbrev new : ℕ → ℕ
   new = number_in numbers
@@ -124,7 +124,7 @@ module _ (terminals : List TerminalString) (before after : List (State Bits)) (n
   not_zero : (n : ℕ) (state : State Bits) → 0 < n → slice_get before n ≡ Some state → state.index.0 ≡ 0 → ⊥
   not_zero n state l at e = let k = (coherent n state at).numbered in omega arith
 
-  -- ---- what each number stands for
+  -- ---- the contents of the state with each number
   abbrev here : ℕ → Contents
   here = contents terminals before
 

@@ -1,4 +1,4 @@
--- Faithful states stay faithful under other numbers: from the definition of a renumbering.
+-- Faithful states stay faithful under other numbers, by the definition of a renumbering.
 use Rattle.std.proofs.Common.{◌≡◌, ◌↔◌, ℕ, List, [], ◌∷◌, sym, subst, refl, ap, ◌∙◌, length, Option, Some, None}
 use Rattle.std.specs.Prelude.{Contains}
 use Rattle.lr1_theory.proofs.Types.{NonterminalString, Production, Symbol, Token}
@@ -8,7 +8,7 @@ use Rattle.lalrpop_grammar.specs.Words.{AreFaithful, renumbered, IsRenumbering}
 use Rattle.lalrpop_collections.proofs.theory.lists.Lists.{some≢none}
 
 module _ (new old : ℕ → ℕ) (before after : ℕ → Contents) (r : IsRenumbering new old before after) where
-  -- a list of symbols leads to the new number of where it led
+  -- a list of symbols leads to the new number of the state to which it led
   state_from-renumbered : (u : List Symbol) (n : ℕ) → state_from after (new n) u ≡ renumbered new (state_from before n u)
   state_from-renumbered [] n = refl
   state_from-renumbered (x ∷ u) n = ap (λ o. onward o (λ m. state_from after m u)) (r.commutes n x) ∙ go (leads (before n) x) (state_from-renumbered u)
@@ -17,7 +17,7 @@ module _ (new old : ℕ → ℕ) (before after : ℕ → Contents) (r : IsRenumb
       go None more = refl
       go (Some m) more = more m
 
-  -- the same symbols lead on
+  -- the same symbols lead from a state
   leads-same : (n : ℕ) (x : Symbol) → ((m : ℕ) × (leads (after (new n)) x ≡ Some m)) ↔ ((m : ℕ) × (leads (before n) x ≡ Some m))
   leads-same n x = (
     λ h. go (leads (before n) x) h.0 (sym (r.commutes n x) ∙ h.1),
@@ -36,14 +36,14 @@ module _ (new old : ℕ → ℕ) (before after : ℕ → Contents) (r : IsRenumb
     λ h. (h.0, subst (λ rs. Contains rs h.0) (sym (r.reductions n)) h.1, h.2, h.3),
   )
 
-  -- the symbols behind the dots are the same
+  -- the symbols after the dots are the same
   behind-same : (n : ℕ) (x : Symbol) → IsBehindDot (after (new n)) x ↔ IsBehindDot (before n) x
   behind-same n x = (
     λ b. record { production = b.production; dot = b.dot; after = b.after; item = subst (λ is. Contains is (b.production, b.dot)) (r.items n) b.item; behind = b.behind },
     λ b. record { production = b.production; dot = b.dot; after = b.after; item = subst (λ is. Contains is (b.production, b.dot)) (sym (r.items n)) b.item; behind = b.behind },
   )
 
-  -- reductions are the finished dotted productions where they were
+  -- reductions are the finished dotted productions if they were so before
   reduces-renumbered : (n : ℕ) → ReducesFinished (before n) → ReducesFinished (after (new n))
   reduces-renumbered n h = record {
     finished = λ p. (
@@ -53,7 +53,7 @@ module _ (new old : ℕ → ℕ) (before after : ℕ → Contents) (r : IsRenumb
     once = subst HasNoRepeat (sym (r.reductions n)) h.once;
   }
 
-  -- a state is right where it was
+  -- a state is right for a prefix if it was so before
   right-renumbered : (g : List Production) (start : NonterminalString) (u : List Symbol) (n : ℕ) → IsRightFor g start u (before n) → IsRightFor g start u (after (new n))
   right-renumbered g start u n h = record {
     contents = record {
@@ -68,7 +68,7 @@ module _ (new old : ℕ → ℕ) (before after : ℕ → Contents) (r : IsRenumb
     one = λ t stands a b c d. h.one t stands a b ((allows-same n t a).0 c) ((allows-same n t b).0 d);
   }
 
-  -- so faithful states stay faithful
+  -- faithful states stay faithful
   pub faithful-renumbered : (g : List Production) (start : NonterminalString) → AreFaithful g start before → AreFaithful g start after
   faithful-renumbered g start f u live =
       let s = f u live in

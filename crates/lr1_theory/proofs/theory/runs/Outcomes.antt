@@ -1,4 +1,5 @@
--- Each run has exactly one outcome: by going on for as many steps as the limit allows, and since a run goes no two ways.
+-- Each run has exactly one outcome. One is found after as many steps as the limit allows. There is
+-- no other, since each step is determined.
 use Rattle.std.proofs.Common.{ap, ap₂, ◌≤◌, ◌≡◌, ℕ, zero, suc, ◌<◌, ◌⊎◌, inl, inr, List, [], ◌∷◌, sym, subst, refl, ◌∙◌, arith}
 use mathlib.Core.List.{tail-eq_of_cons-eq, nil≢cons, cons≢nil}
 use Rattle.lr1_theory.proofs.Types.{TerminalString, Token}
@@ -6,19 +7,19 @@ use Rattle.lalrpop_grammar.specs.Words.{Contents, Tree, Configuration, next_toke
 use Rattle.lalrpop_grammar.specs.Words.{Refused, Limit, HasOutcome, parsed, stuck, other_end, cut_off, IsParse}
 use Rattle.lalrpop_grammar.proofs.theory.runs.Steps.{IsGoing, IsEnding, Halts, ends_halts, stands_halts, goes_on_from, together, no_longer, same_length}
 
--- an end is a parse, or it is none
+-- an end is a parse, or it is not
 pub parse_or_not : (trees : List Tree) (rest : List TerminalString) → ((t : Tree) × IsParse trees rest t) ⊎ ((t : Tree) → IsParse trees rest t → ⊥)
 parse_or_not [] rest = inr (λ t h. nil≢cons h.0)
 parse_or_not (t ∷ []) [] = inl (t, (refl, refl))
 parse_or_not (t ∷ []) (x ∷ rest) = inr (λ u h. cons≢nil h.1)
 parse_or_not (t ∷ u ∷ trees) rest = inr (λ v h. cons≢nil (tail-eq_of_cons-eq h.0))
 
--- after n steps a run has ended, or stands at a configuration
+-- after n steps a run has ended, or is at a configuration
 pub data Came (states : ℕ → Contents) (b : Configuration) (n : ℕ) : Type 0 where
   halted : (m : ℕ) (c : Configuration) → m < n → Reaches states m b c → Halts states c → Came states b n
   goes : (c : Configuration) → Reaches states n b c → Came states b n
 
--- one of the two it does
+-- each run has ended after n steps, or is at a configuration
 pub came : (states : ℕ → Contents) (n : ℕ) (b : Configuration) → Came states b n
 came states zero b = goes b here
 came states (suc n) b = go (move states b) refl (λ c. came states n c)
@@ -55,7 +56,7 @@ has_outcome states w limit = go (came states limit (begin w))
     go (halted n c l r h) = early n c l r h (move states c) refl
     go (goes c r) = late c r (move states c) refl
 
--- what an end comes to
+-- the outcome of a run that ends
 abbrev pub verdict : ℕ → Token → List Tree → List TerminalString → Outcome
 verdict s next (t ∷ []) [] = Parsed t
 verdict s next _ _ = Refused s next
@@ -65,30 +66,30 @@ verdict_of c Stands = Refused c.state (next_token c.rest)
 verdict_of c (Goes d) = Limit
 verdict_of c (Ends trees) = verdict c.state (next_token c.rest) trees c.rest
 
--- of a parse it is the tree
+-- the outcome of a parse is the tree
 pub verdict_parsed : (s : ℕ) (next : Token) (trees : List Tree) (rest : List TerminalString) (t : Tree) → IsParse trees rest t → verdict s next trees rest ≡ Parsed t
 verdict_parsed s next trees rest t h = ap₂ (λ ts r. verdict s next ts r) h.0 h.1
 
--- of any other end a refusal
+-- the outcome of any other end is a refusal
 pub verdict_refused : (s : ℕ) (next : Token) (trees : List Tree) (rest : List TerminalString) → ((t : Tree) → IsParse trees rest t → ⊥) → verdict s next trees rest ≡ Refused s next
 verdict_refused s next [] rest h = refl
 verdict_refused s next (t ∷ []) [] h = absurd (h t (refl, refl))
 verdict_refused s next (t ∷ []) (x ∷ rest) h = refl
 verdict_refused s next (t ∷ u ∷ trees) rest h = refl
 
--- how an outcome came about: by a configuration that halts, or by the limit
+-- an outcome is that of a configuration that halts, or the limit
 pub data Came_to (states : ℕ → Contents) (w : List TerminalString) (limit : ℕ) (o : Outcome) : Type 0 where
   by_end : (n : ℕ) (c : Configuration) → (n < limit) ⊎ ((n ≤ limit) × (move states c ≡ Stands)) → Reaches states n (begin w) c → Halts states c → o ≡ verdict_of c (move states c) → Came_to states w limit o
   by_limit : (c : Configuration) → Reaches states limit (begin w) c → (move states c ≡ Stands → ⊥) → o ≡ Limit → Came_to states w limit o
 
--- each outcome came about in one of these ways
+-- each outcome is that of a configuration that halts, or the limit
 pub came_to : {states : ℕ → Contents} {w : List TerminalString} {limit : ℕ} {o : Outcome} → HasOutcome states w limit o → Came_to states w limit o
 came_to {states} (parsed n c trees t l r e p) = by_end n c (inl l) r (ends_halts states c e) (sym (ap (verdict_of c) e ∙ verdict_parsed c.state (next_token c.rest) trees c.rest t p))
 came_to {states} (stuck n c l r e) = by_end n c (inr (l, e)) r (stands_halts states c e) (sym (ap (verdict_of c) e))
 came_to {states} (other_end n c trees l r e f) = by_end n c (inl l) r (ends_halts states c e) (sym (ap (verdict_of c) e ∙ verdict_refused c.state (next_token c.rest) trees c.rest f))
 came_to (cut_off c r h) = by_limit c r h refl
 
--- and not in both
+-- no run halts before the limit and reaches the limit
 pub not_both_ways : {states : ℕ → Contents} {w : List TerminalString} {limit n : ℕ} {c d : Configuration} → (n < limit) ⊎ ((n ≤ limit) × (move states c ≡ Stands)) → Reaches states n (begin w) c → Halts states c → Reaches states limit (begin w) d → (move states d ≡ Stands → ⊥) → ⊥
 not_both_ways (inl l) r h s k = let x = no_longer r h s in omega arith
 not_both_ways {states} {w} {limit} {n} {c} (inr l) r h s k =

@@ -1,4 +1,6 @@
--- Over canonical states of an LR(1) grammar each step is made on a right token, so that a wrong one is refused right behind the last right one, and each run ends: from their tokens being exactly the valid ones.
+-- Over canonical states of an LR(1) grammar each step is made on a right token. So a wrong token is
+-- refused right after the last right one, and each run ends.
+-- The proofs use that the tokens of canonical states are exactly the valid ones.
 use Rattle.std.proofs.Common.{◌≡◌, ℕ, suc, ◌+◌, ◌≤◌, ◌⊎◌, inl, inr, Option, Some, None, List, [], ◌∷◌, ◌++◌, drop, length, append_assoc, append-nil, sym, subst, refl, ap, ◌∙◌, arith}
 use Rattle.std.proofs.lemmas.List.{append_cancel_right}
 use Rattle.lr1_theory.proofs.Types.{NonterminalString, Production, Symbol, TerminalString, Token}
@@ -18,7 +20,7 @@ use Rattle.lalrpop_grammar.proofs.theory.runs.Sentences.{tree_run}
 use Rattle.lalrpop_grammar.proofs.theory.runs.Beginnings.{beginning_shifted}
 use Rattle.lr1_theory.proofs.theory.closures.Canonical.{BeginsWith, ends_here, goes_on_with, token_follows, allows_valid, canonical_faithful}
 
--- a run to where it halts
+-- a run reaches a configuration that halts
 pub record Finishes (states : ℕ → Contents) (w : List TerminalString) : Type 0 where
   pub steps : ℕ
   pub at : Configuration
@@ -73,7 +75,7 @@ module _ (g : List Production) (start : NonterminalString) (states : ℕ → Con
             go rest (k.steps + 1) to run (run_tracks g start states faithful w run (begin_tracks g start states faithful w)) refl
       ]
 
-  -- so each list has a limit from which on Limit is never the outcome
+  -- for each list there is a number such that Limit is not the outcome for a limit from it on
   pub limit_enough : IsOnNoRightSide g start → (w : List TerminalString) → (enough : ℕ) × ((limit : ℕ) → enough ≤ limit → HasOutcome states w limit Limit → ⊥)
   limit_enough alone w = (suc f.steps, λ limit l o. cut limit l o)
     where
@@ -93,7 +95,7 @@ module _ (g : List Production) (start : NonterminalString) (states : ℕ → Con
         | inr k ↦ inr (subst (λ l. IsRightNext g start l rest) same (subst (IsRightNext g start (spelled c.trees)) e k))
       ]
 
-  -- a step that leads to a configuration before a token that is not right is a shift
+  -- a run is refused promptly if a step leads to a configuration before a token that is not right
   pub prompt_after : (w : List TerminalString) (n : ℕ) (d c : Configuration) → Reaches states n (begin w) d → Tracks g states w d → Tracks g states w c → move states d ≡ Goes c → (IsRightNext g start (spelled c.trees) c.rest → ⊥) → IsPromptRefusal g start states w c.state (next_token c.rest)
   prompt_after w n d c r trd trc e wrong = go (move states d) (did states d) e
     where
@@ -123,7 +125,7 @@ module _ (g : List Production) (start : NonterminalString) (states : ℕ → Con
       go _ (reduced_by p h) x = by_reduction (after_reduction p (drop (length p.symbols) (d.state ∷ d.below)) _ x)
       go _ (stood h k) x = absurd (subst IsGoing (sym x) tt)
 
-  -- a run that halts before a token that is not right stands right behind the last right one
+  -- a configuration before a token that is not right is right after the last right token
   pub halts_promptly : (w : List TerminalString) (n : ℕ) (c : Configuration) → Reaches states n (begin w) c → (IsRightNext g start (spelled c.trees) c.rest → ⊥) → IsPromptRefusal g start states w c.state (next_token c.rest)
   halts_promptly w n c r wrong = go (last_step r) wrong
     where
@@ -135,7 +137,7 @@ module _ (g : List Production) (start : NonterminalString) (states : ℕ → Con
           let at_d : Tracks g states w d = run_tracks g start states faithful w s (begin_tracks g start states faithful w) in
           prompt_after w m d c s at_d (step_tracks g start states faithful w d c at_d e) e k
 
-  -- so does a refusal
+  -- each refusal is prompt
   pub refused_promptly : IsOnNoRightSide g start → (w : List TerminalString) (limit s : ℕ) (t : Token) → HasOutcome states w limit (Refused s t) → IsPromptRefusal g start states w s t
   refused_promptly alone w limit _ _ (stuck n c l r e) =
       halts_promptly w n c r (halts_not_right g start states faithful alone w n c r (stands_halts states c e) (λ t h k. subst IsEnding (sym k ∙ e) tt))

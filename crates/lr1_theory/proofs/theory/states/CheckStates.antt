@@ -1,4 +1,5 @@
--- What the check asks of each state by itself: targets, listed items and reductions, one more.
+-- The conditions of the check on each state: targets, listed items and reductions, one more at a
+-- time.
 use Rattle.std.proofs.Common.{◌≡◌, ◌↔◌, ◌<◌, ◌≤◌, ◌+◌, ℕ, zero, suc, ◌⊎◌, inl, inr, List, [], ◌∷◌, ◌++◌, length, map, take, refl, sym, ◌∙◌, ap, subst, arith, eqb-true, length-append, Some, None, option_map}
 use Rattle.std.specs.Prelude.{Contains, slice_get, false, ◌==◌, IsTrue}
 use Rattle.std.proofs.lemmas.Bool.{false≢true}
@@ -173,7 +174,8 @@ Listed-more xs s old new set e l a = record {
 abbrev Reductions : Type 0
 Reductions = List (Bits × Bor Production)
 
--- the productions differ, and the keys are these with the dot at the end
+-- the productions of the reductions differ, and the keys are these productions with the dot at the
+-- end
 pub record AreReduced (reductions : Reductions) (found : List (Dotted Nil)) : Type 0 where
   pub differ : AllDiffer (reduced reductions)
   pub keys : (k : Dotted Nil) → Contains found k ↔ ((p : Production) × Contains (reduced reductions) p × (finished p ≡ k))
@@ -216,7 +218,7 @@ Reduced-more rs r old new out a b =
       );
     }
 
--- a production that is reduced by already stands twice
+-- productions of reductions do not differ if a later reduction is by one of the keys
 pub Reduced-twice : (rs : Reductions) (i : ℕ) (r : Bits × Bor Production) (keys : List (Dotted Nil)) → AreReduced (take i rs) keys → slice_get rs i ≡ Some r → Contains keys (finished r.1.now) → AllDiffer (reduced rs) → ⊥
 Reduced-twice rs i r keys a at c d =
     let p = r.1.now in
@@ -238,7 +240,7 @@ Reduced-twice rs i r keys a at c d =
     earlier : (rs : Reductions) (i j : ℕ) (p : Production) → slice_get (reduced (take i rs)) j ≡ Some p → slice_get (reduced rs) i ≡ Some p → AllDiffer (reduced rs) → ⊥
     earlier rs i j p e at d = let w = within rs i j p e in d j i p w.0 w.1 at
 
--- ---- an item leads on
+-- ---- the symbol after a dot leads to the moved item
 module _ (listed : List (BTreeSet (Dotted Nil))) (s : State Bits) (i : Dotted Bits) (x : Symbol) (at : slice_get i.production.symbols i.index ≡ Some x) where
   abbrev pub AllLeadOn : Type 0
   AllLeadOn = (y : Symbol) → slice_get i.production.symbols i.index ≡ Some y → LeadsOn listed s i y

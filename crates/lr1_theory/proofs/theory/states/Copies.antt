@@ -1,4 +1,5 @@
--- Copies of closed states are closed, so that they have the right dotted productions: since closures and edges go by dotted productions alone.
+-- Copies of closed states are closed, since closures and edges depend on dotted productions alone.
+-- So copies have the right dotted productions.
 use Rattle.std.proofs.Common.{◌↔◌, ℕ, List, sym, subst}
 use Rattle.lr1_theory.proofs.Types.{NonterminalString, Production, Symbol}
 use Rattle.lalrpop_grammar.specs.Words.{Contents, IsBehindDot, InClosure, in_kernel, expanded, IsMoved, items_of, AreClosed, IsCopying}
@@ -9,21 +10,21 @@ pub closure_grows : {g : List Production} {small large : Production → ℕ → 
 closure_grows {g} {large = large} f c = closure_within (InClosure g large) (λ p dot k. in_kernel (f p dot k)) (λ p q dot after d e h. expanded q after d e h) c
 
 module _ (g : List Production) (start : NonterminalString) (original : ℕ → ℕ) (states copies : ℕ → Contents) (copying : IsCopying original states copies) where
-  -- what is moved over a symbol from a copy is what is moved from its original
+  -- the items that are moved over a symbol from a copy are those that are moved from its original
   moved_alike : (n : ℕ) (x : Symbol) (p : Production) (dot : ℕ) → IsMoved (items_of copies n) x p dot ↔ IsMoved (items_of states (original n)) x p dot
   moved_alike n x p dot = (
     λ m. record { before = m.before; after = m.after; moved = m.moved; item = (copying.items n p m.before).0 m.item; behind = m.behind },
     λ m. record { before = m.before; after = m.after; moved = m.moved; item = (copying.items n p m.before).1 m.item; behind = m.behind },
   )
 
-  -- and so are the symbols behind the dots
+  -- the symbols after the dots of a copy are those of its original
   behind_alike : (n : ℕ) (x : Symbol) → IsBehindDot (copies n) x ↔ IsBehindDot (states (original n)) x
   behind_alike n x = (
     λ b. record { production = b.production; dot = b.dot; after = b.after; item = (copying.items n b.production b.dot).0 b.item; behind = b.behind },
     λ b. record { production = b.production; dot = b.dot; after = b.after; item = (copying.items n b.production b.dot).1 b.item; behind = b.behind },
   )
 
-  -- so copies of closed states are closed
+  -- copies of closed states are closed
   pub copies_closed : AreClosed g start states → AreClosed g start copies
   copies_closed closed = record {
     first = λ p dot. (

@@ -1,4 +1,5 @@
--- States built by closures whose kernels do not repeat are LR(0) states, since the dotted productions of a state give its kernel back: from what closures add, which are dots at the start alone.
+-- Closed states whose kernels do not repeat are LR(0) states, since the dotted productions of a
+-- state determine its kernel: a closure adds only dotted productions with the dot at the start.
 use Rattle.std.proofs.Common.{◌≡◌, ◌↔◌, ℕ, suc, List, sym, subst, refl, ◌∙◌, Some, arith}
 use Rattle.lr1_theory.proofs.Types.{NonterminalString, Production, Symbol, Token}
 use Rattle.lalrpop_grammar.specs.Words.{Valid, ValidToken, HaveSameItems, HaveSameTokens, Contents, leads, state_after, ReducesFinished, AreLr0, InClosure}
@@ -7,7 +8,7 @@ use Rattle.lalrpop_collections.proofs.theory.lists.Lists.{Grown, from_nothing, m
 use Rattle.lr1_theory.proofs.theory.closures.Closures.{state_from-last, items_valid, have_right_items, reached_live}
 use Rattle.lr1_theory.proofs.theory.closures.Canonical.{tokens_exact}
 
--- no number is 0 and above it
+-- no number is both 0 and greater than 0
 zero≢suc : {n : ℕ} → 0 ≡ suc n → ⊥
 zero≢suc e = omega (arith, e)
 
@@ -17,18 +18,18 @@ module _ (g : List Production) (start : NonterminalString) (states : ℕ → Con
   starts_at_zero (in_kernel k) = k.0
   starts_at_zero (expanded q after c e h) = refl
 
-  -- a target has a dot that moved
+  -- a target has a dotted production whose dot is past the start
   pub target_moved : (n m : ℕ) (x : Symbol) → leads (states n) x ≡ Some m → (p : Production) × (dot : ℕ) × items_of states m p (suc dot)
   target_moved n m x e =
       let b = (closed.edges n x).0 (m, e) in
       (b.production, b.dot, (closed.next n m x e b.production (suc b.dot)).1 (in_kernel (record { before = b.dot; after = b.after; moved = refl; item = b.item; behind = b.behind })))
 
-  -- how a state after a prefix is entered: it is state 0, or a target
+  -- a state is state 0, or the target of an edge
   pub data IsEntered (n : ℕ) : Type 0 where
     at_first : n ≡ 0 → IsEntered n
     as_target : (m : ℕ) (x : Symbol) → leads (states m) x ≡ Some n → IsEntered n
 
-  -- each is entered in one of these ways
+  -- each state after a prefix is state 0, or the target of an edge
   pub entered : (u : List Symbol) (n : ℕ) → state_after states u ≡ Some n → IsEntered n
   entered u n at = go (grown u) at
     where
@@ -36,28 +37,29 @@ module _ (g : List Production) (start : NonterminalString) (states : ℕ → Con
       go from_nothing e = at_first (same_some (sym e))
       go (more {l = v} x k) e = let m = state_from-last states 0 v x n e in as_target m.0 x m.2
 
-  -- state 0 has none of a target's moved dots
+  -- state 0 lacks some dotted production of each target
   first_or_target : (n m : ℕ) → n ≡ 0 → (k : ℕ) (x : Symbol) → leads (states k) x ≡ Some m → ((p : Production) (dot : ℕ) → items_of states m p dot → items_of states n p dot) → ⊥
   first_or_target n m z k x e same =
       let t = target_moved k m x e in
       let i : items_of states 0 t.0 (suc t.1) = subst (λ j. items_of states j t.0 (suc t.1)) z (same t.0 (suc t.1) t.2) in
       zero≢suc (sym (starts_at_zero ((closed.first t.0 (suc t.1)).0 i)))
 
-  -- two states after prefixes with the same dotted productions are one, where two such targets are
+  -- states with the same dotted productions are the same, if targets with the same ones are
   pub same_items_one : (n m : ℕ) → IsEntered n → IsEntered m → ((p : Production) (dot : ℕ) → items_of states n p dot ↔ items_of states m p dot) → ((k l : ℕ) (x y : Symbol) → leads (states k) x ≡ Some n → leads (states l) y ≡ Some m → n ≡ m) → n ≡ m
   same_items_one n m (at_first z) (at_first w) same targets = z ∙ sym w
   same_items_one n m (at_first z) (as_target l y f) same targets = absurd (first_or_target n m z l y f (λ p dot. (same p dot).1))
   same_items_one n m (as_target k x e) (at_first w) same targets = absurd (first_or_target m n w k x e (λ p dot. (same p dot).0))
   same_items_one n m (as_target k x e) (as_target l y f) same targets = targets k l x y e f
 
-  -- what is valid for two prefixes alike, their states hold alike
+  -- prefixes with the same valid dotted productions lead to states with the same ones
   pub held_alike : (u v : List Symbol) (n m : ℕ) → state_after states u ≡ Some n → state_after states v ≡ Some m → HaveSameItems g start u v → (p : Production) (dot : ℕ) → items_of states n p dot ↔ items_of states m p dot
   held_alike u v n m e f same p dot = (
     λ i. (items_valid g start states closed v m f p dot).1 ((same p dot).0 ((items_valid g start states closed u n e p dot).0 i)),
     λ i. (items_valid g start states closed u n e p dot).1 ((same p dot).1 ((items_valid g start states closed v m f p dot).0 i)),
   )
 
-  -- closed states whose kernels do not repeat are LR(0) states, where each that has an edge is reached
+  -- closed states whose kernels do not repeat are LR(0) states, if each state with an edge is
+  -- reached
   pub closed_lr0 : ((n : ℕ) → ReducesFinished (states n)) → KernelsDiffer states → ((n m : ℕ) (x : Symbol) → leads (states n) x ≡ Some m → IsReached states n) → AreLr0 g start states
   closed_lr0 reductions differ reached = record {
     each = have_right_items g start states closed reductions;
@@ -67,7 +69,8 @@ module _ (g : List Production) (start : NonterminalString) (states : ℕ → Con
     only = λ n m x e. reached_live g start states closed (reached n m x e);
   }
 
--- canonical states whose kernels do not repeat are one exactly where their prefixes have the same dotted productions and tokens
+-- canonical states whose kernels do not repeat are the same exactly if their prefixes have the same
+-- valid dotted productions and tokens
 pub canonical_one :
     (g : List Production) (start : NonterminalString) (states : ℕ → Contents) (tokens : ℕ → Production → ℕ → Token → Type 0) → AreCanonical g start states tokens → TokenKernelsDiffer states tokens →
     (u v : List Symbol) (n m : ℕ) → state_after states u ≡ Some n → state_after states v ≡ Some m → (n ≡ m) ↔ (HaveSameItems g start u v × HaveSameTokens g start u v)

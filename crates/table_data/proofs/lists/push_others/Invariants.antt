@@ -3,7 +3,7 @@ use Rattle.std.specs.List.{flat_map}
 use Rattle.table_data.specs.Json.{behind}
 use Rattle.table_data.proofs.lists.push_others.Given as goal
 
--- each value so far is written behind a separator
+-- each value so far is written after a separator
 abbrev pub invariant-loop-value : goal.invariant-loop-value
 invariant-loop-value g l =
     string_bytes l.text ≡ string_bytes l.fn.text ++ flat_map (behind l.separator (g.T.ToJson.json l.terminals)) (take l.value-index l.values)

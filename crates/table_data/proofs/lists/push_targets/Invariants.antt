@@ -5,7 +5,7 @@ use Rattle.table_data.specs.Json.{listed, member}
 use Rattle.table_data.proofs.Loops.{going}
 use Rattle.table_data.proofs.lists.push_targets.Given as goal
 
--- what is written, and the members that are left, are the text of all
+-- the text so far and that of the members that are left are the text of all
 abbrev pub invariant-loop-symbol : goal.invariant-loop-symbol
 invariant-loop-symbol g l =
     let key = member (g.K.ToJson.json l.terminals) in record {

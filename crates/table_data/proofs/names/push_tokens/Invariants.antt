@@ -7,7 +7,7 @@ use Rattle.table_data.specs.Names.{token_json}
 use Rattle.table_data.proofs.Loops.{going}
 use Rattle.table_data.proofs.names.push_tokens.Given as goal
 
--- what is written, and the tokens that are left, are the text of all
+-- the text so far and that of the tokens that are left are the text of all
 abbrev pub invariant-loop-token : goal.invariant-loop-token
 invariant-loop-token l = record {
   is_text : shadow (Utf8 l.separator);

@@ -7,7 +7,7 @@ use Rattle.lalrpop_grammar.specs.declared.repr.Production.{Production}
 use Rattle.lalrpop_base.specs.Words.{productions}
 use Rattle.table_data.proofs.rules.productions_in.Given as goal
 
--- the productions of the names so far, and of those that are left, are all
+-- the productions of the names so far and those of the names that are left are all productions
 abbrev pub invariant-loop-name : goal.invariant-loop-name
 invariant-loop-name l =
     map (λ (p : Bor Production). p.now) l.all.items ++ flat_map (λ (e : NonterminalString × NonterminalData). e.1.productions.items) l._name-iterator ≡ productions l.grammar

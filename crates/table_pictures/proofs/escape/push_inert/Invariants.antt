@@ -4,7 +4,7 @@ use denote.Shadow.{shadow}
 use Rattle.table_pictures.specs.Escape.{inert}
 use Rattle.table_pictures.proofs.escape.push_inert.Given as goal
 
--- what was written, and what is written of the rest, is what is written of all
+-- the text so far and that of the rest are the text of all
 abbrev pub invariant-loop-before : goal.invariant-loop-before
 invariant-loop-before l =
     shadow (Utf8 l.rest) × (string_bytes l.text ++ inert l.rest ≡ string_bytes l.fn.text ++ inert l.json)

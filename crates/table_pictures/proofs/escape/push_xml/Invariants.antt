@@ -4,7 +4,7 @@ use Rattle.std.specs.Str.Iter.{chars_rest}
 use Rattle.table_pictures.specs.Escape.{xml_text}
 use Rattle.table_pictures.proofs.escape.push_xml.Given as goal
 
--- what was written, and what is written of the rest, is what is written of all
+-- the text so far and that of the rest are the text of all
 abbrev pub invariant-loop-c : goal.invariant-loop-c
 invariant-loop-c l =
     IsUtf8 (chars_rest l.c-iterator) × (string_bytes l.text ++ xml_text (chars_rest l.c-iterator) ≡ string_bytes l.fn.text ++ xml_text l.shown)

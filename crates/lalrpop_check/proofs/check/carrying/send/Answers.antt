@@ -3,7 +3,7 @@ use Rattle.lalrpop_base.specs.Words.{Bits, IsJoinedAt, readings}
 use Rattle.lalrpop_collections.specs.lists.Entries.IsPut.{came}
 use Rattle.lalrpop_check.proofs.check.carrying.send.Goals as goal
 
--- sets of tokens stand for themselves
+-- sets of tokens are read as themselves
 read_themselves : {K : Type 0} (es : List (K × Bits)) → readings (λ (s : Bits). s) es ≡ es
 read_themselves [] = refl
 read_themselves (e ∷ es) = ap (λ (more : List _). e ∷ more) (read_themselves es)

@@ -10,7 +10,7 @@ use Rattle.lalrpop_follow_sets.proofs.theory.follow_sets.FrontWalks.{WalksFrom, 
 use Rattle.lalrpop_collections.proofs.theory.lists.Places.{slice_get_at}
 use Rattle.lalrpop_follow_sets.proofs.follow_sets.includes.includes.Goals as goal
 
--- the pair that is read stands with the number of the node
+-- the pair that is read has the number of the node
 pair_there : (pass : Pass) (node : ℕ) (pair : ℕ × ℕ) → node < pass.nodes.now.pairs.len → pair ≡ get_or pass.nodes.now.pairs.items node pair → slice_get pass.nodes.now.pairs.items node ≡ Some (pair.0, pair.1)
 pair_there pass node pair l read = slice_get_at pass.nodes.now.pairs.items node pair (let counted = pass.nodes.now.pairs.ok.0 in omega arith) read
 
@@ -52,7 +52,7 @@ loop-node-preserved c =
     subst (λ (edges : List (Vec ℕ Global)). WalksFrom pass (node + 1) edges c.walk_all.new.lookback.items) (sym c.in_ok-push.ensures.items)
     (from_more pass c.requires.pass node pair.0 named.0 fronts c.loop-node.edges.items c.walk_all.new.ends c.loop-node.lookback.items c.walk_all.new.lookback.items named.2 (c.fronts.ensures named.0 named.1) c.loop-node.invariant over)
 
--- where all nodes were gone over
+-- after all nodes the walks from all nodes are done
 all_walked : (pass : Pass) (node count : ℕ) (edges : List (Vec ℕ Global)) (lookback : List (Vec (ℕ × ℕ) Global)) → count ≡ pass.nodes.now.pairs.len → count ≤ node → node ≤ count → WalksFrom pass node edges lookback → WalksFrom pass (length pass.nodes.now.pairs.items) edges lookback
 all_walked pass node count edges lookback e l m walks =
     let end : node ≡ length pass.nodes.now.pairs.items = let counted = pass.nodes.now.pairs.ok.0 in omega arith in

@@ -22,7 +22,7 @@ loop-front-preserved c =
     (walks_more pass c.args.node c.args.from (take k fronts) front q.0 c.args.ends.now.items c.loop-front.ends.items c.walk_from.new.ends.items c.args.lookback.now.items c.loop-front.lookback.items c.walk_from.new.lookback.items q.1 c.loop-front.invariant
     (c.in_ok-walk_from.ensures.through q.0 q.1) (c.in_ok-walk_from.ensures.noted q.0 q.1))
 
--- a list is taken whole
+-- the first k members of a list of length k are the whole list
 taken_whole : (xs : List ℕ) (k : ℕ) → k ≡ length xs → take k xs ≡ xs
 taken_whole xs k e = ap (λ n. take n xs) e ∙ take_all xs
 

@@ -8,7 +8,7 @@ use Rattle.lalrpop_follow_sets.specs.follow_sets.FollowWalks.{GoesThrough, IsEnd
 use Rattle.lalrpop_follow_sets.proofs.theory.follow_sets.FollowWalks.{ended_through, none_there, number_behind, one_front, stopped_through, symbol_there, walk_begins, walk_ends, walk_more, walk_stops}
 use Rattle.lalrpop_follow_sets.proofs.follow_sets.walk.walk.Goals as goal
 
--- the symbol over which the walk goes
+-- the symbol over which the walk goes is the one after the dot
 pub step-requires-clause-behind : goal.step-requires-clause-behind
 step-requires-clause-behind c =
     number_behind c.args.pass.now c.requires.pass c.args.from c.args.front c.args.ends.now.items c.loop-symbol.state c.loop-symbol.item c.loop-symbol.ends.items c.loop-symbol.invariant c.index.result.now c.index.ensures c.in-Some.symbol c.in-Some.is

@@ -4,7 +4,8 @@ use Rattle.lalrpop_inline.specs.Words.{ComesBack}
 use Rattle.lalrpop_inline.proofs.theory.inlining.InlineFrames.{HasLeft}
 use Rattle.lalrpop_inline.proofs.inline.graph.ordered.Given as goal
 
--- the first names were left, and to what the walk comes back from the others, it comes back from all
+-- the first names were left. If the walk comes back to a nonterminal from the others, it does so
+-- from all
 abbrev pub invariant-loop-name : goal.invariant-loop-name
 invariant-loop-name l = record {
   left : HasLeft l.grammar l.walk (take l.name-index l.name-items);

@@ -1,4 +1,4 @@
-//! The set of each state, and the context of each set.
+//! The set of each state, and the tokens of each set.
 ghost use Rattle.std.specs.Prelude.{◌≡◌, Some, length, map, IfOk, OnOk, OnErr, MatchBool};
 ghost use Rattle.lalrpop_states.specs.declared.lr1_core.state.StateIndex.{StateIndex as State};
 ghost use Rattle.lalrpop_lanes.specs.Words.{MeetInUnion};
@@ -20,7 +20,7 @@ pub(super) struct ContextSets {
 }
 
 impl ContextSets {
-    /// A set for each state with a row.
+    /// A set for each state with a row. The set has the tokens of the row.
     pub(super) fn new(
         alloc: Global,
         rows: Map<StateIndex, ContextSet>,
@@ -57,7 +57,8 @@ impl ContextSets {
         &self.contexts[set.index()]
     }
 
-    /// Joins the sets of two states, and tells whether their tokens allow it.
+    /// Joins the sets of two states, if their tokens allow it, and returns whether the sets are
+    /// one.
     pub(super) fn union(
         &mut self,
         alloc: Global,
@@ -92,7 +93,7 @@ impl ContextSets {
         Ok(true)
     }
 
-    /// Makes a set of one state.
+    /// Makes a set of one state, with these tokens.
     pub(super) fn new_state(
         &mut self,
         state: StateIndex,
@@ -109,7 +110,7 @@ impl ContextSets {
     }
 }
 
-// Puts the states of one set into another.
+// Moves the states of one set into another.
 fn replace_sets(sets: &mut Map<StateIndex, StateSet>, old: StateSet, new: StateSet)
     ensures { sets.new.entries ≡ map (replaced_entry old new) sets.old.entries }
 {

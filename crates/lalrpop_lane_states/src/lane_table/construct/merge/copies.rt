@@ -16,7 +16,7 @@ use lalrpop_lanes::lane_table::table::LaneTable;
 use std::alloc::Global;
 use std::collections::BTreeMap;
 
-/// The numbers below a count.
+/// The numbers below `count`, in order.
 #[tactic(auto, using(crate::proofs::theory::merges::Merges::numbers_more))]
 pub(super) fn own_numbers(alloc: Global, count: usize) -> Result<Vec<usize>, OutOfMemory>
     ensures counted { IfOk result (λ numbers. length numbers.items ≡ count) }
@@ -30,7 +30,7 @@ pub(super) fn own_numbers(alloc: Global, count: usize) -> Result<Vec<usize>, Out
     Ok(numbers)
 }
 
-// The row of a state in which no two columns share a token.
+// The row of a state. No two columns share a token in it.
 fn row_of(alloc: Global, table: &LaneTable, state: StateIndex) -> Result<ContextSet, OutOfMemory>
     requires { ¬ RowOverlaps table.now state }
     ensures { IfOk result (λ row. IsRow table.now state row × AreDisjoint row) }
@@ -42,7 +42,7 @@ fn row_of(alloc: Global, table: &LaneTable, state: StateIndex) -> Result<Context
     }
 }
 
-// Changes the targets that are the one into the other.
+// Replaces each target `old` by `new`.
 fn replace_targets<K: Ord + Drop>(
     targets: &mut BTreeMap<K, StateIndex>,
     old: StateIndex,
@@ -59,7 +59,7 @@ fn replace_targets<K: Ord + Drop>(
 }
 
 impl<'table, 'grammar> Merge<'table, 'grammar> {
-    // Puts a copy behind the other states.
+    // Appends a copy to the states, and lowers the number of copies left.
     fn push_copy(&mut self, copy: Lr1State<'grammar>, original: usize) -> Result<(), OutOfMemory>
         requires left { 0 < self.old.copies_left }
         ensures pushed { OnOk result (IsPushed copy.entry original self.old self.new) }
@@ -75,7 +75,8 @@ impl<'table, 'grammar> Merge<'table, 'grammar> {
         Ok(())
     }
 
-    /// Adds a copy of a state as it stands now, with a set of its own, unless no copy is left.
+    /// Adds a copy of a state as it is now, with a set of its own. The set has the tokens of the
+    /// state's row. `CopyLimit` if no copy may be made any more.
     pub(super) fn copy_state(
         &mut self,
         alloc: Global,
@@ -103,7 +104,8 @@ impl<'table, 'grammar> Merge<'table, 'grammar> {
         Ok(index)
     }
 
-    /// Changes the edges of a state that lead to another into edges to a copy of that one.
+    /// Changes the edges of a state that lead to a successor, so that they lead to a copy of this
+    /// successor.
     pub(super) fn patch_links(
         &mut self,
         predecessor: StateIndex,
@@ -127,8 +129,8 @@ impl<'table, 'grammar> Merge<'table, 'grammar> {
         replace_targets(&mut state.gotos, original_successor, cloned_successor);
     }
 
-    /// Gives the reductions of a state the columns of its set, where it is a copy of the
-    /// inconsistent state.
+    /// Gives the reductions of a state the columns of its set, if the state is the inconsistent one
+    /// or a copy of it.
     pub(super) fn patch_target_start(
         &mut self,
         alloc: Global,

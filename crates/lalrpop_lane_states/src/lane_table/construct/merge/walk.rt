@@ -13,15 +13,15 @@ use lalrpop_base::lr1_core::state::StateIndex;
 use lalrpop_base::memory::OutOfMemory;
 use std::alloc::Global;
 
-/// A join that a walk has still to make: of a state to a successor of its original.
+/// A join that a walk still has to make: of a state to a successor of the state's original.
 #[derive(Drop)]
 pub struct Join {
     pub state: StateIndex,
     pub successor: StateIndex,
 }
 
-// Puts the joins of a state to successors on top of those that are pending, that to the first
-// successor last.
+// Appends the joins of a state to successors to those that are pending. The join to the first
+// successor comes last, so it is made first.
 fn push_joins(
     state: StateIndex,
     successors: &Set<StateIndex>,
@@ -41,7 +41,7 @@ fn push_joins(
 }
 
 impl<'table, 'grammar> Merge<'table, 'grammar> {
-    // The state of which one is a copy: itself, where it is none.
+    // The original of a state, which is the state itself if it is no copy.
     fn original_index(&self, state: StateIndex) -> StateIndex
         requires { state.0 < length self.now.originals.items }
         ensures { slice_get self.now.originals.items state.0 ≡ Some result.0 }
@@ -49,7 +49,7 @@ impl<'table, 'grammar> Merge<'table, 'grammar> {
         StateIndex(self.originals[state.0])
     }
 
-    // Joins the sets of two states, and tells whether their tokens allow it.
+    // Joins the sets of two states, if their tokens allow it, and returns whether the sets are one.
     fn union(
         &mut self,
         alloc: Global,
@@ -67,8 +67,8 @@ impl<'table, 'grammar> Merge<'table, 'grammar> {
         self.context_sets.union(alloc, source, target)
     }
 
-    // Joins a state to the state with an index, if that is a copy of its successor and the tokens
-    // allow it.
+    // Joins a state to the state with an index, if this is a copy of the successor and their tokens
+    // allow it. Returns whether they were joined.
     fn joins_copy(
         &mut self,
         alloc: Global,
@@ -94,7 +94,8 @@ impl<'table, 'grammar> Merge<'table, 'grammar> {
         self.union(alloc, state, StateIndex(index))
     }
 
-    // Joins a state to the first copy of its successor whose tokens allow it.
+    // Joins a state to the first copy of its successor whose tokens allow it. `None` if there is no
+    // such copy.
     fn existing_copy(
         &mut self,
         alloc: Global,
@@ -120,7 +121,7 @@ impl<'table, 'grammar> Merge<'table, 'grammar> {
         Ok(None)
     }
 
-    // Joins a state to a new copy of its successor.
+    // Joins a state to a new copy of its successor. `Apart` if their tokens do not allow it.
     fn new_copy(
         &mut self,
         alloc: Global,
@@ -146,7 +147,7 @@ impl<'table, 'grammar> Merge<'table, 'grammar> {
         Ok(copy)
     }
 
-    // Joins a state to a copy of its successor, a new one if need be.
+    // Joins a state to a copy of its successor. A new copy is made only if no other can be joined.
     fn some_copy(
         &mut self,
         alloc: Global,
@@ -172,7 +173,8 @@ impl<'table, 'grammar> Merge<'table, 'grammar> {
         }
     }
 
-    // Joins a state to its successor, or to a copy of it to which its edges then lead.
+    // Joins a state to its successor, if their tokens allow it. Else the state is joined to a copy
+    // of the successor, and its edges to the successor lead to this copy.
     fn join_successor(
         &mut self,
         alloc: Global,
@@ -200,8 +202,8 @@ impl<'table, 'grammar> Merge<'table, 'grammar> {
         Ok(copy)
     }
 
-    // Comes to a state: marks it as visited, and puts its joins on top of those that are pending,
-    // unless this was done before.
+    // Comes to a state. Unless the state was visited before, it is marked as visited, and its joins
+    // are appended to those that are pending.
     fn come_to(&mut self, state: StateIndex, pending: &mut Vec<Join>) -> Result<(), OutOfMemory>
         requires ready { IsMerging self.old }
         requires walked { IsWalked self.old state }
@@ -224,9 +226,8 @@ impl<'table, 'grammar> Merge<'table, 'grammar> {
         }
     }
 
-    /// Joins a state to its successors, one after the other, and walks on from each, unless this
-    /// was done before. What is still to be joined is kept in a list, so that a long walk takes
-    /// memory and no stack.
+    /// Joins a state to its successors, one after the other, and walks on from each that was not
+    /// visited before. A list keeps the joins still to be made, so a long walk takes no stack.
     pub(super) fn walk(&mut self, alloc: Global, state: StateIndex) -> Result<(), MergeError>
         requires ready { IsMerging self.old }
         requires walked { IsWalked self.old state }

@@ -7,7 +7,7 @@ use Rattle.lalrpop_parser.specs.Words.{IsTreeWithin, tree_of}
 use Rattle.lalrpop_lr1.proofs.theory.runs.AnyStart.{carried, is_alone, has_child, child_below, child_told, error_told, refused_old, run_of_child, run_of_error}
 use Rattle.lalrpop_lr1.proofs.headline.any_start.parse_from_any.Goals as goal
 
--- the grammar that was parsed by and its start symbol, under the names of the clauses
+-- what holds of the grammar and the start symbol of the parse holds under the names of the clauses
 of_value : (P : Grammar → NonterminalString → Type 0) (a b : Augmented) (f : NonterminalString) → a ≡ b → f ≡ a.start → P a.grammar f → P b.grammar b.start
 of_value P a b f seen copied = carried P (ap (λ (x : Augmented). x.grammar) seen) (copied ∙ ap (λ (x : Augmented). x.start) seen)
 

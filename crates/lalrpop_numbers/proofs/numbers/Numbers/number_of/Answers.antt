@@ -7,7 +7,7 @@ use Rattle.lalrpop_collections.proofs.theory.lists.Places.{same_some, slice_get_
 use Rattle.lalrpop_numbers.proofs.theory.numbers.ProductionPlaces.{dot_within, stands_beside}
 use Rattle.lalrpop_numbers.proofs.numbers.Numbers.number_of.Goals as goal
 
--- the dotted production that is met is one of the production sought
+-- the dotted production that the search reaches is one of the production that is sought
 there : (c : goal.After-met) → (i : Dotted Nil) × (slice_get c.args.self.now.items.items c.in-Some.place ≡ Some i) × (i.production ≡ c.args.item.now.production) × (c.met.inside.index ≡ i.index)
 there c =
     let items : List (Dotted Nil) = c.args.self.now.items.items in
@@ -17,7 +17,7 @@ there c =
     let same : c.index-met.result.now ≡ found.0 = same_some c.index-met.result.now found.0 (sym (slice_get_at items c.in-Some.place c.index-met.result.now within c.index-met.ensures) ∙ at) in
     (found.0, at, found.2 ∙ ap (λ (i : Dotted Nil). i.production) c.item.view_is, ap (λ (i : Dotted Nil). i.index) (c.met.view_is ∙ same))
 
--- so the one sought stands beside it
+-- the dotted production that is sought is as far from it as their dots are apart
 beside : (c : goal.After-met) → slice_get c.args.self.now.items.items (c.in-Some.place - c.met.inside.index + c.item.inside.index) ≡ Some c.args.item.now
 beside c =
     let items : List (Dotted Nil) = c.args.self.now.items.items in

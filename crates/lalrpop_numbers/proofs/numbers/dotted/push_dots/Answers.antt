@@ -6,7 +6,7 @@ use Rattle.lalrpop_numbers.specs.Words.{with_dots}
 use Rattle.lalrpop_numbers.proofs.Types.{Nil, Production}
 use Rattle.lalrpop_numbers.proofs.numbers.dotted.push_dots.Goals as goal
 
--- a dot more
+-- one more dot
 more : (p : Production) (old mid new : List (Dotted Nil)) (k : ℕ) (i : Dotted Nil) → mid ≡ old ++ map (with_dot p) (range_with_len 0 k) → new ≡ mid ++ i ∷ [] → i ≡ with_dot p k → new ≡ old ++ map (with_dot p) (range_with_len 0 (k + 1))
 more p old mid new k i whole pushed is =
     let before : List (Dotted Nil) = map (with_dot p) (range_with_len 0 k) in

@@ -2,7 +2,7 @@ use Rattle.std.proofs.Common.{◌≡◌, ◌++◌, map, reverse}
 use Rattle.lalrpop_parser.specs.Words.{tree_of}
 use Rattle.lalrpop_parser.proofs.interpret.tree.push_children.Given as goal
 
--- the trees on the stack, and the children that are left, are the first ones and all children
+-- the trees on the stack, and the children that are left, are the trees at first and all children
 abbrev pub invariant-loop-child : goal.invariant-loop-child
 invariant-loop-child l =
     map (λ t. tree_of t.now) l.left.items ++ reverse (map tree_of l.child-iterator.iter.rest.now) ≡ map (λ t. tree_of t.now) l.fn.left.items ++ reverse (map tree_of l.children.items)

@@ -12,7 +12,7 @@ use Rattle.lalrpop_traces.proofs.theory.traces.TraceGraphs.{on_ok}
 use Rattle.lalrpop_traces.proofs.theory.traces.TraceSteps.{passed_none, passed_one, step_end, step_item, named_pushed}
 use Rattle.lalrpop_traces.proofs.trace.meeting.meet_items.Goals as goal
 
--- the items of a state that is there
+-- the items of a state of the list
 read : (states : List (State Bits)) (n : ℕ) (d : State Bits) (items : List (Dotted Bits)) → n < length states → items ≡ (get_or states n d).items.vec.items → items_at (slice_get states n) ≡ items
 read states n d items within is = ap (λ (o : Option (State Bits)). items_at o) (slice_get-get_or states n d within) ∙ sym is
 

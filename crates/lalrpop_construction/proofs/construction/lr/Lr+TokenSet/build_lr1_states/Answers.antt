@@ -14,7 +14,7 @@ use Rattle.lalrpop_construction.proofs.construction.lr.Lr+TokenSet.build_lr1_sta
 abbrev settings : Grammar → NonterminalString → ℕ → Bits → Settings Bits
 settings g start stop_after lookahead = record { construction = record { rules = rules_of g; start = start; first = productions_of g start; lookahead = lookahead }; stop_after = stop_after }
 
--- where it is the canonical construction of a grammar, it is so of its own
+-- a construction that is the canonical one of a grammar is that of its own grammar
 of_own : (g h : Grammar) (start other : NonterminalString) (stop_after : ℕ) (lookahead : Bits) (s : Settings Bits) → settings g start stop_after lookahead ≡ s → s.construction ≡ canonical_of h other → s ≡ stopping g start stop_after
 of_own g h start other stop_after lookahead s is given =
     let all : (settings g start stop_after lookahead).construction ≡ canonical_of h other = ap (λ (k : Settings Bits). k.construction) is ∙ given in

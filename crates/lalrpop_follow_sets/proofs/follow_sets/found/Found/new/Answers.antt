@@ -6,7 +6,7 @@ use Rattle.lalrpop_follow_sets.proofs.follow_sets.found.Found.new.Goals as goal
 pub nodes_of-requires-clause-named : goal.nodes_of-requires-clause-named
 nodes_of-requires-clause-named c s x target state at edge = subst (λ (symbols : List Symbol). x < length symbols) (sym c.deref.ensures.value) ((c.requires.numbered.each s state at).named x target edge)
 
--- the number of the start symbol is one of a nonterminal, or that of all symbols
+-- the number of the start symbol is that of a nonterminal, or the count of the symbols
 number_or_count : (symbols : List Symbol) (name : NonterminalString) (x : ℕ) → IsNumberOrCount symbols name x → IsNonterminalOrCount symbols x
 number_or_count symbols name x (inl there) = inl (name, there)
 number_or_count symbols name x (inr none) = inr none.0

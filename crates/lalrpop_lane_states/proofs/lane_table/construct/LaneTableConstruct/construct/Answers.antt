@@ -18,7 +18,7 @@ returns-then-at_once-clause-tables c =
 pub returns-then-at_once-clause-lalr : goal.returns-then-at_once-clause-lalr
 returns-then-at_once-clause-lalr c alone _ = was_resolved c.in_ok-states.at_once _ _ c.if-at_once.true (c.in_ok-states.ensures.lalr alone)
 
--- ---- some may be copies
+-- ---- some states may be copies
 pub returns-then-is_empty-clause-tables : goal.returns-then-is_empty-clause-tables
 returns-then-is_empty-clause-tables c =
     let g = c.args.self.grammar.now in

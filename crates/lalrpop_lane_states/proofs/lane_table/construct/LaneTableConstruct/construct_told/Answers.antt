@@ -17,7 +17,7 @@ returns-then-at_once-clause-at_once c _ alone = was_resolved c.in_ok-states.at_o
 pub returns-then-at_once-clause-lalr : goal.returns-then-at_once-clause-lalr
 returns-then-at_once-clause-lalr c alone _ = was_resolved c.in_ok-states.at_once _ _ c.if-at_once.true (c.in_ok-states.ensures.lalr alone)
 
--- ---- one of them has a conflict
+-- ---- one of the states has a conflict
 pub returns-then-not-branch-clause-tables : goal.returns-then-not-branch-clause-tables
 returns-then-not-branch-clause-tables c = record {
   states = c.in_ok-states.states.items;
@@ -28,7 +28,7 @@ returns-then-not-branch-clause-tables c = record {
 pub returns-then-not-branch-clause-lalr : goal.returns-then-not-branch-clause-lalr
 returns-then-not-branch-clause-lalr c alone lalr = absurd (was_met c.in_ok-states.at_once _ _ c.if-at_once.false (c.in_ok-states.ensures.lalr alone) lalr)
 
--- ---- none has one
+-- ---- none of the states has a conflict
 pub returns-clause-tables : goal.returns-clause-tables
 returns-clause-tables c =
     let free = subst (λ (xs : List (State Bits)). HaveNoConflict c.args.self.now.grammar.now.terminals xs) c.deref.ensures.value (c.in_ok-have_no_conflict.ensures.0 c.if-not-branch.false) in

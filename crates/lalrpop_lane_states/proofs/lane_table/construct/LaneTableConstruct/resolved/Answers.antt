@@ -16,7 +16,7 @@ returns-in_default-clause-lalr c alone =
     let told = c.in_ok-first.ensures in
     tables_lalr c.args.self.now.grammar.now c.args.self.now.start c.requires.ready.well_formed c.all-terminals.ensures.distinct c.resolve_states.new.states.items told.lanes alone (none_told c.in_ok-first.field-0 _ _ c.in_default.not-Some told.resolved)
 
--- ---- some do, so states may be copied
+-- ---- two actions of a state share a token, so states may be copied
 pub returns-clause-lalr : goal.returns-clause-lalr
 returns-clause-lalr c alone lalr =
     let told = c.in_ok-first.ensures in

@@ -1,6 +1,6 @@
 use Rattle.lalrpop_parser.specs.Words.{tree_nodes}
 use Rattle.lalrpop_parser.proofs.interpret.tree.ParseTree.+drop.Given as goal
 
--- each time one node is dropped
+-- each turn drops one node
 abbrev pub decreases-loop-tree : goal.decreases-loop-tree
 decreases-loop-tree l = tree_nodes l.rest.items

@@ -3,7 +3,7 @@ use Rattle.lalrpop_base.specs.Words.{Node}
 use Rattle.lalrpop_parser.specs.Words.{forest_of, steps_of, tree_within}
 use Rattle.lalrpop_parser.proofs.interpret.tree.copies.clone_node.Given as goal
 
--- the steps that are left make the whole node of what was copied
+-- the steps that are left complete the copy so far to the whole node
 abbrev pub invariant-steps : goal.invariant-steps
 invariant-steps l = tree_within l.node l.around.items (steps_of l.walk) ≡ Node l.name (forest_of l.children.items)
 

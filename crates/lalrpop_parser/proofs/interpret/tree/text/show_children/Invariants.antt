@@ -3,7 +3,7 @@ use Rattle.std.specs.Fmt.{HasWritten, IsPlainFormatter}
 use Rattle.lalrpop_parser.specs.Words.{forest_of, steps_of, steps_text, trees_text}
 use Rattle.lalrpop_parser.proofs.interpret.tree.text.show_children.Given as goal
 
--- what was written, and what the steps that are left write, is the text of all
+-- the text so far, and that of the steps that are left, is the text of all
 abbrev pub invariant-steps : goal.invariant-steps
 invariant-steps g l =
     IsPlainFormatter l.initial.f → (done : List ℕ) × HasWritten g.W.Write.write_str_gives l.initial.f done l.f

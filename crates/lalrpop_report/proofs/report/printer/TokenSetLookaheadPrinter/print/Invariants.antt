@@ -4,7 +4,7 @@ use Rattle.lalrpop_base.specs.Words.{token_of}
 use Rattle.lalrpop_report.specs.Words.{tokens_in, tokens_text}
 use Rattle.lalrpop_report.proofs.report.printer.TokenSetLookaheadPrinter.print.Given as goal
 
--- what was printed, and the text of the tokens that are left, is the text of all
+-- the text so far, and that of the tokens that are left, is the text of all
 abbrev pub invariant-loop-token : goal.invariant-loop-token
 invariant-loop-token g l =
     (done : List ℕ) × WritesInCalls g.W.Write.write_str_gives l.initial.out done l.out

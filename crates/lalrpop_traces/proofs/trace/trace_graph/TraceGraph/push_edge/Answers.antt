@@ -14,7 +14,7 @@ invariant_of-self-in_err-push c = kept_refused c.args.key c.in_ok-reserve.ensure
 pub returns-in_err-push-clause-graph : goal.returns-in_err-push-clause-graph
 returns-in_err-push-clause-graph c = kept_graph (kept_refused c.args.key c.in_ok-reserve.ensures.items c.in_err-push.ensures.others c.in_err-push.ensures.err c.self.invariant)
 
--- the edge stands behind the others
+-- the edge is after the others
 pushed : (c : goal.After-unwrap) → c.push-2.new.self.items ≡ c.self.inside.edges.items ++ c.args.edge ∷ []
 pushed c = c.push-2.ensures.items ∙ ap (λ r. cond (is_ok r) (c.reserve.new.self.items ++ c.args.edge ∷ []) c.reserve.new.self.items) c.unwrap.ensures ∙ ap (λ xs. xs ++ c.args.edge ∷ []) c.in_ok-reserve.ensures.items
 
