@@ -1,4 +1,4 @@
--- The words of this crate's contracts, by name: where each is defined.
+-- The list of the definitions that this crate's contracts use, with the place of each.
 pub use Rattle.lalrpop_grammar.specs.closures.Closures.{AreCanonical, AreChecked, AreClosed, InClosure, InTokenClosure, IsAtStart, IsAtStartWith, IsCarried, IsMoved}
 pub use Rattle.lalrpop_grammar.specs.closures.Closures.{IsMovedWith, IsReached, KernelsDiffer, TokenKernelsDiffer, at_zero, begins_rest, eof_at_start, expanded}
 pub use Rattle.lalrpop_grammar.specs.closures.Closures.{first_of_rest, in_kernel, inherits, items_of, over, through_rest, with_token}
@@ -17,7 +17,7 @@ pub use Rattle.lalrpop_grammar.specs.grammars.Augmented.{IsAugmented}
 pub use Rattle.lalrpop_grammar.specs.grammars.ExactNames.{name_exact, same_production}
 pub use Rattle.lalrpop_grammar.specs.grammars.Grammar.{Derives, IsBeginning, IsFirst, IsNullable, IsOnNoRightSide, IsSentence, as_it_is, replace, symbols_of}
 pub use Rattle.lalrpop_grammar.specs.grammars.Marks.{inline_mark}
-pub use Rattle.lalrpop_grammar.specs.grammars.Names.{nonterminal_text, symbol_text, terminal_text, token_text}
+pub use Rattle.lalrpop_grammar.specs.grammars.Names.{nonterminal_text, production_text, symbol_text, symbols_text, terminal_text, token_text}
 pub use Rattle.lalrpop_grammar.specs.grammars.NewStart.{HasNewStart, IsEntryOf, IsRefusedStart, IsUnused, start_action, start_production, underscored}
 pub use Rattle.lalrpop_grammar.specs.grammars.TerminalPlaces.{ArePlaced, HasPlaces, IsIndexed, place_in}
 pub use Rattle.lalrpop_grammar.specs.grammars.Tokens.{FitsTokens, HasToken, IsBitOf, IsKnown, IsTerminal, seen, token_of}

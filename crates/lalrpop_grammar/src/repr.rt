@@ -8,7 +8,8 @@ pub mod terminals;
 
 ghost use Rattle.std.specs.Prelude.{◌≡◌, ◌<◌, ◌↔◌, IsTrue, IfOk, List, Some, length};
 ghost use Rattle.std.specs.Coded.{coded_ℕ};
-ghost use Rattle.lalrpop_grammar.specs.grammars.Names.{nonterminal_text, terminal_text, symbol_text};
+ghost use Rattle.std.specs.Fmt.{WritesOnOk};
+ghost use Rattle.lalrpop_grammar.specs.grammars.Names.{nonterminal_text, production_text, terminal_text, symbol_text, symbols_text};
 
 pub use self::augmentation::{augment, is_on_no_right_side};
 pub use self::grammar::{
@@ -30,6 +31,7 @@ pub struct NonterminalString {
 }
 
 impl NonterminalString {
+    /// A copy, which shares the bytes of the text.
     pub fn clone(&self, alloc: Global) -> Result<Self, OutOfMemory>
         ensures { IfOk result (λ copy. copy ≡ self.now) }
     {
@@ -38,7 +40,7 @@ impl NonterminalString {
         })
     }
 
-    /// How many bytes are printed.
+    /// The number of bytes in which the name is printed.
     pub fn display_len(&self) -> usize
         ensures { result ≡ length (nonterminal_text self.now) }
     {
@@ -64,7 +66,7 @@ impl fmt::Debug for NonterminalString {
     }
 }
 
-/// A terminal, ordered by its kind and then by its text.
+/// A terminal. Terminals are ordered by their kinds, and then by their texts.
 #[derive(Drop, PartialEq, Eq, PartialOrd, Ord, Hash)]
 pub enum TerminalString {
     Literal(Text),
@@ -73,6 +75,7 @@ pub enum TerminalString {
 }
 
 impl TerminalString {
+    /// A copy, which shares the bytes of the text.
     pub fn clone(&self, alloc: Global) -> Result<Self, OutOfMemory>
         ensures { IfOk result (λ copy. copy ≡ self.now) }
     {
@@ -83,7 +86,7 @@ impl TerminalString {
         }
     }
 
-    /// How many bytes are printed.
+    /// The number of bytes in which the terminal is printed. A literal is printed in quotes.
     pub fn display_len(&self) -> usize
         ensures { result ≡ length (terminal_text self.now) }
     {
@@ -145,6 +148,7 @@ pub enum Symbol {
 }
 
 impl Symbol {
+    /// A copy, which shares the bytes of the text.
     pub fn clone(&self, alloc: Global) -> Result<Self, OutOfMemory>
         ensures { IfOk result (λ copy. copy ≡ self.now) }
     {
@@ -154,7 +158,7 @@ impl Symbol {
         }
     }
 
-    /// How many bytes are printed.
+    /// The number of bytes in which the symbol is printed.
     pub fn display_len(&self) -> usize
         ensures { result ≡ length (symbol_text self.now) }
     {
@@ -191,12 +195,14 @@ impl fmt::Debug for Symbol {
 pub struct ActionFn(u32);
 
 impl ActionFn {
+    /// The action with a number.
     pub fn new(number: u32) -> Self
         ensures { result.0 ≡ number }
     {
         ActionFn(number)
     }
 
+    /// The number of the action.
     pub fn index(&self) -> usize
         ensures { result ≡ self.now.0 }
     {
@@ -204,14 +210,14 @@ impl ActionFn {
     }
 }
 
-/// Where a production stands in its file.
+/// Where a production or an entry is in its file: the offsets in bytes of its start and its end.
 #[derive(Clone, Copy, Debug, PartialEq, Eq, PartialOrd, Ord, Hash)]
 pub struct Span(pub usize, pub usize);
 
 /// The symbols of a right side, in order.
 pub type Symbols = Sequence<Symbol>;
 
-/// A copy of some symbols.
+/// A copy of the symbols.
 pub fn clone_symbols(alloc: Global, symbols: &[Symbol]) -> Result<Symbols, OutOfMemory>
     ensures { IfOk result (λ copy. copy ≡ symbols.now) }
 {
@@ -222,7 +228,8 @@ pub fn clone_symbols(alloc: Global, symbols: &[Symbol]) -> Result<Symbols, OutOf
     Ok(copy)
 }
 
-/// A production.
+/// A production: a nonterminal, one of its right sides, and the action and the span of the
+/// production.
 #[derive(Debug, Drop, PartialEq, Eq, PartialOrd, Ord, Hash)]
 pub struct Production {
     pub nonterminal: NonterminalString,
@@ -232,6 +239,7 @@ pub struct Production {
 }
 
 impl Production {
+    /// A copy of the production.
     pub fn clone(&self, alloc: Global) -> Result<Self, OutOfMemory>
         ensures { IfOk result (λ copy. copy ≡ self.now) }
     {
@@ -242,4 +250,23 @@ impl Production {
             span: self.span,
         })
     }
+}
+
+impl fmt::Display for Production {
+    ghost output = { λ x. Some (production_text x) };
+
+    fn fmt<W: fmt::Write>(&self, f: &mut fmt::Formatter<W>) -> fmt::Result {
+        write!(f, "{} ->", self.nonterminal)?;
+        show_symbols(self.symbols.as_slice(), f)
+    }
+}
+
+// Writes symbols, each after a space.
+fn show_symbols<W: fmt::Write>(symbols: &[Symbol], f: &mut fmt::Formatter<W>) -> fmt::Result
+    ensures { WritesOnOk W.write_str_gives f.old result (symbols_text symbols.now) f.new }
+{
+    for symbol in symbols {
+        write!(f, " {symbol}")?;
+    }
+    Ok(())
 }

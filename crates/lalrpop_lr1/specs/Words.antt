@@ -1,4 +1,4 @@
--- The words of this crate's contracts, by name: where each is defined.
+-- The definitions that the contracts of this crate name, each with the file that has it.
 pub use Rattle.lalrpop_inline.specs.inlining.InlineChoices.{behind, choices, completed, extended, followed, inlined, is_named, laid_out, mentions, part_symbols, parts}
 pub use Rattle.lalrpop_inline.specs.inlining.InlineMeetings.{AreMarkedAmong, ComesBack, ComesBackFrom, GoesPast, IsComeBackTo, IsEntered, IsInside, IsMetName, IsNewest}
 pub use Rattle.lalrpop_inline.specs.inlining.InlineMeetings.{IsPassed, LeadsBack, Leaves, NamesBy, through, here, inside, later, mentions_back, no_more, past_over, passing}
@@ -12,7 +12,7 @@ pub use Rattle.lalrpop_inline.specs.inlining.InlineUsers.{HasUsers, KeepsUsers, 
 pub use Rattle.lalrpop_inline.specs.inlining.InlineWalks.{AreFrames, HasFrames, HasNext, IsFrame, IsWalk, IsWalked, LeadTo, mentioned_in, names_of, names_on}
 pub use Rattle.lalrpop_inline.specs.inlining.Inlined.{HasTooMany, IsInlined, IsLaidOut, IsRefusalOf}
 pub use Rattle.lalrpop_report.specs.reports.Report.{ascending, conflicts_in, error_report, failure_report, kind_line, next_state, report_text, state_number, tables_report}
-pub use Rattle.lalrpop_report.specs.reports.ReportLines.{goto_line, item_lines, longest, production_line, reduction_lines, shift_line, symbols_text, tokens_in}
+pub use Rattle.lalrpop_report.specs.reports.ReportLines.{goto_line, item_lines, longest, production_line, reduction_lines, shift_line, tokens_in}
 pub use Rattle.lalrpop_report.specs.reports.ReportLines.{tokens_line, tokens_text}
 pub use Rattle.lalrpop_report.specs.reports.ReportPlaces.{ArePlacesOf, places_of}
 pub use Rattle.lalrpop_report.specs.reports.ReportStates.{block_at, conflict_block, items_block, reductions_block}
@@ -27,6 +27,7 @@ pub use Rattle.lalrpop_lr1.specs.runs.ParseAnswers.{HadTables, HadTablesWhere, I
 pub use Rattle.lalrpop_parser.specs.runs.Reading.{HasPartialOutcome, PartialOutcome, Reads, Stack, Stop, StopsReading, all_read, before, cut_off, early_end, stopped}
 pub use Rattle.lalrpop_parser.specs.runs.Reading.{stuck}
 pub use Rattle.lalrpop_parser.specs.runs.Steps.{HasOutcomeFrom, IsParsedIn, cut_off_from, other_end_from, parsed_from, stuck_from}
+pub use Rattle.lalrpop_traces.specs.traces.ExampleTexts.{after_mark, before_mark, marked_text}
 pub use Rattle.lalrpop_traces.specs.traces.Examples.{CarryRightSides, IsExampleOf, IsRightSide, ReduceAll, ReduceAround, SpellsDerivation, between, cursor_list}
 pub use Rattle.lalrpop_traces.specs.traces.Examples.{cursor_of, edge_of, following, name_of, path_of, place, place_of, prefix_of, prefixes, reduced, reduced_at, spelled}
 pub use Rattle.lalrpop_traces.specs.traces.Examples.{suffix_of, suffixes}

@@ -1,4 +1,5 @@
 -- The words of this crate's contracts, by name: where each is defined.
+pub use Rattle.lalrpop_traces.specs.traces.ExampleTexts.{after_mark, before_mark, marked_text}
 pub use Rattle.lalrpop_traces.specs.traces.Examples.{CarryRightSides, IsExampleOf, IsRightSide, ReduceAll, ReduceAround, SpellsDerivation, between, cursor_list}
 pub use Rattle.lalrpop_traces.specs.traces.Examples.{cursor_of, edge_of, following, name_of, path_of, place, place_of, prefix_of, prefixes, reduced, reduced_at, spelled}
 pub use Rattle.lalrpop_traces.specs.traces.Examples.{suffix_of, suffixes}

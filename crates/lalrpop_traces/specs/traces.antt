@@ -1,4 +1,5 @@
 -- Backtraces, their graphs and their example paths.
+pub mod ExampleTexts
 pub mod Examples
 pub mod Meetings
 pub mod NodeItems

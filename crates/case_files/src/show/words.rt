@@ -1,13 +1,12 @@
-//! Symbols, tokens, productions and items. A list without members is a hyphen.
+//! Symbols, tokens, productions and items. An empty list is shown as a hyphen.
 use lalrpop_base::lookahead::nil::Nil;
-use lalrpop_base::lookahead::token::TokenRef;
 use lalrpop_base::lookahead::token_set::TokenSet;
 use lalrpop_base::lr1_core::item::Item;
 use lalrpop_base::memory::OutOfMemory;
 use lalrpop_base::repr::terminals::TerminalSet;
 use lalrpop_base::repr::{Production, Symbol};
 
-/// Appends symbols, each behind a space.
+/// Appends symbols, each after a space.
 pub fn push_symbols(text: &mut String, symbols: &[Symbol]) -> Result<(), OutOfMemory> {
     for symbol in symbols {
         write!(text, " {symbol}")?;
@@ -15,7 +14,7 @@ pub fn push_symbols(text: &mut String, symbols: &[Symbol]) -> Result<(), OutOfMe
     Ok(())
 }
 
-/// Appends symbols, each behind a space, and a hyphen where there are none.
+/// Appends symbols, each after a space, or a hyphen if there are none.
 pub fn push_list(text: &mut String, symbols: &[Symbol]) -> Result<(), OutOfMemory> {
     if symbols.is_empty() {
         text.push_str(" -")?;
@@ -23,8 +22,7 @@ pub fn push_list(text: &mut String, symbols: &[Symbol]) -> Result<(), OutOfMemor
     push_symbols(text, symbols)
 }
 
-/// Appends the tokens of a set by rising bit, each behind a space, and a hyphen where there are
-/// none.
+/// Appends the tokens of a set by ascending bit, each after a space, or a hyphen if there are none.
 pub fn push_tokens(
     text: &mut String,
     set: &TokenSet,
@@ -34,22 +32,12 @@ pub fn push_tokens(
         text.push_str(" -")?;
     }
     for token in set.iter(terminals) {
-        push_token(text, token)?;
+        write!(text, " {token}")?;
     }
     Ok(())
 }
 
-// Appends a token behind a space.
-fn push_token(text: &mut String, token: TokenRef<'_>) -> Result<(), OutOfMemory> {
-    match token {
-        TokenRef::Terminal(name) => write!(text, " {name}")?,
-        TokenRef::Eof => text.push_str(" Eof")?,
-        TokenRef::Error => text.push_str(" Error")?,
-    }
-    Ok(())
-}
-
-/// Appends numbers, each behind a space, and a hyphen where there are none.
+/// Appends numbers, each after a space, or a hyphen if there are none.
 pub fn push_numbers(text: &mut String, numbers: &[usize]) -> Result<(), OutOfMemory> {
     if numbers.is_empty() {
         text.push_str(" -")?;
@@ -60,18 +48,13 @@ pub fn push_numbers(text: &mut String, numbers: &[usize]) -> Result<(), OutOfMem
     Ok(())
 }
 
-/// Appends a production: the number of its action, its name and its symbols.
+/// Appends a production: the number of its action, its nonterminal and its symbols.
 pub fn push_production(text: &mut String, production: &Production) -> Result<(), OutOfMemory> {
-    write!(
-        text,
-        "{}: {} ->",
-        production.action.index(),
-        production.nonterminal
-    )?;
-    push_symbols(text, production.symbols.as_slice())
+    write!(text, "{}: {production}", production.action.index())?;
+    Ok(())
 }
 
-/// Appends an item: its production with a dot, and its tokens.
+/// Appends an item: its production with a dot, and the tokens of its lookahead.
 pub fn push_item<L: ShownLookahead>(
     text: &mut String,
     item: &Item<'_, L>,
@@ -90,9 +73,9 @@ pub fn push_item<L: ShownLookahead>(
     item.lookahead.push_on(text, terminals)
 }
 
-/// A lookahead that is shown behind what it is of.
+/// A lookahead that is shown after its item, its reduction or its conflict.
 pub trait ShownLookahead {
-    /// Appends ` on` and the tokens, where there is a lookahead.
+    /// Appends ` on` and the tokens. For `Nil`, the lookahead of LR(0) items, it appends nothing.
     fn push_on(&self, text: &mut String, terminals: &TerminalSet) -> Result<(), OutOfMemory>;
 }
 

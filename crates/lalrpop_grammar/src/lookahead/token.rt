@@ -10,7 +10,7 @@ use lalrpop_collections::memory::OutOfMemory;
 use std::alloc::Global;
 use std::fmt;
 
-/// A terminal, the end of the input or an error.
+/// A terminal, the end of the input (`Eof`), or an error.
 #[derive(Drop, PartialEq, Eq, PartialOrd, Ord, Hash)]
 pub enum Token {
     Eof,
@@ -19,10 +19,11 @@ pub enum Token {
 }
 
 impl Token {
+    /// The end of the input, by its old name.
     #[deprecated(since = "0.20.0", note = "use `Eof` instead")]
     pub const EOF: Token = Token::Eof;
 
-    /// The terminal of a token that is one.
+    /// The terminal of a token, which must be a terminal.
     pub fn unwrap_terminal(&self) -> &TerminalString
         requires { IsTerminal self.now }
         ensures { self.now ≡ Token.Terminal result.now }
@@ -34,6 +35,7 @@ impl Token {
         }
     }
 
+    /// A copy of the token.
     pub fn clone(&self, alloc: Global) -> Result<Token, OutOfMemory>
         ensures { IfOk result (λ copy. copy ≡ self.now) }
     {
@@ -73,6 +75,20 @@ pub enum TokenRef<'terminals> {
     Eof,
     Error,
     Terminal(&'terminals TerminalString),
+}
+
+impl fmt::Display for TokenRef<'_> {
+    ghost output = { λ x. Some (token_text (seen x)) };
+
+    ghost styled_output = { λ x _. Some (token_text (seen x)) };
+
+    fn fmt<W: fmt::Write>(&self, f: &mut fmt::Formatter<W>) -> fmt::Result {
+        match self {
+            TokenRef::Eof => f.write_str("Eof"),
+            TokenRef::Error => f.write_str("Error"),
+            TokenRef::Terminal(terminal) => fmt::Display::fmt(*terminal, f),
+        }
+    }
 }
 
 /// The tokens of a set, by rising bit.

@@ -3,36 +3,31 @@ use Rattle.std.specs.Prelude.{ℕ, ◌-◌, List, [], ◌∷◌, ◌++◌, lengt
 use Rattle.std.specs.Fmt.{char_count, decimal}
 use Rattle.std.specs.List.{flat_map}
 use Rattle.std.specs.Borrow.{Bor}
-use Rattle.lalrpop_base.specs.Words.{Bits, rising, Dotted, nonterminal_text, terminal_text, symbol_text, token_text, token_of, prefix_of, rest_of}
+use Rattle.lalrpop_base.specs.Words.{Bits, rising, Dotted, nonterminal_text, production_text, symbols_text, terminal_text, token_text, token_of, prefix_of, rest_of}
 use Rattle.lalrpop_grammar.specs.declared.repr.NonterminalString.{NonterminalString}
 use Rattle.lalrpop_grammar.specs.declared.repr.TerminalString.{TerminalString}
-use Rattle.lalrpop_grammar.specs.declared.repr.Symbol.{Symbol}
 use Rattle.lalrpop_grammar.specs.declared.repr.Production.{Production}
 use Rattle.lalrpop_grammar.specs.declared.lookahead.token.Token.{Token}
 use Rattle.lalrpop_states.specs.declared.lr1_core.state.StateIndex.{StateIndex}
 
--- a text, and spaces on its right up to a number of characters; a longer text is not cut
+-- a text padded with spaces on its right to a number of characters; a longer text is not cut
 abbrev pub filled : ℕ → List ℕ → List ℕ
 filled width text = text ++ replicate (width - char_count text) 32
 
--- the length in bytes of the longest text, 0 where there is none
+-- the length in bytes of the longest text, 0 if there is none
 abbrev pub longest : List (List ℕ) → ℕ
 longest [] = 0
 longest (text ∷ texts) = max (length text) (longest texts)
 
--- symbols, each behind a space
-abbrev pub symbols_text : List Symbol → List ℕ
-symbols_text symbols = flat_map (λ s. codes " " ++ symbol_text s) symbols
-
 -- the line of a production
 abbrev pub production_line : Production → List ℕ
-production_line p = nonterminal_text p.nonterminal ++ (codes " ->" ++ (symbols_text p.symbols ++ codes "\n"))
+production_line p = production_text p ++ codes "\n"
 
 -- the tokens of a set, by rising bit
 abbrev pub tokens_in : List TerminalString → Bits → List Token
 tokens_in terminals set = map (token_of terminals) (rising set)
 
--- tokens, each behind a space
+-- tokens, each after a space
 abbrev pub tokens_text : List Token → List ℕ
 tokens_text tokens = flat_map (λ t. codes " " ++ token_text t) tokens
 
@@ -41,24 +36,26 @@ abbrev pub tokens_line : List Token → List ℕ
 tokens_line [] = []
 tokens_line (t ∷ tokens) = codes "        lookahead" ++ (tokens_text (t ∷ tokens) ++ codes "\n")
 
--- the line of a shift, whose terminal stands in a width
+-- the line of a shift, with the terminal padded to a width
 abbrev pub shift_line : ℕ → TerminalString × StateIndex → List ℕ
 shift_line width (t, target) = codes "    " ++ (filled width (terminal_text t) ++ (codes " shift and goto " ++ (decimal target.0 ++ codes "\n")))
 
--- the line of a goto, whose nonterminal stands in a width
+-- the line of a goto, with the nonterminal padded to a width
 abbrev pub goto_line : ℕ → NonterminalString × StateIndex → List ℕ
 goto_line width (name, target) = codes "    " ++ (filled width (nonterminal_text name) ++ (codes " goto " ++ (decimal target.0 ++ codes "\n")))
 
--- what a lookahead means is a parameter, so that this serves each kind of lookahead
+-- the parameter says which bits a lookahead means, so that the definitions serve each kind of
+-- lookahead
 module _ {L : Type 0} (meaning : L → Bits) (terminals : List TerminalString) where
   -- the line of a lookahead
   abbrev pub lookahead_line : L → List ℕ
   lookahead_line lookahead = tokens_line (tokens_in terminals (meaning lookahead))
 
-  -- the lines of an item, behind an empty line: its nonterminal in a width, the symbols before its dot, the dot and those behind it; its lookahead
+  -- an empty line and the lines of an item: its nonterminal padded to a width, the symbols before
+  -- its dot, the dot, the symbols after it, and its lookahead
   abbrev pub item_lines : ℕ → Dotted L → List ℕ
   item_lines width item = codes "\n    " ++ (filled width (nonterminal_text item.production.nonterminal) ++ (codes " ->" ++ (symbols_text (prefix_of item) ++ (codes " ." ++ (symbols_text (rest_of item) ++ (codes "\n" ++ lookahead_line item.lookahead))))))
 
-  -- the lines of a reduction, behind an empty line
+  -- an empty line and the lines of a reduction
   abbrev pub reduction_lines : L × Bor Production → List ℕ
   reduction_lines reduction = codes "\n    reduction " ++ (production_line reduction.1.now ++ lookahead_line reduction.0)

@@ -1,6 +1,7 @@
 //! The lines of a report.
 ghost use Rattle.std.specs.Prelude.{◌≡◌, ◌++◌, OnOk, string_bytes};
-ghost use Rattle.lalrpop_report.specs.reports.ReportLines.{filled, symbols_text, production_line, lookahead_line, item_lines, reduction_lines, shift_line, goto_line};
+ghost use Rattle.lalrpop_base.specs.Words.{symbols_text};
+ghost use Rattle.lalrpop_report.specs.reports.ReportLines.{filled, production_line, lookahead_line, item_lines, reduction_lines, shift_line, goto_line};
 
 use super::printer::LookaheadPrinter;
 use lalrpop_base::lr1_core::item::Item;
@@ -10,7 +11,7 @@ use lalrpop_base::repr::terminals::TerminalSet;
 use lalrpop_base::repr::{NonterminalString, Production, Symbol, TerminalString};
 use std::alloc::Global;
 
-/// Appends a text, and spaces up to a number of characters.
+/// Appends a text, and then spaces until there are `width` characters. A longer text is not cut.
 pub(crate) fn push_filled(text: &mut String, shown: &str, width: usize) -> Result<(), OutOfMemory>
     ensures { OnOk result
         (string_bytes text.new ≡ string_bytes text.old ++ filled width shown.now) }
@@ -20,7 +21,7 @@ pub(crate) fn push_filled(text: &mut String, shown: &str, width: usize) -> Resul
     Ok(())
 }
 
-// Appends symbols, each behind a space.
+// Appends symbols, each after a space.
 fn push_symbols(text: &mut String, symbols: &[Symbol]) -> Result<(), OutOfMemory>
     ensures { OnOk result
         (string_bytes text.new ≡ string_bytes text.old ++ symbols_text symbols.now) }
@@ -36,13 +37,11 @@ pub(crate) fn push_production(text: &mut String, production: &Production) -> Res
     ensures { OnOk result
         (string_bytes text.new ≡ string_bytes text.old ++ production_line production.now) }
 {
-    write!(text, "{} ->", production.nonterminal)?;
-    push_symbols(text, production.symbols.as_slice())?;
-    text.push_str("\n")?;
+    write!(text, "{production}\n")?;
     Ok(())
 }
 
-/// Appends the line of a lookahead, if it holds a token.
+/// Appends the line of the tokens of a lookahead, if it has a token.
 pub(crate) fn push_lookahead<L: LookaheadPrinter<String>>(
     text: &mut String,
     lookahead: &L,
@@ -62,7 +61,7 @@ pub(crate) fn push_lookahead<L: LookaheadPrinter<String>>(
     Ok(())
 }
 
-/// Appends an empty line and the lines of an item, whose nonterminal stands in a width.
+/// Appends an empty line and the lines of an item. Its nonterminal is padded to `width` characters.
 pub(crate) fn push_item<L: LookaheadPrinter<String>>(
     text: &mut String,
     item: &Item<'_, L>,
@@ -98,7 +97,7 @@ pub(crate) fn push_reduction<L: LookaheadPrinter<String>>(
     Ok(())
 }
 
-/// Appends the line of a shift, whose terminal stands in a width.
+/// Appends the line of a shift. Its terminal is padded to `width` characters.
 pub(crate) fn push_shift(
     alloc: Global,
     text: &mut String,
@@ -116,7 +115,7 @@ pub(crate) fn push_shift(
     Ok(())
 }
 
-/// Appends the line of a goto, whose nonterminal stands in a width.
+/// Appends the line of a goto. Its nonterminal is padded to `width` characters.
 pub(crate) fn push_goto(
     text: &mut String,
     nonterminal: &NonterminalString,

@@ -1,4 +1,4 @@
-//! What prints in a report: tokens, and names whose length counts.
+//! The printing of tokens in a report, and the lengths of names there.
 ghost use Rattle.std.specs.Prelude.{◌≡◌, ◌≢◌, ◌++◌, ◌↔◌, [], ℕ, List, length, IsTrue, OnOk, codes};
 ghost use Rattle.std.specs.Fmt.{WritesInCalls};
 ghost use Rattle.lalrpop_base.specs.Words.{rising, nonterminal_text, terminal_text, token_text, seen};
@@ -14,12 +14,12 @@ use std::fmt;
 
 /// A lookahead whose tokens can be printed to a writer.
 pub trait LookaheadPrinter<W: fmt::Write>: Lookahead {
-    /// Prints the tokens by rising bit, each behind a space.
+    /// Prints the tokens by rising bit, each after a space.
     fn print(&self, terminals: &TerminalSet, out: &mut W) -> fmt::Result
         ensures { OnOk result (WritesInCalls W.write_str_gives out.old
             (tokens_text (tokens_in terminals.now (Self.meaning self.now))) out.new) };
 
-    /// Whether there is a token.
+    /// Whether the lookahead has a token.
     fn has_anything_to_print(&self) -> bool
         ensures { IsTrue result ↔ (rising (Self.meaning self.now) ≢ []) };
 }
@@ -47,24 +47,20 @@ impl<W: fmt::Write> LookaheadPrinter<W> for TokenSet {
     }
 }
 
-// Prints a token behind a space.
+// Prints a token after a space.
 fn print_token<W: fmt::Write>(token: TokenRef<'_>, out: &mut W) -> fmt::Result
     ensures { OnOk result (WritesInCalls W.write_str_gives out.old
         (codes " " ++ token_text (seen token.entry)) out.new) }
 {
-    match token {
-        TokenRef::Eof => write!(out, " Eof"),
-        TokenRef::Error => write!(out, " Error"),
-        TokenRef::Terminal(terminal) => write!(out, " {terminal}"),
-    }
+    write!(out, " {token}")
 }
 
-/// A name whose printed length counts.
+/// A name with the length of its printed text.
 pub trait HasDisplayLen {
-    // What is printed.
+    // The bytes that are printed.
     ghost shown: { Self → List ℕ };
 
-    /// How many bytes are printed.
+    /// The number of bytes that are printed.
     fn display_len(&self) -> usize
         ensures { result ≡ length (shown self.now) };
 }

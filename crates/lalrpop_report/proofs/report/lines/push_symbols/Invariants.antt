@@ -1,5 +1,5 @@
 use Rattle.std.proofs.Common.{◌≡◌, ◌++◌, string_bytes, take}
-use Rattle.lalrpop_report.specs.Words.{symbols_text}
+use Rattle.lalrpop_base.specs.Words.{symbols_text}
 use Rattle.lalrpop_report.proofs.report.lines.push_symbols.Given as goal
 
 abbrev pub invariant-loop-symbol : goal.invariant-loop-symbol

@@ -1,6 +1,0 @@
-use Rattle.std.proofs.Common.{◌≡◌, ◌++◌, string_bytes, take}
-use Rattle.lalrpop_lr1.specs.Words.{symbols_text}
-use Rattle.lrtab_run.proofs.explain.lines.push_symbols.Given as goal
-
-abbrev pub invariant-loop-symbol : goal.invariant-loop-symbol
-invariant-loop-symbol l = string_bytes l.text ≡ string_bytes l.fn.text ++ symbols_text (take l.symbol-index l.symbols)
