@@ -4,3 +4,4 @@ pub mod Numbered
 pub mod WellFormed
 pub mod TooLong
 pub mod Reading
+pub mod Refused

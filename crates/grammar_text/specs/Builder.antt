@@ -1,30 +1,67 @@
 -- What a builder of a grammar takes and refuses.
-use Rattle.std.specs.Prelude.{◌≡◌, ◌<◌, ◌^◌, ℕ, Bool, true, false, List, length, position, is_none, Some}
+use Rattle.std.specs.Prelude.{◌≡◌, ◌<◌, ◌^◌, ℕ, Bool, true, false, not, List, length, map, position, slice_get, is_none, Some}
 use Rattle.grammar_text.specs.declared.lines.Line.{Line}
 use Rattle.grammar_text.specs.declared.lines.PlacedLine.{PlacedLine}
 use Rattle.grammar_text.specs.declared.builder_error.BuilderError.{BuilderError}
 use Rattle.grammar_text.specs.declared.builder_error.BuilderError.TheVariants.{Name, Word, TooManyActions, Memory}
-use Rattle.grammar_text.specs.Symbols.{is_name, symbol_of}
+use Rattle.grammar_text.specs.declared.builder.SymbolText.{SymbolText}
+use Rattle.grammar_text.specs.declared.builder.SymbolText.TheVariants.{Nonterminal, Literal}
+use Rattle.lalrpop_grammar.specs.declared.repr.Symbol.{Symbol}
+use Rattle.lalrpop_grammar.specs.declared.repr.Symbol.TheVariants.{Nonterminal as NonterminalOf}
+use Rattle.grammar_text.specs.Symbols.{is_name, literal, name_of, symbol_of}
 use Rattle.grammar_text.specs.Grammar.{productions_in}
 
--- a line that stands in no text has the empty place at offset 0
+-- a line that is in no text has the empty span at offset 0
 abbrev pub unplaced : Line → PlacedLine
 unplaced line = record { line = line; span = record { 0 = 0; 1 = 0 } }
 
--- whether a word stands for no symbol, as it is neither a name nor a literal
+-- whether a word has no symbol, since it is neither a name nor a literal
 abbrev pub is_no_symbol : List ℕ → Bool
 is_no_symbol word = is_none (symbol_of word)
 
--- a name and words are refused: the name is none; or it is one, and a word, the first, stands for no symbol; memory may be refused at any
-abbrev pub IsRefused : List ℕ → List (List ℕ) → BuilderError → Type 0
-IsRefused name words Name = is_name name ≡ false
-IsRefused name words (Word place) = (is_name name ≡ true) × (position is_no_symbol words ≡ Some place)
-IsRefused name words TooManyActions = ⊥
-IsRefused name words Memory = Unit {0}
+-- a name and words are refused: the text that is to be a name is none; or it is one, and a word, the first, is no symbol; memory may be refused at any
+module _ {W : Type 0} (is_faulty : W → Bool) (text_of : W → List ℕ) where
+  abbrev pub IsRefusedFor : List ℕ → List W → BuilderError → Type 0
+  IsRefusedFor name words (Name text) = (text ≡ name) × (is_name name ≡ false)
+  IsRefusedFor name words (Word nonterminal place word) = (nonterminal ≡ name_of name) × (is_name name ≡ true) × (position is_faulty words ≡ Some place) × (slice_get (map text_of words) place ≡ Some word)
+  IsRefusedFor name words TooManyActions = ⊥
+  IsRefusedFor name words Memory = Unit {0}
 
--- lines give no grammar: there are more productions than numbers of actions; memory may be refused at any lines
+-- the error names a word of a production of the name, or an allocation failed
+abbrev pub IsAtWord : List ℕ → ℕ → List ℕ → BuilderError → Type 0
+IsAtWord name place word (Name text) = ⊥
+IsAtWord name place word (Word nonterminal at there) = (nonterminal ≡ name_of name) × (at ≡ place) × (there ≡ word)
+IsAtWord name place word TooManyActions = ⊥
+IsAtWord name place word Memory = Unit {0}
+
+-- a production of a name and words, or a mark of a name, is refused
+abbrev pub IsRefused : List ℕ → List (List ℕ) → BuilderError → Type 0
+IsRefused = IsRefusedFor is_no_symbol (λ word. word)
+
+-- ---- symbols by kind and text
+-- the text of a symbol
+abbrev pub text_of : SymbolText → List ℕ
+text_of (Nonterminal text) = text.now
+text_of (Literal text) = text.now
+
+-- the symbol
+abbrev pub symbol_by : SymbolText → Symbol
+symbol_by (Nonterminal text) = NonterminalOf (name_of text.now)
+symbol_by (Literal text) = literal text.now
+
+-- whether a symbol is a nonterminal whose text is not a name
+abbrev pub is_no_name : SymbolText → Bool
+is_no_name (Nonterminal text) = not (is_name text.now)
+is_no_name (Literal text) = false
+
+-- a production of a name and symbols is refused
+abbrev pub IsRefusedOf : List ℕ → List SymbolText → BuilderError → Type 0
+IsRefusedOf = IsRefusedFor is_no_name text_of
+
+-- an error says why lines give no grammar: there are more productions than numbers of actions, or
+-- an allocation failed
 abbrev pub IsTooLarge : List PlacedLine → BuilderError → Type 0
-IsTooLarge lines Name = ⊥
-IsTooLarge lines (Word place) = ⊥
+IsTooLarge lines (Name text) = ⊥
+IsTooLarge lines (Word nonterminal place word) = ⊥
 IsTooLarge lines TooManyActions = 2 ^ 32 < length (productions_in lines)
 IsTooLarge lines Memory = Unit {0}

@@ -1,21 +1,31 @@
-//! Why a builder gives no grammar.
+//! The error of a builder of a grammar.
 ghost use Rattle.std.specs.Prelude.{◌≡◌};
 ghost use Rattle.grammar_text.specs.declared.builder_error.BuilderError.TheVariants.{Memory};
 
 use lalrpop_base::memory::OutOfMemory;
+use lalrpop_base::repr::NonterminalString;
+use lalrpop_base::text::Text;
 use std::alloc::{AllocError, AllocFailed};
 use thiserror::Error;
 
 /// Why a line is refused, or why lines give no grammar.
-#[derive(Clone, Copy, Debug, Drop, PartialEq, Eq, Error)]
+#[derive(Debug, Drop, PartialEq, Eq, Error)]
 pub enum BuilderError {
-    #[error("not a name")]
-    Name,
-    /// The place, counted from 0, of the first word that is neither a name nor a literal.
-    #[error("word {0} is neither a name nor a literal")]
-    Word(usize),
+    /// The text that is given as the name of a nonterminal.
+    #[error("`{0}` is not a name")]
+    Name(Text),
+    /// The nonterminal of the production, and the first word that is neither a name nor a literal,
+    /// with its place, counted from 0.
+    #[error("production of {nonterminal}: symbol {place}, `{word}`, is neither a name nor a literal")]
+    Word {
+        nonterminal: NonterminalString,
+        place: usize,
+        word: Text,
+    },
+    /// There are more than 4294967296 productions.
     #[error("too many actions")]
     TooManyActions,
+    /// An allocation failed.
     #[error("out of memory")]
     Memory,
 }

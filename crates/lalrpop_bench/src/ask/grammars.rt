@@ -1,5 +1,5 @@
 //! Questions of the grammar that a text stands for, and of its inlining.
-use grammar_text::builder::GrammarBuilder;
+use grammar_text::builder::{GrammarBuilder, SymbolText};
 use grammar_text::builder_error::BuilderError;
 use grammar_text::symbols::literals;
 use lalrpop_base::repr::grammar::Grammar;
@@ -12,7 +12,7 @@ use table_questions::show::grammar::{
     push_grammar, push_inline_actions, push_names, push_productions,
 };
 
-/// The answer to a question of a grammar as it was read, where the call is one.
+/// The result of a question on a grammar as it was read. `None` if the call has another name.
 pub(crate) fn answer(
     alloc: Global,
     question: &Question<'_>,
@@ -28,7 +28,7 @@ pub(crate) fn answer(
     }
 }
 
-/// The answer to a question of an inlined grammar, where the call is one.
+/// The result of a question on an inlined grammar. `None` if the call has another name.
 pub(crate) fn answer_inlined(
     alloc: Global,
     question: &Question<'_>,
@@ -60,7 +60,7 @@ fn order(alloc: Global, grammar: &Grammar) -> Result<String, QuestionError> {
     }
 }
 
-// The name and the place that a ring of marked nonterminals is reported with.
+// The name and the span with which a ring of marked nonterminals is reported.
 fn cycle(alloc: Global, grammar: &Grammar) -> Result<String, QuestionError> {
     match inline_order(alloc, grammar) {
         Ok(_) => Ok(String::from_str(alloc, "no cycle\n")?),
@@ -79,8 +79,8 @@ fn inlined(alloc: Global, grammar: &Grammar) -> Result<String, QuestionError> {
     Ok(text)
 }
 
-// The grammar that a builder makes of productions and marks, which stand between commas, or why it
-// makes none.
+// The grammar that a builder makes of the productions and marks between commas, or the error of the
+// builder.
 fn built(alloc: Global, question: &Question<'_>) -> Result<String, QuestionError> {
     let mut text = String::new(alloc);
     match grammar_of(alloc, question.from(1)) {
@@ -91,34 +91,56 @@ fn built(alloc: Global, question: &Question<'_>) -> Result<String, QuestionError
     Ok(text)
 }
 
-// The grammar of lines between commas.
+// The grammar of the productions and marks between commas.
 fn grammar_of(alloc: Global, words: &[&str]) -> Result<Grammar, BuilderError> {
     let mut builder = GrammarBuilder::new(alloc);
     let mut line = Vec::new(alloc);
     for word in words {
         if *word == "," {
-            add_line(&mut builder, &line)?;
+            add_line(alloc, &mut builder, &line)?;
             line = Vec::new(alloc);
         } else {
             line.push(*word)?;
         }
     }
-    add_line(&mut builder, &line)?;
+    add_line(alloc, &mut builder, &line)?;
     builder.finish()
 }
 
-// Gives a builder a line: a mark, or a production with its name and `=` in front.
-fn add_line(builder: &mut GrammarBuilder, line: &[&str]) -> Result<(), BuilderError> {
+// Adds a line to a builder: a mark, or a production with its name and `=` or `:` in front. After `:`
+// there are pairs of a kind and a text. A line with fewer than two words is passed over.
+fn add_line(
+    alloc: Global,
+    builder: &mut GrammarBuilder,
+    line: &[&str],
+) -> Result<(), BuilderError> {
     if line.len() < 2 {
         return Ok(());
     }
     if line.len() == 2 && line[0] == "inline" {
         return builder.inline(line[1]);
     }
+    if line[1] == ":" {
+        let symbols = pairs_of(alloc, &line[2..])?;
+        return builder.add_production(line[0], &symbols);
+    }
     builder.production(line[0], &line[2..])
 }
 
-// Words as literals.
+// The symbols of pairs: `n` and the name of a nonterminal, or another word and a literal.
+fn pairs_of<'a>(alloc: Global, words: &[&'a str]) -> Result<Vec<SymbolText<'a>>, BuilderError> {
+    let mut symbols = Vec::new(alloc);
+    for pair in words.chunks_exact(2) {
+        if pair[0] == "n" {
+            symbols.push(SymbolText::Nonterminal(pair[1]))?;
+        } else {
+            symbols.push(SymbolText::Literal(pair[1]))?;
+        }
+    }
+    Ok(symbols)
+}
+
+// The literals whose texts are the arguments.
 fn literals_of(alloc: Global, question: &Question<'_>) -> Result<String, QuestionError> {
     let mut text = String::from_str(alloc, "literals")?;
     for literal in &literals(alloc, question.from(1))? {
