@@ -1,4 +1,4 @@
-//! LR(1) states by the lane way: lane tables, where they pass the check.
+//! LR(1) states by the lane method: lane tables, if they pass the check.
 ghost use Rattle.std.specs.Prelude.{◌≡◌, ◌<◌, length, true, IfOk, IfSome, IsSomeAnd, is_some};
 ghost use Rattle.lalrpop_base.specs.Words.{AreCoherent, contents, IsOnNoRightSide, AreFaithful, IsLALR1, IsWellFormed, productions, rules_of};
 ghost use Rattle.lalrpop_check.specs.Words.{PassCheck};
@@ -14,54 +14,33 @@ use lalrpop_base::repr::grammar::Grammar;
 use lalrpop_base::repr::{NonterminalString, is_on_no_right_side};
 use lalrpop_check::check::check_over;
 use lalrpop_construction::construction::lr::Lr;
-use lalrpop_construction::options::{Method, Options};
+use lalrpop_construction::options::Method;
 use lalrpop_lane_states::lane_table::construct::LaneTableConstruct;
 use std::alloc::Global;
 
-/// The tables of a grammar by the lane way, where the method asks for it, and there are lane tables
-/// that pass the check; and the construction without lookahead, for what is made in their place.
+/// The lane tables of a grammar that pass the check, if there are such; and the construction without
+/// lookahead, for what is made in their place.
 pub fn tables_by_lanes<'grammar>(
     alloc: Global,
     grammar: &'grammar Grammar,
     start: NonterminalString,
-    options: &Options,
+    max_copies: usize,
 ) -> Result<(Option<Vec<Lr1State<'grammar>>>, Lr<'grammar, Nil>), OutOfMemory>
     requires { IsWellFormed grammar.now }
     ensures tables { IfOk result (λ answer. IfSome answer.0 (λ tables. AreBuiltTablesOf ⊥
-        options.now.method options.now.max_copies grammar.now start tables.items)) }
-    ensures lalr { options.now.method ≡ Method.Lane →
-        IsOnNoRightSide (productions grammar.now) start →
+        Method.Lane max_copies grammar.now start tables.items)) }
+    ensures lalr { IsOnNoRightSide (productions grammar.now) start →
         IsLALR1 (productions grammar.now) start →
         IfOk result (λ answer. is_some answer.0 ≡ true) }
     ensures over { IfOk result (λ answer. answer.1.construction ≡ lr0_of grammar.now start) }
 {
-    let construct = LaneTableConstruct::new(alloc, grammar, start, options.max_copies)?;
-    let tables = lane_tables_by(alloc, &construct, options.method)?;
+    let construct = LaneTableConstruct::new(alloc, grammar, start, max_copies)?;
+    let tables = lane_tables(alloc, &construct)?;
     Ok((tables, construct.lr))
 }
 
-// The lane tables, where the method asks for them, and there are such that pass the check.
-fn lane_tables_by<'grammar>(
-    alloc: Global,
-    construct: &LaneTableConstruct<'grammar>,
-    method: Method,
-) -> Result<Option<Vec<Lr1State<'grammar>>>, OutOfMemory>
-    requires { IsReadyToConstruct construct.now }
-    ensures tables { IfOk result (λ answer. IfSome answer (λ tables. AreBuiltTablesOf ⊥ method
-        construct.now.max_copies construct.now.grammar.now construct.now.start tables.items)) }
-    ensures lalr { method ≡ Method.Lane →
-        IsOnNoRightSide (productions construct.now.grammar.now) construct.now.start →
-        IsLALR1 (productions construct.now.grammar.now) construct.now.start →
-        IfOk result (λ answer. is_some answer ≡ true) }
-{
-    if method == Method::Lane {
-        return lane_tables(alloc, construct);
-    }
-    Ok(None)
-}
-
-// The lane tables, where there are such and they pass the check. Those of an LALR(1) grammar whose
-// start symbol stands on no right side pass it, and are not checked.
+// The lane tables, if there are such and they pass the check. Those that one pass over the LR(0)
+// states made pass it if the start symbol is on no right side, and are not checked then.
 fn lane_tables<'grammar>(
     alloc: Global,
     construct: &LaneTableConstruct<'grammar>,
@@ -88,7 +67,8 @@ fn lane_tables<'grammar>(
     where_checked(alloc, construct, tables)
 }
 
-// The tables, where they pass the check, which takes numbers and first sets of the construction.
+// The tables, if they pass the check. The check uses the numbers and FIRST sets of the
+// construction.
 fn where_checked<'grammar>(
     alloc: Global,
     construct: &LaneTableConstruct<'grammar>,
