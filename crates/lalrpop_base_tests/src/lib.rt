@@ -1,12 +1,12 @@
-//! Tests of grammars, sets and values where no case file can ask: values that a text does not make,
-//! and what an allocation failure leaves.
+//! Tests of grammars, sets and values that no case file can express: values that no text gives, and
+//! what is left after an allocation failure.
 #![tactic(auto)]
 
+#[cfg(test)]
+mod allocation_failures;
 #[cfg(test)]
 mod collections;
 #[cfg(test)]
 mod tokens;
 #[cfg(test)]
 mod values;
-#[cfg(test)]
-mod want_of_memory;

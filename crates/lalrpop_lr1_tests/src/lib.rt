@@ -1,14 +1,14 @@
-//! Tests of the parser, traces, reports and inlining where no case file can ask: values that a text
-//! does not make, writers that stop, and what a refused growth leaves.
+//! Tests of the parser, traces, reports and inlining that no case file can express: values that no
+//! text gives, writers that stop, and what is left after a refused allocation.
 #![tactic(auto)]
 
+#[cfg(test)]
+mod allocation_failures;
 #[cfg(test)]
 mod inlining;
 #[cfg(test)]
 mod traces;
 #[cfg(test)]
 mod trees;
-#[cfg(test)]
-mod want_of_memory;
 #[cfg(test)]
 mod writers;

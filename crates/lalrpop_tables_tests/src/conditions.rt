@@ -1,5 +1,5 @@
-// Conditions of calls, each where it fails; and views that stay when what they were taken from is
-// gone.
+// Conditions of calls that fail, and views that stay valid after the item or state from which they
+// were taken is gone.
 ghost use Rattle.lalrpop_base.specs.Words.{IsWellFormed};
 
 use grammar_text::symbols::{literals, name_of};
@@ -9,13 +9,14 @@ use lalrpop_base::lr1_core::coherent::are_coherent;
 use lalrpop_base::lr1_core::collapsible::are_collapsible;
 use lalrpop_base::lr1_core::item::Item;
 use lalrpop_base::lr1_core::lr0::Lr0State;
-use lalrpop_base::lr1_core::state::{Items, Lr1State, State, StateIndex};
+use lalrpop_base::lr1_core::state::{Action, Items, Lr1State, State, StateIndex};
 use lalrpop_base::memory::OutOfMemory;
 use lalrpop_base::repr::grammar::{Grammar, is_well_formed};
 use lalrpop_base::repr::terminals::TerminalSet;
 use lalrpop_base::repr::{Production, Symbol};
 use lalrpop_tables::build::build_lr1_states;
 use lalrpop_tables::build::options::{Method, Options};
+use lalrpop_tables::lane_table::{have_own_items, reduces_own};
 use std::alloc::Global;
 use std::collections::BTreeMap;
 use std::test::Fail;
@@ -62,7 +63,7 @@ fn no_states_are_coherent(rt: HostRuntime) -> Result<(), Fail> {
     Ok(())
 }
 
-// A state of productions with the dot at one place, which leads nowhere.
+// A state of productions with the dot at the same place. It has no edges.
 fn state_of<'g>(
     alloc: Global,
     number: usize,
@@ -85,7 +86,7 @@ fn state_of<'g>(
     })
 }
 
-// Lets a state lead to another one.
+// Adds the shift of a terminal from a state to another one.
 fn lead(
     alloc: Global,
     states: &mut [Lr0State<'_>],
@@ -99,8 +100,8 @@ fn lead(
     Ok(())
 }
 
-// States of X and Y, where the second and the fourth list the same, and lead over "d" to the ends
-// of X and of the production of a name.
+// States of X and Y. States 1 and 3 have the same items. By "d", state 1 leads to the end of X, and
+// state 3 to the end of the production of `name`.
 fn states_to_ends<'g>(
     alloc: Global,
     grammar: &'g Grammar,
@@ -121,7 +122,7 @@ fn states_to_ends<'g>(
     Ok(states)
 }
 
-// Lists of one item each may differ in it.
+// Lists of one item each can differ in that item.
 #[test]
 fn states_that_differ_in_one_item(rt: HostRuntime) -> Result<(), Fail> {
     let alloc = rt.alloc();
@@ -134,8 +135,9 @@ fn states_that_differ_in_one_item(rt: HostRuntime) -> Result<(), Fail> {
     Ok(())
 }
 
-// The states of X = "c" "d"; a second one behind "c", to which nothing leads, and which leads to a
-// number over "d"; and a second one behind "d", which may list its item twice.
+// The states of X = "c" "d", and two more. State 3 is a copy of the state after "c". No edge leads
+// to it, and it leads to `target` by "d". State 4 is a copy of the state after "d". It lists its
+// item twice if `is_doubled`.
 fn states_with_twins<'g>(
     alloc: Global,
     grammar: &'g Grammar,
@@ -168,7 +170,7 @@ fn states_with_twins<'g>(
     Ok(states)
 }
 
-// Coherent states may have equal lists of items that lead to unequal ones.
+// Coherent states can have equal lists of items, but lead to states with different ones.
 #[test]
 fn states_that_are_not_coherent_or_not_collapsible(rt: HostRuntime) -> Result<(), Fail> {
     let alloc = rt.alloc();
@@ -186,7 +188,7 @@ fn states_that_are_not_coherent_or_not_collapsible(rt: HostRuntime) -> Result<()
     Ok(())
 }
 
-// Makes a state that leads nowhere, with the dot of its last item one place further.
+// Removes the shifts of a state, and moves the dot of its last item by one place.
 fn move_dot(alloc: Global, state: &mut Lr1State) -> Result<(), OutOfMemory> {
     state.shifts.clear();
     let Some(item) = state.items.vec.pop() else {
@@ -198,7 +200,8 @@ fn move_dot(alloc: Global, state: &mut Lr1State) -> Result<(), OutOfMemory> {
     Ok(())
 }
 
-// A state stands at the place of its number, and the first begins no item past its beginning.
+// A state must be at the index of its number, and the items of state 0 must have the dot at the
+// start.
 #[test]
 fn states_that_are_misplaced(rt: HostRuntime) -> Result<(), Fail> {
     let alloc = rt.alloc();
@@ -217,7 +220,7 @@ fn states_that_are_misplaced(rt: HostRuntime) -> Result<(), Fail> {
     Ok(())
 }
 
-// The error's bit over two terminals is past the error's bit over one.
+// With two terminals, the bit of `Error` is greater than with one.
 #[test]
 fn sets_of_more_terminals_do_not_fit(rt: HostRuntime) -> Result<(), Fail> {
     let alloc = rt.alloc();
@@ -226,6 +229,24 @@ fn sets_of_more_terminals_do_not_fit(rt: HostRuntime) -> Result<(), Fail> {
     let error = TokenSet::of(alloc, Token::Error, &two)?;
     assert!(rt; error.fits(&two));
     assert!(rt; !error.fits(&one));
+    Ok(())
+}
+
+// States and actions are of productions of their grammar, and not of another one. A shift is of each.
+#[test]
+fn states_and_actions_of_another_grammar(rt: HostRuntime) -> Result<(), Fail> {
+    let alloc = rt.alloc();
+    let own = grammar(alloc, "X = \"c\" \"d\"")?;
+    let other = grammar(alloc, "X = \"c\"")?;
+    let states = states_with_twins(alloc, &own, 4, false)?;
+    assert!(rt; have_own_items(&own, &states));
+    assert!(rt; !have_own_items(&other, &states));
+    let reduce = Action::Reduce(first_production(alloc, &own, "X")?);
+    assert!(rt; reduces_own(&own, &reduce));
+    assert!(rt; !reduces_own(&other, &reduce));
+    let shift = Action::Shift(literal(alloc, "c")?, StateIndex(1));
+    assert!(rt; reduces_own(&own, &shift));
+    assert!(rt; reduces_own(&other, &shift));
     Ok(())
 }
 

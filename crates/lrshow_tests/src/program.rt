@@ -1,7 +1,7 @@
-//! Runs of the program `lrshow` that no stored run can ask: readers that fail, outputs that close,
-//! growths that are refused.
+//! Runs of the program `lrshow` that no stored run can express: readers that fail, outputs that
+//! close, and allocations that are refused.
+mod allocation_failures;
 mod closed;
-mod want_of_memory;
 
 use lalrpop_tables::build::Method;
 use lrshow_run::run::run;
@@ -18,7 +18,7 @@ const CONFLICT: &str = "S = N \"p\"\nN = \"n\"\nN = \"n\"\n";
 
 const USAGE: &str = "usage: lrshow FILE START (json | dot [--around STATE] | html)\n";
 
-/// The data of the grammar with tables, by the canonical method.
+/// The data of `ONE_TERMINAL`, by the canonical method.
 const DATA: &str = "{\"format\":\"lrshow\",
 \"version\":1,
 \"start\":\"S\",
@@ -29,7 +29,7 @@ const DATA: &str = "{\"format\":\"lrshow\",
 \"conflicts\":[]}
 ";
 
-/// Its graph around the second state, by either method.
+/// The graph of `ONE_TERMINAL` around state 1, by either method.
 const GRAPH: &str = "digraph states {
   node [shape=box fontname=monospace];
   edge [fontname=monospace];
@@ -40,7 +40,7 @@ const GRAPH: &str = "digraph states {
 }
 ";
 
-/// A reader that fails at once.
+/// A reader whose every read fails.
 #[derive(Drop)]
 struct Broken;
 
@@ -50,7 +50,7 @@ impl Read for Broken {
     }
 }
 
-/// Words of the command line, parted by spaces.
+/// The arguments of a command line, which spaces separate.
 fn words_of(alloc: Global, line: &str) -> Result<Vec<String>, AllocError> {
     let mut words = Vec::new(alloc);
     for word in line.split_whitespace() {
@@ -59,7 +59,8 @@ fn words_of(alloc: Global, line: &str) -> Result<Vec<String>, AllocError> {
     Ok(words)
 }
 
-/// What a run of the program by a method on a file writes and answers.
+/// The standard output, the standard error and the exit status of a run of the program by a method
+/// on a file.
 fn ran_by(
     alloc: Global,
     method: Method,

@@ -1,10 +1,10 @@
-//! Runs of the program `lrtab`: the rows of its table, and what no stored case can ask. This is
-//! readers that fail, outputs that close, and growths that are refused.
+//! Runs of the program `lrtab`: the rows of its table, and what no stored case can express. These
+//! are readers that fail, outputs that close, and allocations that are refused.
+mod allocation_failures;
 mod deep;
 mod explanations;
 mod reports;
 mod rows;
-mod want_of_memory;
 
 use lalrpop_tables::build::Method;
 use lrtab_run::run::run;
@@ -17,7 +17,7 @@ use std::test::Fail;
 
 const USAGE: &str = "usage: lrtab FILE START (parse LIMIT TOKEN.. | report | explain)\n";
 
-/// What a writer does once it has taken some bytes.
+/// What a writer does after it has taken its bytes.
 #[derive(Clone, Copy, Debug, PartialEq, Eq)]
 enum Then {
     Fails,
@@ -25,7 +25,7 @@ enum Then {
     IsInterrupted,
 }
 
-/// A writer that takes a byte a call, and so many bytes in all.
+/// A writer that takes one byte in a call, and `left` bytes in all.
 #[derive(Drop)]
 struct Closing {
     left: usize,
@@ -53,7 +53,7 @@ impl Write for Closing {
     }
 }
 
-/// A reader that fails at once.
+/// A reader whose every read fails.
 #[derive(Drop)]
 struct Broken;
 
@@ -63,7 +63,7 @@ impl Read for Broken {
     }
 }
 
-/// Words of the command line, parted by spaces.
+/// The arguments of a command line, which spaces separate.
 fn words_of(alloc: Global, line: &str) -> Result<Vec<String>, AllocError> {
     let mut words = Vec::new(alloc);
     for word in line.split_whitespace() {
@@ -72,7 +72,8 @@ fn words_of(alloc: Global, line: &str) -> Result<Vec<String>, AllocError> {
     Ok(words)
 }
 
-/// What a run of the program by a method on a file writes and answers.
+/// The standard output, the standard error and the exit status of a run of the program by a method
+/// on a file.
 fn ran_by(
     alloc: Global,
     method: Method,
@@ -86,7 +87,7 @@ fn ran_by(
     Ok((out, err, status))
 }
 
-/// The same by the lane way.
+/// The same by the lane method.
 fn ran(
     alloc: Global,
     file: Option<&[u8]>,
@@ -131,8 +132,8 @@ fn files_that_cannot_be_read(rt: HostRuntime) -> Result<(), Fail> {
     Ok(())
 }
 
-// By the canonical method, since by the lane way each item holds all tokens, which takes some GB
-// here.
+// The canonical method is used. With the lane method each item has all tokens, which would take
+// some GB here.
 #[test]
 fn ten_thousand_productions(rt: HostRuntime) -> Result<(), Fail> {
     let alloc = rt.alloc();
@@ -154,8 +155,8 @@ fn ten_thousand_productions(rt: HostRuntime) -> Result<(), Fail> {
     Ok(())
 }
 
-/// Runs the program on a text, to outputs that close behind each number of bytes below `whole`, which
-/// it has to tell, and to those that take so many.
+/// Runs the program on a text, with outputs that take each number of bytes up to `whole`. If an
+/// output takes fewer bytes, the program must report that.
 fn each_closed_output(
     rt: &impl Abort,
     alloc: Global,
@@ -193,7 +194,7 @@ fn closed_output(rt: HostRuntime) -> Result<(), Fail> {
     each_closed_output(&rt, rt.alloc(), Method::Lane, "S = \"x\"", line, whole, 0)
 }
 
-// There is nobody left to be told.
+// If standard error fails, nothing can be reported.
 #[test]
 fn closed_error_output(rt: HostRuntime) -> Result<(), Fail> {
     let alloc = rt.alloc();

@@ -1,0 +1,2 @@
+// What calls leave after a refused allocation.
+mod constructions;

@@ -1,0 +1,6 @@
+// What calls leave after a refused allocation.
+mod calls;
+mod parses;
+mod reports;
+mod runs;
+mod traces;

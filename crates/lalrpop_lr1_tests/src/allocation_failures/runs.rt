@@ -1,0 +1,210 @@
+// Builders of grammars, parses by tables, and reports, while allocations are refused.
+use crate::writers::{Taking, WITHOUT_LOOKAHEAD};
+use grammar_text::builder::GrammarBuilder;
+use grammar_text::builder_error::BuilderError;
+use grammar_text::symbols::name_of;
+use lalrpop_base::lookahead::nil::Nil;
+use lalrpop_base::lr1_core::coherent::are_coherent;
+use lalrpop_base::lr1_core::state::{Lr1State, LrResult};
+use lalrpop_base::repr::grammar::Grammar;
+use lalrpop_base::repr::terminals::TerminalSet;
+use lalrpop_base::repr::{NonterminalString, TerminalString};
+use lalrpop_lr1::interpret::{InterpretError, ParseTree, interpret};
+use lalrpop_lr1::report::{Counted, ReportError, ReportGenerator, Sink};
+use lalrpop_tables::build::options::Options;
+use lalrpop_tables::build::{build_lr0_states, build_lr1_states};
+use refused_growth::attempts::Attempt;
+use std::alloc::Global;
+use std::test::Fail;
+use test_fixtures::growths::each_growth_refused;
+use test_fixtures::texts::{ONE, SUMS, grammar, literal};
+
+// A builder to which a production is added.
+#[derive(Drop)]
+struct Given {
+    builder: GrammarBuilder,
+}
+
+impl Attempt for Given {
+    fn attempt(&mut self, _alloc: Global) -> Option<bool> {
+        match self.builder.production("A", &["\"x\"", "A"]) {
+            Ok(()) => Some(true),
+            Err(BuilderError::Memory) => None,
+            Err(_) => Some(false),
+        }
+    }
+}
+
+// After all turns the builder has the production once.
+#[test]
+fn a_given_production(rt: HostRuntime) -> Result<(), Fail> {
+    let alloc = rt.alloc();
+    let builder = GrammarBuilder::new(alloc);
+    let mut given = Given { builder };
+    each_growth_refused(alloc, &mut given)?;
+    let Given { builder } = given;
+    let grammar = builder.finish()?;
+    let productions = grammar.productions_for(&name_of(alloc, "A")?);
+    assert_eq!(rt; (productions.len(), grammar.action_fn_defns.len()), (1, 1));
+    Ok(())
+}
+
+// A builder in which a nonterminal is marked.
+#[derive(Drop)]
+struct Marked {
+    builder: GrammarBuilder,
+}
+
+impl Attempt for Marked {
+    fn attempt(&mut self, _alloc: Global) -> Option<bool> {
+        match self.builder.inline("A") {
+            Ok(()) => Some(true),
+            Err(BuilderError::Memory) => None,
+            Err(_) => Some(false),
+        }
+    }
+}
+
+// The numbers of productions and of marks of a nonterminal.
+fn entry_of(grammar: &Grammar, name: &NonterminalString) -> Option<(usize, usize)> {
+    let entry = grammar.nonterminals.get(name)?;
+    Some((entry.productions.len(), entry.attributes.len()))
+}
+
+// After all turns the builder has the mark once, and the lines from before. These are none, or four
+// that fill the list.
+#[test]
+fn a_marked_name(rt: HostRuntime) -> Result<(), Fail> {
+    let alloc = rt.alloc();
+    for words in [&[][..], &["\"u\"", "\"v\"", "\"w\"", "\"x\""]] {
+        let mut builder = GrammarBuilder::new(alloc);
+        for word in words {
+            builder.production("A", &[*word])?;
+        }
+        let mut marked = Marked { builder };
+        each_growth_refused(alloc, &mut marked)?;
+        marked.builder.production("A", &["\"y\""])?;
+        let Marked { builder } = marked;
+        let grammar = builder.finish()?;
+        let entry = entry_of(&grammar, &name_of(alloc, "A")?);
+        assert_eq!(rt; entry, Some((words.len() + 1, 1)));
+    }
+    Ok(())
+}
+
+// A parse of the leaves of a tree.
+#[derive(Drop)]
+struct Run<'a, 'g> {
+    states: &'a [Lr1State<'g>],
+    terminals: &'a TerminalSet,
+    tree: ParseTree,
+}
+
+// Whether states are coherent and the parse of the tokens by them gives the tree. `None` after an
+// allocation failure.
+fn is_parsed(
+    alloc: Global,
+    states: &[Lr1State],
+    terminals: &TerminalSet,
+    tokens: Vec<TerminalString>,
+    tree: &ParseTree,
+) -> Option<bool> {
+    if !are_coherent(states) {
+        return Some(false);
+    }
+    if states.is_empty() {
+        return Some(false);
+    }
+    match interpret(alloc, states, terminals, tokens, 99) {
+        Ok(parsed) => Some(parsed == *tree),
+        Err(InterpretError::Memory) => None,
+        Err(_) => Some(false),
+    }
+}
+
+impl Attempt for Run<'_, '_> {
+    fn attempt(&mut self, alloc: Global) -> Option<bool> {
+        match self.tree.terminals(alloc) {
+            Ok(tokens) => is_parsed(alloc, self.states, self.terminals, tokens, &self.tree),
+            Err(_) => None,
+        }
+    }
+}
+
+// A node with one child.
+fn over(alloc: Global, name: &str, tree: ParseTree) -> Result<ParseTree, Fail> {
+    let children = vec![in alloc; tree]?;
+    Ok(ParseTree::Nonterminal(name_of(alloc, name)?, children))
+}
+
+// The tree of "N" "-" "N".
+fn difference(alloc: Global) -> Result<ParseTree, Fail> {
+    let leaf = ParseTree::Terminal(literal(alloc, "N")?);
+    let left = over(alloc, "E", over(alloc, "T", leaf)?)?;
+    let sign = ParseTree::Terminal(literal(alloc, "-")?);
+    let leaf = ParseTree::Terminal(literal(alloc, "N")?);
+    let right = over(alloc, "T", leaf)?;
+    let children = vec![in alloc; left, sign, right]?;
+    let sum = ParseTree::Nonterminal(name_of(alloc, "E")?, children);
+    over(alloc, "S", sum)
+}
+
+#[test]
+fn a_parse(rt: HostRuntime) -> Result<(), Fail> {
+    let alloc = rt.alloc();
+    let grammar = grammar(alloc, SUMS)?;
+    let start = name_of(alloc, "S")?;
+    let states = build_lr1_states(alloc, &grammar, start, &Options::default())?;
+    let mut run = Run {
+        states: &states,
+        terminals: &grammar.terminals,
+        tree: difference(alloc)?,
+    };
+    each_growth_refused(alloc, &mut run)
+}
+
+// A report to a writer that has enough room. If the text cannot be made, no byte goes to the
+// writer.
+#[derive(Drop)]
+struct Report<'a, 'g> {
+    out: Counted<Taking>,
+    terminals: &'a TerminalSet,
+    outcome: &'a LrResult<'g, Nil>,
+}
+
+impl Attempt for Report<'_, '_> {
+    fn attempt(&mut self, alloc: Global) -> Option<bool> {
+        if self.out.faults() > 0 {
+            return Some(false);
+        }
+        let mut generator = ReportGenerator::new(&mut self.out, self.terminals);
+        match generator.report_lr_table_construction(alloc, self.outcome) {
+            Ok(()) => Some(true),
+            Err(ReportError::Memory) => None,
+            Err(_) => Some(false),
+        }
+    }
+}
+
+#[test]
+fn a_report(rt: HostRuntime) -> Result<(), Fail> {
+    let alloc = rt.alloc();
+    let grammar = grammar(alloc, ONE)?;
+    let outcome = build_lr0_states(alloc, &grammar, name_of(alloc, "S")?);
+    let taking = Taking {
+        taken: Vec::with_capacity(alloc, 1000)?,
+        step: 1000,
+        left: 1000,
+        fault: None,
+    };
+    let mut report = Report {
+        out: Counted::new(taking),
+        terminals: &grammar.terminals,
+        outcome: &outcome,
+    };
+    each_growth_refused(alloc, &mut report)?;
+    let Report { out, .. } = report;
+    let taken = out.into_inner().taken;
+    assert_eq!(rt; taken.as_slice(), WITHOUT_LOOKAHEAD.as_bytes());
+    Ok(())
+}

@@ -1,0 +1,3 @@
+// What calls leave after a refused allocation.
+mod calls;
+mod checks;

@@ -1,0 +1,147 @@
+//! Runs of the program while allocations are refused.
+use super::{CONFLICT, ONE_TERMINAL, ran_by, words_of};
+use lalrpop_tables::build::Method;
+use lrshow_run::run::run;
+use refused_growth::attempts::{Attempt, Outcome, refused_in_turn};
+use std::alloc::Global;
+use std::process::Abort;
+use std::test::Fail;
+
+// The greatest number of bytes that the output can have.
+const MOST: usize = 40_000;
+
+// The program on a text, which can be run again, with the outputs and the status that are expected
+// if there is enough memory.
+#[derive(Drop)]
+struct Program<'text> {
+    words: Vec<String>,
+    method: Method,
+    text: &'text str,
+    wanted: Vec<u8>,
+    remark: Vec<u8>,
+    status: u8,
+    out: Vec<u8>,
+    err: Vec<u8>,
+}
+
+impl Attempt for Program<'_> {
+    fn attempt(&mut self, alloc: Global) -> Option<bool> {
+        self.out.clear();
+        self.err.clear();
+        let file = Some(self.text.as_bytes());
+        let method = self.method;
+        let status = run(
+            alloc,
+            &self.words,
+            method,
+            file,
+            &mut self.out,
+            &mut self.err,
+        );
+        if status == 3 {
+            let told = self.out.is_empty() && self.err.as_slice() == b"out of memory\n".as_slice();
+            return if told { None } else { Some(false) };
+        }
+        let owed = self.out.as_slice() == self.wanted.as_slice()
+            && self.err.as_slice() == self.remark.as_slice();
+        Some(owed && status == self.status)
+    }
+}
+
+// Runs the program over and over on a text. Each run has a little more memory than the one before.
+// Each run that lacks memory must report `out of memory` and nothing else. The first run with
+// enough memory must give the same outputs and status as an ordinary run.
+fn each_growth_refused(
+    rt: &impl Abort,
+    alloc: Global,
+    method: Method,
+    text: &str,
+    line: &str,
+    status: u8,
+) -> Result<(), Fail> {
+    let (wanted, remark, got) = ran_by(alloc, method, Some(text.as_bytes()), line)?;
+    assert_eq!(rt; got, status);
+    let mut program = Program {
+        words: words_of(alloc, line)?,
+        method,
+        text,
+        wanted,
+        remark,
+        status,
+        out: Vec::with_capacity(alloc, MOST)?,
+        err: Vec::with_capacity(alloc, 400)?,
+    };
+    match refused_in_turn(alloc, &mut program)? {
+        Outcome::Refused(turns) => {
+            assert!(rt; turns > 0, "no growth was refused");
+            Ok(())
+        }
+        Outcome::Wrong(turn) => panic!(rt; "another answer in turn {turn}"),
+        Outcome::TooLarge => panic!(rt; "too little memory in each turn"),
+    }
+}
+
+// The same by both methods.
+fn refused_by_both(
+    rt: &impl Abort,
+    alloc: Global,
+    text: &str,
+    line: &str,
+    status: u8,
+) -> Result<(), Fail> {
+    for method in [Method::Lane, Method::Canonical] {
+        each_growth_refused(rt, alloc, method, text, line, status)?;
+    }
+    Ok(())
+}
+
+#[test]
+fn each_growth_of_data(rt: HostRuntime) -> Result<(), Fail> {
+    refused_by_both(&rt, rt.alloc(), ONE_TERMINAL, "f S json", 0)
+}
+
+#[test]
+fn each_growth_of_data_of_conflicts(rt: HostRuntime) -> Result<(), Fail> {
+    refused_by_both(&rt, rt.alloc(), CONFLICT, "f S json", 1)
+}
+
+#[test]
+fn each_growth_of_a_graph(rt: HostRuntime) -> Result<(), Fail> {
+    refused_by_both(&rt, rt.alloc(), ONE_TERMINAL, "f S dot", 0)
+}
+
+#[test]
+fn each_growth_of_a_graph_of_conflicts(rt: HostRuntime) -> Result<(), Fail> {
+    refused_by_both(&rt, rt.alloc(), CONFLICT, "f S dot", 1)
+}
+
+#[test]
+fn each_growth_around_a_state(rt: HostRuntime) -> Result<(), Fail> {
+    refused_by_both(&rt, rt.alloc(), CONFLICT, "f S dot --around 2", 1)
+}
+
+#[test]
+fn each_growth_around_no_state(rt: HostRuntime) -> Result<(), Fail> {
+    refused_by_both(&rt, rt.alloc(), ONE_TERMINAL, "f S dot --around 2", 2)
+}
+
+#[test]
+fn each_growth_of_a_page(rt: HostRuntime) -> Result<(), Fail> {
+    refused_by_both(&rt, rt.alloc(), ONE_TERMINAL, "f S html", 0)
+}
+
+#[test]
+fn each_growth_of_a_page_of_conflicts(rt: HostRuntime) -> Result<(), Fail> {
+    refused_by_both(&rt, rt.alloc(), CONFLICT, "f S html", 1)
+}
+
+#[test]
+fn each_growth_of_a_faulty_grammar(rt: HostRuntime) -> Result<(), Fail> {
+    for (text, line) in [
+        ("S x", "f S json"),
+        ("S = A\nA = A\ninline A\n", "f S html"),
+    ] {
+        each_growth_refused(&rt, rt.alloc(), Method::Lane, text, line, 2)?;
+    }
+    Ok(())
+}
