@@ -1,37 +1,38 @@
-//! `example_sums` builds a grammar of sums, prints its tables, and parses a sum by them; of an
-//! ambiguous grammar of sums it tells how many conflicts it has.
+//! `example_sums` builds a grammar of sums, prints its tables, and parses a sum by them. Then it
+//! counts the conflicts of an ambiguous grammar of sums.
 #![tactic(auto)]
 
 ghost use Rattle.std.specs.Prelude.{IfOk};
 ghost use Rattle.lalrpop_base.specs.Words.{IsWellFormed};
 
-use grammar_text::builder::GrammarBuilder;
-use grammar_text::builder_error::BuilderError;
-use grammar_text::symbols::{literals, name_of};
-use lalrpop_base::repr::grammar::Grammar;
-use lalrpop_lr1::headline::{ParseError, parse};
-use lalrpop_lr1::report::report_text;
-use lalrpop_tables::build::Options;
-use lalrpop_tables::lr1::build_states;
+use grammar_text::builder::SymbolText::{Literal, Nonterminal};
+use grammar_text::{BuilderError, GrammarBuilder, SymbolText, literals, name_of};
+use lalrpop_base::Grammar;
+use lalrpop_lr1::{ParseError, parse, report_text};
+use lalrpop_tables::{Options, build_states};
 use std::alloc::Global;
 
 fn main(rt: HostRuntime) -> anyhow::Result<()> {
     let alloc = rt.alloc();
-    let grammar = sums(alloc, &["Sum", "\"+\"", "\"n\""])?;
+    let grammar = sums(alloc, &[Nonterminal("Sum"), Literal("+"), Literal("n")])?;
     let outcome = build_states(alloc, &grammar, name_of(alloc, "S")?, &Options::default());
     println!(rt; "{}", report_text(alloc, &grammar.terminals, &outcome)?)?;
     parse_sum(&rt, &grammar)?;
-    parse_sum(&rt, &sums(alloc, &["Sum", "\"+\"", "Sum"])?)
+    let ambiguous = sums(
+        alloc,
+        &[Nonterminal("Sum"), Literal("+"), Nonterminal("Sum")],
+    )?;
+    parse_sum(&rt, &ambiguous)
 }
 
 // A grammar of sums, given the right side of a longer sum.
-fn sums(alloc: Global, longer: &[&str]) -> Result<Grammar, BuilderError>
+fn sums(alloc: Global, longer: &[SymbolText<'_>]) -> Result<Grammar, BuilderError>
     ensures { IfOk result IsWellFormed }
 {
     let mut builder = GrammarBuilder::new(alloc);
-    builder.production("S", &["Sum"])?;
-    builder.production("Sum", longer)?;
-    builder.production("Sum", &["\"n\""])?;
+    builder.add_production("S", &[Nonterminal("Sum")])?;
+    builder.add_production("Sum", longer)?;
+    builder.add_production("Sum", &[Literal("n")])?;
     builder.finish()
 }
 

@@ -1,5 +1,6 @@
 //! What uses LR(1) tables: the main contract, the parser, examples that explain conflicts, the
-//! report and the inliner. This crate passes on the modules of four smaller crates.
+//! report and the inliner. This crate passes on the modules of four smaller crates. What most callers
+//! need can be named without its module, as in `use lalrpop_lr1::{ParseTree, parse};`.
 //!
 //! - `headline`: the main contract. It builds tables, and parses by them.
 //! - Of `lalrpop_inline`: `inline`, the inliner.
@@ -10,7 +11,13 @@
 
 pub mod headline;
 
+pub use headline::any_start::{AugmentedGrammar, parse_from_any};
+pub use headline::by_tables::parse_by_tables;
+pub use headline::{ParseError, parse};
 pub use lalrpop_inline::inline;
 pub use lalrpop_parser::interpret;
+pub use lalrpop_parser::interpret::{InterpretError, ParseTree};
 pub use lalrpop_report::report;
+pub use lalrpop_report::report::{ReportError, report_text};
 pub use lalrpop_traces::trace;
+pub use lalrpop_traces::trace::{Example, ExampleSymbol, Tracer};
