@@ -10,7 +10,7 @@ import subprocess
 import tempfile
 
 from gate.files import ROOT, read, write
-from gate.mutants.scratch import prepared
+from gate.mutants.scratch import Libraries, prepared
 
 CRATE, MODULE = "lalrpop_states", "view_outlives_grammar"
 MOVE, ERROR = "    drop(grammar);\n", "error[borrow-e0505]"
@@ -19,7 +19,7 @@ MOVE, ERROR = "    drop(grammar);\n", "error[borrow-e0505]"
 def compiled(root, module):
     """What the compiler prints of a copy of the crate that has this module too, and its status."""
     with tempfile.TemporaryDirectory(prefix="borrows-") as room:
-        crate = prepared(CRATE, root, room, False)
+        crate = prepared(CRATE, root, room, False, Libraries(root, f"{room}/libraries"))
         write(f"{crate}/src/{MODULE}.rt", module)
         head, tactic, rest = read(f"{crate}/src/lib.rt").partition("#![tactic(auto)]\n")
         write(f"{crate}/src/lib.rt", f"{head}{tactic}mod {MODULE};\n{rest}")

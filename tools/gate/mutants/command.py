@@ -34,7 +34,7 @@ from gate.mutants.basis import Repository
 from gate.mutants.kept import Kept
 from gate.mutants.ledger import Ledger
 from gate.mutants.mutant import mutants_of
-from gate.mutants.scratch import NotProved, prepared, wait_for
+from gate.mutants.scratch import Libraries, NotProved, prepared, wait_for
 from gate.mutants.since import still_refused
 from gate.mutants.trial import Trial
 
@@ -98,7 +98,7 @@ def choice(crates, how, root, kept):
     return [*changed, *others], line
 
 
-def tried(root, name, mutants, how, lanes):
+def tried(root, name, mutants, how, lanes, libraries):
     """Tries mutants of one crate, once the libraries below it are proved and a lane is free."""
     trial = Trial(name, mutants, Kept(name, root, how.anew))
     try:
@@ -106,7 +106,7 @@ def tried(root, name, mutants, how, lanes):
             wait_for(below(name, listed(root)), how.beside)
         with lanes, tempfile.TemporaryDirectory(prefix="mutants-") as room:
             if trial.left:
-                crate = prepared(name, root, room, not how.beside)
+                crate = prepared(name, root, room, not how.beside, libraries)
                 trial.try_unedited(crate) if how.unedited else trial.run(crate)
     except NotProved as why:
         trial.was_not_made(why)
@@ -145,8 +145,9 @@ def main(words, root=ROOT):
         time.sleep(how.head_start)
     parts = [(it.crate, [one for one in chosen if one in it.sums]) for it in crates]
     lanes = BoundedSemaphore(lanes_now())
-    with ThreadPoolExecutor(max(len(parts), 1)) as pool:
-        trials = list(pool.map(lambda it: tried(root, *it, how, lanes), [it for it in parts if it[1]]))
+    with tempfile.TemporaryDirectory(prefix="libraries-") as room, ThreadPoolExecutor(max(len(parts), 1)) as pool:
+        libraries = Libraries(root, room)
+        trials = list(pool.map(lambda it: tried(root, *it, how, lanes, libraries), [it for it in parts if it[1]]))
     return ended(crates, trials, how, kept)
 
 

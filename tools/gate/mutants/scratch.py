@@ -6,6 +6,7 @@ import os
 import re
 import shutil
 import subprocess
+import threading
 import time
 
 from gate.files import below, files_below, listed, read, write
@@ -13,6 +14,8 @@ from gate.files import below, files_below, listed, read, write
 PARTS = ("src", "specs", "proofs")
 # How many processes a check has.
 JOBS = 2
+# How many seconds pass before the next look at what `rt ci` has printed.
+PAUSE = 3
 
 
 class NotProved(Exception):
@@ -41,6 +44,23 @@ def built_of(name, root):
     return rlib
 
 
+class Libraries:
+    """Copies of the proved libraries, each made once. Scratch repositories link to their files, so
+    that they cost no time, and what is proved in the repository can't be changed from there."""
+
+    def __init__(self, root, room):
+        self.root, self.room, self.lock = root, room, threading.Lock()
+
+    def link(self, name, folder):
+        """Makes the folder of the library, as it was proved and built."""
+        copy = f"{self.room}/{name}"
+        with self.lock:
+            if not os.path.isdir(copy):
+                shutil.copytree(built_of(name, self.root), f"{copy}.part")
+                os.rename(f"{copy}.part", copy)
+        shutil.copytree(copy, folder, copy_function=os.link)
+
+
 def toolchain():
     """The toolchain's own module, which lies beside rt."""
     path = f"{os.path.dirname(os.path.realpath(shutil.which('rt')))}/rtlib.py"
@@ -58,16 +78,16 @@ def mark_as_built(names, room):
             write(f"{crate.folder}/out/rlib/stamp", crate.stamp())
 
 
-def prepared(name, root, room, keeps):
+def prepared(name, root, room, keeps, libraries):
     """Makes the scratch repository of one crate, over the proved libraries below it, and returns
-    the crate's folder. Where it keeps, the checks begin from what an earlier check left."""
+    the crate's folder. If it keeps, the checks begin from what an earlier check left."""
     crates = listed(root)
     names = below(name, crates)
     os.makedirs(f"{room}/crates")
     for it in [*names, name]:
         copied(it, root, room)
     for it in names:
-        shutil.copytree(built_of(it, root), f"{room}/crates/{it}/out/rlib")
+        libraries.link(it, f"{room}/crates/{it}/out/rlib")
     write(f"{room}/crates.txt", "".join(f"{it}: {' '.join(crates[it])}\n" for it in [*names, name]))
     mark_as_built([it for it in names if not os.path.isfile(f"{room}/crates/{it}/out/rlib/stamp")], room)
     kept = f"{root}/crates/{name}/out/incremental"
@@ -98,7 +118,7 @@ def wait_for(names, beside):
     while True:
         has_ended = os.path.exists(f"{beside}/status")
         # (so that its last lines have reached the file)
-        time.sleep(1)
+        time.sleep(PAUSE)
         said = read(f"{beside}/said") if os.path.exists(f"{beside}/said") else ""
         lacking = [it for it in names if not re.search(rf"(?m)^rt: {re.escape(it)} (proved$|is kept: )", said)]
         failed = [it for it in lacking if has_ended or re.search(rf"(?m)^rt: {re.escape(it)} NOT PROVED", said)]

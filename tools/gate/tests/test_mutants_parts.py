@@ -6,6 +6,7 @@ import unittest
 from gate.files import read, write
 from gate.mutants import copies, verdicts
 from gate.mutants.mutant import Mutant, mutants_of
+from gate.mutants.scratch import Libraries, NotProved
 from gate.mutants.trial import copies_that_fail
 
 PROVED, REFUSED, WAITS, UNSAID = verdicts.PROVED, verdicts.REFUSED, verdicts.WAITS, verdicts.UNSAID
@@ -126,3 +127,18 @@ class Parts(unittest.TestCase):
         mutant_of(self.crate, "k", "    4", "    7")
         write(f"{self.crate}/mutants/a/b/two.edit", "function: k\n")
         self.assertEqual([it.name for it in mutants_of(self.crate)], ["one/a/b/two", "one/lib/one"])
+
+    def test_libraries_are_copied_once(self):
+        with tempfile.TemporaryDirectory() as room:
+            rlib = f"{room}/crates/low/out/rlib"
+            for name in ("low.rlib/part", "stamp"):
+                write(f"{rlib}/{name}", name)
+            libraries = Libraries(room, f"{room}/libraries")
+            for to in ("one", "two"):
+                libraries.link("low", f"{room}/{to}/out/rlib")
+            nodes = [os.stat(f"{it}/low.rlib/part").st_ino for it in (f"{room}/one/out/rlib", f"{room}/two/out/rlib", rlib)]
+            self.assertEqual(nodes[0], nodes[1])
+            self.assertNotEqual(nodes[0], nodes[2])
+            self.assertEqual(read(f"{room}/two/out/rlib/stamp"), "stamp")
+            with self.assertRaises(NotProved):
+                libraries.link("high", f"{room}/three")
