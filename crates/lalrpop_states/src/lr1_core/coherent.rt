@@ -1,9 +1,10 @@
 //! The test whether states are coherent: whether their numbers, edges and reductions agree with
 //! their items.
 ghost use Rattle.std.specs.Prelude.{◌≡◌, ◌-◌, ◌<◌, ◌↔◌, ℕ, List, slice_get, Some, IsTrue, IfOk};
-ghost use Rattle.lalrpop_collections.specs.lists.Each.{EachEntry};
+ghost use Rattle.lalrpop_collections.specs.lists.Each.{EachItem};
 ghost use Rattle.lalrpop_grammar.specs.grammars.Names.{symbol_text};
 ghost use Rattle.lalrpop_states.specs.states.Coherent.{AreCoherent, IsCoherentState, IsCoherentEdge, IsCoherentStep, HasItem, StartsAtZero, AreFinished, IsAt, IsShifted, symbol_of};
+ghost use Rattle.lalrpop_states.specs.states.Edges.{state_edges};
 
 use super::item::Item;
 use super::state::{State, StateIndex};
@@ -11,7 +12,6 @@ use lalrpop_collections::exact::equal;
 use lalrpop_collections::memory::OutOfMemory;
 use lalrpop_grammar::repr::{NonterminalString, Production, Symbol, TerminalString};
 use std::alloc::Global;
-use std::collections::BTreeMap;
 use std::fmt;
 
 /// Whether the states are coherent.
@@ -46,10 +46,7 @@ fn is_coherent_state<'grammar, L>(
     if !starts_right(place, items) {
         return false;
     }
-    if !have_coherent_shifts(states, items, &state.shifts) {
-        return false;
-    }
-    if !have_coherent_gotos(states, items, &state.gotos) {
+    if !have_coherent_edges(states, items, state) {
         return false;
     }
     are_finished(items, &state.reductions)
@@ -90,36 +87,19 @@ fn are_finished<'grammar, L>(
     true
 }
 
-// Whether each shift leads to a state of the list whose moved items come from the given items.
-fn have_coherent_shifts<'grammar, L>(
+// Whether each edge of a state leads to a state of the list whose moved items come from the given
+// items.
+fn have_coherent_edges<'grammar, L>(
     states: &[State<'grammar, L>],
     items: &[Item<'grammar, L>],
-    shifts: &BTreeMap<TerminalString, StateIndex>,
+    state: &State<'grammar, L>,
 ) -> bool
-    ensures { IsTrue result ↔ EachEntry
-        (λ t target. IsCoherentStep states.now items.now (Symbol.Terminal t) target.0)
-        shifts.now.entries }
+    ensures { IsTrue result ↔ EachItem
+        (λ edge. IsCoherentStep states.now items.now edge.0 edge.1.0)
+        (state_edges state.now.shifts.entries state.now.gotos.entries) }
 {
-    for (terminal, target) in shifts.iter() {
-        if !is_coherent_step(states, items, SymbolRef::Terminal(terminal), *target) {
-            return false;
-        }
-    }
-    true
-}
-
-// Whether each goto leads to a state of the list whose moved items come from the given items.
-fn have_coherent_gotos<'grammar, L>(
-    states: &[State<'grammar, L>],
-    items: &[Item<'grammar, L>],
-    gotos: &BTreeMap<NonterminalString, StateIndex>,
-) -> bool
-    ensures { IsTrue result ↔ EachEntry
-        (λ name target. IsCoherentStep states.now items.now (Symbol.Nonterminal name) target.0)
-        gotos.now.entries }
-{
-    for (name, target) in gotos.iter() {
-        if !is_coherent_step(states, items, SymbolRef::Nonterminal(name), *target) {
+    for (symbol, target) in state.edges() {
+        if !is_coherent_step(states, items, symbol, target) {
             return false;
         }
     }
