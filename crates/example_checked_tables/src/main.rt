@@ -4,9 +4,7 @@
 
 ghost use Rattle.lalrpop_base.specs.Words.{IsWellFormed};
 
-use anyhow::bail;
-use grammar_text::grammar::read;
-use grammar_text::symbols::name_of;
+use grammar_text::{name_of, read};
 use lalrpop_base::lr1_core::coherent::are_coherent;
 use lalrpop_base::lr1_core::state::Lr1State;
 use lalrpop_base::memory::OutOfMemory;
@@ -21,9 +19,7 @@ const TEXT: &str = "S = E\nE = E \"+\" T\nE = T\nT = \"n\"";
 
 fn main(rt: HostRuntime) -> anyhow::Result<()> {
     let alloc = rt.alloc();
-    let Ok(grammar) = read(alloc, TEXT) else {
-        bail!("the text stands for no grammar");
-    };
+    let grammar = read(alloc, TEXT)?;
     let start = name_of(alloc, "S")?;
     let mut states = build_states(alloc, &grammar, start.clone(alloc)?, &Options::default())?;
     let first = start.clone(alloc)?;

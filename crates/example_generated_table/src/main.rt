@@ -4,9 +4,7 @@
 //! number 0 is no action.
 #![tactic(auto)]
 
-use anyhow::bail;
-use grammar_text::grammar::read;
-use grammar_text::symbols::name_of;
+use grammar_text::{name_of, read};
 use lalrpop_base::lookahead::token::Token;
 use lalrpop_base::lr1_core::ActionEntry;
 use lalrpop_base::lr1_core::state::Lr1State;
@@ -21,9 +19,7 @@ const TEXT: &str = "S = E\nE = E \"+\" T\nE = T\nT = \"n\"";
 
 fn main(rt: HostRuntime) -> anyhow::Result<()> {
     let alloc = rt.alloc();
-    let Ok(grammar) = read(alloc, TEXT) else {
-        bail!("the text stands for no grammar");
-    };
+    let grammar = read(alloc, TEXT)?;
     let states = build_states(alloc, &grammar, name_of(alloc, "S")?, &Options::default())?;
     let tokens = tokens_of(alloc, &grammar.terminals)?;
     let (count, width) = (states.len(), tokens.len());

@@ -19,7 +19,8 @@ unplaced line = record { line = line; span = record { 0 = 0; 1 = 0 } }
 abbrev pub is_no_symbol : List ℕ → Bool
 is_no_symbol word = is_none (symbol_of word)
 
--- a name and words are refused: the text that is to be a name is none; or it is one, and a word, the first, is no symbol; memory may be refused at any
+-- an error says why a production is refused: its name is not a name; or its name is one, and the word
+-- that the error has is the first faulty one; or an allocation failed
 module _ {W : Type 0} (is_faulty : W → Bool) (text_of : W → List ℕ) where
   abbrev pub IsRefusedFor : List ℕ → List W → BuilderError → Type 0
   IsRefusedFor name words (Name text) = (text ≡ name) × (is_name name ≡ false)

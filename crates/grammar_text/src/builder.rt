@@ -1,5 +1,5 @@
 //! A grammar that a caller gives production by production.
-ghost use Rattle.std.specs.Prelude.{◌≡◌, ◌≤◌, ◌^◌, ◌++◌, ◌∷◌, [], List, ℕ, Some, map, length, codes, false, true, IfOk, OnOk, OnErr, IfErr, MatchOption};
+ghost use Rattle.std.specs.Prelude.{◌≡◌, ◌≤◌, ◌^◌, ◌++◌, ◌∷◌, [], List, ℕ, Some, map, length, codes, false, true, position, None, IfOk, OnOk, OnErr, IfErr, MatchOption};
 ghost use Rattle.lalrpop_base.specs.Words.{IsWellFormed};
 ghost use Rattle.grammar_text.specs.declared.lines.Line.TheVariants.{Production};
 ghost use Rattle.grammar_text.specs.Symbols.{is_name, name_of, symbols_of};
@@ -82,6 +82,7 @@ impl GrammarBuilder {
         ensures ok { OnOk result (self.new ≡ self.old ++ unplaced
             (Production (name_of name.now) (map symbol_by symbols.now)) ∷ []) }
         ensures names { OnOk result (is_name name.now ≡ true) }
+        ensures right { OnOk result (position is_no_name symbols.now ≡ None) }
         ensures err { IfErr result (IsRefusedOf name.now symbols.now) }
         ensures same { OnErr result (self.new ≡ self.old) }
     {
@@ -183,6 +184,7 @@ fn symbols_in(alloc: Global, name: &str, words: &[&str]) -> Result<Symbols, Buil
 // The symbols that are given by kind and text, or the first nonterminal whose text is not a name.
 fn symbols_by(alloc: Global, name: &str, texts: &[SymbolText<'_>]) -> Result<Symbols, BuilderError>
     ensures ok { IfOk result (λ symbols. symbols ≡ map symbol_by texts.now) }
+    ensures right { OnOk result (position is_no_name texts.now ≡ None) }
     ensures err { is_name name.now ≡ true → IfErr result (IsRefusedOf name.now texts.now) }
 {
     let mut symbols = Sequence::new(alloc);

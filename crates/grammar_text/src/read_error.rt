@@ -4,15 +4,19 @@ ghost use Rattle.grammar_text.specs.declared.read_error.ReadError.TheVariants.{M
 
 use lalrpop_base::memory::OutOfMemory;
 use std::alloc::{AllocError, AllocFailed};
+use thiserror::Error;
 
 /// Why a text gives no grammar.
-#[derive(Clone, Copy, Debug, PartialEq, Eq)]
+#[derive(Clone, Copy, Debug, Drop, PartialEq, Eq, Error)]
 pub enum ReadError {
     /// The number of the first line that is no grammar line, counted from 1.
+    #[error("line {0}: not a grammar line")]
     Line(usize),
     /// There are more than 2^32 productions, so the numbers of actions do not suffice.
+    #[error("too many actions")]
     TooManyActions,
     /// An allocation failed.
+    #[error("out of memory")]
     Memory,
 }
 
