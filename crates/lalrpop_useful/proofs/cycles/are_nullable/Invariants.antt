@@ -1,0 +1,6 @@
+use Rattle.std.proofs.Common.{take}
+use Rattle.lalrpop_grammar.specs.Words.{IsNullable}
+use Rattle.lalrpop_useful.proofs.cycles.are_nullable.Given as goal
+
+abbrev pub invariant-loop-symbol : goal.invariant-loop-symbol
+invariant-loop-symbol l = IsNullable l.sets.productions (take l.symbol-index l.symbols)

@@ -1,0 +1,2 @@
+-- Lemmas that the proofs of the functions use.
+pub mod useful

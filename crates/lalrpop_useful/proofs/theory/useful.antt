@@ -1,0 +1,7 @@
+-- Useful and doubtful parts of a grammar.
+pub mod Cycles
+pub mod Productive
+pub mod Reachable
+pub mod Repeats
+pub mod Undefined
+pub mod Users

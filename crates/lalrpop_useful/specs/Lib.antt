@@ -1,0 +1,2 @@
+pub mod useful
+pub mod Words

@@ -1,0 +1,7 @@
+-- The definitions that the contracts of this crate name, each with the file that has it.
+pub use Rattle.lalrpop_useful.specs.useful.Cycles.{AddsCyclic, DerivesAlone, IsAlone, IsAloneAt, IsAloneOn, IsCyclic}
+pub use Rattle.lalrpop_useful.specs.useful.Productive.{AddsUser, AreAmong, AreProductive, AreTried, HasUsers, HasWaiting, IsProductive, IsTried, UserMap}
+pub use Rattle.lalrpop_useful.specs.useful.Productive.{came, left, listed_names, users_at}
+pub use Rattle.lalrpop_useful.specs.useful.Reachable.{HasProduction, IsOnRightSide, IsReachable}
+pub use Rattle.lalrpop_useful.specs.useful.Repeats.{AddsRepeats, IsFirstWith, IsRepeat, NoneBelow, RepeatsAt, RepeatsBelow}
+pub use Rattle.lalrpop_useful.specs.useful.Undefined.{AddsUndefined, IsFirstUse, IsNewUse, IsUndefined, names_of}

@@ -1,0 +1,6 @@
+-- Useful and doubtful parts of a grammar.
+pub mod Cycles
+pub mod Productive
+pub mod Reachable
+pub mod Repeats
+pub mod Undefined
