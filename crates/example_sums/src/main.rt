@@ -1,5 +1,5 @@
 //! `example_sums` builds a grammar of sums, prints its tables, and parses a sum by them. Then it
-//! counts the conflicts of an ambiguous grammar of sums.
+//! explains the conflict of an ambiguous grammar of sums.
 #![tactic(auto)]
 
 ghost use Rattle.std.specs.Prelude.{IfOk};
@@ -8,7 +8,9 @@ ghost use Rattle.lalrpop_base.specs.Words.{IsWellFormed};
 use grammar_text::builder::SymbolText::{Literal, Nonterminal};
 use grammar_text::{BuilderError, GrammarBuilder, SymbolText, literals, name_of};
 use lalrpop_base::Grammar;
-use lalrpop_lr1::{ParseError, parse, report_text};
+use lalrpop_base::lr1_core::state::Lr1TableConstructionError;
+use lalrpop_lr1::explain::explain;
+use lalrpop_lr1::{ExplainedItem, ParseError, is_own_error, parse, report_text};
 use lalrpop_tables::{Options, build_states};
 use std::alloc::Global;
 
@@ -36,7 +38,7 @@ fn sums(alloc: Global, longer: &[SymbolText<'_>]) -> Result<Grammar, BuilderErro
     builder.finish()
 }
 
-// Parses a sum, and prints its tree, or the number of conflicts.
+// Parses a sum, and prints its tree, or the conflicts of the grammar.
 fn parse_sum(rt: &HostRuntime, grammar: &Grammar) -> anyhow::Result<()>
     requires { IsWellFormed grammar.now }
 {
@@ -45,8 +47,39 @@ fn parse_sum(rt: &HostRuntime, grammar: &Grammar) -> anyhow::Result<()>
     let tokens = literals(alloc, &["n", "+", "n"])?;
     match parse(alloc, grammar, start, &Options::default(), tokens, 100) {
         Ok(tree) => println!(rt; "{tree}")?,
-        Err(ParseError::Conflicts(error)) => println!(rt; "conflicts: {}", error.conflicts.len())?,
+        Err(ParseError::Conflicts(error)) => print_conflicts(rt, grammar, &error)?,
         Err(error) => println!(rt; "{error}")?,
+    }
+    Ok(())
+}
+
+// Prints the conflicts of a grammar, each with examples of how its two actions come about.
+fn print_conflicts<'grammar>(
+    rt: &HostRuntime,
+    grammar: &'grammar Grammar,
+    error: &Lr1TableConstructionError<'grammar>,
+) -> anyhow::Result<()>
+    requires { IsWellFormed grammar.now }
+{
+    println!(rt; "conflicts: {}", error.conflicts.len())?;
+    if !is_own_error(grammar, error) {
+        return Ok(());
+    }
+    for explained in explain(rt.alloc(), grammar, error, 3)? {
+        println!(rt; "in state {}", explained.conflict.state)?;
+        print_item(rt, &explained.reduction)?;
+        for other in &explained.others {
+            print_item(rt, other)?;
+        }
+    }
+    Ok(())
+}
+
+// Prints an item, and its examples.
+fn print_item(rt: &HostRuntime, item: &ExplainedItem<'_>) -> anyhow::Result<()> {
+    println!(rt; "  {}, dot at {}", item.production, item.index)?;
+    for example in &item.examples {
+        println!(rt; "    {example}")?;
     }
     Ok(())
 }

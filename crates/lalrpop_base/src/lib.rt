@@ -11,6 +11,7 @@
 
 pub use lalrpop_collections::memory::OutOfMemory;
 pub use lalrpop_collections::{exact, memory, sequence, text};
+pub use lalrpop_grammar::first::FirstSets;
 pub use lalrpop_grammar::repr::{
     Grammar, NonterminalString, Production, Symbol, TerminalSet, TerminalString, is_well_formed,
 };
@@ -20,6 +21,6 @@ pub use lalrpop_states::lookahead::{Token, TokenRef, TokenSet};
 pub use lalrpop_states::lr1_core::state::{
     Action, BuildError, Conflict, Lr1Conflict, Lr1State, StateIndex, TableConstructionError,
 };
-pub use lalrpop_states::lr1_core::{Item, are_coherent};
+pub use lalrpop_states::lr1_core::{Item, Lr0Item, Lr1Item, are_coherent};
 pub use lalrpop_states::{collections, kernel_set, lookahead, lr1_core};
 pub use lr1_theory::laws;

@@ -1,2 +1,3 @@
 -- Lemmas that the proofs of the functions use, in a folder for each subject.
+pub mod explained
 pub mod runs

@@ -1,4 +1,8 @@
 -- The definitions that the contracts of this crate name, each with the file that has it.
+pub use Rattle.lalrpop_explain.specs.explained.ExplainedConflicts.{AddsIfShifting, AreExplained, AreExplainedBy, AreExplainedShifts, IsExplained, IsExplainedAlone}
+pub use Rattle.lalrpop_explain.specs.explained.ExplainedConflicts.{IsExplainedReduction, IsExplainedShift}
+pub use Rattle.lalrpop_explain.specs.explained.FirstExamples.{AreExamplesOf, AreFirst, AreFirstMeeting, AreReduceExamples, AreShiftExamples, GoesOnWith}
+pub use Rattle.lalrpop_explain.specs.explained.OwnErrors.{AreOwnConflicts, AreOwnStates, IsOwnConflict, IsOwnError}
 pub use Rattle.lalrpop_inline.specs.inlining.InlineChoices.{behind, choices, completed, extended, followed, inlined, is_named, laid_out, mentions, part_symbols, parts}
 pub use Rattle.lalrpop_inline.specs.inlining.InlineMeetings.{AreMarkedAmong, ComesBack, ComesBackFrom, GoesPast, IsComeBackTo, IsEntered, IsInside, IsMetName, IsNewest}
 pub use Rattle.lalrpop_inline.specs.inlining.InlineMeetings.{IsPassed, LeadsBack, Leaves, NamesBy, through, here, inside, later, mentions_back, no_more, past_over, passing}

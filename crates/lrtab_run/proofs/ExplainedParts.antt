@@ -1,13 +1,7 @@
 -- A text that grows part by part.
 use Rattle.std.proofs.Common.{◌≡◌, ℕ, ◌+◌, ◌<◌, ◌≤◌, List, [], ◌∷◌, ◌++◌, length, drop, get_or, refl, sym, ◌∙◌, ap, subst, arith, append_assoc}
 use Rattle.std.proofs.lemmas.List.{append-nil, drop_all, drop_more}
-use Rattle.std.specs.Prelude.{slice_get, codes}
-use Rattle.lalrpop_base.specs.Words.{Bits, Dotted, terminal_text, Rules}
-use Rattle.lalrpop_states.specs.declared.lr1_core.state.State.{State}
-use Rattle.lalrpop_states.specs.declared.lr1_core.state.StateIndex.{StateIndex}
-use Rattle.lalrpop_grammar.specs.declared.repr.TerminalString.{TerminalString}
-use Rattle.lalrpop_lr1.specs.Words.{items_at}
-use Rattle.lrtab_run.specs.Explained.{HasParts, no_part, part, IsItemPart, IsShiftPart}
+use Rattle.lrtab_run.specs.Explained.{HasParts, no_part, part}
 use Rattle.lrtab_run.specs.Explaining.{Grows}
 
 module _ {X : Type 0} (IsPart : ℕ → X → List ℕ → Type 0) where
@@ -35,16 +29,3 @@ module _ {X : Type 0} (IsPart : ℕ → X → List ℕ → Type 0) where
     holds = subst (HasParts IsPart first xs) (append-nil d.done) (d.whole [] (subst (λ (ys : List X). HasParts IsPart (count + first) ys []) (sym (drop_all count xs l)) no_part));
     grown = d.grown;
   }
-
--- the text of a shift grows by its line and the examples of each item
-pub shift_grows : (g : Rules) (states : List (State Bits)) (state : StateIndex) (t : TerminalString) (items : List (Dotted Bits)) (old now new : List ℕ) → items ≡ items_at (slice_get states state.0) →
-    now ≡ old ++ (codes "  shift " ++ (terminal_text t ++ codes "\n")) → Grows (HasParts (λ _ item. IsItemPart g states state t item) 0 items) now new → Grows (IsShiftPart g states state t) old new
-shift_grows g states state t items old now new are line grows = record {
-  added = codes "  shift " ++ (terminal_text t ++ (codes "\n" ++ grows.added));
-  holds = record {
-    examples = grows.added;
-    of_items = subst (λ (xs : List (Dotted Bits)). HasParts (λ _ item. IsItemPart g states state t item) 0 xs grows.added) are grows.holds;
-    shown = refl;
-  };
-  grown = simp (grows.grown, line, append_assoc);
-}

@@ -4,6 +4,4 @@ pub mod RunShown
 pub mod Written
 pub mod Known
 pub mod ExplainedParts
-pub mod FirstPaths
-pub mod OwnConflicts
-pub mod TracedReductions
+pub mod ExplainedTexts

@@ -1,9 +1,9 @@
 -- The explanation of conflicts, as a text: a list of bytes. Each conflict has a head, its reduction
 -- and its other action. Both actions have their first examples.
-use Rattle.std.specs.Prelude.{◌≡◌, ◌≢◌, ℕ, suc, ◌+◌, List, [], ◌∷◌, ◌++◌, length, take, drop, slice_get, Option, Some, None, IsTrue, codes}
+use Rattle.std.specs.Prelude.{◌≡◌, ◌≢◌, ℕ, ◌+◌, List, [], ◌∷◌, ◌++◌, length, take, slice_get, Some, codes}
 use Rattle.std.specs.Fmt.{decimal}
 use Rattle.std.specs.List.{flat_map}
-use Rattle.lalrpop_base.specs.Words.{Bits, has, IsFirstSet, Dotted, terminal_text, Rules}
+use Rattle.lalrpop_base.specs.Words.{Bits, Dotted, terminal_text, Rules}
 use Rattle.lalrpop_grammar.specs.declared.lookahead.token.Token.{Token}
 use Rattle.lalrpop_states.specs.declared.lr1_core.state.Action.{Action}
 use Rattle.lalrpop_states.specs.declared.lr1_core.state.Action.TheVariants.{Shift, Reduce}
@@ -13,7 +13,7 @@ use Rattle.lalrpop_states.specs.declared.lr1_core.state.StateIndex.{StateIndex}
 use Rattle.lalrpop_grammar.specs.declared.repr.Production.{Production}
 use Rattle.lalrpop_grammar.specs.declared.repr.Symbol.TheVariants.{Terminal}
 use Rattle.lalrpop_grammar.specs.declared.repr.TerminalString.{TerminalString}
-use Rattle.lalrpop_lr1.specs.Words.{marked_text, prefixes, following, spelled, item_node, items_at, paths, production_line, tokens_in, tokens_text, Graph, IsInOrder, IsTraceOf}
+use Rattle.lalrpop_lr1.specs.Words.{AreFirst, GoesOnWith, marked_text, prefixes, spelled, item_node, items_at, paths, production_line, tokens_in, tokens_text, Graph, IsInOrder, IsTraceOf}
 use Rattle.lalrpop_lr1.specs.Words.{dotted, shift_traced, reduction_traced}
 use Rattle.lalrpop_traces.specs.declared.trace.example.ExampleSymbol.{ExampleSymbol}
 
@@ -35,19 +35,6 @@ abbrev pub path_lines : Graph → List (List ℕ) → List ℕ
 path_lines graph shown = flat_map (path_line graph) shown
 
 -- ---- the examples of an item
--- `first` has the first n paths of a list of which P holds, in their order, or all such paths if
--- there are fewer
-pub data AreFirst (P : List ℕ → Type 0) : ℕ → List (List ℕ) → List (List ℕ) → Type 0 where
-  enough : {all : List (List ℕ)} → AreFirst P 0 all []
-  none : {n : ℕ} → AreFirst P n [] []
-  skip : {n : ℕ} {path : List ℕ} {all first : List (List ℕ)} → ¬ P path → AreFirst P n all first → AreFirst P n (path ∷ all) first
-  keep : {n : ℕ} {path : List ℕ} {all first : List (List ℕ)} → P path → AreFirst P n all first → AreFirst P (suc n) (path ∷ all) (path ∷ first)
-
--- the symbols that follow the place of the example of a path can begin with a token of the
--- lookahead
-abbrev pub GoesOnWith : Rules → Graph → Bits → List ℕ → Type 0
-GoesOnWith g graph lookahead path = (first : Bits) × IsFirstSet g (following graph path) first × (bit : ℕ) × IsTrue (has first bit) × IsTrue (has lookahead bit)
-
 -- a text has the parts of a list, one after the other, of which the first has the number n
 pub data HasParts {X : Type 0} (IsPart : ℕ → X → List ℕ → Type 0) : ℕ → List X → List ℕ → Type 0 where
   no_part : {n : ℕ} → HasParts IsPart n [] []

@@ -1,14 +1,15 @@
--- The conditions under which conflicts are explained, and how the text grows.
-use Rattle.std.specs.Prelude.{◌≡◌, ℕ, List, ◌++◌, Contains}
-use Rattle.lalrpop_base.specs.Words.{Bits, Dotted, Rules, HasKnownTerminals}
-use Rattle.lalrpop_states.specs.declared.lr1_core.state.Conflict.{Conflict}
-use Rattle.lalrpop_states.specs.declared.lr1_core.state.State.{State}
-use Rattle.lalrpop_states.specs.declared.lr1_core.state.StateIndex.{StateIndex}
-use Rattle.lalrpop_grammar.specs.declared.repr.Production.{Production}
-use Rattle.lalrpop_tables.specs.Words.{ReducesOwn}
-use Rattle.lalrpop_lr1.specs.Words.{StandsIn, Meets, to_come}
-use Rattle.lalrpop_traces.specs.declared.trace.filtered.FilteredPathEnumerator.{FilteredPathEnumerator}
-use Rattle.lrtab_run.specs.Explained.{AreFirst, path_lines}
+-- The text of an explained conflict, and how the text of all grows.
+use Rattle.std.specs.Prelude.{◌≡◌, ℕ, List, ◌++◌, codes}
+use Rattle.std.specs.List.{flat_map}
+use Rattle.lalrpop_base.specs.Words.{terminal_text}
+use Rattle.lalrpop_states.specs.declared.lr1_core.state.Action.{Action}
+use Rattle.lalrpop_states.specs.declared.lr1_core.state.Action.TheVariants.{Shift, Reduce}
+use Rattle.lalrpop_grammar.specs.declared.repr.TerminalString.{TerminalString}
+use Rattle.lalrpop_lr1.specs.Words.{production_line, tokens_in}
+use Rattle.lalrpop_explain.specs.declared.explain.ExplainedConflict.{ExplainedConflict}
+use Rattle.lalrpop_explain.specs.declared.explain.ExplainedItem.{ExplainedItem}
+use Rattle.lalrpop_traces.specs.declared.trace.example.Example.{Example}
+use Rattle.lrtab_run.specs.Explained.{head_line, marked_line}
 
 -- a text grew by a text of which P holds
 pub record Grows (P : List ℕ → Type 0) (old new : List ℕ) : Type 0 where
@@ -16,20 +17,24 @@ pub record Grows (P : List ℕ → Type 0) (old new : List ℕ) : Type 0 where
   pub holds : P added
   pub grown : new ≡ old ++ added
 
--- the terminals of the grammar's productions have bits, and each item of the states has one of
--- these productions
-pub record AreOwnStates (g : Rules) (states : List (State Bits)) : Type 0 where
-  pub known : (p : Production) → Contains g.productions p → HasKnownTerminals g.terminals p.symbols
-  pub items : (n : StateIndex) (i : Dotted Bits) → StandsIn states n i → Contains g.productions i.production
+-- the line of an example
+abbrev pub example_line : Example → List ℕ
+example_line x = marked_line x.symbols.items x.cursor
 
--- the reductions of a conflict are by productions of a list
-pub record IsOwnConflict (productions : List Production) (c : Conflict Bits) : Type 0 where
-  pub production : Contains productions c.production.now
-  pub action : ReducesOwn productions c.action
+-- the lines of the examples of an item
+abbrev pub example_lines : ExplainedItem → List ℕ
+example_lines item = flat_map example_line item.examples.items
 
--- the text has the lines of the first three paths to come that meet the lookahead of a filtered
--- walk
-pub record AreFirstLines (walk : FilteredPathEnumerator) (text : List ℕ) : Type 0 where
-  pub first : List (List ℕ)
-  pub are_first : AreFirst (Meets walk) 3 (to_come walk.base) first
-  pub shown : text ≡ path_lines walk.base.graph.now first
+-- a reduction: its production, and the examples of its finished item
+abbrev pub reduction_text : ExplainedItem → List ℕ
+reduction_text item = codes "  reduce " ++ (production_line item.production.now ++ example_lines item)
+
+-- the other action: a shift with its terminal and the examples of each item, or the reduction of
+-- each item
+abbrev pub action_text : Action → List ExplainedItem → List ℕ
+action_text (Shift t target) items = codes "  shift " ++ (terminal_text t ++ (codes "\n" ++ flat_map example_lines items))
+action_text (Reduce p) items = flat_map reduction_text items
+
+-- a conflict with a number: its head, its reduction and its other action
+abbrev pub conflict_text : List TerminalString → ℕ → ExplainedConflict → List ℕ
+conflict_text terminals number x = head_line number x.conflict.now.state (tokens_in terminals x.conflict.now.lookahead) ++ (reduction_text x.reduction ++ action_text x.conflict.now.action x.others.items)

@@ -1,27 +1,26 @@
 //! The explanation of conflicts: how the actions of each come about, by examples of input.
-mod examples;
-mod ground;
 mod lines;
 
-ghost use Rattle.std.specs.Prelude.{◌≡◌, ◌↔◌, IfOk, OnOk, IsTrue, Some, Contains, slice_get, string_bytes};
-ghost use Rattle.lalrpop_base.specs.Words.{IsWellFormed, productions, rules_of, Bits};
-ghost use Rattle.lalrpop_states.specs.declared.lr1_core.state.Conflict.{Conflict};
-ghost use Rattle.lalrpop_tables.specs.Words.{ReducesOwn};
-ghost use Rattle.lrtab_run.specs.Explained.{IsReducePart, IsShiftPart, IsItemPart, IsActionPart, IsConflictPart, IsExplanation, HasParts};
-ghost use Rattle.lrtab_run.specs.Explaining.{Grows, AreOwnStates, IsOwnConflict};
+ghost use Rattle.std.specs.Prelude.{◌≡◌, ◌++◌, IfOk, OnOk, codes, string_bytes};
+ghost use Rattle.std.specs.List.{flat_map};
+ghost use Rattle.lalrpop_base.specs.Words.{IsWellFormed, rules_of, terminal_text};
+ghost use Rattle.lalrpop_lr1.specs.Words.{AreOwnConflicts, AreOwnStates, IsOwnError};
+ghost use Rattle.lrtab_run.specs.Explained.{IsExplanation};
+ghost use Rattle.lrtab_run.specs.Explaining.{Grows, action_text, conflict_text, example_line, example_lines, reduction_text};
 
-use self::examples::{push_first, push_meeting};
-use self::ground::{Ground, items_in};
-use self::lines::{push_head, push_production};
-use lalrpop_base::exact::equal;
+use self::lines::{push_example, push_head, push_production};
 use lalrpop_base::first::FirstSets;
-use lalrpop_base::lr1_core::item::{Item, Lr1Item};
-use lalrpop_base::lr1_core::state::{Action, Lr1Conflict, Lr1TableConstructionError, StateIndex};
+use lalrpop_base::lr1_core::state::{Action, Lr1Conflict, Lr1TableConstructionError};
 use lalrpop_base::memory::OutOfMemory;
+use lalrpop_base::repr::TerminalString;
 use lalrpop_base::repr::grammar::Grammar;
-use lalrpop_base::repr::{Production, Symbol, TerminalString};
-use lalrpop_lr1::trace::Tracer;
+use lalrpop_base::repr::terminals::TerminalSet;
+use lalrpop_lr1::explain::{ExplainedConflict, ExplainedItem, Explainer};
+use lalrpop_lr1::trace::Example;
 use std::alloc::Global;
+
+// The greatest number of examples that are shown of an item.
+const MOST: usize = 3;
 
 /// The explanation of the conflicts of a grammar, as text. `OutOfMemory` if an allocation fails.
 pub fn explanation<'grammar>(
@@ -30,186 +29,133 @@ pub fn explanation<'grammar>(
     error: &Lr1TableConstructionError<'grammar>,
 ) -> Result<String, OutOfMemory>
     requires well_formed { IsWellFormed grammar.now }
-    requires states { AreOwnStates (rules_of grammar.now) error.now.states.items }
-    requires conflicts { (c : Conflict Bits) →
-        Contains error.now.conflicts.items c →
-        IsOwnConflict (productions grammar.now) c }
+    requires own { IsOwnError (rules_of grammar.now) error.now }
     ensures { IfOk result (λ text. IsExplanation (rules_of grammar.now) error.now.states.items
         error.now.conflicts.items (string_bytes text)) }
 {
     let first_sets = FirstSets::new(alloc, grammar)?;
-    let tracer = Tracer::new(alloc, &first_sets, &error.states)?;
-    let ground = Ground {
-        states: &error.states,
-        first_sets: &first_sets,
-        terminals: &grammar.terminals,
-        tracer: &tracer,
-    };
+    let explainer = Explainer::new(alloc, &first_sets, &error.states)?;
     let mut text = String::new(alloc);
-    push_conflicts(alloc, &mut text, &ground, &error.conflicts)?;
+    push_conflicts(
+        alloc,
+        &mut text,
+        &explainer,
+        &grammar.terminals,
+        &error.conflicts,
+    )?;
     Ok(text)
 }
 
-// Appends the parts of the conflicts, which are numbered from 1.
+// Appends the parts of the conflicts, which are numbered from 1. Each is explained by itself, so
+// that the examples of one conflict are held at a time.
 fn push_conflicts<'grammar>(
     alloc: Global,
     text: &mut String,
-    ground: &Ground<'_, 'grammar>,
+    explainer: &Explainer<'_, 'grammar>,
+    terminals: &TerminalSet,
     conflicts: &[Lr1Conflict<'grammar>],
 ) -> Result<(), OutOfMemory>
-    requires states { AreOwnStates ground.now.first_sets.now ground.now.states.now }
-    requires conflicts { (c : Conflict Bits) →
-        Contains conflicts.now c →
-        IsOwnConflict ground.now.first_sets.now.productions c }
+    requires states { AreOwnStates explainer.now.ground.first_sets.now
+        explainer.now.ground.states.now }
+    requires conflicts { AreOwnConflicts explainer.now.ground.first_sets.now.productions
+        conflicts.now }
+    requires numbered { terminals.now ≡ explainer.now.ground.first_sets.now.terminals }
     ensures { OnOk result (Grows
-        (IsExplanation ground.now.first_sets.now ground.now.states.now conflicts.now)
-        (string_bytes text.old) (string_bytes text.new)) }
+        (IsExplanation explainer.now.ground.first_sets.now explainer.now.ground.states.now
+        conflicts.now) (string_bytes text.old) (string_bytes text.new)) }
 {
     for (place, conflict) in conflicts.iter().enumerate() {
-        push_conflict(alloc, text, ground, place + 1, conflict)?;
+        let explained = explainer.explain(alloc, conflict, MOST)?;
+        push_conflict(text, place + 1, &explained, terminals)?;
     }
     Ok(())
 }
 
 // Appends the part of a conflict: its head, its reduction and its other action.
-fn push_conflict<'grammar>(
-    alloc: Global,
+fn push_conflict(
     text: &mut String,
-    ground: &Ground<'_, 'grammar>,
     number: usize,
-    conflict: &Lr1Conflict<'grammar>,
+    explained: &ExplainedConflict<'_, '_>,
+    terminals: &TerminalSet,
 ) -> Result<(), OutOfMemory>
-    requires states { AreOwnStates ground.now.first_sets.now ground.now.states.now }
-    requires conflict { IsOwnConflict ground.now.first_sets.now.productions conflict.now }
-    ensures { OnOk result (Grows
-        (IsConflictPart ground.now.first_sets.now ground.now.states.now number conflict.now)
-        (string_bytes text.old) (string_bytes text.new)) }
+    ensures { OnOk result (string_bytes text.new ≡ string_bytes text.old ++ conflict_text
+        terminals.now number explained.now) }
 {
-    push_head(text, number, conflict, ground.terminals)?;
-    push_reduction(alloc, text, ground, conflict, conflict.production)?;
-    push_action(alloc, text, ground, conflict)?;
+    push_head(text, number, explained.conflict, terminals)?;
+    push_reduction(text, &explained.reduction)?;
+    push_action(text, &explained.conflict.action, &explained.others)?;
     Ok(())
 }
 
 // Appends the part of the other action of a conflict.
-fn push_action<'grammar>(
-    alloc: Global,
+fn push_action(
     text: &mut String,
-    ground: &Ground<'_, 'grammar>,
-    conflict: &Lr1Conflict<'grammar>,
+    action: &Action<'_>,
+    items: &[ExplainedItem<'_>],
 ) -> Result<(), OutOfMemory>
-    requires states { AreOwnStates ground.now.first_sets.now ground.now.states.now }
-    requires action { ReducesOwn ground.now.first_sets.now.productions conflict.now.action }
-    ensures { OnOk result (Grows (IsActionPart ground.now.first_sets.now ground.now.states.now
-        conflict.now.state conflict.now.lookahead conflict.now.action) (string_bytes text.old)
-        (string_bytes text.new)) }
+    ensures { OnOk result
+        (string_bytes text.new ≡ string_bytes text.old ++ action_text action.now items.now) }
 {
-    match &conflict.action {
-        Action::Shift(terminal, _) => push_shift(alloc, text, ground, conflict.state, terminal),
-        Action::Reduce(other) => push_reduction(alloc, text, ground, conflict, *other),
+    match action {
+        Action::Shift(terminal, _) => push_shift(text, terminal, items),
+        Action::Reduce(_) => push_reductions(text, items),
     }
 }
 
-// Appends the part of a reduction of a conflict: its production, and examples that can go on with a
-// token of the conflict.
-fn push_reduction<'grammar>(
-    alloc: Global,
+// Appends the part of a shift: its terminal, and the examples of each item.
+fn push_shift(
     text: &mut String,
-    ground: &Ground<'_, 'grammar>,
-    conflict: &Lr1Conflict<'grammar>,
-    production: &'grammar Production,
-) -> Result<(), OutOfMemory>
-    requires states { AreOwnStates ground.now.first_sets.now ground.now.states.now }
-    requires production { Contains ground.now.first_sets.now.productions production.now }
-    ensures { OnOk result (Grows (IsReducePart ground.now.first_sets.now ground.now.states.now
-        conflict.now.state conflict.now.lookahead production.now) (string_bytes text.old)
-        (string_bytes text.new)) }
-{
-    text.push_str("  reduce ")?;
-    push_production(text, production)?;
-    let item = Item {
-        production,
-        index: production.symbols.len(),
-        lookahead: conflict.lookahead.clone(alloc)?,
-    };
-    push_meeting(alloc, text, ground, conflict.state, &item)?;
-    Ok(())
-}
-
-// Appends the part of a shift: its terminal, and examples for each item of the state that shifts
-// the terminal.
-fn push_shift<'grammar>(
-    alloc: Global,
-    text: &mut String,
-    ground: &Ground<'_, 'grammar>,
-    state: StateIndex,
     terminal: &TerminalString,
+    items: &[ExplainedItem<'_>],
 ) -> Result<(), OutOfMemory>
-    ensures { OnOk result (Grows
-        (IsShiftPart ground.now.first_sets.now ground.now.states.now state terminal.now)
-        (string_bytes text.old) (string_bytes text.new)) }
+    ensures { OnOk result (string_bytes text.new ≡ string_bytes text.old ++ (codes "  shift " ++
+        (terminal_text terminal.now ++ (codes "\n" ++ flat_map example_lines items.now)))) }
 {
     write!(text, "  shift {terminal}\n")?;
-    let items = items_in(ground.states, state);
-    push_items(alloc, text, ground, state, terminal, items)?;
+    push_items(text, items)?;
     Ok(())
 }
 
-// Appends the examples of each item that shifts the terminal.
-fn push_items<'grammar>(
-    alloc: Global,
-    text: &mut String,
-    ground: &Ground<'_, 'grammar>,
-    state: StateIndex,
-    terminal: &TerminalString,
-    items: &[Lr1Item<'grammar>],
-) -> Result<(), OutOfMemory>
-    ensures { OnOk result (Grows (HasParts (λ _ item. IsItemPart ground.now.first_sets.now
-        ground.now.states.now state terminal.now item) 0 items.now) (string_bytes text.old)
-        (string_bytes text.new)) }
+// Appends the examples of each item.
+fn push_items(text: &mut String, items: &[ExplainedItem<'_>]) -> Result<(), OutOfMemory>
+    ensures { OnOk result
+        (string_bytes text.new ≡ string_bytes text.old ++ flat_map example_lines items.now) }
 {
     for item in items {
-        push_item(alloc, text, ground, state, terminal, item)?;
+        push_examples(text, &item.examples)?;
     }
     Ok(())
 }
 
-// Appends the examples of an item, if it shifts the terminal.
-fn push_item<'grammar>(
-    alloc: Global,
-    text: &mut String,
-    ground: &Ground<'_, 'grammar>,
-    state: StateIndex,
-    terminal: &TerminalString,
-    item: &Lr1Item<'grammar>,
-) -> Result<(), OutOfMemory>
-    ensures { OnOk result (Grows
-        (IsItemPart ground.now.first_sets.now ground.now.states.now state terminal.now item.now)
-        (string_bytes text.old) (string_bytes text.new)) }
+// Appends the part of each reduction.
+fn push_reductions(text: &mut String, items: &[ExplainedItem<'_>]) -> Result<(), OutOfMemory>
+    ensures { OnOk result
+        (string_bytes text.new ≡ string_bytes text.old ++ flat_map reduction_text items.now) }
 {
-    if shifts(item, terminal) {
-        push_first(alloc, text, ground, state, item)?;
+    for item in items {
+        push_reduction(text, item)?;
     }
     Ok(())
 }
 
-// Whether the terminal comes directly after the dot of the item.
-fn shifts(item: &Lr1Item<'_>, terminal: &TerminalString) -> bool
-    ensures { IsTrue result ↔ (slice_get item.now.production.symbols item.now.index ≡ Some
-        (Symbol.Terminal terminal.now)) }
+// Appends the part of a reduction: its production and its examples.
+fn push_reduction(text: &mut String, item: &ExplainedItem<'_>) -> Result<(), OutOfMemory>
+    ensures { OnOk result
+        (string_bytes text.new ≡ string_bytes text.old ++ reduction_text item.now) }
 {
-    match item.shift_symbol() {
-        Some((symbol, _)) => is_terminal(symbol, terminal),
-        None => false,
-    }
+    text.push_str("  reduce ")?;
+    push_production(text, item.production)?;
+    push_examples(text, &item.examples)?;
+    Ok(())
 }
 
-// Whether a symbol is the terminal.
-fn is_terminal(symbol: &Symbol, terminal: &TerminalString) -> bool
-    ensures { IsTrue result ↔ (symbol.now ≡ Symbol.Terminal terminal.now) }
+// Appends the lines of examples.
+fn push_examples(text: &mut String, examples: &[Example]) -> Result<(), OutOfMemory>
+    ensures { OnOk result
+        (string_bytes text.new ≡ string_bytes text.old ++ flat_map example_line examples.now) }
 {
-    match symbol {
-        Symbol::Terminal(other) => equal(other, terminal),
-        Symbol::Nonterminal(_) => false,
+    for example in examples {
+        push_example(text, example)?;
     }
+    Ok(())
 }

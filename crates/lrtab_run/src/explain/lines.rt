@@ -1,7 +1,8 @@
 //! The lines of an explanation.
 ghost use Rattle.std.specs.Prelude.{◌≡◌, ◌++◌, OnOk, string_bytes};
 ghost use Rattle.lalrpop_lr1.specs.Words.{production_line, tokens_in, tokens_text};
-ghost use Rattle.lrtab_run.specs.Explained.{head_line, marked_line};
+ghost use Rattle.lrtab_run.specs.Explained.{head_line};
+ghost use Rattle.lrtab_run.specs.Explaining.{example_line};
 
 use lalrpop_base::lookahead::token_set::TokenSet;
 use lalrpop_base::lr1_core::state::Lr1Conflict;
@@ -54,8 +55,8 @@ pub(crate) fn push_production(text: &mut String, production: &Production) -> Res
 
 /// Appends the line of an example.
 pub(crate) fn push_example(text: &mut String, example: &Example) -> Result<(), OutOfMemory>
-    ensures { OnOk result (string_bytes text.new ≡ string_bytes text.old ++ marked_line
-        example.now.symbols.items example.now.cursor) }
+    ensures { OnOk result
+        (string_bytes text.new ≡ string_bytes text.old ++ example_line example.now) }
 {
     write!(text, "    {example}\n")?;
     Ok(())

@@ -1,7 +1,8 @@
-use Rattle.std.proofs.Common.{string_bytes}
-use Rattle.lrtab_run.specs.Explained.{IsItemPart}
-use Rattle.lrtab_run.proofs.ExplainedParts.{AreDone}
+use Rattle.std.proofs.Common.{◌≡◌, ◌++◌, drop, string_bytes}
+use Rattle.std.specs.List.{flat_map}
+use Rattle.lrtab_run.specs.Explaining.{example_lines}
 use Rattle.lrtab_run.proofs.explain.push_items.Given as goal
 
+-- the text so far, and the lines of the items that are left
 abbrev pub invariant-loop-item : goal.invariant-loop-item
-invariant-loop-item l = AreDone (λ _ item. IsItemPart l.ground.first_sets.now l.ground.states.now l.state l.terminal item) 0 l.items l.item-index (string_bytes l.fn.text) (string_bytes l.text)
+invariant-loop-item l = string_bytes l.text ++ flat_map example_lines (drop l.item-index l.items) ≡ string_bytes l.fn.text ++ flat_map example_lines l.items

@@ -1,0 +1,7 @@
+use Rattle.std.proofs.Common.{take}
+use Rattle.lalrpop_explain.specs.Words.{AreExplained}
+use Rattle.lalrpop_explain.proofs.explain.explained_conflicts.Given as goal
+
+-- the conflicts so far are explained
+abbrev pub invariant-loop-conflict : goal.invariant-loop-conflict
+invariant-loop-conflict l = AreExplained l.explainer.ground.first_sets.now l.explainer.ground.states.now l.most (take l.conflict-index l.conflicts) l.list.items

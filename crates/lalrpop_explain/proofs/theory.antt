@@ -1,0 +1,2 @@
+-- Lemmas that the proofs of the functions use, in a folder for each subject.
+pub mod explained

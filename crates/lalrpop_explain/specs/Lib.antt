@@ -1,0 +1,2 @@
+pub mod explained
+pub mod Words

@@ -1,0 +1,141 @@
+//! The explanation of one conflict.
+ghost use Rattle.std.specs.Prelude.{◌≡◌, Contains, IfOk};
+ghost use Rattle.lalrpop_explain.specs.explained.ExplainedConflicts.{AreExplainedBy, IsExplained, IsExplainedAlone, IsExplainedReduction};
+ghost use Rattle.lalrpop_explain.specs.explained.OwnErrors.{AreOwnStates, IsOwnConflict};
+ghost use Rattle.lalrpop_lanes.specs.Words.{ReducesOwn};
+
+use super::examples::reduce_examples;
+use super::ground::Ground;
+use super::items::explained_shifts;
+use super::{ExplainedConflict, ExplainedItem};
+use lalrpop_base::first::FirstSets;
+use lalrpop_base::lr1_core::item::Item;
+use lalrpop_base::lr1_core::state::{Action, Lr1Conflict, Lr1State};
+use lalrpop_base::memory::OutOfMemory;
+use lalrpop_base::repr::Production;
+use lalrpop_traces::trace::Tracer;
+use std::alloc::Global;
+
+/// Explains conflicts of states.
+#[derive(Drop)]
+pub struct Explainer<'a, 'grammar> {
+    ground: Ground<'a, 'grammar>,
+}
+
+impl<'a, 'grammar> Explainer<'a, 'grammar> {
+    /// An explainer for all conflicts of the states, given the FIRST sets of their grammar. The
+    /// error is `OutOfMemory` if an allocation fails.
+    pub fn new(
+        alloc: Global,
+        first_sets: &'a FirstSets<'grammar>,
+        states: &'a [Lr1State<'grammar>],
+    ) -> Result<Self, OutOfMemory>
+        ensures states { IfOk result (λ explainer. explainer.ground.states.now ≡ states.now) }
+        ensures rules { IfOk result
+            (λ explainer. explainer.ground.first_sets.now ≡ first_sets.now) }
+    {
+        let tracer = Tracer::new(alloc, first_sets, states)?;
+        Ok(Explainer {
+            ground: Ground {
+                states,
+                first_sets,
+                tracer,
+            },
+        })
+    }
+
+    /// The explanation of a conflict of the states, with at most `most` examples of each item. The
+    /// states and the conflict are over the productions of the grammar. The error is `OutOfMemory`
+    /// if an allocation fails.
+    pub fn explain<'error>(
+        &self,
+        alloc: Global,
+        conflict: &'error Lr1Conflict<'grammar>,
+        most: usize,
+    ) -> Result<ExplainedConflict<'error, 'grammar>, OutOfMemory>
+        requires states { AreOwnStates self.now.ground.first_sets.now self.now.ground.states.now }
+        requires conflict { IsOwnConflict self.now.ground.first_sets.now.productions conflict.now }
+        ensures explained { IfOk result (IsExplained self.now.ground.first_sets.now
+            self.now.ground.states.now most conflict.now) }
+    {
+        let reduction = explained_reduction(
+            alloc,
+            &self.ground,
+            conflict,
+            conflict.production,
+            most,
+        )?;
+        let others = explained_action(alloc, &self.ground, conflict, most)?;
+        Ok(ExplainedConflict {
+            conflict,
+            reduction,
+            others,
+        })
+    }
+}
+
+// The finished item of a reduction of a conflict, with examples that can go on with a token of the
+// conflict.
+fn explained_reduction<'grammar>(
+    alloc: Global,
+    ground: &Ground<'_, 'grammar>,
+    conflict: &Lr1Conflict<'grammar>,
+    production: &'grammar Production,
+    most: usize,
+) -> Result<ExplainedItem<'grammar>, OutOfMemory>
+    requires states { AreOwnStates ground.now.first_sets.now ground.now.states.now }
+    requires production { Contains ground.now.first_sets.now.productions production.now }
+    ensures { IfOk result (IsExplainedReduction ground.now.first_sets.now ground.now.states.now most
+        conflict.now.state conflict.now.lookahead production.now) }
+{
+    let item = Item {
+        production,
+        index: production.symbols.len(),
+        lookahead: conflict.lookahead.clone(alloc)?,
+    };
+    let examples = reduce_examples(alloc, ground, conflict.state, &item, most)?;
+    Ok(ExplainedItem {
+        production,
+        index: production.symbols.len(),
+        examples,
+    })
+}
+
+// The items of the other action of a conflict, with examples.
+fn explained_action<'grammar>(
+    alloc: Global,
+    ground: &Ground<'_, 'grammar>,
+    conflict: &Lr1Conflict<'grammar>,
+    most: usize,
+) -> Result<Vec<ExplainedItem<'grammar>>, OutOfMemory>
+    requires states { AreOwnStates ground.now.first_sets.now ground.now.states.now }
+    requires action { ReducesOwn ground.now.first_sets.now.productions conflict.now.action }
+    ensures { IfOk result (λ list. AreExplainedBy ground.now.first_sets.now ground.now.states.now
+        most conflict.now.state conflict.now.lookahead conflict.now.action list.items) }
+{
+    match &conflict.action {
+        Action::Shift(terminal, _) => {
+            explained_shifts(alloc, ground, conflict.state, terminal, most)
+        }
+        Action::Reduce(production) => lone_reduction(alloc, ground, conflict, *production, most),
+    }
+}
+
+// A list of the finished item of a reduction of a conflict alone, with examples.
+fn lone_reduction<'grammar>(
+    alloc: Global,
+    ground: &Ground<'_, 'grammar>,
+    conflict: &Lr1Conflict<'grammar>,
+    production: &'grammar Production,
+    most: usize,
+) -> Result<Vec<ExplainedItem<'grammar>>, OutOfMemory>
+    requires states { AreOwnStates ground.now.first_sets.now ground.now.states.now }
+    requires production { Contains ground.now.first_sets.now.productions production.now }
+    ensures { IfOk result (λ list. IsExplainedAlone ground.now.first_sets.now ground.now.states.now
+        most conflict.now.state conflict.now.lookahead production.now list.items) }
+{
+    let item = explained_reduction(alloc, ground, conflict, production, most)?;
+    let mut list = Vec::new(alloc);
+    list.push(item)?;
+    Ok(list)
+}

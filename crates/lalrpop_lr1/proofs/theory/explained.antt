@@ -1,0 +1,2 @@
+-- Conflicts that are explained.
+pub mod OwnErrors
