@@ -2,7 +2,8 @@
 use Rattle.std.specs.Prelude.{ℕ, List, ◌++◌, codes}
 use Rattle.table_pictures.specs.Escape.{inert}
 use Rattle.table_pictures.specs.declared.page.TheConstants.{BODY}
-use Rattle.table_pictures.specs.declared.script.TheConstants.{TREES, DRAWING, FINDING}
+use Rattle.table_pictures.specs.declared.finding.TheConstants.{FINDING}
+use Rattle.table_pictures.specs.declared.script.TheConstants.{TREES, DRAWING}
 use Rattle.table_pictures.specs.declared.style.TheConstants.{STYLE}
 
 -- the content security policy of a page: a browser loads nothing from outside, and takes styles and

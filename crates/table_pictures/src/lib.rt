@@ -4,6 +4,7 @@
 pub mod dot;
 mod edges;
 pub mod escape;
+mod finding;
 mod nodes;
 pub mod page;
 mod script;

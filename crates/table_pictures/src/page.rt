@@ -3,7 +3,8 @@ ghost use Rattle.std.specs.Prelude.{◌≡◌, IfOk, string_bytes};
 ghost use Rattle.table_pictures.specs.Page.{page};
 
 use super::escape::push_inert;
-use super::script::{DRAWING, FINDING, TREES};
+use super::finding::FINDING;
+use super::script::{DRAWING, TREES};
 use super::style::STYLE;
 use lalrpop_base::memory::OutOfMemory;
 use std::alloc::Global;
@@ -46,7 +47,7 @@ const BODY: &str = r##"</style>
 <p id="summary"></p>
 </header>
 <form id="find" role="search">
-<label for="wanted">Find a symbol or a state</label>
+<label for="wanted">Find a symbol, a production, a state or a conflict</label>
 <input id="wanted" type="search" autocomplete="off" spellcheck="false"
   aria-describedby="keys" aria-controls="found">
 <p id="count" role="status"></p>
@@ -58,7 +59,10 @@ const BODY: &str = r##"</style>
 <noscript><p>This page draws its states by a script, which this browser doesn't run.</p></noscript>
 <section id="conflicts" aria-labelledby="conflicts-title" hidden>
 <h2 id="conflicts-title">Conflicts</h2>
-<p>In a tree the input was read up to the dot, and what is paler stands ahead.</p>
+<p>The dot in a tree marks how far the parser has read. Pale symbols come next.</p>
+</section>
+<section id="productions" aria-labelledby="productions-title" hidden>
+<h2 id="productions-title">Productions</h2>
 </section>
 <section id="states" aria-labelledby="states-title" hidden>
 <h2 id="states-title">States</h2>

@@ -18,7 +18,9 @@ const visible = (text) => text.split(/([\p{C}\p{Z}])/u).map((piece, at) => {
   const number = piece.codePointAt(0).toString(16).toUpperCase().padStart(4, "0");
   return part("span", "unseen", `U+${number}`);
 });
-const terminal = (text) => part("span", "terminal", '"', ...visible(text), '"');
+// A literal that fits stands in one line.
+const terminal = (text) =>
+  part("span", text.length > 40 ? "terminal long" : "terminal", '"', ...visible(text), '"');
 const nonterminal = (name) => part("span", "nonterminal", name);
 const token = (t) => (t === null ? part("span", "", "Eof") : terminal(t));
 const symbolText = (s) => ("terminal" in s ? `"${s.terminal}"` : s.nonterminal);
@@ -26,15 +28,24 @@ const symbol = (s) => ("terminal" in s ? terminal(s.terminal) : nonterminal(s.no
 const spaced = (parts) => parts.flatMap((it) => [" ", it]);
 const dot = () => part("span", "dot", "•");
 
-function link(number, text = `State ${number}`) {
-  const it = part("a", "", text);
-  it.href = `#s${number}`;
+function linked(to, name, ...parts) {
+  const it = part("a", name, ...parts);
+  it.href = `#${to}`;
   return it;
+}
+const link = (number, text = `State ${number}`) => linked(`s${number}`, "", text);
+// At most so many parts of a list, and how many more there are.
+const MOST = 40;
+function some(all, shown) {
+  const more = all.length > MOST ? [` and ${all.length - MOST} more`] : [];
+  return [...spaced(all.slice(0, MOST).map(shown)), ...more];
 }
 function rule(number) {
   const p = production.get(number);
   return [nonterminal(p.nonterminal), " →", ...spaced(p.symbols.map(symbol))];
 }
+const ruleText = (p) => [p.nonterminal, "->", ...p.symbols.map(symbolText)].join(" ");
+const ruleLink = (number) => linked(`p${number}`, "rule", ...rule(number));
 function dotted(number, place) {
   const p = production.get(number);
   const parts = p.symbols.map(symbol);
@@ -100,27 +111,48 @@ for (const s of data.states) {
 }
 const conflictsIn = new Map();
 data.conflicts.forEach((c, at) => {
-  conflictsIn.set(c.state, [...(conflictsIn.get(c.state) ?? []), at]);
+  if (!conflictsIn.has(c.state)) conflictsIn.set(c.state, []);
+  conflictsIn.get(c.state).push(at);
 });
+// Conflicts have one cause if they have the same actions by the same items.
+const causeOf = (c) => JSON.stringify(
+  c.actions.map((a) => [a.shift ?? a.reduce, a.items.map((i) => [i.production, i.dot])]));
+const causes = new Map();
+data.conflicts.forEach((c, at) => {
+  const cause = causeOf(c);
+  const none = { conflicts: [], states: new Set(), tokens: new Set() };
+  const it = causes.get(cause) ?? none;
+  causes.set(cause, it);
+  it.conflicts.push(at);
+  it.states.add(c.state);
+  c.lookahead.forEach((t) => it.tokens.add(t));
+});
+// Of each production, the states that reduce by it.
+const reducedIn = new Map(data.productions.map((p) => [p.number, []]));
+for (const s of data.states) {
+  for (const r of s.reductions) reducedIn.get(r.production).push(s.number);
+}
 
 const line = (...parts) => part("div", "line", ...parts);
+const isWhole = (tokens) => tokens.length > data.terminals.length;
+// Items of lane tables have all tokens, which says nothing.
+const itemsAreWhole = data.states.every((s) => s.items.every((i) => isWhole(i.lookahead)));
 function lookahead(tokens) {
-  const all = tokens.length > data.terminals.length;
-  return part("span", "tokens", ...(all ? [" on each token"] : [" on", ...spaced(tokens.map(token))]));
+  return part("span", "tokens",
+    ...(isWhole(tokens) ? [" on each token"] : [" on", ...spaced(tokens.map(token))]));
 }
 function titled(title, lines) {
   return lines.length ? [part("h4", "", title), ...lines] : [];
 }
-function conflictLink(at) {
-  const it = part("a", "told", `Conflict ${at + 1}`);
-  it.href = `#c${at + 1}`;
-  return it;
-}
+const conflictLink = (at) => linked(`c${at + 1}`, "told", `Conflict ${at + 1}`);
+const conflictLine = (at) =>
+  line(conflictLink(at), " on", ...spaced(data.conflicts[at].lookahead.map(token)));
 function drawState(s, it) {
   const isKernel = (i) =>
     i.dot > 0 || (s.number === 0 && production.get(i.production).nonterminal === data.start);
-  const item = (i) => line(...dotted(i.production, i.dot), lookahead(i.lookahead));
-  const reduction = (r) => line("reduce ", ...rule(r.production), lookahead(r.lookahead));
+  const item = (i) =>
+    line(...dotted(i.production, i.dot), ...(itemsAreWhole ? [] : [lookahead(i.lookahead)]));
+  const reduction = (r) => line("reduce ", ruleLink(r.production), lookahead(r.lookahead));
   const edges = (all, shown) =>
     Object.entries(all).map(([name, to]) => line(shown(name), " to ", link(to)));
   const { by, from } = into.get(s.number);
@@ -128,28 +160,51 @@ function drawState(s, it) {
   it.append(part("div", "columns",
     part("div", "", ...titled("Kernel items", s.items.filter(isKernel).map(item)),
       ...titled("Items of the closure", s.items.filter((i) => !isKernel(i)).map(item))),
-    part("div", "", ...titled("Conflicts", conflicts.map((at) => line(conflictLink(at)))),
+    part("div", "", ...titled("Conflicts", conflicts.map(conflictLine)),
       ...titled("Reductions", s.reductions.map(reduction)),
       ...titled("Shifts", edges(s.shifts, terminal)),
       ...titled("Gotos", edges(s.gotos, nonterminal))),
     part("div", "", ...titled("From", from.length
-      ? [line(symbol(by), " from", ...spaced(from.map((n) => link(n))))] : []))));
+      ? [line(symbol(by), " from", ...some(from, (n) => link(n)))] : []))));
 }
 function drawAction(action) {
-  const shifts = "shift" in action;
-  const head = shifts
+  const head = "shift" in action
     ? line("shift ", terminal(action.shift), " to ", link(action.state))
-    : line("reduce ", ...rule(action.reduce));
-  const none = () => [line("no example: each way back ends at the start")];
+    : line("reduce ", ruleLink(action.reduce));
+  const none = () => [line("no example: only the start symbol leads here")];
   const items = action.items.flatMap((i) => [
-    ...(shifts ? [line(...dotted(i.production, i.dot))] : []),
+    line(...dotted(i.production, i.dot)),
     ...(i.examples.length ? i.examples.map(tree) : none()),
   ]);
   return part("div", "", head, ...items);
 }
-function drawConflict(c, it) {
-  it.append(part("p", "", "in ", link(c.state), " on", ...spaced(c.lookahead.map(token))));
-  it.append(part("div", "actions", ...c.actions.map(drawAction)));
+// A cause of conflicts, with the examples of its first conflict.
+function drawCause(cause, it) {
+  const [first, ...others] = cause.conflicts;
+  it.append(part("p", "", "in", ...some([...cause.states], (n) => link(n)), ", on",
+    ...spaced([...cause.tokens].map(token))));
+  if (others.length) {
+    const state = data.conflicts[first].state;
+    it.append(part("p", "", `Drawn is conflict ${first + 1}, in `, link(state),
+      ". These are by the same items:", ...some(others, (at) => `${at + 1}`)));
+  }
+  it.append(part("div", "actions", ...data.conflicts[first].actions.map(drawAction)));
+}
+// A line of the index of causes: the first conflict, and the two actions.
+function causeLine(cause) {
+  const c = data.conflicts[cause.conflicts[0]];
+  const [one, other] = c.actions.map((a) =>
+    ("shift" in a ? ["shift ", terminal(a.shift)] : ["reduce ", ...rule(a.reduce)]));
+  return part("li", "", conflictLink(cause.conflicts[0]), ": ", ...one, ", or ", ...other);
+}
+function drawProduction(p) {
+  const states = reducedIn.get(p.number);
+  const it = line(`${p.number} `, ...rule(p.number),
+    part("span", "tokens", ...(states.length ? [" reduced in", ...some(states, (n) => link(n))]
+      : [" reduced in no state"])));
+  it.id = `p${p.number}`;
+  it.tabIndex = -1;
+  return it;
 }
 
 const waiting = new Map();
@@ -172,106 +227,47 @@ function place(where, id, name, title, todo) {
   where.append(it);
   eyes.observe(it);
 }
-function list(id, all, each) {
-  const where = document.createDocumentFragment();
-  all.forEach((it, at) => each(where, it, at));
-  document.getElementById(id).append(where);
-  document.getElementById(id).hidden = !all.length;
+// Adds parts to a section, which is shown if it has any.
+function fill(id, parts) {
+  document.getElementById(id).append(...parts);
+  document.getElementById(id).hidden = !parts.length;
 }
-list("conflicts", data.conflicts, (where, c, at) =>
-  place(where, `c${at + 1}`, "conflict bad", `Conflict ${at + 1}`, (it) => drawConflict(c, it)));
-list("states", data.states, (where, s) =>
-  place(where, `s${s.number}`, conflictsIn.has(s.number) ? "state bad" : "state",
-    `State ${s.number}`, (it) => drawState(s, it)));
-"##;
-
-/// Finds symbols and states, goes to states by keys, and draws every state and conflict before the
-/// page is printed.
-pub(crate) const FINDING: &str = r##"
-document.title = `States of ${data.start}`;
-document.getElementById("title").textContent = document.title;
-const counted = (all, one, more) => `${all.length || "no"} ${all.length === 1 ? one : more}`;
-function section(id, text) {
-  const it = part("a", "", text);
-  it.href = `#${id}`;
-  return it;
+// The causes after the first ones are folded.
+const SHOWN = 20;
+function drawCauses(all) {
+  const [front, folded] = [document.createDocumentFragment(), part("details", "")];
+  all.forEach((cause, at) => {
+    const number = cause.conflicts[0] + 1;
+    const others = cause.conflicts.length - 1;
+    const title = `Conflict ${number}${others ? `, and ${others} by the same cause` : ""}`;
+    place(at < SHOWN ? front : folded, `c${number}`, "conflict bad", title,
+      (it) => drawCause(cause, it));
+  });
+  if (!folded.childElementCount) return [front];
+  folded.prepend(part("summary", "", `${all.length - SHOWN} more causes`));
+  return [front, folded];
 }
-const conflictsTold = counted(data.conflicts, "conflict", "conflicts");
-document.getElementById("summary").append(
-  section("states", counted(data.states, "state", "states")), ", ",
-  counted(data.productions, "production", "productions"), ", ",
-  counted(data.terminals, "terminal", "terminals"), ", ",
-  data.conflicts.length ? section("conflicts", conflictsTold) : conflictsTold);
-
-const find = document.getElementById("find");
-const wanted = document.getElementById("wanted");
-const found = document.getElementById("found");
-const count = document.getElementById("count");
-const MOST = 40;
-const names = [...new Set([...data.productions.map((p) => p.nonterminal),
-  ...data.productions.flatMap((p) => p.symbols.flatMap((s) => s.nonterminal ?? []))])].sort();
-const symbols = [...data.terminals.map((terminal) => ({ terminal })),
-  ...names.map((nonterminal) => ({ nonterminal }))];
-
-function result(s) {
-  const to = [...(reached.get(symbolText(s)) ?? [])].sort((a, b) => a - b);
-  const more = to.length > MOST ? [` and ${to.length - MOST} more`] : [];
-  return part("li", "", symbol(s), to.length ? " leads to" : " leads nowhere",
-    ...spaced(to.slice(0, MOST).map((n) => link(n))), ...more);
+const all = [...causes.values()];
+// The number of the first conflict by the same cause.
+const firstOf = new Map(all.flatMap((it) => it.conflicts.map((at) => [at, it.conflicts[0]])));
+if (all.length > 1) {
+  const title = `${all.length} causes of ${data.conflicts.length} conflicts`;
+  const index = part("details", "", part("summary", "", title),
+    part("ol", "index", ...all.map(causeLine)));
+  index.open = all.length <= SHOWN;
+  document.getElementById("conflicts").append(index);
 }
-function search() {
-  const text = wanted.value.trim();
-  const number = Number(/^(?:state )?(\d+)$/i.exec(text)?.[1] ?? NaN);
-  const rank = (s) => ([text, `"${text}"`].includes(symbolText(s)) ? 0 : 1);
-  const fits = (s) => symbolText(s).toLowerCase().includes(text.toLowerCase());
-  const states = stateOf.has(number) ? [part("li", "", link(number))] : [];
-  const fitting = text ? symbols.filter(fits).sort((a, b) => rank(a) - rank(b)) : [];
-  const all = states.length + fitting.length;
-  found.replaceChildren(...states, ...fitting.slice(0, MOST).map(result));
-  found.hidden = !all;
-  const cut = fitting.length > MOST ? `, the first ${MOST} symbols are shown` : "";
-  count.textContent = text ? `${all || "none"} found${cut}` : "";
+fill("conflicts", all.length ? drawCauses(all) : []);
+fill("productions",
+  [...data.productions].sort((a, b) => a.number - b.number).map(drawProduction));
+if (itemsAreWhole && data.states.length) {
+  document.getElementById("states").append(part("p", "",
+    "Items show no tokens, since each item has all. The lookaheads stand at the reductions."));
 }
-wanted.addEventListener("input", search);
-find.addEventListener("submit", (event) => {
-  event.preventDefault();
-  found.querySelector("a")?.click();
-});
-
-function show(it) {
-  draw(it.previousElementSibling);
-  draw(it);
-  it.scrollIntoView();
-  it.focus({ preventScroll: true });
+const states = document.createDocumentFragment();
+for (const s of data.states) {
+  place(states, `s${s.number}`, conflictsIn.has(s.number) ? "state bad" : "state",
+    `State ${s.number}`, (it) => drawState(s, it));
 }
-function follow() {
-  const it = /^#[sc]\d+$/.test(location.hash) && document.getElementById(location.hash.slice(1));
-  if (it) requestAnimationFrame(() => show(it));
-}
-window.addEventListener("hashchange", follow);
-follow();
-
-// Goes to the state or conflict beside the one where the reader is, or to the first state.
-function step(side) {
-  const here = document.activeElement.closest("article");
-  const next = here ? here[side] : document.querySelector(".state");
-  if (next?.id) location.hash = `#${next.id}`;
-}
-document.addEventListener("keydown", (event) => {
-  if (event.ctrlKey || event.metaKey || event.altKey) return;
-  if (event.key === "Escape" && find.contains(document.activeElement)) {
-    wanted.value = "";
-    search();
-    document.activeElement.blur();
-  } else if (document.activeElement !== wanted) {
-    if (event.key === "/") {
-      event.preventDefault();
-      wanted.focus();
-      wanted.select();
-    }
-    if (event.key === "j") step("nextElementSibling");
-    if (event.key === "k") step("previousElementSibling");
-  }
-});
-window.addEventListener("beforeprint", () => [...waiting.keys()].forEach(draw));
+fill("states", data.states.length ? [states] : []);
 "##;

@@ -29,9 +29,13 @@ a, h3 { white-space: nowrap; }
 a:focus-visible, article:focus-visible, input:focus-visible, .tree:focus-visible {
   outline: 3px solid var(--name); outline-offset: 2px;
 }
-.line, .tree, #found { font-family: ui-monospace, monospace; font-size: .9rem; }
+.line, .tree, .index, #found { font-family: ui-monospace, monospace; font-size: .9rem; }
 .terminal { color: var(--terminal); unicode-bidi: isolate; }
+.terminal:not(.long) { white-space: nowrap; }
 .nonterminal { color: var(--name); }
+a.rule { white-space: normal; }
+details > summary { margin: .4rem 0; cursor: pointer; }
+.index { margin: .2rem 0 .8rem; }
 .unseen {
   margin: 0 1px; padding: 0 .2em; border: 1px dotted; border-radius: .2em; font-size: .75em;
 }

@@ -2,7 +2,8 @@ use Rattle.std.proofs.Common.{◌≡◌, ◌++◌, refl, ap, ◌∙◌, string_b
 use Rattle.table_pictures.specs.Escape.{inert}
 use Rattle.table_pictures.specs.Page.{page, page_start, page_head, script_start, script_end, page_end}
 use Rattle.table_pictures.specs.declared.page.TheConstants.{HEAD, BODY, SCRIPT, END}
-use Rattle.table_pictures.specs.declared.script.TheConstants.{TREES, DRAWING, FINDING}
+use Rattle.table_pictures.specs.declared.finding.TheConstants.{FINDING}
+use Rattle.table_pictures.specs.declared.script.TheConstants.{TREES, DRAWING}
 use Rattle.table_pictures.specs.declared.style.TheConstants.{STYLE}
 use Rattle.lalrpop_collections.proofs.theory.lists.Pieces.{five_pieces, three_pieces, two_pieces}
 use Rattle.table_pictures.proofs.page.page_text.Goals as goal
