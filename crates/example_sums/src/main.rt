@@ -7,8 +7,8 @@ ghost use Rattle.lalrpop_base.specs.Words.{IsWellFormed};
 
 use grammar_text::builder::SymbolText::{Literal, Nonterminal};
 use grammar_text::{BuilderError, GrammarBuilder, SymbolText, literals, name_of};
-use lalrpop_base::Grammar;
-use lalrpop_base::lr1_core::state::Lr1TableConstructionError;
+use lalrpop_base::lr1_core::state::{Action, Lr1TableConstructionError};
+use lalrpop_base::{Grammar, Lr1Conflict};
 use lalrpop_lr1::explain::explain;
 use lalrpop_lr1::{ExplainedItem, ParseError, is_own_error, parse, report_text};
 use lalrpop_tables::{Options, build_states};
@@ -66,18 +66,36 @@ fn print_conflicts<'grammar>(
         return Ok(());
     }
     for explained in explain(rt.alloc(), grammar, error, 3)? {
-        println!(rt; "in state {}", explained.conflict.state)?;
-        print_item(rt, &explained.reduction)?;
-        for other in &explained.others {
-            print_item(rt, other)?;
+        print_head(rt, grammar, explained.conflict)?;
+        print_item(rt, "reduce", &explained.reduction)?;
+        let other = match explained.conflict.action {
+            Action::Shift(..) => "shift in",
+            Action::Reduce(_) => "reduce",
+        };
+        for item in &explained.others {
+            print_item(rt, other, item)?;
         }
     }
     Ok(())
 }
 
-// Prints an item, and its examples.
-fn print_item(rt: &HostRuntime, item: &ExplainedItem<'_>) -> anyhow::Result<()> {
-    println!(rt; "  {}, dot at {}", item.production, item.index)?;
+// Prints the state and the tokens of a conflict.
+fn print_head(
+    rt: &HostRuntime,
+    grammar: &Grammar,
+    conflict: &Lr1Conflict<'_>,
+) -> anyhow::Result<()> {
+    print!(rt; "in state {} on", conflict.state)?;
+    for token in conflict.lookahead.iter(&grammar.terminals) {
+        print!(rt; " {token}")?;
+    }
+    println!(rt; "")?;
+    Ok(())
+}
+
+// Prints what is done, the item by which it is done, and its examples.
+fn print_item(rt: &HostRuntime, what: &str, item: &ExplainedItem<'_>) -> anyhow::Result<()> {
+    println!(rt; "  {what} {}, dot at {}", item.production, item.index)?;
     for example in &item.examples {
         println!(rt; "    {example}")?;
     }
