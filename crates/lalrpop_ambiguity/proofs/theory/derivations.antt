@@ -1,0 +1,5 @@
+-- Derivation trees, walked from left to right.
+pub mod Dropped
+pub mod Leaves
+pub mod Steps
+pub mod Views

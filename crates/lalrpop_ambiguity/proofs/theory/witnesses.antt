@@ -1,0 +1,3 @@
+-- Witnesses of ambiguity, and the sentences that they lead to.
+pub mod Expansions
+pub mod Rows

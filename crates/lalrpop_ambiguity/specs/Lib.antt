@@ -1,0 +1,3 @@
+pub mod derivations
+pub mod witnesses
+pub mod Words

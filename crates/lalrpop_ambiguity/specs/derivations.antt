@@ -1,0 +1,5 @@
+-- Derivation trees, walked from left to right.
+pub mod Derivations
+pub mod DerivationSteps
+pub mod EqualDerivations
+pub mod Represented

@@ -1,0 +1,2 @@
+-- Witnesses of ambiguity.
+pub mod Witnesses
