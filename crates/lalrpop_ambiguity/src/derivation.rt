@@ -9,7 +9,7 @@ ghost use Rattle.std.specs.Prelude.{◌≡◌, ◌↔◌, ◌<◌, [], ◌∷◌
 ghost use Rattle.lalrpop_ambiguity.specs.derivations.Derivations.{beside, leaves, no_trees, nodes, trees_of};
 ghost use Rattle.lalrpop_ambiguity.specs.derivations.Represented.{symbols_at, tree_nodes, tree_of, tree_text, trees_at};
 
-use comparison::are_equal;
+pub(crate) use comparison::are_equal;
 use copies::clone_node;
 use lalrpop_collections::memory::OutOfMemory;
 use lalrpop_grammar::repr::{Production, Symbol};

@@ -2,7 +2,9 @@
 //!
 //! - `derivation`: derivation trees, whose leaves are any symbols.
 //! - `laws`: what a witness says of sentences.
+//! - `witness`: witnesses, and their check.
 #![tactic(auto)]
 
 pub mod derivation;
 pub mod laws;
+pub mod witness;

@@ -3,3 +3,4 @@ pub mod Expansions
 pub mod Rows
 pub mod ParseTrees
 pub mod Sentences
+pub mod OwnNodes

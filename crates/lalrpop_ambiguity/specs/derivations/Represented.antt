@@ -5,7 +5,7 @@ use Rattle.lalrpop_grammar.specs.declared.repr.Symbol.{Symbol}
 use Rattle.lalrpop_grammar.specs.grammars.Names.{nonterminal_text, symbol_text}
 use Rattle.lalrpop_ambiguity.specs.declared.derivation.Derivation.{Derivation, fold-Derivation}
 use Rattle.lalrpop_ambiguity.specs.declared.derivation.Derivation.TheOpen as Open
-use Rattle.lalrpop_ambiguity.specs.derivations.Derivations.{Tree, Leaf, Node, Trees, no_trees, beside, nodes, trees_of}
+use Rattle.lalrpop_ambiguity.specs.derivations.Derivations.{Tree, Leaf, Node, Trees, no_trees, beside, nodes, root, trees_of}
 
 -- a node with the trees of its children in their places
 abbrev pub tree_step : Open.Derivation-F Tree → Tree
@@ -23,6 +23,10 @@ trees_at trees = map (λ (t : Bor Derivation). tree_of t.now) trees
 -- the symbols that references lead to
 abbrev pub symbols_at : List (Bor Symbol) → List Symbol
 symbols_at symbols = map (λ (x : Bor Symbol). x.now) symbols
+
+-- the symbols at the roots of trees
+abbrev pub roots_of : List Derivation → List Symbol
+roots_of trees = map (λ (t : Derivation). root (tree_of t)) trees
 
 -- the number of nodes that trees have
 abbrev pub tree_nodes : List Derivation → ℕ

@@ -1,7 +1,7 @@
 -- Witnesses of ambiguity: Isradisaikul and Myers, "Finding Counterexamples from Parsing Conflicts",
 -- section 3. Their unifying counterexample is a list of symbols that one nonterminal derives in two
 -- ways. That a grammar is ambiguous is from Aho, Sethi and Ullman, section 4.2.
-use Rattle.std.specs.Prelude.{◌≡◌, ◌≢◌, ◌↔◌, List, [], ◌∷◌, Contains}
+use Rattle.std.specs.Prelude.{◌≡◌, ◌≢◌, List, [], ◌∷◌, Contains}
 use Rattle.lalrpop_grammar.specs.declared.repr.NonterminalString.{NonterminalString}
 use Rattle.lalrpop_grammar.specs.declared.repr.Production.{Production}
 use Rattle.lalrpop_grammar.specs.declared.repr.Symbol.{Symbol}
@@ -22,6 +22,10 @@ pub record IsWitness (g : List Production) (left right : Tree) : Type 0 where
   pub right_of_grammar : AreOfGrammar g (beside right no_trees)
   pub same_leaves : leaves (beside left no_trees) ≡ leaves (beside right no_trees)
   pub differ : left ≢ right
+
+-- a production of g has these symbols on its right side
+abbrev pub IsExpansion : List Production → Production → List Symbol → Type 0
+IsExpansion g p symbols = Contains g p × (p.symbols ≡ symbols)
 
 -- ---- what a witness says of sentences
 -- each symbol of a list derives a list of terminals

@@ -10,7 +10,7 @@ use lalrpop_collections::memory::OutOfMemory;
 use std::alloc::Global;
 
 /// Whether two trees are the same.
-pub(super) fn are_equal(tree: &Derivation<'_>, other: &Derivation<'_>) -> bool
+pub(crate) fn are_equal(tree: &Derivation<'_>, other: &Derivation<'_>) -> bool
     ensures { IsTrue result ↔ (tree_of tree.now ≡ tree_of other.now) }
 {
     match (tree, other) {

@@ -1,6 +1,6 @@
 -- Trees whose leaves are expanded: each leaf is replaced by a tree with the leaf's symbol at its
 -- root. If each of these trees has a leaf, different trees give different ones.
-use Rattle.std.proofs.Common.{◌≡◌, ◌∙◌, ℕ, suc, ◌+◌, ◌≤◌, ◌<◌, List, [], ◌∷◌, ◌++◌, refl, sym, ap, ap₂, subst, append-nil, arith}
+use Rattle.std.proofs.Common.{◌≡◌, ◌∙◌, suc, ◌+◌, ◌≤◌, List, [], ◌∷◌, ◌++◌, refl, sym, ap, ap₂, subst, append-nil, arith}
 use Rattle.std.specs.Prelude.{Contains}
 use mathlib.Core.List.{cons≢nil, head-eq_of_cons-eq, nil≢cons, tail-eq_of_cons-eq}
 use Rattle.lalrpop_ambiguity.proofs.Types.{Production, Symbol}
@@ -8,7 +8,7 @@ use Rattle.lalrpop_grammar.specs.declared.repr.Symbol.TheVariants.{Nonterminal}
 use Rattle.lalrpop_ambiguity.specs.Words.{AreOfGrammar, Leaf, Node, Tree, Trees, beside, leaves, no_trees, nodes, root, roots}
 use Rattle.lalrpop_ambiguity.proofs.theory.derivations.Leaves.{nodes_cons}
 use Rattle.lalrpop_ambiguity.proofs.theory.derivations.Views.{leaves_cons}
-use Rattle.lalrpop_ambiguity.proofs.theory.witnesses.Rows.{HaveLeaves, Parts, along, along_assoc, have_parts, leaves_along, nodes_along, of_parts, parts, roots_along, same_first, same_others}
+use Rattle.lalrpop_ambiguity.proofs.theory.witnesses.Rows.{HaveLeaves, along, along_assoc, have_parts, leaves_along, nodes_along, of_parts, parts, same_first, same_others}
 
 -- trees expand others: they have trees at the places of the leaves
 abbrev pub Expands : Trees → Trees → Type 0

@@ -1,12 +1,11 @@
 -- Derivations of lists of terminals are parse trees: each production is replaced by its nonterminal.
 use Rattle.std.proofs.Common.{◌≡◌, ◌∙◌, List, [], ◌∷◌, ◌++◌, refl, sym, ap, ap₂, subst}
-use Rattle.std.specs.Prelude.{Contains}
 use mathlib.Core.List.{cons≢nil, head-eq_of_cons-eq, nil≢cons, tail-eq_of_cons-eq}
 use Rattle.lalrpop_grammar.specs.Words.{IsParseTree, symbols_of, AreOfGrammar as AreParseTrees, Leaf as ParseLeaf, Node as ParseNode, Tree as ParseTree, Trees as ParseTrees, beside as parse_beside, leaves as parse_leaves, no_trees as no_parse_trees, root as parse_root, roots as parse_roots}
 use Rattle.lalrpop_grammar.specs.declared.repr.Symbol.TheVariants.{Nonterminal, Terminal}
 use Rattle.lalrpop_grammar.proofs.theory.grammars.SymbolLists.{TerminalParts, not_both, same_nonterminal, same_terminal, terminal_parts}
 use Rattle.lalrpop_ambiguity.proofs.Types.{NonterminalString, Production, Symbol, TerminalString}
-use Rattle.lalrpop_ambiguity.specs.Words.{AreOfGrammar, DerivationsHaveTrees, HasNoTwins, IsDerivation, Leaf, Node, Tree, Trees, beside, leaves, no_trees, root, roots}
+use Rattle.lalrpop_ambiguity.specs.Words.{AreOfGrammar, DerivationsHaveTrees, HasNoTwins, IsDerivation, Leaf, Node, Tree, Trees, beside, leaves, no_trees, roots}
 use Rattle.lalrpop_ambiguity.proofs.theory.witnesses.Rows.{same_first}
 
 -- the parse trees that derivations give. A nonterminal at a leaf gives a node without children

@@ -1,6 +1,5 @@
 -- Rows of derivation trees, one after the other.
-use Rattle.std.proofs.Common.{◌≡◌, ◌∙◌, ℕ, ◌+◌, List, [], ◌∷◌, ◌++◌, refl, sym, ap, ap₂, subst, append_assoc, append-nil, arith}
-use Rattle.std.specs.Prelude.{Contains}
+use Rattle.std.proofs.Common.{◌≡◌, ◌∙◌, ◌+◌, List, [], ◌∷◌, ◌++◌, refl, sym, ap, ap₂, append_assoc, arith}
 use mathlib.Core.List.{cons≢nil, head-eq_of_cons-eq, nil≢cons, tail-eq_of_cons-eq}
 use Rattle.lalrpop_ambiguity.proofs.Types.{Production, Symbol}
 use Rattle.lalrpop_ambiguity.specs.Words.{AreOfGrammar, Leaf, Node, Tree, Trees, beside, leaves, no_trees, nodes, root, roots}

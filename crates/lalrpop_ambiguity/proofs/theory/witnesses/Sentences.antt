@@ -1,15 +1,15 @@
 -- A witness leads to two derivations of one sentence: its leaves are expanded to lists of terminals,
 -- and it is put into a derivation from the start symbol.
-use Rattle.std.proofs.Common.{◌≡◌, ◌∙◌, ◌⊎◌, inl, inr, List, [], ◌∷◌, ◌++◌, refl, sym, ap, ap₂, subst, append-nil, append_assoc}
+use Rattle.std.proofs.Common.{◌≡◌, ◌∙◌, inl, inr, List, [], ◌∷◌, ◌++◌, refl, sym, ap, ap₂, subst}
 use Rattle.std.specs.Prelude.{Contains}
-use mathlib.Core.List.{cons≢nil, head-eq_of_cons-eq, nil≢cons, tail-eq_of_cons-eq}
+use mathlib.Core.List.{nil≢cons}
 use Rattle.lalrpop_collections.proofs.theory.lists.Members.{Contains-none, contains-cons, contains_head, contains_tail}
 use Rattle.lalrpop_grammar.specs.Words.{Derives, symbols_of}
 use Rattle.lalrpop_grammar.specs.declared.repr.Symbol.TheVariants.{Nonterminal}
 use Rattle.lalrpop_grammar.proofs.theory.grammars.Forests.{Forest, derives_forest, empty, leaf, node}
 use Rattle.lalrpop_grammar.proofs.theory.grammars.SymbolLists.{symbols_of-append}
 use Rattle.lalrpop_ambiguity.proofs.Types.{NonterminalString, Production, Symbol, TerminalString}
-use Rattle.lalrpop_ambiguity.specs.Words.{AreOfGrammar, AreProductive, DeriveSome, HasTwoDerivations, IsUseful, IsWitness, Leaf, Node, Tree, Trees, WitnessesHaveSentences, beside, leaves, no_trees, root, roots}
+use Rattle.lalrpop_ambiguity.specs.Words.{AreOfGrammar, AreProductive, DeriveSome, Leaf, Node, Tree, Trees, WitnessesHaveSentences, beside, leaves, no_trees, root, roots}
 use Rattle.lalrpop_ambiguity.proofs.theory.derivations.Views.{leaves_cons}
 use Rattle.lalrpop_ambiguity.proofs.theory.witnesses.Rows.{Alone, HaveLeaves, along, alone, have_along, leaves_along, of_along, roots_along, same_first, same_others}
 use Rattle.lalrpop_ambiguity.proofs.theory.witnesses.Expansions.{Expands, Expansion, Same, expand, leaves_expanded, of_expanded, pieces, roots_expanded, same_expanded}
