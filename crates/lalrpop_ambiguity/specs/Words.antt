@@ -6,3 +6,4 @@ pub use Rattle.lalrpop_ambiguity.specs.derivations.EqualDerivations.{equal_tree,
 pub use Rattle.lalrpop_ambiguity.specs.derivations.Represented.{roots_of, separator_text, symbols_at, tree_nodes, tree_of, tree_step, tree_text, trees_at, trees_text}
 pub use Rattle.lalrpop_ambiguity.specs.witnesses.Witnesses.{AreProductive, DerivationsHaveTrees, DeriveSome, HasNoTwins, HasTwoDerivations, HaveOneRoot, IsAmbiguous, IsUseful}
 pub use Rattle.lalrpop_ambiguity.specs.witnesses.Witnesses.{IsExpansion, IsWitness, WitnessesHaveSentences}
+pub use Rattle.lalrpop_ambiguity.specs.witnesses.Searches.{IfFound}

@@ -1,2 +1,3 @@
 -- Witnesses of ambiguity.
+pub mod Searches
 pub mod Witnesses

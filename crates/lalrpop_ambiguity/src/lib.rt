@@ -2,9 +2,11 @@
 //!
 //! - `derivation`: derivation trees, whose leaves are any symbols.
 //! - `laws`: what a witness says of sentences.
+//! - `search`: the search for a witness of a conflict.
 //! - `witness`: witnesses, and their check.
 #![tactic(auto)]
 
 pub mod derivation;
 pub mod laws;
+pub mod search;
 pub mod witness;

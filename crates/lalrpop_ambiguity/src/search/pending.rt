@@ -1,0 +1,82 @@
+//! The shapes that a search still has to try, the cheapest first.
+use super::frames::Shape;
+use lalrpop_collections::memory::OutOfMemory;
+use lalrpop_grammar::repr::Production;
+use std::alloc::Global;
+use std::collections::BTreeMap;
+
+/// One of the two derivations.
+#[derive(Clone, Copy, Debug, PartialEq, Eq)]
+pub(super) enum Side {
+    Left,
+    Right,
+}
+
+/// A step of a search.
+#[derive(Clone, Copy)]
+pub(super) enum Step<'grammar> {
+    /// The search begins at a place of a production on each side.
+    Begin(&'grammar Production, usize, &'grammar Production, usize),
+    /// Both derivations gain the symbol before.
+    Before,
+    /// Both derivations gain the symbol after.
+    After,
+    /// One derivation becomes the child of a production, at a place of its right side.
+    Around(Side, &'grammar Production, usize),
+    /// The nonterminal after one derivation is expanded by a production.
+    Within(Side, &'grammar Production),
+}
+
+/// A shape that waits, the step that made it, and the number of the step before that one.
+#[derive(Drop)]
+pub(super) struct Pending<'grammar> {
+    pub(super) shape: Shape<'grammar>,
+    pub(super) step: Step<'grammar>,
+    pub(super) previous: usize,
+    pub(super) cost: usize,
+}
+
+// The order of what waits: by the cost, and then by the time at which it came.
+#[derive(Clone, Copy, PartialEq, Eq, PartialOrd, Ord)]
+struct Rank {
+    cost: usize,
+    number: usize,
+}
+
+/// The shapes that wait.
+#[derive(Drop)]
+pub(super) struct Waiting<'grammar> {
+    by_rank: BTreeMap<Rank, Pending<'grammar>>,
+    number: usize,
+}
+
+impl<'grammar> Waiting<'grammar> {
+    pub(super) fn new(alloc: Global) -> Self {
+        Waiting {
+            by_rank: BTreeMap::new(alloc),
+            number: 0,
+        }
+    }
+
+    /// Adds a shape.
+    pub(super) fn add(&mut self, pending: Pending<'grammar>) -> Result<(), OutOfMemory> {
+        let rank = Rank {
+            cost: pending.cost,
+            number: self.number,
+        };
+        self.number = self.number.saturating_add(1);
+        let _replaced = self.by_rank.insert(rank, pending)?;
+        Ok(())
+    }
+
+    /// Removes a cheapest shape, of these the one that came first.
+    pub(super) fn take(&mut self) -> Option<Pending<'grammar>> {
+        let (_rank, pending) = self.by_rank.pop_first()?;
+        Some(pending)
+    }
+
+    /// Whether no shape waits.
+    pub(super) fn is_empty(&self) -> bool {
+        self.by_rank.is_empty()
+    }
+}
