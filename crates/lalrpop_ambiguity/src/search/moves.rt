@@ -175,6 +175,7 @@ fn add_within<'grammar, L>(
 }
 
 // ---- parts of these
+// Adds a shape, unless nothing can follow it.
 fn add<'grammar>(
     taken: &Taken<'grammar>,
     shape: Shape<'grammar>,
@@ -182,12 +183,24 @@ fn add<'grammar>(
     cost: usize,
     waiting: &mut Waiting<'grammar>,
 ) -> Result<(), OutOfMemory> {
+    if has_ended(&shape) {
+        return Ok(());
+    }
     waiting.add(Pending {
         shape,
         step,
         previous: taken.number,
         cost: taken.cost.saturating_add(cost),
     })
+}
+
+// Whether different terminals are after the two derivations, so that these have no symbol more in
+// common.
+fn has_ended(shape: &Shape<'_>) -> bool {
+    match (symbol_after(&shape.left), symbol_after(&shape.right)) {
+        (Some(Symbol::Terminal(t)), Some(Symbol::Terminal(u))) => !equal(t, u),
+        _ => false,
+    }
 }
 
 fn frames_at<'shape, 'grammar>(
