@@ -1,4 +1,5 @@
 pub mod Counts
+pub mod Entries
 pub mod FirstTokens
 pub mod InertTexts
 pub mod NoMarkup

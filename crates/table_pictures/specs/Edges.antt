@@ -2,7 +2,7 @@
 use Rattle.std.specs.Prelude.{ℕ, ◌==◌, ◌||◌, ◌&&◌, Bool, true, false, List, [], ◌++◌, Option, None, Some, codes, if◌then◌else◌}
 use Rattle.std.specs.Fmt.{decimal}
 use Rattle.std.specs.List.{flat_map, list_any}
-use Rattle.lalrpop_base.specs.Words.{Bits, nonterminal_text, terminal_text}
+use Rattle.lalrpop_base.specs.Words.{Bits}
 use Rattle.lalrpop_grammar.specs.contracts.repr.TerminalStringPartialEq.TheImpl as terminal_eq
 use Rattle.lalrpop_grammar.specs.declared.repr.NonterminalString.{NonterminalString}
 use Rattle.lalrpop_grammar.specs.declared.repr.TerminalString.{TerminalString}
@@ -11,7 +11,6 @@ use Rattle.lalrpop_states.specs.declared.lr1_core.state.Action.TheVariants.{Shif
 use Rattle.lalrpop_states.specs.declared.lr1_core.state.Conflict.{Conflict}
 use Rattle.lalrpop_states.specs.declared.lr1_core.state.State.{State}
 use Rattle.lalrpop_states.specs.declared.lr1_core.state.StateIndex.{StateIndex}
-use Rattle.table_pictures.specs.Escape.{xml_text}
 use Rattle.table_pictures.specs.declared.edges.Shown.{Shown}
 use Rattle.table_pictures.specs.declared.edges.Shown.TheVariants.{All, Around}
 
@@ -34,29 +33,33 @@ shifts_terminal t (Reduce p) = false
 abbrev pub is_shift_conflict : ℕ → TerminalString → Conflict Bits → Bool
 is_shift_conflict number t conflict = shifts_terminal t conflict.action && (conflict.state.0 == number)
 
--- the line of an edge: the numbers of the states, the label and what follows it
-abbrev pub edge_line : ℕ → ℕ → List ℕ → List ℕ → List ℕ
-edge_line from to label style = codes "  " ++ (decimal from ++ (codes " -> " ++ (decimal to ++ (codes " [label=< " ++ (xml_text label ++ style)))))
+-- the line of an edge: the numbers of the states and what follows them
+abbrev pub edge_line : ℕ → ℕ → List ℕ → List ℕ
+edge_line from to style = codes "  " ++ (decimal from ++ (codes " -> " ++ (decimal to ++ style)))
 
--- the text after the label of a shift, which is red or not
+-- the end of the line of a shift, which is red or not
 abbrev pub shift_end : Bool → List ℕ
-shift_end red = if red then codes "> color=red fontcolor=red];\n" else codes ">];\n"
+shift_end red = if red then codes " [color=red];\n" else codes ";\n"
 
 -- the line of a shift, red or not
-abbrev pub shift_line : Bool → ℕ → TerminalString → ℕ → List ℕ
-shift_line red from t to = edge_line from to (terminal_text t) (shift_end red)
+abbrev pub shift_line : Bool → ℕ → ℕ → List ℕ
+shift_line red from to = edge_line from to (shift_end red)
 
 -- the line of a goto, dashed
-abbrev pub goto_line : ℕ → NonterminalString → ℕ → List ℕ
-goto_line from name to = edge_line from to (nonterminal_text name) (codes "> style=dashed];\n")
+abbrev pub goto_line : ℕ → ℕ → List ℕ
+goto_line from to = edge_line from to (codes " [style=dashed];\n")
 
 -- the line of a shift, if it is shown; it is red if the shift is in a conflict
 abbrev pub shown_shift : List (Conflict Bits) → Shown → ℕ → TerminalString × StateIndex → List ℕ
-shown_shift conflicts shown from (t, target) = if shows_edge shown from target.0 then shift_line (list_any (is_shift_conflict from t) conflicts) from t target.0 else []
+shown_shift conflicts shown from (t, target) = if shows_edge shown from target.0 then shift_line (list_any (is_shift_conflict from t) conflicts) from target.0 else []
+
+-- the line of a goto to a state, if it is shown
+abbrev pub shown_edge : Shown → ℕ → StateIndex → List ℕ
+shown_edge shown from target = if shows_edge shown from target.0 then goto_line from target.0 else []
 
 -- the line of a goto, if it is shown
 abbrev pub shown_goto : Shown → ℕ → NonterminalString × StateIndex → List ℕ
-shown_goto shown from (name, target) = if shows_edge shown from target.0 then goto_line from name target.0 else []
+shown_goto shown from (name, target) = shown_edge shown from target
 
 -- the edges of a state that are shown, each on a line, first the shifts and then the gotos
 abbrev pub edges : List (Conflict Bits) → Shown → State Bits → List ℕ

@@ -1,5 +1,5 @@
 -- The text of a graph of states.
-use Rattle.std.specs.Prelude.{ℕ, ◌==◌, ◌||◌, Bool, true, false, List, [], ◌++◌, Option, None, Some, codes, map, slice_get, if◌then◌else◌}
+use Rattle.std.specs.Prelude.{ℕ, ◌+◌, ◌==◌, ◌||◌, nat_lt, length, sum_by, Bool, true, false, List, [], ◌++◌, Option, None, Some, codes, map, slice_get, if◌then◌else◌}
 use Rattle.std.specs.List.{flat_map, list_any}
 use Rattle.lalrpop_base.specs.Words.{Bits}
 use Rattle.lalrpop_grammar.specs.declared.repr.NonterminalString.{NonterminalString}
@@ -40,11 +40,15 @@ shows_state states (Around number) state = state.index.0 == number || leads_ther
 abbrev pub opening : List ℕ
 opening = codes "digraph states {\n  node [shape=box fontname=monospace];\n  edge [fontname=monospace];\n"
 
--- the direction of a graph: from top to bottom for all states, and from left to right for a state
--- and its neighbours
-abbrev pub direction : Shown → List ℕ
-direction All = []
-direction (Around number) = codes "  rankdir=LR;\n"
+-- how many edges a state has
+abbrev pub edges_of : State Bits → ℕ
+edges_of state = length state.shifts.entries + length state.gotos.entries
+
+-- how a graph is laid out: with all states from top to bottom, by straight edges if there are more
+-- than 200, and with a state and its neighbours from left to right
+abbrev pub layout_of : List (State Bits) → Shown → List ℕ
+layout_of states All = if nat_lt 200 (sum_by edges_of states) then codes "  graph [splines=line nslimit=1 nslimit1=1 mclimit=0.2];\n" else []
+layout_of states (Around number) = codes "  rankdir=LR;\n"
 
 module _ (start : NonterminalString) (terminals : List TerminalString) (states : List (State Bits)) (conflicts : List (Conflict Bits)) (shown : Shown) where
   -- the node of a state, if the state is shown
@@ -53,4 +57,4 @@ module _ (start : NonterminalString) (terminals : List TerminalString) (states :
 
   -- the text of a graph: a node for each state that is shown, and then the edges that are shown
   abbrev pub graph : List ℕ
-  graph = opening ++ (direction shown ++ (flat_map shown_node states ++ (flat_map (edges conflicts shown) states ++ codes "}\n")))
+  graph = opening ++ (layout_of states shown ++ (flat_map shown_node states ++ (flat_map (edges conflicts shown) states ++ codes "}\n")))

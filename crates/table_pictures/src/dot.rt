@@ -1,8 +1,8 @@
 //! The graph of the states, for Graphviz.
-ghost use Rattle.std.specs.Prelude.{◌≡◌, ◌++◌, IfOk, OnOk, string_bytes};
+ghost use Rattle.std.specs.Prelude.{◌≡◌, ◌++◌, ◌-◌, ◌^◌, IfOk, OnOk, min, string_bytes, sum_by};
 ghost use Rattle.std.specs.List.{flat_map};
 ghost use Rattle.table_pictures.specs.Edges.{edges, shown_of};
-ghost use Rattle.table_pictures.specs.Graphs.{direction, graph, leads_by, leads_there, shown_node, shows_state};
+ghost use Rattle.table_pictures.specs.Graphs.{edges_of, graph, layout_of, leads_by, leads_there, shown_node, shows_state};
 
 use super::edges::{Shown, push_edges};
 use super::nodes::push_node;
@@ -29,9 +29,9 @@ pub fn graph_text<'grammar>(
     let shown = Shown::around(around);
     let mut text = String::new(alloc);
     text.push_str(OPENING)?;
-    text.push_str(direction(shown))?;
+    text.push_str(layout(states, shown))?;
     push_nodes(alloc, &mut text, start, states, conflicts, terminals, shown)?;
-    push_all_edges(alloc, &mut text, states, conflicts, shown)?;
+    push_all_edges(&mut text, states, conflicts, shown)?;
     text.push_str("}\n")?;
     Ok(text)
 }
@@ -40,15 +40,35 @@ pub fn graph_text<'grammar>(
 const OPENING: &str =
     "digraph states {\n  node [shape=box fontname=monospace];\n  edge [fontname=monospace];\n";
 
-// The direction of a graph. A graph of all states goes from top to bottom. A graph of one state
-// goes from left to right, so that its many neighbours are one below the other.
-fn direction(shown: Shown) -> &'static str
-    ensures { result.now ≡ direction shown }
+// The greatest number of edges of a graph that is laid out with care, which takes long.
+const MOST_EDGES: usize = 200;
+
+// How a graph is laid out. A graph of all states goes from top to bottom, with straight edges if
+// there are many. A graph of one state goes from left to right, so that its many neighbours are one
+// below the other.
+fn layout(states: &[Lr1State<'_>], shown: Shown) -> &'static str
+    ensures { result.now ≡ layout_of states.now shown }
 {
     match shown {
+        Shown::All if edge_count(states) > MOST_EDGES => {
+            "  graph [splines=line nslimit=1 nslimit1=1 mclimit=0.2];\n"
+        }
         Shown::All => "",
         Shown::Around(_) => "  rankdir=LR;\n",
     }
+}
+
+/// How many shifts and gotos states have, at most the greatest `usize`.
+pub fn edge_count(states: &[Lr1State<'_>]) -> usize
+    ensures { result ≡ min (sum_by edges_of states.now) (2 ^ 64 - 1) }
+{
+    let mut count: usize = 0;
+    for state in states {
+        count = count
+            .saturating_add(state.shifts.len())
+            .saturating_add(state.gotos.len());
+    }
+    count
 }
 
 // Appends the nodes of the states that are shown.
@@ -128,7 +148,6 @@ fn has_target<K: Ord>(edges: &BTreeMap<K, StateIndex>, number: usize) -> bool
 
 // Appends the edges that are shown of each state.
 fn push_all_edges<'grammar>(
-    alloc: Global,
     text: &mut String,
     states: &[Lr1State<'grammar>],
     conflicts: &[Lr1Conflict<'grammar>],
@@ -138,7 +157,7 @@ fn push_all_edges<'grammar>(
         (edges conflicts.now shown) states.now) }
 {
     for state in states {
-        push_edges(alloc, text, state, conflicts, shown)?;
+        push_edges(text, state, conflicts, shown)?;
     }
     Ok(())
 }

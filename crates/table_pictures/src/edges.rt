@@ -1,13 +1,11 @@
-//! The edges of a graph. Each has a symbol, and leads from a state to a state.
+//! The edges of a graph. Each leads from a state to a state, by the symbol of the node there.
 ghost use Rattle.std.specs.Prelude.{◌≡◌, ◌++◌, OnOk, string_bytes};
 ghost use Rattle.std.specs.List.{flat_map, list_any};
-ghost use Rattle.table_pictures.specs.Edges.{edges, goto_line, is_shift_conflict, shift_end, shift_line, shown_goto, shown_of, shown_shift, shows_edge};
+ghost use Rattle.table_pictures.specs.Edges.{edges, goto_line, is_shift_conflict, shift_line, shown_edge, shown_goto, shown_of, shown_shift, shows_edge};
 
-use super::escape::push_xml;
 use lalrpop_base::lr1_core::state::{Action, Lr1Conflict, Lr1State, StateIndex};
 use lalrpop_base::memory::OutOfMemory;
 use lalrpop_base::repr::{NonterminalString, TerminalString};
-use std::alloc::Global;
 use std::collections::BTreeMap;
 
 /// The states and edges that are shown.
@@ -42,7 +40,6 @@ impl Shown {
 
 /// Appends the edges of a state: those of terminals, and dashed ones of nonterminals.
 pub(crate) fn push_edges(
-    alloc: Global,
     text: &mut String,
     state: &Lr1State<'_>,
     conflicts: &[Lr1Conflict<'_>],
@@ -51,14 +48,13 @@ pub(crate) fn push_edges(
     ensures { OnOk result
         (string_bytes text.new ≡ string_bytes text.old ++ edges conflicts.now shown state.now) }
 {
-    push_shifts(alloc, text, state.index, &state.shifts, conflicts, shown)?;
+    push_shifts(text, state.index, &state.shifts, conflicts, shown)?;
     push_gotos(text, state.index, &state.gotos, shown)?;
     Ok(())
 }
 
 // Appends the shifts of a state that are shown.
 fn push_shifts(
-    alloc: Global,
     text: &mut String,
     from: StateIndex,
     shifts: &BTreeMap<TerminalString, StateIndex>,
@@ -69,14 +65,13 @@ fn push_shifts(
         (shown_shift conflicts.now shown from.0) shifts.now.entries) }
 {
     for (terminal, target) in shifts.iter() {
-        push_shown_shift(alloc, text, from, terminal, *target, conflicts, shown)?;
+        push_shown_shift(text, from, terminal, *target, conflicts, shown)?;
     }
     Ok(())
 }
 
 // Appends the edge of a shift, if the edge is shown.
 fn push_shown_shift(
-    alloc: Global,
     text: &mut String,
     from: StateIndex,
     terminal: &TerminalString,
@@ -91,7 +86,7 @@ fn push_shown_shift(
         return Ok(());
     }
     let is_red = is_in_conflict(conflicts, from, terminal);
-    push_shift(alloc, text, from, terminal, target, is_red)?;
+    push_shift(text, from, target, is_red)?;
     Ok(())
 }
 
@@ -118,32 +113,19 @@ fn is_of_shift(conflict: &Lr1Conflict<'_>, state: StateIndex, terminal: &Termina
 
 // Appends the edge of a shift, red if the shift is in a conflict.
 fn push_shift(
-    alloc: Global,
     text: &mut String,
     from: StateIndex,
-    terminal: &TerminalString,
     target: StateIndex,
     is_red: bool,
 ) -> Result<(), OutOfMemory>
-    ensures { OnOk result (string_bytes text.new ≡ string_bytes text.old ++ shift_line is_red from.0
-        terminal.now target.0) }
-{
-    let label = format!(in alloc; "{terminal}")?;
-    write!(text, "  {from} -> {target} [label=< ")?;
-    push_xml(text, label.as_str())?;
-    push_shift_end(text, is_red)?;
-    Ok(())
-}
-
-// Appends the text after the label of a shift.
-fn push_shift_end(text: &mut String, is_red: bool) -> Result<(), OutOfMemory>
-    ensures { OnOk result (string_bytes text.new ≡ string_bytes text.old ++ shift_end is_red) }
+    ensures { OnOk result
+        (string_bytes text.new ≡ string_bytes text.old ++ shift_line is_red from.0 target.0) }
 {
     if is_red {
-        text.push_str("> color=red fontcolor=red];\n")?;
+        write!(text, "  {from} -> {target} [color=red];\n")?;
         return Ok(());
     }
-    text.push_str(">];\n")?;
+    write!(text, "  {from} -> {target};\n")?;
     Ok(())
 }
 
@@ -157,8 +139,8 @@ fn push_gotos(
     ensures { OnOk result (string_bytes text.new ≡ string_bytes text.old ++ flat_map
         (shown_goto shown from.0) gotos.now.entries) }
 {
-    for (name, target) in gotos.iter() {
-        push_shown_goto(text, from, name, *target, shown)?;
+    for (_, target) in gotos.iter() {
+        push_shown_goto(text, from, *target, shown)?;
     }
     Ok(())
 }
@@ -167,32 +149,24 @@ fn push_gotos(
 fn push_shown_goto(
     text: &mut String,
     from: StateIndex,
-    name: &NonterminalString,
     target: StateIndex,
     shown: Shown,
 ) -> Result<(), OutOfMemory>
-    ensures { OnOk result (string_bytes text.new ≡ string_bytes text.old ++ shown_goto shown from.0
-        (name.now, target)) }
+    ensures { OnOk result
+        (string_bytes text.new ≡ string_bytes text.old ++ shown_edge shown from.0 target) }
 {
     if !shown.has_edge(from.0, target.0) {
         return Ok(());
     }
-    push_goto(text, from, name, target)?;
+    push_goto(text, from, target)?;
     Ok(())
 }
 
 // Appends the edge of a goto.
-fn push_goto(
-    text: &mut String,
-    from: StateIndex,
-    name: &NonterminalString,
-    target: StateIndex,
-) -> Result<(), OutOfMemory>
-    ensures { OnOk result (string_bytes text.new ≡ string_bytes text.old ++ goto_line from.0
-        name.now target.0) }
+fn push_goto(text: &mut String, from: StateIndex, target: StateIndex) -> Result<(), OutOfMemory>
+    ensures { OnOk result
+        (string_bytes text.new ≡ string_bytes text.old ++ goto_line from.0 target.0) }
 {
-    write!(text, "  {from} -> {target} [label=< ")?;
-    push_xml(text, name.text.as_str())?;
-    text.push_str("> style=dashed];\n")?;
+    write!(text, "  {from} -> {target} [style=dashed];\n")?;
     Ok(())
 }

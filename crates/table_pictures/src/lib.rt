@@ -9,3 +9,4 @@ mod nodes;
 pub mod page;
 mod script;
 mod style;
+mod symbols;

@@ -1,22 +1,17 @@
 //! The nodes of a graph. Each is a state.
-ghost use Rattle.std.specs.Prelude.{◌≡◌, ◌++◌, OnOk, map, length, string_bytes, take};
+ghost use Rattle.std.specs.Prelude.{◌≡◌, ◌++◌, OnOk, string_bytes};
 ghost use Rattle.std.specs.List.{flat_map};
-ghost use Rattle.lalrpop_base.specs.Words.{rising, seen, token_of};
-ghost use Rattle.table_pictures.specs.Nodes.{action_xml, conflict_line, conflict_xml, has_conflict, is_kernel_item, item_line, kernel_line, line_end, node, node_end, node_head, red_line, reduction_line};
-ghost use Rattle.table_pictures.specs.Symbols.{more_tokens, most_tokens, production_xml, symbol_xml, symbols_xml, terminal_xml, token_xml, tokens_xml};
+ghost use Rattle.table_pictures.specs.Nodes.{accepting_end, accepts, action_xml, conflict_line, conflict_xml, entry_xml, has_conflict, is_kernel_item, item_line, kernel_line, line_end, node, node_end, node_head, red_line, reduction_line};
 
 use super::escape::push_xml;
-use lalrpop_base::lookahead::token::TokenRef;
+use super::symbols::{push_production, push_symbol, push_symbols, push_tokens};
 use lalrpop_base::lookahead::token_set::TokenSet;
 use lalrpop_base::lr1_core::item::Lr1Item;
 use lalrpop_base::lr1_core::state::{Action, Lr1Conflict, Lr1State, StateIndex};
 use lalrpop_base::memory::OutOfMemory;
 use lalrpop_base::repr::terminals::TerminalSet;
-use lalrpop_base::repr::{NonterminalString, Production, Symbol, TerminalString};
+use lalrpop_base::repr::{NonterminalString, Production, Symbol};
 use std::alloc::Global;
-
-// The greatest number of tokens that are shown of a set.
-const MOST: usize = 8;
 
 // The end of a line of a node, which aligns the line to the left.
 const LINE_END: &str = "<BR ALIGN=\"LEFT\"/>";
@@ -43,9 +38,12 @@ pub(crate) fn push_node(
         start.now conflicts.now state.now) }
 {
     push_head(text, state.index)?;
+    push_entry(alloc, text, &state.items.vec)?;
+    push_line_end(text)?;
     push_kernel(alloc, text, start, &state.items.vec, state.index)?;
     push_reductions(alloc, text, &state.reductions, terminals)?;
     push_conflicts(alloc, text, state.index, conflicts, terminals)?;
+    push_accepting(text, &state.reductions, start)?;
     push_end(text, is_in_conflict(state.index, conflicts))?;
     Ok(())
 }
@@ -54,11 +52,45 @@ pub(crate) fn push_node(
 fn push_head(text: &mut String, number: StateIndex) -> Result<(), OutOfMemory>
     ensures { OnOk result (string_bytes text.new ≡ string_bytes text.old ++ node_head number.0) }
 {
-    write!(
-        text,
-        "  {number} [label=<<B>State {number}</B><BR ALIGN=\"LEFT\"/>"
-    )?;
+    write!(text, "  {number} [label=<<B>State {number}</B>")?;
     Ok(())
+}
+
+// Appends the symbol by which a state with these items is entered. State 0 is entered by none.
+fn push_entry(alloc: Global, text: &mut String, items: &[Lr1Item<'_>]) -> Result<(), OutOfMemory>
+    ensures { OnOk result (string_bytes text.new ≡ string_bytes text.old ++ entry_xml items.now) }
+{
+    for item in items {
+        if let Some(symbol) = item.prefix().last() {
+            text.push_str(" by")?;
+            push_symbol(alloc, text, symbol)?;
+            return Ok(());
+        }
+    }
+    Ok(())
+}
+
+// Appends a second frame, if a state reduces by a production of the start symbol.
+fn push_accepting(
+    text: &mut String,
+    reductions: &[(TokenSet, &Production)],
+    start: &NonterminalString,
+) -> Result<(), OutOfMemory>
+    ensures { OnOk result (string_bytes text.new ≡ string_bytes text.old ++ accepting_end start.now
+        reductions.now) }
+{
+    text.push_str(">")?;
+    if is_accepting(reductions, start) {
+        text.push_str(" peripheries=2")?;
+    }
+    Ok(())
+}
+
+// Whether one of the reductions is by a production of the start symbol.
+fn is_accepting(reductions: &[(TokenSet, &Production)], start: &NonterminalString) -> bool
+    ensures { result ≡ accepts start.now reductions.now }
+{
+    reductions.iter().any(|r| &r.1.nonterminal == start)
 }
 
 // Whether a state has a conflict.
@@ -73,10 +105,10 @@ fn push_end(text: &mut String, is_red: bool) -> Result<(), OutOfMemory>
     ensures { OnOk result (string_bytes text.new ≡ string_bytes text.old ++ node_end is_red) }
 {
     if is_red {
-        text.push_str("> color=red penwidth=2];\n")?;
+        text.push_str(" color=red penwidth=2];\n")?;
         return Ok(());
     }
-    text.push_str(">];\n")?;
+    text.push_str("];\n")?;
     Ok(())
 }
 
@@ -136,41 +168,6 @@ fn push_item(alloc: Global, text: &mut String, item: &Lr1Item<'_>) -> Result<(),
     Ok(())
 }
 
-// Appends symbols, each after a space.
-fn push_symbols(alloc: Global, text: &mut String, symbols: &[Symbol]) -> Result<(), OutOfMemory>
-    ensures { OnOk result
-        (string_bytes text.new ≡ string_bytes text.old ++ symbols_xml symbols.now) }
-{
-    for symbol in symbols {
-        push_symbol(alloc, text, symbol)?;
-    }
-    Ok(())
-}
-
-// Appends a symbol after a space.
-fn push_symbol(alloc: Global, text: &mut String, symbol: &Symbol) -> Result<(), OutOfMemory>
-    ensures { OnOk result (string_bytes text.new ≡ string_bytes text.old ++ symbol_xml symbol.now) }
-{
-    let shown = format!(in alloc; " {symbol}")?;
-    push_xml(text, shown.as_str())?;
-    Ok(())
-}
-
-// Appends a production.
-fn push_production(
-    alloc: Global,
-    text: &mut String,
-    production: &Production,
-) -> Result<(), OutOfMemory>
-    ensures { OnOk result
-        (string_bytes text.new ≡ string_bytes text.old ++ production_xml production.now) }
-{
-    push_xml(text, production.nonterminal.text.as_str())?;
-    text.push_str(" -&gt;")?;
-    push_symbols(alloc, text, production.symbols.as_slice())?;
-    Ok(())
-}
-
 // Appends the lines of reductions.
 fn push_reductions(
     alloc: Global,
@@ -202,76 +199,6 @@ fn push_reduction(
     text.push_str(" <I>on</I>")?;
     push_tokens(alloc, text, &reduction.0, terminals)?;
     push_line_end(text)?;
-    Ok(())
-}
-
-// Appends the first tokens of a set, each after a space, and the number of the others.
-fn push_tokens(
-    alloc: Global,
-    text: &mut String,
-    tokens: &TokenSet,
-    terminals: &TerminalSet,
-) -> Result<(), OutOfMemory>
-    ensures { OnOk result
-        (string_bytes text.new ≡ string_bytes text.old ++ tokens_xml terminals.now tokens.now) }
-{
-    push_first_tokens(alloc, text, tokens, terminals)?;
-    push_more(text, tokens.len())?;
-    Ok(())
-}
-
-// Appends the first tokens of a set, each after a space.
-fn push_first_tokens(
-    alloc: Global,
-    text: &mut String,
-    tokens: &TokenSet,
-    terminals: &TerminalSet,
-) -> Result<(), OutOfMemory>
-    ensures { OnOk result (string_bytes text.new ≡ string_bytes text.old ++ flat_map token_xml
-        (take most_tokens (map (token_of terminals.now) (rising tokens.now)))) }
-{
-    for token in tokens.iter(terminals).take(MOST) {
-        push_token(alloc, text, token)?;
-    }
-    Ok(())
-}
-
-// Appends the number of tokens that are not shown, if there are such.
-fn push_more(text: &mut String, count: usize) -> Result<(), OutOfMemory>
-    ensures { OnOk result (string_bytes text.new ≡ string_bytes text.old ++ more_tokens count) }
-{
-    if count <= MOST {
-        return Ok(());
-    }
-    let more = count - MOST;
-    write!(text, " <I>and {more} more</I>")?;
-    Ok(())
-}
-
-// Appends a token after a space.
-fn push_token(alloc: Global, text: &mut String, token: TokenRef<'_>) -> Result<(), OutOfMemory>
-    ensures { OnOk result
-        (string_bytes text.new ≡ string_bytes text.old ++ token_xml (seen token.entry)) }
-{
-    match token {
-        TokenRef::Eof => text.push_str(" Eof")?,
-        TokenRef::Error => text.push_str(" Error")?,
-        TokenRef::Terminal(terminal) => push_terminal(alloc, text, terminal)?,
-    }
-    Ok(())
-}
-
-// Appends a terminal after a space.
-fn push_terminal(
-    alloc: Global,
-    text: &mut String,
-    terminal: &TerminalString,
-) -> Result<(), OutOfMemory>
-    ensures { OnOk result
-        (string_bytes text.new ≡ string_bytes text.old ++ terminal_xml terminal.now) }
-{
-    let shown = format!(in alloc; " {terminal}")?;
-    push_xml(text, shown.as_str())?;
     Ok(())
 }
 

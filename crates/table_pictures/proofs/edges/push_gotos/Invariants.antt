@@ -3,5 +3,5 @@ use Rattle.std.specs.List.{flat_map}
 use Rattle.table_pictures.specs.Edges.{shown_goto}
 use Rattle.table_pictures.proofs.edges.push_gotos.Given as goal
 
-abbrev pub invariant-loop-name : goal.invariant-loop-name
-invariant-loop-name l = string_bytes l.text ++ flat_map (shown_goto l.shown l.from.0) l.name-iterator ≡ string_bytes l.fn.text ++ flat_map (shown_goto l.shown l.from.0) l.gotos.entries
+abbrev pub invariant-loop-target : goal.invariant-loop-target
+invariant-loop-target l = string_bytes l.text ++ flat_map (shown_goto l.shown l.from.0) l.target-iterator ≡ string_bytes l.fn.text ++ flat_map (shown_goto l.shown l.from.0) l.gotos.entries

@@ -3,7 +3,7 @@ use Rattle.std.specs.Iterator.Adapters.{take_count, take_source}
 use Rattle.std.specs.List.{flat_map}
 use Rattle.lalrpop_base.specs.Words.{rising, token_of}
 use Rattle.table_pictures.specs.Symbols.{most_tokens, token_xml}
-use Rattle.table_pictures.proofs.nodes.push_first_tokens.Given as goal
+use Rattle.table_pictures.proofs.symbols.push_first_tokens.Given as goal
 
 abbrev pub invariant-loop-token : goal.invariant-loop-token
 invariant-loop-token l =

@@ -5,7 +5,7 @@ use Rattle.std.specs.List.{flat_map}
 use Rattle.lalrpop_base.specs.Words.{seen, token_of}
 use Rattle.table_pictures.specs.Symbols.{token_xml}
 use Rattle.table_pictures.proofs.FirstTokens.{taken_more, taken_none}
-use Rattle.table_pictures.proofs.nodes.push_first_tokens.Goals as goal
+use Rattle.table_pictures.proofs.symbols.push_first_tokens.Goals as goal
 
 pub loop-token-preserved : goal.loop-token-preserved
 loop-token-preserved c =
