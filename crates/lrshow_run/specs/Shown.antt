@@ -12,7 +12,7 @@ use Rattle.lrtab_run.specs.Shown.{line}
 use Rattle.lrtab_run.specs.declared.answer.Shown.{Shown}
 use Rattle.table_data.specs.Whole.{IsData}
 use Rattle.table_pictures.specs.Edges.{shown_of}
-use Rattle.table_pictures.specs.Graphs.{graph}
+use Rattle.table_pictures.specs.Graphs.{edge_count, graph, most_edges}
 use Rattle.table_pictures.specs.Page.{page}
 use Rattle.lrshow_run.specs.Built.{AreBuilt}
 use Rattle.lrshow_run.specs.Words.{Asked, Form, Json, Graph, Page}
@@ -28,18 +28,14 @@ pub record IsOutput (status : ℕ) (text remark : List ℕ) (s : Shown) : Type 0
 abbrev pub no_state : ℕ → List ℕ
 no_state number = line (codes "no state " ++ decimal number)
 
--- the greatest number of states whose graph is shown without a remark
-abbrev pub most_states : ℕ
-most_states = 300
-
--- the remark on how to cut the graph of many states
+-- the remark on how to cut a graph of many edges
 abbrev pub how_to_cut : ℕ → List ℕ
-how_to_cut count = if nat_lt most_states count then line (decimal count ++ codes " states: --around STATE shows one and its neighbours") else []
+how_to_cut count = if nat_lt most_edges count then decimal count ++ line (codes " edges: --around STATE shows one state and its neighbours") else []
 
 -- what is shown for a graph: that of all states, or, if there is a state with the number, that of
 -- this state and its neighbours
 abbrev pub IsGraphShown : Grammar → NonterminalString → ℕ → List (State Bits) → List (Conflict Bits) → Option ℕ → Shown → Type 0
-IsGraphShown g start status states conflicts None s = IsOutput status (graph start g.terminals states conflicts (shown_of None)) (how_to_cut (length states)) s
+IsGraphShown g start status states conflicts None s = IsOutput status (graph start g.terminals states conflicts (shown_of None)) (how_to_cut (edge_count states)) s
 IsGraphShown g start status states conflicts (Some number) s =
     (number < length states → IsOutput status (graph start g.terminals states conflicts (shown_of (Some number))) [] s)
     × (length states ≤ number → IsOutput 2 [] (no_state number) s)

@@ -5,7 +5,7 @@ ghost use Rattle.lrshow_run.specs.Shown.{IsGraphShown, IsFormShown, IsOutput, Is
 ghost use Rattle.lrshow_run.specs.Words.{Json, Page, form_view, request_view};
 ghost use Rattle.table_data.specs.Whole.{IsData};
 ghost use Rattle.table_pictures.specs.Edges.{shown_of};
-ghost use Rattle.table_pictures.specs.Graphs.{graph};
+ghost use Rattle.table_pictures.specs.Graphs.{edge_count, graph};
 
 use crate::built::{Built, build};
 use crate::words::{Form, Request};
@@ -18,7 +18,7 @@ use lrtab_run::answer::Shown;
 use lrtab_run::ask::Ask;
 use std::alloc::Global;
 use table_data::whole::tables_json;
-use table_pictures::dot::graph_text;
+use table_pictures::dot::{edge_count, graph_text};
 use table_pictures::page::page_text;
 
 impl Ask for Request<'_> {
@@ -112,10 +112,10 @@ fn page<'grammar>(
     whole(alloc, built.status, text)
 }
 
-// The greatest number of states whose graph is shown without a remark on how to cut it.
-const MANY: usize = 300;
+// The greatest number of edges of a graph that is shown without a remark on how to cut it.
+const MANY: usize = 200;
 
-// What is shown for the graph of all states, with a remark on how to cut it if there are many.
+// What is shown for the graph of all states, with a remark on how to cut it if it is large.
 fn whole_graph<'grammar>(
     alloc: Global,
     grammar: &'grammar Grammar,
@@ -125,7 +125,7 @@ fn whole_graph<'grammar>(
     ensures { IfOk result (IsGraphShown grammar.now start.now built.now.status
         built.now.states.items built.now.conflicts.items None) }
 {
-    let remark = how_to_cut(alloc, built.states.len())?;
+    let remark = how_to_cut(alloc, edge_count(&built.states))?;
     let text = graph(alloc, grammar, start, built, None)?;
     Ok(Shown {
         status: built.status,
@@ -184,12 +184,12 @@ fn no_state(alloc: Global, number: usize) -> Result<Shown, OutOfMemory>
     })
 }
 
-// The remark on how to cut a graph with so many states. It is empty for at most `MANY` states.
+// The remark on how to cut a graph with so many edges. It is empty for at most `MANY` edges.
 fn how_to_cut(alloc: Global, count: usize) -> Result<String, OutOfMemory>
     ensures { IfOk result (λ text. string_bytes text ≡ how_to_cut count) }
 {
     if count <= MANY {
         return Ok(String::new(alloc));
     }
-    Ok(format!(in alloc; "{count} states: --around STATE shows one and its neighbours\n")?)
+    Ok(format!(in alloc; "{count} edges: --around STATE shows one state and its neighbours\n")?)
 }

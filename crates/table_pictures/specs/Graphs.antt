@@ -1,5 +1,5 @@
 -- The text of a graph of states.
-use Rattle.std.specs.Prelude.{ℕ, ◌+◌, ◌==◌, ◌||◌, nat_lt, length, sum_by, Bool, true, false, List, [], ◌++◌, Option, None, Some, codes, map, slice_get, if◌then◌else◌}
+use Rattle.std.specs.Prelude.{ℕ, ◌+◌, ◌-◌, ◌^◌, ◌==◌, ◌||◌, nat_lt, min, length, sum_by, Bool, true, false, List, [], ◌++◌, Option, None, Some, codes, map, slice_get, if◌then◌else◌}
 use Rattle.std.specs.List.{flat_map, list_any}
 use Rattle.lalrpop_base.specs.Words.{Bits}
 use Rattle.lalrpop_grammar.specs.declared.repr.NonterminalString.{NonterminalString}
@@ -44,10 +44,18 @@ opening = codes "digraph states {\n  node [shape=box fontname=monospace];\n  edg
 abbrev pub edges_of : State Bits → ℕ
 edges_of state = length state.shifts.entries + length state.gotos.entries
 
--- how a graph is laid out: with all states from top to bottom, by straight edges if there are more
--- than 200, and with a state and its neighbours from left to right
+-- how many edges states have, at most the greatest `usize`
+abbrev pub edge_count : List (State Bits) → ℕ
+edge_count states = min (sum_by edges_of states) (2 ^ 64 - 1)
+
+-- the greatest number of edges of a graph that is not large
+abbrev pub most_edges : ℕ
+most_edges = 200
+
+-- how a graph is laid out: with all states from top to bottom, by straight edges if there are many,
+-- and with a state and its neighbours from left to right
 abbrev pub layout_of : List (State Bits) → Shown → List ℕ
-layout_of states All = if nat_lt 200 (sum_by edges_of states) then codes "  graph [splines=line nslimit=1 nslimit1=1 mclimit=0.2];\n" else []
+layout_of states All = if nat_lt most_edges (edge_count states) then codes "  graph [splines=line nslimit=1 nslimit1=1 mclimit=0.2];\n" else []
 layout_of states (Around number) = codes "  rankdir=LR;\n"
 
 module _ (start : NonterminalString) (terminals : List TerminalString) (states : List (State Bits)) (conflicts : List (Conflict Bits)) (shown : Shown) where

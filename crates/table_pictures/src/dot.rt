@@ -1,8 +1,8 @@
 //! The graph of the states, for Graphviz.
-ghost use Rattle.std.specs.Prelude.{◌≡◌, ◌++◌, ◌-◌, ◌^◌, IfOk, OnOk, min, string_bytes, sum_by};
+ghost use Rattle.std.specs.Prelude.{◌≡◌, ◌++◌, IfOk, OnOk, string_bytes};
 ghost use Rattle.std.specs.List.{flat_map};
 ghost use Rattle.table_pictures.specs.Edges.{edges, shown_of};
-ghost use Rattle.table_pictures.specs.Graphs.{edges_of, graph, layout_of, leads_by, leads_there, shown_node, shows_state};
+ghost use Rattle.table_pictures.specs.Graphs.{edge_count, graph, layout_of, leads_by, leads_there, shown_node, shows_state};
 
 use super::edges::{Shown, push_edges};
 use super::nodes::push_node;
@@ -40,7 +40,8 @@ pub fn graph_text<'grammar>(
 const OPENING: &str =
     "digraph states {\n  node [shape=box fontname=monospace];\n  edge [fontname=monospace];\n";
 
-// The greatest number of edges of a graph that is laid out with care, which takes long.
+// The greatest number of edges of a graph that is not large. A large one is laid out with less
+// care.
 const MOST_EDGES: usize = 200;
 
 // How a graph is laid out. A graph of all states goes from top to bottom, with straight edges if
@@ -60,7 +61,7 @@ fn layout(states: &[Lr1State<'_>], shown: Shown) -> &'static str
 
 /// How many shifts and gotos states have, at most the greatest `usize`.
 pub fn edge_count(states: &[Lr1State<'_>]) -> usize
-    ensures { result ≡ min (sum_by edges_of states.now) (2 ^ 64 - 1) }
+    ensures { result ≡ edge_count states.now }
 {
     let mut count: usize = 0;
     for state in states {

@@ -1,7 +1,7 @@
-use Rattle.std.proofs.Common.{◌≡◌, ◌-◌, ◌^◌, min, take, sum_by}
-use Rattle.table_pictures.specs.Graphs.{edges_of}
+use Rattle.std.proofs.Common.{◌≡◌, take}
+use Rattle.table_pictures.specs.Graphs.{edge_count}
 use Rattle.table_pictures.proofs.dot.edge_count.Given as goal
 
--- the sum so far
+-- the number so far
 abbrev pub invariant-loop-state : goal.invariant-loop-state
-invariant-loop-state l = l.count ≡ min (sum_by edges_of (take l.state-index l.states)) (2 ^ 64 - 1)
+invariant-loop-state l = l.count ≡ edge_count (take l.state-index l.states)
