@@ -35,8 +35,8 @@ const GRAPH: &str = "digraph states {
   edge [fontname=monospace];
   rankdir=LR;
   0 [label=<<B>State 0</B><BR ALIGN=\"LEFT\"/>S -&gt; &bull; &quot;x&quot;<BR ALIGN=\"LEFT\"/>>];
-  1 [label=<<B>State 1</B><BR ALIGN=\"LEFT\"/>S -&gt; &quot;x&quot; &bull;<BR ALIGN=\"LEFT\"/><I>reduce</I> S -&gt; &quot;x&quot; <I>on</I> Eof<BR ALIGN=\"LEFT\"/>>];
-  0 -> 1 [label=< &quot;x&quot;>];
+  1 [label=<<B>State 1</B> by &quot;x&quot;<BR ALIGN=\"LEFT\"/>S -&gt; &quot;x&quot; &bull;<BR ALIGN=\"LEFT\"/><I>reduce</I> S -&gt; &quot;x&quot; <I>on</I> Eof<BR ALIGN=\"LEFT\"/>> peripheries=2];
+  0 -> 1;
 }
 ";
 

@@ -136,10 +136,10 @@ def check_shown_answer(lines, request, conflicts, answer):
 def check_graph(answer, around, conflicts):
     """A graph that is well-formed, and has as many red lines as there are conflicts."""
     expect(answer.status == (1 if conflicts else 0), f"expected another status than {answer.status}")
-    nodes, _ = graph.read(answer.stdout.decode(), around)
-    remark = graph.remark_on(len(nodes), around)
+    nodes, edges = graph.read(answer.stdout.decode(), around)
+    remark = graph.remark_on(len(edges), around)
     expect(answer.stderr == remark.encode(), f"expected {remark!r} on standard error")
-    reds = sum(is_red for _, lines, _ in nodes for _, is_red in lines)
+    reds = sum(is_red for _, lines, *_ in nodes for _, is_red in lines)
     expect(reds == conflicts, f"expected {conflicts} red lines")
 
 

@@ -40,7 +40,7 @@ def check_data(data, start, grammar):
 def check_shown(answer, request, data):
     """An answer shows some data."""
     count = len(data["states"])
-    status, remark = 1 if data["conflicts"] else 0, graph.remark_on(count, request.number)
+    status, remark = 1 if data["conflicts"] else 0, graph.remark_on(graph.edges_of(data), request.number)
     if request.number is not None and request.number >= count:
         status, remark = 2, f"no state {request.number}\n"
     remark = remark if request.task == "dot" else ""

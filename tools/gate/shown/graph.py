@@ -8,15 +8,17 @@ from gate.shown.listings import Listings, rule_of, token_of
 OPENING = "digraph states {\n  node [shape=box fontname=monospace];\n  edge [fontname=monospace];\n"
 # What follows where one state and its neighbours are shown.
 ACROSS = "  rankdir=LR;\n"
-NODE = re.compile(r"  ([0-9]+) \[label=<(.*)>( color=red penwidth=2)?\];")
-EDGE = re.compile(r"  ([0-9]+) -> ([0-9]+) \[label=< (.*)>( color=red fontcolor=red| style=dashed)?\];")
+# What follows where all states are shown, and there are many edges.
+LARGE = "  graph [splines=line nslimit=1 nslimit1=1 mclimit=0.2];\n"
+NODE = re.compile(r"  ([0-9]+) \[label=<(.*)>( peripheries=2)?( color=red penwidth=2)?\];")
+EDGE = re.compile(r"  ([0-9]+) -> ([0-9]+)(?: \[(color=red|style=dashed)\])?;")
 LINE_END = '<BR ALIGN="LEFT"/>'
 # What may stand in a line, with its attributes.
 TAGS = {("B",), ("I",), ("FONT", ("COLOR", "red"))}
 # Graphviz puts something else in place of these, after it has read the label as XML.
 ESCAPES = re.compile(r"\\([NGETHL\\])")
-# The most tokens of a reduction, and the most states without a remark on how to cut the graph.
-TOKENS, MANY = 8, 300
+# The most tokens of a reduction, and the most edges without a remark on how to cut the graph.
+TOKENS, MANY = 8, 200
 # Control characters have pictures. XML does not have two other characters.
 PICTURES = {**{it: 0x2400 + it for it in range(32)}, 127: 0x2421, 0xFFFE: 0xFFFD, 0xFFFF: 0xFFFD}
 
@@ -34,8 +36,9 @@ def drawn(line):
 
 
 def read(text, around):
-    """The nodes: numbers, lines, whether they are red. The edges: two numbers, labels and looks."""
-    opening = OPENING if around is None else OPENING + ACROSS
+    """The nodes: numbers, lines, how many frames, whether they are red. The edges: two numbers, and looks."""
+    is_large = around is None and text.startswith(OPENING + LARGE)
+    opening = OPENING + (ACROSS if around is not None else LARGE * is_large)
     expect(text.startswith(opening) and text.endswith("\n}\n"), "a graph with another beginning or end")
     nodes, edges = [], []
     for line in text[len(opening):-3].split("\n"):
@@ -43,19 +46,24 @@ def read(text, around):
             expect(not edges, "a node after an edge")
             *lines, rest = node[2].split(LINE_END)
             expect(rest == "", "a line of a node without its end")
-            nodes.append((int(node[1]), [drawn(it) for it in lines], bool(node[3])))
+            nodes.append((int(node[1]), [drawn(it) for it in lines], 2 if node[3] else 1, bool(node[4])))
         else:
             edge = EDGE.fullmatch(line)
             expect(edge, f"a line that is no node and no edge: {line[:200]!r}")
-            label, _ = drawn(edge[3])
-            expect("<" not in edge[3], "an edge whose label has parts")
-            edges.append((int(edge[1]), int(edge[2]), label, (edge[4] or "").strip()))
+            edges.append((int(edge[1]), int(edge[2]), edge[3] or ""))
+    expect(is_large == (around is None and len(edges) > MANY), f"another layout for {len(edges)} edges")
     return nodes, edges
 
 
 def remark_on(count, around):
-    """What is printed on standard error about a graph that is large."""
-    return f"{count} states: --around STATE shows one and its neighbours\n" if count > MANY and around is None else ""
+    """What is printed on standard error about a graph with so many edges."""
+    cut = "edges: --around STATE shows one state and its neighbours"
+    return f"{count} {cut}\n" if count > MANY and around is None else ""
+
+
+def edges_of(data):
+    """How many edges the states of some data have."""
+    return sum(len(it["shifts"]) + len(it["gotos"]) for it in data["states"])
 
 
 class Drawn:
@@ -67,13 +75,13 @@ class Drawn:
 
     def edges(self):
         for state in self.data["states"]:
-            number, red = state["number"], "color=red fontcolor=red"
-            shifts = [(it, target, red * ((number, it) in self.red_shifts)) for it, target in state["shifts"].items()]
-            edges = [(token_of(it), target, look) for it, target, look in shifts]
-            edges += [(it, target, "style=dashed") for it, target in state["gotos"].items()]
-            for label, target, look in edges:
+            number = state["number"]
+            reds = [(target, (number, it) in self.red_shifts) for it, target in state["shifts"].items()]
+            edges = [(target, "color=red" * is_red) for target, is_red in reds]
+            edges += [(target, "style=dashed") for target in state["gotos"].values()]
+            for target, look in edges:
                 if self.around in (None, number, target):
-                    yield number, target, label.translate(PICTURES), look
+                    yield number, target, look
 
     def numbers(self):
         if self.around is None:
@@ -81,21 +89,29 @@ class Drawn:
         return sorted({self.around, *(it for edge in self.edges() for it in edge[:2])})
 
     def kernel(self, state):
-        """The lines of a state's number, of its kernel's items, and of its reductions."""
-        yield f"State {state['number']}"
-        for it in state["items"]:
-            name, symbols = self.listings.rules[it["production"]]
+        """The lines of a state's number and of what is before each dot, of its kernel's items, and of
+        its reductions."""
+        items = [(it, *self.listings.rules[it["production"]]) for it in state["items"]]
+        entered_by = {symbols[it["dot"] - 1] for it, _, symbols in items if it["dot"]}
+        yield " by ".join([f"State {state['number']}", *entered_by])
+        for it, name, symbols in items:
             if it["dot"] or (state["number"] == 0 and name == self.data["start"]):
                 yield rule_of(name, [*symbols[:it["dot"]], "•", *symbols[it["dot"]:]])
         for it in state["reductions"]:
             yield f"reduce {self.listings.texts[it['production']]} on{few(it['lookahead'])}"
 
-    def check_node(self, number, lines, is_red):
+    def frames(self, state):
+        """How many frames a state has: one more if it reduces by a production of the start symbol."""
+        names = [self.listings.rules[it["production"]][0] for it in state["reductions"]]
+        return 2 if self.data["start"] in names else 1
+
+    def check_node(self, number, lines, frames, is_red):
         expected = [(it.translate(PICTURES), False) for it in self.kernel(self.data["states"][number])]
         expect(lines[:len(expected)] == expected, f"state {number} is drawn as {lines} and not as {expected}")
         conflicts = [it for it in self.data["conflicts"] if it["state"] == number]
         is_right = len(lines) == len(expected) + len(conflicts) and is_red == bool(conflicts)
         expect(is_right, f"state {number}: {lines}")
+        expect(frames == self.frames(self.data["states"][number]), f"state {number} has {frames} frames")
         for (line, is_red), conflict in zip(lines[len(expected):], conflicts):
             rules = [self.listings.texts[it["reduce"]] for it in conflict["actions"] if "reduce" in it]
             end = f", on{few(conflict['lookahead'])}".translate(PICTURES)
