@@ -87,6 +87,33 @@ fn data_and_graph(rt: HostRuntime) -> Result<(), Fail> {
     Ok(())
 }
 
+/// A grammar whose graph has so many edges, all from state 0.
+fn with_edges(alloc: Global, count: usize) -> Result<String, AllocError> {
+    let mut text = String::new(alloc);
+    for number in 0..count {
+        let line = format!(in alloc; "S = \"{number}\"\n")?;
+        text.push_str(line.as_str())?;
+    }
+    Ok(text)
+}
+
+#[test]
+fn large_graphs(rt: HostRuntime) -> Result<(), Fail> {
+    let alloc = rt.alloc();
+    let remark = "201 edges: --around STATE shows one state and its neighbours\n";
+    for (count, line, owed) in [
+        (200, "f S dot", ""),
+        (201, "f S dot", remark),
+        (201, "f S dot --around 0", ""),
+    ] {
+        let text = with_edges(alloc, count)?;
+        let (_, said, status) = ran_by(alloc, Method::Lane, Some(text.as_bytes()), line)?;
+        assert_eq!(rt; said.as_slice(), owed.as_bytes());
+        assert_eq!(rt; status, 0);
+    }
+    Ok(())
+}
+
 #[test]
 fn files_that_cannot_be_read(rt: HostRuntime) -> Result<(), Fail> {
     let alloc = rt.alloc();
