@@ -10,7 +10,7 @@ from gate.tests.test_shown import (
 
 ONE, TWO, RING = 'S = "x"', 2 * 'S = "x"\n', "S = S\ninline S"
 TAG, TAGS = DATA.replace('"x"', '"</script>"'), DATA.replace('"x"', '"</script><script>"')
-MANY = "2 states: --around STATE shows one and its neighbours\n"
+MANY = "1 edges: --around STATE shows one state and its neighbours\n"
 
 
 def literal(text, shown):

@@ -92,26 +92,29 @@ KERNELS = f"S -&gt; &bull; {X}{END}", f"S -&gt; {X} &bull;{END}"
 REDUCE = f"<I>reduce</I> S -&gt; {X} <I>on</I> Eof{END}"
 GRAPH = (
     "digraph states {\n  node [shape=box fontname=monospace];\n  edge [fontname=monospace];\n"
-    f"  0 [label=<<B>State 0</B>{END}{KERNELS[0]}>];\n  1 [label=<<B>State 1</B>{END}{KERNELS[1]}{REDUCE}>];\n"
-    f"  0 -> 1 [label=< {X}>];\n}}\n"
+    f"  0 [label=<<B>State 0</B>{END}{KERNELS[0]}>];\n  1 [label=<<B>State 1</B> by {X}{END}{KERNELS[1]}{REDUCE}>"
+    " peripheries=2];\n  0 -> 1;\n}\n"
 )
 ACROSS = GRAPH.replace("  0 [", "  rankdir=LR;\n  0 [", 1)
 RED = f'<FONT COLOR="red">reduce S -&gt; {X}, or S -&gt; {X}, on Eof</FONT>{END}'
-TWICE_DRAWN = GRAPH.replace(f"{REDUCE}>]", f"{2 * REDUCE}{RED}> color=red penwidth=2]")
+TWICE_DRAWN = GRAPH.replace(f"{REDUCE}> peripheries=2", f"{2 * REDUCE}{RED}> peripheries=2 color=red penwidth=2")
 for part in KERNELS:
     TWICE_DRAWN = TWICE_DRAWN.replace(part, 2 * part)
 SPOILT_GRAPHS = (
     *((GRAPH, *it) for it in (
         ("0 -> 1", "0 -> 0", "edges"), ("&bull; &quot;", "&quot; &bull;", "state 0 is drawn as"),
-        ("=< &quot;x&quot;>", '=< "x>', "edges"), ("=< &quot;x", "=< <&quot;x", "a label that is no XML"),
-        ("=< &quot;x", "=< &nosuch;&quot;x", "a label that is no XML"),
-        ("=< &quot;x", "=< <B/>&quot;x", "an edge whose label has parts"),
-        ("State 0</B>", "State 0</B><U/>", "a label with U"), (">];\n}", ">]\n}", "a line that is no node and no edge"),
+        ("by &quot;x", "by &quot;y", "state 1 is drawn as"), (" by &quot;x&quot;", "", "state 1 is drawn as"),
+        ("State 0</B>", "State 0</B> by S", "state 0 is drawn as"),
+        ("by &quot;x", "by <&quot;x", "a label that is no XML"),
+        ("by &quot;x", "by &nosuch;&quot;x", "a label that is no XML"),
+        ("State 0</B>", "State 0</B><U/>", "a label with U"), ("1;\n}", "1\n}", "a line that is no node and no edge"),
         ("  0 [", "  rankdir=LR;\n  0 [", "a line that is no node and no edge"),
-        (">];\n}", "> color=red fontcolor=red];\n}", "edges"),
-        ("/>>];\n  0", "/>> color=red penwidth=2];\n  0", "state 1:"),
-        ("/>>];\n  0", "/>State 2>];\n  0", "a line of a node without its end"),
-        (">];\n}", ">];\n  1 [label=<>];\n}", "a node after an edge"),
+        ("  0 [", f"{graph.LARGE}  0 [", "another layout for 1 edges"),
+        ("1;\n}", "1 [color=red];\n}", "edges"), ("1;\n}", "1 [style=dashed];\n}", "edges"),
+        ("2];", "2 color=red penwidth=2];", "state 1:"), (" peripheries=2", "", "state 1 has 1 frames"),
+        ("/>>];\n  1", "/>> peripheries=2];\n  1", "state 0 has 2 frames"),
+        ("/>>];\n  1", "/>State 2>];\n  1", "a line of a node without its end"),
+        ("1;\n}", "1;\n  1 [label=<>];\n}", "a node after an edge"),
     )),
     (ACROSS, "LR", "TB", "another beginning or end"), (ACROSS, "  0 [label", "  2 [label", "nodes [2, 1]"),
 )
@@ -163,6 +166,10 @@ class Readers(unittest.TestCase):
         for drawn, old, new, reason in SPOILT_GRAPHS:
             around, text = 0 if drawn == ACROSS else None, drawn.replace(old, new, 1)
             self.refuse(reason, graph.check, text, json.loads(DATA), around)
+        many = GRAPH.replace("  0 -> 1;\n", 201 * "  0 -> 1;\n")
+        _, edges = graph.read(many.replace("  0 [", f"{graph.LARGE}  0 [", 1), None)
+        self.assertEqual(edges, 201 * [(0, 1, "")])
+        self.refuse("another layout for 201 edges", graph.read, many, None)
         self.assertEqual(graph.few(["x"] * 10), ' "x"' * 8 + " and 2 more")
 
     def test_pages(self):
