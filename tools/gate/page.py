@@ -35,7 +35,7 @@ WITHIN = "document.documentElement.scrollWidth <= innerWidth"
 FOCUS = "document.activeElement"
 HERE_IS = f"{FOCUS}.id === 's%s' && location.hash === '#s%s' && {FOCUS}.querySelector('.columns') !== null"
 LINK = "document.querySelector('#s%s a[href=\"#s%s\"]').click()"
-INSIDE = f"[{FOCUS}.closest('article').id, getComputedStyle({FOCUS}).outlineStyle]"
+INSIDE = f"[{FOCUS}.closest('article, .line').id, getComputedStyle({FOCUS}).outlineStyle]"
 SEARCHES = """["4321", "noun", "E", '"'].map((text) => { wanted.value = text; const begun = performance.now();
   wanted.dispatchEvent(new Event("input")); return Math.round(performance.now() - begun); })"""
 
@@ -127,6 +127,11 @@ class Trials:
         page = subprocess.run([self.program, path, "S", "html"], stdout=subprocess.PIPE).stdout
         write(f"{path}.html", page.decode())
         self.browser.open(f"{path}.html")
+        self.browser.wait("document.querySelector('#s0') !== null")
+        # (a state is drawn when it comes into view)
+        self.ask("document.getElementById('s0').scrollIntoView()")
+        self.browser.wait("document.querySelector('#s0 .columns') !== null")
+        self.ask("scrollTo(0, 0)")
         self.browser.wait("document.querySelector('#s0 .columns, #c1 .actions') !== null")
         data = page.split(b'type="application/json">', 1)[1].split(b"</script>", 1)[0]
         return json.loads(data), len(page)
@@ -140,10 +145,10 @@ class Trials:
         data, _ = self.open("sums", read(SUMS))
         to, text = data["states"][0]["shifts"]["N"], self.ask("document.body.innerText")
         self.check("summary", "9 states, 5 productions, 4 terminals, no conflicts" in text)
-        self.check_asked("the second stop of Tab is the field", f"{FOCUS}.id", "wanted", TAB + TAB)
-        self.check_asked("the third is a link of a state, with a frame", INSIDE, ["s0", "solid"], TAB)
+        self.check_asked("the third stop of Tab is the field", f"{FOCUS}.id", "wanted", 3 * TAB)
+        self.check_asked("the fourth is a link of a production, with a frame", INSIDE, ["p0", "solid"], TAB)
         found = self.search("N")
-        self.check("search of a symbol", f'"N" leads to State {to}' in found, found)
+        self.check("search of a symbol", found[0].startswith(f'"N" leads to State {to}, and is in production '), found)
         self.check_place("Enter goes to the first state found", to, ENTER)
         self.check_asked("then what was found is hidden", "document.getElementById('found').offsetHeight", 0)
         self.check_place("j", to + 1, "j")
@@ -201,7 +206,7 @@ class Trials:
         self.check("a large page", count >= WHOLE, f"({count} states, {size / 1e6:.1f} MB)")
         begun = time.time()
         self.browser.open(f"{self.folder}/whole.html")
-        drawn = self.browser.wait("document.querySelector('#s0 .columns') !== null")
+        drawn = self.browser.wait("document.querySelector('#s0') !== null")
         seconds = time.time() - begun
         self.check("it opens within two seconds", drawn and seconds < 2, f"({seconds:.2f} s)")
         self.picture("whole")

@@ -16,14 +16,14 @@ DATA = {
     "whole": {"states": [{}] * page.WHOLE},
 }
 LINES = [f'"{page.UNSEEN.get(text, text)}" to State {place}' for text, place in HOSTILE.items()]
-FOUND = {"N": ['"N" leads to State 4'], "7": ["State 7"], "qq": [""], "__proto__": ["leads to", "leads to", "so"]}
+FOUND = {"N": ['"N" leads to State 4, and is in production 3'], "7": ["State 7"], "qq": [""], "__proto__": ["leads to", "leads to", "so"]}
 # The beginnings of scripts, and the answers to each that are right and wrong. What is found depends
 # on what was typed.
 ANSWERS = {
     page.HERE_IS.partition("%")[0]: (True, False),
     "document.body.innerText": ("9 states, 5 productions, 4 terminals, no conflicts", "8 states"),
     "document.activeElement.id": ("wanted", "s0"),
-    page.INSIDE: (["s0", "solid"], ["s0", "none"]),
+    page.INSIDE: (["p0", "solid"], ["p0", "none"]),
     "document.getElementById('found').offsetHeight": (0, 20),
     "document.getElementById('found').innerText": (FOUND, dict.fromkeys(FOUND, ["so"])),
     "count.textContent": ("none found", "1 found"),
@@ -33,7 +33,7 @@ ANSWERS = {
     "[...document.querySelectorAll('#s0 .line')]": (["so", *LINES], LINES[1:]),
     "document.activeElement.innerText": ("\n".join(f"{it} to State\n{to}" for it, to in GOTOS.items()), "so"),
     "[typeof window.trap": (["undefined", 2, 0], ["number", 3, 0]),
-    "document.querySelector('#s0 .columns')": (True, False),
+    "document.querySelector('#s0')": (True, False),
     page.SEARCHES: ([1, 2, 99, 0], [1, 100, 3, 0]),
     "document.activeElement.getBoundingClientRect().top": (0, 200),
     "complaints": ([], ["a complaint"]),
